@@ -1,0 +1,7 @@
+pub mod Kept
+pub mod Verified
+pub mod Archive
+pub mod Reading
+pub mod Gives
+pub mod FaultWords
+pub mod Examples

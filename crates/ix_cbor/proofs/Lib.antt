@@ -1,0 +1,17 @@
+pub mod Bytes
+pub mod Cids
+pub mod Complete
+pub mod EntryFronts
+pub mod Faults
+pub mod Fronts
+pub mod Heads
+pub mod Keys
+pub mod Laws
+pub mod Leaves
+pub mod Owns
+pub mod Places
+pub mod Refusals
+pub mod Sound
+pub mod Steps
+pub mod Strings
+pub mod Within

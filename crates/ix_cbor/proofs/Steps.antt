@@ -1,0 +1,93 @@
+-- Readings in turn, and tests, taken apart.
+use Rattle.std.proofs.Common.{◌≡◌, ◌⊎◌, inl, inr, Bool, true, false, cond, refl, ap}
+use Rattle.std.specs.Prelude.{ℕ, List, Some, Result, Ok, Err}
+use Rattle.ix_cbor.specs.Data.{Data, Items, Entries, list, map, item, entry}
+use Rattle.ix_cbor.specs.Reading.{Fault, Parse, ◌>>=◌, items_at, entries_at}
+
+-- what two readings in turn give is what the second gives behind the first
+pub bind_ok : {A B : Type 0} (r : Result A Fault) (f : A → Result B Fault) (y : B) → (r >>= f) ≡ Ok y → (x : A) × (r ≡ Ok x) × (f x ≡ Ok y)
+bind_ok (Ok x) f y e = (x, refl, e)
+bind_ok (Err d) f y e = absurd cc
+
+-- the fault of a reading, or another where there is none
+abbrev fault_of : {A : Type 0} → Fault → Result A Fault → Fault
+fault_of f (Ok x) = f
+fault_of f (Err e) = e
+
+-- a fault is the same whatever the value would have been
+err_same : {A B : Type 0} (d e : Fault) → ◌≡◌ {A = Result B Fault} (Err d) (Err e) → ◌≡◌ {A = Result A Fault} (Err d) (Err e)
+err_same d e h = ap (λ f. Err f) (ap (fault_of d) h)
+
+-- a fault of two readings in turn is one of the first, or one of the second behind the first
+pub bind_err : {A B : Type 0} (r : Result A Fault) (f : A → Result B Fault) (e : Fault) → (r >>= f) ≡ Err e → (r ≡ Err e) ⊎ ((x : A) × (r ≡ Ok x) × (f x ≡ Err e))
+bind_err (Ok x) f e h = inr (x, refl, h)
+bind_err (Err d) f e h = inl (err_same d e h)
+
+-- a fault is no value
+pub no_ok : {A P : Type 0} (f : Fault) (y : A) → Err f ≡ Ok y → P
+no_ok f y e = absurd cc
+
+-- a value is no fault
+pub no_err : {A P : Type 0} (x : A) (f : Fault) → Ok x ≡ Err f → P
+no_err x f e = absurd cc
+
+-- a value that is given
+abbrev done : {A : Type 0} → A → Result A Fault
+done x = Ok x
+
+-- two values that are given are one
+pub ok_same : {A : Type 0} (x y : A) → done x ≡ done y → x ≡ y
+ok_same x y e = cc
+
+-- a fault that is given
+abbrev failed : {A : Type 0} → Fault → Result A Fault
+failed f = Err f
+
+-- two faults that are given are one
+pub fault_same : {A : Type 0} (f g : Fault) → failed {A = A} f ≡ failed g → f ≡ g
+fault_same f g e = cc
+
+-- a test that has an outcome
+pub cases_if : {A : Type 0} (b : Bool) (x y r : A) → cond b x y ≡ r → ((b ≡ true) × (x ≡ r)) ⊎ ((b ≡ false) × (y ≡ r))
+cases_if true x y r e = inl (refl, e)
+cases_if false x y r e = inr (refl, e)
+
+-- a test that fails where it is true
+pub if_no_fault : {A : Type 0} (b : Bool) (f : Fault) (x : Result A Fault) (y : A) → cond b (Err f) x ≡ Ok y → (b ≡ false) × (x ≡ Ok y)
+if_no_fault true f x y e = absurd cc
+if_no_fault false f x y e = (refl, e)
+
+-- a test that fails where it is false
+pub if_passed : {A : Type 0} (b : Bool) (f : Fault) (x : Result A Fault) (y : A) → cond b x (Err f) ≡ Ok y → (b ≡ true) × (x ≡ Ok y)
+if_passed true f x y e = (refl, e)
+if_passed false f x y e = absurd cc
+
+-- ---- what members do with what is read
+
+-- a member before others
+abbrev pub with_item : Data → Items × List ℕ → Result (Items × List ℕ) Fault
+with_item d ds = Ok (item d ds.0, ds.1)
+
+-- the members behind one
+abbrev pub items_behind : Parse Data → ℕ → Data × List ℕ → Result (Items × List ℕ) Fault
+items_behind read n d = items_at read n d.1 >>= with_item d.0
+
+-- a key and a value before others
+abbrev pub with_entry : List ℕ → Data → Entries × List ℕ → Result (Entries × List ℕ) Fault
+with_entry k d es = Ok (entry k d es.0, es.1)
+
+-- the entries behind a key and its value
+abbrev pub entries_behind : Parse Data → ℕ → List ℕ → Data × List ℕ → Result (Entries × List ℕ) Fault
+entries_behind read n k d = entries_at read (Some k) n d.1 >>= with_entry k d.0
+
+-- the value and the entries behind a key
+abbrev pub value_behind : Parse Data → ℕ → List ℕ × List ℕ → Result (Entries × List ℕ) Fault
+value_behind read n k = read k.1 >>= entries_behind read n k.0
+
+-- members as a list
+abbrev pub as_list : Items × List ℕ → Result (Data × List ℕ) Fault
+as_list ds = Ok (list ds.0, ds.1)
+
+-- keys and values as a map
+abbrev pub as_map : Entries × List ℕ → Result (Data × List ℕ) Fault
+as_map es = Ok (map es.0, es.1)

@@ -1,0 +1,38 @@
+-- What the parts of decode answer.
+use Rattle.std.specs.Prelude.{◌≡◌, ℕ, ◌-◌, ◌/◌, ◌%◌, ◌≤◌, Bool, List, Result, Ok, Err}
+use Rattle.ix_cbor.specs.declared.decode.CborKind.{CborKind}
+use Rattle.ix_cbor.specs.declared.decode.CborKind.TheVariants.{Memory}
+use Rattle.ix_cbor.specs.declared.read.Stop.{Stop}
+use Rattle.ix_cbor.specs.declared.read.Own.{Own as RustOwn}
+use Rattle.ix_cbor.specs.declared.read.Own.TheVariants.{Leaf, ListOf, MapOf}
+use Rattle.ix_cbor.specs.declared.node.Node.{Node}
+use Rattle.ix_cbor.specs.Data.{Data, data_of}
+use Rattle.ix_cbor.specs.Reading.{Fault, Parse, ◌>>=◌, Own, leaf, list_of, map_of, argument_at, own_with}
+use Rattle.ix_cbor.specs.Gives.{FailsAs}
+
+abbrev pub own_of : RustOwn → Own
+own_of (Leaf n) = leaf (data_of n)
+own_of (ListOf n) = list_of n
+own_of (MapOf n) = map_of n
+
+abbrev pub Reads : {X A : Type 0} → (X → A) → Result X Stop → Result A Fault → Type 0
+Reads view (Ok x) meant = meant ≡ Ok (view x)
+Reads view (Err e) meant = FailsAs e.kind e.left meant
+
+-- a key and a value of a map
+abbrev pub entry_of : List ℕ × Node → List ℕ × Data
+entry_of e = (e.0, data_of e.1)
+
+-- what an item is by a head byte that isn't of major type 7
+abbrev pub headed_at : Bool → List ℕ → ℕ → Parse Own
+headed_at may_nest at h b = argument_at at (h % 32) b >>= (λ n. own_with may_nest at (h / 32) n.0 n.1)
+
+-- the place of a fault lies within that many bytes. Want of memory has no place
+abbrev pub LiesWithin : CborKind → ℕ → ℕ → Type 0
+LiesWithin Memory left length = Unit {0}
+LiesWithin kind left length = left ≤ length
+
+-- a place counted from the front, which is 0 for want of memory
+abbrev pub placed : CborKind → ℕ → ℕ → ℕ
+placed Memory left length = 0
+placed kind left length = length - left

@@ -1,0 +1,59 @@
+//! Blocks to trees, and back.
+
+ghost use Rattle.std.specs.Prelude.{◌≡◌, IfOk, IfErr, Ok};
+ghost use Rattle.ix_cbor.specs.Data.{Data, data_of};
+ghost use Rattle.ix_cbor.specs.Spelling.{Spells};
+ghost use Rattle.ix_cbor.specs.Reading.{decoded};
+ghost use Rattle.ix_cbor.specs.Gives.{Gives, IsFirstOf};
+ghost use Rattle.ix_cbor.specs.Stops.{Reads, LiesWithin, placed};
+
+use crate::decode::{CborFault, CborKind};
+use crate::node::Node;
+use crate::read::{Stop, item};
+use crate::tree::Tree;
+use std::alloc::Global;
+
+// How deep lists and maps may nest.
+const LEVELS: u32 = 512;
+
+// The one item that is all of the bytes.
+fn whole(alloc: Global, bytes: &[u8]) -> Result<Node, Stop>
+    ensures { Reads (λ n. data_of n) result (decoded bytes.now) }
+{
+    let (node, rest) = item(alloc, bytes, LEVELS)?;
+    if !rest.is_empty() {
+        return Err(Stop::at(CborKind::Rest, rest));
+    }
+    Ok(node)
+}
+
+// The fault of a block of that length, its place counted from the front.
+fn fault_of(stop: Stop, length: usize) -> CborFault
+    requires { LiesWithin stop.kind stop.left length }
+    ensures kind { result.kind ≡ stop.kind }
+    ensures place { result.place ≡ placed stop.kind stop.left length }
+{
+    let place = match stop.kind {
+        CborKind::Memory => 0,
+        _ => length - stop.left,
+    };
+    CborFault {
+        kind: stop.kind,
+        place,
+    }
+}
+
+/// The tree that a block spells (DAG-CBOR, RFC 8949), or the first fault from the left. The place of
+/// a fault is that of the first byte of the item or key meant, for `Truncated` the length of the block,
+/// for `Rest` that of the first byte behind the item, and for `Memory` 0.
+pub fn decode(alloc: Global, bytes: &[u8]) -> Result<Tree, CborFault>
+    ensures found { IfOk result (λ t. Spells bytes.now t) }
+    ensures only { (d : Data) → Spells bytes.now d → Gives (λ t. t) bytes.now result (Ok d) }
+    ensures exact { Gives (λ t. t) bytes.now result (decoded bytes.now) }
+    ensures fault { IfErr result (IsFirstOf bytes.now) }
+{
+    match whole(alloc, bytes) {
+        Ok(node) => Ok(Tree::of_canonical(node)),
+        Err(stop) => Err(fault_of(stop, bytes.len())),
+    }
+}

@@ -1,0 +1,14 @@
+//! Strict DAG-CBOR: nodes, trees, decoding and encoding.
+#![tactic(auto)]
+
+pub mod codec;
+pub mod decode;
+pub mod head;
+pub mod law;
+pub mod leaf;
+pub mod node;
+pub mod octets;
+pub mod read;
+#[cfg(test)]
+mod tests;
+pub mod tree;

@@ -1,0 +1,156 @@
+//! The parts of decode.
+
+ghost use Rattle.std.specs.Prelude.{◌≡◌, map, Some, None};
+ghost use Rattle.ix_cbor.specs.Data.{data_of, items_of, entries_of};
+ghost use Rattle.ix_cbor.specs.Reading.{item_with, item_at, items_at, entries_at};
+ghost use Rattle.ix_cbor.specs.Stops.{Reads, entry_of};
+
+use crate::decode::CborKind;
+use crate::head::key;
+use crate::leaf::head_of_item;
+use crate::node::Node;
+use crate::octets::Octets;
+use std::alloc::{AllocError, AllocFailed, Global};
+
+// A fault, and how many bytes there are from its place to the end.
+#[derive(Debug, Drop)]
+pub struct Stop {
+    pub kind: CborKind,
+    pub left: usize,
+}
+
+impl Stop {
+    ghost use Rattle.std.specs.Prelude.{◌≡◌, length};
+    ghost use Rattle.ix_cbor.specs.declared.decode.CborKind.TheVariants.{Truncated};
+
+    // A fault at the front of these bytes.
+    pub(crate) fn at(kind: CborKind, bytes: &[u8]) -> Stop
+        ensures { result ≡ record { kind = kind; left = length bytes.now } }
+    {
+        Stop {
+            kind,
+            left: bytes.len(),
+        }
+    }
+
+    // The bytes end too early.
+    pub(crate) fn at_end() -> Stop
+        ensures { result ≡ record { kind = Truncated; left = 0 } }
+    {
+        Stop {
+            kind: CborKind::Truncated,
+            left: 0,
+        }
+    }
+}
+
+impl From<AllocError> for Stop {
+    ghost use Rattle.std.specs.Prelude.{◌≡◌};
+    ghost use Rattle.ix_cbor.specs.declared.decode.CborKind.TheVariants.{Memory};
+
+    ghost from_gives = { λ _ e. e.kind ≡ Memory };
+
+    fn from(_: AllocError) -> Stop {
+        Stop {
+            kind: CborKind::Memory,
+            left: 0,
+        }
+    }
+}
+
+impl<T: Drop> From<AllocFailed<T>> for Stop {
+    ghost use Rattle.std.specs.Prelude.{◌≡◌};
+    ghost use Rattle.ix_cbor.specs.declared.decode.CborKind.TheVariants.{Memory};
+
+    ghost from_gives = { λ _ e. e.kind ≡ Memory };
+
+    fn from(_: AllocFailed<T>) -> Stop {
+        Stop {
+            kind: CborKind::Memory,
+            left: 0,
+        }
+    }
+}
+
+// What an item is by its own head.
+#[derive(Drop)]
+pub enum Own {
+    Leaf(Node),
+    ListOf(u64),
+    MapOf(u64),
+}
+
+fn leaf(alloc: Global, bytes: &[u8]) -> Result<(Node, &[u8]), Stop>
+    ensures { Reads (λ r. (data_of r.0, r.1.now)) result (item_with None bytes.now) }
+{
+    let (own, rest) = head_of_item(alloc, bytes, false)?;
+    match own {
+        Own::Leaf(node) => Ok((node, rest)),
+        Own::ListOf(_) | Own::MapOf(_) => Err(Stop::at(CborKind::Nesting, rest)),
+    }
+}
+
+#[cycle(item)]
+fn branch(alloc: Global, bytes: &[u8], levels: u32) -> Result<(Node, &[u8]), Stop>
+    ensures { Reads (λ r. (data_of r.0, r.1.now)) result (item_with (Some (item_at levels)) bytes.now) }
+{
+    let (own, rest) = head_of_item(alloc, bytes, true)?;
+    match own {
+        Own::Leaf(node) => Ok((node, rest)),
+        Own::ListOf(count) => {
+            let (members, rest) = items(alloc, rest, count, levels)?;
+            Ok((Node::List(members), rest))
+        }
+        Own::MapOf(count) => {
+            let (members, rest) = entries(alloc, rest, count, levels)?;
+            Ok((Node::Map(members), rest))
+        }
+    }
+}
+
+#[cycle(item)]
+pub(crate) fn item(alloc: Global, bytes: &[u8], levels: u32) -> Result<(Node, &[u8]), Stop>
+    ensures { Reads (λ r. (data_of r.0, r.1.now)) result (item_at levels bytes.now) }
+{
+    if levels == 0 {
+        leaf(alloc, bytes)
+    } else {
+        branch(alloc, bytes, levels - 1)
+    }
+}
+
+#[cycle(item)]
+fn items(alloc: Global, bytes: &[u8], count: u64, levels: u32) -> Result<(Vec<Node>, &[u8]), Stop>
+    ensures { Reads (λ r. (items_of (map data_of r.0.items), r.1.now)) result (items_at (item_at levels) count bytes.now) }
+{
+    let mut members = Vec::new(alloc);
+    let mut rest = bytes;
+    for _ in 0..count {
+        let (node, next) = item(alloc, rest, levels)?;
+        members.push(node)?;
+        rest = next;
+    }
+    Ok((members, rest))
+}
+
+#[cycle(item)]
+fn entries(
+    alloc: Global,
+    bytes: &[u8],
+    count: u64,
+    levels: u32,
+) -> Result<(Vec<(Octets, Node)>, &[u8]), Stop>
+    ensures { Reads (λ r. (entries_of (map entry_of r.0.items), r.1.now)) result (entries_at (item_at levels) None count bytes.now) }
+{
+    let mut members = Vec::new(alloc);
+    let mut rest = bytes;
+    let mut before = None;
+    for _ in 0..count {
+        let (name, value) = key(before, rest)?;
+        let (node, next) = item(alloc, value, levels)?;
+        members.push((Octets::new(Vec::from_slice(alloc, name)?), node))?;
+        before = Some(name);
+        rest = next;
+    }
+    Ok((members, rest))
+}

@@ -1,0 +1,4 @@
+//! Verdicts on blocks, as definitions.
+#![tactic(auto)]
+
+pub mod verdict;

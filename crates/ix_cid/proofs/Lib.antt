@@ -1,0 +1,13 @@
+pub mod Varints
+pub mod Groups
+pub mod Fronts
+pub mod Cids
+pub mod Bytes
+pub mod Results
+pub mod GroupLaws
+pub mod VarintLaws
+pub mod CidLaws
+pub mod Digits
+pub mod Quanta
+pub mod HexText
+pub mod Texts

@@ -1,0 +1,27 @@
+-- Readings in turn: what an answer says of each.
+use Rattle.std.proofs.Common.{◌≡◌, Bool, true, false, cond, Result, Ok, Err, refl, ap}
+use Rattle.ix_cid.specs.Cid.{◌>>=◌}
+use Rattle.ix_cid.specs.declared.cid.CidFault.{CidFault}
+
+-- an answer behind a test for a fault
+pub past_test : {A E : Type 0} (b : Bool) (e : E) (r : Result A E) (x : A) → cond b (Err e) r ≡ Ok x → (b ≡ false) × (r ≡ Ok x)
+past_test true e r x h = absurd cc
+past_test false e r x h = (refl, h)
+
+-- one answer is the other
+pub same_answer : {A E : Type 0} (x y : A) → (let r : Result A E = Ok x in r ≡ Ok y) → x ≡ y
+same_answer x y h = cc
+
+-- an answer of two readings in turn is of what the first answered
+pub bind_ok : {A B : Type 0} (r : Result A CidFault) (f : A → Result B CidFault) (y : B) → (r >>= f) ≡ Ok y → (x : A) × (r ≡ Ok x) × (f x ≡ Ok y)
+bind_ok (Ok x) f y h = (x, refl, h)
+bind_ok (Err e) f y h = absurd cc
+
+-- two readings in turn, where the first answers
+pub bind_to : {A B : Type 0} (r : Result A CidFault) (x : A) (f : A → Result B CidFault) → r ≡ Ok x → (r >>= f) ≡ f x
+bind_to {A = A} {B = B} r x f e = let next : Result A CidFault → Result B CidFault = λ s. s >>= f in ap next e
+
+-- an answer behind a test for no fault
+pub past_guard : {A E : Type 0} (b : Bool) (e : E) (r : Result A E) (x : A) → cond b r (Err e) ≡ Ok x → (b ≡ true) × (r ≡ Ok x)
+past_guard true e r x h = (refl, h)
+past_guard false e r x h = absurd cc

@@ -1,0 +1,47 @@
+use Rattle.std.proofs.Common.{◌≡◌, ◌∷◌, ℕ, Ok, sym, ap, subst, ◌∙◌, arith}
+use Rattle.std.proofs.lemmas.Result.{err_from_is_err_and}
+use Rattle.ix_cid.specs.Cid.{IsCid}
+use Rattle.ix_cid.specs.CidText.{cid_of_text}
+use Rattle.ix_cid.specs.Gives.{Fails}
+use Rattle.ix_cid.proofs.Texts.{length_at, text-fails, text-rest, text-whole}
+use Rattle.ix_cid.proofs.cid.Cid.from_text.Goals as goal
+use Rattle.ix_cid.proofs.cid.Cid.from_text.Goals.{In-Some-eq98-default, Else-branch-len}
+
+-- the text begins with its multibase
+text_begins : (c : In-Some-eq98-default) → c.args.text.now ≡ 98 ∷ c.in-Some-eq98-default.letters.now
+text_begins c =
+    let arm = c.in-Some-eq98-default in
+    sym c.as_bytes.ensures.value ∙ c.in-Some-eq98-default.ensures.cases.0 ∙ ap (λ (x : ℕ). x ∷ arm.letters.now) arm.field-0-0-test
+
+pub returns-in_err-numbered_length : goal.returns-in_err-numbered_length
+returns-in_err-numbered_length c =
+    let bytes = c.in_ok-bytes.bytes.items in
+    let fault = c.in_err-numbered_length.field-0.0 in
+    let failed = err_from_is_err_and c.from_residual-in_err-numbered_length.result c.from_residual-in_err-numbered_length.ensures.1 in
+    let fails : Fails fault (length_at bytes) = subst (λ x. Fails fault (length_at x)) c.as_slice.ensures.value c.in_err-numbered_length.ensures.exact in
+    record {
+      exact = rw (failed.1, failed.2) (text-fails c.args.text.now c.in-Some-eq98-default.letters.now bytes (text_begins (goal.at.returns-in_err-numbered_length c).In-Some-eq98-default) c.in_ok-bytes.ensures fault fails);
+    }
+
+pub returns-then-branch-len : goal.returns-then-branch-len
+returns-then-branch-len c =
+    let bytes = c.in_ok-bytes.bytes.items in
+    let n = c.in_ok-numbered_length.field-0 in
+    let size : length_at bytes ≡ Ok n = ap length_at (sym c.as_slice.ensures.value) ∙ c.in_ok-numbered_length.ensures.exact in
+    record {
+      exact = text-rest c.args.text.now c.in-Some-eq98-default.letters.now bytes (text_begins (goal.at.returns-then-branch-len c).In-Some-eq98-default) c.in_ok-bytes.ensures n size (omega (arith, c.in_ok-bytes.bytes.ok));
+    }
+
+-- where the parts are as long as the bytes, these are the CID
+whole : (c : Else-branch-len) → IsCid c.in_ok-bytes.bytes.items × (cid_of_text c.args.text.now ≡ Ok c.in_ok-bytes.bytes.items)
+whole c =
+    let bytes = c.in_ok-bytes.bytes.items in
+    let n = c.in_ok-numbered_length.field-0 in
+    let size : length_at bytes ≡ Ok n = ap length_at (sym c.as_slice.ensures.value) ∙ c.in_ok-numbered_length.ensures.exact in
+    text-whole c.args.text.now c.in-Some-eq98-default.letters.now bytes (text_begins (goal.at.returns c).In-Some-eq98-default) c.in_ok-bytes.ensures n size (omega (arith, c.in_ok-bytes.bytes.ok))
+
+pub invariant_of-result : goal.invariant_of-result
+invariant_of-result c = (whole c).0
+
+pub returns : goal.returns
+returns c = record { exact = (whole c).1 }

@@ -1,0 +1,9 @@
+pub mod Bytes
+pub mod Varint
+pub mod Cid
+pub mod CidForm
+pub mod CidText
+pub mod FaultWords
+pub mod Gives
+pub mod Parts
+pub mod Examples

@@ -1,0 +1,279 @@
+//! CIDs, seen as their bytes.
+
+ghost use Rattle.std.specs.Prelude.{◌≡◌, ◌<◌, ◌^◌, Ok, Err, Some, length, IfOk, IfSome, string_bytes};
+
+use crate::parts::{Layout, numbered_length, split_parts};
+use crate::{base32, hexadecimal};
+use std::alloc::{AllocError, Global};
+use std::cmp::Ordering;
+use std::hash::{Hash, Hasher};
+use std::marker::Model;
+
+/// A CID, of any version, codec and hash.
+#[derive(Debug, Drop)]
+pub struct Cid {
+    bytes: Vec<u8>,
+}
+
+/// Why no CID stands at the front, or why a text is none.
+#[derive(Debug, Drop)]
+pub enum CidFault {
+    Truncated,
+    Varint,
+    Version(u64),
+    Memory,
+    Multibase,
+    Base32,
+    Rest,
+}
+
+impl From<AllocError> for CidFault {
+    ghost use Rattle.std.specs.Prelude.{◌≡◌};
+    ghost use Rattle.ix_cid.specs.declared.cid.CidFault.TheVariants.{Memory};
+
+    ghost from_gives = { λ _ fault. fault ≡ Memory };
+
+    fn from(_error: AllocError) -> CidFault {
+        CidFault::Memory
+    }
+}
+
+impl Model for Cid {
+    ghost use Rattle.std.specs.Prelude.{List, ℕ};
+    ghost use Rattle.ix_cid.specs.Cid.{IsCid};
+
+    ghost Value = { List ℕ };
+
+    ghost view = { λ c. c.bytes.items };
+
+    ghost invariant = { λ c. IsCid c.bytes.items };
+}
+
+impl Cid {
+    ghost use Rattle.ix_cid.specs.Cid.{cid_at, version_of, codec_of, hash_code_of, digest_of, parts_of, IsCid};
+    ghost use Rattle.ix_cid.specs.CidText.{text_of, cid_of_text};
+    ghost use Rattle.ix_cid.specs.Gives.{Gives};
+    ghost use Rattle.ix_cid.specs.Parts.{parts_view};
+
+    /// The bytes.
+    pub fn as_bytes(&self) -> &[u8]
+        ensures bytes { result.now ≡ self.now }
+        ensures cid { IsCid result.now }
+    {
+        self.bytes.as_slice()
+    }
+
+    /// The same CID once more.
+    pub fn try_clone(&self, alloc: Global) -> Result<Cid, AllocError>
+        ensures same { IfOk result (λ c. c ≡ self.now) }
+    {
+        let _ = &self.bytes;
+        Ok(Cid {
+            bytes: Vec::from_slice(alloc, self.bytes.as_slice())?,
+        })
+    }
+
+    /// The CID at the front, and its length. What follows it isn't looked at. The fault
+    /// is that of the first part that isn't one, or `Memory`.
+    pub fn read(alloc: Global, bytes: &[u8]) -> Result<(Cid, usize), CidFault>
+        ensures exact { Gives (λ r. (r.0, r.1)) result (cid_at bytes.now) }
+    {
+        let (_, rest) = split_parts(bytes)?;
+        let length = bytes.len() - rest.len();
+        match Vec::from_slice(alloc, &bytes[..length]) {
+            Ok(bytes) => Ok((Cid { bytes }, length)),
+            Err(_) => Err(CidFault::Memory),
+        }
+    }
+
+    /// The version, 0 or 1.
+    pub fn version(&self) -> u64
+        ensures { result ≡ version_of self.now }
+    {
+        self.layout().version
+    }
+
+    /// The codec of the block: that of dag-pb for a CIDv0.
+    pub fn codec(&self) -> u64
+        ensures { result ≡ codec_of self.now }
+    {
+        self.layout().codec
+    }
+
+    /// The code of the hash: that of sha2-256 for a CIDv0.
+    pub fn hash_code(&self) -> u64
+        ensures { result ≡ hash_code_of self.now }
+    {
+        self.layout().hash_code
+    }
+
+    /// The digest, without its length.
+    pub fn digest(&self) -> &[u8]
+        ensures { result.now ≡ digest_of self.now }
+    {
+        self.layout().digest
+    }
+
+    /// The text: base32 of a CIDv1, `v0-` and hexadecimal of a CIDv0.
+    pub fn text(&self, alloc: Global) -> Result<String, AllocError>
+        ensures exact { IfOk result (λ s. string_bytes s ≡ text_of self.now) }
+    {
+        let mut text = String::new(alloc);
+        if self.version() == 0 {
+            text.push_str("v0-")?;
+            hexadecimal::append(alloc, &mut text, self.bytes.as_slice())?;
+        } else {
+            text.push('b')?;
+            base32::append(&mut text, self.bytes.as_slice())?;
+        }
+        Ok(text)
+    }
+
+    /// The CIDv1 with this text.
+    pub fn from_text(alloc: Global, text: &str) -> Result<Cid, CidFault>
+        ensures exact { Gives (λ c. c) result (cid_of_text text.now) }
+    {
+        let Some((b'b', letters)) = text.as_bytes().split_first() else {
+            return Err(CidFault::Multibase);
+        };
+        let bytes = base32::decode(alloc, letters)?;
+        if numbered_length(bytes.as_slice())? < bytes.len() {
+            return Err(CidFault::Rest);
+        }
+        Ok(Cid { bytes })
+    }
+
+    /// The parts, which are read again from the bytes.
+    fn layout(&self) -> Layout<'_>
+        ensures { parts_view result ≡ parts_of self.now }
+    {
+        match split_parts(self.bytes.as_slice()) {
+            Ok((layout, _)) => layout,
+            Err(_) => unreachable!(),
+        }
+    }
+}
+
+impl PartialEq for Cid {
+    ghost use Rattle.std.specs.Prelude.{bytes_eq};
+    ghost use Rattle.std.proofs.Common.{rules};
+    ghost use Rattle.std.specs.Cmp.Rules.{comparing};
+
+    ghost eq = { bytes_eq };
+
+    ghost laws = { Prim.search (comparing, rules) };
+
+    fn eq(&self, other: &Cid) -> bool {
+        self.bytes.as_slice() == other.bytes.as_slice()
+    }
+}
+
+impl Eq for Cid {
+    ghost use Rattle.std.proofs.Common.{rules};
+    ghost use Rattle.std.specs.Cmp.Rules.{comparing};
+
+    ghost laws = { Prim.search (comparing, rules) };
+}
+
+impl Ord for Cid {
+    ghost use Rattle.std.specs.Ordering.{nat_cmp};
+    ghost use Rattle.std.proofs.Common.{rules};
+    ghost use Rattle.std.specs.Cmp.Rules.{comparing};
+    ghost use Rattle.std.specs.Cmp.Lexicographic.{slice_cmp};
+
+    ghost cmp = { slice_cmp nat_cmp };
+
+    ghost total = { Prim.search (comparing, rules) };
+
+    ghost matches_partial_cmp = { Prim.search (comparing, rules) };
+
+    ghost matches_eq = { Prim.search (comparing, rules) };
+
+    fn cmp(&self, other: &Cid) -> Ordering {
+        self.bytes.as_slice().cmp(other.bytes.as_slice())
+    }
+}
+
+impl PartialOrd for Cid {
+    ghost use Rattle.std.specs.Ordering.{nat_cmp, as_partial_cmp};
+    ghost use Rattle.std.proofs.Common.{rules};
+    ghost use Rattle.std.specs.Cmp.{partial_order_from_own_ties};
+    ghost use Rattle.std.specs.Cmp.Rules.{comparing};
+    ghost use Rattle.std.specs.Cmp.Lexicographic.{slice_cmp};
+
+    ghost partial_cmp = { as_partial_cmp (slice_cmp nat_cmp) };
+
+    ghost laws = { partial_order_from_own_ties (Prim.search (comparing, rules)) (Prim.search (comparing, rules)) };
+
+    fn partial_cmp(&self, other: &Cid) -> Option<Ordering> {
+        Some(self.cmp(other))
+    }
+}
+
+impl Hash for Cid {
+    ghost use Rattle.std.specs.Hash as fed;
+    ghost use Rattle.std.proofs.Common.{rules};
+    ghost use Rattle.std.specs.Cmp.Rules.{hashing};
+
+    ghost hash_input = { λ c. fed.slice fed.u8 c };
+
+    ghost respects_eq = { Prim.search (hashing, rules) };
+
+    fn hash<H: Hasher>(&self, state: &mut H) {
+        self.bytes.as_slice().hash(state);
+    }
+}
+
+#[cfg(test)]
+mod tests {
+    use super::*;
+    use std::test::Fail;
+
+    /// The CIDv1 of the raw block `abc` under sha2-256, and the block.
+    const ABC: &[u8; 39] =
+        b"\x01\x55\x12\x20\xba\x78\x16\xbf\x8f\x01\xcf\xea\x41\x41\x40\xde\x5d\xae\x22\x23\xb0\x03\x61\xa3\x96\x17\x7a\x9c\xb4\x10\xff\x61\xf2\x00\x15\xadabc";
+
+    #[test]
+    fn reads_cids(rt: HostRuntime) -> Result<(), Fail> {
+        let all = ABC.as_slice();
+        let table = [
+            (all, &all[..36], 1, 0x55),
+            (&all[2..], &all[2..36], 0, 0x70),
+        ];
+        for (bytes, want, version, codec) in table {
+            let (cid, length) = Cid::read(rt.alloc(), bytes)?;
+            assert_eq!(rt; length, want.len());
+            assert_eq!(rt; cid.as_bytes(), want);
+            assert_eq!(rt; cid.version(), version);
+            assert_eq!(rt; cid.codec(), codec);
+            assert_eq!(rt; cid.hash_code(), 0x12);
+            assert_eq!(rt; cid.digest(), &all[4..36]);
+            let again = cid.try_clone(rt.alloc())?;
+            assert!(rt; again == cid);
+        }
+        Ok(())
+    }
+
+    #[test]
+    fn refuses_cids(rt: HostRuntime) -> Result<(), Fail> {
+        let all = ABC.as_slice();
+        let table = [
+            ([0x02].as_slice(), "Version(2)"),
+            ([0x12].as_slice(), "Version(18)"),
+            ([0x81, 0x00].as_slice(), "Varint"),
+            ([0x01, 0x55, 0x12].as_slice(), "Truncated"),
+            (&all[..35], "Truncated"),
+            (&all[2..35], "Truncated"),
+        ];
+        for (bytes, want) in table {
+            match Cid::read(rt.alloc(), bytes) {
+                Ok((cid, _)) => assert!(rt; false, "{bytes:?} gave {cid:?}"),
+                Err(fault) => {
+                    let fault = format!(in rt.alloc(); "{fault:?}")?;
+                    assert_eq!(rt; fault.as_str(), want, "at {bytes:?}");
+                }
+            }
+        }
+        Ok(())
+    }
+}

@@ -1,0 +1,13 @@
+//! Codes of the multicodec table.
+
+/// The codec of blocks that are bytes alone.
+pub const RAW: u64 = 0x55;
+
+/// The codec of dag-pb, that of each CIDv0.
+pub const DAG_PB: u64 = 0x70;
+
+/// The codec of DAG-CBOR.
+pub const DAG_CBOR: u64 = 0x71;
+
+/// The hash function SHA-256 (FIPS 180-4).
+pub const SHA2_256: u64 = 0x12;

@@ -1,0 +1,121 @@
+//! The parts of the CID at the front of some bytes, read in place.
+
+ghost use Rattle.std.specs.Prelude.{◌-◌, Ok, length};
+ghost use Rattle.ix_cid.specs.Cid.{◌>>=◌ as ◌and_then◌, number_at, bytes_at, version_0_at, version_1_at, numbered_at, parts_at};
+ghost use Rattle.ix_cid.specs.Gives.{Gives};
+ghost use Rattle.ix_cid.specs.Parts.{Reads, parts_view};
+
+use crate::cid::CidFault;
+use crate::code::{DAG_PB, SHA2_256};
+use crate::varint::{VarintFault, read_varint};
+
+/// The bytes that a CIDv0 begins with: sha2-256, and 32 digest bytes.
+const VERSION_0_FRONT: [u8; 2] = [0x12, 0x20];
+
+/// How many bytes a CIDv0 has.
+const VERSION_0_LENGTH: u64 = 34;
+
+/// The parts of a CID, the digest where it stands in the bytes.
+#[derive(Clone, Copy)]
+pub struct Layout<'a> {
+    pub version: u64,
+    pub codec: u64,
+    pub hash_code: u64,
+    pub digest: &'a [u8],
+}
+
+/// The number at the front, and the bytes after it.
+fn split_number(bytes: &[u8]) -> Result<(u64, &[u8]), CidFault>
+    ensures exact { Reads (λ r. (r.0, r.1.now)) result (number_at bytes.now) }
+{
+    match read_varint(bytes) {
+        Ok((number, length)) => Ok((number, &bytes[length..])),
+        Err(VarintFault::Truncated) => Err(CidFault::Truncated),
+        Err(VarintFault::TooLong | VarintFault::NotMinimal) => Err(CidFault::Varint),
+    }
+}
+
+/// That many bytes at the front, and the bytes after them.
+fn split_bytes(count: u64, bytes: &[u8]) -> Result<(&[u8], &[u8]), CidFault>
+    ensures exact { Reads (λ r. (r.0.now, r.1.now)) result (bytes_at count bytes.now) }
+{
+    if (bytes.len() as u64) < count {
+        return Err(CidFault::Truncated);
+    }
+    Ok(bytes.split_at(count as usize))
+}
+
+/// The parts of a CIDv0, and the bytes after it.
+fn split_version_0(bytes: &[u8]) -> Result<(Layout<'_>, &[u8]), CidFault>
+    ensures exact { Reads (λ r. (parts_view r.0, r.1.now)) result (version_0_at bytes.now) }
+{
+    let (front, rest) = split_bytes(VERSION_0_LENGTH, bytes)?;
+    let layout = Layout {
+        version: 0,
+        codec: DAG_PB,
+        hash_code: SHA2_256,
+        digest: &front[VERSION_0_FRONT.len()..],
+    };
+    Ok((layout, rest))
+}
+
+/// The parts of a CIDv1 behind its version, and the bytes after it.
+fn split_version_1(bytes: &[u8]) -> Result<(Layout<'_>, &[u8]), CidFault>
+    ensures exact { Reads (λ r. (parts_view r.0, r.1.now)) result (version_1_at bytes.now) }
+{
+    let (codec, rest) = split_number(bytes)?;
+    let (hash_code, rest) = split_number(rest)?;
+    let (size, rest) = split_number(rest)?;
+    let (digest, rest) = split_bytes(size, rest)?;
+    let layout = Layout {
+        version: 1,
+        codec,
+        hash_code,
+        digest,
+    };
+    Ok((layout, rest))
+}
+
+/// The parts of the CIDv1 at the front, and the bytes after it.
+fn split_numbered(bytes: &[u8]) -> Result<(Layout<'_>, &[u8]), CidFault>
+    ensures exact { Reads (λ r. (parts_view r.0, r.1.now)) result (numbered_at bytes.now) }
+{
+    let (version, rest) = split_number(bytes)?;
+    if version != 1 {
+        return Err(CidFault::Version(version));
+    }
+    split_version_1(rest)
+}
+
+/// The parts of the CID at the front, and the bytes after it.
+pub fn split_parts(bytes: &[u8]) -> Result<(Layout<'_>, &[u8]), CidFault>
+    ensures exact { Reads (λ r. (parts_view r.0, r.1.now)) result (parts_at bytes.now) }
+{
+    if bytes.starts_with(&VERSION_0_FRONT) {
+        split_version_0(bytes)
+    } else {
+        split_numbered(bytes)
+    }
+}
+
+/// The length of the CIDv1 at the front. A front that only a CIDv0 has is one of
+/// version 18 here. The fault is never `Memory`.
+pub fn numbered_length(bytes: &[u8]) -> Result<usize, CidFault>
+    ensures exact { Gives (λ n. n) result (numbered_at bytes.now and_then (λ p. Ok (length bytes.now - length p.1))) }
+{
+    let (_, rest) = split_numbered(bytes)?;
+    Ok(bytes.len() - rest.len())
+}
+
+#[cfg(test)]
+mod tests {
+    use super::*;
+
+    #[test]
+    fn finds_numbered_lengths(rt: HostRuntime) {
+        let identity = [0x01, 0x55, 0x00, 0x00, 0x07];
+        assert!(rt; matches!(numbered_length(&identity), Ok(4)));
+        let version_0 = [0x12, 0x20, 0x07];
+        assert!(rt; matches!(numbered_length(&version_0), Err(CidFault::Version(18))));
+    }
+}

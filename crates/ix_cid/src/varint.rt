@@ -1,0 +1,91 @@
+//! Unsigned varints, base 128, least significant group first.
+
+ghost use Rattle.std.specs.Prelude.{◌≡◌, ◌<◌, ◌^◌, ◌++◌, OnOk, OnErr};
+ghost use Rattle.ix_cid.specs.Varint.{varint_at, varint_of};
+
+use std::alloc::AllocError;
+
+/// How many bytes a varint has at most.
+const LONGEST: usize = 9;
+
+/// Why no varint stands at the front.
+#[derive(Debug, Drop, Clone, Copy, PartialEq, Eq)]
+pub enum VarintFault {
+    Truncated,
+    TooLong,
+    NotMinimal,
+}
+
+/// The number at the front and its length (multiformats unsigned-varint). A varint
+/// that ends early is `Truncated`, one of more than nine bytes is `TooLong`, and one
+/// that has a shorter form is `NotMinimal`.
+pub fn read_varint(bytes: &[u8]) -> Result<(u64, usize), VarintFault>
+    ensures exact { result ≡ varint_at bytes.now }
+{
+    let mut number: u64 = 0;
+    for (index, byte) in bytes.iter().enumerate() {
+        number += u64::from(*byte % 128) << (7 * index);
+        if *byte < 128 {
+            return if *byte == 0 && index > 0 {
+                Err(VarintFault::NotMinimal)
+            } else {
+                Ok((number, index + 1))
+            };
+        }
+        if index + 1 == LONGEST {
+            return Err(VarintFault::TooLong);
+        }
+    }
+    Err(VarintFault::Truncated)
+}
+
+/// Writes the varint of a number at the end. An `Err` changes nothing.
+pub fn push_varint(out: &mut Vec<u8>, number: u64) -> Result<(), AllocError>
+    requires { number < 2 ^ 63 }
+    ensures ok { OnOk result (out.new.items ≡ out.old.items ++ varint_of number) }
+    ensures err { OnErr result (out.new.items ≡ out.old.items) }
+{
+    let mut spelled = [0u8; LONGEST];
+    let mut last = 0;
+    let mut rest = number;
+    while rest >= 128 {
+        spelled[last] = (rest % 128) as u8 + 128;
+        rest /= 128;
+        last += 1;
+    }
+    spelled[last] = rest as u8;
+    out.extend_from_slice(&spelled[..last + 1])
+}
+
+#[cfg(test)]
+mod tests {
+    use super::VarintFault::{NotMinimal, TooLong, Truncated};
+    use super::{push_varint, read_varint};
+    use std::test::Fail;
+
+    #[test]
+    fn reads_varints(rt: HostRuntime) {
+        let table = [
+            ([].as_slice(), Err(Truncated)),
+            ([0x81, 0x00].as_slice(), Err(NotMinimal)),
+            ([0xff; 8].as_slice(), Err(Truncated)),
+            ([0xff; 9].as_slice(), Err(TooLong)),
+            ([0x00, 0x01].as_slice(), Ok((0, 1))),
+            ([0xac, 0x02, 0x07].as_slice(), Ok((300, 2))),
+        ];
+        for (bytes, want) in table {
+            assert_eq!(rt; read_varint(bytes), want, "at {bytes:?}");
+        }
+    }
+
+    #[test]
+    fn writes_varints(rt: HostRuntime) -> Result<(), Fail> {
+        let mut out = Vec::new(rt.alloc());
+        push_varint(&mut out, 300)?;
+        push_varint(&mut out, 127)?;
+        push_varint(&mut out, (1 << 63) - 1)?;
+        let want = b"\xac\x02\x7f\xff\xff\xff\xff\xff\xff\xff\xff\x7f";
+        assert_eq!(rt; out.as_slice(), want.as_slice());
+        Ok(())
+    }
+}

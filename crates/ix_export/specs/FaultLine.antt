@@ -1,0 +1,13 @@
+-- The line that the program prints for a refusal.
+use Rattle.std.specs.Prelude.{ℕ, List, ◌++◌, codes}
+use Rattle.std.specs.Fmt.{decimal}
+use Rattle.ix_cid.specs.FaultWords.{fault_words}
+use Rattle.ix_car.specs.FaultWords as car
+use Rattle.ix_export.specs.declared.fault.RunFault.{RunFault}
+use Rattle.ix_export.specs.declared.fault.RunFault.TheVariants.{Hex, Root, Car, Memory}
+
+abbrev pub line_of : RunFault → List ℕ
+line_of Hex = codes "input: hex"
+line_of (Root f) = codes "root: " ++ fault_words f
+line_of (Car f) = codes "blocks: " ++ (car.fault_words f.kind ++ (codes " at " ++ decimal f.place))
+line_of Memory = codes "memory"

@@ -1,0 +1,5 @@
+pub mod Root
+pub mod FaultLine
+pub mod Input
+pub mod Reads
+pub mod Command

@@ -1,0 +1,36 @@
+-- What the command `root` exports.
+use Rattle.std.specs.Prelude.{ℕ, Bool, true, false, List, codes, Option, None, Result, Ok}
+use Rattle.ix_selector.specs.Pattern.{matcher}
+use Rattle.ix_walk.specs.Store.{Blocks}
+use Rattle.ix_walk.specs.JobMeaning.{JobMeaning}
+use Rattle.ix_car.specs.Kept.{kept}
+use Rattle.ix_car.specs.Verified.{judged_visits}
+use Rattle.ix_car.specs.Archive.{archive_with}
+use Rattle.ix_car.specs.Reading.{Fault, ◌>>=◌, blocks_of}
+use Rattle.ix_car.specs.Gives.{IsFaultOf}
+use Rattle.ix_export.specs.declared.fault.RunFault.{RunFault}
+use Rattle.ix_export.specs.declared.fault.RunFault.TheVariants.{Hex, Root, Car, Memory}
+
+-- the job of a root: the matcher, and one visit
+abbrev pub root_job : List ℕ → JobMeaning
+root_job root = record { name = codes "root"; root = root; selector = matcher; limit = 1 }
+
+-- the archive of what is kept of the visits of that job
+abbrev pub exported : Blocks → List ℕ → List ℕ
+exported store root = archive_with store root (kept (judged_visits store 0 (root_job root)))
+
+-- the same from the bytes of a CARv1 file
+abbrev pub exported_from : List ℕ → List ℕ → Result (List ℕ) Fault
+exported_from car root = blocks_of car >>= (λ store. Ok (exported store root))
+
+-- the block that is written: one that is sound
+abbrev pub sound_block : Bool → Option (List ℕ) → Option (List ℕ)
+sound_block true block = block
+sound_block false block = None
+
+-- why a file is refused: the first fault of its blocks, or memory ran out
+abbrev pub IsRefusalOf : List ℕ → RunFault → Type 0
+IsRefusalOf car (Car fault) = IsFaultOf car fault (blocks_of car)
+IsRefusalOf car Memory = Unit {0}
+IsRefusalOf car Hex = ⊥
+IsRefusalOf car (Root fault) = ⊥

@@ -1,0 +1,4 @@
+//! Stores, jobs and the visits of a job, as definitions.
+#![tactic(auto)]
+
+pub mod visit;

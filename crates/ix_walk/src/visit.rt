@@ -1,0 +1,17 @@
+//! Visits.
+
+use ix_cid::cid::Cid;
+
+/// One arrival at a CID.
+#[derive(Debug, Drop)]
+pub struct Visit {
+    pub job: u32,
+    pub seq: u32,
+    /// How many links were crossed.
+    pub depth: u32,
+    pub cid: Cid,
+    /// Where the store has the block.
+    pub block: Option<usize>,
+    /// The block is there, should be DAG-CBOR, and is none.
+    pub malformed: bool,
+}
