@@ -5,10 +5,10 @@ pub mod codec;
 pub mod decode;
 pub mod head;
 pub mod law;
-pub mod leaf;
+mod leaf;
 pub mod node;
 pub mod octets;
-pub mod read;
+mod read;
 #[cfg(test)]
 mod tests;
 pub mod tree;

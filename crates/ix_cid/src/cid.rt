@@ -9,7 +9,8 @@ use std::cmp::Ordering;
 use std::hash::{Hash, Hasher};
 use std::marker::Model;
 
-/// A CID, of any version, codec and hash.
+/// A CID (multiformats CID), of any version, codec and hash. Contracts see its bytes; equality, order
+/// and hashing are those of the bytes.
 #[derive(Debug, Drop)]
 pub struct Cid {
     bytes: Vec<u8>,
@@ -18,12 +19,19 @@ pub struct Cid {
 /// Why no CID stands at the front, or why a text is none.
 #[derive(Debug, Drop)]
 pub enum CidFault {
+    /// The bytes end before the CID does.
     Truncated,
+    /// A varint is too long or not minimal.
     Varint,
+    /// The version, which is not 1.
     Version(u64),
+    /// No memory was left.
     Memory,
+    /// A text does not begin with `b`.
     Multibase,
+    /// What follows is not base32: another letter, a wrong number of letters, or bits left over.
     Base32,
+    /// Bytes follow the CID of a text.
     Rest,
 }
 

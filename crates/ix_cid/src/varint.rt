@@ -11,8 +11,11 @@ const LONGEST: usize = 9;
 /// Why no varint stands at the front.
 #[derive(Debug, Drop, Clone, Copy, PartialEq, Eq)]
 pub enum VarintFault {
+    /// The bytes end before the varint does.
     Truncated,
+    /// Nine bytes all have the high bit.
     TooLong,
+    /// The last byte is `00` and not the only one.
     NotMinimal,
 }
 
