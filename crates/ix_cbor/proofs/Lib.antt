@@ -15,3 +15,5 @@ pub mod Sound
 pub mod Steps
 pub mod Strings
 pub mod Within
+pub mod Fitting
+pub mod Pushed

@@ -2,7 +2,7 @@
 
 ghost use Rattle.std.specs.Prelude.{◌≡◌, IfOk, IfErr, Ok};
 ghost use Rattle.ix_cbor.specs.Data.{Data, data_of};
-ghost use Rattle.ix_cbor.specs.Spelling.{Spells};
+ghost use Rattle.ix_cbor.specs.Spelling.{Spells, spelling_of};
 ghost use Rattle.ix_cbor.specs.Reading.{decoded};
 ghost use Rattle.ix_cbor.specs.Gives.{Gives, IsFirstOf};
 ghost use Rattle.ix_cbor.specs.Stops.{Reads, LiesWithin, placed};
@@ -11,7 +11,8 @@ use crate::decode::{CborFault, CborKind};
 use crate::node::Node;
 use crate::read::{Stop, item};
 use crate::tree::Tree;
-use std::alloc::Global;
+use crate::write::push_item;
+use std::alloc::{AllocError, Global};
 
 // How deep lists and maps may nest.
 const LEVELS: u32 = 512;
@@ -56,4 +57,13 @@ pub fn decode(alloc: Global, bytes: &[u8]) -> Result<Tree, CborFault>
         Ok(node) => Ok(Tree::of_canonical(node)),
         Err(stop) => Err(fault_of(stop, bytes.len())),
     }
+}
+
+/// The one spelling of a tree.
+pub fn encode(alloc: Global, tree: &Tree) -> Result<Vec<u8>, AllocError>
+    ensures { IfOk result (λ v. v.items ≡ spelling_of tree.now) }
+{
+    let mut out = Vec::new(alloc);
+    push_item(&mut out, tree.root())?;
+    Ok(out)
 }

@@ -26,3 +26,8 @@ pub fn fault_is_unique()
     ensures apart { (b : List ℕ) (d : Data) (f : Fault) → Spells b d → ¬ FirstFault b f }
     ensures either { (b : List ℕ) → AreBytes b → ((d : Data) × Spells b d) ⊎ ((f : Fault) × FirstFault b f) }
 {}
+
+/// Decoding what was encoded gives the same tree.
+pub fn decoding_undoes_encoding()
+    ensures { (d : Data) → IsCanonical d → decoded (spelling_of d) ≡ Ok d }
+{}

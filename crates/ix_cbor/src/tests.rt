@@ -1,6 +1,6 @@
 //! Blocks and their faults, from outside.
 
-use crate::codec::decode;
+use crate::codec::{decode, encode};
 use crate::decode::{CborFault, CborKind};
 use crate::head::push_head;
 use crate::node::Node;
@@ -255,5 +255,15 @@ fn heads(rt: HostRuntime) -> Result<(), Fail> {
         let written = head(rt.alloc(), major, argument)?;
         assert_eq!(rt; written.as_slice(), bytes, "of {major} and {argument}");
     }
+    Ok(())
+}
+
+// A list of one link, to the raw block `abc`.
+#[test]
+fn a_link_is_spelled_again(rt: HostRuntime) -> Result<(), Fail> {
+    let block =
+        b"\x81\xd8\x2a\x58\x25\x00\x01\x55\x12\x20\xba\x78\x16\xbf\x8f\x01\xcf\xea\x41\x41\x40\xde\x5d\xae\x22\x23\xb0\x03\x61\xa3\x96\x17\x7a\x9c\xb4\x10\xff\x61\xf2\x00\x15\xad";
+    let tree = decode(rt.alloc(), block)?;
+    assert_eq!(rt; encode(rt.alloc(), &tree)?.as_slice(), block.as_slice());
     Ok(())
 }

@@ -2,6 +2,7 @@
 
 ghost use Rattle.std.specs.Prelude.{◌≡◌};
 
+use crate::canonical::is_canonical;
 use crate::node::Node;
 use std::marker::Model;
 
@@ -26,8 +27,26 @@ impl Model for Tree {
 }
 
 impl Tree {
+    ghost use Rattle.std.specs.Prelude.{IfOk, IfErr};
     ghost use Rattle.ix_cbor.specs.Data.{Data, data_of};
     ghost use Rattle.ix_cbor.specs.Spelling.{IsCanonical};
+
+    /// The tree of a node that has a spelling. Any other node is handed back: one with an integer
+    /// below -2^64 or above 2^64 - 1, with a float that is an infinity or no number, with a map
+    /// whose keys don't rise (the shorter key comes first, keys of one length go by their bytes, and
+    /// no key stands twice), or with lists and maps that nest more than 512 deep.
+    pub fn new(node: Node) -> Result<Tree, Node>
+        ensures ok { IfOk result (λ t. t ≡ data_of node) }
+        ensures canonical { IfOk result (λ t. IsCanonical (data_of node)) }
+        ensures err { IfErr result (λ n. n ≡ node) }
+        ensures none { IfErr result (λ n. ¬ IsCanonical (data_of node)) }
+    {
+        if is_canonical(&node) {
+            Ok(Tree { node })
+        } else {
+            Err(node)
+        }
+    }
 
     // The tree of a node that has a spelling.
     pub(crate) fn of_canonical(node: Node) -> Tree
@@ -53,3 +72,6 @@ impl Tree {
         self.node
     }
 }
+
+#[cfg(test)]
+mod tests;

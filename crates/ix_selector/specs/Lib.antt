@@ -1,7 +1,15 @@
 pub use Rattle.ix_cid.specs.Cid
 pub use Rattle.ix_cbor.specs.Data
+pub use Rattle.ix_cbor.specs.DataCode
 pub use Rattle.ix_cbor.specs.Spelling
 pub mod Pattern
+pub mod PatternCode
+pub mod Reading
+pub mod Gives
+pub mod Shapes
 pub mod Enters
 pub mod IsEntered
+pub mod Residual
 pub mod Examples
+pub mod Derivative
+pub mod Edges

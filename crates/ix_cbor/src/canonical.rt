@@ -1,0 +1,96 @@
+//! Which nodes have a spelling.
+
+ghost use Rattle.std.specs.Prelude.{◌≡◌, ◌≢◌, ◌↔◌, ◌+◌, ◌/◌, ◌%◌, ◌^◌, ◌<◌, IsTrue, None, length, map};
+ghost use Rattle.ix_cbor.specs.Data.{data_of, integer, items_of, entries_of};
+ghost use Rattle.ix_cbor.specs.Spelling.{IsCanonical, IsSpellable, key_cmp};
+ghost use Rattle.ix_cbor.specs.Fits.{Fits, ItemsFit, EntriesFit};
+
+use crate::node::Node;
+use crate::octets::Octets;
+use std::cmp::Ordering;
+
+// How deep lists and maps may nest.
+const LEVELS: u32 = 512;
+
+// Whether the node has a spelling.
+pub(crate) fn is_canonical(node: &Node) -> bool
+    ensures { IsTrue result ↔ IsCanonical (data_of node.now) }
+{
+    fits(node, LEVELS)
+}
+
+// Whether it is an argument of 64 bits, or -1 less one.
+fn is_int(n: i128) -> bool
+    ensures { IsTrue result ↔ IsSpellable (integer n) }
+{
+    n >= -(1 << 64) && n < 1 << 64
+}
+
+// Whether the eleven bits below the sign aren't all ones.
+fn is_finite(bits: u64) -> bool
+    ensures { IsTrue result ↔ (bits / 2 ^ 52 % 2 ^ 11 ≢ 2047) }
+{
+    (bits >> 52) % (1 << 11) != 2047
+}
+
+// Whether the length of these bytes, with so many more before them, is an argument of 64 bits.
+fn has_room(bytes: &[u8], more: usize) -> bool
+    ensures { IsTrue result ↔ (length bytes.now + more < 2 ^ 64) }
+{
+    bytes.len() <= usize::MAX - more
+}
+
+// The shorter key first, keys of one length by their bytes.
+fn compare_keys(before: &[u8], key: &[u8]) -> Ordering
+    ensures { result ≡ key_cmp before.now key.now }
+{
+    before.len().cmp(&key.len()).then_with(|| before.cmp(key))
+}
+
+// Whether the node has a spelling, and lists and maps nest at most so many levels deep in it.
+#[cycle(fits)]
+fn fits(node: &Node, levels: u32) -> bool
+    ensures { IsTrue result ↔ Fits levels (data_of node.now) }
+{
+    match node {
+        Node::Null | Node::Bool(_) => true,
+        Node::Int(n) => is_int(*n),
+        Node::Bits64(bits) => is_finite(*bits),
+        Node::Bytes(bytes) | Node::Text(bytes) => has_room(bytes.as_slice(), 0),
+        Node::List(members) => levels != 0 && members_fit(members, levels - 1),
+        Node::Map(entries) => levels != 0 && entries_fit(entries, levels - 1),
+        Node::Link(cid) => has_room(cid.as_bytes(), 1),
+    }
+}
+
+// The same of members.
+#[cycle(fits)]
+fn members_fit(members: &[Node], levels: u32) -> bool
+    ensures { IsTrue result ↔ ItemsFit levels (items_of (map data_of members.now)) }
+{
+    for member in members {
+        if !fits(member, levels) {
+            return false;
+        }
+    }
+    true
+}
+
+// The same of keys and values, where each key rises above the one before it.
+#[cycle(fits)]
+fn entries_fit(entries: &[(Octets, Node)], levels: u32) -> bool
+    ensures { IsTrue result ↔ EntriesFit levels None (entries_of (map (λ e. (e.0, data_of e.1)) entries.now)) }
+{
+    let mut before: Option<&[u8]> = None;
+    for (key, value) in entries {
+        let key = key.as_slice();
+        if before.is_some_and(|before| compare_keys(before, key).is_ge()) {
+            return false;
+        }
+        if !fits(value, levels) {
+            return false;
+        }
+        before = Some(key);
+    }
+    true
+}

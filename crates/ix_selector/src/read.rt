@@ -1,0 +1,390 @@
+//! The parts of reading a selector.
+
+ghost use Rattle.std.specs.Prelude.{◌≡◌, codes, map, IfOk};
+ghost use Rattle.ix_cbor.specs.Data.{data_of};
+ghost use Rattle.ix_selector.specs.Pattern.{pattern_of, fields_of, members_of, Around as SpecAround, behind_step};
+ghost use Rattle.ix_selector.specs.Reading.{Reader, integer_of, entries_of_map, one_of, two_of, three_of, has_key, limit_of, matcher_of, all_read, fields_form, index_form, range_form, recursive_form, union_form, edge_form, form_of, fields_read, members_read, read_with, selector_at, without_envelope, selector_of};
+ghost use Rattle.ix_selector.specs.Gives.{Gives};
+ghost use Rattle.ix_selector.specs.Shapes.{around_of, entries_data, items_data, in_map, none_limit, depth_limit, inside, Shapes};
+
+use crate::fault::{Form, SelFault};
+use crate::sel::Sel;
+use ix_cbor::node::Node;
+use ix_cbor::octets::Octets;
+use std::alloc::{AllocError, Global};
+
+// How many selectors may stand inside one another.
+const LEVELS: u32 = 128;
+
+// What stands round a selector: no recursion, or the innermost one, with a step between or none.
+#[derive(Drop, Clone, Copy)]
+enum Around {
+    Outside,
+    Unguarded,
+    Guarded,
+}
+
+// A form with the nodes inside, which are still to be read.
+#[derive(Drop, Clone, Copy)]
+enum Shape<'t> {
+    Matcher,
+    All(&'t Node),
+    Fields(&'t [(Octets, Node)]),
+    Index(i128, &'t Node),
+    Range(i128, i128, &'t Node),
+    Recursive(Option<u32>, &'t Node),
+    Union(&'t [Node]),
+    Edge,
+}
+
+// What stands round what is behind a step.
+fn around_step(around: Around) -> Around
+    ensures { around_of result ≡ behind_step (around_of around) }
+{
+    match around {
+        Around::Outside => Around::Outside,
+        Around::Unguarded | Around::Guarded => Around::Guarded,
+    }
+}
+
+fn integer(node: &Node) -> Result<i128, SelFault>
+    ensures { Gives (λ n. n) result (integer_of (data_of node.now)) }
+{
+    match node {
+        Node::Int(number) => Ok(*number),
+        _ => Err(SelFault::Kind),
+    }
+}
+
+fn map_entries(node: &Node) -> Result<&[(Octets, Node)], SelFault>
+    ensures { Gives (λ es. entries_data es.now) result (entries_of_map (data_of node.now)) }
+{
+    match node {
+        Node::Map(entries) => Ok(entries.as_slice()),
+        _ => Err(SelFault::Kind),
+    }
+}
+
+// The value of the one key.
+fn only<'t>(entries: &'t [(Octets, Node)], key: &[u8]) -> Result<&'t Node, SelFault>
+    ensures { Gives (λ d. data_of d.now) result (one_of key.now (entries_data entries.now)) }
+{
+    let [(name, value)] = entries else {
+        return Err(SelFault::Keys);
+    };
+    if name.as_slice() == key {
+        Ok(value)
+    } else {
+        Err(SelFault::Keys)
+    }
+}
+
+// The values of two keys in the order of data.
+fn both<'t>(
+    entries: &'t [(Octets, Node)],
+    first: &[u8],
+    second: &[u8],
+) -> Result<(&'t Node, &'t Node), SelFault>
+    ensures { Gives (λ d. (data_of d.0.now, data_of d.1.now)) result (two_of first.now second.now (entries_data entries.now)) }
+{
+    let [(name, value), rest @ ..] = entries else {
+        return Err(SelFault::Keys);
+    };
+    if name.as_slice() == first {
+        Ok((value, only(rest, second)?))
+    } else {
+        Err(SelFault::Keys)
+    }
+}
+
+// The values of the three keys of a range.
+fn range_parts(entries: &[(Octets, Node)]) -> Result<(&Node, &Node, &Node), SelFault>
+    ensures { Gives (λ d. (data_of d.0.now, data_of d.1.now, data_of d.2.now)) result (three_of (codes "$") (codes ">") (codes "^") (entries_data entries.now)) }
+{
+    let [(name, value), rest @ ..] = entries else {
+        return Err(SelFault::Keys);
+    };
+    if name.as_slice() == b"$".as_slice() {
+        let (second, third) = both(rest, b">", b"^")?;
+        Ok((value, second, third))
+    } else {
+        Err(SelFault::Keys)
+    }
+}
+
+// A matcher may have a label, which is a text.
+fn matcher(body: &Node) -> Result<Shape<'_>, SelFault>
+    ensures { (read : Reader) (around : SpecAround) → Shapes read around result (in_map matcher_of (data_of body.now)) }
+{
+    for (name, value) in map_entries(body)? {
+        if name.as_slice() != b"label".as_slice() {
+            return Err(SelFault::Unsupported(Form::MatcherField));
+        }
+        let Node::Text(_) = value else {
+            return Err(SelFault::Kind);
+        };
+    }
+    Ok(Shape::Matcher)
+}
+
+fn all(body: &Node) -> Result<Shape<'_>, SelFault>
+    ensures { (read : Reader) (around : SpecAround) → Shapes read around result (in_map (all_read read around) (data_of body.now)) }
+{
+    Ok(Shape::All(only(map_entries(body)?, b">")?))
+}
+
+fn fields(body: &Node) -> Result<Shape<'_>, SelFault>
+    ensures { (read : Reader) (around : SpecAround) → Shapes read around result (in_map (fields_form read around) (data_of body.now)) }
+{
+    let names = only(map_entries(body)?, b"f>")?;
+    Ok(Shape::Fields(map_entries(names)?))
+}
+
+fn index(body: &Node) -> Result<Shape<'_>, SelFault>
+    ensures { (read : Reader) (around : SpecAround) → Shapes read around result (in_map (index_form read around) (data_of body.now)) }
+{
+    let (next, position) = both(map_entries(body)?, b">", b"i")?;
+    Ok(Shape::Index(integer(position)?, next))
+}
+
+// The start is tested before the end.
+fn range(body: &Node) -> Result<Shape<'_>, SelFault>
+    ensures { (read : Reader) (around : SpecAround) → Shapes read around result (in_map (range_form read around) (data_of body.now)) }
+{
+    let (end, next, start) = range_parts(map_entries(body)?)?;
+    let start = integer(start)?;
+    let end = integer(end)?;
+    Ok(Shape::Range(start, end, next))
+}
+
+fn union(body: &Node) -> Result<Shape<'_>, SelFault>
+    ensures { (read : Reader) (around : SpecAround) → Shapes read around result (union_form read around (data_of body.now)) }
+{
+    match body {
+        Node::List(members) => Ok(Shape::Union(members.as_slice())),
+        _ => Err(SelFault::Kind),
+    }
+}
+
+fn edge(body: &Node, around: Around) -> Result<Shape<'_>, SelFault>
+    ensures { (read : Reader) → Shapes read (around_of around) result (in_map (edge_form (around_of around)) (data_of body.now)) }
+{
+    let [] = map_entries(body)? else {
+        return Err(SelFault::Keys);
+    };
+    match around {
+        Around::Outside => Err(SelFault::EdgeOutside),
+        Around::Unguarded => Err(SelFault::EdgeUnguarded),
+        Around::Guarded => Ok(Shape::Edge),
+    }
+}
+
+// `none` with an empty map, or `depth` with a number below 2 ^ 32.
+fn limit(node: &Node) -> Result<Option<u32>, SelFault>
+    ensures { Gives (λ l. l) result (limit_of (data_of node.now)) }
+{
+    let [(name, value)] = map_entries(node)? else {
+        return Err(SelFault::Keys);
+    };
+    if name.as_slice() == b"none".as_slice() {
+        no_limit(value)
+    } else if name.as_slice() == b"depth".as_slice() {
+        depth(value)
+    } else {
+        Err(SelFault::Unknown)
+    }
+}
+
+fn no_limit(node: &Node) -> Result<Option<u32>, SelFault>
+    ensures { Gives (λ l. l) result (none_limit (data_of node.now)) }
+{
+    match map_entries(node)? {
+        [] => Ok(None),
+        _ => Err(SelFault::Keys),
+    }
+}
+
+fn depth(node: &Node) -> Result<Option<u32>, SelFault>
+    ensures { Gives (λ l. l) result (depth_limit (data_of node.now)) }
+{
+    match u32::try_from(integer(node)?) {
+        Ok(depth) => Ok(Some(depth)),
+        Err(_) => Err(SelFault::Depth),
+    }
+}
+
+fn has_key(entries: &[(Octets, Node)], key: &[u8]) -> bool
+    ensures { result ≡ has_key key.now (entries_data entries.now) }
+{
+    entries.iter().any(|(name, _)| name.as_slice() == key)
+}
+
+fn recursive(body: &Node) -> Result<Shape<'_>, SelFault>
+    ensures { (read : Reader) (around : SpecAround) → Shapes read around result (in_map (recursive_form read) (data_of body.now)) }
+{
+    let entries = map_entries(body)?;
+    if has_key(entries, b"!") {
+        return Err(SelFault::Unsupported(Form::StopAt));
+    }
+    let (within, sequence) = both(entries, b"l", b":>")?;
+    Ok(Shape::Recursive(limit(within)?, sequence))
+}
+
+// The form that a key names, with its body.
+fn shape_named<'t>(key: &[u8], body: &'t Node, around: Around) -> Result<Shape<'t>, SelFault>
+    ensures { (read : Reader) → Shapes read (around_of around) result (form_of read (around_of around) key.now (data_of body.now)) }
+{
+    let [letter] = key else {
+        return Err(SelFault::Unknown);
+    };
+    match letter {
+        b'.' => matcher(body),
+        b'a' => all(body),
+        b'f' => fields(body),
+        b'i' => index(body),
+        b'r' => range(body),
+        b'R' => recursive(body),
+        b'|' => union(body),
+        b'@' => edge(body, around),
+        b'&' => Err(SelFault::Unsupported(Form::Conditional)),
+        b'~' => Err(SelFault::Unsupported(Form::InterpretAs)),
+        _ => Err(SelFault::Unknown),
+    }
+}
+
+fn shape_of(node: &Node, around: Around) -> Result<Shape<'_>, SelFault>
+    ensures { (read : Reader) → Shapes read (around_of around) result (read_with read (around_of around) (data_of node.now)) }
+{
+    let Node::Map(entries) = node else {
+        return Err(SelFault::NotMap);
+    };
+    let [(key, body)] = entries.as_slice() else {
+        return Err(SelFault::Keys);
+    };
+    shape_named(key.as_slice(), body, around)
+}
+
+// The same bytes once more.
+fn copied(alloc: Global, octets: &Octets) -> Result<Octets, AllocError>
+    ensures { IfOk result (λ o. o ≡ octets.now) }
+{
+    Ok(Octets::new(Vec::from_slice(alloc, octets.as_slice())?))
+}
+
+// A selector inside which at most so many others stand.
+#[cycle(levels)]
+fn selector_at(alloc: Global, node: &Node, around: Around, levels: u32) -> Result<Sel, SelFault>
+    ensures { Gives pattern_of result (selector_at levels (around_of around) (data_of node.now)) }
+{
+    if levels == 0 {
+        Err(SelFault::Nesting)
+    } else {
+        selector_with(alloc, node, around, levels - 1)
+    }
+}
+
+#[cycle(levels)]
+fn selector_with(alloc: Global, node: &Node, around: Around, levels: u32) -> Result<Sel, SelFault>
+    ensures { Gives pattern_of result (read_with (selector_at levels) (around_of around) (data_of node.now)) }
+{
+    let shape = shape_of(node, around)?;
+    selector_inside(alloc, shape, around, levels)
+}
+
+#[cycle(levels)]
+fn selector_inside(
+    alloc: Global,
+    shape: Shape<'_>,
+    around: Around,
+    levels: u32,
+) -> Result<Sel, SelFault>
+    ensures { Gives pattern_of result (inside (selector_at levels) (around_of around) shape.entry) }
+{
+    let behind = around_step(around);
+    match shape {
+        Shape::Matcher => Ok(Sel::Matcher),
+        Shape::All(next) => Ok(Sel::All(boxed(alloc, next, behind, levels)?)),
+        Shape::Fields(names) => Ok(Sel::Fields(fields_inside(alloc, names, behind, levels)?)),
+        Shape::Index(position, next) => Ok(Sel::Index(
+            position,
+            boxed(alloc, next, behind, levels)?,
+        )),
+        Shape::Range(start, end, next) => Ok(Sel::Range(
+            start,
+            end,
+            boxed(alloc, next, behind, levels)?,
+        )),
+        Shape::Recursive(limit, sequence) => Ok(Sel::Recursive(
+            limit,
+            boxed(alloc, sequence, Around::Unguarded, levels)?,
+        )),
+        Shape::Union(members) => Ok(Sel::Union(members_inside(alloc, members, around, levels)?)),
+        Shape::Edge => Ok(Sel::Edge),
+    }
+}
+
+#[cycle(levels)]
+fn boxed(alloc: Global, node: &Node, around: Around, levels: u32) -> Result<Box<Sel>, SelFault>
+    ensures { Gives (λ b. pattern_of b.value) result (selector_at levels (around_of around) (data_of node.now)) }
+{
+    let sel = selector_at(alloc, node, around, levels)?;
+    Ok(Box::new(alloc, sel)?)
+}
+
+#[cycle(levels)]
+fn fields_inside(
+    alloc: Global,
+    names: &[(Octets, Node)],
+    around: Around,
+    levels: u32,
+) -> Result<Vec<(Octets, Sel)>, SelFault>
+    ensures { Gives (λ v. fields_of (map (λ f. (f.0, pattern_of f.1)) v.items)) result (fields_read (selector_at levels (around_of around)) (entries_data names.now)) }
+{
+    let mut fields = Vec::new(alloc);
+    for (name, node) in names {
+        let sel = selector_at(alloc, node, around, levels)?;
+        fields.push((copied(alloc, name)?, sel))?;
+    }
+    Ok(fields)
+}
+
+#[cycle(levels)]
+fn members_inside(
+    alloc: Global,
+    nodes: &[Node],
+    around: Around,
+    levels: u32,
+) -> Result<Vec<Sel>, SelFault>
+    ensures { Gives (λ v. members_of (map pattern_of v.items)) result (members_read (selector_at levels (around_of around)) (items_data nodes.now)) }
+{
+    let mut members = Vec::new(alloc);
+    for node in nodes {
+        let sel = selector_at(alloc, node, around, levels)?;
+        members.push(sel)?;
+    }
+    Ok(members)
+}
+
+// What stands in the envelope, or the node itself.
+fn without_envelope(node: &Node) -> &Node
+    ensures { data_of result.now ≡ without_envelope (data_of node.now) }
+{
+    let Node::Map(entries) = node else {
+        return node;
+    };
+    let [(key, inner)] = entries.as_slice() else {
+        return node;
+    };
+    if key.as_slice() == b"selector".as_slice() {
+        inner
+    } else {
+        node
+    }
+}
+
+/// The selector for which a node stands, or the first refusal.
+pub fn selector_of(alloc: Global, node: &Node) -> Result<Sel, SelFault>
+    ensures { Gives pattern_of result (selector_of (data_of node.now)) }
+{
+    selector_at(alloc, without_envelope(node), Around::Outside, LEVELS)
+}
