@@ -9,5 +9,4 @@ ghost use Rattle.ix_selector.specs.IsEntered.{is_entered};
 pub fn entered_is_decided()
     ensures entered { (s : Pattern) (p : Path) → IsSelector s → is_entered s p ≡ true → Enters s [] p }
     ensures only { (s : Pattern) (p : Path) → IsSelector s → Enters s [] p → is_entered s p ≡ true }
-{
-}
+{}
