@@ -5,21 +5,12 @@ use Rattle.std.proofs.lemmas.List.{at_drop_more, at_drop_all}
 use Rattle.ix_cbor.specs.declared.node.Node.{Node}
 use Rattle.ix_cbor.specs.Data.{Data, data_of}
 use Rattle.ix_selector.specs.declared.fault.SelFault.{SelFault}
-use Rattle.ix_selector.specs.declared.fault.SelFault.TheVariants.{Memory, Nesting}
-use Rattle.ix_selector.specs.Gives.{Fails}
+use Rattle.ix_selector.specs.declared.fault.SelFault.TheVariants.{Nesting}
 use Rattle.ix_selector.specs.Pattern.{Pattern, Fields, Members, no_fields, field, no_members, member, fields_of, members_of, Around}
 use Rattle.ix_selector.specs.Reading.{◌>>=◌, fields_read, members_read, read_with, selector_at}
 use Rattle.ix_selector.specs.Shapes.{entries_data, items_data}
 
--- where a definition's fault is another definition's too, a call fails as both
-pub fails_along : {A B : Type 0} (e : SelFault) (a : Result A SelFault) (b : Result B SelFault) → ((f : SelFault) → a ≡ Err f → b ≡ Err f) → Fails e a → Fails e b
-fails_along Memory a b h fails = tt
-fails_along other a b h fails = h _ fails
-
--- a fault of the first of two readings is a fault of both
-pub fails_first : {A B : Type 0} (e : SelFault) (a : Result A SelFault) (f : A → Result B SelFault) → Fails e a → Fails e (a >>= f)
-fails_first e a f fails = fails_along e a (a >>= f) (λ d h. ap (λ r. r >>= f) h) fails
-
+-- where no selector may stand
 pub selector_at-zero : (n : ℕ) (around : Around) (d : Data) → n ≡ 0 → selector_at n around d ≡ Err Nesting
 unfolding selector_at
 selector_at-zero n around d e = ap (λ k. selector_at k around d) e
@@ -30,6 +21,7 @@ unfolding selector_at
 selector_at-above zero around d h = absurd (omega arith)
 selector_at-above (suc n) around d h = ap (λ k. read_with (selector_at k) around d) (omega arith)
 
+-- fields behind others, and members behind others
 abbrev pub before_fields : List (List ℕ × Pattern) → Fields → Fields
 before_fields [] fs = fs
 before_fields (f ∷ more) fs = field f.0 f.1 (before_fields more fs)
@@ -45,18 +37,22 @@ with_fields front read = read >>= (λ fs. Ok (before_fields front fs))
 abbrev pub with_members : List Pattern → Result Members SelFault → Result Members SelFault
 with_members front read = read >>= (λ ss. Ok (before_members front ss))
 
+-- with nothing behind
 fields_none : (front : List (List ℕ × Pattern)) → before_fields front no_fields ≡ fields_of front
 fields_none [] = refl
 fields_none (f ∷ more) = ap (field f.0 f.1) (fields_none more)
 
+-- the last of those before is the first of those behind
 fields_more : (front : List (List ℕ × Pattern)) (f : List ℕ × Pattern) (fs : Fields) → before_fields (front ++ f ∷ []) fs ≡ before_fields front (field f.0 f.1 fs)
 fields_more [] f fs = refl
 fields_more (e ∷ more) f fs = ap (field e.0 e.1) (fields_more more f fs)
 
+-- with nothing behind
 members_none : (front : List Pattern) → before_members front no_members ≡ members_of front
 members_none [] = refl
 members_none (s ∷ more) = ap (member s) (members_none more)
 
+-- the last of those before is the first of those behind
 members_more : (front : List Pattern) (s : Pattern) (ss : Members) → before_members (front ++ s ∷ []) ss ≡ before_members front (member s ss)
 members_more [] s ss = refl
 members_more (t ∷ more) s ss = ap (member t) (members_more more s ss)
@@ -75,14 +71,7 @@ module _ (read : Data → Result Pattern SelFault) where
         behind (Ok fs) = ap (λ x. Ok x) (fields_more front (k, s) fs)
         behind (Err f) = refl
 
-  -- an entry can't be read
-  pub fields_stop : (front : List (List ℕ × Pattern)) (es : List (List ℕ × Node)) (i : ℕ) (e : List ℕ × Node) (whole : Result Fields SelFault) → i < length es → e ≡ get_or es i e
-      → with_fields front (fields_read read (entries_data (drop i es))) ≡ whole → (f : SelFault) → read (data_of e.1) ≡ Err f → whole ≡ Err f
-  fields_stop front es i e whole lt at so_far f fails =
-      sym so_far ∙ at_drop_more (λ l. with_fields front (fields_read read (entries_data l))) es i e lt
-      ∙ ap (λ x. with_fields front (fields_read read (entries_data (x ∷ drop (i + 1) es)))) (sym at)
-      ∙ ap (λ r. with_fields front (r >>= (λ s. fields_read read (entries_data (drop (i + 1) es)) >>= (λ fs. Ok (field e.0 s fs))))) fails
-
+  -- all entries are read
   pub fields_done : (front : List (List ℕ × Pattern)) (es : List (List ℕ × Node)) (i : ℕ) (whole : Result Fields SelFault) → length es ≤ i
       → with_fields front (fields_read read (entries_data (drop i es))) ≡ whole → whole ≡ Ok (fields_of front)
   fields_done front es i whole le so_far = sym so_far ∙ at_drop_all (λ l. with_fields front (fields_read read (entries_data l))) es i le ∙ ap (λ fs. Ok fs) (fields_none front)
@@ -99,14 +88,7 @@ module _ (read : Data → Result Pattern SelFault) where
         behind (Ok ss) = ap (λ x. Ok x) (members_more front s ss)
         behind (Err f) = refl
 
-  -- a member can't be read
-  pub members_stop : (front : List Pattern) (ds : List Node) (i : ℕ) (d : Node) (whole : Result Members SelFault) → i < length ds → d ≡ get_or ds i d
-      → with_members front (members_read read (items_data (drop i ds))) ≡ whole → (f : SelFault) → read (data_of d) ≡ Err f → whole ≡ Err f
-  members_stop front ds i d whole lt at so_far f fails =
-      sym so_far ∙ at_drop_more (λ l. with_members front (members_read read (items_data l))) ds i d lt
-      ∙ ap (λ x. with_members front (members_read read (items_data (x ∷ drop (i + 1) ds)))) (sym at)
-      ∙ ap (λ r. with_members front (r >>= (λ s. members_read read (items_data (drop (i + 1) ds)) >>= (λ ss. Ok (member s ss))))) fails
-
+  -- all members are read
   pub members_done : (front : List Pattern) (ds : List Node) (i : ℕ) (whole : Result Members SelFault) → length ds ≤ i
       → with_members front (members_read read (items_data (drop i ds))) ≡ whole → whole ≡ Ok (members_of front)
   members_done front ds i whole le so_far = sym so_far ∙ at_drop_all (λ l. with_members front (members_read read (items_data l))) ds i le ∙ ap (λ ss. Ok ss) (members_none front)

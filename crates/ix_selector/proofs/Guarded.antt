@@ -14,14 +14,16 @@ pub record MayBe (n : ℕ) (around : Around) (s : Pattern) : Type 0 where
   pub edges : IsGuarded around s
   pub nesting : nesting_of s ≤ n
 
+-- a fault is no value
 pub err_no_ok : {A P : Type 0} {x : A} (e : SelFault) → Err e ≡ Ok x → P
 err_no_ok e h = absurd (true≢false (sym (ap is_ok h)))
 
--- what two readings in turn give, each gives its part of
+-- a value of two readings in turn is the second one's, behind a value of the first
 pub bind_ok : {A B : Type 0} (r : Result A SelFault) (f : A → Result B SelFault) (y : B) → (r >>= f) ≡ Ok y → (x : A) × (r ≡ Ok x) × (f x ≡ Ok y)
 bind_ok (Ok x) f y h = (x, refl, h)
 bind_ok (Err e) f y h = err_no_ok e h
 
+-- one answer is one value
 ok_same : {A : Type 0} (x y : A) → ◌≡◌ {A = Result A SelFault} (Ok x) (Ok y) → x ≡ y
 ok_same x y h = cc
 
@@ -30,11 +32,13 @@ pub by_test : {A : Type 0} (b : Bool) (r s : Result A SelFault) (y : A) (P : Typ
 by_test true r s y P f g h = f h
 by_test false r s y P f g h = g h
 
+-- a depth that passes the test is below 2 ^ 32
 depth_below : (n : ℕ) (limit : Option ℕ) → (if nat_lt n (2 ^ 32) then Ok (Some n) else Err Depth) ≡ Ok limit → IsLimit limit
 depth_below n limit h =
     elim (nat_lt n (2 ^ 32)) as (λ b. (b ≡ true → n < 2 ^ 32) → (if b then Ok (Some n) else Err Depth) ≡ Ok limit → IsLimit limit)
     [ true ↦ (λ fits e. subst IsLimit (ok_same (Some n) limit e) (fits refl)) | false ↦ (λ fits e. err_no_ok Depth e) ] (λ e. ltb-true n (2 ^ 32) e) h
 
+-- the parts of limit_of
 abbrev none_limit : Entries → Result (Option ℕ) SelFault
 none_limit no_entries = Ok None
 none_limit other = Err Keys
@@ -43,6 +47,7 @@ abbrev depth_limit : ℤ → Result (Option ℕ) SelFault
 depth_limit (pos n) = if nat_lt n (2 ^ 32) then Ok (Some n) else Err Depth
 depth_limit (negsuc n) = Err Depth
 
+-- what each part gives fits
 none_fits : (es : Entries) (limit : Option ℕ) → none_limit es ≡ Ok limit → IsLimit limit
 none_fits no_entries limit h = subst IsLimit (ok_same None limit h) tt
 none_fits (entry k d es) limit h = err_no_ok Keys h
@@ -76,6 +81,7 @@ matcher_only (entry k d es) s h =
       rest_of (text t) r s h = h
       rest_of other r s h = err_no_ok Kind h
 
+-- an edge is read only where it may stand
 edge_guarded : (around : Around) (es : Entries) (s : Pattern) → edge_form around es ≡ Ok s → MayBe 1 around s
 edge_guarded around (entry k d es) s h = err_no_ok Keys h
 edge_guarded outside no_entries s h = err_no_ok EdgeOutside h
@@ -84,6 +90,7 @@ edge_guarded guarded no_entries s h = subst (λ s. MayBe 1 guarded s) (ok_same e
 
 -- one level, where the levels below are as they should be
 module _ (n : ℕ) (read : Reader) (good : (around : Around) (d : Data) (s : Pattern) → read around d ≡ Ok s → MayBe n around s) where
+  -- each form is a selector where what stands inside is one
   all_good : (around : Around) (es : Entries) (s : Pattern) → all_read read around es ≡ Ok s → MayBe (n + 1) around s
   all_good around es s h =
       let one = bind_ok (one_of (codes ">") es) (λ d. read (behind_step around) d >>= (λ s. Ok (all s))) s h in
@@ -124,6 +131,7 @@ module _ (n : ℕ) (read : Reader) (good : (around : Around) (d : Data) (s : Pat
         rest : Data × Data → Result Pattern SelFault
         rest d = limit_of d.0 >>= (λ limit. read unguarded d.1 >>= (λ s. Ok (recursive limit s)))
 
+  -- the selectors of named keys
   named_good : (around : Around) (es : Entries) (fs : Fields) → fields_read (read (behind_step around)) es ≡ Ok fs → AreGuarded around fs × (fields_nesting fs ≤ n)
   named_good around no_entries fs h = subst (λ fs. AreGuarded around fs × (fields_nesting fs ≤ n)) (ok_same no_fields fs h) (tt, omega arith)
   named_good around (entry k d es) fs h =
@@ -141,6 +149,7 @@ module _ (n : ℕ) (read : Reader) (good : (around : Around) (d : Data) (s : Pat
       let below = named_good around names.0 inner.0 inner.1 in
       subst (λ s. MayBe (n + 1) around s) (ok_same (fields inner.0) s inner.2) (record { edges = below.0; nesting = omega (arith, below.1) })
 
+  -- the members of a union
   members_good : (around : Around) (ds : Items) (ss : Members) → members_read (read around) ds ≡ Ok ss → EachGuarded around ss × (members_nesting ss ≤ n)
   members_good around no_items ss h = subst (λ ss. EachGuarded around ss × (members_nesting ss ≤ n)) (ok_same no_members ss h) (tt, omega arith)
   members_good around (item d ds) ss h =
@@ -161,6 +170,7 @@ module _ (n : ℕ) (read : Reader) (good : (around : Around) (d : Data) (s : Pat
   in_map : (around : Around) (d : Data) (f : Entries → Result Pattern SelFault) (s : Pattern) → ((es : Entries) → f es ≡ Ok s → MayBe (n + 1) around s) → (entries_of_map d >>= f) ≡ Ok s → MayBe (n + 1) around s
   in_map around d f s each h = let found = bind_ok (entries_of_map d) f s h in each found.0 found.2
 
+  -- so is the form that a key names
   form_good : (around : Around) (k : List ℕ) (d : Data) (s : Pattern) → form_of read around k d ≡ Ok s → MayBe (n + 1) around s
   form_good around k d s h =
       by_test (bytes_eq k (codes ".")) _ _ s P (in_map around d matcher_of s (λ es e. subst (λ s. MayBe (n + 1) around s) (matcher_only es s e) (record { edges = tt; nesting = omega arith })))
@@ -177,6 +187,7 @@ module _ (n : ℕ) (read : Reader) (good : (around : Around) (d : Data) (s : Pat
         P : Type 0
         P = MayBe (n + 1) around s
 
+  -- so is what one level reads
   with_good : (around : Around) (d : Data) (s : Pattern) → read_with read around d ≡ Ok s → MayBe (n + 1) around s
   with_good around (map (entry k body no_entries)) s h = form_good around k body s h
   with_good around (map (entry k body (entry l e es))) s h = err_no_ok Keys h

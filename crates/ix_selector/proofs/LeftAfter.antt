@@ -16,20 +16,24 @@ use Rattle.ix_selector.proofs.Substitution.{with_outer-enters, replaced-enters, 
 abbrev IsLeft : Pattern → List Pattern → Type 0
 IsLeft r rs = IsMember r (members_of rs)
 
+-- what is in the front is in the whole
 left-front : (r : Pattern) (rs more : List Pattern) → IsLeft r rs → IsLeft r (rs ++ more)
 left-front r [] more n = elim n [ ]
 left-front r (s ∷ rs) more head = head
 left-front r (s ∷ rs) more (tail n) = tail (left-front r rs more n)
 
+-- what is in the back is in the whole
 left-back : (r : Pattern) (rs more : List Pattern) → IsLeft r more → IsLeft r (rs ++ more)
 left-back r [] more n = n
 left-back r (s ∷ rs) more n = tail (left-back r rs more n)
 
+-- what is in the whole is in the front or the back
 left-parts : (r : Pattern) (rs more : List Pattern) → IsLeft r (rs ++ more) → IsLeft r rs ⊎ IsLeft r more
 left-parts r [] more n = inr n
 left-parts r (s ∷ rs) more head = inl head
 left-parts r (s ∷ rs) more (tail n) = ⊎_elim (λ (m : IsLeft r rs). inl (tail m)) (λ (m : IsLeft r more). inr m) (left-parts r rs more n)
 
+-- it is the first one, or one of the others
 left-first : (r s : Pattern) (rs : List Pattern) → IsLeft r (s ∷ rs) → (r ≡ s) ⊎ IsLeft r rs
 left-first r s rs head = inl refl
 left-first r s rs (tail n) = inr n
@@ -39,6 +43,7 @@ left-where : (b : Bool) (r : Pattern) → b ≡ true → IsLeft r (if b then r �
 left-where true r is = head
 left-where false r is = absurd (true≢false (sym is))
 
+-- what is there under a test is that one, and the test holds
 left-only : (b : Bool) (r s : Pattern) → IsLeft r (if b then s ∷ [] else []) → (b ≡ true) × (r ≡ s)
 left-only true r s head = (refl, refl)
 left-only true r s (tail n) = elim n [ ]
@@ -58,6 +63,7 @@ again-replaces s d within e = record {
   back = λ r p h. with_outer-enters within (enters-replaced r (record { sequence = s; depth = d }) e p h);
 }
 
+-- a selector of the key is left
 named-among : (x : Pattern) {k : List ℕ} {s : Pattern} {fs : Fields} → IsNamed k s fs → IsLeft (replaced x s) (named_left x fs (key k))
 named-among x {k = k} {s = s} (first {fs = fs}) =
     subst (λ b. IsLeft (replaced x s) (if b then replaced x s ∷ named_left x fs (key k) else named_left x fs (key k))) (sym ((bytes_eq-Decides k k).1 refl)) head
@@ -67,6 +73,7 @@ named-among x {k = k} {s = s} (later {l = l} {t = t} {fs = fs} n) = by_test (byt
   by_test false among = among
 
 mutual
+  -- what is entered behind the step, one of those that are left enters
   after-into : (x : Pattern) (within e : List Frame) → Replaces x within e → (a : Around) → (MayStand a → ⊥) → (s : Pattern) → IsGuarded a s → (t : Step) (p : Path) → Enters s within (t ∷ p)
       → (r : Pattern) × IsLeft r (left_after x s t) × Enters r e p
   after-into x w e law a never matcher g t p h = elim h [ ]
@@ -81,6 +88,7 @@ mutual
   after-into x w e law a never (union ss) g t p (in_union is h) = each-into x w e law a never ss g t p is h
   after-into x w e law a never edge g t p h = absurd (never g)
 
+  -- the same for the members of a union
   each-into : (x : Pattern) (within e : List Frame) → Replaces x within e → (a : Around) → (MayStand a → ⊥) → (ss : Members) → EachGuarded a ss → (t : Step) (p : Path) → {s : Pattern} → IsMember s ss
       → Enters s within (t ∷ p) → (r : Pattern) × IsLeft r (each_left x ss t) × Enters r e p
   each-into x w e law a never no_members g t p n h = elim n [ ]
@@ -89,6 +97,7 @@ mutual
   each-into x w e law a never (member s ss) g t p (tail n) h =
       let found = each-into x w e law a never ss g.1 t p n h in (found.0, left-back found.0 (left_after x s t) (each_left x ss t) found.1, found.2)
 
+-- a selector that is left behind a key is one of the key
 named-back : (x : Pattern) (within e : List Frame) → Replaces x within e → (fs : Fields) (k : List ℕ) (p : Path) (r : Pattern) → IsLeft r (named_left x fs (key k)) → Enters r e p
     → (s : Pattern) × IsNamed k s fs × Enters s within p
 named-back x w e law no_fields k p r n h = elim n [ ]
@@ -102,11 +111,13 @@ named-back x w e law (field l s fs) k p r n h = by_test (bytes_eq l k) refl n (�
       (left-first r (replaced x s) (named_left x fs (key k)) m)
   by_test false is m further = let found = further m in (found.0, later found.1, found.2)
 
+-- behind a position nothing is left of fields
 named-none : (x : Pattern) (fs : Fields) (m : ℕ) (r : Pattern) → IsLeft r (named_left x fs (nth m)) → ⊥
 named-none x no_fields m r n = elim n [ ]
 named-none x (field l s fs) m r n = named-none x fs m r n
 
 mutual
+  -- what one of those that are left enters is entered behind the step
   after-back : (x : Pattern) (within e : List Frame) → Replaces x within e → (s : Pattern) (t : Step) (p : Path) (r : Pattern) → IsLeft r (left_after x s t) → Enters r e p → Enters s within (t ∷ p)
   after-back x w e law matcher t p r n h = elim n [ ]
   after-back x w e law (all s) t p r head h = below_all (law.back s p h)
@@ -127,6 +138,7 @@ mutual
   after-back x w e law (union ss) t p r n h = let found = each-back x w e law ss t p r n h in in_union found.1 found.2
   after-back x w e law edge t p r n h = elim n [ ]
 
+  -- the same for the members of a union
   each-back : (x : Pattern) (within e : List Frame) → Replaces x within e → (ss : Members) (t : Step) (p : Path) (r : Pattern) → IsLeft r (each_left x ss t) → Enters r e p
       → (s : Pattern) × IsMember s ss × Enters s within (t ∷ p)
   each-back x w e law no_members t p r n h = elim n [ ]
@@ -150,10 +162,12 @@ mutual
   replaced-edge (union ss) = ap union (members_replaced-edge ss)
   replaced-edge edge = refl
 
+  -- the same for fields
   fields_replaced-edge : (fs : Fields) → fields_replaced edge fs ≡ fs
   fields_replaced-edge no_fields = refl
   fields_replaced-edge (field k s fs) = λ i. field k (replaced-edge s i) (fields_replaced-edge fs i)
 
+  -- the same for members
   members_replaced-edge : (ss : Members) → members_replaced edge ss ≡ ss
   members_replaced-edge no_members = refl
   members_replaced-edge (member s ss) = λ i. member (replaced-edge s i) (members_replaced-edge ss i)
@@ -165,12 +179,14 @@ edge-replaces = record {
   back = λ s p h. subst (λ r. Enters r [] p) (replaced-edge s) h;
 }
 
+-- the one selector enters what one of them enters
 joined-into : (rs : List Pattern) (e : List Frame) (p : Path) (r : Pattern) → IsLeft r rs → Enters r e p → Enters (joined rs) e p
 joined-into [] e p r n h = elim n [ ]
 joined-into (s ∷ []) e p r head h = h
 joined-into (s ∷ []) e p r (tail n) h = elim n [ ]
 joined-into (s ∷ q ∷ more) e p r n h = in_union n h
 
+-- what the one selector enters, one of them enters
 joined-back : (rs : List Pattern) (e : List Frame) (p : Path) → Enters (joined rs) e p → (r : Pattern) × IsLeft r rs × Enters r e p
 joined-back [] e p (in_union n h) = elim n [ ]
 joined-back (s ∷ []) e p h = (s, head, h)
@@ -196,17 +212,20 @@ Fits outside x = Unit {0}
 Fits unguarded x = IsGuarded outside x
 Fits guarded x = IsGuarded outside x
 
+-- this stays so behind a step
 fits_behind : (a : Around) (x : Pattern) → Fits a x → Fits (behind_step a) x
 fits_behind outside x f = tt
 fits_behind unguarded x f = f
 fits_behind guarded x f = f
 
+-- and says what it should at an edge
 fits_edge : (a : Around) (x : Pattern) → Fits a x → MayStand a → IsGuarded outside x
 fits_edge outside x f m = absurd m
 fits_edge unguarded x f m = absurd m
 fits_edge guarded x f m = f
 
 mutual
+  -- edges stay guarded where own edges are replaced
   replaced-guarded : (a : Around) (x : Pattern) → Fits a x → (s : Pattern) → IsGuarded a s → IsGuarded outside (replaced x s)
   replaced-guarded a x f matcher g = tt
   replaced-guarded a x f (all s) g = replaced-guarded (behind_step a) x (fits_behind a x f) s g
@@ -217,10 +236,12 @@ mutual
   replaced-guarded a x f (union ss) g = members_replaced-guarded a x f ss g
   replaced-guarded a x f edge g = fits_edge a x f g
 
+  -- the same for fields
   fields_replaced-guarded : (a : Around) (x : Pattern) → Fits a x → (fs : Fields) → AreGuarded a fs → AreGuarded outside (fields_replaced x fs)
   fields_replaced-guarded a x f no_fields g = tt
   fields_replaced-guarded a x f (field k s fs) g = (replaced-guarded (behind_step a) x (fits_behind a x f) s g.0, fields_replaced-guarded a x f fs g.1)
 
+  -- the same for members
   members_replaced-guarded : (a : Around) (x : Pattern) → Fits a x → (ss : Members) → EachGuarded a ss → EachGuarded outside (members_replaced x ss)
   members_replaced-guarded a x f no_members g = tt
   members_replaced-guarded a x f (member s ss) g = (replaced-guarded a x f s g.0, members_replaced-guarded a x f ss g.1)
@@ -228,14 +249,17 @@ mutual
 abbrev AllGuarded : List Pattern → Type 0
 AllGuarded rs = EachGuarded outside (members_of rs)
 
+-- two lists
 guarded-append : (rs more : List Pattern) → AllGuarded rs → AllGuarded more → AllGuarded (rs ++ more)
 guarded-append [] more g gs = gs
 guarded-append (r ∷ rs) more g gs = (g.0, guarded-append rs more g.1 gs)
 
+-- one under a test
 guarded-where : (b : Bool) (r : Pattern) → IsGuarded outside r → AllGuarded (if b then r ∷ [] else [])
 guarded-where true r g = (g, tt)
 guarded-where false r g = tt
 
+-- the selectors of a key
 named-guarded : (a : Around) (x : Pattern) → Fits a x → (fs : Fields) → AreGuarded a fs → (t : Step) → AllGuarded (named_left x fs t)
 named-guarded a x f no_fields g t = tt
 named-guarded a x f (field l s fs) g t = by_test (is_key l t) (named-guarded a x f fs g.1 t) where
@@ -244,6 +268,7 @@ named-guarded a x f (field l s fs) g t = by_test (is_key l t) (named-guarded a x
   by_test false further = further
 
 mutual
+  -- all that is left behind a step
   after-guarded : (a : Around) (x : Pattern) → Fits a x → (s : Pattern) → IsGuarded a s → (t : Step) → AllGuarded (left_after x s t)
   after-guarded a x f matcher g t = tt
   after-guarded a x f (all s) g t = (replaced-guarded (behind_step a) x (fits_behind a x f) s g, tt)
@@ -254,10 +279,12 @@ mutual
   after-guarded a x f (union ss) g t = each-guarded a x f ss g t
   after-guarded a x f edge g t = tt
 
+  -- the same for the members of a union
   each-guarded : (a : Around) (x : Pattern) → Fits a x → (ss : Members) → EachGuarded a ss → (t : Step) → AllGuarded (each_left x ss t)
   each-guarded a x f no_members g t = tt
   each-guarded a x f (member s ss) g t = guarded-append (left_after x s t) (each_left x ss t) (after-guarded a x f s g.0 t) (each-guarded a x f ss g.1 t)
 
+-- one selector for all of them
 joined-guarded : (rs : List Pattern) → AllGuarded rs → IsGuarded outside (joined rs)
 joined-guarded [] g = tt
 joined-guarded (s ∷ []) g = g.0
@@ -270,6 +297,7 @@ left-guarded s t g = joined-guarded (left_after edge s t) (after-guarded outside
 -- ---- what is entered where it stands
 
 mutual
+  -- where the test is true, the empty path is entered
   stands-into : (s : Pattern) (e : List Frame) → stands s ≡ true → Enters s e []
   stands-into matcher e is = at_matcher
   stands-into (all s) e is = at_all
@@ -280,6 +308,7 @@ mutual
   stands-into (union ss) e is = let found = any_stands-into ss e is in in_union found.1 found.2
   stands-into edge e is = absurd (true≢false (sym is))
 
+  -- the same for the members of a union
   any_stands-into : (ss : Members) (e : List Frame) → any_stands ss ≡ true → (s : Pattern) × IsMember s ss × Enters s e []
   any_stands-into no_members e is = absurd (true≢false (sym is))
   any_stands-into (member s ss) e is =
@@ -289,6 +318,7 @@ mutual
       (or_parts (stands s) (any_stands ss) is)
 
 mutual
+  -- where the empty path is entered, the test is true
   stands-back : (a : Around) → (MayStand a → ⊥) → (s : Pattern) → IsGuarded a s → (e : List Frame) → Enters s e [] → stands s ≡ true
   stands-back a never matcher g e h = refl
   stands-back a never (all s) g e h = refl
@@ -299,6 +329,7 @@ mutual
   stands-back a never (union ss) g e (in_union is h) = any_stands-back a never ss g e is h
   stands-back a never edge g e h = absurd (never g)
 
+  -- the same for the members of a union
   any_stands-back : (a : Around) → (MayStand a → ⊥) → (ss : Members) → EachGuarded a ss → (e : List Frame) → {s : Pattern} → IsMember s ss → Enters s e [] → any_stands ss ≡ true
   any_stands-back a never no_members g e n h = elim n [ ]
   any_stands-back a never (member s ss) g e head h = or_left (stands s) (any_stands ss) (stands-back a never s g.0 e h)

@@ -29,27 +29,32 @@ one_lacks key [] h = refl
 one_lacks key (e ∷ []) h = absurd (h refl)
 one_lacks key (e ∷ f ∷ es) h = refl
 
+-- what has entries is a map
 pub is_map : (d : Data) (es : Entries) → entries_of_map d ≡ Ok es → d ≡ data_forms.map es
 is_map (data_forms.map fs) es h = cc
 is_map other es h = err_no_ok Kind h
 
+-- a form of a map is the form of its entries
 pub map_ok : (form : Entries → Result Pattern SelFault) (d : Data) (es : Entries) → entries_of_map d ≡ Ok es → in_map form d ≡ form es
 map_ok form d es h = ap (λ d. in_map form d) (is_map d es h)
 
+-- an edge's map isn't empty
 pub edge_lacks : (around : Around) (es : List (List ℕ × Node)) → 0 < length es → edge_form around (entries_data es) ≡ Err Keys
 edge_lacks around [] h = absurd (omega arith)
 edge_lacks around (e ∷ es) h = refl
 
+-- the map of no limit isn't empty
 pub none_lacks : (d : Data) (es : List (List ℕ × Node)) → 0 < length es → entries_of_map d ≡ Ok (entries_data es) → none_limit d ≡ Err Keys
 none_lacks d [] h is = absurd (omega arith)
 none_lacks d (e ∷ es) h is = ap none_limit (is_map d (entries_data (e ∷ es)) is)
 
+-- a limit's map has no one entry
 pub limit_lacks : (d : Data) (es : List (List ℕ × Node)) → (length es ≡ 1 → ⊥) → entries_of_map d ≡ Ok (entries_data es) → limit_of d ≡ Err Keys
 limit_lacks d [] h is = ap limit_of (is_map d (entries_data []) is)
 limit_lacks d (e ∷ []) h is = absurd (h refl)
 limit_lacks d (e ∷ f ∷ es) h is = ap limit_of (is_map d (entries_data (e ∷ f ∷ es)) is)
 
--- a test of the keys
+-- a test of the keys in turn finds a key of the entries
 pub any_key : (key : List ℕ) (es : List (List ℕ × Node)) → list_any (λ e. bytes_eq e.0 key) es ≡ has_key key (entries_data es)
 any_key key [] = refl
 any_key key (e ∷ es) = ap (λ b. bytes_eq e.0 key || b) (any_key key es)
@@ -67,12 +72,13 @@ no_shape read around d [] is h = ap (read_with read around) is
 no_shape read around d (e ∷ []) is h = absurd (h refl)
 no_shape read around d (e ∷ f ∷ es) is h = ap (read_with read around) is
 
--- a map that is no envelope, since it has no one key, or another one
+-- a map with no one entry is no envelope
 pub no_envelope : (d : Data) (es : List (List ℕ × Node)) → d ≡ data_forms.map (entries_data es) → (length es ≡ 1 → ⊥) → d ≡ without_envelope d
 no_envelope d [] is h = is ∙ ap without_envelope (sym is)
 no_envelope d (e ∷ []) is h = absurd (h refl)
 no_envelope d (e ∷ f ∷ es) is h = is ∙ ap without_envelope (sym is)
 
+-- the one key is another one
 pub other_key : (d : Data) (es : List (List ℕ × Node)) (e : List ℕ × Node) (k : List ℕ) → d ≡ data_forms.map (entries_data es) → length es ≡ 1 → k ≡ (get_or es 0 e).0 → bytes_eq k (codes "selector") ≡ false → d ≡ without_envelope d
 other_key d [] e k is one named test = absurd (omega arith)
 other_key d (x ∷ []) e k is one named test =

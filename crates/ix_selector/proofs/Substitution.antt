@@ -27,10 +27,12 @@ with_outer-enters outer (in_recursion {e = e} h) = in_recursion (with_outer-ente
 with_outer-enters outer (at_edge h) = at_edge (with_outer-enters outer h)
 with_outer-enters outer (at_edge_within deep h) = at_edge_within deep (with_outer-enters outer h)
 
+-- the key of a selector stays
 named-replaced : (x : Pattern) {k : List ℕ} {s : Pattern} {fs : Fields} → IsNamed k s fs → IsNamed k (replaced x s) (fields_replaced x fs)
 named-replaced x first = first
 named-replaced x (later n) = later (named-replaced x n)
 
+-- what is made of a member is a member
 member-replaced : (x : Pattern) {s : Pattern} {ss : Members} → IsMember s ss → IsMember (replaced x s) (members_replaced x ss)
 member-replaced x head = head
 member-replaced x (tail n) = tail (member-replaced x n)
@@ -40,6 +42,7 @@ edge-entered : (s : Pattern) (d : ℕ) (e : List Frame) (p : Path) → 2 ≤ d �
 edge-entered s d e p deep h =
     subst (λ b. Enters (if b then recursive (Some (d - 1)) s else union no_members) e p) (sym (le-leb 2 d deep)) (in_recursion h)
 
+-- what stands for an edge is entered where the edge is
 again-entered : (s : Pattern) (d : Option ℕ) (e : List Frame) (p : Path) → Enters (entered_again d s) e p → Enters edge (record { sequence = s; depth = d } ∷ e) p
 again-entered s None e p (in_recursion h) = at_edge h
 again-entered s (Some d) e p h = by_test (nat_le 2 d) refl h where
@@ -80,12 +83,14 @@ mutual
   enters-replaced (union ss) f e p (in_union is h) = let found = member-enters ss f e p is h in in_union found.1 found.2
   enters-replaced edge f e p h = again-entered f.sequence f.depth e p h
 
+  -- the selectors of a key one by one
   named-enters : (fs : Fields) (f : Frame) (e : List Frame) (k : List ℕ) (p : Path) {r : Pattern}
       → IsNamed k r (fields_replaced (entered_again f.depth f.sequence) fs) → Enters r e p → (s : Pattern) × IsNamed k s fs × Enters s (f ∷ e) p
   named-enters no_fields f e k p n h = elim n [ ]
   named-enters (field l s fs) f e k p first h = (s, first, enters-replaced s f e p h)
   named-enters (field l s fs) f e k p (later n) h = let found = named-enters fs f e k p n h in (found.0, later found.1, found.2)
 
+  -- the members of a union one by one
   member-enters : (ss : Members) (f : Frame) (e : List Frame) (p : Path) {r : Pattern}
       → IsMember r (members_replaced (entered_again f.depth f.sequence) ss) → Enters r e p → (s : Pattern) × IsMember s ss × Enters s (f ∷ e) p
   member-enters no_members f e p n h = elim n [ ]

@@ -95,10 +95,10 @@ fn replaced(alloc: Global, sel: &Sel, edges: Edges) -> Result<Sel, AllocError>
                 Box::new(alloc, replaced(alloc, inner, edges)?)?,
             ))
         }
-        Sel::Recursive(limit, sequence) => {
+        Sel::Recursive(limit, inner) => {
             Ok(Sel::Recursive(
                 *limit,
-                Box::new(alloc, replaced(alloc, sequence, Edges::Kept)?)?,
+                Box::new(alloc, replaced(alloc, inner, Edges::Kept)?)?,
             ))
         }
         Sel::Union(members) => Ok(Sel::Union(replaced_members(alloc, members, edges)?)),

@@ -40,7 +40,7 @@ impl<'s> Residual<'s> {
     pub fn start(alloc: Global, selector: &'s Selector) -> Result<Residual<'s>, AllocError>
         ensures { IfOk result (λ r. (p : Path) → (ResidualEnters r p ↔ Enters selector.now [] p)) }
     {
-        let rest = copied(alloc, selector.tree())?;
+        let rest = copied(alloc, selector.root())?;
         Ok(Residual {
             whole: selector,
             rest,

@@ -32,6 +32,8 @@ impl Model for Selector {
 }
 
 impl Selector {
+    ghost use Rattle.ix_selector.specs.Pattern.{pattern_of};
+
     /// The selector for which a tree stands.
     pub fn read(alloc: Global, tree: &Tree) -> Result<Selector, SelFault>
         ensures exact { Gives (λ s. s) result (selector_of tree.now) }
@@ -40,14 +42,10 @@ impl Selector {
         let sel = read::selector_of(alloc, tree.root())?;
         Ok(Selector { sel })
     }
-}
-
-impl Selector {
-    ghost use Rattle.ix_selector.specs.Pattern.{pattern_of, IsSelector};
 
     /// The selector as a tree.
-    pub(crate) fn tree(&self) -> &Sel
-        ensures tree { pattern_of result.now ≡ self.now }
+    pub(crate) fn root(&self) -> &Sel
+        ensures root { pattern_of result.now ≡ self.now }
         ensures selector { IsSelector self.now }
     {
         &self.sel

@@ -33,4 +33,4 @@ replaced-returns-in_ok-new-in-Recursive t c =
     let x = edges_of c.args.edges in
     pattern_of-recursive c.in-Recursive.limit c.in_ok-new-in-Recursive.field-0
     ∙ ap (recursive c.in-Recursive.limit) (ap pattern_of c.in_ok-new-in-Recursive.ensures.ok ∙ c.in_ok-replaced-in-Recursive.ensures ∙ replaced-edge _ ∙ ap pattern_of c.deref-in-Recursive.ensures)
-    ∙ ap (replaced x) (sym (pattern_of-recursive c.in-Recursive.limit c.in-Recursive.sequence)) ∙ ap (λ s. replaced x (pattern_of s)) (sym c.in-Recursive.is)
+    ∙ ap (replaced x) (sym (pattern_of-recursive c.in-Recursive.limit c.in-Recursive.inner)) ∙ ap (λ s. replaced x (pattern_of s)) (sym c.in-Recursive.is)

@@ -4,4 +4,4 @@ use Rattle.ix_selector.proofs.Places.{start-enters}
 use Rattle.ix_selector.proofs.residual.Residual.start.Goals as goal
 
 pub returns : goal.returns
-returns c = start-enters c.args.selector.now (pattern_of c.in_ok-rest.rest) (c.in_ok-rest.ensures ∙ c.tree.ensures.tree)
+returns c = start-enters c.args.selector.now (pattern_of c.in_ok-rest.rest) (c.in_ok-rest.ensures ∙ c.root.ensures.root)
