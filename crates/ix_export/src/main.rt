@@ -41,6 +41,16 @@ enum Failure {
     CannotWrite,
 }
 
+impl Failure {
+    // Want of memory where the system says so, and else the failure named.
+    fn of(error: &io::Error, failure: Failure) -> Failure {
+        match error.kind() {
+            io::ErrorKind::OutOfMemory => Failure::Fault(RunFault::Memory),
+            _ => failure,
+        }
+    }
+}
+
 impl From<AllocError> for Failure {
     fn from(_error: AllocError) -> Failure {
         Failure::Fault(RunFault::Memory)
@@ -71,9 +81,7 @@ fn main(rt: HostRuntime) -> ExitCode {
 
 fn run<R: AllocGlobal + Env + Input + Print>(rt: &R) -> Result<(), Failure> {
     let alloc = rt.alloc();
-    let Ok(arguments) = env::args(rt) else {
-        return Err(Failure::Words);
-    };
+    let arguments = env::args(rt).map_err(|error| Failure::of(&error, Failure::Words))?;
     let words: Vec<String> = arguments.collect(alloc)?;
     let matches = command_line(alloc)?.try_get_matches_from(words.as_slice())?;
     let text = matches
@@ -120,10 +128,7 @@ fn read_input<R: Read + Drop>(alloc: Global, reader: R) -> Result<Vec<u8>, Failu
     match reader.take(LARGEST_INPUT + 1).read_to_end(&mut input) {
         Ok(_) if input.len() as u64 > LARGEST_INPUT => Err(Failure::TooLarge),
         Ok(_) => Ok(input),
-        Err(error) if error.kind() == io::ErrorKind::OutOfMemory => {
-            Err(Failure::Fault(RunFault::Memory))
-        }
-        Err(_) => Err(Failure::CannotRead),
+        Err(error) => Err(Failure::of(&error, Failure::CannotRead)),
     }
 }
 
