@@ -3,10 +3,12 @@ pub use Rattle.ix_cbor.specs.Data
 pub use Rattle.ix_cbor.specs.Spelling
 pub use Rattle.ix_cbor.specs.Reading
 pub use Rattle.ix_selector.specs.Pattern
+pub use Rattle.ix_selector.specs.PatternCode
 pub use Rattle.ix_selector.specs.Enters
 pub use Rattle.ix_selector.specs.IsEntered
 pub mod Store
 pub mod JobMeaning
+pub mod Job
 pub mod Arrivals
 pub mod Visits
 pub mod Examples

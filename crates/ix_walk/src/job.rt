@@ -1,0 +1,122 @@
+//! Jobs.
+
+ghost use Rattle.std.specs.Prelude.{◌≡◌, Some, None, IfOk, IfErr, OnOk, string_bytes};
+ghost use Rattle.ix_walk.specs.Job.{JobMeaning, job_fault};
+ghost use Rattle.ix_walk.specs.JobMeaning.{is_name, is_name_byte};
+
+use ix_cid::cid::Cid;
+use ix_selector::selector::Selector;
+use std::marker::Model;
+
+/// How many bytes a name may have.
+const LONGEST_NAME: usize = 64;
+
+/// How many visits a job may ask for.
+const GREATEST_LIMIT: u32 = 1_000_000;
+
+/// A name, a root, a selector and a limit of visits.
+#[derive(Drop)]
+pub struct Job {
+    name: String,
+    root: Cid,
+    selector: Selector,
+    limit: u32,
+}
+
+/// Why a job is refused.
+#[derive(Debug, Drop, Clone, Copy, PartialEq, Eq)]
+pub enum JobFault {
+    /// The name is not 1 to 64 bytes of `a` to `z`, `0` to `9`, `-` and `_`.
+    Name,
+    /// The limit is 0.
+    LimitZero,
+    /// The limit is above 1,000,000.
+    LimitTooLarge,
+}
+
+impl Model for Job {
+    ghost use Rattle.std.specs.Prelude.{string_bytes};
+    ghost use Rattle.ix_walk.specs.JobMeaning.{JobMeaning, coded_job, IsJob};
+
+    ghost Value = { JobMeaning };
+
+    ghost coded = { coded_job };
+
+    ghost view = { λ j. record { name = string_bytes j.name; root = j.root; selector = j.selector; limit = j.limit } };
+
+    ghost invariant = { λ j. IsJob (record { name = string_bytes j.name; root = j.root; selector = j.selector; limit = j.limit }) };
+}
+
+impl Job {
+    /// The job, or its first fault: the name, then the limit.
+    pub fn new(name: String, root: Cid, selector: Selector, limit: u32) -> Result<Job, JobFault>
+        ensures ok { IfOk result (λ j. j ≡ record { name = string_bytes name; root = root; selector = selector; limit = limit }) }
+        ensures fits { OnOk result (job_fault (string_bytes name) limit ≡ None) }
+        ensures fault { IfErr result (λ e. job_fault (string_bytes name) limit ≡ Some e) }
+    {
+        if !is_name(name.as_str()) {
+            return Err(JobFault::Name);
+        }
+        if limit == 0 {
+            return Err(JobFault::LimitZero);
+        }
+        if limit > GREATEST_LIMIT {
+            return Err(JobFault::LimitTooLarge);
+        }
+        Ok(Job {
+            name,
+            root,
+            selector,
+            limit,
+        })
+    }
+
+    /// The name.
+    pub fn name(&self) -> &str
+        ensures { result.now ≡ self.now.name }
+    {
+        self.name.as_str()
+    }
+
+    /// Where a walk begins.
+    pub fn root(&self) -> &Cid
+        ensures { result.now ≡ self.now.root }
+    {
+        &self.root
+    }
+
+    /// What a walk enters.
+    pub fn selector(&self) -> &Selector
+        ensures { result.now ≡ self.now.selector }
+    {
+        &self.selector
+    }
+
+    /// How many visits a walk gives at most.
+    pub fn limit(&self) -> u32
+        ensures { result ≡ self.now.limit }
+    {
+        self.limit
+    }
+}
+
+/// Whether a name has 1 to 64 bytes, each of which may stand in one.
+fn is_name(name: &str) -> bool
+    ensures { result ≡ is_name name.now }
+{
+    let bytes = name.as_bytes();
+    if bytes.is_empty() || bytes.len() > LONGEST_NAME {
+        return false;
+    }
+    bytes.iter().all(|byte| is_name_byte(*byte))
+}
+
+/// Whether a byte may stand in a name: `a` to `z`, `0` to `9`, `-` or `_`.
+fn is_name_byte(byte: u8) -> bool
+    ensures { result ≡ is_name_byte byte }
+{
+    matches!(byte, b'a'..=b'z' | b'0'..=b'9' | b'-' | b'_')
+}
+
+#[cfg(test)]
+mod tests;
