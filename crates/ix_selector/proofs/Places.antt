@@ -1,8 +1,11 @@
 -- A residual of one selector with no recursion round it.
 use Rattle.std.proofs.Common.{◌≡◌, true, false, true≢false, List, [], ◌∷◌, refl, sym, ◌∙◌, subst}
-use Rattle.ix_selector.specs.Pattern.{Pattern, edge, outside, IsGuarded}
+use Rattle.std.specs.Prelude.{Some, None}
+use Rattle.ix_selector.specs.Pattern.{Pattern, edge, outside, IsGuarded, IsSelector}
 use Rattle.ix_selector.specs.Enters.{Step, Path, Enters}
-use Rattle.ix_selector.specs.Residual.{Place, IsAmong, here, there, ResidualEnters}
+use Rattle.ix_selector.specs.IsEntered.{is_entered}
+use Rattle.ix_selector.specs.Residual.{Place, IsAmong, here, there, ResidualEnters, residual_enters, IsBehind}
+use Rattle.ix_selector.proofs.Tests.{ArePlaces, start_tested, step_tested_some, step_tested_none}
 use Rattle.ix_selector.specs.Derivative.{left_after, joined, stands}
 use Rattle.ix_selector.proofs.LeftAfter.{left-enters, left-guarded, stands-enters}
 
@@ -47,3 +50,21 @@ here-enters r g is = enters-alone r [] ((stands-enters r g).0 is)
 pub here-none : (s r : Pattern) (t : Step) (places : List Place) → places ≡ alone s → r ≡ joined (left_after edge s t) → IsGuarded outside s → stands r ≡ false → ResidualEnters places (t ∷ []) → ⊥
 here-none s r t places from is g none h =
     true≢false (sym ((stands-enters r (below-guarded s r t is g)).1 (alone-enters r [] ((below-enters s r t places from is g []).1 h))) ∙ none)
+
+alone-guarded : (s : Pattern) → IsGuarded outside s → ArePlaces (alone s)
+alone-guarded s g = ((g, tt), tt)
+
+-- the test of what a residual enters from the start
+pub start-tested : (s r : Pattern) → r ≡ s → IsSelector s → (p : Path) → residual_enters (alone r) p ≡ is_entered s p
+start-tested s r is selector =
+    start_tested (alone r) s (alone-guarded r (subst (IsGuarded outside) (sym is) selector.edges)) selector (start-enters s r is)
+
+-- the test of what it enters behind a step, where the child is entered
+pub some-tested : (s r : Pattern) (t : Step) (places : List Place) → places ≡ alone s → r ≡ joined (left_after edge s t) → IsGuarded outside s → stands r ≡ true → IsBehind places t (Some (alone r))
+some-tested s r t places from is g stood =
+    let guarded = below-guarded s r t is g in
+    step_tested_some places (alone r) t (subst ArePlaces (sym from) (alone-guarded s g)) (alone-guarded r guarded) (here-enters r guarded stood) (below-enters s r t places from is g)
+
+-- the same where it is not
+pub none-tested : (s r : Pattern) (t : Step) (places : List Place) → places ≡ alone s → r ≡ joined (left_after edge s t) → IsGuarded outside s → stands r ≡ false → IsBehind places t None
+none-tested s r t places from is g none = step_tested_none places t (here-none s r t places from is g none)

@@ -1,8 +1,9 @@
 //! What is left of a selector at a place.
 
-ghost use Rattle.std.specs.Prelude.{◌↔◌, [], ◌∷◌, IfOk, IfSome, IfNone};
+ghost use Rattle.std.specs.Prelude.{◌≡◌, ◌↔◌, [], ◌∷◌, IfOk, IfSome, IfNone};
 ghost use Rattle.ix_selector.specs.Enters.{Enters, Path};
-ghost use Rattle.ix_selector.specs.Residual.{ResidualEnters, step_of};
+ghost use Rattle.ix_selector.specs.IsEntered.{is_entered};
+ghost use Rattle.ix_selector.specs.Residual.{ResidualEnters, residual_enters, step_of, IsBehind};
 
 use crate::derivative::{copied, left_after, stands};
 use crate::sel::Sel;
@@ -38,7 +39,8 @@ impl<'s> Model for Residual<'s> {
 impl<'s> Residual<'s> {
     /// What a selector enters, from the root.
     pub fn start(alloc: Global, selector: &'s Selector) -> Result<Residual<'s>, AllocError>
-        ensures { IfOk result (λ r. (p : Path) → (ResidualEnters r p ↔ Enters selector.now [] p)) }
+        ensures entered { IfOk result (λ r. (p : Path) → (ResidualEnters r p ↔ Enters selector.now [] p)) }
+        ensures tested { IfOk result (λ r. (p : Path) → residual_enters r p ≡ is_entered selector.now p) }
     {
         let rest = copied(alloc, selector.root())?;
         Ok(Residual {
@@ -52,6 +54,7 @@ impl<'s> Residual<'s> {
         ensures entered { IfOk result (λ o. IfSome o (λ r. ResidualEnters r [])) }
         ensures below { IfOk result (λ o. IfSome o (λ r. (p : Path) → (ResidualEnters r p ↔ ResidualEnters self.now (step_of step.now ∷ p)))) }
         ensures none { IfOk result (λ o. IfNone o (¬ ResidualEnters self.now (step_of step.now ∷ []))) }
+        ensures tested { IfOk result (IsBehind self.now (step_of step.now)) }
     {
         let rest = left_after(alloc, &self.rest, step)?;
         if stands(&rest) {

@@ -1,0 +1,113 @@
+//! The walk.
+
+ghost use Rattle.std.specs.Prelude.{◌≡◌, false, IfOk};
+ghost use Rattle.ix_walk.specs.Visits.{visits_of, is_over_limit};
+
+use crate::arriving::take_next;
+use crate::job::Job;
+use crate::store::Store;
+use crate::subtree::{Pending, Waiting};
+use crate::visit::{Visit, WalkStop};
+use ix_selector::residual::Residual;
+use std::alloc::{AllocError, Global};
+use std::marker::Model;
+
+/// The visits of a job, then Limit where there are more.
+#[derive(Drop)]
+pub struct Walk<'a> {
+    alloc: Global,
+    store: &'a Store,
+    number: u32,
+    limit: u32,
+    given: u32,
+    stack: Vec<Pending<'a>>,
+    ended: bool,
+}
+
+impl<'a> Model for Walk<'a> {
+    ghost use Rattle.ix_walk.specs.WalkLeft.{WalkLeft};
+
+    ghost Value = { WalkLeft };
+
+    ghost use Rattle.ix_walk.specs.Walking.{walk_left, IsWalk};
+
+    ghost view = { λ w. walk_left w.store.now w.number w.limit w.given w.stack.items w.ended };
+
+    ghost invariant = { λ w. IsWalk w.limit w.given w.stack.items };
+}
+
+impl<'a> Walk<'a> {
+    ghost use Rattle.std.specs.Prelude.{false};
+    ghost use Rattle.ix_walk.specs.Visits.{visits_of, is_over_limit};
+
+    /// The walk of the job with this number.
+    pub fn new(
+        alloc: Global,
+        store: &'a Store,
+        job: &'a Job,
+        number: u32,
+    ) -> Result<Walk<'a>, AllocError>
+        ensures { IfOk result (λ w. w ≡ record { visits = visits_of store.now number job.now; limited = is_over_limit store.now job.now; ended = false }) }
+    {
+        let residual = Residual::start(alloc, job.selector())?;
+        let cid = job.root().try_clone(alloc)?;
+        let mut stack = Vec::new(alloc);
+        stack.push(Pending {
+            residual,
+            waiting: Waiting::Link(cid),
+            depth: 0,
+        })?;
+        Ok(Walk {
+            alloc,
+            store,
+            number,
+            limit: job.limit(),
+            given: 0,
+            stack,
+            ended: false,
+        })
+    }
+}
+
+impl<'a> Iterator for Walk<'a> {
+    type Item = Result<Visit, WalkStop>;
+
+    ghost use Rattle.std.specs.Iterator.{at_most};
+    ghost use Rattle.ix_walk.specs.WalkLeft.{GivesNext, items_left};
+
+    ghost next_gives = { λ w r v. GivesNext w r v };
+
+    ghost remaining = { λ w. at_most (items_left w) };
+
+    fn next(&mut self) -> Option<Result<Visit, WalkStop>> {
+        if self.ended {
+            return None;
+        }
+        match take_next(
+            self.alloc,
+            self.store,
+            self.number,
+            self.limit,
+            self.given,
+            &mut self.stack,
+        ) {
+            Ok(Some(visit)) => {
+                self.given += 1;
+                Some(Ok(visit))
+            }
+            Ok(None) => {
+                self.stack.clear();
+                self.ended = true;
+                None
+            }
+            Err(stop) => {
+                self.stack.clear();
+                self.ended = true;
+                Some(Err(stop))
+            }
+        }
+    }
+}
+
+#[cfg(test)]
+mod tests;
