@@ -5,7 +5,7 @@ use Rattle.ix_selector.specs.Pattern.{Pattern, edge, outside, IsGuarded, IsSelec
 use Rattle.ix_selector.specs.Enters.{Step, Path, Enters}
 use Rattle.ix_selector.specs.IsEntered.{is_entered}
 use Rattle.ix_selector.specs.Residual.{Place, IsAmong, here, there, ResidualEnters, residual_enters, IsBehind}
-use Rattle.ix_selector.proofs.Tests.{ArePlaces, start_tested, step_tested_some, step_tested_none}
+use Rattle.ix_selector.proofs.Tested.{ArePlaces, start_tested, step_tested_some, step_tested_none}
 use Rattle.ix_selector.specs.Derivative.{left_after, joined, stands}
 use Rattle.ix_selector.proofs.LeftAfter.{left-enters, left-guarded, stands-enters}
 
