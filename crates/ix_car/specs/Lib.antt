@@ -1,7 +1,16 @@
+pub mod Events
 pub mod Kept
 pub mod Verified
 pub mod Archive
+pub mod ArchiveMeaning
+pub mod Archiving
+pub mod ArchiveNew
+pub mod Report
+pub mod Faithful
+pub mod Archived
+pub mod EndWords
 pub mod Reading
 pub mod Gives
+pub mod Reads
 pub mod FaultWords
 pub mod Examples

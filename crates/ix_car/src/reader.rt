@@ -1,5 +1,21 @@
-//! Why a CARv1 file is refused.
+//! Reading CARv1 files.
 
+ghost use Rattle.std.specs.Prelude.{◌≡◌, ◌≤◌, [], length, IfErr, OnOk};
+ghost use Rattle.ix_walk.specs.Store.{Blocks};
+ghost use Rattle.ix_car.specs.Reading.{with_block, sections_at, blocks_of};
+ghost use Rattle.ix_car.specs.Gives.{Gives};
+ghost use Rattle.ix_car.specs.Reads.{Reads};
+
+mod header;
+mod section;
+#[cfg(test)]
+mod tests;
+
+use crate::reader::header::header_at;
+use crate::reader::section::{Stop, section_at};
+use ix_cid::cid::Cid;
+use ix_walk::store::Store;
+use std::alloc::{AllocError, Global};
 use std::fmt;
 
 /// What is wrong with a CARv1 file.
@@ -43,4 +59,69 @@ impl fmt::Display for CarKind {
             CarKind::Memory => f.write_str("memory"),
         }
     }
+}
+
+/// The blocks of a CARv1 file (a header, then sections of a CID and a block) under their CIDs, in the
+/// order of the sections, or the file's first fault.
+///
+/// The header is read first, and then each section in turn. The place of a fault is that of the
+/// length of the header or section in question, also for `Truncated` and `Memory`. In this order a
+/// header or section is refused:
+/// - its length ends early: `Truncated`; is no varint: `Varint`; is above what is left: `Truncated`;
+/// - a header is no DAG-CBOR map, or has no integer `version`: `Header`; the version is not 1:
+///   `Version`; `roots` is absent or no list of links: `Header`;
+/// - a section does not begin with a CID: `SectionCid`.
+///
+/// Any number of roots is read, none included, and other keys of the header are ignored. Of
+/// sections with one CID the first counts, whatever the bytes: the later ones are read to their end
+/// and left out. The file is read once, and a block that counts is copied once.
+pub fn read_car(alloc: Global, bytes: &[u8]) -> Result<Store, CarFault>
+    ensures { Gives (λ store. store) bytes.now result (blocks_of bytes.now) }
+{
+    match store_of_file(alloc, bytes) {
+        Ok(store) => Ok(store),
+        Err(stop) => Err(CarFault {
+            kind: stop.kind,
+            place: bytes.len() - stop.left,
+        }),
+    }
+}
+
+fn store_of_file(alloc: Global, bytes: &[u8]) -> Result<Store, Stop>
+    ensures reads { Reads (λ store. store) result (blocks_of bytes.now) }
+    ensures within { IfErr result (λ stop. stop.left ≤ length bytes.now) }
+{
+    let sections = header_at(alloc, bytes)?;
+    store_of_sections(alloc, sections)
+}
+
+// The blocks of sections up to the end.
+fn store_of_sections(alloc: Global, sections: &[u8]) -> Result<Store, Stop>
+    ensures reads { Reads (λ store. store) result (sections_at (length sections.now) [] sections.now) }
+    ensures within { IfErr result (λ stop. stop.left ≤ length sections.now) }
+{
+    let mut rest = sections;
+    let mut store = Store::new(alloc);
+    while !rest.is_empty() {
+        let (cid, block, after) = section_at(alloc, rest)?;
+        if add_first(alloc, &mut store, cid, block).is_err() {
+            return Err(Stop {
+                kind: CarKind::Memory,
+                left: rest.len(),
+            });
+        }
+        rest = after;
+    }
+    Ok(store)
+}
+
+// Adds a copy of a block, unless its CID is there.
+fn add_first(alloc: Global, store: &mut Store, cid: Cid, block: &[u8]) -> Result<(), AllocError>
+    ensures { OnOk result (store.new ≡ with_block store.old (cid, block.now)) }
+{
+    if store.find(&cid).is_none() {
+        let copy = Vec::from_slice(alloc, block)?;
+        store.add(cid, copy)?;
+    }
+    Ok(())
 }

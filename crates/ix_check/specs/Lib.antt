@@ -6,3 +6,5 @@ pub use Rattle.ix_walk.specs.Store
 pub use Rattle.ix_walk.specs.JobMeaning
 pub use Rattle.ix_walk.specs.Arrivals
 pub mod Verdict
+pub mod Visits
+pub mod VerdictWords

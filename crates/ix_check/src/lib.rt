@@ -1,4 +1,5 @@
-//! Verdicts on blocks, as definitions.
+//! Verdicts on blocks, and what checks visits.
 #![tactic(auto)]
 
+pub mod check;
 pub mod verdict;

@@ -12,7 +12,7 @@ use std::marker::Model;
 const LONGEST_NAME: usize = 64;
 
 /// How many visits a job may ask for.
-const GREATEST_LIMIT: u32 = 1_000_000;
+pub const GREATEST_LIMIT: u32 = 1_000_000;
 
 /// A name, a root, a selector and a limit of visits.
 #[derive(Drop)]
@@ -100,8 +100,8 @@ impl Job {
     }
 }
 
-/// Whether a name has 1 to 64 bytes, each of which may stand in one.
-fn is_name(name: &str) -> bool
+/// Whether a text may be a job's name: 1 to 64 bytes of `a` to `z`, `0` to `9`, `-` and `_`.
+pub fn is_name(name: &str) -> bool
     ensures { result ≡ is_name name.now }
 {
     let bytes = name.as_bytes();

@@ -1,0 +1,65 @@
+-- Known bytes that grow, and parts of texts.
+use Rattle.std.proofs.Common.{◌≡◌, ℕ, ◌+◌, ◌<◌, ◌≤◌, List, [], ◌++◌, length, take, drop, sym, ap, ◌∙◌, subst, arith}
+use Rattle.std.specs.Prelude.{Option, Some, None}
+use Rattle.std.specs.Io.KnownBytes.{Appends, Keeps}
+use Rattle.std.proofs.lemmas.List.{append-nil, append_assoc, take-take, drop-take, take-append-drop, take-append-le, drop_at, length-drop}
+use Rattle.ix_car.specs.ArchiveMeaning.{IsProperPrefix}
+
+-- bytes that stay grow by nothing
+pub appends-nothing : (known : Option (List ℕ)) → Appends known known []
+appends-nothing None = tt
+appends-nothing (Some xs) = sym (append-nil xs)
+
+-- bytes that grow twice
+pub appends-twice : (a b c : Option (List ℕ)) (x y : List ℕ) → Appends a b x → Appends b c y → Appends a c (x ++ y)
+appends-twice None b c x y h k = tt
+appends-twice (Some xs) None c x y h k = absurd h
+appends-twice (Some xs) (Some ys) None x y h k = absurd k
+appends-twice (Some xs) (Some ys) (Some zs) x y h k = k ∙ ap (λ l. l ++ y) h ∙ append_assoc xs x y
+
+-- bytes that grow, and then stay
+pub appends-kept : (a b c : Option (List ℕ)) (x : List ℕ) → Appends a b x → Keeps b c → Appends a c x
+appends-kept None b c x h k = tt
+appends-kept (Some xs) None c x h k = absurd h
+appends-kept (Some xs) (Some ys) None x h k = absurd k
+appends-kept (Some xs) (Some ys) (Some zs) x h k = k ∙ h
+
+-- what known bytes are once they have grown
+pub appended : (xs text : List ℕ) (after : Option (List ℕ)) → Appends (Some xs) after text → after ≡ Some (xs ++ text)
+appended xs text None h = absurd h
+appended xs text (Some ys) h = ap Some h
+
+-- a part of a text, and a part of what follows
+pub take-more : (n m : ℕ) (xs : List ℕ) → take n xs ++ take m (drop n xs) ≡ take (n + m) xs
+take-more n m xs =
+    let within : n ≤ n + m = omega arith in
+    ap (λ l. l ++ take m (drop n xs)) (sym (take-take n (n + m) xs within)) ∙ ap (λ l. take n (take (n + m) xs) ++ l) (sym (drop-take n m xs))
+    ∙ take-append-drop n (take (n + m) xs)
+
+-- a turn of the loop that writes a text
+pub appends-turn : (a b c : Option (List ℕ)) (n m : ℕ) (text : List ℕ) → Appends a b (take n text) → Appends b c (take m (drop n text)) → Appends a c (take (n + m) text)
+appends-turn a b c n m text h k =
+    subst (λ l. Appends a c l) (take-more n m text) (appends-twice a b c (take n text) (take m (drop n text)) h k)
+
+-- a head that was written whole, and a part of the block behind it
+pub appends-section : (a b c : Option (List ℕ)) (n m : ℕ) (head block : List ℕ) → n ≤ length head → length head ≤ n → Appends a b (take n head) → Appends b c (take m block) → Appends a c (take (n + m) (head ++ block))
+appends-section a b c n m head block within whole h k =
+    let same : length head ≡ n = omega arith in
+    appends-turn a b c n m (head ++ block) (subst (λ l. Appends a b l) (sym (take-append-le n head block within)) h)
+    (subst (λ l. Appends b c (take m l)) (sym (drop_at head block n same)) k)
+
+-- a part of a head alone
+pub appends-head : (a b : Option (List ℕ)) (n : ℕ) (head block : List ℕ) → n ≤ length head → Appends a b (take n head) → Appends a b (take n (head ++ block))
+appends-head a b n head block within h = subst (λ l. Appends a b l) (sym (take-append-le n head block within)) h
+
+-- fewer bytes than a text has are a proper part of it
+pub proper-take : (n : ℕ) (text : List ℕ) → n < length text → IsProperPrefix (take n text) text
+proper-take n text short = (
+  drop n text,
+  take-append-drop n text,
+  λ e. let none : length (drop n text) ≡ 0 = ap length e in absurd (omega (arith, none, length-drop n text)),
+)
+
+-- a proper part behind other bytes
+pub proper-behind : (xs part text : List ℕ) → IsProperPrefix part text → IsProperPrefix (xs ++ part) (xs ++ text)
+proper-behind xs part text h = (h.0, append_assoc xs part h.0 ∙ ap (λ l. xs ++ l) h.1, h.2)

@@ -1,0 +1,13 @@
+pub mod Open
+pub mod Pruning
+pub mod Growth
+pub mod FirstSound
+pub mod Tally
+pub mod Delivered
+pub mod Steps
+pub mod RisingKeys
+pub mod Distinct
+pub mod Numbers
+pub mod Archives
+pub mod HeaderLemmas
+pub mod Sections

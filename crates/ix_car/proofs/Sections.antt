@@ -1,0 +1,118 @@
+-- The sections of a file, read one by one into a store.
+use Rattle.std.proofs.Common.{◌≡◌, ℕ, zero, suc, ◌+◌, ◌<◌, ◌≤◌, Bool, true, false, cond, ltb, leb, eqb, ◌&&◌, ◌||◌, List, [], ◌∷◌, ◌++◌, length, drop, take, get_or, refl, sym, ◌∙◌, ap, arith, length-drop}
+use Rattle.std.specs.Prelude.{Some, is_some, Result, Ok, Err, bytes_eq}
+use Rattle.std.proofs.lemmas.Bool.{ltb-false}
+use Rattle.ix_cid.specs.declared.varint.VarintFault.{VarintFault}
+use Rattle.ix_cid.specs.declared.varint.VarintFault.TheVariants as varints
+use Rattle.ix_cid.specs.Varint.{continued, number_of_groups, varint_at}
+use Rattle.ix_cid.specs.Cid.{cid_at}
+use Rattle.ix_walk.specs.Store.{Blocks, has_cid, position_behind, position_of}
+use Rattle.ix_car.specs.declared.reader.CarKind.{CarKind}
+use Rattle.ix_car.specs.declared.reader.CarKind.TheVariants.{Memory}
+use Rattle.ix_car.specs.Gives.{FailsAs}
+use Rattle.ix_car.specs.Reading.{Fault, ◌>>=◌, text_at, text_behind, pair_of, section_at, with_block, sections_at}
+
+-- an answer behind a test for a fault
+past_test : {A E : Type 0} (t : Bool) (e : E) (r : Result A E) (x : A) → cond t (Err e) r ≡ Ok x → (t ≡ false) × (r ≡ Ok x)
+past_test true e r x h = absurd cc
+past_test false e r x h = (refl, h)
+
+-- an answer of two readings in turn is of what the first answered
+bind_ok : {A B : Type 0} (r : Result A Fault) (f : A → Result B Fault) (y : B) → (r >>= f) ≡ Ok y → (x : A) × (r ≡ Ok x) × (f x ≡ Ok y)
+bind_ok (Ok x) f y h = (x, refl, h)
+bind_ok (Err e) f y h = absurd cc
+
+ok_same : {A E : Type 0} (x y : A) → ◌≡◌ {A = Result A E} (Ok x) (Ok y) → x ≡ y
+ok_same x y h = cc
+
+-- a varint takes a byte at least
+varint_at-some : (b : List ℕ) (v : ℕ × ℕ) → varint_at b ≡ Ok v → 1 ≤ v.1
+varint_at-some b v h =
+    let k = continued b in
+    let ending : Result (ℕ × ℕ) VarintFault = cond (eqb (get_or b k 0) 0 && ltb 0 k) (Err varints.NotMinimal) (Ok (number_of_groups (take (k + 1) b), k + 1)) in
+    let few = past_test (leb 9 k) varints.TooLong (cond (eqb k (length b)) (Err varints.Truncated) ending) v h in
+    let whole = past_test (eqb k (length b)) varints.Truncated ending v few.1 in
+    let least = past_test (eqb (get_or b k 0) 0 && ltb 0 k) varints.NotMinimal (Ok (number_of_groups (take (k + 1) b), k + 1)) v whole.1 in
+    let same : (number_of_groups (take (k + 1) b), k + 1) ≡ v = ok_same _ _ least.1 in
+    let size : k + 1 ≡ v.1 = ap (λ (p : ℕ × ℕ). p.1) same in
+    omega (arith, size)
+
+-- a text with its length before it takes a byte at least
+text_behind-shorter : (b : List ℕ) (t : List ℕ × List ℕ) (r : Result (ℕ × ℕ) VarintFault) → ((v : ℕ × ℕ) → r ≡ Ok v → 1 ≤ v.1) → text_behind b r ≡ Ok t → length t.1 < length b
+text_behind-shorter b t (Ok v) some h =
+    let enough = past_test (ltb (length b) (v.1 + v.0)) _ (Ok (take v.0 (drop v.1 b), drop (v.1 + v.0) b)) t h in
+    let room : v.1 + v.0 ≤ length b = ltb-false (length b) (v.1 + v.0) enough.0 in
+    let same : (take v.0 (drop v.1 b), drop (v.1 + v.0) b) ≡ t = ok_same _ _ enough.1 in
+    let rest : drop (v.1 + v.0) b ≡ t.1 = ap (λ (p : List ℕ × List ℕ). p.1) same in
+    let some : 1 ≤ v.1 = some v refl in
+    omega (arith, ap length rest, length-drop (v.1 + v.0) b)
+text_behind-shorter b t (Err varints.Truncated) some h = absurd cc
+text_behind-shorter b t (Err varints.TooLong) some h = absurd cc
+text_behind-shorter b t (Err varints.NotMinimal) some h = absurd cc
+
+-- a section takes a byte at least
+pub section_at-shorter : (b : List ℕ) (s : (List ℕ × List ℕ) × List ℕ) → section_at b ≡ Ok s → length s.1 < length b
+section_at-shorter b s h =
+    let text = bind_ok (text_at b) (λ t. pair_of b t.0 (cid_at t.0) >>= (λ p. Ok (p, t.1))) s h in
+    let t = text.0 in
+    let pair = bind_ok (pair_of b t.0 (cid_at t.0)) (λ p. Ok (p, t.1)) s text.2 in
+    let same : (pair.0, t.1) ≡ s = ok_same _ _ pair.2 in
+    let rest : t.1 ≡ s.1 = ap (λ (p : (List ℕ × List ℕ) × List ℕ). p.1) same in
+    omega (arith, ap length rest, text_behind-shorter b t (varint_at b) (varint_at-some b) text.1)
+
+-- a greater bound on the number of sections changes nothing
+pub sections_at-enough : (n m : ℕ) (store : Blocks) (b : List ℕ) → length b ≤ n → length b ≤ m → sections_at n store b ≡ sections_at m store b
+unfolding sections_at
+sections_at-enough n m store [] h k = refl
+sections_at-enough zero m store (x ∷ b) h k = absurd (omega arith)
+sections_at-enough (suc n) zero store (x ∷ b) h k = absurd (omega arith)
+sections_at-enough (suc n) (suc m) store (x ∷ b) h k = on_read (section_at (x ∷ b)) (section_at-shorter (x ∷ b)) (sections_at-enough n m) where
+  on_read : (read : Result ((List ℕ × List ℕ) × List ℕ) Fault) → ((s : (List ℕ × List ℕ) × List ℕ) → read ≡ Ok s → length s.1 < length (x ∷ b))
+      → ((more : Blocks) (rest : List ℕ) → length rest ≤ n → length rest ≤ m → sections_at n more rest ≡ sections_at m more rest)
+      → (read >>= (λ s. sections_at n (with_block store s.0) s.1)) ≡ (read >>= (λ s. sections_at m (with_block store s.0) s.1))
+  on_read (Ok s) shorter rest = let less = shorter s refl in rest (with_block store s.0) s.1 (omega (arith, less, h)) (omega (arith, less, k))
+  on_read (Err f) shorter rest = refl
+
+-- what the sections from a place on give, behind the blocks so far, whatever the bound on their number
+abbrev pub GoesOn : Blocks → List ℕ → Result Blocks Fault → Type 0
+GoesOn store rest whole = (n : ℕ) → length rest ≤ n → sections_at n store rest ≡ whole
+
+pub GoesOn-first : (b : List ℕ) → GoesOn [] b (sections_at (length b) [] b)
+GoesOn-first b n h = sections_at-enough n (length b) [] b h (omega arith)
+
+pub GoesOn-more : (store : Blocks) (rest : List ℕ) (whole : Result Blocks Fault) (s : (List ℕ × List ℕ) × List ℕ) → 0 < length rest → section_at rest ≡ Ok s → GoesOn store rest whole → GoesOn (with_block store s.0) s.1 whole
+unfolding sections_at
+GoesOn-more store [] whole s some e so_far n h = absurd (omega (arith, some))
+GoesOn-more store (x ∷ b) whole s some e so_far n h =
+    let shorter = section_at-shorter (x ∷ b) s e in
+    sections_at-enough n (length b) (with_block store s.0) s.1 h (omega (arith, shorter))
+    ∙ ap (λ read. read >>= (λ t. sections_at (length b) (with_block store t.0) t.1)) (sym e) ∙ so_far (suc (length b)) (omega arith)
+
+pub GoesOn-fails : (store : Blocks) (rest : List ℕ) (whole : Result Blocks Fault) → 0 < length rest → GoesOn store rest whole → (f : Fault) → section_at rest ≡ Err f → whole ≡ Err f
+unfolding sections_at
+GoesOn-fails store [] whole some so_far f e = absurd (omega (arith, some))
+GoesOn-fails store (x ∷ b) whole some so_far f e =
+    sym (so_far (suc (length b)) (omega arith)) ∙ ap (λ read. read >>= (λ t. sections_at (length b) (with_block store t.0) t.1)) e
+
+pub GoesOn-last : (store : Blocks) (rest : List ℕ) (whole : Result Blocks Fault) → length rest ≡ 0 → GoesOn store rest whole → whole ≡ Ok store
+unfolding sections_at
+GoesOn-last store [] whole none so_far = sym (so_far 0 (omega arith))
+GoesOn-last store (x ∷ b) whole none so_far = absurd (omega (arith, none))
+
+-- a CID has a place where the pairs have it
+is_some-position : (n : ℕ) (es : Blocks) (c : List ℕ) → is_some (position_behind n es c) ≡ has_cid es c
+is_some-position n [] c = refl
+is_some-position n (e ∷ es) c =
+    elim (bytes_eq e.0 c) as (λ b. is_some (cond b (Some n) (position_behind (n + 1) es c)) ≡ (b || has_cid es c)) [
+      | true ↦ refl
+      | false ↦ is_some-position (n + 1) es c
+    ]
+
+-- a block whose CID has a place is left out
+pub with_block-known : (store : Blocks) (section : List ℕ × List ℕ) → is_some (position_of store section.0) ≡ true → with_block store section ≡ store
+with_block-known store section known = ap (λ t. cond t store (store ++ section ∷ [])) (sym (is_some-position 0 store section.0) ∙ known)
+
+-- where a definition's fault is another definition's too, a call fails as both
+pub FailsAs-along : {A B : Type 0} (kind : CarKind) (left : ℕ) (a : Result A Fault) (b : Result B Fault) → ((f : Fault) → a ≡ Err f → b ≡ Err f) → FailsAs kind left a → FailsAs kind left b
+FailsAs-along Memory left a b h fails = tt
+FailsAs-along kind left a b h fails = h _ fails

@@ -1,0 +1,21 @@
+use Rattle.std.proofs.Common.{◌≡◌, ◌≤◌, ◌<◌, ◌-◌, ◌^◌, length, ap, ◌∙◌, arith}
+use Rattle.ix_car.specs.Archive.{header_of}
+use Rattle.ix_car.proofs.Delivered.{begins-in_part, begins-archived}
+use Rattle.ix_car.proofs.archive.Archive.new.Goals as goal
+
+pub returns-then-taken-len-clause-refused : goal.returns-then-taken-len-clause-refused
+returns-then-taken-len-clause-refused g c =
+    let header = c.as_slice.result.now in
+    let is : header ≡ header_of c.args.job.now.root = c.as_slice.ensures.value ∙ c.in-Ok-header_of.ensures ∙ ap header_of (c.in-Ok.ensures.same ∙ c.root.ensures) in
+    let short : c.write_text-taken.result < length header = omega (arith, c.if-taken-len.true, c.len.ensures, c.as_slice.ensures.len) in
+    begins-in_part g.W.Write.contents c.args.writer c.write_text-taken.new.writer c.args.job.now.root header c.write_text-taken.result is short c.write_text-taken.ensures.grown
+
+pub returns-clause-fact : goal.returns-clause-fact
+returns-clause-fact g c =
+    let header = c.as_slice.result.now in
+    let same = c.in-Ok.ensures.same ∙ c.root.ensures in
+    let is : header ≡ header_of c.args.job.now.root = c.as_slice.ensures.value ∙ c.in-Ok-header_of.ensures ∙ ap header_of same in
+    let whole : length header ≤ c.write_text-taken.result = omega (arith, c.if-taken-len.false, c.len.ensures, c.as_slice.ensures.len) in
+    let fits : c.write_text-taken.result ≤ 2 ^ 64 - 1 = omega (arith, c.write_text-taken.type_inv) in
+    begins-archived g.W.Write.contents c.args.writer c.write_text-taken.new.writer c.args.store.now c.args.job.now c.in-Ok.root header c.new.result.items c.write_text-taken.result same is c.new.ensures.items c.write_text-taken.ensures.within whole fits
+    c.write_text-taken.ensures.grown

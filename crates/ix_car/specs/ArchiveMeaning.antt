@@ -1,0 +1,54 @@
+-- An archive as contracts see it.
+use Rattle.std.specs.Prelude.{◌≡◌, ◌≢◌, ℕ, List, [], ◌∷◌, ◌++◌, length, Option, Some, map}
+use Rattle.ix_walk.specs.Store.{Blocks}
+use Rattle.ix_walk.specs.JobMeaning.{JobMeaning}
+use Rattle.ix_car.specs.declared.sink.Delivery.{Delivery}
+use Rattle.ix_car.specs.declared.sink.End.{End}
+use Rattle.ix_car.specs.Events.{Event, delivery, close}
+use Rattle.ix_car.specs.Kept.{kept}
+use Rattle.ix_car.specs.Archive.{header_of, archive_with}
+use Rattle.ix_car.specs.Report.{at_most}
+
+pub record ArchiveMeaning (W : Type 0) : Type 0 where
+  pub store : Blocks
+  pub root : List ℕ
+  pub deliveries : List Delivery
+  pub failed : List Delivery
+  pub closed : List End
+  -- bytes that the writer took
+  pub taken : ℕ
+  pub writer : W
+
+abbrev pub events_of : {W : Type 0} → ArchiveMeaning W → List Event
+events_of a = map delivery a.deliveries ++ map close a.closed
+
+abbrev pub IsProperPrefix : List ℕ → List ℕ → Type 0
+IsProperPrefix a b = (more : List ℕ) × (a ++ more ≡ b) × (more ≢ [])
+
+-- A writer tells its bytes: those of the archive so far, and after a failed delivery a proper part of those with it.
+abbrev pub HasWritten : Option (List ℕ) → Blocks → List ℕ → List Delivery → List Delivery → Type 0
+HasWritten told store root ds [] = told ≡ Some (archive_with store root (kept ds))
+HasWritten told store root ds (d ∷ more) = (bytes : List ℕ) × (told ≡ Some bytes) × IsProperPrefix bytes (archive_with store root (kept (ds ++ d ∷ [])))
+
+-- the number of the bytes that a writer tells
+abbrev pub IsCountOf : ℕ → Option (List ℕ) → Type 0
+IsCountOf taken told = (bytes : List ℕ) → told ≡ Some bytes → taken ≡ at_most 64 (length bytes)
+
+-- an archive over this store and job has written what it should
+pub record HasArchived {W : Type 0} (told : W → Option (List ℕ)) (a : ArchiveMeaning W) (store : Blocks) (job : JobMeaning) : Type 0 where
+  pub same_store : a.store ≡ store
+  pub same_root : a.root ≡ job.root
+  pub written : HasWritten (told a.writer) store job.root a.deliveries a.failed
+  pub counted : IsCountOf a.taken (told a.writer)
+
+-- an archive that was told nothing so far
+pub record IsBegun {W : Type 0} (a : ArchiveMeaning W) (store : Blocks) (root : List ℕ) : Type 0 where
+  pub same_store : a.store ≡ store
+  pub same_root : a.root ≡ root
+  pub no_deliveries : a.deliveries ≡ []
+  pub no_failure : a.failed ≡ []
+  pub not_closed : a.closed ≡ []
+
+-- a writer took a part of a header, and not the whole
+abbrev pub TookPartOfHeader : Option (List ℕ) → List ℕ → Type 0
+TookPartOfHeader told root = (bytes : List ℕ) × (told ≡ Some bytes) × IsProperPrefix bytes (header_of root)

@@ -1,0 +1,19 @@
+-- What the archive of a job is, in the end.
+use Rattle.std.specs.Prelude.{◌≡◌, List, ◌++◌, Option, Some, ℕ}
+use Rattle.ix_walk.specs.Store.{Blocks}
+use Rattle.ix_walk.specs.JobMeaning.{JobMeaning}
+use Rattle.ix_car.specs.declared.sink.Delivery.{Delivery}
+use Rattle.ix_car.specs.declared.sink.End.{End}
+use Rattle.ix_car.specs.declared.sink.End.TheVariants.{Done}
+use Rattle.ix_car.specs.Events.{Event, deliveries_of}
+use Rattle.ix_car.specs.Archive.{archive_of}
+use Rattle.ix_car.specs.ArchiveMeaning.{HasWritten}
+
+-- the list begins so
+abbrev pub IsBeginning : List ℕ → List ℕ → Type 0
+IsBeginning a b = (more : List ℕ) × (a ++ more ≡ b)
+
+-- What an archive over the store and the job has written, where its writer tells its bytes: the whole archive at Done, and else its beginning.
+pub record IsArchived (store : Blocks) (number : ℕ) (job : JobMeaning) (end : End) (events : List Event) (failed : List Delivery) : Type 0 where
+  pub whole : end ≡ Done → (told : Option (List ℕ)) → HasWritten told store job.root (deliveries_of events) failed → told ≡ Some (archive_of store number job)
+  pub beginning : (bytes : List ℕ) → HasWritten (Some bytes) store job.root (deliveries_of events) failed → IsBeginning bytes (archive_of store number job)

@@ -1,0 +1,10 @@
+-- What the parts of reading a CARv1 file answer.
+use Rattle.std.specs.Prelude.{◌≡◌, Result, Ok, Err}
+use Rattle.ix_car.specs.Reading.{Fault}
+use Rattle.ix_car.specs.Gives.{FailsAs}
+use Rattle.ix_car.specs.declared.reader.section.Stop.{Stop}
+
+-- the answer of a part, seen by view, is what the definition gives, unless memory ran out
+abbrev pub Reads : {X A : Type 0} → (X → A) → Result X Stop → Result A Fault → Type 0
+Reads view (Ok x) meant = meant ≡ Ok (view x)
+Reads view (Err e) meant = FailsAs e.kind e.left meant

@@ -1,0 +1,337 @@
+//! Archives (CARv1): a header with the root of a job, and a section for each sound block at its first
+//! visit.
+
+ghost use Rattle.std.specs.Prelude.{◌≡◌, true, false, None, Some, [], IfOk, IfErr};
+ghost use Rattle.ix_walk.specs.Store.{position_of};
+ghost use Rattle.ix_car.specs.Kept.{is_below, kept};
+ghost use Rattle.ix_car.specs.Archive.{is_sound};
+ghost use Rattle.ix_car.specs.ArchiveMeaning.{HasArchived, IsBegun};
+ghost use Rattle.ix_car.specs.Archiving.{cut_behind, place_due, text_due, IsDelivered};
+ghost use Rattle.ix_car.specs.Report.{skips_of, at_most, counts_of};
+ghost use Rattle.ix_car.specs.ArchiveNew.{IsNoArchive};
+
+use crate::archive::output::{
+    header_of, push_reserved, set_section_head, write_section, write_text,
+};
+use crate::sink::{Delivery, End, Sink, SinkFault};
+use ix_check::verdict::Verdict;
+use ix_cid::cid::Cid;
+use ix_walk::job::Job;
+use ix_walk::store::Store;
+use ix_walk::visit::Visit;
+use std::alloc::Global;
+use std::collections::BTreeSet;
+use std::io::Write;
+use std::marker::Model;
+
+mod output;
+
+/// A visit that was kept and isn't sound.
+#[derive(Debug, Drop)]
+pub struct Skip {
+    pub seq: u32,
+    pub cid: Cid,
+    pub verdict: Verdict,
+}
+
+/// What was counted.
+#[derive(Debug, Drop, Clone, Copy, PartialEq, Eq)]
+pub struct Counts {
+    /// Deliveries that were taken.
+    pub visits: u32,
+    /// Deliveries that weren't cut off.
+    pub kept: u32,
+    /// Whole sections.
+    pub sections: u32,
+    /// Bytes that the writer took, with the header.
+    pub bytes: u64,
+}
+
+impl Counts {
+    // The counts, where there may be more visits than can be counted.
+    fn of(visits: usize, kept: u32, sections: u32, bytes: u64) -> Counts
+        ensures { result ≡ record { visits = at_most 32 visits; kept = kept; sections = sections; bytes = at_most 64 bytes } }
+    {
+        Counts {
+            visits: visits.min(u32::MAX as usize) as u32,
+            kept,
+            sections,
+            bytes,
+        }
+    }
+}
+
+/// Takes the deliveries of a job, in preorder, and writes its archive.
+///
+/// Of the deliveries, those that follow one that doesn't pass at a greater depth, up to the next at
+/// that depth or less, are cut off: nothing is written or reported of them. The others are kept. A
+/// kept delivery that isn't sound is a skip, each time that it comes. A kept sound one whose CID has
+/// no section yet writes one: the length of CID and block together as a varint, the CID, and the
+/// block as the archive's own store has it. Where the store has none, nothing is written, and that is
+/// no section.
+#[derive(Drop)]
+pub struct Archive<'a, W: Write> {
+    store: &'a Store,
+    root: Cid,
+    deliveries: Vec<Delivery>,
+    failed: Option<Delivery>,
+    closed: Option<End>,
+    // How many bytes the writer took, stopping at the greatest number.
+    taken: u64,
+    // The depth of the delivery below which the list is cut off.
+    cut: Option<u32>,
+    // How many deliveries were kept, and how many sections were written, stopping at the greatest number.
+    kept: u32,
+    sections: u32,
+    // Where the blocks that were written stand in the store.
+    written: BTreeSet<usize>,
+    skips: Vec<Skip>,
+    // What stands before a section's block. Its room is kept from one section to the next.
+    scratch: Vec<u8>,
+    writer: W,
+}
+
+impl<'a, W: Write> Model for Archive<'a, W> {
+    ghost use Rattle.std.specs.Prelude.{option_to_list};
+    ghost use Rattle.ix_car.specs.ArchiveMeaning.{ArchiveMeaning};
+    ghost use Rattle.ix_car.specs.Archiving.{IsTally};
+
+    ghost Value = { ArchiveMeaning W };
+
+    ghost view = { λ a. record { store = a.store.now; root = a.root; deliveries = a.deliveries.items; failed = option_to_list a.failed; closed = option_to_list a.closed; taken = a.taken; writer = a.writer } };
+
+    ghost invariant = { λ a. IsTally a.store.now a.deliveries.items (option_to_list a.failed) a.cut a.kept a.sections a.written a.skips.items };
+}
+
+/// Why no archive could be begun; the writer is handed back.
+#[derive(Debug, Drop)]
+pub enum ArchiveNew<W> {
+    /// The writer took a part of the header and failed.
+    Write(W),
+    /// No memory was left, and no byte was written.
+    Memory(W),
+}
+
+impl<'a, W: Write> Archive<'a, W> {
+    /// Begins the archive of a job over a store: its header is written, the length of a DAG-CBOR map
+    /// as a varint and the map, with `roots`, a list of the root's link, and `version` 1. Where that
+    /// fails the writer is handed back.
+    pub fn new(
+        alloc: Global,
+        store: &'a Store,
+        job: &Job,
+        mut writer: W,
+    ) -> Result<Archive<'a, W>, ArchiveNew<W>>
+        ensures begun { IfOk result (λ a. IsBegun a store.now job.now.root) }
+        ensures fact { IfOk result (λ a. W.contents writer ≡ Some [] → HasArchived W.contents a store.now job.now) }
+        ensures refused { IfErr result (λ e. IsNoArchive W.contents writer job.now.root e) }
+    {
+        let Ok(root) = job.root().try_clone(alloc) else {
+            return Err(ArchiveNew::Memory(writer));
+        };
+        let Ok(header) = header_of(alloc, &root) else {
+            return Err(ArchiveNew::Memory(writer));
+        };
+        let taken = write_text(&mut writer, header.as_slice());
+        if taken < header.len() {
+            return Err(ArchiveNew::Write(writer));
+        }
+        Ok(Archive {
+            store,
+            root,
+            deliveries: Vec::new(alloc),
+            failed: None,
+            closed: None,
+            taken: taken as u64,
+            cut: None,
+            kept: 0,
+            sections: 0,
+            written: BTreeSet::new(alloc),
+            skips: Vec::new(alloc),
+            scratch: header,
+            writer,
+        })
+    }
+
+    /// The visits that were kept and aren't sound, in order.
+    pub fn skips(&self) -> &[Skip]
+        ensures { result.now ≡ skips_of self.now.deliveries }
+    {
+        self.skips.as_slice()
+    }
+
+    /// What was counted so far; each count stops at the greatest number.
+    pub fn counts(&self) -> Counts
+        ensures { result ≡ counts_of self.now.store self.now.deliveries self.now.taken }
+    {
+        Counts::of(self.deliveries.len(), self.kept, self.sections, self.taken)
+    }
+
+    /// The writer, the skips and the counts.
+    pub fn into_parts(self) -> (W, Vec<Skip>, Counts)
+        ensures writer { result.0 ≡ self.entry.writer }
+        ensures skips { result.1.items ≡ skips_of self.entry.deliveries }
+        ensures counts { result.2 ≡ counts_of self.entry.store self.entry.deliveries self.entry.taken }
+    {
+        let counts = self.counts();
+        (self.writer, self.skips, counts)
+    }
+
+    // Takes a delivery: cut off, a skip, a section, or no more than counted.
+    fn take(&mut self, alloc: Global, delivery: Delivery) -> Result<(), SinkFault>
+        requires { self.old.failed ≡ [] }
+        ensures { IsDelivered W.contents delivery (text_due self.old.store self.old.deliveries delivery) self.old result self.new }
+    {
+        if self.is_cut_off(delivery.visit.depth) {
+            return self.add_cut_off(delivery);
+        }
+        if !is_sound(delivery.verdict) {
+            return self.add_skip(alloc, delivery);
+        }
+        match self.place_due(&delivery.visit.cid) {
+            Some(place) => self.add_section(delivery, place),
+            None => self.add_repeat(delivery),
+        }
+    }
+
+    // Whether a delivery at this depth is cut off.
+    fn is_cut_off(&self, depth: u32) -> bool
+        ensures { result ≡ is_below (cut_behind self.now.deliveries) depth }
+    {
+        match self.cut {
+            None => false,
+            Some(cut) => cut < depth,
+        }
+    }
+
+    // Where the block stands of the section that a kept sound delivery of this CID writes.
+    fn place_due(&self, cid: &Cid) -> Option<usize>
+        requires { self.now.failed ≡ [] }
+        ensures { result ≡ place_due self.now.store (kept self.now.deliveries) cid.now }
+    {
+        match self.store.find(cid) {
+            Some(place) if !self.written.contains(&place) => Some(place),
+            _ => None,
+        }
+    }
+
+    // Adds a delivery that is cut off.
+    fn add_cut_off(&mut self, delivery: Delivery) -> Result<(), SinkFault>
+        requires unfailed { self.old.failed ≡ [] }
+        requires cut_off { is_below (cut_behind self.old.deliveries) delivery.visit.depth ≡ true }
+        ensures { IsDelivered W.contents delivery [] self.old result self.new }
+    {
+        if self.deliveries.push(delivery).is_err() {
+            return Err(SinkFault::Memory);
+        }
+        Ok(())
+    }
+
+    // Adds a kept delivery that isn't sound.
+    fn add_skip(&mut self, alloc: Global, delivery: Delivery) -> Result<(), SinkFault>
+        requires unfailed { self.old.failed ≡ [] }
+        requires uncut { is_below (cut_behind self.old.deliveries) delivery.visit.depth ≡ false }
+        requires unsound { is_sound delivery.verdict ≡ false }
+        ensures { IsDelivered W.contents delivery [] self.old result self.new }
+    {
+        let Ok(cid) = delivery.visit.cid.try_clone(alloc) else {
+            return Err(SinkFault::Memory);
+        };
+        if self.deliveries.reserve(1).is_err() {
+            return Err(SinkFault::Memory);
+        }
+        let skip = Skip {
+            seq: delivery.visit.seq,
+            cid,
+            verdict: delivery.verdict,
+        };
+        if self.skips.push(skip).is_err() {
+            return Err(SinkFault::Memory);
+        }
+        self.cut = Some(delivery.visit.depth);
+        self.kept = self.kept.saturating_add(1);
+        push_reserved(&mut self.deliveries, delivery);
+        Ok(())
+    }
+
+    // Adds a kept sound delivery that has its section, or no block.
+    fn add_repeat(&mut self, delivery: Delivery) -> Result<(), SinkFault>
+        requires unfailed { self.old.failed ≡ [] }
+        requires uncut { is_below (cut_behind self.old.deliveries) delivery.visit.depth ≡ false }
+        requires sound { is_sound delivery.verdict ≡ true }
+        requires none_due { place_due self.old.store (kept self.old.deliveries) delivery.visit.cid ≡ None }
+        ensures { IsDelivered W.contents delivery [] self.old result self.new }
+    {
+        if self.deliveries.push(delivery).is_err() {
+            return Err(SinkFault::Memory);
+        }
+        self.cut = None;
+        self.kept = self.kept.saturating_add(1);
+        Ok(())
+    }
+
+    // Adds a kept sound delivery with its section, whose block stands at this place.
+    fn add_section(&mut self, delivery: Delivery, place: usize) -> Result<(), SinkFault>
+        requires unfailed { self.old.failed ≡ [] }
+        requires uncut { is_below (cut_behind self.old.deliveries) delivery.visit.depth ≡ false }
+        requires sound { is_sound delivery.verdict ≡ true }
+        requires due { place_due self.old.store (kept self.old.deliveries) delivery.visit.cid ≡ Some place }
+        ensures { IsDelivered W.contents delivery (text_due self.old.store self.old.deliveries delivery) self.old result self.new }
+    {
+        let store = self.store;
+        let block = store.bytes(place);
+        if set_section_head(&mut self.scratch, &delivery.visit.cid, block).is_err() {
+            return Err(SinkFault::Memory);
+        }
+        if self.deliveries.reserve(1).is_err() {
+            return Err(SinkFault::Memory);
+        }
+        if self.written.insert(place).is_err() {
+            return Err(SinkFault::Memory);
+        }
+        let head = self.scratch.as_slice();
+        let length = head.len() + block.len();
+        let taken = write_section(&mut self.writer, head, block);
+        self.taken = self.taken.saturating_add(taken as u64);
+        if taken < length {
+            self.failed = Some(delivery);
+            return Err(SinkFault::Write);
+        }
+        self.cut = None;
+        self.kept = self.kept.saturating_add(1);
+        self.sections = self.sections.saturating_add(1);
+        push_reserved(&mut self.deliveries, delivery);
+        Ok(())
+    }
+}
+
+impl<'a, W: Write> Sink for Archive<'a, W> {
+    ghost use Rattle.ix_car.specs.ArchiveMeaning.{events_of, HasArchived};
+
+    ghost events = { events_of };
+
+    ghost failed = { λ a. a.failed };
+
+    ghost fact = { HasArchived W.contents };
+
+    fn deliver(&mut self, alloc: Global, visit: Visit, verdict: Verdict) -> Result<(), SinkFault> {
+        self.take(alloc, Delivery { visit, verdict })
+    }
+
+    fn close(&mut self, end: End) {
+        self.closed = Some(end);
+    }
+}
+
+// Whether a block of this verdict has a section.
+fn is_sound(verdict: Verdict) -> bool
+    ensures { result ≡ is_sound verdict }
+{
+    match verdict {
+        Verdict::Sound => true,
+        _ => false,
+    }
+}
+
+#[cfg(test)]
+mod tests;

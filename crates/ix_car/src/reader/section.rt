@@ -1,0 +1,70 @@
+//! Reading the parts of a CARv1 file: a text behind its length, and a section.
+
+ghost use Rattle.std.specs.Prelude.{◌<◌, ◌≤◌, length, IfOk, IfErr};
+ghost use Rattle.ix_car.specs.Reading.{text_at, section_at};
+ghost use Rattle.ix_car.specs.Reads.{Reads};
+
+use crate::reader::CarKind;
+use ix_cid::cid::{Cid, CidFault};
+use ix_cid::varint::{VarintFault, read_varint};
+use std::alloc::Global;
+
+// What is wrong, and how many bytes there are from its place to the end.
+#[derive(Debug, Drop)]
+pub(super) struct Stop {
+    pub(super) kind: CarKind,
+    pub(super) left: usize,
+}
+
+// The text behind its length, and the bytes after it.
+pub(super) fn text_at(bytes: &[u8]) -> Result<(&[u8], &[u8]), Stop>
+    ensures reads { Reads (λ r. (r.0.now, r.1.now)) result (text_at bytes.now) }
+    ensures shorter { IfOk result (λ r. length r.1.now < length bytes.now) }
+    ensures within { IfErr result (λ stop. stop.left ≤ length bytes.now) }
+{
+    let left = bytes.len();
+    let (length, size) = match read_varint(bytes) {
+        Ok(found) => found,
+        Err(VarintFault::Truncated) => {
+            return Err(Stop {
+                kind: CarKind::Truncated,
+                left,
+            });
+        }
+        Err(VarintFault::TooLong | VarintFault::NotMinimal) => {
+            return Err(Stop {
+                kind: CarKind::Varint,
+                left,
+            });
+        }
+    };
+    let (_, rest) = bytes.split_at(size);
+    if length > rest.len() as u64 {
+        return Err(Stop {
+            kind: CarKind::Truncated,
+            left,
+        });
+    }
+    Ok(rest.split_at(length as usize))
+}
+
+// The CID and the block of the section at the front, and the bytes after it.
+pub(super) fn section_at(alloc: Global, bytes: &[u8]) -> Result<(Cid, &[u8], &[u8]), Stop>
+    ensures reads { Reads (λ r. ((r.0, r.1.now), r.2.now)) result (section_at bytes.now) }
+    ensures shorter { IfOk result (λ r. length r.2.now < length bytes.now) }
+    ensures within { IfErr result (λ stop. stop.left ≤ length bytes.now) }
+{
+    let (section, rest) = text_at(bytes)?;
+    let left = bytes.len();
+    match Cid::read(alloc, section) {
+        Ok((cid, length)) => Ok((cid, &section[length..], rest)),
+        Err(CidFault::Memory) => Err(Stop {
+            kind: CarKind::Memory,
+            left,
+        }),
+        Err(_) => Err(Stop {
+            kind: CarKind::SectionCid,
+            left,
+        }),
+    }
+}

@@ -1,0 +1,12 @@
+-- The words for verdicts.
+use Rattle.std.specs.Prelude.{ℕ, List, codes}
+use Rattle.ix_check.specs.declared.verdict.Verdict.{Verdict}
+use Rattle.ix_check.specs.declared.verdict.Verdict.TheVariants.{Codec, Hash, Missing, Damaged, Malformed, Sound}
+
+abbrev pub verdict_word : Verdict → List ℕ
+verdict_word Codec = codes "codec"
+verdict_word Hash = codes "hash"
+verdict_word Missing = codes "missing"
+verdict_word Damaged = codes "damaged"
+verdict_word Malformed = codes "malformed"
+verdict_word Sound = codes "sound"

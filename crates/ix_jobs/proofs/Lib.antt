@@ -1,0 +1,5 @@
+pub mod Pieces
+pub mod LinesInTurn
+pub mod Texts
+pub mod Limits
+mod Lines

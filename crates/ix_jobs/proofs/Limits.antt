@@ -1,0 +1,67 @@
+-- What parsing says of a limit.
+use Rattle.std.proofs.Common.{◌≡◌, ◌≢◌, ℕ, ◌+◌, ◌*◌, ◌≤◌, Bool, true, false, not, ◌&&◌, ◌==◌, nat_le, List, [], ◌∷◌, get_or, refl, sym, ◌∙◌, ap, arith}
+use Rattle.std.specs.Prelude.{Result, Ok, Err, if◌then◌else◌}
+use Rattle.std.specs.Char.{digit_value}
+use Rattle.std.specs.Str.{all_ascii_digits}
+use Rattle.std.specs.Str.Parse.{ParsesUnsigned, digits_value, digits_value_after}
+use Rattle.std.proofs.lemmas.Bool.{and_parts, and_from, false_from_ne_true}
+use Rattle.std.proofs.lemmas.Bool.Decides.{nat_tests}
+use Rattle.std.proofs.lemmas.Result.{OkIff-at_ok, OkIff-at_err}
+use Rattle.std.proofs.lemmas.Str.Parse.{IsNumeralModel, numerals_by_value, tells_all_ascii_digits, parse_plain}
+use Rattle.ix_jobs.specs.declared.jobs.JobsKind.{JobsKind}
+use Rattle.ix_jobs.specs.declared.jobs.JobsKind.TheVariants.{Limit}
+use Rattle.ix_jobs.specs.Jobs.{limit_in}
+
+own : IsNumeralModel (λ ds. all_ascii_digits ds ≡ true) (digits_value 10)
+own = numerals_by_value _ tells_all_ascii_digits
+
+value_after-above : (n : ℕ) (cs : List ℕ) → n ≤ digits_value_after 10 n cs
+value_after-above n [] = omega arith
+value_after-above n (c ∷ cs) = omega (arith, value_after-above (n * 10 + digit_value c) cs)
+
+digit_above : (d : ℕ) → 49 ≤ d → d ≤ 57 → 1 ≤ digit_value d
+digit_above d low high = grind (arith, nat_tests)
+
+value_above : (d : ℕ) (ds : List ℕ) → 49 ≤ d → d ≤ 57 → 1 ≤ digits_value 10 (d ∷ ds)
+value_above d ds low high = omega (arith, value_after-above (0 * 10 + digit_value d) ds, digit_above d low high)
+
+abbrev fits : ℕ → List ℕ → Bool
+fits d ds = (all_ascii_digits (d ∷ ds) && not (d == 48)) && nat_le (digits_value 10 (d ∷ ds)) 1000000
+
+given : ℕ → List ℕ → Bool → Result ℕ JobsKind
+given d ds b = if b then Ok (digits_value 10 (d ∷ ds)) else Err Limit
+
+first_fits : (d : ℕ) → 49 ≤ d → not (d == 48) ≡ true
+first_fits d low = grind (arith, nat_tests)
+
+no_plus : (d : ℕ) → 49 ≤ d → d ≢ 43
+no_plus d low e = omega (arith, e)
+
+within : (v : ℕ) → v ≤ 1000000 → nat_le v 1000000 ≡ true
+within v h = grind (arith, nat_tests)
+
+within-le : (v : ℕ) → nat_le v 1000000 ≡ true → v ≤ 1000000
+within-le v h = grind (arith, nat_tests)
+
+-- a number that is parsed and within the bound
+pub limit_in-ok : {E : Type 0} (bs : List ℕ) (r : Result ℕ E) (n : ℕ) → 49 ≤ get_or bs 0 0 → get_or bs 0 0 ≤ 57 → ParsesUnsigned 32 10 bs r → r ≡ Ok n → n ≤ 1000000 → (limit_in bs ≡ Ok n) × (1 ≤ n)
+unfolding given
+limit_in-ok [] r n low high parses is few = absurd (omega (arith, low))
+limit_in-ok (d ∷ ds) r n low high parses is few =
+    let found = OkIff-at_ok r _ (digits_value 10 (d ∷ ds)) n (parse_plain own 32 (d ∷ ds) r parses (no_plus d low)) is in
+    let same : digits_value 10 (d ∷ ds) ≡ n = sym found.1 in
+    let passes : fits d ds ≡ true = and_from _ _ (and_from _ _ found.0.0 (first_fits d low)) (within (digits_value 10 (d ∷ ds)) (omega (arith, same, few))) in
+    (ap (given d ds) passes ∙ ap Ok same, omega (arith, same, value_above d ds low high))
+
+-- no number, or one that is greater still
+pub limit_in-err : {E : Type 0} (bs : List ℕ) (r : Result ℕ E) (e : E) → 49 ≤ get_or bs 0 0 → ParsesUnsigned 32 10 bs r → r ≡ Err e → limit_in bs ≡ Err Limit
+unfolding given
+limit_in-err [] r e low parses is = refl
+limit_in-err (d ∷ ds) r e low parses is =
+    let plain = parse_plain own 32 (d ∷ ds) r parses (no_plus d low) in
+    let fails : fits d ds ≡ false =
+    false_from_ne_true (fits d ds) (λ passes.
+    let halves = and_parts (all_ascii_digits (d ∷ ds) && not (d == 48)) (nat_le (digits_value 10 (d ∷ ds)) 1000000) passes in
+    let few = within-le (digits_value 10 (d ∷ ds)) halves.1 in
+    OkIff-at_err r _ (digits_value 10 (d ∷ ds)) e plain is ((and_parts (all_ascii_digits (d ∷ ds)) (not (d == 48)) halves.0).0, omega arith, omega (arith, few))) in
+    ap (given d ds) fails

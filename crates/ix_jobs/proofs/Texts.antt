@@ -1,0 +1,24 @@
+-- Printable bytes are text.
+use Rattle.std.proofs.Common.{◌≡◌, ℕ, ◌<◌, Bool, true, false, ◌&&◌, List, [], ◌∷◌, refl, arith}
+use Rattle.std.specs.Prelude.{nat_le}
+use Rattle.std.specs.Str.{IsAscii, IsUtf8}
+use Rattle.std.proofs.lemmas.Str.{IsUtf8-from_ascii}
+use Rattle.std.proofs.lemmas.Str.Ascii.{IsAscii-nil, IsAscii-cons}
+use Rattle.std.proofs.lemmas.Bool.Decides.{nat_tests}
+use Rattle.ix_jobs.specs.Jobs.{is_text}
+
+both : (a b : Bool) → (a && b) ≡ true → (a ≡ true) × (b ≡ true)
+both true b h = (refl, h)
+both false b h = absurd cc
+
+below : (b : ℕ) → nat_le b 126 ≡ true → b < 128
+below b h = grind (arith, nat_tests)
+
+ascii : (line : List ℕ) → is_text line ≡ true → IsAscii line
+ascii [] h = IsAscii-nil
+ascii (b ∷ line) h =
+    let parts = both (nat_le 32 b && nat_le b 126) (is_text line) h in
+    IsAscii-cons b line (below b (both (nat_le 32 b) (nat_le b 126) parts.0).1) (ascii line parts.1)
+
+pub text_is_utf8 : (line : List ℕ) → is_text line ≡ true → IsUtf8 line
+text_is_utf8 line h = IsUtf8-from_ascii line (ascii line h)

@@ -1,0 +1,19 @@
+-- What a call that reads a part of a job file answers.
+use Rattle.std.specs.Prelude.{◌≡◌, ℕ, Result, Ok, Err}
+use Rattle.ix_jobs.specs.declared.jobs.JobsKind.{JobsKind}
+use Rattle.ix_jobs.specs.declared.jobs.JobsKind.TheVariants.{Memory}
+use Rattle.ix_jobs.specs.declared.jobs.JobsFault.{JobsFault}
+
+-- want of memory, or the definition gives this fault
+abbrev pub FailsAs : {A E : Type 0} → JobsKind → E → Result A E → Type 0
+FailsAs Memory fault meant = Unit {0}
+FailsAs kind fault meant = meant ≡ Err fault
+
+-- the fault of a file, with its line
+abbrev pub IsFaultOf : {A : Type 0} → JobsFault → Result A (JobsKind × ℕ) → Type 0
+IsFaultOf fault meant = FailsAs fault.kind (fault.kind, fault.line) meant
+
+-- what a call answered, seen by view, is what the definition gives, unless memory ran out
+abbrev pub Gives : {X A : Type 0} → (X → A) → Result X JobsKind → Result A JobsKind → Type 0
+Gives view (Ok x) meant = meant ≡ Ok (view x)
+Gives view (Err kind) meant = FailsAs kind kind meant

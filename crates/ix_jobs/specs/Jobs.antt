@@ -1,0 +1,103 @@
+-- The job file: its jobs, or the first faulty line with the first test that fails.
+use Rattle.std.specs.Prelude.{ℕ, ◌+◌, Bool, true, not, ◌&&◌, List, [], ◌∷◌, ◌++◌, length, nat_le, ◌==◌, if◌then◌else◌, bytes_eq, Result, Ok, Err}
+use Rattle.std.specs.List.{list_all, list_any, slice_split}
+use Rattle.std.specs.Str.{all_ascii_digits}
+use Rattle.std.specs.Str.Lines.{strip_carriage_return}
+use Rattle.std.specs.Str.Parse.{digits_value}
+use Rattle.hex.specs.Hex.{decode_of}
+use Rattle.ix_cid.specs.CidText.{cid_of_text}
+use Rattle.ix_cbor.specs.Data.{Data}
+use Rattle.ix_cbor.specs.Reading.{decoded}
+use Rattle.ix_selector.specs.Pattern.{Pattern}
+use Rattle.ix_selector.specs.Reading.{selector_of}
+use Rattle.ix_walk.specs.JobMeaning.{JobMeaning, is_name}
+use Rattle.ix_jobs.specs.declared.jobs.JobsKind.{JobsKind}
+use Rattle.ix_jobs.specs.declared.jobs.JobsKind.TheVariants.{Fields, Name, Root, Limit, Hex, Selector, Repeated, TooMany, Text}
+
+infixl 10 ◌>>=◌
+abbrev pub ◌>>=◌ : {A B E : Type 0} → Result A E → (A → Result B E) → Result B E
+(Ok x) >>= f = f x
+(Err e) >>= f = Err e
+
+-- the same, with any fault told as this one
+abbrev pub or_fault : {A E : Type 0} → JobsKind → Result A E → Result A JobsKind
+or_fault kind (Ok x) = Ok x
+or_fault kind (Err e) = Err kind
+
+-- empty or a comment
+abbrev pub is_ignored : List ℕ → Bool
+is_ignored [] = true
+is_ignored (x ∷ xs) = x == 35
+
+abbrev pub is_text : List ℕ → Bool
+is_text = list_all (λ b. nat_le 32 b && nat_le b 126)
+
+abbrev pub text_in : List ℕ → Result (List ℕ) JobsKind
+text_in line = if is_text line then Ok line else Err Text
+
+abbrev pub name_in : List ℕ → Result (List ℕ) JobsKind
+name_in name = if is_name name then Ok name else Err Name
+
+-- decimal digits without a leading zero, from 1 to 1000000
+abbrev pub limit_in : List ℕ → Result ℕ JobsKind
+limit_in [] = Err Limit
+limit_in (d ∷ ds) =
+    if (all_ascii_digits (d ∷ ds) && not (d == 48)) && nat_le (digits_value 10 (d ∷ ds)) 1000000 then Ok (digits_value 10 (d ∷ ds)) else Err Limit
+
+abbrev pub root_in : List ℕ → Result (List ℕ) JobsKind
+root_in text = or_fault Root (cid_of_text text)
+
+-- an even number of hexadecimal digits, in either case
+abbrev pub bytes_in : List ℕ → Result (List ℕ) JobsKind
+bytes_in digits = or_fault Hex (decode_of digits)
+
+abbrev pub data_in : List ℕ → Result Data JobsKind
+data_in bytes = or_fault Selector (decoded bytes)
+
+-- the selector that bytes in hexadecimal spell
+abbrev pub selector_in : List ℕ → Result Pattern JobsKind
+selector_in digits = bytes_in digits >>= (λ bytes. data_in bytes >>= (λ d. or_fault Selector (selector_of d)))
+
+-- the job of four fields
+abbrev pub job_of_fields : List ℕ → List ℕ → List ℕ → List ℕ → Result JobMeaning JobsKind
+job_of_fields name root limit selector =
+    name_in name >>= (λ n. root_in root >>= (λ r. limit_in limit >>= (λ l. selector_in selector >>= (λ s.
+    Ok (record { name = n; root = r; selector = s; limit = l })))))
+
+abbrev pub is_empty : List ℕ → Bool
+is_empty field = length field == 0
+
+-- four fields, none empty
+abbrev pub four_fields : List (List ℕ) → Result (List ℕ × List ℕ × List ℕ × List ℕ) JobsKind
+four_fields (a ∷ b ∷ c ∷ d ∷ []) = if list_any is_empty (a ∷ b ∷ c ∷ d ∷ []) then Err Fields else Ok (a, b, c, d)
+four_fields other = Err Fields
+
+-- the fields with one space between
+abbrev pub fields_in : List ℕ → Result (List ℕ × List ℕ × List ℕ × List ℕ) JobsKind
+fields_in text = four_fields (slice_split (λ b. b == 32) text)
+
+abbrev pub line_job : List ℕ → Result JobMeaning JobsKind
+line_job line = text_in line >>= (λ text. fields_in text >>= (λ f. job_of_fields f.0 f.1 f.2 f.3))
+
+-- the jobs with one that may join them
+abbrev pub joined : List JobMeaning → JobMeaning → Result (List JobMeaning) JobsKind
+joined before job =
+    if list_any (λ j. bytes_eq j.name job.name) before then Err Repeated else (if nat_le 1000 (length before) then Err TooMany else Ok (before ++ job ∷ []))
+
+-- the jobs with that of a line, if it isn't ignored
+abbrev pub with_line : List JobMeaning → List ℕ → Result (List JobMeaning) JobsKind
+with_line before line = if is_ignored line then Ok before else line_job line >>= joined before
+
+-- a fault and its line
+abbrev pub at_line : {A : Type 0} → ℕ → Result A JobsKind → Result A (JobsKind × ℕ)
+at_line line (Ok x) = Ok x
+at_line line (Err kind) = Err (kind, line)
+
+-- the jobs of the lines from a number on, behind those before
+abbrev pub jobs_from : ℕ → List JobMeaning → List (List ℕ) → Result (List JobMeaning) (JobsKind × ℕ)
+jobs_from line before [] = Ok before
+jobs_from line before (l ∷ ls) = at_line line (with_line before (strip_carriage_return l)) >>= (λ jobs. jobs_from (line + 1) jobs ls)
+
+-- the jobs of a job file, or the first faulty line
+abbrev pub jobs_of : List ℕ → Result (List JobMeaning) (JobsKind × ℕ)
+jobs_of b = jobs_from 1 [] (slice_split (λ b. b == 10) b)

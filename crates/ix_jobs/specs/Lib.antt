@@ -1,0 +1,6 @@
+pub mod Jobs
+pub mod LineParts
+pub mod Gives
+pub mod FaultWords
+pub mod Report
+pub mod Examples

@@ -1,0 +1,17 @@
+-- The fields of a line, one after another.
+use Rattle.std.specs.Prelude.{ℕ, List, [], ◌∷◌, if◌then◌else◌, Result, Ok, Err}
+use Rattle.ix_jobs.specs.declared.jobs.JobsKind.{JobsKind}
+use Rattle.ix_jobs.specs.declared.jobs.JobsKind.TheVariants.{Fields}
+use Rattle.ix_jobs.specs.Jobs.{is_empty}
+
+-- a field that isn't empty, and the pieces behind it, of which there is one at least
+abbrev pub first_field : List (List ℕ) → Result (List ℕ × List (List ℕ)) JobsKind
+first_field [] = Err Fields
+first_field (a ∷ []) = Err Fields
+first_field (a ∷ b ∷ more) = if is_empty a then Err Fields else Ok (a, b ∷ more)
+
+-- the one field that is left
+abbrev pub last_field : List (List ℕ) → Result (List ℕ) JobsKind
+last_field [] = Err Fields
+last_field (a ∷ []) = if is_empty a then Err Fields else Ok a
+last_field (a ∷ b ∷ more) = Err Fields

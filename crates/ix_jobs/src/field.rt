@@ -1,0 +1,78 @@
+//! The root, the limit and the selector of a job, as their fields.
+
+ghost use Rattle.std.specs.Prelude.{◌≤◌, IfOk};
+ghost use Rattle.ix_jobs.specs.Jobs.{root_in, limit_in, bytes_in, data_in, selector_in};
+ghost use Rattle.ix_jobs.specs.Gives.{Gives};
+
+use crate::jobs::JobsKind;
+use hex::FromHexError;
+use ix_cbor::codec::decode;
+use ix_cbor::decode::CborKind;
+use ix_cbor::tree::Tree;
+use ix_cid::cid::{Cid, CidFault};
+use ix_selector::fault::SelFault;
+use ix_selector::selector::Selector;
+use ix_walk::job::GREATEST_LIMIT;
+use std::alloc::Global;
+
+/// The CIDv1 with a text.
+pub(crate) fn root_in(alloc: Global, text: &str) -> Result<Cid, JobsKind>
+    ensures { Gives (λ cid. cid) result (root_in text.now) }
+{
+    match Cid::from_text(alloc, text) {
+        Ok(cid) => Ok(cid),
+        Err(CidFault::Memory) => Err(JobsKind::Memory),
+        Err(_) => Err(JobsKind::Root),
+    }
+}
+
+/// The number that decimal digits without a leading zero spell, from 1 to 1,000,000.
+pub(crate) fn limit_in(text: &str) -> Result<u32, JobsKind>
+    ensures exact { Gives (λ limit. limit) result (limit_in text.now) }
+    ensures within { IfOk result (λ limit. (1 ≤ limit) × (limit ≤ 1000000)) }
+{
+    let Some(b'1'..=b'9') = text.as_bytes().first() else {
+        return Err(JobsKind::Limit);
+    };
+    match text.parse::<u32>() {
+        Ok(limit) if limit <= GREATEST_LIMIT => Ok(limit),
+        _ => Err(JobsKind::Limit),
+    }
+}
+
+/// The selector that bytes in hexadecimal spell.
+pub(crate) fn selector_in(alloc: Global, text: &str) -> Result<Selector, JobsKind>
+    ensures { Gives (λ selector. selector) result (selector_in text.now) }
+{
+    let bytes = bytes_in(alloc, text)?;
+    let tree = tree_in(alloc, bytes.as_slice())?;
+    match Selector::read(alloc, &tree) {
+        Ok(selector) => Ok(selector),
+        Err(SelFault::Memory) => Err(JobsKind::Memory),
+        Err(_) => Err(JobsKind::Selector),
+    }
+}
+
+// The bytes of hexadecimal digits, in either case (RFC 4648, section 8).
+fn bytes_in(alloc: Global, text: &str) -> Result<Vec<u8>, JobsKind>
+    ensures { Gives (λ bytes. bytes.items) result (bytes_in text.now) }
+{
+    match hex::decode(alloc, text) {
+        Ok(bytes) => Ok(bytes),
+        Err(FromHexError::OutOfMemory) => Err(JobsKind::Memory),
+        Err(_) => Err(JobsKind::Hex),
+    }
+}
+
+// The tree that bytes spell.
+fn tree_in(alloc: Global, bytes: &[u8]) -> Result<Tree, JobsKind>
+    ensures { Gives (λ tree. tree) result (data_in bytes.now) }
+{
+    match decode(alloc, bytes) {
+        Ok(tree) => Ok(tree),
+        Err(fault) => match fault.kind {
+            CborKind::Memory => Err(JobsKind::Memory),
+            _ => Err(JobsKind::Selector),
+        },
+    }
+}

@@ -1,0 +1,7 @@
+//! The job file and the report.
+#![tactic(auto)]
+
+mod field;
+pub mod jobs;
+mod line;
+pub mod report;

@@ -1,0 +1,151 @@
+//! One line of a job file.
+
+ghost use Rattle.std.specs.Prelude.{◌≡◌, [], ◌∷◌, ◌++◌, ◌==◌, bytes_eq};
+ghost use Rattle.std.specs.List.{list_any, slice_split};
+ghost use Rattle.std.specs.Str.Lines.{strip_carriage_return};
+ghost use Rattle.ix_jobs.specs.Jobs.{is_ignored, is_text, text_in, fields_in, job_of_fields, line_job, joined, with_line};
+ghost use Rattle.ix_jobs.specs.LineParts.{first_field, last_field};
+ghost use Rattle.ix_jobs.specs.Gives.{Gives};
+
+use crate::field::{limit_in, root_in, selector_in};
+use crate::jobs::JobsKind;
+use ix_walk::job::{Job, is_name};
+use std::alloc::Global;
+use std::str;
+
+/// How many jobs a file may have.
+const MOST_JOBS: usize = 1_000;
+
+/// Adds the job of a line, unless the line is ignored.
+pub(crate) fn add_line(alloc: Global, jobs: &mut Vec<Job>, line: &[u8]) -> Result<(), JobsKind>
+    ensures { Gives (λ _. jobs.new.items) result
+        (with_line jobs.old.items (strip_carriage_return line.now)) }
+{
+    let line = without_return(line);
+    if is_ignored(line) {
+        return Ok(());
+    }
+    let job = line_job(alloc, line)?;
+    may_join(jobs.as_slice(), &job)?;
+    jobs.push(job)?;
+    Ok(())
+}
+
+// Whether a job may join those before it, or why not.
+fn may_join(jobs: &[Job], job: &Job) -> Result<(), JobsKind>
+    ensures { Gives (λ _. jobs.now ++ job.now ∷ []) result (joined jobs.now job.now) }
+{
+    if is_taken(jobs, job.name()) {
+        return Err(JobsKind::Repeated);
+    }
+    if jobs.len() >= MOST_JOBS {
+        return Err(JobsKind::TooMany);
+    }
+    Ok(())
+}
+
+// A line without one carriage return at its end.
+fn without_return(line: &[u8]) -> &[u8]
+    ensures { result.now ≡ strip_carriage_return line.now }
+{
+    match line.split_last() {
+        Some((b'\r', front)) => front,
+        _ => line,
+    }
+}
+
+// Whether a line, without its carriage return, is empty or a comment.
+fn is_ignored(line: &[u8]) -> bool
+    ensures { result ≡ is_ignored line.now }
+{
+    matches!(line.first(), None | Some(b'#'))
+}
+
+// Whether a job has the name.
+fn is_taken(jobs: &[Job], name: &str) -> bool
+    ensures { result ≡ list_any (λ job. bytes_eq job.name name.now) jobs.now }
+{
+    jobs.iter().any(|job| job.name() == name)
+}
+
+// The job of a line that isn't ignored.
+fn line_job(alloc: Global, line: &[u8]) -> Result<Job, JobsKind>
+    ensures { Gives (λ job. job) result (line_job line.now) }
+{
+    let text = text_in(line)?;
+    let (name, root, limit, selector) = fields_in(text)?;
+    job_of_fields(alloc, name, root, limit, selector)
+}
+
+// The text of a line, of printable bytes alone.
+fn text_in(line: &[u8]) -> Result<&str, JobsKind>
+    ensures { Gives (λ text. text.now) result (text_in line.now) }
+{
+    if !is_text(line) {
+        return Err(JobsKind::Text);
+    }
+    match str::from_utf8(line) {
+        Ok(text) => Ok(text),
+        Err(_) => Err(JobsKind::Text),
+    }
+}
+
+// Whether each byte is printable.
+fn is_text(line: &[u8]) -> bool
+    ensures { result ≡ is_text line.now }
+{
+    line.iter().all(|byte| matches!(*byte, b' '..=b'~'))
+}
+
+// The four fields of a line.
+fn fields_in(text: &str) -> Result<(&str, &str, &str, &str), JobsKind>
+    ensures { Gives (λ f. (f.0.now, f.1.now, f.2.now, f.3.now)) result (fields_in text.now) }
+{
+    let (name, rest) = first_field(text)?;
+    let (root, rest) = first_field(rest)?;
+    let (limit, rest) = first_field(rest)?;
+    let selector = last_field(rest)?;
+    Ok((name, root, limit, selector))
+}
+
+// The field before the first space, and what stands behind the space.
+fn first_field(text: &str) -> Result<(&str, &str), JobsKind>
+    ensures { Gives (λ f. (f.0.now, slice_split (λ b. b == 32) f.1.now)) result
+        (first_field (slice_split (λ b. b == 32) text.now)) }
+{
+    match text.split_once(' ') {
+        Some((field, rest)) if !field.is_empty() => Ok((field, rest)),
+        _ => Err(JobsKind::Fields),
+    }
+}
+
+// A field with no space behind it.
+fn last_field(text: &str) -> Result<&str, JobsKind>
+    ensures { Gives (λ field. field.now) result (last_field (slice_split (λ b. b == 32) text.now)) }
+{
+    match text.split_once(' ') {
+        None if !text.is_empty() => Ok(text),
+        _ => Err(JobsKind::Fields),
+    }
+}
+
+// The job of four fields. What `Job::new` refuses has been refused before.
+fn job_of_fields(
+    alloc: Global,
+    name: &str,
+    root: &str,
+    limit: &str,
+    selector: &str,
+) -> Result<Job, JobsKind>
+    ensures { Gives (λ job. job) result
+        (job_of_fields name.now root.now limit.now selector.now) }
+{
+    if !is_name(name) {
+        return Err(JobsKind::Name);
+    }
+    let root = root_in(alloc, root)?;
+    let limit = limit_in(limit)?;
+    let selector = selector_in(alloc, selector)?;
+    let name = String::from_str(alloc, name)?;
+    Ok(Job::new(name, root, selector, limit).unwrap())
+}

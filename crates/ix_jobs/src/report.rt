@@ -1,0 +1,143 @@
+//! The report and the exit status.
+
+ghost use Rattle.std.specs.Prelude.{◌≡◌, ◌++◌, length, string_bytes, IfOk, OnOk};
+ghost use Rattle.ix_jobs.specs.Report.{
+  is_done,
+  skip_line,
+  skip_lines,
+  job_line,
+  total_line,
+  report_of,
+  done_count,
+  skip_count,
+  status_of,
+};
+
+use ix_car::archive::{Counts, Skip};
+use ix_car::sink::End;
+use ix_walk::job::Job;
+use std::alloc::{AllocError, Global};
+
+/// How a job ended.
+#[derive(Debug, Drop)]
+pub struct JobResult {
+    pub end: End,
+    pub counts: Counts,
+    pub skips: Vec<Skip>,
+}
+
+impl JobResult {
+    /// Whether the job came to its end.
+    fn is_done(&self) -> bool
+        ensures { result ≡ is_done self.now.end }
+    {
+        matches!(self.end, End::Done)
+    }
+}
+
+/// The report of jobs and how they ended, a line each, ended by `0a`, with numbers in decimal: for
+/// each job in order `NAME END visits=V kept=K sections=S bytes=B`, then for each of its skips two
+/// spaces and `SEQ VERDICT CIDTEXT`; at last `total jobs=N done=D skips=T`.
+///
+/// The ends are `done`, `limit`, `memory`, `write` and `start`; the verdicts of skips `codec`,
+/// `hash`, `missing`, `damaged` and `malformed`. The text of a CIDv1 is `b` and base32, that of a
+/// CIDv0 `v0-` and hexadecimal in lower case.
+pub fn report(alloc: Global, jobs: &[Job], results: &[JobResult]) -> Result<Vec<u8>, AllocError>
+    requires { length jobs.now ≡ length results.now }
+    ensures { IfOk result (λ text. text.items ≡ report_of jobs.now results.now) }
+{
+    let mut text = String::new(alloc);
+    for (job, outcome) in jobs.iter().zip(results) {
+        push_job_line(&mut text, job, outcome)?;
+        push_skip_lines(alloc, &mut text, outcome.skips.as_slice())?;
+    }
+    let done = done_count(results);
+    let skips = skip_count(results);
+    push_total_line(&mut text, jobs.len(), done, skips)?;
+    Ok(text.into_bytes())
+}
+
+/// The exit status: 4 where some job's end isn't done, else 3 where there is some skip, else 0.
+pub fn status(results: &[JobResult]) -> u8
+    ensures { result ≡ status_of results.now }
+{
+    if !results.iter().all(|outcome| outcome.is_done()) {
+        4
+    } else if skip_count(results) > 0 {
+        3
+    } else {
+        0
+    }
+}
+
+/// Appends the line of a job.
+fn push_job_line(text: &mut String, job: &Job, outcome: &JobResult) -> Result<(), AllocError>
+    ensures { OnOk result (string_bytes text.new ≡ string_bytes text.old ++ job_line job.now.name outcome.now.end outcome.now.counts) }
+{
+    let name = job.name();
+    let end = outcome.end;
+    let Counts {
+        visits,
+        kept,
+        sections,
+        bytes,
+    } = outcome.counts;
+    writeln!(
+        text,
+        "{name} {end} visits={visits} kept={kept} sections={sections} bytes={bytes}"
+    )
+}
+
+/// Appends the lines of skips.
+fn push_skip_lines(alloc: Global, text: &mut String, skips: &[Skip]) -> Result<(), AllocError>
+    ensures { OnOk result (string_bytes text.new ≡ string_bytes text.old ++ skip_lines skips.now) }
+{
+    for skip in skips {
+        push_skip_line(alloc, text, skip)?;
+    }
+    Ok(())
+}
+
+/// Appends the line of a skip.
+fn push_skip_line(alloc: Global, text: &mut String, skip: &Skip) -> Result<(), AllocError>
+    ensures { OnOk result (string_bytes text.new ≡ string_bytes text.old ++ skip_line skip.now) }
+{
+    let seq = skip.seq;
+    let verdict = skip.verdict;
+    let cid = skip.cid.text(alloc)?;
+    writeln!(text, "  {seq} {verdict} {cid}")
+}
+
+/// Appends the last line.
+fn push_total_line(
+    text: &mut String,
+    jobs: usize,
+    done: usize,
+    skips: u128,
+) -> Result<(), AllocError>
+    ensures { OnOk result (string_bytes text.new ≡ string_bytes text.old ++ total_line jobs done skips) }
+{
+    writeln!(text, "total jobs={jobs} done={done} skips={skips}")
+}
+
+/// How many jobs came to their end.
+fn done_count(results: &[JobResult]) -> usize
+    ensures { result ≡ done_count results.now }
+{
+    results.iter().filter(|outcome| outcome.is_done()).count()
+}
+
+/// How many skips there are. Their sum is below 2^128, since a slice and a `Vec` have fewer than
+/// 2^64 elements.
+fn skip_count(results: &[JobResult]) -> u128
+    ensures { result ≡ skip_count results.now }
+{
+    let mut count = 0;
+    for outcome in results {
+        count += outcome.skips.len() as u128;
+    }
+    count
+}
+
+#[cfg(test)]
+mod tests;

@@ -1,0 +1,3 @@
+pub mod UnderWay
+pub mod Pairs
+pub mod Exported

@@ -1,0 +1,77 @@
+-- How far the export of a job has come.
+use Rattle.std.specs.Prelude.{◌≡◌, ◌⊎◌, ℕ, zero, suc, ◌≤◌, List, [], ◌∷◌, ◌++◌, length, take, map, Result, Ok, Err}
+use Rattle.std.specs.Result.{result_unwrap_or}
+use Rattle.std.specs.declared.alloc.AllocError.{AllocError}
+use Rattle.ix_walk.specs.declared.visit.Visit.{Visit}
+use Rattle.ix_walk.specs.Store.{Blocks}
+use Rattle.ix_walk.specs.JobMeaning.{JobMeaning}
+use Rattle.ix_walk.specs.Visits.{visits_of, is_over_limit}
+use Rattle.ix_car.specs.declared.sink.Delivery.{Delivery}
+use Rattle.ix_car.specs.declared.sink.End.{End}
+use Rattle.ix_car.specs.declared.sink.End.TheVariants.{Memory, Start, Write}
+use Rattle.ix_car.specs.Events.{Event, delivery, IsOpen}
+use Rattle.ix_car.specs.Verified.{judged, judged_visits}
+use Rattle.ix_car.specs.Faithful.{IsFaithful, EndFits}
+use Rattle.ix_pipeline.specs.declared.course.Course.{Course}
+use Rattle.ix_pipeline.specs.declared.course.Course.TheVariants.{Delivering, Failed}
+
+-- how a job ends that would end so if no write had failed
+abbrev pub end_on : Course → End → End
+end_on Delivering end = end
+end_on Failed end = Write
+
+-- how a job ends, of which want of memory is left
+abbrev pub end_of : Result End AllocError → End
+end_of result = result_unwrap_or result Memory
+
+-- what a sink was told, the deliveries at which a write failed, and the pairs that were checked
+pub record Told : Type 0 where
+  pub events : List Event
+  pub failed : List Delivery
+  pub pairs : List (ℕ × ℕ)
+
+-- a sink takes a delivery as long as no write failed
+abbrev pub CanHand : Course → List Event → List Delivery → Type 0
+CanHand Delivering events failed = IsOpen events × (failed ≡ [])
+CanHand Failed events failed = Unit {0}
+
+-- one visit more was checked
+abbrev pub Checks : Visit → Told → Told → Type 0
+Checks v old new = new.pairs ≡ old.pairs ++ (v.job, v.seq) ∷ []
+
+-- what handing on a visit tells: it is checked, and delivered as long as no write failed; want of memory tells the sink nothing
+abbrev pub HandsOn : Blocks → Visit → Course → Told → Result Course AllocError → Told → Type 0
+HandsOn store v Delivering old (Ok Delivering) new = (new.events ≡ old.events ++ delivery (judged store v) ∷ []) × (new.failed ≡ []) × Checks v old new
+HandsOn store v Delivering old (Ok Failed) new = (new.events ≡ old.events) × (new.failed ≡ judged store v ∷ []) × Checks v old new
+HandsOn store v Failed old (Ok Delivering) new = ⊥
+HandsOn store v Failed old (Ok Failed) new = (new.events ≡ old.events) × (new.failed ≡ old.failed) × Checks v old new
+HandsOn store v course old (Err e) new = (new.events ≡ old.events) × (new.failed ≡ old.failed) × ((new.pairs ≡ old.pairs) ⊎ Checks v old new)
+
+-- the pairs of the first visits of the job with this number
+abbrev pub pairs_of : ℕ → ℕ → List (ℕ × ℕ)
+pairs_of number zero = []
+pairs_of number (suc k) = pairs_of number k ++ (number, k) ∷ []
+
+-- A job was walked and not yet closed: its first visits were delivered, and no fewer were checked, all of them unless memory ran out.
+pub record IsWalked (store : Blocks) (number : ℕ) (job : JobMeaning) (end : End) (before : List (ℕ × ℕ)) (told : Told) : Type 0 where
+  pub count : ℕ
+  pub checks : ℕ
+  pub delivered : count ≤ checks
+  pub within : checks ≤ length (visits_of store number job)
+  pub events : told.events ≡ map delivery (take count (judged_visits store number job))
+  pub fits : EndFits end count (judged_visits store number job) (is_over_limit store job) told.failed
+  pub pairs : told.pairs ≡ before ++ pairs_of number checks
+  pub all : (end ≡ Memory → ⊥) → checks ≡ length (visits_of store number job)
+  pub started : end ≡ Start → ⊥
+
+-- A job was exported, and so many of its visits checked: its sink's events are faithful to it, and no more were delivered.
+pub record IsExported (store : Blocks) (number : ℕ) (job : JobMeaning) (end : End) (events : List Event) (failed : List Delivery) (checks : ℕ) : Type 0 where
+  pub faithful : IsFaithful store number job end events failed
+  pub delivered : faithful.count ≤ checks
+  pub within : checks ≤ length (visits_of store number job)
+  pub all : (end ≡ Memory → ⊥) → checks ≡ length (visits_of store number job)
+  pub started : end ≡ Start → ⊥
+
+-- the pairs are those of before, and then those of the job
+abbrev pub Exports : Blocks → ℕ → JobMeaning → End → List Event → List Delivery → List (ℕ × ℕ) → List (ℕ × ℕ) → Type 0
+Exports store number job end events failed old new = (checks : ℕ) × IsExported store number job end events failed checks × (new ≡ old ++ pairs_of number checks)

@@ -1,0 +1,122 @@
+//! The exporter on one thread.
+
+ghost use Rattle.std.specs.Prelude.{◌≡◌, ◌≤◌, [], length, IfOk, OnErr};
+ghost use Rattle.ix_walk.specs.Store.{Blocks};
+ghost use Rattle.ix_walk.specs.JobMeaning.{JobMeaning};
+ghost use Rattle.ix_check.specs.Visits.{IsVisitOf};
+ghost use Rattle.ix_pipeline.specs.Course.{Told, CanHand, HandsOn, IsWalked, Exports, end_of};
+ghost use Rattle.ix_pipeline.specs.Headline.{EachDelivered, EachArchived, EachKept, EachFresh, IsCheckedOnce, NoneIsStart};
+
+use crate::course::Course;
+use ix_car::law::faithful_is_archived;
+use ix_car::sink::{End, Sink, SinkFault};
+use ix_check::check::Check;
+use ix_walk::job::Job;
+use ix_walk::store::Store;
+use ix_walk::visit::{Visit, WalkStop};
+use ix_walk::walk::Walk;
+use std::alloc::{AllocError, Global};
+
+/// Exports every job into its sink, on one thread, and says how each job ended. Each visit of a job
+/// is checked once and, as long as no write failed, delivered with its verdict; behind the last
+/// visit the sink is closed. An `Err` is want of memory before the first event.
+pub fn export_plain<S: Sink, C: Check>(
+    alloc: Global,
+    store: &Store,
+    jobs: &[Job],
+    sinks: &mut [S],
+    check: &mut C,
+) -> Result<Vec<End>, AllocError>
+    requires sinks { length sinks.old ≡ length jobs.now }
+    requires fresh { EachFresh S.events S.failed sinks.old }
+    requires unused { C.checked check.old ≡ [] }
+    requires jobs { length jobs.now ≤ 1000 }
+    ensures delivered { IfOk result (λ ends. EachDelivered S.events S.failed store.now 0 jobs.now ends.items sinks.new) }
+    ensures archived { IfOk result (λ ends. EachArchived S.events S.failed store.now 0 jobs.now ends.items sinks.new) }
+    ensures started { IfOk result (λ ends. NoneIsStart ends.items) }
+    ensures facts { EachKept S.fact sinks.old sinks.new }
+    ensures checked { IfOk result (λ ends. IsCheckedOnce S.events store.now jobs.now ends.items sinks.new (C.checked check.new)) }
+    ensures untouched { OnErr result ((sinks.new ≡ sinks.old) × (C.checked check.new ≡ [])) }
+{
+    let mut ends = Vec::with_capacity(alloc, jobs.len())?;
+    for i in 0..jobs.len() {
+        let end = export_job(alloc, store, &jobs[i], i as u32, &mut sinks[i], check);
+        ends.push_reserved(end);
+    }
+    faithful_is_archived();
+    Ok(ends)
+}
+
+// Exports one job, and closes its sink.
+fn export_job<S: Sink, C: Check>(
+    alloc: Global,
+    store: &Store,
+    job: &Job,
+    number: u32,
+    sink: &mut S,
+    check: &mut C,
+) -> End
+    requires events { S.events sink.old ≡ [] }
+    requires failed { S.failed sink.old ≡ [] }
+    ensures exported { Exports store.now number job.now result (S.events sink.new) (S.failed sink.new) (C.checked check.old) (C.checked check.new) }
+    ensures kept { (blocks : Blocks) (meant : JobMeaning) → S.fact sink.old blocks meant → S.fact sink.new blocks meant }
+{
+    let end = walk_job(alloc, store, job, number, sink, check).unwrap_or(End::Memory);
+    sink.close(end);
+    end
+}
+
+// Walks a job, and hands on each of its visits. Says how the job ends; on want of memory it ends
+// at once.
+fn walk_job<S: Sink, C: Check>(
+    alloc: Global,
+    store: &Store,
+    job: &Job,
+    number: u32,
+    sink: &mut S,
+    check: &mut C,
+) -> Result<End, AllocError>
+    requires events { S.events sink.old ≡ [] }
+    requires failed { S.failed sink.old ≡ [] }
+    ensures walked { IsWalked store.now number job.now (end_of result) (C.checked check.old) (record { events = S.events sink.new; failed = S.failed sink.new; pairs = C.checked check.new }) }
+    ensures kept { (blocks : Blocks) (meant : JobMeaning) → S.fact sink.old blocks meant → S.fact sink.new blocks meant }
+{
+    let mut course = Course::Delivering;
+    for item in Walk::new(alloc, store, job, number)? {
+        match item {
+            Ok(visit) => course = hand_on(alloc, store, visit, course, sink, check)?,
+            Err(WalkStop::Limit) => return Ok(course.end(End::Limit)),
+            Err(WalkStop::Memory) => return Err(AllocError),
+        }
+    }
+    Ok(course.end(End::Done))
+}
+
+// Checks a visit, and delivers it with its verdict if no write failed so far. Says what becomes of
+// the visits behind it.
+fn hand_on<S: Sink, C: Check>(
+    alloc: Global,
+    store: &Store,
+    visit: Visit,
+    course: Course,
+    sink: &mut S,
+    check: &mut C,
+) -> Result<Course, AllocError>
+    requires visit { IsVisitOf store.now visit }
+    requires can { CanHand course (S.events sink.old) (S.failed sink.old) }
+    ensures handed { HandsOn store.now visit course (record { events = S.events sink.old; failed = S.failed sink.old; pairs = C.checked check.old }) result (record { events = S.events sink.new; failed = S.failed sink.new; pairs = C.checked check.new }) }
+    ensures kept { (blocks : Blocks) (meant : JobMeaning) → S.fact sink.old blocks meant → S.fact sink.new blocks meant }
+{
+    let verdict = check.check(alloc, store, &visit)?;
+    if course == Course::Failed {
+        return Ok(course);
+    }
+    match sink.deliver(alloc, visit, verdict) {
+        Ok(()) => Ok(Course::Delivering),
+        Err(SinkFault::Write) => Ok(Course::Failed),
+        Err(SinkFault::Memory) => Err(AllocError),
+    }
+}
+
+#[cfg(test)]
+mod tests;
