@@ -1,60 +1,75 @@
--- What is exported of a root, by its block and its verdict alone.
-use Rattle.std.proofs.Common.{◌≡◌, ℕ, List, [], ◌∷◌, ◌++◌, refl, sym, ◌∙◌, ap, true, false, Bool}
-use Rattle.std.specs.Prelude.{Option, Result, Ok, Err, if◌then◌else◌, map, flat_map, take}
-use Rattle.std.proofs.lemmas.List.{append-nil}
-use Rattle.ix_selector.specs.Enters.{Path}
-use Rattle.ix_selector.specs.Pattern.{matcher}
-use Rattle.ix_selector.specs.IsEntered.{is_entered}
-use Rattle.ix_walk.specs.Store.{Blocks, block_of, value_of}
-use Rattle.ix_walk.specs.Arrivals.{Arrival, Inside, arrivals_at}
-use Rattle.ix_walk.specs.Visits.{visits_from, visit_of}
-use Rattle.ix_check.specs.Verdict.{verdict_with, verdict_of}
-use Rattle.ix_check.specs.declared.verdict.Verdict.{Verdict}
+-- What is exported of a root, from what was told of its job.
+use Rattle.std.proofs.Common.{◌≡◌, ℕ, List, [], ◌∷◌, refl, sym, ◌∙◌, ap, subst, Bool, true, false, true≢false, length, arith, ◌⊎◌, inl, inr, ◌++◌}
+use Rattle.std.specs.Prelude.{Option, Some, None, option_to_list, Ok, take, map}
+use Rattle.std.proofs.lemmas.List.{take_all}
+use Rattle.ix_walk.specs.Store.{Blocks}
+use Rattle.ix_walk.specs.JobMeaning.{JobMeaning}
 use Rattle.ix_car.specs.declared.sink.Delivery.{Delivery}
+use Rattle.ix_car.specs.declared.sink.End.{End}
+use Rattle.ix_car.specs.declared.sink.End.TheVariants.{Done, Limit, Memory, Write, Start}
+use Rattle.ix_car.specs.Events.{delivery, close}
+use Rattle.ix_car.specs.Faithful.{IsFaithful, EndFits}
 use Rattle.ix_car.specs.Kept.{kept}
-use Rattle.ix_car.specs.Verified.{judged}
-use Rattle.ix_car.specs.Archive.{is_sound, header_of, section_with, section_of, archive_with}
-use Rattle.ix_car.specs.Reading.{Fault, ◌>>=◌}
-use Rattle.ix_export.specs.Reads.{block_in}
-use Rattle.ix_export.specs.Root.{exported, sound_block}
+use Rattle.ix_car.specs.Verified.{judged_visits}
+use Rattle.ix_car.specs.Archive.{archive_with}
+use Rattle.ix_car.specs.ArchiveMeaning.{HasWritten}
+use Rattle.ix_car.specs.Reading.{◌>>=◌, blocks_of}
+use Rattle.ix_jobs.specs.declared.report.JobResult.{JobResult}
+use Rattle.ix_export.specs.Root.{root_job, exported, exported_from, is_whole_end, is_whole}
+use Rattle.ix_export.specs.Run.{IsEndOf, IsRun, EachRun}
+use Rattle.ix_export.proofs.Told.{same_deliveries}
 
-one_arrival : (enters : Path → Bool) (inside : Inside) (c : List ℕ) → take 1 (arrivals_at enters inside 1 0 c []) ≡ record { path = []; depth = 0; cid = c } ∷ []
-one_arrival enters inside c = refl
+-- where an end is told by which all was written, the job was closed by such an end
+whole_close : (end told : End) → IsEndOf end told → is_whole_end told ≡ true → is_whole_end end ≡ true
+whole_close Done told h w = refl
+whole_close Limit told h w = refl
+whole_close Memory told h w = ap is_whole_end (sym h) ∙ w
+whole_close Write told h w = ap is_whole_end (sym h) ∙ w
+whole_close Start told h w = ap is_whole_end (sym h) ∙ w
 
-one_kept : (d : Delivery) → kept (d ∷ []) ≡ d ∷ []
-one_kept d = refl
+-- an end at which all visits were delivered and none failed
+all_told : (end : End) (m : ℕ) (all : List Delivery) (over : Bool) (failed : List Delivery) → is_whole_end end ≡ true → EndFits end m all over failed → (m ≡ length all) × (failed ≡ [])
+all_told Done m all over failed whole fits = (fits.0, fits.2)
+all_told Limit m all over failed whole fits = (fits.0, fits.2)
+all_told Memory m all over failed whole fits = absurd (true≢false (sym whole))
+all_told Write m all over failed whole fits = absurd (true≢false (sym whole))
+all_told Start m all over failed whole fits = absurd (true≢false (sym whole))
 
-one_section : (f : Delivery → List ℕ) (sound : Bool) (d : Delivery) → flat_map f (if sound then d ∷ [] else []) ≡ (if sound then f d else [])
-one_section f true d = append-nil (f d)
-one_section f false d = refl
+module _ {W : Type 0} (told : W → Option (List ℕ)) where
+  -- the archive of all visits of a job that was walked to its end or its limit
+  one_archive : (store : Blocks) (job : JobMeaning) (before : W) (result : JobResult) (after : W) → is_whole_end result.end ≡ true → told before ≡ Some [] → IsRun told store 0 job before result after
+      → told after ≡ Some (archive_with store job.root (kept (judged_visits store 0 job)))
+  one_archive store job before result after whole fresh run =
+      let all = judged_visits store 0 job in
+      let fits = all_told run.end run.faithful.count all _ run.failed (whole_close run.end result.end run.ended whole) run.faithful.fits in
+      let same : run.delivered ≡ take run.faithful.count all = same_deliveries run.delivered (run.end ∷ []) (take run.faithful.count all) run.end run.faithful.told in
+      let each : run.delivered ≡ all = same ∙ ap (λ n. take n all) fits.0 ∙ take_all (length all) all (omega arith) in
+      subst (λ ds. told after ≡ Some (archive_with store job.root (kept ds))) each (subst (HasWritten (told after) store job.root run.delivered) fits.1 (run.written fresh))
 
-section_if : (c : List ℕ) (sound : Bool) (block : Option (List ℕ)) → (if sound then section_with c block else []) ≡ section_with c (sound_block sound block)
-section_if c true block = refl
-section_if c false block = refl
+  -- the archive of the one root
+  pub exported_by : (car root : List ℕ) (store : Blocks) (job : JobMeaning) (jobs : List JobMeaning) (before : W) (befores afters rest : List W) (after : W) (results : List JobResult) (bytes : List ℕ)
+      → jobs ≡ job ∷ [] → befores ≡ before ∷ [] → blocks_of car ≡ Ok store → job ≡ root_job root → told before ≡ Some [] → EachRun told store 0 jobs befores results afters → is_whole results ≡ true
+      → afters ≡ rest ++ after ∷ [] → told after ≡ Some bytes → exported_from car root ≡ Ok bytes
+  exported_by car root store job jobs before befores afters rest after results bytes one_job one_before read is_job fresh ran whole last shows =
+      ones afters results (subst (λ js. EachRun told store 0 js (before ∷ []) results afters) one_job (subst (λ bs. EachRun told store 0 jobs bs results afters) one_before ran)) whole rest last where
+        some_same : (a b : List ℕ) → ◌≡◌ {A = Option (List ℕ)} (Some a) (Some b) → a ≡ b
+        some_same a b h = cc
 
-one_delivery : (store : Blocks) (root : List ℕ) (d : Delivery) → archive_with store root (d ∷ []) ≡ header_of root ++ section_with d.visit.cid (sound_block (is_sound d.verdict) (block_of store d.visit.cid))
-one_delivery store root d =
-    ap (λ l. header_of root ++ l) (one_section (section_of store) (is_sound d.verdict) d ∙ section_if d.visit.cid (is_sound d.verdict) (block_of store d.visit.cid))
+        of_one : (w : W) (r : JobResult) → IsRun told store 0 job before r w → is_whole_end r.end ≡ true → w ≡ after → exported_from car root ≡ Ok bytes
+        of_one w r run whole same =
+            let wrote : told after ≡ Some (archive_with store job.root (kept (judged_visits store 0 job))) = subst (λ v. told v ≡ Some (archive_with store job.root (kept (judged_visits store 0 job)))) same (one_archive store job before r w whole fresh run) in
+            let is_bytes : archive_with store job.root (kept (judged_visits store 0 job)) ≡ bytes = some_same _ _ (sym wrote ∙ shows) in
+            ap (λ r. r >>= (λ b. Ok (exported b root))) read ∙ ap Ok (ap (λ (j : JobMeaning). archive_with store j.root (kept (judged_visits store 0 j))) (sym is_job) ∙ is_bytes)
 
-pub exported_is : (store : Blocks) (root : List ℕ) → exported store root ≡ header_of root ++ section_with root (sound_block (is_sound (verdict_of store root)) (block_of store root))
-exported_is store root =
-    let a : Arrival = record { path = []; depth = 0; cid = root } in
-    ap (λ l. archive_with store root (kept (map (judged store) (visits_from store 0 0 l)))) (one_arrival (is_entered matcher) (value_of store) root)
-    ∙ ap (λ l. archive_with store root l) (one_kept (judged store (visit_of store 0 0 a)))
-    ∙ one_delivery store root (judged store (visit_of store 0 0 a))
+        last_one : (w : W) (rest : List W) → w ∷ [] ≡ rest ++ after ∷ [] → w ≡ after
+        last_one w [] h = cc
+        last_one w (x ∷ []) h = absurd cc
+        last_one w (x ∷ y ∷ ys) h = absurd cc
 
-ok_same : {A E : Type 0} (x y : A) → ◌≡◌ {A = Result A E} (Ok x) (Ok y) → x ≡ y
-ok_same x y h = cc
-
--- What is exported from blocks that were read, by the block of the root, its verdict, and what is written.
-pub exported_by : (read : Result Blocks Fault) (root : List ℕ) (block written : Option (List ℕ)) (verdict : Verdict) (archive : List ℕ)
-    → block_in root read ≡ Ok block → verdict ≡ verdict_with root block → written ≡ sound_block (is_sound verdict) block → archive ≡ header_of root ++ section_with root written
-    → (read >>= (λ store. Ok (exported store root))) ≡ Ok archive
-exported_by (Ok store) root block written verdict archive found judged sound same =
-    let is_block : block_of store root ≡ block = ok_same (block_of store root) block found in
-    let is_verdict : verdict_of store root ≡ verdict = ap (verdict_with root) is_block ∙ sym judged in
-    let section : List ℕ → List ℕ = λ l. header_of root ++ l in
-    ap Ok
-    (exported_is store root ∙ ap (λ b. section (section_with root (sound_block (is_sound (verdict_of store root)) b))) is_block
-    ∙ ap (λ v. section (section_with root (sound_block (is_sound v) block))) is_verdict ∙ ap (λ w. section (section_with root w)) (sym sound) ∙ sym same)
-exported_by (Err f) root block written verdict archive found judged sound same = absurd cc
+        ones : (ws : List W) (rs : List JobResult) → EachRun told store 0 (job ∷ []) (before ∷ []) rs ws → is_whole rs ≡ true → (rest : List W) → ws ≡ rest ++ after ∷ [] → exported_from car root ≡ Ok bytes
+        ones [] [] ran whole rest last = absurd ran
+        ones [] (r ∷ rs) ran whole rest last = absurd ran
+        ones (w ∷ ws) [] ran whole rest last = absurd ran
+        ones (w ∷ []) (r ∷ []) ran whole rest last = of_one w r ran.0 whole (last_one w rest last)
+        ones (w ∷ v ∷ ws) (r ∷ []) ran whole rest last = absurd ran.1
+        ones (w ∷ ws) (r ∷ s ∷ rs) ran whole rest last = absurd (true≢false (sym whole))

@@ -1,3 +1,6 @@
+pub mod Told
+pub mod Runs
+pub mod Matcher
 pub mod Exports
-pub mod Found
-pub mod HeaderLemmas
+pub mod Turns
+pub mod JobNumbers

@@ -4,7 +4,7 @@ use Rattle.hex.specs.Hex.{decode_of, encode_lower}
 use Rattle.ix_cid.specs.CidText.{cid_of_text}
 use Rattle.ix_cid.specs.Gives.{Fails}
 use Rattle.ix_export.specs.declared.fault.RunFault.{RunFault}
-use Rattle.ix_export.specs.declared.fault.RunFault.TheVariants.{Hex, Root, Car, Memory}
+use Rattle.ix_export.specs.declared.fault.RunFault.TheVariants.{Hex, Root, Car, Jobs, Write, Memory}
 use Rattle.ix_export.specs.Input.{without_blanks, IsInputFault}
 use Rattle.ix_export.specs.Root.{exported_from, IsRefusalOf}
 
@@ -14,6 +14,8 @@ IsTextRefusal text (Root fault) = Fails fault (cid_of_text text)
 IsTextRefusal text Memory = ⊥
 IsTextRefusal text Hex = ⊥
 IsTextRefusal text (Car fault) = ⊥
+IsTextRefusal text (Jobs fault) = ⊥
+IsTextRefusal text (Write number) = ⊥
 
 -- the input is a CARv1 file in hexadecimal, and the text is the archive of the root and a line end
 pub record PrintsRoot (input root text : List ℕ) : Type 0 where
@@ -35,3 +37,5 @@ IsPrintRefusal input Hex = IsInputFault input Hex
 IsPrintRefusal input (Car fault) = HoldsFault input (Car fault)
 IsPrintRefusal input Memory = Unit {0}
 IsPrintRefusal input (Root fault) = ⊥
+IsPrintRefusal input (Jobs fault) = ⊥
+IsPrintRefusal input (Write number) = ⊥

@@ -2,7 +2,7 @@
 use Rattle.std.specs.Prelude.{ℕ, Bool, not, ◌||◌, ◌==◌, List, filter, IsErr}
 use Rattle.hex.specs.Hex.{decode_of}
 use Rattle.ix_export.specs.declared.fault.RunFault.{RunFault}
-use Rattle.ix_export.specs.declared.fault.RunFault.TheVariants.{Hex, Root, Car, Memory}
+use Rattle.ix_export.specs.declared.fault.RunFault.TheVariants.{Hex, Root, Car, Jobs, Write, Memory}
 
 -- a space, a tab or a part of a line end
 abbrev pub is_blank : ℕ → Bool
@@ -17,3 +17,5 @@ IsInputFault text Hex = IsErr (decode_of (without_blanks text))
 IsInputFault text Memory = Unit {0}
 IsInputFault text (Root f) = ⊥
 IsInputFault text (Car f) = ⊥
+IsInputFault text (Jobs f) = ⊥
+IsInputFault text (Write number) = ⊥

@@ -1,5 +1,6 @@
 pub mod Root
 pub mod FaultLine
 pub mod Input
-pub mod Reads
 pub mod Command
+pub mod Prepare
+pub mod Run

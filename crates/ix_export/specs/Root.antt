@@ -1,15 +1,18 @@
 -- What the command `root` exports.
-use Rattle.std.specs.Prelude.{ℕ, Bool, true, false, List, codes, Option, None, Result, Ok}
+use Rattle.std.specs.Prelude.{ℕ, Bool, true, false, List, [], ◌∷◌, codes, Result, Ok}
 use Rattle.ix_selector.specs.Pattern.{matcher}
 use Rattle.ix_walk.specs.Store.{Blocks}
 use Rattle.ix_walk.specs.JobMeaning.{JobMeaning}
+use Rattle.ix_car.specs.declared.sink.End.{End}
+use Rattle.ix_car.specs.declared.sink.End.TheVariants.{Done, Limit, Memory, Write, Start}
 use Rattle.ix_car.specs.Kept.{kept}
 use Rattle.ix_car.specs.Verified.{judged_visits}
 use Rattle.ix_car.specs.Archive.{archive_with}
 use Rattle.ix_car.specs.Reading.{Fault, ◌>>=◌, blocks_of}
 use Rattle.ix_car.specs.Gives.{IsFaultOf}
+use Rattle.ix_jobs.specs.declared.report.JobResult.{JobResult}
 use Rattle.ix_export.specs.declared.fault.RunFault.{RunFault}
-use Rattle.ix_export.specs.declared.fault.RunFault.TheVariants.{Hex, Root, Car, Memory}
+use Rattle.ix_export.specs.declared.fault.RunFault.TheVariants as faults
 
 -- the job of a root: the matcher, and one visit
 abbrev pub root_job : List ℕ → JobMeaning
@@ -23,14 +26,25 @@ exported store root = archive_with store root (kept (judged_visits store 0 (root
 abbrev pub exported_from : List ℕ → List ℕ → Result (List ℕ) Fault
 exported_from car root = blocks_of car >>= (λ store. Ok (exported store root))
 
--- the block that is written: one that is sound
-abbrev pub sound_block : Bool → Option (List ℕ) → Option (List ℕ)
-sound_block true block = block
-sound_block false block = None
+-- walked to its end or to its limit, and all was written
+abbrev pub is_whole_end : End → Bool
+is_whole_end Done = true
+is_whole_end Limit = true
+is_whole_end Memory = false
+is_whole_end Write = false
+is_whole_end Start = false
+
+-- one job, of which this is told
+abbrev pub is_whole : List JobResult → Bool
+is_whole [] = false
+is_whole (r ∷ []) = is_whole_end r.end
+is_whole (r ∷ s ∷ rs) = false
 
 -- why a file is refused: the first fault of its blocks, or memory ran out
 abbrev pub IsRefusalOf : List ℕ → RunFault → Type 0
-IsRefusalOf car (Car fault) = IsFaultOf car fault (blocks_of car)
-IsRefusalOf car Memory = Unit {0}
-IsRefusalOf car Hex = ⊥
-IsRefusalOf car (Root fault) = ⊥
+IsRefusalOf car (faults.Car fault) = IsFaultOf car fault (blocks_of car)
+IsRefusalOf car faults.Memory = Unit {0}
+IsRefusalOf car faults.Hex = ⊥
+IsRefusalOf car (faults.Root fault) = ⊥
+IsRefusalOf car (faults.Jobs fault) = ⊥
+IsRefusalOf car (faults.Write number) = ⊥

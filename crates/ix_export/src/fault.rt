@@ -5,7 +5,8 @@ ghost use Rattle.ix_export.specs.FaultLine.{line_of};
 
 use ix_car::reader::CarFault;
 use ix_cid::cid::CidFault;
-use std::alloc::{AllocError, Global};
+use ix_jobs::jobs::JobsFault;
+use std::alloc::{AllocError, AllocFailed, Global};
 use thiserror::Error;
 
 /// Why a command refuses.
@@ -20,6 +21,12 @@ pub enum RunFault {
     /// The input is no CARv1 file.
     #[error("the input is no CARv1 file: {0:?}")]
     Car(CarFault),
+    /// The job file is refused.
+    #[error("the job file is refused: {0:?}")]
+    Jobs(JobsFault),
+    /// The header of the archive of the job with this number, from 0, could not be written.
+    #[error("the archive of job {0} could not be begun")]
+    Write(u32),
     /// No memory was left.
     #[error("out of memory")]
     Memory,
@@ -36,6 +43,17 @@ impl From<AllocError> for RunFault {
     }
 }
 
+impl<T: Drop> From<AllocFailed<T>> for RunFault {
+    ghost use Rattle.std.specs.Prelude.{◌≡◌};
+    ghost use Rattle.ix_export.specs.declared.fault.RunFault.TheVariants.{Memory};
+
+    ghost from_gives = { λ _ e. e ≡ Memory };
+
+    fn from(_error: AllocFailed<T>) -> RunFault {
+        RunFault::Memory
+    }
+}
+
 /// The line that the program prints for a refusal, without its end.
 pub fn fault_line(alloc: Global, fault: &RunFault) -> Result<String, AllocError>
     ensures { IfOk result (λ line. string_bytes line ≡ line_of fault.now) }
@@ -48,6 +66,12 @@ pub fn fault_line(alloc: Global, fault: &RunFault) -> Result<String, AllocError>
             let place = fault.place;
             format!(in alloc; "blocks: {kind} at {place}")
         }
+        RunFault::Jobs(fault) => {
+            let kind = fault.kind;
+            let line = fault.line;
+            format!(in alloc; "jobs: {kind} at line {line}")
+        }
+        RunFault::Write(number) => format!(in alloc; "cannot write job {number}"),
         RunFault::Memory => String::from_str(alloc, "memory"),
     }
 }

@@ -1,16 +1,24 @@
 //! The archive of one root.
 
-ghost use Rattle.std.specs.Prelude.{◌≡◌, IfOk, IfErr, Ok, option_map};
-ghost use Rattle.ix_car.specs.Archive.{is_sound};
-ghost use Rattle.ix_export.specs.Root.{exported_from, sound_block, IsRefusalOf};
+ghost use Rattle.std.specs.Prelude.{◌≡◌, IfOk, IfErr, Ok};
+ghost use Rattle.ix_selector.specs.Pattern.{matcher};
+ghost use Rattle.ix_export.specs.declared.fault.RunFault.TheVariants.{Memory};
+ghost use Rattle.ix_export.specs.Root.{root_job, exported_from, is_whole, IsRefusalOf};
 
-use crate::archive::archive_of;
 use crate::fault::RunFault;
-use crate::reader::find_block;
-use crate::verdict::verdict_on;
-use ix_check::verdict::Verdict;
+use crate::run::run_jobs;
+use ix_car::reader::read_car;
+use ix_car::sink::End;
+use ix_cbor::codec::decode;
 use ix_cid::cid::Cid;
+use ix_jobs::report::JobResult;
+use ix_selector::selector::Selector;
+use ix_walk::job::Job;
 use std::alloc::Global;
+use std::slice;
+
+// The matcher selector in DAG-CBOR: a map with the key `.` and an empty map.
+const MATCHER: &[u8; 4] = b"\xa1\x61\x2e\xa0";
 
 /// The CARv1 archive of one root: what is kept of the visits of the job with that root, the
 /// matcher selector and a limit of one visit, over the blocks of a CARv1 file.
@@ -18,21 +26,60 @@ pub fn export_root(alloc: Global, car: &[u8], root: Cid) -> Result<Vec<u8>, RunF
     ensures archive { IfOk result (λ archive. exported_from car.now root ≡ Ok archive.items) }
     ensures refused { IfErr result (λ fault. IsRefusalOf car.now fault) }
 {
-    let block = match find_block(alloc, car, &root) {
-        Ok(block) => block,
+    let store = match read_car(alloc, car) {
+        Ok(store) => store,
         Err(fault) => return Err(RunFault::Car(fault)),
     };
-    let verdict = verdict_on(alloc, &root, block)?;
-    Ok(archive_of(alloc, &root, block_to_write(verdict, block))?)
+    let job = root_job(alloc, root)?;
+    let writers = vec![in alloc; Vec::new(alloc)]?;
+    // A vector takes what it is given while there is memory.
+    let Ok((results, mut writers)) = run_jobs(alloc, &store, slice::from_ref(&job), writers) else {
+        return Err(RunFault::Memory);
+    };
+    if !is_whole(results.as_slice()) {
+        return Err(RunFault::Memory);
+    }
+    match writers.pop() {
+        Some(archive) => Ok(archive),
+        None => Err(RunFault::Memory),
+    }
 }
 
-// A block that is sound is written, and no other.
-fn block_to_write(verdict: Verdict, block: Option<&[u8]>) -> Option<&[u8]>
-    ensures { option_map (λ b. b.now) result
-        ≡ sound_block (is_sound verdict) (option_map (λ b. b.now) block.entry) }
+// Whether one job was walked to its end or to its limit, and all was written.
+fn is_whole(results: &[JobResult]) -> bool
+    ensures { result ≡ is_whole results.now }
 {
-    match verdict {
-        Verdict::Sound => block,
-        _ => None,
+    match results {
+        [result] => matches!(result.end, End::Done | End::Limit),
+        _ => false,
+    }
+}
+
+// The job of a root: the matcher, and one visit.
+fn root_job(alloc: Global, root: Cid) -> Result<Job, RunFault>
+    ensures job { IfOk result (λ job. job ≡ root_job root) }
+    ensures memory { IfErr result (λ fault. fault ≡ Memory) }
+{
+    let name = String::from_str(alloc, "root")?;
+    let selector = matcher(alloc)?;
+    // The name and the limit are those of a job.
+    match Job::new(name, root, selector, 1) {
+        Ok(job) => Ok(job),
+        Err(_) => Err(RunFault::Memory),
+    }
+}
+
+// The selector that enters the root alone.
+fn matcher(alloc: Global) -> Result<Selector, RunFault>
+    ensures selector { IfOk result (λ selector. selector ≡ matcher) }
+    ensures memory { IfErr result (λ fault. fault ≡ Memory) }
+{
+    // The bytes spell a selector, so only memory can be refused.
+    let Ok(tree) = decode(alloc, MATCHER) else {
+        return Err(RunFault::Memory);
+    };
+    match Selector::read(alloc, &tree) {
+        Ok(selector) => Ok(selector),
+        Err(_) => Err(RunFault::Memory),
     }
 }

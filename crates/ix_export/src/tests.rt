@@ -1,8 +1,12 @@
 use crate::command::printed_root;
 use crate::fault::{RunFault, fault_line};
+use crate::prepare::prepare;
 use crate::root::export_root;
+use crate::run::run;
 use ix_car::reader::{CarFault, CarKind};
 use ix_cid::cid::{Cid, CidFault};
+use ix_jobs::jobs::{JobsFault, JobsKind};
+use ix_pipeline::plan::Plan;
 use std::alloc::Global;
 use std::process::Abort;
 use std::test::Fail;
@@ -134,11 +138,17 @@ fn fault_lines(rt: HostRuntime) -> Result<(), Fail> {
         kind: CarKind::Version(-2),
         place: 0,
     };
+    let repeated = JobsFault {
+        kind: JobsKind::Repeated,
+        line: 2,
+    };
     let cases = [
         (RunFault::Car(truncated), "blocks: truncated at 18"),
         (RunFault::Car(version), "blocks: version -2 at 0"),
         (RunFault::Root(CidFault::Multibase), "root: multibase"),
         (RunFault::Root(CidFault::Version(18)), "root: version 18"),
+        (RunFault::Jobs(repeated), "jobs: repeated at line 2"),
+        (RunFault::Write(0), "cannot write job 0"),
         (RunFault::Hex, "input: hex"),
         (RunFault::Memory, "memory"),
     ];
@@ -159,5 +169,56 @@ fn blanks_and_capitals(rt: HostRuntime) -> Result<(), Fail> {
     assert!(rt; made.as_str().len() == 119);
     let made = printed_root(alloc, cid_of(alloc, ABC)?, b"1g");
     assert!(rt; matches!(made, Err(RunFault::Hex)));
+    Ok(())
+}
+
+// A list of one link, and its CID: the file and the jobs of the test below.
+const LIST: &str =
+    "81d82a58250001551220ba7816bf8f01cfea414140de5dae2223b00361a396177a9cb410ff61f20015ad";
+
+const LIST_CID: &str = "0171122021e288dd95d20c03227dc4c449b3a8885fcb420f614135142435f3b33b428832";
+
+const JOBS: &str = "a bafyreibb4ken3fosbqbse7oeyre3hkeil7fued3bie2rijbv6oztwquigi 100 \
+    a16152a2616ca1646e6f6e65a0623a3ea16161a1613ea16140a0\n# the same, too short\nb \
+    bafyreibb4ken3fosbqbse7oeyre3hkeil7fued3bie2rijbv6oztwquigi 1 \
+    a16152a2616ca1646e6f6e65a0623a3ea16161a1613ea16140a0\n";
+
+#[test]
+fn jobs_with_their_report(rt: HostRuntime) -> Result<(), Fail> {
+    let alloc = rt.alloc();
+    let car = bytes_of(alloc, &[HEADER, "4e", LIST_CID, LIST, "27", ABC, "616263"])?;
+    let (store, jobs) = prepare(alloc, car.as_slice(), JOBS.as_bytes())?;
+    let mut writers = Vec::new(alloc);
+    writers.push(Vec::new(alloc))?;
+    writers.push(Vec::new(alloc))?;
+    if writers.len() != jobs.len() {
+        assert!(rt; false, "two jobs were wanted");
+        return Ok(());
+    }
+    let plan = Plan {
+        walkers: 2,
+        queue: 256,
+        lane: 64,
+    };
+    let out = run(&rt, alloc, &store, &jobs, writers, 2, plan)?;
+    assert_eq!(rt; out.status, 4);
+    assert_eq!(rt;
+        out.report.as_slice(),
+        b"a done visits=2 kept=2 sections=2 bytes=178\nb limit visits=1 kept=1 sections=1 bytes=138\ntotal jobs=2 done=1 skips=0\n".as_slice()
+    );
+    let [before, root, behind] = header_of(LIST_CID);
+    let whole = bytes_of(
+        alloc,
+        &[
+            before, root, behind, "4e", LIST_CID, LIST, "27", ABC, "616263",
+        ],
+    )?;
+    assert!(rt; out.writers.len() == 2);
+    assert!(rt;
+        out.writers
+            .first()
+            .is_some_and(|first| first.as_slice() == whole.as_slice())
+    );
+    assert!(rt; out.writers.last().is_some_and(|last| last.len() == 138));
     Ok(())
 }

@@ -1,9 +1,12 @@
-use Rattle.std.proofs.Common.{option_map}
-use Rattle.ix_car.specs.Reading.{blocks_of}
+use Rattle.std.proofs.Common.{◌≡◌, sym, ◌∙◌, ap, ℕ, Vec, Global, refl}
+use Rattle.std.specs.Prelude.{Some}
+use Rattle.ix_export.specs.Root.{is_whole}
 use Rattle.ix_export.proofs.Exports.{exported_by}
 use Rattle.ix_export.proofs.root.export_root.Goals as goal
 
-pub returns-clause-archive : goal.returns-clause-archive
-returns-clause-archive c =
-    exported_by (blocks_of c.args.car.now) c.args.root (option_map (λ b. b.now) c.in-Ok.block) (option_map (λ b. b.now) c.block_to_write.result) c.in_ok-verdict.verdict c.in_ok-archive_of.field-0.items
-    c.in-Ok.ensures c.in_ok-verdict.ensures c.block_to_write.ensures c.in_ok-archive_of.ensures
+pub returns-in-Some-clause-archive : goal.returns-in-Some-clause-archive
+returns-in-Some-clause-archive c =
+    exported_by (λ (v : Vec ℕ Global). Some v.items) c.args.car.now c.args.root c.in-Ok.store c.in_ok-job.job c.from_ref.result.now c.new.result c.in_ok-writers.writers.items
+    c.in-Ok-run_jobs.writers.items c.pop.new.self.items c.in-Some.archive c.in-Ok-run_jobs.results.items c.in-Some.archive.items c.from_ref.ensures.value c.in_ok-writers.ensures.items c.in-Ok.ensures
+    c.in_ok-job.ensures.job (ap (λ l. Some l) c.new.ensures.items) c.in-Ok-run_jobs.ensures.ran (ap is_whole (sym c.as_slice.ensures.value) ∙ sym c.is_whole.ensures ∙ c.if-not-is_whole.false)
+    c.in-Some.ensures.items refl

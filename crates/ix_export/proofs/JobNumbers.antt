@@ -1,0 +1,46 @@
+-- A job file has no more than 1,000 jobs.
+use Rattle.std.proofs.Common.{◌≡◌, ℕ, ◌+◌, ◌≤◌, ◌<◌, List, [], ◌∷◌, ◌++◌, length, refl, sym, ap, subst, Bool, true, false, cond, arith, length-append, leb, eqb}
+use Rattle.std.specs.Prelude.{Result, Ok, Err, nat_le, bytes_eq}
+use Rattle.std.specs.List.{list_any, slice_split}
+use Rattle.std.specs.Str.Lines.{strip_carriage_return}
+use Rattle.std.proofs.lemmas.Bool.{leb-false}
+use Rattle.ix_walk.specs.JobMeaning.{JobMeaning}
+use Rattle.ix_jobs.specs.declared.jobs.JobsKind.{JobsKind}
+use Rattle.ix_jobs.specs.declared.jobs.JobsKind.TheVariants.{Repeated, TooMany}
+use Rattle.ix_jobs.specs.Jobs.{◌>>=◌, is_ignored, line_job, joined, with_line, at_line, jobs_from, jobs_of}
+
+ok_same : {A E : Type 0} (x y : A) → ◌≡◌ {A = Result A E} (Ok x) (Ok y) → x ≡ y
+ok_same x y h = cc
+
+module _ (before jobs : List JobMeaning) (few : length before ≤ 1000) where
+  one_more : (job : JobMeaning) (full : Bool) → leb 1000 (length before) ≡ full → cond full (Err TooMany) (Ok (before ++ job ∷ [])) ≡ Ok jobs → length jobs ≤ 1000
+  one_more job true e h = absurd cc
+  one_more job false e h =
+      let same : length (before ++ job ∷ []) ≡ length jobs = ap length (ok_same (before ++ job ∷ []) jobs h) in
+      omega (arith, same, length-append before (job ∷ []), leb-false 1000 (length before) e)
+
+  joined-few : (job : JobMeaning) (taken : Bool) → cond taken (Err Repeated) (cond (leb 1000 (length before)) (Err TooMany) (Ok (before ++ job ∷ []))) ≡ Ok jobs → length jobs ≤ 1000
+  joined-few job true h = absurd cc
+  joined-few job false h = one_more job (leb 1000 (length before)) refl h
+
+  read-few : (read : Result JobMeaning JobsKind) → (read >>= joined before) ≡ Ok jobs → length jobs ≤ 1000
+  read-few (Ok job) h = joined-few job (list_any (λ j. bytes_eq j.name job.name) before) h
+  read-few (Err kind) h = absurd cc
+
+  line-few : (ignored : Bool) (read : Result JobMeaning JobsKind) → cond ignored (Ok before) (read >>= joined before) ≡ Ok jobs → length jobs ≤ 1000
+  line-few true read h = subst (λ l. length l ≤ 1000) (ok_same before jobs h) few
+  line-few false read h = read-few read h
+
+behind-few : (line : ℕ) (jobs : List JobMeaning) (ls : List (List ℕ)) (read : Result (List JobMeaning) JobsKind) → ((more : List JobMeaning) → length more ≤ 1000 → jobs_from (line + 1) more ls ≡ Ok jobs → length jobs ≤ 1000)
+    → ((more : List JobMeaning) → read ≡ Ok more → length more ≤ 1000) → (at_line line read >>= (λ more. jobs_from (line + 1) more ls)) ≡ Ok jobs → length jobs ≤ 1000
+behind-few line jobs ls (Ok more) rest few h = rest more (few more refl) h
+behind-few line jobs ls (Err kind) rest few h = absurd cc
+
+from-few : (line : ℕ) (before jobs : List JobMeaning) (lines : List (List ℕ)) → length before ≤ 1000 → jobs_from line before lines ≡ Ok jobs → length jobs ≤ 1000
+from-few line before jobs [] few h = subst (λ l. length l ≤ 1000) (ok_same before jobs h) few
+from-few line before jobs (l ∷ ls) few h =
+    behind-few line jobs ls (with_line before (strip_carriage_return l)) (λ more f e. from-few (line + 1) more jobs ls f e)
+    (λ more e. line-few before more few (is_ignored (strip_carriage_return l)) (line_job (strip_carriage_return l)) e) h
+
+pub few_jobs : (b : List ℕ) (jobs : List JobMeaning) → jobs_of b ≡ Ok jobs → length jobs ≤ 1000
+few_jobs b jobs h = from-few 1 [] jobs (slice_split (λ x. eqb x 10) b) (omega arith) h

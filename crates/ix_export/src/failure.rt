@@ -1,0 +1,109 @@
+//! Why the program ends early, and what it tells the user.
+
+use crate::fault::{RunFault, fault_line};
+use clap::error::ErrorKind;
+use std::alloc::{AllocError, AllocFailed, Global};
+use std::io;
+
+/// The status of usage, of an input that is refused, and of an output that can't be made.
+const REFUSED: u8 = 2;
+
+/// Why the program ends early.
+#[derive(Debug, Drop)]
+pub enum Failure {
+    /// The words are no command; the text is clap's.
+    Usage(clap::Error),
+    /// A word is not UTF-8.
+    Words,
+    Fault(RunFault),
+    /// A file that can't be read, and below, is too large or can't be written: its path, where
+    /// standard input and output are `-`.
+    CannotRead(String),
+    TooLarge(String),
+    CannotWrite(String),
+}
+
+impl Failure {
+    /// The arguments of the process can't be read.
+    pub fn of_words(error: &io::Error) -> Failure {
+        if is_want_of_memory(error) {
+            Failure::Fault(RunFault::Memory)
+        } else {
+            Failure::Words
+        }
+    }
+
+    pub fn cannot_read(alloc: Global, path: &str, error: &io::Error) -> Failure {
+        match String::from_str(alloc, path) {
+            Ok(path) if !is_want_of_memory(error) => Failure::CannotRead(path),
+            _ => Failure::Fault(RunFault::Memory),
+        }
+    }
+
+    pub fn cannot_write(alloc: Global, path: &str, error: &io::Error) -> Failure {
+        match String::from_str(alloc, path) {
+            Ok(path) if !is_want_of_memory(error) => Failure::CannotWrite(path),
+            _ => Failure::Fault(RunFault::Memory),
+        }
+    }
+
+    pub fn too_large(alloc: Global, path: &str) -> Failure {
+        match String::from_str(alloc, path) {
+            Ok(path) => Failure::TooLarge(path),
+            Err(_) => Failure::Fault(RunFault::Memory),
+        }
+    }
+
+    /// Tells the user, and answers the status.
+    pub fn report<R: AllocGlobal + Eprint + Print>(&self, rt: &R) -> u8 {
+        let told = match self {
+            Failure::Usage(error) => {
+                let told = error.print(rt);
+                let _ = told;
+                return if error.use_stderr() { REFUSED } else { 0 };
+            }
+            Failure::Words => rt.eprintln("error: a word of the command is not UTF-8"),
+            Failure::Fault(fault) => match fault_line(rt.alloc(), fault) {
+                Ok(line) => rt.eprintln(line.as_str()),
+                Err(_) => rt.eprintln("memory"),
+            },
+            Failure::CannotRead(path) => eprintln!(rt; "cannot read {path}"),
+            Failure::TooLarge(path) => eprintln!(rt; "too large {path}"),
+            Failure::CannotWrite(path) => eprintln!(rt; "cannot write {path}"),
+        };
+        // Where standard error can't be written there is nobody to tell.
+        let _ = told;
+        REFUSED
+    }
+}
+
+fn is_want_of_memory(error: &io::Error) -> bool {
+    matches!(error.kind(), io::ErrorKind::OutOfMemory)
+}
+
+impl From<AllocError> for Failure {
+    fn from(_error: AllocError) -> Failure {
+        Failure::Fault(RunFault::Memory)
+    }
+}
+
+impl<T: Drop> From<AllocFailed<T>> for Failure {
+    fn from(_error: AllocFailed<T>) -> Failure {
+        Failure::Fault(RunFault::Memory)
+    }
+}
+
+impl From<RunFault> for Failure {
+    fn from(fault: RunFault) -> Failure {
+        Failure::Fault(fault)
+    }
+}
+
+impl From<clap::Error> for Failure {
+    fn from(error: clap::Error) -> Failure {
+        match error.kind() {
+            ErrorKind::OutOfMemory => Failure::Fault(RunFault::Memory),
+            _ => Failure::Usage(error),
+        }
+    }
+}
