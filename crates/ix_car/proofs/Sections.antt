@@ -1,12 +1,12 @@
 -- The sections of a file, read one by one into a store.
-use Rattle.std.proofs.Common.{◌≡◌, ℕ, zero, suc, ◌+◌, ◌<◌, ◌≤◌, Bool, true, false, cond, ltb, leb, eqb, ◌&&◌, ◌||◌, List, [], ◌∷◌, ◌++◌, length, drop, take, get_or, refl, sym, ◌∙◌, ap, arith, length-drop}
-use Rattle.std.specs.Prelude.{Some, is_some, Result, Ok, Err, bytes_eq}
+use Rattle.std.proofs.Common.{◌≡◌, ℕ, zero, suc, ◌+◌, ◌<◌, ◌≤◌, Bool, true, false, cond, ltb, leb, eqb, ◌&&◌, List, [], ◌∷◌, length, drop, take, get_or, refl, sym, ◌∙◌, ap, arith, length-drop}
+use Rattle.std.specs.Prelude.{Result, Ok, Err}
 use Rattle.std.proofs.lemmas.Bool.{ltb-false}
 use Rattle.ix_cid.specs.declared.varint.VarintFault.{VarintFault}
 use Rattle.ix_cid.specs.declared.varint.VarintFault.TheVariants as varints
 use Rattle.ix_cid.specs.Varint.{continued, number_of_groups, varint_at}
 use Rattle.ix_cid.specs.Cid.{cid_at}
-use Rattle.ix_walk.specs.Store.{Blocks, has_cid, position_behind, position_of}
+use Rattle.ix_walk.specs.Store.{Blocks}
 use Rattle.ix_car.specs.declared.reader.CarKind.{CarKind}
 use Rattle.ix_car.specs.declared.reader.CarKind.TheVariants.{Memory}
 use Rattle.ix_car.specs.Gives.{FailsAs}
@@ -98,19 +98,6 @@ pub GoesOn-last : (store : Blocks) (rest : List ℕ) (whole : Result Blocks Faul
 unfolding sections_at
 GoesOn-last store [] whole none so_far = sym (so_far 0 (omega arith))
 GoesOn-last store (x ∷ b) whole none so_far = absurd (omega (arith, none))
-
--- a CID has a place where the pairs have it
-is_some-position : (n : ℕ) (es : Blocks) (c : List ℕ) → is_some (position_behind n es c) ≡ has_cid es c
-is_some-position n [] c = refl
-is_some-position n (e ∷ es) c =
-    elim (bytes_eq e.0 c) as (λ b. is_some (cond b (Some n) (position_behind (n + 1) es c)) ≡ (b || has_cid es c)) [
-      | true ↦ refl
-      | false ↦ is_some-position (n + 1) es c
-    ]
-
--- a block whose CID has a place is left out
-pub with_block-known : (store : Blocks) (section : List ℕ × List ℕ) → is_some (position_of store section.0) ≡ true → with_block store section ≡ store
-with_block-known store section known = ap (λ t. cond t store (store ++ section ∷ [])) (sym (is_some-position 0 store section.0) ∙ known)
 
 -- where a definition's fault is another definition's too, a call fails as both
 pub FailsAs-along : {A B : Type 0} (kind : CarKind) (left : ℕ) (a : Result A Fault) (b : Result B Fault) → ((f : Fault) → a ≡ Err f → b ≡ Err f) → FailsAs kind left a → FailsAs kind left b

@@ -188,7 +188,7 @@ impl<'a, W: Write> Archive<'a, W> {
         if !is_sound(delivery.verdict) {
             return self.add_skip(alloc, delivery);
         }
-        match self.place_due(&delivery.visit.cid) {
+        match self.place_due(&delivery.visit) {
             Some(place) => self.add_section(delivery, place),
             None => self.add_repeat(delivery),
         }
@@ -204,12 +204,12 @@ impl<'a, W: Write> Archive<'a, W> {
         }
     }
 
-    // Where the block stands of the section that a kept sound delivery of this CID writes.
-    fn place_due(&self, cid: &Cid) -> Option<usize>
+    // Where the block stands of the section that a kept sound delivery of this visit writes.
+    fn place_due(&self, visit: &Visit) -> Option<usize>
         requires { self.now.failed ≡ [] }
-        ensures { result ≡ place_due self.now.store (kept self.now.deliveries) cid.now }
+        ensures { result ≡ place_due self.now.store (kept self.now.deliveries) visit.now.cid }
     {
-        match self.store.find(cid) {
+        match self.store.find_near(visit.block, &visit.cid) {
             Some(place) if !self.written.contains(&place) => Some(place),
             _ => None,
         }

@@ -1,8 +1,8 @@
 //! Reading CARv1 files.
 
-ghost use Rattle.std.specs.Prelude.{◌≡◌, ◌≤◌, [], length, IfErr, OnOk};
+ghost use Rattle.std.specs.Prelude.{◌≡◌, ◌≤◌, [], length, IfErr};
 ghost use Rattle.ix_walk.specs.Store.{Blocks};
-ghost use Rattle.ix_car.specs.Reading.{with_block, sections_at, blocks_of};
+ghost use Rattle.ix_car.specs.Reading.{sections_at, blocks_of};
 ghost use Rattle.ix_car.specs.Gives.{Gives};
 ghost use Rattle.ix_car.specs.Reads.{Reads};
 
@@ -13,9 +13,8 @@ mod tests;
 
 use crate::reader::header::header_at;
 use crate::reader::section::{Stop, section_at};
-use ix_cid::cid::Cid;
 use ix_walk::store::Store;
-use std::alloc::{AllocError, Global};
+use std::alloc::Global;
 use std::fmt;
 
 /// What is wrong with a CARv1 file.
@@ -104,7 +103,7 @@ fn store_of_sections(alloc: Global, sections: &[u8]) -> Result<Store, Stop>
     let mut store = Store::new(alloc);
     while !rest.is_empty() {
         let (cid, block, after) = section_at(alloc, rest)?;
-        if add_first(alloc, &mut store, cid, block).is_err() {
+        if store.add_copy(cid, block).is_err() {
             return Err(Stop {
                 kind: CarKind::Memory,
                 left: rest.len(),
@@ -113,15 +112,4 @@ fn store_of_sections(alloc: Global, sections: &[u8]) -> Result<Store, Stop>
         rest = after;
     }
     Ok(store)
-}
-
-// Adds a copy of a block, unless its CID is there.
-fn add_first(alloc: Global, store: &mut Store, cid: Cid, block: &[u8]) -> Result<(), AllocError>
-    ensures { OnOk result (store.new ≡ with_block store.old (cid, block.now)) }
-{
-    if store.find(&cid).is_none() {
-        let copy = Vec::from_slice(alloc, block)?;
-        store.add(cid, copy)?;
-    }
-    Ok(())
 }

@@ -4,6 +4,7 @@ ghost use Rattle.std.specs.Prelude.{◌≡◌, ◌<◌, ◌^◌, Ok, Err, Some, 
 
 use crate::parts::{Layout, numbered_length, split_parts};
 use crate::{base32, hexadecimal};
+use smallvec::SmallVec;
 use std::alloc::{AllocError, Global};
 use std::cmp::Ordering;
 use std::hash::{Hash, Hasher};
@@ -13,7 +14,8 @@ use std::marker::Model;
 /// and hashing are those of the bytes.
 #[derive(Debug, Drop)]
 pub struct Cid {
-    bytes: Vec<u8>,
+    // Those of a CIDv1 under SHA-256 stand in the value itself, without an allocation.
+    bytes: SmallVec<u8, 36>,
 }
 
 /// Why no CID stands at the front, or why a text is none.
@@ -77,7 +79,7 @@ impl Cid {
     {
         let _ = &self.bytes;
         Ok(Cid {
-            bytes: Vec::from_slice(alloc, self.bytes.as_slice())?,
+            bytes: SmallVec::from_slice(alloc, self.bytes.as_slice())?,
         })
     }
 
@@ -88,7 +90,7 @@ impl Cid {
     {
         let (_, rest) = split_parts(bytes)?;
         let length = bytes.len() - rest.len();
-        match Vec::from_slice(alloc, &bytes[..length]) {
+        match SmallVec::from_slice(alloc, &bytes[..length]) {
             Ok(bytes) => Ok((Cid { bytes }, length)),
             Err(_) => Err(CidFault::Memory),
         }
@@ -148,7 +150,10 @@ impl Cid {
         if numbered_length(bytes.as_slice())? < bytes.len() {
             return Err(CidFault::Rest);
         }
-        Ok(Cid { bytes })
+        match SmallVec::from_slice(alloc, bytes.as_slice()) {
+            Ok(bytes) => Ok(Cid { bytes }),
+            Err(_) => Err(CidFault::Memory),
+        }
     }
 
     /// The parts, which are read again from the bytes.

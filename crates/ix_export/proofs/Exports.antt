@@ -1,14 +1,13 @@
 -- What is exported of a root, from what was told of its job.
-use Rattle.std.proofs.Common.{◌≡◌, ℕ, List, [], ◌∷◌, refl, sym, ◌∙◌, ap, subst, Bool, true, false, true≢false, length, arith, ◌⊎◌, inl, inr, ◌++◌}
-use Rattle.std.specs.Prelude.{Option, Some, None, option_to_list, Ok, take, map}
+use Rattle.std.proofs.Common.{◌≡◌, ℕ, List, [], ◌∷◌, refl, sym, ◌∙◌, ap, subst, Bool, true, true≢false, length, arith, ◌++◌}
+use Rattle.std.specs.Prelude.{Option, Some, Ok, take}
 use Rattle.std.proofs.lemmas.List.{take_all}
 use Rattle.ix_walk.specs.Store.{Blocks}
 use Rattle.ix_walk.specs.JobMeaning.{JobMeaning}
 use Rattle.ix_car.specs.declared.sink.Delivery.{Delivery}
 use Rattle.ix_car.specs.declared.sink.End.{End}
 use Rattle.ix_car.specs.declared.sink.End.TheVariants.{Done, Limit, Memory, Write, Start}
-use Rattle.ix_car.specs.Events.{delivery, close}
-use Rattle.ix_car.specs.Faithful.{IsFaithful, EndFits}
+use Rattle.ix_car.specs.Faithful.{EndFits}
 use Rattle.ix_car.specs.Kept.{kept}
 use Rattle.ix_car.specs.Verified.{judged_visits}
 use Rattle.ix_car.specs.Archive.{archive_with}

@@ -1,11 +1,10 @@
 -- The matcher, as it is spelled.
 use Rattle.std.proofs.Common.{◌≡◌, List, [], ◌∷◌, ℕ, refl, sym, ◌∙◌, ap}
-use Rattle.std.specs.Prelude.{Result, Ok, Err, codes}
+use Rattle.std.specs.Prelude.{Result, Ok, codes}
 use Rattle.ix_cbor.specs.Data.{Data, map, no_entries, entry}
-use Rattle.ix_cbor.specs.Reading.{Fault, item_at, decoded}
+use Rattle.ix_cbor.specs.Reading.{item_at, decoded}
 use Rattle.ix_selector.specs.Pattern.{Pattern, matcher}
 use Rattle.ix_selector.specs.Reading.{selector_at, selector_of}
-use Rattle.ix_selector.specs.declared.fault.SelFault.{SelFault}
 
 abbrev matcher_bytes : List ℕ
 matcher_bytes = 0xa1 ∷ 0x61 ∷ 0x2e ∷ 0xa0 ∷ []

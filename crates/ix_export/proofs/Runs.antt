@@ -1,5 +1,5 @@
 -- What a run leaves of each job, from what its sink was told.
-use Rattle.std.proofs.Common.{◌≡◌, ℕ, suc, ◌+◌, take, drop, List, [], ◌∷◌, ◌++◌, refl, sym, ◌∙◌, ap, subst, map, length, ◌⊎◌, inl, inr}
+use Rattle.std.proofs.Common.{◌≡◌, ℕ, suc, ◌+◌, take, drop, List, [], ◌∷◌, ◌++◌, refl, sym, ◌∙◌, ap, subst, map, length, inl, inr}
 use Rattle.std.specs.Prelude.{Option, Some, None}
 use Rattle.std.specs.Io.KnownBytes.{Keeps}
 use Rattle.ix_walk.specs.Store.{Blocks}
@@ -7,12 +7,11 @@ use Rattle.ix_walk.specs.JobMeaning.{JobMeaning}
 use Rattle.ix_car.specs.declared.sink.Delivery.{Delivery}
 use Rattle.ix_car.specs.declared.sink.End.{End}
 use Rattle.ix_car.specs.declared.sink.End.TheVariants as ends
-use Rattle.ix_car.specs.Events.{Event, delivery, close, deliveries_of}
+use Rattle.ix_car.specs.Events.{delivery, close, deliveries_of}
 use Rattle.ix_car.specs.Faithful.{IsFaithful}
-use Rattle.ix_car.specs.Archive.{archive_of}
 use Rattle.ix_car.specs.ArchiveMeaning.{ArchiveMeaning, HasArchived, HasWritten, IsBegun, IsCountOf, events_of}
-use Rattle.ix_car.specs.Archived.{IsBeginning, IsArchived}
-use Rattle.ix_car.specs.Report.{skips_of, counts_of}
+use Rattle.ix_car.specs.Archived.{IsArchived}
+use Rattle.ix_car.specs.Report.{counts_of}
 use Rattle.ix_jobs.specs.declared.report.JobResult.{JobResult}
 use Rattle.ix_pipeline.specs.Headline.{EachDelivered, EachArchived, EachKept, EachFresh}
 use Rattle.std.proofs.Math.Seq.{take-append_seam}

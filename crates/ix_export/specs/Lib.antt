@@ -4,3 +4,4 @@ pub mod Input
 pub mod Command
 pub mod Prepare
 pub mod Run
+pub mod Failure

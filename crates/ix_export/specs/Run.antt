@@ -6,7 +6,7 @@ use Rattle.ix_walk.specs.JobMeaning.{JobMeaning}
 use Rattle.ix_car.specs.declared.sink.Delivery.{Delivery}
 use Rattle.ix_car.specs.declared.sink.End.{End}
 use Rattle.ix_car.specs.declared.sink.End.TheVariants as ends
-use Rattle.ix_car.specs.Events.{Event, delivery, close}
+use Rattle.ix_car.specs.Events.{delivery, close}
 use Rattle.ix_car.specs.Faithful.{IsFaithful}
 use Rattle.ix_car.specs.Archive.{archive_of}
 use Rattle.ix_car.specs.ArchiveMeaning.{ArchiveMeaning, HasArchived, HasWritten, IsBegun, IsCountOf}

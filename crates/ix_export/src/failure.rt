@@ -1,9 +1,14 @@
 //! Why the program ends early, and what it tells the user.
 
+ghost use Rattle.std.specs.Prelude.{◌≡◌, ◌↔◌, IsTrue};
+ghost use Rattle.std.specs.IoError.{error_kind};
+ghost use Rattle.ix_export.specs.declared.failure.Failure.TheVariants.{CannotRead, TooLarge, CannotWrite};
+ghost use Rattle.ix_export.specs.Failure.{IsWordsOf, Names, NamesFile};
+
 use crate::fault::{RunFault, fault_line};
-use clap::error::ErrorKind;
+use clap::error::ErrorKind as UsageKind;
 use std::alloc::{AllocError, AllocFailed, Global};
-use std::io;
+use std::io::{self, ErrorKind};
 
 /// The status of usage, of an input that is refused, and of an output that can't be made.
 const REFUSED: u8 = 2;
@@ -25,7 +30,9 @@ pub enum Failure {
 
 impl Failure {
     /// The arguments of the process can't be read.
-    pub fn of_words(error: &io::Error) -> Failure {
+    pub fn of_words(error: &io::Error) -> Failure
+        ensures { IsWordsOf (error_kind error.now ≡ ErrorKind.OutOfMemory) result }
+    {
         if is_want_of_memory(error) {
             Failure::Fault(RunFault::Memory)
         } else {
@@ -33,21 +40,30 @@ impl Failure {
         }
     }
 
-    pub fn cannot_read(alloc: Global, path: &str, error: &io::Error) -> Failure {
+    /// An input can't be read.
+    pub fn cannot_read(alloc: Global, path: &str, error: &io::Error) -> Failure
+        ensures { NamesFile CannotRead path.now (error_kind error.now ≡ ErrorKind.OutOfMemory) result }
+    {
         match String::from_str(alloc, path) {
             Ok(path) if !is_want_of_memory(error) => Failure::CannotRead(path),
             _ => Failure::Fault(RunFault::Memory),
         }
     }
 
-    pub fn cannot_write(alloc: Global, path: &str, error: &io::Error) -> Failure {
+    /// An output can't be made or written.
+    pub fn cannot_write(alloc: Global, path: &str, error: &io::Error) -> Failure
+        ensures { NamesFile CannotWrite path.now (error_kind error.now ≡ ErrorKind.OutOfMemory) result }
+    {
         match String::from_str(alloc, path) {
             Ok(path) if !is_want_of_memory(error) => Failure::CannotWrite(path),
             _ => Failure::Fault(RunFault::Memory),
         }
     }
 
-    pub fn too_large(alloc: Global, path: &str) -> Failure {
+    /// An input is too large.
+    pub fn too_large(alloc: Global, path: &str) -> Failure
+        ensures { Names TooLarge path.now result }
+    {
         match String::from_str(alloc, path) {
             Ok(path) => Failure::TooLarge(path),
             Err(_) => Failure::Fault(RunFault::Memory),
@@ -57,11 +73,12 @@ impl Failure {
     /// Tells the user, and answers the status.
     pub fn report<R: AllocGlobal + Eprint + Print>(&self, rt: &R) -> u8 {
         let told = match self {
-            Failure::Usage(error) => {
-                let told = error.print(rt);
-                let _ = told;
-                return if error.use_stderr() { REFUSED } else { 0 };
-            }
+            Failure::Usage(error) if error.use_stderr() => error.print(rt),
+            // The help was asked for.
+            Failure::Usage(error) => match error.print(rt) {
+                Ok(()) => return 0,
+                Err(_) => rt.eprintln("cannot write -"),
+            },
             Failure::Words => rt.eprintln("error: a word of the command is not UTF-8"),
             Failure::Fault(fault) => match fault_line(rt.alloc(), fault) {
                 Ok(line) => rt.eprintln(line.as_str()),
@@ -77,32 +94,55 @@ impl Failure {
     }
 }
 
-fn is_want_of_memory(error: &io::Error) -> bool {
-    matches!(error.kind(), io::ErrorKind::OutOfMemory)
+fn is_want_of_memory(error: &io::Error) -> bool
+    ensures { IsTrue result ↔ (error_kind error.now ≡ ErrorKind.OutOfMemory) }
+{
+    matches!(error.kind(), ErrorKind::OutOfMemory)
 }
 
 impl From<AllocError> for Failure {
+    ghost use Rattle.std.specs.Prelude.{◌≡◌};
+    ghost use Rattle.ix_export.specs.declared.failure.Failure.TheVariants.{Fault};
+    ghost use Rattle.ix_export.specs.declared.fault.RunFault.TheVariants.{Memory};
+
+    ghost from_gives = { λ _ failure. failure ≡ Fault Memory };
+
     fn from(_error: AllocError) -> Failure {
         Failure::Fault(RunFault::Memory)
     }
 }
 
 impl<T: Drop> From<AllocFailed<T>> for Failure {
+    ghost use Rattle.std.specs.Prelude.{◌≡◌};
+    ghost use Rattle.ix_export.specs.declared.failure.Failure.TheVariants.{Fault};
+    ghost use Rattle.ix_export.specs.declared.fault.RunFault.TheVariants.{Memory};
+
+    ghost from_gives = { λ _ failure. failure ≡ Fault Memory };
+
     fn from(_error: AllocFailed<T>) -> Failure {
         Failure::Fault(RunFault::Memory)
     }
 }
 
 impl From<RunFault> for Failure {
+    ghost use Rattle.std.specs.Prelude.{◌≡◌};
+    ghost use Rattle.ix_export.specs.declared.failure.Failure.TheVariants.{Fault};
+
+    ghost from_gives = { λ fault failure. failure ≡ Fault fault };
+
     fn from(fault: RunFault) -> Failure {
         Failure::Fault(fault)
     }
 }
 
 impl From<clap::Error> for Failure {
+    ghost use Rattle.ix_export.specs.Failure.{IsUsageOf};
+
+    ghost from_gives = { λ error failure. IsUsageOf error failure };
+
     fn from(error: clap::Error) -> Failure {
         match error.kind() {
-            ErrorKind::OutOfMemory => Failure::Fault(RunFault::Memory),
+            UsageKind::OutOfMemory => Failure::Fault(RunFault::Memory),
             _ => Failure::Usage(error),
         }
     }

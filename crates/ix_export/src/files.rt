@@ -1,6 +1,7 @@
 //! Files, as they are read and made.
 
-ghost use Rattle.std.specs.Prelude.{◌≡◌, length, IfOk};
+ghost use Rattle.std.specs.Prelude.{◌≡◌, ◌≤◌, length, IfOk, IfErr, IfSome};
+ghost use Rattle.ix_export.specs.Failure.{IsInputFailure, IsOutputFailure};
 
 use crate::failure::Failure;
 use crate::fault::RunFault;
@@ -16,14 +17,42 @@ const LARGEST_INPUT: u64 = 1 << 30;
 /// How many bytes of an output wait in memory.
 const BUFFER: usize = 16 * 1024;
 
+/// A file that is always there, and has no bytes.
+const NOTHING: &str = "/dev/null";
+
+/// What stands in for the standard streams that are closed.
+#[derive(Drop)]
+pub struct StandIns<F> {
+    _input: Option<F>,
+    _output: Option<F>,
+    _error: Option<F>,
+}
+
+/// Stands in for the standard streams that are closed. A file that is opened takes the lowest number
+/// that is free, so without this what is printed could end in an output. What stands in can't be
+/// written, so a stream that is closed stays one that refuses what is printed.
+pub fn stand_in<R: Files>(rt: &R) -> StandIns<R::File> {
+    StandIns {
+        _input: fs::open(rt, NOTHING).ok(),
+        _output: fs::open(rt, NOTHING).ok(),
+        _error: fs::open(rt, NOTHING).ok(),
+    }
+}
+
 /// The bytes of a file, whose size is judged before it is read.
-pub fn read_file<R: Files + AllocGlobal>(rt: &R, path: &str) -> Result<Vec<u8>, Failure> {
+pub fn read_file<R: Files + AllocGlobal>(rt: &R, path: &str) -> Result<Vec<u8>, Failure>
+    ensures size { IfOk result (λ input. length input.items ≤ 1073741824) }
+    ensures refused { IfErr result (λ failure. IsInputFailure path.now failure) }
+{
     let alloc = rt.alloc();
-    let file = fs::open(rt, path).map_err(|error| Failure::cannot_read(alloc, path, &error))?;
-    let metadata = file
-        .metadata()
-        .map_err(|error| Failure::cannot_read(alloc, path, &error))?;
-    let size = metadata.len();
+    let file = match fs::open(rt, path) {
+        Ok(file) => file,
+        Err(error) => return Err(Failure::cannot_read(alloc, path, &error)),
+    };
+    let size = match file.metadata() {
+        Ok(metadata) => metadata.len(),
+        Err(error) => return Err(Failure::cannot_read(alloc, path, &error)),
+    };
     if size > LARGEST_INPUT {
         return Err(Failure::too_large(alloc, path));
     }
@@ -37,7 +66,11 @@ pub fn read_all<R: Read + Drop>(
     reader: R,
     expected: usize,
     path: &str,
-) -> Result<Vec<u8>, Failure> {
+) -> Result<Vec<u8>, Failure>
+    ensures whole { IfOk result (λ input. IfSome (R.remaining reader) (λ bytes. input.items ≡ bytes)) }
+    ensures size { IfOk result (λ input. length input.items ≤ 1073741824) }
+    ensures refused { IfErr result (λ failure. IsInputFailure path.now failure) }
+{
     let mut input = Vec::with_capacity(alloc, expected)?;
     match reader.take(LARGEST_INPUT + 1).read_to_end(&mut input) {
         Ok(_) if input.len() as u64 > LARGEST_INPUT => Err(Failure::too_large(alloc, path)),
@@ -52,22 +85,22 @@ pub fn make_outputs<R: Files + AllocGlobal>(
     folder: &str,
     jobs: &[Job],
 ) -> Result<Vec<BufWriter<R::File>>, Failure>
-    ensures { IfOk result (λ outputs. length outputs.items ≡ length jobs.now) }
+    ensures each { IfOk result (λ outputs. length outputs.items ≡ length jobs.now) }
+    ensures refused { IfErr result (λ failure. IsOutputFailure folder.now jobs.now failure) }
 {
     let alloc = rt.alloc();
     let mut outputs = Vec::with_capacity(alloc, jobs.len())?;
     for job in jobs {
         let name = job.name();
         let path = format!(in alloc; "{folder}/{name}.car")?;
-        let file = fs::create(rt, path.as_str()).map_err(|error| Failure::cannot_write(
-            alloc,
-            path.as_str(),
-            &error,
-        ))?;
-        let output = BufWriter::with_capacity(alloc, BUFFER, file).map_err(|_| Failure::Fault(
-            crate::fault::RunFault::Memory,
-        ))?;
-        outputs.push(output)?;
+        let file = match fs::create(rt, path.as_str()) {
+            Ok(file) => file,
+            Err(error) => return Err(Failure::cannot_write(alloc, path.as_str(), &error)),
+        };
+        match BufWriter::with_capacity(alloc, BUFFER, file) {
+            Ok(output) => outputs.push(output)?,
+            Err(_) => return Err(Failure::Fault(RunFault::Memory)),
+        }
     }
     Ok(outputs)
 }

@@ -16,7 +16,7 @@ mod words;
 use clap::ArgMatches;
 use command::{printed_root, root_of_text};
 use failure::Failure;
-use files::{make_outputs, read_all, read_file};
+use files::{make_outputs, read_all, read_file, stand_in};
 use ix_pipeline::plan::Plan;
 use prepare::prepare;
 use run::run;
@@ -70,6 +70,7 @@ fn export_jobs<'a, R: AllocGlobal + Files + Print>(
     words: &ArgMatches<'a>,
 ) -> Result<u8, Failure> {
     let alloc = rt.alloc();
+    let standing = stand_in(rt);
     let car = read_file(rt, words.get_str("blocks").unwrap_or(""))?;
     let file = read_file(rt, words.get_str("jobs").unwrap_or(""))?;
     let (store, jobs) = prepare(alloc, car.as_slice(), file.as_slice())?;
@@ -84,6 +85,7 @@ fn export_jobs<'a, R: AllocGlobal + Files + Print>(
     let verifiers = words.get_one("verifiers").unwrap_or(4);
     let out = run(rt, alloc, &store, &jobs, writers, verifiers, plan)?;
     print_all(rt, out.report.as_slice())?;
+    drop(standing);
     Ok(out.status)
 }
 

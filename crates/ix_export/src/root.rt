@@ -10,6 +10,7 @@ use crate::run::run_jobs;
 use ix_car::reader::read_car;
 use ix_car::sink::End;
 use ix_cbor::codec::decode;
+use ix_check::check::ShaCheck;
 use ix_cid::cid::Cid;
 use ix_jobs::report::JobResult;
 use ix_selector::selector::Selector;
@@ -32,8 +33,15 @@ pub fn export_root(alloc: Global, car: &[u8], root: Cid) -> Result<Vec<u8>, RunF
     };
     let job = root_job(alloc, root)?;
     let writers = vec![in alloc; Vec::new(alloc)]?;
+    let mut check = ShaCheck::new(alloc);
     // A vector takes what it is given while there is memory.
-    let Ok((results, mut writers)) = run_jobs(alloc, &store, slice::from_ref(&job), writers) else {
+    let Ok((results, mut writers)) = run_jobs(
+        alloc,
+        &store,
+        slice::from_ref(&job),
+        writers,
+        &mut check,
+    ) else {
         return Err(RunFault::Memory);
     };
     if !is_whole(results.as_slice()) {

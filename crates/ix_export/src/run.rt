@@ -1,6 +1,6 @@
 //! A run: every job's archive, the report and the status.
 
-ghost use Rattle.std.specs.Prelude.{◌≡◌, ◌≤◌, length, IfOk, IfErr};
+ghost use Rattle.std.specs.Prelude.{◌≡◌, ◌≤◌, [], length, IfOk, IfErr};
 ghost use Rattle.std.specs.Arc.{arc_value};
 ghost use Rattle.std.specs.Io.KnownBytes.{Keeps};
 ghost use Rattle.ix_export.specs.declared.fault.RunFault.TheVariants.{Memory};
@@ -9,7 +9,7 @@ ghost use Rattle.ix_export.specs.Run.{HasRun, EachRun, IsRunRefusal, EachBegun, 
 use crate::fault::RunFault;
 use ix_car::archive::{Archive, ArchiveNew};
 use ix_car::sink::End;
-use ix_check::check::ShaCheck;
+use ix_check::check::{Check, ShaCheck};
 use ix_jobs::report::{JobResult, report, status};
 use ix_pipeline::plain::export_plain;
 use ix_pipeline::plan::Plan;
@@ -46,7 +46,8 @@ pub fn run<R, W: Write + Drop>(
     ensures refused { IfErr result (λ fault. IsRunRefusal (arc_value jobs.now).items fault) }
 {
     let jobs = jobs.as_slice();
-    let (results, writers) = run_jobs(alloc, store, jobs, writers)?;
+    let mut check = ShaCheck::new(alloc);
+    let (results, writers) = run_jobs(alloc, store, jobs, writers, &mut check)?;
     let report = report(alloc, jobs, results.as_slice())?;
     let status = status(results.as_slice());
     Ok(RunOut {
@@ -57,20 +58,21 @@ pub fn run<R, W: Write + Drop>(
 }
 
 /// Runs the jobs over the store on one thread: what was told of each, and its writer.
-pub fn run_jobs<W: Write + Drop>(
+pub fn run_jobs<W: Write + Drop, C: Check>(
     alloc: Global,
     store: &Store,
     jobs: &[Job],
     writers: Vec<W>,
+    check: &mut C,
 ) -> Result<(Vec<JobResult>, Vec<W>), RunFault>
+    requires unused { C.checked check.old ≡ [] }
     requires writers { length writers.items ≡ length jobs.now }
     requires jobs { length jobs.now ≤ 1000 }
     ensures ran { IfOk result (λ r. EachRun W.contents store.now 0 jobs.now writers.items r.0.items r.1.items) }
     ensures refused { IfErr result (λ fault. IsRunRefusal jobs.now fault) }
 {
     let mut archives = begun(alloc, store, jobs, writers)?;
-    let mut check = ShaCheck::new(alloc);
-    let ends = export_plain(alloc, store, jobs, archives.as_mut_slice(), &mut check)?;
+    let ends = export_plain(alloc, store, jobs, archives.as_mut_slice(), check)?;
     ended(alloc, archives, ends.as_slice())
 }
 

@@ -1,12 +1,16 @@
+//! The root export, and the lines of refusals.
+
+mod memory;
+mod runs;
+mod worked;
+
 use crate::command::printed_root;
 use crate::fault::{RunFault, fault_line};
 use crate::prepare::prepare;
 use crate::root::export_root;
-use crate::run::run;
 use ix_car::reader::{CarFault, CarKind};
 use ix_cid::cid::{Cid, CidFault};
 use ix_jobs::jobs::{JobsFault, JobsKind};
-use ix_pipeline::plan::Plan;
 use std::alloc::Global;
 use std::process::Abort;
 use std::test::Fail;
@@ -123,7 +127,55 @@ fn car_faults(rt: HostRuntime) -> Result<(), Fail> {
             return Ok(());
         };
         assert!(rt; fault == CarFault { kind, place }, "{fault:?} for {kind:?}");
+        // A fault of the file of blocks comes before one of the job file.
+        let made = prepare(alloc, car.as_slice(), b"a b");
+        assert!(rt;
+            matches!(made, Err(RunFault::Car(told)) if told == fault),
+            "{kind:?}"
+        );
     }
+    Ok(())
+}
+
+#[test]
+fn job_faults(rt: HostRuntime) -> Result<(), Fail> {
+    let alloc = rt.alloc();
+    let car = bytes_of(alloc, &[HEADER])?;
+    let root = "bafkreif2pall7dybz7vecqka3zo24irdwabwdi4wc55jznaq75q7eaavvu";
+    let twice = format!(in alloc; "a {root} 10 a1612ea0\na {root} 10 a1612ea0\n")?;
+    let cases = [
+        (twice.as_str(), "jobs: repeated at line 2"),
+        ("a b\n", "jobs: fields at line 1"),
+        ("a x 10 a1612ea0\n", "jobs: root at line 1"),
+    ];
+    for (file, line) in cases {
+        expect_refused(&rt, alloc, car.as_slice(), file, line)?;
+    }
+    let cases = [
+        ("A", "10 a1612ea0", "jobs: name at line 1"),
+        ("a", "0 a1612ea0", "jobs: limit at line 1"),
+        ("a", "01 a1612ea0", "jobs: limit at line 1"),
+        ("a", "10 a1612ea", "jobs: hex at line 1"),
+        ("a", "10 a1612ea000", "jobs: selector at line 1"),
+    ];
+    for (name, rest, line) in cases {
+        let file = format!(in alloc; "{name} {root} {rest}\n")?;
+        expect_refused(&rt, alloc, car.as_slice(), file.as_str(), line)?;
+    }
+    Ok(())
+}
+
+// `prepare` refuses the files, and this is the line that is told.
+fn expect_refused(
+    rt: &impl Abort,
+    alloc: Global,
+    car: &[u8],
+    file: &str,
+    line: &str,
+) -> Result<(), Fail> {
+    let fault = prepare(alloc, car, file.as_bytes()).err();
+    let told = fault_line(alloc, &fault.ok_or("not refused")?)?;
+    assert_eq!(rt; told.as_str(), line);
     Ok(())
 }
 
@@ -169,56 +221,5 @@ fn blanks_and_capitals(rt: HostRuntime) -> Result<(), Fail> {
     assert!(rt; made.as_str().len() == 119);
     let made = printed_root(alloc, cid_of(alloc, ABC)?, b"1g");
     assert!(rt; matches!(made, Err(RunFault::Hex)));
-    Ok(())
-}
-
-// A list of one link, and its CID: the file and the jobs of the test below.
-const LIST: &str =
-    "81d82a58250001551220ba7816bf8f01cfea414140de5dae2223b00361a396177a9cb410ff61f20015ad";
-
-const LIST_CID: &str = "0171122021e288dd95d20c03227dc4c449b3a8885fcb420f614135142435f3b33b428832";
-
-const JOBS: &str = "a bafyreibb4ken3fosbqbse7oeyre3hkeil7fued3bie2rijbv6oztwquigi 100 \
-    a16152a2616ca1646e6f6e65a0623a3ea16161a1613ea16140a0\n# the same, too short\nb \
-    bafyreibb4ken3fosbqbse7oeyre3hkeil7fued3bie2rijbv6oztwquigi 1 \
-    a16152a2616ca1646e6f6e65a0623a3ea16161a1613ea16140a0\n";
-
-#[test]
-fn jobs_with_their_report(rt: HostRuntime) -> Result<(), Fail> {
-    let alloc = rt.alloc();
-    let car = bytes_of(alloc, &[HEADER, "4e", LIST_CID, LIST, "27", ABC, "616263"])?;
-    let (store, jobs) = prepare(alloc, car.as_slice(), JOBS.as_bytes())?;
-    let mut writers = Vec::new(alloc);
-    writers.push(Vec::new(alloc))?;
-    writers.push(Vec::new(alloc))?;
-    if writers.len() != jobs.len() {
-        assert!(rt; false, "two jobs were wanted");
-        return Ok(());
-    }
-    let plan = Plan {
-        walkers: 2,
-        queue: 256,
-        lane: 64,
-    };
-    let out = run(&rt, alloc, &store, &jobs, writers, 2, plan)?;
-    assert_eq!(rt; out.status, 4);
-    assert_eq!(rt;
-        out.report.as_slice(),
-        b"a done visits=2 kept=2 sections=2 bytes=178\nb limit visits=1 kept=1 sections=1 bytes=138\ntotal jobs=2 done=1 skips=0\n".as_slice()
-    );
-    let [before, root, behind] = header_of(LIST_CID);
-    let whole = bytes_of(
-        alloc,
-        &[
-            before, root, behind, "4e", LIST_CID, LIST, "27", ABC, "616263",
-        ],
-    )?;
-    assert!(rt; out.writers.len() == 2);
-    assert!(rt;
-        out.writers
-            .first()
-            .is_some_and(|first| first.as_slice() == whole.as_slice())
-    );
-    assert!(rt; out.writers.last().is_some_and(|last| last.len() == 138));
     Ok(())
 }

@@ -1,5 +1,5 @@
 -- A store with one pair more, and its map.
-use Rattle.std.proofs.Common.{◌≡◌, ℕ, ◌+◌, Bool, true, false, ◌||◌, cond, List, [], ◌∷◌, ◌++◌, length, ◌<◌, map, get_or, slice_get, option_map, Some, None, Result, Ok, Err, OnOk, is_err, bytes_eq, refl, sym, ap, subst, ◌∙◌, zero-add, arith, inl, inr}
+use Rattle.std.proofs.Common.{◌≡◌, ℕ, zero, suc, ◌+◌, Bool, true, false, ◌||◌, cond, List, [], ◌∷◌, ◌++◌, length, ◌<◌, map, get_or, slice_get, option_map, Some, None, Result, Ok, Err, OnOk, is_err, bytes_eq, refl, sym, ap, subst, ◌∙◌, zero-add, arith, inl, inr}
 use Rattle.std.specs.Option.{is_some}
 use Rattle.std.specs.BTreeMap.{BTreeMap, get, Updates}
 use Rattle.std.specs.Cmp.Lexicographic.{slice_cmp}
@@ -8,7 +8,8 @@ use Rattle.std.proofs.lemmas.Bool.{false≢true, cases_Bool, false_from_ne_true}
 use Rattle.std.proofs.lemmas.Slice.Eq.{bytes_eq-Decides}
 use Rattle.std.proofs.lemmas.Map.Text.{is_eq-slice_cmp}
 use Rattle.std.proofs.lemmas.List.{length-map, map-append}
-use Rattle.std.proofs.lemmas.Option.{slice_get-map, slice_get_read}
+use Rattle.std.proofs.lemmas.Option.{none-some, get_or_from_slice_get, slice_get-map, slice_get_read}
+use Rattle.std.proofs.Math.Bool.{or-true}
 use Rattle.ix_walk.specs.declared.store.Entry.{Entry}
 use Rattle.ix_walk.specs.Store.{Blocks, has_cid, HasDistinctCids, position_behind, position_of, IsIndexed}
 
@@ -84,6 +85,22 @@ indexed-push m n es k b place h new at updates = record {
       ∙ position-push 0 es k b c new;
 }
 
+-- the pairs have the CID of each of them
+has_cid-at : (i : ℕ) (es : Blocks) (e : List ℕ × List ℕ) (c : List ℕ) → slice_get es i ≡ Some e → bytes_eq e.0 c ≡ true → has_cid es c ≡ true
+has_cid-at i [] e c at same = absurd (none-some e at)
+has_cid-at zero (x ∷ es) e c at same = ap (λ y. y || has_cid es c) (ap (λ (p : List ℕ × List ℕ). bytes_eq p.0 c) (get_or_from_slice_get (x ∷ es) 0 e e at) ∙ same)
+has_cid-at (suc i) (x ∷ es) e c at same = ap (λ y. bytes_eq x.0 c || y) (has_cid-at i es e c at same) ∙ or-true (bytes_eq x.0 c)
+
+-- a pair of distinct CIDs stands where its CID does
+position-at : (n i : ℕ) (es : Blocks) (e : List ℕ × List ℕ) (c : List ℕ) → HasDistinctCids es → slice_get es i ≡ Some e → bytes_eq e.0 c ≡ true → position_behind n es c ≡ Some (n + i)
+position-at n i [] e c h at same = absurd (none-some e at)
+position-at n zero (x ∷ es) e c h at same =
+    let first : bytes_eq x.0 c ≡ true = ap (λ (p : List ℕ × List ℕ). bytes_eq p.0 c) (get_or_from_slice_get (x ∷ es) 0 e e at) ∙ same in
+    ap (λ y. cond y (Some n) (position_behind (n + 1) es c)) first ∙ ap Some (omega arith)
+position-at n (suc i) (x ∷ es) e c h at same =
+    let apart : bytes_eq x.0 c ≡ false = false_from_ne_true (bytes_eq x.0 c) (λ first. false≢true (sym h.0 ∙ has_cid-at i es e x.0 at ((bytes_eq-Decides e.0 x.0).1 ((bytes_eq-Decides e.0 c).0 same ∙ sym ((bytes_eq-Decides x.0 c).0 first))))) in
+    ap (λ y. cond y (Some n) (position_behind (n + 1) es c)) apart ∙ position-at (n + 1) i es e c h.1 at same ∙ ap Some (omega arith)
+
 -- what a look-up in the map tells of the list
 pub has_cid-by_key : (m : BTreeMap (List ℕ) ℕ) (es now : Blocks) (c : List ℕ) (r b : Bool) → IsIndexed m es → es ≡ now → r ≡ is_some (get (slice_cmp nat_cmp) m c) → r ≡ b → has_cid now c ≡ b
 has_cid-by_key m es now c r b h is found answer =
@@ -94,14 +111,6 @@ pub indexed-added : (m n : BTreeMap (List ℕ) ℕ) (es now later : Blocks) (k k
 indexed-added m n es now later k key b place h is new same at updates longer =
     subst (λ (l : Blocks). IsIndexed n l) (sym longer)
     (indexed-push m n es k b place h (ap (λ l. has_cid l k) is ∙ new) (at ∙ ap length (sym is)) (subst (λ (x : List ℕ). Updates (slice_cmp nat_cmp) m n x (Some place)) same updates))
-
--- the pairs once a new CID is added
-pub blocks-added : (es now later : Blocks) (k block bytes : List ℕ) → later ≡ es ++ (k, block) ∷ [] → es ≡ now → block ≡ bytes → has_cid now k ≡ false → later ≡ cond (has_cid now k) now (now ++ (k, bytes) ∷ [])
-blocks-added es now later k block bytes longer is same new =
-    longer
-    ∙ ap (λ (l : Blocks). l ++ (k, block) ∷ []) is
-    ∙ ap (λ (b : List ℕ). now ++ (k, b) ∷ []) same
-    ∙ sym (ap (λ t. cond t now (now ++ (k, bytes) ∷ [])) new)
 
 -- an entry as a pair
 abbrev pub pair : Entry → List ℕ × List ℕ
@@ -124,6 +133,13 @@ block-at entries now place e r is within at same =
     ∙ slice_get-map block (map pair entries) place
     ∙ ap (λ o. option_map block o) found
     ∙ ap Some (sym same)
+
+-- the place of the CID of the entry there
+pub position-there : (entries : List Entry) (now : Blocks) (place : ℕ) (e : Entry) (c : List ℕ) → HasDistinctCids (map pair entries) → map pair entries ≡ now → slice_get entries place ≡ Some e → bytes_eq e.cid c ≡ true → position_of now c ≡ Some place
+position-there entries now place e c h is at same =
+    ap (λ (l : Blocks). position_of l c) (sym is)
+    ∙ position-at 0 place (map pair entries) (pair e) c h (slice_get-map pair entries place ∙ ap (λ o. option_map pair o) at) same
+    ∙ ap Some (zero-add place)
 
 -- what holds on Ok holds where there is no Err
 pub holds-at_ok : {T E P : Type 0} (r : Result T E) → OnOk r P → is_err r ≡ false → P

@@ -1,6 +1,6 @@
 //! Blocks under their CIDs.
 
-ghost use Rattle.std.specs.Prelude.{◌≡◌, ◌<◌, [], ◌∷◌, ◌++◌, length, map, slice_get, Some, IfOk, OnOk, OnErr, not, ◌==◌, if◌then◌else◌};
+ghost use Rattle.std.specs.Prelude.{◌≡◌, ◌<◌, [], ◌∷◌, ◌++◌, length, map, slice_get, Some, true, false, IfOk, OnOk, OnErr, not, ◌==◌, if◌then◌else◌};
 ghost use Rattle.ix_walk.specs.Store.{has_cid, position_of};
 
 use ix_cbor::octets::Octets;
@@ -53,9 +53,33 @@ impl Store {
         ensures added { OnOk result (self.new ≡ (if has_cid self.old cid then self.old else self.old ++ (cid, bytes.items) ∷ [])) }
         ensures err { OnErr result (self.new ≡ self.old) }
     {
-        if self.index.contains_key(&cid) {
+        if self.has(&cid) {
             return Ok(false);
         }
+        self.add_new(cid, bytes)?;
+        Ok(true)
+    }
+
+    /// Adds a copy of a block, unless its CID is there: then nothing is copied.
+    pub fn add_copy(&mut self, cid: Cid, block: &[u8]) -> Result<bool, AllocError>
+        ensures answer { IfOk result (λ added. added ≡ not (has_cid self.old cid)) }
+        ensures added { OnOk result (self.new ≡ (if has_cid self.old cid then self.old else self.old ++ (cid, block.now) ∷ [])) }
+        ensures err { OnErr result (self.new ≡ self.old) }
+    {
+        let is_new = !self.has(&cid);
+        if is_new {
+            let copy = Vec::from_slice(self.alloc, block)?;
+            self.add_new(cid, copy)?;
+        }
+        Ok(is_new)
+    }
+
+    // Adds a block whose CID isn't there.
+    fn add_new(&mut self, cid: Cid, bytes: Vec<u8>) -> Result<(), AllocError>
+        requires { has_cid self.old cid ≡ false }
+        ensures added { OnOk result (self.new ≡ self.old ++ (cid, bytes.items) ∷ []) }
+        ensures err { OnErr result (self.new ≡ self.old) }
+    {
         let key = cid.try_clone(self.alloc)?;
         let block = Octets::new(bytes);
         let place = self.len();
@@ -64,7 +88,14 @@ impl Store {
             let _ = self.entries.pop();
             return Err(AllocError);
         }
-        Ok(true)
+        Ok(())
+    }
+
+    // Whether the CID is there.
+    fn has(&self, cid: &Cid) -> bool
+        ensures { result ≡ has_cid self.now cid.now }
+    {
+        self.index.contains_key(cid)
     }
 
     /// Where the block of a CID stands.
@@ -72,6 +103,27 @@ impl Store {
         ensures { result ≡ position_of self.now cid.now }
     {
         self.index.get(cid).copied()
+    }
+
+    /// Where the block of a CID stands. The place that is guessed is looked at first, so that a good
+    /// guess saves the search.
+    pub fn find_near(&self, guess: Option<usize>, cid: &Cid) -> Option<usize>
+        ensures { result ≡ position_of self.now cid.now }
+    {
+        match guess {
+            Some(place) if self.has_at(place, cid) => Some(place),
+            _ => self.find(cid),
+        }
+    }
+
+    // Whether the block of a CID stands at a place.
+    fn has_at(&self, place: usize, cid: &Cid) -> bool
+        ensures { result ≡ true → position_of self.now cid.now ≡ Some place }
+    {
+        match self.entries.get(place) {
+            Some(entry) => entry.cid == *cid,
+            None => false,
+        }
     }
 
     /// The block at a place.

@@ -21,7 +21,7 @@ loop-rest-preserved c =
     let whole = sections_at (length c.args.sections.now) [] c.args.sections.now in
     let some : 0 < length c.loop-rest.rest.now = search rules in
     let s : (List ℕ × List ℕ) × List ℕ = ((c.in_ok-cid.cid, c.in_ok-cid.block.now), c.in_ok-cid.after.now) in
-    let added : c.add_first.new.store ≡ with_block c.loop-rest.store s.0 = holds-at_ok c.add_first.result c.add_first.ensures (sym c.is_err.ensures.value ∙ c.if-is_err.false) in
+    let added : c.add_copy.new.self ≡ with_block c.loop-rest.store s.0 = holds-at_ok c.add_copy.result c.add_copy.ensures.added (sym c.is_err.ensures.value ∙ c.if-is_err.false) in
     record {
       within = omega (arith, c.in_ok-cid.ensures.shorter);
       goes_on = rw added (GoesOn-more c.loop-rest.store c.loop-rest.rest.now whole s some c.in_ok-cid.ensures.reads c.loop-rest.invariant.goes_on);

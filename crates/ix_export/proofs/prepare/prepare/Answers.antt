@@ -1,4 +1,4 @@
-use Rattle.std.proofs.Common.{◌≤◌, length, subst, sym, ◌≡◌, Vec, Global, ap}
+use Rattle.std.proofs.Common.{◌≤◌, length, subst, sym}
 use Rattle.ix_export.proofs.JobNumbers.{few_jobs}
 use Rattle.ix_export.proofs.prepare.prepare.Goals as goal
 

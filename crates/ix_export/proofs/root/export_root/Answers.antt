@@ -1,4 +1,4 @@
-use Rattle.std.proofs.Common.{◌≡◌, sym, ◌∙◌, ap, ℕ, Vec, Global, refl}
+use Rattle.std.proofs.Common.{sym, ◌∙◌, ap, ℕ, Vec, Global, refl}
 use Rattle.std.specs.Prelude.{Some}
 use Rattle.ix_export.specs.Root.{is_whole}
 use Rattle.ix_export.proofs.Exports.{exported_by}

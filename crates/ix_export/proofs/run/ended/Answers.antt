@@ -5,7 +5,7 @@ use Rattle.std.specs.Vec.Iter.{into_iter_items}
 use Rattle.std.proofs.lemmas.List.{take_more, append_assoc}
 use Rattle.ix_car.specs.declared.sink.End.TheVariants.{Done}
 use Rattle.ix_car.specs.ArchiveMeaning.{ArchiveMeaning}
-use Rattle.ix_export.specs.Run.{IsEnded, IsEndOf}
+use Rattle.ix_export.specs.Run.{IsEnded}
 use Rattle.ix_export.proofs.Runs.{EachEnded-more}
 use Rattle.ix_export.proofs.Turns.{room, one_longer}
 use Rattle.ix_export.proofs.run.ended.Goals as goal

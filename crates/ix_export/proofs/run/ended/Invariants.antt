@@ -1,4 +1,4 @@
-use Rattle.std.proofs.Common.{◌≡◌, ◌≤◌, length, ℕ, ◌++◌}
+use Rattle.std.proofs.Common.{◌≡◌, length, ◌++◌}
 use Rattle.std.specs.Prelude.{take}
 use Rattle.std.specs.Vec.Iter.{into_iter_items}
 use Rattle.ix_export.specs.Run.{EachEnded}

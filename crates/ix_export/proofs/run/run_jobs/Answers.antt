@@ -1,9 +1,7 @@
-use Rattle.std.proofs.Common.{◌≡◌, sym, ◌∙◌, ap, subst, length, List, Vec, Global, ◌++◌}
-use Rattle.std.specs.Prelude.{take, drop}
-use Rattle.ix_car.specs.ArchiveMeaning.{ArchiveMeaning, HasArchived, events_of}
+use Rattle.std.proofs.Common.{sym, ◌∙◌, ap, subst, length}
+use Rattle.ix_car.specs.ArchiveMeaning.{HasArchived, events_of}
 use Rattle.ix_pipeline.specs.Headline.{EachFresh, EachKept}
-use Rattle.ix_jobs.specs.declared.report.JobResult.{JobResult}
-use Rattle.ix_export.specs.Run.{EachEnded, EachRun}
+use Rattle.ix_export.specs.Run.{EachEnded}
 use Rattle.ix_export.proofs.Turns.{if_ok}
 use Rattle.ix_export.proofs.Runs.{begun-length, begun-fresh, delivered-length, kept-length, whole_again, runs}
 use Rattle.ix_export.proofs.run.run_jobs.Goals as goal

@@ -5,7 +5,7 @@ use Rattle.ix_cid.specs.CidText.{cid_of_text}
 use Rattle.ix_cid.specs.Gives.{Fails}
 use Rattle.ix_cid.proofs.Texts.{length_at, text-fails, text-rest, text-whole}
 use Rattle.ix_cid.proofs.cid.Cid.from_text.Goals as goal
-use Rattle.ix_cid.proofs.cid.Cid.from_text.Goals.{In-Some-eq98-default, Else-branch-len}
+use Rattle.ix_cid.proofs.cid.Cid.from_text.Goals.{In-Some-eq98-default, In-Ok}
 
 -- the text begins with its multibase
 text_begins : (c : In-Some-eq98-default) → c.args.text.now ≡ 98 ∷ c.in-Some-eq98-default.letters.now
@@ -33,15 +33,16 @@ returns-then-branch-len c =
     }
 
 -- where the parts are as long as the bytes, these are the CID
-whole : (c : Else-branch-len) → IsCid c.in_ok-bytes.bytes.items × (cid_of_text c.args.text.now ≡ Ok c.in_ok-bytes.bytes.items)
+whole : (c : In-Ok) → IsCid c.in-Ok.bytes.items × (cid_of_text c.args.text.now ≡ Ok c.in-Ok.bytes.items)
 whole c =
     let bytes = c.in_ok-bytes.bytes.items in
     let n = c.in_ok-numbered_length.field-0 in
     let size : length_at bytes ≡ Ok n = ap length_at (sym c.as_slice.ensures.value) ∙ c.in_ok-numbered_length.ensures.exact in
-    text-whole c.args.text.now c.in-Some-eq98-default.letters.now bytes (text_begins (goal.at.returns c).In-Some-eq98-default) c.in_ok-bytes.ensures n size (omega (arith, c.in_ok-bytes.bytes.ok))
+    let found = text-whole c.args.text.now c.in-Some-eq98-default.letters.now bytes (text_begins (goal.at.invariant_of-result c).In-Some-eq98-default) c.in_ok-bytes.ensures n size (omega (arith, c.in_ok-bytes.bytes.ok)) in
+    subst (λ b. IsCid b × (cid_of_text c.args.text.now ≡ Ok b)) (sym (c.in-Ok.ensures.ok ∙ c.as_slice-2.ensures.value)) found
 
 pub invariant_of-result : goal.invariant_of-result
 invariant_of-result c = (whole c).0
 
-pub returns : goal.returns
-returns c = record { exact = (whole c).1 }
+pub returns-in-Ok : goal.returns-in-Ok
+returns-in-Ok c = record { exact = (whole (goal.at.returns-in-Ok c).In-Ok).1 }

@@ -8,4 +8,4 @@ overflow_sub-length c = rest_within 2 parts_at parts_at-reads c.args.bytes.now _
 
 pub invariant_of-result : goal.invariant_of-result
 invariant_of-result c =
-    subst IsCid (sym c.in-Ok.ensures.items) (IsCid-from_parts c.args.bytes.now _ c.in_ok-rest.rest.now c.in_ok-rest.ensures.exact)
+    subst IsCid (sym c.in-Ok.ensures.ok) (IsCid-from_parts c.args.bytes.now _ c.in_ok-rest.rest.now c.in_ok-rest.ensures.exact)

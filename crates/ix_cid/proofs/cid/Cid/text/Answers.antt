@@ -17,7 +17,7 @@ returns c =
           let whole : string_bytes w.append.new.text ≡ codes "v0-" ++ hex_of bytes =
           w.in_ok-append.ensures
           ∙ ap (λ (x : List ℕ). x ++ hex_of w.as_slice.result.now) front
-          ∙ ap (λ (x : List ℕ). codes "v0-" ++ hex_of x) w.as_slice.ensures.value in
+          ∙ ap (λ (x : List ℕ). codes "v0-" ++ hex_of x) w.as_slice.ensures in
           let text : text_of bytes ≡ codes "v0-" ++ hex_of bytes = text_of-version_0 bytes (sym version ∙ w.if-version-eq0.true) in
           record { exact = ap (λ (x : String Global). string_bytes x) w.text-is ∙ whole ∙ sym text ∙ ap text_of c.self.view_is }
       | else-version-eq0+in_ok-push+in_ok-append-2 w ↦
@@ -28,7 +28,7 @@ returns c =
           let whole : string_bytes w.append-else-version-eq0.new.text ≡ 98 ∷ base32_of bytes =
           w.in_ok-append-2.ensures
           ∙ ap (λ (x : List ℕ). x ++ base32_of w.as_slice-else-version-eq0.result.now) front
-          ∙ ap (λ (x : List ℕ). 98 ∷ base32_of x) w.as_slice-else-version-eq0.ensures.value in
+          ∙ ap (λ (x : List ℕ). 98 ∷ base32_of x) w.as_slice-else-version-eq0.ensures in
           let text : text_of bytes ≡ 98 ∷ base32_of bytes = text_of-other bytes (λ none. w.if-version-eq0.false (version ∙ none)) in
           record { exact = ap (λ (x : String Global). string_bytes x) w.text-is ∙ whole ∙ sym text ∙ ap text_of c.self.view_is }
     ]

@@ -1,0 +1,115 @@
+#!/usr/bin/env python3
+"""Runs the program on each workload at a size and at twice the size, and prints a table.
+
+What the columns mean stands in bench/README.md.
+"""
+
+import argparse
+import os
+import pathlib
+import re
+import shutil
+import subprocess
+import sys
+import tempfile
+import time
+
+TOP = pathlib.Path(__file__).resolve().parent.parent
+PROGRAM = TOP / "crates/ix_export/out/ix_export"
+SIZES = {"leaves": 1_000, "small": 200_000, "deep": 200_000, "shared": 10_000, "nested": 220_000}
+MIB = 1 << 20
+ROW = "| {:8} | {:>7} | {:>7} | {:>7} | {:>7} | {:>8} | {:>7} | {:>9} | {:>6} |"
+
+
+def run_once(words, answer):
+    """The seconds and the peak memory in bytes of one run, whose standard output goes to a file."""
+    with open(answer, "wb") as file:
+        begin = time.monotonic()
+        child = subprocess.Popen(words, stdout=file)
+        _, status, used = os.wait4(child.pid, 0)
+        seconds = time.monotonic() - begin
+    child.returncode = os.waitstatus_to_exitcode(status)
+    if child.returncode != 0:
+        raise SystemExit(f"status {child.returncode} of {' '.join(map(str, words))}")
+    return seconds, used.ru_maxrss * 1024
+
+
+def export(room):
+    """One run of the program into a fresh output folder."""
+    out = room / "out"
+    out.mkdir()
+    words = [PROGRAM, "jobs", "--blocks", room / "blocks.car", "--jobs", room / "jobs.txt", "--out", out]
+    measured = run_once(words, room / "report.txt")
+    shutil.rmtree(out)
+    return measured
+
+
+class Bench:
+    """A workload at a size, in a folder of its own, and the best of its runs so far."""
+
+    def __init__(self, workload, size, seed, room):
+        self.workload, self.size, self.room = workload, size, room
+        self.seconds = self.hashing = float("inf")
+        self.memory = 0
+        words = [sys.executable, TOP / "bench/generate.py", workload, str(size), room, "--seed", str(seed)]
+        subprocess.run(words, check=True)
+
+    def run(self):
+        """Runs the program, and then sha256sum over the same blocks."""
+        seconds, memory = export(self.room)
+        self.seconds = min(self.seconds, seconds)
+        self.memory = max(self.memory, memory)
+        hashing, _ = run_once(["sha256sum", self.room / "blocks.car"], self.room / "digest.txt")
+        self.hashing = min(self.hashing, hashing)
+
+    def print_row(self, factor):
+        size = (self.room / "blocks.car").stat().st_size
+        report = (self.room / "report.txt").read_text()
+        visits = sum(map(int, re.findall(r" visits=(\d+)", report)))
+        row = ROW.format(
+            self.workload,
+            self.size,
+            f"{size / MIB:.1f}",
+            visits,
+            f"{self.seconds:.2f}",
+            round(visits / self.seconds),
+            f"{self.memory / MIB:.0f}",
+            f"{self.seconds / self.hashing:.1f}",
+            factor,
+        )
+        print(row, flush=True)
+
+
+def run_workload(workload, size, seed, runs, room):
+    """The two sizes run in turn, so that other work on the machine falls on both."""
+    once = Bench(workload, size, seed, room / "once")
+    twice = Bench(workload, 2 * size, seed, room / "twice")
+    for _ in range(runs):
+        once.run()
+        twice.run()
+    once.print_row("")
+    twice.print_row(f"{twice.seconds / once.seconds:.2f}")
+
+
+def main():
+    parser = argparse.ArgumentParser(description=__doc__)
+    parser.add_argument("workloads", nargs="*", help="those of bench/generate.py; all where none is given")
+    parser.add_argument("--size", type=int, help="in place of the size that a workload has here")
+    parser.add_argument("--runs", type=int, default=5, help="of how many runs the best counts")
+    parser.add_argument("--seed", type=int, default=1)
+    words = parser.parse_args()
+    unknown = set(words.workloads) - set(SIZES)
+    if unknown:
+        parser.error(f"no workload: {' '.join(sorted(unknown))}")
+    # Builds the program where it isn't built.
+    subprocess.run([TOP / "ix_export", "--help"], stdout=subprocess.DEVNULL, check=True)
+    head = ("workload", "size", "MiB", "visits", "seconds", "visits/s", "peak", "sha256sum", "factor")
+    print(ROW.format(*head))
+    print("|---" * len(head) + "|")
+    for workload in words.workloads or SIZES:
+        with tempfile.TemporaryDirectory(prefix="bench-") as room:
+            run_workload(workload, words.size or SIZES[workload], words.seed, words.runs, pathlib.Path(room))
+
+
+if __name__ == "__main__":
+    main()

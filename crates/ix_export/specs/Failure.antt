@@ -1,0 +1,53 @@
+-- What the program says of a refusal that comes from below.
+use Rattle.std.specs.Prelude.{◌≡◌, ◌≢◌, ℕ, List, ◌++◌, String, ◌⊎◌, string_bytes, codes, Contains}
+use Rattle.std.specs.Global.{Global}
+use Rattle.clap.specs.Values.{kind_of}
+use Rattle.clap.specs.declared.error.Error.{Error}
+use Rattle.clap.specs.declared.error.kind.ErrorKind.TheVariants.{OutOfMemory}
+use Rattle.ix_walk.specs.JobMeaning.{JobMeaning}
+use Rattle.ix_export.specs.declared.failure.Failure.{Failure}
+use Rattle.ix_export.specs.declared.failure.Failure.TheVariants.{Usage, Words, Fault, CannotRead, TooLarge, CannotWrite}
+use Rattle.ix_export.specs.declared.fault.RunFault.TheVariants.{Memory}
+
+-- clap's refusal is told as it is, but for want of memory
+pub record IsUsageOf (error : Error) (failure : Failure) : Type 0 where
+  pub memory : kind_of error ≡ OutOfMemory → failure ≡ Fault Memory
+  pub usage : kind_of error ≢ OutOfMemory → failure ≡ Usage error
+
+-- words that can't be read are no UTF-8, but for want of memory
+pub record IsWordsOf (wants_memory : Type 0) (failure : Failure) : Type 0 where
+  pub memory : wants_memory → failure ≡ Fault Memory
+  pub words : (wants_memory → ⊥) → failure ≡ Words
+
+-- the failure names this path
+pub record NamesPath (told : String Global → Failure) (path : List ℕ) (failure : Failure) : Type 0 where
+  pub name : String Global
+  pub named : string_bytes name ≡ path
+  pub told_is : failure ≡ told name
+
+-- a failure that names a path, or want of memory
+abbrev pub Names : (String Global → Failure) → List ℕ → Failure → Type 0
+Names told path failure = (failure ≡ Fault Memory) ⊎ NamesPath told path failure
+
+-- the same of an error on a file, whose want of memory is told as such
+pub record NamesFile (told : String Global → Failure) (path : List ℕ) (wants_memory : Type 0) (failure : Failure) : Type 0 where
+  pub names : Names told path failure
+  pub memory : wants_memory → failure ≡ Fault Memory
+
+-- an input at this path can't be read or is too large, or memory ran out
+abbrev pub IsInputFailure : List ℕ → Failure → Type 0
+IsInputFailure path failure = Names CannotRead path failure ⊎ NamesPath TooLarge path failure
+
+-- the output of a job of this name
+abbrev pub output_path : List ℕ → List ℕ → List ℕ
+output_path folder name = folder ++ (codes "/" ++ (name ++ codes ".car"))
+
+-- the failure names the output of one of the jobs, or memory ran out
+pub record NamesOutput (folder : List ℕ) (jobs : List JobMeaning) (failure : Failure) : Type 0 where
+  pub job : JobMeaning
+  pub among : Contains jobs job
+  pub names : Names CannotWrite (output_path folder job.name) failure
+
+-- an output can't be made, or memory ran out
+abbrev pub IsOutputFailure : List ℕ → List JobMeaning → Failure → Type 0
+IsOutputFailure folder jobs failure = (failure ≡ Fault Memory) ⊎ NamesOutput folder jobs failure

@@ -1,0 +1,24 @@
+#!/usr/bin/env bash
+# Runs the built program on files as a user would, and compares each answer whole: exit status,
+# standard output, standard error and files. Ends with status 1 at the first that is wrong.
+# What is wanted is made here from the formats, with sha256sum and base32; nothing is taken from the program.
+set -Eeuo pipefail
+export LC_ALL=C
+
+top=$(cd "$(dirname "${BASH_SOURCE[0]}")/.." && pwd)
+scratch=$(mktemp -d)
+title='before the first case'
+trap 'cd / && rm -rf "$scratch"' EXIT
+trap 'exit 1' HUP INT TERM PIPE
+trap 'echo "tests/program.sh: $title: the command failed: $BASH_COMMAND" >&2' ERR
+
+# Builds the program where it isn't built, so that no case has the lines of the build in its answer.
+"$top/ix_export" --help >/dev/null
+
+source "$top/tests/program/cases.sh"
+source "$top/tests/program/blocks.sh"
+for part in examples root jobs faults words streams; do
+  source "$top/tests/program/$part.sh"
+done
+
+echo "tests/program.sh: $cases cases passed"

@@ -1,0 +1,60 @@
+# The words of the command line. The text for words that are refused isn't compared.
+
+# words_refused WORD..: status 2, something on standard error and nothing on standard output.
+words_refused() {
+  begin "the words '$*'"
+  good_files
+  run "$@"
+  expect_text 'exit status' 2 "$status"
+  expect_lines 'standard output' '' "$scratch/stdout"
+  [ -s "$scratch/stderr" ] || fail 'standard error: nothing' /dev/null "$scratch/stderr"
+}
+
+inputs=(--blocks blocks.car --jobs jobs.txt)
+words_refused
+words_refused ''
+words_refused export
+words_refused --cid "$abc_text"
+words_refused root
+words_refused root --cid
+words_refused root --cid "$abc_text" more
+words_refused root --text "$abc_text"
+words_refused root --cid "$abc_text" --cid "$abc_text"
+words_refused root $'\xff'
+words_refused jobs
+words_refused jobs "${inputs[@]}"
+words_refused jobs --jobs jobs.txt --out out
+words_refused jobs --blocks blocks.car --out out
+words_refused jobs "${inputs[@]}" --out
+words_refused jobs "${inputs[@]}" --out out --quiet
+words_refused jobs "${inputs[@]}" --out out more
+for option in --walkers --verifiers; do
+  for number in 0 65 x -1 '' 4294967297; do
+    words_refused jobs "${inputs[@]}" --out out "$option" "$number"
+  done
+done
+# The words are read before any file.
+words_refused jobs --blocks none --jobs none --out none --walkers 0
+
+# helps WORD.. -- TEXT..: status 0 and a help on standard output in which each text stands.
+helps() {
+  local words=()
+  begin "the help of '$*'"
+  while [ "$1" != -- ]; do
+    words+=("$1")
+    shift
+  done
+  shift
+  run "${words[@]}"
+  expect_text 'exit status' 0 "$status"
+  expect_lines 'standard error' '' "$scratch/stderr"
+  for word in "$@"; do
+    grep -qF -e "$word" "$scratch/stdout" || fail "help, without '$word'" /dev/null "$scratch/stdout"
+  done
+}
+
+helps --help -- root jobs CARv1
+helps -h -- root jobs
+helps root --help -- '--cid <TEXT>' hexadecimal 'standard input' 'Status: 0'
+helps jobs --help -- 'NAME ROOT LIMIT SELECTOR' '--blocks <FILE>' '--jobs <FILE>' '--out <DIR>' '--walkers <N>' \
+  '--verifiers <N>' '1 to 64' 'default: 4' "$abc_text 1000 $matcher" 1000000 DIR/NAME.car damaged 'Status: 0' 1073741824
