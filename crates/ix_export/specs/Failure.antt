@@ -3,7 +3,7 @@ use Rattle.std.specs.Prelude.{◌≡◌, ◌≢◌, ℕ, List, ◌++◌, String,
 use Rattle.std.specs.Global.{Global}
 use Rattle.clap.specs.Values.{kind_of}
 use Rattle.clap.specs.declared.error.Error.{Error}
-use Rattle.clap.specs.declared.error.kind.ErrorKind.TheVariants.{OutOfMemory}
+use Rattle.clap.specs.declared.error.kind.ErrorKind.TheVariants.{OutOfMemory, DisplayHelp, DisplayVersion}
 use Rattle.ix_walk.specs.JobMeaning.{JobMeaning}
 use Rattle.ix_export.specs.declared.failure.Failure.{Failure}
 use Rattle.ix_export.specs.declared.failure.Failure.TheVariants.{Usage, Words, Fault, CannotRead, TooLarge, CannotWrite}
@@ -51,3 +51,7 @@ pub record NamesOutput (folder : List ℕ) (jobs : List JobMeaning) (failure : F
 -- an output can't be made, or memory ran out
 abbrev pub IsOutputFailure : List ℕ → List JobMeaning → Failure → Type 0
 IsOutputFailure folder jobs failure = (failure ≡ Fault Memory) ⊎ NamesOutput folder jobs failure
+
+-- nobody asked for this text: it is no help and no version
+abbrev pub IsRefusal : Failure → Type 0
+IsRefusal failure = (error : Error) → failure ≡ Usage error → (kind_of error ≢ DisplayHelp) × (kind_of error ≢ DisplayVersion)

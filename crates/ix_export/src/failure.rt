@@ -3,7 +3,7 @@
 ghost use Rattle.std.specs.Prelude.{◌≡◌, ◌↔◌, IsTrue};
 ghost use Rattle.std.specs.IoError.{error_kind};
 ghost use Rattle.ix_export.specs.declared.failure.Failure.TheVariants.{CannotRead, TooLarge, CannotWrite};
-ghost use Rattle.ix_export.specs.Failure.{IsWordsOf, Names, NamesFile};
+ghost use Rattle.ix_export.specs.Failure.{IsRefusal, IsWordsOf, Names, NamesFile};
 
 use crate::fault::{RunFault, fault_line};
 use clap::error::ErrorKind as UsageKind;
@@ -71,7 +71,9 @@ impl Failure {
     }
 
     /// Tells the user, and answers the status.
-    pub fn report<R: AllocGlobal + Eprint + Print>(&self, rt: &R) -> u8 {
+    pub fn report<R: AllocGlobal + Eprint + Print>(&self, rt: &R) -> u8
+        ensures { IsRefusal self.now → result ≡ 2 }
+    {
         let told = match self {
             Failure::Usage(error) if error.use_stderr() => error.print(rt),
             // The help was asked for.

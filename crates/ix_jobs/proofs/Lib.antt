@@ -2,4 +2,5 @@ pub mod Pieces
 pub mod LinesInTurn
 pub mod Texts
 pub mod Limits
+pub mod Named
 mod Lines

@@ -10,6 +10,7 @@ ghost use Rattle.std.specs.List.{before_first, after_first};
 ghost use Rattle.ix_jobs.specs.Jobs.{jobs_of};
 ghost use Rattle.ix_jobs.specs.Gives.{IsFaultOf};
 
+use crate::job_list::JobList;
 use crate::line::add_line;
 use ix_walk::job::Job;
 use std::alloc::{AllocError, AllocFailed, Global};
@@ -98,7 +99,7 @@ pub fn read_jobs(alloc: Global, bytes: &[u8]) -> Result<Vec<Job>, JobsFault>
     ensures jobs { IfOk result (λ jobs. jobs_of bytes.now ≡ Ok jobs.items) }
     ensures fault { IfErr result (λ fault. IsFaultOf fault (jobs_of bytes.now)) }
 {
-    let mut jobs = Vec::new(alloc);
+    let mut jobs = JobList::new(alloc);
     let mut rest = bytes;
     let mut number = 0;
     while !rest.is_empty() {
@@ -109,7 +110,7 @@ pub fn read_jobs(alloc: Global, bytes: &[u8]) -> Result<Vec<Job>, JobsFault>
         }
         rest = after;
     }
-    Ok(jobs)
+    Ok(jobs.into_jobs())
 }
 
 // The first line, and what follows its end.

@@ -2,6 +2,7 @@
 #![tactic(auto)]
 
 mod field;
+mod job_list;
 pub mod jobs;
 mod line;
 pub mod report;

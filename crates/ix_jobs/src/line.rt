@@ -1,47 +1,30 @@
 //! One line of a job file.
 
-ghost use Rattle.std.specs.Prelude.{◌≡◌, [], ◌∷◌, ◌++◌, ◌==◌, bytes_eq};
-ghost use Rattle.std.specs.List.{list_any, slice_split};
+ghost use Rattle.std.specs.Prelude.{◌≡◌, ◌==◌};
+ghost use Rattle.std.specs.List.{slice_split};
 ghost use Rattle.std.specs.Str.Lines.{strip_carriage_return};
-ghost use Rattle.ix_jobs.specs.Jobs.{is_ignored, is_text, text_in, fields_in, job_of_fields, line_job, joined, with_line};
+ghost use Rattle.ix_jobs.specs.Jobs.{is_ignored, is_text, text_in, fields_in, job_of_fields, line_job, with_line};
 ghost use Rattle.ix_jobs.specs.LineParts.{first_field, last_field};
 ghost use Rattle.ix_jobs.specs.Gives.{Gives};
 
 use crate::field::{limit_in, root_in, selector_in};
+use crate::job_list::JobList;
 use crate::jobs::JobsKind;
 use ix_walk::job::{Job, is_name};
 use std::alloc::Global;
 use std::str;
 
-/// How many jobs a file may have.
-const MOST_JOBS: usize = 1_000;
-
 /// Adds the job of a line, unless the line is ignored.
-pub(crate) fn add_line(alloc: Global, jobs: &mut Vec<Job>, line: &[u8]) -> Result<(), JobsKind>
-    ensures { Gives (λ _. jobs.new.items) result
-        (with_line jobs.old.items (strip_carriage_return line.now)) }
+pub(crate) fn add_line(alloc: Global, jobs: &mut JobList, line: &[u8]) -> Result<(), JobsKind>
+    ensures { Gives (λ _. jobs.new) result
+        (with_line jobs.old (strip_carriage_return line.now)) }
 {
     let line = without_return(line);
     if is_ignored(line) {
         return Ok(());
     }
     let job = line_job(alloc, line)?;
-    may_join(jobs.as_slice(), &job)?;
-    jobs.push(job)?;
-    Ok(())
-}
-
-// Whether a job may join those before it, or why not.
-fn may_join(jobs: &[Job], job: &Job) -> Result<(), JobsKind>
-    ensures { Gives (λ _. jobs.now ++ job.now ∷ []) result (joined jobs.now job.now) }
-{
-    if is_taken(jobs, job.name()) {
-        return Err(JobsKind::Repeated);
-    }
-    if jobs.len() >= MOST_JOBS {
-        return Err(JobsKind::TooMany);
-    }
-    Ok(())
+    jobs.add(alloc, job)
 }
 
 // A line without one carriage return at its end.
@@ -59,13 +42,6 @@ fn is_ignored(line: &[u8]) -> bool
     ensures { result ≡ is_ignored line.now }
 {
     matches!(line.first(), None | Some(b'#'))
-}
-
-// Whether a job has the name.
-fn is_taken(jobs: &[Job], name: &str) -> bool
-    ensures { result ≡ list_any (λ job. bytes_eq job.name name.now) jobs.now }
-{
-    jobs.iter().any(|job| job.name() == name)
 }
 
 // The job of a line that isn't ignored.

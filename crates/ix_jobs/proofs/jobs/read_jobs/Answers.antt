@@ -13,7 +13,7 @@ returns-in-Err-clause-fault c =
     let some : 0 < length c.loop-rest.rest.now = search rules in
     let number : ℕ = c.loop-rest.number + 1 in
     let kind : JobsKind = c.in-Err.kind in
-    let before : List JobMeaning = c.loop-rest.jobs.items in
+    let before : List JobMeaning = c.loop-rest.jobs in
     let failed : FailsAs kind kind (with_line before (strip_carriage_return (before_first (λ b. b == 10) c.loop-rest.rest.now))) =
     subst (λ (l : List ℕ). FailsAs kind kind (with_line before (strip_carriage_return l))) c.split_line.ensures.line c.in-Err.ensures in
     subst (λ (r : Result (List JobMeaning) (JobsKind × ℕ)). FailsAs kind (kind, number) r) c.loop-rest.invariant.goes_on (jobs_from-err kind number before c.loop-rest.rest.now some failed)
@@ -22,8 +22,8 @@ pub loop-rest-preserved : goal.loop-rest-preserved
 loop-rest-preserved c =
     let some : 0 < length c.loop-rest.rest.now = search rules in
     let number : ℕ = c.loop-rest.number + 1 in
-    let before : List JobMeaning = c.loop-rest.jobs.items in
-    let jobs : List JobMeaning = c.add_line.new.jobs.items in
+    let before : List JobMeaning = c.loop-rest.jobs in
+    let jobs : List JobMeaning = c.add_line.new.jobs in
     let read : with_line before (strip_carriage_return (before_first (λ b. b == 10) c.loop-rest.rest.now)) ≡ Ok jobs =
     ap (λ (l : List ℕ). with_line before (strip_carriage_return l)) (sym c.split_line.ensures.line) ∙ c.in_default.ensures in
     record {

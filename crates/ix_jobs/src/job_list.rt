@@ -1,0 +1,91 @@
+//! The jobs of the lines so far.
+
+ghost use Rattle.std.specs.Prelude.{◌≡◌, [], ◌∷◌, ◌++◌, OnErr, bytes_eq};
+ghost use Rattle.std.specs.List.{list_any};
+ghost use Rattle.ix_jobs.specs.Jobs.{joined};
+ghost use Rattle.ix_jobs.specs.Gives.{Gives};
+
+use crate::jobs::JobsKind;
+use ix_walk::job::Job;
+use std::alloc::Global;
+use std::collections::BTreeSet;
+use std::marker::Model;
+
+/// How many jobs a file may have.
+const MOST_JOBS: usize = 1_000;
+
+/// Jobs and their names, seen as the list of the jobs in the order of adding.
+#[derive(Drop)]
+pub(crate) struct JobList {
+    jobs: Vec<Job>,
+    // The names of the jobs.
+    names: BTreeSet<String>,
+}
+
+impl Model for JobList {
+    ghost use Rattle.std.specs.Prelude.{List};
+    ghost use Rattle.std.specs.Coded.{coded_list};
+    ghost use Rattle.ix_walk.specs.JobMeaning.{JobMeaning, coded_job};
+    ghost use Rattle.ix_jobs.specs.Named.{HasNames};
+
+    ghost Value = { List JobMeaning };
+
+    ghost coded = { coded_list coded_job };
+
+    ghost view = { λ l. l.jobs.items };
+
+    ghost invariant = { λ l. HasNames l.names l.jobs.items };
+}
+
+impl JobList {
+    /// A list without jobs.
+    pub(crate) fn new(alloc: Global) -> JobList
+        ensures { result ≡ [] }
+    {
+        JobList {
+            jobs: Vec::new(alloc),
+            names: BTreeSet::new(alloc),
+        }
+    }
+
+    /// Adds a job, unless its name is taken or there are too many before it.
+    pub(crate) fn add(&mut self, alloc: Global, job: Job) -> Result<(), JobsKind>
+        ensures added { Gives (λ _. self.new) result (joined self.old job) }
+        ensures err { OnErr result (self.new ≡ self.old) }
+    {
+        self.may_join(&job)?;
+        // Room comes first, so that want of memory leaves the list as it was.
+        let name = String::from_str(alloc, job.name())?;
+        self.jobs.reserve(1)?;
+        self.names.insert(name)?;
+        self.jobs.push_reserved(job);
+        Ok(())
+    }
+
+    // Whether a job may join those before it, or why not.
+    fn may_join(&self, job: &Job) -> Result<(), JobsKind>
+        ensures { Gives (λ _. self.now ++ job.now ∷ []) result (joined self.now job.now) }
+    {
+        if self.is_taken(job.name()) {
+            return Err(JobsKind::Repeated);
+        }
+        if self.jobs.len() >= MOST_JOBS {
+            return Err(JobsKind::TooMany);
+        }
+        Ok(())
+    }
+
+    // Whether a job has the name.
+    fn is_taken(&self, name: &str) -> bool
+        ensures { result ≡ list_any (λ job. bytes_eq job.name name.now) self.now }
+    {
+        self.names.contains(name)
+    }
+
+    /// The jobs, in the order of adding.
+    pub(crate) fn into_jobs(self) -> Vec<Job>
+        ensures { result.items ≡ self }
+    {
+        self.jobs
+    }
+}
