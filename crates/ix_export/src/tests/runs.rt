@@ -33,11 +33,8 @@ const EXAMPLES: [&str; 19] = [
     FORTY_LAYERS,
 ];
 
-const PLAN: Plan = Plan {
-    walkers: 2,
-    queue: 256,
-    lane: 64,
-};
+// Verifiers, walkers, and the room of the queue and of each lane. An example gives the same with each.
+const PLANS: [(u32, u32, u32, u32); 3] = [(2, 2, 256, 64), (4, 3, 1, 1), (1, 1, 1, 1)];
 
 /// What an example says.
 #[derive(Drop)]
@@ -127,7 +124,13 @@ fn archive_of(alloc: Global, sections: &[&str], line: &str) -> Result<Vec<u8>, F
     bytes_of(alloc, &[archive.as_str()])
 }
 
-fn expect(rt: &impl Abort, alloc: Global, text: &str) -> Result<(), Fail> {
+fn expect(
+    rt: &impl Abort,
+    alloc: Global,
+    text: &str,
+    verifiers: u32,
+    plan: Plan,
+) -> Result<(), Fail> {
     let example = example_of(alloc, text)?;
     let (store, jobs) = prepare(alloc, example.car.as_slice(), example.jobs.as_bytes())?;
     let mut writers = Vec::new(alloc);
@@ -141,7 +144,7 @@ fn expect(rt: &impl Abort, alloc: Global, text: &str) -> Result<(), Fail> {
         assert!(rt; false, "a writer for each job was wanted");
         return Ok(());
     }
-    let out = run(rt, alloc, &store, &jobs, writers, 2, PLAN)?;
+    let out = run(rt, alloc, &store, &jobs, writers, verifiers, plan)?;
     let report = String::from_utf8(out.report).ok().ok_or("not UTF-8")?;
     assert_eq!(rt; report.as_str(), example.report.as_str());
     let status = format!(in alloc; "{}", out.status)?;
@@ -157,7 +160,14 @@ fn expect(rt: &impl Abort, alloc: Global, text: &str) -> Result<(), Fail> {
 fn worked_examples(rt: HostRuntime) -> Result<(), Fail> {
     let alloc = rt.alloc();
     for text in EXAMPLES {
-        expect(&rt, alloc, text)?;
+        for (verifiers, walkers, queue, lane) in PLANS {
+            let plan = Plan {
+                walkers,
+                queue,
+                lane,
+            };
+            expect(&rt, alloc, text, verifiers, plan)?;
+        }
     }
     Ok(())
 }
