@@ -6,11 +6,11 @@ use Rattle.ix_cid.specs.declared.varint.VarintFault.{VarintFault}
 use Rattle.ix_cid.specs.declared.varint.VarintFault.TheVariants as varints
 use Rattle.ix_cid.specs.Varint.{continued, number_of_groups, varint_at}
 use Rattle.ix_cid.specs.Cid.{cid_at}
-use Rattle.ix_walk.specs.Store.{Blocks}
+use Rattle.ix_walk.specs.Store.{Blocks, with_block}
 use Rattle.ix_car.specs.declared.reader.CarKind.{CarKind}
 use Rattle.ix_car.specs.declared.reader.CarKind.TheVariants.{Memory}
 use Rattle.ix_car.specs.Gives.{FailsAs}
-use Rattle.ix_car.specs.Reading.{Fault, ◌>>=◌, text_at, text_behind, pair_of, section_at, with_block, sections_at}
+use Rattle.ix_car.specs.Reading.{Fault, ◌>>=◌, text_at, text_behind, pair_of, section_at, sections_at}
 
 -- an answer behind a test for a fault
 past_test : {A E : Type 0} (t : Bool) (e : E) (r : Result A E) (x : A) → cond t (Err e) r ≡ Ok x → (t ≡ false) × (r ≡ Ok x)

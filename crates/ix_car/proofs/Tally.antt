@@ -51,45 +51,73 @@ cut-uncut ds d sound uncut is =
     cut-push ds d ∙ ap (λ b. if b then cut_behind ds else (if passes d.verdict then None else Some d.visit.depth)) uncut
     ∙ ap (λ b. if b then None else Some d.visit.depth) (passes-is_sound d.verdict ∙ is)
 
+-- what a tally says of each count
+visits-of : (store : Blocks) (ds : List Delivery) (c : Counts) → c ≡ counts_of store ds c.bytes → c.visits ≡ at_most 32 (length ds)
+visits-of store ds c h = ap (λ (x : Counts). x.visits) h
+
+kept-of : (store : Blocks) (ds : List Delivery) (c : Counts) → c ≡ counts_of store ds c.bytes → c.kept ≡ at_most 32 (length (kept ds))
+kept-of store ds c h = ap (λ (x : Counts). x.kept) h
+
+sections-of : (store : Blocks) (ds : List Delivery) (c : Counts) → c ≡ counts_of store ds c.bytes → c.sections ≡ at_most 32 (length (sections_of store (kept ds)))
+sections-of store ds c h = ap (λ (x : Counts). x.sections) h
+
+bytes-of : (store : Blocks) (ds : List Delivery) (c : Counts) → c ≡ counts_of store ds c.bytes → c.bytes ≡ at_most 64 c.bytes
+bytes-of store ds c h = ap (λ (x : Counts). x.bytes) h
+
+-- bytes that can be counted
+bytes-fit : (t : ℕ) → t ≤ 2 ^ 64 - 1 → t ≡ at_most 64 t
+bytes-fit t within = omega arith
+
 -- an archive that has no deliveries
-pub tally-none : (store : Blocks) (failed : List Delivery) (written : BTreeSet ℕ) → written.keys ≡ [] → IsTally store [] failed None 0 0 written []
-tally-none store failed written empty = record {
+pub tally-none : (store : Blocks) (failed : List Delivery) (written : BTreeSet ℕ) (t : ℕ) → written.keys ≡ [] → t ≤ 2 ^ 64 - 1 → IsTally store [] failed None (record { visits = 0; kept = 0; sections = 0; bytes = t }) written []
+tally-none store failed written t empty within = record {
   cut_is = refl;
-  kept_is = refl;
-  sections_is = refl;
+  counts_are = λ i. record { visits = 0; kept = 0; sections = 0; bytes = bytes-fit t within i };
   skips_is = refl;
   written_is = λ _ c place _. ap (λ ks. list_any (is_at (nat_cmp place)) ks) empty;
 }
 
--- the same tally, seen by equal parts
-pub tally-same : (store : Blocks) (ds es failed : List Delivery) (cut : Option ℕ) (k s : ℕ) (w v : BTreeSet ℕ) (skips more : List Skip) → IsTally store ds failed cut k s w skips → es ≡ ds → v.keys ≡ w.keys → more ≡ skips → IsTally store es failed cut k s v more
-tally-same store ds es failed cut k s w v skips more h same keys again = record {
-  cut_is = h.cut_is ∙ ap cut_behind (sym same);
-  kept_is = h.kept_is ∙ ap (λ l. at_most 32 (length (kept l))) (sym same);
-  sections_is = h.sections_is ∙ ap (λ l. at_most 32 (length (sections_of store (kept l)))) (sym same);
-  skips_is = again ∙ h.skips_is ∙ ap (λ l. skips_in (kept l)) (sym same);
-  written_is = λ none c place at. ap (λ ks. list_any (is_at (nat_cmp place)) ks) keys ∙ h.written_is none c place at ∙ ap (λ l. is_told (kept l) c) (sym same);
+-- the same tally with a set of the same places
+pub tally-same : (store : Blocks) (ds failed : List Delivery) (cut : Option ℕ) (c : Counts) (w v : BTreeSet ℕ) (skips : List Skip) → IsTally store ds failed cut c w skips → v.keys ≡ w.keys → IsTally store ds failed cut c v skips
+tally-same store ds failed cut c w v skips h keys = record {
+  cut_is = h.cut_is;
+  counts_are = h.counts_are;
+  skips_is = h.skips_is;
+  written_is = λ none e place at. ap (λ ks. list_any (is_at (nat_cmp place)) ks) keys ∙ h.written_is none e place at;
 }
 
 -- a failure leaves no promise of what was written
-pub tally-failed : (store : Blocks) (ds failed : List Delivery) (d : Delivery) (cut : Option ℕ) (k s : ℕ) (w v : BTreeSet ℕ) (skips : List Skip) → IsTally store ds failed cut k s w skips → IsTally store ds (d ∷ []) cut k s v skips
-tally-failed store ds failed d cut k s w v skips h =
-    record { cut_is = h.cut_is; kept_is = h.kept_is; sections_is = h.sections_is; skips_is = h.skips_is; written_is = λ none c place at. absurd cc }
+pub tally-failed : (store : Blocks) (ds failed : List Delivery) (d : Delivery) (cut : Option ℕ) (c : Counts) (t : ℕ) (w v : BTreeSet ℕ) (skips : List Skip) → IsTally store ds failed cut c w skips → t ≤ 2 ^ 64 - 1 → IsTally store ds (d ∷ []) cut (record { visits = c.visits; kept = c.kept; sections = c.sections; bytes = t }) v skips
+tally-failed store ds failed d cut c t w v skips h within = record {
+  cut_is = h.cut_is;
+  counts_are = λ i. record { visits = visits-of store ds c h.counts_are i; kept = kept-of store ds c h.counts_are i; sections = sections-of store ds c h.counts_are i; bytes = bytes-fit t within i };
+  skips_is = h.skips_is;
+  written_is = λ none e place at. absurd cc;
+}
+
+-- the number of deliveries, one higher
+visits-more : (store : Blocks) (ds es : List Delivery) (d : Delivery) (c : Counts) (n : ℕ) → c ≡ counts_of store ds c.bytes → es ≡ ds ++ d ∷ [] → n ≡ at_most 32 (c.visits + 1) → n ≡ at_most 32 (length es)
+visits-more store ds es d c n h longer is =
+    is ∙ count-more (2 ^ 32 - 1) (length ds) (length es) c.visits (visits-of store ds c h) (ap length longer ∙ length_push ds d)
 
 -- a delivery that is cut off
-pub tally-cut_off : (store : Blocks) (ds es failed : List Delivery) (d : Delivery) (cut : Option ℕ) (k s : ℕ) (w : BTreeSet ℕ) (skips : List Skip) → IsTally store ds failed cut k s w skips → is_below (cut_behind ds) d.visit.depth ≡ true → es ≡ ds ++ d ∷ [] → IsTally store es failed cut k s w skips
-tally-cut_off store ds es failed d cut k s w skips h below longer =
-    let same : kept es ≡ kept ds = ap kept longer ∙ kept-cut_off ds d below in record {
+pub tally-cut_off : (store : Blocks) (ds es failed : List Delivery) (d : Delivery) (cut : Option ℕ) (c : Counts) (n : ℕ) (w : BTreeSet ℕ) (skips : List Skip) → IsTally store ds failed cut c w skips → is_below (cut_behind ds) d.visit.depth ≡ true → es ≡ ds ++ d ∷ [] → n ≡ at_most 32 (c.visits + 1)
+    → IsTally store es failed cut (record { visits = n; kept = c.kept; sections = c.sections; bytes = c.bytes }) w skips
+tally-cut_off store ds es failed d cut c n w skips h below longer visits =
+    let same : kept es ≡ kept ds = ap kept longer ∙ kept-cut_off ds d below in
+    let n_is = visits-more store ds es d c n h.counts_are longer visits in
+    let k_is : c.kept ≡ at_most 32 (length (kept es)) = kept-of store ds c h.counts_are ∙ ap (λ l. at_most 32 (length l)) (sym same) in
+    let s_is : c.sections ≡ at_most 32 (length (sections_of store (kept es))) = sections-of store ds c h.counts_are ∙ ap (λ l. at_most 32 (length (sections_of store l))) (sym same) in record {
       cut_is = h.cut_is ∙ sym (ap cut_behind longer ∙ cut-cut_off ds d below);
-      kept_is = h.kept_is ∙ ap (λ l. at_most 32 (length l)) (sym same);
-      sections_is = h.sections_is ∙ ap (λ l. at_most 32 (length (sections_of store l))) (sym same);
+      counts_are = λ i. record { visits = n_is i; kept = k_is i; sections = s_is i; bytes = bytes-of store ds c h.counts_are i };
       skips_is = h.skips_is ∙ ap (λ l. skips_in l) (sym same);
-      written_is = λ none c place at. h.written_is none c place at ∙ ap (λ l. is_told l c) (sym same);
+      written_is = λ none e place at. h.written_is none e place at ∙ ap (λ l. is_told l e) (sym same);
     }
 
 -- the number of those kept, one higher
-kept-more : (ds es : List Delivery) (d : Delivery) (k : ℕ) → k ≡ at_most 32 (length (kept ds)) → kept es ≡ kept ds ++ d ∷ [] → at_most 32 (k + 1) ≡ at_most 32 (length (kept es))
-kept-more ds es d k h longer = count-more (2 ^ 32 - 1) (length (kept ds)) (length (kept es)) k h (ap length longer ∙ length_push (kept ds) d)
+kept-more : (store : Blocks) (ds es : List Delivery) (d : Delivery) (c : Counts) (k : ℕ) → c ≡ counts_of store ds c.bytes → kept es ≡ kept ds ++ d ∷ [] → k ≡ at_most 32 (c.kept + 1) → k ≡ at_most 32 (length (kept es))
+kept-more store ds es d c k h longer is =
+    is ∙ count-more (2 ^ 32 - 1) (length (kept ds)) (length (kept es)) c.kept (kept-of store ds c h) (ap length longer ∙ length_push (kept ds) d)
 
 -- a test that fails adds nothing
 or-nothing : (a b : Bool) → b ≡ false → (a || b) ≡ a
@@ -97,16 +125,19 @@ or-nothing true b h = refl
 or-nothing false b h = h
 
 -- a skip
-pub tally-skip : (store : Blocks) (ds es failed : List Delivery) (d : Delivery) (cut : Option ℕ) (k s : ℕ) (w : BTreeSet ℕ) (skips more : List Skip) → IsTally store ds failed cut k s w skips → is_below (cut_behind ds) d.visit.depth ≡ false → is_sound d.verdict ≡ false → es ≡ ds ++ d ∷ []
-    → more ≡ skips ++ record { seq = d.visit.seq; cid = d.visit.cid; verdict = d.verdict } ∷ [] → IsTally store es failed (Some d.visit.depth) (at_most 32 (k + 1)) s w more
-tally-skip store ds es failed d cut k s w skips more h uncut unsound longer added =
-    let left : kept es ≡ kept ds ++ d ∷ [] = ap kept longer ∙ kept-uncut ds d uncut in record {
+pub tally-skip : (store : Blocks) (ds es failed : List Delivery) (d : Delivery) (cut : Option ℕ) (c : Counts) (n k : ℕ) (w : BTreeSet ℕ) (skips more : List Skip) → IsTally store ds failed cut c w skips → is_below (cut_behind ds) d.visit.depth ≡ false → is_sound d.verdict ≡ false → es ≡ ds ++ d ∷ []
+    → more ≡ skips ++ record { seq = d.visit.seq; cid = d.visit.cid; verdict = d.verdict } ∷ [] → n ≡ at_most 32 (c.visits + 1) → k ≡ at_most 32 (c.kept + 1)
+    → IsTally store es failed (Some d.visit.depth) (record { visits = n; kept = k; sections = c.sections; bytes = c.bytes }) w more
+tally-skip store ds es failed d cut c n k w skips more h uncut unsound longer added visits keeps =
+    let left : kept es ≡ kept ds ++ d ∷ [] = ap kept longer ∙ kept-uncut ds d uncut in
+    let n_is = visits-more store ds es d c n h.counts_are longer visits in
+    let k_is = kept-more store ds es d c k h.counts_are left keeps in
+    let s_is : c.sections ≡ at_most 32 (length (sections_of store (kept es))) = sections-of store ds c h.counts_are ∙ sym (ap (λ l. at_most 32 (length (sections_of store l))) left ∙ ap (λ l. at_most 32 (length l)) (sections-unsound store (kept ds) d unsound)) in record {
       cut_is = sym (ap cut_behind longer ∙ cut-uncut ds d false uncut unsound);
-      kept_is = kept-more ds es d k h.kept_is left;
-      sections_is = h.sections_is ∙ sym (ap (λ l. at_most 32 (length (sections_of store l))) left ∙ ap (λ l. at_most 32 (length l)) (sections-unsound store (kept ds) d unsound));
+      counts_are = λ i. record { visits = n_is i; kept = k_is i; sections = s_is i; bytes = bytes-of store ds c h.counts_are i };
       skips_is = added ∙ ap (λ l. l ++ record { seq = d.visit.seq; cid = d.visit.cid; verdict = d.verdict } ∷ []) h.skips_is ∙ sym (ap (λ l. skips_in l) left ∙ skips-unsound (kept ds) d unsound);
-      written_is = λ none c place at. h.written_is none c place at
-          ∙ sym (ap (λ l. is_told l c) left ∙ told-push (kept ds) d c ∙ or-nothing (is_told (kept ds) c) (is_sound d.verdict && bytes_eq d.visit.cid c) (ap (λ b. b && bytes_eq d.visit.cid c) unsound));
+      written_is = λ none e place at. h.written_is none e place at
+          ∙ sym (ap (λ l. is_told l e) left ∙ told-push (kept ds) d e ∙ or-nothing (is_told (kept ds) e) (is_sound d.verdict && bytes_eq d.visit.cid e) (ap (λ b. b && bytes_eq d.visit.cid e) unsound));
     }
 
 -- a CID whose place is known isn't told anew by one that has its section or no block
@@ -123,16 +154,18 @@ repeat-told store ks d c place none at =
     by (bytes_eq d.visit.cid c) (is_told ks d.visit.cid) refl refl
 
 -- a sound one that has its section, or no block
-pub tally-repeat : (store : Blocks) (ds es failed : List Delivery) (d : Delivery) (cut : Option ℕ) (k s : ℕ) (w : BTreeSet ℕ) (skips : List Skip) → IsTally store ds failed cut k s w skips → is_below (cut_behind ds) d.visit.depth ≡ false → is_sound d.verdict ≡ true → place_due store (kept ds) d.visit.cid ≡ None
-    → es ≡ ds ++ d ∷ [] → IsTally store es failed None (at_most 32 (k + 1)) s w skips
-tally-repeat store ds es failed d cut k s w skips h uncut sound none longer =
-    let left : kept es ≡ kept ds ++ d ∷ [] = ap kept longer ∙ kept-uncut ds d uncut in record {
+pub tally-repeat : (store : Blocks) (ds es failed : List Delivery) (d : Delivery) (cut : Option ℕ) (c : Counts) (n k : ℕ) (w : BTreeSet ℕ) (skips : List Skip) → IsTally store ds failed cut c w skips → is_below (cut_behind ds) d.visit.depth ≡ false → is_sound d.verdict ≡ true → place_due store (kept ds) d.visit.cid ≡ None
+    → es ≡ ds ++ d ∷ [] → n ≡ at_most 32 (c.visits + 1) → k ≡ at_most 32 (c.kept + 1) → IsTally store es failed None (record { visits = n; kept = k; sections = c.sections; bytes = c.bytes }) w skips
+tally-repeat store ds es failed d cut c n k w skips h uncut sound none longer visits keeps =
+    let left : kept es ≡ kept ds ++ d ∷ [] = ap kept longer ∙ kept-uncut ds d uncut in
+    let n_is = visits-more store ds es d c n h.counts_are longer visits in
+    let k_is = kept-more store ds es d c k h.counts_are left keeps in
+    let s_is : c.sections ≡ at_most 32 (length (sections_of store (kept es))) = sections-of store ds c h.counts_are ∙ sym (ap (λ l. at_most 32 (length (sections_of store l))) left ∙ ap (λ l. at_most 32 (length l)) (sections-repeat store (kept ds) d sound none)) in record {
       cut_is = sym (ap cut_behind longer ∙ cut-uncut ds d true uncut sound);
-      kept_is = kept-more ds es d k h.kept_is left;
-      sections_is = h.sections_is ∙ sym (ap (λ l. at_most 32 (length (sections_of store l))) left ∙ ap (λ l. at_most 32 (length l)) (sections-repeat store (kept ds) d sound none));
+      counts_are = λ i. record { visits = n_is i; kept = k_is i; sections = s_is i; bytes = bytes-of store ds c h.counts_are i };
       skips_is = h.skips_is ∙ sym (ap (λ l. skips_in l) left ∙ skips-sound (kept ds) d sound);
-      written_is = λ fine c place at. h.written_is fine c place at
-          ∙ sym (ap (λ l. is_told l c) left ∙ told-push (kept ds) d c ∙ ap (λ b. is_told (kept ds) c || (b && bytes_eq d.visit.cid c)) sound ∙ repeat-told store (kept ds) d c place none at);
+      written_is = λ fine e place at. h.written_is fine e place at
+          ∙ sym (ap (λ l. is_told l e) left ∙ told-push (kept ds) d e ∙ ap (λ b. is_told (kept ds) e || (b && bytes_eq d.visit.cid e)) sound ∙ repeat-told store (kept ds) d e place none at);
     }
 
 -- places rise
@@ -185,27 +218,19 @@ put-place store ks w v d c here place updates at there was =
     updates.0 place ∙ by (bytes_eq d c) refl
 
 -- a section
-pub tally-section : (store : Blocks) (ds es failed : List Delivery) (d : Delivery) (cut : Option ℕ) (k s here : ℕ) (w v : BTreeSet ℕ) (skips : List Skip) → IsTally store ds failed cut k s w skips → is_below (cut_behind ds) d.visit.depth ≡ false → is_sound d.verdict ≡ true
-    → place_due store (kept ds) d.visit.cid ≡ Some here → Updates nat_cmp w v here true → es ≡ ds ++ d ∷ [] → IsTally store es failed None (at_most 32 (k + 1)) (at_most 32 (s + 1)) v skips
-tally-section store ds es failed d cut k s here w v skips h uncut sound due updates longer =
+pub tally-section : (store : Blocks) (ds es failed : List Delivery) (d : Delivery) (cut : Option ℕ) (c : Counts) (n k s t here : ℕ) (w v : BTreeSet ℕ) (skips : List Skip) → IsTally store ds failed cut c w skips → is_below (cut_behind ds) d.visit.depth ≡ false → is_sound d.verdict ≡ true
+    → place_due store (kept ds) d.visit.cid ≡ Some here → Updates nat_cmp w v here true → es ≡ ds ++ d ∷ [] → n ≡ at_most 32 (c.visits + 1) → k ≡ at_most 32 (c.kept + 1) → s ≡ at_most 32 (c.sections + 1) → t ≤ 2 ^ 64 - 1
+    → IsTally store es failed None (record { visits = n; kept = k; sections = s; bytes = t }) v skips
+tally-section store ds es failed d cut c n k s t here w v skips h uncut sound due updates longer visits keeps sections within =
     let left : kept es ≡ kept ds ++ d ∷ [] = ap kept longer ∙ kept-uncut ds d uncut in
-    let at = (due-told store (kept ds) d.visit.cid here due).1 in record {
+    let at = (due-told store (kept ds) d.visit.cid here due).1 in
+    let n_is = visits-more store ds es d c n h.counts_are longer visits in
+    let k_is = kept-more store ds es d c k h.counts_are left keeps in
+    let s_is : s ≡ at_most 32 (length (sections_of store (kept es))) = sections ∙ count-more (2 ^ 32 - 1) (length (sections_of store (kept ds))) (length (sections_of store (kept es))) c.sections (sections-of store ds c h.counts_are) (ap (λ l. length (sections_of store l)) left ∙ sections-due store (kept ds) d here sound due) in record {
       cut_is = sym (ap cut_behind longer ∙ cut-uncut ds d true uncut sound);
-      kept_is = kept-more ds es d k h.kept_is left;
-      sections_is = count-more (2 ^ 32 - 1) (length (sections_of store (kept ds))) (length (sections_of store (kept es))) s h.sections_is (ap (λ l. length (sections_of store l)) left ∙ sections-due store (kept ds) d here sound due);
+      counts_are = λ i. record { visits = n_is i; kept = k_is i; sections = s_is i; bytes = bytes-fit t within i };
       skips_is = h.skips_is ∙ sym (ap (λ l. skips_in l) left ∙ skips-sound (kept ds) d sound);
-      written_is = λ fine c place there.
-          put-place store (kept ds) w v d.visit.cid c here place updates at there (h.written_is fine c place there)
-          ∙ sym (ap (λ l. is_told l c) left ∙ told-push (kept ds) d c ∙ ap (λ b. is_told (kept ds) c || (b && bytes_eq d.visit.cid c)) sound);
+      written_is = λ fine e place there.
+          put-place store (kept ds) w v d.visit.cid e here place updates at there (h.written_is fine e place there)
+          ∙ sym (ap (λ l. is_told l e) left ∙ told-push (kept ds) d e ∙ ap (λ b. is_told (kept ds) e || (b && bytes_eq d.visit.cid e)) sound);
     }
-
--- the counts
-pub counts-are : (store : Blocks) (ds failed : List Delivery) (cut : Option ℕ) (k s : ℕ) (w : BTreeSet ℕ) (skips : List Skip) (n taken : ℕ) → IsTally store ds failed cut k s w skips → n ≡ length ds
-    → ◌≡◌ {A = Counts} (record { visits = at_most 32 n; kept = k; sections = s; bytes = at_most 64 taken }) (counts_of store ds taken)
-counts-are store ds failed cut k s w skips n taken h visits =
-    λ i. record { visits = at_most 32 (visits i); kept = h.kept_is i; sections = h.sections_is i; bytes = at_most 64 taken }
-
--- the same tally with its counts named otherwise
-pub tally-counted : (store : Blocks) (ds failed : List Delivery) (cut : Option ℕ) (k s k' s' : ℕ) (w : BTreeSet ℕ) (skips : List Skip) → IsTally store ds failed cut k s w skips → k' ≡ k → s' ≡ s → IsTally store ds failed cut k' s' w skips
-tally-counted store ds failed cut k s k' s' w skips h kept_same sections_same =
-    record { cut_is = h.cut_is; kept_is = kept_same ∙ h.kept_is; sections_is = sections_same ∙ h.sections_is; skips_is = h.skips_is; written_is = h.written_is }

@@ -10,10 +10,11 @@ use Rattle.ix_car.specs.declared.sink.Delivery.{Delivery}
 use Rattle.ix_car.specs.declared.sink.SinkFault.{SinkFault}
 use Rattle.ix_car.specs.declared.sink.SinkFault.TheVariants.{Write, Memory}
 use Rattle.ix_car.specs.declared.archive.Skip.{Skip}
+use Rattle.ix_car.specs.declared.archive.Counts.{Counts}
 use Rattle.ix_car.specs.Kept.{is_below, cut_after, kept}
-use Rattle.ix_car.specs.Archive.{is_sound, section_of, sections_of}
+use Rattle.ix_car.specs.Archive.{is_sound, section_of}
 use Rattle.ix_car.specs.ArchiveMeaning.{ArchiveMeaning, IsProperPrefix}
-use Rattle.ix_car.specs.Report.{skips_of, at_most}
+use Rattle.ix_car.specs.Report.{skips_of, at_most, counts_of}
 
 -- where deliveries are cut behind all of them
 abbrev pub cut_behind : List Delivery → Option ℕ
@@ -36,10 +37,9 @@ abbrev pub text_due : Blocks → List Delivery → Delivery → List ℕ
 text_due store ds d = if is_below (cut_behind ds) d.visit.depth then [] else text_behind store (kept ds) d
 
 -- what an archive keeps, beside these deliveries and those at which a write failed
-pub record IsTally (store : Blocks) (ds failed : List Delivery) (cut : Option ℕ) (kept_count sections : ℕ) (written : BTreeSet ℕ) (skips : List Skip) : Type 0 where
+pub record IsTally (store : Blocks) (ds failed : List Delivery) (cut : Option ℕ) (counts : Counts) (written : BTreeSet ℕ) (skips : List Skip) : Type 0 where
   pub cut_is : cut ≡ cut_behind ds
-  pub kept_is : kept_count ≡ at_most 32 (length (kept ds))
-  pub sections_is : sections ≡ at_most 32 (length (sections_of store (kept ds)))
+  pub counts_are : counts ≡ counts_of store ds counts.bytes
   pub skips_is : skips ≡ skips_of ds
   -- while nothing failed, the place of a CID is in the set where a kept sound delivery has that CID
   pub written_is : failed ≡ [] → (c : List ℕ) (place : ℕ) → position_of store c ≡ Some place → contains nat_cmp written place ≡ is_told (kept ds) c

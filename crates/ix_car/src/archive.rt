@@ -6,13 +6,12 @@ ghost use Rattle.ix_walk.specs.Store.{position_of};
 ghost use Rattle.ix_car.specs.Kept.{is_below, kept};
 ghost use Rattle.ix_car.specs.Archive.{is_sound};
 ghost use Rattle.ix_car.specs.ArchiveMeaning.{HasArchived, IsBegun};
-ghost use Rattle.ix_car.specs.Archiving.{cut_behind, place_due, text_due, IsDelivered};
-ghost use Rattle.ix_car.specs.Report.{skips_of, at_most, counts_of};
+ghost use Rattle.ix_car.specs.Archiving.{cut_behind, place_due, text_due, IsAdded, IsDelivered};
+ghost use Rattle.ix_car.specs.Report.{skips_of, counts_of};
 ghost use Rattle.ix_car.specs.ArchiveNew.{IsNoArchive};
 
-use crate::archive::output::{
-    header_of, push_reserved, set_section_head, write_section, write_text,
-};
+use crate::archive::output::{header_of, set_section_head, write_section, write_text};
+use crate::history::History;
 use crate::sink::{Delivery, End, Sink, SinkFault};
 use ix_check::verdict::Verdict;
 use ix_cid::cid::Cid;
@@ -34,7 +33,7 @@ pub struct Skip {
     pub verdict: Verdict,
 }
 
-/// What was counted.
+/// What was counted; each count stops at the greatest number.
 #[derive(Debug, Drop, Clone, Copy, PartialEq, Eq)]
 pub struct Counts {
     /// Deliveries that were taken.
@@ -45,20 +44,6 @@ pub struct Counts {
     pub sections: u32,
     /// Bytes that the writer took, with the header.
     pub bytes: u64,
-}
-
-impl Counts {
-    // The counts, where there may be more visits than can be counted.
-    fn of(visits: usize, kept: u32, sections: u32, bytes: u64) -> Counts
-        ensures { result ≡ record { visits = at_most 32 visits; kept = kept; sections = sections; bytes = at_most 64 bytes } }
-    {
-        Counts {
-            visits: visits.min(u32::MAX as usize) as u32,
-            kept,
-            sections,
-            bytes,
-        }
-    }
 }
 
 /// Takes the deliveries of a job, in preorder, and writes its archive.
@@ -73,16 +58,13 @@ impl Counts {
 pub struct Archive<'a, W: Write> {
     store: &'a Store,
     root: Cid,
-    deliveries: Vec<Delivery>,
+    // What was delivered. Contracts speak of it, and nothing else does.
+    deliveries: History<Delivery>,
     failed: Option<Delivery>,
     closed: Option<End>,
-    // How many bytes the writer took, stopping at the greatest number.
-    taken: u64,
     // The depth of the delivery below which the list is cut off.
     cut: Option<u32>,
-    // How many deliveries were kept, and how many sections were written, stopping at the greatest number.
-    kept: u32,
-    sections: u32,
+    counts: Counts,
     // Where the blocks that were written stand in the store.
     written: BTreeSet<usize>,
     skips: Vec<Skip>,
@@ -98,9 +80,9 @@ impl<'a, W: Write> Model for Archive<'a, W> {
 
     ghost Value = { ArchiveMeaning W };
 
-    ghost view = { λ a. record { store = a.store.now; root = a.root; deliveries = a.deliveries.items; failed = option_to_list a.failed; closed = option_to_list a.closed; taken = a.taken; writer = a.writer } };
+    ghost view = { λ a. record { store = a.store.now; root = a.root; deliveries = a.deliveries; failed = option_to_list a.failed; closed = option_to_list a.closed; taken = a.counts.bytes; writer = a.writer } };
 
-    ghost invariant = { λ a. IsTally a.store.now a.deliveries.items (option_to_list a.failed) a.cut a.kept a.sections a.written a.skips.items };
+    ghost invariant = { λ a. IsTally a.store.now a.deliveries (option_to_list a.failed) a.cut a.counts a.written a.skips.items };
 }
 
 /// Why no archive could be begun; the writer is handed back.
@@ -139,13 +121,16 @@ impl<'a, W: Write> Archive<'a, W> {
         Ok(Archive {
             store,
             root,
-            deliveries: Vec::new(alloc),
+            deliveries: History::new(),
             failed: None,
             closed: None,
-            taken: taken as u64,
             cut: None,
-            kept: 0,
-            sections: 0,
+            counts: Counts {
+                visits: 0,
+                kept: 0,
+                sections: 0,
+                bytes: taken as u64,
+            },
             written: BTreeSet::new(alloc),
             skips: Vec::new(alloc),
             scratch: header,
@@ -160,11 +145,11 @@ impl<'a, W: Write> Archive<'a, W> {
         self.skips.as_slice()
     }
 
-    /// What was counted so far; each count stops at the greatest number.
+    /// What was counted so far.
     pub fn counts(&self) -> Counts
         ensures { result ≡ counts_of self.now.store self.now.deliveries self.now.taken }
     {
-        Counts::of(self.deliveries.len(), self.kept, self.sections, self.taken)
+        self.counts
     }
 
     /// The writer, the skips and the counts.
@@ -173,24 +158,27 @@ impl<'a, W: Write> Archive<'a, W> {
         ensures skips { result.1.items ≡ skips_of self.entry.deliveries }
         ensures counts { result.2 ≡ counts_of self.entry.store self.entry.deliveries self.entry.taken }
     {
-        let counts = self.counts();
-        (self.writer, self.skips, counts)
+        (self.writer, self.skips, self.counts)
     }
 
     // Takes a delivery: cut off, a skip, a section, or no more than counted.
-    fn take(&mut self, alloc: Global, delivery: Delivery) -> Result<(), SinkFault>
+    fn take(&mut self, delivery: Delivery) -> Result<(), SinkFault>
         requires { self.old.failed ≡ [] }
         ensures { IsDelivered W.contents delivery (text_due self.old.store self.old.deliveries delivery) self.old result self.new }
     {
         if self.is_cut_off(delivery.visit.depth) {
-            return self.add_cut_off(delivery);
+            self.add_cut_off(&delivery);
+            return Ok(());
         }
         if !is_sound(delivery.verdict) {
-            return self.add_skip(alloc, delivery);
+            return self.add_skip(delivery);
         }
         match self.place_due(&delivery.visit) {
             Some(place) => self.add_section(delivery, place),
-            None => self.add_repeat(delivery),
+            None => {
+                self.add_repeat(&delivery);
+                Ok(())
+            }
         }
     }
 
@@ -216,58 +204,49 @@ impl<'a, W: Write> Archive<'a, W> {
     }
 
     // Adds a delivery that is cut off.
-    fn add_cut_off(&mut self, delivery: Delivery) -> Result<(), SinkFault>
+    fn add_cut_off(&mut self, delivery: &Delivery)
         requires unfailed { self.old.failed ≡ [] }
-        requires cut_off { is_below (cut_behind self.old.deliveries) delivery.visit.depth ≡ true }
-        ensures { IsDelivered W.contents delivery [] self.old result self.new }
+        requires cut_off { is_below (cut_behind self.old.deliveries) delivery.now.visit.depth ≡ true }
+        ensures { IsAdded W.contents delivery.now [] self.old self.new }
     {
-        if self.deliveries.push(delivery).is_err() {
-            return Err(SinkFault::Memory);
-        }
-        Ok(())
+        self.deliveries.note(delivery);
+        self.counts.visits = self.counts.visits.saturating_add(1);
     }
 
     // Adds a kept delivery that isn't sound.
-    fn add_skip(&mut self, alloc: Global, delivery: Delivery) -> Result<(), SinkFault>
+    fn add_skip(&mut self, delivery: Delivery) -> Result<(), SinkFault>
         requires unfailed { self.old.failed ≡ [] }
         requires uncut { is_below (cut_behind self.old.deliveries) delivery.visit.depth ≡ false }
         requires unsound { is_sound delivery.verdict ≡ false }
         ensures { IsDelivered W.contents delivery [] self.old result self.new }
     {
-        let Ok(cid) = delivery.visit.cid.try_clone(alloc) else {
-            return Err(SinkFault::Memory);
-        };
-        if self.deliveries.reserve(1).is_err() {
+        if self.skips.reserve(1).is_err() {
             return Err(SinkFault::Memory);
         }
-        let skip = Skip {
-            seq: delivery.visit.seq,
-            cid,
-            verdict: delivery.verdict,
-        };
-        if self.skips.push(skip).is_err() {
-            return Err(SinkFault::Memory);
-        }
+        self.deliveries.note(&delivery);
         self.cut = Some(delivery.visit.depth);
-        self.kept = self.kept.saturating_add(1);
-        push_reserved(&mut self.deliveries, delivery);
+        self.counts.visits = self.counts.visits.saturating_add(1);
+        self.counts.kept = self.counts.kept.saturating_add(1);
+        self.skips.push_reserved(Skip {
+            seq: delivery.visit.seq,
+            cid: delivery.visit.cid,
+            verdict: delivery.verdict,
+        });
         Ok(())
     }
 
     // Adds a kept sound delivery that has its section, or no block.
-    fn add_repeat(&mut self, delivery: Delivery) -> Result<(), SinkFault>
+    fn add_repeat(&mut self, delivery: &Delivery)
         requires unfailed { self.old.failed ≡ [] }
-        requires uncut { is_below (cut_behind self.old.deliveries) delivery.visit.depth ≡ false }
-        requires sound { is_sound delivery.verdict ≡ true }
-        requires none_due { place_due self.old.store (kept self.old.deliveries) delivery.visit.cid ≡ None }
-        ensures { IsDelivered W.contents delivery [] self.old result self.new }
+        requires uncut { is_below (cut_behind self.old.deliveries) delivery.now.visit.depth ≡ false }
+        requires sound { is_sound delivery.now.verdict ≡ true }
+        requires none_due { place_due self.old.store (kept self.old.deliveries) delivery.now.visit.cid ≡ None }
+        ensures { IsAdded W.contents delivery.now [] self.old self.new }
     {
-        if self.deliveries.push(delivery).is_err() {
-            return Err(SinkFault::Memory);
-        }
+        self.deliveries.note(delivery);
         self.cut = None;
-        self.kept = self.kept.saturating_add(1);
-        Ok(())
+        self.counts.visits = self.counts.visits.saturating_add(1);
+        self.counts.kept = self.counts.kept.saturating_add(1);
     }
 
     // Adds a kept sound delivery with its section, whose block stands at this place.
@@ -283,24 +262,22 @@ impl<'a, W: Write> Archive<'a, W> {
         if set_section_head(&mut self.scratch, &delivery.visit.cid, block).is_err() {
             return Err(SinkFault::Memory);
         }
-        if self.deliveries.reserve(1).is_err() {
-            return Err(SinkFault::Memory);
-        }
         if self.written.insert(place).is_err() {
             return Err(SinkFault::Memory);
         }
         let head = self.scratch.as_slice();
         let length = head.len() + block.len();
         let taken = write_section(&mut self.writer, head, block);
-        self.taken = self.taken.saturating_add(taken as u64);
+        self.counts.bytes = self.counts.bytes.saturating_add(taken as u64);
         if taken < length {
             self.failed = Some(delivery);
             return Err(SinkFault::Write);
         }
+        self.deliveries.note(&delivery);
         self.cut = None;
-        self.kept = self.kept.saturating_add(1);
-        self.sections = self.sections.saturating_add(1);
-        push_reserved(&mut self.deliveries, delivery);
+        self.counts.visits = self.counts.visits.saturating_add(1);
+        self.counts.kept = self.counts.kept.saturating_add(1);
+        self.counts.sections = self.counts.sections.saturating_add(1);
         Ok(())
     }
 }
@@ -314,8 +291,8 @@ impl<'a, W: Write> Sink for Archive<'a, W> {
 
     ghost fact = { HasArchived W.contents };
 
-    fn deliver(&mut self, alloc: Global, visit: Visit, verdict: Verdict) -> Result<(), SinkFault> {
-        self.take(alloc, Delivery { visit, verdict })
+    fn deliver(&mut self, _alloc: Global, visit: Visit, verdict: Verdict) -> Result<(), SinkFault> {
+        self.take(Delivery { visit, verdict })
     }
 
     fn close(&mut self, end: End) {

@@ -2,6 +2,7 @@
 #![tactic(auto)]
 
 pub mod archive;
+mod history;
 pub mod law;
 pub mod reader;
 pub mod sink;

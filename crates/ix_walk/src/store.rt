@@ -1,7 +1,7 @@
 //! Blocks under their CIDs.
 
-ghost use Rattle.std.specs.Prelude.{◌≡◌, ◌<◌, [], ◌∷◌, ◌++◌, length, map, slice_get, Some, true, false, IfOk, OnOk, OnErr, not, ◌==◌, if◌then◌else◌};
-ghost use Rattle.ix_walk.specs.Store.{has_cid, position_of};
+ghost use Rattle.std.specs.Prelude.{◌≡◌, ◌<◌, [], ◌∷◌, ◌++◌, length, map, slice_get, Some, true, false, IfOk, OnOk, OnErr, not, ◌==◌};
+ghost use Rattle.ix_walk.specs.Store.{has_cid, with_block, position_of};
 
 use ix_cbor::octets::Octets;
 use ix_cid::cid::Cid;
@@ -50,7 +50,7 @@ impl Store {
     /// Adds a block, unless its CID is there.
     pub fn add(&mut self, cid: Cid, bytes: Vec<u8>) -> Result<bool, AllocError>
         ensures answer { IfOk result (λ added. added ≡ not (has_cid self.old cid)) }
-        ensures added { OnOk result (self.new ≡ (if has_cid self.old cid then self.old else self.old ++ (cid, bytes.items) ∷ [])) }
+        ensures added { OnOk result (self.new ≡ with_block self.old (cid, bytes.items)) }
         ensures err { OnErr result (self.new ≡ self.old) }
     {
         if self.has(&cid) {
@@ -63,7 +63,7 @@ impl Store {
     /// Adds a copy of a block, unless its CID is there: then nothing is copied.
     pub fn add_copy(&mut self, cid: Cid, block: &[u8]) -> Result<bool, AllocError>
         ensures answer { IfOk result (λ added. added ≡ not (has_cid self.old cid)) }
-        ensures added { OnOk result (self.new ≡ (if has_cid self.old cid then self.old else self.old ++ (cid, block.now) ∷ [])) }
+        ensures added { OnOk result (self.new ≡ with_block self.old (cid, block.now)) }
         ensures err { OnErr result (self.new ≡ self.old) }
     {
         let is_new = !self.has(&cid);

@@ -1,6 +1,6 @@
 //! The bytes of an archive: its header, the heads of its sections, and how a text is written.
 
-ghost use Rattle.std.specs.Prelude.{◌≡◌, ◌<◌, ◌≤◌, ◌+◌, ◌++◌, [], ◌∷◌, length, take, IfOk, OnOk, vec_len, vec_capacity};
+ghost use Rattle.std.specs.Prelude.{◌≡◌, ◌≤◌, ◌+◌, ◌++◌, length, take, IfOk, OnOk};
 ghost use Rattle.std.specs.Io.KnownBytes.{Appends};
 ghost use Rattle.ix_cid.specs.Varint.{varint_of};
 ghost use Rattle.ix_cbor.specs.Spelling.{spelling_of};
@@ -79,12 +79,4 @@ pub fn write_text<W: Write>(writer: &mut W, text: &[u8]) -> usize
         }
     }
     taken
-}
-
-/// Puts an item at the end, where there is room for it.
-pub fn push_reserved<T: Drop>(items: &mut Vec<T>, item: T)
-    requires { vec_len items.old < vec_capacity items.old }
-    ensures { items.new.items ≡ items.old.items ++ item ∷ [] }
-{
-    let _ = items.push(item);
 }

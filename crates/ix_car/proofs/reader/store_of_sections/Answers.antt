@@ -1,7 +1,8 @@
 use Rattle.std.proofs.Common.{◌≡◌, ◌<◌, List, [], ℕ, length, arith, rules, sym, ◌∙◌}
 use Rattle.std.proofs.lemmas.Result.{err_from_is_err_and}
 use Rattle.ix_walk.proofs.Stores.{holds-at_ok}
-use Rattle.ix_car.specs.Reading.{sections_at, section_at, with_block}
+use Rattle.ix_walk.specs.Store.{with_block}
+use Rattle.ix_car.specs.Reading.{sections_at, section_at}
 use Rattle.ix_car.proofs.Sections.{GoesOn-first, GoesOn-more, GoesOn-fails, GoesOn-last, FailsAs-along}
 use Rattle.ix_car.proofs.reader.store_of_sections.Goals as goal
 

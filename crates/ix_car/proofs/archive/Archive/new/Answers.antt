@@ -17,5 +17,5 @@ returns-clause-fact g c =
     let is : header ≡ header_of c.args.job.now.root = c.as_slice.ensures.value ∙ c.in-Ok-header_of.ensures ∙ ap header_of same in
     let whole : length header ≤ c.write_text-taken.result = omega (arith, c.if-taken-len.false, c.len.ensures, c.as_slice.ensures.len) in
     let fits : c.write_text-taken.result ≤ 2 ^ 64 - 1 = omega (arith, c.write_text-taken.type_inv) in
-    begins-archived g.W.Write.contents c.args.writer c.write_text-taken.new.writer c.args.store.now c.args.job.now c.in-Ok.root header c.new.result.items c.write_text-taken.result same is c.new.ensures.items c.write_text-taken.ensures.within whole fits
+    begins-archived g.W.Write.contents c.args.writer c.write_text-taken.new.writer c.args.store.now c.args.job.now c.in-Ok.root header c.new.result c.write_text-taken.result same is c.new.ensures c.write_text-taken.ensures.within whole fits
     c.write_text-taken.ensures.grown
