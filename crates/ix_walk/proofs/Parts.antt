@@ -1,8 +1,9 @@
 -- Subtrees on a stack, taken apart.
-use Rattle.std.proofs.Common.{◌≡◌, ℕ, ◌+◌, ◌-◌, ◌<◌, ◌≤◌, List, [], ◌∷◌, ◌++◌, length, length-append, map, reverse, refl, sym, ◌∙◌, ap, subst, append_assoc, append-nil, arith}
-use Rattle.std.specs.Prelude.{Option, Some, None, Result, Ok, Err, OnOk}
+use Rattle.std.proofs.Common.{◌≡◌, ℕ, ◌+◌, ◌-◌, ◌<◌, ◌≤◌, Bool, true, false, eqb, List, [], ◌∷◌, ◌++◌, length, length-append, map, reverse, refl, sym, ◌∙◌, ap, subst, append_assoc, append-nil, arith}
+use Rattle.std.specs.Prelude.{Option, Some, None, Result, Ok, Err, OnOk, if◌then◌else◌}
 use Rattle.std.specs.Global.{Vec}
-use Rattle.std.proofs.lemmas.List.{reverse-append}
+use Rattle.std.proofs.lemmas.List.{reverse-append, nil_from_length}
+use Rattle.std.proofs.lemmas.Bool.{eqb-true}
 use Rattle.ix_cbor.specs.declared.node.Node.{Node}
 use Rattle.ix_cbor.specs.Data.{Data, Items, Entries, item, entry, items_of, entries_of, data_of}
 use Rattle.ix_cbor.specs.Stops.{entry_of}
@@ -15,7 +16,7 @@ use Rattle.ix_walk.specs.declared.subtree.Pending.{Pending}
 use Rattle.ix_walk.specs.declared.subtree.Found.{Found}
 use Rattle.ix_walk.specs.Arrivals.{Arrival, Inside}
 use Rattle.ix_walk.specs.Walking.{Test, Reach, reached_part, reach_from, Part, members, values, part_of, pending_arrivals, some_pending, stack_arrivals, NoDeeper, weight_of, part_weight, pending_weight, some_weight, stack_weight}
-use Rattle.ix_walk.specs.Descent.{child_arrivals, DepthIs, IsChild, pushed, Opens, Keeps, Finds}
+use Rattle.ix_walk.specs.Descent.{child_arrivals, DepthIs, IsChild, is_spent, pushed, Opens, Keeps, Finds}
 
 -- ---- a stack
 
@@ -75,19 +76,56 @@ values_split xs rest k d e =
     ap (λ (l : List (List ℕ × Node)). entries_of (map entry_of (reverse l))) e ∙ ap (λ (l : List (List ℕ × Node)). entries_of (map entry_of l)) (reverse-append rest ((k, d) ∷ [])) in
     subst (λ (i : Entries). IsSplit (values i) (key k) (data_of d) (values (entries_of (map entry_of (reverse rest))))) (sym entries) (value_split k (data_of d) (entries_of (map entry_of (reverse rest))))
 
+-- a list of no length
+none_in : {A : Type 0} (xs : List A) → eqb (length xs) 0 ≡ true → xs ≡ []
+none_in xs h = nil_from_length xs (eqb-true (length xs) 0 h)
+
+-- what is spent has no arrivals
+spent_arrivals : (cross : Reach) (enters : Test) (w : Waiting) → is_spent w ≡ true → reached_part cross enters (part_of w) ≡ []
+spent_arrivals cross enters (parts.Link c) h = absurd cc
+spent_arrivals cross enters (parts.Members m) h =
+    ap (λ (l : List Node). reached_part cross enters (members (m.count - length m.rest.items) (items_of (map data_of (reverse l))))) (none_in m.rest.items h)
+spent_arrivals cross enters (parts.Values rest) h =
+    ap (λ (l : List (List ℕ × Node)). reached_part cross enters (values (entries_of (map entry_of (reverse l))))) (none_in rest.items h)
+
+-- a stack with the rest of a subtree, unless that is spent
+abbrev kept_rest : List Pending → Pending → List Pending
+kept_rest old rest = if is_spent rest.waiting then old else old ++ rest ∷ []
+
+rest_arrivals : (inside : Inside) (limit : ℕ) (old : List Pending) (rest : Pending) → stack_arrivals inside limit (kept_rest old rest) ≡ pending_arrivals inside limit rest ++ stack_arrivals inside limit old
+rest_arrivals inside limit old rest =
+    let by : (b : Bool) → is_spent rest.waiting ≡ b → stack_arrivals inside limit (if b then old else old ++ rest ∷ []) ≡ pending_arrivals inside limit rest ++ stack_arrivals inside limit old = λ b.
+    elim b as (λ v. is_spent rest.waiting ≡ v → stack_arrivals inside limit (if v then old else old ++ rest ∷ []) ≡ pending_arrivals inside limit rest ++ stack_arrivals inside limit old) [
+      | true ↦ (λ h. ap (λ (z : List Arrival). z ++ stack_arrivals inside limit old) (sym (spent_arrivals (reach_from inside limit rest.depth) (residual_enters rest.residual) rest.waiting h)))
+      | false ↦ (λ h. stack_push inside limit old rest)
+    ] in
+    by (is_spent rest.waiting) refl
+
+rest_weight : (old : List Pending) (rest : Pending) → stack_weight (kept_rest old rest) ≤ pending_weight rest + stack_weight old
+rest_weight old rest =
+    elim (is_spent rest.waiting) as (λ b. stack_weight (if b then old else old ++ rest ∷ []) ≤ pending_weight rest + stack_weight old) [
+      | true ↦ omega arith
+      | false ↦ (let e = weight_push old rest in omega arith)
+    ]
+
+rest_deep : (bound : ℕ) (old : List Pending) (rest : Pending) → rest.depth ≤ bound → NoDeeper bound old → NoDeeper bound (kept_rest old rest)
+rest_deep bound old rest h n =
+    elim (is_spent rest.waiting) as (λ b. NoDeeper bound (if b then old else old ++ rest ∷ []))
+    [ true ↦ n | false ↦ deep_push bound old rest h n ]
+
 pushed_arrivals : (inside : Inside) (limit : ℕ) (old : List Pending) (rest : Pending) (o : Option Pending)
     → stack_arrivals inside limit (pushed old rest o) ≡ some_pending inside limit o ++ (pending_arrivals inside limit rest ++ stack_arrivals inside limit old)
-pushed_arrivals inside limit old rest None = stack_push inside limit old rest
+pushed_arrivals inside limit old rest None = ap (stack_arrivals inside limit) (append-nil (kept_rest old rest)) ∙ rest_arrivals inside limit old rest
 pushed_arrivals inside limit old rest (Some child) =
-    stack_push inside limit (old ++ rest ∷ []) child ∙ ap (λ (z : List Arrival). pending_arrivals inside limit child ++ z) (stack_push inside limit old rest)
+    stack_push inside limit (kept_rest old rest) child ∙ ap (λ (z : List Arrival). pending_arrivals inside limit child ++ z) (rest_arrivals inside limit old rest)
 
-pushed_weight : (old : List Pending) (rest : Pending) (o : Option Pending) → stack_weight (pushed old rest o) ≡ some_weight o + pending_weight rest + stack_weight old
-pushed_weight old rest None = let e = weight_push old rest in omega arith
-pushed_weight old rest (Some child) = let e = weight_push (old ++ rest ∷ []) child in let f = weight_push old rest in omega arith
+pushed_weight : (old : List Pending) (rest : Pending) (o : Option Pending) → stack_weight (pushed old rest o) ≤ some_weight o + pending_weight rest + stack_weight old
+pushed_weight old rest None = let e = ap stack_weight (append-nil (kept_rest old rest)) in let f = rest_weight old rest in omega arith
+pushed_weight old rest (Some child) = let e = weight_push (kept_rest old rest) child in let f = rest_weight old rest in omega arith
 
 pushed_deep : (bound depth : ℕ) (old : List Pending) (rest : Pending) (o : Option Pending) → rest.depth ≤ bound → rest.depth ≡ depth → DepthIs depth o → NoDeeper bound old → NoDeeper bound (pushed old rest o)
-pushed_deep bound depth old rest None h e is n = deep_push bound old rest h n
-pushed_deep bound depth old rest (Some child) h e is n = deep_push bound (old ++ rest ∷ []) child (omega arith) (deep_push bound old rest h n)
+pushed_deep bound depth old rest None h e is n = subst (NoDeeper bound) (sym (append-nil (kept_rest old rest))) (rest_deep bound old rest h n)
+pushed_deep bound depth old rest (Some child) h e is n = deep_push bound (kept_rest old rest) child (omega arith) (rest_deep bound old rest h n)
 
 -- what is left of a subtree and a child of it, put on the stack
 pub split_opens : (places : List Place) (depth : ℕ) (whole rest : Waiting) (t : Step) (d : Data) (o : Option Pending) (old new : List Pending)

@@ -1,8 +1,10 @@
 -- What taking subtrees apart does.
-use Rattle.std.specs.Prelude.{◌≡◌, ℕ, ◌+◌, ◌<◌, ◌≤◌, List, [], ◌∷◌, ◌++◌, Option, Some, None, IfNone, if◌then◌else◌}
+use Rattle.std.specs.Prelude.{◌≡◌, ℕ, ◌+◌, ◌<◌, ◌≤◌, ◌==◌, Bool, false, List, [], ◌∷◌, ◌++◌, length, Option, Some, None, IfNone, if◌then◌else◌, option_to_list}
 use Rattle.ix_cbor.specs.Data.{Data}
 use Rattle.ix_selector.specs.Enters.{Step}
 use Rattle.ix_selector.specs.Residual.{Place, residual_enters}
+use Rattle.ix_walk.specs.declared.subtree.Waiting.{Waiting}
+use Rattle.ix_walk.specs.declared.subtree.Waiting.TheVariants.{Link, Members, Values}
 use Rattle.ix_walk.specs.declared.subtree.Pending.{Pending}
 use Rattle.ix_walk.specs.declared.subtree.Found.{Found}
 use Rattle.ix_walk.specs.Arrivals.{Arrival, Inside}
@@ -22,10 +24,15 @@ pub record IsChild (places : List Place) (t : Step) (d : Data) (depth : ℕ) (o 
   pub weight : some_weight o ≤ weight_of d
   pub deep : DepthIs depth o
 
--- a stack with the rest of a subtree, and a child above it
+-- nothing is left
+abbrev pub is_spent : Waiting → Bool
+is_spent (Link c) = false
+is_spent (Members m) = length m.rest.items == 0
+is_spent (Values rest) = length rest.items == 0
+
+-- a stack with the rest of a subtree, unless that is spent, and a child above it
 abbrev pub pushed : List Pending → Pending → Option Pending → List Pending
-pushed old rest None = old ++ rest ∷ []
-pushed old rest (Some child) = (old ++ rest ∷ []) ++ child ∷ []
+pushed old rest o = (if is_spent rest.waiting then old else old ++ rest ∷ []) ++ option_to_list o
 
 -- a subtree is taken apart: a link is found, or its parts are put on the stack
 pub record Opens (p : Pending) (old : List Pending) (o : Option Found) (new : List Pending) : Type 0 where

@@ -5,7 +5,7 @@ ghost use Rattle.ix_cbor.specs.Data.{data_of};
 ghost use Rattle.ix_selector.specs.Residual.{step_of};
 ghost use Rattle.ix_walk.specs.declared.subtree.Waiting.TheVariants as parts;
 ghost use Rattle.ix_walk.specs.Walking.{part_of, part_below};
-ghost use Rattle.ix_walk.specs.Descent.{IsChild, pushed, Opens, Finds};
+ghost use Rattle.ix_walk.specs.Descent.{IsChild, is_spent, pushed, Opens, Finds};
 
 use crate::subtree::{Found, Members, Pending, Waiting};
 use ix_cbor::node::Node;
@@ -61,7 +61,19 @@ fn waiting_behind<'a>(
     }))
 }
 
-// Puts the rest of a subtree on the stack, and a child above it.
+// Whether nothing is left.
+fn is_spent(waiting: &Waiting) -> bool
+    ensures { result ≡ is_spent waiting.now }
+{
+    match waiting {
+        Waiting::Link(_) => false,
+        Waiting::Members(members) => members.rest.is_empty(),
+        Waiting::Values(rest) => rest.is_empty(),
+    }
+}
+
+// Puts the rest of a subtree on the stack, unless it is spent, and a child above it. So a chain of links
+// each of which stands last in its block takes no more of the stack the longer it is.
 fn push_parts<'a>(
     stack: &mut Vec<Pending<'a>>,
     rest: Pending<'a>,
@@ -69,7 +81,9 @@ fn push_parts<'a>(
 ) -> Result<(), AllocError>
     ensures { OnOk result (stack.new.items ≡ pushed stack.old.items rest.entry child.entry) }
 {
-    stack.push(rest)?;
+    if !is_spent(&rest.waiting) {
+        stack.push(rest)?;
+    }
     if let Some(child) = child {
         stack.push(child)?;
     }
