@@ -15,6 +15,7 @@ use Rattle.ix_check.specs.declared.verdict.Verdict.TheVariants.{Codec, Hash, Mis
 use Rattle.ix_walk.specs.Store.{Blocks, position_behind, position_of}
 use Rattle.ix_car.specs.declared.archive.Skip.{Skip}
 use Rattle.ix_car.specs.declared.sink.Delivery.{Delivery}
+use Rattle.ix_car.specs.declared.sink.End.{End}
 use Rattle.ix_car.specs.Kept.{is_below, kept}
 use Rattle.ix_car.specs.Archive.{is_sound, sections_of}
 use Rattle.ix_car.specs.declared.archive.Counts.{Counts}
@@ -68,32 +69,28 @@ bytes-of store ds c h = ap (λ (x : Counts). x.bytes) h
 bytes-fit : (t : ℕ) → t ≤ 2 ^ 64 - 1 → t ≡ at_most 64 t
 bytes-fit t within = omega arith
 
--- an archive that has no deliveries
-pub tally-none : (store : Blocks) (failed : List Delivery) (written : BTreeSet ℕ) (t : ℕ) → written.keys ≡ [] → t ≤ 2 ^ 64 - 1 → IsTally store [] failed None (record { visits = 0; kept = 0; sections = 0; bytes = t }) written []
-tally-none store failed written t empty within = record {
-  cut_is = refl;
-  counts_are = λ i. record { visits = 0; kept = 0; sections = 0; bytes = bytes-fit t within i };
-  skips_is = refl;
-  written_is = λ _ c place _. ap (λ ks. list_any (is_at (nat_cmp place)) ks) empty;
-}
-
 -- the same tally with a set of the same places
-pub tally-same : (store : Blocks) (ds failed : List Delivery) (cut : Option ℕ) (c : Counts) (w v : BTreeSet ℕ) (skips : List Skip) → IsTally store ds failed cut c w skips → v.keys ≡ w.keys → IsTally store ds failed cut c v skips
-tally-same store ds failed cut c w v skips h keys = record {
+pub tally-same : (store : Blocks) (ds failed : List Delivery) (closed : List End) (cut : Option ℕ) (c : Counts) (w v : BTreeSet ℕ) (skips : List Skip) → IsTally store ds failed closed cut c w skips → v.keys ≡ w.keys → IsTally store ds failed closed cut c v skips
+tally-same store ds failed closed cut c w v skips h keys = record {
   cut_is = h.cut_is;
   counts_are = h.counts_are;
   skips_is = h.skips_is;
-  written_is = λ none e place at. ap (λ ks. list_any (is_at (nat_cmp place)) ks) keys ∙ h.written_is none e place at;
+  written_is = λ none unclosed e place at. ap (λ ks. list_any (is_at (nat_cmp place)) ks) keys ∙ h.written_is none unclosed e place at;
 }
 
 -- a failure leaves no promise of what was written
-pub tally-failed : (store : Blocks) (ds failed : List Delivery) (d : Delivery) (cut : Option ℕ) (c : Counts) (t : ℕ) (w v : BTreeSet ℕ) (skips : List Skip) → IsTally store ds failed cut c w skips → t ≤ 2 ^ 64 - 1 → IsTally store ds (d ∷ []) cut (record { visits = c.visits; kept = c.kept; sections = c.sections; bytes = t }) v skips
-tally-failed store ds failed d cut c t w v skips h within = record {
+pub tally-failed : (store : Blocks) (ds failed : List Delivery) (closed : List End) (d : Delivery) (cut : Option ℕ) (c : Counts) (t : ℕ) (w v : BTreeSet ℕ) (skips : List Skip) → IsTally store ds failed closed cut c w skips → t ≤ 2 ^ 64 - 1 → IsTally store ds (d ∷ []) closed cut (record { visits = c.visits; kept = c.kept; sections = c.sections; bytes = t }) v skips
+tally-failed store ds failed closed d cut c t w v skips h within = record {
   cut_is = h.cut_is;
   counts_are = λ i. record { visits = visits-of store ds c h.counts_are i; kept = kept-of store ds c h.counts_are i; sections = sections-of store ds c h.counts_are i; bytes = bytes-fit t within i };
   skips_is = h.skips_is;
-  written_is = λ none e place at. absurd cc;
+  written_is = λ none unclosed e place at. absurd cc;
 }
+
+-- a close leaves no promise of what was written
+pub tally-closed : (store : Blocks) (ds failed : List Delivery) (closed : List End) (end : End) (cut : Option ℕ) (c : Counts) (w v : BTreeSet ℕ) (skips : List Skip) → IsTally store ds failed closed cut c w skips → IsTally store ds failed (end ∷ []) cut c v skips
+tally-closed store ds failed closed end cut c w v skips h =
+    record { cut_is = h.cut_is; counts_are = h.counts_are; skips_is = h.skips_is; written_is = λ none unclosed e place at. absurd cc }
 
 -- the number of deliveries, one higher
 visits-more : (store : Blocks) (ds es : List Delivery) (d : Delivery) (c : Counts) (n : ℕ) → c ≡ counts_of store ds c.bytes → es ≡ ds ++ d ∷ [] → n ≡ at_most 32 (c.visits + 1) → n ≡ at_most 32 (length es)
@@ -101,9 +98,9 @@ visits-more store ds es d c n h longer is =
     is ∙ count-more (2 ^ 32 - 1) (length ds) (length es) c.visits (visits-of store ds c h) (ap length longer ∙ length_push ds d)
 
 -- a delivery that is cut off
-pub tally-cut_off : (store : Blocks) (ds es failed : List Delivery) (d : Delivery) (cut : Option ℕ) (c : Counts) (n : ℕ) (w : BTreeSet ℕ) (skips : List Skip) → IsTally store ds failed cut c w skips → is_below (cut_behind ds) d.visit.depth ≡ true → es ≡ ds ++ d ∷ [] → n ≡ at_most 32 (c.visits + 1)
-    → IsTally store es failed cut (record { visits = n; kept = c.kept; sections = c.sections; bytes = c.bytes }) w skips
-tally-cut_off store ds es failed d cut c n w skips h below longer visits =
+pub tally-cut_off : (store : Blocks) (ds es failed : List Delivery) (closed : List End) (d : Delivery) (cut : Option ℕ) (c : Counts) (n : ℕ) (w : BTreeSet ℕ) (skips : List Skip) → IsTally store ds failed closed cut c w skips → is_below (cut_behind ds) d.visit.depth ≡ true → es ≡ ds ++ d ∷ [] → n ≡ at_most 32 (c.visits + 1)
+    → IsTally store es failed closed cut (record { visits = n; kept = c.kept; sections = c.sections; bytes = c.bytes }) w skips
+tally-cut_off store ds es failed closed d cut c n w skips h below longer visits =
     let same : kept es ≡ kept ds = ap kept longer ∙ kept-cut_off ds d below in
     let n_is = visits-more store ds es d c n h.counts_are longer visits in
     let k_is : c.kept ≡ at_most 32 (length (kept es)) = kept-of store ds c h.counts_are ∙ ap (λ l. at_most 32 (length l)) (sym same) in
@@ -111,7 +108,7 @@ tally-cut_off store ds es failed d cut c n w skips h below longer visits =
       cut_is = h.cut_is ∙ sym (ap cut_behind longer ∙ cut-cut_off ds d below);
       counts_are = λ i. record { visits = n_is i; kept = k_is i; sections = s_is i; bytes = bytes-of store ds c h.counts_are i };
       skips_is = h.skips_is ∙ ap (λ l. skips_in l) (sym same);
-      written_is = λ none e place at. h.written_is none e place at ∙ ap (λ l. is_told l e) (sym same);
+      written_is = λ none unclosed e place at. h.written_is none unclosed e place at ∙ ap (λ l. is_told l e) (sym same);
     }
 
 -- the number of those kept, one higher
@@ -125,10 +122,10 @@ or-nothing true b h = refl
 or-nothing false b h = h
 
 -- a skip
-pub tally-skip : (store : Blocks) (ds es failed : List Delivery) (d : Delivery) (cut : Option ℕ) (c : Counts) (n k : ℕ) (w : BTreeSet ℕ) (skips more : List Skip) → IsTally store ds failed cut c w skips → is_below (cut_behind ds) d.visit.depth ≡ false → is_sound d.verdict ≡ false → es ≡ ds ++ d ∷ []
+pub tally-skip : (store : Blocks) (ds es failed : List Delivery) (closed : List End) (d : Delivery) (cut : Option ℕ) (c : Counts) (n k : ℕ) (w : BTreeSet ℕ) (skips more : List Skip) → IsTally store ds failed closed cut c w skips → is_below (cut_behind ds) d.visit.depth ≡ false → is_sound d.verdict ≡ false → es ≡ ds ++ d ∷ []
     → more ≡ skips ++ record { seq = d.visit.seq; cid = d.visit.cid; verdict = d.verdict } ∷ [] → n ≡ at_most 32 (c.visits + 1) → k ≡ at_most 32 (c.kept + 1)
-    → IsTally store es failed (Some d.visit.depth) (record { visits = n; kept = k; sections = c.sections; bytes = c.bytes }) w more
-tally-skip store ds es failed d cut c n k w skips more h uncut unsound longer added visits keeps =
+    → IsTally store es failed closed (Some d.visit.depth) (record { visits = n; kept = k; sections = c.sections; bytes = c.bytes }) w more
+tally-skip store ds es failed closed d cut c n k w skips more h uncut unsound longer added visits keeps =
     let left : kept es ≡ kept ds ++ d ∷ [] = ap kept longer ∙ kept-uncut ds d uncut in
     let n_is = visits-more store ds es d c n h.counts_are longer visits in
     let k_is = kept-more store ds es d c k h.counts_are left keeps in
@@ -136,7 +133,7 @@ tally-skip store ds es failed d cut c n k w skips more h uncut unsound longer ad
       cut_is = sym (ap cut_behind longer ∙ cut-uncut ds d false uncut unsound);
       counts_are = λ i. record { visits = n_is i; kept = k_is i; sections = s_is i; bytes = bytes-of store ds c h.counts_are i };
       skips_is = added ∙ ap (λ l. l ++ record { seq = d.visit.seq; cid = d.visit.cid; verdict = d.verdict } ∷ []) h.skips_is ∙ sym (ap (λ l. skips_in l) left ∙ skips-unsound (kept ds) d unsound);
-      written_is = λ none e place at. h.written_is none e place at
+      written_is = λ none unclosed e place at. h.written_is none unclosed e place at
           ∙ sym (ap (λ l. is_told l e) left ∙ told-push (kept ds) d e ∙ or-nothing (is_told (kept ds) e) (is_sound d.verdict && bytes_eq d.visit.cid e) (ap (λ b. b && bytes_eq d.visit.cid e) unsound));
     }
 
@@ -154,9 +151,9 @@ repeat-told store ks d c place none at =
     by (bytes_eq d.visit.cid c) (is_told ks d.visit.cid) refl refl
 
 -- a sound one that has its section, or no block
-pub tally-repeat : (store : Blocks) (ds es failed : List Delivery) (d : Delivery) (cut : Option ℕ) (c : Counts) (n k : ℕ) (w : BTreeSet ℕ) (skips : List Skip) → IsTally store ds failed cut c w skips → is_below (cut_behind ds) d.visit.depth ≡ false → is_sound d.verdict ≡ true → place_due store (kept ds) d.visit.cid ≡ None
-    → es ≡ ds ++ d ∷ [] → n ≡ at_most 32 (c.visits + 1) → k ≡ at_most 32 (c.kept + 1) → IsTally store es failed None (record { visits = n; kept = k; sections = c.sections; bytes = c.bytes }) w skips
-tally-repeat store ds es failed d cut c n k w skips h uncut sound none longer visits keeps =
+pub tally-repeat : (store : Blocks) (ds es failed : List Delivery) (closed : List End) (d : Delivery) (cut : Option ℕ) (c : Counts) (n k : ℕ) (w : BTreeSet ℕ) (skips : List Skip) → IsTally store ds failed closed cut c w skips → is_below (cut_behind ds) d.visit.depth ≡ false → is_sound d.verdict ≡ true → place_due store (kept ds) d.visit.cid ≡ None
+    → es ≡ ds ++ d ∷ [] → n ≡ at_most 32 (c.visits + 1) → k ≡ at_most 32 (c.kept + 1) → IsTally store es failed closed None (record { visits = n; kept = k; sections = c.sections; bytes = c.bytes }) w skips
+tally-repeat store ds es failed closed d cut c n k w skips h uncut sound none longer visits keeps =
     let left : kept es ≡ kept ds ++ d ∷ [] = ap kept longer ∙ kept-uncut ds d uncut in
     let n_is = visits-more store ds es d c n h.counts_are longer visits in
     let k_is = kept-more store ds es d c k h.counts_are left keeps in
@@ -164,7 +161,7 @@ tally-repeat store ds es failed d cut c n k w skips h uncut sound none longer vi
       cut_is = sym (ap cut_behind longer ∙ cut-uncut ds d true uncut sound);
       counts_are = λ i. record { visits = n_is i; kept = k_is i; sections = s_is i; bytes = bytes-of store ds c h.counts_are i };
       skips_is = h.skips_is ∙ sym (ap (λ l. skips_in l) left ∙ skips-sound (kept ds) d sound);
-      written_is = λ fine e place at. h.written_is fine e place at
+      written_is = λ fine unclosed e place at. h.written_is fine unclosed e place at
           ∙ sym (ap (λ l. is_told l e) left ∙ told-push (kept ds) d e ∙ ap (λ b. is_told (kept ds) e || (b && bytes_eq d.visit.cid e)) sound ∙ repeat-told store (kept ds) d e place none at);
     }
 
@@ -218,10 +215,10 @@ put-place store ks w v d c here place updates at there was =
     updates.0 place ∙ by (bytes_eq d c) refl
 
 -- a section
-pub tally-section : (store : Blocks) (ds es failed : List Delivery) (d : Delivery) (cut : Option ℕ) (c : Counts) (n k s t here : ℕ) (w v : BTreeSet ℕ) (skips : List Skip) → IsTally store ds failed cut c w skips → is_below (cut_behind ds) d.visit.depth ≡ false → is_sound d.verdict ≡ true
+pub tally-section : (store : Blocks) (ds es failed : List Delivery) (closed : List End) (d : Delivery) (cut : Option ℕ) (c : Counts) (n k s t here : ℕ) (w v : BTreeSet ℕ) (skips : List Skip) → IsTally store ds failed closed cut c w skips → is_below (cut_behind ds) d.visit.depth ≡ false → is_sound d.verdict ≡ true
     → place_due store (kept ds) d.visit.cid ≡ Some here → Updates nat_cmp w v here true → es ≡ ds ++ d ∷ [] → n ≡ at_most 32 (c.visits + 1) → k ≡ at_most 32 (c.kept + 1) → s ≡ at_most 32 (c.sections + 1) → t ≤ 2 ^ 64 - 1
-    → IsTally store es failed None (record { visits = n; kept = k; sections = s; bytes = t }) v skips
-tally-section store ds es failed d cut c n k s t here w v skips h uncut sound due updates longer visits keeps sections within =
+    → IsTally store es failed closed None (record { visits = n; kept = k; sections = s; bytes = t }) v skips
+tally-section store ds es failed closed d cut c n k s t here w v skips h uncut sound due updates longer visits keeps sections within =
     let left : kept es ≡ kept ds ++ d ∷ [] = ap kept longer ∙ kept-uncut ds d uncut in
     let at = (due-told store (kept ds) d.visit.cid here due).1 in
     let n_is = visits-more store ds es d c n h.counts_are longer visits in
@@ -230,7 +227,7 @@ tally-section store ds es failed d cut c n k s t here w v skips h uncut sound du
       cut_is = sym (ap cut_behind longer ∙ cut-uncut ds d true uncut sound);
       counts_are = λ i. record { visits = n_is i; kept = k_is i; sections = s_is i; bytes = bytes-fit t within i };
       skips_is = h.skips_is ∙ sym (ap (λ l. skips_in l) left ∙ skips-sound (kept ds) d sound);
-      written_is = λ fine e place there.
-          put-place store (kept ds) w v d.visit.cid e here place updates at there (h.written_is fine e place there)
+      written_is = λ fine unclosed e place there.
+          put-place store (kept ds) w v d.visit.cid e here place updates at there (h.written_is fine unclosed e place there)
           ∙ sym (ap (λ l. is_told l e) left ∙ told-push (kept ds) d e ∙ ap (λ b. is_told (kept ds) e || (b && bytes_eq d.visit.cid e)) sound);
     }

@@ -7,6 +7,7 @@ use Rattle.std.specs.Io.KnownBytes.{Appends}
 use Rattle.ix_check.specs.Verdict.{passes}
 use Rattle.ix_walk.specs.Store.{Blocks, position_of}
 use Rattle.ix_car.specs.declared.sink.Delivery.{Delivery}
+use Rattle.ix_car.specs.declared.sink.End.{End}
 use Rattle.ix_car.specs.declared.sink.SinkFault.{SinkFault}
 use Rattle.ix_car.specs.declared.sink.SinkFault.TheVariants.{Write, Memory}
 use Rattle.ix_car.specs.declared.archive.Skip.{Skip}
@@ -36,13 +37,13 @@ text_behind store ks d = if is_sound d.verdict then (if is_told ks d.visit.cid t
 abbrev pub text_due : Blocks → List Delivery → Delivery → List ℕ
 text_due store ds d = if is_below (cut_behind ds) d.visit.depth then [] else text_behind store (kept ds) d
 
--- what an archive keeps, beside these deliveries and those at which a write failed
-pub record IsTally (store : Blocks) (ds failed : List Delivery) (cut : Option ℕ) (counts : Counts) (written : BTreeSet ℕ) (skips : List Skip) : Type 0 where
+-- what an archive keeps, beside these deliveries, those at which a write failed, and the close
+pub record IsTally (store : Blocks) (ds failed : List Delivery) (closed : List End) (cut : Option ℕ) (counts : Counts) (written : BTreeSet ℕ) (skips : List Skip) : Type 0 where
   pub cut_is : cut ≡ cut_behind ds
   pub counts_are : counts ≡ counts_of store ds counts.bytes
   pub skips_is : skips ≡ skips_of ds
-  -- while nothing failed, the place of a CID is in the set where a kept sound delivery has that CID
-  pub written_is : failed ≡ [] → (c : List ℕ) (place : ℕ) → position_of store c ≡ Some place → contains nat_cmp written place ≡ is_told (kept ds) c
+  -- while nothing failed and nothing was closed, the place of a CID is in the set where a kept sound delivery has that CID
+  pub written_is : failed ≡ [] → closed ≡ [] → (c : List ℕ) (place : ℕ) → position_of store c ≡ Some place → contains nat_cmp written place ≡ is_told (kept ds) c
 
 -- the writer took this text, its bytes were counted, and store, root and close are as they were
 pub record HasTaken {W : Type 0} (told : W → Option (List ℕ)) (before after : ArchiveMeaning W) (text : List ℕ) : Type 0 where

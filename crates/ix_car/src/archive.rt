@@ -65,7 +65,7 @@ pub struct Archive<'a, W: Write> {
     // The depth of the delivery below which the list is cut off.
     cut: Option<u32>,
     counts: Counts,
-    // Where the blocks that were written stand in the store.
+    // Where the blocks that were written stand in the store; none any more once it is closed.
     written: BTreeSet<usize>,
     skips: Vec<Skip>,
     // What stands before a section's block. Its room is kept from one section to the next.
@@ -82,7 +82,7 @@ impl<'a, W: Write> Model for Archive<'a, W> {
 
     ghost view = { λ a. record { store = a.store.now; root = a.root; deliveries = a.deliveries; failed = option_to_list a.failed; closed = option_to_list a.closed; taken = a.counts.bytes; writer = a.writer } };
 
-    ghost invariant = { λ a. IsTally a.store.now a.deliveries (option_to_list a.failed) a.cut a.counts a.written a.skips.items };
+    ghost invariant = { λ a. IsTally a.store.now a.deliveries (option_to_list a.failed) (option_to_list a.closed) a.cut a.counts a.written a.skips.items };
 }
 
 /// Why no archive could be begun; the writer is handed back.
@@ -163,7 +163,8 @@ impl<'a, W: Write> Archive<'a, W> {
 
     // Takes a delivery: cut off, a skip, a section, or no more than counted.
     fn take(&mut self, delivery: Delivery) -> Result<(), SinkFault>
-        requires { self.old.failed ≡ [] }
+        requires unfailed { self.old.failed ≡ [] }
+        requires unclosed { self.old.closed ≡ [] }
         ensures { IsDelivered W.contents delivery (text_due self.old.store self.old.deliveries delivery) self.old result self.new }
     {
         if self.is_cut_off(delivery.visit.depth) {
@@ -194,7 +195,8 @@ impl<'a, W: Write> Archive<'a, W> {
 
     // Where the block stands of the section that a kept sound delivery of this visit writes.
     fn place_due(&self, visit: &Visit) -> Option<usize>
-        requires { self.now.failed ≡ [] }
+        requires unfailed { self.now.failed ≡ [] }
+        requires unclosed { self.now.closed ≡ [] }
         ensures { result ≡ place_due self.now.store (kept self.now.deliveries) visit.now.cid }
     {
         match self.store.find_near(visit.block, &visit.cid) {
@@ -297,6 +299,7 @@ impl<'a, W: Write> Sink for Archive<'a, W> {
 
     fn close(&mut self, end: End) {
         self.closed = Some(end);
+        self.written.clear();
     }
 }
 

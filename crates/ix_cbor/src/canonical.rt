@@ -2,12 +2,12 @@
 
 ghost use Rattle.std.specs.Prelude.{◌≡◌, ◌≢◌, ◌↔◌, ◌+◌, ◌/◌, ◌%◌, ◌^◌, ◌<◌, IsTrue, None, length, map};
 ghost use Rattle.ix_cbor.specs.Data.{data_of, integer, items_of, entries_of};
-ghost use Rattle.ix_cbor.specs.Spelling.{IsCanonical, IsSpellable, key_cmp};
+ghost use Rattle.ix_cbor.specs.Spelling.{IsCanonical, IsSpellable};
 ghost use Rattle.ix_cbor.specs.Fits.{Fits, ItemsFit, EntriesFit};
 
+use crate::head::compare_keys;
 use crate::node::Node;
 use crate::octets::Octets;
-use std::cmp::Ordering;
 
 // How deep lists and maps may nest.
 const LEVELS: u32 = 512;
@@ -38,13 +38,6 @@ fn has_room(bytes: &[u8], more: usize) -> bool
     ensures { IsTrue result ↔ (length bytes.now + more < 2 ^ 64) }
 {
     bytes.len() <= usize::MAX - more
-}
-
-// The shorter key first, keys of one length by their bytes.
-fn compare_keys(before: &[u8], key: &[u8]) -> Ordering
-    ensures { result ≡ key_cmp before.now key.now }
-{
-    before.len().cmp(&key.len()).then_with(|| before.cmp(key))
 }
 
 // Whether the node has a spelling, and lists and maps nest at most so many levels deep in it.

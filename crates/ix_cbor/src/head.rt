@@ -3,13 +3,14 @@
 ghost use Rattle.std.specs.Prelude.{◌≡◌, ◌^◌, ◌<◌, ◌++◌, length, option_map, OnOk};
 ghost use Rattle.std.specs.Int.{w8, w16, w32, w64, from_be_bytes};
 ghost use Rattle.ix_cbor.specs.declared.decode.CborKind.TheVariants.{KeyKind};
-ghost use Rattle.ix_cbor.specs.Spelling.{head_of};
+ghost use Rattle.ix_cbor.specs.Spelling.{head_of, key_cmp};
 ghost use Rattle.ix_cbor.specs.Reading.{fails, take_at, wide_at, argument_at, string_at, string_of_major, rises, key_at};
 ghost use Rattle.ix_cbor.specs.Stops.{Reads};
 
 use crate::decode::CborKind;
 use crate::read::Stop;
 use std::alloc::AllocError;
+use std::cmp::Ordering;
 
 // The number that eight bytes spell.
 pub(crate) fn u64_of(bytes: &[u8]) -> u64
@@ -129,13 +130,20 @@ fn key_text(bytes: &[u8]) -> Result<(&[u8], &[u8]), Stop>
     }
 }
 
-// Whether a key is longer than the one before it, or as long and above it byte by byte.
+// The shorter key first, keys of one length by their bytes.
+pub(crate) fn compare_keys(before: &[u8], key: &[u8]) -> Ordering
+    ensures { result ≡ key_cmp before.now key.now }
+{
+    before.len().cmp(&key.len()).then_with(|| before.cmp(key))
+}
+
+// Whether a key comes behind the one before it.
 fn is_above(before: Option<&[u8]>, key: &[u8]) -> bool
     ensures { result ≡ rises (option_map (λ k. k.now) before.entry) key.now }
 {
     match before {
         None => true,
-        Some(last) => last.len().cmp(&key.len()).then(last.cmp(key)).is_lt(),
+        Some(last) => compare_keys(last, key).is_lt(),
     }
 }
 

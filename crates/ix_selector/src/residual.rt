@@ -10,7 +10,7 @@ use crate::sel::Sel;
 use crate::selector::Selector;
 use crate::step::Step;
 use std::alloc::{AllocError, Global};
-use std::marker::Model;
+use std::marker::{Model, PhantomData};
 
 #[cfg(test)]
 mod tests;
@@ -18,8 +18,9 @@ mod tests;
 /// What is left of a selector at a place, seen as a set of selectors inside recursions.
 #[derive(Drop)]
 pub struct Residual<'s> {
-    whole: &'s Selector,
     rest: Sel,
+    // A form that shares the selector's places can come behind the same signatures.
+    of: PhantomData<&'s Selector>,
 }
 
 impl<'s> Model for Residual<'s> {
@@ -44,8 +45,8 @@ impl<'s> Residual<'s> {
     {
         let rest = copied(alloc, selector.root())?;
         Ok(Residual {
-            whole: selector,
             rest,
+            of: PhantomData,
         })
     }
 
@@ -59,8 +60,8 @@ impl<'s> Residual<'s> {
         let rest = left_after(alloc, &self.rest, step)?;
         if stands(&rest) {
             Ok(Some(Residual {
-                whole: self.whole,
                 rest,
+                of: PhantomData,
             }))
         } else {
             Ok(None)

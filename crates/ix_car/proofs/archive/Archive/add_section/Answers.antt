@@ -17,7 +17,7 @@ bytes-block-requires g c =
 pub invariant_of-self-then-is_err-2 : goal.invariant_of-self-then-is_err-2
 invariant_of-self-then-is_err-2 g c =
     let a = c.self.inside in
-    tally-same a.store.now a.deliveries (option_to_list a.failed) a.cut a.counts a.written c.insert.new.self a.skips.items c.self.invariant
+    tally-same a.store.now a.deliveries (option_to_list a.failed) (option_to_list a.closed) a.cut a.counts a.written c.insert.new.self a.skips.items c.self.invariant
     (at-err c.insert.result c.is_err-2.result c.insert.ensures.err c.is_err-2.ensures.value c.if-is_err-2.true)
 
 pub invariant_of-self-then-taken-length : goal.invariant_of-self-then-taken-length
@@ -25,7 +25,7 @@ invariant_of-self-then-taken-length g c =
     let a = c.self.inside in
     let d = c.args.delivery in
     let within : c.saturating_add-self-inside.result ≤ 2 ^ 64 - 1 = omega (arith, c.saturating_add-self-inside.ensures) in
-    tally-failed a.store.now a.deliveries (option_to_list a.failed) d a.cut a.counts c.saturating_add-self-inside.result a.written c.insert.new.self a.skips.items c.self.invariant within
+    tally-failed a.store.now a.deliveries (option_to_list a.failed) (option_to_list a.closed) d a.cut a.counts c.saturating_add-self-inside.result a.written c.insert.new.self a.skips.items c.self.invariant within
 
 pub returns-then-taken-length : goal.returns-then-taken-length
 returns-then-taken-length g c =
@@ -44,7 +44,7 @@ invariant_of-self-2 g c =
     let a = c.self.inside in
     let d = c.args.delivery in
     let within : c.saturating_add-self-inside.result ≤ 2 ^ 64 - 1 = omega (arith, c.saturating_add-self-inside.ensures) in
-    tally-section a.store.now a.deliveries c.note.new.self (option_to_list a.failed) d a.cut a.counts c.saturating_add-self-inside-2.result c.saturating_add-self-inside-3.result c.saturating_add-self-inside-4.result c.saturating_add-self-inside.result c.args.place a.written c.insert.new.self a.skips.items c.self.invariant
+    tally-section a.store.now a.deliveries c.note.new.self (option_to_list a.failed) (option_to_list a.closed) d a.cut a.counts c.saturating_add-self-inside-2.result c.saturating_add-self-inside-3.result c.saturating_add-self-inside-4.result c.saturating_add-self-inside.result c.args.place a.written c.insert.new.self a.skips.items c.self.invariant
     (subst (λ v. is_below (cut_behind v.deliveries) d.visit.depth ≡ false) (sym c.self.view_is) c.requires.uncut)
     c.requires.sound
     (subst (λ v. place_due v.store (kept v.deliveries) d.visit.cid ≡ Some c.args.place) (sym c.self.view_is) c.requires.due)

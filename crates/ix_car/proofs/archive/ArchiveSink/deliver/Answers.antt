@@ -1,7 +1,11 @@
 use Rattle.ix_car.specs.declared.sink.Delivery.{Delivery}
 use Rattle.ix_car.specs.Archiving.{text_due}
+use Rattle.ix_car.proofs.Open.{open_means}
 use Rattle.ix_car.proofs.Delivered.{delivers-ok, delivers-unfailed, delivers-err, delivers-refused, delivers-archived}
 use Rattle.ix_car.proofs.archive.ArchiveSink.deliver.Goals as goal
+
+pub take-requires-clause-unclosed : goal.take-requires-clause-unclosed
+take-requires-clause-unclosed g c = open_means c.args.self.now.deliveries c.args.self.now.closed c.requires.open
 
 pub returns-clause-ok : goal.returns-clause-ok
 returns-clause-ok g c = let d : Delivery = record { visit = c.args.visit; verdict = c.args.verdict } in
