@@ -9,8 +9,8 @@ use Rattle.ix_walk.specs.JobMeaning.{JobMeaning}
 use Rattle.ix_walk.proofs.Blocks.{block_at, place_within}
 use Rattle.ix_car.specs.declared.sink.Delivery.{Delivery}
 use Rattle.ix_car.specs.declared.sink.End.{End}
-use Rattle.ix_car.specs.declared.sink.SinkFault.{SinkFault}
-use Rattle.ix_car.specs.declared.sink.SinkFault.TheVariants.{Write, Memory}
+use Rattle.ix_car.specs.declared.fault.SinkFault.{SinkFault}
+use Rattle.ix_car.specs.declared.fault.SinkFault.TheVariants.{Write, Memory}
 use Rattle.ix_car.specs.Events.{Event, delivery, close, IsOpen, IsRefusal}
 use Rattle.ix_car.specs.Kept.{is_below, kept}
 use Rattle.ix_car.specs.Archive.{is_sound, header_of, archive_with}

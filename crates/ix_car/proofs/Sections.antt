@@ -2,13 +2,13 @@
 use Rattle.std.proofs.Common.{◌≡◌, ℕ, zero, suc, ◌+◌, ◌<◌, ◌≤◌, Bool, true, false, cond, ltb, leb, eqb, ◌&&◌, List, [], ◌∷◌, length, drop, take, get_or, refl, sym, ◌∙◌, ap, arith, length-drop}
 use Rattle.std.specs.Prelude.{Result, Ok, Err}
 use Rattle.std.proofs.lemmas.Bool.{ltb-false}
-use Rattle.ix_cid.specs.declared.varint.VarintFault.{VarintFault}
-use Rattle.ix_cid.specs.declared.varint.VarintFault.TheVariants as varints
+use Rattle.ix_cid.specs.declared.fault.VarintFault.{VarintFault}
+use Rattle.ix_cid.specs.declared.fault.VarintFault.TheVariants as varints
 use Rattle.ix_cid.specs.Varint.{continued, number_of_groups, varint_at}
 use Rattle.ix_cid.specs.Cid.{cid_at}
 use Rattle.ix_walk.specs.Store.{Blocks, with_block}
-use Rattle.ix_car.specs.declared.reader.CarKind.{CarKind}
-use Rattle.ix_car.specs.declared.reader.CarKind.TheVariants.{Memory}
+use Rattle.ix_car.specs.declared.fault.CarKind.{CarKind}
+use Rattle.ix_car.specs.declared.fault.CarKind.TheVariants.{Memory}
 use Rattle.ix_car.specs.Gives.{FailsAs}
 use Rattle.ix_car.specs.Reading.{Fault, ◌>>=◌, text_at, text_behind, pair_of, section_at, sections_at}
 

@@ -8,8 +8,8 @@ use Rattle.ix_check.specs.Verdict.{passes}
 use Rattle.ix_walk.specs.Store.{Blocks, position_of}
 use Rattle.ix_car.specs.declared.sink.Delivery.{Delivery}
 use Rattle.ix_car.specs.declared.sink.End.{End}
-use Rattle.ix_car.specs.declared.sink.SinkFault.{SinkFault}
-use Rattle.ix_car.specs.declared.sink.SinkFault.TheVariants.{Write, Memory}
+use Rattle.ix_car.specs.declared.fault.SinkFault.{SinkFault}
+use Rattle.ix_car.specs.declared.fault.SinkFault.TheVariants.{Write, Memory}
 use Rattle.ix_car.specs.declared.archive.Skip.{Skip}
 use Rattle.ix_car.specs.declared.archive.Counts.{Counts}
 use Rattle.ix_car.specs.Kept.{is_below, cut_after, kept}

@@ -3,7 +3,7 @@ use Rattle.std.specs.Prelude.{◌≡◌, ℕ, false, List, [], ◌∷◌, ◌++�
 use Rattle.ix_check.specs.declared.verdict.Verdict.{Verdict}
 use Rattle.ix_check.specs.declared.verdict.Verdict.TheVariants.{Damaged, Sound}
 use Rattle.ix_car.specs.declared.sink.Delivery.{Delivery}
-use Rattle.ix_car.specs.declared.reader.CarKind.TheVariants.{Truncated, Header, Version, SectionCid}
+use Rattle.ix_car.specs.declared.fault.CarKind.TheVariants.{Truncated, Header, Version, SectionCid}
 use Rattle.ix_car.specs.Kept.{kept}
 use Rattle.ix_car.specs.Archive.{first_sound, header_of}
 use Rattle.ix_car.specs.Reading.{blocks_of, sections_at}

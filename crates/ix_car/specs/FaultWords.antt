@@ -1,8 +1,8 @@
 -- The words for what is wrong with a CARv1 file.
 use Rattle.std.specs.Prelude.{ℕ, List, ◌++◌, codes}
 use Rattle.std.specs.Fmt.{signed_decimal}
-use Rattle.ix_car.specs.declared.reader.CarKind.{CarKind}
-use Rattle.ix_car.specs.declared.reader.CarKind.TheVariants.{Truncated, Varint, Header, Version, SectionCid, Memory}
+use Rattle.ix_car.specs.declared.fault.CarKind.{CarKind}
+use Rattle.ix_car.specs.declared.fault.CarKind.TheVariants.{Truncated, Varint, Header, Version, SectionCid, Memory}
 
 abbrev pub fault_words : CarKind → List ℕ
 fault_words Truncated = codes "truncated"

@@ -1,8 +1,8 @@
 -- What a call that reads a CARv1 file answers.
 use Rattle.std.specs.Prelude.{◌≡◌, ℕ, ◌-◌, ◌≤◌, List, length, Result, Ok, Err}
-use Rattle.ix_car.specs.declared.reader.CarKind.{CarKind}
-use Rattle.ix_car.specs.declared.reader.CarKind.TheVariants.{Memory}
-use Rattle.ix_car.specs.declared.reader.CarFault.{CarFault}
+use Rattle.ix_car.specs.declared.fault.CarKind.{CarKind}
+use Rattle.ix_car.specs.declared.fault.CarKind.TheVariants.{Memory}
+use Rattle.ix_car.specs.declared.fault.CarFault.{CarFault}
 use Rattle.ix_car.specs.Reading.{Fault}
 
 -- want of memory, or the definition gives this fault

@@ -12,12 +12,11 @@ ghost use Rattle.ix_car.specs.ArchiveNew.{IsNoArchive};
 
 use crate::archive::output::{header_of, set_section_head, write_section, write_text};
 use crate::history::History;
-use crate::sink::{Delivery, End, Sink, SinkFault};
-use ix_check::verdict::Verdict;
-use ix_cid::cid::Cid;
-use ix_walk::job::Job;
-use ix_walk::store::Store;
-use ix_walk::visit::Visit;
+use crate::sink::{Delivery, End, Sink};
+use crate::fault::SinkFault;
+use ix_check::Verdict;
+use ix_cid::Cid;
+use ix_walk::{Job, Store, Visit};
 use std::alloc::Global;
 use std::collections::BTreeSet;
 use std::io::Write;

@@ -1,8 +1,14 @@
 //! CARv1 files, sinks and archives.
 #![tactic(auto)]
 
-pub mod archive;
+mod archive;
+mod fault;
 mod history;
 pub mod law;
-pub mod reader;
-pub mod sink;
+mod reader;
+mod sink;
+
+pub use archive::{Archive, ArchiveNew, Counts, Skip};
+pub use fault::{CarFault, CarKind, SinkFault};
+pub use reader::read_car;
+pub use sink::{Delivery, End, Sink};

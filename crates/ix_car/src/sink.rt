@@ -1,7 +1,8 @@
 //! Where visits with their verdicts go.
 
-use ix_check::verdict::Verdict;
-use ix_walk::visit::Visit;
+use crate::fault::SinkFault;
+use ix_check::Verdict;
+use ix_walk::Visit;
 use std::alloc::Global;
 use std::fmt;
 
@@ -36,15 +37,6 @@ impl fmt::Display for End {
             End::Start => f.write_str("start"),
         }
     }
-}
-
-/// Why a delivery was refused.
-#[derive(Debug, Drop, Clone, Copy, PartialEq, Eq)]
-pub enum SinkFault {
-    /// A write failed. The sink takes nothing more than its close.
-    Write,
-    /// No memory was left. The sink is as it was.
-    Memory,
 }
 
 /// A visit with its verdict.

@@ -1,7 +1,7 @@
 -- Bytes are a CID exactly where the test says so.
 use Rattle.std.proofs.Common.{◌≡◌, ℕ, ◌-◌, Bool, true, false, List, length, take, refl, ◌∙◌, ap, subst, arith, take_all, eqb-true, eq-eqb}
 use Rattle.std.specs.Prelude.{◌==◌, Result, Ok, Err}
-use Rattle.ix_cid.specs.declared.cid.CidFault.{CidFault}
+use Rattle.ix_cid.specs.declared.fault.CidFault.{CidFault}
 use Rattle.ix_cid.specs.Cid.{Parts, ◌>>=◌, parts_at, cid_at, IsCid}
 use Rattle.ix_cbor.specs.Reading.{is_cid}
 

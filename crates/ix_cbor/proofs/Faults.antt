@@ -2,7 +2,7 @@
 use Rattle.std.proofs.Common.{◌≡◌, inl, inr, ◌<◌, ◌≤◌, ◌+◌, ◌^◌, arith, ℕ, zero, suc, true, false, true≢false, List, [], ◌∷◌, ◌++◌, length, refl, sym, ◌∙◌, ap, append_assoc}
 use Rattle.std.specs.Prelude.{Option, Some, None, Err}
 use Rattle.ix_cid.specs.Bytes.{AreBytes}
-use Rattle.ix_cbor.specs.declared.decode.CborKind.TheVariants.{Rest}
+use Rattle.ix_cbor.specs.declared.fault.CborKind.TheVariants.{Rest}
 use Rattle.ix_cbor.specs.Data.{Data, Items, Entries, list, map, no_items, item, no_entries, entry}
 use Rattle.ix_cbor.specs.Spelling.{head_of, key_spelling, spelling_of, items_spelling, entries_spelling, item_count, entry_count, items_nesting, entries_nesting, IsSpellable, AreSpellable, AreRising, Rises, nesting_of}
 use Rattle.ix_cbor.specs.Reading.{Fault, Parse, ◌>>=◌, key_at, rises, own_at, Own, leaf, list_of, map_of, items_at, entries_at, with_members, item_with, item_at, nothing_after, decoded}

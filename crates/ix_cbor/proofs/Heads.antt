@@ -5,7 +5,7 @@ use Rattle.std.specs.Int.{Width, w8, w16, w32, w64, byte_len, from_be_bytes, to_
 use Rattle.std.proofs.lemmas.Bool.{cond-true, cond-false, cases_lt}
 use Rattle.std.proofs.lemmas.List.{take_at, drop_at}
 use Rattle.std.proofs.lemmas.Nat.{be_bytes_2, be_bytes_4, be_bytes_8, from_be_bytes-to_be_bytes_2, from_be_bytes-to_be_bytes_4, from_be_bytes-to_be_bytes_8}
-use Rattle.ix_cbor.specs.declared.decode.CborKind.TheVariants.{Truncated, NotShortest, Indefinite}
+use Rattle.ix_cbor.specs.declared.fault.CborKind.TheVariants.{Truncated, NotShortest, Indefinite}
 use Rattle.ix_cbor.specs.Spelling.{head_of}
 use Rattle.ix_cbor.specs.Reading.{Fault, wide_at, argument_at}
 use Rattle.ix_cbor.proofs.Bytes.{IsBytes, IsBytes-take}

@@ -4,7 +4,7 @@ use Rattle.std.specs.Prelude.{Option, Some, None, Ok}
 use Rattle.std.specs.Ordering.{is_lt}
 use Rattle.std.specs.declared.cmp.Ordering.{Ordering}
 use Rattle.std.specs.declared.cmp.Ordering.TheVariants.{Less, Equal, Greater}
-use Rattle.ix_cbor.specs.declared.decode.CborKind.TheVariants.{KeyKind, KeyOrder}
+use Rattle.ix_cbor.specs.declared.fault.CborKind.TheVariants.{KeyKind, KeyOrder}
 use Rattle.ix_cbor.specs.Data.{Data, Entries, entry}
 use Rattle.ix_cbor.specs.Spelling.{key_spelling, key_cmp, Rises}
 use Rattle.ix_cbor.specs.Reading.{Fault, ◌>>=◌, fails, string_of_major, rises, key_at}

@@ -2,7 +2,7 @@
 use Rattle.std.proofs.Common.{◌≡◌, ℕ, ◌≤◌, List, [], ◌∷◌, ◌++◌, sym, ◌∙◌, ap, append-nil, length}
 use Rattle.std.specs.Prelude.{◌↔◌, Option, Some, None, Result, Ok, Err}
 use Rattle.ix_cid.specs.Bytes.{AreBytes}
-use Rattle.ix_cbor.specs.declared.decode.CborKind.TheVariants.{Rest}
+use Rattle.ix_cbor.specs.declared.fault.CborKind.TheVariants.{Rest}
 use Rattle.ix_cbor.specs.Data.{Data}
 use Rattle.ix_cbor.specs.Spelling.{spelling_of, IsSpellable, nesting_of, IsCanonical, Spells}
 use Rattle.ix_cbor.specs.Reading.{Fault, ◌>>=◌, item_at, nothing_after, decoded, data_at}

@@ -3,7 +3,7 @@ use Rattle.std.proofs.Common.{◌≡◌, ◌≤◌, ◌-◌, ◌/◌, arith, ℕ
 use Rattle.std.specs.Prelude.{Result, Ok, Err}
 use Rattle.std.proofs.lemmas.List.{take_all}
 use Rattle.ix_cid.specs.Cid.{Parts, ◌>>=◌, parts_at, cid_at}
-use Rattle.ix_cid.specs.declared.cid.CidFault.{CidFault}
+use Rattle.ix_cid.specs.declared.fault.CidFault.{CidFault}
 use Rattle.ix_cbor.specs.Data.{link}
 use Rattle.ix_cbor.specs.Reading.{own_at, is_cid, link_of}
 use Rattle.ix_cbor.specs.Stops.{headed_at}

@@ -4,8 +4,8 @@ use Rattle.std.specs.Prelude.{nat_lt, ◌==◌, Result, Ok, Err}
 use Rattle.std.specs.Int.{from_be_bytes, to_be_bytes, w64}
 use Rattle.std.proofs.lemmas.Bool.{cond-false, and_parts, eqb-false}
 use Rattle.std.proofs.lemmas.List.{take_at as take_front, drop_at}
-use Rattle.ix_cbor.specs.declared.decode.CborKind.TheVariants.{Truncated, Indefinite, Tag, Simple, Nesting}
-use Rattle.ix_cbor.specs.declared.decode.CborKind.TheVariants as kinds
+use Rattle.ix_cbor.specs.declared.fault.CborKind.TheVariants.{Truncated, Indefinite, Tag, Simple, Nesting}
+use Rattle.ix_cbor.specs.declared.fault.CborKind.TheVariants as kinds
 use Rattle.ix_cbor.specs.Data.{Data, null, boolean, integer, float, bytes, text, list, map, link}
 use Rattle.ix_cbor.specs.Spelling.{head_of, spelling_of, IsSpellable, IsFinite, nesting_of}
 use Rattle.ix_cbor.specs.Reading.{Fault, ◌>>=◌, fails, take_at, argument_at, string_of_major, float_at, simple_at, is_cid, link_of, link_at, Own, leaf, list_of, map_of, nested, own_with, own_at}

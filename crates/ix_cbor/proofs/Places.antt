@@ -1,8 +1,8 @@
 -- A fault's place, counted from the front.
 use Rattle.std.proofs.Common.{◌≡◌, ◌≤◌, ◌-◌, arith, ℕ, List, length, ◌∙◌, ap}
 use Rattle.std.specs.Prelude.{Result, Err}
-use Rattle.ix_cbor.specs.declared.decode.CborKind.{CborKind}
-use Rattle.ix_cbor.specs.declared.decode.CborKind.TheVariants.{Memory}
+use Rattle.ix_cbor.specs.declared.fault.CborKind.{CborKind}
+use Rattle.ix_cbor.specs.declared.fault.CborKind.TheVariants.{Memory}
 use Rattle.ix_cbor.specs.Data.{Data}
 use Rattle.ix_cid.specs.Bytes.{AreBytes}
 use Rattle.ix_cbor.specs.Reading.{Fault, decoded}

@@ -3,7 +3,7 @@ use Rattle.std.proofs.Common.{◌≡◌, ℕ, ◌+◌, ◌*◌, ◌/◌, ◌%◌
 use Rattle.std.specs.Prelude.{nat_lt, ◌==◌, Ok, Err}
 use Rattle.std.proofs.lemmas.Bool.{cond-true, cond-false}
 use Rattle.std.proofs.lemmas.List.{take_at as take_front, drop_at}
-use Rattle.ix_cbor.specs.declared.decode.CborKind.TheVariants.{Truncated}
+use Rattle.ix_cbor.specs.declared.fault.CborKind.TheVariants.{Truncated}
 use Rattle.ix_cbor.specs.Spelling.{head_of}
 use Rattle.ix_cbor.specs.Reading.{Fault, ◌>>=◌, take_at, argument_at, string_at, string_of_major}
 use Rattle.ix_cbor.proofs.Bytes.{IsBytes, IsBytes-rest}

@@ -2,8 +2,8 @@
 use Rattle.std.proofs.Common.{◌≡◌, ◌≤◌, ◌/◌, ◌%◌, ◌^◌, ◌==◌, if◌then◌else◌, nat_lt, arith, ℕ, zero, suc, pos, negsuc, Bool, true, false, cond, List, [], ◌∷◌, length, take, drop, length-drop, subst}
 use Rattle.std.specs.Prelude.{Option, Some, None, Result, Ok, Err}
 use Rattle.std.specs.Int.{Width, byte_len, from_be_bytes, w8, w16, w32, w64}
-use Rattle.ix_cbor.specs.declared.decode.CborKind.{CborKind}
-use Rattle.ix_cbor.specs.declared.decode.CborKind.TheVariants as kinds
+use Rattle.ix_cbor.specs.declared.fault.CborKind.{CborKind}
+use Rattle.ix_cbor.specs.declared.fault.CborKind.TheVariants as kinds
 use Rattle.ix_cbor.specs.Data.{Data, null, boolean, integer, bytes, text}
 use Rattle.ix_cbor.specs.Reading.{Fault, Parse, fails, Own, ◌>>=◌, leaf, list_of, map_of, take_at, wide_at, argument_at, string_at, string_of_major, rises, key_at, float_at, simple_at, link_of, link_at, nested, own_with, own_at, items_at, entries_at, with_members, item_at, decoded, nothing_after}
 

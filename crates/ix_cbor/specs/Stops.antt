@@ -1,7 +1,7 @@
 -- What the parts of decode answer.
 use Rattle.std.specs.Prelude.{◌≡◌, ℕ, ◌-◌, ◌/◌, ◌%◌, ◌≤◌, Bool, List, Result, Ok, Err}
-use Rattle.ix_cbor.specs.declared.decode.CborKind.{CborKind}
-use Rattle.ix_cbor.specs.declared.decode.CborKind.TheVariants.{Memory}
+use Rattle.ix_cbor.specs.declared.fault.CborKind.{CborKind}
+use Rattle.ix_cbor.specs.declared.fault.CborKind.TheVariants.{Memory}
 use Rattle.ix_cbor.specs.declared.read.Stop.{Stop}
 use Rattle.ix_cbor.specs.declared.read.Own.{Own as RustOwn}
 use Rattle.ix_cbor.specs.declared.read.Own.TheVariants.{Leaf, ListOf, MapOf}

@@ -7,7 +7,7 @@ ghost use Rattle.ix_cbor.specs.Reading.{decoded};
 ghost use Rattle.ix_cbor.specs.Gives.{Gives, IsFirstOf};
 ghost use Rattle.ix_cbor.specs.Stops.{Reads, LiesWithin, placed};
 
-use crate::decode::{CborFault, CborKind};
+use crate::fault::{CborFault, CborKind};
 use crate::node::Node;
 use crate::read::{Stop, item};
 use crate::tree::Tree;

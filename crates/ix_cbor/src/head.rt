@@ -2,12 +2,12 @@
 
 ghost use Rattle.std.specs.Prelude.{◌≡◌, ◌^◌, ◌<◌, ◌++◌, length, option_map, OnOk};
 ghost use Rattle.std.specs.Int.{w8, w16, w32, w64, from_be_bytes};
-ghost use Rattle.ix_cbor.specs.declared.decode.CborKind.TheVariants.{KeyKind};
+ghost use Rattle.ix_cbor.specs.declared.fault.CborKind.TheVariants.{KeyKind};
 ghost use Rattle.ix_cbor.specs.Spelling.{head_of, key_cmp};
 ghost use Rattle.ix_cbor.specs.Reading.{fails, take_at, wide_at, argument_at, string_at, string_of_major, rises, key_at};
 ghost use Rattle.ix_cbor.specs.Stops.{Reads};
 
-use crate::decode::CborKind;
+use crate::fault::CborKind;
 use crate::read::Stop;
 use std::alloc::AllocError;
 use std::cmp::Ordering;

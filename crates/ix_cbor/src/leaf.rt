@@ -1,17 +1,17 @@
 //! What an item is by its own head.
 
 ghost use Rattle.std.specs.Prelude.{◌≡◌};
-ghost use Rattle.ix_cbor.specs.declared.decode.CborKind.TheVariants as kinds;
+ghost use Rattle.ix_cbor.specs.declared.fault.CborKind.TheVariants as kinds;
 ghost use Rattle.ix_cbor.specs.Data.{data_of, float, link};
 ghost use Rattle.ix_cbor.specs.Reading.{fails, string_of_major, float_at, simple_at, link_of, link_at, nested, own_with, own_at};
 ghost use Rattle.ix_cbor.specs.Stops.{Reads, own_of, headed_at};
 
-use crate::decode::CborKind;
+use crate::fault::CborKind;
 use crate::head::{argument, string, take, u64_of};
 use crate::node::Node;
 use crate::octets::Octets;
 use crate::read::{Own, Stop};
-use ix_cid::cid::{Cid, CidFault};
+use ix_cid::{Cid, CidFault};
 use std::alloc::Global;
 
 // The bits of a finite float.

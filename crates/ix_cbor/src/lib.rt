@@ -2,19 +2,26 @@
 #![tactic(auto)]
 
 mod canonical;
-pub mod codec;
-pub mod decode;
+mod codec;
+mod fault;
 #[cfg(test)]
 mod fixtures;
-pub mod head;
+mod head;
 pub mod law;
 mod leaf;
-pub mod node;
-pub mod octets;
+mod node;
+mod octets;
 mod read;
 #[cfg(test)]
 mod rfc_examples;
 #[cfg(test)]
 mod tests;
-pub mod tree;
+mod tree;
 mod write;
+
+pub use codec::{decode, encode};
+pub use fault::{CborFault, CborKind};
+pub use head::push_head;
+pub use node::Node;
+pub use octets::Octets;
+pub use tree::Tree;

@@ -5,7 +5,7 @@ ghost use Rattle.ix_cbor.specs.Data.{data_of, items_of, entries_of};
 ghost use Rattle.ix_cbor.specs.Reading.{item_with, item_at, items_at, entries_at};
 ghost use Rattle.ix_cbor.specs.Stops.{Reads, entry_of};
 
-use crate::decode::CborKind;
+use crate::fault::CborKind;
 use crate::head::key;
 use crate::leaf::head_of_item;
 use crate::node::Node;
@@ -21,7 +21,7 @@ pub struct Stop {
 
 impl Stop {
     ghost use Rattle.std.specs.Prelude.{◌≡◌, length};
-    ghost use Rattle.ix_cbor.specs.declared.decode.CborKind.TheVariants.{Truncated};
+    ghost use Rattle.ix_cbor.specs.declared.fault.CborKind.TheVariants.{Truncated};
 
     // A fault at the front of these bytes.
     pub(crate) fn at(kind: CborKind, bytes: &[u8]) -> Stop
@@ -46,7 +46,7 @@ impl Stop {
 
 impl From<AllocError> for Stop {
     ghost use Rattle.std.specs.Prelude.{◌≡◌};
-    ghost use Rattle.ix_cbor.specs.declared.decode.CborKind.TheVariants.{Memory};
+    ghost use Rattle.ix_cbor.specs.declared.fault.CborKind.TheVariants.{Memory};
 
     ghost from_gives = { λ _ e. e.kind ≡ Memory };
 
@@ -60,7 +60,7 @@ impl From<AllocError> for Stop {
 
 impl<T: Drop> From<AllocFailed<T>> for Stop {
     ghost use Rattle.std.specs.Prelude.{◌≡◌};
-    ghost use Rattle.ix_cbor.specs.declared.decode.CborKind.TheVariants.{Memory};
+    ghost use Rattle.ix_cbor.specs.declared.fault.CborKind.TheVariants.{Memory};
 
     ghost from_gives = { λ _ e. e.kind ≡ Memory };
 

@@ -2,7 +2,7 @@
 //! refused.
 
 use crate::codec::{decode, encode};
-use crate::decode::{CborFault, CborKind};
+use crate::fault::{CborFault, CborKind};
 use std::test::Fail;
 
 const ADMITTED: &str =

@@ -1,7 +1,7 @@
 //! Blocks and their faults, from outside.
 
 use crate::codec::{decode, encode};
-use crate::decode::{CborFault, CborKind};
+use crate::fault::{CborFault, CborKind};
 use crate::head::push_head;
 use crate::node::Node;
 use std::alloc::{AllocError, Global};

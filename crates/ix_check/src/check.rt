@@ -8,10 +8,9 @@ ghost use Rattle.ix_check.specs.Verdict.{has_codec, verdict_of};
 ghost use Rattle.ix_check.specs.Visits.{IsVisitOf};
 
 use crate::verdict::Verdict;
-use ix_cid::cid::Cid;
+use ix_cid::Cid;
 use ix_cid::code::{DAG_CBOR, RAW, SHA2_256};
-use ix_walk::store::Store;
-use ix_walk::visit::Visit;
+use ix_walk::{Store, Visit};
 use sha2::{Digest, Sha256};
 use std::alloc::{AllocError, Global};
 use std::marker::Model;

@@ -1,5 +1,8 @@
 //! Verdicts on blocks, and what checks visits.
 #![tactic(auto)]
 
-pub mod check;
-pub mod verdict;
+mod check;
+mod verdict;
+
+pub use check::{Check, ShaCheck};
+pub use verdict::Verdict;

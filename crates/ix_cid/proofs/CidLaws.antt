@@ -7,10 +7,10 @@ use Rattle.ix_cid.specs.Bytes.{AreBytes}
 use Rattle.ix_cid.specs.Varint.{varint_at, varint_of, IsVarint}
 use Rattle.ix_cid.specs.Cid.{◌>>=◌, as_part, number_at, bytes_at, Parts, version_0_at, version_1_at, numbered_at, begins_version_0, parts_at, cid_at, IsCid, parts_or_none, parts_of, version_of}
 use Rattle.ix_cid.specs.CidForm.{IsVersion0, IsVersion1, parts_spelling, IsCidOf}
-use Rattle.ix_cid.specs.declared.varint.VarintFault.{VarintFault}
-use Rattle.ix_cid.specs.declared.varint.VarintFault.TheVariants as varint_faults
-use Rattle.ix_cid.specs.declared.cid.CidFault.{CidFault}
-use Rattle.ix_cid.specs.declared.cid.CidFault.TheVariants.{Truncated, Version}
+use Rattle.ix_cid.specs.declared.fault.VarintFault.{VarintFault}
+use Rattle.ix_cid.specs.declared.fault.VarintFault.TheVariants as varint_faults
+use Rattle.ix_cid.specs.declared.fault.CidFault.{CidFault}
+use Rattle.ix_cid.specs.declared.fault.CidFault.TheVariants.{Truncated, Version}
 use Rattle.std.proofs.lemmas.List.Elements.{All-cons}
 use Rattle.ix_cid.proofs.Bytes.{bytes_rest, bytes_append}
 use Rattle.ix_cid.proofs.Results.{past_test, past_guard, same_answer, bind_ok, bind_to}

@@ -2,8 +2,8 @@
 use Rattle.std.proofs.Common.{◌≡◌, ℕ, ◌-◌, ◌≤◌, true, false, cond, eqb, List, [], ◌∷◌, ◌++◌, length, take, drop, Result, Ok, Err, bytes_eq, sym, ap, subst, ◌∙◌, ⊎_elim, arith, length-append}
 use Rattle.std.proofs.lemmas.List.{append-nil, take_at, take_all, take-append-le}
 use Rattle.ix_cid.specs.Cid.{◌>>=◌, number_at, bytes_at, Parts, version_0_at, version_1_at, numbered_at, parts_at, begins_version_0, IsCid}
-use Rattle.ix_cid.specs.declared.cid.CidFault.{CidFault}
-use Rattle.ix_cid.specs.declared.cid.CidFault.TheVariants.{Version}
+use Rattle.ix_cid.specs.declared.fault.CidFault.{CidFault}
+use Rattle.ix_cid.specs.declared.fault.CidFault.TheVariants.{Version}
 use Rattle.ix_cid.proofs.Fronts.{chosen, ReadsFront, ReadsFront-bind, ReadsFront-done, ReadsFront-guard, ReadsFront-fewer, bytes_at-reads, number_at-reads}
 
 -- behind the length of the digest

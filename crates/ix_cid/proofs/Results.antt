@@ -1,7 +1,7 @@
 -- Readings in turn: what an answer says of each.
 use Rattle.std.proofs.Common.{◌≡◌, Bool, true, false, cond, Result, Ok, Err, refl, ap}
 use Rattle.ix_cid.specs.Cid.{◌>>=◌}
-use Rattle.ix_cid.specs.declared.cid.CidFault.{CidFault}
+use Rattle.ix_cid.specs.declared.fault.CidFault.{CidFault}
 
 -- an answer behind a test for a fault
 pub past_test : {A E : Type 0} (b : Bool) (e : E) (r : Result A E) (x : A) → cond b (Err e) r ≡ Ok x → (b ≡ false) × (r ≡ Ok x)

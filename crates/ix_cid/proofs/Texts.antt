@@ -10,10 +10,10 @@ use Rattle.ix_cid.specs.Varint.{varint_at, varint_ending}
 use Rattle.ix_cid.specs.Cid.{◌>>=◌, Parts, as_part, number_at, bytes_at, version_0_at, version_1_at, numbered_at, begins_version_0, parts_at, IsCid, version_of, parts_or_none}
 use Rattle.ix_cid.specs.CidText.{base32_of, hex_of, bytes_of_letters, bytes_of_base32, without_rest, text_of, cid_of_text}
 use Rattle.ix_cid.specs.Gives.{Fails}
-use Rattle.ix_cid.specs.declared.cid.CidFault.{CidFault}
-use Rattle.ix_cid.specs.declared.cid.CidFault.TheVariants.{Truncated, Varint, Version, Memory, Multibase, Base32, Rest}
-use Rattle.ix_cid.specs.declared.varint.VarintFault.{VarintFault}
-use Rattle.ix_cid.specs.declared.varint.VarintFault.TheVariants as varints
+use Rattle.ix_cid.specs.declared.fault.CidFault.{CidFault}
+use Rattle.ix_cid.specs.declared.fault.CidFault.TheVariants.{Truncated, Varint, Version, Memory, Multibase, Base32, Rest}
+use Rattle.ix_cid.specs.declared.fault.VarintFault.{VarintFault}
+use Rattle.ix_cid.specs.declared.fault.VarintFault.TheVariants as varints
 use Rattle.ix_cid.proofs.Quanta.{bytes_of_letters-base32_of}
 
 -- A chain gives a value only where its first part gives one.

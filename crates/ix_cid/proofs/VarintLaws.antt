@@ -4,8 +4,8 @@ use Rattle.std.proofs.lemmas.Bool.{lt-leb, le-ltb, leb-false, eqb-false, ne_eqb,
 use Rattle.std.proofs.lemmas.List.{take_at, length-append, length-take-le}
 use Rattle.ix_cid.specs.Bytes.{AreBytes}
 use Rattle.ix_cid.specs.Varint.{number_of_groups, continued, AreGroups, last, more, varint_at, varint_of, varint_ending, IsVarint}
-use Rattle.ix_cid.specs.declared.varint.VarintFault.{VarintFault}
-use Rattle.ix_cid.specs.declared.varint.VarintFault.TheVariants.{Truncated, TooLong, NotMinimal}
+use Rattle.ix_cid.specs.declared.fault.VarintFault.{VarintFault}
+use Rattle.ix_cid.specs.declared.fault.VarintFault.TheVariants.{Truncated, TooLong, NotMinimal}
 use Rattle.ix_cid.proofs.Results.{past_test, same_answer}
 use Rattle.ix_cid.proofs.GroupLaws.{continued_groups, number_groups, last_group, some_group, groups_bytes, bound_groups, one_spelling, groups_spell, groups_length, continued_length, read_groups, read_one_group}
 

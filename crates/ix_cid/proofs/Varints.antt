@@ -4,7 +4,7 @@ use Rattle.std.proofs.lemmas.List.{take_more, at_drop_more, length-take-le}
 use Rattle.std.proofs.lemmas.Nat.{shl_whole, pow-add, mod_below, mul-le}
 use Rattle.std.proofs.lemmas.Bool.{le-leb, lt-leb, le-ltb, ne_eqb, and_left, and_right, cases_eq}
 use Rattle.ix_cid.specs.Varint.{number_of_groups, continued, varint_ending, varint_at}
-use Rattle.ix_cid.specs.declared.varint.VarintFault.TheVariants.{Truncated, TooLong, NotMinimal}
+use Rattle.ix_cid.specs.declared.fault.VarintFault.TheVariants.{Truncated, TooLong, NotMinimal}
 
 -- seven more bits
 pub pow_7_more : (i : ℕ) → 2 ^ (7 * (i + 1)) ≡ 128 * 2 ^ (7 * i)

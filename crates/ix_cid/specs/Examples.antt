@@ -3,8 +3,8 @@ use Rattle.std.specs.Prelude.{◌≡◌, ℕ, ◌-◌, ◌^◌, List, [], ◌∷
 use Rattle.ix_cid.specs.Varint.{varint_at, varint_of}
 use Rattle.ix_cid.specs.Cid.{cid_at, version_of, codec_of, hash_code_of, digest_of}
 use Rattle.ix_cid.specs.CidText.{base32_of, text_of, cid_of_text}
-use Rattle.ix_cid.specs.declared.varint.VarintFault.TheVariants as varints
-use Rattle.ix_cid.specs.declared.cid.CidFault.TheVariants.{Truncated, Varint, Version, Multibase, Base32, Rest}
+use Rattle.ix_cid.specs.declared.fault.VarintFault.TheVariants as varints
+use Rattle.ix_cid.specs.declared.fault.CidFault.TheVariants.{Truncated, Varint, Version, Multibase, Base32, Rest}
 
 pub not_minimal : varint_at (129 ∷ 0 ∷ []) ≡ Err varints.NotMinimal
 not_minimal = refl

@@ -1,8 +1,8 @@
 -- The words for the faults of CIDs and their texts.
 use Rattle.std.specs.Prelude.{ℕ, List, ◌++◌, codes}
 use Rattle.std.specs.Fmt.{decimal}
-use Rattle.ix_cid.specs.declared.cid.CidFault.{CidFault}
-use Rattle.ix_cid.specs.declared.cid.CidFault.TheVariants.{Truncated, Varint, Version, Memory, Multibase, Base32, Rest}
+use Rattle.ix_cid.specs.declared.fault.CidFault.{CidFault}
+use Rattle.ix_cid.specs.declared.fault.CidFault.TheVariants.{Truncated, Varint, Version, Memory, Multibase, Base32, Rest}
 
 abbrev pub fault_words : CidFault → List ℕ
 fault_words Truncated = codes "truncated"

@@ -1,7 +1,7 @@
 -- What the private readings of a CID's parts answer.
 use Rattle.std.specs.Prelude.{◌≡◌, Result, Ok, Err}
 use Rattle.ix_cid.specs.Cid.{Parts}
-use Rattle.ix_cid.specs.declared.cid.CidFault.{CidFault}
+use Rattle.ix_cid.specs.declared.fault.CidFault.{CidFault}
 use Rattle.ix_cid.specs.declared.parts.Layout.{Layout}
 
 -- what a call answered, seen by view, is what the definition gives

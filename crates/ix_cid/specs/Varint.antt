@@ -1,7 +1,7 @@
 -- Unsigned varints (multiformats unsigned-varint): base 128, least significant group first, at most nine bytes, no longer form.
 use Rattle.std.specs.Prelude.{ℕ, zero, suc, ◌+◌, ◌*◌, ◌%◌, ◌/◌, List, [], ◌∷◌, length, take, nat_le, nat_lt, ◌==◌, ◌&&◌, if◌then◌else◌, slice_index, Result, Ok, Err, ◌<◌, ◌≤◌}
-use Rattle.ix_cid.specs.declared.varint.VarintFault.{VarintFault}
-use Rattle.ix_cid.specs.declared.varint.VarintFault.TheVariants.{Truncated, TooLong, NotMinimal}
+use Rattle.ix_cid.specs.declared.fault.VarintFault.{VarintFault}
+use Rattle.ix_cid.specs.declared.fault.VarintFault.TheVariants.{Truncated, TooLong, NotMinimal}
 
 -- the number that groups of seven bits spell, the lowest first
 abbrev pub number_of_groups : List ℕ → ℕ

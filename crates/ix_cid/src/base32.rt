@@ -4,7 +4,7 @@ ghost use Rattle.std.specs.Prelude.{◌≡◌, ◌≤◌, ◌%◌, ◌++◌, len
 ghost use Rattle.ix_cid.specs.CidText.{letter, bits_of_letter, number_in, quantum, base32_of, bytes_of_quantum, bytes_of_letters, bytes_of_base32};
 ghost use Rattle.ix_cid.specs.Gives.{Gives};
 
-use crate::cid::CidFault;
+use crate::fault::CidFault;
 use std::alloc::{AllocError, Global};
 
 /// Appends the base32 of some bytes.

@@ -2,6 +2,7 @@
 
 ghost use Rattle.std.specs.Prelude.{◌≡◌, ◌<◌, ◌^◌, Ok, Err, Some, length, IfOk, IfSome, string_bytes};
 
+use crate::fault::CidFault;
 use crate::parts::{Layout, numbered_length, split_parts};
 use crate::{base32, hexadecimal};
 use smallvec::SmallVec;
@@ -16,36 +17,6 @@ use std::marker::Model;
 pub struct Cid {
     // Those of a CIDv1 under SHA-256 stand in the value itself, without an allocation.
     bytes: SmallVec<u8, 36>,
-}
-
-/// Why no CID stands at the front, or why a text is none.
-#[derive(Debug, Drop)]
-pub enum CidFault {
-    /// The bytes end before the CID does.
-    Truncated,
-    /// A varint is too long or not minimal.
-    Varint,
-    /// The version, which is not 1.
-    Version(u64),
-    /// No memory was left.
-    Memory,
-    /// A text does not begin with `b`.
-    Multibase,
-    /// What follows is not base32: another letter, a wrong number of letters, or bits left over.
-    Base32,
-    /// Bytes follow the CID of a text.
-    Rest,
-}
-
-impl From<AllocError> for CidFault {
-    ghost use Rattle.std.specs.Prelude.{◌≡◌};
-    ghost use Rattle.ix_cid.specs.declared.cid.CidFault.TheVariants.{Memory};
-
-    ghost from_gives = { λ _ fault. fault ≡ Memory };
-
-    fn from(_error: AllocError) -> CidFault {
-        CidFault::Memory
-    }
 }
 
 impl Model for Cid {

@@ -2,11 +2,15 @@
 #![tactic(auto)]
 
 mod base32;
-pub mod cid;
+mod cid;
 pub mod code;
-mod display;
+mod fault;
 mod hexadecimal;
 pub mod law;
 mod parts;
 pub mod text_law;
-pub mod varint;
+mod varint;
+
+pub use cid::Cid;
+pub use fault::{CidFault, VarintFault};
+pub use varint::{push_varint, read_varint};

@@ -5,9 +5,9 @@ ghost use Rattle.ix_cid.specs.Cid.{◌>>=◌ as ◌and_then◌, number_at, bytes
 ghost use Rattle.ix_cid.specs.Gives.{Gives};
 ghost use Rattle.ix_cid.specs.Parts.{Reads, parts_view};
 
-use crate::cid::CidFault;
+use crate::fault::{CidFault, VarintFault};
 use crate::code::{DAG_PB, SHA2_256};
-use crate::varint::{VarintFault, read_varint};
+use crate::varint::read_varint;
 
 /// The bytes that a CIDv0 begins with: sha2-256, and 32 digest bytes.
 const VERSION_0_FRONT: [u8; 2] = [0x12, 0x20];

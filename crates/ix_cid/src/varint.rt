@@ -3,21 +3,11 @@
 ghost use Rattle.std.specs.Prelude.{◌≡◌, ◌<◌, ◌^◌, ◌++◌, OnOk, OnErr};
 ghost use Rattle.ix_cid.specs.Varint.{varint_at, varint_of};
 
+use crate::fault::VarintFault;
 use std::alloc::AllocError;
 
 /// How many bytes a varint has at most.
 const LONGEST: usize = 9;
-
-/// Why no varint stands at the front.
-#[derive(Debug, Drop, Clone, Copy, PartialEq, Eq)]
-pub enum VarintFault {
-    /// The bytes end before the varint does.
-    Truncated,
-    /// Nine bytes all have the high bit.
-    TooLong,
-    /// The last byte is `00` and not the only one.
-    NotMinimal,
-}
 
 /// The number at the front and its length (multiformats unsigned-varint). A varint
 /// that ends early is `Truncated`, one of more than nine bytes is `TooLong`, and one
@@ -62,7 +52,7 @@ pub fn push_varint(out: &mut Vec<u8>, number: u64) -> Result<(), AllocError>
 
 #[cfg(test)]
 mod tests {
-    use super::VarintFault::{NotMinimal, TooLong, Truncated};
+    use crate::fault::VarintFault::{NotMinimal, TooLong, Truncated};
     use super::{push_varint, read_varint};
     use std::test::Fail;
 

@@ -5,8 +5,8 @@ use Rattle.std.specs.List.{list_any, slice_split}
 use Rattle.std.specs.Str.Lines.{strip_carriage_return}
 use Rattle.std.proofs.lemmas.Bool.{leb-false}
 use Rattle.ix_walk.specs.JobMeaning.{JobMeaning}
-use Rattle.ix_jobs.specs.declared.jobs.JobsKind.{JobsKind}
-use Rattle.ix_jobs.specs.declared.jobs.JobsKind.TheVariants.{Repeated, TooMany}
+use Rattle.ix_jobs.specs.declared.fault.JobsKind.{JobsKind}
+use Rattle.ix_jobs.specs.declared.fault.JobsKind.TheVariants.{Repeated, TooMany}
 use Rattle.ix_jobs.specs.Jobs.{◌>>=◌, is_ignored, line_job, joined, with_line, at_line, jobs_from, jobs_of}
 
 ok_same : {A E : Type 0} (x y : A) → ◌≡◌ {A = Result A E} (Ok x) (Ok y) → x ≡ y

@@ -12,7 +12,7 @@ use Rattle.ix_car.specs.Faithful.{IsFaithful}
 use Rattle.ix_car.specs.ArchiveMeaning.{ArchiveMeaning, HasArchived, HasWritten, IsBegun, IsCountOf, events_of}
 use Rattle.ix_car.specs.Archived.{IsArchived}
 use Rattle.ix_car.specs.Report.{counts_of}
-use Rattle.ix_jobs.specs.declared.report.JobResult.{JobResult}
+use Rattle.ix_jobs.specs.declared.outcome.JobResult.{JobResult}
 use Rattle.ix_pipeline.specs.Headline.{EachDelivered, EachArchived, EachKept, EachFresh}
 use Rattle.std.proofs.Math.Seq.{take-append_seam}
 use Rattle.ix_export.specs.Run.{IsEndOf, IsRun, EachRun, EachBegun, IsEnded, EachEnded}

@@ -10,7 +10,7 @@ use Rattle.ix_car.specs.Verified.{judged_visits}
 use Rattle.ix_car.specs.Archive.{archive_with}
 use Rattle.ix_car.specs.Reading.{Fault, ◌>>=◌, blocks_of}
 use Rattle.ix_car.specs.Gives.{IsFaultOf}
-use Rattle.ix_jobs.specs.declared.report.JobResult.{JobResult}
+use Rattle.ix_jobs.specs.declared.outcome.JobResult.{JobResult}
 use Rattle.ix_export.specs.declared.fault.RunFault.{RunFault}
 use Rattle.ix_export.specs.declared.fault.RunFault.TheVariants as faults
 

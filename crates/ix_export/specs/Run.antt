@@ -13,7 +13,7 @@ use Rattle.ix_car.specs.ArchiveMeaning.{ArchiveMeaning, HasArchived, HasWritten,
 use Rattle.ix_car.specs.Archived.{IsBeginning}
 use Rattle.ix_car.specs.Kept as cut
 use Rattle.ix_car.specs.Report.{skips_of, counts_of, at_most}
-use Rattle.ix_jobs.specs.declared.report.JobResult.{JobResult}
+use Rattle.ix_jobs.specs.declared.outcome.JobResult.{JobResult}
 use Rattle.ix_jobs.specs.Report.{report_of, status_of}
 use Rattle.ix_export.specs.declared.fault.RunFault.{RunFault}
 use Rattle.ix_export.specs.declared.fault.RunFault.TheVariants.{Hex, Root, Car, Jobs, Write, Memory}

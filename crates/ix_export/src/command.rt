@@ -7,7 +7,7 @@ ghost use Rattle.ix_export.specs.Command.{IsTextRefusal, PrintsRoot, IsPrintRefu
 use crate::fault::RunFault;
 use crate::input::bytes_of_hex;
 use crate::root::export_root;
-use ix_cid::cid::Cid;
+use ix_cid::Cid;
 use std::alloc::Global;
 
 /// The CIDv1 with this text.

@@ -5,7 +5,7 @@ ghost use Rattle.ix_export.specs.Failure.{IsInputFailure, IsOutputFailure};
 
 use crate::failure::Failure;
 use crate::fault::RunFault;
-use ix_walk::job::Job;
+use ix_walk::Job;
 use std::alloc::Global;
 use std::fs::{self, OpenFile};
 use std::io::{BufWriter, Read};

@@ -17,7 +17,7 @@ use clap::ArgMatches;
 use command::{printed_root, root_of_text};
 use failure::Failure;
 use files::{make_outputs, read_all, read_file, stand_in};
-use ix_pipeline::plan::Plan;
+use ix_pipeline::Plan;
 use prepare::prepare;
 use run::run;
 use std::io::Write;

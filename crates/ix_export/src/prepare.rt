@@ -7,10 +7,9 @@ ghost use Rattle.ix_jobs.specs.Jobs.{jobs_of};
 ghost use Rattle.ix_export.specs.Prepare.{IsPrepareRefusal};
 
 use crate::fault::RunFault;
-use ix_car::reader::read_car;
-use ix_jobs::jobs::read_jobs;
-use ix_walk::job::Job;
-use ix_walk::store::Store;
+use ix_car::read_car;
+use ix_jobs::read_jobs;
+use ix_walk::{Job, Store};
 use std::alloc::Global;
 use std::sync::Arc;
 

@@ -7,14 +7,13 @@ ghost use Rattle.ix_export.specs.Root.{root_job, exported_from, is_whole, IsRefu
 
 use crate::fault::RunFault;
 use crate::run::run_jobs;
-use ix_car::reader::read_car;
-use ix_car::sink::End;
-use ix_cbor::codec::decode;
-use ix_check::check::ShaCheck;
-use ix_cid::cid::Cid;
-use ix_jobs::report::JobResult;
-use ix_selector::selector::Selector;
-use ix_walk::job::Job;
+use ix_car::{read_car, End};
+use ix_cbor::decode;
+use ix_check::ShaCheck;
+use ix_cid::Cid;
+use ix_jobs::JobResult;
+use ix_selector::Selector;
+use ix_walk::Job;
 use std::alloc::Global;
 use std::slice;
 

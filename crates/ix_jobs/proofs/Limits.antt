@@ -8,8 +8,8 @@ use Rattle.std.proofs.lemmas.Bool.{and_parts, and_from, false_from_ne_true}
 use Rattle.std.proofs.lemmas.Bool.Decides.{nat_tests}
 use Rattle.std.proofs.lemmas.Result.{OkIff-at_ok, OkIff-at_err}
 use Rattle.std.proofs.lemmas.Str.Parse.{IsNumeralModel, numerals_by_value, tells_all_ascii_digits, parse_plain}
-use Rattle.ix_jobs.specs.declared.jobs.JobsKind.{JobsKind}
-use Rattle.ix_jobs.specs.declared.jobs.JobsKind.TheVariants.{Limit}
+use Rattle.ix_jobs.specs.declared.fault.JobsKind.{JobsKind}
+use Rattle.ix_jobs.specs.declared.fault.JobsKind.TheVariants.{Limit}
 use Rattle.ix_jobs.specs.Jobs.{limit_in}
 
 own : IsNumeralModel (λ ds. all_ascii_digits ds ≡ true) (digits_value 10)

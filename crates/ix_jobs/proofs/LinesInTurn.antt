@@ -8,8 +8,8 @@ use Rattle.std.proofs.lemmas.Bool.{cases_lt}
 use Rattle.std.proofs.lemmas.List.{take_all, drop_all}
 use Rattle.std.proofs.lemmas.List.Sums.{prefix_len-le-length}
 use Rattle.ix_walk.specs.JobMeaning.{JobMeaning}
-use Rattle.ix_jobs.specs.declared.jobs.JobsKind.{JobsKind}
-use Rattle.ix_jobs.specs.declared.jobs.JobsKind.TheVariants.{Memory}
+use Rattle.ix_jobs.specs.declared.fault.JobsKind.{JobsKind}
+use Rattle.ix_jobs.specs.declared.fault.JobsKind.TheVariants.{Memory}
 use Rattle.ix_jobs.specs.Jobs.{◌>>=◌, with_line, at_line, jobs_from}
 use Rattle.ix_jobs.specs.Gives.{FailsAs}
 use Rattle.ix_jobs.proofs.Pieces.{slice_split_whole}

@@ -1,8 +1,8 @@
 -- What a call that reads a part of a job file answers.
 use Rattle.std.specs.Prelude.{◌≡◌, ℕ, Result, Ok, Err}
-use Rattle.ix_jobs.specs.declared.jobs.JobsKind.{JobsKind}
-use Rattle.ix_jobs.specs.declared.jobs.JobsKind.TheVariants.{Memory}
-use Rattle.ix_jobs.specs.declared.jobs.JobsFault.{JobsFault}
+use Rattle.ix_jobs.specs.declared.fault.JobsKind.{JobsKind}
+use Rattle.ix_jobs.specs.declared.fault.JobsKind.TheVariants.{Memory}
+use Rattle.ix_jobs.specs.declared.fault.JobsFault.{JobsFault}
 
 -- want of memory, or the definition gives this fault
 abbrev pub FailsAs : {A E : Type 0} → JobsKind → E → Result A E → Type 0

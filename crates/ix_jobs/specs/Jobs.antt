@@ -11,8 +11,8 @@ use Rattle.ix_cbor.specs.Reading.{decoded}
 use Rattle.ix_selector.specs.Pattern.{Pattern}
 use Rattle.ix_selector.specs.Reading.{selector_of}
 use Rattle.ix_walk.specs.JobMeaning.{JobMeaning, is_name}
-use Rattle.ix_jobs.specs.declared.jobs.JobsKind.{JobsKind}
-use Rattle.ix_jobs.specs.declared.jobs.JobsKind.TheVariants.{Fields, Name, Root, Limit, Hex, Selector, Repeated, TooMany, Text}
+use Rattle.ix_jobs.specs.declared.fault.JobsKind.{JobsKind}
+use Rattle.ix_jobs.specs.declared.fault.JobsKind.TheVariants.{Fields, Name, Root, Limit, Hex, Selector, Repeated, TooMany, Text}
 
 infixl 10 ◌>>=◌
 abbrev pub ◌>>=◌ : {A B E : Type 0} → Result A E → (A → Result B E) → Result B E

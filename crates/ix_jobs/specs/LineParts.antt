@@ -1,7 +1,7 @@
 -- The fields of a line, one after another.
 use Rattle.std.specs.Prelude.{ℕ, List, [], ◌∷◌, if◌then◌else◌, Result, Ok, Err}
-use Rattle.ix_jobs.specs.declared.jobs.JobsKind.{JobsKind}
-use Rattle.ix_jobs.specs.declared.jobs.JobsKind.TheVariants.{Fields}
+use Rattle.ix_jobs.specs.declared.fault.JobsKind.{JobsKind}
+use Rattle.ix_jobs.specs.declared.fault.JobsKind.TheVariants.{Fields}
 use Rattle.ix_jobs.specs.Jobs.{is_empty}
 
 -- a field that isn't empty, and the pieces behind it, of which there is one at least

@@ -4,15 +4,12 @@ ghost use Rattle.std.specs.Prelude.{◌≤◌, IfOk};
 ghost use Rattle.ix_jobs.specs.Jobs.{root_in, limit_in, bytes_in, data_in, selector_in};
 ghost use Rattle.ix_jobs.specs.Gives.{Gives};
 
-use crate::jobs::JobsKind;
+use crate::fault::JobsKind;
 use hex::FromHexError;
-use ix_cbor::codec::decode;
-use ix_cbor::decode::CborKind;
-use ix_cbor::tree::Tree;
-use ix_cid::cid::{Cid, CidFault};
-use ix_selector::fault::SelFault;
-use ix_selector::selector::Selector;
-use ix_walk::job::GREATEST_LIMIT;
+use ix_cbor::{decode, CborKind, Tree};
+use ix_cid::{Cid, CidFault};
+use ix_selector::{SelFault, Selector};
+use ix_walk::GREATEST_LIMIT;
 use std::alloc::Global;
 
 /// The CIDv1 with a text.

@@ -5,8 +5,8 @@ ghost use Rattle.std.specs.List.{list_any};
 ghost use Rattle.ix_jobs.specs.Jobs.{joined};
 ghost use Rattle.ix_jobs.specs.Gives.{Gives};
 
-use crate::jobs::JobsKind;
-use ix_walk::job::Job;
+use crate::fault::JobsKind;
+use ix_walk::Job;
 use std::alloc::Global;
 use std::collections::BTreeSet;
 use std::marker::Model;

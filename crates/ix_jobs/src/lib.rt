@@ -1,8 +1,13 @@
 //! The job file and the report.
 #![tactic(auto)]
 
+mod fault;
 mod field;
 mod job_list;
-pub mod jobs;
+mod jobs;
 mod line;
-pub mod report;
+mod outcome;
+
+pub use fault::{JobsFault, JobsKind};
+pub use jobs::read_jobs;
+pub use outcome::{JobResult, report, status};

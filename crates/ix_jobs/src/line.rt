@@ -9,8 +9,8 @@ ghost use Rattle.ix_jobs.specs.Gives.{Gives};
 
 use crate::field::{limit_in, root_in, selector_in};
 use crate::job_list::JobList;
-use crate::jobs::JobsKind;
-use ix_walk::job::{Job, is_name};
+use crate::fault::JobsKind;
+use ix_walk::{Job, is_name};
 use std::alloc::Global;
 use std::str;
 

@@ -3,8 +3,8 @@ use Rattle.std.proofs.Common.{◌≡◌, ◌⊎◌, ℕ, zero, suc, ◌<◌, ◌
 use Rattle.std.specs.declared.alloc.AllocError.{AllocError}
 use Rattle.std.proofs.lemmas.List.{map-append, drop-map, length-map}
 use Rattle.ix_walk.specs.declared.visit.Visit.{Visit}
-use Rattle.ix_walk.specs.declared.visit.WalkStop.{WalkStop}
-use Rattle.ix_walk.specs.declared.visit.WalkStop.TheVariants as reasons
+use Rattle.ix_walk.specs.declared.fault.WalkStop.{WalkStop}
+use Rattle.ix_walk.specs.declared.fault.WalkStop.TheVariants as reasons
 use Rattle.ix_walk.specs.Store.{Blocks}
 use Rattle.ix_walk.specs.JobMeaning.{JobMeaning}
 use Rattle.ix_walk.specs.WalkLeft.{WalkLeft, GivesNext}

@@ -3,7 +3,7 @@
 ghost use Rattle.std.specs.Prelude.{◌≡◌};
 ghost use Rattle.ix_pipeline.specs.Course.{end_on};
 
-use ix_car::sink::End;
+use ix_car::End;
 
 /// What becomes of the visits of a job that are still to come.
 #[derive(Debug, Drop, Clone, Copy, PartialEq, Eq)]

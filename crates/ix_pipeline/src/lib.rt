@@ -2,5 +2,8 @@
 #![tactic(auto)]
 
 mod course;
-pub mod plain;
-pub mod plan;
+mod plain;
+mod plan;
+
+pub use plain::export_plain;
+pub use plan::Plan;

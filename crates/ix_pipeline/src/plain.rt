@@ -9,12 +9,9 @@ ghost use Rattle.ix_pipeline.specs.Headline.{EachDelivered, EachArchived, EachKe
 
 use crate::course::Course;
 use ix_car::law::faithful_is_archived;
-use ix_car::sink::{End, Sink, SinkFault};
-use ix_check::check::Check;
-use ix_walk::job::Job;
-use ix_walk::store::Store;
-use ix_walk::visit::{Visit, WalkStop};
-use ix_walk::walk::Walk;
+use ix_car::{End, Sink, SinkFault};
+use ix_check::Check;
+use ix_walk::{Job, Store, Visit, WalkStop, Walk};
 use std::alloc::{AllocError, Global};
 
 /// Exports every job into its sink, on one thread, and says how each job ended. Each visit of a job

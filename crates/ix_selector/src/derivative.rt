@@ -8,7 +8,7 @@ ghost use Rattle.ix_selector.specs.Residual.{step_of};
 
 use crate::sel::Sel;
 use crate::step::Step;
-use ix_cbor::octets::Octets;
+use ix_cbor::Octets;
 use std::alloc::{AllocError, Global};
 
 /// What stands in place of a selector's own edges.

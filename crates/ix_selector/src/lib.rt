@@ -2,12 +2,18 @@
 #![tactic(auto)]
 
 mod derivative;
-pub mod fault;
+mod fault;
 pub mod law;
 mod read;
-pub mod residual;
-pub mod sel;
-pub mod selector;
-pub mod step;
+mod residual;
+mod sel;
+mod selector;
+mod step;
 #[cfg(test)]
 mod tests;
+
+pub use fault::{Form, SelFault};
+pub use residual::Residual;
+pub use sel::Sel;
+pub use selector::Selector;
+pub use step::Step;

@@ -9,8 +9,7 @@ ghost use Rattle.ix_selector.specs.Shapes.{around_of, entries_data, items_data, 
 
 use crate::fault::{Form, SelFault};
 use crate::sel::Sel;
-use ix_cbor::node::Node;
-use ix_cbor::octets::Octets;
+use ix_cbor::{Node, Octets};
 use std::alloc::{AllocError, Global};
 
 // How many selectors may stand inside one another.

@@ -8,7 +8,7 @@ ghost use Rattle.ix_selector.specs.Gives.{Gives};
 use crate::fault::SelFault;
 use crate::read;
 use crate::sel::Sel;
-use ix_cbor::tree::Tree;
+use ix_cbor::Tree;
 use std::alloc::Global;
 use std::marker::Model;
 

@@ -2,7 +2,7 @@
 
 use crate::fault::{Form, SelFault};
 use crate::selector::Selector;
-use ix_cbor::codec::decode;
+use ix_cbor::decode;
 use std::alloc::Global;
 use std::test::Fail;
 

@@ -1,8 +1,8 @@
 -- Blocks by their places, and what they spell.
 use Rattle.std.proofs.Common.{◌≡◌, ℕ, suc, ◌+◌, ◌-◌, ◌<◌, ◌≤◌, Bool, true, false, ◌&&◌, List, [], ◌∷◌, length, map, refl, sym, ◌∙◌, ap, arith}
 use Rattle.std.specs.Prelude.{Option, Some, None, Result, Ok, Err, bytes_eq, slice_get, if◌then◌else◌}
-use Rattle.ix_cbor.specs.declared.decode.CborKind.{CborKind}
-use Rattle.ix_cbor.specs.declared.decode.CborKind.TheVariants.{Memory}
+use Rattle.ix_cbor.specs.declared.fault.CborKind.{CborKind}
+use Rattle.ix_cbor.specs.declared.fault.CborKind.TheVariants.{Memory}
 use Rattle.ix_cbor.specs.Data.{Data}
 use Rattle.ix_cbor.specs.Gives.{FailsAs}
 use Rattle.ix_cbor.specs.Reading.{Fault, decoded}

@@ -5,7 +5,7 @@ use Rattle.std.proofs.lemmas.Bool.Decides.{nat_tests}
 use Rattle.ix_walk.specs.declared.subtree.Pending.{Pending}
 use Rattle.ix_walk.specs.declared.subtree.Found.{Found}
 use Rattle.ix_walk.specs.declared.visit.Visit.{Visit}
-use Rattle.ix_walk.specs.declared.visit.WalkStop.TheVariants.{Limit}
+use Rattle.ix_walk.specs.declared.fault.WalkStop.TheVariants.{Limit}
 use Rattle.ix_walk.specs.Arrivals.{Arrival}
 use Rattle.ix_walk.specs.Store.{Blocks, value_of}
 use Rattle.ix_walk.specs.Visits.{visits_from, visit_of}

@@ -5,7 +5,7 @@ use Rattle.ix_selector.specs.Residual.{Place, residual_enters}
 use Rattle.ix_walk.specs.declared.subtree.Pending.{Pending}
 use Rattle.ix_walk.specs.declared.subtree.Found.{Found}
 use Rattle.ix_walk.specs.declared.visit.Visit.{Visit}
-use Rattle.ix_walk.specs.declared.visit.WalkStop.{WalkStop}
+use Rattle.ix_walk.specs.declared.fault.WalkStop.{WalkStop}
 use Rattle.ix_walk.specs.Store.{Blocks, value_of}
 use Rattle.ix_walk.specs.Arrivals.{Inside, when_some}
 use Rattle.ix_walk.specs.Visits.{is_malformed, visit_of}

@@ -9,13 +9,12 @@ ghost use Rattle.ix_walk.specs.Walking.{IsWalk};
 use crate::descent::{next_found, waiting_in};
 use crate::store::Store;
 use crate::subtree::{Found, Pending};
-use crate::visit::{Visit, WalkStop};
-use ix_cbor::codec::decode;
-use ix_cbor::decode::CborKind;
-use ix_cbor::node::Node;
-use ix_cid::cid::Cid;
+use crate::visit::Visit;
+use crate::fault::WalkStop;
+use ix_cbor::{decode, CborKind, Node};
+use ix_cid::Cid;
 use ix_cid::code::{DAG_CBOR, SHA2_256};
-use ix_selector::residual::Residual;
+use ix_selector::Residual;
 use std::alloc::{AllocError, Global};
 
 // Whether a walk may go into a CID: DAG-CBOR under SHA-256 of 32 bytes.

@@ -8,10 +8,8 @@ ghost use Rattle.ix_walk.specs.Walking.{part_of, part_below};
 ghost use Rattle.ix_walk.specs.Descent.{IsChild, is_spent, pushed, Opens, Finds};
 
 use crate::subtree::{Found, Members, Pending, Waiting};
-use ix_cbor::node::Node;
-use ix_cbor::octets::Octets;
-use ix_selector::residual::Residual;
-use ix_selector::step::Step;
+use ix_cbor::{Node, Octets};
+use ix_selector::{Residual, Step};
 use std::alloc::{AllocError, Global};
 
 // What waits in a node, if a link can be there.

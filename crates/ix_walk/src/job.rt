@@ -4,8 +4,9 @@ ghost use Rattle.std.specs.Prelude.{◌≡◌, Some, None, IfOk, IfErr, OnOk, st
 ghost use Rattle.ix_walk.specs.Job.{JobMeaning, job_fault};
 ghost use Rattle.ix_walk.specs.JobMeaning.{is_name, is_name_byte};
 
-use ix_cid::cid::Cid;
-use ix_selector::selector::Selector;
+use crate::fault::JobFault;
+use ix_cid::Cid;
+use ix_selector::Selector;
 use std::marker::Model;
 
 /// How many bytes a name may have.
@@ -21,17 +22,6 @@ pub struct Job {
     root: Cid,
     selector: Selector,
     limit: u32,
-}
-
-/// Why a job is refused.
-#[derive(Debug, Drop, Clone, Copy, PartialEq, Eq)]
-pub enum JobFault {
-    /// The name is not 1 to 64 bytes of `a` to `z`, `0` to `9`, `-` and `_`.
-    Name,
-    /// The limit is 0.
-    LimitZero,
-    /// The limit is above 1,000,000.
-    LimitTooLarge,
 }
 
 impl Model for Job {

@@ -3,8 +3,15 @@
 
 mod arriving;
 mod descent;
-pub mod job;
-pub mod store;
+mod fault;
+mod job;
+mod store;
 mod subtree;
-pub mod visit;
-pub mod walk;
+mod visit;
+mod walk;
+
+pub use fault::{JobFault, WalkStop};
+pub use job::{GREATEST_LIMIT, Job, is_name};
+pub use store::Store;
+pub use visit::Visit;
+pub use walk::Walk;

@@ -3,8 +3,8 @@
 ghost use Rattle.std.specs.Prelude.{◌≡◌, ◌<◌, [], ◌∷◌, ◌++◌, length, map, slice_get, Some, true, false, IfOk, OnOk, OnErr, not, ◌==◌};
 ghost use Rattle.ix_walk.specs.Store.{has_cid, with_block, position_of};
 
-use ix_cbor::octets::Octets;
-use ix_cid::cid::Cid;
+use ix_cbor::Octets;
+use ix_cid::Cid;
 use std::alloc::{AllocError, Global};
 use std::collections::BTreeMap;
 use std::marker::Model;

@@ -2,10 +2,9 @@
 
 ghost use Rattle.std.specs.Prelude.{◌≤◌, vec_len};
 
-use ix_cbor::node::Node;
-use ix_cbor::octets::Octets;
-use ix_cid::cid::Cid;
-use ix_selector::residual::Residual;
+use ix_cbor::{Node, Octets};
+use ix_cid::Cid;
+use ix_selector::Residual;
 
 // The members of a list that are left, the next one last.
 #[derive(Drop)]

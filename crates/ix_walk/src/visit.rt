@@ -1,7 +1,6 @@
 //! Visits.
 
-use ix_cid::cid::Cid;
-use std::alloc::AllocError;
+use ix_cid::Cid;
 
 /// One arrival at a CID.
 #[derive(Debug, Drop)]
@@ -15,22 +14,4 @@ pub struct Visit {
     pub block: Option<usize>,
     /// The block is there, should be DAG-CBOR, and is none.
     pub malformed: bool,
-}
-
-/// Why a walk stops before its end.
-#[derive(Debug, Drop, Clone, Copy, PartialEq, Eq)]
-pub enum WalkStop {
-    Limit,
-    Memory,
-}
-
-impl From<AllocError> for WalkStop {
-    ghost use Rattle.std.specs.Prelude.{◌≡◌};
-    ghost use Rattle.ix_walk.specs.declared.visit.WalkStop.TheVariants.{Memory};
-
-    ghost from_gives = { λ _ stop. stop ≡ Memory };
-
-    fn from(_error: AllocError) -> WalkStop {
-        WalkStop::Memory
-    }
 }

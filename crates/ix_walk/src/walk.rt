@@ -7,8 +7,9 @@ use crate::arriving::take_next;
 use crate::job::Job;
 use crate::store::Store;
 use crate::subtree::{Pending, Waiting};
-use crate::visit::{Visit, WalkStop};
-use ix_selector::residual::Residual;
+use crate::visit::Visit;
+use crate::fault::WalkStop;
+use ix_selector::Residual;
 use std::alloc::{AllocError, Global};
 use std::marker::Model;
 

@@ -6,9 +6,8 @@ ghost use Rattle.ix_cid.specs.Varint.{varint_of};
 ghost use Rattle.ix_cbor.specs.Spelling.{spelling_of};
 ghost use Rattle.ix_car.specs.Archive.{header_data, header_of};
 
-use ix_cbor::head::push_head;
-use ix_cid::cid::Cid;
-use ix_cid::varint::push_varint;
+use ix_cbor::push_head;
+use ix_cid::{Cid, push_varint};
 use std::alloc::{AllocError, Global};
 use std::io::Write;
 

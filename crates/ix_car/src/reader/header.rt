@@ -6,13 +6,9 @@ ghost use Rattle.ix_cbor.specs.Reading.{data_at};
 ghost use Rattle.ix_car.specs.Reading.{value_at, are_links, has_roots, version_fault, header_fault, header_at};
 ghost use Rattle.ix_car.specs.Reads.{Reads};
 
-use crate::reader::CarKind;
+use crate::fault::CarKind;
 use crate::reader::section::{Stop, text_at};
-use ix_cbor::codec::decode;
-use ix_cbor::decode::CborKind;
-use ix_cbor::node::Node;
-use ix_cbor::octets::Octets;
-use ix_cbor::tree::Tree;
+use ix_cbor::{decode, CborKind, Node, Octets, Tree};
 use std::alloc::{AllocError, Global};
 
 // The bytes behind the header.

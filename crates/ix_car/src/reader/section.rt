@@ -4,9 +4,8 @@ ghost use Rattle.std.specs.Prelude.{◌<◌, ◌≤◌, length, IfOk, IfErr};
 ghost use Rattle.ix_car.specs.Reading.{text_at, section_at};
 ghost use Rattle.ix_car.specs.Reads.{Reads};
 
-use crate::reader::CarKind;
-use ix_cid::cid::{Cid, CidFault};
-use ix_cid::varint::{VarintFault, read_varint};
+use crate::fault::CarKind;
+use ix_cid::{Cid, CidFault, VarintFault, read_varint};
 use std::alloc::Global;
 
 // What is wrong, and how many bytes there are from its place to the end.

@@ -1,7 +1,7 @@
 //! Files read, and files refused.
 
 use super::*;
-use ix_cid::cid::Cid;
+use ix_cid::Cid;
 use std::process::Abort;
 use std::test::Fail;
 

@@ -1,11 +1,9 @@
 use crate::check::{Check, ShaCheck};
 use crate::verdict::Verdict;
-use ix_cbor::codec::decode;
-use ix_cid::cid::Cid;
-use ix_selector::selector::Selector;
-use ix_walk::job::Job;
-use ix_walk::store::Store;
-use ix_walk::walk::Walk;
+use ix_cbor::decode;
+use ix_cid::Cid;
+use ix_selector::Selector;
+use ix_walk::{Job, Store, Walk};
 use std::alloc::Global;
 use std::test::Fail;
 

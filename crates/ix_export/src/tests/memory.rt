@@ -4,11 +4,9 @@ use super::runs::example_of;
 use super::worked::WANT_OF_MEMORY;
 use crate::prepare::prepare;
 use crate::run::run_jobs;
-use ix_check::check::{Check, ShaCheck};
-use ix_check::verdict::Verdict;
-use ix_jobs::report::{report, status};
-use ix_walk::store::Store;
-use ix_walk::visit::Visit;
+use ix_check::{Check, ShaCheck, Verdict};
+use ix_jobs::{report, status};
+use ix_walk::{Store, Visit};
 use std::alloc::{AllocError, Global};
 use std::test::Fail;
 

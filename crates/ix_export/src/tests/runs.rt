@@ -4,7 +4,7 @@ use super::worked::*;
 use super::{HEADER, bytes_of};
 use crate::prepare::prepare;
 use crate::run::run;
-use ix_pipeline::plan::Plan;
+use ix_pipeline::Plan;
 use std::alloc::Global;
 use std::io;
 use std::io::{ErrorKind, Write};

@@ -2,15 +2,12 @@ ghost use Rattle.std.specs.Prelude.{◌≡◌, ◌++◌, [], map, option_to_list
 ghost use Rattle.ix_car.specs.Events.{delivery, close as closing};
 
 use crate::plain::export_plain;
-use ix_car::sink::{Delivery, End, Sink, SinkFault};
-use ix_cbor::codec::decode;
-use ix_check::check::ShaCheck;
-use ix_check::verdict::Verdict;
-use ix_cid::cid::Cid;
-use ix_selector::selector::Selector;
-use ix_walk::job::Job;
-use ix_walk::store::Store;
-use ix_walk::visit::Visit;
+use ix_car::{Delivery, End, Sink, SinkFault};
+use ix_cbor::decode;
+use ix_check::{ShaCheck, Verdict};
+use ix_cid::Cid;
+use ix_selector::Selector;
+use ix_walk::{Job, Store, Visit};
 use std::alloc::Global;
 use std::test::Fail;
 

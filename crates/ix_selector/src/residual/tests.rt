@@ -5,7 +5,7 @@ ghost use Rattle.std.specs.Prelude.{◌<◌};
 use crate::residual::Residual;
 use crate::selector::Selector;
 use crate::step::Step;
-use ix_cbor::codec::decode;
+use ix_cbor::decode;
 use std::alloc::Global;
 use std::test::Fail;
 

@@ -1,7 +1,7 @@
 //! Jobs that are refused, and that aren't.
 
 use super::*;
-use ix_cbor::codec::decode;
+use ix_cbor::decode;
 use std::alloc::Global;
 use std::test::Fail;
 

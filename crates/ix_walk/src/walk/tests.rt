@@ -1,10 +1,10 @@
 use crate::job::Job;
 use crate::store::Store;
-use crate::visit::WalkStop;
+use crate::fault::WalkStop;
 use crate::walk::Walk;
-use ix_cbor::codec::decode;
-use ix_cid::cid::Cid;
-use ix_selector::selector::Selector;
+use ix_cbor::decode;
+use ix_cid::Cid;
+use ix_selector::Selector;
 use std::alloc::Global;
 use std::test::Fail;
 

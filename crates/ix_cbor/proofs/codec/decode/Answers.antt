@@ -2,7 +2,7 @@ use Rattle.std.proofs.Common.{◌<◌, ◌≤◌, ◌-◌, ◌^◌, arith, lengt
 use Rattle.std.specs.Prelude.{Ok, Result}
 use Rattle.std.proofs.lemmas.List.Elements.{All-from_get_or}
 use Rattle.ix_cid.specs.Bytes.{AreBytes}
-use Rattle.ix_cbor.specs.declared.decode.CborKind.{CborKind}
+use Rattle.ix_cbor.specs.declared.fault.CborKind.{CborKind}
 use Rattle.ix_cbor.specs.Data.{Data, data_of}
 use Rattle.ix_cbor.specs.Spelling.{Spells}
 use Rattle.ix_cbor.specs.Reading.{Fault, decoded}

@@ -1,6 +1,6 @@
 use Rattle.std.proofs.Common.{◌≡◌, ◌≤◌, ◌*◌, ◌^◌, take}
 use Rattle.ix_jobs.specs.Report.{skip_count}
-use Rattle.ix_jobs.proofs.report.skip_count.Given as goal
+use Rattle.ix_jobs.proofs.outcome.skip_count.Given as goal
 
 -- the count so far, which is bounded by that of the results so far
 abbrev pub invariant-loop-outcome : goal.invariant-loop-outcome

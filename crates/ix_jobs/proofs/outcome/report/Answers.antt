@@ -2,7 +2,7 @@ use Rattle.std.proofs.Common.{rules, ap, ◌∙◌, ◌≡◌, ◌++◌, length,
 use Rattle.std.proofs.lemmas.Slice.Zip.{Zip-more, either_empty_from_Zip}
 use Rattle.ix_jobs.specs.Report.{total_line}
 use Rattle.ix_jobs.proofs.Lines.{a_job_more, all_written, totals}
-use Rattle.ix_jobs.proofs.report.report.Goals as goal
+use Rattle.ix_jobs.proofs.outcome.report.Goals as goal
 
 pub loop-job-preserved : goal.loop-job-preserved
 loop-job-preserved c =

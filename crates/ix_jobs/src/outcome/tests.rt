@@ -1,10 +1,10 @@
 //! Reports, written out.
 
 use super::*;
-use ix_cbor::codec::decode;
-use ix_check::verdict::Verdict;
-use ix_cid::cid::Cid;
-use ix_selector::selector::Selector;
+use ix_cbor::decode;
+use ix_check::Verdict;
+use ix_cid::Cid;
+use ix_selector::Selector;
 use std::process::Abort;
 use std::test::Fail;
 

@@ -3,9 +3,9 @@ use Rattle.std.specs.List.{list_all}
 use Rattle.std.proofs.lemmas.Iterator.{YieldsList-from_slice}
 use Rattle.std.proofs.lemmas.Iterator.Search.{all_from_yields_List}
 use Rattle.ix_jobs.specs.Report.{is_done}
-use Rattle.ix_jobs.specs.declared.report.JobResult.{JobResult}
+use Rattle.ix_jobs.specs.declared.outcome.JobResult.{JobResult}
 use Rattle.ix_jobs.proofs.Lines.{status_with_skips, status_without_skips}
-use Rattle.ix_jobs.proofs.report.status.Goals as goal
+use Rattle.ix_jobs.proofs.outcome.status.Goals as goal
 
 pub returns-then-skip_count-gt0 : goal.returns-then-skip_count-gt0
 returns-then-skip_count-gt0 c =

@@ -13,9 +13,8 @@ ghost use Rattle.ix_jobs.specs.Report.{
   status_of,
 };
 
-use ix_car::archive::{Counts, Skip};
-use ix_car::sink::End;
-use ix_walk::job::Job;
+use ix_car::{Counts, Skip, End};
+use ix_walk::Job;
 use std::alloc::{AllocError, Global};
 
 /// How a job ended.

@@ -1,0 +1,82 @@
+//! Why a job file is refused.
+
+use std::alloc::{AllocError, AllocFailed};
+use std::fmt;
+
+/// What is wrong with a line. The tests on a line come in the order of the kinds, so the first test
+/// that fails gives the kind; want of memory may come at any of them.
+#[derive(Debug, Drop, Clone, Copy, PartialEq, Eq)]
+pub enum JobsKind {
+    /// The line has a byte outside `20` to `7e`.
+    Text,
+    /// The line isn't four fields, none empty, with one space between.
+    Fields,
+    /// The first field is no name: 1 to 64 bytes of `a` to `z`, `0` to `9`, `-` and `_`.
+    Name,
+    /// The second field is the text of no CIDv1.
+    Root,
+    /// The third field isn't decimal digits without a leading zero, from 1 to 1,000,000.
+    Limit,
+    /// The fourth field isn't an even number of hexadecimal digits.
+    Hex,
+    /// The bytes of the fourth field spell no selector.
+    Selector,
+    /// An earlier line has the name.
+    Repeated,
+    /// There are 1,000 jobs before this one.
+    TooMany,
+    /// No memory was left.
+    Memory,
+}
+
+/// Why a job file is refused: what is wrong with its first faulty line.
+#[derive(Debug, Drop, Clone, Copy, PartialEq, Eq)]
+pub struct JobsFault {
+    pub kind: JobsKind,
+    /// The number of the line, from 1. Ignored lines are counted too.
+    pub line: u64,
+}
+
+impl fmt::Display for JobsKind {
+    ghost use Rattle.std.specs.Prelude.{Some};
+    ghost use Rattle.ix_jobs.specs.FaultWords.{fault_words};
+
+    ghost output = { λ k. Some (fault_words k) };
+
+    fn fmt<W: fmt::Write>(&self, f: &mut fmt::Formatter<W>) -> fmt::Result {
+        match self {
+            JobsKind::Text => f.write_str("text"),
+            JobsKind::Fields => f.write_str("fields"),
+            JobsKind::Name => f.write_str("name"),
+            JobsKind::Root => f.write_str("root"),
+            JobsKind::Limit => f.write_str("limit"),
+            JobsKind::Hex => f.write_str("hex"),
+            JobsKind::Selector => f.write_str("selector"),
+            JobsKind::Repeated => f.write_str("repeated"),
+            JobsKind::TooMany => f.write_str("too many"),
+            JobsKind::Memory => f.write_str("memory"),
+        }
+    }
+}
+
+impl From<AllocError> for JobsKind {
+    ghost use Rattle.std.specs.Prelude.{◌≡◌};
+    ghost use Rattle.ix_jobs.specs.declared.fault.JobsKind.TheVariants.{Memory};
+
+    ghost from_gives = { λ _ kind. kind ≡ Memory };
+
+    fn from(_error: AllocError) -> JobsKind {
+        JobsKind::Memory
+    }
+}
+
+impl<T: Drop> From<AllocFailed<T>> for JobsKind {
+    ghost use Rattle.std.specs.Prelude.{◌≡◌};
+    ghost use Rattle.ix_jobs.specs.declared.fault.JobsKind.TheVariants.{Memory};
+
+    ghost from_gives = { λ _ kind. kind ≡ Memory };
+
+    fn from(_error: AllocFailed<T>) -> JobsKind {
+        JobsKind::Memory
+    }
+}
