@@ -15,8 +15,8 @@ use Rattle.ix_car.specs.Events.{Event, delivery, close, deliveries_of}
 use Rattle.ix_car.specs.Kept.{kept}
 use Rattle.ix_car.specs.Verified.{judged_visits, verified}
 use Rattle.ix_car.specs.Archive.{is_sound, first_sound, header_of, section_of, archive_with, archive_of}
-use Rattle.ix_car.specs.ArchiveMeaning.{HasWritten}
-use Rattle.ix_car.specs.Archived.{IsBeginning, IsArchived}
+use Rattle.ix_car.specs.ArchiveMeaning.{ArchiveMeaning, events_of, HasWritten, HasArchived}
+use Rattle.ix_car.specs.Archived.{IsBeginning, TellsBeginning, IsArchived}
 use Rattle.ix_car.specs.Faithful.{EndFits, IsFaithful}
 use Rattle.ix_car.proofs.Pruning.{kept-take}
 use Rattle.ix_car.proofs.Numbers.{kept-verified, kept-beginning}
@@ -112,3 +112,30 @@ faithful-archived store number job end events failed f =
       beginning = λ bytes written.
           written-beginning store number job f.count failed (failed-next end f.count visits (is_over_limit store job) failed f.fits) bytes (subst (λ l. HasWritten (Some bytes) store job.root l failed) deliveries written);
     }
+
+-- ---- an archive
+
+closed-deliveries : (ends : List End) → deliveries_of (map close ends) ≡ []
+closed-deliveries [] = refl
+closed-deliveries (e ∷ es) = closed-deliveries es
+
+told-back : (ds : List Delivery) (ends : List End) → deliveries_of (map delivery ds ++ map close ends) ≡ ds
+told-back [] ends = closed-deliveries ends
+told-back (d ∷ ds) ends = ap (λ l. d ∷ l) (told-back ds ends)
+
+-- what has written tells its bytes
+written-tells : (told : Option (List ℕ)) (store : Blocks) (root : List ℕ) (ds failed : List Delivery) → HasWritten told store root ds failed → (bytes : List ℕ) × (told ≡ Some bytes)
+written-tells told store root ds [] written = (archive_with store root (kept ds), written)
+written-tells told store root ds (d ∷ more) written = (written.0, written.1)
+
+module _ {W : Type 0} (told : W → Option (List ℕ)) (a : ArchiveMeaning W) (store : Blocks) (number : ℕ) (job : JobMeaning) (fact : HasArchived told a store job (Some [])) where
+  written-back : HasWritten (told a.writer) store job.root (deliveries_of (events_of a)) a.failed
+  written-back = subst (λ l. HasWritten (told a.writer) store job.root l a.failed) (sym (told-back a.deliveries a.closed)) (fact.written refl)
+
+  pub archive-whole : IsFaithful store number job Done (events_of a) a.failed → told a.writer ≡ Some (archive_of store number job)
+  archive-whole faithful = (faithful-archived store number job Done (events_of a) a.failed faithful).whole refl (told a.writer) written-back
+
+  pub archive-begun : (end : End) → IsFaithful store number job end (events_of a) a.failed → TellsBeginning (told a.writer) (archive_of store number job)
+  archive-begun end faithful =
+      let tells = written-tells (told a.writer) store job.root (deliveries_of (events_of a)) a.failed written-back in
+      (tells.0, tells.1, (faithful-archived store number job end (events_of a) a.failed faithful).beginning tells.0 (subst (λ o. HasWritten o store job.root (deliveries_of (events_of a)) a.failed) tells.1 written-back))

@@ -56,21 +56,21 @@ module _ {W : Type 0} (told : W → Option (List ℕ)) (d : Delivery) (before : 
   delivers-refused text (Err Memory) after h none = ap (λ a. a.failed) h ∙ none
 
   -- the bytes before, where the archive has written what it should
-  bytes-before : (store : Blocks) (job : JobMeaning) → HasArchived told before store job → before.failed ≡ [] → told before.writer ≡ Some (archive_with store job.root (kept before.deliveries))
-  bytes-before store job h none = subst (λ f. HasWritten (told before.writer) store job.root before.deliveries f) none h.written
+  bytes-before : (store : Blocks) (job : JobMeaning) → HasWritten (told before.writer) store job.root before.deliveries before.failed → before.failed ≡ [] → told before.writer ≡ Some (archive_with store job.root (kept before.deliveries))
+  bytes-before store job h none = subst (λ f. HasWritten (told before.writer) store job.root before.deliveries f) none h
 
   -- the bytes after
-  bytes-after : (text : List ℕ) (after : ArchiveMeaning W) (store : Blocks) (job : JobMeaning) → HasArchived told before store job → before.failed ≡ [] → HasTaken told before after text → told after.writer ≡ Some (archive_with store job.root (kept before.deliveries) ++ text)
+  bytes-after : (text : List ℕ) (after : ArchiveMeaning W) (store : Blocks) (job : JobMeaning) → HasWritten (told before.writer) store job.root before.deliveries before.failed → before.failed ≡ [] → HasTaken told before after text → told after.writer ≡ Some (archive_with store job.root (kept before.deliveries) ++ text)
   bytes-after text after store job h none took =
       appended (archive_with store job.root (kept before.deliveries)) text (told after.writer) (subst (λ o. Appends o (told after.writer) text) (bytes-before store job h none) took.grown)
 
   -- their number
-  counted-after : (text : List ℕ) (after : ArchiveMeaning W) (store : Blocks) (job : JobMeaning) → HasArchived told before store job → before.failed ≡ [] → HasTaken told before after text → IsCountOf after.taken (told after.writer)
-  counted-after text after store job h none took bytes is =
+  counted-after : (text : List ℕ) (after : ArchiveMeaning W) (store : Blocks) (job : JobMeaning) → HasWritten (told before.writer) store job.root before.deliveries before.failed → IsCountOf before.taken (told before.writer) → before.failed ≡ [] → HasTaken told before after text → IsCountOf after.taken (told after.writer)
+  counted-after text after store job h count none took bytes is =
       let whole = archive_with store job.root (kept before.deliveries) in
       let same : bytes ≡ whole ++ text = some-text bytes (whole ++ text) (sym is ∙ bytes-after text after store job h none took) in
       took.counted
-      ∙ count-add (2 ^ 64 - 1) (length whole) (length text) before.taken (h.counted whole (bytes-before store job h none))
+      ∙ count-add (2 ^ 64 - 1) (length whole) (length text) before.taken (count whole (bytes-before store job h none))
       ∙ ap (at_most 64) (sym (length-append whole text))
       ∙ ap (λ l. at_most 64 (length l)) (sym same)
 
@@ -79,33 +79,49 @@ module _ {W : Type 0} (told : W → Option (List ℕ)) (d : Delivery) (before : 
   due-there store job same =
       archive-due store job.root before.deliveries d ∙ ap (λ s. archive_with store job.root (kept before.deliveries) ++ text_due s before.deliveries d) (sym same)
 
-  added-archived : (after : ArchiveMeaning W) (store : Blocks) (job : JobMeaning) → IsAdded told d (text_due before.store before.deliveries d) before after → before.failed ≡ [] → HasArchived told before store job → HasArchived told after store job
-  added-archived after store job added none h =
-      let is : told after.writer ≡ Some (archive_with store job.root (kept (before.deliveries ++ d ∷ []))) = bytes-after (text_due before.store before.deliveries d) after store job h none added.wrote ∙ ap Some (sym (due-there store job h.same_store)) in
-      let by_none : HasWritten (told after.writer) store job.root after.deliveries [] = is ∙ ap (λ l. Some (archive_with store job.root (kept l))) (sym added.deliveries) in record {
-        same_store = added.wrote.same_store ∙ h.same_store;
-        same_root = added.wrote.same_root ∙ h.same_root;
-        written = subst (λ f. HasWritten (told after.writer) store job.root after.deliveries f) (sym added.failed) by_none;
-        counted = counted-after (text_due before.store before.deliveries d) after store job h none added.wrote;
-      }
+  added-written : (after : ArchiveMeaning W) (store : Blocks) (job : JobMeaning) → IsAdded told d (text_due before.store before.deliveries d) before after → before.failed ≡ [] → before.store ≡ store
+      → HasWritten (told before.writer) store job.root before.deliveries before.failed → HasWritten (told after.writer) store job.root after.deliveries after.failed
+  added-written after store job added none same h =
+      let is : told after.writer ≡ Some (archive_with store job.root (kept (before.deliveries ++ d ∷ []))) = bytes-after (text_due before.store before.deliveries d) after store job h none added.wrote ∙ ap Some (sym (due-there store job same)) in
+      let by_none : HasWritten (told after.writer) store job.root after.deliveries [] = is ∙ ap (λ l. Some (archive_with store job.root (kept l))) (sym added.deliveries) in
+      subst (λ f. HasWritten (told after.writer) store job.root after.deliveries f) (sym added.failed) by_none
 
-  failed-archived : (after : ArchiveMeaning W) (store : Blocks) (job : JobMeaning) → IsFailed told d (text_due before.store before.deliveries d) before after → before.failed ≡ [] → HasArchived told before store job → HasArchived told after store job
-  failed-archived after store job refused none h =
+  added-archived : (after : ArchiveMeaning W) (store : Blocks) (job : JobMeaning) (first : Option (List ℕ)) → IsAdded told d (text_due before.store before.deliveries d) before after → before.failed ≡ [] → HasArchived told before store job first → HasArchived told after store job first
+  added-archived after store job first added none h = record {
+    same_store = added.wrote.same_store ∙ h.same_store;
+    same_root = added.wrote.same_root ∙ h.same_root;
+    written = λ fresh. added-written after store job added none h.same_store (h.written fresh);
+    counted = λ fresh. counted-after (text_due before.store before.deliveries d) after store job (h.written fresh) (h.counted fresh) none added.wrote;
+  }
+
+  failed-written : (after : ArchiveMeaning W) (store : Blocks) (job : JobMeaning) → IsFailed told d (text_due before.store before.deliveries d) before after → before.failed ≡ [] → before.store ≡ store
+      → HasWritten (told before.writer) store job.root before.deliveries before.failed → HasWritten (told after.writer) store job.root after.deliveries after.failed
+  failed-written after store job refused none same h =
       let whole = archive_with store job.root (kept before.deliveries) in
-      let proper : IsProperPrefix (whole ++ refused.part) (archive_with store job.root (kept (before.deliveries ++ d ∷ []))) = subst (λ l. IsProperPrefix (whole ++ refused.part) l) (sym (due-there store job h.same_store)) (proper-behind whole refused.part (text_due before.store before.deliveries d) refused.proper) in
+      let proper : IsProperPrefix (whole ++ refused.part) (archive_with store job.root (kept (before.deliveries ++ d ∷ []))) = subst (λ l. IsProperPrefix (whole ++ refused.part) l) (sym (due-there store job same)) (proper-behind whole refused.part (text_due before.store before.deliveries d) refused.proper) in
       let by_one : HasWritten (told after.writer) store job.root before.deliveries (d ∷ []) = (whole ++ refused.part, bytes-after refused.part after store job h none refused.wrote, proper) in
-      let by_deliveries : HasWritten (told after.writer) store job.root after.deliveries (d ∷ []) = subst (λ l. HasWritten (told after.writer) store job.root l (d ∷ [])) (sym refused.deliveries) by_one in record {
-        same_store = refused.wrote.same_store ∙ h.same_store;
-        same_root = refused.wrote.same_root ∙ h.same_root;
-        written = subst (λ f. HasWritten (told after.writer) store job.root after.deliveries f) (sym refused.failed) by_deliveries;
-        counted = counted-after refused.part after store job h none refused.wrote;
-      }
+      let by_deliveries : HasWritten (told after.writer) store job.root after.deliveries (d ∷ []) = subst (λ l. HasWritten (told after.writer) store job.root l (d ∷ [])) (sym refused.deliveries) by_one in
+      subst (λ f. HasWritten (told after.writer) store job.root after.deliveries f) (sym refused.failed) by_deliveries
+
+  failed-archived : (after : ArchiveMeaning W) (store : Blocks) (job : JobMeaning) (first : Option (List ℕ)) → IsFailed told d (text_due before.store before.deliveries d) before after → before.failed ≡ [] → HasArchived told before store job first → HasArchived told after store job first
+  failed-archived after store job first refused none h = record {
+    same_store = refused.wrote.same_store ∙ h.same_store;
+    same_root = refused.wrote.same_root ∙ h.same_root;
+    written = λ fresh. failed-written after store job refused none h.same_store (h.written fresh);
+    counted = λ fresh. counted-after refused.part after store job (h.written fresh) (h.counted fresh) none refused.wrote;
+  }
 
   -- an archive goes on having written what it should
-  pub delivers-archived : {T : Type 0} (r : Result T SinkFault) (after : ArchiveMeaning W) → IsDelivered told d (text_due before.store before.deliveries d) before r after → before.failed ≡ [] → (store : Blocks) (job : JobMeaning) → HasArchived told before store job → HasArchived told after store job
-  delivers-archived (Ok u) after h none store job was = added-archived after store job h none was
-  delivers-archived (Err Write) after h none store job was = failed-archived after store job h none was
-  delivers-archived (Err Memory) after h none store job was = subst (λ a. HasArchived told a store job) (sym h) was
+  pub delivers-archived : {T : Type 0} (r : Result T SinkFault) (after : ArchiveMeaning W) → IsDelivered told d (text_due before.store before.deliveries d) before r after → before.failed ≡ [] → (store : Blocks) (job : JobMeaning) (first : Option (List ℕ)) → HasArchived told before store job first → HasArchived told after store job first
+  delivers-archived (Ok u) after h none store job first was = added-archived after store job first h none was
+  delivers-archived (Err Write) after h none store job first was = failed-archived after store job first h none was
+  delivers-archived (Err Memory) after h none store job first was = subst (λ a. HasArchived told a store job first) (sym h) was
+
+  -- want of memory leaves the archive as it was
+  pub delivers-memory : {T : Type 0} (text : List ℕ) (r : Result T SinkFault) (after : ArchiveMeaning W) → IsDelivered told d text before r after → r ≡ Err Memory → after ≡ before
+  delivers-memory text (Ok u) after h e = absurd cc
+  delivers-memory text (Err Write) after h e = absurd cc
+  delivers-memory text (Err Memory) after h e = h
 
 -- a delivery that writes nothing
 pub adds-nothing : {W : Type 0} (told : W → Option (List ℕ)) (d : Delivery) (store : Blocks) (root : List ℕ) (ds es failed : List Delivery) (closed : List End) (taken : ℕ) (writer : W) → failed ≡ [] → taken ≤ 2 ^ 64 - 1 → es ≡ ds ++ d ∷ []
@@ -175,15 +191,14 @@ begins-in_part told writer later root header n is short grown fresh = (
 
 -- an archive whose header was written
 pub begins-archived : {W : Type 0} (told : W → Option (List ℕ)) (writer later : W) (store : Blocks) (job : JobMeaning) (root header : List ℕ) (ds : List Delivery) (n : ℕ) → root ≡ job.root → header ≡ header_of job.root → ds ≡ [] → n ≤ length header → length header ≤ n → n ≤ 2 ^ 64 - 1
-    → Appends (told writer) (told later) (take n header) → told writer ≡ Some []
-    → HasArchived told (record { store = store; root = root; deliveries = ds; failed = []; closed = []; taken = n; writer = later }) store job
-begins-archived told writer later store job root header ds n same is none within whole fits grown fresh =
-    let took : told later ≡ Some header = appended [] (take n header) (told later) (subst (λ o. Appends o (told later) (take n header)) fresh grown) ∙ ap Some (take_all n header whole) in
-    let wrote : told later ≡ Some (archive_with store job.root (kept [])) = took ∙ ap Some (is ∙ sym (append-nil (header_of job.root))) in record {
+    → Appends (told writer) (told later) (take n header)
+    → HasArchived told (record { store = store; root = root; deliveries = ds; failed = []; closed = []; taken = n; writer = later }) store job (told writer)
+begins-archived told writer later store job root header ds n same is none within whole fits grown =
+    let took : told writer ≡ Some [] → told later ≡ Some header = λ fresh. appended [] (take n header) (told later) (subst (λ o. Appends o (told later) (take n header)) fresh grown) ∙ ap Some (take_all n header whole) in record {
       same_store = refl;
       same_root = same;
-      written = wrote ∙ ap (λ l. Some (archive_with store job.root (kept l))) (sym none);
-      counted = λ bytes tells. let one : bytes ≡ header = some-text bytes header (sym tells ∙ took) in
+      written = λ fresh. took fresh ∙ ap Some (is ∙ sym (append-nil (header_of job.root))) ∙ ap (λ l. Some (archive_with store job.root (kept l))) (sym none);
+      counted = λ fresh bytes tells. let one : bytes ≡ header = some-text bytes header (sym tells ∙ took fresh) in
           let many : n ≡ min (length header) (2 ^ 64 - 1) = omega arith in many ∙ ap (λ l. at_most 64 (length l)) (sym one);
     }
 

@@ -34,12 +34,12 @@ HasWritten told store root ds (d ∷ more) = (bytes : List ℕ) × (told ≡ Som
 abbrev pub IsCountOf : ℕ → Option (List ℕ) → Type 0
 IsCountOf taken told = (bytes : List ℕ) → told ≡ Some bytes → taken ≡ at_most 64 (length bytes)
 
--- an archive over this store and job has written what it should
-pub record HasArchived {W : Type 0} (told : W → Option (List ℕ)) (a : ArchiveMeaning W) (store : Blocks) (job : JobMeaning) : Type 0 where
+-- An archive over this store and job has written what it should, and counted it, where its writer told at first that it had no bytes.
+pub record HasArchived {W : Type 0} (told : W → Option (List ℕ)) (a : ArchiveMeaning W) (store : Blocks) (job : JobMeaning) (first : Option (List ℕ)) : Type 0 where
   pub same_store : a.store ≡ store
   pub same_root : a.root ≡ job.root
-  pub written : HasWritten (told a.writer) store job.root a.deliveries a.failed
-  pub counted : IsCountOf a.taken (told a.writer)
+  pub written : first ≡ Some [] → HasWritten (told a.writer) store job.root a.deliveries a.failed
+  pub counted : first ≡ Some [] → IsCountOf a.taken (told a.writer)
 
 -- an archive that was told nothing so far
 pub record IsBegun {W : Type 0} (a : ArchiveMeaning W) (store : Blocks) (root : List ℕ) : Type 0 where

@@ -13,6 +13,10 @@ use Rattle.ix_car.specs.ArchiveMeaning.{HasWritten}
 abbrev pub IsBeginning : List ℕ → List ℕ → Type 0
 IsBeginning a b = (more : List ℕ) × (a ++ more ≡ b)
 
+-- a writer tells its bytes, and they begin these
+abbrev pub TellsBeginning : Option (List ℕ) → List ℕ → Type 0
+TellsBeginning told whole = (bytes : List ℕ) × (told ≡ Some bytes) × IsBeginning bytes whole
+
 -- What an archive over the store and the job has written, where its writer tells its bytes: the whole archive at Done, and else its beginning.
 pub record IsArchived (store : Blocks) (number : ℕ) (job : JobMeaning) (end : End) (events : List Event) (failed : List Delivery) : Type 0 where
   pub whole : end ≡ Done → (told : Option (List ℕ)) → HasWritten told store job.root (deliveries_of events) failed → told ≡ Some (archive_of store number job)

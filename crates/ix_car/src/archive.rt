@@ -104,7 +104,7 @@ impl<'a, W: Write> Archive<'a, W> {
         mut writer: W,
     ) -> Result<Archive<'a, W>, ArchiveNew<W>>
         ensures begun { IfOk result (λ a. IsBegun a store.now job.now.root) }
-        ensures fact { IfOk result (λ a. W.contents writer ≡ Some [] → HasArchived W.contents a store.now job.now) }
+        ensures fact { IfOk result (λ a. HasArchived W.contents a store.now job.now (W.contents writer)) }
         ensures refused { IfErr result (λ e. IsNoArchive W.contents writer job.now.root e) }
     {
         let Ok(root) = job.root().try_clone(alloc) else {

@@ -51,12 +51,13 @@ pub struct Delivery {
 /// Contracts see what a sink was told as a list of events. A delivery that is refused is none of
 /// them. Where its write failed it is kept as the one that failed, and from then on only a close may
 /// come. What a sink promises of itself for good, as that an archive has written what it should, is
-/// its fact: it is about a store and a job, and no call breaks it.
+/// its fact: it is about a store, a job and what its writer told at first, and no call breaks it.
 pub trait Sink {
-    ghost use Rattle.std.specs.Prelude.{◌≡◌, ◌++◌, ◌∷◌, [], OnOk, OnErr, IfErr, List};
+    ghost use Rattle.std.specs.Prelude.{◌≡◌, ◌++◌, ◌∷◌, [], OnOk, OnErr, IfErr, List, ℕ, Option, Err};
     ghost use Rattle.ix_walk.specs.Store.{Blocks};
     ghost use Rattle.ix_walk.specs.JobMeaning.{JobMeaning};
     ghost use Rattle.ix_car.specs.declared.sink.Delivery.{Delivery};
+    ghost use Rattle.ix_car.specs.declared.fault.SinkFault.TheVariants.{Memory};
     ghost use Rattle.ix_car.specs.Events.{Event, delivery, close as closing, IsOpen, IsRefusal};
 
     /// The deliveries that were taken, and the close, in order.
@@ -65,11 +66,13 @@ pub trait Sink {
     /// The deliveries at which a write failed.
     ghost failed: { Self → List Delivery };
 
-    /// What a sink promises of itself for good, over a store and a job.
-    ghost fact: { Self → Blocks → JobMeaning → Type 0 };
+    /// What a sink promises of itself for good, over a store, a job and the bytes that its writer told
+    /// at first, if it tells any.
+    ghost fact: { Self → Blocks → JobMeaning → Option (List ℕ) → Type 0 };
 
     /// Takes a visit with its verdict, which is then the last event. It may be called until the close
-    /// and until a write fails. At an `Err` the events are as they were.
+    /// and until a write fails. At an `Err` the events are as they were, and where memory ran out the
+    /// whole sink is.
     fn deliver(&mut self, alloc: Global, visit: Visit, verdict: Verdict) -> Result<(), SinkFault>
         requires open { IsOpen (events self.old) }
         requires unfailed { failed self.old ≡ [] }
@@ -77,7 +80,8 @@ pub trait Sink {
         ensures ok_failed { OnOk result (failed self.new ≡ []) }
         ensures err { OnErr result (events self.new ≡ events self.old) }
         ensures refused { IfErr result (λ e. IsRefusal e (record { visit = visit; verdict = verdict }) (failed self.new)) }
-        ensures kept { (store : Blocks) (job : JobMeaning) → fact self.old store job → fact self.new store job };
+        ensures memory { result ≡ Err Memory → self.new ≡ self.old }
+        ensures kept { (store : Blocks) (job : JobMeaning) (first : Option (List ℕ)) → fact self.old store job first → fact self.new store job first };
 
     /// Tells how the job ended, which is the last event. It may be called once, after a failed write
     /// too.
@@ -85,5 +89,5 @@ pub trait Sink {
         requires { IsOpen (events self.old) }
         ensures closed { events self.new ≡ events self.old ++ closing end ∷ [] }
         ensures failed { failed self.new ≡ failed self.old }
-        ensures kept { (store : Blocks) (job : JobMeaning) → fact self.old store job → fact self.new store job };
+        ensures kept { (store : Blocks) (job : JobMeaning) (first : Option (List ℕ)) → fact self.old store job first → fact self.new store job first };
 }

@@ -1,7 +1,7 @@
 use Rattle.ix_car.specs.declared.sink.Delivery.{Delivery}
 use Rattle.ix_car.specs.Archiving.{text_due}
 use Rattle.ix_car.proofs.Open.{open_means}
-use Rattle.ix_car.proofs.Delivered.{delivers-ok, delivers-unfailed, delivers-err, delivers-refused, delivers-archived}
+use Rattle.ix_car.proofs.Delivered.{delivers-ok, delivers-unfailed, delivers-err, delivers-refused, delivers-memory, delivers-archived}
 use Rattle.ix_car.proofs.archive.ArchiveSink.deliver.Goals as goal
 
 pub take-requires-clause-unclosed : goal.take-requires-clause-unclosed
@@ -26,3 +26,7 @@ returns-clause-refused g c = let d : Delivery = record { visit = c.args.visit; v
 pub returns-clause-kept : goal.returns-clause-kept
 returns-clause-kept g c = let d : Delivery = record { visit = c.args.visit; verdict = c.args.verdict } in
     delivers-archived g.W.Write.contents d c.args.self.now c.take.result c.take.new.self c.take.ensures c.requires.unfailed
+
+pub returns-clause-memory : goal.returns-clause-memory
+returns-clause-memory g c = let d : Delivery = record { visit = c.args.visit; verdict = c.args.verdict } in
+    delivers-memory g.W.Write.contents d c.args.self.now (text_due c.args.self.now.store c.args.self.now.deliveries d) c.take.result c.take.new.self c.take.ensures
