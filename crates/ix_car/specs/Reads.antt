@@ -4,7 +4,12 @@ use Rattle.ix_car.specs.Reading.{Fault}
 use Rattle.ix_car.specs.Gives.{FailsAs}
 use Rattle.ix_car.specs.declared.reader.section.Stop.{Stop}
 
--- the answer of a part, seen by view, is what the definition gives, unless memory ran out
+-- the answer of a part that takes no memory, seen by view, is what the definition gives
 abbrev pub Reads : {X A : Type 0} → (X → A) → Result X Stop → Result A Fault → Type 0
 Reads view (Ok x) meant = meant ≡ Ok (view x)
-Reads view (Err e) meant = FailsAs e.kind e.left meant
+Reads view (Err e) meant = meant ≡ Err (record { kind = e.kind; left = e.left })
+
+-- the same of a part that takes memory, unless it ran out
+abbrev pub ReadsOrWants : {X A : Type 0} → (X → A) → Result X Stop → Result A Fault → Type 0
+ReadsOrWants view (Ok x) meant = meant ≡ Ok (view x)
+ReadsOrWants view (Err e) meant = FailsAs e.kind e.left meant

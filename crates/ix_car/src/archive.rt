@@ -1,19 +1,19 @@
 //! Archives (CARv1): a header with the root of a job, and a section for each sound block at its first
 //! visit.
 
-ghost use Rattle.std.specs.Prelude.{◌≡◌, true, false, None, Some, [], IfOk, IfErr};
+ghost use Rattle.std.specs.Prelude.{◌≡◌, ◌+◌, true, false, None, Some, [], IfOk, IfErr};
 ghost use Rattle.ix_walk.specs.Store.{position_of};
 ghost use Rattle.ix_car.specs.Kept.{is_below, kept};
 ghost use Rattle.ix_car.specs.Archive.{is_sound};
 ghost use Rattle.ix_car.specs.ArchiveMeaning.{HasArchived, IsBegun};
 ghost use Rattle.ix_car.specs.Archiving.{cut_behind, place_due, text_due, IsAdded, IsDelivered};
-ghost use Rattle.ix_car.specs.Report.{skips_of, counts_of};
+ghost use Rattle.ix_car.specs.Report.{at_most, skips_of, counts_of};
 ghost use Rattle.ix_car.specs.ArchiveNew.{IsNoArchive};
 
 use crate::archive::output::{header_of, set_section_head, write_section, write_text};
+use crate::fault::SinkFault;
 use crate::history::History;
 use crate::sink::{Delivery, End, Sink};
-use crate::fault::SinkFault;
 use ix_check::Verdict;
 use ix_cid::Cid;
 use ix_walk::{Job, Store, Visit};
@@ -211,7 +211,7 @@ impl<'a, W: Write> Archive<'a, W> {
         ensures { IsAdded W.contents delivery.now [] self.old self.new }
     {
         self.deliveries.note(delivery);
-        self.counts.visits = self.counts.visits.saturating_add(1);
+        self.counts.visits = one_more(self.counts.visits);
     }
 
     // Adds a kept delivery that isn't sound.
@@ -226,8 +226,8 @@ impl<'a, W: Write> Archive<'a, W> {
         }
         self.deliveries.note(&delivery);
         self.cut = Some(delivery.visit.depth);
-        self.counts.visits = self.counts.visits.saturating_add(1);
-        self.counts.kept = self.counts.kept.saturating_add(1);
+        self.counts.visits = one_more(self.counts.visits);
+        self.counts.kept = one_more(self.counts.kept);
         self.skips.push_reserved(Skip {
             seq: delivery.visit.seq,
             cid: delivery.visit.cid,
@@ -246,8 +246,8 @@ impl<'a, W: Write> Archive<'a, W> {
     {
         self.deliveries.note(delivery);
         self.cut = None;
-        self.counts.visits = self.counts.visits.saturating_add(1);
-        self.counts.kept = self.counts.kept.saturating_add(1);
+        self.counts.visits = one_more(self.counts.visits);
+        self.counts.kept = one_more(self.counts.kept);
     }
 
     // Adds a kept sound delivery with its section, whose block stands at this place.
@@ -276,9 +276,9 @@ impl<'a, W: Write> Archive<'a, W> {
         }
         self.deliveries.note(&delivery);
         self.cut = None;
-        self.counts.visits = self.counts.visits.saturating_add(1);
-        self.counts.kept = self.counts.kept.saturating_add(1);
-        self.counts.sections = self.counts.sections.saturating_add(1);
+        self.counts.visits = one_more(self.counts.visits);
+        self.counts.kept = one_more(self.counts.kept);
+        self.counts.sections = one_more(self.counts.sections);
         Ok(())
     }
 }
@@ -300,6 +300,13 @@ impl<'a, W: Write> Sink for Archive<'a, W> {
         self.closed = Some(end);
         self.written.clear();
     }
+}
+
+// A count with one more, which stops at the greatest number.
+fn one_more(count: u32) -> u32
+    ensures { result ≡ at_most 32 (count + 1) }
+{
+    count.saturating_add(1)
 }
 
 // Whether a block of this verdict has a section.

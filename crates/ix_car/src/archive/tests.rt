@@ -5,8 +5,8 @@ ghost use Rattle.ix_car.specs.Events.{IsOpen};
 ghost use Rattle.ix_car.specs.ArchiveMeaning.{events_of};
 
 use super::{Archive, ArchiveNew, Counts, Skip};
-use crate::sink::{Delivery, End, Sink};
 use crate::fault::SinkFault;
+use crate::sink::{Delivery, End, Sink};
 use ix_cbor::decode;
 use ix_check::Verdict;
 use ix_cid::Cid;

@@ -4,30 +4,26 @@ ghost use Rattle.std.specs.Prelude.{◌≡◌, ◌<◌, ◌≤◌, map, length, 
 ghost use Rattle.ix_cbor.specs.Data.{data_of, items_of, entries_of};
 ghost use Rattle.ix_cbor.specs.Reading.{data_at};
 ghost use Rattle.ix_car.specs.Reading.{value_at, are_links, has_roots, version_fault, header_fault, header_at};
-ghost use Rattle.ix_car.specs.Reads.{Reads};
+ghost use Rattle.ix_car.specs.Reads.{ReadsOrWants};
 
 use crate::fault::CarKind;
 use crate::reader::section::{Stop, text_at};
-use ix_cbor::{decode, CborKind, Node, Octets, Tree};
+use ix_cbor::{CborKind, Node, Octets, Tree, decode};
 use std::alloc::{AllocError, Global};
 
 // The bytes behind the header.
 pub(super) fn header_at(alloc: Global, bytes: &[u8]) -> Result<&[u8], Stop>
-    ensures reads { Reads (λ rest. rest.now) result (header_at bytes.now) }
+    ensures reads { ReadsOrWants (λ rest. rest.now) result (header_at bytes.now) }
     ensures shorter { IfOk result (λ rest. length rest.now < length bytes.now) }
     ensures within { IfErr result (λ stop. stop.left ≤ length bytes.now) }
 {
     let (text, rest) = text_at(bytes)?;
-    let left = bytes.len();
     let Ok(tree) = tree_of(alloc, text) else {
-        return Err(Stop {
-            kind: CarKind::Memory,
-            left,
-        });
+        return Err(Stop::at(CarKind::Memory, bytes));
     };
     match fault_of_header(&tree) {
         None => Ok(rest),
-        Some(kind) => Err(Stop { kind, left }),
+        Some(kind) => Err(Stop::at(kind, bytes)),
     }
 }
 

@@ -1,8 +1,8 @@
 //! Reading the parts of a CARv1 file: a text behind its length, and a section.
 
-ghost use Rattle.std.specs.Prelude.{◌<◌, ◌≤◌, length, IfOk, IfErr};
+ghost use Rattle.std.specs.Prelude.{◌≡◌, ◌<◌, ◌≤◌, length, IfOk, IfErr};
 ghost use Rattle.ix_car.specs.Reading.{text_at, section_at};
-ghost use Rattle.ix_car.specs.Reads.{Reads};
+ghost use Rattle.ix_car.specs.Reads.{Reads, ReadsOrWants};
 
 use crate::fault::CarKind;
 use ix_cid::{Cid, CidFault, VarintFault, read_varint};
@@ -15,55 +15,48 @@ pub(super) struct Stop {
     pub(super) left: usize,
 }
 
+impl Stop {
+    // A fault of what stands at the front of these bytes.
+    pub(super) fn at(kind: CarKind, bytes: &[u8]) -> Stop
+        ensures { result ≡ record { kind = kind; left = length bytes.now } }
+    {
+        Stop {
+            kind,
+            left: bytes.len(),
+        }
+    }
+}
+
 // The text behind its length, and the bytes after it.
 pub(super) fn text_at(bytes: &[u8]) -> Result<(&[u8], &[u8]), Stop>
     ensures reads { Reads (λ r. (r.0.now, r.1.now)) result (text_at bytes.now) }
     ensures shorter { IfOk result (λ r. length r.1.now < length bytes.now) }
     ensures within { IfErr result (λ stop. stop.left ≤ length bytes.now) }
 {
-    let left = bytes.len();
     let (length, size) = match read_varint(bytes) {
         Ok(found) => found,
-        Err(VarintFault::Truncated) => {
-            return Err(Stop {
-                kind: CarKind::Truncated,
-                left,
-            });
-        }
+        Err(VarintFault::Truncated) => return Err(Stop::at(CarKind::Truncated, bytes)),
         Err(VarintFault::TooLong | VarintFault::NotMinimal) => {
-            return Err(Stop {
-                kind: CarKind::Varint,
-                left,
-            });
+            return Err(Stop::at(CarKind::Varint, bytes));
         }
     };
     let (_, rest) = bytes.split_at(size);
     if length > rest.len() as u64 {
-        return Err(Stop {
-            kind: CarKind::Truncated,
-            left,
-        });
+        return Err(Stop::at(CarKind::Truncated, bytes));
     }
     Ok(rest.split_at(length as usize))
 }
 
 // The CID and the block of the section at the front, and the bytes after it.
 pub(super) fn section_at(alloc: Global, bytes: &[u8]) -> Result<(Cid, &[u8], &[u8]), Stop>
-    ensures reads { Reads (λ r. ((r.0, r.1.now), r.2.now)) result (section_at bytes.now) }
+    ensures reads { ReadsOrWants (λ r. ((r.0, r.1.now), r.2.now)) result (section_at bytes.now) }
     ensures shorter { IfOk result (λ r. length r.2.now < length bytes.now) }
     ensures within { IfErr result (λ stop. stop.left ≤ length bytes.now) }
 {
     let (section, rest) = text_at(bytes)?;
-    let left = bytes.len();
     match Cid::read(alloc, section) {
         Ok((cid, length)) => Ok((cid, &section[length..], rest)),
-        Err(CidFault::Memory) => Err(Stop {
-            kind: CarKind::Memory,
-            left,
-        }),
-        Err(_) => Err(Stop {
-            kind: CarKind::SectionCid,
-            left,
-        }),
+        Err(CidFault::Memory) => Err(Stop::at(CarKind::Memory, bytes)),
+        Err(_) => Err(Stop::at(CarKind::SectionCid, bytes)),
     }
 }

@@ -44,12 +44,12 @@ invariant_of-self-2 g c =
     let a = c.self.inside in
     let d = c.args.delivery in
     let within : c.saturating_add-self-inside.result ≤ 2 ^ 64 - 1 = omega (arith, c.saturating_add-self-inside.ensures) in
-    tally-section a.store.now a.deliveries c.note.new.self (option_to_list a.failed) (option_to_list a.closed) d a.cut a.counts c.saturating_add-self-inside-2.result c.saturating_add-self-inside-3.result c.saturating_add-self-inside-4.result c.saturating_add-self-inside.result c.args.place a.written c.insert.new.self a.skips.items c.self.invariant
+    tally-section a.store.now a.deliveries c.note.new.self (option_to_list a.failed) (option_to_list a.closed) d a.cut a.counts c.one_more-self-inside.result c.one_more-self-inside-2.result c.one_more-self-inside-3.result c.saturating_add-self-inside.result c.args.place a.written c.insert.new.self a.skips.items c.self.invariant
     (subst (λ v. is_below (cut_behind v.deliveries) d.visit.depth ≡ false) (sym c.self.view_is) c.requires.uncut)
     c.requires.sound
     (subst (λ v. place_due v.store (kept v.deliveries) d.visit.cid ≡ Some c.args.place) (sym c.self.view_is) c.requires.due)
     (at-ok c.insert.result c.is_err-2.result c.insert.ensures.updates c.is_err-2.ensures.value c.if-is_err-2.false)
-    c.note.ensures c.saturating_add-self-inside-2.ensures c.saturating_add-self-inside-3.ensures c.saturating_add-self-inside-4.ensures within
+    c.note.ensures c.one_more-self-inside.ensures c.one_more-self-inside-2.ensures c.one_more-self-inside-3.ensures within
 
 pub returns : goal.returns
 returns g c =
