@@ -2,7 +2,7 @@
 
 ghost use Rattle.std.specs.Prelude.{◌≤◌, IfOk};
 ghost use Rattle.ix_jobs.specs.Jobs.{root_in, limit_in, bytes_in, data_in, selector_in};
-ghost use Rattle.ix_jobs.specs.Gives.{Gives};
+ghost use Rattle.ix_jobs.specs.Gives.{Gives, Reads};
 
 use crate::fault::JobsKind;
 use hex::FromHexError;
@@ -25,7 +25,7 @@ pub(crate) fn root_in(alloc: Global, text: &str) -> Result<Cid, JobsKind>
 
 /// The number that decimal digits without a leading zero spell, from 1 to 1,000,000.
 pub(crate) fn limit_in(text: &str) -> Result<u32, JobsKind>
-    ensures exact { Gives (λ limit. limit) result (limit_in text.now) }
+    ensures exact { Reads (λ limit. limit) result (limit_in text.now) }
     ensures within { IfOk result (λ limit. (1 ≤ limit) × (limit ≤ 1000000)) }
 {
     let Some(b'1'..=b'9') = text.as_bytes().first() else {

@@ -3,7 +3,7 @@
 ghost use Rattle.std.specs.Prelude.{◌≡◌, [], ◌∷◌, ◌++◌, OnErr, bytes_eq};
 ghost use Rattle.std.specs.List.{list_any};
 ghost use Rattle.ix_jobs.specs.Jobs.{joined};
-ghost use Rattle.ix_jobs.specs.Gives.{Gives};
+ghost use Rattle.ix_jobs.specs.Gives.{Gives, Reads};
 
 use crate::fault::JobsKind;
 use ix_walk::Job;
@@ -64,7 +64,7 @@ impl JobList {
 
     // Whether a job may join those before it, or why not.
     fn may_join(&self, job: &Job) -> Result<(), JobsKind>
-        ensures { Gives (λ _. self.now ++ job.now ∷ []) result (joined self.now job.now) }
+        ensures { Reads (λ _. self.now ++ job.now ∷ []) result (joined self.now job.now) }
     {
         if self.is_taken(job.name()) {
             return Err(JobsKind::Repeated);

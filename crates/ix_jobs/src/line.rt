@@ -5,7 +5,7 @@ ghost use Rattle.std.specs.List.{slice_split};
 ghost use Rattle.std.specs.Str.Lines.{strip_carriage_return};
 ghost use Rattle.ix_jobs.specs.Jobs.{is_ignored, is_text, text_in, fields_in, job_of_fields, line_job, with_line};
 ghost use Rattle.ix_jobs.specs.LineParts.{first_field, last_field};
-ghost use Rattle.ix_jobs.specs.Gives.{Gives};
+ghost use Rattle.ix_jobs.specs.Gives.{Gives, Reads};
 
 use crate::field::{limit_in, root_in, selector_in};
 use crate::job_list::JobList;
@@ -55,7 +55,7 @@ fn line_job(alloc: Global, line: &[u8]) -> Result<Job, JobsKind>
 
 // The text of a line, of printable bytes alone.
 fn text_in(line: &[u8]) -> Result<&str, JobsKind>
-    ensures { Gives (λ text. text.now) result (text_in line.now) }
+    ensures { Reads (λ text. text.now) result (text_in line.now) }
 {
     if !is_text(line) {
         return Err(JobsKind::Text);
@@ -75,7 +75,7 @@ fn is_text(line: &[u8]) -> bool
 
 // The four fields of a line.
 fn fields_in(text: &str) -> Result<(&str, &str, &str, &str), JobsKind>
-    ensures { Gives (λ f. (f.0.now, f.1.now, f.2.now, f.3.now)) result (fields_in text.now) }
+    ensures { Reads (λ f. (f.0.now, f.1.now, f.2.now, f.3.now)) result (fields_in text.now) }
 {
     let (name, rest) = first_field(text)?;
     let (root, rest) = first_field(rest)?;
@@ -86,7 +86,7 @@ fn fields_in(text: &str) -> Result<(&str, &str, &str, &str), JobsKind>
 
 // The field before the first space, and what stands behind the space.
 fn first_field(text: &str) -> Result<(&str, &str), JobsKind>
-    ensures { Gives (λ f. (f.0.now, slice_split (λ b. b == 32) f.1.now)) result
+    ensures { Reads (λ f. (f.0.now, slice_split (λ b. b == 32) f.1.now)) result
         (first_field (slice_split (λ b. b == 32) text.now)) }
 {
     match text.split_once(' ') {
@@ -97,7 +97,7 @@ fn first_field(text: &str) -> Result<(&str, &str), JobsKind>
 
 // A field with no space behind it.
 fn last_field(text: &str) -> Result<&str, JobsKind>
-    ensures { Gives (λ field. field.now) result (last_field (slice_split (λ b. b == 32) text.now)) }
+    ensures { Reads (λ field. field.now) result (last_field (slice_split (λ b. b == 32) text.now)) }
 {
     match text.split_once(' ') {
         None if !text.is_empty() => Ok(text),

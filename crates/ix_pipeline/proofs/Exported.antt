@@ -13,8 +13,8 @@ use Rattle.ix_car.specs.Events.{Event, delivery, close}
 use Rattle.ix_car.specs.Verified.{judged, judged_visits}
 use Rattle.ix_car.specs.Faithful.{IsFaithful}
 use Rattle.ix_car.specs.Archived.{IsArchived}
-use Rattle.ix_pipeline.specs.Course.{pairs_of, IsExported, Exports}
-use Rattle.ix_pipeline.specs.Headline.{EachDelivered, EachArchived, EachFresh, EachKept, IsCheckedOnce, NoneIsStart, AllWalked, visit_count}
+use Rattle.ix_pipeline.specs.Progress.{pairs_of, IsExported, Exports}
+use Rattle.ix_pipeline.specs.Headline.{EachDelivered, EachArchived, EachFresh, Fact, Keeps, EachKept, IsCheckedOnce, NoneIsStart, AllWalked, visit_count}
 use Rattle.ix_pipeline.proofs.Pairs.{pairs_over, cases_cons, none_in, has_rest, in_pairs, has_pair, once_over, over_push}
 
 -- what is delivered of visits has the job's number, and a number among them
@@ -153,14 +153,14 @@ module _ {S : Type 0} (events : S → List Event) (failed : S → List Delivery)
   }
 
 -- what each sink promised, it promises still
-pub kept_same : {S : Type 0} (fact : S → Blocks → JobMeaning → Type 0) (ss : List S) → EachKept fact ss ss
+pub kept_same : {S : Type 0} (fact : Fact S) (ss : List S) → EachKept fact ss ss
 kept_same fact [] = tt
-kept_same fact (s ∷ ss) = ((λ store job h. h), kept_same fact ss)
+kept_same fact (s ∷ ss) = ((λ store job first h. h), kept_same fact ss)
 
-kept_set : {S : Type 0} (fact : S → Blocks → JobMeaning → Type 0) (ss ts : List S) (i : ℕ) (x y : S)
-    → EachKept fact ss ts → x ≡ get_or ts i x → ((store : Blocks) (job : JobMeaning) → fact x store job → fact y store job) → EachKept fact ss (set ts i y)
+kept_set : {S : Type 0} (fact : Fact S) (ss ts : List S) (i : ℕ) (x y : S)
+    → EachKept fact ss ts → x ≡ get_or ts i x → Keeps fact x y → EachKept fact ss (set ts i y)
 kept_set fact [] [] i x y h at keeps = tt
-kept_set {S = S} fact (s ∷ ss) (t ∷ ts) zero x y h at keeps = ((λ store job p. keeps store job (subst (λ (z : S). fact z store job) (sym at) (h.0 store job p))), h.1)
+kept_set {S = S} fact (s ∷ ss) (t ∷ ts) zero x y h at keeps = ((λ store job first p. keeps store job first (subst (λ (z : S). fact z store job first) (sym at) (h.0 store job first p))), h.1)
 kept_set fact (s ∷ ss) (t ∷ ts) (suc i) x y h at keeps = (h.0, kept_set fact ss ts i x y h.1 at keeps)
 kept_set fact ss ts i x y h at keeps = absurd h
 
@@ -169,7 +169,7 @@ rest_fresh {S = S} events failed i sinks s lt h =
     let all : EachFresh events failed (get_or sinks i s ∷ drop (i + 1) sinks) = subst (λ (l : List S). EachFresh events failed l) (drop_more sinks i s lt) h in all.1
 
 -- Of the jobs the first were exported into their sinks, the sinks behind are fresh, and each still promises what it did.
-pub record IsThrough {S : Type 0} (events : S → List Event) (failed : S → List Delivery) (fact : S → Blocks → JobMeaning → Type 0) (store : Blocks) (jobs : List JobMeaning) (i : ℕ) (es : List End) (first sinks : List S) (pairs : List (ℕ × ℕ)) : Type 0 where
+pub record IsThrough {S : Type 0} (events : S → List Event) (failed : S → List Delivery) (fact : Fact S) (store : Blocks) (jobs : List JobMeaning) (i : ℕ) (es : List End) (first sinks : List S) (pairs : List (ℕ × ℕ)) : Type 0 where
   pub counts : List ℕ
   pub counted : length counts ≡ i
   pub lengths : length sinks ≡ length jobs
@@ -178,7 +178,7 @@ pub record IsThrough {S : Type 0} (events : S → List Event) (failed : S → Li
   pub kept : EachKept fact first sinks
   pub checked : pairs ≡ pairs_over 0 counts
 
-module _ {S : Type 0} (events : S → List Event) (failed : S → List Delivery) (fact : S → Blocks → JobMeaning → Type 0) (store : Blocks) (jobs : List JobMeaning) where
+module _ {S : Type 0} (events : S → List Event) (failed : S → List Delivery) (fact : Fact S) (store : Blocks) (jobs : List JobMeaning) where
   -- before the first job
   pub through_none : (es : List End) (first : List S) (pairs : List (ℕ × ℕ)) → es ≡ [] → length first ≡ length jobs → EachFresh events failed first → pairs ≡ [] → IsThrough events failed fact store jobs 0 es first first pairs
   through_none es first pairs none lengths fresh unused = record {
@@ -201,7 +201,7 @@ module _ {S : Type 0} (events : S → List Event) (failed : S → List Delivery)
   -- one job more
   pub through_more : (i : ℕ) (es more : List End) (first sinks : List S) (pairs after : List (ℕ × ℕ)) (j : JobMeaning) (e : End) (s new : S)
       → IsThrough events failed fact store jobs i es first sinks pairs → i < length jobs → j ≡ get_or jobs i j → s ≡ get_or sinks i s → more ≡ es ++ e ∷ [] → Exports store i j e (events new) (failed new) pairs after
-      → ((blocks : Blocks) (meant : JobMeaning) → fact s blocks meant → fact new blocks meant) → IsThrough events failed fact store jobs (i + 1) more first (set sinks i new) after
+      → Keeps fact s new → IsThrough events failed fact store jobs (i + 1) more first (set sinks i new) after
   through_more i es more first sinks pairs after j e s new t lt job sink ends x keeps =
       let counted : length t.counts ≡ i = t.counted in
       let lengths : length sinks ≡ length jobs = t.lengths in

@@ -1,7 +1,7 @@
 -- The pairs that were checked: of a job, and of jobs in turn.
 use Rattle.std.proofs.Common.{◌≡◌, ◌⊎◌, ℕ, zero, suc, ◌+◌, ◌<◌, ◌≤◌, List, [], ◌∷◌, ◌++◌, length, slice_index_or, Contains, refl, sym, ◌∙◌, ap, subst, inl, inr, arith, append_assoc, append-nil}
 use Rattle.std.proofs.lemmas.List.Elements.{Contains-append_left, Contains-append_right, Contains-append_cases, Contains-push, Contains-push_cases}
-use Rattle.ix_pipeline.specs.Course.{pairs_of}
+use Rattle.ix_pipeline.specs.Progress.{pairs_of}
 use Rattle.ix_pipeline.specs.Headline.{IsEachOnce}
 
 -- the pairs of jobs in turn, from a number on, each with so many visits

@@ -17,21 +17,21 @@ use Rattle.ix_car.specs.declared.sink.End.TheVariants.{Done, Limit, Memory, Writ
 use Rattle.ix_car.specs.Events.{Event, delivery, close, IsOpen}
 use Rattle.ix_car.specs.Verified.{judged, judged_visits}
 use Rattle.ix_car.specs.Faithful.{EndFits}
-use Rattle.ix_pipeline.specs.declared.course.Course.{Course}
-use Rattle.ix_pipeline.specs.declared.course.Course.TheVariants.{Delivering, Failed}
-use Rattle.ix_pipeline.specs.Course.{end_on, Told, CanHand, Checks, HandsOn, pairs_of, IsWalked, Exports}
+use Rattle.ix_pipeline.specs.declared.sink_state.SinkState.{SinkState}
+use Rattle.ix_pipeline.specs.declared.sink_state.SinkState.TheVariants.{Taking, Failed}
+use Rattle.ix_pipeline.specs.Progress.{end_on, Told, CanHand, Checks, HandsOn, pairs_of, IsWalked, Exports}
 
 -- what was delivered of all deliveries, while so many visits were given
-abbrev pub IsOn : Course → ℕ → List Delivery → List Event → List Delivery → Type 0
-IsOn Delivering given all events failed = (events ≡ map delivery (take given all)) × (failed ≡ [])
+abbrev pub IsOn : SinkState → ℕ → List Delivery → List Event → List Delivery → Type 0
+IsOn Taking given all events failed = (events ≡ map delivery (take given all)) × (failed ≡ [])
 IsOn Failed given all events failed = (count : ℕ) × (count < given) × (events ≡ map delivery (take count all)) × (failed ≡ take 1 (drop count all))
 
-pub record IsUnderWay (store : Blocks) (number : ℕ) (job : JobMeaning) (walk : WalkLeft) (course : Course) (before : List (ℕ × ℕ)) (told : Told) : Type 0 where
+pub record IsUnderWay (store : Blocks) (number : ℕ) (job : JobMeaning) (walk : WalkLeft) (state : SinkState) (before : List (ℕ × ℕ)) (told : Told) : Type 0 where
   pub given : ℕ
   pub within : given ≤ length (visits_of store number job)
   pub visits : walk.visits ≡ drop given (visits_of store number job)
   pub limited : walk.limited ≡ is_over_limit store job
-  pub on : IsOn course given (judged_visits store number job) told.events told.failed
+  pub on : IsOn state given (judged_visits store number job) told.events told.failed
   pub pairs : told.pairs ≡ before ++ pairs_of number given
 
 -- the list goes on with an element
@@ -66,7 +66,7 @@ open_deliveries (d ∷ ds) = open_deliveries ds
 
 -- before its first visit
 pub starts : (store : Blocks) (number : ℕ) (job : JobMeaning) (walk : WalkLeft) (before : List (ℕ × ℕ)) (told : Told)
-    → walk ≡ record { visits = visits_of store number job; limited = is_over_limit store job; ended = false } → told.events ≡ [] → told.failed ≡ [] → told.pairs ≡ before → IsUnderWay store number job walk Delivering before told
+    → walk ≡ record { visits = visits_of store number job; limited = is_over_limit store job; ended = false } → told.events ≡ [] → told.failed ≡ [] → told.pairs ≡ before → IsUnderWay store number job walk Taking before told
 starts store number job walk before told e events failed pairs = record {
   given = 0;
   within = omega arith;
@@ -77,8 +77,8 @@ starts store number job walk before told e events failed pairs = record {
 }
 
 -- the sink may take a delivery
-pub can_hand : (store : Blocks) (number : ℕ) (job : JobMeaning) (walk : WalkLeft) (course : Course) (before : List (ℕ × ℕ)) (told : Told) → IsUnderWay store number job walk course before told → CanHand course told.events told.failed
-can_hand store number job walk Delivering before told u =
+pub can_hand : (store : Blocks) (number : ℕ) (job : JobMeaning) (walk : WalkLeft) (state : SinkState) (before : List (ℕ × ℕ)) (told : Told) → IsUnderWay store number job walk state before told → CanHand state told.events told.failed
+can_hand store number job walk Taking before told u =
     (subst (λ (l : List Event). IsOpen l) (sym u.on.0) (open_deliveries (take u.given (judged_visits store number job))), u.on.1)
 can_hand store number job walk Failed before told u = tt
 
@@ -91,14 +91,14 @@ pub walked_as : (store : Blocks) (number : ℕ) (job : JobMeaning) (before : Lis
 walked_as store number job before told a b e w = subst (λ (x : End). IsWalked store number job x before told) e w
 
 -- what the walk has left begins with a visit
-next_at : (store : Blocks) (number : ℕ) (job : JobMeaning) (walk after : WalkLeft) (course : Course) (before : List (ℕ × ℕ)) (told : Told) (v : Visit) (u : IsUnderWay store number job walk course before told)
+next_at : (store : Blocks) (number : ℕ) (job : JobMeaning) (walk after : WalkLeft) (state : SinkState) (before : List (ℕ × ℕ)) (told : Told) (v : Visit) (u : IsUnderWay store number job walk state before told)
     → GivesNext walk (Some (Ok v)) after → drop u.given (visits_of store number job) ≡ v ∷ after.visits
-next_at store number job walk after course before told v u g = sym u.visits ∙ g.1
+next_at store number job walk after state before told v u g = sym u.visits ∙ g.1
 
 -- the next visit is one of the store
-pub next_of_store : (store : Blocks) (number : ℕ) (job : JobMeaning) (walk after : WalkLeft) (course : Course) (before : List (ℕ × ℕ)) (told : Told) (v : Visit) → IsUnderWay store number job walk course before told → GivesNext walk (Some (Ok v)) after → IsVisitOf store v
-next_of_store store number job walk after course before told v u g =
-    let h = visit_next store number u.given job v after.visits (next_at store number job walk after course before told v u g) in h.of_store
+pub next_of_store : (store : Blocks) (number : ℕ) (job : JobMeaning) (walk after : WalkLeft) (state : SinkState) (before : List (ℕ × ℕ)) (told : Told) (v : Visit) → IsUnderWay store number job walk state before told → GivesNext walk (Some (Ok v)) after → IsVisitOf store v
+next_of_store store number job walk after state before told v u g =
+    let h = visit_next store number u.given job v after.visits (next_at store number job walk after state before told v u g) in h.of_store
 
 pairs_more : (number k : ℕ) (before old new : List (ℕ × ℕ)) (v : Visit) → v.job ≡ number → v.seq ≡ k → old ≡ before ++ pairs_of number k → new ≡ old ++ (v.job, v.seq) ∷ [] → new ≡ before ++ pairs_of number (suc k)
 pairs_more number k before old new v job seq was is =
@@ -123,38 +123,38 @@ failed_here : (store : Blocks) (given : ℕ) (vs : List Visit) (v : Visit) (more
 failed_here store given vs v more failed at is =
     is ∙ sym (ap (λ (l : List Delivery). take 1 l) (drop-map (judged store) given vs ∙ ap (λ (l : List Visit). map (judged store) l) at))
 
-on_next : (store : Blocks) (given : ℕ) (vs : List Visit) (v : Visit) (more : List Visit) (course after : Course) (told new : Told)
-    → drop given vs ≡ v ∷ more → IsOn course given (map (judged store) vs) told.events told.failed → HandsOn store v course told (Ok after) new → IsOn after (suc given) (map (judged store) vs) new.events new.failed
-on_next store given vs v more Delivering Delivering told new at on h = (events_more store given vs v more told.events new.events at on.0 h.0, h.1)
-on_next store given vs v more Delivering Failed told new at on h = (given, omega arith, h.0 ∙ on.0, failed_here store given vs v more new.failed at h.1)
-on_next store given vs v more Failed Delivering told new at on h = absurd h
+on_next : (store : Blocks) (given : ℕ) (vs : List Visit) (v : Visit) (more : List Visit) (state after : SinkState) (told new : Told)
+    → drop given vs ≡ v ∷ more → IsOn state given (map (judged store) vs) told.events told.failed → HandsOn store v state told (Ok after) new → IsOn after (suc given) (map (judged store) vs) new.events new.failed
+on_next store given vs v more Taking Taking told new at on h = (events_more store given vs v more told.events new.events at on.0 h.0, h.1)
+on_next store given vs v more Taking Failed told new at on h = (given, omega arith, h.0 ∙ on.0, failed_here store given vs v more new.failed at h.1)
+on_next store given vs v more Failed Taking told new at on h = absurd h
 on_next store given vs v more Failed Failed told new at on h = (on.0, (let lt : on.0 < given = on.1 in omega arith), h.0 ∙ on.2, h.1 ∙ on.3)
 
-checks_of : (store : Blocks) (v : Visit) (course after : Course) (told new : Told) → HandsOn store v course told (Ok after) new → Checks v told new
-checks_of store v Delivering Delivering told new h = h.2
-checks_of store v Delivering Failed told new h = h.2
-checks_of store v Failed Delivering told new h = absurd h
+checks_of : (store : Blocks) (v : Visit) (state after : SinkState) (told new : Told) → HandsOn store v state told (Ok after) new → Checks v told new
+checks_of store v Taking Taking told new h = h.2
+checks_of store v Taking Failed told new h = h.2
+checks_of store v Failed Taking told new h = absurd h
 checks_of store v Failed Failed told new h = h.2
 
 -- one visit further
-pub hands : (store : Blocks) (number : ℕ) (job : JobMeaning) (walk left : WalkLeft) (course after : Course) (before : List (ℕ × ℕ)) (told new : Told) (v : Visit)
-    → IsUnderWay store number job walk course before told → GivesNext walk (Some (Ok v)) left → HandsOn store v course told (Ok after) new → IsUnderWay store number job left after before new
-hands store number job walk left course after before told new v u g h =
-    let at = next_at store number job walk left course before told v u g in
+pub hands : (store : Blocks) (number : ℕ) (job : JobMeaning) (walk left : WalkLeft) (state after : SinkState) (before : List (ℕ × ℕ)) (told new : Told) (v : Visit)
+    → IsUnderWay store number job walk state before told → GivesNext walk (Some (Ok v)) left → HandsOn store v state told (Ok after) new → IsUnderWay store number job left after before new
+hands store number job walk left state after before told new v u g h =
+    let at = next_at store number job walk left state before told v u g in
     let is = visit_next store number u.given job v left.visits at in
     record {
       given = suc u.given;
       within = (let lt : u.given < length (visits_of store number job) = less_next u.given (visits_of store number job) v left.visits at in omega arith);
       visits = sym (drop_next u.given (visits_of store number job) v left.visits at);
       limited = g.2 ∙ u.limited;
-      on = on_next store u.given (visits_of store number job) v left.visits course after told new at u.on h;
-      pairs = pairs_more number u.given before told.pairs new.pairs v is.job is.seq u.pairs (checks_of store v course after told new h);
+      on = on_next store u.given (visits_of store number job) v left.visits state after told new at u.on h;
+      pairs = pairs_more number u.given before told.pairs new.pairs v is.job is.seq u.pairs (checks_of store v state after told new h);
     }
 
 -- want of memory ends a job that is under way
-on_memory : (store : Blocks) (number : ℕ) (job : JobMeaning) (course : Course) (given checks : ℕ) (before : List (ℕ × ℕ)) (new : Told)
-    → IsOn course given (judged_visits store number job) new.events new.failed → given ≤ checks → checks ≤ length (visits_of store number job) → new.pairs ≡ before ++ pairs_of number checks → IsWalked store number job Memory before new
-on_memory store number job Delivering given checks before new on more within pairs = record {
+on_memory : (store : Blocks) (number : ℕ) (job : JobMeaning) (state : SinkState) (given checks : ℕ) (before : List (ℕ × ℕ)) (new : Told)
+    → IsOn state given (judged_visits store number job) new.events new.failed → given ≤ checks → checks ≤ length (visits_of store number job) → new.pairs ≡ before ++ pairs_of number checks → IsWalked store number job Memory before new
+on_memory store number job Taking given checks before new on more within pairs = record {
   count = given;
   checks = checks;
   delivered = more;
@@ -178,39 +178,39 @@ on_memory store number job Failed given checks before new on more within pairs =
 }
 
 -- the walk finds no memory
-pub stops : (store : Blocks) (number : ℕ) (job : JobMeaning) (walk : WalkLeft) (course : Course) (before : List (ℕ × ℕ)) (told : Told) → IsUnderWay store number job walk course before told → IsWalked store number job Memory before told
-stops store number job walk course before told u = on_memory store number job course u.given u.given before told u.on (omega arith) u.within u.pairs
+pub stops : (store : Blocks) (number : ℕ) (job : JobMeaning) (walk : WalkLeft) (state : SinkState) (before : List (ℕ × ℕ)) (told : Told) → IsUnderWay store number job walk state before told → IsWalked store number job Memory before told
+stops store number job walk state before told u = on_memory store number job state u.given u.given before told u.on (omega arith) u.within u.pairs
 
-none_of : (store : Blocks) (v : Visit) (course : Course) (told new : Told) (e : AllocError) → HandsOn store v course told (Err e) new → (new.events ≡ told.events) × (new.failed ≡ told.failed) × ((new.pairs ≡ told.pairs) ⊎ Checks v told new)
-none_of store v Delivering told new e h = h
+none_of : (store : Blocks) (v : Visit) (state : SinkState) (told new : Told) (e : AllocError) → HandsOn store v state told (Err e) new → (new.events ≡ told.events) × (new.failed ≡ told.failed) × ((new.pairs ≡ told.pairs) ⊎ Checks v told new)
+none_of store v Taking told new e h = h
 none_of store v Failed told new e h = h
 
-on_same : (course : Course) (given : ℕ) (all : List Delivery) (told new : Told) → new.events ≡ told.events → new.failed ≡ told.failed → IsOn course given all told.events told.failed → IsOn course given all new.events new.failed
-on_same Delivering given all told new events failed on = (events ∙ on.0, failed ∙ on.1)
+on_same : (state : SinkState) (given : ℕ) (all : List Delivery) (told new : Told) → new.events ≡ told.events → new.failed ≡ told.failed → IsOn state given all told.events told.failed → IsOn state given all new.events new.failed
+on_same Taking given all told new events failed on = (events ∙ on.0, failed ∙ on.1)
 on_same Failed given all told new events failed on = (on.0, on.1, events ∙ on.2, failed ∙ on.3)
 
 -- a visit can't be handed on for want of memory
-pub hands_none : (store : Blocks) (number : ℕ) (job : JobMeaning) (walk left : WalkLeft) (course : Course) (before : List (ℕ × ℕ)) (told new : Told) (v : Visit) (e : AllocError)
-    → IsUnderWay store number job walk course before told → GivesNext walk (Some (Ok v)) left → HandsOn store v course told (Err e) new → IsWalked store number job Memory before new
-hands_none store number job walk left course before told new v e u g h =
-    let at = next_at store number job walk left course before told v u g in
+pub hands_none : (store : Blocks) (number : ℕ) (job : JobMeaning) (walk left : WalkLeft) (state : SinkState) (before : List (ℕ × ℕ)) (told new : Told) (v : Visit) (e : AllocError)
+    → IsUnderWay store number job walk state before told → GivesNext walk (Some (Ok v)) left → HandsOn store v state told (Err e) new → IsWalked store number job Memory before new
+hands_none store number job walk left state before told new v e u g h =
+    let at = next_at store number job walk left state before told v u g in
     let is = visit_next store number u.given job v left.visits at in
-    let none = none_of store v course told new e h in
-    let on = on_same course u.given (judged_visits store number job) told new none.0 none.1 u.on in
+    let none = none_of store v state told new e h in
+    let on = on_same state u.given (judged_visits store number job) told new none.0 none.1 u.on in
     elim none.2 [
-      | inl same ↦ on_memory store number job course u.given u.given before new on (omega arith) u.within (same ∙ u.pairs)
+      | inl same ↦ on_memory store number job state u.given u.given before new on (omega arith) u.within (same ∙ u.pairs)
       | inr more ↦
-          on_memory store number job course u.given (suc u.given) before new on (omega arith)
+          on_memory store number job state u.given (suc u.given) before new on (omega arith)
           (let lt : u.given < length (visits_of store number job) = less_next u.given (visits_of store number job) v left.visits at in omega arith)
           (pairs_more number u.given before told.pairs new.pairs v is.job is.seq u.pairs more)
     ]
 
 -- the walk has given all
-on_end : (store : Blocks) (number : ℕ) (job : JobMeaning) (course : Course) (end : End) (given : ℕ) (before : List (ℕ × ℕ)) (told : Told)
-    → IsOn course given (judged_visits store number job) told.events told.failed → given ≡ length (visits_of store number job) → told.pairs ≡ before ++ pairs_of number given
+on_end : (store : Blocks) (number : ℕ) (job : JobMeaning) (state : SinkState) (end : End) (given : ℕ) (before : List (ℕ × ℕ)) (told : Told)
+    → IsOn state given (judged_visits store number job) told.events told.failed → given ≡ length (visits_of store number job) → told.pairs ≡ before ++ pairs_of number given
     → ((m : ℕ) → m ≡ length (judged_visits store number job) → told.failed ≡ [] → EndFits end m (judged_visits store number job) (is_over_limit store job) told.failed)
-    → (end ≡ Start → ⊥) → IsWalked store number job (end_on course end) before told
-on_end store number job Delivering end given before told on at pairs fits started = record {
+    → (end ≡ Start → ⊥) → IsWalked store number job (end_on state end) before told
+on_end store number job Taking end given before told on at pairs fits started = record {
   count = given;
   checks = given;
   delivered = omega arith;
@@ -233,27 +233,27 @@ on_end store number job Failed end given before told on at pairs fits started = 
   started = λ (e : Write ≡ Start). cc;
 }
 
-all_given : (store : Blocks) (number : ℕ) (job : JobMeaning) (walk : WalkLeft) (course : Course) (before : List (ℕ × ℕ)) (told : Told) (u : IsUnderWay store number job walk course before told) → walk.visits ≡ [] → u.given ≡ length (visits_of store number job)
-all_given store number job walk course before told u none =
+all_given : (store : Blocks) (number : ℕ) (job : JobMeaning) (walk : WalkLeft) (state : SinkState) (before : List (ℕ × ℕ)) (told : Told) (u : IsUnderWay store number job walk state before told) → walk.visits ≡ [] → u.given ≡ length (visits_of store number job)
+all_given store number job walk state before told u none =
     let past : length (visits_of store number job) ≤ u.given = none_next u.given (visits_of store number job) (sym u.visits ∙ none) in
     let within : u.given ≤ length (visits_of store number job) = u.within in
     omega arith
 
 -- the walk has ended
-pub ends : (store : Blocks) (number : ℕ) (job : JobMeaning) (walk left : WalkLeft) (course : Course) (before : List (ℕ × ℕ)) (told : Told) → IsUnderWay store number job walk course before told → GivesNext walk None left → IsWalked store number job (end_on course Done) before told
-ends store number job walk left course before told u g =
-    on_end store number job course Done u.given before told u.on (all_given store number job walk course before told u g.0) u.pairs
+pub ends : (store : Blocks) (number : ℕ) (job : JobMeaning) (walk left : WalkLeft) (state : SinkState) (before : List (ℕ × ℕ)) (told : Told) → IsUnderWay store number job walk state before told → GivesNext walk None left → IsWalked store number job (end_on state Done) before told
+ends store number job walk left state before told u g =
+    on_end store number job state Done u.given before told u.on (all_given store number job walk state before told u g.0) u.pairs
     (λ (m : ℕ) all failed. (all, sym u.limited ∙ g.1, failed)) (λ (e : Done ≡ Start). cc)
 
 -- the walk has met its limit
-pub limits : (store : Blocks) (number : ℕ) (job : JobMeaning) (walk left : WalkLeft) (course : Course) (before : List (ℕ × ℕ)) (told : Told) → IsUnderWay store number job walk course before told → GivesNext walk (Some (Err reasons.Limit)) left → IsWalked store number job (end_on course Limit) before told
-limits store number job walk left course before told u g =
-    on_end store number job course Limit u.given before told u.on (all_given store number job walk course before told u g.1) u.pairs
+pub limits : (store : Blocks) (number : ℕ) (job : JobMeaning) (walk left : WalkLeft) (state : SinkState) (before : List (ℕ × ℕ)) (told : Told) → IsUnderWay store number job walk state before told → GivesNext walk (Some (Err reasons.Limit)) left → IsWalked store number job (end_on state Limit) before told
+limits store number job walk left state before told u g =
+    on_end store number job state Limit u.given before told u.on (all_given store number job walk state before told u g.1) u.pairs
     (λ (m : ℕ) all failed. (all, sym u.limited ∙ g.2, failed)) (λ (e : Limit ≡ Start). cc)
 
 -- there was no memory for the walk
 pub unwalked : (store : Blocks) (number : ℕ) (job : JobMeaning) (before : List (ℕ × ℕ)) (told : Told) → told.events ≡ [] → told.failed ≡ [] → told.pairs ≡ before → IsWalked store number job Memory before told
-unwalked store number job before told events failed pairs = on_memory store number job Delivering 0 0 before told (events, failed) (omega arith) (omega arith) (pairs ∙ sym (append-nil before))
+unwalked store number job before told events failed pairs = on_memory store number job Taking 0 0 before told (events, failed) (omega arith) (omega arith) (pairs ∙ sym (append-nil before))
 
 -- the sink of a walked job may be closed
 pub open_walked : (store : Blocks) (number : ℕ) (job : JobMeaning) (end : End) (before : List (ℕ × ℕ)) (told : Told) → IsWalked store number job end before told → IsOpen told.events

@@ -32,10 +32,17 @@ module _ {S : Type 0} (events : S → List Event) (failed : S → List Delivery)
   EachFresh [] = Unit {0}
   EachFresh (s ∷ ss) = ((events s ≡ []) × (failed s ≡ [])) × EachFresh ss
 
+-- what a sink may promise of itself for good: over a store, a job and the bytes that its writer told at first
+abbrev pub Fact : Type 0 → Type 1
+Fact S = S → Blocks → JobMeaning → Option (List ℕ) → Type 0
+
 -- what a sink promised before, it promises now
-abbrev pub EachKept : {S : Type 0} → (S → Blocks → JobMeaning → Type 0) → List S → List S → Type 0
+abbrev pub Keeps : {S : Type 0} → Fact S → S → S → Type 0
+Keeps fact s t = (store : Blocks) (job : JobMeaning) (first : Option (List ℕ)) → fact s store job first → fact t store job first
+
+abbrev pub EachKept : {S : Type 0} → Fact S → List S → List S → Type 0
 EachKept fact [] [] = Unit {0}
-EachKept fact (s ∷ ss) (t ∷ ts) = ((store : Blocks) (job : JobMeaning) → fact s store job → fact t store job) × EachKept fact ss ts
+EachKept fact (s ∷ ss) (t ∷ ts) = Keeps fact s t × EachKept fact ss ts
 EachKept fact ss ts = ⊥
 
 -- no check has checked anything so far

@@ -1,17 +1,15 @@
 //! The exporter on one thread.
 
 ghost use Rattle.std.specs.Prelude.{◌≡◌, ◌≤◌, [], length, IfOk, OnErr};
-ghost use Rattle.ix_walk.specs.Store.{Blocks};
-ghost use Rattle.ix_walk.specs.JobMeaning.{JobMeaning};
 ghost use Rattle.ix_check.specs.Visits.{IsVisitOf};
-ghost use Rattle.ix_pipeline.specs.Course.{Told, CanHand, HandsOn, IsWalked, Exports, end_of};
-ghost use Rattle.ix_pipeline.specs.Headline.{EachDelivered, EachArchived, EachKept, EachFresh, IsCheckedOnce, NoneIsStart};
+ghost use Rattle.ix_pipeline.specs.Progress.{Told, CanHand, HandsOn, IsWalked, Exports, end_of};
+ghost use Rattle.ix_pipeline.specs.Headline.{EachDelivered, EachArchived, Keeps, EachKept, EachFresh, IsCheckedOnce, NoneIsStart};
 
-use crate::course::Course;
+use crate::sink_state::SinkState;
 use ix_car::law::faithful_is_archived;
 use ix_car::{End, Sink, SinkFault};
 use ix_check::Check;
-use ix_walk::{Job, Store, Visit, WalkStop, Walk};
+use ix_walk::{Job, Store, Visit, Walk, WalkStop};
 use std::alloc::{AllocError, Global};
 
 /// Exports every job into its sink, on one thread, and says how each job ended. Each visit of a job
@@ -36,8 +34,8 @@ pub fn export_plain<S: Sink, C: Check>(
     ensures untouched { OnErr result ((sinks.new ≡ sinks.old) × (C.checked check.new ≡ [])) }
 {
     let mut ends = Vec::with_capacity(alloc, jobs.len())?;
-    for i in 0..jobs.len() {
-        let end = export_job(alloc, store, &jobs[i], i as u32, &mut sinks[i], check);
+    for (number, sink) in sinks.iter_mut().enumerate() {
+        let end = export_job(alloc, store, &jobs[number], number as u32, sink, check);
         ends.push_reserved(end);
     }
     faithful_is_archived();
@@ -56,7 +54,7 @@ fn export_job<S: Sink, C: Check>(
     requires events { S.events sink.old ≡ [] }
     requires failed { S.failed sink.old ≡ [] }
     ensures exported { Exports store.now number job.now result (S.events sink.new) (S.failed sink.new) (C.checked check.old) (C.checked check.new) }
-    ensures kept { (blocks : Blocks) (meant : JobMeaning) → S.fact sink.old blocks meant → S.fact sink.new blocks meant }
+    ensures kept { Keeps S.fact sink.old sink.new }
 {
     let end = walk_job(alloc, store, job, number, sink, check).unwrap_or(End::Memory);
     sink.close(end);
@@ -76,17 +74,17 @@ fn walk_job<S: Sink, C: Check>(
     requires events { S.events sink.old ≡ [] }
     requires failed { S.failed sink.old ≡ [] }
     ensures walked { IsWalked store.now number job.now (end_of result) (C.checked check.old) (record { events = S.events sink.new; failed = S.failed sink.new; pairs = C.checked check.new }) }
-    ensures kept { (blocks : Blocks) (meant : JobMeaning) → S.fact sink.old blocks meant → S.fact sink.new blocks meant }
+    ensures kept { Keeps S.fact sink.old sink.new }
 {
-    let mut course = Course::Delivering;
+    let mut state = SinkState::Taking;
     for item in Walk::new(alloc, store, job, number)? {
         match item {
-            Ok(visit) => course = hand_on(alloc, store, visit, course, sink, check)?,
-            Err(WalkStop::Limit) => return Ok(course.end(End::Limit)),
+            Ok(visit) => state = hand_on(alloc, store, visit, state, sink, check)?,
+            Err(WalkStop::Limit) => return Ok(state.end(End::Limit)),
             Err(WalkStop::Memory) => return Err(AllocError),
         }
     }
-    Ok(course.end(End::Done))
+    Ok(state.end(End::Done))
 }
 
 // Checks a visit, and delivers it with its verdict if no write failed so far. Says what becomes of
@@ -95,22 +93,22 @@ fn hand_on<S: Sink, C: Check>(
     alloc: Global,
     store: &Store,
     visit: Visit,
-    course: Course,
+    state: SinkState,
     sink: &mut S,
     check: &mut C,
-) -> Result<Course, AllocError>
+) -> Result<SinkState, AllocError>
     requires visit { IsVisitOf store.now visit }
-    requires can { CanHand course (S.events sink.old) (S.failed sink.old) }
-    ensures handed { HandsOn store.now visit course (record { events = S.events sink.old; failed = S.failed sink.old; pairs = C.checked check.old }) result (record { events = S.events sink.new; failed = S.failed sink.new; pairs = C.checked check.new }) }
-    ensures kept { (blocks : Blocks) (meant : JobMeaning) → S.fact sink.old blocks meant → S.fact sink.new blocks meant }
+    requires can { CanHand state (S.events sink.old) (S.failed sink.old) }
+    ensures handed { HandsOn store.now visit state (record { events = S.events sink.old; failed = S.failed sink.old; pairs = C.checked check.old }) result (record { events = S.events sink.new; failed = S.failed sink.new; pairs = C.checked check.new }) }
+    ensures kept { Keeps S.fact sink.old sink.new }
 {
     let verdict = check.check(alloc, store, &visit)?;
-    if course == Course::Failed {
-        return Ok(course);
+    if state == SinkState::Failed {
+        return Ok(state);
     }
     match sink.deliver(alloc, visit, verdict) {
-        Ok(()) => Ok(Course::Delivering),
-        Err(SinkFault::Write) => Ok(Course::Failed),
+        Ok(()) => Ok(SinkState::Taking),
+        Err(SinkFault::Write) => Ok(SinkState::Failed),
         Err(SinkFault::Memory) => Err(AllocError),
     }
 }

@@ -1,5 +1,5 @@
 use Rattle.std.proofs.Common.{refl, sym}
-use Rattle.ix_pipeline.specs.Course.{end_of}
+use Rattle.ix_pipeline.specs.Progress.{end_of}
 use Rattle.ix_pipeline.proofs.UnderWay.{open_walked, closes, walked_as}
 use Rattle.ix_pipeline.proofs.plain.export_job.Goals as goal
 

@@ -12,12 +12,12 @@ use Rattle.ix_car.specs.declared.sink.End.TheVariants.{Memory, Start, Write}
 use Rattle.ix_car.specs.Events.{Event, delivery, IsOpen}
 use Rattle.ix_car.specs.Verified.{judged, judged_visits}
 use Rattle.ix_car.specs.Faithful.{IsFaithful, EndFits}
-use Rattle.ix_pipeline.specs.declared.course.Course.{Course}
-use Rattle.ix_pipeline.specs.declared.course.Course.TheVariants.{Delivering, Failed}
+use Rattle.ix_pipeline.specs.declared.sink_state.SinkState.{SinkState}
+use Rattle.ix_pipeline.specs.declared.sink_state.SinkState.TheVariants.{Taking, Failed}
 
 -- how a job ends that would end so if no write had failed
-abbrev pub end_on : Course → End → End
-end_on Delivering end = end
+abbrev pub end_on : SinkState → End → End
+end_on Taking end = end
 end_on Failed end = Write
 
 -- how a job ends, of which want of memory is left
@@ -31,8 +31,8 @@ pub record Told : Type 0 where
   pub pairs : List (ℕ × ℕ)
 
 -- a sink takes a delivery as long as no write failed
-abbrev pub CanHand : Course → List Event → List Delivery → Type 0
-CanHand Delivering events failed = IsOpen events × (failed ≡ [])
+abbrev pub CanHand : SinkState → List Event → List Delivery → Type 0
+CanHand Taking events failed = IsOpen events × (failed ≡ [])
 CanHand Failed events failed = Unit {0}
 
 -- one visit more was checked
@@ -40,12 +40,12 @@ abbrev pub Checks : Visit → Told → Told → Type 0
 Checks v old new = new.pairs ≡ old.pairs ++ (v.job, v.seq) ∷ []
 
 -- what handing on a visit tells: it is checked, and delivered as long as no write failed; want of memory tells the sink nothing
-abbrev pub HandsOn : Blocks → Visit → Course → Told → Result Course AllocError → Told → Type 0
-HandsOn store v Delivering old (Ok Delivering) new = (new.events ≡ old.events ++ delivery (judged store v) ∷ []) × (new.failed ≡ []) × Checks v old new
-HandsOn store v Delivering old (Ok Failed) new = (new.events ≡ old.events) × (new.failed ≡ judged store v ∷ []) × Checks v old new
-HandsOn store v Failed old (Ok Delivering) new = ⊥
+abbrev pub HandsOn : Blocks → Visit → SinkState → Told → Result SinkState AllocError → Told → Type 0
+HandsOn store v Taking old (Ok Taking) new = (new.events ≡ old.events ++ delivery (judged store v) ∷ []) × (new.failed ≡ []) × Checks v old new
+HandsOn store v Taking old (Ok Failed) new = (new.events ≡ old.events) × (new.failed ≡ judged store v ∷ []) × Checks v old new
+HandsOn store v Failed old (Ok Taking) new = ⊥
 HandsOn store v Failed old (Ok Failed) new = (new.events ≡ old.events) × (new.failed ≡ old.failed) × Checks v old new
-HandsOn store v course old (Err e) new = (new.events ≡ old.events) × (new.failed ≡ old.failed) × ((new.pairs ≡ old.pairs) ⊎ Checks v old new)
+HandsOn store v state old (Err e) new = (new.events ≡ old.events) × (new.failed ≡ old.failed) × ((new.pairs ≡ old.pairs) ⊎ Checks v old new)
 
 -- the pairs of the first visits of the job with this number
 abbrev pub pairs_of : ℕ → ℕ → List (ℕ × ℕ)

@@ -1,27 +1,27 @@
 //! What becomes of the visits of a job.
 
 ghost use Rattle.std.specs.Prelude.{◌≡◌};
-ghost use Rattle.ix_pipeline.specs.Course.{end_on};
+ghost use Rattle.ix_pipeline.specs.Progress.{end_on};
 
 use ix_car::End;
 
 /// What becomes of the visits of a job that are still to come.
 #[derive(Debug, Drop, Clone, Copy, PartialEq, Eq)]
-pub(crate) enum Course {
+pub(crate) enum SinkState {
     /// They are checked, and delivered with their verdicts.
-    Delivering,
+    Taking,
     /// A write failed: they are only checked.
     Failed,
 }
 
-impl Course {
+impl SinkState {
     // How a job ends that would end so if no write had failed.
     pub(crate) fn end(self, end: End) -> End
         ensures { result ≡ end_on self end }
     {
         match self {
-            Course::Delivering => end,
-            Course::Failed => End::Write,
+            SinkState::Taking => end,
+            SinkState::Failed => End::Write,
         }
     }
 }
