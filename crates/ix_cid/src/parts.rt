@@ -2,11 +2,10 @@
 
 ghost use Rattle.std.specs.Prelude.{◌-◌, Ok, length};
 ghost use Rattle.ix_cid.specs.Cid.{◌>>=◌ as ◌and_then◌, number_at, bytes_at, version_0_at, version_1_at, numbered_at, parts_at};
-ghost use Rattle.ix_cid.specs.Gives.{Gives};
 ghost use Rattle.ix_cid.specs.Parts.{Reads, parts_view};
 
-use crate::fault::{CidFault, VarintFault};
 use crate::code::{DAG_PB, SHA2_256};
+use crate::fault::{CidFault, VarintFault};
 use crate::varint::read_varint;
 
 /// The bytes that a CIDv0 begins with: sha2-256, and 32 digest bytes.
@@ -99,9 +98,9 @@ pub fn split_parts(bytes: &[u8]) -> Result<(Layout<'_>, &[u8]), CidFault>
 }
 
 /// The length of the CIDv1 at the front. A front that only a CIDv0 has is one of
-/// version 18 here. The fault is never `Memory`.
+/// version 18 here.
 pub fn numbered_length(bytes: &[u8]) -> Result<usize, CidFault>
-    ensures exact { Gives (λ n. n) result (numbered_at bytes.now and_then (λ p. Ok (length bytes.now - length p.1))) }
+    ensures exact { Reads (λ n. n) result (numbered_at bytes.now and_then (λ p. Ok (length bytes.now - length p.1))) }
 {
     let (_, rest) = split_numbered(bytes)?;
     Ok(bytes.len() - rest.len())

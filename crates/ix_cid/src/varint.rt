@@ -52,8 +52,8 @@ pub fn push_varint(out: &mut Vec<u8>, number: u64) -> Result<(), AllocError>
 
 #[cfg(test)]
 mod tests {
-    use crate::fault::VarintFault::{NotMinimal, TooLong, Truncated};
     use super::{push_varint, read_varint};
+    use crate::fault::VarintFault::{NotMinimal, TooLong, Truncated};
     use std::test::Fail;
 
     #[test]
