@@ -14,12 +14,16 @@ const VERSION_0_FRONT: [u8; 2] = [0x12, 0x20];
 /// How many bytes a CIDv0 has.
 const VERSION_0_LENGTH: u64 = 34;
 
-/// The parts of a CID, the digest where it stands in the bytes.
-#[derive(Clone, Copy)]
-pub struct Layout<'a> {
+/// The parts of a CID, the digest where it stands in the CID's bytes.
+#[derive(Debug, Clone, Copy)]
+pub struct Parts<'a> {
+    /// The version, 0 or 1.
     pub version: u64,
+    /// The codec of the block, a code of the multicodec table: that of dag-pb for a CIDv0.
     pub codec: u64,
+    /// The hash function, a code of the multicodec table: that of sha2-256 for a CIDv0.
     pub hash_code: u64,
+    /// The digest's bytes, without their number.
     pub digest: &'a [u8],
 }
 
@@ -45,38 +49,38 @@ fn split_bytes(count: u64, bytes: &[u8]) -> Result<(&[u8], &[u8]), CidFault>
 }
 
 /// The parts of a CIDv0, and the bytes after it.
-fn split_version_0(bytes: &[u8]) -> Result<(Layout<'_>, &[u8]), CidFault>
+fn split_version_0(bytes: &[u8]) -> Result<(Parts<'_>, &[u8]), CidFault>
     ensures exact { Reads (λ r. (parts_view r.0, r.1.now)) result (version_0_at bytes.now) }
 {
     let (front, rest) = split_bytes(VERSION_0_LENGTH, bytes)?;
-    let layout = Layout {
+    let parts = Parts {
         version: 0,
         codec: DAG_PB,
         hash_code: SHA2_256,
         digest: &front[VERSION_0_FRONT.len()..],
     };
-    Ok((layout, rest))
+    Ok((parts, rest))
 }
 
 /// The parts of a CIDv1 behind its version, and the bytes after it.
-fn split_version_1(bytes: &[u8]) -> Result<(Layout<'_>, &[u8]), CidFault>
+fn split_version_1(bytes: &[u8]) -> Result<(Parts<'_>, &[u8]), CidFault>
     ensures exact { Reads (λ r. (parts_view r.0, r.1.now)) result (version_1_at bytes.now) }
 {
     let (codec, rest) = split_number(bytes)?;
     let (hash_code, rest) = split_number(rest)?;
     let (size, rest) = split_number(rest)?;
     let (digest, rest) = split_bytes(size, rest)?;
-    let layout = Layout {
+    let parts = Parts {
         version: 1,
         codec,
         hash_code,
         digest,
     };
-    Ok((layout, rest))
+    Ok((parts, rest))
 }
 
 /// The parts of the CIDv1 at the front, and the bytes after it.
-fn split_numbered(bytes: &[u8]) -> Result<(Layout<'_>, &[u8]), CidFault>
+fn split_numbered(bytes: &[u8]) -> Result<(Parts<'_>, &[u8]), CidFault>
     ensures exact { Reads (λ r. (parts_view r.0, r.1.now)) result (numbered_at bytes.now) }
 {
     let (version, rest) = split_number(bytes)?;
@@ -87,7 +91,7 @@ fn split_numbered(bytes: &[u8]) -> Result<(Layout<'_>, &[u8]), CidFault>
 }
 
 /// The parts of the CID at the front, and the bytes after it.
-pub fn split_parts(bytes: &[u8]) -> Result<(Layout<'_>, &[u8]), CidFault>
+pub fn split_parts(bytes: &[u8]) -> Result<(Parts<'_>, &[u8]), CidFault>
     ensures exact { Reads (λ r. (parts_view r.0, r.1.now)) result (parts_at bytes.now) }
 {
     if bytes.starts_with(&VERSION_0_FRONT) {
