@@ -8,10 +8,10 @@ use crate::code::{DAG_PB, SHA2_256};
 use crate::fault::{CidFault, VarintFault};
 use crate::varint::read_varint;
 
-/// The bytes that a CIDv0 begins with: sha2-256, and 32 digest bytes.
+// The bytes that a CIDv0 begins with: sha2-256, and 32 digest bytes.
 const VERSION_0_FRONT: [u8; 2] = [0x12, 0x20];
 
-/// How many bytes a CIDv0 has.
+// How many bytes a CIDv0 has.
 const VERSION_0_LENGTH: u64 = 34;
 
 /// The parts of a CID, the digest where it stands in the CID's bytes.
@@ -27,7 +27,7 @@ pub struct Parts<'a> {
     pub digest: &'a [u8],
 }
 
-/// The number at the front, and the bytes after it.
+// The number at the front, and the bytes after it.
 fn split_number(bytes: &[u8]) -> Result<(u64, &[u8]), CidFault>
     ensures exact { Reads (λ r. (r.0, r.1.now)) result (number_at bytes.now) }
 {
@@ -38,7 +38,7 @@ fn split_number(bytes: &[u8]) -> Result<(u64, &[u8]), CidFault>
     }
 }
 
-/// That many bytes at the front, and the bytes after them.
+// That many bytes at the front, and the bytes after them.
 fn split_bytes(count: u64, bytes: &[u8]) -> Result<(&[u8], &[u8]), CidFault>
     ensures exact { Reads (λ r. (r.0.now, r.1.now)) result (bytes_at count bytes.now) }
 {
@@ -48,7 +48,7 @@ fn split_bytes(count: u64, bytes: &[u8]) -> Result<(&[u8], &[u8]), CidFault>
     Ok(bytes.split_at(count as usize))
 }
 
-/// The parts of a CIDv0, and the bytes after it.
+// The parts of a CIDv0, and the bytes after it.
 fn split_version_0(bytes: &[u8]) -> Result<(Parts<'_>, &[u8]), CidFault>
     ensures exact { Reads (λ r. (parts_view r.0, r.1.now)) result (version_0_at bytes.now) }
 {
@@ -62,7 +62,7 @@ fn split_version_0(bytes: &[u8]) -> Result<(Parts<'_>, &[u8]), CidFault>
     Ok((parts, rest))
 }
 
-/// The parts of a CIDv1 behind its version, and the bytes after it.
+// The parts of a CIDv1 behind its version, and the bytes after it.
 fn split_version_1(bytes: &[u8]) -> Result<(Parts<'_>, &[u8]), CidFault>
     ensures exact { Reads (λ r. (parts_view r.0, r.1.now)) result (version_1_at bytes.now) }
 {
@@ -79,7 +79,7 @@ fn split_version_1(bytes: &[u8]) -> Result<(Parts<'_>, &[u8]), CidFault>
     Ok((parts, rest))
 }
 
-/// The parts of the CIDv1 at the front, and the bytes after it.
+// The parts of the CIDv1 at the front, and the bytes after it.
 fn split_numbered(bytes: &[u8]) -> Result<(Parts<'_>, &[u8]), CidFault>
     ensures exact { Reads (λ r. (parts_view r.0, r.1.now)) result (numbered_at bytes.now) }
 {
