@@ -198,15 +198,15 @@ fault-kept : (bytes : List ℕ) (read : Result (Parts × List ℕ) CidFault) (f 
 fault-kept bytes (Ok p) f h = absurd (cc)
 fault-kept bytes (Err e) f h = let same : e ≡ f = cc in ap (λ (x : CidFault). Err x) same
 
--- What keeps each fault keeps that a call fails by it.
-fails-along : (e : CidFault) (m : Result ℕ CidFault) (n : Result (List ℕ) CidFault) → ((f : CidFault) → m ≡ Err f → n ≡ Err f) → Fails e m → Fails e n
-fails-along Memory m n along h = tt
-fails-along Truncated m n along h = along Truncated h
-fails-along Varint m n along h = along Varint h
-fails-along (Version v) m n along h = along (Version v) h
-fails-along Multibase m n along h = along Multibase h
-fails-along Base32 m n along h = along Base32 h
-fails-along Rest m n along h = along Rest h
+-- A call fails by the fault that is meant.
+fails-with : {A : Type 0} (e : CidFault) (meant : Result A CidFault) → meant ≡ Err e → Fails e meant
+fails-with Memory meant h = tt
+fails-with Truncated meant h = h
+fails-with Varint meant h = h
+fails-with (Version v) meant h = h
+fails-with Multibase meant h = h
+fails-with Base32 meant h = h
+fails-with Rest meant h = h
 
 -- What is left is refused.
 without_rest-some : (c rest : List ℕ) → 0 < length rest → without_rest c rest ≡ Err Rest
@@ -222,8 +222,8 @@ module _ (t letters bytes : List ℕ) (begins : t ≡ 98 ∷ letters) (read : by
       ap cid_of_text begins ∙ ap F read
 
   -- a fault at the front is the text's
-  pub text-fails : (e : CidFault) → Fails e (length_at bytes) → Fails e (cid_of_text t)
-  text-fails e h = fails-along e (length_at bytes) (cid_of_text t) (λ f is. text-is ∙ fault-kept bytes (numbered_at bytes) f is) h
+  pub text-fails : (e : CidFault) → length_at bytes ≡ Err e → Fails e (cid_of_text t)
+  text-fails e h = fails-with e (cid_of_text t) (text-is ∙ fault-kept bytes (numbered_at bytes) e h)
 
   -- bytes that are longer than the parts are refused
   pub text-rest : (n : ℕ) → length_at bytes ≡ Ok n → n < length bytes → cid_of_text t ≡ Err Rest

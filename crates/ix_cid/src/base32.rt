@@ -33,7 +33,7 @@ pub fn decode(alloc: Global, letters: &[u8]) -> Result<Vec<u8>, CidFault>
     Ok(bytes)
 }
 
-/// The bytes that letters spell, whether or not they are the base32 of these.
+// The bytes that letters spell, whether or not they are the base32 of these.
 fn bytes_of(alloc: Global, letters: &[u8]) -> Result<Vec<u8>, AllocError>
     ensures { IfOk result (λ v. v.items ≡ bytes_of_letters letters.now) }
 {
@@ -47,7 +47,7 @@ fn bytes_of(alloc: Global, letters: &[u8]) -> Result<Vec<u8>, AllocError>
     Ok(bytes)
 }
 
-/// Appends the letters of at most five bytes.
+// Appends the letters of at most five bytes.
 fn push_quantum(text: &mut String, bytes: &[u8]) -> Result<(), AllocError>
     requires { length bytes.now ≤ 5 }
     ensures { OnOk result (string_bytes text.new ≡ string_bytes text.old ++ quantum bytes.now) }
@@ -59,7 +59,7 @@ fn push_quantum(text: &mut String, bytes: &[u8]) -> Result<(), AllocError>
     Ok(())
 }
 
-/// Appends the bytes of at most eight letters.
+// Appends the bytes of at most eight letters.
 fn push_bytes(bytes: &mut Vec<u8>, letters: &[u8]) -> Result<(), AllocError>
     requires { length letters.now ≤ 8 }
     ensures { OnOk result (bytes.new.items ≡ bytes.old.items ++ bytes_of_quantum letters.now) }
@@ -71,7 +71,7 @@ fn push_bytes(bytes: &mut Vec<u8>, letters: &[u8]) -> Result<(), AllocError>
     Ok(())
 }
 
-/// The number that at most five bytes spell.
+// The number that at most five bytes spell.
 fn number_of_bytes(bytes: &[u8]) -> u64
     requires { length bytes.now ≤ 5 }
     ensures { result ≡ number_in 256 0 bytes.now }
@@ -83,7 +83,7 @@ fn number_of_bytes(bytes: &[u8]) -> u64
     number
 }
 
-/// The number that at most eight letters spell.
+// The number that at most eight letters spell.
 fn number_of_letters(letters: &[u8]) -> u64
     requires { length letters.now ≤ 8 }
     ensures { result ≡ number_in 32 0 (map bits_of_letter letters.now) }
@@ -95,7 +95,7 @@ fn number_of_letters(letters: &[u8]) -> u64
     number
 }
 
-/// The letter of the last five bits.
+// The letter of the last five bits.
 fn letter_of(bits: u64) -> char
     ensures { result ≡ letter (bits % 32) }
 {
@@ -107,7 +107,7 @@ fn letter_of(bits: u64) -> char
     })
 }
 
-/// Five bits of a letter, and any number of what is none.
+// Five bits of a letter, and any number of what is none.
 fn bits_of(letter: u8) -> u64
     ensures { result ≡ bits_of_letter letter }
 {

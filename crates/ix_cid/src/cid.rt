@@ -3,7 +3,7 @@
 ghost use Rattle.std.specs.Prelude.{◌≡◌, ◌<◌, ◌^◌, Ok, Err, Some, length, IfOk, IfSome, string_bytes};
 
 use crate::fault::CidFault;
-use crate::parts::{Layout, numbered_length, split_parts};
+use crate::parts::{Parts, numbered_length, split_parts};
 use crate::{base32, hexadecimal};
 use smallvec::SmallVec;
 use std::alloc::{AllocError, Global};
@@ -67,32 +67,42 @@ impl Cid {
         }
     }
 
+    /// All parts, from one reading of the bytes.
+    pub fn parts(&self) -> Parts<'_>
+        ensures { parts_view result ≡ parts_of self.now }
+    {
+        match split_parts(self.bytes.as_slice()) {
+            Ok((parts, _)) => parts,
+            Err(_) => unreachable!(),
+        }
+    }
+
     /// The version, 0 or 1.
     pub fn version(&self) -> u64
         ensures { result ≡ version_of self.now }
     {
-        self.layout().version
+        self.parts().version
     }
 
     /// The codec of the block: that of dag-pb for a CIDv0.
     pub fn codec(&self) -> u64
         ensures { result ≡ codec_of self.now }
     {
-        self.layout().codec
+        self.parts().codec
     }
 
     /// The code of the hash: that of sha2-256 for a CIDv0.
     pub fn hash_code(&self) -> u64
         ensures { result ≡ hash_code_of self.now }
     {
-        self.layout().hash_code
+        self.parts().hash_code
     }
 
     /// The digest, without its length.
     pub fn digest(&self) -> &[u8]
         ensures { result.now ≡ digest_of self.now }
     {
-        self.layout().digest
+        self.parts().digest
     }
 
     /// The text: base32 of a CIDv1, `v0-` and hexadecimal of a CIDv0.
@@ -124,16 +134,6 @@ impl Cid {
         match SmallVec::from_slice(alloc, bytes.as_slice()) {
             Ok(bytes) => Ok(Cid { bytes }),
             Err(_) => Err(CidFault::Memory),
-        }
-    }
-
-    /// The parts, which are read again from the bytes.
-    fn layout(&self) -> Layout<'_>
-        ensures { parts_view result ≡ parts_of self.now }
-    {
-        match split_parts(self.bytes.as_slice()) {
-            Ok((layout, _)) => layout,
-            Err(_) => unreachable!(),
         }
     }
 }

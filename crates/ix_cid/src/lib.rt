@@ -13,4 +13,5 @@ mod varint;
 
 pub use cid::Cid;
 pub use fault::{CidFault, VarintFault};
+pub use parts::Parts;
 pub use varint::{push_varint, read_varint};

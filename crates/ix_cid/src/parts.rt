@@ -2,29 +2,32 @@
 
 ghost use Rattle.std.specs.Prelude.{◌-◌, Ok, length};
 ghost use Rattle.ix_cid.specs.Cid.{◌>>=◌ as ◌and_then◌, number_at, bytes_at, version_0_at, version_1_at, numbered_at, parts_at};
-ghost use Rattle.ix_cid.specs.Gives.{Gives};
 ghost use Rattle.ix_cid.specs.Parts.{Reads, parts_view};
 
-use crate::fault::{CidFault, VarintFault};
 use crate::code::{DAG_PB, SHA2_256};
+use crate::fault::{CidFault, VarintFault};
 use crate::varint::read_varint;
 
-/// The bytes that a CIDv0 begins with: sha2-256, and 32 digest bytes.
+// The bytes that a CIDv0 begins with: sha2-256, and 32 digest bytes.
 const VERSION_0_FRONT: [u8; 2] = [0x12, 0x20];
 
-/// How many bytes a CIDv0 has.
+// How many bytes a CIDv0 has.
 const VERSION_0_LENGTH: u64 = 34;
 
-/// The parts of a CID, the digest where it stands in the bytes.
-#[derive(Clone, Copy)]
-pub struct Layout<'a> {
+/// The parts of a CID, the digest where it stands in the CID's bytes.
+#[derive(Debug, Clone, Copy)]
+pub struct Parts<'a> {
+    /// The version, 0 or 1.
     pub version: u64,
+    /// The codec of the block, a code of the multicodec table: that of dag-pb for a CIDv0.
     pub codec: u64,
+    /// The hash function, a code of the multicodec table: that of sha2-256 for a CIDv0.
     pub hash_code: u64,
+    /// The digest's bytes, without their number.
     pub digest: &'a [u8],
 }
 
-/// The number at the front, and the bytes after it.
+// The number at the front, and the bytes after it.
 fn split_number(bytes: &[u8]) -> Result<(u64, &[u8]), CidFault>
     ensures exact { Reads (λ r. (r.0, r.1.now)) result (number_at bytes.now) }
 {
@@ -35,7 +38,7 @@ fn split_number(bytes: &[u8]) -> Result<(u64, &[u8]), CidFault>
     }
 }
 
-/// That many bytes at the front, and the bytes after them.
+// That many bytes at the front, and the bytes after them.
 fn split_bytes(count: u64, bytes: &[u8]) -> Result<(&[u8], &[u8]), CidFault>
     ensures exact { Reads (λ r. (r.0.now, r.1.now)) result (bytes_at count bytes.now) }
 {
@@ -45,39 +48,39 @@ fn split_bytes(count: u64, bytes: &[u8]) -> Result<(&[u8], &[u8]), CidFault>
     Ok(bytes.split_at(count as usize))
 }
 
-/// The parts of a CIDv0, and the bytes after it.
-fn split_version_0(bytes: &[u8]) -> Result<(Layout<'_>, &[u8]), CidFault>
+// The parts of a CIDv0, and the bytes after it.
+fn split_version_0(bytes: &[u8]) -> Result<(Parts<'_>, &[u8]), CidFault>
     ensures exact { Reads (λ r. (parts_view r.0, r.1.now)) result (version_0_at bytes.now) }
 {
     let (front, rest) = split_bytes(VERSION_0_LENGTH, bytes)?;
-    let layout = Layout {
+    let parts = Parts {
         version: 0,
         codec: DAG_PB,
         hash_code: SHA2_256,
         digest: &front[VERSION_0_FRONT.len()..],
     };
-    Ok((layout, rest))
+    Ok((parts, rest))
 }
 
-/// The parts of a CIDv1 behind its version, and the bytes after it.
-fn split_version_1(bytes: &[u8]) -> Result<(Layout<'_>, &[u8]), CidFault>
+// The parts of a CIDv1 behind its version, and the bytes after it.
+fn split_version_1(bytes: &[u8]) -> Result<(Parts<'_>, &[u8]), CidFault>
     ensures exact { Reads (λ r. (parts_view r.0, r.1.now)) result (version_1_at bytes.now) }
 {
     let (codec, rest) = split_number(bytes)?;
     let (hash_code, rest) = split_number(rest)?;
     let (size, rest) = split_number(rest)?;
     let (digest, rest) = split_bytes(size, rest)?;
-    let layout = Layout {
+    let parts = Parts {
         version: 1,
         codec,
         hash_code,
         digest,
     };
-    Ok((layout, rest))
+    Ok((parts, rest))
 }
 
-/// The parts of the CIDv1 at the front, and the bytes after it.
-fn split_numbered(bytes: &[u8]) -> Result<(Layout<'_>, &[u8]), CidFault>
+// The parts of the CIDv1 at the front, and the bytes after it.
+fn split_numbered(bytes: &[u8]) -> Result<(Parts<'_>, &[u8]), CidFault>
     ensures exact { Reads (λ r. (parts_view r.0, r.1.now)) result (numbered_at bytes.now) }
 {
     let (version, rest) = split_number(bytes)?;
@@ -88,7 +91,7 @@ fn split_numbered(bytes: &[u8]) -> Result<(Layout<'_>, &[u8]), CidFault>
 }
 
 /// The parts of the CID at the front, and the bytes after it.
-pub fn split_parts(bytes: &[u8]) -> Result<(Layout<'_>, &[u8]), CidFault>
+pub fn split_parts(bytes: &[u8]) -> Result<(Parts<'_>, &[u8]), CidFault>
     ensures exact { Reads (λ r. (parts_view r.0, r.1.now)) result (parts_at bytes.now) }
 {
     if bytes.starts_with(&VERSION_0_FRONT) {
@@ -99,9 +102,9 @@ pub fn split_parts(bytes: &[u8]) -> Result<(Layout<'_>, &[u8]), CidFault>
 }
 
 /// The length of the CIDv1 at the front. A front that only a CIDv0 has is one of
-/// version 18 here. The fault is never `Memory`.
+/// version 18 here.
 pub fn numbered_length(bytes: &[u8]) -> Result<usize, CidFault>
-    ensures exact { Gives (λ n. n) result (numbered_at bytes.now and_then (λ p. Ok (length bytes.now - length p.1))) }
+    ensures exact { Reads (λ n. n) result (numbered_at bytes.now and_then (λ p. Ok (length bytes.now - length p.1))) }
 {
     let (_, rest) = split_numbered(bytes)?;
     Ok(bytes.len() - rest.len())

@@ -6,7 +6,7 @@ ghost use Rattle.ix_cid.specs.Varint.{varint_at, varint_of};
 use crate::fault::VarintFault;
 use std::alloc::AllocError;
 
-/// How many bytes a varint has at most.
+// How many bytes a varint has at most.
 const LONGEST: usize = 9;
 
 /// The number at the front and its length (multiformats unsigned-varint). A varint
@@ -52,8 +52,8 @@ pub fn push_varint(out: &mut Vec<u8>, number: u64) -> Result<(), AllocError>
 
 #[cfg(test)]
 mod tests {
-    use crate::fault::VarintFault::{NotMinimal, TooLong, Truncated};
     use super::{push_varint, read_varint};
+    use crate::fault::VarintFault::{NotMinimal, TooLong, Truncated};
     use std::test::Fail;
 
     #[test]

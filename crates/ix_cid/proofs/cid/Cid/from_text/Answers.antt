@@ -1,8 +1,7 @@
-use Rattle.std.proofs.Common.{◌≡◌, ◌∷◌, ℕ, Ok, sym, ap, subst, ◌∙◌, arith}
+use Rattle.std.proofs.Common.{◌≡◌, ◌∷◌, ℕ, Ok, Err, sym, ap, subst, ◌∙◌, arith}
 use Rattle.std.proofs.lemmas.Result.{err_from_is_err_and}
 use Rattle.ix_cid.specs.Cid.{IsCid}
 use Rattle.ix_cid.specs.CidText.{cid_of_text}
-use Rattle.ix_cid.specs.Gives.{Fails}
 use Rattle.ix_cid.proofs.Texts.{length_at, text-fails, text-rest, text-whole}
 use Rattle.ix_cid.proofs.cid.Cid.from_text.Goals as goal
 use Rattle.ix_cid.proofs.cid.Cid.from_text.Goals.{In-Some-eq98-default, In-Ok}
@@ -18,7 +17,7 @@ returns-in_err-numbered_length c =
     let bytes = c.in_ok-bytes.bytes.items in
     let fault = c.in_err-numbered_length.field-0.0 in
     let failed = err_from_is_err_and c.from_residual-in_err-numbered_length.result c.from_residual-in_err-numbered_length.ensures.1 in
-    let fails : Fails fault (length_at bytes) = subst (λ x. Fails fault (length_at x)) c.as_slice.ensures.value c.in_err-numbered_length.ensures.exact in
+    let fails : length_at bytes ≡ Err fault = ap length_at (sym c.as_slice.ensures.value) ∙ c.in_err-numbered_length.ensures.exact in
     record {
       exact = rw (failed.1, failed.2) (text-fails c.args.text.now c.in-Some-eq98-default.letters.now bytes (text_begins (goal.at.returns-in_err-numbered_length c).In-Some-eq98-default) c.in_ok-bytes.ensures fault fails);
     }
