@@ -17,8 +17,11 @@ verdict_by c None = Missing
 verdict_by c (Some block) = verdict_on c block
 
 -- raw or DAG-CBOR
+abbrev pub is_codec : ℕ → Bool
+is_codec codec = (codec == 0x55) || (codec == 0x71)
+
 abbrev pub has_codec : List ℕ → Bool
-has_codec c = (codec_of c == 0x55) || (codec_of c == 0x71)
+has_codec c = is_codec (codec_of c)
 
 -- the verdict on a CID, with its block or none
 abbrev pub verdict_with : List ℕ → Option (List ℕ) → Verdict

@@ -2,14 +2,11 @@
 
 ghost use Rattle.std.specs.Prelude.{◌≡◌, [], bytes_eq};
 ghost use Rattle.sha2.specs.Sha256.{sha256};
-ghost use Rattle.ix_cid.specs.Cid.{digest_of};
-ghost use Rattle.ix_walk.specs.Store.{is_sha256};
-ghost use Rattle.ix_check.specs.Verdict.{has_codec, verdict_of};
+ghost use Rattle.ix_check.specs.Verdict.{is_codec, verdict_of};
 ghost use Rattle.ix_check.specs.Visits.{IsVisitOf};
 
 use crate::verdict::Verdict;
-use ix_cid::Cid;
-use ix_cid::code::{DAG_CBOR, RAW, SHA2_256};
+use ix_cid::code::{DAG_CBOR, RAW};
 use ix_walk::{Store, Visit};
 use sha2::{Digest, Sha256};
 use std::alloc::{AllocError, Global};
@@ -86,16 +83,17 @@ fn verdict_of(store: &Store, visit: &Visit) -> Verdict
     requires { IsVisitOf store.now visit.now }
     ensures { result ≡ verdict_of store.now visit.now.cid }
 {
-    if !has_codec(&visit.cid) {
+    let parts = visit.cid.parts();
+    if !is_codec(parts.codec) {
         return Verdict::Codec;
     }
-    if !is_sha256(&visit.cid) {
+    if !parts.has_sha2_256() {
         return Verdict::Hash;
     }
     let Some(place) = visit.block else {
         return Verdict::Missing;
     };
-    if !has_digest(&visit.cid, store.bytes(place)) {
+    if !is_digest(parts.digest, store.bytes(place)) {
         return Verdict::Damaged;
     }
     if visit.malformed {
@@ -105,24 +103,17 @@ fn verdict_of(store: &Store, visit: &Visit) -> Verdict
 }
 
 // Raw or DAG-CBOR.
-fn has_codec(cid: &Cid) -> bool
-    ensures { result ≡ has_codec cid.now }
+fn is_codec(codec: u64) -> bool
+    ensures { result ≡ is_codec codec }
 {
-    matches!(cid.codec(), RAW | DAG_CBOR)
+    matches!(codec, RAW | DAG_CBOR)
 }
 
-// SHA-256 with its 32 bytes.
-fn is_sha256(cid: &Cid) -> bool
-    ensures { result ≡ is_sha256 cid.now }
+// Whether the SHA-256 of a block is this digest.
+fn is_digest(digest: &[u8], block: &[u8]) -> bool
+    ensures { result ≡ bytes_eq (sha256 block.now) digest.now }
 {
-    cid.hash_code() == SHA2_256 && cid.digest().len() == 32
-}
-
-// Whether the SHA-256 of a block is the digest of a CID.
-fn has_digest(cid: &Cid, block: &[u8]) -> bool
-    ensures { result ≡ bytes_eq (sha256 block.now) (digest_of cid.now) }
-{
-    Sha256::digest(block).as_slice() == cid.digest()
+    Sha256::digest(block).as_slice() == digest
 }
 
 #[cfg(test)]

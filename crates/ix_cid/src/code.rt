@@ -11,3 +11,6 @@ pub const DAG_CBOR: u64 = 0x71;
 
 /// The hash function SHA-256 (FIPS 180-4).
 pub const SHA2_256: u64 = 0x12;
+
+/// How many bytes a digest of SHA-256 has.
+pub const SHA2_256_LENGTH: usize = 32;

@@ -1,10 +1,10 @@
 //! The parts of the CID at the front of some bytes, read in place.
 
-ghost use Rattle.std.specs.Prelude.{◌-◌, Ok, length};
-ghost use Rattle.ix_cid.specs.Cid.{◌>>=◌ as ◌and_then◌, number_at, bytes_at, version_0_at, version_1_at, numbered_at, parts_at};
+ghost use Rattle.std.specs.Prelude.{◌≡◌, ◌-◌, Ok, length};
+ghost use Rattle.ix_cid.specs.Cid.{◌>>=◌ as ◌and_then◌, number_at, bytes_at, version_0_at, version_1_at, numbered_at, parts_at, has_sha2_256};
 ghost use Rattle.ix_cid.specs.Parts.{Reads, parts_view};
 
-use crate::code::{DAG_PB, SHA2_256};
+use crate::code::{DAG_PB, SHA2_256, SHA2_256_LENGTH};
 use crate::fault::{CidFault, VarintFault};
 use crate::varint::read_varint;
 
@@ -25,6 +25,15 @@ pub struct Parts<'a> {
     pub hash_code: u64,
     /// The digest's bytes, without their number.
     pub digest: &'a [u8],
+}
+
+impl Parts<'_> {
+    /// Whether the digest is one of SHA-256 (FIPS 180-4): its code, and 32 bytes.
+    pub fn has_sha2_256(&self) -> bool
+        ensures { result ≡ has_sha2_256 (parts_view self.now) }
+    {
+        self.hash_code == SHA2_256 && self.digest.len() == SHA2_256_LENGTH
+    }
 }
 
 // The number at the front, and the bytes after it.

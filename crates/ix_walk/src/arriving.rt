@@ -13,7 +13,7 @@ use crate::visit::Visit;
 use crate::fault::WalkStop;
 use ix_cbor::{decode, CborKind, Node};
 use ix_cid::Cid;
-use ix_cid::code::{DAG_CBOR, SHA2_256};
+use ix_cid::code::DAG_CBOR;
 use ix_selector::Residual;
 use std::alloc::{AllocError, Global};
 
@@ -21,7 +21,8 @@ use std::alloc::{AllocError, Global};
 fn may_enter(cid: &Cid) -> bool
     ensures { result ≡ is_walkable cid.now }
 {
-    cid.codec() == DAG_CBOR && cid.hash_code() == SHA2_256 && cid.digest().len() == 32
+    let parts = cid.parts();
+    parts.codec == DAG_CBOR && parts.has_sha2_256()
 }
 
 // The root of a CID's block, and whether the block should have one and has none.
