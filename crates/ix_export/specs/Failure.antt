@@ -7,7 +7,7 @@ use Rattle.clap.specs.declared.error.kind.ErrorKind.TheVariants.{OutOfMemory, Di
 use Rattle.ix_walk.specs.JobMeaning.{JobMeaning}
 use Rattle.ix_export.specs.declared.failure.Failure.{Failure}
 use Rattle.ix_export.specs.declared.failure.Failure.TheVariants.{Usage, Words, Fault, CannotRead, TooLarge, CannotWrite}
-use Rattle.ix_export.specs.declared.fault.RunFault.TheVariants.{Memory}
+use Rattle.ix_run.specs.declared.fault.RunFault.TheVariants.{Memory}
 
 -- clap's refusal is told as it is, but for want of memory
 pub record IsUsageOf (error : Error) (failure : Failure) : Type 0 where

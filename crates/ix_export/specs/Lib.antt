@@ -1,7 +1,1 @@
-pub mod Root
-pub mod FaultLine
-pub mod Input
-pub mod Command
-pub mod Prepare
-pub mod Run
 pub mod Failure

@@ -5,8 +5,8 @@ ghost use Rattle.std.specs.IoError.{error_kind};
 ghost use Rattle.ix_export.specs.declared.failure.Failure.TheVariants.{CannotRead, TooLarge, CannotWrite};
 ghost use Rattle.ix_export.specs.Failure.{IsRefusal, IsWordsOf, Names, NamesFile};
 
-use crate::fault::{RunFault, fault_line};
 use clap::error::ErrorKind as UsageKind;
+use ix_run::{RunFault, fault_line};
 use std::alloc::{AllocError, AllocFailed, Global};
 use std::io::{self, ErrorKind};
 
@@ -105,7 +105,7 @@ fn is_want_of_memory(error: &io::Error) -> bool
 impl From<AllocError> for Failure {
     ghost use Rattle.std.specs.Prelude.{◌≡◌};
     ghost use Rattle.ix_export.specs.declared.failure.Failure.TheVariants.{Fault};
-    ghost use Rattle.ix_export.specs.declared.fault.RunFault.TheVariants.{Memory};
+    ghost use Rattle.ix_run.specs.declared.fault.RunFault.TheVariants.{Memory};
 
     ghost from_gives = { λ _ failure. failure ≡ Fault Memory };
 
@@ -117,7 +117,7 @@ impl From<AllocError> for Failure {
 impl<T: Drop> From<AllocFailed<T>> for Failure {
     ghost use Rattle.std.specs.Prelude.{◌≡◌};
     ghost use Rattle.ix_export.specs.declared.failure.Failure.TheVariants.{Fault};
-    ghost use Rattle.ix_export.specs.declared.fault.RunFault.TheVariants.{Memory};
+    ghost use Rattle.ix_run.specs.declared.fault.RunFault.TheVariants.{Memory};
 
     ghost from_gives = { λ _ failure. failure ≡ Fault Memory };
 

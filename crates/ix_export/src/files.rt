@@ -4,7 +4,7 @@ ghost use Rattle.std.specs.Prelude.{◌≡◌, ◌≤◌, length, IfOk, IfErr, I
 ghost use Rattle.ix_export.specs.Failure.{IsInputFailure, IsOutputFailure};
 
 use crate::failure::Failure;
-use crate::fault::RunFault;
+use ix_run::RunFault;
 use ix_walk::Job;
 use std::alloc::Global;
 use std::fs::{self, OpenFile};

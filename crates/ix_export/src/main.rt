@@ -1,25 +1,15 @@
 //! `ix_export`: cuts subgraphs out of CARv1 files.
 #![tactic(auto)]
 
-mod command;
 mod failure;
-mod fault;
 mod files;
-mod input;
-mod prepare;
-mod root;
-mod run;
-#[cfg(test)]
-mod tests;
 mod words;
 
 use clap::ArgMatches;
-use command::{printed_root, root_of_text};
 use failure::Failure;
 use files::{make_outputs, read_all, read_file, stand_in};
 use ix_pipeline::Plan;
-use prepare::prepare;
-use run::run;
+use ix_run::{prepare, printed_root, root_of_text, run};
 use std::io::Write;
 use std::process::ExitCode;
 use std::rt::{Env, Files};

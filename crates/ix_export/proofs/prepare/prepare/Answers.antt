@@ -1,6 +1,0 @@
-use Rattle.std.proofs.Common.{◌≤◌, length, subst, sym}
-use Rattle.ix_export.proofs.JobNumbers.{few_jobs}
-use Rattle.ix_export.proofs.prepare.prepare.Goals as goal
-
-pub returns-clause-few : goal.returns-clause-few
-returns-clause-few c = subst (λ v. length v.items ≤ 1000) (sym c.in_ok-new-2.ensures.ok) (few_jobs c.args.jobs.now c.in-Ok-read_jobs.jobs.items c.in-Ok-read_jobs.ensures.jobs)

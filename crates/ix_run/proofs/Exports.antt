@@ -1,0 +1,74 @@
+-- What is exported of a root, from what was told of its job.
+use Rattle.std.proofs.Common.{◌≡◌, ℕ, List, [], ◌∷◌, refl, sym, ◌∙◌, ap, subst, Bool, true, true≢false, length, arith, ◌++◌}
+use Rattle.std.specs.Prelude.{Option, Some, Ok, take}
+use Rattle.std.proofs.lemmas.List.{take_all}
+use Rattle.ix_walk.specs.Store.{Blocks}
+use Rattle.ix_walk.specs.JobMeaning.{JobMeaning}
+use Rattle.ix_car.specs.declared.sink.Delivery.{Delivery}
+use Rattle.ix_car.specs.declared.sink.End.{End}
+use Rattle.ix_car.specs.declared.sink.End.TheVariants.{Done, Limit, Memory, Write, Start}
+use Rattle.ix_car.specs.Faithful.{EndFits}
+use Rattle.ix_car.specs.Kept.{kept}
+use Rattle.ix_car.specs.Verified.{judged_visits}
+use Rattle.ix_car.specs.Archive.{archive_with}
+use Rattle.ix_car.specs.ArchiveMeaning.{HasWritten}
+use Rattle.ix_car.specs.Reading.{◌>>=◌, blocks_of}
+use Rattle.ix_jobs.specs.declared.outcome.JobResult.{JobResult}
+use Rattle.ix_run.specs.Root.{root_job, exported, exported_from, is_whole_end, is_whole}
+use Rattle.ix_run.specs.Run.{IsEndOf, IsRun, EachRun}
+use Rattle.ix_run.proofs.Told.{same_deliveries}
+
+-- where an end is told by which all was written, the job was closed by such an end
+whole_close : (end told : End) → IsEndOf end told → is_whole_end told ≡ true → is_whole_end end ≡ true
+whole_close Done told h w = refl
+whole_close Limit told h w = refl
+whole_close Memory told h w = ap is_whole_end (sym h) ∙ w
+whole_close Write told h w = ap is_whole_end (sym h) ∙ w
+whole_close Start told h w = ap is_whole_end (sym h) ∙ w
+
+-- an end at which all visits were delivered and none failed
+all_told : (end : End) (m : ℕ) (all : List Delivery) (over : Bool) (failed : List Delivery) → is_whole_end end ≡ true → EndFits end m all over failed → (m ≡ length all) × (failed ≡ [])
+all_told Done m all over failed whole fits = (fits.0, fits.2)
+all_told Limit m all over failed whole fits = (fits.0, fits.2)
+all_told Memory m all over failed whole fits = absurd (true≢false (sym whole))
+all_told Write m all over failed whole fits = absurd (true≢false (sym whole))
+all_told Start m all over failed whole fits = absurd (true≢false (sym whole))
+
+module _ {W : Type 0} (told : W → Option (List ℕ)) where
+  -- the archive of all visits of a job that was walked to its end or its limit
+  one_archive : (store : Blocks) (job : JobMeaning) (before : W) (result : JobResult) (after : W) → is_whole_end result.end ≡ true → told before ≡ Some [] → IsRun told store 0 job before result after
+      → told after ≡ Some (archive_with store job.root (kept (judged_visits store 0 job)))
+  one_archive store job before result after whole fresh run =
+      let all = judged_visits store 0 job in
+      let fits = all_told run.end run.faithful.count all _ run.failed (whole_close run.end result.end run.ended whole) run.faithful.fits in
+      let same : run.delivered ≡ take run.faithful.count all = same_deliveries run.delivered (run.end ∷ []) (take run.faithful.count all) run.end run.faithful.told in
+      let each : run.delivered ≡ all = same ∙ ap (λ n. take n all) fits.0 ∙ take_all (length all) all (omega arith) in
+      subst (λ ds. told after ≡ Some (archive_with store job.root (kept ds))) each (subst (HasWritten (told after) store job.root run.delivered) fits.1 (run.written fresh))
+
+  -- the archive of the one root
+  pub exported_by : (car root : List ℕ) (store : Blocks) (job : JobMeaning) (jobs : List JobMeaning) (before : W) (befores afters rest : List W) (after : W) (results : List JobResult) (bytes : List ℕ)
+      → jobs ≡ job ∷ [] → befores ≡ before ∷ [] → blocks_of car ≡ Ok store → job ≡ root_job root → told before ≡ Some [] → EachRun told store 0 jobs befores results afters → is_whole results ≡ true
+      → afters ≡ rest ++ after ∷ [] → told after ≡ Some bytes → exported_from car root ≡ Ok bytes
+  exported_by car root store job jobs before befores afters rest after results bytes one_job one_before read is_job fresh ran whole last shows =
+      ones afters results (subst (λ js. EachRun told store 0 js (before ∷ []) results afters) one_job (subst (λ bs. EachRun told store 0 jobs bs results afters) one_before ran)) whole rest last where
+        some_same : (a b : List ℕ) → ◌≡◌ {A = Option (List ℕ)} (Some a) (Some b) → a ≡ b
+        some_same a b h = cc
+
+        of_one : (w : W) (r : JobResult) → IsRun told store 0 job before r w → is_whole_end r.end ≡ true → w ≡ after → exported_from car root ≡ Ok bytes
+        of_one w r run whole same =
+            let wrote : told after ≡ Some (archive_with store job.root (kept (judged_visits store 0 job))) = subst (λ v. told v ≡ Some (archive_with store job.root (kept (judged_visits store 0 job)))) same (one_archive store job before r w whole fresh run) in
+            let is_bytes : archive_with store job.root (kept (judged_visits store 0 job)) ≡ bytes = some_same _ _ (sym wrote ∙ shows) in
+            ap (λ r. r >>= (λ b. Ok (exported b root))) read ∙ ap Ok (ap (λ (j : JobMeaning). archive_with store j.root (kept (judged_visits store 0 j))) (sym is_job) ∙ is_bytes)
+
+        last_one : (w : W) (rest : List W) → w ∷ [] ≡ rest ++ after ∷ [] → w ≡ after
+        last_one w [] h = cc
+        last_one w (x ∷ []) h = absurd cc
+        last_one w (x ∷ y ∷ ys) h = absurd cc
+
+        ones : (ws : List W) (rs : List JobResult) → EachRun told store 0 (job ∷ []) (before ∷ []) rs ws → is_whole rs ≡ true → (rest : List W) → ws ≡ rest ++ after ∷ [] → exported_from car root ≡ Ok bytes
+        ones [] [] ran whole rest last = absurd ran
+        ones [] (r ∷ rs) ran whole rest last = absurd ran
+        ones (w ∷ ws) [] ran whole rest last = absurd ran
+        ones (w ∷ []) (r ∷ []) ran whole rest last = of_one w r ran.0 whole (last_one w rest last)
+        ones (w ∷ v ∷ ws) (r ∷ []) ran whole rest last = absurd ran.1
+        ones (w ∷ ws) (r ∷ s ∷ rs) ran whole rest last = absurd (true≢false (sym whole))

@@ -1,0 +1,208 @@
+-- What a run leaves of each job, from what its sink was told.
+use Rattle.std.proofs.Common.{◌≡◌, ℕ, suc, ◌+◌, take, drop, List, [], ◌∷◌, ◌++◌, refl, sym, ◌∙◌, ap, subst, map, length, inl, inr}
+use Rattle.std.specs.Prelude.{Option, Some, None}
+use Rattle.std.specs.Io.KnownBytes.{Keeps}
+use Rattle.ix_walk.specs.Store.{Blocks}
+use Rattle.ix_walk.specs.JobMeaning.{JobMeaning}
+use Rattle.ix_car.specs.declared.sink.Delivery.{Delivery}
+use Rattle.ix_car.specs.declared.sink.End.{End}
+use Rattle.ix_car.specs.declared.sink.End.TheVariants as ends
+use Rattle.ix_car.specs.Events.{delivery, close, deliveries_of}
+use Rattle.ix_car.specs.Faithful.{IsFaithful}
+use Rattle.ix_car.specs.ArchiveMeaning.{ArchiveMeaning, HasArchived, HasWritten, IsBegun, IsCountOf, events_of}
+use Rattle.ix_car.specs.Archived.{IsArchived}
+use Rattle.ix_car.specs.Report.{counts_of}
+use Rattle.ix_jobs.specs.declared.outcome.JobResult.{JobResult}
+use Rattle.ix_pipeline.specs.Headline.{EachDelivered, EachArchived, EachKept, EachFresh}
+use Rattle.std.proofs.Math.Seq.{take-append_seam}
+use Rattle.ix_run.specs.Run.{IsEndOf, IsRun, EachRun, EachBegun, IsEnded, EachEnded}
+use Rattle.ix_run.proofs.Told.{deliveries_of-told, same_deliveries}
+
+-- an end that is told as done is that of a close with done
+done_is_done : (end told : End) → IsEndOf end told → told ≡ ends.Done → end ≡ ends.Done
+done_is_done ends.Done told h d = refl
+done_is_done ends.Limit told (inl h) d = absurd (let bad : ends.Limit ≡ ends.Done = sym h ∙ d in cc)
+done_is_done ends.Limit told (inr h) d = absurd (let bad : ends.Write ≡ ends.Done = sym h ∙ d in cc)
+done_is_done ends.Memory told h d = sym h ∙ d
+done_is_done ends.Write told h d = sym h ∙ d
+done_is_done ends.Start told h d = sym h ∙ d
+
+some_same : (a b : List ℕ) → ◌≡◌ {A = Option (List ℕ)} (Some a) (Some b) → a ≡ b
+some_same a b h = cc
+
+-- bytes that are told stay told
+keeps_told : (old new : Option (List ℕ)) (bytes : List ℕ) → Keeps old new → old ≡ Some bytes → new ≡ Some bytes
+keeps_told None new bytes h e = absurd cc
+keeps_told (Some xs) None bytes h e = absurd h
+keeps_told (Some xs) (Some ys) bytes h e = ap (λ l. Some l) (h ∙ some_same xs bytes e)
+
+-- an archive's writer tells some bytes
+tells : (told : Option (List ℕ)) (store : Blocks) (root : List ℕ) (ds failed : List Delivery) → HasWritten told store root ds failed → (bytes : List ℕ) × (told ≡ Some bytes)
+tells told store root ds [] h = (_, h)
+tells told store root ds (d ∷ more) h = (h.0, h.1)
+
+-- the number of bytes is that of the bytes that are told in the end
+count_kept : (old new : Option (List ℕ)) (taken : ℕ) (bytes : List ℕ) → Keeps old new → old ≡ Some bytes → IsCountOf taken old → IsCountOf taken new
+count_kept old new taken bytes keeps e counts more h =
+    let same : bytes ≡ more = some_same bytes more (sym (keeps_told old new bytes keeps e) ∙ h) in
+    counts more (e ∙ ap (λ l. Some l) same)
+
+module _ {W : Type 0} (told : W → Option (List ℕ)) where
+  pub one_run : (store : Blocks) (n : ℕ) (job : JobMeaning) (before after : W) (first last : ArchiveMeaning W) (end : End) (result : JobResult)
+      → (told before ≡ Some [] → HasArchived told first store job) → IsFaithful store n job end (events_of last) last.failed → IsArchived store n job end (events_of last) last.failed
+      → (HasArchived told first store job → HasArchived told last store job) → IsEnded told last end result after → IsRun told store n job before result after
+  one_run store n job before after first last end result fresh faithful archived kept ended =
+      let ds = last.deliveries in
+      let same : ds ≡ _ = same_deliveries ds last.closed _ end faithful.told in
+      let shown : events_of last ≡ map delivery ds ++ close end ∷ [] = faithful.told ∙ ap (λ l. map delivery l ++ close end ∷ []) (sym same) in
+      let of_events : deliveries_of (events_of last) ≡ ds = deliveries_of-told ds last.closed in
+      let fact : told before ≡ Some [] → HasArchived told last store job = λ h. kept (fresh h) in
+      let wrote : (h : told before ≡ Some []) → HasWritten (told last.writer) store job.root (deliveries_of (events_of last)) last.failed =
+      λ h. subst (λ l. HasWritten (told last.writer) store job.root l last.failed) (sym of_events) (fact h).written in
+      record {
+        end = end;
+        delivered = ds;
+        failed = last.failed;
+        taken = last.taken;
+        faithful = subst (λ l. IsFaithful store n job end l last.failed) shown faithful;
+        ended = ended.ended;
+        skips = ended.skips;
+        visits = ap (λ c. c.visits) ended.counts;
+        kept = ap (λ c. c.kept) ended.counts;
+        counts = λ h.
+            let some = tells (told last.writer) store job.root ds last.failed (fact h).written in
+            (ended.counts ∙ ap (λ s. counts_of s ds last.taken) (fact h).same_store, count_kept (told last.writer) (told after) last.taken some.0 ended.flushed some.1 (fact h).counted);
+        written = λ h.
+            let some = tells (told last.writer) store job.root ds last.failed (fact h).written in
+            let same_told : told last.writer ≡ told after = some.1 ∙ sym (keeps_told (told last.writer) (told after) some.0 ended.flushed some.1) in
+            subst (λ o. HasWritten o store job.root ds last.failed) same_told (fact h).written;
+        whole = λ h done. keeps_told (told last.writer) (told after) _ ended.flushed (archived.whole (done_is_done end result.end ended.ended done) (told last.writer) (wrote h));
+        beginning = λ h bytes shows.
+            let some = tells (told last.writer) store job.root ds last.failed (fact h).written in
+            let same_bytes : some.0 ≡ bytes = some_same some.0 bytes (sym (keeps_told (told last.writer) (told after) some.0 ended.flushed some.1) ∙ shows) in
+            archived.beginning bytes (subst (λ o. HasWritten o store job.root (deliveries_of (events_of last)) last.failed) (some.1 ∙ ap (λ l. Some l) same_bytes) (wrote h));
+      }
+
+  pub runs : (store : Blocks) (n : ℕ) (jobs : List JobMeaning) (before after : List W) (first last : List (ArchiveMeaning W)) (es : List End) (results : List JobResult)
+      → EachBegun told store jobs before first → EachDelivered events_of (λ a. a.failed) store n jobs es last → EachArchived events_of (λ a. a.failed) store n jobs es last
+      → EachKept (HasArchived told) first last → EachEnded told last es results after → EachRun told store n jobs before results after
+  runs store n [] [] [] [] [] [] [] begun delivered archived kept ended = tt
+  runs store n [] [] [] [] [] [] (r ∷ rs) begun delivered archived kept ended = absurd ended
+  runs store n [] [] (w ∷ ws) [] [] [] [] begun delivered archived kept ended = absurd ended
+  runs store n [] [] (w ∷ ws) [] [] [] (r ∷ rs) begun delivered archived kept ended = absurd ended
+  runs store n [] [] after [] [] (e ∷ es) results begun delivered archived kept ended = absurd delivered
+  runs store n [] [] after [] (l ∷ ls) [] results begun delivered archived kept ended = absurd delivered
+  runs store n [] [] after [] (l ∷ ls) (e ∷ es) results begun delivered archived kept ended = absurd delivered
+  runs store n [] [] after (a ∷ xs) last es results begun delivered archived kept ended = absurd begun
+  runs store n [] (b ∷ bs) after [] last es results begun delivered archived kept ended = absurd begun
+  runs store n [] (b ∷ bs) after (a ∷ xs) last es results begun delivered archived kept ended = absurd begun
+  runs store n (j ∷ js) [] after [] last es results begun delivered archived kept ended = absurd begun
+  runs store n (j ∷ js) [] after (a ∷ xs) last es results begun delivered archived kept ended = absurd begun
+  runs store n (j ∷ js) (b ∷ bs) after [] last es results begun delivered archived kept ended = absurd begun
+  runs store n (j ∷ js) (b ∷ bs) after (a ∷ xs) [] [] results begun delivered archived kept ended = absurd delivered
+  runs store n (j ∷ js) (b ∷ bs) after (a ∷ xs) [] (e ∷ es) results begun delivered archived kept ended = absurd delivered
+  runs store n (j ∷ js) (b ∷ bs) after (a ∷ xs) (l ∷ ls) [] results begun delivered archived kept ended = absurd delivered
+  runs store n (j ∷ js) (b ∷ bs) [] (a ∷ xs) (l ∷ ls) (e ∷ es) [] begun delivered archived kept ended = absurd ended
+  runs store n (j ∷ js) (b ∷ bs) [] (a ∷ xs) (l ∷ ls) (e ∷ es) (r ∷ rs) begun delivered archived kept ended = absurd ended
+  runs store n (j ∷ js) (b ∷ bs) (w ∷ ws) (a ∷ xs) (l ∷ ls) (e ∷ es) [] begun delivered archived kept ended = absurd ended
+  runs store n (j ∷ js) (b ∷ bs) (w ∷ ws) (a ∷ xs) (l ∷ ls) (e ∷ es) (r ∷ rs) begun delivered archived kept ended =
+      (one_run store n j b w a l e r begun.0.1 delivered.0 archived.0 (kept.0 store j) ended.0, runs store (n + 1) js bs ws xs ls es rs begun.1 delivered.1 archived.1 kept.1 ended.1)
+
+  -- an archive more
+  pub EachBegun-more : (store : Blocks) (jobs : List JobMeaning) (writers : List W) (archives : List (ArchiveMeaning W)) (job : JobMeaning) (writer : W) (archive : ArchiveMeaning W)
+      → EachBegun told store jobs writers archives → IsBegun archive store job.root → (told writer ≡ Some [] → HasArchived told archive store job)
+      → EachBegun told store (jobs ++ job ∷ []) (writers ++ writer ∷ []) (archives ++ archive ∷ [])
+  EachBegun-more store [] [] [] job writer archive so_far begun fact = ((begun, fact), tt)
+  EachBegun-more store [] [] (a ∷ xs) job writer archive so_far begun fact = absurd so_far
+  EachBegun-more store [] (w ∷ ws) [] job writer archive so_far begun fact = absurd so_far
+  EachBegun-more store [] (w ∷ ws) (a ∷ xs) job writer archive so_far begun fact = absurd so_far
+  EachBegun-more store (j ∷ js) [] [] job writer archive so_far begun fact = absurd so_far
+  EachBegun-more store (j ∷ js) [] (a ∷ xs) job writer archive so_far begun fact = absurd so_far
+  EachBegun-more store (j ∷ js) (w ∷ ws) [] job writer archive so_far begun fact = absurd so_far
+  EachBegun-more store (j ∷ js) (w ∷ ws) (a ∷ xs) job writer archive so_far begun fact = (so_far.0, EachBegun-more store js ws xs job writer archive so_far.1 begun fact)
+
+  -- a result more
+  pub EachEnded-more : (archives : List (ArchiveMeaning W)) (es : List End) (results : List JobResult) (writers : List W) (archive : ArchiveMeaning W) (end : End) (result : JobResult) (writer : W)
+      → EachEnded told archives es results writers → IsEnded told archive end result writer → EachEnded told (archives ++ archive ∷ []) (es ++ end ∷ []) (results ++ result ∷ []) (writers ++ writer ∷ [])
+  EachEnded-more [] [] [] [] archive end result writer so_far one = (one, tt)
+  EachEnded-more [] [] [] (w ∷ ws) archive end result writer so_far one = absurd so_far
+  EachEnded-more [] [] (r ∷ rs) writers archive end result writer so_far one = absurd (no_results r rs writers so_far) where
+    no_results : (r : JobResult) (rs : List JobResult) (ws : List W) → EachEnded told [] [] (r ∷ rs) ws → ⊥
+    no_results r rs [] h = h
+    no_results r rs (w ∷ ws) h = h
+  EachEnded-more [] (e ∷ es) [] [] archive end result writer so_far one = absurd so_far
+  EachEnded-more [] (e ∷ es) [] (w ∷ ws) archive end result writer so_far one = absurd so_far
+  EachEnded-more [] (e ∷ es) (r ∷ rs) [] archive end result writer so_far one = absurd so_far
+  EachEnded-more [] (e ∷ es) (r ∷ rs) (w ∷ ws) archive end result writer so_far one = absurd so_far
+  EachEnded-more (a ∷ xs) [] [] [] archive end result writer so_far one = absurd so_far
+  EachEnded-more (a ∷ xs) [] [] (w ∷ ws) archive end result writer so_far one = absurd so_far
+  EachEnded-more (a ∷ xs) [] (r ∷ rs) [] archive end result writer so_far one = absurd so_far
+  EachEnded-more (a ∷ xs) [] (r ∷ rs) (w ∷ ws) archive end result writer so_far one = absurd so_far
+  EachEnded-more (a ∷ xs) (e ∷ es) [] [] archive end result writer so_far one = absurd so_far
+  EachEnded-more (a ∷ xs) (e ∷ es) [] (w ∷ ws) archive end result writer so_far one = absurd so_far
+  EachEnded-more (a ∷ xs) (e ∷ es) (r ∷ rs) [] archive end result writer so_far one = absurd so_far
+  EachEnded-more (a ∷ xs) (e ∷ es) (r ∷ rs) (w ∷ ws) archive end result writer so_far one = (so_far.0, EachEnded-more xs es rs ws archive end result writer so_far.1 one)
+
+  -- as many archives as jobs, none of them told anything
+  pub begun-length : (store : Blocks) (jobs : List JobMeaning) (writers : List W) (archives : List (ArchiveMeaning W)) → EachBegun told store jobs writers archives → length archives ≡ length jobs
+  begun-length store [] [] [] h = refl
+  begun-length store [] [] (a ∷ xs) h = absurd h
+  begun-length store [] (w ∷ ws) [] h = absurd h
+  begun-length store [] (w ∷ ws) (a ∷ xs) h = absurd h
+  begun-length store (j ∷ js) [] [] h = absurd h
+  begun-length store (j ∷ js) [] (a ∷ xs) h = absurd h
+  begun-length store (j ∷ js) (w ∷ ws) [] h = absurd h
+  begun-length store (j ∷ js) (w ∷ ws) (a ∷ xs) h = ap suc (begun-length store js ws xs h.1)
+
+  no_events : (store : Blocks) (root : List ℕ) (a : ArchiveMeaning W) → IsBegun a store root → events_of a ≡ []
+  no_events store root a h = ap (λ ds. map delivery ds ++ map close a.closed) h.no_deliveries ∙ ap (λ l. map close l) h.not_closed
+
+  pub begun-fresh : (store : Blocks) (jobs : List JobMeaning) (writers : List W) (archives : List (ArchiveMeaning W)) → EachBegun told store jobs writers archives → EachFresh events_of (λ a. a.failed) archives
+  begun-fresh store [] [] [] h = tt
+  begun-fresh store [] [] (a ∷ xs) h = absurd h
+  begun-fresh store [] (w ∷ ws) [] h = absurd h
+  begun-fresh store [] (w ∷ ws) (a ∷ xs) h = absurd h
+  begun-fresh store (j ∷ js) [] [] h = absurd h
+  begun-fresh store (j ∷ js) [] (a ∷ xs) h = absurd h
+  begun-fresh store (j ∷ js) (w ∷ ws) [] h = absurd h
+  begun-fresh store (j ∷ js) (w ∷ ws) (a ∷ xs) h = ((no_events store j.root a h.0.0, h.0.0.no_failure), begun-fresh store js ws xs h.1)
+
+  -- as many ends as sinks
+  pub delivered-length : (store : Blocks) (n : ℕ) (jobs : List JobMeaning) (es : List End) (sinks : List (ArchiveMeaning W)) → EachDelivered events_of (λ a. a.failed) store n jobs es sinks → length sinks ≡ length es
+  delivered-length store n [] [] [] h = refl
+  delivered-length store n [] [] (s ∷ ss) h = absurd h
+  delivered-length store n [] (e ∷ es) [] h = absurd h
+  delivered-length store n [] (e ∷ es) (s ∷ ss) h = absurd h
+  delivered-length store n (j ∷ js) [] [] h = absurd h
+  delivered-length store n (j ∷ js) [] (s ∷ ss) h = absurd h
+  delivered-length store n (j ∷ js) (e ∷ es) [] h = absurd h
+  delivered-length store n (j ∷ js) (e ∷ es) (s ∷ ss) h = ap suc (delivered-length store (n + 1) js es ss h.1)
+
+  pub kept-length : (first last : List (ArchiveMeaning W)) → EachKept (HasArchived told) first last → length last ≡ length first
+  kept-length [] [] h = refl
+  kept-length [] (l ∷ ls) h = absurd h
+  kept-length (a ∷ xs) [] h = absurd h
+  kept-length (a ∷ xs) (l ∷ ls) h = ap suc (kept-length xs ls h.1)
+
+  -- as many results as jobs
+  pub run-length : (store : Blocks) (n : ℕ) (jobs : List JobMeaning) (before after : List W) (results : List JobResult) → EachRun told store n jobs before results after → length jobs ≡ length results
+  run-length store n [] [] [] [] h = refl
+  run-length store n [] [] (w ∷ ws) [] h = absurd h
+  run-length store n [] [] [] (r ∷ rs) h = absurd h
+  run-length store n [] [] (w ∷ ws) (r ∷ rs) h = absurd h
+  run-length store n [] (b ∷ bs) [] [] h = absurd h
+  run-length store n [] (b ∷ bs) [] (r ∷ rs) h = absurd h
+  run-length store n [] (b ∷ bs) (w ∷ ws) [] h = absurd h
+  run-length store n [] (b ∷ bs) (w ∷ ws) (r ∷ rs) h = absurd h
+  run-length store n (j ∷ js) [] [] [] h = absurd h
+  run-length store n (j ∷ js) [] [] (r ∷ rs) h = absurd h
+  run-length store n (j ∷ js) [] (w ∷ ws) [] h = absurd h
+  run-length store n (j ∷ js) [] (w ∷ ws) (r ∷ rs) h = absurd h
+  run-length store n (j ∷ js) (b ∷ bs) [] [] h = absurd h
+  run-length store n (j ∷ js) (b ∷ bs) [] (r ∷ rs) h = absurd h
+  run-length store n (j ∷ js) (b ∷ bs) (w ∷ ws) [] h = absurd h
+  run-length store n (j ∷ js) (b ∷ bs) (w ∷ ws) (r ∷ rs) h = ap suc (run-length store (n + 1) js bs ws rs h.1)
+
+-- what a vector holds, when a slice of it as long was written through
+pub whole_again : {A : Type 0} (n : ℕ) (new old : List A) → length new ≡ n → take n (new ++ drop (length new) old) ≡ new
+whole_again n new old h = ap (λ m. take m (new ++ drop (length new) old)) (sym h) ∙ take-append_seam new (drop (length new) old)

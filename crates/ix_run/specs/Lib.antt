@@ -1,0 +1,6 @@
+pub mod Root
+pub mod FaultLine
+pub mod Input
+pub mod Command
+pub mod Prepare
+pub mod Run

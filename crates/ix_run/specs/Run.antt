@@ -1,0 +1,87 @@
+-- What a run leaves.
+use Rattle.std.specs.Prelude.{◌≡◌, ◌⊎◌, ℕ, ◌+◌, ◌<◌, List, [], ◌∷◌, ◌++◌, length, map, Option, Some}
+use Rattle.std.specs.Io.KnownBytes.{Keeps}
+use Rattle.ix_walk.specs.Store.{Blocks}
+use Rattle.ix_walk.specs.JobMeaning.{JobMeaning}
+use Rattle.ix_car.specs.declared.sink.Delivery.{Delivery}
+use Rattle.ix_car.specs.declared.sink.End.{End}
+use Rattle.ix_car.specs.declared.sink.End.TheVariants as ends
+use Rattle.ix_car.specs.Events.{delivery, close}
+use Rattle.ix_car.specs.Faithful.{IsFaithful}
+use Rattle.ix_car.specs.Archive.{archive_of}
+use Rattle.ix_car.specs.ArchiveMeaning.{ArchiveMeaning, HasArchived, HasWritten, IsBegun, IsCountOf}
+use Rattle.ix_car.specs.Archived.{IsBeginning}
+use Rattle.ix_car.specs.Kept as cut
+use Rattle.ix_car.specs.Report.{skips_of, counts_of, at_most}
+use Rattle.ix_jobs.specs.declared.outcome.JobResult.{JobResult}
+use Rattle.ix_jobs.specs.Report.{report_of, status_of}
+use Rattle.ix_run.specs.declared.fault.RunFault.{RunFault}
+use Rattle.ix_run.specs.declared.fault.RunFault.TheVariants.{Hex, Root, Car, Jobs, Write, Memory}
+use Rattle.ix_run.specs.declared.execution.RunOut.{RunOut}
+
+-- The end that is told of a job: that of its close, or a failed write, where the last bytes of a whole archive couldn't be flushed.
+abbrev pub IsEndOf : End → End → Type 0
+IsEndOf ends.Done told = (told ≡ ends.Done) ⊎ (told ≡ ends.Write)
+IsEndOf ends.Limit told = (told ≡ ends.Limit) ⊎ (told ≡ ends.Write)
+IsEndOf ends.Memory told = told ≡ ends.Memory
+IsEndOf ends.Write told = told ≡ ends.Write
+IsEndOf ends.Start told = told ≡ ends.Start
+
+-- What a run told of the job with this number, and what its writer tells, where it told nothing at first.
+pub record IsRun {W : Type 0} (told : W → Option (List ℕ)) (store : Blocks) (number : ℕ) (job : JobMeaning) (before : W) (result : JobResult) (after : W) : Type 0 where
+  -- the end of the close, the visits that were delivered with their verdicts, and the failed ones
+  pub end : End
+  pub delivered : List Delivery
+  pub failed : List Delivery
+  pub taken : ℕ
+  pub faithful : IsFaithful store number job end (map delivery delivered ++ close end ∷ []) failed
+  pub ended : IsEndOf end result.end
+  pub skips : result.skips.items ≡ skips_of delivered
+  pub visits : result.counts.visits ≡ at_most 32 (length delivered)
+  pub kept : result.counts.kept ≡ at_most 32 (length (cut.kept delivered))
+  pub counts : told before ≡ Some [] → (result.counts ≡ counts_of store delivered taken) × IsCountOf taken (told after)
+  -- the writer has the archive of what was delivered, or after a failed write a part of it
+  pub written : told before ≡ Some [] → HasWritten (told after) store job.root delivered failed
+  pub whole : told before ≡ Some [] → result.end ≡ ends.Done → told after ≡ Some (archive_of store number job)
+  pub beginning : told before ≡ Some [] → (bytes : List ℕ) → told after ≡ Some bytes → IsBeginning bytes (archive_of store number job)
+
+module _ {W : Type 0} (told : W → Option (List ℕ)) where
+  -- job by job, from a number on
+  abbrev pub EachRun : Blocks → ℕ → List JobMeaning → List W → List JobResult → List W → Type 0
+  EachRun store n [] [] [] [] = Unit {0}
+  EachRun store n (j ∷ js) (b ∷ bs) (r ∷ rs) (a ∷ xs) = IsRun told store n j b r a × EachRun store (n + 1) js bs rs xs
+  EachRun store n js bs rs xs = ⊥
+
+  -- an archive for each job and its writer, told nothing so far
+  abbrev pub EachBegun : Blocks → List JobMeaning → List W → List (ArchiveMeaning W) → Type 0
+  EachBegun store [] [] [] = Unit {0}
+  EachBegun store (j ∷ js) (w ∷ ws) (a ∷ xs) = (IsBegun a store j.root × (told w ≡ Some [] → HasArchived told a store j)) × EachBegun store js ws xs
+  EachBegun store js ws xs = ⊥
+
+  -- what was told of an archive, and its writer, which was flushed
+  pub record IsEnded (a : ArchiveMeaning W) (end : End) (result : JobResult) (after : W) : Type 0 where
+    pub ended : IsEndOf end result.end
+    pub skips : result.skips.items ≡ skips_of a.deliveries
+    pub counts : result.counts ≡ counts_of a.store a.deliveries a.taken
+    pub flushed : Keeps (told a.writer) (told after)
+
+  abbrev pub EachEnded : List (ArchiveMeaning W) → List End → List JobResult → List W → Type 0
+  EachEnded [] [] [] [] = Unit {0}
+  EachEnded (a ∷ xs) (e ∷ es) (r ∷ rs) (w ∷ ws) = IsEnded a e r w × EachEnded xs es rs ws
+  EachEnded xs es rs ws = ⊥
+
+-- each job was run, and the report and the status are those of what was told
+pub record HasRun {W : Type 0} (told : W → Option (List ℕ)) (store : Blocks) (jobs : List JobMeaning) (before : List W) (out : RunOut W) : Type 0 where
+  pub results : List JobResult
+  pub ran : EachRun told store 0 jobs before results out.writers.items
+  pub report : out.report.items ≡ report_of jobs results
+  pub status : out.status ≡ status_of results
+
+-- the header of one of the jobs can't be written, or memory ran out
+abbrev pub IsRunRefusal : List JobMeaning → RunFault → Type 0
+IsRunRefusal jobs (Write number) = number < length jobs
+IsRunRefusal jobs Memory = Unit {0}
+IsRunRefusal jobs Hex = ⊥
+IsRunRefusal jobs (Root fault) = ⊥
+IsRunRefusal jobs (Car fault) = ⊥
+IsRunRefusal jobs (Jobs fault) = ⊥

@@ -1,0 +1,77 @@
+//! Why a command of the program refuses.
+
+ghost use Rattle.std.specs.Prelude.{◌≡◌, IfOk, string_bytes};
+ghost use Rattle.ix_run.specs.FaultLine.{line_of};
+
+use ix_car::CarFault;
+use ix_cid::CidFault;
+use ix_jobs::JobsFault;
+use std::alloc::{AllocError, AllocFailed, Global};
+use thiserror::Error;
+
+/// Why a command refuses.
+#[derive(Debug, Drop, Error)]
+pub enum RunFault {
+    /// Standard input is not hexadecimal.
+    #[error("the input is not hexadecimal")]
+    Hex,
+    /// The text of the root is no CIDv1.
+    #[error("the root is no CID: {0}")]
+    Root(CidFault),
+    /// The input is no CARv1 file.
+    #[error("the input is no CARv1 file: {0:?}")]
+    Car(CarFault),
+    /// The job file is refused.
+    #[error("the job file is refused: {0:?}")]
+    Jobs(JobsFault),
+    /// The header of the archive of the job with this number, from 0, could not be written.
+    #[error("the archive of job {0} could not be begun")]
+    Write(u32),
+    /// No memory was left.
+    #[error("out of memory")]
+    Memory,
+}
+
+impl From<AllocError> for RunFault {
+    ghost use Rattle.std.specs.Prelude.{◌≡◌};
+    ghost use Rattle.ix_run.specs.declared.fault.RunFault.TheVariants.{Memory};
+
+    ghost from_gives = { λ _ e. e ≡ Memory };
+
+    fn from(_error: AllocError) -> RunFault {
+        RunFault::Memory
+    }
+}
+
+impl<T: Drop> From<AllocFailed<T>> for RunFault {
+    ghost use Rattle.std.specs.Prelude.{◌≡◌};
+    ghost use Rattle.ix_run.specs.declared.fault.RunFault.TheVariants.{Memory};
+
+    ghost from_gives = { λ _ e. e ≡ Memory };
+
+    fn from(_error: AllocFailed<T>) -> RunFault {
+        RunFault::Memory
+    }
+}
+
+/// The line that the program prints for a refusal, without its end.
+pub fn fault_line(alloc: Global, fault: &RunFault) -> Result<String, AllocError>
+    ensures { IfOk result (λ line. string_bytes line ≡ line_of fault.now) }
+{
+    match fault {
+        RunFault::Hex => String::from_str(alloc, "input: hex"),
+        RunFault::Root(fault) => format!(in alloc; "root: {fault}"),
+        RunFault::Car(fault) => {
+            let kind = fault.kind;
+            let place = fault.place;
+            format!(in alloc; "blocks: {kind} at {place}")
+        }
+        RunFault::Jobs(fault) => {
+            let kind = fault.kind;
+            let line = fault.line;
+            format!(in alloc; "jobs: {kind} at line {line}")
+        }
+        RunFault::Write(number) => format!(in alloc; "cannot write job {number}"),
+        RunFault::Memory => String::from_str(alloc, "memory"),
+    }
+}

@@ -1,0 +1,37 @@
+//! What a run needs: the store of blocks and the list of jobs.
+
+ghost use Rattle.std.specs.Prelude.{◌≡◌, ◌≤◌, length, IfOk, IfErr, Ok};
+ghost use Rattle.std.specs.Arc.{arc_value};
+ghost use Rattle.ix_car.specs.Reading.{blocks_of};
+ghost use Rattle.ix_jobs.specs.Jobs.{jobs_of};
+ghost use Rattle.ix_run.specs.Prepare.{IsPrepareRefusal};
+
+use crate::fault::RunFault;
+use ix_car::read_car;
+use ix_jobs::read_jobs;
+use ix_walk::{Job, Store};
+use std::alloc::Global;
+use std::sync::Arc;
+
+/// The blocks of a CARv1 file and the jobs of a job file. Where both are refused, the fault is
+/// that of the CARv1 file.
+pub fn prepare(
+    alloc: Global,
+    car: &[u8],
+    jobs: &[u8],
+) -> Result<(Arc<Store>, Arc<Vec<Job>>), RunFault>
+    ensures blocks { IfOk result (λ p. blocks_of car.now ≡ Ok (arc_value p.0)) }
+    ensures jobs { IfOk result (λ p. jobs_of jobs.now ≡ Ok (arc_value p.1).items) }
+    ensures few { IfOk result (λ p. length (arc_value p.1).items ≤ 1000) }
+    ensures refused { IfErr result (λ fault. IsPrepareRefusal car.now jobs.now fault) }
+{
+    let store = match read_car(alloc, car) {
+        Ok(store) => store,
+        Err(fault) => return Err(RunFault::Car(fault)),
+    };
+    let jobs = match read_jobs(alloc, jobs) {
+        Ok(jobs) => jobs,
+        Err(fault) => return Err(RunFault::Jobs(fault)),
+    };
+    Ok((Arc::new(alloc, store)?, Arc::new(alloc, jobs)?))
+}

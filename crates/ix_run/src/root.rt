@@ -1,0 +1,92 @@
+//! The archive of one root.
+
+ghost use Rattle.std.specs.Prelude.{◌≡◌, IfOk, IfErr, Ok};
+ghost use Rattle.ix_selector.specs.Pattern.{matcher};
+ghost use Rattle.ix_run.specs.declared.fault.RunFault.TheVariants.{Memory};
+ghost use Rattle.ix_run.specs.Root.{root_job, exported_from, is_whole, IsRefusalOf};
+
+use crate::execution::run_jobs;
+use crate::fault::RunFault;
+use ix_car::{End, read_car};
+use ix_cbor::decode;
+use ix_check::ShaCheck;
+use ix_cid::Cid;
+use ix_jobs::JobResult;
+use ix_selector::Selector;
+use ix_walk::Job;
+use std::alloc::Global;
+use std::slice;
+
+// The matcher selector in DAG-CBOR: a map with the key `.` and an empty map.
+const MATCHER: &[u8; 4] = b"\xa1\x61\x2e\xa0";
+
+/// The CARv1 archive of one root: what is kept of the visits of the job with that root, the
+/// matcher selector and a limit of one visit, over the blocks of a CARv1 file.
+pub fn export_root(alloc: Global, car: &[u8], root: Cid) -> Result<Vec<u8>, RunFault>
+    ensures archive { IfOk result (λ archive. exported_from car.now root ≡ Ok archive.items) }
+    ensures refused { IfErr result (λ fault. IsRefusalOf car.now fault) }
+{
+    let store = match read_car(alloc, car) {
+        Ok(store) => store,
+        Err(fault) => return Err(RunFault::Car(fault)),
+    };
+    let job = root_job(alloc, root)?;
+    let writers = vec![in alloc; Vec::new(alloc)]?;
+    let mut check = ShaCheck::new(alloc);
+    // A vector takes what it is given while there is memory.
+    let Ok((results, mut writers)) = run_jobs(
+        alloc,
+        &store,
+        slice::from_ref(&job),
+        writers,
+        &mut check,
+    ) else {
+        return Err(RunFault::Memory);
+    };
+    if !is_whole(results.as_slice()) {
+        return Err(RunFault::Memory);
+    }
+    match writers.pop() {
+        Some(archive) => Ok(archive),
+        None => Err(RunFault::Memory),
+    }
+}
+
+// Whether one job was walked to its end or to its limit, and all was written.
+fn is_whole(results: &[JobResult]) -> bool
+    ensures { result ≡ is_whole results.now }
+{
+    match results {
+        [result] => matches!(result.end, End::Done | End::Limit),
+        _ => false,
+    }
+}
+
+// The job of a root: the matcher, and one visit.
+fn root_job(alloc: Global, root: Cid) -> Result<Job, RunFault>
+    ensures job { IfOk result (λ job. job ≡ root_job root) }
+    ensures memory { IfErr result (λ fault. fault ≡ Memory) }
+{
+    let name = String::from_str(alloc, "root")?;
+    let selector = matcher(alloc)?;
+    // The name and the limit are those of a job.
+    match Job::new(name, root, selector, 1) {
+        Ok(job) => Ok(job),
+        Err(_) => Err(RunFault::Memory),
+    }
+}
+
+// The selector that enters the root alone.
+fn matcher(alloc: Global) -> Result<Selector, RunFault>
+    ensures selector { IfOk result (λ selector. selector ≡ matcher) }
+    ensures memory { IfErr result (λ fault. fault ≡ Memory) }
+{
+    // The bytes spell a selector, so only memory can be refused.
+    let Ok(tree) = decode(alloc, MATCHER) else {
+        return Err(RunFault::Memory);
+    };
+    match Selector::read(alloc, &tree) {
+        Ok(selector) => Ok(selector),
+        Err(_) => Err(RunFault::Memory),
+    }
+}
