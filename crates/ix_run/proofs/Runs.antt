@@ -1,7 +1,7 @@
 -- What a run leaves of each job, from what its sink was told.
 use Rattle.std.proofs.Common.{◌≡◌, ℕ, suc, ◌+◌, take, drop, List, [], ◌∷◌, ◌++◌, refl, sym, ◌∙◌, ap, subst, map, length, inl, inr}
 use Rattle.std.specs.Prelude.{Option, Some, None}
-use Rattle.std.specs.Io.KnownBytes.{Keeps}
+use Rattle.std.specs.Io.KnownBytes as known
 use Rattle.ix_walk.specs.Store.{Blocks}
 use Rattle.ix_walk.specs.JobMeaning.{JobMeaning}
 use Rattle.ix_car.specs.declared.sink.Delivery.{Delivery}
@@ -13,7 +13,7 @@ use Rattle.ix_car.specs.ArchiveMeaning.{ArchiveMeaning, HasArchived, HasWritten,
 use Rattle.ix_car.specs.Archived.{IsArchived}
 use Rattle.ix_car.specs.Report.{counts_of}
 use Rattle.ix_jobs.specs.declared.outcome.JobResult.{JobResult}
-use Rattle.ix_pipeline.specs.Headline.{EachDelivered, EachArchived, EachKept, EachFresh}
+use Rattle.ix_pipeline.specs.Headline.{EachDelivered, EachArchived, Keeps, EachKept, EachFresh}
 use Rattle.std.proofs.Math.Seq.{take-append_seam}
 use Rattle.ix_run.specs.Run.{IsEndOf, IsRun, EachRun, EachBegun, IsEnded, EachEnded}
 use Rattle.ix_run.proofs.Told.{deliveries_of-told, same_deliveries}
@@ -31,7 +31,7 @@ some_same : (a b : List ℕ) → ◌≡◌ {A = Option (List ℕ)} (Some a) (Som
 some_same a b h = cc
 
 -- bytes that are told stay told
-keeps_told : (old new : Option (List ℕ)) (bytes : List ℕ) → Keeps old new → old ≡ Some bytes → new ≡ Some bytes
+keeps_told : (old new : Option (List ℕ)) (bytes : List ℕ) → known.Keeps old new → old ≡ Some bytes → new ≡ Some bytes
 keeps_told None new bytes h e = absurd cc
 keeps_told (Some xs) None bytes h e = absurd h
 keeps_told (Some xs) (Some ys) bytes h e = ap (λ l. Some l) (h ∙ some_same xs bytes e)
@@ -42,23 +42,23 @@ tells told store root ds [] h = (_, h)
 tells told store root ds (d ∷ more) h = (h.0, h.1)
 
 -- the number of bytes is that of the bytes that are told in the end
-count_kept : (old new : Option (List ℕ)) (taken : ℕ) (bytes : List ℕ) → Keeps old new → old ≡ Some bytes → IsCountOf taken old → IsCountOf taken new
+count_kept : (old new : Option (List ℕ)) (taken : ℕ) (bytes : List ℕ) → known.Keeps old new → old ≡ Some bytes → IsCountOf taken old → IsCountOf taken new
 count_kept old new taken bytes keeps e counts more h =
     let same : bytes ≡ more = some_same bytes more (sym (keeps_told old new bytes keeps e) ∙ h) in
     counts more (e ∙ ap (λ l. Some l) same)
 
 module _ {W : Type 0} (told : W → Option (List ℕ)) where
   pub one_run : (store : Blocks) (n : ℕ) (job : JobMeaning) (before after : W) (first last : ArchiveMeaning W) (end : End) (result : JobResult)
-      → (told before ≡ Some [] → HasArchived told first store job) → IsFaithful store n job end (events_of last) last.failed → IsArchived store n job end (events_of last) last.failed
-      → (HasArchived told first store job → HasArchived told last store job) → IsEnded told last end result after → IsRun told store n job before result after
+      → HasArchived told first store job (told before) → IsFaithful store n job end (events_of last) last.failed → IsArchived store n job end (events_of last) last.failed
+      → Keeps (HasArchived told) first last → IsEnded told last end result after → IsRun told store n job before result after
   one_run store n job before after first last end result fresh faithful archived kept ended =
       let ds = last.deliveries in
       let same : ds ≡ _ = same_deliveries ds last.closed _ end faithful.told in
       let shown : events_of last ≡ map delivery ds ++ close end ∷ [] = faithful.told ∙ ap (λ l. map delivery l ++ close end ∷ []) (sym same) in
       let of_events : deliveries_of (events_of last) ≡ ds = deliveries_of-told ds last.closed in
-      let fact : told before ≡ Some [] → HasArchived told last store job = λ h. kept (fresh h) in
+      let fact : HasArchived told last store job (told before) = kept store job (told before) fresh in
       let wrote : (h : told before ≡ Some []) → HasWritten (told last.writer) store job.root (deliveries_of (events_of last)) last.failed =
-      λ h. subst (λ l. HasWritten (told last.writer) store job.root l last.failed) (sym of_events) (fact h).written in
+      λ h. subst (λ l. HasWritten (told last.writer) store job.root l last.failed) (sym of_events) (fact.written h) in
       record {
         end = end;
         delivered = ds;
@@ -67,18 +67,17 @@ module _ {W : Type 0} (told : W → Option (List ℕ)) where
         faithful = subst (λ l. IsFaithful store n job end l last.failed) shown faithful;
         ended = ended.ended;
         skips = ended.skips;
-        visits = ap (λ c. c.visits) ended.counts;
-        kept = ap (λ c. c.kept) ended.counts;
-        counts = λ h.
-            let some = tells (told last.writer) store job.root ds last.failed (fact h).written in
-            (ended.counts ∙ ap (λ s. counts_of s ds last.taken) (fact h).same_store, count_kept (told last.writer) (told after) last.taken some.0 ended.flushed some.1 (fact h).counted);
+        counts = ended.counts ∙ ap (λ s. counts_of s ds last.taken) fact.same_store;
+        counted = λ h.
+            let some = tells (told last.writer) store job.root ds last.failed (fact.written h) in
+            count_kept (told last.writer) (told after) last.taken some.0 ended.flushed some.1 (fact.counted h);
         written = λ h.
-            let some = tells (told last.writer) store job.root ds last.failed (fact h).written in
+            let some = tells (told last.writer) store job.root ds last.failed (fact.written h) in
             let same_told : told last.writer ≡ told after = some.1 ∙ sym (keeps_told (told last.writer) (told after) some.0 ended.flushed some.1) in
-            subst (λ o. HasWritten o store job.root ds last.failed) same_told (fact h).written;
+            subst (λ o. HasWritten o store job.root ds last.failed) same_told (fact.written h);
         whole = λ h done. keeps_told (told last.writer) (told after) _ ended.flushed (archived.whole (done_is_done end result.end ended.ended done) (told last.writer) (wrote h));
         beginning = λ h bytes shows.
-            let some = tells (told last.writer) store job.root ds last.failed (fact h).written in
+            let some = tells (told last.writer) store job.root ds last.failed (fact.written h) in
             let same_bytes : some.0 ≡ bytes = some_same some.0 bytes (sym (keeps_told (told last.writer) (told after) some.0 ended.flushed some.1) ∙ shows) in
             archived.beginning bytes (subst (λ o. HasWritten o store job.root (deliveries_of (events_of last)) last.failed) (some.1 ∙ ap (λ l. Some l) same_bytes) (wrote h));
       }
@@ -106,11 +105,11 @@ module _ {W : Type 0} (told : W → Option (List ℕ)) where
   runs store n (j ∷ js) (b ∷ bs) [] (a ∷ xs) (l ∷ ls) (e ∷ es) (r ∷ rs) begun delivered archived kept ended = absurd ended
   runs store n (j ∷ js) (b ∷ bs) (w ∷ ws) (a ∷ xs) (l ∷ ls) (e ∷ es) [] begun delivered archived kept ended = absurd ended
   runs store n (j ∷ js) (b ∷ bs) (w ∷ ws) (a ∷ xs) (l ∷ ls) (e ∷ es) (r ∷ rs) begun delivered archived kept ended =
-      (one_run store n j b w a l e r begun.0.1 delivered.0 archived.0 (kept.0 store j) ended.0, runs store (n + 1) js bs ws xs ls es rs begun.1 delivered.1 archived.1 kept.1 ended.1)
+      (one_run store n j b w a l e r begun.0.1 delivered.0 archived.0 kept.0 ended.0, runs store (n + 1) js bs ws xs ls es rs begun.1 delivered.1 archived.1 kept.1 ended.1)
 
   -- an archive more
   pub EachBegun-more : (store : Blocks) (jobs : List JobMeaning) (writers : List W) (archives : List (ArchiveMeaning W)) (job : JobMeaning) (writer : W) (archive : ArchiveMeaning W)
-      → EachBegun told store jobs writers archives → IsBegun archive store job.root → (told writer ≡ Some [] → HasArchived told archive store job)
+      → EachBegun told store jobs writers archives → IsBegun archive store job.root → HasArchived told archive store job (told writer)
       → EachBegun told store (jobs ++ job ∷ []) (writers ++ writer ∷ []) (archives ++ archive ∷ [])
   EachBegun-more store [] [] [] job writer archive so_far begun fact = ((begun, fact), tt)
   EachBegun-more store [] [] (a ∷ xs) job writer archive so_far begun fact = absurd so_far

@@ -11,8 +11,7 @@ use Rattle.ix_car.specs.Faithful.{IsFaithful}
 use Rattle.ix_car.specs.Archive.{archive_of}
 use Rattle.ix_car.specs.ArchiveMeaning.{ArchiveMeaning, HasArchived, HasWritten, IsBegun, IsCountOf}
 use Rattle.ix_car.specs.Archived.{IsBeginning}
-use Rattle.ix_car.specs.Kept as cut
-use Rattle.ix_car.specs.Report.{skips_of, counts_of, at_most}
+use Rattle.ix_car.specs.Report.{skips_of, counts_of}
 use Rattle.ix_jobs.specs.declared.outcome.JobResult.{JobResult}
 use Rattle.ix_jobs.specs.Report.{report_of, status_of}
 use Rattle.ix_run.specs.declared.fault.RunFault.{RunFault}
@@ -27,7 +26,7 @@ IsEndOf ends.Memory told = told ≡ ends.Memory
 IsEndOf ends.Write told = told ≡ ends.Write
 IsEndOf ends.Start told = told ≡ ends.Start
 
--- What a run told of the job with this number, and what its writer tells, where it told nothing at first.
+-- What a run told of the job with this number, and what its writer tells, where it told at first that it had no bytes.
 pub record IsRun {W : Type 0} (told : W → Option (List ℕ)) (store : Blocks) (number : ℕ) (job : JobMeaning) (before : W) (result : JobResult) (after : W) : Type 0 where
   -- the end of the close, the visits that were delivered with their verdicts, and the failed ones
   pub end : End
@@ -37,9 +36,9 @@ pub record IsRun {W : Type 0} (told : W → Option (List ℕ)) (store : Blocks) 
   pub faithful : IsFaithful store number job end (map delivery delivered ++ close end ∷ []) failed
   pub ended : IsEndOf end result.end
   pub skips : result.skips.items ≡ skips_of delivered
-  pub visits : result.counts.visits ≡ at_most 32 (length delivered)
-  pub kept : result.counts.kept ≡ at_most 32 (length (cut.kept delivered))
-  pub counts : told before ≡ Some [] → (result.counts ≡ counts_of store delivered taken) × IsCountOf taken (told after)
+  pub counts : result.counts ≡ counts_of store delivered taken
+  -- the bytes that were counted are those of the writer
+  pub counted : told before ≡ Some [] → IsCountOf taken (told after)
   -- the writer has the archive of what was delivered, or after a failed write a part of it
   pub written : told before ≡ Some [] → HasWritten (told after) store job.root delivered failed
   pub whole : told before ≡ Some [] → result.end ≡ ends.Done → told after ≡ Some (archive_of store number job)
@@ -55,7 +54,7 @@ module _ {W : Type 0} (told : W → Option (List ℕ)) where
   -- an archive for each job and its writer, told nothing so far
   abbrev pub EachBegun : Blocks → List JobMeaning → List W → List (ArchiveMeaning W) → Type 0
   EachBegun store [] [] [] = Unit {0}
-  EachBegun store (j ∷ js) (w ∷ ws) (a ∷ xs) = (IsBegun a store j.root × (told w ≡ Some [] → HasArchived told a store j)) × EachBegun store js ws xs
+  EachBegun store (j ∷ js) (w ∷ ws) (a ∷ xs) = (IsBegun a store j.root × HasArchived told a store j (told w)) × EachBegun store js ws xs
   EachBegun store js ws xs = ⊥
 
   -- what was told of an archive, and its writer, which was flushed
