@@ -15,10 +15,7 @@ pub fn root_of_text(alloc: Global, text: &str) -> Result<Cid, RunFault>
     ensures root { IfOk result (λ cid. cid_of_text text.now ≡ Ok cid) }
     ensures refused { IfErr result (λ fault. IsTextRefusal text.now fault) }
 {
-    match Cid::from_text(alloc, text) {
-        Ok(cid) => Ok(cid),
-        Err(fault) => Err(RunFault::Root(fault)),
-    }
+    Ok(Cid::from_text(alloc, text)?)
 }
 
 /// What the command prints: the archive of the root, out of a CARv1 file in hexadecimal, in

@@ -54,6 +54,39 @@ impl<T: Drop> From<AllocFailed<T>> for RunFault {
     }
 }
 
+impl From<CidFault> for RunFault {
+    ghost use Rattle.std.specs.Prelude.{◌≡◌};
+    ghost use Rattle.ix_run.specs.declared.fault.RunFault.TheVariants.{Root};
+
+    ghost from_gives = { λ fault e. e ≡ Root fault };
+
+    fn from(fault: CidFault) -> RunFault {
+        RunFault::Root(fault)
+    }
+}
+
+impl From<CarFault> for RunFault {
+    ghost use Rattle.std.specs.Prelude.{◌≡◌};
+    ghost use Rattle.ix_run.specs.declared.fault.RunFault.TheVariants.{Car};
+
+    ghost from_gives = { λ fault e. e ≡ Car fault };
+
+    fn from(fault: CarFault) -> RunFault {
+        RunFault::Car(fault)
+    }
+}
+
+impl From<JobsFault> for RunFault {
+    ghost use Rattle.std.specs.Prelude.{◌≡◌};
+    ghost use Rattle.ix_run.specs.declared.fault.RunFault.TheVariants.{Jobs};
+
+    ghost from_gives = { λ fault e. e ≡ Jobs fault };
+
+    fn from(fault: JobsFault) -> RunFault {
+        RunFault::Jobs(fault)
+    }
+}
+
 /// The line that the program prints for a refusal, without its end.
 pub fn fault_line(alloc: Global, fault: &RunFault) -> Result<String, AllocError>
     ensures { IfOk result (λ line. string_bytes line ≡ line_of fault.now) }

@@ -25,13 +25,7 @@ pub fn prepare(
     ensures few { IfOk result (λ p. length (arc_value p.1).items ≤ 1000) }
     ensures refused { IfErr result (λ fault. IsPrepareRefusal car.now jobs.now fault) }
 {
-    let store = match read_car(alloc, car) {
-        Ok(store) => store,
-        Err(fault) => return Err(RunFault::Car(fault)),
-    };
-    let jobs = match read_jobs(alloc, jobs) {
-        Ok(jobs) => jobs,
-        Err(fault) => return Err(RunFault::Jobs(fault)),
-    };
+    let store = read_car(alloc, car)?;
+    let jobs = read_jobs(alloc, jobs)?;
     Ok((Arc::new(alloc, store)?, Arc::new(alloc, jobs)?))
 }

@@ -26,10 +26,7 @@ pub fn export_root(alloc: Global, car: &[u8], root: Cid) -> Result<Vec<u8>, RunF
     ensures archive { IfOk result (λ archive. exported_from car.now root ≡ Ok archive.items) }
     ensures refused { IfErr result (λ fault. IsRefusalOf car.now fault) }
 {
-    let store = match read_car(alloc, car) {
-        Ok(store) => store,
-        Err(fault) => return Err(RunFault::Car(fault)),
-    };
+    let store = read_car(alloc, car)?;
     let job = root_job(alloc, root)?;
     let writers = vec![in alloc; Vec::new(alloc)]?;
     let mut check = ShaCheck::new(alloc);

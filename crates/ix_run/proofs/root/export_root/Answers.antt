@@ -6,7 +6,7 @@ use Rattle.ix_run.proofs.root.export_root.Goals as goal
 
 pub returns-in-Some-clause-archive : goal.returns-in-Some-clause-archive
 returns-in-Some-clause-archive c =
-    exported_by (λ (v : Vec ℕ Global). Some v.items) c.args.car.now c.args.root c.in-Ok.store c.in_ok-job.job c.from_ref.result.now c.new.result c.in_ok-writers.writers.items
-    c.in-Ok-run_jobs.writers.items c.pop.new.self.items c.in-Some.archive c.in-Ok-run_jobs.results.items c.in-Some.archive.items c.from_ref.ensures.value c.in_ok-writers.ensures.items c.in-Ok.ensures
-    c.in_ok-job.ensures.job (ap (λ l. Some l) c.new.ensures.items) c.in-Ok-run_jobs.ensures.ran (ap is_whole (sym c.as_slice.ensures.value) ∙ sym c.is_whole.ensures ∙ c.if-not-is_whole.false)
+    exported_by (λ (v : Vec ℕ Global). Some v.items) c.args.car.now c.args.root c.in_ok-store.store c.in_ok-job.job c.from_ref.result.now c.new.result c.in_ok-writers.writers.items
+    c.in-Ok.writers.items c.pop.new.self.items c.in-Some.archive c.in-Ok.results.items c.in-Some.archive.items c.from_ref.ensures.value c.in_ok-writers.ensures.items c.in_ok-store.ensures
+    c.in_ok-job.ensures.job (ap (λ l. Some l) c.new.ensures.items) c.in-Ok.ensures.ran (ap is_whole (sym c.as_slice.ensures.value) ∙ sym c.is_whole.ensures ∙ c.if-not-is_whole.false)
     c.in-Some.ensures.items refl
