@@ -66,34 +66,35 @@ bytes_of_letters-eight (a ∷ b ∷ c ∷ d ∷ e ∷ f ∷ []) more h = absurd 
 bytes_of_letters-eight (a ∷ b ∷ c ∷ d ∷ e ∷ f ∷ g ∷ []) more h = absurd (omega arith)
 
 -- A quantum of n bytes, where j are missing, has l letters, where k are missing. The letters hold g times the number of the bytes.
-record IsQuantum (n j l k g : ℕ) : Type 0 where
-  bytes : n + j ≡ 5
-  letters : (8 * n + 4) / 5 ≡ l
-  missing : l + k ≡ 8
-  back : 5 * l / 8 ≡ n
-  shift : 256 ^ j ≡ g * 32 ^ k
-  fits : 256 ^ n * g ≡ 32 ^ l
-  some : 0 < g
+pub record IsQuantum (n j l k g : ℕ) : Type 0 where
+  pub bytes : n + j ≡ 5
+  pub letters : (8 * n + 4) / 5 ≡ l
+  pub missing : l + k ≡ 8
+  pub back : 5 * l / 8 ≡ n
+  pub shift : 256 ^ j ≡ g * 32 ^ k
+  pub fits : 256 ^ n * g ≡ 32 ^ l
+  pub left : 2 ^ (5 * l % 8) ≡ g
+  pub some : 0 < g
 
-one : IsQuantum 1 4 2 6 4
-one = record { bytes = refl; letters = refl; missing = refl; back = refl; shift = refl; fits = refl; some = omega arith }
+pub one : IsQuantum 1 4 2 6 4
+one = record { bytes = refl; letters = refl; missing = refl; back = refl; shift = refl; fits = refl; left = refl; some = omega arith }
 
-two : IsQuantum 2 3 4 4 16
-two = record { bytes = refl; letters = refl; missing = refl; back = refl; shift = refl; fits = refl; some = omega arith }
+pub two : IsQuantum 2 3 4 4 16
+two = record { bytes = refl; letters = refl; missing = refl; back = refl; shift = refl; fits = refl; left = refl; some = omega arith }
 
-three : IsQuantum 3 2 5 3 2
-three = record { bytes = refl; letters = refl; missing = refl; back = refl; shift = refl; fits = refl; some = omega arith }
+pub three : IsQuantum 3 2 5 3 2
+three = record { bytes = refl; letters = refl; missing = refl; back = refl; shift = refl; fits = refl; left = refl; some = omega arith }
 
-four : IsQuantum 4 1 7 1 8
-four = record { bytes = refl; letters = refl; missing = refl; back = refl; shift = refl; fits = refl; some = omega arith }
+pub four : IsQuantum 4 1 7 1 8
+four = record { bytes = refl; letters = refl; missing = refl; back = refl; shift = refl; fits = refl; left = refl; some = omega arith }
 
-five : IsQuantum 5 0 8 0 1
-five = record { bytes = refl; letters = refl; missing = refl; back = refl; shift = refl; fits = refl; some = omega arith }
+pub five : IsQuantum 5 0 8 0 1
+five = record { bytes = refl; letters = refl; missing = refl; back = refl; shift = refl; fits = refl; left = refl; some = omega arith }
 
 -- one quantum of bytes
 module _ (n j l k g : ℕ) (q : IsQuantum n j l k g) (b : List ℕ) (size : length b ≡ n) (are : AreBytes b) where
   -- its letters are the digits of a number below the power of 32 at their number
-  spelled : quantum b ≡ map letter (digits_in 32 l (number_in 256 0 b * g))
+  pub spelled : quantum b ≡ map letter (digits_in 32 l (number_in 256 0 b * g))
   spelled =
       let same : number_in 256 0 b * 256 ^ j ≡ number_in 256 0 b * g * 32 ^ k = omega (arith, ap (λ (x : ℕ). number_in 256 0 b * x) q.shift) in
       let some : 0 < 32 ^ k = one-le-pow k 32 (omega arith) in
@@ -102,27 +103,30 @@ module _ (n j l k g : ℕ) (q : IsQuantum n j l k g) (b : List ℕ) (size : leng
       ∙ ap (λ (x : ℕ). map letter (digits_in 32 l x)) (mul-div_cancel (number_in 256 0 b * g) some)
 
   -- they are as many as are needed
-  length-quantum : length (quantum b) ≡ l
+  pub length-quantum : length (quantum b) ≡ l
   length-quantum =
       ap length spelled ∙ length-map (digits_in 32 l (number_in 256 0 b * g)) letter ∙ length-digits_in 32 l (number_in 256 0 b * g)
+
+  -- they spell so many times the number of the bytes
+  pub number_in-quantum : number_in 32 0 (map bits_of_letter (quantum b)) ≡ number_in 256 0 b * g
+  number_in-quantum =
+      let number = number_in 256 0 b in
+      let ds = digits_in 32 l (number * g) in
+      let below : number < 256 ^ n = subst (λ x. number < 256 ^ x) size (number_in-lt 256 b are) in
+      let small : number * g < 32 ^ l = subst (λ x. number * g < x) q.fits (mul-lt-mul_of_pos_right below q.some) in
+      ap (λ (x : List ℕ). number_in 32 0 (map bits_of_letter x)) spelled
+      ∙ ap (number_in 32 0) (bits_of_letters ds (digits_in-below 32 l (number * g) (omega arith)))
+      ∙ number_in-digits_in 32 l (number * g) (omega arith)
+      ∙ mod-eq_of_lt small
 
   -- and are read as the bytes
   bytes_of_quantum-quantum : bytes_of_quantum (quantum b) ≡ b
   bytes_of_quantum-quantum =
       let number = number_in 256 0 b in
-      let ds = digits_in 32 l (number * g) in
-      let below : number < 256 ^ n = subst (λ x. number < 256 ^ x) size (number_in-lt 256 b are) in
-      let small : number * g < 32 ^ l = subst (λ x. number * g < x) q.fits (mul-lt-mul_of_pos_right below q.some) in
-      let bits : number_in 32 0 (map bits_of_letter (map letter ds)) ≡ number * g =
-      ap (number_in 32 0) (bits_of_letters ds (digits_in-below 32 l (number * g) (omega arith)))
-      ∙ number_in-digits_in 32 l (number * g) (omega arith)
-      ∙ mod-eq_of_lt small in
-      let count : length (map letter ds) ≡ l = length-map ds letter ∙ length-digits_in 32 l (number * g) in
       let again : number * g * 32 ^ k ≡ number * 256 ^ j = omega (arith, ap (λ (x : ℕ). number * x) q.shift) in
       let some : 0 < 256 ^ j = one-le-pow j 256 (omega arith) in
-      ap bytes_of_quantum spelled
-      ∙ bytes_of_quantum-digits (map letter ds) n j k (ap (λ (x : ℕ). 5 * x / 8) count ∙ q.back) q.bytes (omega (arith, q.missing))
-      ∙ ap (λ (x : ℕ). digits_in 256 n (x * 32 ^ k / 256 ^ j)) bits
+      bytes_of_quantum-digits (quantum b) n j k (ap (λ (x : ℕ). 5 * x / 8) length-quantum ∙ q.back) q.bytes (omega (arith, length-quantum, q.missing))
+      ∙ ap (λ (x : ℕ). digits_in 256 n (x * 32 ^ k / 256 ^ j)) number_in-quantum
       ∙ ap (λ (x : ℕ). digits_in 256 n (x / 256 ^ j)) again
       ∙ ap (λ (x : ℕ). digits_in 256 n x) (mul-div_cancel number some)
       ∙ ap (λ (x : ℕ). digits_in 256 x number) (sym size)
@@ -148,7 +152,7 @@ bytes_of_letters-base32_of (a ∷ b ∷ c ∷ d ∷ e ∷ more) are =
     ∙ ap (λ (x : List ℕ). first ++ x) (bytes_of_letters-base32_of more behind)
 
 -- Fewer than five bytes are one quantum.
-base32_of-short : (b : List ℕ) → length b < 5 → base32_of b ≡ quantum b
+pub base32_of-short : (b : List ℕ) → length b < 5 → base32_of b ≡ quantum b
 base32_of-short [] h = refl
 base32_of-short (a ∷ []) h = refl
 base32_of-short (a ∷ b ∷ []) h = refl
@@ -157,7 +161,7 @@ base32_of-short (a ∷ b ∷ c ∷ d ∷ []) h = refl
 base32_of-short (a ∷ b ∷ c ∷ d ∷ e ∷ more) h = absurd (omega arith)
 
 -- Five bytes are one quantum, and the others follow.
-base32_of-five : (b more : List ℕ) → length b ≡ 5 → base32_of (b ++ more) ≡ quantum b ++ base32_of more
+pub base32_of-five : (b more : List ℕ) → length b ≡ 5 → base32_of (b ++ more) ≡ quantum b ++ base32_of more
 base32_of-five (a ∷ b ∷ c ∷ d ∷ e ∷ []) more h = refl
 base32_of-five (a ∷ b ∷ c ∷ d ∷ e ∷ f ∷ rest) more h = absurd (omega arith)
 base32_of-five [] more h = absurd (omega arith)
