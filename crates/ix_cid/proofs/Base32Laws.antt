@@ -1,22 +1,24 @@
 -- Base32: letters are that of bytes exactly under the three conditions.
-use Rattle.std.proofs.Common.{◌≡◌, ◌≢◌, ◌⊎◌, ℕ, suc, ◌+◌, ◌-◌, ◌*◌, ◌/◌, ◌%◌, ◌^◌, ◌<◌, ◌≤◌, Bool, true, false, List, [], ◌∷◌, ◌++◌, length, take, drop, map, Result, Ok, Err, refl, sym, ap, ◌∙◌, subst, inl, inr, ⊎_elim, arith}
+use Rattle.std.proofs.Common.{◌≡◌, ◌≢◌, ◌⊎◌, ℕ, ◌+◌, ◌-◌, ◌*◌, ◌/◌, ◌%◌, ◌^◌, ◌<◌, ◌≤◌, Bool, true, false, List, [], ◌∷◌, ◌++◌, length, take, drop, map, min, Result, Ok, Err, refl, sym, ap, ◌∙◌, subst, inl, inr, ⊎_elim, arith}
 use Rattle.std.specs.Prelude.{bytes_eq, if◌then◌else◌}
 use Rattle.std.specs.List.{All}
-use Rattle.std.proofs.lemmas.List.{length-map, length-append, map-append, take_at, drop_at}
-use Rattle.std.proofs.lemmas.List.Elements.{All-head, All-tail, All-nil, All-cons, All-take, All-drop, All-append, All-same, All-map, All-weaker}
-use Rattle.std.proofs.lemmas.Bool.{cases_Bool}
+use Rattle.std.proofs.lemmas.List.{length-map, length-append, map-append, append-nil, append_assoc, take_at, drop_at, take_all, drop_all, take-append-drop, length-take-le}
+use Rattle.std.proofs.lemmas.List.Elements.{All-head, All-tail, All-nil, All-take, All-drop, All-append, All-same, All-map, All-weaker}
+use Rattle.std.proofs.lemmas.Bool.{cases_Bool, cases_lt}
 use Rattle.std.proofs.lemmas.Bool.Decides.{nat_tests, not_from_Decides}
-use Rattle.std.proofs.lemmas.Nat.{pow-add}
+use Rattle.std.proofs.lemmas.Nat.{pow-add, shl_whole}
 use Rattle.std.proofs.lemmas.Slice.Eq.{bytes_eq-Decides}
 use Rattle.std.proofs.Math.Nat.{mod-eq_of_lt, mod-one, mul-mod_left, mul-add-mod_self_left, div-add-mod, mul-div_cancel, one-le-pow, lt_of_mul-lt-mul_right}
 use Rattle.ix_cid.specs.Bytes.{AreBytes}
+use Rattle.ix_cid.specs.Cid.{◌>>=◌}
 use Rattle.ix_cid.specs.CidText.{letter, bits_of_letter, number_in, digits_in, quantum, bytes_of_quantum, base32_of, bytes_of_letters, bytes_of_base32, IsLetter, IsBase32}
+use Rattle.ix_cid.specs.Gives.{Fails}
 use Rattle.ix_cid.specs.declared.fault.CidFault.{CidFault}
 use Rattle.ix_cid.specs.declared.fault.CidFault.TheVariants.{Base32}
 use Rattle.ix_cid.proofs.Digits.{number_in-split, digits_in-below, digits_in-number_in, length-digits_in, number_in-digits_in, number_in-lt, pow-32}
 use Rattle.ix_cid.proofs.Quanta.{IsQuantum, one, two, three, four, five, bytes_of_quantum-digits, bytes_of_letters-short, bytes_of_letters-eight, base32_of-short, base32_of-five}
 use Rattle.ix_cid.proofs.Quanta as quanta
-use Rattle.ix_cid.proofs.Results.{same_answer}
+use Rattle.ix_cid.proofs.Results.{same_answer, fails_along}
 
 -- ---- letters
 
@@ -213,7 +215,7 @@ pub none : IsBase32 []
 none = record { alphabet = All-nil IsLetter; count = (λ e. omega arith, λ e. omega arith, λ e. omega arith); nothing_left = refl }
 
 -- the base32 of bytes is base32
-is_base32 : (b : List ℕ) → AreBytes b → IsBase32 (base32_of b)
+pub is_base32 : (b : List ℕ) → AreBytes b → IsBase32 (base32_of b)
 is_base32 [] are = none
 is_base32 (a ∷ []) are = is_base32-quantum 1 4 2 6 4 one (λ e. omega arith, λ e. omega arith, λ e. omega arith) (a ∷ []) refl are
 is_base32 (a ∷ b ∷ []) are = is_base32-quantum 2 3 4 4 16 two (λ e. omega arith, λ e. omega arith, λ e. omega arith) (a ∷ b ∷ []) refl are
@@ -272,3 +274,121 @@ read-only letters b h =
 -- what is refused isn't
 pub refused-only : (letters : List ℕ) → bytes_of_base32 letters ≡ Err Base32 → ¬ IsBase32 letters
 refused-only letters h is = let never : ◌≡◌ {A = Result (List ℕ) CidFault} (Ok (bytes_of_letters letters)) (Err Base32) = sym (read-is letters is) ∙ h in absurd cc
+
+-- ---- one quantum that is read
+
+-- two to the number of the bits left over
+power-left : (s : List ℕ) → 1 * 2 ^ (5 * length s % 8) % 2 ^ 64 ≡ 2 ^ (5 * length s % 8)
+power-left s = shl_whole 1 1 (5 * length s % 8) 64 (omega arith) (omega arith) ∙ omega arith
+
+-- where the bits left over aren't 0, the letters aren't base32
+pub some_left : (s : List ℕ) (number : ℕ) → number ≡ number_in 32 0 (map bits_of_letter s) → (number % (1 * 2 ^ (5 * length s % 8) % 2 ^ 64) ≡ 0 → ⊥) → ¬ IsBase32 s
+some_left s number is some h =
+    some (ap (λ (x : ℕ). number % x) (power-left s) ∙ ap (λ (x : ℕ). x % 2 ^ (5 * length s % 8)) is ∙ h.nothing_left)
+
+-- letters of the alphabet, as many as whole bytes need, with no bits left over
+pub from_tests : (s : List ℕ) (number : ℕ) → All IsLetter s → number ≡ number_in 32 0 (map bits_of_letter s) → (length s % 8 ≢ 1) × (length s % 8 ≢ 3) × (length s % 8 ≢ 6) → number % (1 * 2 ^ (5 * length s % 8) % 2 ^ 64) ≡ 0 → IsBase32 s
+from_tests s number are is count left = record {
+  alphabet = are;
+  count = count;
+  nothing_left = ap (λ (x : ℕ). x % 2 ^ (5 * length s % 8)) (sym is) ∙ ap (λ (x : ℕ). number % x) (sym (power-left s)) ∙ left;
+}
+
+-- at most eight letters are one quantum
+one-quantum : (s : List ℕ) → length s ≤ 8 → bytes_of_letters s ≡ bytes_of_quantum s
+one-quantum s most =
+    ⊎_elim
+    (λ (few : length s < 8). bytes_of_letters-short s few)
+    (λ (many : 8 ≤ length s).
+    ap bytes_of_letters (sym (append-nil s)) ∙ bytes_of_letters-eight s [] (omega arith) ∙ append-nil (bytes_of_quantum s))
+    (cases_lt (length s) 8)
+
+-- what isn't base32 is refused, whatever stands in front
+pub refused-behind : (old s : List ℕ) → ¬ IsBase32 s → (bytes_of_base32 s >>= (λ more. Ok (old ++ more))) ≡ Err Base32
+refused-behind old s h = let next : Result (List ℕ) CidFault → Result (List ℕ) CidFault = λ r. r >>= (λ more. Ok (old ++ more)) in ap next (refused s h)
+
+-- the bytes of a quantum are pushed
+pub pushed : (old new s : List ℕ) (number : ℕ) → length s ≤ 8 → IsBase32 s → number ≡ number_in 32 0 (map bits_of_letter s) → new ≡ old ++ take (5 * length s / 8) (digits_in 256 5 (number * 2 ^ (5 * (8 - length s)) % 2 ^ 64)) → (bytes_of_base32 s >>= (λ more. Ok (old ++ more))) ≡ Ok new
+pushed old new s number most is number-is h =
+    let next : Result (List ℕ) CidFault → Result (List ℕ) CidFault = λ r. r >>= (λ more. Ok (old ++ more)) in
+    let answer : List ℕ → Result (List ℕ) CidFault = λ x. Ok x in
+    let missing = 8 - length s in
+    let ds = map bits_of_letter s in
+    let below : number_in 32 0 ds < 32 ^ length s = subst (λ x. number_in 32 0 ds < 32 ^ x) (length-map s bits_of_letter) (number_in-lt 32 ds (all-below s is.alphabet)) in
+    let small : number < 2 ^ (5 * length s) = omega (arith, below, number-is, pow-32 (length s)) in
+    let bits : number * 2 ^ (5 * missing) % 2 ^ 64 ≡ number_in 32 0 ds * 32 ^ missing =
+    shl_whole number (5 * length s) (5 * missing) 64 small (omega arith)
+    ∙ ap (λ (x : ℕ). number * x) (pow-32 missing)
+    ∙ ap (λ (x : ℕ). x * 32 ^ missing) number-is in
+    ap next (read-is s is)
+    ∙ ap (λ (x : List ℕ). answer (old ++ x)) (one-quantum s most)
+    ∙ ap (λ (x : ℕ). answer (old ++ take (5 * length s / 8) (digits_in 256 5 x))) (sym bits)
+    ∙ ap answer (sym h)
+
+-- ---- one quantum after another
+
+-- what is read behind bytes
+abbrev behind : List ℕ → Result (List ℕ) CidFault → Result (List ℕ) CidFault
+behind old r = r >>= (λ more. Ok (old ++ more))
+
+-- what is read of two parts
+abbrev pub together : Result (List ℕ) CidFault → Result (List ℕ) CidFault → Result (List ℕ) CidFault
+together front rest = front >>= (λ a. rest >>= (λ b. Ok (a ++ b)))
+
+-- eight letters are read, and then the others
+eight : (q more : List ℕ) → length q ≡ 8 → bytes_of_base32 (q ++ more) ≡ together (bytes_of_base32 q) (bytes_of_base32 more)
+eight q more size =
+    let answer : List ℕ → Result (List ℕ) CidFault = λ x. Ok x in
+    let first : Result (List ℕ) CidFault → Result (List ℕ) CidFault = λ r. together r (bytes_of_base32 more) in
+    let second : Result (List ℕ) CidFault → Result (List ℕ) CidFault = λ r. together (Ok (bytes_of_letters q)) r in
+    let one : bytes_of_quantum q ≡ bytes_of_letters q = sym (one-quantum q (omega arith)) in
+    ⊎_elim
+    (λ front.
+    ⊎_elim
+    (λ rest.
+    read-is (q ++ more) (join q more size front.0 rest.0)
+    ∙ ap answer (bytes_of_letters-eight q more size ∙ ap (λ (x : List ℕ). x ++ bytes_of_letters more) one)
+    ∙ sym (ap first front.1 ∙ ap second rest.1))
+    (λ rest. refused (q ++ more) (λ is. rest.0 (split q more size is).1) ∙ sym (ap first front.1 ∙ ap second rest.1))
+    (read more))
+    (λ front. refused (q ++ more) (λ is. front.0 (split q more size is).0) ∙ sym (ap first front.1))
+    (read q)
+
+-- nothing follows
+together-none : (r : Result (List ℕ) CidFault) → r ≡ together r (bytes_of_base32 [])
+together-none (Ok a) = let answer : List ℕ → Result (List ℕ) CidFault = λ x. Ok x in ap answer (sym (append-nil a))
+together-none (Err e) = refl
+
+-- one quantum of letters is read, and then the others
+pub step : (n : ℕ) (s : List ℕ) → n ≡ min 8 (length s) → bytes_of_base32 s ≡ together (bytes_of_base32 (take n s)) (bytes_of_base32 (drop n s))
+step n s h =
+    ⊎_elim
+    (λ (few : length s < 8).
+    let all : length s ≤ n = omega arith in
+    together-none (bytes_of_base32 s)
+    ∙ ap (λ (x : List ℕ). together (bytes_of_base32 x) (bytes_of_base32 [])) (sym (take_all n s all))
+    ∙ ap (λ (x : List ℕ). together (bytes_of_base32 (take n s)) (bytes_of_base32 x)) (sym (drop_all n s all)))
+    (λ (many : 8 ≤ length s).
+    let enough : n ≤ length s = omega arith in
+    ap bytes_of_base32 (sym (take-append-drop n s)) ∙ eight (take n s) (drop n s) (length-take-le n s enough ∙ omega arith))
+    (cases_lt (length s) 8)
+
+-- a front is read behind what was, and the rest is still to come
+pub piece-read : (whole left front rest : Result (List ℕ) CidFault) (old new : List ℕ) → whole ≡ behind old left → left ≡ together front rest → behind old front ≡ Ok new → whole ≡ behind new rest
+piece-read whole left (Ok a) (Ok b) old new so_far parts one =
+    let answer : List ℕ → Result (List ℕ) CidFault = λ x. Ok x in
+    so_far
+    ∙ ap (behind old) parts
+    ∙ ap answer (sym (append_assoc old a b) ∙ ap (λ (x : List ℕ). x ++ b) (same_answer (old ++ a) new one))
+piece-read whole left (Ok a) (Err e) old new so_far parts one = so_far ∙ ap (behind old) parts
+piece-read whole left (Err e) rest old new so_far parts one = absurd cc
+
+-- a front that is refused is the fault of the whole
+piece-refused : (whole left front rest : Result (List ℕ) CidFault) (old : List ℕ) (f : CidFault) → whole ≡ behind old left → left ≡ together front rest → behind old front ≡ Err f → whole ≡ Err f
+piece-refused whole left (Ok a) rest old f so_far parts one = absurd cc
+piece-refused whole left (Err e) rest old f so_far parts one = so_far ∙ ap (behind old) parts ∙ one
+
+-- a front that fails is the failure of the whole
+pub piece-fails : (whole left front rest : Result (List ℕ) CidFault) (old : List ℕ) (e : CidFault) → whole ≡ behind old left → left ≡ together front rest → Fails e (behind old front) → Fails e whole
+piece-fails whole left front rest old e so_far parts one =
+    fails_along e (behind old front) whole (λ f h. piece-refused whole left front rest old f so_far parts h) one
