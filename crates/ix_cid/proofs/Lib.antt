@@ -9,5 +9,6 @@ pub mod VarintLaws
 pub mod CidLaws
 pub mod Digits
 pub mod Quanta
+pub mod Base32Laws
 pub mod HexText
 pub mod Texts

@@ -1,12 +1,12 @@
 -- Base32 and back.
-use Rattle.std.proofs.Common.{◌≡◌, ℕ, suc, ◌+◌, ◌-◌, ◌*◌, ◌/◌, ◌%◌, ◌^◌, ◌<◌, ◌≤◌, List, [], ◌∷◌, ◌++◌, length, take, drop, map, min, refl, sym, ap, ◌∙◌, subst, leb, ltb, ⊎_elim, arith}
+use Rattle.std.proofs.Common.{◌≡◌, ℕ, ◌+◌, ◌-◌, ◌*◌, ◌/◌, ◌%◌, ◌^◌, ◌<◌, ◌≤◌, List, [], ◌∷◌, ◌++◌, length, take, drop, map, min, refl, sym, ap, ◌∙◌, subst, ltb, ⊎_elim, arith}
 use Rattle.std.specs.List.{All}
 use Rattle.std.proofs.lemmas.List.{take-map, length-map, append-nil, append_assoc, map_push, take_all, drop_all, take-append-drop, length-take-le}
 use Rattle.std.proofs.lemmas.List.Elements.{All-head, All-tail, All-take, All-drop}
-use Rattle.std.proofs.lemmas.Bool.{cases_lt, leb-false, ltb-true, cond_both}
+use Rattle.std.proofs.lemmas.Bool.{cases_lt, ltb-true, cond_both}
 use Rattle.std.proofs.lemmas.Bool.Decides.{nat_tests}
-use Rattle.std.proofs.lemmas.Nat.{shl_whole, pow-add}
-use Rattle.std.proofs.Math.Nat.{mod-eq_of_lt, mul-div_cancel, mul-lt-mul_of_pos_right, mul-le-mul_right, pow-suc, one-le-pow}
+use Rattle.std.proofs.lemmas.Nat.{shl_whole}
+use Rattle.std.proofs.Math.Nat.{mod-eq_of_lt, mul-div_cancel, mul-lt-mul_of_pos_right, one-le-pow}
 use Rattle.ix_cid.specs.Bytes.{AreBytes}
 use Rattle.ix_cid.specs.CidText.{letter, bits_of_letter, number_in, digits_in, quantum, bytes_of_quantum, base32_of, bytes_of_letters}
 use Rattle.ix_cid.proofs.Digits.{digits_in-below, number_in-lt, digits_in-number_in, length-digits_in, number_in-digits_in, take-digits_in, digits_in-more, pow-32, pow-256}
@@ -66,34 +66,35 @@ bytes_of_letters-eight (a ∷ b ∷ c ∷ d ∷ e ∷ f ∷ []) more h = absurd 
 bytes_of_letters-eight (a ∷ b ∷ c ∷ d ∷ e ∷ f ∷ g ∷ []) more h = absurd (omega arith)
 
 -- A quantum of n bytes, where j are missing, has l letters, where k are missing. The letters hold g times the number of the bytes.
-record IsQuantum (n j l k g : ℕ) : Type 0 where
-  bytes : n + j ≡ 5
-  letters : (8 * n + 4) / 5 ≡ l
-  missing : l + k ≡ 8
-  back : 5 * l / 8 ≡ n
-  shift : 256 ^ j ≡ g * 32 ^ k
-  fits : 256 ^ n * g ≡ 32 ^ l
-  some : 0 < g
+pub record IsQuantum (n j l k g : ℕ) : Type 0 where
+  pub bytes : n + j ≡ 5
+  pub letters : (8 * n + 4) / 5 ≡ l
+  pub missing : l + k ≡ 8
+  pub back : 5 * l / 8 ≡ n
+  pub shift : 256 ^ j ≡ g * 32 ^ k
+  pub fits : 256 ^ n * g ≡ 32 ^ l
+  pub left : 2 ^ (5 * l % 8) ≡ g
+  pub some : 0 < g
 
-one : IsQuantum 1 4 2 6 4
-one = record { bytes = refl; letters = refl; missing = refl; back = refl; shift = refl; fits = refl; some = omega arith }
+pub one : IsQuantum 1 4 2 6 4
+one = record { bytes = refl; letters = refl; missing = refl; back = refl; shift = refl; fits = refl; left = refl; some = omega arith }
 
-two : IsQuantum 2 3 4 4 16
-two = record { bytes = refl; letters = refl; missing = refl; back = refl; shift = refl; fits = refl; some = omega arith }
+pub two : IsQuantum 2 3 4 4 16
+two = record { bytes = refl; letters = refl; missing = refl; back = refl; shift = refl; fits = refl; left = refl; some = omega arith }
 
-three : IsQuantum 3 2 5 3 2
-three = record { bytes = refl; letters = refl; missing = refl; back = refl; shift = refl; fits = refl; some = omega arith }
+pub three : IsQuantum 3 2 5 3 2
+three = record { bytes = refl; letters = refl; missing = refl; back = refl; shift = refl; fits = refl; left = refl; some = omega arith }
 
-four : IsQuantum 4 1 7 1 8
-four = record { bytes = refl; letters = refl; missing = refl; back = refl; shift = refl; fits = refl; some = omega arith }
+pub four : IsQuantum 4 1 7 1 8
+four = record { bytes = refl; letters = refl; missing = refl; back = refl; shift = refl; fits = refl; left = refl; some = omega arith }
 
-five : IsQuantum 5 0 8 0 1
-five = record { bytes = refl; letters = refl; missing = refl; back = refl; shift = refl; fits = refl; some = omega arith }
+pub five : IsQuantum 5 0 8 0 1
+five = record { bytes = refl; letters = refl; missing = refl; back = refl; shift = refl; fits = refl; left = refl; some = omega arith }
 
 -- one quantum of bytes
 module _ (n j l k g : ℕ) (q : IsQuantum n j l k g) (b : List ℕ) (size : length b ≡ n) (are : AreBytes b) where
   -- its letters are the digits of a number below the power of 32 at their number
-  spelled : quantum b ≡ map letter (digits_in 32 l (number_in 256 0 b * g))
+  pub spelled : quantum b ≡ map letter (digits_in 32 l (number_in 256 0 b * g))
   spelled =
       let same : number_in 256 0 b * 256 ^ j ≡ number_in 256 0 b * g * 32 ^ k = omega (arith, ap (λ (x : ℕ). number_in 256 0 b * x) q.shift) in
       let some : 0 < 32 ^ k = one-le-pow k 32 (omega arith) in
@@ -102,27 +103,30 @@ module _ (n j l k g : ℕ) (q : IsQuantum n j l k g) (b : List ℕ) (size : leng
       ∙ ap (λ (x : ℕ). map letter (digits_in 32 l x)) (mul-div_cancel (number_in 256 0 b * g) some)
 
   -- they are as many as are needed
-  length-quantum : length (quantum b) ≡ l
+  pub length-quantum : length (quantum b) ≡ l
   length-quantum =
       ap length spelled ∙ length-map (digits_in 32 l (number_in 256 0 b * g)) letter ∙ length-digits_in 32 l (number_in 256 0 b * g)
+
+  -- they spell so many times the number of the bytes
+  pub number_in-quantum : number_in 32 0 (map bits_of_letter (quantum b)) ≡ number_in 256 0 b * g
+  number_in-quantum =
+      let number = number_in 256 0 b in
+      let ds = digits_in 32 l (number * g) in
+      let below : number < 256 ^ n = subst (λ x. number < 256 ^ x) size (number_in-lt 256 b are) in
+      let small : number * g < 32 ^ l = subst (λ x. number * g < x) q.fits (mul-lt-mul_of_pos_right below q.some) in
+      ap (λ (x : List ℕ). number_in 32 0 (map bits_of_letter x)) spelled
+      ∙ ap (number_in 32 0) (bits_of_letters ds (digits_in-below 32 l (number * g) (omega arith)))
+      ∙ number_in-digits_in 32 l (number * g) (omega arith)
+      ∙ mod-eq_of_lt small
 
   -- and are read as the bytes
   bytes_of_quantum-quantum : bytes_of_quantum (quantum b) ≡ b
   bytes_of_quantum-quantum =
       let number = number_in 256 0 b in
-      let ds = digits_in 32 l (number * g) in
-      let below : number < 256 ^ n = subst (λ x. number < 256 ^ x) size (number_in-lt 256 b are) in
-      let small : number * g < 32 ^ l = subst (λ x. number * g < x) q.fits (mul-lt-mul_of_pos_right below q.some) in
-      let bits : number_in 32 0 (map bits_of_letter (map letter ds)) ≡ number * g =
-      ap (number_in 32 0) (bits_of_letters ds (digits_in-below 32 l (number * g) (omega arith)))
-      ∙ number_in-digits_in 32 l (number * g) (omega arith)
-      ∙ mod-eq_of_lt small in
-      let count : length (map letter ds) ≡ l = length-map ds letter ∙ length-digits_in 32 l (number * g) in
       let again : number * g * 32 ^ k ≡ number * 256 ^ j = omega (arith, ap (λ (x : ℕ). number * x) q.shift) in
       let some : 0 < 256 ^ j = one-le-pow j 256 (omega arith) in
-      ap bytes_of_quantum spelled
-      ∙ bytes_of_quantum-digits (map letter ds) n j k (ap (λ (x : ℕ). 5 * x / 8) count ∙ q.back) q.bytes (omega (arith, q.missing))
-      ∙ ap (λ (x : ℕ). digits_in 256 n (x * 32 ^ k / 256 ^ j)) bits
+      bytes_of_quantum-digits (quantum b) n j k (ap (λ (x : ℕ). 5 * x / 8) length-quantum ∙ q.back) q.bytes (omega (arith, length-quantum, q.missing))
+      ∙ ap (λ (x : ℕ). digits_in 256 n (x * 32 ^ k / 256 ^ j)) number_in-quantum
       ∙ ap (λ (x : ℕ). digits_in 256 n (x / 256 ^ j)) again
       ∙ ap (λ (x : ℕ). digits_in 256 n x) (mul-div_cancel number some)
       ∙ ap (λ (x : ℕ). digits_in 256 x number) (sym size)
@@ -148,7 +152,7 @@ bytes_of_letters-base32_of (a ∷ b ∷ c ∷ d ∷ e ∷ more) are =
     ∙ ap (λ (x : List ℕ). first ++ x) (bytes_of_letters-base32_of more behind)
 
 -- Fewer than five bytes are one quantum.
-base32_of-short : (b : List ℕ) → length b < 5 → base32_of b ≡ quantum b
+pub base32_of-short : (b : List ℕ) → length b < 5 → base32_of b ≡ quantum b
 base32_of-short [] h = refl
 base32_of-short (a ∷ []) h = refl
 base32_of-short (a ∷ b ∷ []) h = refl
@@ -157,7 +161,7 @@ base32_of-short (a ∷ b ∷ c ∷ d ∷ []) h = refl
 base32_of-short (a ∷ b ∷ c ∷ d ∷ e ∷ more) h = absurd (omega arith)
 
 -- Five bytes are one quantum, and the others follow.
-base32_of-five : (b more : List ℕ) → length b ≡ 5 → base32_of (b ++ more) ≡ quantum b ++ base32_of more
+pub base32_of-five : (b more : List ℕ) → length b ≡ 5 → base32_of (b ++ more) ≡ quantum b ++ base32_of more
 base32_of-five (a ∷ b ∷ c ∷ d ∷ e ∷ []) more h = refl
 base32_of-five (a ∷ b ∷ c ∷ d ∷ e ∷ f ∷ rest) more h = absurd (omega arith)
 base32_of-five [] more h = absurd (omega arith)
@@ -188,14 +192,6 @@ module _ (whole piece : List ℕ → List ℕ) (m : ℕ) (none : whole [] ≡ []
 pub base32_of-step : (n : ℕ) (b : List ℕ) → n ≡ min 5 (length b) → base32_of b ≡ quantum (take n b) ++ base32_of (drop n b)
 base32_of-step = by_quanta base32_of quantum 5 refl base32_of-short base32_of-five
 
--- One quantum of letters is read, and the others follow.
-pub bytes_of_letters-step : (n : ℕ) (q : List ℕ) → n ≡ min 8 (length q) → bytes_of_letters q ≡ bytes_of_quantum (take n q) ++ bytes_of_letters (drop n q)
-bytes_of_letters-step = by_quanta bytes_of_letters bytes_of_quantum 8 refl bytes_of_letters-short bytes_of_letters-eight
-
--- What is no letter has few bits too.
-pub bits_of_letter-le : (x : ℕ) → x < 256 → bits_of_letter x ≤ 158
-bits_of_letter-le x h = cond_both (leb 97 x) (x - 97) (x - 24) (λ y. y ≤ 158) (λ e. omega arith) (λ e. omega (arith, leb-false 97 x e))
-
 -- Letters are ASCII.
 pub letter-ascii : (d : ℕ) → letter (d % 32) < 128
 letter-ascii d =
@@ -215,42 +211,12 @@ letters-more bits i h =
     ∙ ap (λ (x : List ℕ). x ++ letter (bits / 32 ^ (7 - i) % 32) ∷ []) (sym (take-map letter i digits))
     ∙ ap (λ (x : ℕ). take i (map letter digits) ++ letter x ∷ []) digit
 
--- The byte at a place is of the eight bits there.
-pub bytes-more : (bits i : ℕ) → i < 5 → take (i + 1) (digits_in 256 5 bits) ≡ take i (digits_in 256 5 bits) ++ (bits / 2 ^ (32 - 8 * i) % 256) ∷ []
-bytes-more bits i h =
-    let place : 32 - 8 * i ≡ 8 * (4 - i) = omega arith in
-    let digit : bits / 256 ^ (4 - i) % 256 ≡ bits / 2 ^ (32 - 8 * i) % 256 =
-    ap (λ (x : ℕ). bits / x % 256) (sym (pow-256 (4 - i)) ∙ ap (λ (x : ℕ). 2 ^ x) (sym place)) in
-    digits_in-more 256 5 bits i (4 - i) (omega arith) ∙ ap (λ (x : ℕ). take i (digits_in 256 5 bits) ++ x ∷ []) digit
-
 -- The bits of at most five bytes fit.
 pub bits_of_bytes : (b : List ℕ) → length b ≤ 5 → AreBytes b → number_in 256 0 b * 2 ^ (8 * (5 - length b)) % 2 ^ 64 ≡ number_in 256 0 b * 256 ^ (5 - length b)
 bits_of_bytes b short are =
     let small : number_in 256 0 b < 2 ^ (8 * length b) = subst (λ x. number_in 256 0 b < x) (sym (pow-256 (length b))) (number_in-lt 256 b are) in
     shl_whole (number_in 256 0 b) (8 * length b) (8 * (5 - length b)) 64 small (omega arith)
     ∙ ap (λ (x : ℕ). number_in 256 0 b * x) (pow-256 (5 - length b))
-
--- Letters, and what stands in their place, spell few bits more than five each.
-pub number_of_letters-le : (n : ℕ) (q : List ℕ) → AreBytes q → number_in 32 n (map bits_of_letter q) + 6 ≤ (n + 6) * 32 ^ length q
-number_of_letters-le n [] are =
-    let one : n + 6 ≤ (n + 6) * 32 ^ 0 = omega arith in
-    one
-number_of_letters-le n (x ∷ q) are =
-    let few : bits_of_letter x ≤ 158 = bits_of_letter-le x (All-head (λ y. y < 2 ^ 8) x q are) in
-    let rest = number_of_letters-le (n * 32 + bits_of_letter x) q (All-tail (λ y. y < 2 ^ 8) x q are) in
-    let more : (n * 32 + bits_of_letter x + 6) * 32 ^ length q ≤ (n + 6) * 32 * 32 ^ length q = mul-le-mul_right (32 ^ length q) (omega arith) in
-    let power : (n + 6) * 32 ^ suc (length q) ≡ (n + 6) * 32 * 32 ^ length q = omega (arith, ap (λ (y : ℕ). (n + 6) * y) (pow-suc 32 (length q))) in
-    let whole : number_in 32 (n * 32 + bits_of_letter x) (map bits_of_letter q) + 6 ≤ (n + 6) * 32 ^ suc (length q) = omega (arith, rest, more, power) in
-    whole
-
--- The bits of at most eight letters fit.
-pub bits_of_letters-fit : (q : List ℕ) → length q ≤ 8 → AreBytes q → number_in 32 0 (map bits_of_letter q) * 2 ^ (5 * (8 - length q)) % 2 ^ 64 ≡ number_in 32 0 (map bits_of_letter q) * 32 ^ (8 - length q)
-bits_of_letters-fit q short are =
-    let power : 2 ^ (5 * length q + 3) ≡ 32 ^ length q * 8 = pow-add 2 (5 * length q) 3 ∙ ap (λ (x : ℕ). x * 8) (pow-32 (length q)) in
-    let some : 0 < 32 ^ length q = one-le-pow (length q) 32 (omega arith) in
-    let small : number_in 32 0 (map bits_of_letter q) < 2 ^ (5 * length q + 3) = omega (arith, number_of_letters-le 0 q are, power, some) in
-    shl_whole (number_in 32 0 (map bits_of_letter q)) (5 * length q + 3) (5 * (8 - length q)) 64 small (omega arith)
-    ∙ ap (λ (x : ℕ). number_in 32 0 (map bits_of_letter q) * x) (pow-32 (8 - length q))
 
 -- All letters of some bytes are pushed.
 pub quantum-pushed : (old text b : List ℕ) (n place : ℕ) → length b ≤ 5 → AreBytes b → n ≡ number_in 256 0 b → place ≡ (8 * length b + 4) / 5 → text ≡ old ++ take place (map letter (digits_in 32 8 (n * 2 ^ (8 * (5 - length b)) % 2 ^ 64))) → text ≡ old ++ quantum b
@@ -260,16 +226,6 @@ quantum-pushed old text b n place short are number count h =
     h
     ∙ ap (λ (x : ℕ). old ++ take place (map letter (digits_in 32 8 x))) bits
     ∙ ap (λ (x : ℕ). old ++ take x (map letter (digits_in 32 8 (number_in 256 0 b * 256 ^ (5 - length b))))) count
-
--- All bytes of some letters are pushed.
-pub bytes-pushed : (old items q : List ℕ) (n place : ℕ) → length q ≤ 8 → AreBytes q → n ≡ number_in 32 0 (map bits_of_letter q) → place ≡ 5 * length q / 8 → items ≡ old ++ take place (digits_in 256 5 (n * 2 ^ (5 * (8 - length q)) % 2 ^ 64)) → items ≡ old ++ bytes_of_quantum q
-bytes-pushed old items q n place short are number count h =
-    let number_is = number_in 32 0 (map bits_of_letter q) in
-    let bits : n * 2 ^ (5 * (8 - length q)) % 2 ^ 64 ≡ number_is * 32 ^ (8 - length q) =
-    ap (λ (x : ℕ). x * 2 ^ (5 * (8 - length q)) % 2 ^ 64) number ∙ bits_of_letters-fit q short are in
-    h
-    ∙ ap (λ (x : ℕ). old ++ take place (digits_in 256 5 x)) bits
-    ∙ ap (λ (x : ℕ). old ++ take x (digits_in 256 5 (number_is * 32 ^ (8 - length q)))) count
 
 -- A piece is pushed, and the rest is still to come.
 pub piece-pushed : (out more piece whole behind all : List ℕ) → whole ≡ piece ++ behind → more ≡ out ++ piece → out ++ whole ≡ all → more ++ behind ≡ all

@@ -1,7 +1,9 @@
 -- Readings in turn: what an answer says of each.
 use Rattle.std.proofs.Common.{◌≡◌, Bool, true, false, cond, Result, Ok, Err, refl, ap}
 use Rattle.ix_cid.specs.Cid.{◌>>=◌}
+use Rattle.ix_cid.specs.Gives.{Fails}
 use Rattle.ix_cid.specs.declared.fault.CidFault.{CidFault}
+use Rattle.ix_cid.specs.declared.fault.CidFault.TheVariants.{Truncated, Varint, Version, Memory, Multibase, Base32, Rest}
 
 -- an answer behind a test for a fault
 pub past_test : {A E : Type 0} (b : Bool) (e : E) (r : Result A E) (x : A) → cond b (Err e) r ≡ Ok x → (b ≡ false) × (r ≡ Ok x)
@@ -25,3 +27,23 @@ bind_to {A = A} {B = B} r x f e = let next : Result A CidFault → Result B CidF
 pub past_guard : {A E : Type 0} (b : Bool) (e : E) (r : Result A E) (x : A) → cond b r (Err e) ≡ Ok x → (b ≡ true) × (r ≡ Ok x)
 past_guard true e r x h = (refl, h)
 past_guard false e r x h = absurd cc
+
+-- a call fails by the fault that is meant
+pub fails_with : {A : Type 0} (e : CidFault) (meant : Result A CidFault) → meant ≡ Err e → Fails e meant
+fails_with Memory meant h = tt
+fails_with Truncated meant h = h
+fails_with Varint meant h = h
+fails_with (Version v) meant h = h
+fails_with Multibase meant h = h
+fails_with Base32 meant h = h
+fails_with Rest meant h = h
+
+-- what keeps each fault keeps that a call fails by it
+pub fails_along : {A B : Type 0} (e : CidFault) (meant : Result A CidFault) (whole : Result B CidFault) → ((f : CidFault) → meant ≡ Err f → whole ≡ Err f) → Fails e meant → Fails e whole
+fails_along Memory meant whole along h = tt
+fails_along Truncated meant whole along h = along Truncated h
+fails_along Varint meant whole along h = along Varint h
+fails_along (Version v) meant whole along h = along (Version v) h
+fails_along Multibase meant whole along h = along Multibase h
+fails_along Base32 meant whole along h = along Base32 h
+fails_along Rest meant whole along h = along Rest h

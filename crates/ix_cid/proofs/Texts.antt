@@ -1,20 +1,21 @@
 -- The texts of CIDs.
-use Rattle.std.proofs.Common.{◌≡◌, ℕ, ◌-◌, ◌<◌, ◌≤◌, Bool, true, false, ◌&&◌, not, eqb, List, [], ◌∷◌, ◌++◌, length, take, drop, Result, Ok, Err, refl, sym, ap, ◌∙◌, subst, ⊎_elim, arith}
-use Rattle.std.specs.Prelude.{codes, bytes_eq, ◌==◌, if◌then◌else◌}
-use Rattle.std.proofs.lemmas.Bool.{eqb-true, false_from_ne_true, ne_eqb, cases_Bool, not-false}
-use Rattle.std.proofs.lemmas.Slice.Eq.{bytes_eq-Decides}
+use Rattle.std.proofs.Common.{◌≡◌, ℕ, ◌-◌, ◌<◌, ◌≤◌, Bool, true, false, ◌&&◌, eqb, List, [], ◌∷◌, ◌++◌, length, take, drop, Result, Ok, Err, refl, sym, ap, ◌∙◌, subst, ⊎_elim, arith}
+use Rattle.std.specs.Prelude.{codes, ◌==◌, if◌then◌else◌}
+use Rattle.std.proofs.lemmas.Bool.{eqb-true, false_from_ne_true, ne_eqb, cases_Bool}
 use Rattle.std.proofs.lemmas.List.{nil_from_length}
 use Rattle.std.proofs.Math.Seq.{take-length}
 use Rattle.ix_cid.specs.Bytes.{AreBytes}
 use Rattle.ix_cid.specs.Varint.{varint_at, varint_ending}
 use Rattle.ix_cid.specs.Cid.{◌>>=◌, Parts, as_part, number_at, bytes_at, version_0_at, version_1_at, numbered_at, begins_version_0, parts_at, IsCid, version_of, parts_or_none}
-use Rattle.ix_cid.specs.CidText.{base32_of, hex_of, bytes_of_letters, bytes_of_base32, without_rest, text_of, cid_of_text}
+use Rattle.ix_cid.specs.CidText.{base32_of, hex_of, bytes_of_base32, without_rest, text_of, cid_of_text}
 use Rattle.ix_cid.specs.Gives.{Fails}
 use Rattle.ix_cid.specs.declared.fault.CidFault.{CidFault}
-use Rattle.ix_cid.specs.declared.fault.CidFault.TheVariants.{Truncated, Varint, Version, Memory, Multibase, Base32, Rest}
+use Rattle.ix_cid.specs.declared.fault.CidFault.TheVariants.{Truncated, Version, Multibase, Rest}
 use Rattle.ix_cid.specs.declared.fault.VarintFault.{VarintFault}
 use Rattle.ix_cid.specs.declared.fault.VarintFault.TheVariants as varints
 use Rattle.ix_cid.proofs.Quanta.{bytes_of_letters-base32_of}
+use Rattle.ix_cid.proofs.Base32Laws.{spelled, is_base32, read-is, read-only}
+use Rattle.ix_cid.proofs.Results.{fails_with}
 
 -- A chain gives a value only where its first part gives one.
 pub bind-ok : {A B : Type 0} (r : Result A CidFault) (f : A → Result B CidFault) (y : B) → (r >>= f) ≡ Ok y → (x : A) × (r ≡ Ok x) × (f x ≡ Ok y)
@@ -126,18 +127,13 @@ numbered_at-version_1 bytes is one =
 -- Base32 is read where it is spelled.
 pub bytes_of_base32-spelled : (bytes : List ℕ) → AreBytes bytes → bytes_of_base32 (base32_of bytes) ≡ Ok bytes
 bytes_of_base32-spelled bytes are =
-    let back = bytes_of_letters-base32_of bytes are in
-    let same : bytes_eq (base32_of (bytes_of_letters (base32_of bytes))) (base32_of bytes) ≡ true = (bytes_eq-Decides _ _).1 (ap base32_of back) in
-    let F : Bool → Result (List ℕ) CidFault = λ x. if x then Ok (bytes_of_letters (base32_of bytes)) else Err Base32 in
-    let G : List ℕ → Result (List ℕ) CidFault = λ x. Ok x in
-    ap F same ∙ ap G back
+    read-is (base32_of bytes) (is_base32 bytes are) ∙ ap Ok (bytes_of_letters-base32_of bytes are)
 
 -- What is read as base32 is spelled by it.
 pub bytes_of_base32-ok : (letters bytes : List ℕ) → bytes_of_base32 letters ≡ Ok bytes → letters ≡ base32_of bytes
 bytes_of_base32-ok letters bytes h =
-    let both = when-ok (bytes_eq (base32_of (bytes_of_letters letters)) letters) (Ok (bytes_of_letters letters)) Base32 bytes h in
-    let spelled : base32_of (bytes_of_letters letters) ≡ letters = (bytes_eq-Decides _ _).0 both.0 in
-    sym spelled ∙ ap base32_of (ok-is _ bytes both.1)
+    let is = read-only letters bytes h in
+    sym (spelled letters is.0) ∙ ap base32_of (sym is.1)
 
 -- The text of a CID of no version 0.
 pub text_of-other : (c : List ℕ) → (version_of c ≡ 0 → ⊥) → text_of c ≡ 98 ∷ base32_of c
@@ -176,15 +172,6 @@ cid_of_text-ok (first ∷ letters) c h =
       spelled ∙ ap text_of whole.1,
     )
 
--- What spells the letters again is what they are read as.
-pub bytes_of_base32-same : (letters bytes again : List ℕ) → bytes ≡ bytes_of_letters letters → again ≡ base32_of bytes → false ≡ not (bytes_eq again letters) → bytes_of_base32 letters ≡ Ok bytes
-bytes_of_base32-same letters bytes again read spelled is =
-    let equal : bytes_eq again letters ≡ true = not-false (bytes_eq again letters) (sym is) in
-    let back : base32_of (bytes_of_letters letters) ≡ letters = ap base32_of (sym read) ∙ sym spelled ∙ (bytes_eq-Decides again letters).0 equal in
-    let F : Bool → Result (List ℕ) CidFault = λ x. if x then Ok (bytes_of_letters letters) else Err Base32 in
-    let G : List ℕ → Result (List ℕ) CidFault = λ x. Ok x in
-    ap F ((bytes_eq-Decides _ _).1 back) ∙ ap G (sym read)
-
 -- how long the parts at the front are
 abbrev pub length_at : List ℕ → Result ℕ CidFault
 length_at bytes = numbered_at bytes >>= (λ p. Ok (length bytes - length p.1))
@@ -197,16 +184,6 @@ whole_at bytes = numbered_at bytes >>= (λ p. without_rest bytes p.1)
 fault-kept : (bytes : List ℕ) (read : Result (Parts × List ℕ) CidFault) (f : CidFault) → (read >>= (λ p. Ok (length bytes - length p.1))) ≡ Err f → (read >>= (λ p. without_rest bytes p.1)) ≡ Err f
 fault-kept bytes (Ok p) f h = absurd (cc)
 fault-kept bytes (Err e) f h = let same : e ≡ f = cc in ap (λ (x : CidFault). Err x) same
-
--- A call fails by the fault that is meant.
-fails-with : {A : Type 0} (e : CidFault) (meant : Result A CidFault) → meant ≡ Err e → Fails e meant
-fails-with Memory meant h = tt
-fails-with Truncated meant h = h
-fails-with Varint meant h = h
-fails-with (Version v) meant h = h
-fails-with Multibase meant h = h
-fails-with Base32 meant h = h
-fails-with Rest meant h = h
 
 -- What is left is refused.
 without_rest-some : (c rest : List ℕ) → 0 < length rest → without_rest c rest ≡ Err Rest
@@ -223,7 +200,7 @@ module _ (t letters bytes : List ℕ) (begins : t ≡ 98 ∷ letters) (read : by
 
   -- a fault at the front is the text's
   pub text-fails : (e : CidFault) → length_at bytes ≡ Err e → Fails e (cid_of_text t)
-  text-fails e h = fails-with e (cid_of_text t) (text-is ∙ fault-kept bytes (numbered_at bytes) e h)
+  text-fails e h = fails_with e (cid_of_text t) (text-is ∙ fault-kept bytes (numbered_at bytes) e h)
 
   -- bytes that are longer than the parts are refused
   pub text-rest : (n : ℕ) → length_at bytes ≡ Ok n → n < length bytes → cid_of_text t ≡ Err Rest

@@ -1,7 +1,8 @@
 //! RFC 4648 base32, in lower case and without padding.
 
-ghost use Rattle.std.specs.Prelude.{◌≡◌, ◌≤◌, ◌%◌, ◌++◌, length, map, IfOk, OnOk, string_bytes};
-ghost use Rattle.ix_cid.specs.CidText.{letter, bits_of_letter, number_in, quantum, base32_of, bytes_of_quantum, bytes_of_letters, bytes_of_base32};
+ghost use Rattle.std.specs.Prelude.{◌≡◌, ◌≤◌, ◌%◌, ◌++◌, length, map, take, All, Ok, OnOk, SomeIff, string_bytes};
+ghost use Rattle.ix_cid.specs.Cid.{◌>>=◌ as ◌and_then◌};
+ghost use Rattle.ix_cid.specs.CidText.{letter, bits_of_letter, number_in, digits_in, quantum, base32_of, bytes_of_base32, IsLetter};
 ghost use Rattle.ix_cid.specs.Gives.{Gives};
 
 use crate::fault::CidFault;
@@ -23,19 +24,6 @@ pub fn append(text: &mut String, bytes: &[u8]) -> Result<(), AllocError>
 /// The bytes whose base32 the letters are.
 pub fn decode(alloc: Global, letters: &[u8]) -> Result<Vec<u8>, CidFault>
     ensures { Gives (λ v. v.items) result (bytes_of_base32 letters.now) }
-{
-    let bytes = bytes_of(alloc, letters)?;
-    let mut again = String::new(alloc);
-    append(&mut again, bytes.as_slice())?;
-    if again.as_bytes() != letters {
-        return Err(CidFault::Base32);
-    }
-    Ok(bytes)
-}
-
-// The bytes that letters spell, whether or not they are the base32 of these.
-fn bytes_of(alloc: Global, letters: &[u8]) -> Result<Vec<u8>, AllocError>
-    ensures { IfOk result (λ v. v.items ≡ bytes_of_letters letters.now) }
 {
     let mut bytes = Vec::new(alloc);
     let mut rest = letters;
@@ -59,13 +47,32 @@ fn push_quantum(text: &mut String, bytes: &[u8]) -> Result<(), AllocError>
     Ok(())
 }
 
-// Appends the bytes of at most eight letters.
-fn push_bytes(bytes: &mut Vec<u8>, letters: &[u8]) -> Result<(), AllocError>
+// Appends the bytes whose base32 at most eight letters are.
+fn push_bytes(bytes: &mut Vec<u8>, letters: &[u8]) -> Result<(), CidFault>
     requires { length letters.now ≤ 8 }
-    ensures { OnOk result (bytes.new.items ≡ bytes.old.items ++ bytes_of_quantum letters.now) }
+    ensures { Gives (λ _. bytes.new.items) result (bytes_of_base32 letters.now and_then (λ more. Ok (bytes.old.items ++ more))) }
 {
-    let bits = number_of_letters(letters) << (5 * (8 - letters.len()));
-    for place in 0..5 * letters.len() / 8 {
+    let Some(number) = number_of_letters(letters) else {
+        return Err(CidFault::Base32);
+    };
+    let left_over = 5 * letters.len() % 8;
+    if matches!(letters.len(), 1 | 3 | 6) || number % (1 << left_over) != 0 {
+        return Err(CidFault::Base32);
+    }
+    push_front(
+        bytes,
+        number << (5 * (8 - letters.len())),
+        5 * letters.len() / 8,
+    )?;
+    Ok(())
+}
+
+// Appends so many bytes, at most five, from the front of 40 bits.
+fn push_front(bytes: &mut Vec<u8>, bits: u64, count: usize) -> Result<(), AllocError>
+    requires { count ≤ 5 }
+    ensures { OnOk result (bytes.new.items ≡ bytes.old.items ++ take count (digits_in 256 5 bits)) }
+{
+    for place in 0..count {
         bytes.push(((bits >> (32 - 8 * place)) % 256) as u8)?;
     }
     Ok(())
@@ -83,16 +90,16 @@ fn number_of_bytes(bytes: &[u8]) -> u64
     number
 }
 
-// The number that at most eight letters spell.
-fn number_of_letters(letters: &[u8]) -> u64
+// The number that at most eight letters spell, if each is of the alphabet.
+fn number_of_letters(letters: &[u8]) -> Option<u64>
     requires { length letters.now ≤ 8 }
-    ensures { result ≡ number_in 32 0 (map bits_of_letter letters.now) }
+    ensures { SomeIff result (All IsLetter letters.now) (number_in 32 0 (map bits_of_letter letters.now)) }
 {
     let mut number = 0;
     for letter in letters {
-        number = number * 32 + bits_of(*letter);
+        number = number * 32 + bits_of(*letter)?;
     }
-    number
+    Some(number)
 }
 
 // The letter of the last five bits.
@@ -107,14 +114,14 @@ fn letter_of(bits: u64) -> char
     })
 }
 
-// Five bits of a letter, and any number of what is none.
-fn bits_of(letter: u8) -> u64
-    ensures { result ≡ bits_of_letter letter }
+// The five bits of a letter of the alphabet.
+fn bits_of(letter: u8) -> Option<u64>
+    ensures { SomeIff result (IsLetter letter) (bits_of_letter letter) }
 {
-    if letter >= b'a' {
-        u64::from(letter - b'a')
-    } else {
-        u64::from(letter.saturating_sub(b'2' - 26))
+    match letter {
+        b'a'..=b'z' => Some(u64::from(letter - b'a')),
+        b'2'..=b'7' => Some(u64::from(letter - b'2') + 26),
+        _ => None,
     }
 }
 

@@ -1,29 +1,41 @@
-use Rattle.std.proofs.Common.{◌≡◌, ◌≤◌, ◌+◌, ◌*◌, get_or, drop, map, sym, ap, ◌∙◌, ℕ, arith}
-use Rattle.std.proofs.lemmas.List.{length-map, get_or-map}
-use Rattle.ix_cid.specs.CidText.{number_in, bits_of_letter}
+use Rattle.std.proofs.Common.{◌≡◌, ◌≤◌, ◌<◌, ◌+◌, ◌*◌, ℕ, length, get_or, drop, take, map, sym, ap, ◌∙◌, subst, arith}
+use Rattle.std.proofs.lemmas.List.{length-map, get_or-map, take_all, drop_all}
+use Rattle.std.proofs.lemmas.List.Elements.{All-more, All-same}
+use Rattle.ix_cid.specs.CidText.{number_in, bits_of_letter, IsLetter}
 use Rattle.ix_cid.proofs.Digits.{number_in-turn, pow-more, pow-least}
-use Rattle.ix_cid.proofs.Quanta.{bits_of_letter-le}
+use Rattle.ix_cid.proofs.Base32Laws.{bits-below}
 use Rattle.ix_cid.proofs.base32.number_of_letters.Goals as goal
-use Rattle.ix_cid.proofs.base32.number_of_letters.Goals.{After-bits_of}
+use Rattle.ix_cid.proofs.base32.number_of_letters.Goals.{In_ok-number}
 
-bits-le : (c : After-bits_of) → c.bits_of.result ≤ 158
-bits-le c =
-    let i = c.loop-letter.letter-index in
-    omega (arith, bits_of_letter-le (get_or c.args.letters.now i 0) (omega (arith, c.type_inv.letters i)))
-
-pub overflow_mul-number : goal.overflow_mul-number
-overflow_mul-number c = omega (arith, pow-least 32 c.loop-letter.letter-index 7 (omega arith) (omega arith))
+bits-fit : (c : In_ok-number) → c.in_ok-number.field-0 < 32
+bits-fit c =
+    let is = c.in_ok-number.ensures in
+    subst (λ x. x < 32) (sym is.1) (bits-below (get_or c.args.letters.now c.loop-letter.letter-index 0) is.0)
 
 pub overflow_add-number : goal.overflow_add-number
-overflow_add-number c = omega (arith, bits-le c, pow-least 32 c.loop-letter.letter-index 7 (omega arith) (omega arith))
+overflow_add-number c = omega (arith, bits-fit c, pow-least 32 c.loop-letter.letter-index 7 (omega arith) (omega arith))
 
 pub loop-letter-preserved : goal.loop-letter-preserved
 loop-letter-preserved c =
     let letters = c.args.letters.now in
     let i = c.loop-letter.letter-index in
-    let bits : get_or (map bits_of_letter letters) i 0 ≡ c.bits_of.result = get_or-map bits_of_letter letters i 0 0 c.loop-letter-test.true ∙ sym c.bits_of.ensures in
+    let kept = c.loop-letter.invariant in
+    let is = c.in_ok-number.ensures in
+    let bits : get_or (map bits_of_letter letters) i 0 ≡ c.in_ok-number.field-0 = get_or-map bits_of_letter letters i 0 0 c.loop-letter-test.true ∙ sym is.1 in
     let turn = number_in-turn 32 c.loop-letter.number (map bits_of_letter letters) i (omega (arith, length-map letters bits_of_letter)) in
     record {
-      so_far = ap (λ (x : ℕ). number_in 32 (c.loop-letter.number * 32 + x) (drop (i + 1) (map bits_of_letter letters))) (sym bits) ∙ sym turn ∙ c.loop-letter.invariant.so_far;
-      below = omega (arith, bits-le c, pow-more 32 i);
+      so_far = ap (λ (x : ℕ). number_in 32 (c.loop-letter.number * 32 + x) (drop (i + 1) (map bits_of_letter letters))) (sym bits) ∙ sym turn ∙ kept.so_far;
+      below = omega (arith, bits-fit c, pow-more 32 i);
+      alphabet = All-more IsLetter letters i 0 c.loop-letter-test.true kept.alphabet is.0;
     }
+
+pub returns : goal.returns
+returns c =
+    let letters = c.args.letters.now in
+    let i = c.loop-letter.letter-index in
+    let kept = c.loop-letter.invariant in
+    let all : length letters ≤ i = omega arith in
+    let none = drop_all i (map bits_of_letter letters) (omega (arith, length-map letters bits_of_letter)) in (
+      All-same IsLetter letters (take i letters) (sym (take_all i letters all)) kept.alphabet,
+      sym (ap (number_in 32 c.loop-letter.number) none) ∙ kept.so_far,
+    )
