@@ -19,10 +19,6 @@ abbrev pub Reads : {X A : Type 0} → (X → A) → Result X Stop → Result A F
 Reads view (Ok x) meant = meant ≡ Ok (view x)
 Reads view (Err e) meant = FailsAs e.kind e.left meant
 
--- a key and a value of a map
-abbrev pub entry_of : List ℕ × Node → List ℕ × Data
-entry_of e = (e.0, data_of e.1)
-
 -- what an item is by a head byte that isn't of major type 7
 abbrev pub headed_at : Bool → List ℕ → ℕ → Parse Own
 headed_at may_nest at h b = argument_at at (h % 32) b >>= (λ n. own_with may_nest at (h / 32) n.0 n.1)

@@ -9,7 +9,6 @@ ghost use Rattle.ix_cbor.specs.Stops.{Reads, own_of, headed_at};
 use crate::fault::CborKind;
 use crate::head::{argument, string, take, u64_of};
 use crate::node::Node;
-use crate::octets::Octets;
 use crate::read::{Own, Stop};
 use ix_cid::{Cid, CidFault};
 use std::alloc::Global;
@@ -134,13 +133,14 @@ fn of_major<'a>(
         1 => Ok((Own::Leaf(Node::Int(-1 - i128::from(argument))), bytes)),
         2 => {
             let (string, rest) = take(argument, bytes)?;
-            let string = Octets::new(Vec::from_slice(alloc, string)?);
-            Ok((Own::Leaf(Node::Bytes(string)), rest))
+            Ok((
+                Own::Leaf(Node::Bytes(Vec::from_slice(alloc, string)?)),
+                rest,
+            ))
         }
         3 => {
             let (string, rest) = take(argument, bytes)?;
-            let string = Octets::new(Vec::from_slice(alloc, string)?);
-            Ok((Own::Leaf(Node::Text(string)), rest))
+            Ok((Own::Leaf(Node::Text(Vec::from_slice(alloc, string)?)), rest))
         }
         4 => nesting(may_nest, at, Own::ListOf(argument), bytes),
         5 => nesting(may_nest, at, Own::MapOf(argument), bytes),

@@ -1,15 +1,14 @@
 //! The parts of decode.
 
 ghost use Rattle.std.specs.Prelude.{◌≡◌, map, Some, None};
-ghost use Rattle.ix_cbor.specs.Data.{data_of, items_of, entries_of};
+ghost use Rattle.ix_cbor.specs.Data.{data_of, items_of, entry_of, entries_of};
 ghost use Rattle.ix_cbor.specs.Reading.{item_with, item_at, items_at, entries_at};
-ghost use Rattle.ix_cbor.specs.Stops.{Reads, entry_of};
+ghost use Rattle.ix_cbor.specs.Stops.{Reads};
 
 use crate::fault::CborKind;
 use crate::head::key;
 use crate::leaf::head_of_item;
 use crate::node::Node;
-use crate::octets::Octets;
 use std::alloc::{AllocError, AllocFailed, Global};
 
 // A fault, and how many bytes there are from its place to the end.
@@ -139,7 +138,7 @@ fn entries(
     bytes: &[u8],
     count: u64,
     levels: u32,
-) -> Result<(Vec<(Octets, Node)>, &[u8]), Stop>
+) -> Result<(Vec<(Vec<u8>, Node)>, &[u8]), Stop>
     ensures { Reads (λ r. (entries_of (map entry_of r.0.items), r.1.now)) result (entries_at (item_at levels) None count bytes.now) }
 {
     let mut members = Vec::new(alloc);
@@ -148,7 +147,7 @@ fn entries(
     for _ in 0..count {
         let (name, value) = key(before, rest)?;
         let (node, next) = item(alloc, value, levels)?;
-        members.push((Octets::new(Vec::from_slice(alloc, name)?), node))?;
+        members.push((Vec::from_slice(alloc, name)?, node))?;
         before = Some(name);
         rest = next;
     }
