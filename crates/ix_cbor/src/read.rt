@@ -3,7 +3,7 @@
 ghost use Rattle.std.specs.Prelude.{◌≡◌, map, Some, None};
 ghost use Rattle.ix_cbor.specs.Data.{data_of, items_of, entry_of, entries_of};
 ghost use Rattle.ix_cbor.specs.Reading.{item_with, item_at, items_at, entries_at};
-ghost use Rattle.ix_cbor.specs.Stops.{Reads};
+ghost use Rattle.ix_cbor.specs.Stops.{ReadsOrRunsOut};
 
 use crate::fault::CborKind;
 use crate::head::key;
@@ -80,7 +80,7 @@ pub enum Own {
 }
 
 fn leaf(alloc: Global, bytes: &[u8]) -> Result<(Node, &[u8]), Stop>
-    ensures { Reads (λ r. (data_of r.0, r.1.now)) result (item_with None bytes.now) }
+    ensures { ReadsOrRunsOut (λ r. (data_of r.0, r.1.now)) result (item_with None bytes.now) }
 {
     let (own, rest) = head_of_item(alloc, bytes, false)?;
     match own {
@@ -91,7 +91,7 @@ fn leaf(alloc: Global, bytes: &[u8]) -> Result<(Node, &[u8]), Stop>
 
 #[cycle(item)]
 fn branch(alloc: Global, bytes: &[u8], levels: u32) -> Result<(Node, &[u8]), Stop>
-    ensures { Reads (λ r. (data_of r.0, r.1.now)) result (item_with (Some (item_at levels)) bytes.now) }
+    ensures { ReadsOrRunsOut (λ r. (data_of r.0, r.1.now)) result (item_with (Some (item_at levels)) bytes.now) }
 {
     let (own, rest) = head_of_item(alloc, bytes, true)?;
     match own {
@@ -109,7 +109,7 @@ fn branch(alloc: Global, bytes: &[u8], levels: u32) -> Result<(Node, &[u8]), Sto
 
 #[cycle(item)]
 pub(crate) fn item(alloc: Global, bytes: &[u8], levels: u32) -> Result<(Node, &[u8]), Stop>
-    ensures { Reads (λ r. (data_of r.0, r.1.now)) result (item_at levels bytes.now) }
+    ensures { ReadsOrRunsOut (λ r. (data_of r.0, r.1.now)) result (item_at levels bytes.now) }
 {
     if levels == 0 {
         leaf(alloc, bytes)
@@ -120,7 +120,7 @@ pub(crate) fn item(alloc: Global, bytes: &[u8], levels: u32) -> Result<(Node, &[
 
 #[cycle(item)]
 fn items(alloc: Global, bytes: &[u8], count: u64, levels: u32) -> Result<(Vec<Node>, &[u8]), Stop>
-    ensures { Reads (λ r. (items_of (map data_of r.0.items), r.1.now)) result (items_at (item_at levels) count bytes.now) }
+    ensures { ReadsOrRunsOut (λ r. (items_of (map data_of r.0.items), r.1.now)) result (items_at (item_at levels) count bytes.now) }
 {
     let mut members = Vec::new(alloc);
     let mut rest = bytes;
@@ -139,7 +139,7 @@ fn entries(
     count: u64,
     levels: u32,
 ) -> Result<(Vec<(Vec<u8>, Node)>, &[u8]), Stop>
-    ensures { Reads (λ r. (entries_of (map entry_of r.0.items), r.1.now)) result (entries_at (item_at levels) None count bytes.now) }
+    ensures { ReadsOrRunsOut (λ r. (entries_of (map entry_of r.0.items), r.1.now)) result (entries_at (item_at levels) None count bytes.now) }
 {
     let mut members = Vec::new(alloc);
     let mut rest = bytes;
