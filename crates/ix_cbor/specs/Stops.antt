@@ -15,13 +15,15 @@ own_of (Leaf n) = leaf (data_of n)
 own_of (ListOf n) = list_of n
 own_of (MapOf n) = map_of n
 
+-- what a call that takes no memory answered, seen by view, is what the definition gives
 abbrev pub Reads : {X A : Type 0} → (X → A) → Result X Stop → Result A Fault → Type 0
 Reads view (Ok x) meant = meant ≡ Ok (view x)
-Reads view (Err e) meant = FailsAs e.kind e.left meant
+Reads view (Err e) meant = meant ≡ Err (record { kind = e.kind; left = e.left })
 
--- a key and a value of a map
-abbrev pub entry_of : List ℕ × Node → List ℕ × Data
-entry_of e = (e.0, data_of e.1)
+-- the same of a call that takes memory, unless that ran out
+abbrev pub ReadsOrRunsOut : {X A : Type 0} → (X → A) → Result X Stop → Result A Fault → Type 0
+ReadsOrRunsOut view (Ok x) meant = meant ≡ Ok (view x)
+ReadsOrRunsOut view (Err e) meant = FailsAs e.kind e.left meant
 
 -- what an item is by a head byte that isn't of major type 7
 abbrev pub headed_at : Bool → List ℕ → ℕ → Parse Own

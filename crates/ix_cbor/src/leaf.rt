@@ -4,12 +4,11 @@ ghost use Rattle.std.specs.Prelude.{◌≡◌};
 ghost use Rattle.ix_cbor.specs.declared.fault.CborKind.TheVariants as kinds;
 ghost use Rattle.ix_cbor.specs.Data.{data_of, float, link};
 ghost use Rattle.ix_cbor.specs.Reading.{fails, string_of_major, float_at, simple_at, link_of, link_at, nested, own_with, own_at};
-ghost use Rattle.ix_cbor.specs.Stops.{Reads, own_of, headed_at};
+ghost use Rattle.ix_cbor.specs.Stops.{Reads, ReadsOrRunsOut, own_of, headed_at};
 
 use crate::fault::CborKind;
 use crate::head::{argument, string, take, u64_of};
 use crate::node::Node;
-use crate::octets::Octets;
 use crate::read::{Own, Stop};
 use ix_cid::{Cid, CidFault};
 use std::alloc::Global;
@@ -65,7 +64,7 @@ fn cid_in<'a>(
     content: &'a [u8],
     rest: &'a [u8],
 ) -> Result<(Cid, &'a [u8]), Stop>
-    ensures { Reads (λ r. (link r.0, r.1.now)) result (link_of at.now (content.now, rest.now)) }
+    ensures { ReadsOrRunsOut (λ r. (link r.0, r.1.now)) result (link_of at.now (content.now, rest.now)) }
 {
     if let [0, bytes @ ..] = content {
         match Cid::read(alloc, bytes) {
@@ -93,7 +92,7 @@ fn tagged<'a>(
     tag: u64,
     bytes: &'a [u8],
 ) -> Result<(Node, &'a [u8]), Stop>
-    ensures { Reads (λ r. (data_of r.0, r.1.now)) result (link_at at.now tag bytes.now) }
+    ensures { ReadsOrRunsOut (λ r. (data_of r.0, r.1.now)) result (link_at at.now tag bytes.now) }
 {
     if tag != 42 {
         return Err(Stop::at(CborKind::Tag, at));
@@ -127,20 +126,21 @@ fn of_major<'a>(
     argument: u64,
     bytes: &'a [u8],
 ) -> Result<(Own, &'a [u8]), Stop>
-    ensures { Reads (λ r. (own_of r.0, r.1.now)) result (own_with may_nest at.now major argument bytes.now) }
+    ensures { ReadsOrRunsOut (λ r. (own_of r.0, r.1.now)) result (own_with may_nest at.now major argument bytes.now) }
 {
     match major {
         0 => Ok((Own::Leaf(Node::Int(i128::from(argument))), bytes)),
         1 => Ok((Own::Leaf(Node::Int(-1 - i128::from(argument))), bytes)),
         2 => {
             let (string, rest) = take(argument, bytes)?;
-            let string = Octets::new(Vec::from_slice(alloc, string)?);
-            Ok((Own::Leaf(Node::Bytes(string)), rest))
+            Ok((
+                Own::Leaf(Node::Bytes(Vec::from_slice(alloc, string)?)),
+                rest,
+            ))
         }
         3 => {
             let (string, rest) = take(argument, bytes)?;
-            let string = Octets::new(Vec::from_slice(alloc, string)?);
-            Ok((Own::Leaf(Node::Text(string)), rest))
+            Ok((Own::Leaf(Node::Text(Vec::from_slice(alloc, string)?)), rest))
         }
         4 => nesting(may_nest, at, Own::ListOf(argument), bytes),
         5 => nesting(may_nest, at, Own::MapOf(argument), bytes),
@@ -159,7 +159,7 @@ fn headed<'a>(
     head: u8,
     bytes: &'a [u8],
 ) -> Result<(Own, &'a [u8]), Stop>
-    ensures { Reads (λ r. (own_of r.0, r.1.now)) result (headed_at may_nest at.now head bytes.now) }
+    ensures { ReadsOrRunsOut (λ r. (own_of r.0, r.1.now)) result (headed_at may_nest at.now head bytes.now) }
 {
     let (argument, rest) = argument(at, head % 32, bytes)?;
     of_major(alloc, may_nest, at, head / 32, argument, rest)
@@ -171,7 +171,7 @@ pub(crate) fn head_of_item(
     bytes: &[u8],
     may_nest: bool,
 ) -> Result<(Own, &[u8]), Stop>
-    ensures { Reads (λ r. (own_of r.0, r.1.now)) result (own_at may_nest bytes.now) }
+    ensures { ReadsOrRunsOut (λ r. (own_of r.0, r.1.now)) result (own_at may_nest bytes.now) }
 {
     match bytes {
         [] => Err(Stop::at_end()),

@@ -10,7 +10,6 @@ mod head;
 pub mod law;
 mod leaf;
 mod node;
-mod octets;
 mod read;
 #[cfg(test)]
 mod rfc_examples;
@@ -23,5 +22,4 @@ pub use codec::{decode, encode};
 pub use fault::{CborFault, CborKind};
 pub use head::push_head;
 pub use node::Node;
-pub use octets::Octets;
 pub use tree::Tree;

@@ -1,15 +1,14 @@
 //! The parts of decode.
 
 ghost use Rattle.std.specs.Prelude.{◌≡◌, map, Some, None};
-ghost use Rattle.ix_cbor.specs.Data.{data_of, items_of, entries_of};
+ghost use Rattle.ix_cbor.specs.Data.{data_of, items_of, entry_of, entries_of};
 ghost use Rattle.ix_cbor.specs.Reading.{item_with, item_at, items_at, entries_at};
-ghost use Rattle.ix_cbor.specs.Stops.{Reads, entry_of};
+ghost use Rattle.ix_cbor.specs.Stops.{ReadsOrRunsOut};
 
 use crate::fault::CborKind;
 use crate::head::key;
 use crate::leaf::head_of_item;
 use crate::node::Node;
-use crate::octets::Octets;
 use std::alloc::{AllocError, AllocFailed, Global};
 
 // A fault, and how many bytes there are from its place to the end.
@@ -81,7 +80,7 @@ pub enum Own {
 }
 
 fn leaf(alloc: Global, bytes: &[u8]) -> Result<(Node, &[u8]), Stop>
-    ensures { Reads (λ r. (data_of r.0, r.1.now)) result (item_with None bytes.now) }
+    ensures { ReadsOrRunsOut (λ r. (data_of r.0, r.1.now)) result (item_with None bytes.now) }
 {
     let (own, rest) = head_of_item(alloc, bytes, false)?;
     match own {
@@ -92,7 +91,7 @@ fn leaf(alloc: Global, bytes: &[u8]) -> Result<(Node, &[u8]), Stop>
 
 #[cycle(item)]
 fn branch(alloc: Global, bytes: &[u8], levels: u32) -> Result<(Node, &[u8]), Stop>
-    ensures { Reads (λ r. (data_of r.0, r.1.now)) result (item_with (Some (item_at levels)) bytes.now) }
+    ensures { ReadsOrRunsOut (λ r. (data_of r.0, r.1.now)) result (item_with (Some (item_at levels)) bytes.now) }
 {
     let (own, rest) = head_of_item(alloc, bytes, true)?;
     match own {
@@ -110,7 +109,7 @@ fn branch(alloc: Global, bytes: &[u8], levels: u32) -> Result<(Node, &[u8]), Sto
 
 #[cycle(item)]
 pub(crate) fn item(alloc: Global, bytes: &[u8], levels: u32) -> Result<(Node, &[u8]), Stop>
-    ensures { Reads (λ r. (data_of r.0, r.1.now)) result (item_at levels bytes.now) }
+    ensures { ReadsOrRunsOut (λ r. (data_of r.0, r.1.now)) result (item_at levels bytes.now) }
 {
     if levels == 0 {
         leaf(alloc, bytes)
@@ -121,7 +120,7 @@ pub(crate) fn item(alloc: Global, bytes: &[u8], levels: u32) -> Result<(Node, &[
 
 #[cycle(item)]
 fn items(alloc: Global, bytes: &[u8], count: u64, levels: u32) -> Result<(Vec<Node>, &[u8]), Stop>
-    ensures { Reads (λ r. (items_of (map data_of r.0.items), r.1.now)) result (items_at (item_at levels) count bytes.now) }
+    ensures { ReadsOrRunsOut (λ r. (items_of (map data_of r.0.items), r.1.now)) result (items_at (item_at levels) count bytes.now) }
 {
     let mut members = Vec::new(alloc);
     let mut rest = bytes;
@@ -139,8 +138,8 @@ fn entries(
     bytes: &[u8],
     count: u64,
     levels: u32,
-) -> Result<(Vec<(Octets, Node)>, &[u8]), Stop>
-    ensures { Reads (λ r. (entries_of (map entry_of r.0.items), r.1.now)) result (entries_at (item_at levels) None count bytes.now) }
+) -> Result<(Vec<(Vec<u8>, Node)>, &[u8]), Stop>
+    ensures { ReadsOrRunsOut (λ r. (entries_of (map entry_of r.0.items), r.1.now)) result (entries_at (item_at levels) None count bytes.now) }
 {
     let mut members = Vec::new(alloc);
     let mut rest = bytes;
@@ -148,7 +147,7 @@ fn entries(
     for _ in 0..count {
         let (name, value) = key(before, rest)?;
         let (node, next) = item(alloc, value, levels)?;
-        members.push((Octets::new(Vec::from_slice(alloc, name)?), node))?;
+        members.push((Vec::from_slice(alloc, name)?, node))?;
         before = Some(name);
         rest = next;
     }

@@ -1,12 +1,11 @@
 //! The parts of encode.
 
 ghost use Rattle.std.specs.Prelude.{◌≡◌, ◌+◌, ◌^◌, ◌<◌, ◌++◌, OnOk, length, map};
-ghost use Rattle.ix_cbor.specs.Data.{data_of, integer, items_of, entries_of};
+ghost use Rattle.ix_cbor.specs.Data.{data_of, integer, float, items_of, entry_of, entries_of};
 ghost use Rattle.ix_cbor.specs.Spelling.{head_of, link_spelling, spelling_of, items_spelling, entries_spelling, IsSpellable, AreSpellable, AreRising};
 
 use crate::head::push_head;
 use crate::node::Node;
-use crate::octets::Octets;
 use std::alloc::AllocError;
 
 // The spelling of an integer: -1 less the argument where it is below 0.
@@ -19,6 +18,14 @@ fn push_int(out: &mut Vec<u8>, n: i128) -> Result<(), AllocError>
     } else {
         push_head(out, 1, (-1 - n) as u64)
     }
+}
+
+// The spelling of a float of 64 bits.
+fn push_float(out: &mut Vec<u8>, bits: u64) -> Result<(), AllocError>
+    ensures ok { OnOk result (out.new.items ≡ out.old.items ++ spelling_of (float bits)) }
+{
+    out.push(0xfb)?;
+    out.extend_from_slice(&bits.to_be_bytes())
 }
 
 // A string behind the head with its length.
@@ -52,10 +59,7 @@ pub(crate) fn push_item(out: &mut Vec<u8>, node: &Node) -> Result<(), AllocError
         Node::Bool(false) => Ok(out.push(0xf4)?),
         Node::Bool(true) => Ok(out.push(0xf5)?),
         Node::Int(n) => push_int(out, *n),
-        Node::Bits64(bits) => {
-            out.push(0xfb)?;
-            out.extend_from_slice(&bits.to_be_bytes())
-        }
+        Node::Bits64(bits) => push_float(out, *bits),
         Node::Bytes(bytes) => push_string(out, 2, bytes.as_slice()),
         Node::Text(text) => push_string(out, 3, text.as_slice()),
         Node::List(members) => {
@@ -84,9 +88,9 @@ fn push_members(out: &mut Vec<u8>, members: &[Node]) -> Result<(), AllocError>
 
 // The spellings of keys and values, each key before its value.
 #[cycle(push_item)]
-fn push_entries(out: &mut Vec<u8>, entries: &[(Octets, Node)]) -> Result<(), AllocError>
-    requires { AreRising (entries_of (map (λ e. (e.0, data_of e.1)) entries.now)) }
-    ensures ok { OnOk result (out.new.items ≡ out.old.items ++ entries_spelling (entries_of (map (λ e. (e.0, data_of e.1)) entries.now))) }
+fn push_entries(out: &mut Vec<u8>, entries: &[(Vec<u8>, Node)]) -> Result<(), AllocError>
+    requires { AreRising (entries_of (map entry_of entries.now)) }
+    ensures ok { OnOk result (out.new.items ≡ out.old.items ++ entries_spelling (entries_of (map entry_of entries.now))) }
 {
     for (key, value) in entries {
         push_string(out, 3, key.as_slice())?;
