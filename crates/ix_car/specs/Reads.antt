@@ -10,6 +10,6 @@ Reads view (Ok x) meant = meant ≡ Ok (view x)
 Reads view (Err e) meant = meant ≡ Err (record { kind = e.kind; left = e.left })
 
 -- the same of a part that takes memory, unless it ran out
-abbrev pub ReadsOrWants : {X A : Type 0} → (X → A) → Result X Stop → Result A Fault → Type 0
-ReadsOrWants view (Ok x) meant = meant ≡ Ok (view x)
-ReadsOrWants view (Err e) meant = FailsAs e.kind e.left meant
+abbrev pub ReadsOrRunsOut : {X A : Type 0} → (X → A) → Result X Stop → Result A Fault → Type 0
+ReadsOrRunsOut view (Ok x) meant = meant ≡ Ok (view x)
+ReadsOrRunsOut view (Err e) meant = FailsAs e.kind e.left meant

@@ -4,7 +4,7 @@ ghost use Rattle.std.specs.Prelude.{◌≡◌, ◌≤◌, [], length, IfErr};
 ghost use Rattle.ix_walk.specs.Store.{Blocks};
 ghost use Rattle.ix_car.specs.Reading.{sections_at, blocks_of};
 ghost use Rattle.ix_car.specs.Gives.{Gives};
-ghost use Rattle.ix_car.specs.Reads.{ReadsOrWants};
+ghost use Rattle.ix_car.specs.Reads.{ReadsOrRunsOut};
 
 mod header;
 mod section;
@@ -44,7 +44,7 @@ pub fn read_car(alloc: Global, bytes: &[u8]) -> Result<Store, CarFault>
 }
 
 fn store_of_file(alloc: Global, bytes: &[u8]) -> Result<Store, Stop>
-    ensures reads { ReadsOrWants (λ store. store) result (blocks_of bytes.now) }
+    ensures reads { ReadsOrRunsOut (λ store. store) result (blocks_of bytes.now) }
     ensures within { IfErr result (λ stop. stop.left ≤ length bytes.now) }
 {
     let sections = header_at(alloc, bytes)?;
@@ -53,7 +53,7 @@ fn store_of_file(alloc: Global, bytes: &[u8]) -> Result<Store, Stop>
 
 // The blocks of sections up to the end.
 fn store_of_sections(alloc: Global, sections: &[u8]) -> Result<Store, Stop>
-    ensures reads { ReadsOrWants (λ store. store) result (sections_at (length sections.now) [] sections.now) }
+    ensures reads { ReadsOrRunsOut (λ store. store) result (sections_at (length sections.now) [] sections.now) }
     ensures within { IfErr result (λ stop. stop.left ≤ length sections.now) }
 {
     let mut rest = sections;

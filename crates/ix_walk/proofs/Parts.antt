@@ -6,7 +6,7 @@ use Rattle.std.proofs.lemmas.List.{reverse-append, nil_from_length}
 use Rattle.std.proofs.lemmas.Bool.{eqb-true}
 use Rattle.ix_cbor.specs.declared.node.Node.{Node}
 use Rattle.ix_cbor.specs.Data.{Data, Items, Entries, item, entry, items_of, entries_of, data_of}
-use Rattle.ix_cbor.specs.Stops.{entry_of}
+use Rattle.ix_cbor.specs.Data.{entry_of}
 use Rattle.ix_selector.specs.Enters.{Step, key, nth}
 use Rattle.ix_selector.specs.Residual.{Place, residual_enters}
 use Rattle.ix_walk.specs.declared.subtree.Members.{Members}
@@ -69,12 +69,12 @@ members_split count place xs rest d e fits is =
     subst (λ (i : Items). IsSplit (members (count - length xs) i) (nth place) (data_of d) (members (count - length rest) (items_of (map data_of (reverse rest))))) (sym items) two
 
 -- the values of a map, the next one last
-pub values_split : (xs rest : List (List ℕ × Node)) (k : List ℕ) (d : Node) → xs ≡ rest ++ (k, d) ∷ []
-    → IsSplit (values (entries_of (map entry_of (reverse xs)))) (key k) (data_of d) (values (entries_of (map entry_of (reverse rest))))
+pub values_split : (xs rest : List (Vec ℕ × Node)) (k : Vec ℕ) (d : Node) → xs ≡ rest ++ (k, d) ∷ []
+    → IsSplit (values (entries_of (map entry_of (reverse xs)))) (key k.items) (data_of d) (values (entries_of (map entry_of (reverse rest))))
 values_split xs rest k d e =
-    let entries : entries_of (map entry_of (reverse xs)) ≡ entry k (data_of d) (entries_of (map entry_of (reverse rest))) =
-    ap (λ (l : List (List ℕ × Node)). entries_of (map entry_of (reverse l))) e ∙ ap (λ (l : List (List ℕ × Node)). entries_of (map entry_of l)) (reverse-append rest ((k, d) ∷ [])) in
-    subst (λ (i : Entries). IsSplit (values i) (key k) (data_of d) (values (entries_of (map entry_of (reverse rest))))) (sym entries) (value_split k (data_of d) (entries_of (map entry_of (reverse rest))))
+    let entries : entries_of (map entry_of (reverse xs)) ≡ entry k.items (data_of d) (entries_of (map entry_of (reverse rest))) =
+    ap (λ (l : List (Vec ℕ × Node)). entries_of (map entry_of (reverse l))) e ∙ ap (λ (l : List (Vec ℕ × Node)). entries_of (map entry_of l)) (reverse-append rest ((k, d) ∷ [])) in
+    subst (λ (i : Entries). IsSplit (values i) (key k.items) (data_of d) (values (entries_of (map entry_of (reverse rest))))) (sym entries) (value_split k.items (data_of d) (entries_of (map entry_of (reverse rest))))
 
 -- a list of no length
 none_in : {A : Type 0} (xs : List A) → eqb (length xs) 0 ≡ true → xs ≡ []
@@ -86,7 +86,7 @@ spent_arrivals cross enters (parts.Link c) h = absurd cc
 spent_arrivals cross enters (parts.Members m) h =
     ap (λ (l : List Node). reached_part cross enters (members (m.count - length m.rest.items) (items_of (map data_of (reverse l))))) (none_in m.rest.items h)
 spent_arrivals cross enters (parts.Values rest) h =
-    ap (λ (l : List (List ℕ × Node)). reached_part cross enters (values (entries_of (map entry_of (reverse l))))) (none_in rest.items h)
+    ap (λ (l : List (Vec ℕ × Node)). reached_part cross enters (values (entries_of (map entry_of (reverse l))))) (none_in rest.items h)
 
 -- a stack with the rest of a subtree, unless that is spent
 abbrev kept_rest : List Pending → Pending → List Pending
@@ -197,10 +197,10 @@ members_open r places depth place m rest d o old new made items counts is child 
     (members_split m.count place m.rest.items rest.rest.items d items fits is) in
     on_ok r _ _ (λ e. split_opens places depth (parts.Members m) (parts.Members rest) (nth place) (data_of d) o old new split child e) made
 
-pub values_open : {E : Type 0} (r : Result (Unit {0}) E) (places : List Place) (depth : ℕ) (vs rest : Vec (List ℕ × Node)) (k l : List ℕ) (d : Node) (o : Option Pending) (old new : List Pending)
+pub values_open : {E : Type 0} (r : Result (Unit {0}) E) (places : List Place) (depth : ℕ) (vs rest : Vec (Vec ℕ × Node)) (k : Vec ℕ) (l : List ℕ) (d : Node) (o : Option Pending) (old new : List Pending)
     → OnOk r (new ≡ pushed old (record { residual = places; waiting = parts.Values rest; depth = depth }) o)
-    → vs.items ≡ rest.items ++ (k, d) ∷ [] → l ≡ k → IsChild places (key l) (data_of d) depth o
+    → vs.items ≡ rest.items ++ (k, d) ∷ [] → l ≡ k.items → IsChild places (key l) (data_of d) depth o
     → OnOk r (Opens (record { residual = places; waiting = parts.Values vs; depth = depth }) old None new)
 values_open r places depth vs rest k l d o old new made items named child =
-    let same : IsChild places (key k) (data_of d) depth o = subst (λ (j : List ℕ). IsChild places (key j) (data_of d) depth o) named child in
-    on_ok r _ _ (λ e. split_opens places depth (parts.Values vs) (parts.Values rest) (key k) (data_of d) o old new (values_split vs.items rest.items k d items) same e) made
+    let same : IsChild places (key k.items) (data_of d) depth o = subst (λ (j : List ℕ). IsChild places (key j) (data_of d) depth o) named child in
+    on_ok r _ _ (λ e. split_opens places depth (parts.Values vs) (parts.Values rest) (key k.items) (data_of d) o old new (values_split vs.items rest.items k d items) same e) made

@@ -114,10 +114,10 @@ indexed-added m n es now later k key b place h is new same at updates longer =
 
 -- an entry as a pair
 abbrev pub pair : Entry → List ℕ × List ℕ
-pair e = (e.cid, e.block)
+pair e = (e.cid, e.block.items)
 
 -- the pairs of entries with one entry more
-pub pairs-push : (xs ys : List Entry) (e : Entry) → ys ≡ xs ++ e ∷ [] → map pair ys ≡ map pair xs ++ (e.cid, e.block) ∷ []
+pub pairs-push : (xs ys : List Entry) (e : Entry) → ys ≡ xs ++ e ∷ [] → map pair ys ≡ map pair xs ++ (e.cid, e.block.items) ∷ []
 pairs-push xs ys e is = ap (λ (l : List Entry). map pair l) is ∙ map-append pair xs (e ∷ [])
 
 -- the block of a pair
@@ -125,7 +125,7 @@ abbrev pub block : List ℕ × List ℕ → List ℕ
 block p = p.1
 
 -- the block of the entry at a place
-pub block-at : (entries : List Entry) (now : Blocks) (place : ℕ) (e : Entry) (r : List ℕ) → map pair entries ≡ now → place < length now → e ≡ get_or entries place e → r ≡ e.block → slice_get (map block now) place ≡ Some r
+pub block-at : (entries : List Entry) (now : Blocks) (place : ℕ) (e : Entry) (r : List ℕ) → map pair entries ≡ now → place < length now → e ≡ get_or entries place e → r ≡ e.block.items → slice_get (map block now) place ≡ Some r
 block-at entries now place e r is within at same =
     let lt : place < length entries = omega (arith, ap length is, length-map entries pair) in
     let found : slice_get (map pair entries) place ≡ Some (pair e) = slice_get-map pair entries place ∙ ap (λ o. option_map pair o) (slice_get_read entries (length entries) place e refl lt at) in

@@ -2,7 +2,7 @@
 use Rattle.std.specs.Prelude.{ℕ, zero, suc, ◌+◌, ◌-◌, ◌≤◌, Bool, true, false, List, [], ◌∷◌, ◌++◌, length, reverse, take, map, Option, Some, None, nat_lt, if◌then◌else◌}
 use Rattle.ix_cbor.specs.Data as nodes
 use Rattle.ix_cbor.specs.Data.{Data, Items, Entries, null, boolean, integer, float, bytes, text, list, link, no_items, item, no_entries, entry, items_of, entries_of, data_of}
-use Rattle.ix_cbor.specs.Stops.{entry_of}
+use Rattle.ix_cbor.specs.Data.{entry_of}
 use Rattle.ix_selector.specs.Enters.{Step, key, nth, Path}
 use Rattle.ix_selector.specs.Residual.{residual_enters}
 use Rattle.ix_walk.specs.declared.subtree.Waiting.{Waiting}

@@ -8,7 +8,7 @@ ghost use Rattle.ix_walk.specs.Walking.{part_of, part_below};
 ghost use Rattle.ix_walk.specs.Descent.{IsChild, is_spent, pushed, Opens, Finds};
 
 use crate::subtree::{Found, Members, Pending, Waiting};
-use ix_cbor::{Node, Octets};
+use ix_cbor::Node;
 use ix_selector::{Residual, Step};
 use std::alloc::{AllocError, Global};
 
@@ -116,7 +116,7 @@ fn open_members<'a>(
 fn open_values<'a>(
     alloc: Global,
     residual: Residual<'a>,
-    mut values: Vec<(Octets, Node)>,
+    mut values: Vec<(Vec<u8>, Node)>,
     depth: u32,
     stack: &mut Vec<Pending<'a>>,
 ) -> Result<(), AllocError>

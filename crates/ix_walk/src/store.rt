@@ -3,7 +3,6 @@
 ghost use Rattle.std.specs.Prelude.{◌≡◌, ◌<◌, [], ◌∷◌, ◌++◌, length, map, slice_get, Some, true, false, IfOk, OnOk, OnErr, not, ◌==◌};
 ghost use Rattle.ix_walk.specs.Store.{has_cid, with_block, position_of};
 
-use ix_cbor::Octets;
 use ix_cid::Cid;
 use std::alloc::{AllocError, Global};
 use std::collections::BTreeMap;
@@ -12,7 +11,7 @@ use std::marker::Model;
 #[derive(Drop)]
 struct Entry {
     cid: Cid,
-    block: Octets,
+    block: Vec<u8>,
 }
 
 /// Blocks under their CIDs, seen as the list of pairs in the order of adding.
@@ -30,9 +29,9 @@ impl Model for Store {
 
     ghost Value = { List (List ℕ × List ℕ) };
 
-    ghost view = { λ s. map (λ e. (e.cid, e.block)) s.entries.items };
+    ghost view = { λ s. map (λ e. (e.cid, e.block.items)) s.entries.items };
 
-    ghost invariant = { λ s. IsIndexed s.index (map (λ e. (e.cid, e.block)) s.entries.items) };
+    ghost invariant = { λ s. IsIndexed s.index (map (λ e. (e.cid, e.block.items)) s.entries.items) };
 }
 
 impl Store {
@@ -81,9 +80,8 @@ impl Store {
         ensures err { OnErr result (self.new ≡ self.old) }
     {
         let key = cid.try_clone(self.alloc)?;
-        let block = Octets::new(bytes);
         let place = self.len();
-        self.entries.push(Entry { cid, block })?;
+        self.entries.push(Entry { cid, block: bytes })?;
         if self.index.insert(key, place).is_err() {
             let _ = self.entries.pop();
             return Err(AllocError);

@@ -2,7 +2,7 @@
 
 ghost use Rattle.std.specs.Prelude.{◌≤◌, vec_len};
 
-use ix_cbor::{Node, Octets};
+use ix_cbor::Node;
 use ix_cid::Cid;
 use ix_selector::Residual;
 
@@ -19,7 +19,7 @@ pub struct Members {
 pub enum Waiting {
     Link(Cid),
     Members(Members),
-    Values(Vec<(Octets, Node)>),
+    Values(Vec<(Vec<u8>, Node)>),
 }
 
 // A subtree that is waiting.

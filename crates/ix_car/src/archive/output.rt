@@ -6,7 +6,7 @@ ghost use Rattle.ix_cid.specs.Varint.{varint_of};
 ghost use Rattle.ix_cbor.specs.Spelling.{spelling_of};
 ghost use Rattle.ix_car.specs.Archive.{header_data, header_of};
 
-use ix_cbor::push_head;
+use ix_cbor::{Major, push_head};
 use ix_cid::{Cid, push_varint};
 use std::alloc::{AllocError, Global};
 use std::io::Write;
@@ -29,7 +29,7 @@ fn header_text(alloc: Global, root: &Cid) -> Result<Vec<u8>, AllocError>
     let cid = root.as_bytes();
     let mut text = Vec::new(alloc);
     text.extend_from_slice(b"\xa2\x65roots\x81\xd8\x2a")?;
-    push_head(&mut text, 2, cid.len() as u64 + 1)?;
+    push_head(&mut text, Major::Bytes, cid.len() as u64 + 1)?;
     text.push(0)?;
     text.extend_from_slice(cid)?;
     text.extend_from_slice(b"\x67version\x01")?;

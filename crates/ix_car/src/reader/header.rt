@@ -1,19 +1,19 @@
 //! Reading the header of a CARv1 file.
 
 ghost use Rattle.std.specs.Prelude.{◌≡◌, ◌<◌, ◌≤◌, map, length, option_map, IfOk, IfErr, Some};
-ghost use Rattle.ix_cbor.specs.Data.{data_of, items_of, entries_of};
+ghost use Rattle.ix_cbor.specs.Data.{data_of, items_of, entry_of, entries_of};
 ghost use Rattle.ix_cbor.specs.Reading.{data_at};
 ghost use Rattle.ix_car.specs.Reading.{value_at, are_links, has_roots, version_fault, header_fault, header_at};
-ghost use Rattle.ix_car.specs.Reads.{ReadsOrWants};
+ghost use Rattle.ix_car.specs.Reads.{ReadsOrRunsOut};
 
 use crate::fault::CarKind;
 use crate::reader::section::{Stop, text_at};
-use ix_cbor::{CborKind, Node, Octets, Tree, decode};
+use ix_cbor::{CborKind, Node, Tree, decode};
 use std::alloc::{AllocError, Global};
 
 // The bytes behind the header.
 pub(super) fn header_at(alloc: Global, bytes: &[u8]) -> Result<&[u8], Stop>
-    ensures reads { ReadsOrWants (λ rest. rest.now) result (header_at bytes.now) }
+    ensures reads { ReadsOrRunsOut (λ rest. rest.now) result (header_at bytes.now) }
     ensures shorter { IfOk result (λ rest. length rest.now < length bytes.now) }
     ensures within { IfErr result (λ stop. stop.left ≤ length bytes.now) }
 {
@@ -87,9 +87,9 @@ fn are_links(nodes: &[Node]) -> bool
 }
 
 // The value of a key.
-fn value_at<'a>(entries: &'a [(Octets, Node)], key: &[u8]) -> Option<&'a Node>
+fn value_at<'a>(entries: &'a [(Vec<u8>, Node)], key: &[u8]) -> Option<&'a Node>
     ensures { option_map (λ node. data_of node.now) result
-        ≡ value_at key.now (entries_of (map (λ e. (e.0, data_of e.1)) entries.now)) }
+        ≡ value_at key.now (entries_of (map entry_of entries.now)) }
 {
     for (other, node) in entries {
         if other.as_slice() == key {

@@ -2,7 +2,7 @@
 
 ghost use Rattle.std.specs.Prelude.{◌≡◌, ◌<◌, ◌≤◌, length, IfOk, IfErr};
 ghost use Rattle.ix_car.specs.Reading.{text_at, section_at};
-ghost use Rattle.ix_car.specs.Reads.{Reads, ReadsOrWants};
+ghost use Rattle.ix_car.specs.Reads.{Reads, ReadsOrRunsOut};
 
 use crate::fault::CarKind;
 use ix_cid::{Cid, CidFault, VarintFault, read_varint};
@@ -49,7 +49,7 @@ pub(super) fn text_at(bytes: &[u8]) -> Result<(&[u8], &[u8]), Stop>
 
 // The CID and the block of the section at the front, and the bytes after it.
 pub(super) fn section_at(alloc: Global, bytes: &[u8]) -> Result<(Cid, &[u8], &[u8]), Stop>
-    ensures reads { ReadsOrWants (λ r. ((r.0, r.1.now), r.2.now)) result (section_at bytes.now) }
+    ensures reads { ReadsOrRunsOut (λ r. ((r.0, r.1.now), r.2.now)) result (section_at bytes.now) }
     ensures shorter { IfOk result (λ r. length r.2.now < length bytes.now) }
     ensures within { IfErr result (λ stop. stop.left ≤ length bytes.now) }
 {
