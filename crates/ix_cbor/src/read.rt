@@ -20,7 +20,7 @@ pub struct Stop {
 
 impl Stop {
     ghost use Rattle.std.specs.Prelude.{◌≡◌, length};
-    ghost use Rattle.ix_cbor.specs.declared.fault.CborKind.TheVariants.{Truncated};
+    ghost use Rattle.ix_cbor.specs.declared.fault.CborKind.TheVariants.{Truncated, Memory};
 
     // A fault at the front of these bytes.
     pub(crate) fn at(kind: CborKind, bytes: &[u8]) -> Stop
@@ -41,6 +41,16 @@ impl Stop {
             left: 0,
         }
     }
+
+    // No memory was left.
+    pub(crate) fn memory() -> Stop
+        ensures { result ≡ record { kind = Memory; left = 0 } }
+    {
+        Stop {
+            kind: CborKind::Memory,
+            left: 0,
+        }
+    }
 }
 
 impl From<AllocError> for Stop {
@@ -50,10 +60,7 @@ impl From<AllocError> for Stop {
     ghost from_gives = { λ _ e. e.kind ≡ Memory };
 
     fn from(_: AllocError) -> Stop {
-        Stop {
-            kind: CborKind::Memory,
-            left: 0,
-        }
+        Stop::memory()
     }
 }
 
@@ -64,10 +71,7 @@ impl<T: Drop> From<AllocFailed<T>> for Stop {
     ghost from_gives = { λ _ e. e.kind ≡ Memory };
 
     fn from(_: AllocFailed<T>) -> Stop {
-        Stop {
-            kind: CborKind::Memory,
-            left: 0,
-        }
+        Stop::memory()
     }
 }
 
