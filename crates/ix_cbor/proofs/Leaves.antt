@@ -15,9 +15,9 @@ tail_is : (x : ℕ) (b : List ℕ) → take (length (x ∷ b) - 1) b ≡ b
 tail_is x b = take_all (length (x ∷ b) - 1) b (omega arith)
 
 -- an item by the major type and the information in its first byte
-pub own_at-behind : (may_nest : Bool) (b : List ℕ) (major info : ℕ) → 1 ≤ length b → major ≡ get_or b 0 0 / 32 → info ≡ get_or b 0 0 % 32 → own_behind may_nest b major info (take (length b - 1) (drop 1 b)) ≡ own_at may_nest b
-own_at-behind may_nest [] major info h is is_info = absurd (omega arith)
-own_at-behind may_nest (x ∷ b) major info h is is_info = (λ i. own_behind may_nest (x ∷ b) (is i) (is_info i) (tail_is x b i))
+pub own_at-behind : (b : List ℕ) (major info : ℕ) → 1 ≤ length b → major ≡ get_or b 0 0 / 32 → info ≡ get_or b 0 0 % 32 → own_behind b major info (take (length b - 1) (drop 1 b)) ≡ own_at b
+own_at-behind [] major info h is is_info = absurd (omega arith)
+own_at-behind (x ∷ b) major info h is is_info = (λ i. own_behind (x ∷ b) (is i) (is_info i) (tail_is x b i))
 
 -- a reading behind two others in turn
 in_turn : {A B C : Type 0} (r : Result A Fault) (f : A → Result B Fault) (g : B → Result C Fault) → (r then f then g) ≡ (r then (λ x. f x then g))
@@ -29,12 +29,12 @@ abbrev pub as_leaf : (List ℕ → Data) → List ℕ × List ℕ → Result (Ow
 as_leaf as_data s = Ok (leaf (as_data s.0), s.1)
 
 -- an item of major type 2 is a byte string
-pub bytes_behind : (may_nest : Bool) (at : List ℕ) (major : Major) (info : ℕ) (b : List ℕ) → major ≡ Bytes → own_behind may_nest at (number_of major) info b ≡ (string_at at info b then as_leaf bytes)
-bytes_behind may_nest at major info b is = ap (λ m. own_behind may_nest at (number_of m) info b) is ∙ sym (in_turn (argument_at at info b) (λ n. take_at n.0 n.1) (as_leaf bytes))
+pub bytes_behind : (at : List ℕ) (major : Major) (info : ℕ) (b : List ℕ) → major ≡ Bytes → own_behind at (number_of major) info b ≡ (string_at at info b then as_leaf bytes)
+bytes_behind at major info b is = ap (λ m. own_behind at (number_of m) info b) is ∙ sym (in_turn (argument_at at info b) (λ n. take_at n.0 n.1) (as_leaf bytes))
 
 -- one of major type 3 is a text
-pub text_behind : (may_nest : Bool) (at : List ℕ) (major : Major) (info : ℕ) (b : List ℕ) → major ≡ Text → own_behind may_nest at (number_of major) info b ≡ (string_at at info b then as_leaf text)
-text_behind may_nest at major info b is = ap (λ m. own_behind may_nest at (number_of m) info b) is ∙ sym (in_turn (argument_at at info b) (λ n. take_at n.0 n.1) (as_leaf text))
+pub text_behind : (at : List ℕ) (major : Major) (info : ℕ) (b : List ℕ) → major ≡ Text → own_behind at (number_of major) info b ≡ (string_at at info b then as_leaf text)
+text_behind at major info b is = ap (λ m. own_behind at (number_of m) info b) is ∙ sym (in_turn (argument_at at info b) (λ n. take_at n.0 n.1) (as_leaf text))
 
 -- the CID at the front is the bytes up to its length
 cid_front : (c : List ℕ) (r : Result (Parts × List ℕ) CidFault) (x : List ℕ) (n : ℕ) → ◌>>=◌ {B = List ℕ × ℕ} r (λ p. Ok (take (length c - length p.1) c, length c - length p.1)) ≡ Ok (x, n) → x ≡ take n c

@@ -3,7 +3,7 @@
 ghost use Rattle.std.specs.Prelude.{◌≡◌};
 ghost use Rattle.ix_cbor.specs.declared.fault.CborKind.TheVariants as kinds;
 ghost use Rattle.ix_cbor.specs.Data.{data_of, float, link};
-ghost use Rattle.ix_cbor.specs.Reading.{fails, string_of_major, float_at, simple_at, link_of, link_at, nested, own_behind, own_at};
+ghost use Rattle.ix_cbor.specs.Reading.{fails, string_of_major, float_at, simple_at, link_of, link_at, own_behind, own_at};
 ghost use Rattle.ix_cbor.specs.Majors.{number_of};
 ghost use Rattle.ix_cbor.specs.Stops.{Reads, ReadsOrRunsOut, own_of};
 
@@ -107,31 +107,15 @@ fn tagged<'a>(
     Ok((Node::Link(cid), rest))
 }
 
-// A list or map, where one may stand.
-fn nesting<'a>(
-    may_nest: bool,
-    at: &'a [u8],
-    own: Own,
-    bytes: &'a [u8],
-) -> Result<(Own, &'a [u8]), Stop>
-    ensures { Reads (λ r. (own_of r.0, r.1.now)) result (nested may_nest at.now (own_of own) bytes.now) }
-{
-    if !may_nest {
-        return Err(Stop::at(CborKind::Nesting, at));
-    }
-    Ok((own, bytes))
-}
-
 // What an item with this major type and information in its first byte is.
 fn of_major<'a>(
     alloc: Global,
-    may_nest: bool,
     at: &'a [u8],
     major: Major,
     information: u8,
     bytes: &'a [u8],
 ) -> Result<(Own, &'a [u8]), Stop>
-    ensures { ReadsOrRunsOut (λ r. (own_of r.0, r.1.now)) result (own_behind may_nest at.now (number_of major) information bytes.now) }
+    ensures { ReadsOrRunsOut (λ r. (own_of r.0, r.1.now)) result (own_behind at.now (number_of major) information bytes.now) }
 {
     match major {
         Major::Unsigned => {
@@ -144,22 +128,21 @@ fn of_major<'a>(
         }
         Major::Bytes => {
             let (string, rest) = string(at, information, bytes)?;
-            Ok((
-                Own::Leaf(Node::Bytes(Vec::from_slice(alloc, string)?)),
-                rest,
-            ))
+            let node = Node::Bytes(Vec::from_slice(alloc, string)?);
+            Ok((Own::Leaf(node), rest))
         }
         Major::Text => {
             let (string, rest) = string(at, information, bytes)?;
-            Ok((Own::Leaf(Node::Text(Vec::from_slice(alloc, string)?)), rest))
+            let node = Node::Text(Vec::from_slice(alloc, string)?);
+            Ok((Own::Leaf(node), rest))
         }
         Major::List => {
             let (count, rest) = argument(at, information, bytes)?;
-            nesting(may_nest, at, Own::ListOf(count), rest)
+            Ok((Own::ListOf(count), rest))
         }
         Major::Map => {
             let (count, rest) = argument(at, information, bytes)?;
-            nesting(may_nest, at, Own::MapOf(count), rest)
+            Ok((Own::MapOf(count), rest))
         }
         Major::Tag => {
             let (tag, rest) = argument(at, information, bytes)?;
@@ -174,18 +157,14 @@ fn of_major<'a>(
 }
 
 // The tests at one item, before any member of it is read.
-pub(crate) fn head_of_item(
-    alloc: Global,
-    bytes: &[u8],
-    may_nest: bool,
-) -> Result<(Own, &[u8]), Stop>
-    ensures { ReadsOrRunsOut (λ r. (own_of r.0, r.1.now)) result (own_at may_nest bytes.now) }
+pub(crate) fn head_of_item(alloc: Global, bytes: &[u8]) -> Result<(Own, &[u8]), Stop>
+    ensures { ReadsOrRunsOut (λ r. (own_of r.0, r.1.now)) result (own_at bytes.now) }
 {
     match bytes {
         [] => Err(Stop::at_end()),
         [head, rest @ ..] => {
             let major = Major::of(*head);
-            of_major(alloc, may_nest, bytes, major, information_of(*head), rest)
+            of_major(alloc, bytes, major, information_of(*head), rest)
         }
     }
 }
