@@ -3,11 +3,11 @@ use Rattle.std.proofs.Common.{◌≡◌, ℕ, ◌-◌, ◌<◌, ◌≢◌, ◌^�
 use Rattle.std.specs.Prelude.{◌↔◌, None}
 use Rattle.std.specs.Global.{Vec}
 use Rattle.ix_cbor.specs.declared.node.Node.{Node}
-use Rattle.ix_cbor.specs.declared.node.Node.TheVariants.{rolls-List, rolls-Map}
+use Rattle.ix_cbor.specs.declared.node.Node.TheVariants.{rolls-Bytes, rolls-Text, rolls-List, rolls-Map}
 use Rattle.ix_cbor.specs.declared.node.Node.TheVariants as variants
 use Rattle.ix_cbor.specs.declared.node.Node.TheFolds.{fold-roll-Node}
 use Rattle.ix_cbor.specs.declared.node.Node.TheOpen as layer
-use Rattle.ix_cbor.specs.Data.{Data, Items, Entries, list, item, entry, no_items, no_entries, data_of, data_step, items_of, entry_of, entries_of}
+use Rattle.ix_cbor.specs.Data.{Data, Items, Entries, bytes, text, list, item, entry, no_items, no_entries, data_of, data_step, items_of, entry_of, entries_of}
 use Rattle.ix_cbor.specs.Data as data_model
 use Rattle.ix_cbor.specs.Spelling.{item_count, entry_count}
 use Rattle.ix_cbor.specs.Fits.{Fits, ItemsFit, EntriesFit}
@@ -39,6 +39,14 @@ list-fits n ds count above =
 pub map-fits : (n : ℕ) (es : Entries) → entry_count es < 2 ^ 64 → n ≢ 0 → (Fits n (data_model.map es) ↔ EntriesFit (n - 1) None es)
 map-fits n es count above =
     (λ h. record { parts = h.parts.1; nesting = omega (arith, h.nesting); above = tt }, λ h. record { parts = (count, h.parts); nesting = omega (arith, h.nesting) })
+
+-- the data of a byte string
+pub data_of-bytes : (v : Vec ℕ) → data_of (variants.Bytes v) ≡ bytes v.items
+data_of-bytes v = ap data_of (sym (rolls-Bytes v)) ∙ fold-roll-Node Data data_step (layer.Bytes v)
+
+-- the data of a text
+pub data_of-text : (v : Vec ℕ) → data_of (variants.Text v) ≡ text v.items
+data_of-text v = ap data_of (sym (rolls-Text v)) ∙ fold-roll-Node Data data_step (layer.Text v)
 
 -- the data of a node with members
 pub data_of-list : (v : Vec Node) → data_of (variants.List v) ≡ list (node_items v.items)

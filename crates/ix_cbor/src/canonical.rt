@@ -9,7 +9,7 @@ use crate::head::compare_keys;
 use crate::node::Node;
 
 // How deep lists and maps may nest.
-const LEVELS: u32 = 512;
+pub(crate) const LEVELS: u32 = 512;
 
 // Whether the node has a spelling.
 pub(crate) fn is_canonical(node: &Node) -> bool

@@ -7,15 +7,13 @@ ghost use Rattle.ix_cbor.specs.Reading.{decoded};
 ghost use Rattle.ix_cbor.specs.Gives.{Gives, IsFirstOf};
 ghost use Rattle.ix_cbor.specs.Stops.{ReadsOrRunsOut, LiesWithin, placed};
 
+use crate::canonical::LEVELS;
 use crate::fault::{CborFault, CborKind};
 use crate::node::Node;
 use crate::read::{Stop, item};
 use crate::tree::Tree;
 use crate::write::push_item;
 use std::alloc::{AllocError, Global};
-
-// How deep lists and maps may nest.
-const LEVELS: u32 = 512;
 
 // The one item that is all of the bytes.
 fn whole(alloc: Global, bytes: &[u8]) -> Result<Node, Stop>

@@ -20,7 +20,7 @@ pub struct Stop {
 
 impl Stop {
     ghost use Rattle.std.specs.Prelude.{◌≡◌, length};
-    ghost use Rattle.ix_cbor.specs.declared.fault.CborKind.TheVariants.{Truncated};
+    ghost use Rattle.ix_cbor.specs.declared.fault.CborKind.TheVariants.{Truncated, Memory};
 
     // A fault at the front of these bytes.
     pub(crate) fn at(kind: CborKind, bytes: &[u8]) -> Stop
@@ -41,6 +41,16 @@ impl Stop {
             left: 0,
         }
     }
+
+    // No memory was left.
+    pub(crate) fn memory() -> Stop
+        ensures { result ≡ record { kind = Memory; left = 0 } }
+    {
+        Stop {
+            kind: CborKind::Memory,
+            left: 0,
+        }
+    }
 }
 
 impl From<AllocError> for Stop {
@@ -50,10 +60,7 @@ impl From<AllocError> for Stop {
     ghost from_gives = { λ _ e. e.kind ≡ Memory };
 
     fn from(_: AllocError) -> Stop {
-        Stop {
-            kind: CborKind::Memory,
-            left: 0,
-        }
+        Stop::memory()
     }
 }
 
@@ -64,10 +71,7 @@ impl<T: Drop> From<AllocFailed<T>> for Stop {
     ghost from_gives = { λ _ e. e.kind ≡ Memory };
 
     fn from(_: AllocFailed<T>) -> Stop {
-        Stop {
-            kind: CborKind::Memory,
-            left: 0,
-        }
+        Stop::memory()
     }
 }
 
@@ -79,21 +83,23 @@ pub enum Own {
     MapOf(u64),
 }
 
+// One item, where no list or map may stand.
 fn leaf(alloc: Global, bytes: &[u8]) -> Result<(Node, &[u8]), Stop>
     ensures { ReadsOrRunsOut (λ r. (data_of r.0, r.1.now)) result (item_with None bytes.now) }
 {
-    let (own, rest) = head_of_item(alloc, bytes, false)?;
+    let (own, rest) = head_of_item(alloc, bytes)?;
     match own {
         Own::Leaf(node) => Ok((node, rest)),
-        Own::ListOf(_) | Own::MapOf(_) => Err(Stop::at(CborKind::Nesting, rest)),
+        Own::ListOf(_) | Own::MapOf(_) => Err(Stop::at(CborKind::Nesting, bytes)),
     }
 }
 
+// One item, where a list or map may stand, and others nest so deep inside it.
 #[cycle(item)]
 fn branch(alloc: Global, bytes: &[u8], levels: u32) -> Result<(Node, &[u8]), Stop>
     ensures { ReadsOrRunsOut (λ r. (data_of r.0, r.1.now)) result (item_with (Some (item_at levels)) bytes.now) }
 {
-    let (own, rest) = head_of_item(alloc, bytes, true)?;
+    let (own, rest) = head_of_item(alloc, bytes)?;
     match own {
         Own::Leaf(node) => Ok((node, rest)),
         Own::ListOf(count) => {
@@ -107,6 +113,7 @@ fn branch(alloc: Global, bytes: &[u8], levels: u32) -> Result<(Node, &[u8]), Sto
     }
 }
 
+// One item, where lists and maps may nest so deep.
 #[cycle(item)]
 pub(crate) fn item(alloc: Global, bytes: &[u8], levels: u32) -> Result<(Node, &[u8]), Stop>
     ensures { ReadsOrRunsOut (λ r. (data_of r.0, r.1.now)) result (item_at levels bytes.now) }
@@ -118,6 +125,7 @@ pub(crate) fn item(alloc: Global, bytes: &[u8], levels: u32) -> Result<(Node, &[
     }
 }
 
+// So many members of a list, inside which lists and maps may nest so deep.
 #[cycle(item)]
 fn items(alloc: Global, bytes: &[u8], count: u64, levels: u32) -> Result<(Vec<Node>, &[u8]), Stop>
     ensures { ReadsOrRunsOut (λ r. (items_of (map data_of r.0.items), r.1.now)) result (items_at (item_at levels) count bytes.now) }
@@ -132,6 +140,7 @@ fn items(alloc: Global, bytes: &[u8], count: u64, levels: u32) -> Result<(Vec<No
     Ok((members, rest))
 }
 
+// So many keys and values of a map, inside which lists and maps may nest so deep.
 #[cycle(item)]
 fn entries(
     alloc: Global,

@@ -9,7 +9,7 @@ push_entries-push_item-requires t c =
 
 pub push_item-returns-in_ok-push_head-in-List : goal.push_item-returns-in_ok-push_head-in-List
 push_item-returns-in_ok-push_head-in-List t c = record {
-  ok = list-pushed c.push_members.result c.args.node.now c.in-List.members c.deref.result.now c.len.result c.args.out.now.items c.push_head.new.out.items c.push_members.new.out.items c.in-List.is c.deref.ensures.value (search rules) c.in_ok-push_head-in-List.ensures.ok c.push_members.ensures.ok;
+  ok = list-pushed c.push_members.result c.args.node.now c.in-List.members c.deref.result.now c.len.result c.args.out.now.items c.push_head-in-List.new.out.items c.push_members.new.out.items c.in-List.is c.deref.ensures.value (search rules) c.in_ok-push_head-in-List.ensures.ok c.push_members.ensures.ok;
 }
 
 pub push_item-returns-in_ok-push_head-in-Map : goal.push_item-returns-in_ok-push_head-in-Map
