@@ -23,7 +23,7 @@ pub struct Parts<'a> {
     pub codec: u64,
     /// The hash function, a code of the multicodec table: that of sha2-256 for a CIDv0.
     pub hash_code: u64,
-    /// The digest's bytes, without their number.
+    /// The bytes of the digest, without its length.
     pub digest: &'a [u8],
 }
 
