@@ -86,14 +86,12 @@ fn begun<'a, W: Write + Drop>(
     ensures refused { IfErr result (λ fault. IsRunRefusal jobs.now fault) }
 {
     let mut archives = Vec::with_capacity(alloc, jobs.len())?;
-    let mut number = 0;
-    for writer in writers {
-        match Archive::new(alloc, store, &jobs[number], writer) {
+    for (job, writer) in jobs.iter().zip(writers) {
+        match Archive::new(alloc, store, job, writer) {
             Ok(archive) => archives.push(archive)?,
-            Err(ArchiveNew::Write(_)) => return Err(RunFault::Write(number as u32)),
+            Err(ArchiveNew::Write(_)) => return Err(RunFault::Write(archives.len() as u32)),
             Err(ArchiveNew::Memory(_)) => return Err(RunFault::Memory),
         }
-        number += 1;
     }
     Ok(archives)
 }
@@ -110,13 +108,11 @@ fn ended<'a, W: Write + Drop>(
 {
     let mut results = Vec::with_capacity(alloc, ends.len())?;
     let mut writers = Vec::with_capacity(alloc, ends.len())?;
-    let mut number = 0;
-    for archive in archives {
+    for (archive, end) in archives.into_iter().zip(ends) {
         let (mut writer, skips, counts) = archive.into_parts();
-        let end = flushed(&mut writer, ends[number]);
+        let end = flushed(&mut writer, *end);
         results.push(JobResult { end, counts, skips })?;
         writers.push(writer)?;
-        number += 1;
     }
     Ok((results, writers))
 }
