@@ -10,7 +10,6 @@ use Rattle.ix_selector.specs.declared.read.Shape.{Shape}
 use Rattle.ix_selector.specs.declared.read.Shape.TheVariants.{Matcher, All, Fields, Index, Range, Recursive, Union, Edge}
 use Rattle.ix_selector.specs.Pattern.{Pattern, matcher, all, fields, index, range, recursive, union, edge, Around, outside, unguarded, guarded, behind_step}
 use Rattle.ix_selector.specs.Reading.{Reader, ◌>>=◌, integer_of, entries_of_map, fields_read, members_read}
-use Rattle.ix_selector.specs.Gives.{Fails}
 
 -- what stands round a selector, as the program keeps it
 abbrev pub around_of : RustAround → Around
@@ -54,7 +53,7 @@ inside read around (Recursive limit d) = read unguarded (data_of d.now) >>= (λ 
 inside read around (Union ds) = members_read (read around) (items_data ds.now) >>= (λ ss. Ok (union ss))
 inside read around Edge = Ok edge
 
--- the form that was found, read inside, is what the definition gives; a fault is the definition's own
+-- the form that was found, read inside, is what the definition gives; so is a fault
 abbrev pub Shapes : Reader → Around → Result Shape SelFault → Result Pattern SelFault → Type 0
 Shapes read around (Ok shape) meant = meant ≡ inside read around shape
-Shapes read around (Err e) meant = Fails e meant
+Shapes read around (Err e) meant = meant ≡ Err e

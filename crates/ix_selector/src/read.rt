@@ -4,7 +4,7 @@ ghost use Rattle.std.specs.Prelude.{◌≡◌, codes, map, IfOk};
 ghost use Rattle.ix_cbor.specs.Data.{data_of};
 ghost use Rattle.ix_selector.specs.Pattern.{pattern_of, fields_of, members_of, Around as SpecAround, behind_step};
 ghost use Rattle.ix_selector.specs.Reading.{Reader, integer_of, entries_of_map, one_of, two_of, three_of, has_key, limit_of, matcher_of, all_read, fields_form, index_form, range_form, recursive_form, union_form, edge_form, form_of, fields_read, members_read, read_with, selector_at, without_envelope, selector_of};
-ghost use Rattle.ix_selector.specs.Gives.{Gives};
+ghost use Rattle.ix_selector.specs.Gives.{Gives, Reads};
 ghost use Rattle.ix_selector.specs.Shapes.{around_of, entries_data, items_data, in_map, none_limit, depth_limit, inside, Shapes};
 
 use crate::fault::{Form, SelFault};
@@ -47,7 +47,7 @@ fn around_step(around: Around) -> Around
 }
 
 fn integer(node: &Node) -> Result<i128, SelFault>
-    ensures { Gives (λ n. n) result (integer_of (data_of node.now)) }
+    ensures { Reads (λ n. n) result (integer_of (data_of node.now)) }
 {
     match node {
         Node::Int(number) => Ok(*number),
@@ -56,7 +56,7 @@ fn integer(node: &Node) -> Result<i128, SelFault>
 }
 
 fn map_entries(node: &Node) -> Result<&[(Octets, Node)], SelFault>
-    ensures { Gives (λ es. entries_data es.now) result (entries_of_map (data_of node.now)) }
+    ensures { Reads (λ es. entries_data es.now) result (entries_of_map (data_of node.now)) }
 {
     match node {
         Node::Map(entries) => Ok(entries.as_slice()),
@@ -66,7 +66,7 @@ fn map_entries(node: &Node) -> Result<&[(Octets, Node)], SelFault>
 
 // The value of the one key.
 fn only<'t>(entries: &'t [(Octets, Node)], key: &[u8]) -> Result<&'t Node, SelFault>
-    ensures { Gives (λ d. data_of d.now) result (one_of key.now (entries_data entries.now)) }
+    ensures { Reads (λ d. data_of d.now) result (one_of key.now (entries_data entries.now)) }
 {
     let [(name, value)] = entries else {
         return Err(SelFault::Keys);
@@ -84,7 +84,7 @@ fn both<'t>(
     first: &[u8],
     second: &[u8],
 ) -> Result<(&'t Node, &'t Node), SelFault>
-    ensures { Gives (λ d. (data_of d.0.now, data_of d.1.now)) result (two_of first.now second.now (entries_data entries.now)) }
+    ensures { Reads (λ d. (data_of d.0.now, data_of d.1.now)) result (two_of first.now second.now (entries_data entries.now)) }
 {
     let [(name, value), rest @ ..] = entries else {
         return Err(SelFault::Keys);
@@ -98,7 +98,7 @@ fn both<'t>(
 
 // The values of the three keys of a range.
 fn range_parts(entries: &[(Octets, Node)]) -> Result<(&Node, &Node, &Node), SelFault>
-    ensures { Gives (λ d. (data_of d.0.now, data_of d.1.now, data_of d.2.now)) result (three_of (codes "$") (codes ">") (codes "^") (entries_data entries.now)) }
+    ensures { Reads (λ d. (data_of d.0.now, data_of d.1.now, data_of d.2.now)) result (three_of (codes "$") (codes ">") (codes "^") (entries_data entries.now)) }
 {
     let [(name, value), rest @ ..] = entries else {
         return Err(SelFault::Keys);
@@ -180,7 +180,7 @@ fn edge(body: &Node, around: Around) -> Result<Shape<'_>, SelFault>
 
 // `none` with an empty map, or `depth` with a number below 2 ^ 32.
 fn limit(node: &Node) -> Result<Option<u32>, SelFault>
-    ensures { Gives (λ l. l) result (limit_of (data_of node.now)) }
+    ensures { Reads (λ l. l) result (limit_of (data_of node.now)) }
 {
     let [(name, value)] = map_entries(node)? else {
         return Err(SelFault::Keys);
@@ -195,7 +195,7 @@ fn limit(node: &Node) -> Result<Option<u32>, SelFault>
 }
 
 fn no_limit(node: &Node) -> Result<Option<u32>, SelFault>
-    ensures { Gives (λ l. l) result (none_limit (data_of node.now)) }
+    ensures { Reads (λ l. l) result (none_limit (data_of node.now)) }
 {
     match map_entries(node)? {
         [] => Ok(None),
@@ -204,7 +204,7 @@ fn no_limit(node: &Node) -> Result<Option<u32>, SelFault>
 }
 
 fn depth(node: &Node) -> Result<Option<u32>, SelFault>
-    ensures { Gives (λ l. l) result (depth_limit (data_of node.now)) }
+    ensures { Reads (λ l. l) result (depth_limit (data_of node.now)) }
 {
     match u32::try_from(integer(node)?) {
         Ok(depth) => Ok(Some(depth)),
