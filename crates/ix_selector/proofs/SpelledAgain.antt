@@ -4,7 +4,7 @@ use Rattle.std.specs.Prelude.{◌↔◌, Option, Some, None, Ok, Err, codes, if�
 use Rattle.std.proofs.lemmas.Bool.{lt-ltb}
 use Rattle.ix_cbor.specs.Data.{Data, Items, Entries, integer, list, map, no_items, item, no_entries, entry}
 use Rattle.ix_selector.specs.declared.fault.SelFault.TheVariants.{Depth}
-use Rattle.ix_selector.specs.Pattern.{Pattern, Fields, Members, matcher, all, fields, index, range, recursive, union, edge, no_fields, field, no_members, member, Around, outside, unguarded, guarded, behind_step, nesting_of, fields_nesting, members_nesting, IsLimit, MayStand, IsGuarded, AreGuarded, EachGuarded, IsSelector}
+use Rattle.ix_selector.specs.Pattern.{Pattern, Fields, Members, matcher, all, fields, index, range, recursive, union, edge, no_fields, field, no_members, member, Around, outside, unguarded, guarded, behind_step, nesting_of, fields_nesting, members_nesting, IsLimit, MayStand, IsGuarded, AreGuarded, EachGuarded, greatest_nesting, IsSelector}
 use Rattle.ix_selector.specs.Reading.{Reader, ◌>>=◌, matcher_of, fields_read, members_read, limit_of, edge_form, read_with, selector_at, selector_of, without_envelope}
 use Rattle.ix_selector.specs.Spelled.{one_key, two_keys, three_keys, AreLabels, no_label, label, SpellsLimit, as_no_limit, as_depth, SpellsPattern, as_matcher, as_all, as_fields, as_index, as_range, as_recursive, as_union, as_edge, SpellFields, as_no_fields, as_field, SpellMembers, as_no_members, as_member, SpellsSelector, alone, in_envelope}
 use Rattle.ix_selector.proofs.Guarded.{reads_selector}
@@ -85,12 +85,12 @@ form_alone as_edge = refl
 
 -- so the envelope changes nothing
 selector_again : {d : Data} {s : Pattern} → SpellsSelector d s → IsSelector s → selector_of d ≡ Ok s
-selector_again (alone {d = d} {s = s} h) is = ap (λ x. selector_at 128 outside x) (form_alone h) ∙ at_again 128 outside d s h is.edges is.nesting
-selector_again (in_envelope {d = d} {s = s} h) is = at_again 128 outside d s h is.edges is.nesting
+selector_again (alone {d = d} {s = s} h) is = ap (λ x. selector_at greatest_nesting outside x) (form_alone h) ∙ at_again greatest_nesting outside d s h is.edges is.nesting
+selector_again (in_envelope {d = d} {s = s} h) is = at_again greatest_nesting outside d s h is.edges is.nesting
 
 -- a selector is read exactly where it is spelled
 pub selector_of-iff : (d : Data) (s : Pattern) → selector_of d ≡ Ok s ↔ (SpellsSelector d s × IsSelector s)
-selector_of-iff d s = ((λ h. (around_spelled d s (at_spelled 128 outside (without_envelope d) s h), reads_selector d s h)), (λ h. selector_again h.0 h.1))
+selector_of-iff d s = ((λ h. (around_spelled d s (at_spelled greatest_nesting outside (without_envelope d) s h), reads_selector d s h)), (λ h. selector_again h.0 h.1))
 
 -- data spell one selector
 pub spells-one : (d : Data) (s t : Pattern) → IsSelector s → IsSelector t → SpellsSelector d s → SpellsSelector d t → s ≡ t

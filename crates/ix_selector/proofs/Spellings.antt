@@ -7,7 +7,7 @@ use Rattle.ix_selector.specs.declared.fault.SelFault.{SelFault}
 use Rattle.ix_selector.specs.declared.fault.SelFault.TheVariants.{NotMap, Keys, Unknown, Unsupported, Kind, Depth, EdgeOutside, EdgeUnguarded, Nesting}
 use Rattle.ix_selector.specs.declared.fault.Form.TheVariants.{MatcherField, StopAt, Conditional, InterpretAs}
 use Rattle.ix_selector.specs.Pattern.{Pattern, Fields, Members, matcher, all, fields, index, range, recursive, union, edge, no_fields, field, no_members, member, Around, outside, unguarded, guarded, behind_step}
-use Rattle.ix_selector.specs.Reading.{Reader, ◌>>=◌, matcher_of, integer_of, entries_of_map, one_of, two_of, three_of, fields_read, members_read, has_key, limit_of, all_read, fields_form, index_form, range_form, recursive_form, edge_form, union_form, form_of, read_with, selector_at, without_envelope}
+use Rattle.ix_selector.specs.Reading.{Reader, ◌>>=◌, matcher_of, integer_of, entries_of_map, one_of, two_of, three_of, fields_read, members_read, has_key, no_limit_of, depth_of, limit_of, all_read, fields_form, index_form, range_form, recursive_form, edge_form, union_form, form_of, read_with, selector_at, without_envelope}
 use Rattle.ix_selector.specs.Spelled.{one_key, two_keys, three_keys, AreLabels, no_label, label, SpellsLimit, as_no_limit, as_depth, SpellsPattern, as_matcher, as_all, as_fields, as_index, as_range, as_recursive, as_union, as_edge, SpellFields, as_no_fields, as_field, SpellMembers, as_no_members, as_member, SpellsSelector, alone, in_envelope}
 use Rattle.ix_selector.proofs.Guarded.{err_no_ok, bind_ok, by_test}
 use Rattle.ix_selector.proofs.Parts.{is_map}
@@ -60,20 +60,12 @@ is_three first second third (entry k e more) d h =
       parts (Err f) is = err_no_ok f is
 is_three first second third no_entries d h = err_no_ok Keys h
 
--- the parts of limit_of
-abbrev none_limit : Entries → Result (Option ℕ) SelFault
-none_limit no_entries = Ok None
-none_limit other = Err Keys
-
-abbrev depth_limit : ℤ → Result (Option ℕ) SelFault
-depth_limit (pos n) = if nat_lt n (2 ^ 32) then Ok (Some n) else Err Depth
-depth_limit (negsuc n) = Err Depth
-
-none_spelled : (es : Entries) (limit : Option ℕ) → none_limit es ≡ Ok limit → SpellsLimit (one_key (codes "none") (map es)) limit
+-- what each part of a limit gives is spelled
+none_spelled : (es : Entries) (limit : Option ℕ) → no_limit_of es ≡ Ok limit → SpellsLimit (one_key (codes "none") (map es)) limit
 none_spelled no_entries limit h = subst (λ l. SpellsLimit (one_key (codes "none") (map no_entries)) l) (same_value None limit h) as_no_limit
 none_spelled (entry k d es) limit h = err_no_ok Keys h
 
-depth_spelled : (n : ℤ) (limit : Option ℕ) → depth_limit n ≡ Ok limit → SpellsLimit (one_key (codes "depth") (integer n)) limit
+depth_spelled : (n : ℤ) (limit : Option ℕ) → depth_of n ≡ Ok limit → SpellsLimit (one_key (codes "depth") (integer n)) limit
 depth_spelled (pos n) limit h =
     elim (nat_lt n (2 ^ 32)) as (λ b. (if b then Ok (Some n) else Err Depth) ≡ Ok limit → SpellsLimit (one_key (codes "depth") (integer (pos n))) limit)
     [ true ↦ (λ e. subst (λ l. SpellsLimit (one_key (codes "depth") (integer (pos n))) l) (same_value (Some n) limit e) as_depth) | false ↦ (λ e. err_no_ok Depth e) ] h
@@ -82,13 +74,13 @@ depth_spelled (negsuc n) limit h = err_no_ok Depth h
 -- a limit that is read is spelled
 limit_spelled : (d : Data) (limit : Option ℕ) → limit_of d ≡ Ok limit → SpellsLimit d limit
 limit_spelled (map (entry k d no_entries)) limit h =
-    by_key k (codes "none") (entries_of_map d >>= none_limit) _ limit (SpellsLimit (one_key k d) limit)
+    by_key k (codes "none") (entries_of_map d >>= no_limit_of) _ limit (SpellsLimit (one_key k d) limit)
     (λ named e.
-    let found = bind_ok (entries_of_map d) none_limit limit e in
+    let found = bind_ok (entries_of_map d) no_limit_of limit e in
     subst (λ d. SpellsLimit d limit) (ap (one_key (codes "none")) (sym (is_map d found.0 found.1)) ∙ ap (λ l. one_key l d) (sym named)) (none_spelled found.0 limit found.2))
-    (by_key k (codes "depth") (integer_of d >>= depth_limit) (Err Unknown) limit (SpellsLimit (one_key k d) limit)
+    (by_key k (codes "depth") (integer_of d >>= depth_of) (Err Unknown) limit (SpellsLimit (one_key k d) limit)
     (λ named e.
-    let found = bind_ok (integer_of d) depth_limit limit e in
+    let found = bind_ok (integer_of d) depth_of limit e in
     subst (λ d. SpellsLimit d limit) (ap (one_key (codes "depth")) (sym (is_integer d found.0 found.1)) ∙ ap (λ l. one_key l d) (sym named)) (depth_spelled found.0 limit found.2))
     (λ e. err_no_ok Unknown e)) h
 limit_spelled (map (entry k d (entry l e es))) limit h = err_no_ok Keys h

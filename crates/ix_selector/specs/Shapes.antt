@@ -9,7 +9,7 @@ use Rattle.ix_selector.specs.declared.read.Around.TheVariants.{Outside, Unguarde
 use Rattle.ix_selector.specs.declared.read.Shape.{Shape}
 use Rattle.ix_selector.specs.declared.read.Shape.TheVariants.{Matcher, All, Fields, Index, Range, Recursive, Union, Edge}
 use Rattle.ix_selector.specs.Pattern.{Pattern, matcher, all, fields, index, range, recursive, union, edge, Around, outside, unguarded, guarded, behind_step}
-use Rattle.ix_selector.specs.Reading.{Reader, ◌>>=◌, integer_of, entries_of_map, fields_read, members_read}
+use Rattle.ix_selector.specs.Reading.{Reader, ◌>>=◌, integer_of, entries_of_map, no_limit_of, depth_of, fields_read, members_read}
 
 -- what stands round a selector, as the program keeps it
 abbrev pub around_of : RustAround → Around
@@ -30,17 +30,11 @@ in_map form d = entries_of_map d >>= form
 
 -- no limit, which an empty map stands for
 abbrev pub none_limit : Data → Result (Option ℕ) SelFault
-none_limit d = entries_of_map d >>= empty where
-  empty : Entries → Result (Option ℕ) SelFault
-  empty no_entries = Ok None
-  empty other = Err Keys
+none_limit d = entries_of_map d >>= no_limit_of
 
 -- a depth below 2 ^ 32
 abbrev pub depth_limit : Data → Result (Option ℕ) SelFault
-depth_limit d = integer_of d >>= depth where
-  depth : ℤ → Result (Option ℕ) SelFault
-  depth (pos n) = if nat_lt n (2 ^ 32) then Ok (Some n) else Err Depth
-  depth (negsuc n) = Err Depth
+depth_limit d = integer_of d >>= depth_of
 
 -- a form, with what stands inside read
 abbrev pub inside : Reader → Around → Shape → Result Pattern SelFault

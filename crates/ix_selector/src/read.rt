@@ -12,7 +12,7 @@ use crate::sel::Sel;
 use ix_cbor::{Node, Octets};
 use std::alloc::{AllocError, Global};
 
-// How many selectors may stand inside one another.
+// How deep a selector may nest, itself counted.
 const LEVELS: u32 = 128;
 
 // What stands round a selector: no recursion, or the innermost one, with a step between or none.
@@ -270,7 +270,7 @@ fn copied(alloc: Global, octets: &Octets) -> Result<Octets, AllocError>
     Ok(Octets::new(Vec::from_slice(alloc, octets.as_slice())?))
 }
 
-// A selector inside which at most so many others stand.
+// A selector that nests at most so deep, itself counted.
 #[cycle(levels)]
 fn selector_at(alloc: Global, node: &Node, around: Around, levels: u32) -> Result<Sel, SelFault>
     ensures { Gives pattern_of result (selector_at levels (around_of around) (data_of node.now)) }
