@@ -1,6 +1,6 @@
 -- What is spelled is read: at every level, by the laws of the level below.
 use Rattle.std.proofs.Common.{◌≡◌, ℕ, zero, suc, ◌+◌, ◌≤◌, true, false, List, ◌++◌, refl, ◌∙◌, ap, arith, append_assoc, add-one}
-use Rattle.std.specs.Prelude.{Option, Some, None, is_some, Ok}
+use Rattle.std.specs.Prelude.{Option, Some, None, Ok}
 use Rattle.ix_cbor.specs.Data.{Data, Items, Entries, null, boolean, integer, float, bytes, text, list, map, link, no_items, item, no_entries, entry}
 use Rattle.ix_cbor.specs.Spelling.{head_of, key_spelling, spelling_of, items_spelling, entries_spelling, item_count, entry_count, IsSpellable, AreSpellable, AreRising, nesting_of, items_nesting, entries_nesting}
 use Rattle.ix_cbor.specs.Reading.{Parse, ◌>>=◌, key_at, own_at, Own, leaf, list_of, map_of, items_at, entries_at, with_members, item_with, item_at}
@@ -25,10 +25,10 @@ entries_read read before j b at middle rest k d es key value others =
     ap (λ (i : ℕ). entries_at read before i b) (add-one j) ∙ ap (λ x. x >>= value_behind read j) key ∙ ap (λ x. x >>= entries_behind read j k) value ∙ ap (λ x. x >>= with_entry k d) others
 
 -- an item whose members are read
-members_read : (may_nest : Option (Parse Data)) (part : Own) (b behind rest : List ℕ) (d : Data) → b ≡ own_spelling part ++ behind → IsOwn (is_some may_nest) part
-    → with_members may_nest (part, behind) ≡ Ok (d, rest) → item_with may_nest b ≡ Ok (d, rest)
-members_read may_nest part b behind rest d is part_is members =
-    ap (λ (l : List ℕ). own_at (is_some may_nest) l >>= with_members may_nest) is ∙ ap (λ x. x >>= with_members may_nest) (own_again (is_some may_nest) part behind part_is) ∙ members
+members_read : (inner : Option (Parse Data)) (part : Own) (b behind rest : List ℕ) (d : Data) → b ≡ own_spelling part ++ behind → IsOwn part
+    → with_members inner b (part, behind) ≡ Ok (d, rest) → item_with inner b ≡ Ok (d, rest)
+members_read inner part b behind rest d is part_is members =
+    ap (λ x. x >>= with_members inner b) (ap own_at is ∙ own_again part behind part_is) ∙ members
 
 module _ (n : ℕ) (read : Parse Data) (complete : IsComplete n read) where
   -- members that are spelled
@@ -52,7 +52,7 @@ module _ (n : ℕ) (read : Parse Data) (complete : IsComplete n read) where
 
   -- an item that is whole
   leaf_some : (d : Data) (rest : List ℕ) → IsSpellable d → nesting_of d ≡ 0 → item_with (Some read) (spelling_of d ++ rest) ≡ Ok (d, rest)
-  leaf_some d rest spellable flat = ap (λ x. x >>= with_members (Some read)) (own_again true (leaf d) rest (spellable, flat))
+  leaf_some d rest spellable flat = ap (λ x. x >>= with_members (Some read) (spelling_of d ++ rest)) (own_again (leaf d) rest (spellable, flat))
 
   -- an item inside which lists and maps may stand
   pub some_complete : IsComplete (suc n) (item_with (Some read))
@@ -64,15 +64,15 @@ module _ (n : ℕ) (read : Parse Data) (complete : IsComplete n read) where
   some_complete (text x) rest spellable nesting = leaf_some (text x) rest spellable refl
   some_complete (list ds) rest spellable nesting =
       members_read (Some read) (list_of (item_count ds)) ((head_of 4 (item_count ds) ++ items_spelling ds) ++ rest) (items_spelling ds ++ rest) rest (list ds)
-      (append_assoc (head_of 4 (item_count ds)) (items_spelling ds) rest) (spellable.0, refl) (ap (λ x. x >>= as_list) (items_again ds rest spellable.1 (omega arith)))
+      (append_assoc (head_of 4 (item_count ds)) (items_spelling ds) rest) spellable.0 (ap (λ x. x >>= as_list) (items_again ds rest spellable.1 (omega arith)))
   some_complete (map es) rest spellable nesting =
       members_read (Some read) (map_of (entry_count es)) ((head_of 5 (entry_count es) ++ entries_spelling es) ++ rest) (entries_spelling es ++ rest) rest (map es)
-      (append_assoc (head_of 5 (entry_count es)) (entries_spelling es) rest) (spellable.0, refl) (ap (λ x. x >>= as_map) (entries_again None es rest spellable.1 tt (omega arith)))
+      (append_assoc (head_of 5 (entry_count es)) (entries_spelling es) rest) spellable.0 (ap (λ x. x >>= as_map) (entries_again None es rest spellable.1 tt (omega arith)))
   some_complete (link c) rest spellable nesting = leaf_some (link c) rest spellable refl
 
 -- an item inside which none may stand
 pub none_complete : IsComplete 0 (item_with None)
-none_complete d rest spellable nesting = ap (λ x. x >>= with_members None) (own_again false (leaf d) rest (spellable, omega arith))
+none_complete d rest spellable nesting = ap (λ x. x >>= with_members None (spelling_of d ++ rest)) (own_again (leaf d) rest (spellable, omega arith))
 
 -- every level
 pub item_complete : (n : ℕ) → IsComplete n (item_at n)

@@ -1,12 +1,12 @@
 -- A fault of reading is the first one, since what is read before it is spelled as it should be.
-use Rattle.std.proofs.Common.{◌≡◌, inl, inr, ◌<◌, ◌≤◌, ◌+◌, ◌^◌, arith, ℕ, zero, suc, true, false, true≢false, List, [], ◌∷◌, ◌++◌, length, refl, sym, ◌∙◌, ap, append_assoc}
+use Rattle.std.proofs.Common.{◌≡◌, inl, inr, ◌<◌, ◌≤◌, ◌+◌, ◌^◌, arith, ℕ, zero, suc, true, List, [], ◌∷◌, ◌++◌, length, refl, sym, ◌∙◌, ap, subst, append_assoc}
 use Rattle.std.specs.Prelude.{Option, Some, None, Err}
 use Rattle.ix_cid.specs.Bytes.{AreBytes}
-use Rattle.ix_cbor.specs.declared.fault.CborKind.TheVariants.{Rest}
+use Rattle.ix_cbor.specs.declared.fault.CborKind.TheVariants.{Nesting, Rest}
 use Rattle.ix_cbor.specs.Data.{Data, Items, Entries, list, map, no_items, item, no_entries, entry}
 use Rattle.ix_cbor.specs.Spelling.{head_of, key_spelling, spelling_of, items_spelling, entries_spelling, item_count, entry_count, items_nesting, entries_nesting, IsSpellable, AreSpellable, AreRising, Rises, nesting_of}
 use Rattle.ix_cbor.specs.Reading.{Fault, Parse, ◌>>=◌, key_at, rises, own_at, Own, leaf, list_of, map_of, items_at, entries_at, with_members, item_with, item_at, nothing_after, decoded}
-use Rattle.ix_cbor.specs.FirstFault.{last_key, BeginsMap, FaultAt, own, in_list, at_key, in_map, HasRest, FirstFault}
+use Rattle.ix_cbor.specs.FirstFault.{last_key, BeginsMap, FaultAt, own, list_too_deep, map_too_deep, in_list, at_key, in_map, HasRest, FirstFault}
 use Rattle.ix_cbor.proofs.Bytes.{IsBytes, IsBytes-from_are_bytes, IsBytes-behind}
 use Rattle.ix_cbor.proofs.Steps.{bind_err, no_err, fault_same, with_item, items_behind, with_entry, entries_behind, value_behind, as_list, as_map}
 use Rattle.ix_cbor.proofs.Keys.{key_taken, RisesFrom-from_test}
@@ -155,42 +155,42 @@ module _ (n : ℕ) (read : Parse Data) (sound : IsSound n read) (first : IsFirst
       ]
 
   -- the members of an item
-  some_members : (part : Own) (b middle : List ℕ) (f : Fault) → IsBytes middle → OwnTaken true b part middle → with_members (Some read) (part, middle) ≡ Err f → FaultAt (suc n) b f
+  some_members : (part : Own) (b middle : List ℕ) (f : Fault) → IsBytes middle → OwnTaken b part middle → with_members (Some read) b (part, middle) ≡ Err f → FaultAt (suc n) b f
   some_members (leaf d) b middle f bytes o e = no_err (d, middle) f e
   some_members (list_of count) b middle f bytes o e =
       elim (bind_err (items_at read count middle) as_list f e) [
-        | inl here ↦ items_fault b count no_items count middle f bytes o.is_own.0 (omega arith) tt (omega arith) o.parts here
+        | inl here ↦ items_fault b count no_items count middle f bytes o.is_own (omega arith) tt (omega arith) o.parts here
         | inr never ↦ no_err (list never.0.0, never.0.1) f never.2
       ]
   some_members (map_of count) b middle f bytes o e =
       elim (bind_err (entries_at read None count middle) as_map f e) [
-        | inl here ↦ entries_fault b count no_entries None count middle f bytes refl o.is_own.0 (omega arith) tt (omega arith) o.parts here
+        | inl here ↦ entries_fault b count no_entries None count middle f bytes refl o.is_own (omega arith) tt (omega arith) o.parts here
         | inr never ↦ no_err (map never.0.0, never.0.1) f never.2
       ]
 
   -- an item inside which lists and maps may stand
   some_first : IsFirst (suc n) (item_with (Some read))
   some_first b f bytes e =
-      elim (bind_err (own_at true b) (with_members (Some read)) f e) [
+      elim (bind_err (own_at b) (with_members (Some read) b) f e) [
         | inl here ↦ own here
         | inr behind ↦
             let x = behind.0 in
-            let o = own_taken true b x.0 x.1 bytes behind.1 in
+            let o = own_taken b x.0 x.1 bytes behind.1 in
             some_members x.0 b x.1 f (IsBytes-behind b (own_spelling x.0) x.1 bytes o.parts) o behind.2
       ]
 
 -- an item that may have no members
-none_members : (part : Own) (b middle : List ℕ) (f : Fault) → OwnTaken false b part middle → with_members None (part, middle) ≡ Err f → FaultAt 0 b f
+none_members : (part : Own) (b middle : List ℕ) (f : Fault) → OwnTaken b part middle → with_members None b (part, middle) ≡ Err f → FaultAt 0 b f
 none_members (leaf d) b middle f o e = no_err (d, middle) f e
-none_members (list_of count) b middle f o e = absurd (true≢false (sym o.is_own.1))
-none_members (map_of count) b middle f o e = absurd (true≢false (sym o.is_own.1))
+none_members (list_of count) b middle f o e = subst (λ (g : Fault). FaultAt 0 b g) (fault_same {A = Data × List ℕ} (record { kind = Nesting; left = length b }) f e) (list_too_deep count middle o.is_own o.parts)
+none_members (map_of count) b middle f o e = subst (λ (g : Fault). FaultAt 0 b g) (fault_same {A = Data × List ℕ} (record { kind = Nesting; left = length b }) f e) (map_too_deep count middle o.is_own o.parts)
 
 -- an item inside which none may stand
 none_first : IsFirst 0 (item_with None)
 none_first b f bytes e =
-    elim (bind_err (own_at false b) (with_members None) f e) [
+    elim (bind_err (own_at b) (with_members None b) f e) [
       | inl here ↦ own here
-      | inr behind ↦ none_members behind.0.0 b behind.0.1 f (own_taken false b behind.0.0 behind.0.1 bytes behind.1) behind.2
+      | inr behind ↦ none_members behind.0.0 b behind.0.1 f (own_taken b behind.0.0 behind.0.1 bytes behind.1) behind.2
     ]
 
 -- any level

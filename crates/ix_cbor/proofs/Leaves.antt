@@ -1,21 +1,40 @@
 -- One item by its own head, as the code takes it apart.
-use Rattle.std.proofs.Common.{◌≡◌, ◌≤◌, ◌-◌, ◌/◌, arith, ℕ, Bool, true, false, eqb, List, [], ◌∷◌, length, get_or, take, drop, refl, sym, ◌∙◌, ap, eq-eqb, ne_eqb}
+use Rattle.std.proofs.Common.{◌≡◌, ◌≤◌, ◌-◌, ◌/◌, ◌%◌, arith, ℕ, Bool, true, false, eqb, List, [], ◌∷◌, length, get_or, take, drop, refl, sym, ◌∙◌, ap, eq-eqb, ne_eqb}
 use Rattle.std.specs.Prelude.{Result, Ok, Err}
 use Rattle.std.proofs.lemmas.List.{take_all}
 use Rattle.ix_cid.specs.Cid.{Parts, ◌>>=◌, parts_at, cid_at}
 use Rattle.ix_cid.specs.declared.fault.CidFault.{CidFault}
-use Rattle.ix_cbor.specs.Data.{link}
-use Rattle.ix_cbor.specs.Reading.{own_at, is_cid, link_of}
-use Rattle.ix_cbor.specs.Stops.{headed_at}
+use Rattle.ix_cbor.specs.declared.major.Major.{Major}
+use Rattle.ix_cbor.specs.declared.major.Major.TheVariants.{Bytes, Text}
+use Rattle.ix_cbor.specs.Data.{Data, bytes, text, link}
+use Rattle.ix_cbor.specs.Majors.{number_of}
+use Rattle.ix_cbor.specs.Reading.{Fault, ◌>>=◌ as ◌then◌, take_at, argument_at, string_at, Own, leaf, own_behind, own_at, is_cid, link_of}
 
 -- all bytes behind the first one
 tail_is : (x : ℕ) (b : List ℕ) → take (length (x ∷ b) - 1) b ≡ b
 tail_is x b = take_all (length (x ∷ b) - 1) b (omega arith)
 
--- an item whose head isn't of major type 7
-pub own_at-headed : (may_nest : Bool) (b : List ℕ) → 1 ≤ length b → (get_or b 0 0 / 32 ≡ 7 → ⊥) → headed_at may_nest b (get_or b 0 0) (take (length b - 1) (drop 1 b)) ≡ own_at may_nest b
-own_at-headed may_nest [] h ne = absurd (omega arith)
-own_at-headed may_nest (x ∷ b) h ne = ap (headed_at may_nest (x ∷ b) x) (tail_is x b) ∙ rw (ne_eqb (x / 32) 7 ne) refl
+-- an item by the major type and the information in its first byte
+pub own_at-behind : (b : List ℕ) (major info : ℕ) → 1 ≤ length b → major ≡ get_or b 0 0 / 32 → info ≡ get_or b 0 0 % 32 → own_behind b major info (take (length b - 1) (drop 1 b)) ≡ own_at b
+own_at-behind [] major info h is is_info = absurd (omega arith)
+own_at-behind (x ∷ b) major info h is is_info = (λ i. own_behind (x ∷ b) (is i) (is_info i) (tail_is x b i))
+
+-- a reading behind two others in turn
+in_turn : {A B C : Type 0} (r : Result A Fault) (f : A → Result B Fault) (g : B → Result C Fault) → (r then f then g) ≡ (r then (λ x. f x then g))
+in_turn (Ok x) f g = refl
+in_turn (Err e) f g = refl
+
+-- a byte string or a text, as data
+abbrev pub as_leaf : (List ℕ → Data) → List ℕ × List ℕ → Result (Own × List ℕ) Fault
+as_leaf as_data s = Ok (leaf (as_data s.0), s.1)
+
+-- an item of major type 2 is a byte string
+pub bytes_behind : (at : List ℕ) (major : Major) (info : ℕ) (b : List ℕ) → major ≡ Bytes → own_behind at (number_of major) info b ≡ (string_at at info b then as_leaf bytes)
+bytes_behind at major info b is = ap (λ m. own_behind at (number_of m) info b) is ∙ sym (in_turn (argument_at at info b) (λ n. take_at n.0 n.1) (as_leaf bytes))
+
+-- one of major type 3 is a text
+pub text_behind : (at : List ℕ) (major : Major) (info : ℕ) (b : List ℕ) → major ≡ Text → own_behind at (number_of major) info b ≡ (string_at at info b then as_leaf text)
+text_behind at major info b is = ap (λ m. own_behind at (number_of m) info b) is ∙ sym (in_turn (argument_at at info b) (λ n. take_at n.0 n.1) (as_leaf text))
 
 -- the CID at the front is the bytes up to its length
 cid_front : (c : List ℕ) (r : Result (Parts × List ℕ) CidFault) (x : List ℕ) (n : ℕ) → ◌>>=◌ {B = List ℕ × ℕ} r (λ p. Ok (take (length c - length p.1) c, length c - length p.1)) ≡ Ok (x, n) → x ≡ take n c

@@ -7,6 +7,7 @@ pub mod Fronts
 pub mod Heads
 pub mod Keys
 pub mod Laws
+pub mod Members
 pub mod Leaves
 pub mod Owns
 pub mod Places

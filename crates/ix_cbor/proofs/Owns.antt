@@ -4,11 +4,11 @@ use Rattle.std.specs.Prelude.{nat_lt, ◌==◌, Result, Ok, Err}
 use Rattle.std.specs.Int.{from_be_bytes, to_be_bytes, w64}
 use Rattle.std.proofs.lemmas.Bool.{cond-false, and_parts, eqb-false}
 use Rattle.std.proofs.lemmas.List.{take_at as take_front, drop_at}
-use Rattle.ix_cbor.specs.declared.fault.CborKind.TheVariants.{Truncated, Indefinite, Tag, Simple, Nesting}
+use Rattle.ix_cbor.specs.declared.fault.CborKind.TheVariants.{Truncated, Indefinite, Tag, Simple}
 use Rattle.ix_cbor.specs.declared.fault.CborKind.TheVariants as kinds
 use Rattle.ix_cbor.specs.Data.{Data, null, boolean, integer, float, bytes, text, list, map, link}
 use Rattle.ix_cbor.specs.Spelling.{head_of, spelling_of, IsSpellable, IsFinite, nesting_of}
-use Rattle.ix_cbor.specs.Reading.{Fault, ◌>>=◌, fails, take_at, argument_at, string_of_major, float_at, simple_at, is_cid, link_of, link_at, Own, leaf, list_of, map_of, nested, own_with, own_at}
+use Rattle.ix_cbor.specs.Reading.{Fault, ◌>>=◌, fails, take_at, argument_at, string_of_major, float_at, simple_at, is_cid, link_of, link_at, Own, leaf, list_of, map_of, own_with, own_at}
 use Rattle.ix_cbor.proofs.Bytes.{IsBytes, IsBytes-rest, IsBytes-take, IsBytes-behind}
 use Rattle.ix_cbor.proofs.Steps.{bind_ok, no_ok, ok_same, cases_if, if_no_fault, if_passed}
 use Rattle.ix_cbor.proofs.Heads.{Headed, head_taken, head_read, wide64}
@@ -21,16 +21,16 @@ own_spelling (leaf d) = spelling_of d
 own_spelling (list_of n) = head_of 4 n
 own_spelling (map_of n) = head_of 5 n
 
--- an own part that has a spelling, where lists and maps may or may not stand
-abbrev pub IsOwn : Bool → Own → Type 0
-IsOwn may_nest (leaf d) = IsSpellable d × (nesting_of d ≡ 0)
-IsOwn may_nest (list_of n) = (n < 2 ^ 64) × (may_nest ≡ true)
-IsOwn may_nest (map_of n) = (n < 2 ^ 64) × (may_nest ≡ true)
+-- an own part that has a spelling
+abbrev pub IsOwn : Own → Type 0
+IsOwn (leaf d) = IsSpellable d × (nesting_of d ≡ 0)
+IsOwn (list_of n) = n < 2 ^ 64
+IsOwn (map_of n) = n < 2 ^ 64
 
 -- an own part that was read
-pub record OwnTaken (may_nest : Bool) (b : List ℕ) (own : Own) (rest : List ℕ) : Type 0 where
+pub record OwnTaken (b : List ℕ) (own : Own) (rest : List ℕ) : Type 0 where
   pub parts : b ≡ own_spelling own ++ rest
-  pub is_own : IsOwn may_nest own
+  pub is_own : IsOwn own
 
 -- the same of an item that is no list and no map
 pub record LeafTaken (b : List ℕ) (d : Data) (rest : List ℕ) : Type 0 where
@@ -186,36 +186,33 @@ abbrev ok_own : Own × List ℕ → Result (Own × List ℕ) Fault
 ok_own x = Ok x
 
 -- an item that is whole
-leaf_own : (may_nest : Bool) (whole : List ℕ) (d : Data) (behind : List ℕ) (own : Own) (rest : List ℕ) → LeafTaken whole d behind
-    → ok_own (leaf d, behind) ≡ ok_own (own, rest) → OwnTaken may_nest whole own rest
-leaf_own may_nest whole d behind own rest t e =
-    subst (λ (y : Own × List ℕ). OwnTaken may_nest whole y.0 y.1) (ok_same (leaf d, behind) (own, rest) e) (record { parts = t.parts; is_own = (t.spellable, t.flat) })
+leaf_own : (whole : List ℕ) (d : Data) (behind : List ℕ) (own : Own) (rest : List ℕ) → LeafTaken whole d behind
+    → ok_own (leaf d, behind) ≡ ok_own (own, rest) → OwnTaken whole own rest
+leaf_own whole d behind own rest t e =
+    subst (λ (y : Own × List ℕ). OwnTaken whole y.0 y.1) (ok_same (leaf d, behind) (own, rest) e) (record { parts = t.parts; is_own = (t.spellable, t.flat) })
 
 -- an integer, of which the head is all
-whole_own : (may_nest : Bool) (whole : List ℕ) (major n : ℕ) (b : List ℕ) (d : Data) (own : Own) (rest : List ℕ) → Headed major n whole b → spelling_of d ≡ head_of major n → (n < 2 ^ 64 → IsSpellable d) → nesting_of d ≡ 0 → ok_own (leaf d, b) ≡ ok_own (own, rest) → OwnTaken may_nest whole own rest
-whole_own may_nest whole major n b d own rest head spelled spellable flat e =
-    leaf_own may_nest whole d b own rest (record { parts = head.parts ∙ ap (λ (l : List ℕ). l ++ b) (sym spelled); spellable = spellable head.below; flat = flat }) e
+whole_own : (whole : List ℕ) (major n : ℕ) (b : List ℕ) (d : Data) (own : Own) (rest : List ℕ) → Headed major n whole b → spelling_of d ≡ head_of major n → (n < 2 ^ 64 → IsSpellable d) → nesting_of d ≡ 0 → ok_own (leaf d, b) ≡ ok_own (own, rest) → OwnTaken whole own rest
+whole_own whole major n b d own rest head spelled spellable flat e =
+    leaf_own whole d b own rest (record { parts = head.parts ∙ ap (λ (l : List ℕ). l ++ b) (sym spelled); spellable = spellable head.below; flat = flat }) e
 
 -- a list or map, whose members follow
-nested_own : (may_nest : Bool) (at whole b : List ℕ) (part own : Own) (rest : List ℕ) → whole ≡ own_spelling part ++ b → (may_nest ≡ true → IsOwn may_nest part)
-    → nested may_nest at part b ≡ Ok (own, rest) → OwnTaken may_nest whole own rest
-nested_own true at whole b part own rest is is_own e =
-    subst (λ (y : Own × List ℕ). OwnTaken true whole y.0 y.1) (ok_same (part, b) (own, rest) e) (record { parts = is; is_own = is_own refl })
-nested_own false at whole b part own rest is is_own e = no_ok (record { kind = Nesting; left = length at }) (own, rest) e
+nested_own : (whole b : List ℕ) (part own : Own) (rest : List ℕ) → whole ≡ own_spelling part ++ b → IsOwn part → ok_own (part, b) ≡ ok_own (own, rest) → OwnTaken whole own rest
+nested_own whole b part own rest is is_own e = subst (λ (y : Own × List ℕ). OwnTaken whole y.0 y.1) (ok_same (part, b) (own, rest) e) (record { parts = is; is_own = is_own })
 
 -- a string, as data
 abbrev as_leaf : (List ℕ → Data) → List ℕ × List ℕ → Result (Own × List ℕ) Fault
 as_leaf as_data s = Ok (leaf (as_data s.0), s.1)
 
 -- a string that was read
-string_own : (may_nest : Bool) (whole : List ℕ) (major n : ℕ) (b : List ℕ) (as_data : List ℕ → Data) (own : Own) (rest : List ℕ) → Headed major n whole b
+string_own : (whole : List ℕ) (major n : ℕ) (b : List ℕ) (as_data : List ℕ → Data) (own : Own) (rest : List ℕ) → Headed major n whole b
     → ((s : List ℕ) → spelling_of (as_data s) ≡ head_of major (length s) ++ s)
-    → ((s : List ℕ) → length s < 2 ^ 64 → IsSpellable (as_data s)) → ((s : List ℕ) → nesting_of (as_data s) ≡ 0) → (take_at n b >>= as_leaf as_data) ≡ Ok (own, rest) → OwnTaken may_nest whole own rest
-string_own may_nest whole major n b as_data own rest head spelled spellable flat e =
+    → ((s : List ℕ) → length s < 2 ^ 64 → IsSpellable (as_data s)) → ((s : List ℕ) → nesting_of (as_data s) ≡ 0) → (take_at n b >>= as_leaf as_data) ≡ Ok (own, rest) → OwnTaken whole own rest
+string_own whole major n b as_data own rest head spelled spellable flat e =
     let a = bind_ok (take_at n b) (as_leaf as_data) (own, rest) e in
     let s = a.0.0 in
     let c = counted n b s a.0.1 a.1 in
-    leaf_own may_nest whole (as_data s) a.0.1 own rest
+    leaf_own whole (as_data s) a.0.1 own rest
     (record {
       parts = head.parts ∙ ap (λ (l : List ℕ). head_of major n ++ l) c.parts ∙ ap (λ (k : ℕ). head_of major k ++ (s ++ a.0.1)) (sym c.size) ∙ sym (append_assoc (head_of major (length s)) s a.0.1) ∙ ap (λ (l : List ℕ). l ++ a.0.1) (sym (spelled s));
       spellable = spellable s (omega (arith, c.size, head.below));
@@ -223,18 +220,18 @@ string_own may_nest whole major n b as_data own rest head spelled spellable flat
     }) a.2
 
 -- the tests on the major type, from each on
-module _ (may_nest : Bool) (at : List ℕ) (major n : ℕ) (b : List ℕ) where
+module _ (at : List ℕ) (major n : ℕ) (b : List ℕ) where
   -- a tag
   abbrev with_6 : Result (Own × List ℕ) Fault
   with_6 = link_at at n b >>= (λ d. Ok (leaf d.0, d.1))
 
   -- a map
   abbrev with_5 : Result (Own × List ℕ) Fault
-  with_5 = cond (major == 5) (nested may_nest at (map_of n) b) with_6
+  with_5 = cond (major == 5) (Ok (map_of n, b)) with_6
 
   -- a list
   abbrev with_4 : Result (Own × List ℕ) Fault
-  with_4 = cond (major == 4) (nested may_nest at (list_of n) b) with_5
+  with_4 = cond (major == 4) (Ok (list_of n, b)) with_5
 
   -- a text
   abbrev with_3 : Result (Own × List ℕ) Fault
@@ -248,7 +245,7 @@ module _ (may_nest : Bool) (at : List ℕ) (major n : ℕ) (b : List ℕ) where
   abbrev with_1 : Result (Own × List ℕ) Fault
   with_1 = cond (major == 1) (Ok (leaf (integer (negsuc n)), b)) with_2
 
-module _ (may_nest : Bool) (at whole : List ℕ) (major n : ℕ) (b : List ℕ) (own : Own) (rest : List ℕ) (fits : IsBytes b) (small : major < 7) (head : Headed major n whole b) where
+module _ (at whole : List ℕ) (major n : ℕ) (b : List ℕ) (own : Own) (rest : List ℕ) (fits : IsBytes b) (small : major < 7) (head : Headed major n whole b) where
   -- the head, where the major type is known
   head_at : (k : ℕ) → (major == k) ≡ true → Headed k n whole b
   head_at k t = subst (λ (m : ℕ). Headed m n whole b) (eqb-true major k t) head
@@ -258,91 +255,91 @@ module _ (may_nest : Bool) (at whole : List ℕ) (major n : ℕ) (b : List ℕ) 
   above k le t = let ne = eqb-false major k t in omega arith
 
   -- a tag
-  with_taken_6 : 6 ≤ major → with_6 may_nest at major n b ≡ Ok (own, rest) → OwnTaken may_nest whole own rest
+  with_taken_6 : 6 ≤ major → with_6 at major n b ≡ Ok (own, rest) → OwnTaken whole own rest
   with_taken_6 le e =
       let a = bind_ok (link_at at n b) (λ d. Ok (leaf d.0, d.1)) (own, rest) e in
       let is : major ≡ 6 = omega arith in
-      leaf_own may_nest whole a.0.0 a.0.1 own rest (link_taken at whole n b a.0.0 a.0.1 fits (head.parts ∙ ap (λ (m : ℕ). head_of m n ++ b) is) a.1) a.2
+      leaf_own whole a.0.0 a.0.1 own rest (link_taken at whole n b a.0.0 a.0.1 fits (head.parts ∙ ap (λ (m : ℕ). head_of m n ++ b) is) a.1) a.2
 
   -- a map or later
-  with_taken_5 : 5 ≤ major → with_5 may_nest at major n b ≡ Ok (own, rest) → OwnTaken may_nest whole own rest
+  with_taken_5 : 5 ≤ major → with_5 at major n b ≡ Ok (own, rest) → OwnTaken whole own rest
   with_taken_5 le e =
-      elim (cases_if (major == 5) (nested may_nest at (map_of n) b) (with_6 may_nest at major n b) (Ok (own, rest)) e) [
-        | inl t ↦ nested_own may_nest at whole b (map_of n) own rest (head_at 5 t.0).parts (λ yes. (head.below, yes)) t.1
+      elim (cases_if (major == 5) (Ok (map_of n, b)) (with_6 at major n b) (Ok (own, rest)) e) [
+        | inl t ↦ nested_own whole b (map_of n) own rest (head_at 5 t.0).parts head.below t.1
         | inr f ↦ with_taken_6 (above 5 le f.0) f.1
       ]
 
   -- a list or later
-  with_taken_4 : 4 ≤ major → with_4 may_nest at major n b ≡ Ok (own, rest) → OwnTaken may_nest whole own rest
+  with_taken_4 : 4 ≤ major → with_4 at major n b ≡ Ok (own, rest) → OwnTaken whole own rest
   with_taken_4 le e =
-      elim (cases_if (major == 4) (nested may_nest at (list_of n) b) (with_5 may_nest at major n b) (Ok (own, rest)) e) [
-        | inl t ↦ nested_own may_nest at whole b (list_of n) own rest (head_at 4 t.0).parts (λ yes. (head.below, yes)) t.1
+      elim (cases_if (major == 4) (Ok (list_of n, b)) (with_5 at major n b) (Ok (own, rest)) e) [
+        | inl t ↦ nested_own whole b (list_of n) own rest (head_at 4 t.0).parts head.below t.1
         | inr f ↦ with_taken_5 (above 4 le f.0) f.1
       ]
 
   -- a text or later
-  with_taken_3 : 3 ≤ major → with_3 may_nest at major n b ≡ Ok (own, rest) → OwnTaken may_nest whole own rest
+  with_taken_3 : 3 ≤ major → with_3 at major n b ≡ Ok (own, rest) → OwnTaken whole own rest
   with_taken_3 le e =
-      elim (cases_if (major == 3) (take_at n b >>= (λ s. Ok (leaf (text s.0), s.1))) (with_4 may_nest at major n b) (Ok (own, rest)) e) [
-        | inl t ↦ string_own may_nest whole 3 n b text own rest (head_at 3 t.0) (λ s. refl) (λ s lt. lt) (λ s. refl) t.1
+      elim (cases_if (major == 3) (take_at n b >>= (λ s. Ok (leaf (text s.0), s.1))) (with_4 at major n b) (Ok (own, rest)) e) [
+        | inl t ↦ string_own whole 3 n b text own rest (head_at 3 t.0) (λ s. refl) (λ s lt. lt) (λ s. refl) t.1
         | inr f ↦ with_taken_4 (above 3 le f.0) f.1
       ]
 
   -- bytes or later
-  with_taken_2 : 2 ≤ major → with_2 may_nest at major n b ≡ Ok (own, rest) → OwnTaken may_nest whole own rest
+  with_taken_2 : 2 ≤ major → with_2 at major n b ≡ Ok (own, rest) → OwnTaken whole own rest
   with_taken_2 le e =
-      elim (cases_if (major == 2) (take_at n b >>= (λ s. Ok (leaf (bytes s.0), s.1))) (with_3 may_nest at major n b) (Ok (own, rest)) e) [
-        | inl t ↦ string_own may_nest whole 2 n b bytes own rest (head_at 2 t.0) (λ s. refl) (λ s lt. lt) (λ s. refl) t.1
+      elim (cases_if (major == 2) (take_at n b >>= (λ s. Ok (leaf (bytes s.0), s.1))) (with_3 at major n b) (Ok (own, rest)) e) [
+        | inl t ↦ string_own whole 2 n b bytes own rest (head_at 2 t.0) (λ s. refl) (λ s lt. lt) (λ s. refl) t.1
         | inr f ↦ with_taken_3 (above 2 le f.0) f.1
       ]
 
   -- a negative integer or later
-  with_taken_1 : 1 ≤ major → with_1 may_nest at major n b ≡ Ok (own, rest) → OwnTaken may_nest whole own rest
+  with_taken_1 : 1 ≤ major → with_1 at major n b ≡ Ok (own, rest) → OwnTaken whole own rest
   with_taken_1 le e =
-      elim (cases_if (major == 1) (Ok (leaf (integer (negsuc n)), b)) (with_2 may_nest at major n b) (Ok (own, rest)) e) [
-        | inl t ↦ whole_own may_nest whole 1 n b (integer (negsuc n)) own rest (head_at 1 t.0) refl (λ lt. lt) refl t.1
+      elim (cases_if (major == 1) (Ok (leaf (integer (negsuc n)), b)) (with_2 at major n b) (Ok (own, rest)) e) [
+        | inl t ↦ whole_own whole 1 n b (integer (negsuc n)) own rest (head_at 1 t.0) refl (λ lt. lt) refl t.1
         | inr f ↦ with_taken_2 (above 1 le f.0) f.1
       ]
 
   -- any
-  with_taken : own_with may_nest at major n b ≡ Ok (own, rest) → OwnTaken may_nest whole own rest
+  with_taken : own_with at major n b ≡ Ok (own, rest) → OwnTaken whole own rest
   with_taken e =
-      elim (cases_if (major == 0) (Ok (leaf (integer (pos n)), b)) (with_1 may_nest at major n b) (Ok (own, rest)) e) [
-        | inl t ↦ whole_own may_nest whole 0 n b (integer (pos n)) own rest (head_at 0 t.0) refl (λ lt. lt) refl t.1
+      elim (cases_if (major == 0) (Ok (leaf (integer (pos n)), b)) (with_1 at major n b) (Ok (own, rest)) e) [
+        | inl t ↦ whole_own whole 0 n b (integer (pos n)) own rest (head_at 0 t.0) refl (λ lt. lt) refl t.1
         | inr f ↦ with_taken_1 (above 0 (omega arith) f.0) f.1
       ]
 
 -- what is read is spelled so
-pub own_taken : (may_nest : Bool) (b : List ℕ) (own : Own) (rest : List ℕ) → IsBytes b → own_at may_nest b ≡ Ok (own, rest) → OwnTaken may_nest b own rest
-own_taken may_nest [] own rest fits e = no_ok (record { kind = Truncated; left = 0 }) (own, rest) e
-own_taken may_nest (h ∷ b) own rest fits e =
-    elim (cases_if (h / 32 == 7) (simple_at (h ∷ b) (h % 32) b >>= (λ d. Ok (leaf d.0, d.1))) (argument_at (h ∷ b) (h % 32) b >>= (λ n. own_with may_nest (h ∷ b) (h / 32) n.0 n.1)) (Ok (own, rest)) e) [
+pub own_taken : (b : List ℕ) (own : Own) (rest : List ℕ) → IsBytes b → own_at b ≡ Ok (own, rest) → OwnTaken b own rest
+own_taken [] own rest fits e = no_ok (record { kind = Truncated; left = 0 }) (own, rest) e
+own_taken (h ∷ b) own rest fits e =
+    elim (cases_if (h / 32 == 7) (simple_at (h ∷ b) (h % 32) b >>= (λ d. Ok (leaf d.0, d.1))) (argument_at (h ∷ b) (h % 32) b >>= (λ n. own_with (h ∷ b) (h / 32) n.0 n.1)) (Ok (own, rest)) e) [
       | inl t ↦
           let a = bind_ok (simple_at (h ∷ b) (h % 32) b) (λ d. Ok (leaf d.0, d.1)) (own, rest) t.1 in
-          leaf_own may_nest (h ∷ b) a.0.0 a.0.1 own rest (simple_taken (h ∷ b) h b a.0.0 a.0.1 (IsBytes-rest h b fits) (eqb-true (h / 32) 7 t.0) a.1) a.2
+          leaf_own (h ∷ b) a.0.0 a.0.1 own rest (simple_taken (h ∷ b) h b a.0.0 a.0.1 (IsBytes-rest h b fits) (eqb-true (h / 32) 7 t.0) a.1) a.2
       | inr f ↦
-          let a = bind_ok (argument_at (h ∷ b) (h % 32) b) (λ n. own_with may_nest (h ∷ b) (h / 32) n.0 n.1) (own, rest) f.1 in
+          let a = bind_ok (argument_at (h ∷ b) (h % 32) b) (λ n. own_with (h ∷ b) (h / 32) n.0 n.1) (own, rest) f.1 in
           let head = head_taken (h ∷ b) h b a.0.0 a.0.1 (IsBytes-rest h b fits) a.1 in
           let byte : h < 256 = fits 0 in
           let not_7 = eqb-false (h / 32) 7 f.0 in
-          with_taken may_nest (h ∷ b) (h ∷ b) (h / 32) a.0.0 a.0.1 own rest (IsBytes-behind (h ∷ b) (head_of (h / 32) a.0.0) a.0.1 fits head.parts) (omega arith) head a.2
+          with_taken (h ∷ b) (h ∷ b) (h / 32) a.0.0 a.0.1 own rest (IsBytes-behind (h ∷ b) (head_of (h / 32) a.0.0) a.0.1 fits head.parts) (omega arith) head a.2
     ]
 
 -- ---- what is spelled so is read
 
 -- behind a head the tests on the major type come
-own_head : (may_nest : Bool) (major n : ℕ) (rest : List ℕ) → n < 2 ^ 64 → major < 7 → own_at may_nest (head_of major n ++ rest) ≡ own_with may_nest (head_of major n ++ rest) major n rest
-own_head may_nest major n rest below lt =
+own_head : (major n : ℕ) (rest : List ℕ) → n < 2 ^ 64 → major < 7 → own_at (head_of major n ++ rest) ≡ own_with (head_of major n ++ rest) major n rest
+own_head major n rest below lt =
     let r = head_read major n rest below in
     let small = r.small in
     let h = 32 * major + r.info in
     let major_is : h / 32 ≡ major = omega arith in
     let info_is : h % 32 ≡ r.info = omega arith in
     let not_7 : h / 32 ≡ 7 → ⊥ = λ is. omega arith in
-    ap (own_at may_nest) r.parts ∙ cond-false _ _ _ (ne_eqb (h / 32) 7 not_7)
-    ∙ ap (λ (i : ℕ). argument_at (h ∷ r.behind) i r.behind >>= (λ k. own_with may_nest (h ∷ r.behind) (h / 32) k.0 k.1)) info_is
-    ∙ ap (λ x. x >>= (λ k. own_with may_nest (h ∷ r.behind) (h / 32) k.0 k.1)) (r.argument (h ∷ r.behind))
-    ∙ ap (λ (m : ℕ). own_with may_nest (h ∷ r.behind) m n rest) major_is ∙ ap (λ (l : List ℕ). own_with may_nest l major n rest) (sym r.parts)
+    ap (own_at) r.parts ∙ cond-false _ _ _ (ne_eqb (h / 32) 7 not_7)
+    ∙ ap (λ (i : ℕ). argument_at (h ∷ r.behind) i r.behind >>= (λ k. own_with (h ∷ r.behind) (h / 32) k.0 k.1)) info_is
+    ∙ ap (λ x. x >>= (λ k. own_with (h ∷ r.behind) (h / 32) k.0 k.1)) (r.argument (h ∷ r.behind))
+    ∙ ap (λ (m : ℕ). own_with (h ∷ r.behind) m n rest) major_is ∙ ap (λ (l : List ℕ). own_with l major n rest) (sym r.parts)
 
 -- a float is read again
 float_again : (at : List ℕ) (n : ℕ) (rest : List ℕ) → IsFinite n → float_at at (to_be_bytes w64 n ++ rest) ≡ Ok (float n, rest)
@@ -355,37 +352,35 @@ float_again at n rest finite =
     ∙ ap (finite_at at rest) (wide64.again n finite.0) ∙ cond-false _ _ _ (ne_eqb (n / 2 ^ 52 % 2 ^ 11) 2047 finite.1)
 
 -- a string is read again
-string_own_again : (may_nest : Bool) (major : ℕ) (s : List ℕ) (as_data : List ℕ → Data) (rest : List ℕ) → major < 7 → length s < 2 ^ 64
-    → ((at : List ℕ) → own_with may_nest at major (length s) (s ++ rest) ≡ (take_at (length s) (s ++ rest) >>= as_leaf as_data))
-    → own_at may_nest ((head_of major (length s) ++ s) ++ rest) ≡ Ok (leaf (as_data s), rest)
-string_own_again may_nest major s as_data rest small below is =
-    ap (own_at may_nest) (append_assoc (head_of major (length s)) s rest) ∙ own_head may_nest major (length s) (s ++ rest) below small ∙ is _ ∙ ap (λ x. x >>= as_leaf as_data) (take_again s rest)
+string_own_again : (major : ℕ) (s : List ℕ) (as_data : List ℕ → Data) (rest : List ℕ) → major < 7 → length s < 2 ^ 64
+    → ((at : List ℕ) → own_with at major (length s) (s ++ rest) ≡ (take_at (length s) (s ++ rest) >>= as_leaf as_data))
+    → own_at ((head_of major (length s) ++ s) ++ rest) ≡ Ok (leaf (as_data s), rest)
+string_own_again major s as_data rest small below is =
+    ap (own_at) (append_assoc (head_of major (length s)) s rest) ∙ own_head major (length s) (s ++ rest) below small ∙ is _ ∙ ap (λ x. x >>= as_leaf as_data) (take_again s rest)
 
 -- a link is read again
-link_again : (may_nest : Bool) (c rest : List ℕ) → IsSpellable (link c) → own_at may_nest (spelling_of (link c) ++ rest) ≡ Ok (leaf (link c), rest)
-link_again may_nest c rest fits =
+link_again : (c rest : List ℕ) → IsSpellable (link c) → own_at (spelling_of (link c) ++ rest) ≡ Ok (leaf (link c), rest)
+link_again c rest fits =
     let size : length c + 1 ≡ suc (length c) = omega arith in
     let content = (head_of 2 (suc (length c)) ++ 0 ∷ c) ++ rest in
     let at = head_of 6 42 ++ content in
-    ap (λ (n : ℕ). own_at may_nest (head_of 6 42 ++ ((head_of 2 n ++ 0 ∷ c) ++ rest))) size ∙ own_head may_nest 6 42 content (omega arith) (omega arith)
+    ap (λ (n : ℕ). own_at (head_of 6 42 ++ ((head_of 2 n ++ 0 ∷ c) ++ rest))) size ∙ own_head 6 42 content (omega arith) (omega arith)
     ∙ ap (λ x. x >>= link_of at >>= (λ d. Ok (leaf d.0, d.1))) (string_again 2 (λ other. record { kind = kinds.Link; left = length at }) (0 ∷ c) rest (omega (arith, fits.0)))
     ∙ ap (λ (t : Bool). cond t (ok_data (link c, rest)) (Err (record { kind = kinds.Link; left = length at })) >>= (λ d. Ok (leaf d.0, d.1))) (is_cid_at c fits.1)
 
 -- what is spelled so is read
-pub own_again : (may_nest : Bool) (own : Own) (rest : List ℕ) → IsOwn may_nest own → own_at may_nest (own_spelling own ++ rest) ≡ Ok (own, rest)
-own_again may_nest (leaf null) rest is_own = refl
-own_again may_nest (leaf (boolean false)) rest is_own = refl
-own_again may_nest (leaf (boolean true)) rest is_own = refl
-own_again may_nest (leaf (integer (pos n))) rest is_own = own_head may_nest 0 n rest is_own.0 (omega arith)
-own_again may_nest (leaf (integer (negsuc n))) rest is_own = own_head may_nest 1 n rest is_own.0 (omega arith)
-own_again may_nest (leaf (float n)) rest is_own =
+pub own_again : (own : Own) (rest : List ℕ) → IsOwn own → own_at (own_spelling own ++ rest) ≡ Ok (own, rest)
+own_again (leaf null) rest is_own = refl
+own_again (leaf (boolean false)) rest is_own = refl
+own_again (leaf (boolean true)) rest is_own = refl
+own_again (leaf (integer (pos n))) rest is_own = own_head 0 n rest is_own.0 (omega arith)
+own_again (leaf (integer (negsuc n))) rest is_own = own_head 1 n rest is_own.0 (omega arith)
+own_again (leaf (float n)) rest is_own =
     ap (λ x. x >>= (λ d. Ok (leaf d.0, d.1))) (float_again (251 ∷ (to_be_bytes w64 n ++ rest)) n rest is_own.0)
-own_again may_nest (leaf (bytes s)) rest is_own = string_own_again may_nest 2 s bytes rest (omega arith) is_own.0 (λ at. refl)
-own_again may_nest (leaf (text s)) rest is_own = string_own_again may_nest 3 s text rest (omega arith) is_own.0 (λ at. refl)
-own_again may_nest (leaf (list ds)) rest is_own = absurd (omega (arith, is_own.1))
-own_again may_nest (leaf (map es)) rest is_own = absurd (omega (arith, is_own.1))
-own_again may_nest (leaf (link c)) rest is_own = link_again may_nest c rest is_own.0
-own_again may_nest (list_of n) rest is_own =
-    own_head may_nest 4 n rest is_own.0 (omega arith) ∙ ap (λ (t : Bool). nested t (head_of 4 n ++ rest) (list_of n) rest) is_own.1
-own_again may_nest (map_of n) rest is_own =
-    own_head may_nest 5 n rest is_own.0 (omega arith) ∙ ap (λ (t : Bool). nested t (head_of 5 n ++ rest) (map_of n) rest) is_own.1
+own_again (leaf (bytes s)) rest is_own = string_own_again 2 s bytes rest (omega arith) is_own.0 (λ at. refl)
+own_again (leaf (text s)) rest is_own = string_own_again 3 s text rest (omega arith) is_own.0 (λ at. refl)
+own_again (leaf (list ds)) rest is_own = absurd (omega (arith, is_own.1))
+own_again (leaf (map es)) rest is_own = absurd (omega (arith, is_own.1))
+own_again (leaf (link c)) rest is_own = link_again c rest is_own.0
+own_again (list_of n) rest is_own = own_head 4 n rest is_own (omega arith)
+own_again (map_of n) rest is_own = own_head 5 n rest is_own (omega arith)

@@ -1,22 +1,29 @@
 -- What is pushed, behind a head.
-use Rattle.std.proofs.Common.{◌≡◌, ℕ, ◌+◌, ◌<◌, ◌++◌, List, ◌∷◌, length, drop, get_or, sym, ap, ◌∙◌, subst, append_assoc, Global, ℤ, pos, negsuc, ◌-ℤ◌, ◌<ℤ◌, arith}
-use Rattle.std.specs.Prelude.{OnOk, Result, Vec}
+use Rattle.std.proofs.Common.{◌≡◌, ℕ, ◌+◌, ◌<◌, ◌++◌, List, ◌∷◌, length, drop, get_or, sym, ap, ◌∙◌, subst, append_assoc, ℤ, pos, negsuc, ◌-ℤ◌, ◌<ℤ◌, arith}
+use Rattle.std.specs.Prelude.{OnOk, Result}
+use Rattle.std.specs.Global.{Vec}
 use Rattle.std.proofs.lemmas.Int.{ints}
 use Rattle.std.proofs.lemmas.Result.{on_ok_weaker}
 use Rattle.std.proofs.lemmas.List.{drop_more}
 use Rattle.ix_cbor.specs.declared.node.Node.{Node}
 use Rattle.ix_cbor.specs.declared.node.Node.TheVariants as variants
-use Rattle.ix_cbor.specs.Data.{data_of, integer}
+use Rattle.ix_cbor.specs.Data.{Data, data_of, integer}
+use Rattle.ix_cbor.specs.Data as data_model
 use Rattle.ix_cbor.specs.Spelling.{head_of, item_count, entry_count, spelling_of, items_spelling, entries_spelling, IsSpellable, AreRising}
 use Rattle.ix_cbor.proofs.Fitting.{node_items, node_entries, item_count-nodes, entry_count-nodes, data_of-list, data_of-map}
 
 -- the first value of those that are left has a spelling
-pub value-spellable : (entries : List (List ℕ × Node)) (i : ℕ) (e : List ℕ × Node) → i < length entries → e ≡ get_or entries i e → AreRising (node_entries (drop i entries)) → IsSpellable (data_of e.1)
+pub value-spellable : (entries : List (Vec ℕ × Node)) (i : ℕ) (e : Vec ℕ × Node) → i < length entries → e ≡ get_or entries i e → AreRising (node_entries (drop i entries)) → IsSpellable (data_of e.1)
 value-spellable entries i e lt at h =
     let left = subst (λ l. AreRising (node_entries l)) (drop_more entries i e lt ∙ ap (λ x. x ∷ drop (i + 1) entries) (sym at)) h in left.1
 
+-- the keys of a map with a spelling rise
+pub map-rising : (node : Node) (v : Vec (Vec ℕ × Node)) (entries : List (Vec ℕ × Node)) → node ≡ variants.Map v → entries ≡ v.items → IsSpellable (data_of node) → AreRising (node_entries entries)
+map-rising node v entries is same h =
+    let spellable = subst IsSpellable (ap data_of is ∙ data_of-map v ∙ ap (λ m. data_model.map (node_entries m)) (sym same)) h in spellable.1
+
 -- a list's spelling is its head and that of its members
-pub list-pushed : {T E : Type 0} (r : Result T E) (node : Node) (v : Vec Node Global) (members : List Node) (count : ℕ) (old mid new : List ℕ)
+pub list-pushed : {T E : Type 0} (r : Result T E) (node : Node) (v : Vec Node) (members : List Node) (count : ℕ) (old mid new : List ℕ)
     → node ≡ variants.List v → members ≡ v.items → count ≡ length v.items → mid ≡ old ++ head_of 4 count
     → OnOk r (new ≡ mid ++ items_spelling (node_items members)) → OnOk r (new ≡ old ++ spelling_of (data_of node))
 list-pushed r node v members count old mid new is same counted head =
@@ -28,7 +35,7 @@ list-pushed r node v members count old mid new is same counted head =
     on_ok_weaker r (λ e. e ∙ spelled)
 
 -- a map's spelling is its head and that of its keys and values
-pub map-pushed : {T E : Type 0} (r : Result T E) (node : Node) (v : Vec (List ℕ × Node) Global) (entries : List (List ℕ × Node)) (count : ℕ) (old mid new : List ℕ)
+pub map-pushed : {T E : Type 0} (r : Result T E) (node : Node) (v : Vec (Vec ℕ × Node)) (entries : List (Vec ℕ × Node)) (count : ℕ) (old mid new : List ℕ)
     → node ≡ variants.Map v → entries ≡ v.items → count ≡ length v.items → mid ≡ old ++ head_of 5 count
     → OnOk r (new ≡ mid ++ entries_spelling (node_entries entries)) → OnOk r (new ≡ old ++ spelling_of (data_of node))
 map-pushed r node v entries count old mid new is same counted head =

@@ -2,11 +2,11 @@
 use Rattle.std.proofs.Common.{◌≡◌, ◌⊎◌, inl, inr, ◌<◌, ◌≤◌, ◌+◌, ◌-◌, ◌^◌, arith, ℕ, zero, suc, true, List, [], ◌∷◌, ◌++◌, length, refl, sym, ◌∙◌, ap, append_assoc}
 use Rattle.std.specs.Prelude.{◌↔◌, ◌≢◌, Option, Some, None, Result, Ok, Err}
 use Rattle.ix_cid.specs.Bytes.{AreBytes}
-use Rattle.ix_cbor.specs.declared.fault.CborKind.TheVariants.{Rest}
+use Rattle.ix_cbor.specs.declared.fault.CborKind.TheVariants.{Nesting, Rest}
 use Rattle.ix_cbor.specs.Data.{Data, Items, Entries, no_items, item, no_entries, entry}
 use Rattle.ix_cbor.specs.Spelling.{head_of, key_spelling, spelling_of, items_spelling, entries_spelling, item_count, entry_count, items_nesting, entries_nesting, AreSpellable, AreRising, Spells}
 use Rattle.ix_cbor.specs.Reading.{Fault, Parse, ◌>>=◌, key_at, rises, own_at, list_of, map_of, items_at, entries_at, with_members, item_with, item_at, nothing_after, decoded}
-use Rattle.ix_cbor.specs.FirstFault.{may_nest, last_key, BeginsList, BeginsMap, FaultAt, own, in_list, at_key, in_map, FirstFault}
+use Rattle.ix_cbor.specs.FirstFault.{last_key, BeginsList, BeginsMap, FaultAt, own, list_too_deep, map_too_deep, in_list, at_key, in_map, FirstFault}
 use Rattle.ix_cbor.proofs.Steps.{fault_same, no_err, with_item, items_behind, with_entry, entries_behind, value_behind, as_list, as_map}
 use Rattle.ix_cbor.proofs.Keys.{RisesFrom, key_again, rises_at}
 use Rattle.ix_cbor.proofs.Owns.{own_again}
@@ -15,10 +15,18 @@ use Rattle.ix_cbor.proofs.Faults.{entry_parts, decoded-fault}
 use Rattle.ix_cbor.proofs.Laws.{decoded-sound, decoded-complete}
 
 -- a fault of the own tests
-own_refused : (n : ℕ) (b : List ℕ) (f : Fault) → own_at (may_nest n) b ≡ Err f → item_at n b ≡ Err f
+own_refused : (n : ℕ) (b : List ℕ) (f : Fault) → own_at b ≡ Err f → item_at n b ≡ Err f
 unfolding item_at
-own_refused zero b f e = ap (λ x. x >>= with_members None) e
-own_refused (suc n) b f e = ap (λ x. x >>= with_members (Some (item_at n))) e
+own_refused zero b f e = ap (λ x. x >>= with_members None b) e
+own_refused (suc n) b f e = ap (λ x. x >>= with_members (Some (item_at n)) b) e
+
+-- a list where none may stand
+list_stopped : (b : List ℕ) (count : ℕ) (after : List ℕ) → count < 2 ^ 64 → b ≡ head_of 4 count ++ after → item_with None b ≡ Err (record { kind = Nesting; left = length b })
+list_stopped b count after below is = ap (λ x. x >>= with_members None b) (ap own_at is ∙ own_again (list_of count) after below)
+
+-- a map where none may stand
+map_stopped : (b : List ℕ) (count : ℕ) (after : List ℕ) → count < 2 ^ 64 → b ≡ head_of 5 count ++ after → item_with None b ≡ Err (record { kind = Nesting; left = length b })
+map_stopped b count after below is = ap (λ x. x >>= with_members None b) (ap own_at is ∙ own_again (map_of count) after below)
 
 module _ (n : ℕ) (read : Parse Data) (complete : IsComplete n read) where
   -- behind members that are spelled
@@ -52,7 +60,7 @@ module _ (n : ℕ) (read : Parse Data) (complete : IsComplete n read) where
       let left = count - item_count before - 1 in
       let sum : count ≡ item_count before + suc left = omega arith in
       let behind = items_spelling before ++ after in
-      ap (λ (l : List ℕ). own_at true l >>= with_members (Some read)) is ∙ ap (λ x. x >>= with_members (Some read)) (own_again true (list_of count) behind (begins.count_fits, refl))
+      ap (λ x. x >>= with_members (Some read) b) (ap own_at is ∙ own_again (list_of count) behind begins.count_fits)
       ∙ ap (λ (k : ℕ). items_at read k behind >>= as_list) sum
       ∙ ap (λ x. x >>= as_list) (items_refused before (suc left) after f begins.spelled begins.nesting (ap (λ x. x >>= items_behind read left) e))
 
@@ -65,7 +73,7 @@ module _ (n : ℕ) (read : Parse Data) (complete : IsComplete n read) where
       let left = count - entry_count before - 1 in
       let sum : count ≡ entry_count before + suc left = omega arith in
       let behind = entries_spelling before ++ after in
-      ap (λ (l : List ℕ). own_at true l >>= with_members (Some read)) is ∙ ap (λ x. x >>= with_members (Some read)) (own_again true (map_of count) behind (begins.count_fits, refl))
+      ap (λ x. x >>= with_members (Some read) b) (ap own_at is ∙ own_again (map_of count) behind begins.count_fits)
       ∙ ap (λ (k : ℕ). entries_at read None k behind >>= as_map) sum
       ∙ ap (λ x. x >>= as_map) (entries_refused None before (suc left) after f begins.spelled (from_none before) begins.nesting (e left)) where
         from_none : (es : Entries) → RisesFrom None es
@@ -85,6 +93,8 @@ module _ (n : ℕ) (read : Parse Data) (complete : IsComplete n read) where
 pub item_refused : {n : ℕ} {b : List ℕ} {f : Fault} → FaultAt n b f → item_at n b ≡ Err f
 unfolding item_at
 item_refused (own {n = n} {b = b} {f = f} e) = own_refused n b f e
+item_refused (list_too_deep {b = b} count after below is) = list_stopped b count after below is
+item_refused (map_too_deep {b = b} count after below is) = map_stopped b count after below is
 item_refused (in_list {n = n} {b = b} {f = f} count before after begins is inner) =
     list_refused n (item_at n) (item_complete n) b f count before after begins is (item_refused inner)
 item_refused (at_key {n = n} {b = b} {f = f} count before after begins is e) =

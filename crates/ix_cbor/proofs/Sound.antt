@@ -71,9 +71,9 @@ abbrev ok_data : Data × List ℕ → Result (Data × List ℕ) Fault
 ok_data x = Ok x
 
 -- an item that is whole
-leaf_sound : (n : ℕ) (may_nest : Bool) (b middle : List ℕ) (leaf_data d : Data) (rest : List ℕ) → OwnTaken may_nest b (leaf leaf_data) middle
+leaf_sound : (n : ℕ) (b middle : List ℕ) (leaf_data d : Data) (rest : List ℕ) → OwnTaken b (leaf leaf_data) middle
     → ok_data (leaf_data, middle) ≡ ok_data (d, rest) → Takes n b d rest
-leaf_sound n may_nest b middle leaf_data d rest o e =
+leaf_sound n b middle leaf_data d rest o e =
     subst (λ (x : Data × List ℕ). Takes n b x.0 x.1) (ok_same (leaf_data, middle) (d, rest) e)
     (record { whole = o.parts; spellable = o.is_own.0; nesting = omega (arith, o.is_own.1) })
 
@@ -119,9 +119,9 @@ module _ (n : ℕ) (read : Parse Data) (sound : IsSound n read) where
       value_taken count (entries_taken count) before b a.0.1 a.0.0 es rest fits (key_taken before b a.0.0 a.0.1 fits a.1) a.2
 
   -- an item with its members
-  some_members : (own : Own) (b middle : List ℕ) (d : Data) (rest : List ℕ) → IsBytes middle → OwnTaken true b own middle
-      → with_members (Some read) (own, middle) ≡ Ok (d, rest) → Takes (suc n) b d rest
-  some_members (leaf leaf_data) b middle d rest fits o e = leaf_sound (suc n) true b middle leaf_data d rest o e
+  some_members : (own : Own) (b middle : List ℕ) (d : Data) (rest : List ℕ) → IsBytes middle → OwnTaken b own middle
+      → with_members (Some read) b (own, middle) ≡ Ok (d, rest) → Takes (suc n) b d rest
+  some_members (leaf leaf_data) b middle d rest fits o e = leaf_sound (suc n) b middle leaf_data d rest o e
   some_members (list_of count) b middle d rest fits o e =
       let m = bind_ok (items_at read count middle) as_list (d, rest) e in
       let ts = items_taken count middle m.0.0 m.0.1 fits m.1 in
@@ -129,7 +129,7 @@ module _ (n : ℕ) (read : Parse Data) (sound : IsSound n read) where
       subst (λ (x : Data × List ℕ). Takes (suc n) b x.0 x.1) (ok_same (list m.0.0, m.0.1) (d, rest) m.2)
       (record {
         whole = o.parts ∙ ap (λ (l : List ℕ). head_of 4 count ++ l) ts.whole ∙ ap (λ (k : ℕ). head_of 4 k ++ (items_spelling m.0.0 ++ m.0.1)) (sym ts.counted) ∙ sym (append_assoc (head_of 4 (item_count m.0.0)) (items_spelling m.0.0) m.0.1);
-        spellable = (omega (arith, ts.counted, o.is_own.0), ts.spellable);
+        spellable = (omega (arith, ts.counted, o.is_own), ts.spellable);
         nesting = omega arith;
       })
   some_members (map_of count) b middle d rest fits o e =
@@ -139,27 +139,27 @@ module _ (n : ℕ) (read : Parse Data) (sound : IsSound n read) where
       subst (λ (x : Data × List ℕ). Takes (suc n) b x.0 x.1) (ok_same (map m.0.0, m.0.1) (d, rest) m.2)
       (record {
         whole = o.parts ∙ ap (λ (l : List ℕ). head_of 5 count ++ l) ts.whole ∙ ap (λ (k : ℕ). head_of 5 k ++ (entries_spelling m.0.0 ++ m.0.1)) (sym ts.counted) ∙ sym (append_assoc (head_of 5 (entry_count m.0.0)) (entries_spelling m.0.0) m.0.1);
-        spellable = (omega (arith, ts.counted, o.is_own.0), ts.rising);
+        spellable = (omega (arith, ts.counted, o.is_own), ts.rising);
         nesting = omega arith;
       })
 
   -- an item inside which lists and maps may stand
   pub some_sound : IsSound (suc n) (item_with (Some read))
   some_sound b d rest fits e =
-      let a = bind_ok (own_at true b) (with_members (Some read)) (d, rest) e in
-      let o = own_taken true b a.0.0 a.0.1 fits a.1 in
+      let a = bind_ok (own_at b) (with_members (Some read) b) (d, rest) e in
+      let o = own_taken b a.0.0 a.0.1 fits a.1 in
       some_members a.0.0 b a.0.1 d rest (IsBytes-behind b (own_spelling a.0.0) a.0.1 fits o.parts) o a.2
 
 -- an item that may have none
-none_members : (own : Own) (b middle : List ℕ) (d : Data) (rest : List ℕ) → OwnTaken false b own middle → with_members None (own, middle) ≡ Ok (d, rest) → Takes 0 b d rest
-none_members (leaf leaf_data) b middle d rest o e = leaf_sound 0 false b middle leaf_data d rest o e
-none_members (list_of count) b middle d rest o e = no_ok (record { kind = Nesting; left = length middle }) (d, rest) e
-none_members (map_of count) b middle d rest o e = no_ok (record { kind = Nesting; left = length middle }) (d, rest) e
+none_members : (own : Own) (b middle : List ℕ) (d : Data) (rest : List ℕ) → OwnTaken b own middle → with_members None b (own, middle) ≡ Ok (d, rest) → Takes 0 b d rest
+none_members (leaf leaf_data) b middle d rest o e = leaf_sound 0 b middle leaf_data d rest o e
+none_members (list_of count) b middle d rest o e = no_ok (record { kind = Nesting; left = length b }) (d, rest) e
+none_members (map_of count) b middle d rest o e = no_ok (record { kind = Nesting; left = length b }) (d, rest) e
 
 -- an item inside which none may stand
 pub none_sound : IsSound 0 (item_with None)
 none_sound b d rest fits e =
-    let a = bind_ok (own_at false b) (with_members None) (d, rest) e in none_members a.0.0 b a.0.1 d rest (own_taken false b a.0.0 a.0.1 fits a.1) a.2
+    let a = bind_ok (own_at b) (with_members None b) (d, rest) e in none_members a.0.0 b a.0.1 d rest (own_taken b a.0.0 a.0.1 fits a.1) a.2
 
 -- every level
 pub item_sound : (n : ℕ) → IsSound n (item_at n)

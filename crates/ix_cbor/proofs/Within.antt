@@ -5,7 +5,7 @@ use Rattle.std.specs.Int.{Width, byte_len, from_be_bytes, w8, w16, w32, w64}
 use Rattle.ix_cbor.specs.declared.fault.CborKind.{CborKind}
 use Rattle.ix_cbor.specs.declared.fault.CborKind.TheVariants as kinds
 use Rattle.ix_cbor.specs.Data.{Data, null, boolean, integer, bytes, text}
-use Rattle.ix_cbor.specs.Reading.{Fault, Parse, fails, Own, ◌>>=◌, leaf, list_of, map_of, take_at, wide_at, argument_at, string_at, string_of_major, rises, key_at, float_at, simple_at, link_of, link_at, nested, own_with, own_at, items_at, entries_at, with_members, item_at, decoded, nothing_after}
+use Rattle.ix_cbor.specs.Reading.{Fault, Parse, fails, Own, ◌>>=◌, leaf, list_of, map_of, take_at, wide_at, argument_at, string_at, string_of_major, rises, key_at, float_at, simple_at, link_of, link_at, own_with, own_at, items_at, entries_at, with_members, item_at, decoded, nothing_after}
 
 -- how many bytes are left behind a value, or behind the place of a fault
 abbrev pub left_of : {A : Type 0} → Result (A × List ℕ) Fault → ℕ
@@ -84,25 +84,21 @@ link_within n at tag b a h =
     (then_within (string_of_major 2 (λ content. fails kinds.Link at) b) (link_of at) (string_of_major_within n 2 (λ content. fails kinds.Link at) b (λ _ _. stopped kinds.Link at a) h) (λ c k. link_of_within n at c.0 c.1 a k))
     (stopped kinds.Tag at a)
 
-nested_within : (n : ℕ) (may_nest : Bool) (at : List ℕ) (own : Own) (b : List ℕ) → length at ≤ n → length b ≤ n → IsWithin n (nested may_nest at own b)
-nested_within n true at own b a h = ok _ _ h
-nested_within n false at own b a h = err _ a
-
-own_with_within : (n : ℕ) (may_nest : Bool) (at : List ℕ) (major argument : ℕ) (b : List ℕ) → length at ≤ n → length b ≤ n → IsWithin n (own_with may_nest at major argument b)
-own_with_within n may_nest at major argument b a h =
+own_with_within : (n : ℕ) (at : List ℕ) (major argument : ℕ) (b : List ℕ) → length at ≤ n → length b ≤ n → IsWithin n (own_with at major argument b)
+own_with_within n at major argument b a h =
     if_within _ (ok (leaf (integer (pos argument))) b h) (if_within (major == 1) (ok (leaf (integer (negsuc argument))) b h)
     (if_within (major == 2) (then_within (take_at argument b) (λ s. Ok (leaf (bytes s.0), s.1)) (take_within n argument b h) (λ s k. ok (leaf (bytes s.0)) s.1 k))
     (if_within (major == 3) (then_within (take_at argument b) (λ s. Ok (leaf (text s.0), s.1)) (take_within n argument b h) (λ s k. ok (leaf (text s.0)) s.1 k))
-    (if_within (major == 4) (nested_within n may_nest at (list_of argument) b a h) (if_within (major == 5) (nested_within n may_nest at (map_of argument) b a h)
+    (if_within (major == 4) (ok (list_of argument) b h) (if_within (major == 5) (ok (map_of argument) b h)
     (then_within (link_at at argument b) (λ d. Ok (leaf d.0, d.1)) (link_within n at argument b a h) (λ d k. ok (leaf d.0) d.1 k)))))))
 
-own_within : (n : ℕ) (may_nest : Bool) (b : List ℕ) → length b ≤ n → IsWithin n (own_at may_nest b)
-own_within n may_nest [] h = err _ (omega arith)
-own_within n may_nest (x ∷ b) h =
+own_within : (n : ℕ) (b : List ℕ) → length b ≤ n → IsWithin n (own_at b)
+own_within n [] h = err _ (omega arith)
+own_within n (x ∷ b) h =
     let rest : length b ≤ n = omega arith in
     if_within (x / 32 == 7)
     (then_within (simple_at (x ∷ b) (x % 32) b) (λ d. Ok (leaf d.0, d.1)) (simple_within n (x ∷ b) (x % 32) b h rest) (λ d k. ok (leaf d.0) d.1 k))
-    (then_within (argument_at (x ∷ b) (x % 32) b) (λ m. own_with may_nest (x ∷ b) (x / 32) m.0 m.1) (argument_within n (x ∷ b) (x % 32) b h rest) (λ m k. own_with_within n may_nest (x ∷ b) (x / 32) m.0 m.1 h k))
+    (then_within (argument_at (x ∷ b) (x % 32) b) (λ m. own_with (x ∷ b) (x / 32) m.0 m.1) (argument_within n (x ∷ b) (x % 32) b h rest) (λ m k. own_with_within n (x ∷ b) (x / 32) m.0 m.1 h k))
 
 -- members, where each is read within the bytes that are left
 module _ (n : ℕ) (read : Parse Data) (each : (b : List ℕ) → length b ≤ n → IsWithin n (read b)) where
@@ -116,23 +112,23 @@ module _ (n : ℕ) (read : Parse Data) (each : (b : List ℕ) → length b ≤ n
       then_within (key_at before b) _ (key_within n before b h) (λ name k. then_within (read name.1) _ (each name.1 k)
       (λ d more. then_within (entries_at read (Some name.0) count d.1) _ (entries_within (Some name.0) count d.1 more) (λ es rest. ok _ _ rest)))
 
-  members_within : (own : Own) (b : List ℕ) → length b ≤ n → IsWithin n (with_members (Some read) (own, b))
-  members_within (leaf d) b h = ok _ _ h
-  members_within (list_of count) b h = then_within (items_at read count b) _ (items_within count b h) (λ ds rest. ok _ _ rest)
-  members_within (map_of count) b h = then_within (entries_at read None count b) _ (entries_within None count b h) (λ es rest. ok _ _ rest)
+  members_within : (at : List ℕ) (own : Own) (b : List ℕ) → length b ≤ n → IsWithin n (with_members (Some read) at (own, b))
+  members_within at (leaf d) b h = ok _ _ h
+  members_within at (list_of count) b h = then_within (items_at read count b) _ (items_within count b h) (λ ds rest. ok _ _ rest)
+  members_within at (map_of count) b h = then_within (entries_at read None count b) _ (entries_within None count b h) (λ es rest. ok _ _ rest)
 
 -- an item where no members may stand
-no_members_within : (n : ℕ) (own : Own) (b : List ℕ) → length b ≤ n → IsWithin n (with_members None (own, b))
-no_members_within n (leaf d) b h = ok _ _ h
-no_members_within n (list_of count) b h = err _ h
-no_members_within n (map_of count) b h = err _ h
+no_members_within : (n : ℕ) (at : List ℕ) (own : Own) (b : List ℕ) → length at ≤ n → length b ≤ n → IsWithin n (with_members None at (own, b))
+no_members_within n at (leaf d) b a h = ok _ _ h
+no_members_within n at (list_of count) b a h = err _ a
+no_members_within n at (map_of count) b a h = err _ a
 
 -- an item with its members
 item_within : (n levels : ℕ) (b : List ℕ) → length b ≤ n → IsWithin n (item_at levels b)
 unfolding item_at
-item_within n zero b h = then_within (own_at false b) (with_members None) (own_within n false b h) (λ own k. no_members_within n own.0 own.1 k)
+item_within n zero b h = then_within (own_at b) (with_members None b) (own_within n b h) (λ own k. no_members_within n b own.0 own.1 h k)
 item_within n (suc levels) b h =
-    then_within (own_at true b) (with_members (Some (item_at levels))) (own_within n true b h) (λ own k. members_within n (item_at levels) (item_within n levels) own.0 own.1 k)
+    then_within (own_at b) (with_members (Some (item_at levels)) b) (own_within n b h) (λ own k. members_within n (item_at levels) (item_within n levels) b own.0 own.1 k)
 
 -- the same of what is left behind a whole block
 rest_within : (n : ℕ) (r : Result (Data × List ℕ) Fault) (f : Fault) → IsWithin n r → ◌>>=◌ {B = Data} r nothing_after ≡ Err f → f.left ≤ n

@@ -1,5 +1,5 @@
 -- What the parts of decode answer.
-use Rattle.std.specs.Prelude.{◌≡◌, ℕ, ◌-◌, ◌/◌, ◌%◌, ◌≤◌, Bool, List, Result, Ok, Err}
+use Rattle.std.specs.Prelude.{◌≡◌, ℕ, ◌-◌, ◌≤◌, Result, Ok, Err}
 use Rattle.ix_cbor.specs.declared.fault.CborKind.{CborKind}
 use Rattle.ix_cbor.specs.declared.fault.CborKind.TheVariants.{Memory}
 use Rattle.ix_cbor.specs.declared.read.Stop.{Stop}
@@ -7,7 +7,7 @@ use Rattle.ix_cbor.specs.declared.read.Own.{Own as RustOwn}
 use Rattle.ix_cbor.specs.declared.read.Own.TheVariants.{Leaf, ListOf, MapOf}
 use Rattle.ix_cbor.specs.declared.node.Node.{Node}
 use Rattle.ix_cbor.specs.Data.{Data, data_of}
-use Rattle.ix_cbor.specs.Reading.{Fault, Parse, ◌>>=◌, Own, leaf, list_of, map_of, argument_at, own_with}
+use Rattle.ix_cbor.specs.Reading.{Fault, Own, leaf, list_of, map_of}
 use Rattle.ix_cbor.specs.Gives.{FailsAs}
 
 abbrev pub own_of : RustOwn → Own
@@ -15,17 +15,15 @@ own_of (Leaf n) = leaf (data_of n)
 own_of (ListOf n) = list_of n
 own_of (MapOf n) = map_of n
 
+-- what a call that takes no memory answered, seen by view, is what the definition gives
 abbrev pub Reads : {X A : Type 0} → (X → A) → Result X Stop → Result A Fault → Type 0
 Reads view (Ok x) meant = meant ≡ Ok (view x)
-Reads view (Err e) meant = FailsAs e.kind e.left meant
+Reads view (Err e) meant = meant ≡ Err (record { kind = e.kind; left = e.left })
 
--- a key and a value of a map
-abbrev pub entry_of : List ℕ × Node → List ℕ × Data
-entry_of e = (e.0, data_of e.1)
-
--- what an item is by a head byte that isn't of major type 7
-abbrev pub headed_at : Bool → List ℕ → ℕ → Parse Own
-headed_at may_nest at h b = argument_at at (h % 32) b >>= (λ n. own_with may_nest at (h / 32) n.0 n.1)
+-- the same of a call that takes memory, unless that ran out
+abbrev pub ReadsOrRunsOut : {X A : Type 0} → (X → A) → Result X Stop → Result A Fault → Type 0
+ReadsOrRunsOut view (Ok x) meant = meant ≡ Ok (view x)
+ReadsOrRunsOut view (Err e) meant = FailsAs e.kind e.left meant
 
 -- the place of a fault lies within that many bytes. Want of memory has no place
 abbrev pub LiesWithin : CborKind → ℕ → ℕ → Type 0

@@ -1,16 +1,15 @@
 //! Which nodes have a spelling.
 
 ghost use Rattle.std.specs.Prelude.{◌≡◌, ◌≢◌, ◌↔◌, ◌+◌, ◌/◌, ◌%◌, ◌^◌, ◌<◌, IsTrue, None, length, map};
-ghost use Rattle.ix_cbor.specs.Data.{data_of, integer, items_of, entries_of};
+ghost use Rattle.ix_cbor.specs.Data.{data_of, integer, items_of, entry_of, entries_of};
 ghost use Rattle.ix_cbor.specs.Spelling.{IsCanonical, IsSpellable};
 ghost use Rattle.ix_cbor.specs.Fits.{Fits, ItemsFit, EntriesFit};
 
 use crate::head::compare_keys;
 use crate::node::Node;
-use crate::octets::Octets;
 
 // How deep lists and maps may nest.
-const LEVELS: u32 = 512;
+pub(crate) const LEVELS: u32 = 512;
 
 // Whether the node has a spelling.
 pub(crate) fn is_canonical(node: &Node) -> bool
@@ -71,8 +70,8 @@ fn members_fit(members: &[Node], levels: u32) -> bool
 
 // The same of keys and values, where each key rises above the one before it.
 #[cycle(fits)]
-fn entries_fit(entries: &[(Octets, Node)], levels: u32) -> bool
-    ensures { IsTrue result ↔ EntriesFit levels None (entries_of (map (λ e. (e.0, data_of e.1)) entries.now)) }
+fn entries_fit(entries: &[(Vec<u8>, Node)], levels: u32) -> bool
+    ensures { IsTrue result ↔ EntriesFit levels None (entries_of (map entry_of entries.now)) }
 {
     let mut before: Option<&[u8]> = None;
     for (key, value) in entries {

@@ -5,8 +5,9 @@ ghost use Rattle.ix_cbor.specs.Data.{Data, data_of};
 ghost use Rattle.ix_cbor.specs.Spelling.{Spells, spelling_of};
 ghost use Rattle.ix_cbor.specs.Reading.{decoded};
 ghost use Rattle.ix_cbor.specs.Gives.{Gives, IsFirstOf};
-ghost use Rattle.ix_cbor.specs.Stops.{Reads, LiesWithin, placed};
+ghost use Rattle.ix_cbor.specs.Stops.{ReadsOrRunsOut, LiesWithin, placed};
 
+use crate::canonical::LEVELS;
 use crate::fault::{CborFault, CborKind};
 use crate::node::Node;
 use crate::read::{Stop, item};
@@ -14,12 +15,9 @@ use crate::tree::Tree;
 use crate::write::push_item;
 use std::alloc::{AllocError, Global};
 
-// How deep lists and maps may nest.
-const LEVELS: u32 = 512;
-
 // The one item that is all of the bytes.
 fn whole(alloc: Global, bytes: &[u8]) -> Result<Node, Stop>
-    ensures { Reads (λ n. data_of n) result (decoded bytes.now) }
+    ensures { ReadsOrRunsOut (λ n. data_of n) result (decoded bytes.now) }
 {
     let (node, rest) = item(alloc, bytes, LEVELS)?;
     if !rest.is_empty() {

@@ -1,24 +1,19 @@
 //! Nodes for tests.
 
 use crate::node::Node;
-use crate::octets::Octets;
 use std::alloc::{AllocError, Global};
-
-pub(crate) fn octets(alloc: Global, bytes: &[u8]) -> Result<Octets, AllocError> {
-    Ok(Octets::new(Vec::from_slice(alloc, bytes)?))
-}
 
 pub(crate) fn list<const N: usize>(alloc: Global, members: [Node; N]) -> Result<Node, AllocError> {
     Ok(Node::List(Vec::from_array(alloc, members)?))
 }
 
-pub(crate) fn entry(alloc: Global, key: &[u8], value: Node) -> Result<(Octets, Node), AllocError> {
-    Ok((octets(alloc, key)?, value))
+pub(crate) fn entry(alloc: Global, key: &[u8], value: Node) -> Result<(Vec<u8>, Node), AllocError> {
+    Ok((Vec::from_slice(alloc, key)?, value))
 }
 
 pub(crate) fn map<const N: usize>(
     alloc: Global,
-    entries: [(Octets, Node); N],
+    entries: [(Vec<u8>, Node); N],
 ) -> Result<Node, AllocError> {
     Ok(Node::Map(Vec::from_array(alloc, entries)?))
 }

@@ -3,14 +3,19 @@
 ghost use Rattle.std.specs.Prelude.{◌≡◌};
 ghost use Rattle.ix_cbor.specs.declared.fault.CborKind.TheVariants as kinds;
 ghost use Rattle.ix_cbor.specs.Data.{data_of, float, link};
-ghost use Rattle.ix_cbor.specs.Reading.{fails, string_of_major, float_at, simple_at, link_of, link_at, nested, own_with, own_at};
-ghost use Rattle.ix_cbor.specs.Stops.{Reads, own_of, headed_at};
+ghost use Rattle.ix_cbor.specs.Reading.{fails, string_of_major, float_at, simple_at, link_of, link_at, own_behind, own_at};
+ghost use Rattle.ix_cbor.specs.Majors.{number_of};
+ghost use Rattle.ix_cbor.specs.Stops.{Reads, ReadsOrRunsOut, own_of};
 
 use crate::fault::CborKind;
-use crate::head::{argument, string, take, u64_of};
+use crate::head::{argument, string};
+use crate::information::{
+    FALSE, FLOAT_16, FLOAT_32, FLOAT_64, LINK, NULL, OPEN, TRUE, information_of,
+};
+use crate::major::Major;
 use crate::node::Node;
-use crate::octets::Octets;
 use crate::read::{Own, Stop};
+use crate::width::u64_of;
 use ix_cid::{Cid, CidFault};
 use std::alloc::Global;
 
@@ -29,20 +34,20 @@ fn float_bits<'a>(at: &'a [u8], bytes: &'a [u8]) -> Result<(u64, &'a [u8]), Stop
     Ok((bits, rest))
 }
 
-// A truth value, null or a float, by the lower five bits of a head of major type 7.
-fn simple<'a>(at: &'a [u8], info: u8, bytes: &'a [u8]) -> Result<(Node, &'a [u8]), Stop>
-    ensures { Reads (λ r. (data_of r.0, r.1.now)) result (simple_at at.now info bytes.now) }
+// A truth value, null or a float, by the information in a head of major type 7.
+fn simple<'a>(at: &'a [u8], information: u8, bytes: &'a [u8]) -> Result<(Node, &'a [u8]), Stop>
+    ensures { Reads (λ r. (data_of r.0, r.1.now)) result (simple_at at.now information bytes.now) }
 {
-    match info {
-        20 => Ok((Node::Bool(false), bytes)),
-        21 => Ok((Node::Bool(true), bytes)),
-        22 => Ok((Node::Null, bytes)),
-        25 | 26 => Err(Stop::at(CborKind::Float, at)),
-        27 => {
+    match information {
+        FALSE => Ok((Node::Bool(false), bytes)),
+        TRUE => Ok((Node::Bool(true), bytes)),
+        NULL => Ok((Node::Null, bytes)),
+        FLOAT_16 | FLOAT_32 => Err(Stop::at(CborKind::Float, at)),
+        FLOAT_64 => {
             let (bits, rest) = float_bits(at, bytes)?;
             Ok((Node::Bits64(bits), rest))
         }
-        31 => Err(Stop::at(CborKind::Indefinite, at)),
+        OPEN => Err(Stop::at(CborKind::Indefinite, at)),
         _ => Err(Stop::at(CborKind::Simple, at)),
     }
 }
@@ -53,7 +58,9 @@ fn tag_content<'a>(at: &'a [u8], bytes: &'a [u8]) -> Result<(&'a [u8], &'a [u8])
 {
     match bytes {
         [] => Err(Stop::at_end()),
-        [head, rest @ ..] if *head / 32 == 2 => string(bytes, *head % 32, rest),
+        [head, rest @ ..] if Major::of(*head) == Major::Bytes => {
+            string(bytes, information_of(*head), rest)
+        }
         _ => Err(Stop::at(CborKind::Link, at)),
     }
 }
@@ -65,7 +72,7 @@ fn cid_in<'a>(
     content: &'a [u8],
     rest: &'a [u8],
 ) -> Result<(Cid, &'a [u8]), Stop>
-    ensures { Reads (λ r. (link r.0, r.1.now)) result (link_of at.now (content.now, rest.now)) }
+    ensures { ReadsOrRunsOut (λ r. (link r.0, r.1.now)) result (link_of at.now (content.now, rest.now)) }
 {
     if let [0, bytes @ ..] = content {
         match Cid::read(alloc, bytes) {
@@ -75,10 +82,7 @@ fn cid_in<'a>(
                 }
             }
             Err(CidFault::Memory) => {
-                return Err(Stop {
-                    kind: CborKind::Memory,
-                    left: 0,
-                });
+                return Err(Stop::memory());
             }
             Err(_) => {}
         }
@@ -93,9 +97,9 @@ fn tagged<'a>(
     tag: u64,
     bytes: &'a [u8],
 ) -> Result<(Node, &'a [u8]), Stop>
-    ensures { Reads (λ r. (data_of r.0, r.1.now)) result (link_at at.now tag bytes.now) }
+    ensures { ReadsOrRunsOut (λ r. (data_of r.0, r.1.now)) result (link_at at.now tag bytes.now) }
 {
-    if tag != 42 {
+    if tag != LINK {
         return Err(Stop::at(CborKind::Tag, at));
     }
     let (content, rest) = tag_content(at, bytes)?;
@@ -103,82 +107,64 @@ fn tagged<'a>(
     Ok((Node::Link(cid), rest))
 }
 
-// A list or map, where one may stand.
-fn nesting<'a>(
-    may_nest: bool,
-    at: &'a [u8],
-    own: Own,
-    bytes: &'a [u8],
-) -> Result<(Own, &'a [u8]), Stop>
-    ensures { Reads (λ r. (own_of r.0, r.1.now)) result (nested may_nest at.now (own_of own) bytes.now) }
-{
-    if !may_nest {
-        return Err(Stop::at(CborKind::Nesting, at));
-    }
-    Ok((own, bytes))
-}
-
-// What an item with this major type and argument is.
+// What an item with this major type and information in its first byte is.
 fn of_major<'a>(
     alloc: Global,
-    may_nest: bool,
     at: &'a [u8],
-    major: u8,
-    argument: u64,
+    major: Major,
+    information: u8,
     bytes: &'a [u8],
 ) -> Result<(Own, &'a [u8]), Stop>
-    ensures { Reads (λ r. (own_of r.0, r.1.now)) result (own_with may_nest at.now major argument bytes.now) }
+    ensures { ReadsOrRunsOut (λ r. (own_of r.0, r.1.now)) result (own_behind at.now (number_of major) information bytes.now) }
 {
     match major {
-        0 => Ok((Own::Leaf(Node::Int(i128::from(argument))), bytes)),
-        1 => Ok((Own::Leaf(Node::Int(-1 - i128::from(argument))), bytes)),
-        2 => {
-            let (string, rest) = take(argument, bytes)?;
-            let string = Octets::new(Vec::from_slice(alloc, string)?);
-            Ok((Own::Leaf(Node::Bytes(string)), rest))
+        Major::Unsigned => {
+            let (number, rest) = argument(at, information, bytes)?;
+            Ok((Own::Leaf(Node::Int(i128::from(number))), rest))
         }
-        3 => {
-            let (string, rest) = take(argument, bytes)?;
-            let string = Octets::new(Vec::from_slice(alloc, string)?);
-            Ok((Own::Leaf(Node::Text(string)), rest))
+        Major::Negative => {
+            let (number, rest) = argument(at, information, bytes)?;
+            Ok((Own::Leaf(Node::Int(-1 - i128::from(number))), rest))
         }
-        4 => nesting(may_nest, at, Own::ListOf(argument), bytes),
-        5 => nesting(may_nest, at, Own::MapOf(argument), bytes),
-        _ => {
-            let (node, rest) = tagged(alloc, at, argument, bytes)?;
+        Major::Bytes => {
+            let (string, rest) = string(at, information, bytes)?;
+            let node = Node::Bytes(Vec::from_slice(alloc, string)?);
+            Ok((Own::Leaf(node), rest))
+        }
+        Major::Text => {
+            let (string, rest) = string(at, information, bytes)?;
+            let node = Node::Text(Vec::from_slice(alloc, string)?);
+            Ok((Own::Leaf(node), rest))
+        }
+        Major::List => {
+            let (count, rest) = argument(at, information, bytes)?;
+            Ok((Own::ListOf(count), rest))
+        }
+        Major::Map => {
+            let (count, rest) = argument(at, information, bytes)?;
+            Ok((Own::MapOf(count), rest))
+        }
+        Major::Tag => {
+            let (tag, rest) = argument(at, information, bytes)?;
+            let (node, rest) = tagged(alloc, at, tag, rest)?;
+            Ok((Own::Leaf(node), rest))
+        }
+        Major::Simple => {
+            let (node, rest) = simple(at, information, bytes)?;
             Ok((Own::Leaf(node), rest))
         }
     }
-}
-
-// What an item is whose head isn't of major type 7.
-fn headed<'a>(
-    alloc: Global,
-    may_nest: bool,
-    at: &'a [u8],
-    head: u8,
-    bytes: &'a [u8],
-) -> Result<(Own, &'a [u8]), Stop>
-    ensures { Reads (λ r. (own_of r.0, r.1.now)) result (headed_at may_nest at.now head bytes.now) }
-{
-    let (argument, rest) = argument(at, head % 32, bytes)?;
-    of_major(alloc, may_nest, at, head / 32, argument, rest)
 }
 
 // The tests at one item, before any member of it is read.
-pub(crate) fn head_of_item(
-    alloc: Global,
-    bytes: &[u8],
-    may_nest: bool,
-) -> Result<(Own, &[u8]), Stop>
-    ensures { Reads (λ r. (own_of r.0, r.1.now)) result (own_at may_nest bytes.now) }
+pub(crate) fn head_of_item(alloc: Global, bytes: &[u8]) -> Result<(Own, &[u8]), Stop>
+    ensures { ReadsOrRunsOut (λ r. (own_of r.0, r.1.now)) result (own_at bytes.now) }
 {
     match bytes {
         [] => Err(Stop::at_end()),
-        [head, rest @ ..] if *head / 32 == 7 => {
-            let (node, rest) = simple(bytes, *head % 32, rest)?;
-            Ok((Own::Leaf(node), rest))
+        [head, rest @ ..] => {
+            let major = Major::of(*head);
+            of_major(alloc, bytes, major, information_of(*head), rest)
         }
-        [head, rest @ ..] => headed(alloc, may_nest, bytes, *head, rest),
     }
 }

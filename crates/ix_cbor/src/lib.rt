@@ -7,21 +7,23 @@ mod fault;
 #[cfg(test)]
 mod fixtures;
 mod head;
+mod information;
 pub mod law;
 mod leaf;
+mod major;
 mod node;
-mod octets;
 mod read;
 #[cfg(test)]
 mod rfc_examples;
 #[cfg(test)]
 mod tests;
 mod tree;
+mod width;
 mod write;
 
 pub use codec::{decode, encode};
 pub use fault::{CborFault, CborKind};
 pub use head::push_head;
+pub use major::Major;
 pub use node::Node;
-pub use octets::Octets;
 pub use tree::Tree;

@@ -1,15 +1,14 @@
 //! The parts of decode.
 
 ghost use Rattle.std.specs.Prelude.{◌≡◌, map, Some, None};
-ghost use Rattle.ix_cbor.specs.Data.{data_of, items_of, entries_of};
+ghost use Rattle.ix_cbor.specs.Data.{data_of, items_of, entry_of, entries_of};
 ghost use Rattle.ix_cbor.specs.Reading.{item_with, item_at, items_at, entries_at};
-ghost use Rattle.ix_cbor.specs.Stops.{Reads, entry_of};
+ghost use Rattle.ix_cbor.specs.Stops.{ReadsOrRunsOut};
 
 use crate::fault::CborKind;
 use crate::head::key;
 use crate::leaf::head_of_item;
 use crate::node::Node;
-use crate::octets::Octets;
 use std::alloc::{AllocError, AllocFailed, Global};
 
 // A fault, and how many bytes there are from its place to the end.
@@ -21,7 +20,7 @@ pub struct Stop {
 
 impl Stop {
     ghost use Rattle.std.specs.Prelude.{◌≡◌, length};
-    ghost use Rattle.ix_cbor.specs.declared.fault.CborKind.TheVariants.{Truncated};
+    ghost use Rattle.ix_cbor.specs.declared.fault.CborKind.TheVariants.{Truncated, Memory};
 
     // A fault at the front of these bytes.
     pub(crate) fn at(kind: CborKind, bytes: &[u8]) -> Stop
@@ -42,6 +41,16 @@ impl Stop {
             left: 0,
         }
     }
+
+    // No memory was left.
+    pub(crate) fn memory() -> Stop
+        ensures { result ≡ record { kind = Memory; left = 0 } }
+    {
+        Stop {
+            kind: CborKind::Memory,
+            left: 0,
+        }
+    }
 }
 
 impl From<AllocError> for Stop {
@@ -51,10 +60,7 @@ impl From<AllocError> for Stop {
     ghost from_gives = { λ _ e. e.kind ≡ Memory };
 
     fn from(_: AllocError) -> Stop {
-        Stop {
-            kind: CborKind::Memory,
-            left: 0,
-        }
+        Stop::memory()
     }
 }
 
@@ -65,10 +71,7 @@ impl<T: Drop> From<AllocFailed<T>> for Stop {
     ghost from_gives = { λ _ e. e.kind ≡ Memory };
 
     fn from(_: AllocFailed<T>) -> Stop {
-        Stop {
-            kind: CborKind::Memory,
-            left: 0,
-        }
+        Stop::memory()
     }
 }
 
@@ -80,21 +83,23 @@ pub enum Own {
     MapOf(u64),
 }
 
+// One item, where no list or map may stand.
 fn leaf(alloc: Global, bytes: &[u8]) -> Result<(Node, &[u8]), Stop>
-    ensures { Reads (λ r. (data_of r.0, r.1.now)) result (item_with None bytes.now) }
+    ensures { ReadsOrRunsOut (λ r. (data_of r.0, r.1.now)) result (item_with None bytes.now) }
 {
-    let (own, rest) = head_of_item(alloc, bytes, false)?;
+    let (own, rest) = head_of_item(alloc, bytes)?;
     match own {
         Own::Leaf(node) => Ok((node, rest)),
-        Own::ListOf(_) | Own::MapOf(_) => Err(Stop::at(CborKind::Nesting, rest)),
+        Own::ListOf(_) | Own::MapOf(_) => Err(Stop::at(CborKind::Nesting, bytes)),
     }
 }
 
+// One item, where a list or map may stand, and others nest so deep inside it.
 #[cycle(item)]
 fn branch(alloc: Global, bytes: &[u8], levels: u32) -> Result<(Node, &[u8]), Stop>
-    ensures { Reads (λ r. (data_of r.0, r.1.now)) result (item_with (Some (item_at levels)) bytes.now) }
+    ensures { ReadsOrRunsOut (λ r. (data_of r.0, r.1.now)) result (item_with (Some (item_at levels)) bytes.now) }
 {
-    let (own, rest) = head_of_item(alloc, bytes, true)?;
+    let (own, rest) = head_of_item(alloc, bytes)?;
     match own {
         Own::Leaf(node) => Ok((node, rest)),
         Own::ListOf(count) => {
@@ -108,9 +113,10 @@ fn branch(alloc: Global, bytes: &[u8], levels: u32) -> Result<(Node, &[u8]), Sto
     }
 }
 
+// One item, where lists and maps may nest so deep.
 #[cycle(item)]
 pub(crate) fn item(alloc: Global, bytes: &[u8], levels: u32) -> Result<(Node, &[u8]), Stop>
-    ensures { Reads (λ r. (data_of r.0, r.1.now)) result (item_at levels bytes.now) }
+    ensures { ReadsOrRunsOut (λ r. (data_of r.0, r.1.now)) result (item_at levels bytes.now) }
 {
     if levels == 0 {
         leaf(alloc, bytes)
@@ -119,9 +125,10 @@ pub(crate) fn item(alloc: Global, bytes: &[u8], levels: u32) -> Result<(Node, &[
     }
 }
 
+// So many members of a list, inside which lists and maps may nest so deep.
 #[cycle(item)]
 fn items(alloc: Global, bytes: &[u8], count: u64, levels: u32) -> Result<(Vec<Node>, &[u8]), Stop>
-    ensures { Reads (λ r. (items_of (map data_of r.0.items), r.1.now)) result (items_at (item_at levels) count bytes.now) }
+    ensures { ReadsOrRunsOut (λ r. (items_of (map data_of r.0.items), r.1.now)) result (items_at (item_at levels) count bytes.now) }
 {
     let mut members = Vec::new(alloc);
     let mut rest = bytes;
@@ -133,14 +140,15 @@ fn items(alloc: Global, bytes: &[u8], count: u64, levels: u32) -> Result<(Vec<No
     Ok((members, rest))
 }
 
+// So many keys and values of a map, inside which lists and maps may nest so deep.
 #[cycle(item)]
 fn entries(
     alloc: Global,
     bytes: &[u8],
     count: u64,
     levels: u32,
-) -> Result<(Vec<(Octets, Node)>, &[u8]), Stop>
-    ensures { Reads (λ r. (entries_of (map entry_of r.0.items), r.1.now)) result (entries_at (item_at levels) None count bytes.now) }
+) -> Result<(Vec<(Vec<u8>, Node)>, &[u8]), Stop>
+    ensures { ReadsOrRunsOut (λ r. (entries_of (map entry_of r.0.items), r.1.now)) result (entries_at (item_at levels) None count bytes.now) }
 {
     let mut members = Vec::new(alloc);
     let mut rest = bytes;
@@ -148,7 +156,7 @@ fn entries(
     for _ in 0..count {
         let (name, value) = key(before, rest)?;
         let (node, next) = item(alloc, value, levels)?;
-        members.push((Octets::new(Vec::from_slice(alloc, name)?), node))?;
+        members.push((Vec::from_slice(alloc, name)?, node))?;
         before = Some(name);
         rest = next;
     }

@@ -3,6 +3,7 @@
 use crate::codec::{decode, encode};
 use crate::fault::{CborFault, CborKind};
 use crate::head::push_head;
+use crate::major::Major;
 use crate::node::Node;
 use std::alloc::{AllocError, Global};
 use std::test::Fail;
@@ -19,11 +20,9 @@ fn repeated(alloc: Global, count: usize, byte: u8, end: &[u8]) -> Result<Vec<u8>
     Ok(bytes)
 }
 
-fn head(alloc: Global, major: u8, argument: u64) -> Result<Vec<u8>, AllocError> {
+fn head(alloc: Global, major: Major, argument: u64) -> Result<Vec<u8>, AllocError> {
     let mut bytes = Vec::new(alloc);
-    if major < 8 {
-        push_head(&mut bytes, major, argument)?;
-    }
+    push_head(&mut bytes, major, argument)?;
     Ok(bytes)
 }
 
@@ -231,29 +230,29 @@ fn links(rt: HostRuntime) -> Result<(), Fail> {
 
 #[test]
 fn heads(rt: HostRuntime) -> Result<(), Fail> {
-    let table: [(u8, u64, &[u8]); 10] = [
-        (0, 0, b"\x00"),
-        (0, 23, b"\x17"),
-        (0, 24, b"\x18\x18"),
-        (2, 255, b"\x58\xff"),
-        (3, 256, b"\x79\x01\x00"),
-        (4, 65_535, b"\x99\xff\xff"),
-        (0, 1_000_000, b"\x1a\x00\x0f\x42\x40"),
-        (5, 4_294_967_295, b"\xba\xff\xff\xff\xff"),
+    let table: [(Major, u64, &[u8]); 10] = [
+        (Major::Unsigned, 0, b"\x00"),
+        (Major::Unsigned, 23, b"\x17"),
+        (Major::Unsigned, 24, b"\x18\x18"),
+        (Major::Bytes, 255, b"\x58\xff"),
+        (Major::Text, 256, b"\x79\x01\x00"),
+        (Major::List, 65_535, b"\x99\xff\xff"),
+        (Major::Unsigned, 1_000_000, b"\x1a\x00\x0f\x42\x40"),
+        (Major::Map, 4_294_967_295, b"\xba\xff\xff\xff\xff"),
         (
-            0,
+            Major::Unsigned,
             1_000_000_000_000,
             b"\x1b\x00\x00\x00\xe8\xd4\xa5\x10\x00",
         ),
         (
-            1,
+            Major::Negative,
             18_446_744_073_709_551_615,
             b"\x3b\xff\xff\xff\xff\xff\xff\xff\xff",
         ),
     ];
     for (major, argument, bytes) in table {
         let written = head(rt.alloc(), major, argument)?;
-        assert_eq!(rt; written.as_slice(), bytes, "of {major} and {argument}");
+        assert_eq!(rt; written.as_slice(), bytes, "of {major:?} and {argument}");
     }
     Ok(())
 }

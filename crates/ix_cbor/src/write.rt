@@ -1,12 +1,14 @@
 //! The parts of encode.
 
 ghost use Rattle.std.specs.Prelude.{◌≡◌, ◌+◌, ◌^◌, ◌<◌, ◌++◌, OnOk, length, map};
-ghost use Rattle.ix_cbor.specs.Data.{data_of, integer, items_of, entries_of};
+ghost use Rattle.ix_cbor.specs.Data.{data_of, integer, float, items_of, entry_of, entries_of};
+ghost use Rattle.ix_cbor.specs.Majors.{number_of};
 ghost use Rattle.ix_cbor.specs.Spelling.{head_of, link_spelling, spelling_of, items_spelling, entries_spelling, IsSpellable, AreSpellable, AreRising};
 
 use crate::head::push_head;
+use crate::information::{FALSE, FLOAT_64, LINK, NULL, TRUE};
+use crate::major::Major;
 use crate::node::Node;
-use crate::octets::Octets;
 use std::alloc::AllocError;
 
 // The spelling of an integer: -1 less the argument where it is below 0.
@@ -15,16 +17,23 @@ fn push_int(out: &mut Vec<u8>, n: i128) -> Result<(), AllocError>
     ensures ok { OnOk result (out.new.items ≡ out.old.items ++ spelling_of (integer n)) }
 {
     if n >= 0 {
-        push_head(out, 0, n as u64)
+        push_head(out, Major::Unsigned, n as u64)
     } else {
-        push_head(out, 1, (-1 - n) as u64)
+        push_head(out, Major::Negative, (-1 - n) as u64)
     }
 }
 
+// The spelling of a float of 64 bits.
+fn push_float(out: &mut Vec<u8>, bits: u64) -> Result<(), AllocError>
+    ensures ok { OnOk result (out.new.items ≡ out.old.items ++ spelling_of (float bits)) }
+{
+    out.push(Major::Simple.with(FLOAT_64))?;
+    out.extend_from_slice(&bits.to_be_bytes())
+}
+
 // A string behind the head with its length.
-fn push_string(out: &mut Vec<u8>, major: u8, bytes: &[u8]) -> Result<(), AllocError>
-    requires { major < 8 }
-    ensures ok { OnOk result (out.new.items ≡ out.old.items ++ (head_of major (length bytes.now) ++ bytes.now)) }
+fn push_string(out: &mut Vec<u8>, major: Major, bytes: &[u8]) -> Result<(), AllocError>
+    ensures ok { OnOk result (out.new.items ≡ out.old.items ++ (head_of (number_of major) (length bytes.now) ++ bytes.now)) }
 {
     push_head(out, major, bytes.len() as u64)?;
     out.extend_from_slice(bytes)
@@ -35,8 +44,8 @@ fn push_link(out: &mut Vec<u8>, cid: &[u8]) -> Result<(), AllocError>
     requires { length cid.now + 1 < 2 ^ 64 }
     ensures ok { OnOk result (out.new.items ≡ out.old.items ++ link_spelling cid.now) }
 {
-    out.extend_from_slice(&[0xd8, 0x2a])?;
-    push_head(out, 2, cid.len() as u64 + 1)?;
+    push_head(out, Major::Tag, LINK)?;
+    push_head(out, Major::Bytes, cid.len() as u64 + 1)?;
     out.push(0)?;
     out.extend_from_slice(cid)
 }
@@ -48,22 +57,19 @@ pub(crate) fn push_item(out: &mut Vec<u8>, node: &Node) -> Result<(), AllocError
     ensures ok { OnOk result (out.new.items ≡ out.old.items ++ spelling_of (data_of node.now)) }
 {
     match node {
-        Node::Null => Ok(out.push(0xf6)?),
-        Node::Bool(false) => Ok(out.push(0xf4)?),
-        Node::Bool(true) => Ok(out.push(0xf5)?),
+        Node::Null => push_head(out, Major::Simple, u64::from(NULL)),
+        Node::Bool(false) => push_head(out, Major::Simple, u64::from(FALSE)),
+        Node::Bool(true) => push_head(out, Major::Simple, u64::from(TRUE)),
         Node::Int(n) => push_int(out, *n),
-        Node::Bits64(bits) => {
-            out.push(0xfb)?;
-            out.extend_from_slice(&bits.to_be_bytes())
-        }
-        Node::Bytes(bytes) => push_string(out, 2, bytes.as_slice()),
-        Node::Text(text) => push_string(out, 3, text.as_slice()),
+        Node::Bits64(bits) => push_float(out, *bits),
+        Node::Bytes(bytes) => push_string(out, Major::Bytes, bytes.as_slice()),
+        Node::Text(text) => push_string(out, Major::Text, text.as_slice()),
         Node::List(members) => {
-            push_head(out, 4, members.len() as u64)?;
+            push_head(out, Major::List, members.len() as u64)?;
             push_members(out, members)
         }
         Node::Map(entries) => {
-            push_head(out, 5, entries.len() as u64)?;
+            push_head(out, Major::Map, entries.len() as u64)?;
             push_entries(out, entries)
         }
         Node::Link(cid) => push_link(out, cid.as_bytes()),
@@ -84,12 +90,12 @@ fn push_members(out: &mut Vec<u8>, members: &[Node]) -> Result<(), AllocError>
 
 // The spellings of keys and values, each key before its value.
 #[cycle(push_item)]
-fn push_entries(out: &mut Vec<u8>, entries: &[(Octets, Node)]) -> Result<(), AllocError>
-    requires { AreRising (entries_of (map (λ e. (e.0, data_of e.1)) entries.now)) }
-    ensures ok { OnOk result (out.new.items ≡ out.old.items ++ entries_spelling (entries_of (map (λ e. (e.0, data_of e.1)) entries.now))) }
+fn push_entries(out: &mut Vec<u8>, entries: &[(Vec<u8>, Node)]) -> Result<(), AllocError>
+    requires { AreRising (entries_of (map entry_of entries.now)) }
+    ensures ok { OnOk result (out.new.items ≡ out.old.items ++ entries_spelling (entries_of (map entry_of entries.now))) }
 {
     for (key, value) in entries {
-        push_string(out, 3, key.as_slice())?;
+        push_string(out, Major::Text, key.as_slice())?;
         push_item(out, value)?;
     }
     Ok(())

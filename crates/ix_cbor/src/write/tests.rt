@@ -1,7 +1,7 @@
 //! Spellings of RFC 8949, appendix A.
 
 use crate::codec::encode;
-use crate::fixtures::{entry, list, map, octets};
+use crate::fixtures::{entry, list, map};
 use crate::node::Node;
 use crate::tree::Tree;
 use std::test::Fail;
@@ -54,12 +54,12 @@ fn spells_nodes(rt: HostRuntime) -> Result<(), Fail> {
         (Node::Bool(false), b"\xf4"),
         (Node::Bool(true), b"\xf5"),
         (Node::Null, b"\xf6"),
-        (Node::Bytes(octets(alloc, b"")?), b"\x40"),
+        (Node::Bytes(Vec::from_slice(alloc, b"")?), b"\x40"),
         (
-            Node::Bytes(octets(alloc, b"\x01\x02\x03\x04")?),
+            Node::Bytes(Vec::from_slice(alloc, b"\x01\x02\x03\x04")?),
             b"\x44\x01\x02\x03\x04",
         ),
-        (Node::Text(octets(alloc, b"a")?), b"\x61a"),
+        (Node::Text(Vec::from_slice(alloc, b"a")?), b"\x61a"),
         (list(alloc, [])?, b"\x80"),
         (
             list(alloc, [Node::Int(1), two, four])?,

@@ -1,8 +1,7 @@
 use Rattle.std.proofs.Common.{◌≡◌, map, ◌+◌, ◌-◌, ◌*◌}
 use Rattle.std.specs.Prelude.{None, option_map}
-use Rattle.ix_cbor.specs.Data.{data_of}
+use Rattle.ix_cbor.specs.Data.{data_of, entry_of}
 use Rattle.ix_cbor.specs.Reading.{item_at, items_at, entries_at}
-use Rattle.ix_cbor.specs.Stops.{entry_of}
 use Rattle.ix_cbor.proofs.Fronts.{with_front}
 use Rattle.ix_cbor.proofs.EntryFronts as entries
 use Rattle.ix_cbor.proofs.read.+item.Given as goal

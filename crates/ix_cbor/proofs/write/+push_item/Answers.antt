@@ -1,6 +1,6 @@
 use Rattle.std.proofs.Common.{rules, arith}
 use Rattle.ix_cbor.specs.declared.node.Node.TheFolds.{the_lemmas}
-use Rattle.ix_cbor.proofs.Pushed.{value-spellable, list-pushed, map-pushed}
+use Rattle.ix_cbor.proofs.Pushed.{value-spellable, map-rising, list-pushed, map-pushed}
 use Rattle.ix_cbor.proofs.write.+push_item.Goals as goal
 
 pub push_entries-push_item-requires : goal.push_entries-push_item-requires
@@ -9,10 +9,14 @@ push_entries-push_item-requires t c =
 
 pub push_item-returns-in_ok-push_head-in-List : goal.push_item-returns-in_ok-push_head-in-List
 push_item-returns-in_ok-push_head-in-List t c = record {
-  ok = list-pushed c.push_members.result c.args.node.now c.in-List.members c.deref.result.now c.len.result c.args.out.now.items c.push_head.new.out.items c.push_members.new.out.items c.in-List.is c.deref.ensures.value (search rules) c.in_ok-push_head-in-List.ensures.ok c.push_members.ensures.ok;
+  ok = list-pushed c.push_members.result c.args.node.now c.in-List.members c.deref.result.now c.len.result c.args.out.now.items c.push_head-in-List.new.out.items c.push_members.new.out.items c.in-List.is c.deref.ensures.value (search rules) c.in_ok-push_head-in-List.ensures.ok c.push_members.ensures.ok;
 }
 
 pub push_item-returns-in_ok-push_head-in-Map : goal.push_item-returns-in_ok-push_head-in-Map
 push_item-returns-in_ok-push_head-in-Map t c = record {
   ok = map-pushed c.push_entries.result c.args.node.now c.in-Map.entries c.deref-in-Map.result.now c.len-in-Map.result c.args.out.now.items c.push_head-in-Map.new.out.items c.push_entries.new.out.items c.in-Map.is c.deref-in-Map.ensures.value (search rules) c.in_ok-push_head-in-Map.ensures.ok c.push_entries.ensures.ok;
 }
+
+pub push_item-push_entries-requires : goal.push_item-push_entries-requires
+push_item-push_entries-requires t c =
+    (search (rules, the_lemmas), map-rising c.args.node.now c.in-Map.entries c.deref-in-Map.result.now c.in-Map.is c.deref-in-Map.ensures.value c.requires)

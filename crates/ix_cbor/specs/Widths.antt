@@ -1,0 +1,18 @@
+-- In how many bytes behind the first one of a head its argument stands.
+use Rattle.std.specs.Prelude.{ℕ, ◌^◌}
+use Rattle.std.specs.Int.{Width, w8, w16, w32, w64}
+use Rattle.ix_cbor.specs.declared.width.Width.{Width as HeadWidth}
+use Rattle.ix_cbor.specs.declared.width.Width.TheVariants.{One, Two, Four, Eight}
+
+abbrev pub bits_of : HeadWidth → Width
+bits_of One = w8
+bits_of Two = w16
+bits_of Four = w32
+bits_of Eight = w64
+
+-- the least number that has no shorter form
+abbrev pub least_of : HeadWidth → ℕ
+least_of One = 24
+least_of Two = 2 ^ 8
+least_of Four = 2 ^ 16
+least_of Eight = 2 ^ 32
