@@ -1,9 +1,9 @@
 -- What a selector is by its own map, and what the parts of reading answer.
-use Rattle.std.specs.Prelude.{◌≡◌, ℕ, ◌^◌, ℤ, pos, negsuc, List, map, Option, Some, None, Result, Ok, Err, nat_lt, if◌then◌else◌}
+use Rattle.std.specs.Prelude.{◌≡◌, ℕ, List, map, Option, Result, Ok, Err}
+use Rattle.std.specs.Global.{Vec}
 use Rattle.ix_cbor.specs.declared.node.Node.{Node}
-use Rattle.ix_cbor.specs.Data.{Data, Items, Entries, no_entries, data_of, items_of, entries_of}
+use Rattle.ix_cbor.specs.Data.{Data, Items, Entries, data_of, items_of, entry_of, entries_of}
 use Rattle.ix_selector.specs.declared.fault.SelFault.{SelFault}
-use Rattle.ix_selector.specs.declared.fault.SelFault.TheVariants.{Keys, Depth}
 use Rattle.ix_selector.specs.declared.read.Around.{Around as RustAround}
 use Rattle.ix_selector.specs.declared.read.Around.TheVariants.{Outside, Unguarded, Guarded}
 use Rattle.ix_selector.specs.declared.read.Shape.{Shape}
@@ -18,8 +18,8 @@ around_of Unguarded = unguarded
 around_of Guarded = guarded
 
 -- the entries of a map of the program, and the members of a list
-abbrev pub entries_data : List (List ℕ × Node) → Entries
-entries_data es = entries_of (map (λ e. (e.0, data_of e.1)) es)
+abbrev pub entries_data : List (Vec ℕ × Node) → Entries
+entries_data es = entries_of (map entry_of es)
 
 abbrev pub items_data : List Node → Items
 items_data ds = items_of (map data_of ds)
