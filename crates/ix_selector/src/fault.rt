@@ -20,7 +20,8 @@ pub enum Form {
 pub enum SelFault {
     /// Where a selector should stand, there is no map.
     NotMap,
-    /// A selector or a limit has no key or several, or a form has not its keys and no others.
+    /// A selector or a limit has not exactly one key, or the body of a form has not exactly the
+    /// keys of that form.
     Keys,
     /// The key of a selector names no form, or that of a limit is neither `none` nor `depth`.
     Unknown,
