@@ -24,7 +24,7 @@ bind_ok (Ok x) f y h = (x, refl, h)
 bind_ok (Err e) f y h = err_no_ok e h
 
 -- one answer is one value
-ok_same : {A : Type 0} (x y : A) → ◌≡◌ {A = Result A SelFault} (Ok x) (Ok y) → x ≡ y
+pub ok_same : {A : Type 0} (x y : A) → ◌≡◌ {A = Result A SelFault} (Ok x) (Ok y) → x ≡ y
 ok_same x y h = cc
 
 -- one of two cases

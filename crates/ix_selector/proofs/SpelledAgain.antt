@@ -7,8 +7,8 @@ use Rattle.ix_selector.specs.declared.fault.SelFault.TheVariants.{Depth}
 use Rattle.ix_selector.specs.Pattern.{Pattern, Fields, Members, matcher, all, fields, index, range, recursive, union, edge, no_fields, field, no_members, member, Around, outside, unguarded, guarded, behind_step, nesting_of, fields_nesting, members_nesting, IsLimit, MayStand, IsGuarded, AreGuarded, EachGuarded, greatest_nesting, IsSelector}
 use Rattle.ix_selector.specs.Reading.{Reader, ◌>>=◌, matcher_of, fields_read, members_read, limit_of, edge_form, read_with, selector_at, selector_of, without_envelope}
 use Rattle.ix_selector.specs.Spelled.{one_key, two_keys, three_keys, AreLabels, no_label, label, SpellsLimit, as_no_limit, as_depth, SpellsPattern, as_matcher, as_all, as_fields, as_index, as_range, as_recursive, as_union, as_edge, SpellFields, as_no_fields, as_field, SpellMembers, as_no_members, as_member, SpellsSelector, alone, in_envelope}
-use Rattle.ix_selector.proofs.Guarded.{reads_selector}
-use Rattle.ix_selector.proofs.Spellings.{same_value, at_spelled, around_spelled}
+use Rattle.ix_selector.proofs.Guarded.{ok_same, reads_selector}
+use Rattle.ix_selector.proofs.Spellings.{at_spelled, around_spelled}
 
 -- labels are a matcher's
 labels_again : {es : Entries} → AreLabels es → matcher_of es ≡ Ok matcher
@@ -94,7 +94,7 @@ selector_of-iff d s = ((λ h. (around_spelled d s (at_spelled greatest_nesting o
 
 -- data spell one selector
 pub spells-one : (d : Data) (s t : Pattern) → IsSelector s → IsSelector t → SpellsSelector d s → SpellsSelector d t → s ≡ t
-spells-one d s t s_is t_is first second = same_value s t (sym (selector_again first s_is) ∙ selector_again second t_is)
+spells-one d s t s_is t_is first second = ok_same s t (sym (selector_again first s_is) ∙ selector_again second t_is)
 
 -- a limit is spelled by data
 limit_data : (limit : Option ℕ) → (d : Data) × SpellsLimit d limit

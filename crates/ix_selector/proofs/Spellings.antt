@@ -9,7 +9,7 @@ use Rattle.ix_selector.specs.declared.fault.Form.TheVariants.{MatcherField, Stop
 use Rattle.ix_selector.specs.Pattern.{Pattern, Fields, Members, matcher, all, fields, index, range, recursive, union, edge, no_fields, field, no_members, member, Around, outside, unguarded, guarded, behind_step}
 use Rattle.ix_selector.specs.Reading.{Reader, ◌>>=◌, matcher_of, integer_of, entries_of_map, one_of, two_of, three_of, fields_read, members_read, has_key, no_limit_of, depth_of, limit_of, all_read, fields_form, index_form, range_form, recursive_form, edge_form, union_form, form_of, read_with, selector_at, without_envelope}
 use Rattle.ix_selector.specs.Spelled.{one_key, two_keys, three_keys, AreLabels, no_label, label, SpellsLimit, as_no_limit, as_depth, SpellsPattern, as_matcher, as_all, as_fields, as_index, as_range, as_recursive, as_union, as_edge, SpellFields, as_no_fields, as_field, SpellMembers, as_no_members, as_member, SpellsSelector, alone, in_envelope}
-use Rattle.ix_selector.proofs.Guarded.{err_no_ok, bind_ok, by_test}
+use Rattle.ix_selector.proofs.Guarded.{err_no_ok, bind_ok, ok_same, by_test}
 use Rattle.ix_selector.proofs.Parts.{is_map}
 
 -- a key that is tested for, or another one
@@ -18,20 +18,18 @@ by_key k key r s y P f g h =
     elim (bytes_eq k key) as (λ b. (b ≡ true → k ≡ key) → (if b then r else s) ≡ Ok y → P)
     [ true ↦ (λ same e. f (same refl) e) | false ↦ (λ same e. g e) ] (λ e. (bytes_eq-Decides k key).0 e) h
 
--- one answer is one value
-pub same_value : {A : Type 0} (x y : A) → ◌≡◌ {A = Result A SelFault} (Ok x) (Ok y) → x ≡ y
-same_value x y h = cc
-
+-- what is read as an integer is one
 is_integer : (d : Data) (n : ℤ) → integer_of d ≡ Ok n → d ≡ integer n
 is_integer (integer m) n h = cc
 is_integer other n h = err_no_ok Kind h
 
 -- the entries that have the one key
 is_one : (key : List ℕ) (es : Entries) (d : Data) → one_of key es ≡ Ok d → es ≡ entry key d no_entries
-is_one key (entry k e no_entries) d h = by_key k key (Ok e) (Err Keys) d _ (λ named is. ap (λ l. entry l e no_entries) named ∙ ap (λ x. entry key x no_entries) (same_value e d is)) (λ is. err_no_ok Keys is) h
+is_one key (entry k e no_entries) d h = by_key k key (Ok e) (Err Keys) d _ (λ named is. ap (λ l. entry l e no_entries) named ∙ ap (λ x. entry key x no_entries) (ok_same e d is)) (λ is. err_no_ok Keys is) h
 is_one key (entry k e (entry l f es)) d h = err_no_ok Keys h
 is_one key no_entries d h = err_no_ok Keys h
 
+-- those that have two keys, and those that have three
 is_two : (first second : List ℕ) (es : Entries) (d : Data × Data) → two_of first second es ≡ Ok d → es ≡ entry first d.0 (entry second d.1 no_entries)
 is_two first second (entry k e more) d h =
     by_key k first (paired (one_of second more)) (Err Keys) d _ (λ named is.
@@ -42,7 +40,7 @@ is_two first second (entry k e more) d h =
       paired (Err f) = Err f
 
       parts : (r : Result Data SelFault) → paired r ≡ Ok d → (f : Data) × (r ≡ Ok f) × (◌≡◌ {A = Data × Data} (e, f) d)
-      parts (Ok f) is = (f, refl, same_value (e, f) d is)
+      parts (Ok f) is = (f, refl, ok_same (e, f) d is)
       parts (Err f) is = err_no_ok f is
 is_two first second no_entries d h = err_no_ok Keys h
 
@@ -56,19 +54,19 @@ is_three first second third (entry k e more) d h =
       tripled (Err f) = Err f
 
       parts : (r : Result (Data × Data) SelFault) → tripled r ≡ Ok d → (f : Data × Data) × (r ≡ Ok f) × (◌≡◌ {A = Data × Data × Data} (e, f.0, f.1) d)
-      parts (Ok f) is = (f, refl, same_value (e, f.0, f.1) d is)
+      parts (Ok f) is = (f, refl, ok_same (e, f.0, f.1) d is)
       parts (Err f) is = err_no_ok f is
 is_three first second third no_entries d h = err_no_ok Keys h
 
 -- what each part of a limit gives is spelled
 none_spelled : (es : Entries) (limit : Option ℕ) → no_limit_of es ≡ Ok limit → SpellsLimit (one_key (codes "none") (map es)) limit
-none_spelled no_entries limit h = subst (λ l. SpellsLimit (one_key (codes "none") (map no_entries)) l) (same_value None limit h) as_no_limit
+none_spelled no_entries limit h = subst (λ l. SpellsLimit (one_key (codes "none") (map no_entries)) l) (ok_same None limit h) as_no_limit
 none_spelled (entry k d es) limit h = err_no_ok Keys h
 
 depth_spelled : (n : ℤ) (limit : Option ℕ) → depth_of n ≡ Ok limit → SpellsLimit (one_key (codes "depth") (integer n)) limit
 depth_spelled (pos n) limit h =
     elim (nat_lt n (2 ^ 32)) as (λ b. (if b then Ok (Some n) else Err Depth) ≡ Ok limit → SpellsLimit (one_key (codes "depth") (integer (pos n))) limit)
-    [ true ↦ (λ e. subst (λ l. SpellsLimit (one_key (codes "depth") (integer (pos n))) l) (same_value (Some n) limit e) as_depth) | false ↦ (λ e. err_no_ok Depth e) ] h
+    [ true ↦ (λ e. subst (λ l. SpellsLimit (one_key (codes "depth") (integer (pos n))) l) (ok_same (Some n) limit e) as_depth) | false ↦ (λ e. err_no_ok Depth e) ] h
 depth_spelled (negsuc n) limit h = err_no_ok Depth h
 
 -- a limit that is read is spelled
@@ -89,7 +87,7 @@ limit_spelled other limit h = err_no_ok Kind h
 
 -- a matcher is read from labels
 matcher_spelled : (es : Entries) (s : Pattern) → matcher_of es ≡ Ok s → AreLabels es × (matcher ≡ s)
-matcher_spelled no_entries s h = (no_label, same_value matcher s h)
+matcher_spelled no_entries s h = (no_label, ok_same matcher s h)
 matcher_spelled (entry k d es) s h =
     by_key k (codes "label") (labelled d (matcher_of es)) (Err (Unsupported MatcherField)) s (AreLabels (entry k d es) × (matcher ≡ s)) (λ named e.
     let found = rest_of d (matcher_of es) e in
@@ -112,15 +110,16 @@ edge_spelled : (around : Around) (es : Entries) (s : Pattern) → edge_form arou
 edge_spelled around (entry k d es) s h = err_no_ok Keys h
 edge_spelled outside no_entries s h = err_no_ok EdgeOutside h
 edge_spelled unguarded no_entries s h = err_no_ok EdgeUnguarded h
-edge_spelled guarded no_entries s h = subst (λ t. SpellsPattern (one_key (codes "@") (map no_entries)) t) (same_value edge s h) as_edge
+edge_spelled guarded no_entries s h = subst (λ t. SpellsPattern (one_key (codes "@") (map no_entries)) t) (ok_same edge s h) as_edge
 
 -- one level, where what the levels below read is spelled
 module _ (read : Reader) (spelled : (around : Around) (d : Data) (s : Pattern) → read around d ≡ Ok s → SpellsPattern d s) where
+  -- each form is spelled where what stands inside it is
   all_spelled : (around : Around) (es : Entries) (s : Pattern) → all_read read around es ≡ Ok s → SpellsPattern (one_key (codes "a") (map es)) s
   all_spelled around es s h =
       let one = bind_ok (one_of (codes ">") es) (λ d. read (behind_step around) d >>= (λ s. Ok (all s))) s h in
       let inner = bind_ok (read (behind_step around) one.0) (λ s. Ok (all s)) s one.2 in
-      along _ _ (all inner.0) s (ap (λ l. one_key (codes "a") (map l)) (is_one (codes ">") es one.0 one.1)) (same_value (all inner.0) s inner.2)
+      along _ _ (all inner.0) s (ap (λ l. one_key (codes "a") (map l)) (is_one (codes ">") es one.0 one.1)) (ok_same (all inner.0) s inner.2)
       (as_all (spelled (behind_step around) one.0 inner.0 inner.1))
 
   index_spelled : (around : Around) (es : Entries) (s : Pattern) → index_form read around es ≡ Ok s → SpellsPattern (one_key (codes "i") (map es)) s
@@ -131,7 +130,7 @@ module _ (read : Reader) (spelled : (around : Around) (d : Data) (s : Pattern) �
       let inner = bind_ok (read (behind_step around) d.0) (λ s. Ok (index at.0 s)) s at.2 in
       along (one_key (codes "i") (two_keys (codes ">") d.0 (codes "i") (integer at.0))) _ (index at.0 inner.0) s
       (ap (λ l. one_key (codes "i") (map l)) (is_two (codes ">") (codes "i") es d two.1) ∙ ap (λ x. one_key (codes "i") (two_keys (codes ">") d.0 (codes "i") x)) (is_integer d.1 at.0 at.1))
-      (same_value (index at.0 inner.0) s inner.2) (as_index (spelled (behind_step around) d.0 inner.0 inner.1))
+      (ok_same (index at.0 inner.0) s inner.2) (as_index (spelled (behind_step around) d.0 inner.0 inner.1))
 
   range_spelled : (around : Around) (es : Entries) (s : Pattern) → range_form read around es ≡ Ok s → SpellsPattern (one_key (codes "r") (map es)) s
   range_spelled around es s h =
@@ -146,7 +145,7 @@ module _ (read : Reader) (spelled : (around : Around) (d : Data) (s : Pattern) �
       along (keys (integer last.0) (integer first.0)) _ (range first.0 last.0 inner.0) s
       (ap (λ l. one_key (codes "r") (map l)) (is_three (codes "$") (codes ">") (codes "^") es d three.1)
       ∙ ap (λ x. keys x d.2) (is_integer d.0 last.0 last.1) ∙ ap (keys (integer last.0)) (is_integer d.2 first.0 first.1))
-      (same_value (range first.0 last.0 inner.0) s inner.2) (as_range (spelled (behind_step around) d.1 inner.0 inner.1))
+      (ok_same (range first.0 last.0 inner.0) s inner.2) (as_range (spelled (behind_step around) d.1 inner.0 inner.1))
 
   recursive_spelled : (es : Entries) (s : Pattern) → recursive_form read es ≡ Ok s → SpellsPattern (one_key (codes "R") (map es)) s
   recursive_spelled es s h =
@@ -155,18 +154,18 @@ module _ (read : Reader) (spelled : (around : Around) (d : Data) (s : Pattern) �
       let d = two.0 in
       let limit = bind_ok (limit_of d.0) (λ limit. read unguarded d.1 >>= (λ s. Ok (recursive limit s))) s two.2 in
       let inner = bind_ok (read unguarded d.1) (λ s. Ok (recursive limit.0 s)) s limit.2 in
-      along _ _ (recursive limit.0 inner.0) s (ap (λ l. one_key (codes "R") (map l)) (is_two (codes "l") (codes ":>") es d two.1)) (same_value (recursive limit.0 inner.0) s inner.2)
+      along _ _ (recursive limit.0 inner.0) s (ap (λ l. one_key (codes "R") (map l)) (is_two (codes "l") (codes ":>") es d two.1)) (ok_same (recursive limit.0 inner.0) s inner.2)
       (as_recursive (limit_spelled d.0 limit.0 limit.1) (spelled unguarded d.1 inner.0 inner.1))) h where
         rest : Data × Data → Result Pattern SelFault
         rest d = limit_of d.0 >>= (λ limit. read unguarded d.1 >>= (λ s. Ok (recursive limit s)))
 
   -- the selectors of named keys
   named_spelled : (around : Around) (es : Entries) (fs : Fields) → fields_read (read around) es ≡ Ok fs → SpellFields es fs
-  named_spelled around no_entries fs h = subst (λ l. SpellFields no_entries l) (same_value no_fields fs h) as_no_fields
+  named_spelled around no_entries fs h = subst (λ l. SpellFields no_entries l) (ok_same no_fields fs h) as_no_fields
   named_spelled around (entry k d es) fs h =
       let inner = bind_ok (read around d) (λ s. fields_read (read around) es >>= (λ fs. Ok (field k s fs))) fs h in
       let more = bind_ok (fields_read (read around) es) (λ fs. Ok (field k inner.0 fs)) fs inner.2 in
-      subst (λ l. SpellFields (entry k d es) l) (same_value (field k inner.0 more.0) fs more.2) (as_field (spelled around d inner.0 inner.1) (named_spelled around es more.0 more.1))
+      subst (λ l. SpellFields (entry k d es) l) (ok_same (field k inner.0 more.0) fs more.2) (as_field (spelled around d inner.0 inner.1) (named_spelled around es more.0 more.1))
 
   fields_spelled : (around : Around) (es : Entries) (s : Pattern) → fields_form read around es ≡ Ok s → SpellsPattern (one_key (codes "f") (map es)) s
   fields_spelled around es s h =
@@ -175,20 +174,20 @@ module _ (read : Reader) (spelled : (around : Around) (d : Data) (s : Pattern) �
       let inner = bind_ok (fields_read (read (behind_step around)) names.0) (λ fs. Ok (fields fs)) s names.2 in
       along (one_key (codes "f") (one_key (codes "f>") (map names.0))) _ (fields inner.0) s
       (ap (λ l. one_key (codes "f") (map l)) (is_one (codes "f>") es one.0 one.1) ∙ ap (λ x. one_key (codes "f") (one_key (codes "f>") x)) (is_map one.0 names.0 names.1))
-      (same_value (fields inner.0) s inner.2) (as_fields (named_spelled (behind_step around) names.0 inner.0 inner.1))
+      (ok_same (fields inner.0) s inner.2) (as_fields (named_spelled (behind_step around) names.0 inner.0 inner.1))
 
   -- the members of a union
   members_spelled : (around : Around) (ds : Items) (ss : Members) → members_read (read around) ds ≡ Ok ss → SpellMembers ds ss
-  members_spelled around no_items ss h = subst (λ l. SpellMembers no_items l) (same_value no_members ss h) as_no_members
+  members_spelled around no_items ss h = subst (λ l. SpellMembers no_items l) (ok_same no_members ss h) as_no_members
   members_spelled around (item d ds) ss h =
       let inner = bind_ok (read around d) (λ s. members_read (read around) ds >>= (λ ss. Ok (member s ss))) ss h in
       let more = bind_ok (members_read (read around) ds) (λ ss. Ok (member inner.0 ss)) ss inner.2 in
-      subst (λ l. SpellMembers (item d ds) l) (same_value (member inner.0 more.0) ss more.2) (as_member (spelled around d inner.0 inner.1) (members_spelled around ds more.0 more.1))
+      subst (λ l. SpellMembers (item d ds) l) (ok_same (member inner.0 more.0) ss more.2) (as_member (spelled around d inner.0 inner.1) (members_spelled around ds more.0 more.1))
 
   union_spelled : (around : Around) (d : Data) (s : Pattern) → union_form read around d ≡ Ok s → SpellsPattern (one_key (codes "|") d) s
   union_spelled around (list ds) s h =
       let inner = bind_ok (members_read (read around) ds) (λ ss. Ok (union ss)) s h in
-      subst (λ t. SpellsPattern (one_key (codes "|") (list ds)) t) (same_value (union inner.0) s inner.2) (as_union (members_spelled around ds inner.0 inner.1))
+      subst (λ t. SpellsPattern (one_key (codes "|") (list ds)) t) (ok_same (union inner.0) s inner.2) (as_union (members_spelled around ds inner.0 inner.1))
   union_spelled around other s h = err_no_ok Kind h
 
   -- a form that takes a map, behind its key
