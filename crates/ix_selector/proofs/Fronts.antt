@@ -1,6 +1,7 @@
 -- Selectors read so far, and those still to be read.
 use Rattle.std.proofs.Common.{◌≡◌, ◌+◌, ◌<◌, ◌≤◌, ◌-◌, arith, ℕ, zero, suc, List, [], ◌∷◌, ◌++◌, length, get_or, drop, refl, sym, ◌∙◌, ap}
 use Rattle.std.specs.Prelude.{Result, Ok, Err}
+use Rattle.std.specs.Global.{Vec}
 use Rattle.std.proofs.lemmas.List.{at_drop_more, at_drop_all}
 use Rattle.ix_cbor.specs.declared.node.Node.{Node}
 use Rattle.ix_cbor.specs.Data.{Data, data_of}
@@ -59,12 +60,12 @@ members_more (t ∷ more) s ss = ap (member t) (members_more more s ss)
 
 module _ (read : Data → Result Pattern SelFault) where
   -- one entry more is read
-  pub fields_on : (front : List (List ℕ × Pattern)) (es : List (List ℕ × Node)) (i : ℕ) (e : List ℕ × Node) (k : List ℕ) (s : Pattern) (whole : Result Fields SelFault) → i < length es → e ≡ get_or es i e → k ≡ e.0 → read (data_of e.1) ≡ Ok s
+  pub fields_on : (front : List (List ℕ × Pattern)) (es : List (Vec ℕ × Node)) (i : ℕ) (e : Vec ℕ × Node) (k : List ℕ) (s : Pattern) (whole : Result Fields SelFault) → i < length es → e ≡ get_or es i e → k ≡ e.0.items → read (data_of e.1) ≡ Ok s
       → with_fields front (fields_read read (entries_data (drop i es))) ≡ whole → with_fields (front ++ (k, s) ∷ []) (fields_read read (entries_data (drop (i + 1) es))) ≡ whole
   fields_on front es i e k s whole lt at named ok so_far =
       behind (fields_read read (entries_data (drop (i + 1) es)))
       ∙ ap (λ l. with_fields front (fields_read read (entries_data (drop (i + 1) es)) >>= (λ fs. Ok (field l s fs)))) named
-      ∙ ap (λ r. with_fields front (r >>= (λ s. fields_read read (entries_data (drop (i + 1) es)) >>= (λ fs. Ok (field e.0 s fs))))) (sym ok)
+      ∙ ap (λ r. with_fields front (r >>= (λ s. fields_read read (entries_data (drop (i + 1) es)) >>= (λ fs. Ok (field e.0.items s fs))))) (sym ok)
       ∙ ap (λ x. with_fields front (fields_read read (entries_data (x ∷ drop (i + 1) es)))) at
       ∙ sym (at_drop_more (λ l. with_fields front (fields_read read (entries_data l))) es i e lt) ∙ so_far where
         behind : (r : Result Fields SelFault) → with_fields (front ++ (k, s) ∷ []) r ≡ with_fields front (r >>= (λ fs. Ok (field k s fs)))
@@ -72,7 +73,7 @@ module _ (read : Data → Result Pattern SelFault) where
         behind (Err f) = refl
 
   -- all entries are read
-  pub fields_done : (front : List (List ℕ × Pattern)) (es : List (List ℕ × Node)) (i : ℕ) (whole : Result Fields SelFault) → length es ≤ i
+  pub fields_done : (front : List (List ℕ × Pattern)) (es : List (Vec ℕ × Node)) (i : ℕ) (whole : Result Fields SelFault) → length es ≤ i
       → with_fields front (fields_read read (entries_data (drop i es))) ≡ whole → whole ≡ Ok (fields_of front)
   fields_done front es i whole le so_far = sym so_far ∙ at_drop_all (λ l. with_fields front (fields_read read (entries_data l))) es i le ∙ ap (λ fs. Ok fs) (fields_none front)
 

@@ -6,10 +6,10 @@ use Rattle.ix_cbor.specs.Data.{Data, Items, Entries, text, list, map, no_items, 
 use Rattle.ix_selector.specs.declared.fault.SelFault.{SelFault}
 use Rattle.ix_selector.specs.declared.fault.SelFault.TheVariants.{NotMap, Keys, Unknown, Unsupported, Kind, Depth, EdgeOutside, EdgeUnguarded, Nesting}
 use Rattle.ix_selector.specs.declared.fault.Form.TheVariants.{MatcherField, StopAt, Conditional, InterpretAs}
-use Rattle.ix_selector.specs.Pattern.{Pattern, Fields, Members, matcher, all, fields, index, range, recursive, union, edge, no_fields, field, no_members, member, Around, outside, unguarded, guarded, behind_step, nesting_of, fields_nesting, members_nesting, IsLimit, IsGuarded, AreGuarded, EachGuarded, IsSelector}
-use Rattle.ix_selector.specs.Reading.{Reader, ◌>>=◌, matcher_of, integer_of, entries_of_map, one_of, two_of, three_of, fields_read, members_read, has_key, limit_of, all_read, fields_form, index_form, range_form, recursive_form, edge_form, union_form, form_of, read_with, selector_at, selector_of, without_envelope}
+use Rattle.ix_selector.specs.Pattern.{Pattern, Fields, Members, matcher, all, fields, index, range, recursive, union, edge, no_fields, field, no_members, member, Around, outside, unguarded, guarded, behind_step, nesting_of, fields_nesting, members_nesting, IsLimit, IsGuarded, AreGuarded, EachGuarded, greatest_nesting, IsSelector}
+use Rattle.ix_selector.specs.Reading.{Reader, ◌>>=◌, matcher_of, integer_of, entries_of_map, one_of, two_of, three_of, fields_read, members_read, has_key, no_limit_of, depth_of, limit_of, all_read, fields_form, index_form, range_form, recursive_form, edge_form, union_form, form_of, read_with, selector_at, selector_of, without_envelope}
 
--- a selector that may stand there, inside which at most n others stand
+-- a selector that may stand there and nests at most n deep
 pub record MayBe (n : ℕ) (around : Around) (s : Pattern) : Type 0 where
   pub edges : IsGuarded around s
   pub nesting : nesting_of s ≤ n
@@ -24,7 +24,7 @@ bind_ok (Ok x) f y h = (x, refl, h)
 bind_ok (Err e) f y h = err_no_ok e h
 
 -- one answer is one value
-ok_same : {A : Type 0} (x y : A) → ◌≡◌ {A = Result A SelFault} (Ok x) (Ok y) → x ≡ y
+pub ok_same : {A : Type 0} (x y : A) → ◌≡◌ {A = Result A SelFault} (Ok x) (Ok y) → x ≡ y
 ok_same x y h = cc
 
 -- one of two cases
@@ -38,31 +38,22 @@ depth_below n limit h =
     elim (nat_lt n (2 ^ 32)) as (λ b. (b ≡ true → n < 2 ^ 32) → (if b then Ok (Some n) else Err Depth) ≡ Ok limit → IsLimit limit)
     [ true ↦ (λ fits e. subst IsLimit (ok_same (Some n) limit e) (fits refl)) | false ↦ (λ fits e. err_no_ok Depth e) ] (λ e. ltb-true n (2 ^ 32) e) h
 
--- the parts of limit_of
-abbrev none_limit : Entries → Result (Option ℕ) SelFault
-none_limit no_entries = Ok None
-none_limit other = Err Keys
-
-abbrev depth_limit : ℤ → Result (Option ℕ) SelFault
-depth_limit (pos n) = if nat_lt n (2 ^ 32) then Ok (Some n) else Err Depth
-depth_limit (negsuc n) = Err Depth
-
--- what each part gives fits
-none_fits : (es : Entries) (limit : Option ℕ) → none_limit es ≡ Ok limit → IsLimit limit
+-- what each part of a limit gives fits
+none_fits : (es : Entries) (limit : Option ℕ) → no_limit_of es ≡ Ok limit → IsLimit limit
 none_fits no_entries limit h = subst IsLimit (ok_same None limit h) tt
 none_fits (entry k d es) limit h = err_no_ok Keys h
 
-depth_fits : (n : ℤ) (limit : Option ℕ) → depth_limit n ≡ Ok limit → IsLimit limit
+depth_fits : (n : ℤ) (limit : Option ℕ) → depth_of n ≡ Ok limit → IsLimit limit
 depth_fits (pos n) limit h = depth_below n limit h
 depth_fits (negsuc n) limit h = err_no_ok Depth h
 
 -- a limit that is read fits
 pub limit_fits : (d : Data) (limit : Option ℕ) → limit_of d ≡ Ok limit → IsLimit limit
 limit_fits (map (entry k d no_entries)) limit h =
-    by_test (bytes_eq k (codes "none")) (entries_of_map d >>= none_limit) _ limit (IsLimit limit)
-    (λ e. let found = bind_ok (entries_of_map d) none_limit limit e in none_fits found.0 limit found.2)
-    (by_test (bytes_eq k (codes "depth")) (integer_of d >>= depth_limit) (Err Unknown) limit (IsLimit limit)
-    (λ e. let found = bind_ok (integer_of d) depth_limit limit e in depth_fits found.0 limit found.2)
+    by_test (bytes_eq k (codes "none")) (entries_of_map d >>= no_limit_of) _ limit (IsLimit limit)
+    (λ e. let found = bind_ok (entries_of_map d) no_limit_of limit e in none_fits found.0 limit found.2)
+    (by_test (bytes_eq k (codes "depth")) (integer_of d >>= depth_of) (Err Unknown) limit (IsLimit limit)
+    (λ e. let found = bind_ok (integer_of d) depth_of limit e in depth_fits found.0 limit found.2)
     (λ e. err_no_ok Unknown e)) h
 limit_fits (map (entry k d (entry l e es))) limit h = err_no_ok Keys h
 limit_fits (map no_entries) limit h = err_no_ok Keys h
@@ -202,4 +193,4 @@ at_good (suc n) around d s h = let m = with_good n (selector_at n) (at_good n) a
 
 -- the selector for which data stands keeps the rules
 pub reads_selector : (d : Data) (s : Pattern) → selector_of d ≡ Ok s → IsSelector s
-reads_selector d s h = let m = at_good 128 outside (without_envelope d) s h in record { edges = m.edges; nesting = m.nesting }
+reads_selector d s h = let m = at_good greatest_nesting outside (without_envelope d) s h in record { edges = m.edges; nesting = m.nesting }

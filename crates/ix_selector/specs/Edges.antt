@@ -1,5 +1,6 @@
 -- What stands in place of a selector's own edges, and the pairs of a key and a selector.
 use Rattle.std.specs.Prelude.{ℕ, List}
+use Rattle.std.specs.Global.{Vec}
 use Rattle.ix_selector.specs.declared.sel.Sel.{Sel}
 use Rattle.ix_selector.specs.declared.derivative.Edges.{Edges}
 use Rattle.ix_selector.specs.declared.derivative.Edges.TheVariants.{Kept, Entered, Gone}
@@ -13,9 +14,9 @@ edges_of (Entered limit s) = recursive limit (pattern_of s.now)
 edges_of Gone = union no_members
 
 -- a key and a selector of the program
-abbrev pub seen_field : List ℕ × Sel → List ℕ × Pattern
-seen_field f = (f.0, pattern_of f.1)
+abbrev pub seen_field : Vec ℕ × Sel → List ℕ × Pattern
+seen_field f = (f.0.items, pattern_of f.1)
 
 -- the key, and the selector with x in place of its own edges
-abbrev pub replaced_field : Pattern → List ℕ × Sel → List ℕ × Pattern
-replaced_field x f = (f.0, replaced x (pattern_of f.1))
+abbrev pub replaced_field : Pattern → Vec ℕ × Sel → List ℕ × Pattern
+replaced_field x f = (f.0.items, replaced x (pattern_of f.1))

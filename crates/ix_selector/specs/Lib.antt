@@ -5,6 +5,7 @@ pub use Rattle.ix_cbor.specs.Spelling
 pub mod Pattern
 pub mod PatternCode
 pub mod Reading
+pub mod Spelled
 pub mod Gives
 pub mod Shapes
 pub mod Enters

@@ -8,7 +8,6 @@ ghost use Rattle.ix_selector.specs.Residual.{step_of};
 
 use crate::sel::Sel;
 use crate::step::Step;
-use ix_cbor::Octets;
 use std::alloc::{AllocError, Global};
 
 /// What stands in place of a selector's own edges.
@@ -125,16 +124,15 @@ fn edge_replaced(alloc: Global, edges: Edges) -> Result<Sel, AllocError>
 #[cycle(replaced)]
 fn replaced_fields(
     alloc: Global,
-    fields: &[(Octets, Sel)],
+    fields: &[(Vec<u8>, Sel)],
     edges: Edges,
-) -> Result<Vec<(Octets, Sel)>, AllocError>
+) -> Result<Vec<(Vec<u8>, Sel)>, AllocError>
     ensures { IfOk result (λ r. map seen_field r.items ≡ map (replaced_field (edges_of edges.entry)) fields.now) }
 {
     let mut copies = Vec::new(alloc);
     for (name, sel) in fields {
         let copy = replaced(alloc, sel, edges)?;
-        let name = Octets::new(name.as_slice().to_vec(alloc)?);
-        copies.push((name, copy))?;
+        copies.push((Vec::from_slice(alloc, name)?, copy))?;
     }
     Ok(copies)
 }
@@ -153,7 +151,7 @@ fn replaced_members(alloc: Global, members: &[Sel], edges: Edges) -> Result<Vec<
 // Puts behind `left` the selectors of the step's key.
 fn push_named(
     alloc: Global,
-    fields: &[(Octets, Sel)],
+    fields: &[(Vec<u8>, Sel)],
     step: &Step,
     edges: Edges,
     left: &mut Vec<Sel>,

@@ -4,15 +4,16 @@ ghost use Rattle.std.specs.Prelude.{◌≡◌, codes, map, IfOk};
 ghost use Rattle.ix_cbor.specs.Data.{data_of};
 ghost use Rattle.ix_selector.specs.Pattern.{pattern_of, fields_of, members_of, Around as SpecAround, behind_step};
 ghost use Rattle.ix_selector.specs.Reading.{Reader, integer_of, entries_of_map, one_of, two_of, three_of, has_key, limit_of, matcher_of, all_read, fields_form, index_form, range_form, recursive_form, union_form, edge_form, form_of, fields_read, members_read, read_with, selector_at, without_envelope, selector_of};
-ghost use Rattle.ix_selector.specs.Gives.{Gives};
+ghost use Rattle.ix_selector.specs.Edges.{seen_field};
+ghost use Rattle.ix_selector.specs.Gives.{Gives, Reads};
 ghost use Rattle.ix_selector.specs.Shapes.{around_of, entries_data, items_data, in_map, none_limit, depth_limit, inside, Shapes};
 
 use crate::fault::{Form, SelFault};
 use crate::sel::Sel;
-use ix_cbor::{Node, Octets};
-use std::alloc::{AllocError, Global};
+use ix_cbor::Node;
+use std::alloc::Global;
 
-// How many selectors may stand inside one another.
+// How deep a selector may nest, itself counted.
 const LEVELS: u32 = 128;
 
 // What stands round a selector: no recursion, or the innermost one, with a step between or none.
@@ -28,7 +29,7 @@ enum Around {
 enum Shape<'t> {
     Matcher,
     All(&'t Node),
-    Fields(&'t [(Octets, Node)]),
+    Fields(&'t [(Vec<u8>, Node)]),
     Index(i128, &'t Node),
     Range(i128, i128, &'t Node),
     Recursive(Option<u32>, &'t Node),
@@ -47,7 +48,7 @@ fn around_step(around: Around) -> Around
 }
 
 fn integer(node: &Node) -> Result<i128, SelFault>
-    ensures { Gives (λ n. n) result (integer_of (data_of node.now)) }
+    ensures { Reads (λ n. n) result (integer_of (data_of node.now)) }
 {
     match node {
         Node::Int(number) => Ok(*number),
@@ -55,8 +56,8 @@ fn integer(node: &Node) -> Result<i128, SelFault>
     }
 }
 
-fn map_entries(node: &Node) -> Result<&[(Octets, Node)], SelFault>
-    ensures { Gives (λ es. entries_data es.now) result (entries_of_map (data_of node.now)) }
+fn map_entries(node: &Node) -> Result<&[(Vec<u8>, Node)], SelFault>
+    ensures { Reads (λ es. entries_data es.now) result (entries_of_map (data_of node.now)) }
 {
     match node {
         Node::Map(entries) => Ok(entries.as_slice()),
@@ -65,8 +66,8 @@ fn map_entries(node: &Node) -> Result<&[(Octets, Node)], SelFault>
 }
 
 // The value of the one key.
-fn only<'t>(entries: &'t [(Octets, Node)], key: &[u8]) -> Result<&'t Node, SelFault>
-    ensures { Gives (λ d. data_of d.now) result (one_of key.now (entries_data entries.now)) }
+fn only<'t>(entries: &'t [(Vec<u8>, Node)], key: &[u8]) -> Result<&'t Node, SelFault>
+    ensures { Reads (λ d. data_of d.now) result (one_of key.now (entries_data entries.now)) }
 {
     let [(name, value)] = entries else {
         return Err(SelFault::Keys);
@@ -80,11 +81,11 @@ fn only<'t>(entries: &'t [(Octets, Node)], key: &[u8]) -> Result<&'t Node, SelFa
 
 // The values of two keys in the order of data.
 fn both<'t>(
-    entries: &'t [(Octets, Node)],
+    entries: &'t [(Vec<u8>, Node)],
     first: &[u8],
     second: &[u8],
 ) -> Result<(&'t Node, &'t Node), SelFault>
-    ensures { Gives (λ d. (data_of d.0.now, data_of d.1.now)) result (two_of first.now second.now (entries_data entries.now)) }
+    ensures { Reads (λ d. (data_of d.0.now, data_of d.1.now)) result (two_of first.now second.now (entries_data entries.now)) }
 {
     let [(name, value), rest @ ..] = entries else {
         return Err(SelFault::Keys);
@@ -97,8 +98,8 @@ fn both<'t>(
 }
 
 // The values of the three keys of a range.
-fn range_parts(entries: &[(Octets, Node)]) -> Result<(&Node, &Node, &Node), SelFault>
-    ensures { Gives (λ d. (data_of d.0.now, data_of d.1.now, data_of d.2.now)) result (three_of (codes "$") (codes ">") (codes "^") (entries_data entries.now)) }
+fn range_parts(entries: &[(Vec<u8>, Node)]) -> Result<(&Node, &Node, &Node), SelFault>
+    ensures { Reads (λ d. (data_of d.0.now, data_of d.1.now, data_of d.2.now)) result (three_of (codes "$") (codes ">") (codes "^") (entries_data entries.now)) }
 {
     let [(name, value), rest @ ..] = entries else {
         return Err(SelFault::Keys);
@@ -180,7 +181,7 @@ fn edge(body: &Node, around: Around) -> Result<Shape<'_>, SelFault>
 
 // `none` with an empty map, or `depth` with a number below 2 ^ 32.
 fn limit(node: &Node) -> Result<Option<u32>, SelFault>
-    ensures { Gives (λ l. l) result (limit_of (data_of node.now)) }
+    ensures { Reads (λ l. l) result (limit_of (data_of node.now)) }
 {
     let [(name, value)] = map_entries(node)? else {
         return Err(SelFault::Keys);
@@ -195,7 +196,7 @@ fn limit(node: &Node) -> Result<Option<u32>, SelFault>
 }
 
 fn no_limit(node: &Node) -> Result<Option<u32>, SelFault>
-    ensures { Gives (λ l. l) result (none_limit (data_of node.now)) }
+    ensures { Reads (λ l. l) result (none_limit (data_of node.now)) }
 {
     match map_entries(node)? {
         [] => Ok(None),
@@ -204,7 +205,7 @@ fn no_limit(node: &Node) -> Result<Option<u32>, SelFault>
 }
 
 fn depth(node: &Node) -> Result<Option<u32>, SelFault>
-    ensures { Gives (λ l. l) result (depth_limit (data_of node.now)) }
+    ensures { Reads (λ l. l) result (depth_limit (data_of node.now)) }
 {
     match u32::try_from(integer(node)?) {
         Ok(depth) => Ok(Some(depth)),
@@ -212,7 +213,7 @@ fn depth(node: &Node) -> Result<Option<u32>, SelFault>
     }
 }
 
-fn has_key(entries: &[(Octets, Node)], key: &[u8]) -> bool
+fn has_key(entries: &[(Vec<u8>, Node)], key: &[u8]) -> bool
     ensures { result ≡ has_key key.now (entries_data entries.now) }
 {
     entries.iter().any(|(name, _)| name.as_slice() == key)
@@ -263,14 +264,7 @@ fn shape_of(node: &Node, around: Around) -> Result<Shape<'_>, SelFault>
     shape_named(key.as_slice(), body, around)
 }
 
-// The same bytes once more.
-fn copied(alloc: Global, octets: &Octets) -> Result<Octets, AllocError>
-    ensures { IfOk result (λ o. o ≡ octets.now) }
-{
-    Ok(Octets::new(Vec::from_slice(alloc, octets.as_slice())?))
-}
-
-// A selector inside which at most so many others stand.
+// A selector that nests at most so deep, itself counted.
 #[cycle(levels)]
 fn selector_at(alloc: Global, node: &Node, around: Around, levels: u32) -> Result<Sel, SelFault>
     ensures { Gives pattern_of result (selector_at levels (around_of around) (data_of node.now)) }
@@ -333,16 +327,16 @@ fn boxed(alloc: Global, node: &Node, around: Around, levels: u32) -> Result<Box<
 #[cycle(levels)]
 fn fields_inside(
     alloc: Global,
-    names: &[(Octets, Node)],
+    names: &[(Vec<u8>, Node)],
     around: Around,
     levels: u32,
-) -> Result<Vec<(Octets, Sel)>, SelFault>
-    ensures { Gives (λ v. fields_of (map (λ f. (f.0, pattern_of f.1)) v.items)) result (fields_read (selector_at levels (around_of around)) (entries_data names.now)) }
+) -> Result<Vec<(Vec<u8>, Sel)>, SelFault>
+    ensures { Gives (λ v. fields_of (map seen_field v.items)) result (fields_read (selector_at levels (around_of around)) (entries_data names.now)) }
 {
     let mut fields = Vec::new(alloc);
     for (name, node) in names {
         let sel = selector_at(alloc, node, around, levels)?;
-        fields.push((copied(alloc, name)?, sel))?;
+        fields.push((Vec::from_slice(alloc, name)?, sel))?;
     }
     Ok(fields)
 }

@@ -12,7 +12,8 @@ use ix_cbor::Tree;
 use std::alloc::Global;
 use std::marker::Model;
 
-/// A selector in which every edge stands in a recursion with a step between.
+/// A selector in which every edge stands in a recursion with a step between, and which nests at
+/// most 128 deep.
 #[derive(Debug, Drop)]
 pub struct Selector {
     sel: Sel,

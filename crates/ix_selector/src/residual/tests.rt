@@ -9,21 +9,23 @@ use ix_cbor::decode;
 use std::alloc::Global;
 use std::test::Fail;
 
-// A recursion of depth 1, 2 or 3 over all children, and one with no limit.
+// A recursion over all children, of depth 1.
 const DEPTH_1: &str = "a16152a2616ca165646570746801623a3ea16161a1613ea16140a0";
 
+// The same of depth 3.
 const DEPTH_3: &str = "a16152a2616ca165646570746803623a3ea16161a1613ea16140a0";
 
+// A recursion with no limit and no edge, over a matcher.
 const NEVER_REPEATED: &str = "a16152a2616ca1646e6f6e65a0623a3ea1612ea0";
 
-// The position 0, or the positions from 0 to 2.
+// The position 0, or the positions from 0, included, to 2, excluded.
 const UNION: &str = "a1617c82a16169a2613ea1612ea0616900a16172a3612402613ea1612ea0615e00";
 
 // A matcher behind the key a, and everything behind the key b.
 const FIELDS: &str =
     "a16166a162663ea26161a1612ea06162a16152a2616ca1646e6f6e65a0623a3ea16161a1613ea16140a0";
 
-// A recursion of depth 2 inside one with no limit.
+// A recursion over all children, of depth 2, behind a step of one with no limit: the edge is the inner one's.
 const NESTED: &str =
     "a16152a2616ca1646e6f6e65a0623a3ea16161a1613ea16152a2616ca165646570746802623a3ea16161a1613ea16140a0";
 

@@ -1,11 +1,13 @@
-use Rattle.std.proofs.Common.{rules, ◌≡◌, map, ◌++◌, ◌∷◌, [], subst, sym, List, ℕ}
+use Rattle.std.proofs.Common.{rules, ◌≡◌, map, ◌++◌, ◌∷◌, [], subst, sym, refl, ap, ◌∙◌, List, ℕ}
+use Rattle.std.specs.Prelude.{Ok}
 use Rattle.std.proofs.lemmas.List.{map_push}
 use Rattle.ix_cbor.specs.Data.{data_of}
-use Rattle.ix_selector.specs.declared.sel.Sel.{Sel}
-use Rattle.ix_selector.specs.Pattern.{Pattern, pattern_of}
-use Rattle.ix_selector.specs.Reading.{selector_at, fields_read, members_read}
-use Rattle.ix_selector.specs.Shapes.{around_of, entries_data, items_data}
+use Rattle.ix_selector.specs.Pattern.{fields, pattern_of}
+use Rattle.ix_selector.specs.Reading.{◌>>=◌, selector_at, fields_read, members_read}
+use Rattle.ix_selector.specs.Edges.{seen_field}
+use Rattle.ix_selector.specs.Shapes.{around_of, entries_data, items_data, inside}
 use Rattle.ix_selector.specs.Gives.{Gives}
+use Rattle.ix_selector.proofs.Views.{pattern_of-fields}
 use Rattle.ix_selector.proofs.Fronts.{selector_at-zero, selector_at-above, fields_on, fields_done, members_on, members_done}
 use Rattle.ix_selector.proofs.read.+levels.Goals as goal
 
@@ -18,17 +20,17 @@ selector_at-returns-else-levels-eq0 t c =
 
 pub fields_inside-loop-name-preserved : goal.fields_inside-loop-name-preserved
 fields_inside-loop-name-preserved t c =
-    let seen : List ℕ × Sel → List ℕ × Pattern = λ f. (f.0, pattern_of f.1) in
     let read = selector_at c.args.levels (around_of c.args.around) in
-    let e : map seen c.push.new.self.items ≡ map seen c.loop-name.fields.items ++ (c.in_ok-copied.field-0, pattern_of c.in_ok-sel.sel) ∷ [] = rw c.in_ok-push.ensures.items (map_push _ c.loop-name.fields.items (c.in_ok-copied.field-0, c.in_ok-sel.sel)) in
-    rw e (fields_on read (map seen c.loop-name.fields.items) c.args.names.now c.loop-name.name-index c.loop-name-item.result c.in_ok-copied.field-0 (pattern_of c.in_ok-sel.sel)
-    (fields_read read (entries_data c.args.names.now)) c.loop-name-test.true c.loop-name-item.is c.in_ok-copied.ensures c.in_ok-sel.ensures c.loop-name.invariant)
+    let k = c.loop-name-item.result.0.items in
+    let s = pattern_of c.in_ok-sel.sel in
+    let e : map seen_field c.push.new.self.items ≡ map seen_field c.loop-name.fields.items ++ (k, s) ∷ [] = rw c.in_ok-push.ensures.items (map_push _ c.loop-name.fields.items (c.in_ok-from_slice.field-0, c.in_ok-sel.sel) ∙ ap (λ (l : List ℕ). map seen_field c.loop-name.fields.items ++ (l, s) ∷ []) (c.in_ok-from_slice.ensures.items ∙ c.deref.ensures.value)) in
+    rw e (fields_on read (map seen_field c.loop-name.fields.items) c.args.names.now c.loop-name.name-index c.loop-name-item.result k s
+    (fields_read read (entries_data c.args.names.now)) c.loop-name-test.true c.loop-name-item.is refl c.in_ok-sel.ensures c.loop-name.invariant)
 
 pub fields_inside-returns : goal.fields_inside-returns
 fields_inside-returns t c =
-    let seen : List ℕ × Sel → List ℕ × Pattern = λ f. (f.0, pattern_of f.1) in
     let read = selector_at c.args.levels (around_of c.args.around) in
-    fields_done read (map seen c.loop-name.fields.items) c.args.names.now c.loop-name.name-index (fields_read read (entries_data c.args.names.now)) c.loop-name-test.false c.loop-name.invariant
+    fields_done read (map seen_field c.loop-name.fields.items) c.args.names.now c.loop-name.name-index (fields_read read (entries_data c.args.names.now)) c.loop-name-test.false c.loop-name.invariant
 
 pub members_inside-loop-node-preserved : goal.members_inside-loop-node-preserved
 members_inside-loop-node-preserved t c =
@@ -41,3 +43,10 @@ pub members_inside-returns : goal.members_inside-returns
 members_inside-returns t c =
     let read = selector_at c.args.levels (around_of c.args.around) in
     members_done read (map pattern_of c.loop-node.members.items) c.args.nodes.now c.loop-node.node-index (members_read read (items_data c.args.nodes.now)) c.loop-node-test.false c.loop-node.invariant
+
+pub selector_inside-returns-in_ok-fields_inside-in-Fields : goal.selector_inside-returns-in_ok-fields_inside-in-Fields
+selector_inside-returns-in_ok-fields_inside-in-Fields t c =
+    ap (inside (selector_at c.args.levels) (around_of c.args.around)) c.in-Fields.is
+    ∙ ap (λ a. fields_read (selector_at c.args.levels a) (entries_data c.in-Fields.names.now) >>= (λ fs. Ok (fields fs))) (sym c.around_step-behind.ensures)
+    ∙ ap (λ r. r >>= (λ fs. Ok (fields fs))) c.in_ok-fields_inside-in-Fields.ensures
+    ∙ ap (λ s. Ok s) (sym (pattern_of-fields c.in_ok-fields_inside-in-Fields.field-0))

@@ -1,6 +1,7 @@
 use Rattle.std.proofs.Common.{◌≡◌, ◌+◌, ◌*◌, map, drop}
 use Rattle.ix_selector.specs.Pattern.{pattern_of}
 use Rattle.ix_selector.specs.Reading.{selector_at, fields_read, members_read}
+use Rattle.ix_selector.specs.Edges.{seen_field}
 use Rattle.ix_selector.specs.Shapes.{around_of, entries_data, items_data}
 use Rattle.ix_selector.proofs.Fronts.{with_fields, with_members}
 use Rattle.ix_selector.proofs.read.+levels.Given as goal
@@ -25,7 +26,7 @@ decreases-members_inside l = 4 * l.levels + 1
 
 abbrev pub invariant-fields_inside-loop-name : goal.invariant-fields_inside-loop-name
 invariant-fields_inside-loop-name l =
-    with_fields (map (λ f. (f.0, pattern_of f.1)) l.fields.items) (fields_read (selector_at l.levels (around_of l.around)) (entries_data (drop l.name-index l.names)))
+    with_fields (map seen_field l.fields.items) (fields_read (selector_at l.levels (around_of l.around)) (entries_data (drop l.name-index l.names)))
     ≡ fields_read (selector_at l.levels (around_of l.around)) (entries_data l.names)
 
 abbrev pub invariant-members_inside-loop-node : goal.invariant-members_inside-loop-node

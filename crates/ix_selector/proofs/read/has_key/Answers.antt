@@ -7,5 +7,5 @@ use Rattle.ix_selector.proofs.read.has_key.Goals as goal
 
 pub returns : goal.returns
 returns c =
-    any_from_yields_List (λ e. bytes_eq e.0 c.args.key.now) _ _ c.any.result c.any.ensures.ran (YieldsList-from_slice c.args.entries.now cc) (λ x b q k. search (rules, tests))
+    any_from_yields_List (λ e. bytes_eq e.0.items c.args.key.now) _ _ c.any.result c.any.ensures.ran (YieldsList-from_slice c.args.entries.now cc) (λ x b q k. search (rules, tests))
     ∙ any_key c.args.key.now c.args.entries.now

@@ -12,7 +12,7 @@ returns c = λ read.
     let es = c.as_slice.result.now in
     let is : data_of c.args.node.now ≡ data_forms.map (entries_data es) = is_map_node c.args.node.now c.in-Map.entries es c.in-Map.is c.as_slice.ensures.value in
     subst (λ m. Shapes read (around_of c.args.around) c.shape_named.result m)
-    (sym (one_shape read (around_of c.args.around) (data_of c.args.node.now) es c.index-key-0.result c.index-body-0.result c.as_slice-2.result.now is (omega arith) c.as_slice-2.ensures))
+    (sym (one_shape read (around_of c.args.around) (data_of c.args.node.now) es c.index-key-0.result c.index-body-0.result c.as_slice-2.result.now is (omega arith) c.as_slice-2.ensures.value))
     (c.shape_named.ensures read)
 
 pub returns-in_default-as_slice : goal.returns-in_default-as_slice

@@ -13,10 +13,10 @@ pub returns-then-eq : goal.returns-then-eq
 returns-then-eq c =
     let es = c.as_slice.result.now in
     let test : bytes_eq c.as_slice-2.result.now (codes "selector") ≡ true = cc in
-    in_envelope (data_of c.args.node.now) es c.index-key-0.result c.index-inner-0.result c.as_slice-2.result.now (is_map_node c.args.node.now c.in-Map.entries es c.in-Map.is c.as_slice.ensures.value) (omega arith) c.as_slice-2.ensures test
+    in_envelope (data_of c.args.node.now) es c.index-key-0.result c.index-inner-0.result c.as_slice-2.result.now (is_map_node c.args.node.now c.in-Map.entries es c.in-Map.is c.as_slice.ensures.value) (omega arith) c.as_slice-2.ensures.value test
 
 pub returns-else-eq : goal.returns-else-eq
 returns-else-eq c =
     let es = c.as_slice.result.now in
     let test : bytes_eq c.as_slice-2.result.now (codes "selector") ≡ false = cc in
-    other_key (data_of c.args.node.now) es c.index-key-0.result c.as_slice-2.result.now (is_map_node c.args.node.now c.in-Map.entries es c.in-Map.is c.as_slice.ensures.value) (omega arith) c.as_slice-2.ensures test
+    other_key (data_of c.args.node.now) es c.index-key-0.result c.as_slice-2.result.now (is_map_node c.args.node.now c.in-Map.entries es c.in-Map.is c.as_slice.ensures.value) (omega arith) c.as_slice-2.ensures.value test
