@@ -2,17 +2,10 @@
 use Rattle.std.proofs.Common.{◌≡◌, ℕ, List, map, ap, sym, ◌∙◌}
 use Rattle.std.specs.Prelude.{Option}
 use Rattle.std.specs.Global.{Vec}
-use Rattle.ix_cbor.specs.Data as nodes
 use Rattle.ix_cbor.specs.Data.{Data, data_of, data_step, entry_of, entries_of}
 use Rattle.ix_cbor.specs.declared.node.Node.{Node}
-use Rattle.ix_cbor.specs.declared.node.Node.TheVariants.{Map, rolls-Map}
-use Rattle.ix_cbor.specs.declared.node.Node.TheFolds.{fold-roll-Node}
-use Rattle.ix_cbor.specs.declared.node.Node.TheOpen as layer
 use Rattle.ix_car.specs.Reading.{value_at}
 
 -- the value of a key in entries of the program
 abbrev pub value_in : List ℕ → List (Vec ℕ × Node) → Option Data
 value_in key entries = value_at key (entries_of (map entry_of entries))
-
-pub data_of-map : (v : Vec (Vec ℕ × Node)) → data_of (Map v) ≡ nodes.map (entries_of (map entry_of v.items))
-data_of-map v = ap data_of (sym (rolls-Map v)) ∙ fold-roll-Node Data data_step (layer.Map v)

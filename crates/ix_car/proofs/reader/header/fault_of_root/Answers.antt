@@ -1,6 +1,7 @@
 use Rattle.std.proofs.Common.{ap, ◌∙◌, codes}
 use Rattle.ix_car.specs.Reading.{version_fault, has_roots}
-use Rattle.ix_car.proofs.HeaderLemmas.{value_in, data_of-map}
+use Rattle.ix_cbor.proofs.Fitting.{data_of-map}
+use Rattle.ix_car.proofs.HeaderLemmas.{value_in}
 use Rattle.ix_car.proofs.reader.header.fault_of_root.Goals as goal
 
 pub returns : goal.returns
