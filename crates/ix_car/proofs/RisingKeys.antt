@@ -12,7 +12,7 @@ use Rattle.ix_cbor.specs.declared.fault.CborKind.TheVariants.{Tag, Link, KeyKind
 use Rattle.ix_cbor.specs.Data as nodes
 use Rattle.ix_cbor.specs.Data.{Data, Items, Entries, no_items, item, no_entries, entry}
 use Rattle.ix_cbor.specs.Spelling.{key_cmp}
-use Rattle.ix_cbor.specs.Reading.{Fault, ◌>>=◌, Parse, fails, take_at, string_of_major, rises, key_at, float_at, simple_at, link_of, link_at, Own, leaf, list_of, map_of, nested, own_with, own_at, argument_at, items_at, entries_at, with_members, item_with, item_at, nothing_after, decoded, data_at}
+use Rattle.ix_cbor.specs.Reading.{Fault, ◌>>=◌, Parse, fails, take_at, string_of_major, rises, key_at, float_at, simple_at, link_of, link_at, Own, leaf, list_of, map_of, own_with, own_behind, own_at, argument_at, items_at, entries_at, with_members, item_with, item_at, nothing_after, decoded, data_at}
 use Rattle.ix_walk.specs.Store.{Blocks, block_of, is_walkable, value_of}
 
 -- ---- keys
@@ -125,10 +125,6 @@ link_rising at tag b =
     reads-if IsRisingData (tag == 42) (string_of_major 2 (λ content. fails Link at) b >>= link_of at) (fails Tag at)
     (reads-any IsRisingData (string_of_major 2 (λ content. fails Link at) b) (link_of at) (link_of_rising at)) tt
 
-nested_rising : (may_nest : Bool) (at : List ℕ) (own : Own) (b : List ℕ) → IsRisingOwn (own, b) → Reads IsRisingOwn (nested may_nest at own b)
-nested_rising true at own b h = h
-nested_rising false at own b h = tt
-
 -- a string or a link, as an item
 string_rising : (r : Result (List ℕ × List ℕ) Fault) (as_data : List ℕ → Data) → ((s : List ℕ) → HasRisingKeys (as_data s)) → Reads IsRisingOwn (r >>= (λ s. Ok (leaf (as_data s.0), s.1)))
 string_rising r as_data h = reads-any IsRisingOwn r (λ s. Ok (leaf (as_data s.0), s.1)) (λ s. h s.0)
@@ -136,21 +132,22 @@ string_rising r as_data h = reads-any IsRisingOwn r (λ s. Ok (leaf (as_data s.0
 leaf_rising : (r : Result (Data × List ℕ) Fault) → Reads IsRisingData r → Reads IsRisingOwn (r >>= (λ d. Ok (leaf d.0, d.1)))
 leaf_rising r h = reads-bind IsRisingData IsRisingOwn r (λ d. Ok (leaf d.0, d.1)) h (λ d rising. rising)
 
-own_with_rising : (may_nest : Bool) (at : List ℕ) (major n : ℕ) (b : List ℕ) → Reads IsRisingOwn (own_with may_nest at major n b)
-own_with_rising may_nest at major n b =
+own_with_rising : (at : List ℕ) (major n : ℕ) (b : List ℕ) → Reads IsRisingOwn (own_with at major n b)
+own_with_rising at major n b =
     let as_bytes = string_rising (take_at n b) (λ s. nodes.bytes s) (λ s. tt) in
     let as_text = string_rising (take_at n b) (λ s. nodes.text s) (λ s. tt) in
-    let as_list = nested_rising may_nest at (list_of n) b tt in
-    let as_map = nested_rising may_nest at (map_of n) b tt in
     let as_link = leaf_rising (link_at at n b) (link_rising at n b) in
-    search (reads-if, as_bytes, as_text, as_list, as_map, as_link) depth 12
+    search (reads-if, as_bytes, as_text, as_link) depth 12
 
-own_rising : (may_nest : Bool) (b : List ℕ) → Reads IsRisingOwn (own_at may_nest b)
-own_rising may_nest [] = tt
-own_rising may_nest (h ∷ b) =
-    let simple = leaf_rising (simple_at (h ∷ b) (h % 32) b) (simple_rising (h ∷ b) (h % 32) b) in
-    let other = reads-any IsRisingOwn (argument_at (h ∷ b) (h % 32) b) (λ n. own_with may_nest (h ∷ b) (h / 32) n.0 n.1) (λ n. own_with_rising may_nest (h ∷ b) (h / 32) n.0 n.1) in
+behind_rising : (at : List ℕ) (major info : ℕ) (b : List ℕ) → Reads IsRisingOwn (own_behind at major info b)
+behind_rising at major info b =
+    let simple = leaf_rising (simple_at at info b) (simple_rising at info b) in
+    let other = reads-any IsRisingOwn (argument_at at info b) (λ n. own_with at major n.0 n.1) (λ n. own_with_rising at major n.0 n.1) in
     search (reads-if, simple, other)
+
+own_rising : (b : List ℕ) → Reads IsRisingOwn (own_at b)
+own_rising [] = tt
+own_rising (h ∷ b) = behind_rising (h ∷ b) (h / 32) (h % 32) b
 
 -- ---- members
 
@@ -183,23 +180,23 @@ module _ (read : Parse Data) (rising : (b : List ℕ) → Reads IsRisingData (re
       (λ d first. reads-bind (AreRisingFrom (Some k.0)) (AreRisingFrom before) (entries_at read (Some k.0) n d.1) (λ es. Ok (entry k.0 d.0 es.0, es.1)) (entries_rising n (Some k.0) d.1)
       (λ es others. (below_all-first before k.0 d.0 es.0 above others.0, (others.0, first, others.1)))))
 
-  some_members : (x : Own × List ℕ) → IsRisingOwn x → Reads IsRisingData (with_members (Some read) x)
-  some_members (leaf d, b) h = h
-  some_members (list_of n, b) h = reads-bind AreRisingItems IsRisingData (items_at read n b) (λ ds. Ok (nodes.list ds.0, ds.1)) (items_rising n b) (λ ds all. all)
-  some_members (map_of n, b) h = reads-bind (AreRisingFrom None) IsRisingData (entries_at read None n b) (λ es. Ok (nodes.map es.0, es.1)) (entries_rising n None b) (λ es all. all.1)
+  some_members : (at : List ℕ) (x : Own × List ℕ) → IsRisingOwn x → Reads IsRisingData (with_members (Some read) at x)
+  some_members at (leaf d, b) h = h
+  some_members at (list_of n, b) h = reads-bind AreRisingItems IsRisingData (items_at read n b) (λ ds. Ok (nodes.list ds.0, ds.1)) (items_rising n b) (λ ds all. all)
+  some_members at (map_of n, b) h = reads-bind (AreRisingFrom None) IsRisingData (entries_at read None n b) (λ es. Ok (nodes.map es.0, es.1)) (entries_rising n None b) (λ es all. all.1)
 
   some_rising : (b : List ℕ) → Reads IsRisingData (item_with (Some read) b)
-  some_rising b = reads-bind IsRisingOwn IsRisingData (own_at true b) (with_members (Some read)) (own_rising true b) some_members
+  some_rising b = reads-bind IsRisingOwn IsRisingData (own_at b) (with_members (Some read) b) (own_rising b) (some_members b)
 
-none_members : (x : Own × List ℕ) → IsRisingOwn x → Reads IsRisingData (with_members None x)
-none_members (leaf d, b) h = h
-none_members (list_of n, b) h = tt
-none_members (map_of n, b) h = tt
+none_members : (at : List ℕ) (x : Own × List ℕ) → IsRisingOwn x → Reads IsRisingData (with_members None at x)
+none_members at (leaf d, b) h = h
+none_members at (list_of n, b) h = tt
+none_members at (map_of n, b) h = tt
 
 -- an item at every level
 item_rising : (n : ℕ) (b : List ℕ) → Reads IsRisingData (item_at n b)
 unfolding item_at
-item_rising zero b = reads-bind IsRisingOwn IsRisingData (own_at false b) (with_members None) (own_rising false b) none_members
+item_rising zero b = reads-bind IsRisingOwn IsRisingData (own_at b) (with_members None b) (own_rising b) (none_members b)
 item_rising (suc n) b = some_rising (item_at n) (item_rising n) b
 
 -- ---- blocks
