@@ -1,6 +1,6 @@
 -- A list or map by its own head, and its members.
 use Rattle.std.proofs.Common.{◌≡◌, ℕ, List, map, sym, ◌∙◌, ap}
-use Rattle.std.specs.Prelude.{Some, None, Result, Ok, Err}
+use Rattle.std.specs.Prelude.{Some, None, Ok}
 use Rattle.std.specs.Global.{Vec}
 use Rattle.ix_cbor.specs.declared.read.Own.{Own as RustOwn}
 use Rattle.ix_cbor.specs.declared.read.Own.TheVariants.{MapOf}
@@ -8,7 +8,7 @@ use Rattle.ix_cbor.specs.declared.node.Node.{Node}
 use Rattle.ix_cbor.specs.declared.node.Node.TheVariants as variants
 use Rattle.ix_cbor.specs.Data.{Data, data_of, entry_of, entries_of}
 use Rattle.ix_cbor.specs.Data as data_model
-use Rattle.ix_cbor.specs.Reading.{Fault, Parse, Own, ◌>>=◌, own_at, entries_at, item_with, with_members}
+use Rattle.ix_cbor.specs.Reading.{Parse, ◌>>=◌, own_at, entries_at, item_with, with_members}
 use Rattle.ix_cbor.specs.Stops.{own_of}
 use Rattle.ix_cbor.proofs.Fitting.{data_of-map}
 

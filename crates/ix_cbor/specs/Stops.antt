@@ -5,8 +5,7 @@ use Rattle.ix_cbor.specs.declared.fault.CborKind.TheVariants.{Memory}
 use Rattle.ix_cbor.specs.declared.read.Stop.{Stop}
 use Rattle.ix_cbor.specs.declared.read.Own.{Own as RustOwn}
 use Rattle.ix_cbor.specs.declared.read.Own.TheVariants.{Leaf, ListOf, MapOf}
-use Rattle.ix_cbor.specs.declared.node.Node.{Node}
-use Rattle.ix_cbor.specs.Data.{Data, data_of}
+use Rattle.ix_cbor.specs.Data.{data_of}
 use Rattle.ix_cbor.specs.Reading.{Fault, Own, leaf, list_of, map_of}
 use Rattle.ix_cbor.specs.Gives.{FailsAs}
 

@@ -13,7 +13,7 @@ use std::alloc::{AllocError, AllocFailed, Global};
 
 // A fault, and how many bytes there are from its place to the end.
 #[derive(Debug, Drop)]
-pub struct Stop {
+pub(crate) struct Stop {
     pub kind: CborKind,
     pub left: usize,
 }
@@ -77,7 +77,7 @@ impl<T: Drop> From<AllocFailed<T>> for Stop {
 
 // What an item is by its own head.
 #[derive(Drop)]
-pub enum Own {
+pub(crate) enum Own {
     Leaf(Node),
     ListOf(u64),
     MapOf(u64),

@@ -6,7 +6,7 @@ ghost use Rattle.ix_cbor.specs.Widths.{bits_of, least_of};
 
 // How many bytes behind the first one of a head hold its argument.
 #[derive(Drop, Clone, Copy)]
-pub enum Width {
+pub(crate) enum Width {
     One,
     Two,
     Four,
