@@ -10,14 +10,14 @@ use crate::sel::Sel;
 use crate::step::Step;
 use std::alloc::{AllocError, Global};
 
-/// What stands in place of a selector's own edges.
+// What stands in place of a selector's own edges.
 #[derive(Clone, Copy)]
-pub enum Edges<'a> {
-    /// The edges themselves.
+enum Edges<'a> {
+    // The edges themselves.
     Kept,
-    /// The recursion over this sequence, with this limit.
+    // The recursion over this sequence, with this limit.
     Entered(Option<u32>, &'a Sel),
-    /// A union of nothing, where the recursion may not be entered again.
+    // A union of nothing, where the recursion may not be entered again.
     Gone,
 }
 
@@ -35,14 +35,14 @@ impl<'a> Edges<'a> {
 }
 
 /// A copy of a selector.
-pub fn copied(alloc: Global, sel: &Sel) -> Result<Sel, AllocError>
+pub(crate) fn copied(alloc: Global, sel: &Sel) -> Result<Sel, AllocError>
     ensures { IfOk result (λ r. pattern_of r ≡ pattern_of sel.now) }
 {
     replaced(alloc, sel, Edges::Kept)
 }
 
 /// What is left behind a step of a selector with no recursion round it.
-pub fn left_after(alloc: Global, sel: &Sel, step: &Step) -> Result<Sel, AllocError>
+pub(crate) fn left_after(alloc: Global, sel: &Sel, step: &Step) -> Result<Sel, AllocError>
     ensures { IfOk result (λ r. pattern_of r ≡ joined (left_after edge (pattern_of sel.now) (step_of step.now))) }
 {
     let mut left = Vec::new(alloc);
@@ -52,7 +52,7 @@ pub fn left_after(alloc: Global, sel: &Sel, step: &Step) -> Result<Sel, AllocErr
 
 /// Whether a selector whose edges stand behind steps enters where it stands.
 #[cycle(stands)]
-pub fn stands(sel: &Sel) -> bool
+pub(crate) fn stands(sel: &Sel) -> bool
     ensures { result ≡ stands (pattern_of sel.now) }
 {
     match sel {

@@ -376,7 +376,7 @@ fn without_envelope(node: &Node) -> &Node
 }
 
 /// The selector for which a node stands, or the first refusal.
-pub fn selector_of(alloc: Global, node: &Node) -> Result<Sel, SelFault>
+pub(crate) fn selector_of(alloc: Global, node: &Node) -> Result<Sel, SelFault>
     ensures { Gives pattern_of result (selector_of (data_of node.now)) }
 {
     selector_at(alloc, without_envelope(node), Around::Outside, LEVELS)
