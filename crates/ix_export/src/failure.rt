@@ -10,7 +10,7 @@ use ix_run::{RunFault, fault_line};
 use std::alloc::{AllocError, AllocFailed, Global};
 use std::io::{self, ErrorKind};
 
-/// The status of usage, of an input that is refused, and of an output that can't be made.
+// The status of usage, of an input that is refused, and of an output that can't be made.
 const REFUSED: u8 = 2;
 
 /// Why the program ends early.
@@ -20,11 +20,13 @@ pub enum Failure {
     Usage(clap::Error),
     /// A word is not UTF-8.
     Words,
+    /// What the library refuses, and want of memory.
     Fault(RunFault),
-    /// A file that can't be read, and below, is too large or can't be written: its path, where
-    /// standard input and output are `-`.
+    /// An input that can't be read: its path, where standard input is `-`.
     CannotRead(String),
+    /// An input of more than 1 GiB: its path.
     TooLarge(String),
+    /// An output that can't be made or written: its path, where standard output is `-`.
     CannotWrite(String),
 }
 

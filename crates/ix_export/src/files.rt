@@ -11,13 +11,13 @@ use std::fs::{self, OpenFile};
 use std::io::{BufWriter, Read};
 use std::rt::Files;
 
-/// The greatest input, in bytes.
+// The greatest input, in bytes.
 const LARGEST_INPUT: u64 = 1 << 30;
 
-/// How many bytes of an output wait in memory.
+// How many bytes of an output wait in memory.
 const BUFFER: usize = 16 * 1024;
 
-/// A file that is always there, and has no bytes.
+// A file that is always there, and has no bytes.
 const NOTHING: &str = "/dev/null";
 
 /// What stands in for the standard streams that are closed.

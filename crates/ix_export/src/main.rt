@@ -16,8 +16,8 @@ use std::rt::{Env, Files};
 use std::{env, io};
 use words::command_line;
 
-/// How many visits wait between the walkers and the verifiers, and how many verdicts behind each
-/// verifier.
+// How many visits wait between the walkers and the verifiers, and how many verdicts behind each
+// verifier.
 const QUEUE: u32 = 256;
 
 const LANE: u32 = 64;

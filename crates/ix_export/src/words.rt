@@ -3,7 +3,7 @@
 use clap::{Arg, ArgAction, Command, value_parser};
 use std::alloc::{AllocError, Global};
 
-/// The texts of the help.
+// The texts of the help.
 const ABOUT: &str = "Cuts subgraphs out of CARv1 files";
 
 const ROOT_ABOUT: &str =

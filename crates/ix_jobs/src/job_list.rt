@@ -11,7 +11,7 @@ use std::alloc::Global;
 use std::collections::BTreeSet;
 use std::marker::Model;
 
-/// How many jobs a file may have.
+// How many jobs a file may have.
 const MOST_JOBS: usize = 1_000;
 
 /// Jobs and their names, seen as the list of the jobs in the order of adding.

@@ -26,7 +26,7 @@ pub struct JobResult {
 }
 
 impl JobResult {
-    /// Whether the job came to its end.
+    // Whether the job came to its end.
     fn is_done(&self) -> bool
         ensures { result ≡ is_done self.now.end }
     {
@@ -69,7 +69,7 @@ pub fn status(results: &[JobResult]) -> u8
     }
 }
 
-/// Appends the line of a job.
+// Appends the line of a job.
 fn push_job_line(text: &mut String, job: &Job, outcome: &JobResult) -> Result<(), AllocError>
     ensures { OnOk result (string_bytes text.new ≡ string_bytes text.old ++ job_line job.now.name outcome.now.end outcome.now.counts) }
 {
@@ -87,7 +87,7 @@ fn push_job_line(text: &mut String, job: &Job, outcome: &JobResult) -> Result<()
     )
 }
 
-/// Appends the lines of skips.
+// Appends the lines of skips.
 fn push_skip_lines(alloc: Global, text: &mut String, skips: &[Skip]) -> Result<(), AllocError>
     ensures { OnOk result (string_bytes text.new ≡ string_bytes text.old ++ skip_lines skips.now) }
 {
@@ -97,7 +97,7 @@ fn push_skip_lines(alloc: Global, text: &mut String, skips: &[Skip]) -> Result<(
     Ok(())
 }
 
-/// Appends the line of a skip.
+// Appends the line of a skip.
 fn push_skip_line(alloc: Global, text: &mut String, skip: &Skip) -> Result<(), AllocError>
     ensures { OnOk result (string_bytes text.new ≡ string_bytes text.old ++ skip_line skip.now) }
 {
@@ -107,7 +107,7 @@ fn push_skip_line(alloc: Global, text: &mut String, skip: &Skip) -> Result<(), A
     writeln!(text, "  {seq} {verdict} {cid}")
 }
 
-/// Appends the last line.
+// Appends the last line.
 fn push_total_line(
     text: &mut String,
     jobs: usize,
@@ -119,15 +119,15 @@ fn push_total_line(
     writeln!(text, "total jobs={jobs} done={done} skips={skips}")
 }
 
-/// How many jobs came to their end.
+// How many jobs came to their end.
 fn done_count(results: &[JobResult]) -> usize
     ensures { result ≡ done_count results.now }
 {
     results.iter().filter(|outcome| outcome.is_done()).count()
 }
 
-/// How many skips there are. Their sum is below 2^128, since a slice and a `Vec` have fewer than
-/// 2^64 elements.
+// How many skips there are. Their sum is below 2^128, since a slice and a `Vec` have fewer than
+// 2^64 elements.
 fn skip_count(results: &[JobResult]) -> u128
     ensures { result ≡ skip_count results.now }
 {

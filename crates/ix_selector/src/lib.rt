@@ -14,6 +14,5 @@ mod tests;
 
 pub use fault::{Form, SelFault};
 pub use residual::Residual;
-pub use sel::Sel;
 pub use selector::Selector;
 pub use step::Step;

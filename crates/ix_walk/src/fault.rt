@@ -16,7 +16,9 @@ pub enum JobFault {
 /// Why a walk stops before its end.
 #[derive(Debug, Drop, Clone, Copy, PartialEq, Eq)]
 pub enum WalkStop {
+    /// As many visits were given as the job may have, and there are more.
     Limit,
+    /// No memory was left.
     Memory,
 }
 

@@ -9,7 +9,7 @@ use ix_cid::Cid;
 use ix_selector::Selector;
 use std::marker::Model;
 
-/// How many bytes a name may have.
+// How many bytes a name may have.
 const LONGEST_NAME: usize = 64;
 
 /// How many visits a job may ask for.
@@ -101,7 +101,7 @@ pub fn is_name(name: &str) -> bool
     bytes.iter().all(|byte| is_name_byte(*byte))
 }
 
-/// Whether a byte may stand in a name: `a` to `z`, `0` to `9`, `-` or `_`.
+// Whether a byte may stand in a name: `a` to `z`, `0` to `9`, `-` or `_`.
 fn is_name_byte(byte: u8) -> bool
     ensures { result ≡ is_name_byte byte }
 {
