@@ -1,0 +1,58 @@
+//! The words of cases, and the call that each stands for.
+
+use crate::example::Example;
+use crate::{cids, jobs, runs, selectors, stores, trees, walks};
+use anyhow::{Result, bail};
+use std::alloc::Global;
+
+/// What the call that a word stands for answers.
+pub fn answer<R>(
+    rt: &R,
+    alloc: Global,
+    example: &mut Example,
+    word: &str,
+    input: &str,
+) -> Result<String> {
+    match word {
+        "varint" => cids::varint(alloc, input),
+        "push_varint" => cids::pushed_varints(alloc, input),
+        "cid" => cids::cid(alloc, input),
+        "cids" => cids::compared_cids(alloc, input),
+        "text" => cids::text(alloc, input),
+        "from_text" => cids::cid_of_text(alloc, input),
+        "decode" => trees::decode(alloc, input),
+        "tree" => trees::tree(alloc, input),
+        "head" => trees::head(alloc, input),
+        "selector" => selectors::selector(alloc, input),
+        "step" => selectors::steps(alloc, input),
+        "new_job" => walks::new_job(alloc, input),
+        "jobs" => jobs::jobs(alloc, input),
+        "prepare" => jobs::prepared(alloc, input),
+        "root" => jobs::root(alloc, input),
+        "print" => jobs::printed(alloc, input),
+        "run" => runs::runs(rt, alloc, example),
+        "tell" => runs::told(alloc, example),
+        _ => answer_of_store(alloc, example, word, input),
+    }
+}
+
+// The same of the words that ask the example's store.
+fn answer_of_store(
+    alloc: Global,
+    example: &mut Example,
+    word: &str,
+    input: &str,
+) -> Result<String> {
+    match word {
+        "add" => stores::add(alloc, &mut example.store, input),
+        "add_copy" => stores::add_copy(alloc, &mut example.store, input),
+        "car" => stores::car(alloc, example, input),
+        "find" => stores::find(alloc, &example.store, input),
+        "bytes" => stores::bytes(alloc, &example.store, input),
+        "blocks" => stores::blocks(alloc, &example.store),
+        "walk" => walks::walk(alloc, &example.store, input),
+        "visits" => walks::visits(alloc, &example.store, input),
+        "verdict" => walks::verdict(alloc, &example.store, input),
+        _ => bail!("no such word: {word}"),
+    }
+}

@@ -1,0 +1,179 @@
+//! What the lines of an example set up for the calls behind them.
+
+use crate::cids::cid_of;
+use crate::selectors::selector_of;
+use crate::texts::{bytes_of_hex, two_words};
+use crate::walks::MATCHER;
+use anyhow::{Context, Result, bail};
+use ix_car::{Counts, End, Skip};
+use ix_check::Verdict;
+use ix_jobs::JobResult;
+use ix_walk::{Job, Store};
+use std::alloc::Global;
+
+/// The header of a CARv1 file without roots, in hexadecimal.
+const HEADER: &str = "11a265726f6f7473806776657273696f6e01";
+
+/// What the lines of an example set up.
+#[derive(Drop)]
+pub struct Example {
+    alloc: Global,
+    name: String,
+    /// The blocks of `add` and `car`.
+    pub store: Store,
+    /// The CARv1 file, and below, each of its sections, in hexadecimal.
+    car: String,
+    sections: Vec<String>,
+    /// The job file.
+    pub jobs: String,
+    /// What is wanted of a run, job by job: how many bytes its writer takes, and its archive.
+    pub report: String,
+    pub status: String,
+    pub rooms: Vec<usize>,
+    pub archives: Vec<Vec<u8>>,
+    /// What is told of jobs, for a report.
+    pub told: Vec<Job>,
+    pub results: Vec<JobResult>,
+}
+
+impl Example {
+    /// An example of which nothing was set up so far.
+    pub fn new(alloc: Global, name: &str) -> Result<Example> {
+        Ok(Example {
+            alloc,
+            name: String::from_str(alloc, name)?,
+            store: Store::new(alloc),
+            car: String::from_str(alloc, HEADER)?,
+            sections: Vec::new(alloc),
+            jobs: String::new(alloc),
+            report: String::new(alloc),
+            status: String::new(alloc),
+            rooms: Vec::new(alloc),
+            archives: Vec::new(alloc),
+            told: Vec::new(alloc),
+            results: Vec::new(alloc),
+        })
+    }
+
+    /// The name.
+    pub fn name(&self) -> &str {
+        self.name.as_str()
+    }
+
+    /// The CARv1 file.
+    pub fn car(&self) -> Result<Vec<u8>> {
+        bytes_of_hex(self.alloc, self.car.as_str())
+    }
+
+    /// Sets up what a line says, and answers whether its word is one of these: `section HEX`, `job
+    /// LINE`, `report LINE`, `status NUMBER`, `room NUMBER`, `archive HEADER NUMBER ..` (the numbers
+    /// of sections, from 0), `result NAME END VISITS KEPT SECTIONS BYTES`, `skip SEQ VERDICT CID`.
+    pub fn set(&mut self, word: &str, rest: &str) -> Result<bool> {
+        match word {
+            "section" => self.add_section(rest)?,
+            "job" => push_line(&mut self.jobs, rest)?,
+            "report" => push_line(&mut self.report, rest)?,
+            "status" => self.status.push_str(rest)?,
+            "room" => self.rooms.push(rest.parse::<usize>()?)?,
+            "archive" => self.add_archive(rest)?,
+            "result" => self.add_result(rest)?,
+            "skip" => self.add_skip(rest)?,
+            _ => return Ok(false),
+        }
+        Ok(true)
+    }
+
+    // Adds a section to the file.
+    fn add_section(&mut self, section: &str) -> Result<()> {
+        self.car.push_str(section)?;
+        self.sections.push(section.to_string(self.alloc)?)?;
+        Ok(())
+    }
+
+    // Adds an archive: a header, and the sections with these numbers.
+    fn add_archive(&mut self, line: &str) -> Result<()> {
+        let mut words = line.split(' ');
+        let mut archive = String::from_str(self.alloc, words.next().unwrap_or(""))?;
+        for number in words {
+            let section = self.sections.get(number.parse::<usize>()?);
+            archive.push_str(section.context("no such section")?.as_str())?;
+        }
+        let archive = bytes_of_hex(self.alloc, archive.as_str())?;
+        self.archives.push(archive)?;
+        Ok(())
+    }
+
+    // Adds what is told of a job: its name, its end and its counts.
+    fn add_result(&mut self, line: &str) -> Result<()> {
+        let words: Vec<&str> = line.split(' ').collect(self.alloc)?;
+        let [name, end, visits, kept, sections, bytes] = words.as_slice() else {
+            bail!("six words are wanted");
+        };
+        let counts = Counts {
+            visits: visits.parse::<u32>()?,
+            kept: kept.parse::<u32>()?,
+            sections: sections.parse::<u32>()?,
+            bytes: bytes.parse::<u64>()?,
+        };
+        let end = end_of(end)?;
+        let skips = Vec::new(self.alloc);
+        self.told.push(told_job(self.alloc, name)?)?;
+        self.results.push(JobResult { end, counts, skips })?;
+        Ok(())
+    }
+
+    // Adds a skip to what is told of the last job.
+    fn add_skip(&mut self, line: &str) -> Result<()> {
+        let (seq, rest) = two_words(line)?;
+        let (verdict, cid) = two_words(rest)?;
+        let skip = Skip {
+            seq: seq.parse::<u32>()?,
+            cid: cid_of(self.alloc, cid)?,
+            verdict: verdict_of(verdict)?,
+        };
+        let result = self.results.last_mut().context("no job")?;
+        result.skips.push(skip)?;
+        Ok(())
+    }
+}
+
+// A job with this name.
+fn told_job(alloc: Global, name: &str) -> Result<Job> {
+    let name = String::from_str(alloc, name)?;
+    let root = cid_of(alloc, "01550000")?;
+    match Job::new(name, root, selector_of(alloc, MATCHER)?, 1) {
+        Ok(job) => Ok(job),
+        Err(fault) => bail!("no job: {fault:?}"),
+    }
+}
+
+// The end with this word.
+fn end_of(word: &str) -> Result<End> {
+    match word {
+        "done" => Ok(End::Done),
+        "limit" => Ok(End::Limit),
+        "memory" => Ok(End::Memory),
+        "write" => Ok(End::Write),
+        "start" => Ok(End::Start),
+        _ => bail!("no end: {word}"),
+    }
+}
+
+// The verdict with this word.
+fn verdict_of(word: &str) -> Result<Verdict> {
+    match word {
+        "codec" => Ok(Verdict::Codec),
+        "hash" => Ok(Verdict::Hash),
+        "missing" => Ok(Verdict::Missing),
+        "damaged" => Ok(Verdict::Damaged),
+        "malformed" => Ok(Verdict::Malformed),
+        _ => bail!("no verdict of a skip: {word}"),
+    }
+}
+
+// Appends a line and its end.
+fn push_line(text: &mut String, line: &str) -> Result<()> {
+    text.push_str(line)?;
+    text.push('\n')?;
+    Ok(())
+}

@@ -1,0 +1,77 @@
+//! `ix_cases`: answers the cases that stand in files by the public calls of the library, and tells
+//! which answers differ from those that are wanted.
+//!
+//! Its words are the paths of the files. It prints one line with how many cases agree. The status
+//! is 1 where one differs, which standard error then tells with its file and line, and 2 where a
+//! file can't be read.
+#![tactic(auto)]
+
+mod answers;
+mod bench;
+mod cids;
+mod example;
+mod jobs;
+mod names;
+mod nodes;
+mod notation;
+mod runs;
+mod selectors;
+mod stores;
+mod tally;
+mod texts;
+mod trees;
+mod walks;
+
+use anyhow::{Context, Result};
+use bench::Bench;
+use std::process::ExitCode;
+use std::rt::{Env, Files};
+use std::{env, fs};
+use tally::Tally;
+
+fn main(rt: HostRuntime) -> ExitCode {
+    match try_files(&rt) {
+        Ok(tally) if tally.differing == 0 => ExitCode::from(0),
+        Ok(_) => ExitCode::from(1),
+        Err(error) => {
+            // Where standard error can't be written there is nobody to tell.
+            let _ = eprintln!(rt; "{error}");
+            ExitCode::from(2)
+        }
+    }
+}
+
+// Answers the cases of the files that the arguments name.
+fn try_files<R: AllocGlobal + Env + Eprint + Files + Print>(rt: &R) -> Result<Tally> {
+    let mut bench = Bench::new(rt.alloc())?;
+    let mut tally = Tally::new();
+    for path in env::args(rt)?.skip(1) {
+        let path = path.as_str();
+        let text = fs::read_to_string(rt, path).context(format_args!("cannot read {path}"))?;
+        try_file(rt, &mut bench, path, text.as_str(), &mut tally)?;
+        tally.count_file();
+    }
+    println!(rt; "{tally}")?;
+    Ok(tally)
+}
+
+// Answers the cases of a file, and tells of each that differs.
+fn try_file<R: AllocGlobal + Eprint>(
+    rt: &R,
+    bench: &mut Bench,
+    path: &str,
+    text: &str,
+    tally: &mut Tally,
+) -> Result<()> {
+    let mut number = 0u64;
+    for line in text.lines() {
+        number = number.saturating_add(1);
+        let outcome = bench.outcome_of(rt, line)?;
+        if let Some(difference) = outcome.difference() {
+            let name = bench.example_name();
+            eprintln!(rt; "{path}:{number}: {name}: {difference}")?;
+        }
+        tally.count(&outcome);
+    }
+    Ok(())
+}

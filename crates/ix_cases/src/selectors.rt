@@ -1,0 +1,74 @@
+//! Selectors, and what they enter.
+
+use crate::nodes::node_of;
+use crate::texts::{bytes_of_hex, two_words};
+use anyhow::{Result, bail};
+use ix_cbor::{Tree, decode};
+use ix_selector::{Residual, Selector, Step};
+use std::alloc::Global;
+
+/// The selector for which a block in hexadecimal, or a node in diagnostic notation, stands.
+pub fn selector_of(alloc: Global, text: &str) -> Result<Selector> {
+    let tree = tree_of(alloc, text)?;
+    match Selector::read(alloc, &tree) {
+        Ok(selector) => Ok(selector),
+        Err(fault) => bail!("no selector: {fault:?}"),
+    }
+}
+
+// The tree of a block in hexadecimal, or of a node in diagnostic notation.
+fn tree_of(alloc: Global, text: &str) -> Result<Tree> {
+    if text.starts_with('{') || text.starts_with('[') {
+        return match Tree::new(node_of(alloc, text)?) {
+            Ok(tree) => Ok(tree),
+            Err(_) => bail!("no tree: {text}"),
+        };
+    }
+    let bytes = bytes_of_hex(alloc, text)?;
+    match decode(alloc, bytes.as_slice()) {
+        Ok(tree) => Ok(tree),
+        Err(fault) => bail!("no tree: {fault:?}"),
+    }
+}
+
+/// `selector SELECTOR = ok` or the fault
+pub fn selector(alloc: Global, input: &str) -> Result<String> {
+    let tree = tree_of(alloc, input)?;
+    match Selector::read(alloc, &tree) {
+        Ok(_) => Ok(String::from_str(alloc, "ok")?),
+        Err(fault) => Ok(format!(in alloc; "{fault:?}")?),
+    }
+}
+
+/// `step STEP/STEP/.. SELECTOR = 1 1 0`: whether each step leads to a child that is entered, up to the
+/// first that doesn't. A step of digits is a position, any other a key; quotes make digits a key.
+pub fn steps(alloc: Global, input: &str) -> Result<String> {
+    let (path, selector) = two_words(input)?;
+    let selector = selector_of(alloc, selector)?;
+    let mut residual = Residual::start(alloc, &selector)?;
+    let mut answer = String::new(alloc);
+    for name in path.split('/') {
+        match residual.step(alloc, &step_of(name))? {
+            Some(next) => {
+                residual = next;
+                answer.push_str("1 ")?;
+            }
+            None => {
+                answer.push_str("0 ")?;
+                break;
+            }
+        }
+    }
+    Ok(answer.as_str().trim_end().to_string(alloc)?)
+}
+
+// The step of a name.
+fn step_of(name: &str) -> Step<'_> {
+    match name.parse::<u64>() {
+        Ok(position) => Step::Pos(position),
+        Err(_) => {
+            let key = name.strip_prefix('"').unwrap_or(name);
+            Step::Key(key.strip_suffix('"').unwrap_or(key).as_bytes())
+        }
+    }
+}

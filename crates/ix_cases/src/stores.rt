@@ -1,0 +1,77 @@
+//! The store of an example, and CARv1 files.
+
+use crate::cids::cid_of;
+use crate::example::Example;
+use crate::texts::{bytes_of_hex, hex_of, two_words};
+use anyhow::{Result, bail};
+use ix_car::read_car;
+use ix_walk::Store;
+use std::alloc::Global;
+
+/// `add CID HEX = true` or `false`
+pub fn add(alloc: Global, store: &mut Store, input: &str) -> Result<String> {
+    let (cid, block) = two_words(input)?;
+    let added = store.add(cid_of(alloc, cid)?, bytes_of_hex(alloc, block)?)?;
+    Ok(added.to_string(alloc)?)
+}
+
+/// `add_copy CID HEX = true` or `false`
+pub fn add_copy(alloc: Global, store: &mut Store, input: &str) -> Result<String> {
+    let (cid, block) = two_words(input)?;
+    let block = bytes_of_hex(alloc, block)?;
+    let added = store.add_copy(cid_of(alloc, cid)?, block.as_slice())?;
+    Ok(added.to_string(alloc)?)
+}
+
+/// `find CID = PLACE` or `none`, which a search near any place gives too
+pub fn find(alloc: Global, store: &Store, input: &str) -> Result<String> {
+    let cid = cid_of(alloc, input)?;
+    let found = store.find(&cid);
+    if store.find_near(None, &cid) != found || store.find_near(Some(0), &cid) != found {
+        bail!("a search near a place differs");
+    }
+    match found {
+        Some(place) => Ok(place.to_string(alloc)?),
+        None => Ok(String::from_str(alloc, "none")?),
+    }
+}
+
+/// `bytes PLACE = HEX` or `none`
+pub fn bytes(alloc: Global, store: &Store, input: &str) -> Result<String> {
+    let place = input.parse::<usize>()?;
+    if place < store.len() {
+        hex_of(alloc, store.bytes(place))
+    } else {
+        Ok(String::from_str(alloc, "none")?)
+    }
+}
+
+/// `blocks = COUNT`, where no block is an empty store
+pub fn blocks(alloc: Global, store: &Store) -> Result<String> {
+    if store.is_empty() {
+        return Ok(String::from_str(alloc, "none")?);
+    }
+    Ok(store.len().to_string(alloc)?)
+}
+
+/// `car HEX = COUNT` of blocks, which are the store behind it, or `KIND at PLACE`; `car = ..` reads
+/// the example's own file
+pub fn car(alloc: Global, example: &mut Example, input: &str) -> Result<String> {
+    let bytes = if input.is_empty() {
+        example.car()?
+    } else {
+        bytes_of_hex(alloc, input)?
+    };
+    match read_car(alloc, bytes.as_slice()) {
+        Ok(read) => {
+            let count = read.len();
+            example.store = read;
+            Ok(count.to_string(alloc)?)
+        }
+        Err(fault) => {
+            let kind = fault.kind;
+            let place = fault.place;
+            Ok(format!(in alloc; "{kind} at {place}")?)
+        }
+    }
+}

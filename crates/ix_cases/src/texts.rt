@@ -1,0 +1,71 @@
+//! Bytes as texts, and texts as bytes.
+
+use anyhow::{Context, Result, bail};
+use std::alloc::Global;
+
+/// The bytes that a text gives in hexadecimal; `-` and an empty text are no bytes.
+pub fn bytes_of_hex(alloc: Global, text: &str) -> Result<Vec<u8>> {
+    if text == "-" {
+        return Ok(Vec::new(alloc));
+    }
+    hex::decode(alloc, text).context(format_args!("no hexadecimal: {text}"))
+}
+
+/// Bytes in hexadecimal, where `-` are none.
+pub fn hex_of(alloc: Global, bytes: &[u8]) -> Result<String> {
+    if bytes.is_empty() {
+        return Ok(String::from_str(alloc, "-")?);
+    }
+    Ok(hex::encode(alloc, bytes)?)
+}
+
+/// The bytes of a text in which `\n`, `\r` and `\t` are a line end, a carriage return and a tab, and
+/// `\x` with two digits is any byte.
+pub fn unescaped(alloc: Global, text: &str) -> Result<Vec<u8>> {
+    let mut parts = text.split('\\');
+    let mut bytes = Vec::from_slice(alloc, parts.next().unwrap_or("").as_bytes())?;
+    for part in parts {
+        let behind = match part.as_bytes() {
+            [b'n', behind @ ..] => {
+                bytes.push(b'\n')?;
+                behind
+            }
+            [b'r', behind @ ..] => {
+                bytes.push(b'\r')?;
+                behind
+            }
+            [b't', behind @ ..] => {
+                bytes.push(b'\t')?;
+                behind
+            }
+            [b'x', high, low, behind @ ..] => {
+                let byte = hex::decode(alloc, [*high, *low].as_slice())?;
+                bytes.extend_from_slice(byte.as_slice())?;
+                behind
+            }
+            _ => bail!("no such escape: {part}"),
+        };
+        bytes.extend_from_slice(behind)?;
+    }
+    Ok(bytes)
+}
+
+/// Bytes as such a text.
+pub fn escaped(alloc: Global, bytes: &[u8]) -> Result<String> {
+    let mut text = String::new(alloc);
+    for byte in bytes {
+        match *byte {
+            b'\n' => text.push_str("\\n")?,
+            b'\r' => text.push_str("\\r")?,
+            b'\t' => text.push_str("\\t")?,
+            b' '..=b'~' if *byte != b'\\' => text.push(char::from(*byte))?,
+            other => write!(text, "\\x{other:02x}")?,
+        }
+    }
+    Ok(text)
+}
+
+/// The words before and behind the first space.
+pub fn two_words(text: &str) -> Result<(&str, &str)> {
+    text.split_once(' ').context("two words are wanted")
+}
