@@ -3,14 +3,14 @@
 use crate::cids::cid_of;
 use crate::texts::{bytes_of_hex, unescaped};
 use anyhow::{Context, Result, bail};
-use ix_cbor::{Node, Octets};
+use ix_cbor::Node;
 use std::alloc::Global;
 
 // A list or a map whose end is still to come. A map has a key for each member.
 #[derive(Drop)]
 struct Open {
     is_map: bool,
-    keys: Vec<Octets>,
+    keys: Vec<Vec<u8>>,
     members: Vec<Node>,
 }
 
@@ -74,7 +74,7 @@ fn place_word(
 ) -> Result<()> {
     if let Some(innermost) = open.last_mut() {
         if innermost.wants_key() {
-            innermost.keys.push(octets_of(alloc, word)?)?;
+            innermost.keys.push(text_of(alloc, word)?)?;
             return Ok(());
         }
     }
@@ -102,21 +102,21 @@ fn leaf_of(alloc: Global, word: &str) -> Result<Node> {
         return Ok(Node::Bits64(u64::from_str_radix(digits, 16)?));
     }
     if let Some(digits) = inside(word, "h'", "'") {
-        return Ok(Node::Bytes(Octets::new(bytes_of_hex(alloc, digits)?)));
+        return Ok(Node::Bytes(bytes_of_hex(alloc, digits)?));
     }
     if let Some(digits) = inside(word, "42(h'00", "')") {
         return Ok(Node::Link(cid_of(alloc, digits)?));
     }
     if word.starts_with('"') {
-        return Ok(Node::Text(octets_of(alloc, word)?));
+        return Ok(Node::Text(text_of(alloc, word)?));
     }
     Ok(Node::Int(word.parse::<i128>()?))
 }
 
 // The bytes of a text between quotes.
-fn octets_of(alloc: Global, word: &str) -> Result<Octets> {
+fn text_of(alloc: Global, word: &str) -> Result<Vec<u8>> {
     match inside(word, "\"", "\"") {
-        Some(text) => Ok(Octets::new(unescaped(alloc, text)?)),
+        Some(text) => unescaped(alloc, text),
         None => bail!("a text between quotes is wanted: {word}"),
     }
 }

@@ -4,7 +4,7 @@
 //! `h'00ff'`, `"text"` with each byte but the printable ones as `\x` and two digits, `[ 1, 2 ]`,
 //! `{ "a": 1 }`, and a link as `42(h'00...')` with its CID behind the `00`.
 
-use ix_cbor::{Node, Octets};
+use ix_cbor::Node;
 use std::alloc::{AllocError, Global};
 
 /// A node in this notation.
@@ -47,7 +47,7 @@ fn push_members(alloc: Global, out: &mut String, members: &[Node]) -> Result<(),
 fn push_entries(
     alloc: Global,
     out: &mut String,
-    entries: &[(Octets, Node)],
+    entries: &[(Vec<u8>, Node)],
 ) -> Result<(), AllocError> {
     out.push('{')?;
     for (number, (key, value)) in entries.iter().enumerate() {

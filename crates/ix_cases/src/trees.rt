@@ -4,7 +4,7 @@ use crate::nodes::node_of;
 use crate::notation::written;
 use crate::texts::{bytes_of_hex, hex_of, two_words};
 use anyhow::{Result, bail, ensure};
-use ix_cbor::{Tree, push_head};
+use ix_cbor::{Major, Tree, push_head};
 use std::alloc::Global;
 
 /// `decode HEX = NODE` or `KIND at PLACE`; a block that is decoded is also spelled again
@@ -51,12 +51,23 @@ pub fn tree(alloc: Global, input: &str) -> Result<String> {
 /// `head MAJOR ARGUMENT = HEX`
 pub fn head(alloc: Global, input: &str) -> Result<String> {
     let (major, argument) = two_words(input)?;
-    let major = major.parse::<u8>()?;
     let argument = argument.parse::<u64>()?;
-    if major >= 8 {
-        bail!("no head has this major type");
-    }
     let mut out = Vec::new(alloc);
-    push_head(&mut out, major, argument)?;
+    push_head(&mut out, major_of(major)?, argument)?;
     hex_of(alloc, out.as_slice())
+}
+
+// The major type with a name.
+fn major_of(name: &str) -> Result<Major> {
+    Ok(match name {
+        "unsigned" => Major::Unsigned,
+        "negative" => Major::Negative,
+        "bytes" => Major::Bytes,
+        "text" => Major::Text,
+        "list" => Major::List,
+        "map" => Major::Map,
+        "tag" => Major::Tag,
+        "simple" => Major::Simple,
+        _ => bail!("no head has this major type"),
+    })
 }
