@@ -4,18 +4,12 @@
 mod canonical;
 mod codec;
 mod fault;
-#[cfg(test)]
-mod fixtures;
 mod head;
 pub mod law;
 mod leaf;
 mod node;
 mod octets;
 mod read;
-#[cfg(test)]
-mod rfc_examples;
-#[cfg(test)]
-mod tests;
 mod tree;
 mod write;
 

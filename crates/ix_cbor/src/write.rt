@@ -94,6 +94,3 @@ fn push_entries(out: &mut Vec<u8>, entries: &[(Octets, Node)]) -> Result<(), All
     }
     Ok(())
 }
-
-#[cfg(test)]
-mod tests;
