@@ -4,8 +4,6 @@
 mod canonical;
 mod codec;
 mod fault;
-#[cfg(test)]
-mod fixtures;
 mod head;
 mod information;
 pub mod law;
@@ -13,10 +11,6 @@ mod leaf;
 mod major;
 mod node;
 mod read;
-#[cfg(test)]
-mod rfc_examples;
-#[cfg(test)]
-mod tests;
 mod tree;
 mod width;
 mod write;

@@ -72,6 +72,3 @@ impl Tree {
         self.node
     }
 }
-
-#[cfg(test)]
-mod tests;

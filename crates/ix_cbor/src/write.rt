@@ -100,6 +100,3 @@ fn push_entries(out: &mut Vec<u8>, entries: &[(Vec<u8>, Node)]) -> Result<(), Al
     }
     Ok(())
 }
-
-#[cfg(test)]
-mod tests;

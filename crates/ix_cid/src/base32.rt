@@ -124,30 +124,3 @@ fn bits_of(letter: u8) -> Option<u64>
         _ => None,
     }
 }
-
-#[cfg(test)]
-mod tests {
-    use super::*;
-    use std::test::Fail;
-
-    #[test]
-    fn gives_the_vectors_of_the_rfc(rt: HostRuntime) -> Result<(), Fail> {
-        let alloc = rt.alloc();
-        for (bytes, letters) in [
-            ("", ""),
-            ("f", "my"),
-            ("fo", "mzxq"),
-            ("foo", "mzxw6"),
-            ("foob", "mzxw6yq"),
-            ("fooba", "mzxw6ytb"),
-            ("foobar", "mzxw6ytboi"),
-        ] {
-            let mut text = String::new(alloc);
-            append(&mut text, bytes.as_bytes())?;
-            assert_eq!(rt; text.as_str(), letters);
-            let read = decode(alloc, text.as_bytes())?;
-            assert_eq!(rt; read.as_slice(), bytes.as_bytes());
-        }
-        Ok(())
-    }
-}

@@ -118,16 +118,3 @@ pub fn numbered_length(bytes: &[u8]) -> Result<usize, CidFault>
     let (_, rest) = split_numbered(bytes)?;
     Ok(bytes.len() - rest.len())
 }
-
-#[cfg(test)]
-mod tests {
-    use super::*;
-
-    #[test]
-    fn finds_numbered_lengths(rt: HostRuntime) {
-        let identity = [0x01, 0x55, 0x00, 0x00, 0x07];
-        assert!(rt; matches!(numbered_length(&identity), Ok(4)));
-        let version_0 = [0x12, 0x20, 0x07];
-        assert!(rt; matches!(numbered_length(&version_0), Err(CidFault::Version(18))));
-    }
-}

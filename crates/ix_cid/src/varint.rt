@@ -49,36 +49,3 @@ pub fn push_varint(out: &mut Vec<u8>, number: u64) -> Result<(), AllocError>
     spelled[last] = rest as u8;
     out.extend_from_slice(&spelled[..last + 1])
 }
-
-#[cfg(test)]
-mod tests {
-    use super::{push_varint, read_varint};
-    use crate::fault::VarintFault::{NotMinimal, TooLong, Truncated};
-    use std::test::Fail;
-
-    #[test]
-    fn reads_varints(rt: HostRuntime) {
-        let table = [
-            ([].as_slice(), Err(Truncated)),
-            ([0x81, 0x00].as_slice(), Err(NotMinimal)),
-            ([0xff; 8].as_slice(), Err(Truncated)),
-            ([0xff; 9].as_slice(), Err(TooLong)),
-            ([0x00, 0x01].as_slice(), Ok((0, 1))),
-            ([0xac, 0x02, 0x07].as_slice(), Ok((300, 2))),
-        ];
-        for (bytes, want) in table {
-            assert_eq!(rt; read_varint(bytes), want, "at {bytes:?}");
-        }
-    }
-
-    #[test]
-    fn writes_varints(rt: HostRuntime) -> Result<(), Fail> {
-        let mut out = Vec::new(rt.alloc());
-        push_varint(&mut out, 300)?;
-        push_varint(&mut out, 127)?;
-        push_varint(&mut out, (1 << 63) - 1)?;
-        let want = b"\xac\x02\x7f\xff\xff\xff\xff\xff\xff\xff\xff\x7f";
-        assert_eq!(rt; out.as_slice(), want.as_slice());
-        Ok(())
-    }
-}

@@ -9,8 +9,6 @@ mod residual;
 mod sel;
 mod selector;
 mod step;
-#[cfg(test)]
-mod tests;
 
 pub use fault::{Form, SelFault};
 pub use residual::Residual;

@@ -12,9 +12,6 @@ use crate::step::Step;
 use std::alloc::{AllocError, Global};
 use std::marker::{Model, PhantomData};
 
-#[cfg(test)]
-mod tests;
-
 /// What is left of a selector at a place, seen as a set of selectors inside recursions.
 #[derive(Drop)]
 pub struct Residual<'s> {

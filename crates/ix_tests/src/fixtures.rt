@@ -1,0 +1,66 @@
+//! Blocks, and what tests make of them.
+
+use ix_cbor::decode;
+use ix_cid::Cid;
+use ix_selector::Selector;
+use ix_walk::{Job, Store};
+use std::alloc::Global;
+use std::test::Fail;
+
+/// A header of a CARv1 file without roots.
+pub const HEADER: &str = "11a265726f6f7473806776657273696f6e01";
+
+/// What stands before and behind the CID in the header of an archive.
+pub const ROOTS: &str = "3aa265726f6f747381d82a582500";
+
+pub const VERSION: &str = "6776657273696f6e01";
+
+/// The CID of the raw block `abc`.
+pub const ABC: &str = "01551220ba7816bf8f01cfea414140de5dae2223b00361a396177a9cb410ff61f20015ad";
+
+/// The CID of the raw block without bytes.
+pub const EMPTY: &str = "01551220e3b0c44298fc1c149afbf4c8996fb92427ae41e4649b934ca495991b7852b855";
+
+/// The CID of a list of one link, to `abc`, and the block.
+pub const ONE_LINK: &str =
+    "0171122021e288dd95d20c03227dc4c449b3a8885fcb420f614135142435f3b33b428832";
+
+pub const ONE_LINK_BLOCK: &str =
+    "81d82a58250001551220ba7816bf8f01cfea414140de5dae2223b00361a396177a9cb410ff61f20015ad";
+
+/// The matcher, and everything below.
+pub const MATCHER: &str = "a1612ea0";
+
+pub const ALL: &str = "a16152a2616ca1646e6f6e65a0623a3ea16161a1613ea16140a0";
+
+/// The bytes of hexadecimal texts, one behind another.
+pub fn bytes_of(alloc: Global, pieces: &[&str]) -> Result<Vec<u8>, Fail> {
+    let mut bytes = Vec::new(alloc);
+    for piece in pieces {
+        let part = hex::decode(alloc, *piece)?;
+        bytes.extend_from_slice(part.as_slice())?;
+    }
+    Ok(bytes)
+}
+
+pub fn cid_of(alloc: Global, text: &str) -> Result<Cid, Fail> {
+    let bytes = hex::decode(alloc, text)?;
+    let (cid, _) = Cid::read(alloc, bytes.as_slice())?;
+    Ok(cid)
+}
+
+/// The store of blocks under their CIDs.
+pub fn store_of(alloc: Global, blocks: &[(&str, &str)]) -> Result<Store, Fail> {
+    let mut store = Store::new(alloc);
+    for (cid, block) in blocks {
+        store.add(cid_of(alloc, cid)?, hex::decode(alloc, *block)?)?;
+    }
+    Ok(store)
+}
+
+pub fn job_of(alloc: Global, root: &str, selector: &str, limit: u32) -> Result<Job, Fail> {
+    let tree = decode(alloc, hex::decode(alloc, selector)?.as_slice())?;
+    let selector = Selector::read(alloc, &tree)?;
+    let name = String::from_str(alloc, "a")?;
+    Ok(Job::new(name, cid_of(alloc, root)?, selector, limit)?)
+}

@@ -1,0 +1,14 @@
+//! Tests of what no line of a case file says: writers, sinks and checks of a test's own, and
+//! refusals that no input gives.
+#![tactic(auto)]
+
+#[cfg(test)]
+mod archives;
+#[cfg(test)]
+mod export;
+#[cfg(test)]
+mod fixtures;
+#[cfg(test)]
+mod refusals;
+#[cfg(test)]
+mod runs;
