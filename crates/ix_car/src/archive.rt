@@ -318,6 +318,3 @@ fn is_sound(verdict: Verdict) -> bool
         _ => false,
     }
 }
-
-#[cfg(test)]
-mod tests;

@@ -115,6 +115,3 @@ fn is_digest(digest: &[u8], block: &[u8]) -> bool
 {
     Sha256::digest(block).as_slice() == digest
 }
-
-#[cfg(test)]
-mod tests;

@@ -137,6 +137,3 @@ fn skip_count(results: &[JobResult]) -> u128
     }
     count
 }
-
-#[cfg(test)]
-mod tests;

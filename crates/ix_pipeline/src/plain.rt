@@ -112,6 +112,3 @@ fn hand_on<S: Sink, C: Check>(
         Err(SinkFault::Memory) => Err(AllocError),
     }
 }
-
-#[cfg(test)]
-mod tests;

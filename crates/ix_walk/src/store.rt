@@ -146,6 +146,3 @@ impl Store {
         self.entries.is_empty()
     }
 }
-
-#[cfg(test)]
-mod tests;

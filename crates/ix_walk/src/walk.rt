@@ -109,6 +109,3 @@ impl<'a> Iterator for Walk<'a> {
         }
     }
 }
-
-#[cfg(test)]
-mod tests;
