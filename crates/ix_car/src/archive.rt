@@ -11,9 +11,9 @@ ghost use Rattle.ix_car.specs.Report.{skips_of, counts_of};
 ghost use Rattle.ix_car.specs.ArchiveNew.{IsNoArchive};
 
 use crate::archive::output::{header_of, set_section_head, write_section, write_text};
+use crate::fault::SinkFault;
 use crate::history::History;
 use crate::sink::{Delivery, End, Sink};
-use crate::fault::SinkFault;
 use ix_check::Verdict;
 use ix_cid::Cid;
 use ix_walk::{Job, Store, Visit};
@@ -311,6 +311,3 @@ fn is_sound(verdict: Verdict) -> bool
         _ => false,
     }
 }
-
-#[cfg(test)]
-mod tests;

@@ -8,8 +8,6 @@ ghost use Rattle.ix_car.specs.Reads.{Reads};
 
 mod header;
 mod section;
-#[cfg(test)]
-mod tests;
 
 use crate::fault::{CarFault, CarKind};
 use crate::reader::header::header_at;

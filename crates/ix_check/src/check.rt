@@ -124,6 +124,3 @@ fn has_digest(cid: &Cid, block: &[u8]) -> bool
 {
     Sha256::digest(block).as_slice() == cid.digest()
 }
-
-#[cfg(test)]
-mod tests;

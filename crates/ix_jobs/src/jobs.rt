@@ -45,6 +45,3 @@ fn split_line(bytes: &[u8]) -> (&[u8], &[u8])
         None => (bytes, &[]),
     }
 }
-
-#[cfg(test)]
-mod tests;

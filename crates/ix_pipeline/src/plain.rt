@@ -11,7 +11,7 @@ use crate::course::Course;
 use ix_car::law::faithful_is_archived;
 use ix_car::{End, Sink, SinkFault};
 use ix_check::Check;
-use ix_walk::{Job, Store, Visit, WalkStop, Walk};
+use ix_walk::{Job, Store, Visit, Walk, WalkStop};
 use std::alloc::{AllocError, Global};
 
 /// Exports every job into its sink, on one thread, and says how each job ended. Each visit of a job
@@ -114,6 +114,3 @@ fn hand_on<S: Sink, C: Check>(
         Err(SinkFault::Memory) => Err(AllocError),
     }
 }
-
-#[cfg(test)]
-mod tests;

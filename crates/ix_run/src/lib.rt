@@ -7,8 +7,6 @@ mod fault;
 mod input;
 mod preparation;
 mod root;
-#[cfg(test)]
-mod tests;
 
 pub use command::{printed_root, root_of_text};
 pub use execution::{RunOut, run, run_jobs};

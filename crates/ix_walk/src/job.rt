@@ -107,6 +107,3 @@ fn is_name_byte(byte: u8) -> bool
 {
     matches!(byte, b'a'..=b'z' | b'0'..=b'9' | b'-' | b'_')
 }
-
-#[cfg(test)]
-mod tests;

@@ -148,6 +148,3 @@ impl Store {
         self.entries.is_empty()
     }
 }
-
-#[cfg(test)]
-mod tests;

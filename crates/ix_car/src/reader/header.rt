@@ -8,7 +8,7 @@ ghost use Rattle.ix_car.specs.Reads.{Reads};
 
 use crate::fault::CarKind;
 use crate::reader::section::{Stop, text_at};
-use ix_cbor::{decode, CborKind, Node, Octets, Tree};
+use ix_cbor::{CborKind, Node, Octets, Tree, decode};
 use std::alloc::{AllocError, Global};
 
 // The bytes behind the header.
