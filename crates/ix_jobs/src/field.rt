@@ -6,7 +6,7 @@ ghost use Rattle.ix_jobs.specs.Gives.{Gives, Reads};
 
 use crate::fault::JobsKind;
 use hex::FromHexError;
-use ix_cbor::{decode, CborKind, Tree};
+use ix_cbor::{CborKind, Tree, decode};
 use ix_cid::{Cid, CidFault};
 use ix_selector::{SelFault, Selector};
 use ix_walk::GREATEST_LIMIT;

@@ -7,9 +7,9 @@ ghost use Rattle.ix_jobs.specs.Jobs.{is_ignored, is_text, text_in, fields_in, jo
 ghost use Rattle.ix_jobs.specs.LineParts.{first_field, last_field};
 ghost use Rattle.ix_jobs.specs.Gives.{Gives, Reads};
 
+use crate::fault::JobsKind;
 use crate::field::{limit_in, root_in, selector_in};
 use crate::job_list::JobList;
-use crate::fault::JobsKind;
 use ix_walk::{Job, is_name};
 use std::alloc::Global;
 use std::str;

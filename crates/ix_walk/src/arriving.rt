@@ -7,11 +7,11 @@ ghost use Rattle.ix_walk.specs.Arriving.{IsReading, Roots, Arrives, Takes};
 ghost use Rattle.ix_walk.specs.Walking.{IsWalk};
 
 use crate::descent::{next_found, waiting_in};
+use crate::fault::WalkStop;
 use crate::store::Store;
 use crate::subtree::{Found, Pending};
 use crate::visit::Visit;
-use crate::fault::WalkStop;
-use ix_cbor::{decode, CborKind, Node};
+use ix_cbor::{CborKind, Node, decode};
 use ix_cid::Cid;
 use ix_cid::code::DAG_CBOR;
 use ix_selector::Residual;

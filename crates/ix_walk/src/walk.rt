@@ -4,11 +4,11 @@ ghost use Rattle.std.specs.Prelude.{◌≡◌, false, IfOk};
 ghost use Rattle.ix_walk.specs.Visits.{visits_of, is_over_limit};
 
 use crate::arriving::take_next;
+use crate::fault::WalkStop;
 use crate::job::Job;
 use crate::store::Store;
 use crate::subtree::{Pending, Waiting};
 use crate::visit::Visit;
-use crate::fault::WalkStop;
 use ix_selector::Residual;
 use std::alloc::{AllocError, Global};
 use std::marker::Model;
