@@ -48,7 +48,6 @@ impl Cid {
     pub fn try_clone(&self, alloc: Global) -> Result<Cid, AllocError>
         ensures same { IfOk result (λ c. c ≡ self.now) }
     {
-        let _ = &self.bytes;
         Ok(Cid {
             bytes: SmallVec::from_slice(alloc, self.bytes.as_slice())?,
         })
