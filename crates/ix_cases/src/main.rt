@@ -63,9 +63,7 @@ fn try_file<R: AllocGlobal + Eprint>(
     text: &str,
     tally: &mut Tally,
 ) -> Result<()> {
-    let mut number = 0u64;
-    for line in text.lines() {
-        number = number.saturating_add(1);
+    for (number, line) in (1u64..).zip(text.lines()) {
         let outcome = bench.outcome_of(rt, line)?;
         if let Some(difference) = outcome.difference() {
             let name = bench.example_name();
