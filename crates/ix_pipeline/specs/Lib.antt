@@ -1,2 +1,4 @@
 pub mod Headline
 pub mod Progress
+pub mod Listing
+pub mod Shares
