@@ -1,4 +1,5 @@
 pub mod Headline
 pub mod Progress
 pub mod Listing
-pub mod Shares
+pub mod Judging
+pub mod Delivering

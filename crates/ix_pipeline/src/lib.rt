@@ -1,12 +1,12 @@
 //! The exporter: on one thread, and by walkers and verifiers.
 #![tactic(auto)]
 
+mod delivering;
 mod gate;
 mod listing;
 mod plain;
 mod plan;
 mod sink_state;
-mod walkers;
 
 pub use gate::{Gate, Open};
 pub use plain::export_plain;
