@@ -1,3 +1,6 @@
 pub mod UnderWay
 pub mod Pairs
 pub mod Exported
+pub mod Checking
+pub mod Parts
+pub mod Posts

@@ -1,5 +1,5 @@
 -- What an export leaves: each sink's events, archives and checks.
-use Rattle.std.specs.Prelude.{◌≡◌, ℕ, ◌+◌, ◌<◌, List, [], ◌∷◌, length, Option, Some, None, slice_get, Contains}
+use Rattle.std.specs.Prelude.{◌≡◌, ℕ, ◌+◌, ◌<◌, List, [], ◌∷◌, ◌++◌, length, Option, Some, None, slice_get, Contains}
 use Rattle.ix_walk.specs.Store.{Blocks}
 use Rattle.ix_walk.specs.JobMeaning.{JobMeaning}
 use Rattle.ix_walk.specs.Visits.{visits_of}
@@ -49,6 +49,11 @@ EachKept fact ss ts = ⊥
 abbrev pub EachUnused : {C : Type 0} → (C → List (ℕ × ℕ)) → List C → Type 0
 EachUnused checked [] = Unit {0}
 EachUnused checked (c ∷ cs) = (checked c ≡ []) × EachUnused checked cs
+
+-- the pairs that checks have checked, put together
+abbrev pub checked_by : {C : Type 0} → (C → List (ℕ × ℕ)) → List C → List (ℕ × ℕ)
+checked_by checked [] = []
+checked_by checked (c ∷ cs) = checked c ++ checked_by checked cs
 
 -- the visits of the job with this number, or none where there is no such job
 abbrev pub visit_count : Blocks → List JobMeaning → ℕ → ℕ

@@ -3,3 +3,4 @@ pub mod Progress
 pub mod Listing
 pub mod Judging
 pub mod Delivering
+pub mod Chunks

@@ -1,12 +1,14 @@
 //! The exporter: on one thread, and by walkers and verifiers.
 #![tactic(auto)]
 
+mod chunk;
 mod delivering;
 mod gate;
 mod listing;
 mod plain;
 mod plan;
 mod sink_state;
+mod verifiers;
 
 pub use gate::{Gate, Open};
 pub use plain::export_plain;
