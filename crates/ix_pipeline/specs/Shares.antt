@@ -1,8 +1,7 @@
 -- The shares of the walkers.
-use Rattle.std.specs.Prelude.{◌≡◌, ◌⊎◌, ℕ, zero, suc, ◌+◌, ◌<◌, ◌%◌, ◌==◌, List, [], ◌∷◌, ◌++◌, length, map, set, Option, Some, None, IfSome, slice_get, if◌then◌else◌, ◌≤◌, vec_capacity}
+use Rattle.std.specs.Prelude.{◌≡◌, ◌⊎◌, ℕ, zero, suc, ◌+◌, ◌<◌, ◌%◌, ◌==◌, List, [], ◌∷◌, ◌++◌, length, map, set, Some, None, IfSome, slice_get, if◌then◌else◌, ◌≤◌, vec_capacity}
 use Rattle.ix_walk.specs.Store.{Blocks}
 use Rattle.ix_walk.specs.JobMeaning.{JobMeaning}
-use Rattle.ix_car.specs.declared.sink.End.{End}
 use Rattle.ix_car.specs.declared.sink.End.TheVariants.{Start}
 use Rattle.ix_pipeline.specs.declared.listing.Listed.{Listed}
 use Rattle.ix_pipeline.specs.declared.walkers.Share.{Share}
