@@ -141,7 +141,7 @@ rest_keep : (store : Blocks) (n : ℕ) (js : List JobMeaning) (k : ℕ) (ls : Li
     → IsThroughRest store n js k ls → k < length ls → l ≡ get_or ls k l → (l.end ≡ Start → ⊥) → IsThroughRest store n js (suc k) ls
 rest_keep store n js k [] l h lt at walked = absurd (omega arith)
 rest_keep store n (j ∷ js) zero (l' ∷ ls) l h lt at walked =
-    elim h.0 [ | inl start ↦ absurd (walked (ap (λ (x : Listed). x.end) at ∙ start)) | inr x ↦ (x, h.1) ]
+    elim h.0 [ inl start ↦ absurd (walked (ap (λ (x : Listed). x.end) at ∙ start)) | inr x ↦ (x, h.1) ]
 rest_keep store n (j ∷ js) (suc k) (l' ∷ ls) l h lt at walked = (h.0, rest_keep store (n + 1) js k ls l h.1 (omega arith) at walked)
 rest_keep store n [] zero (l' ∷ ls) l h lt at walked = absurd h
 rest_keep store n [] (suc k) (l' ∷ ls) l h lt at walked = absurd h

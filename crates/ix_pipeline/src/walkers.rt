@@ -89,7 +89,7 @@ fn start_walker<'s, 'e, R: Threads + Wait + Sync + 'e, G: Gate + Sync + 'e>(
         .ok()
 }
 
-// Starts all walkers.
+// Starts all walkers, in the order of their numbers.
 fn start_walkers<'s, 'e, R: Threads + Wait + Sync + 'e, G: Gate + Sync + 'e>(
     scope: &'s Scope<'s, &'e ()>,
     rt: &'e R,
@@ -103,7 +103,8 @@ fn start_walkers<'s, 'e, R: Threads + Wait + Sync + 'e, G: Gate + Sync + 'e>(
     requires count { 0 < count }
     requires jobs { length jobs.now.items ≤ 1000 }
     requires room { (walkers.items ≡ []) × (count ≤ vec_capacity walkers) }
-    ensures { EachWalker store.now jobs.now.items count 0 result.items }
+    ensures shares { EachWalker store.now jobs.now.items count 0 result.items }
+    ensures all { vec_len result ≡ count }
 {
     let mut walkers = walkers;
     for number in 0..count {

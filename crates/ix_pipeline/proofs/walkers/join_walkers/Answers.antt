@@ -18,10 +18,10 @@ loop-walker-init g c = record {
 pub place_share-requires : goal.place_share-requires
 place_share-requires g c =
     let given : EachWalker c.args.store.now c.args.jobs.now.items c.args.count c.loop-walker.invariant.number (c.in-Some.walker ∷ into_iter_items c.next.new.self) =
-        subst (λ (ws : List Walker). EachWalker c.args.store.now c.args.jobs.now.items c.args.count c.loop-walker.invariant.number ws) c.in-Some.ensures.steps.0 c.loop-walker.invariant.given in
+    subst (λ (ws : List Walker). EachWalker c.args.store.now c.args.jobs.now.items c.args.count c.loop-walker.invariant.number ws) c.in-Some.ensures.steps.0 c.loop-walker.invariant.given in
     let kept = rw c.in-Some-handle.handle-is at c.in-Ok.ensures in
     let share : EachOfJobs c.args.store.now c.args.jobs.now.items c.in-Ok.share.items =
-        share_of c.args.store.now c.args.jobs.now.items c.loop-walker.invariant.number c.args.count c.in-Some.walker.handle c.in-Some-handle.handle c.in-Ok.share.items given.0 c.in-Some-handle.is kept in
+    share_of c.args.store.now c.args.jobs.now.items c.loop-walker.invariant.number c.args.count c.in-Some.walker.handle c.in-Some-handle.handle c.in-Ok.share.items given.0 c.in-Some-handle.is kept in
     let same = placed_length c.args.store.now 0 c.args.jobs.now.items c.loop-walker.lists.items c.loop-walker.invariant.lists in
     let long = ap length c.as_mut_slice.ensures.value in
     share_within c.args.store.now c.args.jobs.now.items (length c.as_mut_slice.result.now) c.in-Ok.share.items (omega arith) share
@@ -29,10 +29,10 @@ place_share-requires g c =
 pub loop-walker-preserved-in-Ok : goal.loop-walker-preserved-in-Ok
 loop-walker-preserved-in-Ok g c =
     let given : EachWalker c.args.store.now c.args.jobs.now.items c.args.count c.loop-walker.invariant.number (c.in-Some.walker ∷ into_iter_items c.next.new.self) =
-        subst (λ (ws : List Walker). EachWalker c.args.store.now c.args.jobs.now.items c.args.count c.loop-walker.invariant.number ws) c.in-Some.ensures.steps.0 c.loop-walker.invariant.given in
+    subst (λ (ws : List Walker). EachWalker c.args.store.now c.args.jobs.now.items c.args.count c.loop-walker.invariant.number ws) c.in-Some.ensures.steps.0 c.loop-walker.invariant.given in
     let kept = rw c.in-Some-handle.handle-is at c.in-Ok.ensures in
     let share : EachOfJobs c.args.store.now c.args.jobs.now.items c.in-Ok.share.items =
-        share_of c.args.store.now c.args.jobs.now.items c.loop-walker.invariant.number c.args.count c.in-Some.walker.handle c.in-Some-handle.handle c.in-Ok.share.items given.0 c.in-Some-handle.is kept in
+    share_of c.args.store.now c.args.jobs.now.items c.loop-walker.invariant.number c.args.count c.in-Some.walker.handle c.in-Some-handle.handle c.in-Ok.share.items given.0 c.in-Some-handle.is kept in
     let new = c.place_share.new.lists in
     let long : length new ≡ c.loop-walker.lists.len = c.place_share.auto.lists ∙ ap length c.as_mut_slice.ensures.value ∙ sym c.loop-walker.lists.ok.0 in
     let whole = written c.loop-walker.lists.len new (drop (length new) c.loop-walker.lists.items) long ∙ c.place_share.ensures ∙ ap (placed c.in-Ok.share.items) c.as_mut_slice.ensures.value in
@@ -47,7 +47,7 @@ loop-walker-preserved-in-Ok g c =
 pub loop-walker-preserved : goal.loop-walker-preserved
 loop-walker-preserved g c =
     let given : EachWalker c.args.store.now c.args.jobs.now.items c.args.count c.loop-walker.invariant.number (c.in-Some.walker ∷ into_iter_items c.next.new.self) =
-        subst (λ (ws : List Walker). EachWalker c.args.store.now c.args.jobs.now.items c.args.count c.loop-walker.invariant.number ws) c.in-Some.ensures.steps.0 c.loop-walker.invariant.given in
+    subst (λ (ws : List Walker). EachWalker c.args.store.now c.args.jobs.now.items c.args.count c.loop-walker.invariant.number ws) c.in-Some.ensures.steps.0 c.loop-walker.invariant.given in
     record {
       number = c.loop-walker.invariant.number + 1;
       given = given.1;

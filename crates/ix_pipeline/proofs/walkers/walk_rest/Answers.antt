@@ -31,11 +31,11 @@ loop-number-preserved g c =
           (rest_walked c.args.store.now c.args.jobs.now c.loop-number.number c.loop-number.lists w.index-jobs-number.result w.walk_listed.result c.loop-number.invariant (omega arith) w.index-jobs-number.is w.walk_listed.ensures.1)
       | else-eq w ↦
           (let walked : c.index-lists-number.result.end ≡ Start → ⊥ = λ (start : c.index-lists-number.result.end ≡ Start).
-              (let here : End = (get_or c.loop-number.lists c.loop-number.number c.index-lists-number.result).end in
-              let at : here ≡ Start = ap (λ (l : Listed). l.end) (sym c.index-lists-number.is) ∙ start in
-              let same : c.eq.result ≡ true = subst (λ (e : End). c.eq.result ≡ sameb the_type e Start) at c.eq.ensures in
-              let other : c.eq.result ≡ false = w.if-eq.false in
-              cc) in
+          (let here : End = (get_or c.loop-number.lists c.loop-number.number c.index-lists-number.result).end in
+          let at : here ≡ Start = ap (λ (l : Listed). l.end) (sym c.index-lists-number.is) ∙ start in
+          let same : c.eq.result ≡ true = subst (λ (e : End). c.eq.result ≡ sameb the_type e Start) at c.eq.ensures in
+          let other : c.eq.result ≡ false = w.if-eq.false in
+          cc) in
           subst (λ (ls : List Listed). IsThroughRest c.args.store.now 0 c.args.jobs.now (c.loop-number.number + 1) ls) (sym w.lists-is)
           (rest_kept c.args.store.now c.args.jobs.now c.loop-number.number c.loop-number.lists c.index-lists-number.result c.loop-number.invariant (omega arith) c.index-lists-number.is walked))
     ]
