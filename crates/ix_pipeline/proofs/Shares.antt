@@ -1,5 +1,5 @@
 -- What walkers listed, and where it is put.
-use Rattle.std.proofs.Common.{◌≡◌, ℕ, zero, suc, ◌+◌, ◌<◌, ◌≤◌, ◌%◌, ◌==◌, List, [], ◌∷◌, ◌++◌, length, map, get_or, set, take, Option, Some, None, Result, Vec, IfSome, slice_get, refl, sym, ◌∙◌, ap, subst, inl, inr, arith, add-one, append-nil, if◌then◌else◌, eq-eqb}
+use Rattle.std.proofs.Common.{◌≡◌, ℕ, zero, suc, ◌+◌, ◌<◌, ◌≤◌, ◌%◌, ◌==◌, List, [], ◌∷◌, ◌++◌, length, map, get_or, set, take, Option, Some, None, Result, Vec, IfSome, slice_get, refl, sym, ◌∙◌, ap, subst, inl, inr, arith, add-one, append_assoc, append-nil, if◌then◌else◌, eq-eqb}
 use Rattle.std.proofs.lemmas.Bool.{ne_eqb}
 use Rattle.std.proofs.lemmas.List.{map-append, set-get_or}
 use Rattle.std.proofs.lemmas.Option.{slice_get_within}
@@ -46,6 +46,21 @@ walker_push store jobs walkers n m (w' ∷ ws) w at h x = (h.0, walker_push stor
 pub none_push : (ws : List Walker) (w : Walker) → NoWalker ws → w.handle ≡ None → NoWalker (ws ++ w ∷ [])
 none_push [] w h x = (x, tt)
 none_push (w' ∷ ws) w h x = (h.0, none_push ws w h.1 x)
+
+pub none_among : (ws : List Walker) (w : Walker) → NoWalker (ws ++ w ∷ []) → NoWalker ws × (w.handle ≡ None)
+none_among [] w h = (tt, h.0)
+none_among (w' ∷ ws) w h = let rest = none_among ws w h.1 in ((h.0, rest.0), rest.1)
+
+pub some_among : (ws : List Walker) (w : Walker) (h : PromisedHandle (Result (Vec Listed Global) AllocError) Share) → w.handle ≡ Some h → NoWalker (ws ++ w ∷ []) → ⊥
+some_among ws w h e n = let none : w.handle ≡ None = (none_among ws w n).1 in cc
+
+-- the first of the walkers that are left has the share of its number, and those behind it theirs
+pub walkers_next : (store : Blocks) (jobs : List JobMeaning) (walkers n : ℕ) (ws : List Walker) (w : Walker) (rest : List Walker)
+    → ws ≡ w ∷ rest → EachWalker store jobs walkers n ws → IfSome w.handle (λ h. IsShareOf store jobs n walkers h.promise) × EachWalker store jobs walkers (n + 1) rest
+walkers_next store jobs walkers n ws w rest e h = subst (λ (l : List Walker). EachWalker store jobs walkers n l) e h
+
+pub split_next : (all first ws : List Walker) (w : Walker) (rest : List Walker) → all ≡ first ++ ws → ws ≡ w ∷ rest → all ≡ (first ++ w ∷ []) ++ rest
+split_next all first ws w rest s e = s ∙ ap (λ (l : List Walker). first ++ l) e ∙ sym (append_assoc first (w ∷ []) rest)
 
 -- no job was walked
 abbrev pub AreUnwalked : List Listed → Type 0

@@ -125,8 +125,8 @@ fn place_share(share: Vec<Listed>, lists: &mut [Listed])
     }
 }
 
-// Joins the walkers, and puts their lists in the order of the jobs. None where no walker was
-// started.
+// Joins the walkers, and puts their lists in the order of the jobs. None where, and only where, no
+// walker was started.
 fn join_walkers<R: Threads>(
     rt: &R,
     store: &Store,
@@ -138,6 +138,7 @@ fn join_walkers<R: Threads>(
     requires walkers { EachWalker store.now jobs.now.items count 0 walkers.items }
     requires unwalked { EachPlaced store.now 0 jobs.now.items lists.items }
     ensures placed { IfSome result (λ lists. EachPlaced store.now 0 jobs.now.items lists.items) }
+    ensures some { IfSome result (λ _. NoWalker walkers.items → ⊥) }
     ensures none { IfNone result (NoWalker walkers.items) }
 {
     let mut lists = lists;
