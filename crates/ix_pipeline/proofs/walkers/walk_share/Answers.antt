@@ -1,4 +1,4 @@
-use Rattle.std.proofs.Common.{◌≡◌, ◌+◌, List, [], ◌∷◌, ◌++◌, length, map, Vec, refl, sym, ◌∙◌, ap, subst}
+use Rattle.std.proofs.Common.{◌≡◌, ◌+◌, List, [], ◌∷◌, ◌++◌, length, map, Vec, refl, sym, ap, subst}
 use Rattle.std.proofs.lemmas.Option.{slice_get_read}
 use Rattle.std.specs.Global.{Global}
 use Rattle.ix_pipeline.specs.declared.listing.Listed.{Listed}
@@ -12,7 +12,8 @@ loop-number-preserved g c =
     elim c.if-number-walkers.branch [
       | then-number-walkers+in_ok-push w ↦
           (let found = slice_get_read c.args.jobs.now (length c.args.jobs.now) c.loop-number.number w.index-jobs-number.result refl c.loop-number-test.true w.index-jobs-number.is in
-          let items : c.if-number-walkers.lists.items ≡ c.loop-number.lists.items ++ w.walk_listed.result ∷ [] = ap (λ (v : Vec Listed Global). v.items) w.lists-is ∙ w.in_ok-push.ensures.items in
+          let same : c.if-number-walkers.lists.items ≡ w.push.new.self.items = ap (λ (v : Vec Listed Global). v.items) w.lists-is in
+          let items : c.if-number-walkers.lists.items ≡ c.loop-number.lists.items ++ w.walk_listed.result ∷ [] = cc (same, w.in_ok-push.ensures.items) in
           record {
             numbers =
                 subst (λ (ls : List Listed). map (λ (x : Listed). x.number) ls ≡ dealt c.args.walker c.args.walkers (c.loop-number.number + 1)) (sym items)
