@@ -4,3 +4,4 @@ pub mod Exported
 pub mod Checking
 pub mod Parts
 pub mod Posts
+pub mod Shares

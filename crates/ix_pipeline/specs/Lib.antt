@@ -4,3 +4,4 @@ pub mod Listing
 pub mod Judging
 pub mod Delivering
 pub mod Chunks
+pub mod Shares

@@ -9,6 +9,7 @@ mod plain;
 mod plan;
 mod sink_state;
 mod verifiers;
+mod walkers;
 
 pub use gate::{Gate, Open};
 pub use plain::export_plain;
