@@ -1,3 +1,4 @@
 pub mod UnderWay
 pub mod Pairs
 pub mod Exported
+pub mod Closed
