@@ -2,3 +2,5 @@ pub mod UnderWay
 pub mod Pairs
 pub mod Exported
 pub mod Closed
+pub mod Deliveries
+pub mod Delivered
