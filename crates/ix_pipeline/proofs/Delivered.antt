@@ -1,6 +1,6 @@
 -- Jobs whose lists were delivered one after another.
 use Rattle.std.proofs.Common.{◌≡◌, ℕ, zero, suc, ◌+◌, ◌<◌, ◌≤◌, List, [], ◌∷◌, ◌++◌, length, get_or, set, take, drop, Option, Some, None, Contains, refl, sym, ◌∙◌, ap, subst, arith, take_all, append-nil, append_assoc, length-append, inl, inr}
-use Rattle.std.proofs.lemmas.List.{length_push, drop_at}
+use Rattle.std.proofs.lemmas.List.{length_push, drop_at, drop-drop}
 use Rattle.std.proofs.lemmas.List.Elements.{Contains-append_left, Contains-append_right, Contains-append_cases}
 use Rattle.std.proofs.Math.Seq.{take-add}
 use Rattle.ix_walk.specs.declared.visit.Visit.{Visit}
@@ -61,46 +61,46 @@ listed_at store n [] (suc i) [] l more j h at here = cc
 listed_at store n (k ∷ js) i [] l more j h at here = absurd h
 listed_at store n [] i (m ∷ ls) l more j h at here = absurd h
 
--- What a turn takes: the list of a job, and the verdicts of its visits.
-pub record IsListTurn (store : Blocks) (jobs : List JobMeaning) (ys : List Listed) (l : Listed) (from : ℕ) (verdicts : List (Option Verdict)) : Type 0 where
+-- What a turn takes: the list of a job, and the verdicts of its visits, of those that are left.
+pub record IsListTurn (store : Blocks) (jobs : List JobMeaning) (ys : List Listed) (l : Listed) (verdicts left : List (Option Verdict)) : Type 0 where
   pub below : length ys < length jobs
   pub listed : (j : JobMeaning) → j ≡ get_or jobs (length ys) j → IsListed store (length ys) j l.visits.items l.end
-  pub from_is : from ≡ length (end_to_end ys)
-  pub fits : from + length l.visits.items ≤ length verdicts
-  pub before : AreJudged store (end_to_end ys) (take from verdicts)
-  pub judged : AreJudged store l.visits.items (take (length l.visits.items) (drop from verdicts))
+  pub place : left ≡ drop (length (end_to_end ys)) verdicts
+  pub fits : length l.visits.items ≤ length left
+  pub before : AreJudged store (end_to_end ys) (take (length (end_to_end ys)) verdicts)
+  pub judged : AreJudged store l.visits.items (take (length l.visits.items) left)
 
-pub list_turn : (store : Blocks) (jobs : List JobMeaning) (lists ys : List Listed) (l : Listed) (more : List Listed) (from : ℕ) (verdicts : List (Option Verdict))
-    → EachListed store 0 jobs lists → AreJudged store (end_to_end lists) verdicts → lists ≡ ys ++ l ∷ more → from ≡ length (end_to_end ys) → IsListTurn store jobs ys l from verdicts
-list_turn store jobs lists ys l more from verdicts listed right is place =
+pub list_turn : (store : Blocks) (jobs : List JobMeaning) (lists ys : List Listed) (l : Listed) (more : List Listed) (verdicts left : List (Option Verdict))
+    → EachListed store 0 jobs lists → AreJudged store (end_to_end lists) verdicts → lists ≡ ys ++ l ∷ more → left ≡ drop (length (end_to_end ys)) verdicts → IsListTurn store jobs ys l verdicts left
+list_turn store jobs lists ys l more verdicts left listed right is place =
     let at : drop (length ys) lists ≡ l ∷ more = ap (λ (x : List Listed). drop (length ys) x) is ∙ drop_at ys (l ∷ more) (length ys) refl in
     let size : length lists ≡ length ys + suc (length more) = ap (λ (x : List Listed). length x) is ∙ length-append ys (l ∷ more) in
     let same : length jobs ≡ length lists = listed_length store 0 jobs lists listed in
+    let none : 0 + length ys ≡ length ys = omega arith in
     let all : AreJudged store (end_to_end ys ++ (l.visits.items ++ end_to_end more)) verdicts = subst (λ (x : List Visit). AreJudged store x verdicts) (ap end_to_end is ∙ visits_append ys (l ∷ more)) right in
-    let parts = subst (λ (n : ℕ). AreJudged store (end_to_end ys) (take n verdicts) × AreJudged store (l.visits.items ++ end_to_end more) (drop n verdicts)) (sym place) (judged_parts store (end_to_end ys) (l.visits.items ++ end_to_end more) verdicts all) in
-    let here = judged_parts store l.visits.items (end_to_end more) (drop from verdicts) parts.1 in
-    let many : length (end_to_end ys ++ (l.visits.items ++ end_to_end more)) ≡ length verdicts = judged_length store (end_to_end ys ++ (l.visits.items ++ end_to_end more)) verdicts all in
-    let sum : length (end_to_end ys ++ (l.visits.items ++ end_to_end more)) ≡ length (end_to_end ys) + (length l.visits.items + length (end_to_end more)) =
-        length-append (end_to_end ys) (l.visits.items ++ end_to_end more) ∙ ap (λ (n : ℕ). length (end_to_end ys) + n) (length-append l.visits.items (end_to_end more)) in
+    let parts = judged_parts store (end_to_end ys) (l.visits.items ++ end_to_end more) verdicts all in
+    let behind : AreJudged store (l.visits.items ++ end_to_end more) left = subst (λ (os : List (Option Verdict)). AreJudged store (l.visits.items ++ end_to_end more) os) (sym place) parts.1 in
+    let here = judged_parts store l.visits.items (end_to_end more) left behind in
+    let many : length (l.visits.items ++ end_to_end more) ≡ length left = judged_length store (l.visits.items ++ end_to_end more) left behind in
     record {
       below = omega arith;
-      listed = λ j e. listed_at store 0 jobs (length ys) lists l more j listed at e;
-      from_is = place;
-      fits = omega arith;
+      listed = λ j e. subst (λ (n : ℕ). IsListed store n j l.visits.items l.end) none (listed_at store 0 jobs (length ys) lists l more j listed at e);
+      place = place;
+      fits = omega (arith, length-append l.visits.items (end_to_end more));
       before = parts.0;
       judged = here.0;
     }
 
--- The first lists were delivered, up to a place among the verdicts, and the pairs that stand for their deliveries have a verdict.
-pub record AreDeliveredTo {S : Type 0} (events : S → List Event) (failed : S → List Delivery) (fact : Fact S) (store : Blocks) (jobs : List JobMeaning) (ys : List Listed) (es : List End) (first sinks : List S) (from : ℕ) (verdicts : List (Option Verdict)) : Type 0 where
+-- The first lists were delivered, these verdicts are left, and the pairs that stand for the deliveries so far have a verdict.
+pub record AreDeliveredTo {S : Type 0} (events : S → List Event) (failed : S → List Delivery) (fact : Fact S) (store : Blocks) (jobs : List JobMeaning) (ys : List Listed) (es : List End) (first sinks : List S) (verdicts left : List (Option Verdict)) : Type 0 where
   pub pairs : List (ℕ × ℕ)
   pub through : IsThrough events failed fact store jobs (length ys) es first sinks pairs
-  pub place : from ≡ length (end_to_end ys)
-  pub among : (p : ℕ × ℕ) → Contains pairs p → Contains (judged_pairs (end_to_end ys) (take from verdicts)) p
+  pub place : left ≡ drop (length (end_to_end ys)) verdicts
+  pub among : (p : ℕ × ℕ) → Contains pairs p → Contains (judged_pairs (end_to_end ys) (take (length (end_to_end ys)) verdicts)) p
 
 module _ {S : Type 0} (events : S → List Event) (failed : S → List Delivery) (fact : Fact S) (store : Blocks) (jobs : List JobMeaning) where
   -- before the first list
-  pub lists_none : (es : List End) (first : List S) (verdicts : List (Option Verdict)) → es ≡ [] → length first ≡ length jobs → EachFresh events failed first → AreDeliveredTo events failed fact store jobs [] es first first 0 verdicts
+  pub lists_none : (es : List End) (first : List S) (verdicts : List (Option Verdict)) → es ≡ [] → length first ≡ length jobs → EachFresh events failed first → AreDeliveredTo events failed fact store jobs [] es first first verdicts verdicts
   lists_none es first verdicts none lengths fresh = record {
     pairs = [];
     through = through_none events failed fact store jobs es first [] none lengths fresh refl;
@@ -109,17 +109,19 @@ module _ {S : Type 0} (events : S → List Event) (failed : S → List Delivery)
   }
 
   -- the next sink is fresh
-  pub list_fresh : (ys : List Listed) (es : List End) (first sinks : List S) (from : ℕ) (verdicts : List (Option Verdict)) (number : ℕ) (l : Listed) (s : S)
-      → AreDeliveredTo events failed fact store jobs ys es first sinks from verdicts → IsListTurn store jobs ys l from verdicts → number ≡ length ys → s ≡ get_or sinks number s → (events s ≡ []) × (failed s ≡ [])
-  list_fresh ys es first sinks from verdicts number l s d t is at =
+  pub list_fresh : (ys : List Listed) (es : List End) (first sinks : List S) (verdicts left : List (Option Verdict)) (number : ℕ) (l : Listed) (s : S)
+      → AreDeliveredTo events failed fact store jobs ys es first sinks verdicts left → IsListTurn store jobs ys l verdicts left → number ≡ length ys → s ≡ get_or sinks number s → (events s ≡ []) × (failed s ≡ [])
+  list_fresh ys es first sinks verdicts left number l s d t is at =
       next_fresh events failed fact store jobs (length ys) es first sinks d.pairs s d.through t.below (subst (λ (n : ℕ). s ≡ get_or sinks n s) is at)
 
   -- one list more
-  pub lists_more : (ys : List Listed) (es more : List End) (first sinks : List S) (from upto : ℕ) (verdicts mine : List (Option Verdict)) (number : ℕ) (l : Listed) (j : JobMeaning) (e : End) (s new : S)
-      → AreDeliveredTo events failed fact store jobs ys es first sinks from verdicts → IsListTurn store jobs ys l from verdicts → number ≡ length ys → upto ≡ from + length l.visits.items → mine ≡ take (length l.visits.items) (drop from verdicts)
+  pub lists_more : (ys : List Listed) (es more : List End) (first sinks : List S) (verdicts left mine behind : List (Option Verdict)) (number : ℕ) (l : Listed) (j : JobMeaning) (e : End) (s new : S)
+      → AreDeliveredTo events failed fact store jobs ys es first sinks verdicts left → IsListTurn store jobs ys l verdicts left → number ≡ length ys
+      → mine ≡ take (length l.visits.items) left → behind ≡ drop (length l.visits.items) left
       → j ≡ get_or jobs number j → s ≡ get_or sinks number s → more ≡ es ++ e ∷ [] → IsDelivered store number j e (events new) (failed new) mine → Keeps fact s new
-      → AreDeliveredTo events failed fact store jobs (ys ++ l ∷ []) more first (set sinks number new) upto verdicts
-  lists_more ys es more first sinks from upto verdicts mine number l j e s new d t is behind part job sink ends x keeps =
+      → AreDeliveredTo events failed fact store jobs (ys ++ l ∷ []) more first (set sinks number new) verdicts behind
+  lists_more ys es more first sinks verdicts left mine behind number l j e s new d t is part others job sink ends x keeps =
+      let from = length (end_to_end ys) in
       let job_at : j ≡ get_or jobs (length ys) j = subst (λ (n : ℕ). j ≡ get_or jobs n j) is job in
       let sink_at : s ≡ get_or sinks (length ys) s = subst (λ (n : ℕ). s ≡ get_or sinks n s) is sink in
       let here : IsDelivered store (length ys) j e (events new) (failed new) mine = subst (λ (n : ℕ). IsDelivered store n j e (events new) (failed new) mine) is x in
@@ -127,16 +129,20 @@ module _ {S : Type 0} (events : S → List Event) (failed : S → List Delivery)
       let right : AreJudged store l.visits.items mine = subst (λ (os : List (Option Verdict)). AreJudged store l.visits.items os) (sym part) t.judged in
       let listed = t.listed j job_at in
       let visits : end_to_end (ys ++ l ∷ []) ≡ end_to_end ys ++ l.visits.items = visits_append ys (l ∷ []) ∙ ap (λ (vs : List Visit). end_to_end ys ++ vs) (append-nil l.visits.items) in
-      let heads : take upto verdicts ≡ take from verdicts ++ mine = ap (λ (n : ℕ). take n verdicts) behind ∙ take-add from (length l.visits.items) verdicts ∙ ap (λ (os : List (Option Verdict)). take from verdicts ++ os) (sym part) in
-      let pairs : judged_pairs (end_to_end (ys ++ l ∷ [])) (take upto verdicts) ≡ judged_pairs (end_to_end ys) (take from verdicts) ++ judged_pairs l.visits.items mine =
-          ap (λ (vs : List Visit). judged_pairs vs (take upto verdicts)) visits
-          ∙ ap (λ (os : List (Option Verdict)). judged_pairs (end_to_end ys ++ l.visits.items) os) heads
-          ∙ pairs_append store (end_to_end ys) l.visits.items (take from verdicts) mine t.before in
+      let upto : length (end_to_end (ys ++ l ∷ [])) ≡ from + length l.visits.items = ap (λ (vs : List Visit). length vs) visits ∙ length-append (end_to_end ys) l.visits.items in
+      let heads : take (length (end_to_end (ys ++ l ∷ []))) verdicts ≡ take from verdicts ++ mine =
+      ap (λ (n : ℕ). take n verdicts) upto ∙ take-add from (length l.visits.items) verdicts ∙ ap (λ (os : List (Option Verdict)). take from verdicts ++ take (length l.visits.items) os) (sym t.place) ∙ ap (λ (os : List (Option Verdict)). take from verdicts ++ os) (sym part) in
+      let tails : behind ≡ drop (length (end_to_end (ys ++ l ∷ []))) verdicts =
+      others ∙ ap (λ (os : List (Option Verdict)). drop (length l.visits.items) os) t.place ∙ drop-drop (length l.visits.items) from verdicts ∙ ap (λ (n : ℕ). drop n verdicts) (let e : from + length l.visits.items ≡ length (end_to_end (ys ++ l ∷ [])) = omega arith in e) in
+      let pairs : judged_pairs (end_to_end (ys ++ l ∷ [])) (take (length (end_to_end (ys ++ l ∷ []))) verdicts) ≡ judged_pairs (end_to_end ys) (take from verdicts) ++ judged_pairs l.visits.items mine =
+      ap (λ (vs : List Visit). judged_pairs vs (take (length (end_to_end (ys ++ l ∷ []))) verdicts)) visits
+      ∙ ap (λ (os : List (Option Verdict)). judged_pairs (end_to_end ys ++ l.visits.items) os) heads
+      ∙ pairs_append store (end_to_end ys) l.visits.items (take from verdicts) mine t.before in
       record {
         pairs = d.pairs ++ pairs_of (length ys) here.0;
         through = subst (λ (n : ℕ). IsThrough events failed fact store jobs n more first (set sinks number new) (d.pairs ++ pairs_of (length ys) here.0)) (sym (length_push ys l))
             (subst (λ (n : ℕ). IsThrough events failed fact store jobs (length ys + 1) more first (set sinks n new) (d.pairs ++ pairs_of (length ys) here.0)) (sym is) next);
-        place = behind ∙ ap (λ (n : ℕ). n + length l.visits.items) d.place ∙ sym (ap (λ (vs : List Visit). length vs) visits ∙ length-append (end_to_end ys) l.visits.items);
+        place = tails;
         among = λ p h. subst (λ (ps : List (ℕ × ℕ)). Contains ps p) (sym pairs)
             (elim (Contains-append_cases d.pairs (pairs_of (length ys) here.0) p h) [
               | inl old ↦ Contains-append_left (judged_pairs (end_to_end ys) (take from verdicts)) (judged_pairs l.visits.items mine) p (d.among p old)
@@ -147,15 +153,15 @@ module _ {S : Type 0} (events : S → List Event) (failed : S → List Delivery)
       }
 
   -- all lists
-  pub lists_all : (lists ys : List Listed) (es : List End) (first sinks : List S) (from : ℕ) (verdicts : List (Option Verdict))
-      → EachListed store 0 jobs lists → AreJudged store (end_to_end lists) verdicts → lists ≡ ys → AreDeliveredTo events failed fact store jobs ys es first sinks from verdicts → AreDelivered events failed store jobs es sinks (end_to_end lists) verdicts
-  lists_all lists ys es first sinks from verdicts listed right is d =
+  pub lists_all : (lists ys : List Listed) (es : List End) (first sinks : List S) (verdicts left : List (Option Verdict))
+      → EachListed store 0 jobs lists → AreJudged store (end_to_end lists) verdicts → lists ≡ ys → AreDeliveredTo events failed fact store jobs ys es first sinks verdicts left → AreDelivered events failed store jobs es sinks (end_to_end lists) verdicts
+  lists_all lists ys es first sinks verdicts left listed right is d =
       let past : length jobs ≤ length ys = (let same : length jobs ≡ length lists = listed_length store 0 jobs lists listed in let size : length lists ≡ length ys = ap (λ (l : List Listed). length l) is in omega arith) in
-      let whole : length verdicts ≤ from =
-          (let same : length (end_to_end lists) ≡ length verdicts = judged_length store (end_to_end lists) verdicts right in let size : length (end_to_end lists) ≡ length (end_to_end ys) = ap (λ (l : List Listed). length (end_to_end l)) is in omega (arith, d.place)) in
+      let whole : length verdicts ≤ length (end_to_end ys) =
+      (let same : length (end_to_end lists) ≡ length verdicts = judged_length store (end_to_end lists) verdicts right in let size : length (end_to_end lists) ≡ length (end_to_end ys) = ap (λ (l : List Listed). length (end_to_end l)) is in omega arith) in
       let checked = all_checked events failed fact store jobs (length ys) es first sinks d.pairs past d.through in
       let have : (p : ℕ × ℕ) → Contains d.pairs p → Contains (judged_pairs (end_to_end lists) verdicts) p = λ p h.
-          subst (λ (l : List Listed). Contains (judged_pairs (end_to_end l) verdicts) p) (sym is) (subst (λ (os : List (Option Verdict)). Contains (judged_pairs (end_to_end ys) os) p) (take_all from verdicts whole) (d.among p h)) in
+      subst (λ (l : List Listed). Contains (judged_pairs (end_to_end l) verdicts) p) (sym is) (subst (λ (os : List (Option Verdict)). Contains (judged_pairs (end_to_end ys) os) p) (take_all (length (end_to_end ys)) verdicts whole) (d.among p h)) in
       record {
         delivered = all_delivered events failed fact store jobs (length ys) es first sinks d.pairs past d.through;
         started = all_started events failed fact store jobs (length ys) es first sinks d.pairs past d.through;

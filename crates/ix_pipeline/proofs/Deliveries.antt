@@ -214,6 +214,7 @@ pub delivers_end : (store : Blocks) (number : ℕ) (job : JobMeaning) (vs : List
 delivers_end store number job vs end given state events failed verdicts listed at walked u = by_end end listed.ends walked where
   whole : listed.left ≡ [] → given ≡ length (visits_of store number job)
   whole none = at ∙ ap (λ (l : List Visit). length l) (sym (append-nil vs) ∙ ap (λ (l : List Visit). vs ++ l) (sym none) ∙ listed.whole)
+
   by_end : (end : End) → WalkEnds end listed.left (is_over_limit store job) → (end ≡ Memory → ⊥) → IsDeliveredTo store number job (end_on state end) events failed verdicts
   by_end Done h walked =
       of_walked store number job (end_on state Done) given events failed verdicts

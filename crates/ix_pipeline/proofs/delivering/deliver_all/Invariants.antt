@@ -9,7 +9,7 @@ invariant-loop-list g l = record {
   finite : (goal.iterator-loop-list g).is_finite l.list-iterator;
   lists : l.fn.lists.items ≡ l.yielded ++ into_iter_items l.list-iterator;
   sized : into_iter_len l.list-iterator ≡ length (into_iter_items l.list-iterator);
-  delivered : AreDeliveredTo g.S.Sink.events g.S.Sink.failed g.S.Sink.fact l.store l.jobs l.yielded l.ends.items l.initial.sinks l.sinks l.from l.verdicts;
+  delivered : AreDeliveredTo g.S.Sink.events g.S.Sink.failed g.S.Sink.fact l.store l.jobs l.yielded l.ends.items l.initial.sinks l.sinks l.verdicts l.left;
   room : vec_capacity l.ends ≡ vec_capacity l.fn.ends;
   counted : vec_len l.ends ≡ length l.yielded;
 }

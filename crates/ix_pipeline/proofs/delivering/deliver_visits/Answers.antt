@@ -35,7 +35,7 @@ returns-in_default-clause-delivered g c =
 
 pub deliver_one-requires : goal.deliver_one-requires
 deliver_one-requires g c =
-    record { can = can_deliver c.args._store.now c.args._number c.args._job.now (length c.loop-visit.yielded) c.loop-visit.state (g.S.Sink.events c.loop-visit.sink) (g.S.Sink.failed c.loop-visit.sink) c.args.verdicts.now c.loop-visit.invariant.under; }
+    record { can = can_deliver c.args._store.now c.args._number c.args._job.now (length c.loop-visit.yielded) c.loop-visit.state (g.S.Sink.events c.loop-visit.sink) (g.S.Sink.failed c.loop-visit.sink) c.args.verdicts.now c.loop-visit.invariant.under }
 
 pub returns-in_err-state-clause-delivered : goal.returns-in_err-state-clause-delivered
 returns-in_err-state-clause-delivered g c =
@@ -63,8 +63,8 @@ loop-visit-preserved g c =
     let read : left ≡ c.in-Some.verdict.now ∷ iter_rest c.next.new.self.b = steps.1 in
     let there : left ≡ Some c.in-Some-verdict.verdict ∷ iter_rest c.next.new.self.b = steps.1 ∙ ap (λ o. o ∷ iter_rest c.next.new.self.b) c.in-Some-verdict.is in
     let turn = turn_of c.args._store.now c.args._number c.args._job.now (length ys) c.args.list.visits.items c.args.verdicts.now c.args.list.end c.in-Some.visit (Some c.in-Some-verdict.verdict)
-        (map visit_of ys) (into_iter_items c.next.new.self.a) (map verdict_of ys) (iter_rest c.next.new.self.b) c.requires.listed c.requires.judged
-        (was.visits ∙ ap (λ l. map visit_of ys ++ l) taken) (was.verdicts ∙ ap (λ l. map verdict_of ys ++ l) there) (length-map ys visit_of) (length-map ys verdict_of) in
+    (map visit_of ys) (into_iter_items c.next.new.self.a) (map verdict_of ys) (iter_rest c.next.new.self.b) c.requires.listed c.requires.judged
+    (was.visits ∙ ap (λ l. map visit_of ys ++ l) taken) (was.verdicts ∙ ap (λ l. map verdict_of ys ++ l) there) (length-map ys visit_of) (length-map ys verdict_of) in
     record {
       can_next = (tt, tt);
       finite = tt;
@@ -97,7 +97,7 @@ returns-in_default-end g c =
     let steps = c.in-None.ensures.steps in
     let over : (length rest ≡ 0) ⊎ (length left ≡ 0) = elim steps as (λ _. (length rest ≡ 0) ⊎ (length left ≡ 0)) [ inl h ↦ inl (sym was.sized ∙ h.1.0) | inr h ↦ inr h.1.0 ] in
     let all : length ys ≡ length c.args.list.visits.items =
-        all_given c.args._store.now (length ys) c.args.list.visits.items (map visit_of ys) rest c.args.verdicts.now (map verdict_of ys) left c.requires.judged was.visits was.verdicts (length-map ys visit_of) (length-map ys verdict_of) over in
+    all_given c.args._store.now (length ys) c.args.list.visits.items (map visit_of ys) rest c.args.verdicts.now (map verdict_of ys) left c.requires.judged was.visits was.verdicts (length-map ys visit_of) (length-map ys verdict_of) over in
     record {
       delivered =
           delivered_as c.args._store.now c.args._number c.args._job.now (end_on c.loop-visit.state c.args.list.end) c.end.result (g.S.Sink.events c.loop-visit.sink) (g.S.Sink.failed c.loop-visit.sink) c.args.verdicts.now
