@@ -35,7 +35,7 @@ delivered_at store number start (suc count) (a ∷ found) d h =
 count_some : (store : Blocks) (jobs : List JobMeaning) (n : ℕ) (j : JobMeaning) → slice_get jobs n ≡ Some j → visit_count store jobs n ≡ length (visits_of store n j)
 count_some store jobs n j e = rw e refl
 
-count_none : (store : Blocks) (jobs : List JobMeaning) (n : ℕ) → slice_get jobs n ≡ None → visit_count store jobs n ≡ 0
+pub count_none : (store : Blocks) (jobs : List JobMeaning) (n : ℕ) → slice_get jobs n ≡ None → visit_count store jobs n ≡ 0
 count_none store jobs n e = rw e refl
 
 module _ {S : Type 0} (events : S → List Event) (failed : S → List Delivery) where
@@ -157,7 +157,7 @@ pub kept_same : {S : Type 0} (fact : Fact S) (ss : List S) → EachKept fact ss 
 kept_same fact [] = tt
 kept_same fact (s ∷ ss) = ((λ store job first h. h), kept_same fact ss)
 
-kept_set : {S : Type 0} (fact : Fact S) (ss ts : List S) (i : ℕ) (x y : S)
+pub kept_set : {S : Type 0} (fact : Fact S) (ss ts : List S) (i : ℕ) (x y : S)
     → EachKept fact ss ts → x ≡ get_or ts i x → Keeps fact x y → EachKept fact ss (set ts i y)
 kept_set fact [] [] i x y h at keeps = tt
 kept_set {S = S} fact (s ∷ ss) (t ∷ ts) zero x y h at keeps = ((λ store job first p. keeps store job first (subst (λ (z : S). fact z store job first) (sym at) (h.0 store job first p))), h.1)

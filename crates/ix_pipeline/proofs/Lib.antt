@@ -5,3 +5,6 @@ pub mod Checking
 pub mod Parts
 pub mod Posts
 pub mod Shares
+pub mod Closed
+pub mod Deliveries
+pub mod Delivered

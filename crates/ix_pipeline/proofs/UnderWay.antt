@@ -47,7 +47,7 @@ drop_next zero (y ∷ ys) x more e = cc
 drop_next (suc k) [] x more e = cc
 drop_next (suc k) (y ∷ ys) x more e = drop_next k ys x more e
 
-less_next : {X : Type 0} → (k : ℕ) (xs : List X) (x : X) (more : List X) → drop k xs ≡ x ∷ more → k < length xs
+pub less_next : {X : Type 0} → (k : ℕ) (xs : List X) (x : X) (more : List X) → drop k xs ≡ x ∷ more → k < length xs
 less_next zero [] x more e = cc
 less_next zero (y ∷ ys) x more e = omega arith
 less_next (suc k) [] x more e = cc
@@ -123,7 +123,7 @@ failed_here : (store : Blocks) (given : ℕ) (vs : List Visit) (v : Visit) (more
 failed_here store given vs v more failed at is =
     is ∙ sym (ap (λ (l : List Delivery). take 1 l) (drop-map (judged store) given vs ∙ ap (λ (l : List Visit). map (judged store) l) at))
 
-on_next : (store : Blocks) (given : ℕ) (vs : List Visit) (v : Visit) (more : List Visit) (state after : SinkState) (told new : Told)
+pub on_next : (store : Blocks) (given : ℕ) (vs : List Visit) (v : Visit) (more : List Visit) (state after : SinkState) (told new : Told)
     → drop given vs ≡ v ∷ more → IsOn state given (map (judged store) vs) told.events told.failed → HandsOn store v state told (Ok after) new → IsOn after (suc given) (map (judged store) vs) new.events new.failed
 on_next store given vs v more Taking Taking told new at on h = (events_more store given vs v more told.events new.events at on.0 h.0, h.1)
 on_next store given vs v more Taking Failed told new at on h = (given, omega arith, h.0 ∙ on.0, failed_here store given vs v more new.failed at h.1)
@@ -152,7 +152,7 @@ hands store number job walk left state after before told new v u g h =
     }
 
 -- want of memory ends a job that is under way
-on_memory : (store : Blocks) (number : ℕ) (job : JobMeaning) (state : SinkState) (given checks : ℕ) (before : List (ℕ × ℕ)) (new : Told)
+pub on_memory : (store : Blocks) (number : ℕ) (job : JobMeaning) (state : SinkState) (given checks : ℕ) (before : List (ℕ × ℕ)) (new : Told)
     → IsOn state given (judged_visits store number job) new.events new.failed → given ≤ checks → checks ≤ length (visits_of store number job) → new.pairs ≡ before ++ pairs_of number checks → IsWalked store number job Memory before new
 on_memory store number job Taking given checks before new on more within pairs = record {
   count = given;
@@ -185,7 +185,7 @@ none_of : (store : Blocks) (v : Visit) (state : SinkState) (told new : Told) (e 
 none_of store v Taking told new e h = h
 none_of store v Failed told new e h = h
 
-on_same : (state : SinkState) (given : ℕ) (all : List Delivery) (told new : Told) → new.events ≡ told.events → new.failed ≡ told.failed → IsOn state given all told.events told.failed → IsOn state given all new.events new.failed
+pub on_same : (state : SinkState) (given : ℕ) (all : List Delivery) (told new : Told) → new.events ≡ told.events → new.failed ≡ told.failed → IsOn state given all told.events told.failed → IsOn state given all new.events new.failed
 on_same Taking given all told new events failed on = (events ∙ on.0, failed ∙ on.1)
 on_same Failed given all told new events failed on = (on.0, on.1, events ∙ on.2, failed ∙ on.3)
 
@@ -206,7 +206,7 @@ hands_none store number job walk left state before told new v e u g h =
     ]
 
 -- the walk has given all
-on_end : (store : Blocks) (number : ℕ) (job : JobMeaning) (state : SinkState) (end : End) (given : ℕ) (before : List (ℕ × ℕ)) (told : Told)
+pub on_end : (store : Blocks) (number : ℕ) (job : JobMeaning) (state : SinkState) (end : End) (given : ℕ) (before : List (ℕ × ℕ)) (told : Told)
     → IsOn state given (judged_visits store number job) told.events told.failed → given ≡ length (visits_of store number job) → told.pairs ≡ before ++ pairs_of number given
     → ((m : ℕ) → m ≡ length (judged_visits store number job) → told.failed ≡ [] → EndFits end m (judged_visits store number job) (is_over_limit store job) told.failed)
     → (end ≡ Start → ⊥) → IsWalked store number job (end_on state end) before told

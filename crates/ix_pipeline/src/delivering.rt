@@ -113,15 +113,14 @@ pub(crate) fn deliver_all<S: Sink>(
     ensures facts { EachKept S.fact sinks.old sinks.new }
 {
     let mut ends = ends;
-    let mut from = 0;
+    let mut left = verdicts;
     for list in lists {
         let number = ends.len();
-        let upto = from + list.visits.len();
-        let mine = &verdicts[from..upto];
+        let (mine, behind) = left.split_at(list.visits.len());
         let sink = &mut sinks[number];
         let end = deliver_listed(alloc, store, &jobs[number], number as u32, list, mine, sink);
         ends.push_reserved(end);
-        from = upto;
+        left = behind;
     }
     ends
 }
