@@ -60,7 +60,7 @@ part_is {X = X} from count xs ys same =
 pub end_to_end-more : (lists : List Listed) (i : ℕ) (d : Listed) → i < length lists → end_to_end (drop i lists) ≡ (get_or lists i d).visits.items ++ end_to_end (drop (i + 1) lists)
 end_to_end-more lists i d lt = ap end_to_end (drop_more lists i d lt)
 
-of_store-append : (store : Blocks) (xs ys : List Visit) → EachOfStore store (xs ++ ys) → EachOfStore store xs × EachOfStore store ys
+pub of_store-append : (store : Blocks) (xs ys : List Visit) → EachOfStore store (xs ++ ys) → EachOfStore store xs × EachOfStore store ys
 of_store-append store [] ys h = (tt, h)
 of_store-append store (x ∷ xs) ys h = let r = of_store-append store xs ys h.1 in ((h.0, r.0), r.1)
 

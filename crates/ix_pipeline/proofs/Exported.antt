@@ -32,7 +32,7 @@ delivered_at store number start (suc count) (a ∷ found) d h =
     ]
 
 -- how many visits a job has
-count_some : (store : Blocks) (jobs : List JobMeaning) (n : ℕ) (j : JobMeaning) → slice_get jobs n ≡ Some j → visit_count store jobs n ≡ length (visits_of store n j)
+pub count_some : (store : Blocks) (jobs : List JobMeaning) (n : ℕ) (j : JobMeaning) → slice_get jobs n ≡ Some j → visit_count store jobs n ≡ length (visits_of store n j)
 count_some store jobs n j e = rw e refl
 
 pub count_none : (store : Blocks) (jobs : List JobMeaning) (n : ℕ) → slice_get jobs n ≡ None → visit_count store jobs n ≡ 0
@@ -156,6 +156,13 @@ module _ {S : Type 0} (events : S → List Event) (failed : S → List Delivery)
 pub kept_same : {S : Type 0} (fact : Fact S) (ss : List S) → EachKept fact ss ss
 kept_same fact [] = tt
 kept_same fact (s ∷ ss) = ((λ store job first h. h), kept_same fact ss)
+
+-- there are as many sinks as before
+pub kept_length : {S : Type 0} (fact : Fact S) (ss ts : List S) → EachKept fact ss ts → length ss ≡ length ts
+kept_length fact [] [] h = refl
+kept_length fact (s ∷ ss) (t ∷ ts) h = ap suc (kept_length fact ss ts h.1)
+kept_length fact [] (t ∷ ts) h = absurd h
+kept_length fact (s ∷ ss) [] h = absurd h
 
 pub kept_set : {S : Type 0} (fact : Fact S) (ss ts : List S) (i : ℕ) (x y : S)
     → EachKept fact ss ts → x ≡ get_or ts i x → Keeps fact x y → EachKept fact ss (set ts i y)

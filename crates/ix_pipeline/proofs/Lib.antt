@@ -8,3 +8,4 @@ pub mod Shares
 pub mod Closed
 pub mod Deliveries
 pub mod Delivered
+pub mod Together

@@ -44,10 +44,10 @@ pub joins_some : {C : Type 0} (checked : C → List (ℕ × ℕ)) (store : Block
 joins_some {C = C} checked store lists p old new check found st ls chunk before a b d e c is more =
     let visits : List Visit = end_to_end lists.items in
     let first : IsCheckedFirst store (visits_in p.chunk visits) [] (checked check) [] found.items =
-        subst (λ (x : List (ℕ × ℕ)). IsCheckedFirst store (visits_in p.chunk visits) x (checked check) [] found.items) e
-        (subst (λ (x : Chunk). IsCheckedFirst store (visits_in x visits) before (checked check) [] found.items) d
-        (subst (λ (x : Vec Listed). IsCheckedFirst store (visits_in chunk (end_to_end x.items)) before (checked check) [] found.items) b
-        (subst (λ (x : Blocks). IsCheckedFirst x (visits_in chunk (end_to_end ls.items)) before (checked check) [] found.items) a c))) in
+    subst (λ (x : List (ℕ × ℕ)). IsCheckedFirst store (visits_in p.chunk visits) x (checked check) [] found.items) e
+    (subst (λ (x : Chunk). IsCheckedFirst store (visits_in x visits) before (checked check) [] found.items) d
+    (subst (λ (x : Vec Listed). IsCheckedFirst store (visits_in chunk (end_to_end x.items)) before (checked check) [] found.items) b
+    (subst (λ (x : Blocks). IsCheckedFirst x (visits_in chunk (end_to_end ls.items)) before (checked check) [] found.items) a c))) in
     record {
       pairs =
           ap (checked_by checked) more ∙ checked_by-push checked old check

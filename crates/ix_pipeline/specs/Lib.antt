@@ -5,3 +5,4 @@ pub mod Judging
 pub mod Delivering
 pub mod Chunks
 pub mod Shares
+pub mod Planned

@@ -3,6 +3,7 @@
 
 mod chunk;
 mod delivering;
+mod exporting;
 mod gate;
 mod listing;
 mod plain;
@@ -11,6 +12,7 @@ mod sink_state;
 mod verifiers;
 mod walkers;
 
+pub use exporting::{NotStarted, Outcome, export};
 pub use gate::{Gate, Open};
 pub use plain::export_plain;
 pub use plan::Plan;

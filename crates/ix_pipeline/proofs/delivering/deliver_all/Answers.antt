@@ -86,8 +86,8 @@ deliver_listed-end-requires-clause-events g c =
     let n = numbered g p.After-len t in
     let sink = get_or c.loop-list.sinks c.len-number.result c.index-sinks-number.result in
     let fresh =
-        list_fresh g.S.Sink.events g.S.Sink.failed g.S.Sink.fact c.args.store.now c.args.jobs.now c.loop-list.yielded c.loop-list.ends.items c.args.sinks.now c.loop-list.sinks c.args.verdicts.now c.loop-list.left.now
-        c.len-number.result c.in-Some.list sink c.loop-list.invariant.delivered t n.0 (ap (λ s. get_or c.loop-list.sinks c.len-number.result s) c.index-sinks-number.is) in
+    list_fresh g.S.Sink.events g.S.Sink.failed g.S.Sink.fact c.args.store.now c.args.jobs.now c.loop-list.yielded c.loop-list.ends.items c.args.sinks.now c.loop-list.sinks c.args.verdicts.now c.loop-list.left.now
+    c.len-number.result c.in-Some.list sink c.loop-list.invariant.delivered t n.0 (ap (λ s. get_or c.loop-list.sinks c.len-number.result s) c.index-sinks-number.is) in
     fresh.0
 
 pub deliver_listed-end-requires-clause-failed : goal.deliver_listed-end-requires-clause-failed
@@ -97,8 +97,8 @@ deliver_listed-end-requires-clause-failed g c =
     let n = numbered g p.After-len t in
     let sink = get_or c.loop-list.sinks c.len-number.result c.index-sinks-number.result in
     let fresh =
-        list_fresh g.S.Sink.events g.S.Sink.failed g.S.Sink.fact c.args.store.now c.args.jobs.now c.loop-list.yielded c.loop-list.ends.items c.args.sinks.now c.loop-list.sinks c.args.verdicts.now c.loop-list.left.now
-        c.len-number.result c.in-Some.list sink c.loop-list.invariant.delivered t n.0 (ap (λ s. get_or c.loop-list.sinks c.len-number.result s) c.index-sinks-number.is) in
+    list_fresh g.S.Sink.events g.S.Sink.failed g.S.Sink.fact c.args.store.now c.args.jobs.now c.loop-list.yielded c.loop-list.ends.items c.args.sinks.now c.loop-list.sinks c.args.verdicts.now c.loop-list.left.now
+    c.len-number.result c.in-Some.list sink c.loop-list.invariant.delivered t n.0 (ap (λ s. get_or c.loop-list.sinks c.len-number.result s) c.index-sinks-number.is) in
     fresh.1
 
 pub push_reserved-requires : goal.push_reserved-requires
