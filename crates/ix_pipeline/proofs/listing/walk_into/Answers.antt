@@ -1,4 +1,4 @@
-use Rattle.std.proofs.Common.{◌≡◌, ◌++◌, [], List, Result, sym, ap, ◌∙◌, subst}
+use Rattle.std.proofs.Common.{◌++◌, List, Result, sym, ap, subst}
 use Rattle.std.specs.declared.alloc.AllocError.{AllocError}
 use Rattle.std.proofs.lemmas.Result.{err_from_is_err_and}
 use Rattle.ix_walk.specs.declared.visit.Visit.{Visit}
