@@ -12,7 +12,7 @@ use Rattle.ix_car.specs.declared.sink.End.{End}
 use Rattle.ix_car.specs.Events.{Event}
 use Rattle.ix_pipeline.specs.declared.listing.Listed.{Listed}
 use Rattle.ix_pipeline.specs.Progress.{pairs_of}
-use Rattle.ix_pipeline.specs.Headline.{EachFresh, Fact, Keeps, EachKept}
+use Rattle.ix_pipeline.specs.Headline.{EachFresh, Fact, Keeps}
 use Rattle.ix_pipeline.specs.Judging.{AreJudged, judged_pairs}
 use Rattle.ix_pipeline.specs.Listing.{IsListed, EachListed, end_to_end}
 use Rattle.ix_pipeline.specs.Delivering.{IsDelivered, AreDelivered}
@@ -91,6 +91,12 @@ list_turn store jobs lists ys l more verdicts left listed right is place =
       judged = here.0;
     }
 
+-- the verdicts that a turn takes are those of its visits
+pub turn_judged : (store : Blocks) (jobs : List JobMeaning) (ys : List Listed) (l : Listed) (verdicts left mine : List (Option Verdict)) (many : ℕ)
+    → IsListTurn store jobs ys l verdicts left → length l.visits.items ≡ many → mine ≡ take many left → AreJudged store l.visits.items mine
+turn_judged store jobs ys l verdicts left mine many t size part =
+    subst (λ (os : List (Option Verdict)). AreJudged store l.visits.items os) (sym (part ∙ ap (λ (n : ℕ). take n left) (sym size))) t.judged
+
 -- The first lists were delivered, these verdicts are left, and the pairs that stand for the deliveries so far have a verdict.
 pub record AreDeliveredTo {S : Type 0} (events : S → List Event) (failed : S → List Delivery) (fact : Fact S) (store : Blocks) (jobs : List JobMeaning) (ys : List Listed) (es : List End) (first sinks : List S) (verdicts left : List (Option Verdict)) : Type 0 where
   pub pairs : List (ℕ × ℕ)
@@ -115,18 +121,20 @@ module _ {S : Type 0} (events : S → List Event) (failed : S → List Delivery)
       next_fresh events failed fact store jobs (length ys) es first sinks d.pairs s d.through t.below (subst (λ (n : ℕ). s ≡ get_or sinks n s) is at)
 
   -- one list more
-  pub lists_more : (ys : List Listed) (es more : List End) (first sinks : List S) (verdicts left mine behind : List (Option Verdict)) (number : ℕ) (l : Listed) (j : JobMeaning) (e : End) (s new : S)
+  pub lists_more : (ys : List Listed) (es more : List End) (first sinks : List S) (verdicts left mine behind : List (Option Verdict)) (number many : ℕ) (l : Listed) (j : JobMeaning) (e : End) (s new : S)
       → AreDeliveredTo events failed fact store jobs ys es first sinks verdicts left → IsListTurn store jobs ys l verdicts left → number ≡ length ys
-      → mine ≡ take (length l.visits.items) left → behind ≡ drop (length l.visits.items) left
+      → length l.visits.items ≡ many → mine ≡ take many left → behind ≡ drop many left
       → j ≡ get_or jobs number j → s ≡ get_or sinks number s → more ≡ es ++ e ∷ [] → IsDelivered store number j e (events new) (failed new) mine → Keeps fact s new
       → AreDeliveredTo events failed fact store jobs (ys ++ l ∷ []) more first (set sinks number new) verdicts behind
-  lists_more ys es more first sinks verdicts left mine behind number l j e s new d t is part others job sink ends x keeps =
+  lists_more ys es more first sinks verdicts left mine behind number many l j e s new d t is size first_part last_part job sink ends x keeps =
       let from = length (end_to_end ys) in
+      let part : mine ≡ take (length l.visits.items) left = first_part ∙ ap (λ (n : ℕ). take n left) (sym size) in
+      let others : behind ≡ drop (length l.visits.items) left = last_part ∙ ap (λ (n : ℕ). drop n left) (sym size) in
       let job_at : j ≡ get_or jobs (length ys) j = subst (λ (n : ℕ). j ≡ get_or jobs n j) is job in
       let sink_at : s ≡ get_or sinks (length ys) s = subst (λ (n : ℕ). s ≡ get_or sinks n s) is sink in
       let here : IsDelivered store (length ys) j e (events new) (failed new) mine = subst (λ (n : ℕ). IsDelivered store n j e (events new) (failed new) mine) is x in
       let next = through_more events failed fact store jobs (length ys) es more first sinks d.pairs (d.pairs ++ pairs_of (length ys) here.0) j e s new d.through t.below job_at sink_at ends (here.0, here.1, refl) keeps in
-      let right : AreJudged store l.visits.items mine = subst (λ (os : List (Option Verdict)). AreJudged store l.visits.items os) (sym part) t.judged in
+      let right : AreJudged store l.visits.items mine = turn_judged store jobs ys l verdicts left mine many t size first_part in
       let listed = t.listed j job_at in
       let visits : end_to_end (ys ++ l ∷ []) ≡ end_to_end ys ++ l.visits.items = visits_append ys (l ∷ []) ∙ ap (λ (vs : List Visit). end_to_end ys ++ vs) (append-nil l.visits.items) in
       let upto : length (end_to_end (ys ++ l ∷ [])) ≡ from + length l.visits.items = ap (λ (vs : List Visit). length vs) visits ∙ length-append (end_to_end ys) l.visits.items in

@@ -1,5 +1,5 @@
 -- A job under delivery: so many of its listed visits were taken, each with its verdict.
-use Rattle.std.proofs.Common.{◌≡◌, ◌⊎◌, ℕ, zero, suc, ◌+◌, ◌<◌, ◌≤◌, false, true, List, [], ◌∷◌, ◌++◌, length, take, drop, map, Option, Some, None, Result, Ok, Err, Contains, refl, sym, ◌∙◌, ap, subst, inl, inr, arith, append_assoc, append-nil, length-append}
+use Rattle.std.proofs.Common.{◌≡◌, ◌⊎◌, ℕ, zero, suc, ◌+◌, ◌<◌, ◌≤◌, List, [], ◌∷◌, ◌++◌, length, take, drop, map, Option, Some, None, Result, Ok, Err, Contains, refl, sym, ◌∙◌, ap, subst, inr, arith, append_assoc, append-nil, length-append}
 use Rattle.std.specs.declared.alloc.AllocError.{AllocError}
 use Rattle.std.proofs.lemmas.List.{length-map, map-append, drop_at}
 use Rattle.ix_walk.specs.declared.visit.Visit.{Visit}
@@ -12,32 +12,32 @@ use Rattle.ix_check.proofs.VisitsOf.{visit_next}
 use Rattle.ix_car.specs.declared.sink.Delivery.{Delivery}
 use Rattle.ix_car.specs.declared.sink.End.{End}
 use Rattle.ix_car.specs.declared.sink.End.TheVariants.{Done, Limit, Memory, Write, Start}
-use Rattle.ix_car.specs.Events.{Event, delivery, close, IsOpen}
+use Rattle.ix_car.specs.Events.{Event, close, IsOpen}
 use Rattle.ix_car.specs.Verified.{judged, judged_visits}
 use Rattle.ix_car.specs.Faithful.{EndFits}
 use Rattle.ix_pipeline.specs.declared.sink_state.SinkState.{SinkState}
 use Rattle.ix_pipeline.specs.declared.sink_state.SinkState.TheVariants.{Taking, Failed}
-use Rattle.ix_pipeline.specs.Progress.{end_on, Told, CanHand, HandsOn, pairs_of, IsWalked}
+use Rattle.ix_pipeline.specs.Progress.{end_on, CanHand, HandsOn, pairs_of, IsWalked}
 use Rattle.ix_pipeline.specs.Judging.{IsJudged, AreJudged, judged_pairs}
 use Rattle.ix_pipeline.specs.Listing.{IsListed, WalkEnds}
 use Rattle.ix_pipeline.specs.Delivering.{Delivers, HasVerdicts, IsDeliveredTo, IsDelivered}
 use Rattle.ix_pipeline.proofs.Pairs.{has_first, has_rest, in_pairs}
 use Rattle.ix_pipeline.proofs.UnderWay.{IsOn, on_next, on_memory, on_end, on_same, open_deliveries}
 
--- what is checked, and delivered with its verdict, is handed on
-pub hands_of : (store : Blocks) (v : Visit) (d : Verdict) (state : SinkState) (r : Result SinkState AllocError) (events told : List Event) (failed refused : List Delivery) (pairs : List (ℕ × ℕ))
-    → d ≡ verdict_of store v.cid → Delivers (record { visit = v; verdict = d }) state events failed r told refused
-    → HandsOn store v state (record { events = events; failed = failed; pairs = pairs }) r (record { events = told; failed = refused; pairs = pairs ++ (v.job, v.seq) ∷ [] })
-hands_of store v d state r events told failed refused pairs right h =
+-- a visit that is checked, and delivered with its verdict, is handed on
+pub hands_of : (store : Blocks) (v : Visit) (d : Verdict) (state : SinkState) (r : Result SinkState AllocError) (events told : List Event) (failed refused : List Delivery) (pairs more : List (ℕ × ℕ))
+    → d ≡ verdict_of store v.cid → more ≡ pairs ++ (v.job, v.seq) ∷ [] → Delivers (record { visit = v; verdict = d }) state events failed r told refused
+    → HandsOn store v state (record { events = events; failed = failed; pairs = pairs }) r (record { events = told; failed = refused; pairs = more })
+hands_of store v d state r events told failed refused pairs more right checked h =
     by_state state r (subst (λ (x : Verdict). Delivers (record { visit = v; verdict = x }) state events failed r told refused) right h) where
       by_state : (state : SinkState) (r : Result SinkState AllocError) → Delivers (judged store v) state events failed r told refused
-          → HandsOn store v state (record { events = events; failed = failed; pairs = pairs }) r (record { events = told; failed = refused; pairs = pairs ++ (v.job, v.seq) ∷ [] })
-      by_state Taking (Ok Taking) h = (h.0, h.1, refl)
-      by_state Taking (Ok Failed) h = (h.0, h.1, refl)
+          → HandsOn store v state (record { events = events; failed = failed; pairs = pairs }) r (record { events = told; failed = refused; pairs = more })
+      by_state Taking (Ok Taking) h = (h.0, h.1, checked)
+      by_state Taking (Ok Failed) h = (h.0, h.1, checked)
       by_state Failed (Ok Taking) h = absurd h
-      by_state Failed (Ok Failed) h = (h.0, h.1, refl)
-      by_state Taking (Err e) h = (h.0, h.1, inr refl)
-      by_state Failed (Err e) h = (h.0, h.1, inr refl)
+      by_state Failed (Ok Failed) h = (h.0, h.1, checked)
+      by_state Taking (Err e) h = (h.0, h.1, inr checked)
+      by_state Failed (Err e) h = (h.0, h.1, inr checked)
 
 -- as many visits as verdicts
 pub judged_length : (store : Blocks) (vs : List Visit) (os : List (Option Verdict)) → AreJudged store vs os → length vs ≡ length os
@@ -163,7 +163,7 @@ pub delivers_next : (store : Blocks) (number : ℕ) (job : JobMeaning) (given : 
 delivers_next store number job given vs os v d state after events told failed refused t u h = record {
   on = subst (λ (n : ℕ). IsOn after n (judged_visits store number job) told refused) (let e : suc given ≡ given + 1 = omega arith in e)
       (on_next store given (visits_of store number job) v t.more state after (record { events = events; failed = failed; pairs = [] }) (record { events = told; failed = refused; pairs = (v.job, v.seq) ∷ [] }) t.next u.on
-      (hands_of store v d state (Ok after) events told failed refused [] t.judged h));
+      (hands_of store v d state (Ok after) events told failed refused [] ((v.job, v.seq) ∷ []) t.judged refl h));
   has = subst (λ (n : ℕ). HasVerdicts n os) (let e : suc given ≡ given + 1 = omega arith in e) (has_more given os d t.left u.has t.verdict);
 }
 

@@ -5,9 +5,10 @@ ghost use Rattle.ix_check.specs.Visits.{IsVisitOf};
 ghost use Rattle.ix_pipeline.specs.Progress.{Told, CanHand, HandsOn, IsWalked, Exports, end_of};
 ghost use Rattle.ix_pipeline.specs.Headline.{EachDelivered, EachArchived, Keeps, EachKept, EachFresh, IsCheckedOnce, NoneIsStart};
 
+use crate::delivering::deliver_one;
 use crate::sink_state::SinkState;
 use ix_car::law::faithful_is_archived;
-use ix_car::{End, Sink, SinkFault};
+use ix_car::{End, Sink};
 use ix_check::Check;
 use ix_walk::{Job, Store, Visit, Walk, WalkStop};
 use std::alloc::{AllocError, Global};
@@ -103,12 +104,5 @@ fn hand_on<S: Sink, C: Check>(
     ensures kept { Keeps S.fact sink.old sink.new }
 {
     let verdict = check.check(alloc, store, &visit)?;
-    if state == SinkState::Failed {
-        return Ok(state);
-    }
-    match sink.deliver(alloc, visit, verdict) {
-        Ok(()) => Ok(SinkState::Taking),
-        Err(SinkFault::Write) => Ok(SinkState::Failed),
-        Err(SinkFault::Memory) => Err(AllocError),
-    }
+    deliver_one(alloc, visit, verdict, state, sink)
 }

@@ -1,4 +1,4 @@
-use Rattle.std.proofs.Common.{◌≡◌, ◌<◌, ◌≤◌, ◌+◌, [], length, get_or, refl, sym, ◌∙◌, ap, subst, arith}
+use Rattle.std.proofs.Common.{◌<◌, ◌≤◌, ◌+◌, length, get_or, refl, sym, ◌∙◌, ap, subst, arith}
 use Rattle.ix_car.specs.Events.{IsOpen}
 use Rattle.ix_pipeline.proofs.Closed.{closed_none, next_fresh, closed_more, all_closed}
 use Rattle.ix_pipeline.proofs.delivering.close_all.Goals as goal

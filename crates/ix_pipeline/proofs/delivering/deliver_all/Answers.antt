@@ -1,9 +1,8 @@
-use Rattle.std.proofs.Common.{◌≡◌, ◌<◌, ◌≤◌, ◌+◌, ◌++◌, ◌∷◌, [], ℕ, length, get_or, take, drop, refl, sym, ◌∙◌, ap, subst, arith, rules, append_assoc, append-nil}
+use Rattle.std.proofs.Common.{◌≡◌, ◌<◌, ◌+◌, ◌++◌, ◌∷◌, [], ℕ, length, get_or, refl, sym, ◌∙◌, ap, subst, arith, rules, append_assoc, append-nil}
 use Rattle.std.proofs.lemmas.List.{length_push, nil_from_length}
-use Rattle.std.specs.Vec.Iter.{into_iter_items, into_iter_len}
+use Rattle.std.specs.Vec.Iter.{into_iter_items}
 use Rattle.ix_pipeline.specs.Listing.{IsListed}
-use Rattle.ix_pipeline.specs.Judging.{AreJudged}
-use Rattle.ix_pipeline.proofs.Delivered.{IsListTurn, list_turn, lists_none, list_fresh, lists_more, lists_all}
+use Rattle.ix_pipeline.proofs.Delivered.{IsListTurn, list_turn, turn_judged, lists_none, list_fresh, lists_more, lists_all}
 use Rattle.ix_pipeline.proofs.delivering.deliver_all.Given as given
 use Rattle.ix_pipeline.proofs.delivering.deliver_all.Goals as goal
 use Rattle.ix_pipeline.proofs.delivering.deliver_all.Goals.{In-Some, After-len}
@@ -76,8 +75,7 @@ pub deliver_listed-end-requires-clause-judged : goal.deliver_listed-end-requires
 deliver_listed-end-requires-clause-judged g c =
     let t = turn g (goal.at.deliver_listed-end-requires-clause-judged g c).In-Some in
     let size : length c.in-Some.list.visits.items ≡ c.len.result = omega (arith, c.len.ensures, c.in-Some.list.visits.ok.0) in
-    let mine : c.split_at.result.0.now ≡ take (length c.in-Some.list.visits.items) c.loop-list.left.now = c.split_at.ensures.front ∙ ap (λ k. take k c.loop-list.left.now) (sym size) in
-    subst (λ l. AreJudged c.args.store.now c.in-Some.list.visits.items l) (sym mine) t.judged
+    turn_judged c.args.store.now c.args.jobs.now c.loop-list.yielded c.in-Some.list c.args.verdicts.now c.loop-list.left.now c.split_at.result.0.now c.len.result t size c.split_at.ensures.front
 
 pub deliver_listed-end-requires-clause-events : goal.deliver_listed-end-requires-clause-events
 deliver_listed-end-requires-clause-events g c =
@@ -117,8 +115,6 @@ loop-list-preserved g c =
     let steps = c.in-Some.ensures.steps in
     let sink = get_or c.loop-list.sinks c.len-number.result c.index-sinks-number.result in
     let size : length c.in-Some.list.visits.items ≡ c.len.result = omega (arith, c.len.ensures, c.in-Some.list.visits.ok.0) in
-    let mine : c.split_at.result.0.now ≡ take (length c.in-Some.list.visits.items) c.loop-list.left.now = c.split_at.ensures.front ∙ ap (λ k. take k c.loop-list.left.now) (sym size) in
-    let behind : c.split_at.result.1.now ≡ drop (length c.in-Some.list.visits.items) c.loop-list.left.now = c.split_at.ensures.back ∙ ap (λ k. drop k c.loop-list.left.now) (sym size) in
     record {
       can_next = tt;
       finite = tt;
@@ -126,8 +122,8 @@ loop-list-preserved g c =
       sized = (let fewer = ap length steps.0 in let size = was.sized in omega (arith, steps.1));
       delivered =
           lists_more g.S.Sink.events g.S.Sink.failed g.S.Sink.fact c.args.store.now c.args.jobs.now ys c.loop-list.ends.items c.push_reserved.new.self.items c.args.sinks.now c.loop-list.sinks
-          c.args.verdicts.now c.loop-list.left.now c.split_at.result.0.now c.split_at.result.1.now c.len-number.result list c.index-jobs-number.result c.deliver_listed-end.result sink c.deliver_listed-end.new.sink
-          was.delivered t n.0 mine behind c.index-jobs-number.is (ap (λ s. get_or c.loop-list.sinks c.len-number.result s) c.index-sinks-number.is)
+          c.args.verdicts.now c.loop-list.left.now c.split_at.result.0.now c.split_at.result.1.now c.len-number.result c.len.result list c.index-jobs-number.result c.deliver_listed-end.result sink c.deliver_listed-end.new.sink
+          was.delivered t n.0 size c.split_at.ensures.front c.split_at.ensures.back c.index-jobs-number.is (ap (λ s. get_or c.loop-list.sinks c.len-number.result s) c.index-sinks-number.is)
           c.push_reserved.ensures.items c.deliver_listed-end.ensures.delivered c.deliver_listed-end.ensures.kept;
       room = c.push_reserved.ensures.capacity ∙ was.room;
       counted = c.push_reserved.ensures.len ∙ ap (λ k. k + 1) was.counted ∙ sym (length_push ys list);

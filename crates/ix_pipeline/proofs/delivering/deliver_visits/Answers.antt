@@ -1,11 +1,10 @@
-use Rattle.std.proofs.Common.{◌≡◌, ◌⊎◌, ◌+◌, ◌++◌, ◌∷◌, [], length, map, Option, Some, Bor, refl, sym, ◌∙◌, ap, subst, inl, inr, arith}
+use Rattle.std.proofs.Common.{◌≡◌, ◌⊎◌, ◌++◌, ◌∷◌, length, map, Option, Some, Bor, sym, ◌∙◌, ap, subst, inl, inr, arith}
 use Rattle.std.proofs.lemmas.List.{length-map, length_push}
 use Rattle.std.proofs.lemmas.Result.{err_from_is_err_and}
 use Rattle.std.specs.Slice.Iter.{iter_rest}
 use Rattle.std.specs.Vec.Iter.{into_iter_items, into_iter_len}
 use Rattle.ix_walk.specs.declared.visit.Visit.{Visit}
 use Rattle.ix_check.specs.declared.verdict.Verdict.{Verdict}
-use Rattle.ix_car.specs.declared.sink.End.{End}
 use Rattle.ix_car.specs.declared.sink.End.TheVariants.{Memory}
 use Rattle.ix_pipeline.specs.Progress.{end_on, end_of}
 use Rattle.ix_pipeline.proofs.Deliveries.{IsDelivering, can_deliver, turn_of, taken_more, given_within, all_given, delivers_start, delivers_next, delivers_memory, delivers_none, delivers_end, delivered_as}
