@@ -1,5 +1,5 @@
 -- Jobs whose lists were delivered one after another.
-use Rattle.std.proofs.Common.{◌≡◌, ℕ, zero, suc, ◌+◌, ◌<◌, ◌≤◌, List, [], ◌∷◌, ◌++◌, length, get_or, set, take, drop, Option, Some, None, Contains, refl, sym, ◌∙◌, ap, subst, arith, take_all, append-nil, append_assoc, length-append, inl, inr}
+use Rattle.std.proofs.Common.{◌≡◌, ℕ, zero, suc, ◌+◌, ◌<◌, ◌≤◌, List, [], ◌∷◌, ◌++◌, length, get_or, set, take, drop, Option, Contains, refl, sym, ◌∙◌, ap, subst, arith, take_all, append-nil, append_assoc, length-append, inl, inr}
 use Rattle.std.proofs.lemmas.List.{length_push, drop_at, drop-drop}
 use Rattle.std.proofs.lemmas.List.Elements.{Contains-append_left, Contains-append_right, Contains-append_cases}
 use Rattle.std.proofs.Math.Seq.{take-add}
@@ -17,6 +17,7 @@ use Rattle.ix_pipeline.specs.Judging.{AreJudged, judged_pairs}
 use Rattle.ix_pipeline.specs.Listing.{IsListed, EachListed, end_to_end}
 use Rattle.ix_pipeline.specs.Delivering.{IsDelivered, AreDelivered}
 use Rattle.ix_pipeline.proofs.Pairs.{none_in}
+use Rattle.ix_pipeline.proofs.Parts.{judged_pairs-append}
 use Rattle.ix_pipeline.proofs.Exported.{IsThrough, through_none, through_more, next_fresh, all_delivered, all_started, all_checked}
 use Rattle.ix_pipeline.proofs.Deliveries.{judged_length, pairs_judged}
 
@@ -30,14 +31,6 @@ judged_parts : (store : Blocks) (vs ws : List Visit) (os : List (Option Verdict)
 judged_parts store [] ws os h = (tt, h)
 judged_parts store (v ∷ vs) ws [] h = absurd h
 judged_parts store (v ∷ vs) ws (o ∷ os) h = let r = judged_parts store vs ws os h.1 in ((h.0, r.0), r.1)
-
--- the pairs of visits and more visits that have a verdict
-pairs_append : (store : Blocks) (vs ws : List Visit) (os ps : List (Option Verdict)) → AreJudged store vs os → judged_pairs (vs ++ ws) (os ++ ps) ≡ judged_pairs vs os ++ judged_pairs ws ps
-pairs_append store [] ws [] ps h = refl
-pairs_append store (v ∷ vs) ws (Some d ∷ os) ps h = ap (λ (l : List (ℕ × ℕ)). (v.job, v.seq) ∷ l) (pairs_append store vs ws os ps h.1)
-pairs_append store (v ∷ vs) ws (None ∷ os) ps h = pairs_append store vs ws os ps h.1
-pairs_append store [] ws (o ∷ os) ps h = absurd h
-pairs_append store (v ∷ vs) ws [] ps h = absurd h
 
 -- a list for each job
 listed_length : (store : Blocks) (n : ℕ) (js : List JobMeaning) (ls : List Listed) → EachListed store n js ls → length js ≡ length ls
@@ -145,7 +138,7 @@ module _ {S : Type 0} (events : S → List Event) (failed : S → List Delivery)
       let pairs : judged_pairs (end_to_end (ys ++ l ∷ [])) (take (length (end_to_end (ys ++ l ∷ []))) verdicts) ≡ judged_pairs (end_to_end ys) (take from verdicts) ++ judged_pairs l.visits.items mine =
       ap (λ (vs : List Visit). judged_pairs vs (take (length (end_to_end (ys ++ l ∷ []))) verdicts)) visits
       ∙ ap (λ (os : List (Option Verdict)). judged_pairs (end_to_end ys ++ l.visits.items) os) heads
-      ∙ pairs_append store (end_to_end ys) l.visits.items (take from verdicts) mine t.before in
+      ∙ judged_pairs-append store (end_to_end ys) l.visits.items (take from verdicts) mine t.before in
       record {
         pairs = d.pairs ++ pairs_of (length ys) here.0;
         through = subst (λ (n : ℕ). IsThrough events failed fact store jobs n more first (set sinks number new) (d.pairs ++ pairs_of (length ys) here.0)) (sym (length_push ys l))

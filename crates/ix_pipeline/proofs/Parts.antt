@@ -1,14 +1,15 @@
 -- The chunks of the verifiers, and the verdicts that are lined up.
-use Rattle.std.proofs.Common.{◌≡◌, ℕ, zero, suc, ◌+◌, ◌-◌, ◌*◌, ◌/◌, ◌%◌, ◌<◌, ◌≤◌, min, List, [], ◌∷◌, ◌++◌, length, take, drop, map, replicate, Option, Some, None, IfSome, cond, ◌==◌, refl, sym, ◌∙◌, ap, subst, arith, append_assoc, append-nil, length-append, length-take, length-drop}
+use Rattle.std.proofs.Common.{◌≡◌, ℕ, zero, suc, ◌+◌, ◌-◌, ◌≤◌, min, List, [], ◌∷◌, ◌++◌, length, take, drop, map, replicate, Option, Some, None, IfSome, cond, ◌==◌, refl, sym, ◌∙◌, ap, subst, arith, append_assoc, append-nil, length-append, length-take, length-drop}
 use Rattle.std.specs.Global.{Vec}
-use Rattle.std.proofs.lemmas.List.{length-map, map-append, take_all, length-replicate}
+use Rattle.std.proofs.Math.Seq.{take-add}
+use Rattle.std.proofs.lemmas.List.{length-map, take_all, length-replicate}
 use Rattle.ix_walk.specs.declared.visit.Visit.{Visit}
 use Rattle.ix_walk.specs.Store.{Blocks}
 use Rattle.ix_check.specs.declared.verdict.Verdict.{Verdict}
 use Rattle.ix_check.specs.Verdict.{verdict_of}
 use Rattle.ix_pipeline.specs.declared.chunk.Chunk.{Chunk}
 use Rattle.ix_pipeline.specs.declared.verifiers.Part.{Part}
-use Rattle.ix_pipeline.specs.Judging.{pair_of, visits_in, verdicts_on, IsCheckedFirst, IsJudged, AreJudged, judged_pairs, times}
+use Rattle.ix_pipeline.specs.Judging.{pair_of, visits_in, verdicts_on, IsCheckedFirst, AreJudged, judged_pairs, times}
 use Rattle.ix_pipeline.specs.Headline.{checked_by}
 use Rattle.ix_pipeline.specs.Chunks.{Tile, IsFound, found_pairs, AreParts, part_pairs, lined_up}
 
@@ -29,15 +30,6 @@ lined_more found n old items new over was is =
     ∙ ap (λ (l : List (Option Verdict)). old ++ l) (append_assoc (map Some found) rest (None ∷ []))
     ∙ ap (λ (l : List (Option Verdict)). old ++ (map Some found ++ l)) (sym (replicate_more (n - length found) None))
     ∙ ap (λ (k : ℕ). old ++ (map Some found ++ replicate k None)) (sym more)
-
--- the front of a list, in two parts
-pub take_split : {X : Type 0} (n k : ℕ) (xs : List X) → take (n + k) xs ≡ take n xs ++ take k (drop n xs)
-take_split zero k xs = let e : 0 + k ≡ k = omega arith in ap (λ (i : ℕ). take i xs) e
-take_split {X = X} (suc n) k [] = let e : suc n + k ≡ suc (n + k) = omega arith in ap (λ (i : ℕ). take {A = X} i []) e ∙ none_of_none k where
-  none_of_none : (k : ℕ) → [] ≡ take {A = X} k []
-  none_of_none zero = refl
-  none_of_none (suc k) = refl
-take_split {X = X} (suc n) k (x ∷ xs) = let e : suc n + k ≡ suc (n + k) = omega arith in ap (λ (i : ℕ). take i (x ∷ xs)) e ∙ ap (λ (l : List X). x ∷ l) (take_split n k xs)
 
 -- chunks that stand one behind another
 pub tile_within : (from upto : ℕ) (ks : List Chunk) → Tile from upto ks → from ≤ upto
@@ -199,7 +191,7 @@ module _ (store : Blocks) (visits : List Visit) (before : List (ℕ × ℕ)) whe
       let here : List Visit = visits_in p.chunk visits in
       let at : p.chunk.from ≡ c.place = tile.0 in
       let fits : c.place + p.chunk.count ≤ length visits = tile.1 in
-      let split : take (c.place + p.chunk.count) visits ≡ take c.place visits ++ here = take_split c.place p.chunk.count visits ∙ ap (λ (i : ℕ). take c.place visits ++ take p.chunk.count (drop i visits)) (sym at) in
+      let split : take (c.place + p.chunk.count) visits ≡ take c.place visits ++ here = take-add c.place p.chunk.count visits ∙ ap (λ (i : ℕ). take c.place visits ++ take p.chunk.count (drop i visits)) (sym at) in
       let up : List (Option Verdict) = lined_up found p.chunk.count in
       let all : AreJudged store (take c.place visits ++ here) (verdicts ++ up) = judged-append store (take c.place visits) here verdicts up c.judged (up_judged store here found p.chunk.count f size.0) in
       let whole : judged_pairs (take (c.place + p.chunk.count) visits) new ≡ judged_pairs (take c.place visits) verdicts ++ map pair_of (take (length found) here) =

@@ -20,7 +20,6 @@ use Rattle.ix_pipeline.specs.Judging.{pair_of, EachOfStore, judged_pairs, times,
 use Rattle.ix_pipeline.specs.Delivering.{AreDelivered}
 use Rattle.ix_pipeline.proofs.Pairs.{pairs_over, cases_cons, none_in, has_first, has_rest, in_pairs, once_over}
 use Rattle.ix_pipeline.proofs.Exported.{count_some}
-use Rattle.ix_pipeline.proofs.Parts.{times-append}
 use Rattle.ix_pipeline.proofs.Checking.{of_store-append}
 
 -- how often a pair counts for a pair

@@ -1,4 +1,4 @@
-use Rattle.std.proofs.Common.{◌≡◌, ℕ, ◌+◌, ◌++◌, take, drop, map, length, vec_len, vec_capacity}
+use Rattle.std.proofs.Common.{◌≡◌, ◌+◌, ◌++◌, take, drop, map, vec_len, vec_capacity}
 use Rattle.ix_pipeline.specs.Judging.{EachOfStore, pair_of, verdicts_on}
 use Rattle.ix_pipeline.proofs.chunk.check_visits.Given as goal
 

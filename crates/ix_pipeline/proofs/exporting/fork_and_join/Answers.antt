@@ -1,4 +1,4 @@
-use Rattle.std.proofs.Common.{◌≡◌, ◌<◌, ℕ, List, Option, IfSome, sym, subst}
+use Rattle.std.proofs.Common.{◌<◌, ℕ, List, Option, IfSome, sym, subst}
 use Rattle.std.specs.Global.{Vec}
 use Rattle.ix_walk.specs.JobMeaning.{JobMeaning}
 use Rattle.ix_check.specs.declared.verdict.Verdict.{Verdict}

@@ -1,4 +1,4 @@
-use Rattle.std.proofs.Common.{rules, ◌≡◌, ◌∙◌, sym, ap, subst, List, ℕ, [], length}
+use Rattle.std.proofs.Common.{rules, ◌≡◌, ◌∙◌, sym, ap, subst, List, ℕ, []}
 use Rattle.ix_pipeline.specs.Headline.{IsCheckedOnce, checked_by}
 use Rattle.ix_pipeline.proofs.Exported.{kept_length}
 use Rattle.ix_pipeline.proofs.Closed.{delivered_of_closed, closed_checked}

@@ -1,11 +1,10 @@
-use Rattle.std.proofs.Common.{◌≡◌, ℕ, ◌+◌, ◌++◌, ◌∷◌, [], List, ◌∙◌, ap, sym, subst, map, length, vec_capacity, IfSome, arith, append_assoc}
+use Rattle.std.proofs.Common.{◌≡◌, ℕ, ◌++◌, ◌∷◌, [], List, ◌∙◌, ap, sym, subst, map, length, vec_capacity, IfSome, arith, append_assoc}
 use Rattle.std.proofs.lemmas.List.{map-append}
 use Rattle.std.specs.Vec.Iter.{into_iter_items}
 use Rattle.ix_pipeline.specs.declared.chunk.Chunk.{Chunk}
 use Rattle.ix_pipeline.specs.declared.verifiers.Part.{Part}
 use Rattle.ix_pipeline.specs.declared.verifiers.Post.{Post}
 use Rattle.ix_pipeline.specs.Listing.{end_to_end}
-use Rattle.ix_pipeline.specs.Headline.{checked_by}
 use Rattle.ix_pipeline.specs.Chunks.{found_pairs, ArePosts, AreParts, part_pairs}
 use Rattle.ix_pipeline.proofs.Parts.{parts_push, part_pairs-push}
 use Rattle.ix_pipeline.proofs.Posts.{Joins, joins_none, joins_some}

@@ -1,5 +1,5 @@
 use Rattle.ix_pipeline.proofs.Parts.{lined_more}
-use Rattle.std.proofs.Common.{◌+◌, ◌∙◌, ap, arith, ℕ}
+use Rattle.std.proofs.Common.{◌∙◌, arith}
 use Rattle.ix_pipeline.proofs.verifiers.line_up.Goals as goal
 
 pub loop-preserved : goal.loop-preserved

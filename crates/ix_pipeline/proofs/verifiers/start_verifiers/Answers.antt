@@ -1,4 +1,4 @@
-use Rattle.std.proofs.Common.{◌≡◌, ℕ, ◌+◌, ◌∙◌, refl, ap, length, arith}
+use Rattle.std.proofs.Common.{◌∙◌, refl, ap, length, arith}
 use Rattle.std.specs.Vec.Iter.{into_iter_items}
 use Rattle.ix_pipeline.proofs.Posts.{if_some, starting_some, starting_more}
 use Rattle.ix_pipeline.proofs.verifiers.start_verifiers.Goals as goal

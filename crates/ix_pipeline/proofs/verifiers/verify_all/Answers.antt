@@ -1,4 +1,4 @@
-use Rattle.std.proofs.Common.{rules, ◌≡◌, ℕ, ◌+◌, ◌<◌, List, length, ap, subst, arith}
+use Rattle.std.proofs.Common.{rules, ◌<◌, List, length, ap, subst, arith}
 use Rattle.ix_pipeline.specs.declared.listing.Listed.{Listed}
 use Rattle.ix_pipeline.specs.Listing.{end_to_end}
 use Rattle.ix_pipeline.specs.Judging.{times, AreJudged, judged_pairs}
