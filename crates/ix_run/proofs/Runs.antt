@@ -13,7 +13,7 @@ use Rattle.ix_car.specs.ArchiveMeaning.{ArchiveMeaning, HasArchived, HasWritten,
 use Rattle.ix_car.specs.Archived.{IsArchived}
 use Rattle.ix_car.specs.Report.{counts_of}
 use Rattle.ix_jobs.specs.declared.outcome.JobResult.{JobResult}
-use Rattle.ix_pipeline.specs.Headline.{EachDelivered, EachArchived, Keeps, EachKept, EachFresh}
+use Rattle.ix_pipeline.specs.Headline.{EachDelivered, EachArchived, Keeps, EachKept, EachFresh, EachUnused}
 use Rattle.std.proofs.Math.Seq.{take-append_seam}
 use Rattle.ix_run.specs.Run.{IsEndOf, IsRun, EachRun, EachBegun, IsEnded, EachEnded}
 use Rattle.ix_run.proofs.Told.{deliveries_of-told, same_deliveries}
@@ -205,3 +205,8 @@ module _ {W : Type 0} (told : W → Option (List ℕ)) where
 -- what a vector holds, when a slice of it as long was written through
 pub whole_again : {A : Type 0} (n : ℕ) (new old : List A) → length new ≡ n → take n (new ++ drop (length new) old) ≡ new
 whole_again n new old h = ap (λ m. take m (new ++ drop (length new) old)) (sym h) ∙ take-append_seam new (drop (length new) old)
+
+-- one check more that has checked nothing
+pub unused_push : {C : Type 0} (checked : C → List (ℕ × ℕ)) (cs : List C) (c : C) → EachUnused checked cs → checked c ≡ [] → EachUnused checked (cs ++ c ∷ [])
+unused_push checked [] c h is = (is, tt)
+unused_push checked (d ∷ cs) c h is = (h.0, unused_push checked cs c h.1 is)

@@ -1,8 +1,10 @@
 //! A run: every job's archive, the report and the status.
 
-ghost use Rattle.std.specs.Prelude.{◌≡◌, ◌≤◌, [], length, IfOk, IfErr};
+ghost use Rattle.std.specs.Prelude.{◌≡◌, ◌≤◌, [], length, vec_len, IfOk, IfErr};
 ghost use Rattle.std.specs.Arc.{arc_value};
 ghost use Rattle.std.specs.Io.KnownBytes.{Keeps};
+ghost use Rattle.ix_pipeline.specs.Headline.{EachUnused};
+ghost use Rattle.ix_pipeline.specs.Planned.{IsPlan};
 ghost use Rattle.ix_run.specs.declared.fault.RunFault.TheVariants.{Memory};
 ghost use Rattle.ix_run.specs.Run.{HasRun, EachRun, IsRunRefusal, EachBegun, EachEnded, IsEndOf};
 
@@ -10,11 +12,12 @@ use crate::fault::RunFault;
 use ix_car::{Archive, ArchiveNew, End};
 use ix_check::{Check, ShaCheck};
 use ix_jobs::{JobResult, report, status};
-use ix_pipeline::{Plan, export_plain};
+use ix_pipeline::{Open, Plan, export, export_plain};
 use ix_walk::{Job, Store};
-use std::alloc::Global;
+use std::alloc::{AllocError, Global};
 use std::io::Write;
-use std::sync::Arc;
+use std::sync::{Arc, Wait};
+use std::thread::Threads;
 
 /// What a run leaves: the report, the exit status, and the writers, in the order of the jobs.
 #[derive(Drop)]
@@ -24,34 +27,71 @@ pub struct RunOut<W> {
     pub writers: Vec<W>,
 }
 
-/// Runs the jobs over the store and writes the archive of each to its writer.
+/// Runs the jobs over the store, by the plan's walkers and so many verifiers, and writes the archive
+/// of each to its writer.
 ///
 /// All headers are written first; the first that can't be written is the refusal. A writer whose
 /// flush fails in the end has its job told as ended by a failed write.
-pub fn run<R, W: Write + Drop>(
-    _rt: &R,
+pub fn run<R: Threads + Wait + Sync, W: Write + Drop>(
+    rt: &R,
     alloc: Global,
     store: &Arc<Store>,
     jobs: &Arc<Vec<Job>>,
     writers: Vec<W>,
-    _verifiers: u32,
-    _plan: Plan,
+    verifiers: u32,
+    plan: Plan,
 ) -> Result<RunOut<W>, RunFault>
     requires writers { length writers.items ≡ length (arc_value jobs.now).items }
     requires jobs { length (arc_value jobs.now).items ≤ 1000 }
+    requires plan { IsPlan plan verifiers }
     ensures ran { IfOk result (λ out. HasRun W.contents (arc_value store.now) (arc_value jobs.now).items writers.items out) }
     ensures refused { IfErr result (λ fault. IsRunRefusal (arc_value jobs.now).items fault) }
 {
-    let jobs = jobs.as_slice();
-    let mut check = ShaCheck::new(alloc);
-    let (results, writers) = run_jobs(alloc, store, jobs, writers, &mut check)?;
-    let report = report(alloc, jobs, results.as_slice())?;
+    let (results, writers) = run_by(rt, alloc, store, jobs, writers, verifiers, plan)?;
+    let report = report(alloc, jobs.as_slice(), results.as_slice())?;
     let status = status(results.as_slice());
     Ok(RunOut {
         report,
         status,
         writers,
     })
+}
+
+// Runs the jobs over the store by walkers and verifiers: what was told of each, and its writer.
+fn run_by<R: Threads + Wait + Sync, W: Write + Drop>(
+    rt: &R,
+    alloc: Global,
+    store: &Arc<Store>,
+    jobs: &Arc<Vec<Job>>,
+    writers: Vec<W>,
+    verifiers: u32,
+    plan: Plan,
+) -> Result<(Vec<JobResult>, Vec<W>), RunFault>
+    requires writers { length writers.items ≡ length (arc_value jobs.now).items }
+    requires jobs { length (arc_value jobs.now).items ≤ 1000 }
+    requires plan { IsPlan plan verifiers }
+    ensures ran { IfOk result (λ r. EachRun W.contents (arc_value store.now) 0 (arc_value jobs.now).items writers.items r.0.items r.1.items) }
+    ensures refused { IfErr result (λ fault. IsRunRefusal (arc_value jobs.now).items fault) }
+{
+    let mut archives = begun(alloc, store, jobs.as_slice(), writers)?;
+    let checks = sha_checks(alloc, verifiers)?;
+    let sinks = archives.as_mut_slice();
+    match export(rt, alloc, store, jobs, sinks, checks, &Open, plan) {
+        Ok(outcome) => ended(alloc, archives, outcome.ends.as_slice()),
+        Err(_) => Err(RunFault::Memory),
+    }
+}
+
+// So many checks that have checked nothing so far.
+fn sha_checks(alloc: Global, count: u32) -> Result<Vec<ShaCheck>, AllocError>
+    ensures unused { IfOk result (λ checks. EachUnused (λ c. c) checks.items) }
+    ensures count { IfOk result (λ checks. vec_len checks ≡ count) }
+{
+    let mut checks = Vec::with_capacity(alloc, count as usize)?;
+    for _ in 0..count {
+        checks.push_reserved(ShaCheck::new(alloc));
+    }
+    Ok(checks)
 }
 
 /// Runs the jobs over the store on one thread: what was told of each, and its writer.
