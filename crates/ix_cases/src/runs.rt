@@ -1,5 +1,7 @@
 //! Runs of an example, and reports.
 
+ghost use Rattle.ix_pipeline.specs.Planned.{IsPlan};
+
 use crate::example::Example;
 use crate::texts::{escaped, hex_of};
 use anyhow::{Result, bail};
@@ -8,6 +10,8 @@ use ix_pipeline::Plan;
 use ix_run::{RunOut, fault_line, prepare, run};
 use std::alloc::{AllocError, Global};
 use std::io::{self, ErrorKind, Write};
+use std::sync::Wait;
+use std::thread::Threads;
 
 /// What is answered where everything is as the example says.
 const AS_WRITTEN: &str = "as written";
@@ -40,14 +44,14 @@ impl Write for Narrow {
 
 /// `run = as written`, where report, status and archives are as the example says by each plan; else
 /// the first that differs, or the line of the fault
-pub fn runs<R>(rt: &R, alloc: Global, example: &Example) -> Result<String> {
+pub fn runs<R: Threads + Wait + Sync>(rt: &R, alloc: Global, example: &Example) -> Result<String> {
     for (verifiers, walkers, queue, lane) in PLANS {
         let plan = Plan {
-            walkers,
-            queue,
-            lane,
+            walkers: walkers.clamp(1, 64),
+            queue: queue.clamp(1, 4096),
+            lane: lane.clamp(1, 4096),
         };
-        let answer = run_by(rt, alloc, example, verifiers, plan)?;
+        let answer = run_by(rt, alloc, example, verifiers.clamp(1, 64), plan)?;
         if answer.as_str() != AS_WRITTEN {
             return Ok(answer);
         }
@@ -56,13 +60,15 @@ pub fn runs<R>(rt: &R, alloc: Global, example: &Example) -> Result<String> {
 }
 
 // The same by one plan.
-fn run_by<R>(
+fn run_by<R: Threads + Wait + Sync>(
     rt: &R,
     alloc: Global,
     example: &Example,
     verifiers: u32,
     plan: Plan,
-) -> Result<String> {
+) -> Result<String>
+    requires { IsPlan plan verifiers }
+{
     let car = example.car()?;
     let file = example.jobs.as_bytes();
     let (store, jobs) = match prepare(alloc, car.as_slice(), file) {

@@ -5,6 +5,8 @@ mod failure;
 mod files;
 mod words;
 
+ghost use Rattle.std.specs.Prelude.{◌≤◌};
+
 use clap::ArgMatches;
 use failure::Failure;
 use files::{make_outputs, read_all, read_file, stand_in};
@@ -13,6 +15,8 @@ use ix_run::{prepare, printed_root, root_of_text, run};
 use std::io::Write;
 use std::process::ExitCode;
 use std::rt::{Env, Files};
+use std::sync::Wait;
+use std::thread::Threads;
 use std::{env, io};
 use words::command_line;
 
@@ -30,7 +34,9 @@ fn main(rt: HostRuntime) -> ExitCode {
 }
 
 // Does what the words say, and answers the status.
-fn obey<R: AllocGlobal + Env + Files + Input + Print>(rt: &R) -> Result<u8, Failure> {
+fn obey<R: AllocGlobal + Env + Files + Input + Print + Threads + Wait + Sync>(
+    rt: &R,
+) -> Result<u8, Failure> {
     let alloc = rt.alloc();
     let arguments = env::args(rt).map_err(|error| Failure::of_words(&error))?;
     let words: Vec<String> = arguments.collect(alloc)?;
@@ -55,7 +61,7 @@ fn export_one<R: AllocGlobal + Input + Print>(rt: &R, text: &str) -> Result<u8, 
 }
 
 // The command `jobs`: its faults come in the order blocks, job file, what they hold, outputs.
-fn export_jobs<'a, R: AllocGlobal + Files + Print>(
+fn export_jobs<'a, R: AllocGlobal + Files + Print + Threads + Wait + Sync>(
     rt: &R,
     words: &ArgMatches<'a>,
 ) -> Result<u8, Failure> {
@@ -68,15 +74,23 @@ fn export_jobs<'a, R: AllocGlobal + Files + Print>(
     let folder = words.get_str("out").unwrap_or("");
     let writers = make_outputs(rt, folder, jobs.as_slice())?;
     let plan = Plan {
-        walkers: words.get_one("walkers").unwrap_or(4),
+        walkers: threads(words, "walkers"),
         queue: QUEUE,
         lane: LANE,
     };
-    let verifiers = words.get_one("verifiers").unwrap_or(4);
+    let verifiers = threads(words, "verifiers");
     let out = run(rt, alloc, &store, &jobs, writers, verifiers, plan)?;
     print_all(rt, out.report.as_slice())?;
     drop(standing);
     Ok(out.status)
+}
+
+// How many threads the option with this name asks for. The command line has let no number through
+// but 1 to 64.
+fn threads<'a>(words: &ArgMatches<'a>, name: &str) -> u32
+    ensures { (1 ≤ result) × (result ≤ 64) }
+{
+    words.get_one(name).unwrap_or(4).clamp(1, 64)
 }
 
 // Writes to standard output.
