@@ -30,11 +30,6 @@ pub some_group : {b : List ℕ} {n : ℕ} → AreGroups b n → 0 < length b
 some_group (last small) = omega arith
 some_group (more small some h) = omega arith
 
--- groups are bytes
-pub groups_bytes : {b : List ℕ} {n : ℕ} → AreGroups b n → AreBytes b
-groups_bytes (last {b = b} small) = All-cons (λ x. x < 2 ^ 8) b [] (omega arith) (All-nil (λ x. x < 2 ^ 8))
-groups_bytes (more {b = b} {bs = bs} small some h) = All-cons (λ x. x < 2 ^ 8) (128 + b) bs (omega arith) (groups_bytes h)
-
 -- what one byte more spells
 power_more : (k : ℕ) → 128 ^ (suc k + 1) ≡ 128 * 128 ^ (k + 1)
 power_more k = rw (add-one (suc k), add-one k) (pow-succ' 128 (suc k))
