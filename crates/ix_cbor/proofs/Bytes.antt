@@ -17,10 +17,6 @@ IsBytes-from_are_bytes b h i =
       | inr le ↦ rw (get_or_past b i 0 le) (omega arith)
     ]
 
--- behind n bytes
-pub IsBytes-drop : (n : ℕ) (b : List ℕ) → IsBytes b → IsBytes (drop n b)
-IsBytes-drop n b h i = rw get_or-drop (h (n + i))
-
 -- the first n bytes
 pub IsBytes-take : (n : ℕ) (b : List ℕ) → IsBytes b → IsBytes (take n b)
 IsBytes-take n b h i =
