@@ -1,7 +1,7 @@
 -- Bytes of parts of a list.
-use Rattle.std.proofs.Common.{ℕ, ◌<◌, ◌^◌, List, ◌++◌, length, take, drop, refl, sym}
-use Rattle.std.proofs.lemmas.List.{take_at, drop_at}
-use Rattle.std.proofs.lemmas.List.Elements.{All-take, All-drop, All-append, All-same}
+use Rattle.std.proofs.Common.{ℕ, ◌<◌, ◌^◌, List, ◌++◌, length, drop, refl, sym}
+use Rattle.std.proofs.lemmas.List.{drop_at}
+use Rattle.std.proofs.lemmas.List.Elements.{All-drop, All-same}
 use Rattle.ix_cid.specs.Bytes.{AreBytes}
 
 -- what is behind the first of bytes is bytes

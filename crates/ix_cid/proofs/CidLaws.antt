@@ -1,11 +1,11 @@
 -- CIDs: what is read is spelled so, and what is spelled so is read, whatever follows.
-use Rattle.std.proofs.Common.{◌≡◌, ℕ, ◌-◌, ◌^◌, ◌<◌, ◌≤◌, ◌⊎◌, true, false, ltb, eqb, cond, List, [], ◌∷◌, ◌++◌, length, take, drop, Result, Ok, Err, refl, sym, ◌∙◌, ap, subst, inl, inr, ⊎_elim, append_assoc, arith}
+use Rattle.std.proofs.Common.{◌≡◌, ℕ, ◌-◌, ◌^◌, ◌<◌, ◌≤◌, true, false, ltb, eqb, cond, List, [], ◌∷◌, ◌++◌, length, take, drop, Result, Ok, Err, refl, sym, ◌∙◌, ap, subst, inl, inr, ⊎_elim, append_assoc, arith}
 use Rattle.std.proofs.lemmas.Bool.{le-ltb, ltb-false, eqb-true, cond-true, cond-false, cases_Bool}
 use Rattle.std.proofs.lemmas.List.{take_at, drop_at, nil_from_length, append-nil, take-append-drop, length-append, length-take-le, length-drop, take-append-le}
 use Rattle.std.proofs.lemmas.Slice.Eq.{bytes_eq-Decides}
 use Rattle.ix_cid.specs.Bytes.{AreBytes}
 use Rattle.ix_cid.specs.Varint.{varint_at, varint_of, IsVarint}
-use Rattle.ix_cid.specs.Cid.{◌>>=◌, as_part, number_at, bytes_at, Parts, version_0_at, version_1_at, numbered_at, begins_version_0, parts_at, cid_at, IsCid, parts_or_none, parts_of, version_of}
+use Rattle.ix_cid.specs.Cid.{◌>>=◌, as_part, number_at, bytes_at, Parts, version_0_at, version_1_at, numbered_at, begins_version_0, parts_at, cid_at, IsCid, parts_or_none, parts_of}
 use Rattle.ix_cid.specs.CidForm.{IsVersion0, IsVersion1, parts_spelling, IsCidOf}
 use Rattle.ix_cid.specs.declared.fault.VarintFault.{VarintFault}
 use Rattle.ix_cid.specs.declared.fault.CidFault.{CidFault}

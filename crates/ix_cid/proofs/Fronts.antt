@@ -4,7 +4,6 @@ use Rattle.std.proofs.lemmas.List.{take_at, drop_at, take-append-drop, length-ta
 use Rattle.std.proofs.lemmas.Bool.{leb-false, eqb-false, ltb-false, le-ltb}
 use Rattle.ix_cid.specs.Varint.{number_of_groups, continued, varint_ending, varint_at}
 use Rattle.ix_cid.specs.Cid.{◌>>=◌, as_part, number_at, bytes_at}
-use Rattle.ix_cid.specs.declared.fault.VarintFault.{VarintFault}
 use Rattle.ix_cid.specs.declared.fault.VarintFault.TheVariants as varints
 use Rattle.ix_cid.specs.declared.fault.CidFault.{CidFault}
 use Rattle.ix_cid.specs.declared.fault.CidFault.TheVariants.{Truncated}

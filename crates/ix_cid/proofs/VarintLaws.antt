@@ -7,7 +7,7 @@ use Rattle.ix_cid.specs.Varint.{number_of_groups, continued, AreGroups, last, mo
 use Rattle.ix_cid.specs.declared.fault.VarintFault.{VarintFault}
 use Rattle.ix_cid.specs.declared.fault.VarintFault.TheVariants.{Truncated, TooLong, NotMinimal}
 use Rattle.ix_cid.proofs.Results.{past_test, same_answer}
-use Rattle.ix_cid.proofs.GroupLaws.{continued_groups, number_groups, last_group, some_group, bound_groups, one_spelling, groups_spell, groups_length, continued_length, read_groups, read_one_group}
+use Rattle.ix_cid.proofs.GroupLaws.{continued_groups, number_groups, last_group, bound_groups, one_spelling, groups_spell, groups_length, continued_length, read_groups, read_one_group}
 
 -- a number below 2 ^ 63 has a varint
 pub spelled : (n : ℕ) → n < 2 ^ 63 → IsVarint (varint_of n) n
