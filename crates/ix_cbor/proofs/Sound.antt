@@ -1,10 +1,10 @@
 -- What is read is spelled so: at every level, by the laws of the level below.
 use Rattle.std.proofs.Common.{◌≡◌, ℕ, zero, suc, ◌≤◌, List, ◌++◌, length, refl, sym, ◌∙◌, ap, subst, arith, append_assoc}
-use Rattle.std.specs.Prelude.{Option, Some, None, Result, Ok}
+use Rattle.std.specs.Prelude.{Option, Some, None, Ok}
 use Rattle.ix_cbor.specs.declared.fault.CborKind.TheVariants.{Nesting}
 use Rattle.ix_cbor.specs.Data.{Data, Items, Entries, list, map, no_items, item, no_entries, entry}
 use Rattle.ix_cbor.specs.Spelling.{head_of, key_spelling, spelling_of, items_spelling, entries_spelling, item_count, entry_count, IsSpellable, AreSpellable, AreRising, nesting_of, items_nesting, entries_nesting}
-use Rattle.ix_cbor.specs.Reading.{Fault, Parse, ◌>>=◌, key_at, own_at, Own, leaf, list_of, map_of, items_at, entries_at, with_members, item_with, item_at}
+use Rattle.ix_cbor.specs.Reading.{Parse, ◌>>=◌, key_at, own_at, Own, leaf, list_of, map_of, items_at, entries_at, with_members, item_with, item_at}
 use Rattle.ix_cbor.proofs.Bytes.{IsBytes, IsBytes-behind}
 use Rattle.ix_cbor.proofs.Steps.{bind_ok, no_ok, ok_same, ok_data, with_item, items_behind, with_entry, entries_behind, value_behind, as_list, as_map}
 use Rattle.ix_cbor.proofs.Keys.{KeyTaken, key_taken, RisesFrom, RisesFrom-from_test}
