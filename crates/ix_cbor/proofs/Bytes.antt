@@ -1,5 +1,5 @@
 -- Lists of bytes, place by place.
-use Rattle.std.proofs.Common.{◌≡◌, ℕ, suc, ◌+◌, ◌<◌, List, ◌∷◌, ◌++◌, length, get_or, take, drop, subst, arith, inl, inr, length-take, get_or-drop, get_or-take, get_or-append-add}
+use Rattle.std.proofs.Common.{◌≡◌, ℕ, suc, ◌+◌, ◌<◌, List, ◌∷◌, ◌++◌, length, get_or, take, subst, arith, inl, inr, length-take, get_or-take, get_or-append-add}
 use Rattle.std.proofs.lemmas.Bool.{cases_lt}
 use Rattle.std.proofs.lemmas.List.{get_or_past}
 use Rattle.std.proofs.lemmas.List.Elements.{All-get_or}
@@ -16,10 +16,6 @@ IsBytes-from_are_bytes b h i =
       | inl lt ↦ All-get_or (λ x. x < 256) b i 0 lt h
       | inr le ↦ rw (get_or_past b i 0 le) (omega arith)
     ]
-
--- behind n bytes
-pub IsBytes-drop : (n : ℕ) (b : List ℕ) → IsBytes b → IsBytes (drop n b)
-IsBytes-drop n b h i = rw get_or-drop (h (n + i))
 
 -- the first n bytes
 pub IsBytes-take : (n : ℕ) (b : List ℕ) → IsBytes b → IsBytes (take n b)

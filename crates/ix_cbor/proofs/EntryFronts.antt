@@ -3,6 +3,7 @@ use Rattle.std.proofs.Common.{◌≡◌, ◌+◌, ◌<◌, ◌≤◌, ◌-◌, a
 use Rattle.std.specs.Prelude.{Option, Some, Result, Ok, Err}
 use Rattle.ix_cbor.specs.Data.{Data, Entries, no_entries, entry, entries_of}
 use Rattle.ix_cbor.specs.Reading.{Fault, Parse, ◌>>=◌, key_at, entries_at}
+use Rattle.ix_cbor.proofs.Steps.{entries_behind, value_behind}
 
 -- entries in front of others
 abbrev pub before : List (List ℕ × Data) → Entries → Entries
@@ -23,14 +24,6 @@ pub before_more : (front : List (List ℕ × Data)) (k : List ℕ) (d : Data) (e
 before_more [] k d es = refl
 before_more (e ∷ more) k d es = ap (entry e.0 e.1) (before_more more k d es)
 
--- what is read behind a key
-abbrev pub value_behind : Parse Data → ℕ → List ℕ × List ℕ → Result (Entries × List ℕ) Fault
-value_behind read n k = read k.1 >>= (λ d. entries_at read (Some k.0) n d.1 >>= (λ es. Ok (entry k.0 d.0 es.0, es.1)))
-
--- what is read behind a value
-abbrev pub more_behind : Parse Data → ℕ → List ℕ → Data × List ℕ → Result (Entries × List ℕ) Fault
-more_behind read n k d = entries_at read (Some k) n d.1 >>= (λ es. Ok (entry k d.0 es.0, es.1))
-
 -- the entry that is read stands in front of those that are still read
 behind : (front : List (List ℕ × Data)) (k : List ℕ) (d : Data) (r : Result (Entries × List ℕ) Fault) → with_front (front ++ (k, d) ∷ []) r ≡ with_front front (r >>= (λ es. Ok (entry k d es.0, es.1)))
 behind front k d (Ok x) = ap (λ es. Ok (es, x.1)) (before_more front k d x.0)
@@ -43,13 +36,13 @@ module _ (front : List (List ℕ × Data)) (read : Parse Data) (last : Option (L
 
   -- a key is read, and its value can't be
   pub value_none : (k value : List ℕ) (f : Fault) → key_at last b ≡ Ok (k, value) → read value ≡ Err f → with_front front (entries_at read last (suc n) b) ≡ Err f
-  value_none k value f e g = ap (λ r. with_front front (r >>= value_behind read n)) e ∙ ap (λ r. with_front front (r >>= more_behind read n k)) g
+  value_none k value f e g = ap (λ r. with_front front (r >>= value_behind read n)) e ∙ ap (λ r. with_front front (r >>= entries_behind read n k)) g
 
   -- one entry more is read
   pub read_more : (k value next : List ℕ) (d : Data) → key_at last b ≡ Ok (k, value) → read value ≡ Ok (d, next)
       → with_front (front ++ (k, d) ∷ []) (entries_at read (Some k) n next) ≡ with_front front (entries_at read last (suc n) b)
   read_more k value next d e g =
-      behind front k d (entries_at read (Some k) n next) ∙ ap (λ r. with_front front (r >>= more_behind read n k)) (sym g) ∙ ap (λ r. with_front front (r >>= value_behind read n)) (sym e)
+      behind front k d (entries_at read (Some k) n next) ∙ ap (λ r. with_front front (r >>= entries_behind read n k)) (sym g) ∙ ap (λ r. with_front front (r >>= value_behind read n)) (sym e)
 
 -- The same in a loop that counts up, where whole is what is read in all.
 module _ (front : List (List ℕ × Data)) (read : Parse Data) (last : Option (List ℕ)) (count i : ℕ) (b : List ℕ) (whole : Result (Entries × List ℕ) Fault) where

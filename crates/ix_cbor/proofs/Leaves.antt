@@ -4,10 +4,7 @@ use Rattle.std.specs.Prelude.{Result, Ok, Err}
 use Rattle.std.proofs.lemmas.List.{take_all}
 use Rattle.ix_cid.specs.Cid.{Parts, ◌>>=◌, parts_at, cid_at}
 use Rattle.ix_cid.specs.declared.fault.CidFault.{CidFault}
-use Rattle.ix_cbor.specs.declared.major.Major.{Major}
-use Rattle.ix_cbor.specs.declared.major.Major.TheVariants.{Bytes, Text}
 use Rattle.ix_cbor.specs.Data.{Data, bytes, text, link}
-use Rattle.ix_cbor.specs.Majors.{number_of}
 use Rattle.ix_cbor.specs.Reading.{Fault, ◌>>=◌ as ◌then◌, take_at, argument_at, string_at, Own, leaf, own_behind, own_at, is_cid, link_of}
 
 -- all bytes behind the first one
@@ -29,12 +26,12 @@ abbrev pub as_leaf : (List ℕ → Data) → List ℕ × List ℕ → Result (Ow
 as_leaf as_data s = Ok (leaf (as_data s.0), s.1)
 
 -- an item of major type 2 is a byte string
-pub bytes_behind : (at : List ℕ) (major : Major) (info : ℕ) (b : List ℕ) → major ≡ Bytes → own_behind at (number_of major) info b ≡ (string_at at info b then as_leaf bytes)
-bytes_behind at major info b is = ap (λ m. own_behind at (number_of m) info b) is ∙ sym (in_turn (argument_at at info b) (λ n. take_at n.0 n.1) (as_leaf bytes))
+pub bytes_behind : (at : List ℕ) (info : ℕ) (b : List ℕ) → own_behind at 2 info b ≡ (string_at at info b then as_leaf bytes)
+bytes_behind at info b = sym (in_turn (argument_at at info b) (λ n. take_at n.0 n.1) (as_leaf bytes))
 
 -- one of major type 3 is a text
-pub text_behind : (at : List ℕ) (major : Major) (info : ℕ) (b : List ℕ) → major ≡ Text → own_behind at (number_of major) info b ≡ (string_at at info b then as_leaf text)
-text_behind at major info b is = ap (λ m. own_behind at (number_of m) info b) is ∙ sym (in_turn (argument_at at info b) (λ n. take_at n.0 n.1) (as_leaf text))
+pub text_behind : (at : List ℕ) (info : ℕ) (b : List ℕ) → own_behind at 3 info b ≡ (string_at at info b then as_leaf text)
+text_behind at info b = sym (in_turn (argument_at at info b) (λ n. take_at n.0 n.1) (as_leaf text))
 
 -- the CID at the front is the bytes up to its length
 cid_front : (c : List ℕ) (r : Result (Parts × List ℕ) CidFault) (x : List ℕ) (n : ℕ) → ◌>>=◌ {B = List ℕ × ℕ} r (λ p. Ok (take (length c - length p.1) c, length c - length p.1)) ≡ Ok (x, n) → x ≡ take n c

@@ -10,7 +10,8 @@ use Rattle.ix_cbor.specs.Data.{Data, null, boolean, integer, float, bytes, text,
 use Rattle.ix_cbor.specs.Spelling.{head_of, spelling_of, IsSpellable, IsFinite, nesting_of}
 use Rattle.ix_cbor.specs.Reading.{Fault, ◌>>=◌, fails, take_at, argument_at, string_of_major, float_at, simple_at, is_cid, link_of, link_at, Own, leaf, list_of, map_of, own_with, own_at}
 use Rattle.ix_cbor.proofs.Bytes.{IsBytes, IsBytes-rest, IsBytes-take, IsBytes-behind}
-use Rattle.ix_cbor.proofs.Steps.{bind_ok, no_ok, ok_same, cases_if, if_no_fault, if_passed}
+use Rattle.ix_cbor.proofs.Leaves.{as_leaf}
+use Rattle.ix_cbor.proofs.Steps.{bind_ok, no_ok, ok_same, ok_data, cases_if, if_no_fault, if_passed}
 use Rattle.ix_cbor.proofs.Heads.{Headed, head_taken, head_read, wide64}
 use Rattle.ix_cbor.proofs.Strings.{counted, take_again, StringTaken, string_taken, string_again}
 use Rattle.ix_cbor.proofs.Cids.{IsCid-from_test, is_cid_at}
@@ -39,10 +40,6 @@ pub record LeafTaken (b : List ℕ) (d : Data) (rest : List ℕ) : Type 0 where
   pub flat : nesting_of d ≡ 0
 
 -- ---- simple values and floats
-
--- data that is given
-abbrev ok_data : Data × List ℕ → Result (Data × List ℕ) Fault
-ok_data x = Ok x
 
 -- an item of one byte
 leaf_here : (h x : ℕ) (b : List ℕ) (leaf_data d : Data) (rest : List ℕ) → h ≡ x → spelling_of leaf_data ≡ x ∷ [] → IsSpellable leaf_data → nesting_of leaf_data ≡ 0
@@ -199,10 +196,6 @@ whole_own whole major n b d own rest head spelled spellable flat e =
 -- a list or map, whose members follow
 nested_own : (whole b : List ℕ) (part own : Own) (rest : List ℕ) → whole ≡ own_spelling part ++ b → IsOwn part → ok_own (part, b) ≡ ok_own (own, rest) → OwnTaken whole own rest
 nested_own whole b part own rest is is_own e = subst (λ (y : Own × List ℕ). OwnTaken whole y.0 y.1) (ok_same (part, b) (own, rest) e) (record { parts = is; is_own = is_own })
-
--- a string, as data
-abbrev as_leaf : (List ℕ → Data) → List ℕ × List ℕ → Result (Own × List ℕ) Fault
-as_leaf as_data s = Ok (leaf (as_data s.0), s.1)
 
 -- a string that was read
 string_own : (whole : List ℕ) (major n : ℕ) (b : List ℕ) (as_data : List ℕ → Data) (own : Own) (rest : List ℕ) → Headed major n whole b

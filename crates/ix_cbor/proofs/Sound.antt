@@ -1,12 +1,12 @@
 -- What is read is spelled so: at every level, by the laws of the level below.
 use Rattle.std.proofs.Common.{◌≡◌, ℕ, zero, suc, ◌≤◌, List, ◌++◌, length, refl, sym, ◌∙◌, ap, subst, arith, append_assoc}
-use Rattle.std.specs.Prelude.{Option, Some, None, Result, Ok}
+use Rattle.std.specs.Prelude.{Option, Some, None, Ok}
 use Rattle.ix_cbor.specs.declared.fault.CborKind.TheVariants.{Nesting}
 use Rattle.ix_cbor.specs.Data.{Data, Items, Entries, list, map, no_items, item, no_entries, entry}
 use Rattle.ix_cbor.specs.Spelling.{head_of, key_spelling, spelling_of, items_spelling, entries_spelling, item_count, entry_count, IsSpellable, AreSpellable, AreRising, nesting_of, items_nesting, entries_nesting}
-use Rattle.ix_cbor.specs.Reading.{Fault, Parse, ◌>>=◌, key_at, own_at, Own, leaf, list_of, map_of, items_at, entries_at, with_members, item_with, item_at}
+use Rattle.ix_cbor.specs.Reading.{Parse, ◌>>=◌, key_at, own_at, Own, leaf, list_of, map_of, items_at, entries_at, with_members, item_with, item_at}
 use Rattle.ix_cbor.proofs.Bytes.{IsBytes, IsBytes-behind}
-use Rattle.ix_cbor.proofs.Steps.{bind_ok, no_ok, ok_same, with_item, items_behind, with_entry, entries_behind, value_behind, as_list, as_map}
+use Rattle.ix_cbor.proofs.Steps.{bind_ok, no_ok, ok_same, ok_data, with_item, items_behind, with_entry, entries_behind, value_behind, as_list, as_map}
 use Rattle.ix_cbor.proofs.Keys.{KeyTaken, key_taken, RisesFrom, RisesFrom-from_test}
 use Rattle.ix_cbor.proofs.Owns.{OwnTaken, own_taken, own_spelling}
 
@@ -65,10 +65,6 @@ entries_more n before count b at middle rest k d es s t ts =
 none_above : (before : Option (List ℕ)) → RisesFrom before no_entries
 none_above None = tt
 none_above (Some before) = tt
-
--- data that is given
-abbrev ok_data : Data × List ℕ → Result (Data × List ℕ) Fault
-ok_data x = Ok x
 
 -- an item that is whole
 leaf_sound : (n : ℕ) (b middle : List ℕ) (leaf_data d : Data) (rest : List ℕ) → OwnTaken b (leaf leaf_data) middle

@@ -62,6 +62,10 @@ pub if_passed : {A : Type 0} (b : Bool) (f : Fault) (x : Result A Fault) (y : A)
 if_passed true f x y e = (refl, e)
 if_passed false f x y e = absurd cc
 
+-- data that is given
+abbrev pub ok_data : Data × List ℕ → Result (Data × List ℕ) Fault
+ok_data x = Ok x
+
 -- ---- what members do with what is read
 
 -- a member before others

@@ -26,7 +26,7 @@ fn is_int(n: i128) -> bool
 }
 
 // Whether the eleven bits below the sign aren't all ones.
-fn is_finite(bits: u64) -> bool
+pub(crate) fn is_finite(bits: u64) -> bool
     ensures { IsTrue result ↔ (bits / 2 ^ 52 % 2 ^ 11 ≢ 2047) }
 {
     (bits >> 52) % (1 << 11) != 2047

@@ -7,6 +7,7 @@ ghost use Rattle.ix_cbor.specs.Reading.{fails, string_of_major, float_at, simple
 ghost use Rattle.ix_cbor.specs.Majors.{number_of};
 ghost use Rattle.ix_cbor.specs.Stops.{Reads, ReadsOrRunsOut, own_of};
 
+use crate::canonical::is_finite;
 use crate::fault::CborKind;
 use crate::head::{argument, string};
 use crate::information::{
@@ -28,7 +29,7 @@ fn float_bits<'a>(at: &'a [u8], bytes: &'a [u8]) -> Result<(u64, &'a [u8]), Stop
     }
     let (front, rest) = bytes.split_at(8);
     let bits = u64_of(front);
-    if (bits >> 52) % 0x800 == 0x7ff {
+    if !is_finite(bits) {
         return Err(Stop::at(CborKind::Float, at));
     }
     Ok((bits, rest))
@@ -107,6 +108,34 @@ fn tagged<'a>(
     Ok((Node::Link(cid), rest))
 }
 
+// A byte string, by the information in a head of major type 2.
+fn byte_string<'a>(
+    alloc: Global,
+    at: &'a [u8],
+    information: u8,
+    bytes: &'a [u8],
+) -> Result<(Own, &'a [u8]), Stop>
+    ensures { ReadsOrRunsOut (λ r. (own_of r.0, r.1.now)) result (own_behind at.now 2 information bytes.now) }
+{
+    let (string, rest) = string(at, information, bytes)?;
+    let node = Node::Bytes(Vec::from_slice(alloc, string)?);
+    Ok((Own::Leaf(node), rest))
+}
+
+// A text, by the information in a head of major type 3.
+fn text<'a>(
+    alloc: Global,
+    at: &'a [u8],
+    information: u8,
+    bytes: &'a [u8],
+) -> Result<(Own, &'a [u8]), Stop>
+    ensures { ReadsOrRunsOut (λ r. (own_of r.0, r.1.now)) result (own_behind at.now 3 information bytes.now) }
+{
+    let (string, rest) = string(at, information, bytes)?;
+    let node = Node::Text(Vec::from_slice(alloc, string)?);
+    Ok((Own::Leaf(node), rest))
+}
+
 // What an item with this major type and information in its first byte is.
 fn of_major<'a>(
     alloc: Global,
@@ -126,16 +155,8 @@ fn of_major<'a>(
             let (number, rest) = argument(at, information, bytes)?;
             Ok((Own::Leaf(Node::Int(-1 - i128::from(number))), rest))
         }
-        Major::Bytes => {
-            let (string, rest) = string(at, information, bytes)?;
-            let node = Node::Bytes(Vec::from_slice(alloc, string)?);
-            Ok((Own::Leaf(node), rest))
-        }
-        Major::Text => {
-            let (string, rest) = string(at, information, bytes)?;
-            let node = Node::Text(Vec::from_slice(alloc, string)?);
-            Ok((Own::Leaf(node), rest))
-        }
+        Major::Bytes => byte_string(alloc, at, information, bytes),
+        Major::Text => text(alloc, at, information, bytes),
         Major::List => {
             let (count, rest) = argument(at, information, bytes)?;
             Ok((Own::ListOf(count), rest))

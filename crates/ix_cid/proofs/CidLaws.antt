@@ -1,19 +1,17 @@
 -- CIDs: what is read is spelled so, and what is spelled so is read, whatever follows.
-use Rattle.std.proofs.Common.{◌≡◌, ℕ, ◌-◌, ◌^◌, ◌<◌, ◌≤◌, ◌⊎◌, true, false, ltb, eqb, cond, List, [], ◌∷◌, ◌++◌, length, take, drop, Result, Ok, Err, refl, sym, ◌∙◌, ap, subst, inl, inr, ⊎_elim, append_assoc, arith}
+use Rattle.std.proofs.Common.{◌≡◌, ℕ, ◌-◌, ◌^◌, ◌<◌, ◌≤◌, true, false, ltb, eqb, cond, List, [], ◌∷◌, ◌++◌, length, take, drop, Result, Ok, Err, refl, sym, ◌∙◌, ap, subst, inl, inr, ⊎_elim, append_assoc, arith}
 use Rattle.std.proofs.lemmas.Bool.{le-ltb, ltb-false, eqb-true, cond-true, cond-false, cases_Bool}
 use Rattle.std.proofs.lemmas.List.{take_at, drop_at, nil_from_length, append-nil, take-append-drop, length-append, length-take-le, length-drop, take-append-le}
 use Rattle.std.proofs.lemmas.Slice.Eq.{bytes_eq-Decides}
 use Rattle.ix_cid.specs.Bytes.{AreBytes}
 use Rattle.ix_cid.specs.Varint.{varint_at, varint_of, IsVarint}
-use Rattle.ix_cid.specs.Cid.{◌>>=◌, as_part, number_at, bytes_at, Parts, version_0_at, version_1_at, numbered_at, begins_version_0, parts_at, cid_at, IsCid, parts_or_none, parts_of, version_of}
+use Rattle.ix_cid.specs.Cid.{◌>>=◌, as_part, number_at, bytes_at, Parts, version_0_at, version_1_at, numbered_at, begins_version_0, parts_at, cid_at, IsCid, parts_or_none, parts_of}
 use Rattle.ix_cid.specs.CidForm.{IsVersion0, IsVersion1, parts_spelling, IsCidOf}
 use Rattle.ix_cid.specs.declared.fault.VarintFault.{VarintFault}
-use Rattle.ix_cid.specs.declared.fault.VarintFault.TheVariants as varint_faults
 use Rattle.ix_cid.specs.declared.fault.CidFault.{CidFault}
 use Rattle.ix_cid.specs.declared.fault.CidFault.TheVariants.{Truncated, Version}
-use Rattle.std.proofs.lemmas.List.Elements.{All-cons}
-use Rattle.ix_cid.proofs.Bytes.{bytes_rest, bytes_append}
-use Rattle.ix_cid.proofs.Results.{past_test, past_guard, same_answer, bind_ok, bind_to}
+use Rattle.ix_cid.proofs.Bytes.{bytes_rest}
+use Rattle.ix_cid.proofs.Results.{past_test, past_guard, part_ok, same_answer, bind_ok, bind_to}
 use Rattle.ix_cid.proofs.VarintLaws as varints
 
 -- ---- the numbers
@@ -24,17 +22,6 @@ number_spelled b n rest h =
     let next : Result (ℕ × ℕ) VarintFault → Result (ℕ × List ℕ) CidFault = λ r. as_part r >>= (λ v. Ok (v.0, drop v.1 (b ++ rest))) in
     let left : List ℕ → Result (ℕ × List ℕ) CidFault = λ r. Ok (n, r) in
     ap next (varints.read b n rest h) ∙ ap left (drop_at b rest (length b) refl)
-
--- the number that is spelled at the front is read, and what follows is left
-pub number_again : (n : ℕ) (rest : List ℕ) → n < 2 ^ 63 → number_at (varint_of n ++ rest) ≡ Ok (n, rest)
-number_again n rest small = number_spelled (varint_of n) n rest (varints.spelled n small)
-
--- a varint that is read as a part is read
-part_ok : (r : Result (ℕ × ℕ) VarintFault) (v : ℕ × ℕ) → as_part r ≡ Ok v → r ≡ Ok v
-part_ok (Ok w) v h = (let is : w ≡ v = same_answer w v h in let answer : ℕ × ℕ → Result (ℕ × ℕ) VarintFault = λ u. Ok u in ap answer is)
-part_ok (Err varint_faults.Truncated) v h = absurd cc
-part_ok (Err varint_faults.TooLong) v h = absurd cc
-part_ok (Err varint_faults.NotMinimal) v h = absurd cc
 
 -- what is read as a number is its one varint
 pub number_read : (b : List ℕ) (n : ℕ) (rest : List ℕ) → AreBytes b → number_at b ≡ Ok (n, rest) → (n < 2 ^ 63) × (b ≡ varint_of n ++ rest)
@@ -352,75 +339,3 @@ parts_are c p h = ap parts_or_none (parts_whole c p h)
 -- a CID has one form
 pub one_parts : (c : List ℕ) (p q : Parts) → IsCidOf c p → IsCidOf c q → p ≡ q
 one_parts c p q x y = sym (parts_are c p x) ∙ parts_are c q y
-
--- a CID is at least one byte
-pub cid_some : (c : List ℕ) (p : Parts) → IsCidOf c p → 0 < length c
-cid_some c p h =
-    let P : List ℕ → Type 0 = λ b. 0 < length b in
-    let Q : Parts → Type 0 = λ q. 0 < length (parts_spelling q) in
-    subst P (sym h.spelled)
-    (⊎_elim
-    (λ (v : IsVersion0 p). subst Q (sym (version_0_is p v)) (let c : 0 < length (parts_spelling (version_0 p.digest)) = omega arith in c))
-    (λ (v : IsVersion1 p). subst Q (sym (version_1_is p v)) (let c : 0 < length (parts_spelling (version_1 p.codec p.hash_code p.digest)) = omega arith in c))
-    h.form)
-
--- the digest of a CID of bytes is bytes
-pub digest_bytes : (c : List ℕ) (p : Parts) → AreBytes c → IsCidOf c p → AreBytes p.digest
-digest_bytes c p bytes h =
-    let all : AreBytes (parts_spelling p) = subst AreBytes h.spelled bytes in
-    let P : Parts → Type 0 = λ q. AreBytes (parts_spelling q) in
-    ⊎_elim
-    (λ (v : IsVersion0 p). bytes_rest (0x12 ∷ 0x20 ∷ []) p.digest (subst P (version_0_is p v) all))
-    (λ (v : IsVersion1 p).
-    let behind_size : List ℕ = varint_of (length p.digest) ++ p.digest in
-    let behind_hash : List ℕ = varint_of p.hash_code ++ behind_size in
-    let behind_codec : List ℕ = varint_of p.codec ++ behind_hash in
-    bytes_rest (varint_of (length p.digest)) p.digest
-    (bytes_rest (varint_of p.hash_code) behind_size (bytes_rest (varint_of p.codec) behind_hash (bytes_rest (varint_of 1) behind_codec (subst P (version_1_is p v) all)))))
-    h.form
-
--- a CID whose digest is bytes is bytes
-pub cid_bytes : (c : List ℕ) (p : Parts) → AreBytes p.digest → IsCidOf c p → AreBytes c
-cid_bytes c p bytes h =
-    let P : Parts → Type 0 = λ q. AreBytes (parts_spelling q) in
-    subst AreBytes (sym h.spelled)
-    (⊎_elim
-    (λ (v : IsVersion0 p).
-    let byte : ℕ → Type 0 = λ x. x < 2 ^ 8 in
-    subst P (sym (version_0_is p v)) (All-cons byte 0x12 (0x20 ∷ p.digest) (omega arith) (All-cons byte 0x20 p.digest (omega arith) bytes)))
-    (λ (v : IsVersion1 p).
-    let n : ℕ = length p.digest in
-    let size : AreBytes (varint_of n ++ p.digest) = bytes_append (varint_of n) p.digest (varints.spelling_bytes n v.size) bytes in
-    let hash : AreBytes (varint_of p.hash_code ++ (varint_of n ++ p.digest)) = bytes_append (varint_of p.hash_code) (varint_of n ++ p.digest) (varints.spelling_bytes p.hash_code v.hash_code) size in
-    let codec : AreBytes (varint_of p.codec ++ (varint_of p.hash_code ++ (varint_of n ++ p.digest))) =
-    bytes_append (varint_of p.codec) (varint_of p.hash_code ++ (varint_of n ++ p.digest)) (varints.spelling_bytes p.codec v.codec) hash in
-    subst P (sym (version_1_is p v)) (bytes_append (varint_of 1) (varint_of p.codec ++ (varint_of p.hash_code ++ (varint_of n ++ p.digest))) (varints.spelling_bytes 1 (omega arith)) codec))
-    h.form)
-
--- the form of a CID
-pub cid_form : (c : List ℕ) → AreBytes c → IsCid c → (IsVersion0 (parts_of c) ⊎ IsVersion1 (parts_of c)) × (c ≡ parts_spelling (parts_of c))
-cid_form c bytes h =
-    let is = is_cid c bytes h in
-    let P : Parts → Type 0 = λ p. (IsVersion0 p ⊎ IsVersion1 p) × (c ≡ parts_spelling p) in
-    subst P (sym (parts_are c is.0 is.1)) (is.1.form, is.1.spelled)
-
--- a CID has one of two versions
-pub cid_version : (c : List ℕ) → AreBytes c → IsCid c → (version_of c ≡ 0) ⊎ (version_of c ≡ 1)
-cid_version c bytes h = ⊎_elim (λ (v : IsVersion0 (parts_of c)). inl v.version) (λ (v : IsVersion1 (parts_of c)). inr v.version) (cid_form c bytes h).0
-
--- a CID that isn't version 0 is read as a numbered one, and nothing is left
-pub numbered_whole : (c : List ℕ) → AreBytes c → IsCid c → (version_of c ≡ 0 → ⊥) → numbered_at c ≡ Ok (parts_of c, [])
-numbered_whole c bytes h other =
-    let is = cid_form c bytes h in
-    ⊎_elim
-    (λ (v : IsVersion0 (parts_of c)). absurd (other v.version))
-    (λ (v : IsVersion1 (parts_of c)).
-    ap numbered_at (is.1 ∙ sym (append-nil (parts_spelling (parts_of c)))) ∙ numbered_again (parts_of c) [] v)
-    is.0
-
--- what is read as a numbered CID with nothing left is a CID of version 1
-pub numbered_cid : (c : List ℕ) (p : Parts) → AreBytes c → numbered_at c ≡ Ok (p, []) → IsCidOf c p × IsCid c × (version_of c ≡ 1)
-numbered_cid c p bytes h =
-    let is = numbered_read c p [] bytes h in
-    let form : IsCidOf c p = record { form = inr is.0; spelled = is.1 ∙ append-nil (parts_spelling p) } in
-    (form, cid_is c p form, ap (λ (q : Parts). q.version) (parts_are c p form) ∙ is.0.version)

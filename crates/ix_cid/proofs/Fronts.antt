@@ -4,21 +4,17 @@ use Rattle.std.proofs.lemmas.List.{take_at, drop_at, take-append-drop, length-ta
 use Rattle.std.proofs.lemmas.Bool.{leb-false, eqb-false, ltb-false, le-ltb}
 use Rattle.ix_cid.specs.Varint.{number_of_groups, continued, varint_ending, varint_at}
 use Rattle.ix_cid.specs.Cid.{◌>>=◌, as_part, number_at, bytes_at}
-use Rattle.ix_cid.specs.declared.fault.VarintFault.{VarintFault}
 use Rattle.ix_cid.specs.declared.fault.VarintFault.TheVariants as varints
 use Rattle.ix_cid.specs.declared.fault.CidFault.{CidFault}
 use Rattle.ix_cid.specs.declared.fault.CidFault.TheVariants.{Truncated}
+use Rattle.ix_cid.proofs.GroupLaws.{continued_length}
+use Rattle.ix_cid.proofs.Results.{bind_ok, part_ok}
 use Rattle.ix_cid.proofs.Varints.{varint_at-ends}
 
 -- which way a test went
 pub chosen : {A : Type 0} (t : Bool) (x y z : A) → cond t x y ≡ z → ((t ≡ true) × (x ≡ z)) ⊎ ((t ≡ false) × (y ≡ z))
 chosen true x y z h = inl (refl, h)
 chosen false x y z h = inr (refl, h)
-
--- what goes on with a value had one
-pub bind_ok : {A B : Type 0} (r : Result A CidFault) (f : A → Result B CidFault) (y : B) → (r >>= f) ≡ Ok y → (x : A) × (r ≡ Ok x) × (f x ≡ Ok y)
-bind_ok (Ok x) f y h = (x, refl, h)
-bind_ok (Err e) f y h = absurd (cc h)
 
 -- what a reading that succeeded gave
 pub ok_parts : {A B E : Type 0} (a c : A) (b d : B) → ◌≡◌ {A = Result (A × B) E} (Ok (a, b)) (Ok (c, d)) → (a ≡ c) × (b ≡ d)
@@ -93,13 +89,6 @@ bytes_at-reads n bytes x rest h =
           ∙ ap (λ l. Ok (x, l)) (drop_at (take n bytes) more n long);
     }) s
 
--- no more bytes continue than there are
-pub continued-le : (bytes : List ℕ) → continued bytes ≤ length bytes
-continued-le [] = omega arith
-continued-le (b ∷ bs) =
-    let le : continued bs ≤ length bs = continued-le bs in
-    elim (leb 128 b) as (λ t. cond t (continued bs + 1) 0 ≤ suc (length bs)) [ true ↦ omega (arith, le) | false ↦ omega arith ]
-
 -- which bytes continue is known at the first that doesn't
 pub continued-front : (k : ℕ) (bytes more : List ℕ) → continued bytes < k → k ≤ length bytes → continued (take k bytes ++ more) ≡ continued bytes
 continued-front zero bytes more below within = absurd (omega arith)
@@ -133,7 +122,7 @@ ReadsVarint-from_ok bytes n k h =
     let differs : c ≡ length bytes → ⊥ = eqb-false c (length bytes) whole.0 in
     record {
       few = few;
-      within = omega (arith, differs, continued-le bytes);
+      within = omega (arith, differs, continued_length bytes);
       size = e.1;
       number = ap (λ i. number_of_groups (take i bytes)) (sym e.1) ∙ e.0;
       ending = whole.1;
@@ -154,13 +143,6 @@ varint_at-again bytes n k more r =
     ∙ ap (λ l. cond (eqb (get_or bytes c 0) 0 && ltb 0 c) (Err varints.NotMinimal) (Ok (number_of_groups l, c + 1))) front
     ∙ r.ending
 
--- a part that was read is a varint
-pub as_part-ok : (r : Result (ℕ × ℕ) VarintFault) (v : ℕ × ℕ) → as_part r ≡ Ok v → r ≡ Ok v
-as_part-ok (Ok w) v h = ap Ok (cc h)
-as_part-ok (Err varints.Truncated) v h = absurd (cc h)
-as_part-ok (Err varints.TooLong) v h = absurd (cc h)
-as_part-ok (Err varints.NotMinimal) v h = absurd (cc h)
-
 -- the number of a varint that was read, and the bytes after it
 pub number_at-again : (bytes : List ℕ) (n k : ℕ) → ReadsVarint bytes n k → Again 1 number_at bytes n (drop k bytes)
 number_at-again bytes n k r =
@@ -178,6 +160,6 @@ number_at-again bytes n k r =
 pub number_at-reads : ReadsFront 1 number_at
 number_at-reads bytes x rest h =
     let s = bind_ok (as_part (varint_at bytes)) (λ v. Ok (v.0, drop v.1 bytes)) (x, rest) h in
-    let r = ReadsVarint-from_ok bytes s.0.0 s.0.1 (as_part-ok (varint_at bytes) s.0 s.1) in
+    let r = ReadsVarint-from_ok bytes s.0.0 s.0.1 (part_ok (varint_at bytes) s.0 s.1) in
     let e = ok_parts s.0.0 x (drop s.0.1 bytes) rest s.2 in
     subst (λ (y : ℕ). Again 1 number_at bytes y rest) e.0 (subst (λ (l : List ℕ). Again 1 number_at bytes s.0.0 l) e.1 (number_at-again bytes s.0.0 s.0.1 r))

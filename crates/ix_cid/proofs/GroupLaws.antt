@@ -2,7 +2,7 @@
 use Rattle.std.proofs.Common.{◌≡◌, ℕ, zero, suc, ◌+◌, ◌*◌, ◌/◌, ◌%◌, ◌^◌, ◌<◌, ◌≤◌, true, false, ltb, leb, List, [], ◌∷◌, ◌++◌, length, get_or, take, refl, sym, ◌∙◌, subst, add-one, ⊎_elim, arith}
 use Rattle.std.proofs.Math.Nat.{pow-succ'}
 use Rattle.std.proofs.lemmas.Bool.{lt-leb, le-leb, lt-ltb, le-ltb, leb-true, leb-false, ltb-true, ltb-false, cond_both, cond-true, cases_lt}
-use Rattle.std.proofs.lemmas.List.Elements.{All-head, All-tail, All-cons, All-nil}
+use Rattle.std.proofs.lemmas.List.Elements.{All-head, All-tail}
 use Rattle.ix_cid.specs.Bytes.{AreBytes}
 use Rattle.ix_cid.specs.Varint.{number_of_groups, continued, groups_of, AreGroups, last, more}
 
@@ -29,11 +29,6 @@ last_group (more {b = b} {bs = bs} small some h) any rest =
 pub some_group : {b : List ℕ} {n : ℕ} → AreGroups b n → 0 < length b
 some_group (last small) = omega arith
 some_group (more small some h) = omega arith
-
--- groups are bytes
-pub groups_bytes : {b : List ℕ} {n : ℕ} → AreGroups b n → AreBytes b
-groups_bytes (last {b = b} small) = All-cons (λ x. x < 2 ^ 8) b [] (omega arith) (All-nil (λ x. x < 2 ^ 8))
-groups_bytes (more {b = b} {bs = bs} small some h) = All-cons (λ x. x < 2 ^ 8) (128 + b) bs (omega arith) (groups_bytes h)
 
 -- what one byte more spells
 power_more : (k : ℕ) → 128 ^ (suc k + 1) ≡ 128 * 128 ^ (k + 1)

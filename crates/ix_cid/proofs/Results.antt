@@ -1,7 +1,9 @@
 -- Readings in turn: what an answer says of each.
-use Rattle.std.proofs.Common.{◌≡◌, Bool, true, false, cond, Result, Ok, Err, refl, ap}
-use Rattle.ix_cid.specs.Cid.{◌>>=◌}
+use Rattle.std.proofs.Common.{◌≡◌, ℕ, Bool, true, false, cond, Result, Ok, Err, refl, ap}
+use Rattle.ix_cid.specs.Cid.{◌>>=◌, as_part}
 use Rattle.ix_cid.specs.Gives.{Fails}
+use Rattle.ix_cid.specs.declared.fault.VarintFault.{VarintFault}
+use Rattle.ix_cid.specs.declared.fault.VarintFault.TheVariants as varints
 use Rattle.ix_cid.specs.declared.fault.CidFault.{CidFault}
 use Rattle.ix_cid.specs.declared.fault.CidFault.TheVariants.{Truncated, Varint, Version, Memory, Multibase, Base32, Rest}
 
@@ -22,6 +24,13 @@ bind_ok (Err e) f y h = absurd cc
 -- two readings in turn, where the first answers
 pub bind_to : {A B : Type 0} (r : Result A CidFault) (x : A) (f : A → Result B CidFault) → r ≡ Ok x → (r >>= f) ≡ f x
 bind_to {A = A} {B = B} r x f e = let next : Result A CidFault → Result B CidFault = λ s. s >>= f in ap next e
+
+-- a varint that is read as a part is read
+pub part_ok : (r : Result (ℕ × ℕ) VarintFault) (v : ℕ × ℕ) → as_part r ≡ Ok v → r ≡ Ok v
+part_ok (Ok w) v h = ap Ok (cc h)
+part_ok (Err varints.Truncated) v h = absurd (cc h)
+part_ok (Err varints.TooLong) v h = absurd (cc h)
+part_ok (Err varints.NotMinimal) v h = absurd (cc h)
 
 -- an answer behind a test for no fault
 pub past_guard : {A E : Type 0} (b : Bool) (e : E) (r : Result A E) (x : A) → cond b r (Err e) ≡ Ok x → (b ≡ true) × (r ≡ Ok x)

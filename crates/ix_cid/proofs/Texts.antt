@@ -15,43 +15,29 @@ use Rattle.ix_cid.specs.declared.fault.VarintFault.{VarintFault}
 use Rattle.ix_cid.specs.declared.fault.VarintFault.TheVariants as varints
 use Rattle.ix_cid.proofs.Quanta.{bytes_of_letters-base32_of}
 use Rattle.ix_cid.proofs.Base32Laws.{spelled, is_base32, read-is, read-only}
-use Rattle.ix_cid.proofs.Results.{fails_with}
-
--- A chain gives a value only where its first part gives one.
-pub bind-ok : {A B : Type 0} (r : Result A CidFault) (f : A → Result B CidFault) (y : B) → (r >>= f) ≡ Ok y → (x : A) × (r ≡ Ok x) × (f x ≡ Ok y)
-bind-ok (Ok x) f y h = (x, refl, h)
-bind-ok (Err e) f y h = absurd (cc)
-
--- Two values that are answered alike are alike.
-pub ok-is : {A : Type 0} (x y : A) → ◌≡◌ {A = Result A CidFault} (Ok x) (Ok y) → x ≡ y
-ok-is x y h = cc
-
--- What a test lets pass has passed the test.
-pub when-ok : {A : Type 0} (b : Bool) (r : Result A CidFault) (e : CidFault) (y : A) → (if b then r else Err e) ≡ Ok y → (b ≡ true) × (r ≡ Ok y)
-when-ok true r e y h = (refl, h)
-when-ok false r e y h = absurd (cc)
+use Rattle.ix_cid.proofs.Results.{past_guard, same_answer, bind_ok, fails_with}
 
 -- What is read behind the version 1 has that version.
 pub version_1_at-version : (bytes : List ℕ) (p : Parts × List ℕ) → version_1_at bytes ≡ Ok p → p.0.version ≡ 1
 version_1_at-version bytes p h =
-    let codec = bind-ok (number_at bytes) _ p h in
-    let hash = bind-ok (number_at codec.0.1) _ p codec.2 in
-    let size = bind-ok (number_at hash.0.1) _ p hash.2 in
-    let digest = bind-ok (bytes_at size.0.0 size.0.1) _ p size.2 in
-    ap (λ (x : Parts × List ℕ). x.0.version) (sym (ok-is _ p digest.2))
+    let codec = bind_ok (number_at bytes) _ p h in
+    let hash = bind_ok (number_at codec.0.1) _ p codec.2 in
+    let size = bind_ok (number_at hash.0.1) _ p hash.2 in
+    let digest = bind_ok (bytes_at size.0.0 size.0.1) _ p size.2 in
+    ap (λ (x : Parts × List ℕ). x.0.version) (sym (same_answer _ p digest.2))
 
 -- What begins with a version that is numbered has the version 1.
 pub numbered_at-version : (bytes : List ℕ) (p : Parts × List ℕ) → numbered_at bytes ≡ Ok p → p.0.version ≡ 1
 numbered_at-version bytes p h =
-    let version = bind-ok (number_at bytes) _ p h in
-    let behind = when-ok (version.0.0 == 1) (version_1_at version.0.1) (Version version.0.0) p version.2 in
+    let version = bind_ok (number_at bytes) _ p h in
+    let behind = past_guard (version.0.0 == 1) (Version version.0.0) (version_1_at version.0.1) p version.2 in
     version_1_at-version version.0.1 p behind.1
 
 -- `12 20` and the digest has the version 0.
 pub version_0_at-version : (bytes : List ℕ) (p : Parts × List ℕ) → version_0_at bytes ≡ Ok p → p.0.version ≡ 0
 version_0_at-version bytes p h =
-    let whole = bind-ok (bytes_at 34 bytes) _ p h in
-    ap (λ (x : Parts × List ℕ). x.0.version) (sym (ok-is _ p whole.2))
+    let whole = bind_ok (bytes_at 34 bytes) _ p h in
+    ap (λ (x : Parts × List ℕ). x.0.version) (sym (same_answer _ p whole.2))
 
 -- A first byte of 18 spells 18.
 varint_at-18 : (rest : List ℕ) → varint_at (18 ∷ rest) ≡ Ok (18, 1)
@@ -111,10 +97,10 @@ numbered_at-whole (b ∷ bs) p h whole = nil_from_length p.1 (omega arith)
 -- A CID of version 1 is numbered, and nothing stands behind it.
 pub numbered_at-version_1 : (bytes : List ℕ) → IsCid bytes → version_of bytes ≡ 1 → (p : Parts × List ℕ) × (numbered_at bytes ≡ Ok p) × (p.1 ≡ [])
 numbered_at-version_1 bytes is one =
-    let read = bind-ok (parts_at bytes) (λ q. Ok (take (length bytes - length q.1) bytes, length bytes - length q.1)) (bytes, length bytes) is in
+    let read = bind_ok (parts_at bytes) (λ q. Ok (take (length bytes - length q.1) bytes, length bytes - length q.1)) (bytes, length bytes) is in
     let p : Parts × List ℕ = read.0 in
     let version : p.0.version ≡ 1 = ap (λ (x : Result (Parts × List ℕ) CidFault). (parts_or_none x).version) (sym read.1) ∙ one in
-    let size : length bytes - length p.1 ≡ length bytes = ap (λ (x : List ℕ × ℕ). x.1) (ok-is _ (bytes, length bytes) read.2) in
+    let size : length bytes - length p.1 ≡ length bytes = ap (λ (x : List ℕ × ℕ). x.1) (same_answer _ (bytes, length bytes) read.2) in
     ⊎_elim
     (λ (begins : begins_version_0 bytes ≡ true).
     let zeroth : version_0_at bytes ≡ Ok p = ap (λ (x : Bool). if x then version_0_at bytes else numbered_at bytes) (sym begins) ∙ read.1 in
@@ -153,16 +139,16 @@ cid_of_text-text_of c are is one =
 
 -- Where nothing is refused, nothing is left.
 without_rest-ok : (bytes rest c : List ℕ) → without_rest bytes rest ≡ Ok c → (rest ≡ []) × (bytes ≡ c)
-without_rest-ok bytes [] c h = (refl, ok-is bytes c h)
+without_rest-ok bytes [] c h = (refl, same_answer bytes c h)
 without_rest-ok bytes (b ∷ bs) c h = absurd (cc)
 
 -- What is read is a CID of version 1, and its text is what was read.
 pub cid_of_text-ok : (t c : List ℕ) → cid_of_text t ≡ Ok c → IsCid c × (version_of c ≡ 1) × (t ≡ text_of c)
 cid_of_text-ok [] c h = absurd (cc)
 cid_of_text-ok (first ∷ letters) c h =
-    let base = when-ok (first == 98) (bytes_of_base32 letters >>= (λ bytes. numbered_at bytes >>= (λ p. without_rest bytes p.1))) Multibase c h in
-    let decoded = bind-ok (bytes_of_base32 letters) _ c base.1 in
-    let read = bind-ok (numbered_at decoded.0) _ c decoded.2 in
+    let base = past_guard (first == 98) Multibase (bytes_of_base32 letters >>= (λ bytes. numbered_at bytes >>= (λ p. without_rest bytes p.1))) c h in
+    let decoded = bind_ok (bytes_of_base32 letters) _ c base.1 in
+    let read = bind_ok (numbered_at decoded.0) _ c decoded.2 in
     let whole = without_rest-ok decoded.0 read.0.1 c read.2 in
     let one : version_of decoded.0 ≡ 1 = version_of-numbered decoded.0 read.0 read.1 in
     let spelled : first ∷ letters ≡ text_of decoded.0 =
@@ -205,16 +191,16 @@ module _ (t letters bytes : List ℕ) (begins : t ≡ 98 ∷ letters) (read : by
   -- bytes that are longer than the parts are refused
   pub text-rest : (n : ℕ) → length_at bytes ≡ Ok n → n < length bytes → cid_of_text t ≡ Err Rest
   text-rest n h more =
-      let front = bind-ok (numbered_at bytes) (λ p. Ok (length bytes - length p.1)) n h in
-      let size : length bytes - length front.0.1 ≡ n = ok-is _ n front.2 in
+      let front = bind_ok (numbered_at bytes) (λ p. Ok (length bytes - length p.1)) n h in
+      let size : length bytes - length front.0.1 ≡ n = same_answer _ n front.2 in
       let F : Result (Parts × List ℕ) CidFault → Result (List ℕ) CidFault = λ x. x >>= (λ p. without_rest bytes p.1) in
       text-is ∙ ap F front.1 ∙ without_rest-some bytes front.0.1 (omega arith)
 
   -- bytes that are as long as the parts are the CID
   pub text-whole : (n : ℕ) → length_at bytes ≡ Ok n → length bytes ≤ n → IsCid bytes × (cid_of_text t ≡ Ok bytes)
   text-whole n h most =
-      let front = bind-ok (numbered_at bytes) (λ p. Ok (length bytes - length p.1)) n h in
-      let size : length bytes - length front.0.1 ≡ n = ok-is _ n front.2 in
+      let front = bind_ok (numbered_at bytes) (λ p. Ok (length bytes - length p.1)) n h in
+      let size : length bytes - length front.0.1 ≡ n = same_answer _ n front.2 in
       let none = numbered_at-whole bytes front.0 front.1 (omega arith) in
       let F : Result (Parts × List ℕ) CidFault → Result (List ℕ) CidFault = λ x. x >>= (λ p. without_rest bytes p.1) in
       (IsCid-numbered bytes front.0 front.1 none, text-is ∙ ap F front.1 ∙ ap (without_rest bytes) none)
@@ -222,11 +208,3 @@ module _ (t letters bytes : List ℕ) (begins : t ≡ 98 ∷ letters) (read : by
 -- The text of a CID of version 0.
 pub text_of-version_0 : (c : List ℕ) → version_of c ≡ 0 → text_of c ≡ codes "v0-" ++ hex_of c
 text_of-version_0 c none = ap (λ (x : ℕ). if x == 0 then codes "v0-" ++ hex_of c else 98 ∷ base32_of c) none
-
--- A CID that doesn't begin as a CIDv0 has the version 1.
-pub version_of-other : (c : List ℕ) → IsCid c → begins_version_0 c ≡ false → version_of c ≡ 1
-version_of-other c is other =
-    let read = bind-ok (parts_at c) (λ q. Ok (take (length c - length q.1) c, length c - length q.1)) (c, length c) is in
-    let p : Parts × List ℕ = read.0 in
-    let first : numbered_at c ≡ Ok p = ap (λ (x : Bool). if x then version_0_at c else numbered_at c) (sym other) ∙ read.1 in
-    version_of-numbered c p first

@@ -7,7 +7,7 @@ use Rattle.ix_cid.specs.Varint.{number_of_groups, continued, AreGroups, last, mo
 use Rattle.ix_cid.specs.declared.fault.VarintFault.{VarintFault}
 use Rattle.ix_cid.specs.declared.fault.VarintFault.TheVariants.{Truncated, TooLong, NotMinimal}
 use Rattle.ix_cid.proofs.Results.{past_test, same_answer}
-use Rattle.ix_cid.proofs.GroupLaws.{continued_groups, number_groups, last_group, some_group, groups_bytes, bound_groups, one_spelling, groups_spell, groups_length, continued_length, read_groups, read_one_group}
+use Rattle.ix_cid.proofs.GroupLaws.{continued_groups, number_groups, last_group, bound_groups, one_spelling, groups_spell, groups_length, continued_length, read_groups, read_one_group}
 
 -- a number below 2 ^ 63 has a varint
 pub spelled : (n : ℕ) → n < 2 ^ 63 → IsVarint (varint_of n) n
@@ -92,11 +92,3 @@ no_beginning a b x y m n ha hb same =
     let pair : (m, length a) ≡ (n, length b) = same_answer (m, length a) (n, length b) (sym (read a m x ha) ∙ (ap varint_at same ∙ read b n y hb)) in
     let number : m ≡ n = ap (λ (p : ℕ × ℕ). p.0) pair in
     (one a m ha ∙ (ap varint_of number ∙ sym (one b n hb)), number)
-
--- a varint is bytes
-pub spelling_bytes : (n : ℕ) → n < 2 ^ 63 → AreBytes (varint_of n)
-spelling_bytes n small = groups_bytes (spelled n small).groups
-
--- one to nine of them
-pub spelling_size : (n : ℕ) → n < 2 ^ 63 → (0 < length (varint_of n)) × (length (varint_of n) ≤ 9)
-spelling_size n small = (some_group (spelled n small).groups, (spelled n small).short)

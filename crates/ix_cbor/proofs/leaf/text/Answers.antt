@@ -1,0 +1,23 @@
+use Rattle.std.proofs.Common.{ap, sym, ◌∙◌}
+use Rattle.std.specs.Prelude.{Ok}
+use Rattle.std.proofs.lemmas.Result.{err_from_is_err_and}
+use Rattle.ix_cbor.specs.Data.{text}
+use Rattle.ix_cbor.specs.Reading.{◌>>=◌, leaf, own_behind}
+use Rattle.ix_cbor.proofs.Fitting.{data_of-text}
+use Rattle.ix_cbor.proofs.Fronts.{FailsAs-exactly}
+use Rattle.ix_cbor.proofs.Leaves.{as_leaf, text_behind}
+use Rattle.ix_cbor.proofs.leaf.text.Goals as goal
+
+pub returns : goal.returns
+returns c =
+    text_behind c.args.at.now c.args.information c.args.bytes.now
+    ∙ ap (λ r. r >>= as_leaf text) c.in_ok-string.ensures
+    ∙ ap (λ s. Ok (leaf (text s), c.in_ok-string.rest.now)) (sym c.in_ok-from_slice.ensures.items)
+    ∙ ap (λ d. Ok (leaf d, c.in_ok-string.rest.now)) (sym (data_of-text c.in_ok-from_slice.field-0))
+
+pub returns-in_err-string : goal.returns-in_err-string
+returns-in_err-string c =
+    let p = err_from_is_err_and c.from_residual.result c.from_residual.ensures.1 in
+    rw (p.1, p.2)
+    (FailsAs-exactly c.in_err-string.field-0.0.kind c.in_err-string.field-0.0.left (own_behind c.args.at.now 3 c.args.information c.args.bytes.now)
+    (text_behind c.args.at.now c.args.information c.args.bytes.now ∙ ap (λ r. r >>= as_leaf text) c.in_err-string.ensures))
