@@ -61,7 +61,8 @@ fn check_lists<C: Check>(
 ) -> Result<(), AllocError>
     requires visits { EachOfStore store.now (end_to_end lists.now) }
     requires room { (verdicts.old.items ≡ []) × (chunk.count ≤ vec_capacity verdicts.old) }
-    ensures { IsCheckedFirst store.now (visits_in chunk (end_to_end lists.now)) (C.checked check.old) (C.checked check.new) [] verdicts.new.items }
+    ensures first { IsCheckedFirst store.now (visits_in chunk (end_to_end lists.now)) (C.checked check.old) (C.checked check.new) [] verdicts.new.items }
+    ensures all { OnOk result (vec_len verdicts.new ≡ length (visits_in chunk (end_to_end lists.now))) }
 {
     let mut skip = chunk.from;
     let mut left = chunk.count;
