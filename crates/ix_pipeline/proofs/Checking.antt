@@ -162,12 +162,23 @@ module _ (store : Blocks) (visits : List Visit) (before : List (ℕ × ℕ)) (ch
       }
 
   -- the lists are at an end
+  done_whole : (after : List (ℕ × ℕ)) (verdicts : List Verdict) (skip left : ℕ) (behind : List Visit)
+      → (u : IsUnderCheck store visits before after verdicts chunk skip left behind) → behind ≡ [] → visits_in chunk visits ≡ u.done
+  done_whole after verdicts skip left behind u none =
+      let gone : drop skip behind ≡ [] = drop_all skip behind (let s : length behind ≡ 0 = ap length none in omega arith) in
+      let nothing : take left (drop skip behind) ≡ [] = take_all left (drop skip behind) (let s : length (drop skip behind) ≡ 0 = ap length gone in omega arith) ∙ gone in
+      u.whole ∙ ap (λ (l : List Visit). u.done ++ l) nothing ∙ append-nil u.done
+
+  -- so each visit of the chunk has its verdict
+  pub check_ends_all : (after : List (ℕ × ℕ)) (verdicts : List Verdict) (skip left : ℕ) (behind : List Visit)
+      → IsUnderCheck store visits before after verdicts chunk skip left behind → behind ≡ [] → length verdicts ≡ length (visits_in chunk visits)
+  check_ends_all after verdicts skip left behind u none =
+      ap length u.verdicts_are ∙ length-map u.done (λ (v : Visit). verdict_of store v.cid) ∙ sym (ap length (done_whole after verdicts skip left behind u none))
+
   pub check_ends : (after : List (ℕ × ℕ)) (verdicts : List Verdict) (skip left : ℕ) (behind : List Visit)
       → IsUnderCheck store visits before after verdicts chunk skip left behind → behind ≡ [] → IsCheckedFirst store (visits_in chunk visits) before after [] verdicts
   check_ends after verdicts skip left behind u none =
-      let gone : drop skip behind ≡ [] = drop_all skip behind (let s : length behind ≡ 0 = ap length none in omega arith) in
-      let nothing : take left (drop skip behind) ≡ [] = take_all left (drop skip behind) (let s : length (drop skip behind) ≡ 0 = ap length gone in omega arith) ∙ gone in
-      let whole : visits_in chunk visits ≡ u.done = u.whole ∙ ap (λ (l : List Visit). u.done ++ l) nothing ∙ append-nil u.done in
+      let whole : visits_in chunk visits ≡ u.done = done_whole after verdicts skip left behind u none in
       let first : take (length u.done) (visits_in chunk visits) ≡ u.done = ap (λ (l : List Visit). take (length u.done) l) whole ∙ take_all (length u.done) u.done (omega arith) in
       record {
         count = length u.done;

@@ -1,6 +1,6 @@
 //! Chunks of the visits of all lists, put end to end, and how they are checked.
 
-ghost use Rattle.std.specs.Prelude.{◌≡◌, ◌≤◌, ◌+◌, [], length, vec_len, vec_capacity, OnOk, IfSome};
+ghost use Rattle.std.specs.Prelude.{◌≡◌, ◌≤◌, ◌+◌, [], length, vec_len, vec_capacity, ◌^◌, OnOk, IfSome, IfNone};
 ghost use Rattle.ix_pipeline.specs.Listing.{end_to_end};
 ghost use Rattle.ix_pipeline.specs.Judging.{EachOfStore, IsCheckedFirst, visits_in};
 
@@ -18,7 +18,8 @@ pub(crate) struct Chunk {
 
 // How many visits all lists have, if a number can say it.
 pub(crate) fn count_all(lists: &[Listed]) -> Option<usize>
-    ensures { IfSome result (λ n. n ≡ length (end_to_end lists.now)) }
+    ensures all { IfSome result (λ n. n ≡ length (end_to_end lists.now)) }
+    ensures none { IfNone result (2 ^ 64 ≤ length (end_to_end lists.now)) }
 {
     let mut count = 0usize;
     for list in lists {
@@ -60,7 +61,8 @@ fn check_lists<C: Check>(
 ) -> Result<(), AllocError>
     requires visits { EachOfStore store.now (end_to_end lists.now) }
     requires room { (verdicts.old.items ≡ []) × (chunk.count ≤ vec_capacity verdicts.old) }
-    ensures { IsCheckedFirst store.now (visits_in chunk (end_to_end lists.now)) (C.checked check.old) (C.checked check.new) [] verdicts.new.items }
+    ensures first { IsCheckedFirst store.now (visits_in chunk (end_to_end lists.now)) (C.checked check.old) (C.checked check.new) [] verdicts.new.items }
+    ensures all { OnOk result (vec_len verdicts.new ≡ length (visits_in chunk (end_to_end lists.now))) }
 {
     let mut skip = chunk.from;
     let mut left = chunk.count;

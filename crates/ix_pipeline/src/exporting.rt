@@ -97,7 +97,8 @@ impl<C: Check + Drop> Room<C> {
     ) -> Result<Room<C>, AllocError>
         requires walkers { 0 < walkers }
         requires jobs { length jobs.now.items ≤ 1000 }
-        ensures { IfOk result (λ room. (store : Blocks) → IsReady store jobs.now.items verifiers room) }
+        ensures ready { IfOk result (λ room. (store : Blocks) → IsReady store jobs.now.items verifiers room) }
+        ensures many { IfOk result (λ room. room.walks.count ≡ walkers) }
     {
         Ok(Room {
             walks: WalkRoom::new(alloc, jobs, walkers)?,

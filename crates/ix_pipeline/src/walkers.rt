@@ -202,7 +202,8 @@ impl WalkRoom {
     pub(crate) fn new(alloc: Global, jobs: &Vec<Job>, count: usize) -> Result<WalkRoom, AllocError>
         requires count { 0 < count }
         requires jobs { length jobs.now.items ≤ 1000 }
-        ensures { IfOk result (λ room. (store : Blocks) → CanWalk store jobs.now.items room) }
+        ensures can { IfOk result (λ room. (store : Blocks) → CanWalk store jobs.now.items room) }
+        ensures many { IfOk result (λ room. room.count ≡ count) }
     {
         let mut lists = Vec::with_capacity(alloc, jobs.len())?;
         for number in 0..jobs.len() {

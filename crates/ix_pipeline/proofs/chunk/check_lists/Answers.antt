@@ -3,7 +3,7 @@ use Rattle.std.proofs.lemmas.List.{drop_all}
 use Rattle.ix_walk.specs.declared.visit.Visit.{Visit}
 use Rattle.ix_pipeline.specs.declared.listing.Listed.{Listed}
 use Rattle.ix_pipeline.specs.Listing.{end_to_end}
-use Rattle.ix_pipeline.proofs.Checking.{IsUnderCheck, end_to_end-more, part_is, next_of_store, check_more, check_stops, check_ends}
+use Rattle.ix_pipeline.proofs.Checking.{IsUnderCheck, end_to_end-more, part_is, next_of_store, check_more, check_stops, check_ends, check_ends_all}
 use Rattle.ix_pipeline.proofs.chunk.check_lists.Goals as goal
 
 pub check_visits-requires-clause-visits : goal.check_visits-requires-clause-visits
@@ -16,8 +16,8 @@ check_visits-requires-clause-visits g c =
     next_of_store c.args.store.now (end_to_end c.args.lists.now) (g.C.Check.checked c.args.check.now) c.args.chunk (g.C.Check.checked c.loop-list.check) c.loop-list.verdicts.items c.loop-list.skip c.loop-list.left c.min-from.result c.min-count.result xs ys _ u
     (part_is c.min-from.result c.min-count.result xs c.deref.result.now c.deref.ensures.value)
 
-pub returns-in_err-check_visits : goal.returns-in_err-check_visits
-returns-in_err-check_visits g c =
+pub returns-in_err-check_visits-clause-first : goal.returns-in_err-check_visits-clause-first
+returns-in_err-check_visits-clause-first g c =
     let list = c.list-item.result in
     let xs : List Visit = list.visits.items in
     let ys : List Visit = end_to_end (drop (c.loop-list.list-index + 1) c.args.lists.now) in
@@ -40,5 +40,11 @@ loop-list-preserved g c =
       room = c.check_visits.ensures.room ∙ c.loop-list.invariant.room;
     }
 
-pub returns : goal.returns
-returns g c = check_ends c.args.store.now (end_to_end c.args.lists.now) (g.C.Check.checked c.args.check.now) c.args.chunk (g.C.Check.checked c.loop-list.check) c.loop-list.verdicts.items c.loop-list.skip c.loop-list.left (end_to_end (drop c.loop-list.list-index c.args.lists.now)) c.loop-list.invariant.under (ap end_to_end (drop_all c.loop-list.list-index c.args.lists.now c.loop-list-test.false))
+pub returns-clause-first : goal.returns-clause-first
+returns-clause-first g c = check_ends c.args.store.now (end_to_end c.args.lists.now) (g.C.Check.checked c.args.check.now) c.args.chunk (g.C.Check.checked c.loop-list.check) c.loop-list.verdicts.items c.loop-list.skip c.loop-list.left (end_to_end (drop c.loop-list.list-index c.args.lists.now)) c.loop-list.invariant.under (ap end_to_end (drop_all c.loop-list.list-index c.args.lists.now c.loop-list-test.false))
+
+pub returns-clause-all : goal.returns-clause-all
+returns-clause-all g c =
+    let size = c.loop-list.verdicts.ok.0 in
+    let all = check_ends_all c.args.store.now (end_to_end c.args.lists.now) (g.C.Check.checked c.args.check.now) c.args.chunk (g.C.Check.checked c.loop-list.check) c.loop-list.verdicts.items c.loop-list.skip c.loop-list.left (end_to_end (drop c.loop-list.list-index c.args.lists.now)) c.loop-list.invariant.under (ap end_to_end (drop_all c.loop-list.list-index c.args.lists.now c.loop-list-test.false)) in
+    omega arith

@@ -15,7 +15,7 @@ pub fork_and_join-outcome-requires-clause-ready : goal.fork_and_join-outcome-req
 fork_and_join-outcome-requires-clause-ready g c κs within =
     let many : c.len.result ≡ vec_len c.args.checks = search rules in
     subst (λ (n : ℕ). IsReady c.deref-2.result.now c.deref-3.result.now.items n c.in-Ok.room) many
-    (subst (λ (v : Vec Job). IsReady c.deref-2.result.now v.items c.len.result c.in-Ok.room) (c.deref.ensures ∙ sym c.deref-3.ensures) (c.in-Ok.ensures c.deref-2.result.now))
+    (subst (λ (v : Vec Job). IsReady c.deref-2.result.now v.items c.len.result c.in-Ok.room) (c.deref.ensures ∙ sym c.deref-3.ensures) (c.in-Ok.ensures.ready c.deref-2.result.now))
 
 pub returns-clause-archived : goal.returns-clause-archived
 returns-clause-archived g c =

@@ -12,8 +12,8 @@ loop-number-preserved c = record {
   counted = c.push_reserved.ensures.len ∙ ap (λ (n : ℕ). n + 1) c.loop-number.invariant.counted;
 }
 
-pub returns : goal.returns
-returns c = λ store.
+pub returns-clause-can : goal.returns-clause-can
+returns-clause-can c = λ store.
     let counted : length c.args.jobs.now.items ≡ length c.loop-number.lists.items = omega arith in
     record {
       some = c.requires.count;
