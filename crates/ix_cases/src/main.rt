@@ -26,10 +26,10 @@ use anyhow::{Context, Result};
 use bench::Bench;
 use std::process::ExitCode;
 use std::rt::{Env, Files};
-use std::{env, fs};
-use tally::Tally;
 use std::sync::Wait;
 use std::thread::Threads;
+use std::{env, fs};
+use tally::Tally;
 
 fn main(rt: HostRuntime) -> ExitCode {
     match try_files(&rt) {

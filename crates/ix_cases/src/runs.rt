@@ -1,5 +1,6 @@
 //! Runs of an example, and reports.
 
+ghost use Rattle.std.specs.Prelude.{◌≡◌};
 ghost use Rattle.ix_pipeline.specs.Planned.{IsPlan};
 
 use crate::example::Example;
@@ -15,9 +16,6 @@ use std::thread::Threads;
 
 /// What is answered where everything is as the example says.
 const AS_WRITTEN: &str = "as written";
-
-/// Verifiers, walkers, and the room of the queue and of each lane. A run gives the same with each.
-const PLANS: [(u32, u32, u32, u32); 3] = [(2, 2, 256, 64), (4, 3, 1, 1), (1, 1, 1, 1)];
 
 // A writer that takes so many bytes and then fails.
 #[derive(Drop)]
@@ -45,13 +43,13 @@ impl Write for Narrow {
 /// `run = as written`, where report, status and archives are as the example says by each plan; else
 /// the first that differs, or the line of the fault
 pub fn runs<R: Threads + Wait + Sync>(rt: &R, alloc: Global, example: &Example) -> Result<String> {
-    for (verifiers, walkers, queue, lane) in PLANS {
-        let plan = Plan {
-            walkers: walkers.clamp(1, 64),
-            queue: queue.clamp(1, 4096),
-            lane: lane.clamp(1, 4096),
-        };
-        let answer = run_by(rt, alloc, example, verifiers.clamp(1, 64), plan)?;
+    let answers = [
+        run_by(rt, alloc, example, 2, plan_of(2, 256, 64))?,
+        run_by(rt, alloc, example, 4, plan_of(3, 1, 1))?,
+        run_by(rt, alloc, example, 1, plan_of(1, 1, 1))?,
+        run_by(rt, alloc, example, 64, plan_of(64, 4096, 4096))?,
+    ];
+    for answer in answers {
         if answer.as_str() != AS_WRITTEN {
             return Ok(answer);
         }
@@ -59,7 +57,18 @@ pub fn runs<R: Threads + Wait + Sync>(rt: &R, alloc: Global, example: &Example) 
     Ok(String::from_str(alloc, AS_WRITTEN)?)
 }
 
-// The same by one plan.
+// So many walkers, and so much room in the queue and in each lane.
+fn plan_of(walkers: u32, queue: u32, lane: u32) -> Plan
+    ensures { (result.walkers ≡ walkers) × (result.queue ≡ queue) × (result.lane ≡ lane) }
+{
+    Plan {
+        walkers,
+        queue,
+        lane,
+    }
+}
+
+// The same by so many verifiers and one plan.
 fn run_by<R: Threads + Wait + Sync>(
     rt: &R,
     alloc: Global,
