@@ -18,7 +18,8 @@ TOP = pathlib.Path(__file__).resolve().parent.parent
 PROGRAM = TOP / "crates/ix_export/out/ix_export"
 SIZES = {"leaves": 1_000, "small": 200_000, "deep": 200_000, "shared": 10_000, "nested": 220_000}
 MIB = 1 << 20
-ROW = "| {:8} | {:>7} | {:>7} | {:>7} | {:>7} | {:>8} | {:>7} | {:>9} | {:>6} |"
+THREADS = (1, 2, 4)
+ROW = "| {:8} | {:>7} | {:>7} | {:>7} | {:>5} | {:>5} | {:>5} | {:>5} | {:>5} | {:>5} | {:>8} | {:>6} | {:>9} | {:>6} |"
 
 
 def run_once(words, answer):
@@ -34,11 +35,12 @@ def run_once(words, answer):
     return seconds, used.ru_maxrss * 1024
 
 
-def export(room):
-    """One run of the program into a fresh output folder."""
+def export(room, jobs, threads):
+    """One run of the program into a fresh output folder, with so many walkers and verifiers."""
     out = room / "out"
     out.mkdir()
-    words = [PROGRAM, "jobs", "--blocks", room / "blocks.car", "--jobs", room / "jobs.txt", "--out", out]
+    words = [PROGRAM, "jobs", "--blocks", room / "blocks.car", "--jobs", room / jobs, "--out", out]
+    words += ["--walkers", str(threads), "--verifiers", str(threads)]
     measured = run_once(words, room / "report.txt")
     shutil.rmtree(out)
     return measured
@@ -49,18 +51,27 @@ class Bench:
 
     def __init__(self, workload, size, seed, room):
         self.workload, self.size, self.room = workload, size, room
-        self.seconds = self.hashing = float("inf")
+        self.seconds = dict.fromkeys(THREADS, float("inf"))
+        self.loading = self.hashing = float("inf")
         self.memory = 0
         words = [sys.executable, TOP / "bench/generate.py", workload, str(size), room, "--seed", str(seed)]
         subprocess.run(words, check=True)
+        (room / "none.txt").write_text("")
 
     def run(self):
-        """Runs the program, and then sha256sum over the same blocks."""
-        seconds, memory = export(self.room)
-        self.seconds = min(self.seconds, seconds)
-        self.memory = max(self.memory, memory)
+        """Runs the program without a job and with each number of threads, and sha256sum over the same blocks."""
+        loading, _ = export(self.room, "none.txt", 1)
+        self.loading = min(self.loading, loading)
         hashing, _ = run_once(["sha256sum", self.room / "blocks.car"], self.room / "digest.txt")
         self.hashing = min(self.hashing, hashing)
+        for threads in THREADS:
+            seconds, memory = export(self.room, "jobs.txt", threads)
+            self.seconds[threads] = min(self.seconds[threads], seconds)
+            self.memory = max(self.memory, memory)
+
+    def gain(self, threads):
+        """How many times as fast the work behind loading is as with one walker and one verifier."""
+        return (self.seconds[1] - self.loading) / (self.seconds[threads] - self.loading)
 
     def print_row(self, factor):
         size = (self.room / "blocks.car").stat().st_size
@@ -71,10 +82,12 @@ class Bench:
             self.size,
             f"{size / MIB:.1f}",
             visits,
-            f"{self.seconds:.2f}",
-            round(visits / self.seconds),
+            f"{self.loading:.2f}",
+            *(f"{self.seconds[threads]:.2f}" for threads in THREADS),
+            *(f"{self.gain(threads):.2f}" for threads in THREADS[1:]),
+            round(visits / self.seconds[THREADS[-1]]),
             f"{self.memory / MIB:.0f}",
-            f"{self.seconds / self.hashing:.1f}",
+            f"{self.seconds[1] / self.hashing:.1f}",
             factor,
         )
         print(row, flush=True)
@@ -88,7 +101,7 @@ def run_workload(workload, size, seed, runs, room):
         once.run()
         twice.run()
     once.print_row("")
-    twice.print_row(f"{twice.seconds / once.seconds:.2f}")
+    twice.print_row(f"{twice.seconds[1] / once.seconds[1]:.2f}")
 
 
 def main():
@@ -103,7 +116,9 @@ def main():
         parser.error(f"no workload: {' '.join(sorted(unknown))}")
     # Builds the program where it isn't built.
     subprocess.run([TOP / "ix_export", "--help"], stdout=subprocess.DEVNULL, check=True)
-    head = ("workload", "size", "MiB", "visits", "seconds", "visits/s", "peak", "sha256sum", "factor")
+    times = [f"{threads}+{threads}" for threads in THREADS]
+    gains = [f"x{threads}" for threads in THREADS[1:]]
+    head = ("workload", "size", "MiB", "visits", "load", *times, *gains, "visits/s", "peak", "sha256sum", "factor")
     print(ROW.format(*head))
     print("|---" * len(head) + "|")
     for workload in words.workloads or SIZES:
