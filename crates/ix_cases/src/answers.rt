@@ -4,9 +4,11 @@ use crate::example::Example;
 use crate::{cids, jobs, runs, selectors, stores, trees, walks};
 use anyhow::{Result, bail};
 use std::alloc::Global;
+use std::sync::Wait;
+use std::thread::Threads;
 
 /// What the call that a word stands for answers.
-pub fn answer<R>(
+pub fn answer<R: Threads + Wait + Sync>(
     rt: &R,
     alloc: Global,
     example: &mut Example,

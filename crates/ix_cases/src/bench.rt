@@ -5,6 +5,8 @@ use crate::example::Example;
 use crate::names::Names;
 use anyhow::{Context, Result};
 use std::alloc::Global;
+use std::sync::Wait;
+use std::thread::Threads;
 
 /// What comes of a line.
 #[derive(Drop)]
@@ -53,14 +55,14 @@ impl Bench {
     /// Obeys or answers a line. An empty line and one that begins with `#` say nothing, `let NAME
     /// TEXT` names a text, `example NAME` begins an example of which nothing is set up, and any other
     /// line sets something up or is a case, `WORD INPUT = WANTED`.
-    pub fn outcome_of<R>(&mut self, rt: &R, line: &str) -> Result<Outcome> {
+    pub fn outcome_of<R: Threads + Wait + Sync>(&mut self, rt: &R, line: &str) -> Result<Outcome> {
         match self.try_line(rt, line) {
             Ok(outcome) => Ok(outcome),
             Err(error) => Ok(Outcome::Differs(format!(in self.alloc; "{line}: {error}")?)),
         }
     }
 
-    fn try_line<R>(&mut self, rt: &R, line: &str) -> Result<Outcome> {
+    fn try_line<R: Threads + Wait + Sync>(&mut self, rt: &R, line: &str) -> Result<Outcome> {
         if line.is_empty() || line.starts_with('#') {
             return Ok(Outcome::Nothing);
         }
@@ -78,7 +80,7 @@ impl Bench {
 
     // Compares what a case answers with what is wanted. Where the text that is wanted ends with `..`
     // the answer goes on in any way.
-    fn try_case<R>(&mut self, rt: &R, line: &str) -> Result<Outcome> {
+    fn try_case<R: Threads + Wait + Sync>(&mut self, rt: &R, line: &str) -> Result<Outcome> {
         let (call, wanted) = line.split_once(" = ").context("no ` = `")?;
         let (word, input) = call.split_once(' ').unwrap_or((call, ""));
         let answer = answer(rt, self.alloc, &mut self.example, word, input)?;

@@ -26,6 +26,8 @@ use anyhow::{Context, Result};
 use bench::Bench;
 use std::process::ExitCode;
 use std::rt::{Env, Files};
+use std::sync::Wait;
+use std::thread::Threads;
 use std::{env, fs};
 use tally::Tally;
 
@@ -42,7 +44,9 @@ fn main(rt: HostRuntime) -> ExitCode {
 }
 
 // Answers the cases of the files that the arguments name.
-fn try_files<R: AllocGlobal + Env + Eprint + Files + Print>(rt: &R) -> Result<Tally> {
+fn try_files<R: AllocGlobal + Env + Eprint + Files + Print + Threads + Wait + Sync>(
+    rt: &R,
+) -> Result<Tally> {
     let mut bench = Bench::new(rt.alloc())?;
     let mut tally = Tally::new();
     for path in env::args(rt)?.skip(1) {
@@ -56,7 +60,7 @@ fn try_files<R: AllocGlobal + Env + Eprint + Files + Print>(rt: &R) -> Result<Ta
 }
 
 // Answers the cases of a file, and tells of each that differs.
-fn try_file<R: AllocGlobal + Eprint>(
+fn try_file<R: AllocGlobal + Eprint + Threads + Wait + Sync>(
     rt: &R,
     bench: &mut Bench,
     path: &str,

@@ -1,5 +1,8 @@
 //! Runs of an example, and reports.
 
+ghost use Rattle.std.specs.Prelude.{◌≡◌};
+ghost use Rattle.ix_pipeline.specs.Planned.{IsPlan};
+
 use crate::example::Example;
 use crate::texts::{escaped, hex_of};
 use anyhow::{Result, bail};
@@ -8,12 +11,11 @@ use ix_pipeline::Plan;
 use ix_run::{RunOut, fault_line, prepare, run};
 use std::alloc::{AllocError, Global};
 use std::io::{self, ErrorKind, Write};
+use std::sync::Wait;
+use std::thread::Threads;
 
 /// What is answered where everything is as the example says.
 const AS_WRITTEN: &str = "as written";
-
-/// Verifiers, walkers, and the room of the queue and of each lane. A run gives the same with each.
-const PLANS: [(u32, u32, u32, u32); 3] = [(2, 2, 256, 64), (4, 3, 1, 1), (1, 1, 1, 1)];
 
 // A writer that takes so many bytes and then fails.
 #[derive(Drop)]
@@ -40,14 +42,14 @@ impl Write for Narrow {
 
 /// `run = as written`, where report, status and archives are as the example says by each plan; else
 /// the first that differs, or the line of the fault
-pub fn runs<R>(rt: &R, alloc: Global, example: &Example) -> Result<String> {
-    for (verifiers, walkers, queue, lane) in PLANS {
-        let plan = Plan {
-            walkers,
-            queue,
-            lane,
-        };
-        let answer = run_by(rt, alloc, example, verifiers, plan)?;
+pub fn runs<R: Threads + Wait + Sync>(rt: &R, alloc: Global, example: &Example) -> Result<String> {
+    let answers = [
+        run_by(rt, alloc, example, 2, plan_of(2, 256, 64))?,
+        run_by(rt, alloc, example, 4, plan_of(3, 1, 1))?,
+        run_by(rt, alloc, example, 1, plan_of(1, 1, 1))?,
+        run_by(rt, alloc, example, 64, plan_of(64, 4096, 4096))?,
+    ];
+    for answer in answers {
         if answer.as_str() != AS_WRITTEN {
             return Ok(answer);
         }
@@ -55,14 +57,27 @@ pub fn runs<R>(rt: &R, alloc: Global, example: &Example) -> Result<String> {
     Ok(String::from_str(alloc, AS_WRITTEN)?)
 }
 
-// The same by one plan.
-fn run_by<R>(
+// So many walkers, and so much room in the queue and in each lane.
+fn plan_of(walkers: u32, queue: u32, lane: u32) -> Plan
+    ensures { (result.walkers ≡ walkers) × (result.queue ≡ queue) × (result.lane ≡ lane) }
+{
+    Plan {
+        walkers,
+        queue,
+        lane,
+    }
+}
+
+// The same by so many verifiers and one plan.
+fn run_by<R: Threads + Wait + Sync>(
     rt: &R,
     alloc: Global,
     example: &Example,
     verifiers: u32,
     plan: Plan,
-) -> Result<String> {
+) -> Result<String>
+    requires { IsPlan plan verifiers }
+{
     let car = example.car()?;
     let file = example.jobs.as_bytes();
     let (store, jobs) = match prepare(alloc, car.as_slice(), file) {

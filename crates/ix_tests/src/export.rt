@@ -99,7 +99,7 @@ fn three_logs<R: Threads + Wait + Sync>(
 ) -> Result<([Log; 3], Vec<End>), Fail>
     requires walkers { (1 ≤ walkers) × (walkers ≤ 64) }
     requires checks { (1 ≤ vec_len checks) × (vec_len checks ≤ 64) }
-    requires unused { EachUnused ShaCheck.checked checks.items }
+    requires unused { EachUnused (λ c. c) checks.items }
 {
     let car = bytes_of(alloc, LIST_CAR.as_slice())?;
     let (store, jobs) = prepare(alloc, car.as_slice(), LIST_JOBS.as_bytes())?;
