@@ -288,10 +288,11 @@ fn ends_say_what_was_written(rt: HostRuntime) -> Result<(), Fail> {
     };
     for (archive, end) in archives.into_iter().zip(out.ends.iter()) {
         let (written, _, _) = archive.into_parts();
+        assert!(rt; whole.as_slice().starts_with(written.as_slice()));
         match end {
-            End::Done => assert!(rt; written == whole),
-            End::Start => assert_eq!(rt; written.as_slice(), &whole.as_slice()[..59]),
-            _ => assert!(rt; whole.as_slice().starts_with(written.as_slice())),
+            End::Done => assert_eq!(rt; written.len(), whole.len()),
+            End::Start => assert_eq!(rt; written.len(), 59),
+            _ => {}
         }
     }
     assert_eq!(rt; out.ends.as_slice(), [End::Done; 3].as_slice());
