@@ -5,8 +5,8 @@ ghost use Rattle.ix_car.specs.Events.{IsOpen};
 ghost use Rattle.ix_car.specs.ArchiveMeaning.{events_of};
 
 use crate::fixtures::{
-    ABC, EMPTY, MATCHER, ONE_LINK, ONE_LINK_BLOCK, ROOTS, VERSION, bytes_of, cid_of, job_of,
-    store_of,
+    ABC, DAMAGED, DAMAGED_BLOCK, EMPTY, LIST, LIST_ARCHIVE, LIST_BLOCK, MATCHER, ONE_LINK,
+    ONE_LINK_BLOCK, ROOTS, VERSION, bytes_of, cid_of, job_of, store_of,
 };
 use ix_car::{Archive, ArchiveNew, Counts, Delivery, End, Sink, SinkFault, Skip};
 use ix_check::Verdict;
@@ -16,29 +16,17 @@ use std::io;
 use std::io::{ErrorKind, Write};
 use std::test::Fail;
 
-// CIDs, by what stands under them. LIST has links to DAMAGED, under which another block than its own
-// stands, and to ONE_LINK, TWICE has two links to ONE_LINK, and both ONE_LINK and what stands under DAMAGED
-// have a link to ABC. Nothing stands under EMPTY.
-const DAMAGED: &str = "01711220530e239c204f4923f6392cfa40cd12101b2a857704552ef7152f21d00f17bb2d";
-
-const LIST: &str = "01711220a439edb93050bfc12503ce18e0b03a67d463f0ae906a25449ff35326c6fa9cd3";
-
+// A map of two links to ONE_LINK.
 const TWICE: &str = "0171122078c168043a4b6f78fffac7096ef50158a9490a98d171ecdbfba7332f7100ac87";
-
-const LIST_BLOCK: &str =
-    "82d82a58250001711220530e239c204f4923f6392cfa40cd12101b2a857704552ef7152f21d00f17bb2dd82a5825000171122021e288dd95d20c03227dc4c449b3a8885fcb420f614135142435f3b33b428832";
 
 const TWICE_BLOCK: &str =
     "a26161d82a5825000171122021e288dd95d20c03227dc4c449b3a8885fcb420f614135142435f3b33b4288326162d82a5825000171122021e288dd95d20c03227dc4c449b3a8885fcb420f614135142435f3b33b428832";
 
-// A CID and its block.
+// CIDs and their blocks. None is EMPTY.
 const BLOCKS: [(&str, &str); 5] = [
     (ABC, "616263"),
     (ONE_LINK, ONE_LINK_BLOCK),
-    (
-        DAMAGED,
-        "82d82a58250001551220ba7816bf8f01cfea414140de5dae2223b00361a396177a9cb410ff61f20015ad01",
-    ),
+    (DAMAGED, DAMAGED_BLOCK),
     (LIST, LIST_BLOCK),
     (TWICE, TWICE_BLOCK),
 ];
@@ -52,23 +40,7 @@ const LIST_VISITS: [(&str, u32, Verdict); 5] = [
     (ABC, 2, Verdict::Sound),
 ];
 
-// Its archive, part by part.
-const LIST_ARCHIVE: [&str; 12] = [
-    ROOTS,
-    LIST,
-    VERSION,
-    "77",
-    LIST,
-    LIST_BLOCK,
-    "4e",
-    ONE_LINK,
-    ONE_LINK_BLOCK,
-    "27",
-    ABC,
-    "616263",
-];
-
-// A map with two links to one block.
+// A map with two links to one block, and its archive, part by part.
 const TWICE_VISITS: [(&str, u32, Verdict); 4] = [
     (TWICE, 0, Verdict::Sound),
     (ONE_LINK, 1, Verdict::Sound),

@@ -1,4 +1,4 @@
-//! Tests of what no line of a case file says: writers, sinks and checks of a test's own, and
+//! Tests of what no line of a case file says: writers, sinks, checks and gates of a test's own, and
 //! refusals that no input gives.
 #![tactic(auto)]
 
@@ -12,3 +12,5 @@ mod fixtures;
 mod refusals;
 #[cfg(test)]
 mod runs;
+#[cfg(test)]
+mod threads;

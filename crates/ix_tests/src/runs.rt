@@ -1,6 +1,6 @@
 //! Runs with a check and with a writer of a test's own.
 
-use crate::fixtures::{ABC, HEADER, ONE_LINK, ONE_LINK_BLOCK, ROOTS, VERSION, bytes_of};
+use crate::fixtures::{CHAIN_ARCHIVE, CHAIN_CAR, CHAIN_JOBS, bytes_of};
 use ix_check::{Check, ShaCheck, Verdict};
 use ix_jobs::{report, status};
 use ix_run::{prepare, run_jobs};
@@ -9,66 +9,13 @@ use std::alloc::{AllocError, Global};
 use std::io::{self, ErrorKind, Write};
 use std::test::Fail;
 
-// CIDs and blocks: a list of a link to another list, which has a link to the list of one link.
-const OUTER: &str = "01711220ef6f019fd31212249247bbeb4c0bb0a49a4784b5d4652d1c10ea8922615146b2";
-
-const OUTER_BLOCK: &str =
-    "81d82a58250001711220248ca8088499858ab449f8b907c08d937fb35dfa39d875f2b052805320b1bb91";
-
-const INNER: &str = "01711220248ca8088499858ab449f8b907c08d937fb35dfa39d875f2b052805320b1bb91";
-
-const INNER_BLOCK: &str =
-    "81d82a5825000171122021e288dd95d20c03227dc4c449b3a8885fcb420f614135142435f3b33b428832";
-
-// A file of these and of what they lead to.
-const CAR: [&str; 13] = [
-    HEADER,
-    "4e",
-    OUTER,
-    OUTER_BLOCK,
-    "4e",
-    INNER,
-    INNER_BLOCK,
-    "4e",
-    ONE_LINK,
-    ONE_LINK_BLOCK,
-    "27",
-    ABC,
-    "616263",
-];
-
-// Everything below the first list, for two jobs.
-const JOBS: &str =
-    "a bafyreihpn4az7uyscisjer535ngaxmfetjdyjnoumuwryehkrergcukgwi 100 a16152a2616ca1646e6f6e65a0623a3ea16161a1613ea16140a0
-b bafyreihpn4az7uyscisjer535ngaxmfetjdyjnoumuwryehkrergcukgwi 100 a16152a2616ca1646e6f6e65a0623a3ea16161a1613ea16140a0
-";
-
-// The archive of the job that is done, and how much of it the other has.
-const ARCHIVE: [&str; 15] = [
-    ROOTS,
-    OUTER,
-    VERSION,
-    "4e",
-    OUTER,
-    OUTER_BLOCK,
-    "4e",
-    INNER,
-    INNER_BLOCK,
-    "4e",
-    ONE_LINK,
-    ONE_LINK_BLOCK,
-    "27",
-    ABC,
-    "616263",
-];
-
 // The third visit of the first job.
 const REFUSED: (u32, u32) = (0, 2);
 
-// Checks as `ShaCheck` does, but finds no memory for that visit.
+/// Checks as `ShaCheck` does, but finds no memory for that visit.
 #[derive(Drop)]
-struct Refusing {
-    check: ShaCheck,
+pub struct Refusing {
+    pub check: ShaCheck,
 }
 
 impl Check for Refusing {
@@ -111,8 +58,8 @@ impl Write for Flushed {
 #[test]
 fn want_of_memory(rt: HostRuntime) -> Result<(), Fail> {
     let alloc = rt.alloc();
-    let car = bytes_of(alloc, CAR.as_slice())?;
-    let (store, jobs) = prepare(alloc, car.as_slice(), JOBS.as_bytes())?;
+    let car = bytes_of(alloc, CHAIN_CAR.as_slice())?;
+    let (store, jobs) = prepare(alloc, car.as_slice(), CHAIN_JOBS.as_bytes())?;
     let writers = vec![in alloc; Vec::new(alloc), Vec::new(alloc)]?;
     if writers.len() != jobs.len() {
         return Err("two jobs were wanted".into());
@@ -130,8 +77,8 @@ fn want_of_memory(rt: HostRuntime) -> Result<(), Fail> {
         total jobs=2 done=1 skips=0\n";
     assert_eq!(rt; made.as_slice(), text.as_bytes());
     assert_eq!(rt; status(results.as_slice()), 4);
-    let beginning = bytes_of(alloc, &ARCHIVE[..9])?;
-    let whole = bytes_of(alloc, ARCHIVE.as_slice())?;
+    let beginning = bytes_of(alloc, &CHAIN_ARCHIVE[..9])?;
+    let whole = bytes_of(alloc, CHAIN_ARCHIVE.as_slice())?;
     assert!(rt; writers == vec![in alloc; beginning, whole]?);
     Ok(())
 }
@@ -140,8 +87,8 @@ fn want_of_memory(rt: HostRuntime) -> Result<(), Fail> {
 #[test]
 fn failing_flush(rt: HostRuntime) -> Result<(), Fail> {
     let alloc = rt.alloc();
-    let car = bytes_of(alloc, CAR.as_slice())?;
-    let (store, jobs) = prepare(alloc, car.as_slice(), JOBS.as_bytes())?;
+    let car = bytes_of(alloc, CHAIN_CAR.as_slice())?;
+    let (store, jobs) = prepare(alloc, car.as_slice(), CHAIN_JOBS.as_bytes())?;
     let mut writers = Vec::new(alloc);
     for fails in [false, true] {
         let bytes = Vec::new(alloc);
@@ -161,7 +108,7 @@ fn failing_flush(rt: HostRuntime) -> Result<(), Fail> {
         total jobs=2 done=1 skips=0\n";
     assert_eq!(rt; made.as_slice(), text.as_bytes());
     assert_eq!(rt; status(results.as_slice()), 4);
-    let whole = bytes_of(alloc, ARCHIVE.as_slice())?;
+    let whole = bytes_of(alloc, CHAIN_ARCHIVE.as_slice())?;
     for writer in &writers {
         assert_eq!(rt; writer.bytes.as_slice(), whole.as_slice());
     }
