@@ -11,6 +11,8 @@ mod fixtures;
 #[cfg(test)]
 mod refusals;
 #[cfg(test)]
+mod ring;
+#[cfg(test)]
 mod runs;
 #[cfg(test)]
 mod threads;

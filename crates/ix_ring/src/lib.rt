@@ -1,0 +1,6 @@
+//! Items by number, in a window that moves on.
+#![tactic(auto)]
+
+mod ring;
+
+pub use ring::{Ring, RingFault};

@@ -1,0 +1,160 @@
+//! Items by number, in a window that moves on.
+
+ghost use Rattle.std.specs.Prelude.{◌≡◌, ◌<◌, ◌≤◌, ◌+◌, ◌-◌, ℕ, [], length, slice_set, drop, IfOk, OnOk, OnErr, IfErr, MatchOption, MatchBool, None, Some, IsTrue, ◌↔◌};
+ghost use Rattle.ix_ring.specs.Numbered.{slot, found, IsHeldWithin, IsPlaced, IsRefused, IsMemory, IsPopped};
+
+use circular_buffer::HeapCircularBuffer;
+use std::alloc::{AllocError, Global};
+use std::marker::Model;
+
+// How far above the next number an item may be placed.
+const REACH: u64 = 1_048_576;
+
+/// Why an item was not placed, with the item.
+#[derive(Debug, PartialEq, Eq, Drop)]
+pub enum RingFault<T> {
+    /// Its number is below the next one.
+    Passed(T),
+    /// Its number is 1,048,576 or more above the next one.
+    Far(T),
+    /// An item of that number is there.
+    Taken(T),
+    /// No memory was left.
+    Memory(T),
+}
+
+impl<T> RingFault<T> {
+    /// Whether no memory was left.
+    pub fn is_memory(&self) -> bool
+        ensures { IsTrue result ↔ IsMemory self.now }
+    {
+        matches!(self, RingFault::Memory(_))
+    }
+}
+
+/// Items by number. They go in in any order, and come out by their numbers from 0 on.
+///
+/// Contracts see a finite map: the number that comes out next, and the items with their numbers,
+/// none of which is below it. Numbers are `u32`, so the next one never passes 4,294,967,296, where
+/// nothing comes out any more.
+///
+/// The ring has a slot for each number from the next one to the highest that was placed, filled or
+/// not. So it takes memory in proportion to the widest gap that it met, and keeps it until it is
+/// dropped.
+#[derive(Drop)]
+pub struct Ring<T: Drop> {
+    // The item numbered `next`, or none, and those behind it.
+    window: HeapCircularBuffer<Option<T>>,
+    next: u64,
+}
+
+impl<T: Drop> Model for Ring<T> {
+    ghost use Rattle.std.specs.Prelude.{◌+◌, ◌≤◌, length};
+    ghost use Rattle.ix_ring.specs.Numbered.{Numbered, numbered_code, entries_of};
+
+    ghost Value = { Numbered T };
+
+    ghost coded = { numbered_code T.code };
+
+    ghost view = { λ r. record { next = r.next; entries = entries_of r.next r.window.items } };
+
+    ghost invariant = { λ r. r.next + length r.window.items ≤ 4294967296 };
+}
+
+// Makes room for one slot more than `index`.
+fn reach<T: Drop>(
+    window: &mut HeapCircularBuffer<Option<T>>,
+    index: usize,
+) -> Result<(), AllocError>
+    requires { index < 1048576 }
+    ensures slots { (k : ℕ) → slot window.new.items k ≡ slot window.old.items k }
+    ensures reached { OnOk result (index < length window.new.items) }
+    ensures within { (most : ℕ) → index < most → length window.old.items ≤ most → length window.new.items ≤ most }
+{
+    if window.capacity() <= index {
+        let wanted = (index + 1).next_power_of_two();
+        window.resize(wanted)?;
+    }
+    while window.len() <= index {
+        window.push_back(None);
+    }
+    Ok(())
+}
+
+// Whether there is an item in the slot.
+fn is_taken<T: Drop>(window: &HeapCircularBuffer<Option<T>>, index: usize) -> bool
+    ensures { MatchBool result ((x : T) × (slot window.now.items index ≡ Some x)) (slot window.now.items index ≡ None) }
+{
+    match window.get(index) {
+        Some(Some(_)) => true,
+        Some(None) => false,
+        None => false,
+    }
+}
+
+// Puts an item into a slot.
+fn fill<T: Drop>(window: &mut HeapCircularBuffer<Option<T>>, index: usize, item: T)
+    requires { index < length window.old.items }
+    ensures { window.new.items ≡ slice_set window.old.items index (Some item) }
+{
+    if let Some(place) = window.get_mut(index) {
+        *place = Some(item);
+    }
+}
+
+impl<T: Drop> Ring<T> {
+    /// A ring that holds nothing, and gives number 0 next.
+    pub fn new(alloc: Global) -> Result<Ring<T>, AllocError>
+        ensures { IfOk result (λ r. r ≡ record { next = 0; entries = [] }) }
+    {
+        let window = HeapCircularBuffer::with_capacity(alloc, 0)?;
+        Ok(Ring { window, next: 0 })
+    }
+
+    /// The number of the item that comes out next.
+    pub fn next(&self) -> u64
+        ensures next { result ≡ self.now.next }
+        ensures within { result ≤ 4294967296 }
+        ensures held { IsHeldWithin self.now }
+    {
+        self.next
+    }
+
+    /// Places an item at its number. A refusal changes nothing.
+    pub fn place(&mut self, seq: u32, item: T) -> Result<(), RingFault<T>>
+        ensures placed { OnOk result (IsPlaced self.old seq item self.new) }
+        ensures refused { IfErr result (λ fault. (self.new ≡ self.old) × IsRefused self.old seq item fault) }
+    {
+        let seq = u64::from(seq);
+        if seq < self.next {
+            return Err(RingFault::Passed(item));
+        }
+        if seq - self.next >= REACH {
+            return Err(RingFault::Far(item));
+        }
+        let index = (seq - self.next) as usize;
+        if is_taken(&self.window, index) {
+            return Err(RingFault::Taken(item));
+        }
+        if reach(&mut self.window, index).is_err() {
+            return Err(RingFault::Memory(item));
+        }
+        fill(&mut self.window, index, item);
+        Ok(())
+    }
+
+    /// Gives the item numbered `next`, and the number behind it is then the next.
+    pub fn pop(&mut self) -> Option<T>
+        ensures popped { MatchOption result ((self.new ≡ self.old) × (found self.old self.old.next ≡ None)) (λ item. IsPopped self.old item self.new) }
+        ensures within { self.new.next ≤ 4294967296 }
+    {
+        if !is_taken(&self.window, 0) {
+            return None;
+        }
+        self.next += 1;
+        match self.window.pop_front() {
+            Some(item) => item,
+            None => None,
+        }
+    }
+}

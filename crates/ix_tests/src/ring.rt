@@ -1,0 +1,45 @@
+//! A ring of letters, call by call.
+
+use ix_ring::{Ring, RingFault};
+use std::test::Fail;
+
+// A call on a ring, and what it answers.
+#[derive(Drop)]
+enum Call {
+    Place(u32, char, Result<(), RingFault<char>>),
+    Pop(Option<char>),
+}
+
+// Each call, with the number that is the next one behind it.
+fn calls() -> [(Call, u64); 12] {
+    [
+        (Call::Place(2, 'c', Ok(())), 0),
+        (Call::Place(0, 'a', Ok(())), 0),
+        (Call::Pop(Some('a')), 1),
+        (Call::Pop(None), 1),
+        (Call::Place(0, 'x', Err(RingFault::Passed('x'))), 1),
+        (Call::Place(2, 'x', Err(RingFault::Taken('x'))), 1),
+        (Call::Place(1, 'b', Ok(())), 1),
+        (Call::Pop(Some('b')), 2),
+        (Call::Pop(Some('c')), 3),
+        (Call::Place(1_048_579, 'x', Err(RingFault::Far('x'))), 3),
+        (Call::Place(1_048_578, 'z', Ok(())), 3),
+        (Call::Pop(None), 3),
+    ]
+}
+
+#[test]
+fn letters_come_out_by_number(rt: HostRuntime) -> Result<(), Fail> {
+    let mut ring = Ring::new(rt.alloc())?;
+    assert_eq!(rt; ring.next(), 0);
+    for (call, next) in calls() {
+        match call {
+            Call::Place(seq, letter, answer) => {
+                assert_eq!(rt; ring.place(seq, letter), answer, "place {letter} at {seq}");
+            }
+            Call::Pop(answer) => assert_eq!(rt; ring.pop(), answer, "pop at {next}"),
+        }
+        assert_eq!(rt; ring.next(), next);
+    }
+    Ok(())
+}
