@@ -1,0 +1,4 @@
+pub mod Items
+pub mod Received
+pub mod Good
+pub mod Sent
