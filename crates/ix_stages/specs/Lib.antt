@@ -8,3 +8,4 @@ pub mod QueueState
 pub mod Seats
 pub mod Queue
 pub mod Settled
+pub mod Lanes

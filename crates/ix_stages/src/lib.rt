@@ -4,6 +4,7 @@
 mod course;
 mod hand;
 mod item;
+mod lanes;
 mod parts;
 mod queue;
 mod rule;
@@ -13,6 +14,7 @@ mod verdicted;
 
 pub use course::Course;
 pub use item::Item;
+pub use lanes::{LaneIn, LaneOut, lane, lane_rest};
 pub use parts::QueueParts;
 pub use queue::VisitQueue;
 pub use seats::{JobSeat, Rest, StopSeat, TakeSeat};
