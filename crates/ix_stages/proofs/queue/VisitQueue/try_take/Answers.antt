@@ -1,0 +1,10 @@
+use Rattle.std.proofs.Common.{rules, ◌<◌, ◌≡◌, arith}
+use Rattle.crossbeam_queue.specs.Passes.{view}
+use Rattle.ix_stages.proofs.Moves.{takes, learns}
+use Rattle.ix_stages.proofs.queue.VisitQueue.try_take.Goals as goal
+
+pub pop_as-requires-clause-rule : goal.pop_as-requires-clause-rule
+pop_as-requires-clause-rule g c =
+    let h = c.seat.invariant.1 in
+    let p : 0 < (view c.seat.inside.pass).parts = (let q = h.part in omega (arith, q)) in
+    (takes _ _ h.alone.live p, learns _ _ h.alone.live p)

@@ -1,0 +1,49 @@
+-- What contracts see of the two ends of a lane, and of all lanes.
+use Rattle.std.specs.Prelude.{ℕ, List, [], ◌∷◌, ◌++◌}
+use Rattle.rtrb.specs.Ring.{sent, received, known_free, IsPair, SameProducer, SameConsumer}
+use Rattle.ix_stages.specs.declared.verdicted.Verdicted.{Verdicted}
+use Rattle.ix_stages.specs.declared.lanes.LaneIn.{LaneIn}
+use Rattle.ix_stages.specs.declared.lanes.LaneOut.{LaneOut}
+
+abbrev pub sent_by : LaneIn → List Verdicted
+sent_by l = sent l.producer
+
+abbrev pub received_by : LaneOut → List Verdicted
+received_by l = received l.consumer
+
+-- how many items the end knows to have room for
+abbrev pub room_in : LaneIn → ℕ
+room_in l = known_free l.producer
+
+-- the two ends of one lane
+abbrev pub IsLane : LaneIn → LaneOut → Type 0
+IsLane i o = IsPair i.producer o.consumer
+
+-- the same end of the same lane
+abbrev pub SameIn : LaneIn → LaneIn → Type 0
+SameIn a b = SameProducer a.producer b.producer
+
+abbrev pub SameOut : LaneOut → LaneOut → Type 0
+SameOut a b = SameConsumer a.consumer b.consumer
+
+-- what was received from all lanes, lane by lane
+abbrev pub all_received : List LaneOut → List Verdicted
+all_received [] = []
+all_received (l ∷ ls) = received_by l ++ all_received ls
+
+-- what was sent into all lanes, lane by lane
+abbrev pub all_sent : List LaneIn → List Verdicted
+all_sent [] = []
+all_sent (l ∷ ls) = sent_by l ++ all_sent ls
+
+-- the same ends of the same lanes
+abbrev pub EachSameOut : List LaneOut → List LaneOut → Type 0
+EachSameOut [] [] = Unit {0}
+EachSameOut (x ∷ xs) (y ∷ ys) = SameOut x y × EachSameOut xs ys
+EachSameOut xs ys = ⊥
+
+-- the ends of the same lanes, in the same order
+abbrev pub EachLane : List LaneIn → List LaneOut → Type 0
+EachLane [] [] = Unit {0}
+EachLane (x ∷ xs) (y ∷ ys) = IsLane x y × EachLane xs ys
+EachLane xs ys = ⊥

@@ -1,0 +1,11 @@
+pub mod Items
+pub mod Received
+pub mod Good
+pub mod Sent
+pub mod Course
+pub mod Hands
+pub mod QueueState
+pub mod Seats
+pub mod Queue
+pub mod Settled
+pub mod Lanes

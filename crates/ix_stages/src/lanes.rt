@@ -1,0 +1,69 @@
+//! A lane: a bounded queue from one verifier to the collector, with one end for each.
+
+ghost use Rattle.std.specs.Prelude.{◌≡◌, ◌<◌, ◌≤◌, ◌+◌, [], ◌∷◌, ◌++◌, IfOk, IfSome, IfNone, MatchResult, MatchOption};
+ghost use mathlib.Core.List.{IsPrefix};
+ghost use Rattle.ix_stages.specs.Lanes.{sent_by, received_by, room_in, IsLane, SameIn, SameOut};
+
+use crate::verdicted::Verdicted;
+use rtrb::{Consumer, Producer, PushError, RingBuffer};
+use std::alloc::{AllocError, Global};
+
+/// The end at which a verifier sends.
+#[derive(Drop)]
+pub struct LaneIn {
+    producer: Producer<Verdicted>,
+}
+
+/// The end at which the collector receives.
+#[derive(Drop)]
+pub struct LaneOut {
+    consumer: Consumer<Verdicted>,
+}
+
+/// The two ends of a lane with room for so many items.
+pub fn lane(alloc: Global, capacity: u32) -> Result<(LaneIn, LaneOut), AllocError>
+    ensures { IfOk result (λ l. IsLane l.0 l.1 × (sent_by l.0 ≡ []) × (received_by l.1 ≡ []) × (room_in l.0 ≡ capacity)) }
+{
+    let (producer, consumer) = RingBuffer::new(alloc, capacity as usize)?;
+    Ok((LaneIn { producer }, LaneOut { consumer }))
+}
+
+impl LaneIn {
+    /// Sends an item. It comes back where the lane is full.
+    pub fn try_send(&mut self, item: Verdicted) -> Result<(), Verdicted>
+        ensures same { SameIn self.old self.new }
+        ensures sent { MatchResult result (λ _. sent_by self.new ≡ sent_by self.old ++ item ∷ []) (λ back. (back ≡ item) × (sent_by self.new ≡ sent_by self.old)) }
+        ensures room { MatchResult result (λ _. room_in self.old ≤ room_in self.new + 1) (λ _. (room_in self.old ≡ 0) × (room_in self.new ≡ 0)) }
+    {
+        match self.producer.push(item) {
+            Ok(()) => Ok(()),
+            Err(PushError::Full(back)) => Err(back),
+        }
+    }
+}
+
+impl LaneOut {
+    /// Receives the next item, or none where the lane is empty.
+    pub fn try_recv(&mut self) -> Option<Verdicted>
+        ensures same { SameOut self.old self.new }
+        ensures received { MatchOption result (received_by self.new ≡ received_by self.old) (λ item. received_by self.new ≡ received_by self.old ++ item ∷ []) }
+    {
+        self.consumer.pop().ok()
+    }
+}
+
+/// Receives the next item that is left in a lane of which both ends are here. At `None` all that was
+/// sent was received.
+pub fn lane_rest(sender: &mut LaneIn, receiver: &mut LaneOut) -> Option<Verdicted>
+    requires { IsLane sender.old receiver.old }
+    ensures same { SameIn sender.old sender.new × SameOut receiver.old receiver.new × (sent_by sender.new ≡ sent_by sender.old) }
+    ensures order { IsPrefix (received_by receiver.new) (sent_by sender.new) }
+    ensures some { IfSome result (λ item. received_by receiver.new ≡ received_by receiver.old ++ item ∷ []) }
+    ensures none { IfNone result ((received_by receiver.new ≡ received_by receiver.old) × (received_by receiver.new ≡ sent_by sender.new)) }
+{
+    if receiver.consumer.slots_beside(&mut sender.producer) == 0 {
+        None
+    } else {
+        Some(receiver.consumer.pop_known())
+    }
+}

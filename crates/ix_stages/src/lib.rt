@@ -1,0 +1,21 @@
+//! The visit queue, lanes and claims: what the threads of an export meet through.
+#![tactic(auto)]
+
+mod course;
+mod hand;
+mod item;
+mod lanes;
+mod parts;
+mod queue;
+mod rule;
+mod seats;
+mod settle;
+mod verdicted;
+
+pub use course::Course;
+pub use item::Item;
+pub use lanes::{LaneIn, LaneOut, lane, lane_rest};
+pub use parts::QueueParts;
+pub use queue::VisitQueue;
+pub use seats::{JobSeat, Rest, StopSeat, TakeSeat};
+pub use verdicted::Verdicted;

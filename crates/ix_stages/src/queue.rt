@@ -1,0 +1,111 @@
+//! The queue: bounded, shared by all walkers and verifiers, under the rule of `specs/QueueState.antt`.
+
+ghost use Rattle.std.specs.Prelude.{◌≡◌, false, MatchResult, MatchOption, MatchBool};
+ghost use Rattle.ix_stages.specs.declared.item.Item.{Item};
+ghost use Rattle.ix_stages.specs.Hands.{after_put};
+ghost use Rattle.ix_stages.specs.Seats.{IsNext, IsTake, next_after, closed_after};
+ghost use Rattle.ix_stages.specs.Queue.{table_of};
+
+use crate::hand::Hand;
+use crate::item::Item;
+use crate::rule::{Puts, Takes, VisitRule};
+use crate::seats::{JobSeat, StopSeat, TakeSeat};
+use crossbeam_queue::RuledArrayQueue;
+use std::sync::Wait;
+use std::thread;
+
+pub(crate) type Line = RuledArrayQueue<Item, Hand, VisitRule>;
+
+/// A queue of visits, closes and Stops.
+#[derive(Drop)]
+pub struct VisitQueue {
+    pub(crate) line: Line,
+}
+
+// Whether it closes its job.
+fn is_close(item: &Item) -> bool
+    ensures { result ≡ closed_after item.now }
+{
+    match item {
+        Item::Close { .. } => true,
+        _ => false,
+    }
+}
+
+impl VisitQueue {
+    /// Puts the next item of the seat's job. It comes back only where the queue was full.
+    pub fn try_put<R: Wait>(&self, rt: &R, seat: &mut JobSeat, item: Item) -> Result<(), Item>
+        requires queue { seat.old.table ≡ table_of self.now }
+        requires next { (seat.old.closed ≡ false) × IsNext seat.old item }
+        ensures same { (seat.new.table ≡ seat.old.table) × (seat.new.job ≡ seat.old.job) }
+        ensures put { MatchResult result (λ _. (seat.new.hand ≡ after_put seat.old.hand item) × (seat.new.next ≡ next_after seat.old.next item) × (seat.new.closed ≡ closed_after item)) (λ x. (x ≡ item) × (seat.new ≡ seat.old)) }
+    {
+        let closes = is_close(&item);
+        match self.line.push_as::<Puts, R>(rt, &mut seat.pass, item) {
+            Ok(()) => {
+                if closes {
+                    seat.closed = true;
+                } else {
+                    seat.next += 1;
+                }
+                Ok(())
+            }
+            Err(back) => Err(back),
+        }
+    }
+
+    /// Takes the item at the front, where there is one.
+    pub fn try_take<R: Wait>(&self, rt: &R, seat: &mut TakeSeat) -> Option<Item>
+        requires { seat.old.table ≡ table_of self.now }
+        ensures same { seat.new.table ≡ seat.old.table }
+        ensures taken { MatchOption result (seat.new.hand ≡ seat.old.hand) (λ x. IsTake seat.old.hand x seat.new.hand) }
+    {
+        self.line.pop_as::<Takes, R>(rt, &mut seat.pass)
+    }
+}
+
+impl VisitQueue {
+    /// Puts the item, and waits for room.
+    pub fn put<R: Wait>(&self, rt: &R, seat: &mut JobSeat, item: Item)
+        requires queue { seat.old.table ≡ table_of self.now }
+        requires next { (seat.old.closed ≡ false) × IsNext seat.old item }
+        ensures same { (seat.new.table ≡ seat.old.table) × (seat.new.job ≡ seat.old.job) }
+        ensures put { (seat.new.hand ≡ after_put seat.old.hand item) × (seat.new.next ≡ next_after seat.old.next item) × (seat.new.closed ≡ closed_after item) }
+    {
+        let mut item = item;
+        for _ in rt.forever() {
+            match self.try_put(rt, seat, item) {
+                Ok(()) => return,
+                Err(back) => item = back,
+            }
+            thread::yield_now();
+        }
+        unreachable!()
+    }
+
+    /// Takes an item, and waits for one.
+    pub fn take<R: Wait>(&self, rt: &R, seat: &mut TakeSeat) -> Item
+        requires { seat.old.table ≡ table_of self.now }
+        ensures same { seat.new.table ≡ seat.old.table }
+        ensures taken { IsTake seat.old.hand result seat.new.hand }
+    {
+        for _ in rt.forever() {
+            if let Some(item) = self.try_take(rt, seat) {
+                return item;
+            }
+            thread::yield_now();
+        }
+        unreachable!()
+    }
+
+    /// Puts one Stop. False only where the queue was full.
+    pub fn try_stop<R: Wait>(&self, rt: &R, seat: &mut StopSeat) -> bool
+        requires { seat.old.table ≡ table_of self.now }
+        ensures same { seat.new.table ≡ seat.old.table }
+        ensures put { MatchBool result (seat.new.hand ≡ after_put seat.old.hand Item.Stop) (seat.new.hand ≡ seat.old.hand) }
+    {
+        self.line
+            .push_as::<Puts, R>(rt, &mut seat.pass, Item::Stop)
+            .is_ok()
+    }
+}
