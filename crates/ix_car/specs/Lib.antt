@@ -15,3 +15,4 @@ pub mod Gives
 pub mod Reads
 pub mod FaultWords
 pub mod Examples
+pub mod Headline

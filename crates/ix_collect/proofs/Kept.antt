@@ -1,0 +1,23 @@
+-- What each sink promised is kept, and what stands in a list.
+use Rattle.std.proofs.Common.{◌≡◌, ℕ, zero, suc, List, [], ◌∷◌, get_or, set, refl, sym, subst}
+use Rattle.ix_car.specs.Headline.{Fact, Keeps, EachKept}
+
+module _ {S : Type 0} (fact : Fact S) where
+  pub kept_same : (ss : List S) → EachKept fact ss ss
+  kept_same [] = tt
+  kept_same (s ∷ ss) = ((λ store job first p. p), kept_same ss)
+
+  -- one sink keeps, and the rest are the same
+  pub kept_set : (ss : List S) (i : ℕ) (s t : S) → s ≡ get_or ss i s → Keeps fact s t → EachKept fact ss (set ss i t)
+  kept_set [] i s t at keeps = tt
+  kept_set (x ∷ ss) zero s t at keeps = ((λ store job first p. keeps store job first (subst (λ (z : S). fact z store job first) (sym at) p)), kept_same ss)
+  kept_set (x ∷ ss) (suc i) s t at keeps = ((λ store job first p. p), kept_set ss i s t at keeps)
+
+  -- over two steps
+  pub kept_trans : (xs ys zs : List S) → EachKept fact xs ys → EachKept fact ys zs → EachKept fact xs zs
+  kept_trans [] [] [] h k = tt
+  kept_trans [] [] (z ∷ zs) h k = absurd k
+  kept_trans [] (y ∷ ys) zs h k = absurd h
+  kept_trans (x ∷ xs) [] zs h k = absurd h
+  kept_trans (x ∷ xs) (y ∷ ys) [] h k = absurd k
+  kept_trans (x ∷ xs) (y ∷ ys) (z ∷ zs) h k = ((λ store job first p. k.0 store job first (h.0 store job first p)), kept_trans xs ys zs h.1 k.1)

@@ -1,0 +1,11 @@
+pub mod Kept
+pub mod Members
+pub mod Counting
+pub mod Stepping
+pub mod Goodness
+pub mod Collecting
+pub mod Beginning
+pub mod Finished
+pub mod Gathering
+pub mod Sending
+pub mod Small

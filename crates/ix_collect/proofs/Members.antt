@@ -1,0 +1,23 @@
+-- What stands in a list.
+use Rattle.std.proofs.Common.{◌≡◌, ◌⊎◌, ℕ, zero, suc, ◌<◌, List, [], ◌∷◌, length, slice_index_or, Contains, refl, inl, inr, arith}
+use Rattle.std.proofs.lemmas.List.Elements.{Contains-append_right}
+
+module _ {X : Type 0} where
+  -- an element of a list is its first, or one of the rest
+  cons_at : (y : X) (ys : List X) (x : X) (i : ℕ) → i < length (y ∷ ys) → slice_index_or (y ∷ ys) i x ≡ x → (y ≡ x) ⊎ Contains ys x
+  cons_at y ys x zero lt e = inl e
+  cons_at y ys x (suc i) lt e = inr (i, omega arith, e)
+
+  pub cases_cons : (y : X) (ys : List X) (x : X) → Contains (y ∷ ys) x → (y ≡ x) ⊎ Contains ys x
+  cases_cons y ys x h = cons_at y ys x h.0 h.1 h.2
+
+  pub none_in : (x : X) → Contains [] x → ⊥
+  none_in x h = absurd (less h.0 h.1) where
+    less : (k : ℕ) → k < length (let none : List X = [] in none) → ⊥
+    less k lt = absurd (omega arith)
+
+  pub has_first : (y : X) (ys : List X) → Contains (y ∷ ys) y
+  has_first y ys = (0, omega arith, refl)
+
+  pub has_rest : (y : X) (ys : List X) (x : X) → Contains ys x → Contains (y ∷ ys) x
+  has_rest y ys x h = Contains-append_right (y ∷ []) ys x h

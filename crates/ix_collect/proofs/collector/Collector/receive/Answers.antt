@@ -1,0 +1,52 @@
+use Rattle.std.proofs.Common.{rules, ◌≡◌, ◌<◌, ◌≤◌, refl, sym, ◌∙◌, Some, length, get_or, ap, length-set}
+use Rattle.ix_collect.proofs.Kept.{kept_set, kept_same}
+use Rattle.ix_stages.specs.Received.{job_of}
+use Rattle.ix_collect.proofs.Collecting.{safe_at, safe_set, collected_none, collected_unknown, collected_one, ended_set}
+use Rattle.ix_collect.proofs.collector.Collector.receive.Goals as goal
+
+pub returns-in_default-clause-kept : goal.returns-in_default-clause-kept
+returns-in_default-clause-kept g c = kept_same g.S.Sink.fact c.args.sinks.now
+
+pub returns-then-job-len-clause-kept : goal.returns-then-job-len-clause-kept
+returns-then-job-len-clause-kept g c = kept_same g.S.Sink.fact c.args.sinks.now
+
+pub receive-fine-requires : goal.receive-fine-requires
+receive-fine-requires g c =
+    let lt : c.in-Some.job < length c.args.self.now.jobs.items = search rules in
+    let sink = get_or c.args.sinks.now c.in-Some.job c.index-sinks-job.result in
+    record {
+      safe =
+          safe_at g.S.Sink.events g.S.Sink.failed c.args.self.now.jobs.items c.args.sinks.now c.in-Some.job c.index_mut.result.now sink c.index_mut.ensures.value
+          (ap (λ (s : g.row.S.Denot). get_or c.args.sinks.now c.in-Some.job s) c.index-sinks-job.is) lt c.requires.may;
+    }
+
+pub returns-clause-may : goal.returns-clause-may
+returns-clause-may g c = safe_set g.S.Sink.events g.S.Sink.failed c.args.self.now.jobs.items c.args.sinks.now c.in-Some.job c.receive-fine.new.self c.receive-fine.new.sink c.receive-fine.ensures.safe c.requires.may
+
+pub returns-clause-kept : goal.returns-clause-kept
+returns-clause-kept g c =
+    let sink = get_or c.args.sinks.now c.in-Some.job c.index-sinks-job.result in
+    kept_set g.S.Sink.fact c.args.sinks.now c.in-Some.job sink c.receive-fine.new.sink (ap (λ (s : g.row.S.Denot). get_or c.args.sinks.now c.in-Some.job s) c.index-sinks-job.is) c.receive-fine.ensures.kept
+
+pub returns-clause-done : goal.returns-clause-done
+returns-clause-done g c =
+    let lt : c.in-Some.job < length c.args.self.now.jobs.items = search rules in
+    λ h. ended_set c.args.self.now.jobs.items c.in-Some.job c.index_mut.result.now c.receive-fine.new.self c.index_mut.ensures.value lt c.receive-fine.ensures.ended h
+
+pub returns-clause-collected : goal.returns-clause-collected
+returns-clause-collected g c =
+    let lt : c.in-Some.job < length c.args.self.now.jobs.items = search rules in
+    let sink = get_or c.args.sinks.now c.in-Some.job c.index-sinks-job.result in
+    let of : job_of c.args.item ≡ Some c.in-Some.job = sym c.job_of.ensures ∙ c.in-Some.is in
+    λ store jobs got more i h good len.
+    collected_one g.S.Sink.events g.S.Sink.failed store jobs c.args.item got more c.in-Some.job c.args.self.now.noted c.receive-fine.result c.args.self.now.jobs.items _ c.args.sinks.now _
+    c.index_mut.result.now c.receive-fine.new.self sink c.receive-fine.new.sink i of c.index_mut.ensures.value (ap (λ (s : g.row.S.Denot). get_or c.args.sinks.now c.in-Some.job s) c.index-sinks-job.is) lt refl refl c.receive-fine.ensures.received h good
+    (sym (length-set c.args.self.now.jobs.items c.in-Some.job c.receive-fine.new.self) ∙ len)
+
+pub returns-in_default-clause-collected : goal.returns-in_default-clause-collected
+returns-in_default-clause-collected g c = λ store jobs got more i h. collected_none g.S.Sink.events g.S.Sink.failed store jobs c.args.item got more c.args.self.now c.args.sinks.now i (sym c.job_of.ensures ∙ c.in_default.is) h
+
+pub returns-then-job-len-clause-collected : goal.returns-then-job-len-clause-collected
+returns-then-job-len-clause-collected g c =
+    let past : length c.args.self.now.jobs.items ≤ c.in-Some.job = search rules in
+    λ store jobs got more i h good len. absurd (collected_unknown store jobs c.args.item got more c.in-Some.job (length c.args.self.now.jobs.items) i (sym c.job_of.ensures ∙ c.in-Some.is) past len good)

@@ -1,0 +1,72 @@
+use Rattle.std.proofs.Common.{◌++◌, rules, refl, ◌≡◌, ◌+◌, ◌<◌, ◌≤◌, List, length, get_or, take, drop, set, ap, sym, ◌∙◌, subst, length-set, drop-set-lt, arith}
+use Rattle.ix_collect.proofs.Kept.{kept_same, kept_trans}
+use Rattle.ix_stages.specs.declared.verdicted.Verdicted.{Verdicted}
+use Rattle.ix_stages.specs.declared.lanes.LaneIn.{LaneIn}
+use Rattle.ix_stages.specs.declared.lanes.LaneOut.{LaneOut}
+use Rattle.ix_stages.specs.Lanes.{EachLane, sent_by, received_by, all_sent, all_received}
+use Rattle.ix_collect.specs.Collected.{IsCollected}
+use Rattle.ix_collect.proofs.Gathering.{front_mid, sent_set, lanes_from, before_drain, after_drain, all_drained}
+use Rattle.ix_collect.proofs.gather.finish.Goals as goal
+
+pub loop-i-init : goal.loop-i-init
+loop-i-init g c = record {
+  size = refl;
+  other = c.requires.size;
+  lanes = c.requires.lanes;
+  sent = refl;
+  sinks = c.requires.sinks;
+  jobs = refl;
+  may = c.requires.may;
+  kept = kept_same g.S.Sink.fact c.args.sinks.now;
+  done = λ h. h;
+  collected = λ store jobs before h. h;
+}
+
+pub loop-i-preserved : goal.loop-i-preserved
+loop-i-preserved g c =
+    let h = c.loop-i.invariant in
+    let k = c.loop-i.i in
+    let sender = get_or c.loop-i.senders k c.index-senders-i.result in
+    let at : sender ≡ get_or c.loop-i.senders k sender = ap (λ (l : LaneIn). get_or c.loop-i.senders k l) c.index-senders-i.is in
+    let lt : k < length c.loop-i.senders = search rules in
+    let size : length c.loop-i.senders ≡ length c.args.senders.now = h.size in
+    let other : length c.loop-i.receivers ≡ length c.args.senders.now = h.other in
+    let less : k < length c.loop-i.receivers = omega arith in
+    let behind = lanes_from c.loop-i.senders c.loop-i.receivers k c.index-senders-i.result c.index-receivers-i.result lt less h.lanes in
+    let past : k < k + 1 = omega arith in
+    let same = c.drain.ensures.lane in
+    record {
+      size = length-set c.loop-i.senders k c.drain.new.sender ∙ h.size;
+      other = length-set c.loop-i.receivers k c.drain.new.receiver ∙ h.other;
+      lanes = subst (λ (l : List LaneIn). EachLane l (drop (k + 1) (set c.loop-i.receivers k c.drain.new.receiver))) (sym (drop-set-lt (k + 1) c.loop-i.senders k c.drain.new.sender past))
+          (subst (λ (l : List LaneOut). EachLane (drop (k + 1) c.loop-i.senders) l) (sym (drop-set-lt (k + 1) c.loop-i.receivers k c.drain.new.receiver past)) behind.1);
+      sent = sent_set c.loop-i.senders k sender c.drain.new.sender at same.2 ∙ h.sent;
+      sinks = c.drain.ensures.sinks;
+      jobs = c.drain.ensures.jobs ∙ h.jobs;
+      may = c.drain.ensures.may;
+      kept = kept_trans g.S.Sink.fact c.args.sinks.now c.loop-i.sinks c.drain.new.sinks h.kept c.drain.ensures.kept;
+      done = λ e. c.drain.ensures.done (h.done e);
+      collected = λ store jobs front begun.
+          let sent = all_sent (take k c.loop-i.senders) in
+          let rest = all_received (drop (k + 1) c.loop-i.receivers) in
+          let receiver = get_or c.loop-i.receivers k c.index-receivers-i.result in
+          let old : front ++ (sent ++ all_received (drop k c.loop-i.receivers)) ≡ (front ++ sent) ++ received_by receiver ++ rest =
+          ap (λ (l : List Verdicted). front ++ l) (before_drain c.loop-i.senders c.loop-i.receivers k c.index-receivers-i.result less) ∙ front_mid front sent (received_by receiver) rest
+          in
+          let new : front ++ (all_sent (take (k + 1) (set c.loop-i.senders k c.drain.new.sender)) ++ all_received (drop (k + 1) (set c.loop-i.receivers k c.drain.new.receiver))) ≡ (front ++ sent) ++ sent_by sender ++ rest =
+          ap (λ (l : List Verdicted). front ++ l) (after_drain c.loop-i.senders c.loop-i.receivers k sender c.drain.new.sender c.drain.new.receiver at lt same.2) ∙ front_mid front sent (sent_by sender) rest
+          in
+          subst (λ (l : List Verdicted). IsCollected g.S.Sink.events g.S.Sink.failed store jobs l c.drain.new.collector c.drain.new.sinks) (sym new)
+          (c.drain.ensures.collected store jobs (front ++ sent) rest
+          (subst (λ (l : List Verdicted). IsCollected g.S.Sink.events g.S.Sink.failed store jobs l c.loop-i.collector c.loop-i.sinks) old (h.collected store jobs front begun)));
+    }
+
+pub returns-clause-collected : goal.returns-clause-collected
+returns-clause-collected g c =
+    let h = c.loop-i.invariant in
+    let past : length c.loop-i.senders ≤ c.loop-i.i = search rules in
+    let size : length c.loop-i.senders ≡ length c.args.senders.now = h.size in
+    let other : length c.loop-i.receivers ≡ length c.args.senders.now = h.other in
+    let over : length c.loop-i.receivers ≤ c.loop-i.i = omega arith in
+    λ store jobs front begun.
+    subst (λ (l : List Verdicted). IsCollected g.S.Sink.events g.S.Sink.failed store jobs (front ++ l) c.loop-i.collector c.loop-i.sinks) (all_drained c.loop-i.senders c.loop-i.receivers c.loop-i.i past over) (h.collected store jobs front begun)

@@ -1,0 +1,31 @@
+use Rattle.std.proofs.Common.{rules, ◌≡◌, ◌+◌, [], ◌∷◌, ◌++◌, List, ap, arith, subst, sym}
+use Rattle.std.specs.Prelude.{cond}
+use Rattle.ix_collect.proofs.Kept.{kept_same}
+use Rattle.ix_stages.specs.declared.verdicted.Verdicted.{Verdicted}
+use Rattle.ix_stages.specs.Lanes.{received_by}
+use Rattle.ix_collect.specs.Collected.{IsCollected, is_last, last_count}
+use Rattle.ix_collect.proofs.Goodness.{weigh_append}
+use Rattle.ix_collect.proofs.Gathering.{inserts_mid}
+use Rattle.ix_collect.proofs.gather.receive_one.Goals as goal
+
+pub returns-in_default-clause-kept : goal.returns-in_default-clause-kept
+returns-in_default-clause-kept g c = kept_same g.S.Sink.fact c.args.sinks.now
+
+pub returns-in_default-clause-collected : goal.returns-in_default-clause-collected
+returns-in_default-clause-collected g c = λ store jobs before after h.
+    let same : received_by c.try_recv.new.self ≡ received_by c.args.lane.now = search rules in
+    subst (λ (l : List Verdicted). IsCollected g.S.Sink.events g.S.Sink.failed store jobs (before ++ l ++ after) c.args.collector.now c.args.sinks.now) (sym same) h
+
+pub returns-clause-collected : goal.returns-clause-collected
+returns-clause-collected g c = λ store jobs before after h.
+    c.receive.ensures.collected store jobs (before ++ received_by c.args.lane.now ++ after) (before ++ received_by c.try_recv.new.self ++ after)
+    (inserts_mid before (received_by c.args.lane.now) (received_by c.try_recv.new.self) after c.in-Some.item (search rules)) h
+
+pub returns-clause-last : goal.returns-clause-last
+returns-clause-last g c =
+    let item = c.in-Some.item in
+    let gives : received_by c.try_recv.new.self ≡ received_by c.args.lane.now ++ item ∷ [] = search rules in
+    let counts : last_count (received_by c.args.lane.now ++ item ∷ []) ≡ last_count (received_by c.args.lane.now) + last_count (item ∷ []) = weigh_append is_last (received_by c.args.lane.now) (item ∷ []) in
+    let one : cond c.is_last-last.result 1 0 ≡ is_last item = c.is_last-last.ensures in
+    let new : last_count (received_by c.try_recv.new.self) ≡ last_count (received_by c.args.lane.now ++ item ∷ []) = ap last_count gives in
+    omega arith

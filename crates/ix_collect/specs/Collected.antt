@@ -1,0 +1,85 @@
+-- What a collector has made of what it received.
+use Rattle.std.specs.Prelude.{◌≡◌, ℕ, ◌+◌, Bool, false, List, [], ◌∷◌, length, Some}
+use Rattle.ix_walk.specs.Store.{Blocks}
+use Rattle.ix_walk.specs.JobMeaning.{JobMeaning}
+use Rattle.ix_car.specs.declared.sink.Delivery.{Delivery}
+use Rattle.ix_car.specs.declared.sink.End.{End}
+use Rattle.ix_car.specs.Events.{Event}
+use Rattle.ix_stages.specs.declared.verdicted.Verdicted.{Verdicted}
+use Rattle.ix_collect.specs.declared.progress.Progress.{Progress}
+use Rattle.ix_collect.specs.declared.collector.Collector.{Collector}
+use Rattle.ix_stages.specs.declared.verdicted.Verdicted.TheVariants.{Checked, Unchecked, Close, Last}
+use Rattle.ix_stages.specs.Received.{weigh, tally}
+use Rattle.ix_stages.specs.Good.{IsGood, judged_at, over_at}
+use Rattle.ix_collect.specs.Progress.{IsNew, IsSafe, IsCome, IsEnded}
+
+abbrev pub AllNew : List Progress → Type 0
+AllNew [] = Unit {0}
+AllNew (p ∷ ps) = IsNew p × AllNew ps
+
+abbrev pub AllEnded : List Progress → Type 0
+AllEnded [] = Unit {0}
+AllEnded (p ∷ ps) = IsEnded p × AllEnded ps
+
+abbrev pub EachEnded : List Progress → List End → Type 0
+EachEnded [] [] = Unit {0}
+EachEnded (p ∷ ps) (e ∷ es) = (p.end ≡ Some e) × EachEnded ps es
+EachEnded ps es = ⊥
+
+-- whether a verifier's last
+abbrev pub is_last : Verdicted → ℕ
+is_last (Checked v d) = 0
+is_last (Unchecked j n) = 0
+is_last (Close j n end) = 0
+is_last Last = 1
+
+-- how many of these are a verifier's last
+abbrev pub last_count : List Verdicted → ℕ
+last_count got = weigh is_last got
+
+-- for how many jobs it collects
+abbrev pub job_count : Collector → ℕ
+job_count c = length c.jobs.items
+
+-- an item came that can't come
+abbrev pub is_noted : Collector → Bool
+is_noted c = c.noted
+
+-- nothing was received
+abbrev pub IsUnused : Collector → Type 0
+IsUnused c = AllNew c.jobs.items × (c.noted ≡ false)
+
+-- every sink was closed
+abbrev pub IsDone : Collector → Type 0
+IsDone c = AllEnded c.jobs.items
+
+-- every sink was closed, with these ends
+abbrev pub HasEnds : Collector → List End → Type 0
+HasEnds c ends = EachEnded c.jobs.items ends
+
+module _ {S : Type 0} (events : S → List Event) (failed : S → List Delivery) where
+  -- each sink may be told what comes next
+  abbrev pub EachSafe : List Progress → List S → Type 0
+  EachSafe [] [] = Unit {0}
+  EachSafe (p ∷ ps) (s ∷ ss) = IsSafe p (events s) (failed s) × EachSafe ps ss
+  EachSafe ps ss = ⊥
+
+  -- as many sinks as jobs, and each may be told what comes next
+  abbrev pub MayTell : Collector → List S → Type 0
+  MayTell c sinks = EachSafe c.jobs.items sinks
+
+  -- job by job, from a number on: how far it has come
+  abbrev pub EachCome : Blocks → List JobMeaning → List Verdicted → ℕ → List Progress → List S → Type 0
+  EachCome store jobs got n [] [] = Unit {0}
+  EachCome store jobs got n (p ∷ ps) (s ∷ ss) = IsCome (judged_at store jobs n) (over_at store jobs n) (tally n got) p (events s) (failed s) × EachCome store jobs got (n + 1) ps ss
+  EachCome store jobs got n ps ss = ⊥
+
+  -- If these items are good, none was noted, and each sink was told what they say. Where an item stands among them makes no difference.
+  abbrev pub IsCollected : Blocks → List JobMeaning → List Verdicted → Collector → List S → Type 0
+  IsCollected store jobs got c sinks = IsGood store jobs got → job_count c ≡ length jobs → (is_noted c ≡ false) × EachCome store jobs got 0 c.jobs.items sinks
+
+  -- the items were good, of these jobs, and the collector received them
+  pub record IsCollectedFrom (store : Blocks) (jobs : List JobMeaning) (got : List Verdicted) (c : Collector) (sinks : List S) : Type 0 where
+    pub good : IsGood store jobs got
+    pub sized : job_count c ≡ length jobs
+    pub collected : IsCollected store jobs got c sinks

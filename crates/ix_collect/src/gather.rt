@@ -1,0 +1,139 @@
+//! The collector takes from all lanes.
+
+ghost use Rattle.std.specs.Prelude.{◌≡◌, ◌+◌, ◌++◌, length, List, cond};
+ghost use Rattle.ix_walk.specs.Store.{Blocks};
+ghost use Rattle.ix_walk.specs.JobMeaning.{JobMeaning};
+ghost use Rattle.ix_car.specs.Headline.{EachKept};
+ghost use Rattle.ix_stages.specs.declared.verdicted.Verdicted.{Verdicted};
+ghost use Rattle.ix_stages.specs.Lanes.{sent_by, received_by, IsLane, SameIn, SameOut, EachSameOut, EachLane, all_received, all_sent};
+ghost use Rattle.ix_collect.specs.Collected.{job_count, is_last, last_count, IsDone, MayTell, IsCollected};
+
+use crate::collector::Collector;
+use ix_car::Sink;
+use ix_stages::{LaneIn, LaneOut, Verdicted, lane_rest};
+use std::alloc::Global;
+use std::sync::Wait;
+
+// Whether the item is a verifier's last.
+fn is_last(item: &Verdicted) -> bool
+    ensures { cond result 1 0 ≡ is_last item.now }
+{
+    matches!(item, Verdicted::Last)
+}
+
+// Receives an item from a lane, if it has one. What other lanes gave stands before and behind it.
+// True is a verifier's last.
+fn receive_one<S: Sink>(
+    alloc: Global,
+    collector: &mut Collector,
+    lane: &mut LaneOut,
+    sinks: &mut [S],
+) -> bool
+    requires sinks { length sinks.old ≡ job_count collector.old }
+    requires may { MayTell S.events S.failed collector.old sinks.old }
+    ensures lane { SameOut lane.old lane.new }
+    ensures last { last_count (received_by lane.new) ≡ cond result 1 0 + last_count (received_by lane.old) }
+    ensures sinks { length sinks.new ≡ job_count collector.new }
+    ensures jobs { job_count collector.new ≡ job_count collector.old }
+    ensures may { MayTell S.events S.failed collector.new sinks.new }
+    ensures kept { EachKept S.fact sinks.old sinks.new }
+    ensures done { IsDone collector.old → IsDone collector.new }
+    ensures collected { (store : Blocks) (jobs : List JobMeaning) (before after : List Verdicted) → IsCollected S.events S.failed store jobs (before ++ received_by lane.old ++ after) collector.old sinks.old → IsCollected S.events S.failed store jobs (before ++ received_by lane.new ++ after) collector.new sinks.new }
+{
+    let Some(item) = lane.try_recv() else {
+        return false;
+    };
+    let last = is_last(&item);
+    collector.receive(alloc, item, sinks);
+    last
+}
+
+/// Receives one item from each lane that has one, and says how many of them were a verifier's last.
+/// What was received from elsewhere stands before what the lanes gave.
+pub fn round<S: Sink>(
+    alloc: Global,
+    collector: &mut Collector,
+    lanes: &mut [LaneOut],
+    sinks: &mut [S],
+) -> usize
+    requires sinks { length sinks.old ≡ job_count collector.old }
+    requires may { MayTell S.events S.failed collector.old sinks.old }
+    ensures sinks { length sinks.new ≡ job_count collector.new }
+    ensures jobs { job_count collector.new ≡ job_count collector.old }
+    ensures may { MayTell S.events S.failed collector.new sinks.new }
+    ensures lanes { EachSameOut lanes.old lanes.new }
+    ensures lasts { last_count (all_received lanes.new) ≡ result + last_count (all_received lanes.old) }
+    ensures kept { EachKept S.fact sinks.old sinks.new }
+    ensures done { IsDone collector.old → IsDone collector.new }
+    ensures collected { (store : Blocks) (jobs : List JobMeaning) (before : List Verdicted) → IsCollected S.events S.failed store jobs (before ++ all_received lanes.old) collector.old sinks.old → IsCollected S.events S.failed store jobs (before ++ all_received lanes.new) collector.new sinks.new }
+{
+    let mut lasts = 0;
+    for i in 0..lanes.len() {
+        lasts += usize::from(receive_one(alloc, collector, &mut lanes[i], sinks));
+    }
+    lasts
+}
+
+/// Receives what is left in a lane of which both ends are here. What other lanes gave stands before
+/// and behind it.
+pub fn drain<R: Wait, S: Sink>(
+    rt: &R,
+    alloc: Global,
+    collector: &mut Collector,
+    sender: &mut LaneIn,
+    receiver: &mut LaneOut,
+    sinks: &mut [S],
+)
+    requires lane { IsLane sender.old receiver.old }
+    requires sinks { length sinks.old ≡ job_count collector.old }
+    requires may { MayTell S.events S.failed collector.old sinks.old }
+    ensures lane { SameIn sender.old sender.new × SameOut receiver.old receiver.new × (sent_by sender.new ≡ sent_by sender.old) }
+    ensures sinks { length sinks.new ≡ job_count collector.new }
+    ensures jobs { job_count collector.new ≡ job_count collector.old }
+    ensures may { MayTell S.events S.failed collector.new sinks.new }
+    ensures kept { EachKept S.fact sinks.old sinks.new }
+    ensures done { IsDone collector.old → IsDone collector.new }
+    ensures collected { (store : Blocks) (jobs : List JobMeaning) (before after : List Verdicted) → IsCollected S.events S.failed store jobs (before ++ received_by receiver.old ++ after) collector.old sinks.old → IsCollected S.events S.failed store jobs (before ++ sent_by sender.old ++ after) collector.new sinks.new }
+{
+    for _ in rt.forever() {
+        match lane_rest(sender, receiver) {
+            Some(item) => collector.receive(alloc, item, sinks),
+            None => return,
+        }
+    }
+    unreachable!()
+}
+
+/// Receives what is left in all lanes, of which both ends are here. All that was sent has then come.
+/// What was received from elsewhere stands before it.
+pub fn finish<R: Wait, S: Sink>(
+    rt: &R,
+    alloc: Global,
+    collector: &mut Collector,
+    senders: &mut [LaneIn],
+    receivers: &mut [LaneOut],
+    sinks: &mut [S],
+)
+    requires size { length receivers.old ≡ length senders.old }
+    requires lanes { EachLane senders.old receivers.old }
+    requires sinks { length sinks.old ≡ job_count collector.old }
+    requires may { MayTell S.events S.failed collector.old sinks.old }
+    ensures sent { all_sent senders.new ≡ all_sent senders.old }
+    ensures sinks { length sinks.new ≡ job_count collector.new }
+    ensures jobs { job_count collector.new ≡ job_count collector.old }
+    ensures may { MayTell S.events S.failed collector.new sinks.new }
+    ensures kept { EachKept S.fact sinks.old sinks.new }
+    ensures done { IsDone collector.old → IsDone collector.new }
+    ensures collected { (store : Blocks) (jobs : List JobMeaning) (before : List Verdicted) → IsCollected S.events S.failed store jobs (before ++ all_received receivers.old) collector.old sinks.old → IsCollected S.events S.failed store jobs (before ++ all_sent senders.new) collector.new sinks.new }
+{
+    for i in 0..senders.len() {
+        drain(
+            rt,
+            alloc,
+            collector,
+            &mut senders[i],
+            &mut receivers[i],
+            sinks,
+        );
+    }
+}

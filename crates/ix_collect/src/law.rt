@@ -1,0 +1,27 @@
+//! The laws of what is sent for what was taken.
+
+ghost use Rattle.std.specs.Prelude.{◌≡◌, ◌≤◌, ◌++◌, ℕ, List, length, All};
+ghost use Rattle.ix_walk.specs.Store.{Blocks};
+ghost use Rattle.ix_walk.specs.JobMeaning.{JobMeaning};
+ghost use Rattle.ix_stages.specs.declared.item.Item.{Item};
+ghost use Rattle.ix_stages.specs.declared.verdicted.Verdicted.{Verdicted};
+ghost use Rattle.ix_stages.specs.Good.{IsGood, judged_at};
+ghost use Rattle.ix_stages.specs.Received.{pairs_of};
+ghost use Rattle.ix_stages.specs.Sent.{SentFor, IsGoodTaken};
+
+/// What is sent for good items is good.
+pub fn sent_for_good()
+    ensures { (store : Blocks) (jobs : List JobMeaning) (taken : List Item) (sent : List Verdicted) → IsGoodTaken store jobs taken → SentFor store taken sent → IsGood store jobs sent }
+{}
+
+/// What was sent for lists of taken items, put end to end, is sent for those lists put end to end,
+/// and so are the pairs that were checked.
+pub fn sent_end_to_end()
+    ensures sent { (store : Blocks) (taken : List Item) (sent : List Verdicted) (more : List Item) (rest : List Verdicted) → SentFor store taken sent → SentFor store more rest → SentFor store (taken ++ more) (sent ++ rest) }
+    ensures pairs { (sent rest : List Verdicted) → pairs_of (sent ++ rest) ≡ pairs_of sent ++ pairs_of rest }
+{}
+
+/// Jobs within the limit have few enough visits.
+pub fn limited_is_small()
+    ensures { (store : Blocks) (jobs : List JobMeaning) → All (λ job. job.limit ≤ 1000000) jobs → (n : ℕ) → length (judged_at store jobs n) ≤ 1000000 }
+{}

@@ -1,0 +1,10 @@
+//! The collector: what verifiers send becomes what each job's sink is told.
+#![tactic(auto)]
+
+mod collector;
+mod gather;
+pub mod law;
+mod progress;
+
+pub use collector::Collector;
+pub use gather::{drain, finish, round};

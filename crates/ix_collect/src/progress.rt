@@ -1,0 +1,234 @@
+//! What was received of one job, and how far its sink has come.
+
+ghost use Rattle.std.specs.Prelude.{◌≡◌, ◌+◌, None, List, Bool, true, IfOk, IsTrue, ◌↔◌, unwrap_or};
+ghost use Rattle.ix_car.specs.declared.sink.Delivery.{Delivery};
+ghost use Rattle.ix_car.specs.declared.sink.End.TheVariants.{Memory};
+ghost use Rattle.ix_car.specs.Events.{Event};
+ghost use Rattle.ix_car.specs.Headline.{Keeps};
+ghost use Rattle.ix_collect.specs.declared.progress.Stage.TheVariants.{Delivering};
+ghost use Rattle.ix_stages.specs.Received.{Tally};
+ghost use Rattle.ix_collect.specs.Progress.{IsFine, IsArrival, IsCloseArrival, IsItem, IsUnderWay, IsPoppedUnderWay, IsCalm, IsCome, IsSafe, IsNew, IsEnded, end_of};
+
+use ix_car::{Delivery, End, Sink, SinkFault};
+use ix_ring::Ring;
+use ix_stages::Verdicted;
+use std::alloc::{AllocError, Global};
+
+/// What becomes of the visits of a job that are next.
+#[derive(Debug, Drop, Clone, Copy, PartialEq, Eq)]
+pub(crate) enum Stage {
+    /// They are delivered.
+    Delivering,
+    /// A write failed: nothing more is delivered.
+    Failed,
+    /// Memory was wanting: nothing more is delivered.
+    Stopped,
+}
+
+/// The close of a job's walk.
+#[derive(Debug, Drop, Clone, Copy)]
+pub(crate) struct WalkEnd {
+    pub(crate) seq: u32,
+    pub(crate) end: End,
+}
+
+/// What was received of one job, and how far its sink has come.
+#[derive(Drop)]
+pub(crate) struct Progress {
+    // Visits with their verdicts, and those that found no memory, until their turn comes.
+    ring: Ring<Option<Delivery>>,
+    // How many items came.
+    arrived: u64,
+    close: Option<WalkEnd>,
+    // Want of memory was met.
+    short: bool,
+    stage: Stage,
+    // How the sink was closed.
+    end: Option<End>,
+}
+
+// Whether so many items are all of a job whose walk ended so.
+fn is_all(arrived: u64, close: WalkEnd) -> bool
+    ensures { IsTrue result ↔ (arrived ≡ close.seq + 1) }
+{
+    arrived == u64::from(close.seq) + 1
+}
+
+impl Progress {
+    // Nothing was received so far.
+    pub(crate) fn new(alloc: Global) -> Result<Progress, AllocError>
+        ensures { IfOk result IsNew }
+    {
+        let ring = Ring::new(alloc)?;
+        Ok(Progress {
+            ring,
+            arrived: 0,
+            close: None,
+            short: false,
+            stage: Stage::Delivering,
+            end: None,
+        })
+    }
+
+    // A visit came: with its verdict, or without where the check found no memory. False is a number
+    // that can't be.
+    fn take(&mut self, seq: u32, judged: Option<Delivery>) -> bool
+        ensures end { self.new.end ≡ self.old.end }
+        ensures safe { (events : List Event) (failed : List Delivery) → IsSafe self.old events failed → IsSafe self.new events failed }
+        ensures taken { (all : List Delivery) (over : Bool) (t u : Tally) (events : List Event) (failed : List Delivery) → IsFine all u → IsArrival all seq judged t u → IsUnderWay all over t self.old events failed → (result ≡ true) × IsUnderWay all over u self.new events failed }
+    {
+        self.arrived = self.arrived.saturating_add(1);
+        self.short |= judged.is_none();
+        if self.stage != Stage::Delivering {
+            return true;
+        }
+        let Err(fault) = self.ring.place(seq, judged) else {
+            return true;
+        };
+        if !fault.is_memory() {
+            return false;
+        }
+        self.short = true;
+        self.stage = Stage::Stopped;
+        true
+    }
+
+    // The close of the job's walk came. False is a second one.
+    fn note_close(&mut self, seq: u32, end: End) -> bool
+        ensures end { self.new.end ≡ self.old.end }
+        ensures safe { (events : List Event) (failed : List Delivery) → IsSafe self.old events failed → IsSafe self.new events failed }
+        ensures noted { (all : List Delivery) (over : Bool) (t u : Tally) (events : List Event) (failed : List Delivery) → IsFine all u → IsCloseArrival all over seq end t u → IsUnderWay all over t self.old events failed → (result ≡ true) × IsUnderWay all over u self.new events failed }
+    {
+        self.arrived = self.arrived.saturating_add(1);
+        if self.close.is_some() {
+            return false;
+        }
+        self.short |= end == End::Memory;
+        self.close = Some(WalkEnd { seq, end });
+        true
+    }
+
+    // Delivers the visit that came out of the ring, or stops at one without a verdict.
+    fn hand_on<S: Sink>(&mut self, alloc: Global, judged: Option<Delivery>, sink: &mut S)
+        requires open { self.old.end ≡ None }
+        requires stage { self.old.stage ≡ Delivering }
+        requires safe { IsSafe self.old (S.events sink.old) (S.failed sink.old) }
+        ensures end { self.new.end ≡ None }
+        ensures ring { self.new.ring ≡ self.old.ring }
+        ensures safe { IsSafe self.new (S.events sink.new) (S.failed sink.new) }
+        ensures kept { Keeps S.fact sink.old sink.new }
+        ensures handed { (all : List Delivery) (over : Bool) (t : Tally) → IsPoppedUnderWay all over t judged self.old (S.events sink.old) (S.failed sink.old) → IsUnderWay all over t self.new (S.events sink.new) (S.failed sink.new) }
+    {
+        let Some(Delivery { visit, verdict }) = judged else {
+            self.stage = Stage::Stopped;
+            return;
+        };
+        match sink.deliver(alloc, visit, verdict) {
+            Ok(()) => {}
+            Err(SinkFault::Write) => self.stage = Stage::Failed,
+            Err(SinkFault::Memory) => {
+                self.short = true;
+                self.stage = Stage::Stopped;
+            }
+        }
+    }
+
+    // Delivers what is next, as long as there is something.
+    fn deliver<S: Sink>(&mut self, alloc: Global, sink: &mut S)
+        requires open { self.old.end ≡ None }
+        requires safe { IsSafe self.old (S.events sink.old) (S.failed sink.old) }
+        ensures end { self.new.end ≡ None }
+        ensures safe { IsSafe self.new (S.events sink.new) (S.failed sink.new) }
+        ensures kept { Keeps S.fact sink.old sink.new }
+        ensures delivered { (all : List Delivery) (over : Bool) (t : Tally) → IsUnderWay all over t self.old (S.events sink.old) (S.failed sink.old) → IsUnderWay all over t self.new (S.events sink.new) (S.failed sink.new) × IsCalm self.new }
+    {
+        while self.stage == Stage::Delivering {
+            let Some(judged) = self.ring.pop() else {
+                return;
+            };
+            self.hand_on(alloc, judged, sink);
+        }
+    }
+
+    // Closes the sink, where all has arrived.
+    fn finish<S: Sink>(&mut self, sink: &mut S)
+        requires open { self.old.end ≡ None }
+        requires safe { IsSafe self.old (S.events sink.old) (S.failed sink.old) }
+        ensures safe { IsSafe self.new (S.events sink.new) (S.failed sink.new) }
+        ensures kept { Keeps S.fact sink.old sink.new }
+        ensures finished { (all : List Delivery) (over : Bool) (t : Tally) → IsFine all t → IsUnderWay all over t self.old (S.events sink.old) (S.failed sink.old) → IsCalm self.old → IsCome all over t self.new (S.events sink.new) (S.failed sink.new) }
+    {
+        let Some(close) = self.close else {
+            return;
+        };
+        if !is_all(self.arrived, close) {
+            return;
+        }
+        let end = self.end_at(close.end);
+        sink.close(end);
+        self.end = Some(end);
+    }
+
+    // How a job ends whose walk ended so.
+    fn end_at(&self, end: End) -> End
+        ensures { result ≡ end_of self.now.short self.now.stage end }
+    {
+        if self.short {
+            return End::Memory;
+        }
+        match self.stage {
+            Stage::Failed => End::Write,
+            _ => end,
+        }
+    }
+
+    // Whether the sink was closed.
+    pub(crate) fn is_ended(&self) -> bool
+        ensures { IsTrue result ↔ IsEnded self.now }
+    {
+        self.end.is_some()
+    }
+
+    // How the sink was closed. One that wasn't answers Memory.
+    pub(crate) fn end(&self) -> End
+        ensures { result ≡ unwrap_or self.now.end Memory }
+    {
+        self.end.unwrap_or(End::Memory)
+    }
+
+    // An item of the job came. False is one that can't come.
+    pub(crate) fn receive<S: Sink>(&mut self, alloc: Global, item: Verdicted, sink: &mut S) -> bool
+        requires safe { IsSafe self.old (S.events sink.old) (S.failed sink.old) }
+        ensures safe { IsSafe self.new (S.events sink.new) (S.failed sink.new) }
+        ensures kept { Keeps S.fact sink.old sink.new }
+        ensures ended { IsEnded self.old → IsEnded self.new }
+        ensures received { (all : List Delivery) (over : Bool) (t u : Tally) → IsFine all u → IsItem all over item t u → IsCome all over t self.old (S.events sink.old) (S.failed sink.old) → (result ≡ true) × IsCome all over u self.new (S.events sink.new) (S.failed sink.new) }
+    {
+        if self.end.is_some() {
+            return false;
+        }
+        if !self.note(item) {
+            return false;
+        }
+        self.deliver(alloc, sink);
+        self.finish(sink);
+        true
+    }
+
+    // Notes an item, whether or not it is next.
+    fn note(&mut self, item: Verdicted) -> bool
+        ensures end { self.new.end ≡ self.old.end }
+        ensures safe { (events : List Event) (failed : List Delivery) → IsSafe self.old events failed → IsSafe self.new events failed }
+        ensures noted { (all : List Delivery) (over : Bool) (t u : Tally) (events : List Event) (failed : List Delivery) → IsFine all u → IsItem all over item t u → IsUnderWay all over t self.old events failed → (result ≡ true) × IsUnderWay all over u self.new events failed }
+    {
+        match item {
+            Verdicted::Checked { visit, verdict } => {
+                let seq = visit.seq;
+                self.take(seq, Some(Delivery { visit, verdict }))
+            }
+            Verdicted::Unchecked { seq, .. } => self.take(seq, None),
+            Verdicted::Close { seq, end, .. } => self.note_close(seq, end),
+            Verdicted::Last => false,
+        }
+    }
+}
