@@ -13,7 +13,7 @@ use Rattle.ix_stages.specs.Good.{judged_at, over_at, IsAllowed, IsGood}
 use Rattle.std.specs.Prelude.{not, ◌||◌}
 use Rattle.ix_collect.specs.Progress.{IsNew, IsFine, IsItem, IsSafe, IsCome, IsEnded}
 use Rattle.std.proofs.lemmas.List.{take_more}
-use Rattle.ix_collect.specs.Collected.{AllNew, EachSafe, EachCome, IsCollected, AllEnded}
+use Rattle.ix_collect.specs.Collected.{AllNew, EachSafe, EachCome, IsCollected, AllEnded, IsClosedAt}
 use Rattle.ix_collect.proofs.Goodness.{tally_same, fine_of, item_of, good_before}
 
 -- the job of an item that may be sent is there
@@ -43,6 +43,26 @@ pub ended_at : (ps : List Progress) (i : ℕ) (p : Progress) → p ≡ get_or ps
 ended_at [] i p at lt h = absurd (omega arith)
 ended_at (x ∷ ps) zero p at lt h = subst IsEnded (sym at) h.0
 ended_at (x ∷ ps) (suc i) p at lt h = ended_at ps i p at (omega arith) h.1
+
+pub closed_at : (ps : List Progress) (i : ℕ) (p : Progress) → p ≡ get_or ps i p → IsClosedAt ps i → IsEnded p
+closed_at [] i p at h = absurd h
+closed_at (x ∷ ps) zero p at h = subst IsEnded (sym at) h
+closed_at (x ∷ ps) (suc i) p at h = closed_at ps i p at h
+
+-- what was noted stays noted, and an item that can't come is
+pub stays_noted : (noted more : Bool) → noted ≡ true → (noted || more) ≡ true
+stays_noted true more e = refl
+stays_noted false more e = cc
+
+pub is_noted_then : (noted fine : Bool) → fine ≡ false → (noted || not fine) ≡ true
+is_noted_then true fine e = refl
+is_noted_then false true e = cc
+is_noted_then false false e = refl
+
+pub not_fine : (noted fine : Bool) → noted ≡ false → (noted || not fine) ≡ true → fine ≡ false
+not_fine true fine e f = cc
+not_fine false true e f = cc
+not_fine false false e f = refl
 
 pub ended_set : (ps : List Progress) (i : ℕ) (p q : Progress) → p ≡ get_or ps i p → i < length ps → (IsEnded p → IsEnded q) → AllEnded ps → AllEnded (set ps i q)
 ended_set [] i p q at lt keeps h = tt

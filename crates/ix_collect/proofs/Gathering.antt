@@ -71,6 +71,22 @@ in_trans x y z h k = let a = h.0 in let b = k.0 in ((b.0 ∙ a.0, b.1 ∙ a.1, b
 pub lane_same : (i j : LaneIn) (o p : LaneOut) → SameIn i j → SameOut o p → IsLane i o → IsLane j p
 lane_same i j o p a b h = let x = a.0 in let y = b.0 in (y.0 ∙ h.0 ∙ sym x.0, y.1 ∙ h.1 ∙ sym x.1, y.2 ∙ h.2 ∙ sym x.2, y.3 ∙ h.3 ∙ sym x.3)
 
+pub lanes_same : (is : List LaneIn) (os ps : List LaneOut) → EachSameOut os ps → EachLane is os → EachLane is ps
+lanes_same [] [] [] a h = tt
+lanes_same [] [] (p ∷ ps) a h = absurd a
+lanes_same [] (o ∷ os) ps a h = absurd h
+lanes_same (i ∷ is) [] ps a h = absurd h
+lanes_same (i ∷ is) (o ∷ os) [] a h = absurd a
+lanes_same (i ∷ is) (o ∷ os) (p ∷ ps) a h = (lane_same i i o p ((refl, refl, refl, refl), refl) a.0 h.0, lanes_same is os ps a.1 h.1)
+
+pub each_same_trans : (xs ys zs : List LaneOut) → EachSameOut xs ys → EachSameOut ys zs → EachSameOut xs zs
+each_same_trans [] [] [] h k = tt
+each_same_trans [] [] (z ∷ zs) h k = absurd k
+each_same_trans [] (y ∷ ys) zs h k = absurd h
+each_same_trans (x ∷ xs) [] zs h k = absurd h
+each_same_trans (x ∷ xs) (y ∷ ys) [] h k = absurd k
+each_same_trans (x ∷ xs) (y ∷ ys) (z ∷ zs) h k = (same_trans x y z h.0 k.0, each_same_trans xs ys zs h.1 k.1)
+
 all_sent_append : (xs ys : List LaneIn) → all_sent (xs ++ ys) ≡ all_sent xs ++ all_sent ys
 all_sent_append [] ys = refl
 all_sent_append (x ∷ xs) ys = ap (λ (k : List Verdicted). sent_by x ++ k) (all_sent_append xs ys) ∙ sym (append_assoc (sent_by x) (all_sent xs) (all_sent ys))

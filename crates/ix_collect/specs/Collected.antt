@@ -1,5 +1,5 @@
 -- What a collector has made of what it received.
-use Rattle.std.specs.Prelude.{◌≡◌, ℕ, ◌+◌, Bool, false, List, [], ◌∷◌, length, Some}
+use Rattle.std.specs.Prelude.{◌≡◌, ◌≤◌, ◌⊎◌, ℕ, zero, suc, ◌+◌, Bool, false, List, [], ◌∷◌, length, Some}
 use Rattle.ix_walk.specs.Store.{Blocks}
 use Rattle.ix_walk.specs.JobMeaning.{JobMeaning}
 use Rattle.ix_car.specs.declared.sink.Delivery.{Delivery}
@@ -20,6 +20,12 @@ AllNew (p ∷ ps) = IsNew p × AllNew ps
 abbrev pub AllEnded : List Progress → Type 0
 AllEnded [] = Unit {0}
 AllEnded (p ∷ ps) = IsEnded p × AllEnded ps
+
+-- the sink of the job with this number was closed
+abbrev pub IsClosedAt : List Progress → ℕ → Type 0
+IsClosedAt [] job = ⊥
+IsClosedAt (p ∷ ps) zero = IsEnded p
+IsClosedAt (p ∷ ps) (suc job) = IsClosedAt ps job
 
 abbrev pub EachEnded : List Progress → List End → Type 0
 EachEnded [] [] = Unit {0}
@@ -52,6 +58,10 @@ IsUnused c = AllNew c.jobs.items × (c.noted ≡ false)
 -- every sink was closed
 abbrev pub IsDone : Collector → Type 0
 IsDone c = AllEnded c.jobs.items
+
+-- no item of the job can come: there is no such job, or its sink was closed
+abbrev pub IsStray : Collector → ℕ → Type 0
+IsStray c job = (job_count c ≤ job) ⊎ IsClosedAt c.jobs.items job
 
 -- every sink was closed, with these ends
 abbrev pub HasEnds : Collector → List End → Type 0

@@ -1,12 +1,12 @@
 //! Receives what the verifiers send, and tells each job's sink.
 
-ghost use Rattle.std.specs.Prelude.{◌≡◌, ◌≤◌, [], length, List, IfOk, IsTrue, ◌↔◌, vec_capacity, false};
+ghost use Rattle.std.specs.Prelude.{◌≡◌, ◌≤◌, ℕ, [], length, List, IfOk, IsTrue, ◌↔◌, vec_capacity, true, false};
 ghost use Rattle.ix_walk.specs.Store.{Blocks};
 ghost use Rattle.ix_walk.specs.JobMeaning.{JobMeaning};
 ghost use Rattle.ix_car.specs.Headline.{EachKept, EachFresh, EachDelivered, IsCheckedOnce, NoneIsStart};
 ghost use Rattle.ix_stages.specs.declared.verdicted.Verdicted.{Verdicted};
 ghost use Rattle.ix_stages.specs.Received.{Inserts, job_of, pairs_of};
-ghost use Rattle.ix_collect.specs.Collected.{job_count, is_noted, IsUnused, IsDone, MayTell, IsCollected, IsCollectedFrom, HasEnds};
+ghost use Rattle.ix_collect.specs.Collected.{job_count, is_noted, IsUnused, IsDone, IsStray, MayTell, IsCollected, IsCollectedFrom, HasEnds};
 
 use crate::progress::Progress;
 use ix_car::{End, Sink};
@@ -54,7 +54,7 @@ impl Collector {
     }
 
     /// Receives an item: delivers what is next of its job, and closes the job's sink where all has
-    /// arrived.
+    /// arrived. An item that can't come is noted, and reaches no sink.
     pub fn receive<S: Sink>(&mut self, alloc: Global, item: Verdicted, sinks: &mut [S])
         requires sinks { length sinks.old ≡ job_count self.old }
         requires may { MayTell S.events S.failed self.old sinks.old }
@@ -63,6 +63,10 @@ impl Collector {
         ensures may { MayTell S.events S.failed self.new sinks.new }
         ensures kept { EachKept S.fact sinks.old sinks.new }
         ensures done { IsDone self.old → IsDone self.new }
+        ensures last { job_of item ≡ None → (self.new ≡ self.old) × (sinks.new ≡ sinks.old) }
+        ensures stray { (job : ℕ) → job_of item ≡ Some job → IsStray self.old job → (is_noted self.new ≡ true) × (sinks.new ≡ sinks.old) }
+        ensures noted { is_noted self.old ≡ true → is_noted self.new ≡ true }
+        ensures guarded { is_noted self.old ≡ false → is_noted self.new ≡ true → sinks.new ≡ sinks.old }
         ensures collected { (store : Blocks) (jobs : List JobMeaning) (got more : List Verdicted) → Inserts item got more → IsCollected S.events S.failed store jobs got self.old sinks.old → IsCollected S.events S.failed store jobs more self.new sinks.new }
     {
         let Some(job) = job_of(&item) else {

@@ -1,10 +1,13 @@
-//! The laws of what is sent for what was taken.
+//! The laws of what is sent for what was taken, and of lanes.
 
 ghost use Rattle.std.specs.Prelude.{◌≡◌, ◌≤◌, ◌++◌, ℕ, List, length, All};
 ghost use Rattle.ix_walk.specs.Store.{Blocks};
 ghost use Rattle.ix_walk.specs.JobMeaning.{JobMeaning};
 ghost use Rattle.ix_stages.specs.declared.item.Item.{Item};
 ghost use Rattle.ix_stages.specs.declared.verdicted.Verdicted.{Verdicted};
+ghost use Rattle.ix_stages.specs.declared.lanes.LaneIn.{LaneIn};
+ghost use Rattle.ix_stages.specs.declared.lanes.LaneOut.{LaneOut};
+ghost use Rattle.ix_stages.specs.Lanes.{IsLane, SameIn, SameOut, EachSameOut, EachLane};
 ghost use Rattle.ix_stages.specs.Good.{IsGood, judged_at};
 ghost use Rattle.ix_stages.specs.Received.{pairs_of};
 ghost use Rattle.ix_stages.specs.Sent.{SentFor, IsGoodTaken};
@@ -24,4 +27,13 @@ pub fn sent_end_to_end()
 /// Jobs within the limit have few enough visits.
 pub fn limited_is_small()
     ensures { (store : Blocks) (jobs : List JobMeaning) → All (λ job. job.limit ≤ 1000000) jobs → (n : ℕ) → length (judged_at store jobs n) ≤ 1000000 }
+{}
+
+/// Lanes that were sent to and received from are the same lanes, and their ends belong together as
+/// before.
+pub fn lanes_stay()
+    ensures same { (outs : List LaneOut) → EachSameOut outs outs }
+    ensures again { (first next last : List LaneOut) → EachSameOut first next → EachSameOut next last → EachSameOut first last }
+    ensures lane { (sender sent : LaneIn) (receiver received : LaneOut) → SameIn sender sent → SameOut receiver received → IsLane sender receiver → IsLane sent received }
+    ensures lanes { (ins : List LaneIn) (outs next : List LaneOut) → EachSameOut outs next → EachLane ins outs → EachLane ins next }
 {}

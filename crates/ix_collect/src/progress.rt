@@ -1,6 +1,6 @@
 //! What was received of one job, and how far its sink has come.
 
-ghost use Rattle.std.specs.Prelude.{◌≡◌, ◌+◌, None, List, Bool, true, IfOk, IsTrue, ◌↔◌, unwrap_or};
+ghost use Rattle.std.specs.Prelude.{◌≡◌, ◌+◌, None, List, Bool, true, false, IfOk, IsTrue, ◌↔◌, unwrap_or};
 ghost use Rattle.ix_car.specs.declared.sink.Delivery.{Delivery};
 ghost use Rattle.ix_car.specs.declared.sink.End.TheVariants.{Memory};
 ghost use Rattle.ix_car.specs.Events.{Event};
@@ -202,6 +202,8 @@ impl Progress {
         ensures safe { IsSafe self.new (S.events sink.new) (S.failed sink.new) }
         ensures kept { Keeps S.fact sink.old sink.new }
         ensures ended { IsEnded self.old → IsEnded self.new }
+        ensures late { IsEnded self.old → result ≡ false }
+        ensures refused { result ≡ false → sink.new ≡ sink.old }
         ensures received { (all : List Delivery) (over : Bool) (t u : Tally) → IsFine all u → IsItem all over item t u → IsCome all over t self.old (S.events sink.old) (S.failed sink.old) → (result ≡ true) × IsCome all over u self.new (S.events sink.new) (S.failed sink.new) }
     {
         if self.end.is_some() {

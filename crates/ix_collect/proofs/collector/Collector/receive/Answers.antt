@@ -1,7 +1,11 @@
-use Rattle.std.proofs.Common.{rules, ◌≡◌, ◌<◌, ◌≤◌, refl, sym, ◌∙◌, Some, length, get_or, ap, length-set}
+use Rattle.std.specs.Prelude.{false}
+use Rattle.std.proofs.lemmas.List.{set-get_or}
+use Rattle.ix_collect.specs.Progress.{IsEnded}
+use Rattle.ix_collect.specs.Collected.{IsStray}
+use Rattle.std.proofs.Common.{◌⊎◌, inl, inr, ℕ, arith, subst, set, List, rules, ◌≡◌, ◌<◌, ◌≤◌, refl, sym, ◌∙◌, Some, length, get_or, ap, length-set}
 use Rattle.ix_collect.proofs.Kept.{kept_set, kept_same}
 use Rattle.ix_stages.specs.Received.{job_of}
-use Rattle.ix_collect.proofs.Collecting.{safe_at, safe_set, collected_none, collected_unknown, collected_one, ended_set}
+use Rattle.ix_collect.proofs.Collecting.{safe_at, safe_set, collected_none, collected_unknown, collected_one, ended_set, closed_at, stays_noted, is_noted_then, not_fine}
 use Rattle.ix_collect.proofs.collector.Collector.receive.Goals as goal
 
 pub returns-in_default-clause-kept : goal.returns-in_default-clause-kept
@@ -50,3 +54,27 @@ pub returns-then-job-len-clause-collected : goal.returns-then-job-len-clause-col
 returns-then-job-len-clause-collected g c =
     let past : length c.args.self.now.jobs.items ≤ c.in-Some.job = search rules in
     λ store jobs got more i h good len. absurd (collected_unknown store jobs c.args.item got more c.in-Some.job (length c.args.self.now.jobs.items) i (sym c.job_of.ensures ∙ c.in-Some.is) past len good)
+
+pub returns-clause-noted : goal.returns-clause-noted
+returns-clause-noted g c = λ e. stays_noted c.args.self.now.noted _ e
+
+pub returns-clause-guarded : goal.returns-clause-guarded
+returns-clause-guarded g c =
+    let sink = get_or c.args.sinks.now c.in-Some.job c.index-sinks-job.result in
+    λ was now.
+    let bad : c.receive-fine.result ≡ false = not_fine c.args.self.now.noted c.receive-fine.result was now in
+    ap (λ (s : g.row.S.Denot). set c.args.sinks.now c.in-Some.job s) (c.receive-fine.ensures.refused bad) ∙ set-get_or c.args.sinks.now c.in-Some.job c.index-sinks-job.result
+
+pub returns-clause-stray : goal.returns-clause-stray
+returns-clause-stray g c = λ job of stray.
+    let lt : c.in-Some.job < length c.args.self.now.jobs.items = search rules in
+    let known : Some c.in-Some.job ≡ Some job = sym c.in-Some.is ∙ c.job_of.ensures ∙ of in
+    let same : c.in-Some.job ≡ job = cc in
+    let here : IsStray c.args.self.now c.in-Some.job = subst (λ (n : ℕ). IsStray c.args.self.now n) (sym same) stray in
+    let ended : IsEnded c.index_mut.result.now =
+    elim here [ inl past ↦ absurd (omega arith) | inr closed ↦ closed_at c.args.self.now.jobs.items c.in-Some.job c.index_mut.result.now c.index_mut.ensures.value closed ]
+    in
+    let bad : c.receive-fine.result ≡ false = c.receive-fine.ensures.late ended in (
+      is_noted_then c.args.self.now.noted c.receive-fine.result bad,
+      ap (λ (s : g.row.S.Denot). set c.args.sinks.now c.in-Some.job s) (c.receive-fine.ensures.refused bad) ∙ set-get_or c.args.sinks.now c.in-Some.job c.index-sinks-job.result,
+    )
