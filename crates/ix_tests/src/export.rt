@@ -28,15 +28,15 @@ const LIST_VERDICTS: [(u32, Verdict); 5] = [
 
 // Keeps what it is told, for which room was made, and fails to write once it has so many deliveries.
 #[derive(Drop)]
-struct Log {
+pub(crate) struct Log {
     room: usize,
-    deliveries: Vec<Delivery>,
+    pub(crate) deliveries: Vec<Delivery>,
     failed: Option<Delivery>,
     closed: Option<End>,
     ghost reserved: { room ≤ vec_capacity deliveries },
 }
 
-fn log_of(alloc: Global, room: usize) -> Result<Log, AllocError>
+pub(crate) fn log_of(alloc: Global, room: usize) -> Result<Log, AllocError>
     ensures events { IfOk result (λ s. map delivery s.deliveries.items ++ map closing (option_to_list s.closed) ≡ []) }
     ensures failed { IfOk result (λ s. option_to_list s.failed ≡ []) }
 {

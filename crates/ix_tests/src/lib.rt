@@ -5,6 +5,8 @@
 #[cfg(test)]
 mod archives;
 #[cfg(test)]
+mod collector;
+#[cfg(test)]
 mod export;
 #[cfg(test)]
 mod fixtures;
