@@ -1,1 +1,4 @@
 pub mod Lanes
+pub mod Claims
+pub mod ClaimRule
+pub mod ClaimsJoined
