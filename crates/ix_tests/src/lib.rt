@@ -13,4 +13,6 @@ mod refusals;
 #[cfg(test)]
 mod runs;
 #[cfg(test)]
+mod stages;
+#[cfg(test)]
 mod threads;
