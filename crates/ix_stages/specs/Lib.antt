@@ -9,3 +9,6 @@ pub mod Seats
 pub mod Queue
 pub mod Settled
 pub mod Lanes
+pub mod Claims
+pub mod ClaimRule
+pub mod ClaimsJoined

@@ -1,6 +1,8 @@
 //! The visit queue, lanes and claims: what the threads of an export meet through.
 #![tactic(auto)]
 
+mod claim_rule;
+mod claims;
 mod course;
 mod hand;
 mod item;
@@ -12,6 +14,7 @@ mod seats;
 mod settle;
 mod verdicted;
 
+pub use claims::{ClaimSeat, Claims};
 pub use course::Course;
 pub use item::Item;
 pub use lanes::{LaneIn, LaneOut, lane, lane_rest};

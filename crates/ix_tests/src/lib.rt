@@ -17,4 +17,6 @@ mod ring;
 #[cfg(test)]
 mod runs;
 #[cfg(test)]
+mod stages;
+#[cfg(test)]
 mod threads;
