@@ -1,6 +1,12 @@
 //! Courses: what the walks of all jobs are to put.
 
-ghost use Rattle.std.specs.Prelude.{List};
+ghost use Rattle.std.specs.Prelude.{◌≡◌, ◌≤◌, ℕ, List, length, slice_get, Some, All};
+ghost use Rattle.ix_walk.specs.Store.{Blocks};
+ghost use Rattle.ix_walk.specs.JobMeaning.{JobMeaning};
+ghost use Rattle.ix_walk.specs.Visits.{visits_of, is_over_limit};
+ghost use Rattle.ix_stages.specs.declared.item.Item.{Item};
+ghost use Rattle.ix_stages.specs.Course.{IsCourse, IsCourseOf, IsWellTaken, course_of, course_visits, course_over};
+ghost use Rattle.ix_stages.specs.Sent.{IsGoodTaken};
 
 use ix_walk::Visit;
 use std::collections::LinkedList;
@@ -20,3 +26,17 @@ pub trait Course {
     /// Job by job, in the order of their numbers.
     ghost plan: { Self → List JobVisits };
 }
+
+/// The course of jobs has what each of their walks gives, and nothing but visits of the store.
+pub fn course_of_jobs()
+    ensures sized { (store : Blocks) (jobs : List JobMeaning) → length (course_of store jobs) ≡ length jobs }
+    ensures visits { (store : Blocks) (jobs : List JobMeaning) (n : ℕ) (job : JobMeaning) → slice_get jobs n ≡ Some job → course_visits (course_of store jobs) n ≡ visits_of store n job }
+    ensures over { (store : Blocks) (jobs : List JobMeaning) (n : ℕ) (job : JobMeaning) → slice_get jobs n ≡ Some job → course_over (course_of store jobs) n ≡ is_over_limit store job }
+    ensures small { (store : Blocks) (jobs : List JobMeaning) → All (λ job. job.limit ≤ 1000000) jobs → IsCourse (course_of store jobs) }
+    ensures store { (store : Blocks) (jobs : List JobMeaning) → IsCourseOf store (course_of store jobs) }
+{}
+
+/// What is well taken by the course of jobs is good.
+pub fn well_taken_is_good()
+    ensures { (store : Blocks) (jobs : List JobMeaning) (items : List Item) → All (λ job. job.limit ≤ 1000000) jobs → IsWellTaken (course_of store jobs) items → IsGoodTaken store jobs items }
+{}
