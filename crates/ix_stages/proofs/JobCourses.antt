@@ -100,6 +100,18 @@ get_within (y ∷ ys) (suc n) x e = let rest : n < length ys = get_within ys n x
 none_at : (k : ℕ) (v : Visit) → slice_get [] k ≡ Some v → ⊥
 none_at k v e = cc
 
+-- the visits of a walk are numbered
+numbered_from : (store : Blocks) (number seq : ℕ) (found : List Arrival) (k : ℕ) (v : Visit) → slice_get (visits_from store number seq found) k ≡ Some v → (v.job ≡ number) × (v.seq ≡ seq + k)
+numbered_from store number seq [] k v e = cc
+numbered_from store number seq (a ∷ found) zero v e =
+    let same : visit_of store number seq a ≡ v = cc in
+    let here : v.seq ≡ seq = ap (λ (w : Visit). w.seq) (sym same) in
+    (ap (λ (w : Visit). w.job) (sym same), omega (arith, here))
+numbered_from store number seq (a ∷ found) (suc k) v e =
+    let rest = numbered_from store number (seq + 1) found k v e in
+    let there : v.seq ≡ seq + 1 + k = rest.1 in
+    (rest.0, omega (arith, there))
+
 -- ---- what is well taken by this course is good
 
 close_of : {X Y : Type 0} (end : End) (n : ℕ) (xs : List X) (ys : List Y) (a b : Bool) → length xs ≡ length ys → a ≡ b → IsCloseOf end n xs a → IsCloseOf end n ys b
@@ -150,3 +162,18 @@ module _ (store : Blocks) (jobs : List JobMeaning) where
     last = h.last;
     small = λ j. subst (λ (n : ℕ). n ≤ 1000000) (length_same j) (IsCourse-at (course_of store jobs) j (small store jobs limits));
   }
+
+-- ---- what a walk puts is allowed
+
+pub visit_allowed : (store : Blocks) (jobs : List JobMeaning) (n k : ℕ) (job : JobMeaning) (v : Visit) → slice_get jobs n ≡ Some job → slice_get (visits_of store n job) k ≡ Some v → (v.job ≡ n) × (v.seq ≡ k) × Allowed (course_of store jobs) (item.Visit v)
+visit_allowed store jobs n k job v at is =
+    let named = numbered_from store n 0 (take job.limit (believed store job)) k v is in
+    let seq : v.seq ≡ k = (let there = named.1 in omega (arith, there)) in
+    let there : slice_get (course_visits (course_of store jobs) n) k ≡ Some v = ap (λ (l : List Visit). slice_get l k) (visits_there store jobs n job at) ∙ is in
+    (named.0, seq, subst (λ (y : ℕ × ℕ). slice_get (course_visits (course_of store jobs) y.0) y.1 ≡ Some v) (λ i. (sym named.0 i, sym seq i)) there)
+
+pub close_allowed : (store : Blocks) (jobs : List JobMeaning) (n k : ℕ) (job : JobMeaning) (end : End) → slice_get jobs n ≡ Some job → IsCloseOf end k (visits_of store n job) (is_over_limit store job) → Allowed (course_of store jobs) (item.Close n k end)
+close_allowed store jobs n k job end at h =
+    let within : n < length jobs = get_within jobs n job at in
+    let same = sized store jobs in
+    (omega (arith, within, same), close_of end k (visits_of store n job) (course_visits (course_of store jobs) n) (is_over_limit store job) (course_over (course_of store jobs) n) (ap length (sym (visits_there store jobs n job at))) (sym (over_there store jobs n job at)) h)
