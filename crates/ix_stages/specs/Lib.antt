@@ -8,6 +8,7 @@ pub mod QueueState
 pub mod Seats
 pub mod Queue
 pub mod Settled
+pub mod Verified
 pub mod Lanes
 pub mod Claims
 pub mod ClaimRule

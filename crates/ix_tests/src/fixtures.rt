@@ -1,5 +1,7 @@
 //! Blocks, and what tests make of them.
 
+ghost use Rattle.std.specs.Prelude.{◌≡◌, IfOk};
+
 use ix_cbor::decode;
 use ix_cid::Cid;
 use ix_selector::Selector;
@@ -164,7 +166,9 @@ pub fn store_of(alloc: Global, blocks: &[(&str, &str)]) -> Result<Store, Fail> {
     Ok(store)
 }
 
-pub fn job_of(alloc: Global, root: &str, selector: &str, limit: u32) -> Result<Job, Fail> {
+pub fn job_of(alloc: Global, root: &str, selector: &str, limit: u32) -> Result<Job, Fail>
+    ensures { IfOk result (λ job. job.limit ≡ limit) }
+{
     let tree = decode(alloc, hex::decode(alloc, selector)?.as_slice())?;
     let selector = Selector::read(alloc, &tree)?;
     let name = String::from_str(alloc, "a")?;

@@ -11,6 +11,8 @@ mod export;
 #[cfg(test)]
 mod fixtures;
 #[cfg(test)]
+mod queue;
+#[cfg(test)]
 mod refusals;
 #[cfg(test)]
 mod ring;
