@@ -31,8 +31,8 @@ const LIST_VERDICTS: [(u32, Verdict); 5] = [
 pub(crate) struct Log {
     room: usize,
     pub(crate) deliveries: Vec<Delivery>,
-    failed: Option<Delivery>,
-    closed: Option<End>,
+    pub(crate) failed: Option<Delivery>,
+    pub(crate) closed: Option<End>,
     ghost reserved: { room ≤ vec_capacity deliveries },
 }
 

@@ -13,6 +13,8 @@ mod fixtures;
 #[cfg(test)]
 mod queue;
 #[cfg(test)]
+mod pipeline;
+#[cfg(test)]
 mod refusals;
 #[cfg(test)]
 mod ring;

@@ -1,0 +1,252 @@
+//! Exports in which one stage waits for another: delivery goes on while visits are checked, checks
+//! while jobs are walked, and any walker takes any job.
+
+ghost use Rattle.std.specs.Prelude.{◌≡◌, ◌++◌, [], map, option_to_list, vec_capacity, IfOk};
+ghost use Rattle.ix_car.specs.Events.{delivery, close as closing};
+
+use crate::export::{Log, log_of};
+use crate::fixtures::{CHAIN_CAR, CHAIN_JOBS, LIST_CAR, LIST_JOBS, bytes_of};
+use ix_car::{End, Sink, SinkFault};
+use ix_check::{Check, ShaCheck, Verdict};
+use ix_pipeline::{Gate, Open, Plan, export};
+use ix_run::prepare;
+use ix_walk::{Store, Visit};
+use std::alloc::{AllocError, Global};
+use std::sync::atomic::{AtomicBool, AtomicU32, Ordering};
+use std::test::Fail;
+use std::thread;
+
+// How often a side looks whether what it waits for began.
+const TURNS: u32 = 10_000_000;
+
+// Something that is to begin while another side waits for it.
+#[derive(Drop)]
+struct Awaited {
+    count: AtomicU32,
+    wanted: u32,
+    is_missed: AtomicBool,
+}
+
+impl Awaited {
+    // It has begun once it was told so many times.
+    fn new(wanted: u32) -> Awaited {
+        Awaited {
+            count: AtomicU32::new(0),
+            wanted,
+            is_missed: AtomicBool::new(false),
+        }
+    }
+
+    fn tell(&self) {
+        self.count.fetch_add(1, Ordering::SeqCst);
+    }
+
+    // Waits until it began. It is missed where it never does.
+    fn wait(&self) {
+        for _ in 0..TURNS {
+            if self.count.load(Ordering::SeqCst) >= self.wanted {
+                return;
+            }
+            thread::yield_now();
+        }
+        self.is_missed.store(true, Ordering::SeqCst);
+    }
+
+    fn is_missed(&self) -> bool {
+        self.is_missed.load(Ordering::SeqCst)
+    }
+}
+
+// Keeps what it is told, and tells that its first delivery began.
+#[derive(Drop)]
+struct Telling<'a> {
+    log: Log,
+    begun: &'a Awaited,
+}
+
+impl Sink for Telling<'_> {
+    ghost use Rattle.std.specs.Prelude.{◌++◌, map, option_to_list};
+    ghost use Rattle.ix_car.specs.Events.{delivery, close as closing};
+
+    ghost events = { λ s. map delivery s.log.deliveries.items ++ map closing (option_to_list s.log.closed) };
+
+    ghost failed = { λ s. option_to_list s.log.failed };
+
+    ghost fact = { λ _ _ _ _. Unit {0} };
+
+    fn deliver(&mut self, alloc: Global, visit: Visit, verdict: Verdict) -> Result<(), SinkFault> {
+        self.begun.tell();
+        self.log.deliver(alloc, visit, verdict)
+    }
+
+    fn close(&mut self, end: End) {
+        self.log.close(end);
+    }
+}
+
+// Checks as `ShaCheck` does, the fourth visit of a job once what it waits for began.
+#[derive(Drop)]
+struct LastHeld<'a> {
+    check: ShaCheck,
+    begun: &'a Awaited,
+}
+
+impl Check for LastHeld<'_> {
+    ghost checked = { λ c. c.check };
+
+    fn check(
+        &mut self,
+        alloc: Global,
+        store: &Store,
+        visit: &Visit,
+    ) -> Result<Verdict, AllocError> {
+        if visit.seq == 3 {
+            self.begun.wait();
+        }
+        self.check.check(alloc, store, visit)
+    }
+}
+
+// Checks as `ShaCheck` does, and tells that a check began.
+#[derive(Drop)]
+struct CheckTelling<'a> {
+    check: ShaCheck,
+    begun: &'a Awaited,
+}
+
+impl Check for CheckTelling<'_> {
+    ghost checked = { λ c. c.check };
+
+    fn check(
+        &mut self,
+        alloc: Global,
+        store: &Store,
+        visit: &Visit,
+    ) -> Result<Verdict, AllocError> {
+        self.begun.tell();
+        self.check.check(alloc, store, visit)
+    }
+}
+
+// Holds the walk at its second visit until the check of the first began.
+#[derive(Drop)]
+struct SecondHeld<'a> {
+    begun: &'a Awaited,
+}
+
+impl Gate for SecondHeld<'_> {
+    fn pass(&self, _job: u32, seq: u32) {
+        if seq == 1 {
+            self.begun.wait();
+        }
+    }
+}
+
+// Holds one job at its first visit until the others began.
+#[derive(Drop)]
+struct OneHeld<'a> {
+    job: u32,
+    begun: &'a Awaited,
+}
+
+impl Gate for OneHeld<'_> {
+    fn pass(&self, job: u32, seq: u32) {
+        if seq != 0 {
+            return;
+        }
+        if job == self.job {
+            self.begun.wait();
+        } else {
+            self.begun.tell();
+        }
+    }
+}
+
+#[test]
+fn delivery_begins_before_checking_has_ended(rt: HostRuntime) -> Result<(), Fail> {
+    let alloc = rt.alloc();
+    let car = bytes_of(alloc, CHAIN_CAR.as_slice())?;
+    let (line, _) = CHAIN_JOBS.split_once('\n').unwrap_or((CHAIN_JOBS, ""));
+    let (store, jobs) = prepare(alloc, car.as_slice(), line.as_bytes())?;
+    if jobs.len() != 1 {
+        return Err("one job was wanted".into());
+    }
+    let begun = Awaited::new(1);
+    let log = log_of(alloc, 9)?;
+    let mut sinks = [Telling { log, begun: &begun }];
+    let check = ShaCheck::new(alloc);
+    let checks = vec![in alloc; LastHeld { check, begun: &begun }]?;
+    let plan = Plan {
+        walkers: 1,
+        queue: 256,
+        lane: 64,
+    };
+    let Ok(out) = export(
+        &rt, alloc, &store, &jobs, &mut sinks, checks, &Open, plan,
+    ) else {
+        return Err(Fail::from(AllocError));
+    };
+    assert!(rt; !begun.is_missed(), "nothing was delivered while a check waited");
+    assert!(rt; out.ends.as_slice() == [End::Done].as_slice());
+    assert_eq!(rt; sinks[0].log.deliveries.len(), 4);
+    Ok(())
+}
+
+#[test]
+fn checking_begins_before_the_walk_ends(rt: HostRuntime) -> Result<(), Fail> {
+    let alloc = rt.alloc();
+    let car = bytes_of(alloc, CHAIN_CAR.as_slice())?;
+    let (line, _) = CHAIN_JOBS.split_once('\n').unwrap_or((CHAIN_JOBS, ""));
+    let (store, jobs) = prepare(alloc, car.as_slice(), line.as_bytes())?;
+    if jobs.len() != 1 {
+        return Err("one job was wanted".into());
+    }
+    let begun = Awaited::new(1);
+    let mut sinks = [log_of(alloc, 9)?];
+    let check = ShaCheck::new(alloc);
+    let checks = vec![in alloc; CheckTelling { check, begun: &begun }]?;
+    let gate = SecondHeld { begun: &begun };
+    let plan = Plan {
+        walkers: 1,
+        queue: 256,
+        lane: 64,
+    };
+    let Ok(out) = export(
+        &rt, alloc, &store, &jobs, &mut sinks, checks, &gate, plan,
+    ) else {
+        return Err(Fail::from(AllocError));
+    };
+    assert!(rt; !begun.is_missed(), "nothing was checked while the walk waited");
+    assert!(rt; out.ends.as_slice() == [End::Done].as_slice());
+    assert_eq!(rt; sinks[0].deliveries.len(), 4);
+    Ok(())
+}
+
+#[test]
+fn no_walker_has_a_fixed_share(rt: HostRuntime) -> Result<(), Fail> {
+    let alloc = rt.alloc();
+    let car = bytes_of(alloc, LIST_CAR.as_slice())?;
+    for job in 0..3 {
+        let (store, jobs) = prepare(alloc, car.as_slice(), LIST_JOBS.as_bytes())?;
+        if jobs.len() != 3 {
+            return Err("three jobs were wanted".into());
+        }
+        let begun = Awaited::new(2);
+        let mut sinks = [log_of(alloc, 9)?, log_of(alloc, 9)?, log_of(alloc, 9)?];
+        let checks = vec![in alloc; ShaCheck::new(alloc)]?;
+        let gate = OneHeld { job, begun: &begun };
+        let plan = Plan {
+            walkers: 2,
+            queue: 256,
+            lane: 64,
+        };
+        let Ok(out) = export(
+            &rt, alloc, &store, &jobs, &mut sinks, checks, &gate, plan,
+        ) else {
+            return Err(Fail::from(AllocError));
+        };
+        assert!(rt; !begun.is_missed(), "a job waited for one that nobody walked");
+        assert!(rt; out.ends.as_slice() == [End::Done; 3].as_slice());
+    }
+    Ok(())
+}
