@@ -12,6 +12,15 @@ ghost use Rattle.ix_stages.specs.Good.{IsGood, judged_at};
 ghost use Rattle.ix_stages.specs.Received.{pairs_of};
 ghost use Rattle.ix_stages.specs.Sent.{SentFor, IsGoodTaken};
 
+/// Lanes that were sent to and received from are the same lanes, and their ends belong together as
+/// before.
+pub fn lanes_stay()
+    ensures same { (outs : List LaneOut) → EachSameOut outs outs }
+    ensures again { (first next last : List LaneOut) → EachSameOut first next → EachSameOut next last → EachSameOut first last }
+    ensures lane { (sender sent : LaneIn) (receiver received : LaneOut) → SameIn sender sent → SameOut receiver received → IsLane sender receiver → IsLane sent received }
+    ensures lanes { (ins : List LaneIn) (outs next : List LaneOut) → EachSameOut outs next → EachLane ins outs → EachLane ins next }
+{}
+
 /// What is sent for good items is good.
 pub fn sent_for_good()
     ensures { (store : Blocks) (jobs : List JobMeaning) (taken : List Item) (sent : List Verdicted) → IsGoodTaken store jobs taken → SentFor store taken sent → IsGood store jobs sent }
@@ -27,13 +36,4 @@ pub fn sent_end_to_end()
 /// Jobs within the limit have few enough visits.
 pub fn limited_is_small()
     ensures { (store : Blocks) (jobs : List JobMeaning) → All (λ job. job.limit ≤ 1000000) jobs → (n : ℕ) → length (judged_at store jobs n) ≤ 1000000 }
-{}
-
-/// Lanes that were sent to and received from are the same lanes, and their ends belong together as
-/// before.
-pub fn lanes_stay()
-    ensures same { (outs : List LaneOut) → EachSameOut outs outs }
-    ensures again { (first next last : List LaneOut) → EachSameOut first next → EachSameOut next last → EachSameOut first last }
-    ensures lane { (sender sent : LaneIn) (receiver received : LaneOut) → SameIn sender sent → SameOut receiver received → IsLane sender receiver → IsLane sent received }
-    ensures lanes { (ins : List LaneIn) (outs next : List LaneOut) → EachSameOut outs next → EachLane ins outs → EachLane ins next }
 {}

@@ -2,7 +2,7 @@ use Rattle.std.specs.Prelude.{false}
 use Rattle.std.proofs.lemmas.List.{set-get_or}
 use Rattle.ix_collect.specs.Progress.{IsEnded}
 use Rattle.ix_collect.specs.Collected.{IsStray}
-use Rattle.std.proofs.Common.{◌⊎◌, inl, inr, ℕ, arith, subst, set, List, rules, ◌≡◌, ◌<◌, ◌≤◌, refl, sym, ◌∙◌, Some, length, get_or, ap, length-set}
+use Rattle.std.proofs.Common.{inl, inr, ℕ, arith, subst, set, rules, ◌≡◌, ◌<◌, ◌≤◌, refl, sym, ◌∙◌, Some, length, get_or, ap, length-set}
 use Rattle.ix_collect.proofs.Kept.{kept_set, kept_same}
 use Rattle.ix_stages.specs.Received.{job_of}
 use Rattle.ix_collect.proofs.Collecting.{safe_at, safe_set, collected_none, collected_unknown, collected_one, ended_set, closed_at, stays_noted, is_noted_then, not_fine}
