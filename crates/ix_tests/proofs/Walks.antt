@@ -1,7 +1,13 @@
--- What is left of a walk's visits, and the next of them.
-use Rattle.std.proofs.Common.{◌≡◌, ℕ, zero, suc, ◌+◌, ◌≤◌, ◌<◌, ◌==◌, eq-eqb, Bool, true, List, [], ◌∷◌, length, drop, Some, refl, sym, ap, subst, ◌∙◌, arith}
+-- What is left of a walk's visits, and the seats of a new queue.
+use Rattle.std.proofs.Common.{◌≡◌, ℕ, zero, suc, ◌+◌, ◌≤◌, ◌<◌, ◌==◌, eq-eqb, Bool, true, List, [], ◌∷◌, length, drop, map, replicate, All, Some, refl, sym, ap, subst, ◌∙◌, arith}
 use Rattle.std.specs.Prelude.{slice_get}
+use Rattle.std.proofs.lemmas.List.Elements.{All-map, All-replicate}
 use Rattle.ix_walk.specs.declared.visit.Visit.{Visit}
+use Rattle.ix_stages.specs.declared.course.JobVisits.{JobVisits}
+use Rattle.ix_stages.specs.declared.queue.VisitQueue.{VisitQueue}
+use Rattle.ix_stages.specs.Queue.{table_of}
+use Rattle.ix_stages.specs.Seats.{new_job, new_taker}
+use Rattle.ix_tests.specs.Walkers.{CanWalk, IsTaker}
 
 pub next_of : (xs : List Visit) (n : ℕ) (v : Visit) (rest : List Visit) → drop n xs ≡ v ∷ rest → (slice_get xs n ≡ Some v) × (drop (n + 1) xs ≡ rest) × (n + 1 ≤ length xs)
 next_of [] zero v rest e = cc
@@ -17,3 +23,11 @@ pub all_given : (xs : List Visit) (n : ℕ) → n ≤ length xs → drop n xs �
 all_given [] n le e = omega (arith, le)
 all_given (x ∷ xs) zero le e = cc
 all_given (x ∷ xs) (suc n) le e = let ih : n ≡ length xs = all_given xs n (omega (arith, le)) e in omega (arith, ih)
+
+-- ---- the seats of a new queue
+
+pub walkers : (queue : VisitQueue) (course : List JobVisits) (all : ℕ) (numbers : List ℕ) → All (CanWalk queue course) (map (new_job (table_of queue) course all) numbers)
+walkers queue course all numbers = All-map (CanWalk queue course) (new_job (table_of queue) course all) numbers (λ k d lt. (refl, refl, refl, refl))
+
+pub takers : (queue : VisitQueue) (course : List JobVisits) (all n : ℕ) → All (IsTaker queue) (replicate n (new_taker (table_of queue) course all))
+takers queue course all n = All-replicate (IsTaker queue) n (new_taker (table_of queue) course all) refl

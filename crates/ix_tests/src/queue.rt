@@ -1,12 +1,13 @@
 //! The visit queue and a verifier: a chain through both on one thread, and walks on three threads
 //! through a queue with room for one.
 
-ghost use Rattle.std.specs.Prelude.{◌≡◌, ◌≤◌, ◌<◌, ◌^◌, ◌+◌, ℕ, false, All, Some, IfOk, IfSome, length, map, replicate, slice_get};
+ghost use Rattle.std.specs.Prelude.{◌≡◌, ◌≤◌, ◌<◌, ◌^◌, ◌+◌, ℕ, false, All, Some, IfOk, OnOk, IfSome, length, map, replicate, slice_get};
 ghost use Rattle.ix_walk.specs.Visits.{visits_of, is_over_limit};
 ghost use Rattle.ix_stages.specs.Items.{count_up};
 ghost use Rattle.ix_stages.specs.Good.{IsCloseOf};
 ghost use Rattle.ix_stages.specs.Course.{course_of};
 ghost use Rattle.ix_stages.specs.Queue.{table_of};
+ghost use Rattle.ix_tests.specs.Walkers.{CanWalk, IsWalker, IsTaker, CanRun, HasRun};
 ghost use Rattle.ix_stages.specs.Seats.{new_job, new_taker, new_stop, seat_count};
 
 use crate::fixtures::{
@@ -25,6 +26,9 @@ use std::sync::Wait;
 use std::test::Fail;
 use std::thread;
 use std::thread::Threads;
+
+// How often a full queue is tried.
+const TURNS: u32 = 10_000_000;
 
 // Names the course of jobs over a store.
 #[derive(Drop)]
@@ -62,16 +66,14 @@ fn queue_of(
     requires room { (0 < capacity) × (takers < 1000) }
     ensures jobs { IfOk result (λ q. q.jobs.items ≡ map (new_job (table_of q.queue) (course_of store.now jobs.now) (seat_count (length jobs.now) takers)) (count_up 0 (length jobs.now))) }
     ensures takers { IfOk result (λ q. q.takers.items ≡ replicate takers (new_taker (table_of q.queue) (course_of store.now jobs.now) (seat_count (length jobs.now) takers))) }
+    ensures walkers { IfOk result (λ q. All (CanWalk q.queue (course_of store.now jobs.now)) q.jobs.items) }
+    ensures tables { IfOk result (λ q. All (IsTaker q.queue) q.takers.items) }
     ensures stop { IfOk result (λ q. q.stop ≡ new_stop (table_of q.queue) (course_of store.now jobs.now) (seat_count (length jobs.now) takers)) }
 {
     course_of_jobs();
-    VisitQueue::new(
-        alloc,
-        &Walks { store, jobs },
-        capacity,
-        jobs.len() as u32,
-        takers,
-    )
+    let course = Walks { store, jobs };
+    let parts = VisitQueue::new(alloc, &course, capacity, jobs.len() as u32, takers)?;
+    Ok(parts)
 }
 
 // Puts the visits of a job, and says how the walk ended.
@@ -147,6 +149,275 @@ fn gives_chain(rt: &impl Abort, lane: &mut LaneOut) {
     assert!(rt; lane.try_recv().is_none());
 }
 
+// A walker: it puts the walk of its seat's job. None where memory runs out.
+fn walker<R: Wait>(
+    rt: &R,
+    alloc: Global,
+    store: &Store,
+    jobs: &[Job],
+    queue: &VisitQueue,
+    seat: JobSeat,
+) -> Option<JobSeat>
+    requires { CanWalk queue.now (course_of store.now jobs.now) seat }
+    ensures { IfSome result (IsWalker queue.now) }
+{
+    let mut seat = seat;
+    match put_walk(rt, alloc, store, jobs, queue, &mut seat) {
+        Ok(()) => Some(seat),
+        Err(AllocError) => None,
+    }
+}
+
+// What a taker took: the job and number of each visit and each close.
+#[derive(Drop)]
+struct Taken {
+    seat: TakeSeat,
+    numbers: Vec<(u32, u32)>,
+}
+
+// A taker: it takes until a Stop. None where memory runs out.
+fn taker<R: Wait>(rt: &R, alloc: Global, queue: &VisitQueue, seat: TakeSeat) -> Option<Taken>
+    requires { IsTaker queue.now seat }
+    ensures { IfSome result (λ t. IsTaker queue.now t.seat) }
+{
+    let mut seat = seat;
+    let mut numbers = Vec::new(alloc);
+    for _ in rt.forever() {
+        let number = match queue.take(rt, &mut seat) {
+            Item::Visit(visit) => (visit.job, visit.seq),
+            Item::Close { job, seq, .. } => (job, seq),
+            Item::Stop => return Some(Taken { seat, numbers }),
+        };
+        if numbers.push(number).is_err() {
+            return None;
+        }
+    }
+    unreachable!()
+}
+
+// Puts a Stop, once there is room. False where there is none for long.
+fn put_stop<R: Wait>(rt: &R, queue: &VisitQueue, stop: &mut StopSeat) -> bool
+    requires { stop.old.table ≡ table_of queue.now }
+    ensures { stop.new.table ≡ stop.old.table }
+{
+    for _ in 0..TURNS {
+        if queue.try_stop(rt, stop) {
+            return true;
+        }
+        thread::yield_now();
+    }
+    false
+}
+
+// The last of the seats.
+fn next_walker(
+    _store: &Store,
+    _jobs: &[Job],
+    _queue: &VisitQueue,
+    seats: &mut Vec<JobSeat>,
+) -> Option<JobSeat>
+    requires { All (CanWalk _queue.now (course_of _store.now _jobs.now)) seats.old.items }
+    ensures seat { IfSome result (CanWalk _queue.now (course_of _store.now _jobs.now)) }
+    ensures rest { All (CanWalk _queue.now (course_of _store.now _jobs.now)) seats.new.items }
+{
+    seats.pop()
+}
+
+fn next_taker(_queue: &VisitQueue, seats: &mut Vec<TakeSeat>) -> Option<TakeSeat>
+    requires { All (IsTaker _queue.now) seats.old.items }
+    ensures seat { IfSome result (IsTaker _queue.now) }
+    ensures rest { All (IsTaker _queue.now) seats.new.items }
+{
+    seats.pop()
+}
+
+// Keeps a seat that came back.
+fn keep_walker(
+    _queue: &VisitQueue,
+    seats: &mut Vec<JobSeat>,
+    seat: Option<JobSeat>,
+) -> Result<(), AllocError>
+    requires seats { All (IsWalker _queue.now) seats.old.items }
+    requires seat { IfSome seat (IsWalker _queue.now) }
+    ensures { OnOk result (All (IsWalker _queue.now) seats.new.items) }
+{
+    let Some(seat) = seat else {
+        return Err(AllocError);
+    };
+    seats.push(seat)?;
+    Ok(())
+}
+
+fn keep_taker(
+    _queue: &VisitQueue,
+    seats: &mut Vec<TakeSeat>,
+    seat: TakeSeat,
+) -> Result<(), AllocError>
+    requires seats { All (IsTaker _queue.now) seats.old.items }
+    requires seat { IsTaker _queue.now seat }
+    ensures { OnOk result (All (IsTaker _queue.now) seats.new.items) }
+{
+    seats.push(seat)?;
+    Ok(())
+}
+
+// Two walkers.
+fn walk_two<R: Threads + Wait + Sync>(
+    rt: &R,
+    alloc: Global,
+    store: &Store,
+    jobs: &[Job],
+    queue: &VisitQueue,
+    first: JobSeat,
+    second: JobSeat,
+) -> (Option<JobSeat>, Option<JobSeat>)
+    requires first { CanWalk queue.now (course_of store.now jobs.now) first }
+    requires second { CanWalk queue.now (course_of store.now jobs.now) second }
+    ensures first { IfSome result.0 (IsWalker queue.now) }
+    ensures second { IfSome result.1 (IsWalker queue.now) }
+{
+    thread::join(
+        rt,
+        || walker(rt, alloc, store, jobs, queue, first),
+        || walker(rt, alloc, store, jobs, queue, second),
+    )
+}
+
+// The seats of three walkers, and the seat for Stops.
+#[derive(Drop)]
+struct Seats {
+    first: JobSeat,
+    second: JobSeat,
+    third: JobSeat,
+    stop: StopSeat,
+}
+
+// What they come back as, and whether two Stops were put.
+#[derive(Drop)]
+struct Walked {
+    first: Option<JobSeat>,
+    second: Option<JobSeat>,
+    third: Option<JobSeat>,
+    stop: StopSeat,
+    is_stopped: bool,
+}
+
+// Three walkers, and then two Stops.
+fn walk_three<R: Threads + Wait + Sync>(
+    rt: &R,
+    alloc: Global,
+    store: &Store,
+    jobs: &[Job],
+    queue: &VisitQueue,
+    seats: Seats,
+) -> Walked
+    requires { CanRun queue.now (course_of store.now jobs.now) seats }
+    ensures { HasRun queue.now result }
+{
+    let Seats {
+        first,
+        second,
+        third,
+        mut stop,
+    } = seats;
+    let (first, (second, third)) = thread::join(
+        rt,
+        || walker(rt, alloc, store, jobs, queue, first),
+        || -> (Option<JobSeat>, Option<JobSeat>)
+            requires second { CanWalk queue.now (course_of store.now jobs.now) second }
+            requires third { CanWalk queue.now (course_of store.now jobs.now) third }
+        { walk_two(rt, alloc, store, jobs, queue, second, third) },
+    );
+    let one = put_stop(rt, queue, &mut stop);
+    let two = put_stop(rt, queue, &mut stop);
+    Walked {
+        first,
+        second,
+        third,
+        stop,
+        is_stopped: one && two,
+    }
+}
+
+// Two takers.
+fn take_two<R: Threads + Wait + Sync>(
+    rt: &R,
+    alloc: Global,
+    queue: &VisitQueue,
+    first: TakeSeat,
+    second: TakeSeat,
+) -> (Option<Taken>, Option<Taken>)
+    requires first { IsTaker queue.now first }
+    requires second { IsTaker queue.now second }
+    ensures first { IfSome result.0 (λ t. IsTaker queue.now t.seat) }
+    ensures second { IfSome result.1 (λ t. IsTaker queue.now t.seat) }
+{
+    thread::join(
+        rt,
+        || taker(rt, alloc, queue, first),
+        || taker(rt, alloc, queue, second),
+    )
+}
+
+// Three walkers beside two takers.
+fn run_five<R: Threads + Wait + Sync>(
+    rt: &R,
+    alloc: Global,
+    store: &Store,
+    jobs: &[Job],
+    queue: &VisitQueue,
+    walkers: Seats,
+    first: TakeSeat,
+    second: TakeSeat,
+) -> (Walked, (Option<Taken>, Option<Taken>))
+    requires walkers { CanRun queue.now (course_of store.now jobs.now) walkers }
+    requires first { IsTaker queue.now first }
+    requires second { IsTaker queue.now second }
+    ensures walked { HasRun queue.now result.0 }
+    ensures first { IfSome result.1.0 (λ t. IsTaker queue.now t.seat) }
+    ensures second { IfSome result.1.1 (λ t. IsTaker queue.now t.seat) }
+{
+    thread::join(
+        rt,
+        || -> Walked
+            requires { CanRun queue.now (course_of store.now jobs.now) walkers }
+        { walk_three(rt, alloc, store, jobs, queue, walkers) },
+        || -> (Option<Taken>, Option<Taken>)
+            requires first { IsTaker queue.now first }
+            requires second { IsTaker queue.now second }
+        { take_two(rt, alloc, queue, first, second) },
+    )
+}
+
+// Whether the numbers of each of three jobs rise.
+fn rise(numbers: &[(u32, u32)]) -> bool {
+    let mut next = [0; 3];
+    for (job, seq) in numbers {
+        match next.get_mut(*job as usize) {
+            Some(least) if *least <= *seq => *least = seq.saturating_add(1),
+            _ => return false,
+        }
+    }
+    true
+}
+
+// How often the number of the job was taken.
+fn count_of(numbers: &[(u32, u32)], job: u32, seq: u32) -> usize {
+    numbers.iter().filter(|n| **n == (job, seq)).count()
+}
+
+// Each number of each job was taken once, and each taker took those of a job in rising order.
+fn each_once(rt: &impl Abort, first: &[(u32, u32)], second: &[(u32, u32)]) {
+    assert!(rt; rise(first) && rise(second), "the numbers of a job don't rise");
+    assert_eq!(rt; first.len().saturating_add(second.len()), 303);
+    for job in 0..3 {
+        for seq in 0..101 {
+            let count = count_of(first, job, seq).saturating_add(count_of(second, job, seq));
+            assert_eq!(rt; count, 1, "job {job}, number {seq}");
+        }
+    }
+}
+
 #[test]
 fn chain_through_queue_and_lane(rt: HostRuntime) -> Result<(), Fail> {
     let alloc = rt.alloc();
@@ -174,6 +445,69 @@ fn chain_through_queue_and_lane(rt: HostRuntime) -> Result<(), Fail> {
     verify(&rt, alloc, &store, &queue, &mut takers[0], &mut sender, &mut check);
     gives_chain(&rt, &mut receiver);
     assert_eq!(rt; check.receipts(), [(0, 0), (0, 1), (0, 2), (0, 3)].as_slice());
+    let mut rest = queue.settle(seats, stop, takers);
+    assert!(rt; queue.take_rest(&rt, &mut rest).is_none());
+    Ok(())
+}
+
+#[test]
+fn three_walks_through_room_for_one(rt: HostRuntime) -> Result<(), Fail> {
+    let alloc = rt.alloc();
+    // A block that links to itself, as far as its CID says.
+    let store = store_of(alloc, [(ONE_LINK, INNER_BLOCK)].as_slice())?;
+    let jobs = jobs_of(alloc, ONE_LINK, 3, 100)?;
+    let QueueParts {
+        queue,
+        jobs: mut seats,
+        mut takers,
+        stop,
+    } = queue_of(alloc, &store, &jobs, 1, 2)?;
+    let wanted = "three seats and two takers were wanted";
+    let Some(third) = next_walker(&store, &jobs, &queue, &mut seats) else {
+        return Err(wanted.into());
+    };
+    let Some(second) = next_walker(&store, &jobs, &queue, &mut seats) else {
+        return Err(wanted.into());
+    };
+    let Some(first) = next_walker(&store, &jobs, &queue, &mut seats) else {
+        return Err(wanted.into());
+    };
+    let Some(u) = next_taker(&queue, &mut takers) else {
+        return Err(wanted.into());
+    };
+    let Some(t) = next_taker(&queue, &mut takers) else {
+        return Err(wanted.into());
+    };
+    let walkers = Seats {
+        first,
+        second,
+        third,
+        stop,
+    };
+    let (walked, taken) = run_five(&rt, alloc, &store, &jobs, &queue, walkers, t, u);
+    let Walked {
+        first,
+        second,
+        third,
+        stop,
+        is_stopped,
+    } = walked;
+    assert!(rt; is_stopped, "a full queue stayed full");
+    let mut seats = Vec::new(alloc);
+    keep_walker(&queue, &mut seats, first)?;
+    keep_walker(&queue, &mut seats, second)?;
+    keep_walker(&queue, &mut seats, third)?;
+    let (first, second) = taken;
+    let Some(t) = first else {
+        return Err(Fail::from(AllocError));
+    };
+    let Some(u) = second else {
+        return Err(Fail::from(AllocError));
+    };
+    each_once(&rt, t.numbers.as_slice(), u.numbers.as_slice());
+    let mut takers = Vec::new(alloc);
+    keep_taker(&queue, &mut takers, t.seat)?;
+    keep_taker(&queue, &mut takers, u.seat)?;
     let mut rest = queue.settle(seats, stop, takers);
     assert!(rt; queue.take_rest(&rt, &mut rest).is_none());
     Ok(())
