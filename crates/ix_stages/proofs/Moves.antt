@@ -16,13 +16,13 @@ use Rattle.ix_walk.specs.declared.visit.Visit.{Visit}
 use Rattle.ix_stages.specs.declared.course.JobVisits.{JobVisits}
 use Rattle.ix_stages.specs.declared.hand.Hand.{Hand}
 use Rattle.ix_stages.specs.Items.{is_of, seq_of, numbers, count_up, Rises, concat}
-use Rattle.ix_stages.specs.Received.{weigh, point}
+use Rattle.ix_stages.specs.Received.{weigh}
 use Rattle.ix_stages.specs.Sent.{is_item, is_end}
 use Rattle.ix_stages.specs.Course.{Allowed, IsPut, times, ends, opened, course_visits, IsWellTaken}
 use Rattle.ix_stages.specs.Seats.{IsTake}
 use Rattle.ix_stages.specs.Hands.{blank, spent, root, after_seat, job_hand, take_hand, after_put, after_take, after_join, all_put, all_taken}
 use Rattle.ix_stages.specs.QueueState.{total, Fits, Running, IsQueueState}
-use Rattle.ix_stages.proofs.Totals.{total_set, total_snoc, part_le, only, at_below, Each, each_set, each_snoc}
+use Rattle.ix_stages.proofs.Totals.{total_set, total_snoc, part_le, only, at_below, each_set, each_snoc}
 use Rattle.ix_stages.proofs.Numbers.{held, numbers-append, count_up-snoc, Rises-more, Rises-snoc, weigh-append, concat-snoc}
 
 -- a pass that isn't blank shows that the queue runs

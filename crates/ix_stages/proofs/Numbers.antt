@@ -1,7 +1,6 @@
 -- The numbers of a job's items in a list, and weights.
-use Rattle.std.proofs.Common.{◌≡◌, ◌≢◌, ℕ, zero, suc, ◌+◌, ◌-◌, ◌<◌, ◌≤◌, Bool, true, false, cond, List, [], ◌∷◌, ◌++◌, length, sym, refl, ap, ◌∙◌, arith, append-nil, append_assoc}
+use Rattle.std.proofs.Common.{◌≡◌, ℕ, zero, suc, ◌+◌, ◌≤◌, true, false, cond, List, [], ◌∷◌, ◌++◌, sym, refl, ap, ◌∙◌, arith, append-nil, append_assoc}
 use Rattle.ix_stages.specs.declared.item.Item.{Item}
-use Rattle.ix_stages.specs.declared.item.Item.TheVariants as item
 use Rattle.ix_stages.specs.Items.{is_of, seq_of, numbers, count_up, Rises, concat}
 use Rattle.ix_stages.specs.Received.{weigh}
 

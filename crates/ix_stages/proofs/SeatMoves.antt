@@ -1,19 +1,18 @@
 -- What a seat may do, and what it is afterwards.
-use Rattle.std.proofs.Common.{◌≡◌, ◌≢◌, ℕ, zero, suc, ◌+◌, ◌-◌, ◌<◌, ◌≤◌, ◌==◌, Bool, true, false, true≢false, cond, List, [], ◌∷◌, ◌++◌, length, take, map, replicate, sym, refl, ap, ◌∙◌, subst, inl, inr, arith, Option, Some, None}
+use Rattle.std.proofs.Common.{◌≡◌, ℕ, zero, suc, ◌+◌, ◌<◌, ◌≤◌, true, false, true≢false, List, [], ◌∷◌, ◌++◌, length, take, map, replicate, sym, refl, ap, ◌∙◌, subst, inl, inr, arith, Some, None}
 use Rattle.std.specs.Prelude.{slice_get}
 use Rattle.std.proofs.lemmas.List.{map-append, length-map, length-take}
 use Rattle.std.proofs.lemmas.Bool.Decides.{nat_tests}
 use Rattle.std.proofs.lemmas.List.Elements.{All-head, All-tail}
 use Rattle.ix_walk.specs.declared.visit.Visit.{Visit}
-use Rattle.ix_car.specs.declared.sink.End.{End}
 use Rattle.ix_stages.specs.declared.item.Item.{Item}
 use Rattle.ix_stages.specs.declared.item.Item.TheVariants as item
 use Rattle.ix_stages.specs.declared.course.JobVisits.{JobVisits}
 use Rattle.ix_stages.specs.declared.hand.Hand.{Hand}
 use Rattle.ix_stages.specs.Items.{is_of, seq_of, count_up}
-use Rattle.ix_stages.specs.Course.{course_visits, Allowed, MayClose, IsPut, opened, IsCourse}
+use Rattle.ix_stages.specs.Course.{course_visits, Allowed, IsPut, opened, IsCourse}
 use Rattle.ix_stages.specs.Hands.{after_put}
-use Rattle.ix_stages.specs.Seats.{IsAlone, IsJobHand, next_after, closed_after}
+use Rattle.ix_stages.specs.Seats.{IsJobHand, next_after, closed_after}
 use Rattle.ix_stages.proofs.Moves.{MayPut}
 use Rattle.ix_stages.proofs.Numbers.{count_up-snoc}
 

@@ -1,5 +1,5 @@
 -- Joining one list of seats, and then another.
-use Rattle.std.proofs.Common.{◌≡◌, ℕ, zero, suc, ◌+◌, ◌<◌, List, [], ◌∷◌, ◌++◌, length, map, All, sym, refl, ap, ◌∙◌, subst, arith, append_assoc, append-nil, length-append}
+use Rattle.std.proofs.Common.{◌≡◌, ℕ, ◌+◌, List, [], ◌∷◌, ◌++◌, map, All, sym, refl, ap, ◌∙◌, subst, arith, append_assoc, append-nil, length-append}
 use Rattle.std.proofs.lemmas.List.{map-append}
 use Rattle.std.proofs.lemmas.List.Elements.{All-head, All-tail}
 use Rattle.ix_stages.specs.declared.item.Item.{Item}
@@ -50,10 +50,10 @@ module _ (v w : Hand) (jobs : List JobView) (takers : List SeatView) (s : Settle
   pub settled_put : v.puts ≡ [] → All (λ t. t.hand.put ≡ []) takers → all_put w ≡ v.put ++ put_by jobs
   settled_put none idle =
       (λ i. s.own.0 i ++ concat (s.puts i)) ∙ (ap (λ (l : List (List Item)). v.put ++ concat (l ++ map (λ u. u.put) (map (λ s. s.hand) jobs ++ map (λ s. s.hand) takers))) none
-          ∙ ap (λ (l : List Item). v.put ++ l) (concat-both (λ s. s.hand) (λ s. s.hand) (λ u. u.put) jobs takers ∙ (ap (λ (l : List Item). put_by jobs ++ l) (concat-none (λ t. t.hand.put) takers idle) ∙ append-nil (put_by jobs))))
+      ∙ ap (λ (l : List Item). v.put ++ l) (concat-both (λ s. s.hand) (λ s. s.hand) (λ u. u.put) jobs takers ∙ (ap (λ (l : List Item). put_by jobs ++ l) (concat-none (λ t. t.hand.put) takers idle) ∙ append-nil (put_by jobs))))
 
   -- seats of jobs have taken nothing
   pub settled_taken : v.takens ≡ [] → v.taken ≡ [] → All (λ t. t.hand.taken ≡ []) jobs → all_taken w ≡ taken_by takers
   settled_taken none own idle =
       (λ i. (s.own.1 ∙ own) i ++ concat (s.takens i)) ∙ (ap (λ (l : List (List Item)). concat (l ++ map (λ u. u.taken) (map (λ s. s.hand) jobs ++ map (λ s. s.hand) takers))) none
-          ∙ (concat-both (λ s. s.hand) (λ s. s.hand) (λ u. u.taken) jobs takers ∙ ap (λ (l : List Item). l ++ taken_by takers) (concat-none (λ t. t.hand.taken) jobs idle)))
+      ∙ (concat-both (λ s. s.hand) (λ s. s.hand) (λ u. u.taken) jobs takers ∙ ap (λ (l : List Item). l ++ taken_by takers) (concat-none (λ t. t.hand.taken) jobs idle)))

@@ -1,5 +1,5 @@
 -- The views of the passes: what each of them has put and taken.
-use Rattle.std.specs.Prelude.{◌≡◌, ℕ, ◌+◌, ◌-◌, Bool, true, false, List, [], ◌∷◌, ◌++◌, Option, Some, None}
+use Rattle.std.specs.Prelude.{ℕ, ◌+◌, ◌-◌, true, false, List, [], ◌∷◌, ◌++◌, Some, None}
 use Rattle.ix_stages.specs.declared.item.Item.{Item}
 use Rattle.ix_stages.specs.declared.course.JobVisits.{JobVisits}
 use Rattle.ix_stages.specs.declared.hand.Hand.{Hand}

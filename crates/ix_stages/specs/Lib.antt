@@ -8,4 +8,5 @@ pub mod QueueState
 pub mod Seats
 pub mod Queue
 pub mod Settled
+pub mod Verified
 pub mod Lanes

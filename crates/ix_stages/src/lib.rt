@@ -11,11 +11,13 @@ mod rule;
 mod seats;
 mod settle;
 mod verdicted;
+mod verifier;
 
-pub use course::Course;
+pub use course::{Course, course_of_jobs, well_taken_is_good};
 pub use item::Item;
 pub use lanes::{LaneIn, LaneOut, lane, lane_rest};
 pub use parts::QueueParts;
 pub use queue::VisitQueue;
 pub use seats::{JobSeat, Rest, StopSeat, TakeSeat};
 pub use verdicted::Verdicted;
+pub use verifier::verify;

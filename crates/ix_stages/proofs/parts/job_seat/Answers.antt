@@ -1,4 +1,4 @@
-use Rattle.std.proofs.Common.{◌≡◌, ◌<◌, ap, arith}
+use Rattle.std.proofs.Common.{◌<◌, ap, arith}
 use Rattle.crossbeam_queue.specs.Passes.{view}
 use Rattle.ix_stages.specs.declared.hand.Hand.{Hand}
 use Rattle.ix_stages.proofs.Moves.{forks, job_seat_is_new}

@@ -1,10 +1,9 @@
-use Rattle.std.proofs.Common.{◌≡◌, ◌≤◌, ◌+◌, ℕ, List, [], ◌∷◌, ◌++◌, length, map, ap, sym, subst, ◌∙◌}
+use Rattle.std.proofs.Common.{◌≡◌, ◌≤◌, ◌+◌, List, [], ◌∷◌, ◌++◌, length, ap, sym, subst, ◌∙◌}
 use Rattle.crossbeam_queue.specs.Passes.{view}
 use Rattle.ix_stages.specs.declared.course.JobVisits.{JobVisits}
 use Rattle.ix_stages.specs.declared.hand.Hand.{Hand}
-use Rattle.ix_stages.specs.Items.{count_up}
 use Rattle.ix_stages.specs.Course.{course_visits}
-use Rattle.ix_stages.specs.Seats.{maker_hand, new_job, JobView}
+use Rattle.ix_stages.specs.Seats.{maker_hand, new_job}
 use Rattle.ix_stages.proofs.SeatMoves.{IsCourse-at, map-count_up}
 use Rattle.ix_stages.proofs.parts.job_seats.Goals as goal
 

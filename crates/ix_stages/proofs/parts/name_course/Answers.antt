@@ -1,6 +1,5 @@
 use Rattle.std.proofs.Common.{subst, sym}
 use Rattle.crossbeam_queue.specs.Fifo.{Forks}
-use Rattle.crossbeam_queue.specs.Passes.{view}
 use Rattle.ix_stages.specs.declared.hand.Hand.{Hand}
 use Rattle.ix_stages.specs.Hands.{root, spent}
 use Rattle.ix_stages.specs.QueueState.{IsQueueState}

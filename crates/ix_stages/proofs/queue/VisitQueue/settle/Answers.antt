@@ -1,6 +1,5 @@
-use Rattle.std.proofs.Common.{◌≡◌, ◌<◌, ◌∙◌, List, [], ap, sym, subst, map, ◌++◌, arith}
+use Rattle.std.proofs.Common.{◌≡◌, ◌∙◌, List, [], ap, sym, subst, map, arith}
 use Rattle.crossbeam_queue.specs.Passes.{view}
-use Rattle.ix_stages.specs.declared.hand.Hand.{Hand}
 use Rattle.ix_stages.specs.declared.course.JobVisits.{JobVisits}
 use Rattle.ix_stages.specs.declared.item.Item.{Item}
 use Rattle.ix_stages.specs.Course.{IsWellTaken}

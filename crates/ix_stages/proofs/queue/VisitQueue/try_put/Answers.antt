@@ -1,10 +1,10 @@
-use Rattle.std.proofs.Common.{rules, ◌≡◌, ◌+◌, ℕ, true, false, [], ap, sym, subst, ◌∙◌, Bool}
+use Rattle.std.proofs.Common.{◌≡◌, ◌+◌, ℕ, false, ap, sym, subst, ◌∙◌, Bool}
 use Rattle.crossbeam_queue.specs.Passes.{view}
 use Rattle.ix_stages.specs.declared.hand.Hand.{Hand}
 use Rattle.ix_stages.specs.Hands.{after_put}
 use Rattle.ix_stages.specs.Seats.{IsNext, IsJobHand, JobView, next_after, closed_after}
 use Rattle.ix_stages.proofs.Moves.{puts}
-use Rattle.ix_stages.proofs.SeatMoves.{may_put, next_hand, next_one, next_same}
+use Rattle.ix_stages.proofs.SeatMoves.{may_put, next_hand, next_one}
 use Rattle.ix_stages.proofs.queue.VisitQueue.try_put.Goals as goal
 
 pub push_as-requires-clause-rule : goal.push_as-requires-clause-rule

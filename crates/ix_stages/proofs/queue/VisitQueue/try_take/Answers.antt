@@ -1,4 +1,4 @@
-use Rattle.std.proofs.Common.{rules, ◌<◌, ◌≡◌, arith}
+use Rattle.std.proofs.Common.{◌<◌, arith}
 use Rattle.crossbeam_queue.specs.Passes.{view}
 use Rattle.ix_stages.proofs.Moves.{takes, learns}
 use Rattle.ix_stages.proofs.queue.VisitQueue.try_take.Goals as goal

@@ -1,0 +1,118 @@
+-- One more item that a verifier takes.
+use Rattle.std.proofs.Common.{◌≡◌, ℕ, List, [], ◌∷◌, ◌++◌, zero, suc, All, Some, sym, refl, ap, subst, ◌∙◌, append_assoc, append-nil}
+use Rattle.std.specs.Prelude.{slice_get}
+use Rattle.std.proofs.lemmas.List.Elements.{All-nil, All-head, All-tail, All-push}
+use Rattle.ix_walk.specs.declared.visit.Visit.{Visit}
+use Rattle.ix_walk.specs.Store.{Blocks}
+use Rattle.ix_check.specs.Visits.{IsVisitOf}
+use Rattle.ix_stages.specs.declared.course.JobVisits.{JobVisits}
+use Rattle.ix_stages.specs.declared.item.Item.{Item}
+use Rattle.ix_stages.specs.declared.item.Item.TheVariants as item
+use Rattle.ix_stages.specs.declared.verdicted.Verdicted.{Verdicted}
+use Rattle.ix_stages.specs.declared.verdicted.Verdicted.TheVariants.{Checked, Unchecked, Close, Last}
+use Rattle.ix_stages.specs.declared.hand.Hand.{Hand}
+use Rattle.ix_stages.specs.Hands.{after_take}
+use Rattle.ix_stages.specs.Course.{Allowed, IsCourseOf, course_visits}
+use Rattle.ix_stages.specs.declared.lanes.LaneIn.{LaneIn}
+use Rattle.ix_stages.specs.Lanes.{SameIn}
+use Rattle.ix_stages.specs.Received.{pairs_of}
+use Rattle.ix_stages.specs.Seats.{IsTake}
+use Rattle.ix_stages.specs.Sent.{Answers, SentFor}
+use Rattle.ix_stages.specs.Verified.{IsItemOf, IsStop, took, Passed, IsVerified}
+
+-- ---- what the course allows has the block and the malformed of the store
+
+visit_among : (store : Blocks) (visits : List Visit) (k : ℕ) (v : Visit) → All (IsVisitOf store) visits → slice_get visits k ≡ Some v → IsVisitOf store v
+visit_among store [] k v h e = cc
+visit_among store (x ∷ xs) zero v h e = let same : x ≡ v = cc in subst (IsVisitOf store) same (All-head (IsVisitOf store) x xs h)
+visit_among store (x ∷ xs) (suc k) v h e = visit_among store xs k v (All-tail (IsVisitOf store) x xs h) e
+
+visits_of_store : (store : Blocks) (course : List JobVisits) (j : ℕ) → IsCourseOf store course → All (IsVisitOf store) (course_visits course j)
+visits_of_store store [] j h = All-nil (IsVisitOf store)
+visits_of_store store (p ∷ ps) zero h = All-head (λ p. All (IsVisitOf store) p.visits) p ps h
+visits_of_store store (p ∷ ps) (suc j) h = visits_of_store store ps j (All-tail (λ p. All (IsVisitOf store) p.visits) p ps h)
+
+pub item_of_store : (store : Blocks) (course : List JobVisits) (x : Item) → IsCourseOf store course → Allowed course x → IsItemOf store x
+item_of_store store course (item.Visit v) h a = visit_among store (course_visits course v.job) v.seq v (visits_of_store store course v.job h) a
+item_of_store store course (item.Close j n end) h a = tt
+item_of_store store course item.Stop h a = tt
+
+-- ---- lists that grow by one
+
+pub SentFor-push : (store : Blocks) (xs : List Item) (ys : List Verdicted) (x : Item) (y : Verdicted) → SentFor store xs ys → Answers store x y → SentFor store (xs ++ x ∷ []) (ys ++ y ∷ [])
+SentFor-push store [] [] x y a b = (b, tt)
+SentFor-push store [] (z ∷ zs) x y a b = absurd a
+SentFor-push store (w ∷ ws) [] x y a b = absurd a
+SentFor-push store (w ∷ ws) (z ∷ zs) x y a b = (a.0, SentFor-push store ws zs x y a.1 b)
+
+pub pairs-push : (ys : List Verdicted) (y : Verdicted) → pairs_of (ys ++ y ∷ []) ≡ pairs_of ys ++ pairs_of (y ∷ [])
+pairs-push [] y = refl
+pairs-push (Checked v d ∷ zs) y = ap (λ (l : List (ℕ × ℕ)). (v.job, v.seq) ∷ l) (pairs-push zs y)
+pairs-push (Unchecked j n ∷ zs) y = pairs-push zs y
+pairs-push (Close j n end ∷ zs) y = pairs-push zs y
+pairs-push (Last ∷ zs) y = pairs-push zs y
+
+unfoldable pub put_taken : Hand → List Item → Hand
+put_taken v t = record { blank = v.blank; parts = v.parts; course = v.course; all = v.all; maker = v.maker; made = v.made; job = v.job; put = v.put; taken = t; puts = v.puts; takens = v.takens }
+
+pub took_none : (v : Hand) → v ≡ took v []
+unfolding put_taken
+took_none v = ap (put_taken v) (sym (append-nil v.taken))
+
+pub took_more : (v : Hand) (t : List Item) (x : Item) → after_take (took v t) x ≡ took v (t ++ x ∷ [])
+unfolding put_taken
+took_more v t x = ap (put_taken v) (append_assoc v.taken t (x ∷ []))
+
+pub same_again : (a b c : LaneIn) → SameIn a b → SameIn b c → SameIn a c
+same_again a b c l s = ((s.0.0 ∙ l.0.0, s.0.1 ∙ l.0.1, s.0.2 ∙ l.0.2, s.0.3 ∙ l.0.3), s.1 ∙ l.1)
+
+-- ---- what a verifier has done, and one item more
+
+abbrev pub begun : (store : Blocks) (v : Hand) (sent : List Verdicted) (checked : List (ℕ × ℕ)) → Passed store v v sent sent checked checked
+begun store v sent checked = record {
+  taken = [];
+  passed = [];
+  took_is = took_none v;
+  allowed = All-nil (Allowed v.course);
+  answers = tt;
+  sent_is = sym (append-nil sent);
+  checked_is = sym (append-nil checked);
+}
+
+-- the course stays
+pub same_course : (store : Blocks) (v w : Hand) (sent sent' : List Verdicted) (checked checked' : List (ℕ × ℕ)) → Passed store v w sent sent' checked checked' → w.course ≡ v.course
+same_course store v w sent sent' checked checked' did = ap (λ (h : Hand). h.course) did.took_is
+
+-- what was taken next, was sent for it and was checked
+pub record Nexts (store : Blocks) (w u : Hand) (sent' sent'' : List Verdicted) (checked' checked'' : List (ℕ × ℕ)) (x : Item) (y : Verdicted) : Type 0 where
+  pub taken : IsTake w x u
+  pub answers : Answers store x y
+  pub sent : sent'' ≡ sent' ++ y ∷ []
+  pub checked : checked'' ≡ checked' ++ pairs_of (y ∷ [])
+
+abbrev pub more : (store : Blocks) (v w u : Hand) (sent sent' sent'' : List Verdicted) (checked checked' checked'' : List (ℕ × ℕ)) (x : Item) (y : Verdicted) (did : Passed store v w sent sent' checked checked')
+    → Nexts store w u sent' sent'' checked' checked'' x y → Passed store v u sent sent'' checked checked''
+more store v w u sent sent' sent'' checked checked' checked'' x y did next = record {
+  taken = did.taken ++ x ∷ [];
+  passed = did.passed ++ y ∷ [];
+  took_is = next.taken.hand ∙ (ap (λ (h : Hand). after_take h x) did.took_is ∙ took_more v did.taken x);
+  allowed = All-push (Allowed v.course) did.taken x did.allowed (subst (λ (c : List JobVisits). Allowed c x) (same_course store v w sent sent' checked checked' did) next.taken.allowed);
+  answers = SentFor-push store did.taken did.passed x y did.answers next.answers;
+  sent_is = next.sent ∙ (ap (λ l. l ++ y ∷ []) did.sent_is ∙ append_assoc sent did.passed (y ∷ []));
+  checked_is = next.checked
+      ∙ (ap (λ l. l ++ pairs_of (y ∷ [])) did.checked_is ∙ (append_assoc checked (pairs_of did.passed) (pairs_of (y ∷ [])) ∙ ap (λ l. checked ++ l) (sym (pairs-push did.passed y))));
+}
+
+the_stop : (x : Item) → IsStop x → x ≡ item.Stop
+the_stop (item.Visit v) h = absurd h
+the_stop (item.Close j n end) h = absurd h
+the_stop item.Stop h = refl
+
+pub verified : (store : Blocks) (v w u : Hand) (sent sent' sent'' : List Verdicted) (checked checked' checked'' : List (ℕ × ℕ)) (x : Item) (y : Verdicted) (did : Passed store v w sent sent' checked checked')
+    → All (λ x. IsStop x → ⊥) did.taken → Nexts store w u sent' sent'' checked' checked'' x y → IsStop x → IsVerified store v u sent sent'' checked checked''
+verified store v w u sent sent' sent'' checked checked' checked'' x y did none next stop = record {
+  did = more store v w u sent sent' sent'' checked checked' checked'' x y did next;
+  before = did.taken;
+  ends = ap (λ (z : Item). did.taken ++ z ∷ []) (the_stop x stop);
+  one = none;
+}

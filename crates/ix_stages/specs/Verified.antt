@@ -1,0 +1,43 @@
+-- What a verifier does.
+use Rattle.std.specs.Prelude.{◌≡◌, ℕ, List, [], ◌∷◌, ◌++◌, All}
+use Rattle.ix_walk.specs.Store.{Blocks}
+use Rattle.ix_check.specs.Visits.{IsVisitOf}
+use Rattle.ix_stages.specs.declared.item.Item.{Item}
+use Rattle.ix_stages.specs.declared.item.Item.TheVariants as item
+use Rattle.ix_stages.specs.declared.verdicted.Verdicted.{Verdicted}
+use Rattle.ix_stages.specs.declared.hand.Hand.{Hand}
+use Rattle.ix_stages.specs.Received.{pairs_of}
+use Rattle.ix_stages.specs.Sent.{SentFor}
+use Rattle.ix_stages.specs.Course.{Allowed}
+
+-- a visit has the block and the malformed of the store
+abbrev pub IsItemOf : Blocks → Item → Type 0
+IsItemOf store (item.Visit v) = IsVisitOf store v
+IsItemOf store (item.Close j n end) = Unit {0}
+IsItemOf store item.Stop = Unit {0}
+
+abbrev pub IsStop : Item → Type 0
+IsStop (item.Visit v) = ⊥
+IsStop (item.Close j n end) = ⊥
+IsStop item.Stop = Unit {0}
+
+-- the hand after it took these
+abbrev pub took : Hand → List Item → Hand
+took v t = record { blank = v.blank; parts = v.parts; course = v.course; all = v.all; maker = v.maker; made = v.made; job = v.job; put = v.put; taken = v.taken ++ t; puts = v.puts; takens = v.takens }
+
+-- What a verifier has done: of its hand, what its lane was sent and which pairs its check has checked, before and after.
+pub record Passed (store : Blocks) (v w : Hand) (sent sent' : List Verdicted) (checked checked' : List (ℕ × ℕ)) : Type 0 where
+  pub taken : List Item
+  pub passed : List Verdicted
+  pub took_is : w ≡ took v taken
+  pub allowed : All (Allowed v.course) taken
+  pub answers : SentFor store taken passed
+  pub sent_is : sent' ≡ sent ++ passed
+  pub checked_is : checked' ≡ checked ++ pairs_of passed
+
+-- The items that it has taken end with their one Stop.
+pub record IsVerified (store : Blocks) (v w : Hand) (sent sent' : List Verdicted) (checked checked' : List (ℕ × ℕ)) : Type 0 where
+  pub did : Passed store v w sent sent' checked checked'
+  pub before : List Item
+  pub ends : did.taken ≡ before ++ item.Stop ∷ []
+  pub one : All (λ x. IsStop x → ⊥) before

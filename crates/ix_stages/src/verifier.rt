@@ -1,0 +1,90 @@
+//! A verifier: takes visits, checks them and sends their verdicts.
+
+ghost use Rattle.std.specs.Prelude.{◌≡◌, [], ◌∷◌, ◌++◌, IsTrue, ◌↔◌};
+ghost use Rattle.ix_stages.specs.Course.{IsCourseOf};
+ghost use Rattle.ix_stages.specs.Lanes.{sent_by, SameIn};
+ghost use Rattle.ix_stages.specs.Queue.{table_of};
+ghost use Rattle.ix_stages.specs.Received.{pairs_of};
+ghost use Rattle.ix_stages.specs.Sent.{Answers};
+ghost use Rattle.ix_stages.specs.Verified.{IsItemOf, IsStop, IsVerified};
+
+use crate::item::Item;
+use crate::lanes::LaneIn;
+use crate::queue::VisitQueue;
+use crate::seats::TakeSeat;
+use crate::verdicted::Verdicted;
+use ix_check::Check;
+use ix_walk::Store;
+use std::alloc::{AllocError, Global};
+use std::sync::Wait;
+use std::thread;
+
+// What is sent for the item: a visit is checked, once.
+fn judge<C: Check>(alloc: Global, store: &Store, check: &mut C, item: Item) -> Verdicted
+    requires { IsItemOf store.now item }
+    ensures answers { Answers store.now item result }
+    ensures checked { C.checked check.new ≡ C.checked check.old ++ pairs_of (result ∷ []) }
+{
+    match item {
+        Item::Visit(visit) => match check.check(alloc, store, &visit) {
+            Ok(verdict) => Verdicted::Checked { visit, verdict },
+            Err(AllocError) => Verdicted::Unchecked {
+                job: visit.job,
+                seq: visit.seq,
+            },
+        },
+        Item::Close { job, seq, end } => Verdicted::Close { job, seq, end },
+        Item::Stop => Verdicted::Last,
+    }
+}
+
+// Sends, and waits for room.
+fn send<R: Wait>(rt: &R, lane: &mut LaneIn, item: Verdicted)
+    ensures same { SameIn lane.old lane.new }
+    ensures sent { sent_by lane.new ≡ sent_by lane.old ++ item ∷ [] }
+{
+    let mut item = item;
+    for _ in rt.forever() {
+        match lane.try_send(item) {
+            Ok(()) => return,
+            Err(back) => item = back,
+        }
+        thread::yield_now();
+    }
+    unreachable!()
+}
+
+// Whether the verifier has to end.
+fn is_stop(item: &Item) -> bool
+    ensures { IsTrue result ↔ IsStop item.now }
+{
+    matches!(item, Item::Stop)
+}
+
+/// Takes items until a Stop, and sends for each visit its verdict, for each close the same close and
+/// for the Stop a Last. A visit for whose check no memory is left is sent without a verdict.
+pub fn verify<R: Wait, C: Check>(
+    rt: &R,
+    alloc: Global,
+    store: &Store,
+    queue: &VisitQueue,
+    seat: &mut TakeSeat,
+    lane: &mut LaneIn,
+    check: &mut C,
+)
+    requires queue { seat.old.table ≡ table_of queue.now }
+    requires course { IsCourseOf store.now seat.old.hand.course }
+    ensures same { (seat.new.table ≡ seat.old.table) × SameIn lane.old lane.new }
+    ensures verified { IsVerified store.now seat.old.hand seat.new.hand (sent_by lane.old) (sent_by lane.new) (C.checked check.old) (C.checked check.new) }
+{
+    for _ in rt.forever() {
+        let item = queue.take(rt, seat);
+        let stop = is_stop(&item);
+        let verdict = judge(alloc, store, check, item);
+        send(rt, lane, verdict);
+        if stop {
+            return;
+        }
+    }
+    unreachable!()
+}
