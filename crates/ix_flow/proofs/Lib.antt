@@ -4,3 +4,4 @@ pub mod Puts
 pub mod Starts
 pub mod Joins
 pub mod Closings
+pub mod Makes

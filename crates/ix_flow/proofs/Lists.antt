@@ -23,7 +23,7 @@ module _ {X : Type 0} where
   next_at [] rest zero x e = cc
   next_at [] rest (suc n) x e = cc
   next_at (y ∷ xs) rest zero x e = (let same : y ≡ x = cc in ap (λ (z : X). Some z) same, (let t : xs ≡ rest = cc in t), omega arith)
-  next_at (y ∷ xs) rest (suc n) x e = let h = next_at xs rest n x e in (h.0, h.1, (let lt = h.2 in omega (arith, lt)))
+  next_at (y ∷ xs) rest (suc n) x e = let h = next_at xs rest n x e in let one : suc n + 1 ≡ suc (n + 1) = omega arith in (h.0, ap (λ (k : ℕ). drop k (y ∷ xs)) one ∙ h.1, (let lt = h.2 in omega (arith, lt)))
 
   -- nothing is left of a list
   pub all_past : (xs : List X) (n : ℕ) → drop n xs ≡ [] → n ≤ length xs → n ≡ length xs
@@ -43,6 +43,10 @@ module _ {X : Type 0} where
   all_same P x zero p = λ j d l. absurd (omega (arith, l))
   all_same P x (suc n) p = all_cons P x (replicate n x) p (all_same P x n p)
 
+  pub length_same : (x : X) (n : ℕ) → length (replicate n x) ≡ n
+  length_same x zero = refl
+  length_same x (suc n) = ap suc (length_same x n)
+
   pub length_count : (f : ℕ → X) (n k : ℕ) → length (map f (count_up n k)) ≡ k
   length_count f n zero = refl
   length_count f n (suc k) = ap suc (length_count f (suc n) k)
@@ -54,3 +58,13 @@ received_push (p ∷ os) o = ap (λ (l : List Verdicted). received_by p ++ l) (r
 pub sent_push : (is : List LaneIn) (i : LaneIn) → all_sent (is ++ i ∷ []) ≡ all_sent is ++ sent_by i
 sent_push [] i = append-nil (sent_by i)
 sent_push (j ∷ is) i = ap (λ (l : List Verdicted). sent_by j ++ l) (sent_push is i) ∙ sym (append_assoc (sent_by j) (all_sent is) (sent_by i))
+
+module _ {X : Type 0} (P : X → Type 0) where
+  pub all_front : (xs ys : List X) → All P (xs ++ ys) → All P xs
+  all_front [] ys h k d l = absurd (omega (arith, l))
+  all_front (x ∷ xs) ys h zero d l = h 0 d (omega arith)
+  all_front (x ∷ xs) ys h (suc k) d l = all_front xs ys (λ i e m. h (suc i) e (omega (arith, m))) k d (omega (arith, l))
+
+  pub all_last : (xs : List X) (x : X) → All P (xs ++ x ∷ []) → P x
+  all_last [] x h = h 0 x (omega arith)
+  all_last (z ∷ zs) x h = all_last zs x (λ k d l. h (suc k) d (omega (arith, l)))

@@ -1,9 +1,11 @@
 -- What a walker puts is next in its job's course.
-use Rattle.std.proofs.Common.{◌≡◌, ◌<◌, ◌≤◌, ◌+◌, ◌==◌, ℕ, true, false, Bool, List, [], ◌∷◌, length, drop, slice_get, Some, All, arith, ap, sym, subst, refl, ◌∙◌, eq-eqb}
+use Rattle.std.proofs.Common.{◌≡◌, ◌<◌, ◌≤◌, ◌+◌, ◌==◌, ℕ, true, false, Bool, List, [], ◌∷◌, length, drop, slice_get, Some, All, Result, arith, ap, sym, subst, refl, ◌∙◌, eq-eqb}
 use Rattle.atomic_table.specs.Seated.{TableId}
 use Rattle.ix_walk.specs.declared.visit.Visit.{Visit}
 use Rattle.ix_walk.specs.Store.{Blocks}
 use Rattle.ix_walk.specs.JobMeaning.{JobMeaning}
+use Rattle.ix_walk.specs.declared.fault.WalkStop.{WalkStop}
+use Rattle.ix_walk.specs.WalkLeft.{WalkLeft, GivesNext}
 use Rattle.ix_walk.specs.Visits.{visits_of, is_over_limit}
 use Rattle.ix_car.specs.declared.sink.End.{End}
 use Rattle.ix_stages.specs.declared.course.JobVisits.{JobVisits}
@@ -35,3 +37,7 @@ close_is_allowed law store jobs n job end s at number course fits =
 
 pub close_is_next : (end : End) (s t : JobView) (job seq : ℕ) → job ≡ s.job → seq ≡ s.next → Allowed s.hand.course (item.Close s.job s.next end) → IsNext s (item.Close job seq end)
 close_is_next end s t job seq a b allowed = (eq-eqb job s.job a, b, subst (λ (m : ℕ). Allowed s.hand.course (item.Close m seq end)) (sym a) (subst (λ (m : ℕ). Allowed s.hand.course (item.Close s.job m end)) (sym b) allowed))
+
+-- what a walk gives next is known
+pub given_is : (walk left : WalkLeft) (r s : Result Visit WalkStop) → GivesNext walk (Some r) left → r ≡ s → GivesNext walk (Some s) left
+given_is walk left r s g e = subst (λ (x : Result Visit WalkStop). GivesNext walk (Some x) left) e g

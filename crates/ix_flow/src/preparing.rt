@@ -6,7 +6,7 @@ ghost use Rattle.ix_car.specs.Headline.{EachUnused};
 ghost use Rattle.ix_stages.specs.Course.{IsCourseOf};
 ghost use Rattle.ix_stages.specs.Queue.{table_of};
 ghost use Rattle.ix_flow.specs.Prepared.{IsPlace, IsPrepared};
-ghost use Rattle.ix_flow.specs.Stations.{IsPost};
+ghost use Rattle.ix_flow.specs.Stations.{HasJoinRoom, HasStationRoom, IsPost};
 
 use crate::flowing::Desk;
 use crate::joining::Joined;
@@ -96,6 +96,30 @@ fn make_places(
     Ok(places)
 }
 
+// Room for so many verifiers that run.
+fn make_stations<C: Check + Drop>(
+    alloc: Global,
+    verifiers: usize,
+) -> Result<Stations<C>, AllocError>
+    ensures { IfOk result (λ stations. HasStationRoom verifiers stations) }
+{
+    Ok(Stations {
+        handles: Vec::with_capacity(alloc, verifiers)?,
+        outs: Vec::with_capacity(alloc, verifiers)?,
+    })
+}
+
+// Room for what so many verifiers give back.
+fn make_joined<C: Drop>(alloc: Global, verifiers: usize) -> Result<Joined<C>, AllocError>
+    ensures { IfOk result (λ joined. HasJoinRoom verifiers joined) }
+{
+    Ok(Joined {
+        takers: Vec::with_capacity(alloc, verifiers)?,
+        senders: Vec::with_capacity(alloc, verifiers)?,
+        checks: Vec::with_capacity(alloc, verifiers)?,
+    })
+}
+
 /// Gives each check a place.
 pub(crate) fn man_posts<C: Check + Drop>(
     _store: &Store,
@@ -114,9 +138,10 @@ pub(crate) fn man_posts<C: Check + Drop>(
     let mut places = places;
     let mut posts = posts;
     for check in checks {
-        let Some(Place { seat, lane, out }) = places.pop() else {
+        let Some(place) = places.pop() else {
             unreachable!()
         };
+        let Place { seat, lane, out } = place;
         let verifier = Verifier { seat, lane, check };
         posts.push_reserved(Post { verifier, out });
     }
@@ -145,35 +170,31 @@ impl<C: Check + Drop> Prepared<C> {
             jobs: Snapshot::of(jobs),
         };
         let count = jobs.len();
+        let parts =
+            VisitQueue::new(alloc, &course, sizes.queue, count as u32, verifiers as u32)?;
         let QueueParts {
             queue,
             jobs: seats,
             takers,
             stop,
-        } = VisitQueue::new(alloc, &course, sizes.queue, count as u32, verifiers as u32)?;
-        let (claims, claimers) = Claims::new(alloc, seats, sizes.walkers)?;
+        } = parts;
         let places = make_places(alloc, store, &queue, takers, sizes.lane)?;
-        let stations = Stations {
-            handles: Vec::with_capacity(alloc, verifiers)?,
-            outs: Vec::with_capacity(alloc, verifiers)?,
-        };
-        let joined = Joined {
-            takers: Vec::with_capacity(alloc, verifiers)?,
-            senders: Vec::with_capacity(alloc, verifiers)?,
-            checks: Vec::with_capacity(alloc, verifiers)?,
-        };
+        let stations = make_stations(alloc, verifiers)?;
+        let joined = make_joined(alloc, verifiers)?;
         let desk = Desk {
             collector: Collector::new(alloc, count as u32)?,
             stop,
             joined,
             ends: Vec::with_capacity(alloc, count)?,
         };
+        let posts = Vec::with_capacity(alloc, verifiers)?;
+        let (claims, claimers) = Claims::new(alloc, seats, sizes.walkers)?;
         Ok(Prepared {
             queue,
             claims,
             claimers,
             places,
-            posts: Vec::with_capacity(alloc, verifiers)?,
+            posts,
             stations,
             desk,
         })

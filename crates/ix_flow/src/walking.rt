@@ -1,6 +1,6 @@
 //! Walkers: each claims jobs, one after the other, and puts their visits.
 
-ghost use Rattle.std.specs.Prelude.{◌≡◌, false, All};
+ghost use Rattle.std.specs.Prelude.{◌≡◌, false, All, Some, slice_get};
 ghost use Rattle.ix_stages.specs.declared.item.Item.{Item};
 ghost use Rattle.ix_stages.specs.Course.{Allowed};
 ghost use Rattle.ix_stages.specs.Queue.{table_of};
@@ -19,18 +19,19 @@ fn put_visits<R: Wait, G: Gate>(
     rt: &R,
     alloc: Global,
     store: &Store,
-    jobs: &[Job],
+    _jobs: &[Job],
+    job: &Job,
     gate: &G,
     queue: &VisitQueue,
     seat: &mut JobSeat,
 ) -> End
-    requires { IsReady store.now jobs.now (table_of queue.now) seat.old }
+    requires ready { IsReady store.now _jobs.now (table_of queue.now) seat.old }
+    requires job { slice_get _jobs.now seat.old.job ≡ Some job.now }
     ensures same { (seat.new.table ≡ seat.old.table) × (seat.new.closed ≡ false) }
     ensures close { Allowed seat.new.hand.course (Item.Close seat.new.job seat.new.next result) }
 {
     course_of_jobs();
     let number = seat.job();
-    let job = &jobs[number as usize];
     let Ok(walk) = Walk::new(alloc, store, job, number) else {
         return End::Memory;
     };
@@ -60,7 +61,9 @@ fn walk_job<R: Wait, G: Gate>(
     requires { IsReady store.now jobs.now (table_of queue.now) seat }
 {
     let mut seat = seat;
-    let end = put_visits(rt, alloc, store, jobs, gate, queue, &mut seat);
+    let number = seat.job() as usize;
+    let job = &jobs[number];
+    let end = put_visits(rt, alloc, store, jobs, job, gate, queue, &mut seat);
     let close = Item::Close {
         job: seat.job(),
         seq: seat.next(),

@@ -11,7 +11,7 @@ pub loop-preserved : goal.loop-preserved
 loop-preserved g c =
     let h = c.loop.invariant in
     let e = c.round.ensures in
-    let s = c.put_stop.ensures in
+    let s = c.put_stop-stops.ensures in
     let told = h.told in
     record {
       stop = (s.0 ∙ h.stop.0, s.1 ∙ h.stop.1);

@@ -29,10 +29,10 @@ loop-handle-preserved g c =
     let steps = c.in-Some.ensures.steps.0 in
     let all = subst (λ (l : List (PromisedHandle (Verifier g.row.C.Denot) (Began g.row.C.Denot))). All (IsBegan checked store t) l) steps h.began in
     let began : IsBegan checked store t handle = All-head (IsBegan checked store t) handle rest all in
-    let seat = c.join.result.seat in
-    let lane = c.join.result.lane in
-    let check = c.join.result.check in
-    let kept = c.join.ensures in
+    let seat = c.join-seat.result.seat in
+    let lane = c.join-seat.result.lane in
+    let check = c.join-seat.result.check in
+    let kept = c.join-seat.ensures in
     let did = subst (λ (s : Blocks). IsVerified s handle.promise.seat.value.hand seat.hand (sent_by handle.promise.lane.value) (sent_by lane) (checked handle.promise.check.value) (checked check)) began.store_is kept.2 in
     let takers = c.push_reserved.ensures in
     let senders = c.push_reserved-in-loop-handle.ensures in
@@ -45,8 +45,8 @@ loop-handle-preserved g c =
       split = h.split ∙ (ap (λ (l : List (PromisedHandle (Verifier g.row.C.Denot) (Began g.row.C.Denot))). c.loop-handle.yielded ++ l) steps ∙ sym (append_assoc c.loop-handle.yielded (handle ∷ []) rest));
       began = All-tail (IsBegan checked store t) handle rest all;
       tables = subst (λ (l : List SeatView). All (λ s. s.table ≡ t) l) (sym takers.items) (All-push (λ (s : SeatView). s.table ≡ t) c.loop-handle.takers.items seat h.tables (kept.0 ∙ began.table));
-      sent = sent_more store _ _ _ _ _ _ taken_is sent_is h.sent (sent_all _ _ _ _ _ _ _ did began.taken began.sent);
-      checked = checked_more _ _ _ _ _ _ (ap (checked_by checked) checks.items ∙ checked_push checked c.loop-handle.checks.items check) sent_is h.checked (checked_all _ _ _ _ _ _ _ did began.sent began.unused);
+      sent = sent_more store (taken_by c.loop-handle.takers.items) _ seat.hand.taken (all_sent c.loop-handle.senders.items) _ (sent_by lane) taken_is sent_is h.sent (sent_all _ _ _ _ _ _ _ did began.taken began.sent);
+      checked = checked_more (checked_by checked c.loop-handle.checks.items) _ (checked check) (all_sent c.loop-handle.senders.items) _ (sent_by lane) (ap (checked_by checked) checks.items ∙ checked_push checked c.loop-handle.checks.items check) sent_is h.checked (checked_all _ _ _ _ _ _ _ did began.sent began.unused);
       lanes = subst (λ (l : List LaneIn). EachBack (c.loop-handle.yielded ++ handle ∷ []) l) (sym senders.items) (back_push c.loop-handle.yielded c.loop-handle.senders.items handle lane h.lanes kept.1);
       takers_fit = ((let step = ap length steps in let more = takers.len in let old = h.takers_fit.0 in omega arith), takers.capacity ∙ h.takers_fit.1);
       senders_fit = ((let step = ap length steps in let more = senders.len in let old = h.senders_fit.0 in omega arith), senders.capacity ∙ h.senders_fit.1);
