@@ -82,7 +82,7 @@ pair_counts j n (Unchecked k m ∷ got) h = let rest : 0 < weigh (is_checked j n
 pair_counts j n (Close k m end ∷ got) h = let rest : 0 < weigh (is_checked j n) got = pair_counts j n got h in omega arith
 pair_counts j n (Last ∷ got) h = let rest : 0 < weigh (is_checked j n) got = pair_counts j n got h in omega arith
 
-pairs_once : (got : List Verdicted) → ((j n : ℕ) → weigh (is_checked j n) got ≤ 1) → IsEachOnce (pairs_of got)
+pub pairs_once : (got : List Verdicted) → ((j n : ℕ) → weigh (is_checked j n) got ≤ 1) → IsEachOnce (pairs_of got)
 pairs_once [] h = tt
 pairs_once (Checked v d ∷ got) h = (
   λ (c : Contains (pairs_of got) (v.job, v.seq)).
@@ -98,7 +98,7 @@ pairs_once (Last ∷ got) h = pairs_once got (λ j n. let most : 0 + weigh (is_c
 
 module _ (store : Blocks) (jobs : List JobMeaning) where
   -- the pair of a good item is that of a visit
-  pairs_within : (got : List Verdicted) (j n : ℕ) → All (IsAllowed store jobs) got → Contains (pairs_of got) (j, n) → n < length (judged_at store jobs j)
+  pub pairs_within : (got : List Verdicted) (j n : ℕ) → All (IsAllowed store jobs) got → Contains (pairs_of got) (j, n) → n < length (judged_at store jobs j)
   pairs_within [] j n a h = absurd (none_in (j, n) h)
   pairs_within (Checked v d ∷ got) j n a h =
       elim (cases_cons (v.job, v.seq) (pairs_of got) (j, n) h) [
@@ -269,3 +269,11 @@ module _ {S : Type 0} (events : S → List Event) (failed : S → List Delivery)
         let there : job < length jobs = job_below job seq within in
         every_from 0 job job seq ps ss es (omega arith) (omega arith) come ended walked.0 within;
   }
+
+module _ (store : Blocks) (jobs : List JobMeaning) (got : List Verdicted) where
+  -- of what is good no pair is checked twice, and each is that of a visit
+  pub good_pairs : IsGood store jobs got → IsEachOnce (pairs_of got) × ((job seq : ℕ) → Contains (pairs_of got) (job, seq) → seq < visit_count store jobs job)
+  good_pairs good = (
+    pairs_once got (λ j n. let most : weigh (is_checked j n) got + weigh (is_unchecked j n) got + weigh (is_close j n) got ≤ 1 = good.once j n in omega arith),
+    λ job seq c. subst (λ (k : ℕ). seq < k) (sym (count_is store jobs job)) (pairs_within store jobs got job seq good.allowed c),
+  )

@@ -1,8 +1,9 @@
 //! The laws of what is sent for what was taken, and of lanes.
 
-ghost use Rattle.std.specs.Prelude.{◌≡◌, ◌≤◌, ◌++◌, ℕ, List, length, All};
+ghost use Rattle.std.specs.Prelude.{◌≡◌, ◌≤◌, ◌<◌, ◌++◌, ℕ, List, length, All, Contains};
 ghost use Rattle.ix_walk.specs.Store.{Blocks};
 ghost use Rattle.ix_walk.specs.JobMeaning.{JobMeaning};
+ghost use Rattle.ix_car.specs.Headline.{IsEachOnce, visit_count};
 ghost use Rattle.ix_stages.specs.declared.item.Item.{Item};
 ghost use Rattle.ix_stages.specs.declared.verdicted.Verdicted.{Verdicted};
 ghost use Rattle.ix_stages.specs.declared.lanes.LaneIn.{LaneIn};
@@ -36,4 +37,10 @@ pub fn sent_end_to_end()
 /// Jobs within the limit have few enough visits.
 pub fn limited_is_small()
     ensures { (store : Blocks) (jobs : List JobMeaning) → All (λ job. job.limit ≤ 1000000) jobs → (n : ℕ) → length (judged_at store jobs n) ≤ 1000000 }
+{}
+
+/// Of what is good no pair is checked twice, and each is that of a visit.
+pub fn good_is_checked_once()
+    ensures once { (store : Blocks) (jobs : List JobMeaning) (got : List Verdicted) → IsGood store jobs got → IsEachOnce (pairs_of got) }
+    ensures within { (store : Blocks) (jobs : List JobMeaning) (got : List Verdicted) (job seq : ℕ) → IsGood store jobs got → Contains (pairs_of got) (job, seq) → seq < visit_count store jobs job }
 {}

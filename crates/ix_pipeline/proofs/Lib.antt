@@ -1,11 +1,4 @@
 pub mod UnderWay
 pub mod Pairs
 pub mod Exported
-pub mod Checking
-pub mod Parts
-pub mod Posts
-pub mod Shares
-pub mod Closed
 pub mod Deliveries
-pub mod Delivered
-pub mod Together

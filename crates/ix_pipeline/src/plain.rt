@@ -2,14 +2,13 @@
 
 ghost use Rattle.std.specs.Prelude.{◌≡◌, ◌≤◌, [], length, IfOk, OnErr};
 ghost use Rattle.ix_check.specs.Visits.{IsVisitOf};
-ghost use Rattle.ix_pipeline.specs.Progress.{Told, CanHand, HandsOn, IsWalked, Exports, end_of};
+ghost use Rattle.ix_pipeline.specs.Progress.{Told, CanHand, HandsOn, Delivers, IsWalked, Exports, end_of};
 ghost use Rattle.ix_pipeline.specs.Headline.{EachDelivered, EachArchived, Keeps, EachKept, EachFresh, IsCheckedOnce, NoneIsStart};
 
-use crate::delivering::deliver_one;
 use crate::sink_state::SinkState;
 use ix_car::law::faithful_is_archived;
-use ix_car::{End, Sink};
-use ix_check::Check;
+use ix_car::{End, Sink, SinkFault};
+use ix_check::{Check, Verdict};
 use ix_walk::{Job, Store, Visit, Walk, WalkStop};
 use std::alloc::{AllocError, Global};
 
@@ -105,4 +104,27 @@ fn hand_on<S: Sink, C: Check>(
 {
     let verdict = check.check(alloc, store, &visit)?;
     deliver_one(alloc, visit, verdict, state, sink)
+}
+
+// Delivers a visit with its verdict if no write failed so far. Says what becomes of the visits
+// behind it.
+fn deliver_one<S: Sink>(
+    alloc: Global,
+    visit: Visit,
+    verdict: Verdict,
+    state: SinkState,
+    sink: &mut S,
+) -> Result<SinkState, AllocError>
+    requires can { CanHand state (S.events sink.old) (S.failed sink.old) }
+    ensures delivered { Delivers (record { visit = visit; verdict = verdict }) state (S.events sink.old) (S.failed sink.old) result (S.events sink.new) (S.failed sink.new) }
+    ensures kept { Keeps S.fact sink.old sink.new }
+{
+    if state == SinkState::Failed {
+        return Ok(state);
+    }
+    match sink.deliver(alloc, visit, verdict) {
+        Ok(()) => Ok(SinkState::Taking),
+        Err(SinkFault::Write) => Ok(SinkState::Failed),
+        Err(SinkFault::Memory) => Err(AllocError),
+    }
 }

@@ -1,6 +1,6 @@
 //! Jobs.
 
-ghost use Rattle.std.specs.Prelude.{◌≡◌, Some, None, IfOk, IfErr, OnOk, string_bytes};
+ghost use Rattle.std.specs.Prelude.{◌≡◌, ◌≤◌, Some, None, IfOk, IfErr, OnOk, string_bytes};
 ghost use Rattle.ix_walk.specs.Job.{JobMeaning, job_fault};
 ghost use Rattle.ix_walk.specs.JobMeaning.{is_name, is_name_byte};
 
@@ -84,7 +84,8 @@ impl Job {
 
     /// How many visits a walk gives at most.
     pub fn limit(&self) -> u32
-        ensures { result ≡ self.now.limit }
+        ensures is { result ≡ self.now.limit }
+        ensures within { result ≤ 1000000 }
     {
         self.limit
     }

@@ -14,5 +14,5 @@ returns c =
     let stack : c.push.new.self.items ≡ waits c.args.job.now.root ∷ [] =
     c.in_ok-push.ensures.items ∙ ap (λ (l : List Pending). l ++ waits c.in_ok-cid.cid ∷ []) c.new-stack.ensures.items ∙ ap (λ (cid : List ℕ). waits cid ∷ []) (c.in_ok-cid.ensures.same ∙ c.root.ensures) in
     subst (λ (n : ℕ). walk_left c.args.store.now c.args.number n 0 c.push.new.self.items false ≡ record { visits = visits_of c.args.store.now c.args.number c.args.job.now; limited = is_over_limit c.args.store.now c.args.job.now; ended = false })
-    (sym c.limit.ensures)
+    (sym c.limit.ensures.is)
     (starts_walk c.args.store.now c.args.number c.args.job.now c.in_ok-residual.residual c.push.new.self.items (λ p. c.in_ok-residual.ensures.tested p ∙ ap (λ (s : Pattern). is_entered s p) c.selector.ensures) stack)

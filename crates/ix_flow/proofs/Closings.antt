@@ -1,0 +1,140 @@
+-- Sinks that were closed with one end, and told nothing else.
+use Rattle.std.proofs.Common.{◌≡◌, ◌⊎◌, ℕ, zero, suc, ◌+◌, ◌<◌, ◌≤◌, List, [], ◌∷◌, ◌++◌, length, get_or, set, take, drop, Contains, refl, sym, ◌∙◌, ap, subst, inl, inr, arith, take_all, drop-set-lt}
+use Rattle.std.proofs.lemmas.List.{take_more_set, drop_more}
+use Rattle.ix_walk.specs.Store.{Blocks}
+use Rattle.ix_walk.specs.JobMeaning.{JobMeaning}
+use Rattle.ix_walk.specs.Visits.{is_over_limit}
+use Rattle.ix_car.specs.declared.sink.Delivery.{Delivery}
+use Rattle.ix_car.specs.declared.sink.End.{End}
+use Rattle.ix_car.specs.declared.sink.End.TheVariants.{Memory, Start}
+use Rattle.ix_car.specs.Events.{Event, delivery, close}
+use Rattle.ix_car.specs.Verified.{judged_visits}
+use Rattle.ix_car.specs.Faithful.{IsFaithful, EndFits}
+use Rattle.ix_car.specs.Headline.{EachDelivered, EachFresh, Fact, Keeps, EachKept, IsCheckedOnce, IsEachOnce, AllWalked, visit_count}
+use Rattle.ix_collect.proofs.Members.{cases_cons, none_in}
+use Rattle.ix_collect.proofs.Kept.{kept_same}
+use Rattle.ix_flow.specs.Closed.{EachClosed}
+
+kept_set : {S : Type 0} (fact : Fact S) (ss ts : List S) (i : ℕ) (x y : S) → EachKept fact ss ts → x ≡ get_or ts i x → Keeps fact x y → EachKept fact ss (set ts i y)
+kept_set fact [] [] i x y h at keeps = tt
+kept_set {S = S} fact (s ∷ ss) (t ∷ ts) zero x y h at keeps = ((λ store job first p. keeps store job first (subst (λ (z : S). fact z store job first) (sym at) (h.0 store job first p))), h.1)
+kept_set fact (s ∷ ss) (t ∷ ts) (suc i) x y h at keeps = (h.0, kept_set fact ss ts i x y h.1 at keeps)
+kept_set fact ss ts i x y h at keeps = absurd h
+
+pub kept_length : {S : Type 0} (fact : Fact S) (ss ts : List S) → EachKept fact ss ts → length ss ≡ length ts
+kept_length fact [] [] h = refl
+kept_length fact (s ∷ ss) (t ∷ ts) h = ap suc (kept_length fact ss ts h.1)
+kept_length fact [] (t ∷ ts) h = absurd h
+kept_length fact (s ∷ ss) [] h = absurd h
+
+-- The first sinks were closed with this end, the others are fresh, and each still promises what it did.
+pub record IsClosedTo {S : Type 0} (events : S → List Event) (failed : S → List Delivery) (fact : Fact S) (end : End) (i : ℕ) (es : List End) (first sinks : List S) : Type 0 where
+  pub closed : EachClosed events failed end es (take i sinks)
+  pub fresh : EachFresh events failed (drop i sinks)
+  pub kept : EachKept fact first sinks
+
+module _ {S : Type 0} (events : S → List Event) (failed : S → List Delivery) (end : End) where
+  -- one sink more
+  closed_push : (es : List End) (ss : List S) (s : S) → EachClosed events failed end es ss → events s ≡ close end ∷ [] → failed s ≡ [] → EachClosed events failed end (es ++ end ∷ []) (ss ++ s ∷ [])
+  closed_push [] [] s h told refused = ((refl, told, refused), tt)
+  closed_push (e ∷ es) (t ∷ ss) s h told refused = (h.0, closed_push es ss s h.1 told refused)
+  closed_push es ss s h told refused = absurd h
+
+  -- before the first sink
+  pub closed_none : (fact : Fact S) (es : List End) (first : List S) → es ≡ [] → EachFresh events failed first → IsClosedTo events failed fact end 0 es first first
+  closed_none fact es first none fresh = record {
+    closed = subst (λ (l : List End). EachClosed events failed end l []) (sym none) tt;
+    fresh = fresh;
+    kept = kept_same fact first;
+  }
+
+  -- the next sink is fresh, and so are those behind it
+  split_fresh : (fact : Fact S) (i : ℕ) (es : List End) (first sinks : List S) (s : S) → IsClosedTo events failed fact end i es first sinks → i < length sinks → EachFresh events failed (get_or sinks i s ∷ drop (i + 1) sinks)
+  split_fresh fact i es first sinks s t lt = subst (λ (l : List S). EachFresh events failed l) (drop_more sinks i s lt) t.fresh
+
+  pub next_fresh : (fact : Fact S) (i : ℕ) (es : List End) (first sinks : List S) (s : S) → IsClosedTo events failed fact end i es first sinks → i < length sinks → s ≡ get_or sinks i s → (events s ≡ []) × (failed s ≡ [])
+  next_fresh fact i es first sinks s t lt at =
+      let all = split_fresh fact i es first sinks s t lt in subst (λ (x : S). (events x ≡ []) × (failed x ≡ [])) (sym at) all.0
+
+  -- one sink further
+  pub closed_more : (fact : Fact S) (i : ℕ) (es more : List End) (first sinks : List S) (s new : S)
+      → IsClosedTo events failed fact end i es first sinks → i < length sinks → s ≡ get_or sinks i s → more ≡ es ++ end ∷ [] → events new ≡ events s ++ close end ∷ [] → failed new ≡ failed s
+      → Keeps fact s new → IsClosedTo events failed fact end (i + 1) more first (set sinks i new)
+  closed_more fact i es more first sinks s new t lt at ends told same keeps =
+      let was = next_fresh fact i es first sinks s t lt at in
+      let all = split_fresh fact i es first sinks s t lt in
+      let below : i < i + 1 = omega arith in
+      record {
+        closed = subst (λ (l : List S). EachClosed events failed end more l) (sym (take_more_set sinks i new lt))
+            (subst (λ (l : List End). EachClosed events failed end l (take i sinks ++ new ∷ [])) (sym ends)
+            (closed_push es (take i sinks) new t.closed (told ∙ ap (λ (l : List Event). l ++ close end ∷ []) was.0) (same ∙ was.1)));
+        fresh = subst (λ (l : List S). EachFresh events failed l) (sym (drop-set-lt (i + 1) sinks i new below)) all.1;
+        kept = kept_set fact first sinks i s new t.kept at keeps;
+      }
+
+  -- all sinks
+  pub all_closed : (fact : Fact S) (i : ℕ) (es : List End) (first sinks : List S) → length sinks ≤ i → IsClosedTo events failed fact end i es first sinks → EachClosed events failed end es sinks
+  all_closed fact i es first sinks past t = subst (λ (l : List S). EachClosed events failed end es l) (take_all i sinks past) t.closed
+
+  -- a job of which nothing is delivered for want of memory or of threads is delivered faithfully
+  faithful_closed : (store : Blocks) (number : ℕ) (job : JobMeaning) (e : End) (told : List Event) (refused : List Delivery)
+      → (end ≡ Start) ⊎ (end ≡ Memory) → e ≡ end → told ≡ close end ∷ [] → refused ≡ [] → IsFaithful store number job e told refused
+  faithful_closed store number job e told refused which is events none = record {
+    count = 0;
+    within = omega arith;
+    told = events ∙ ap (λ (x : End). close x ∷ []) (sym is);
+    fits = elim which [
+      | inl start ↦ subst (λ (x : End). EndFits x 0 (judged_visits store number job) (is_over_limit store job) refused) (sym (is ∙ start)) (refl, none)
+      | inr memory ↦ subst (λ (x : End). EndFits x 0 (judged_visits store number job) (is_over_limit store job) refused) (sym (is ∙ memory)) (inl none)
+    ];
+  }
+
+  delivered_from : (store : Blocks) (n : ℕ) (jobs : List JobMeaning) (es : List End) (ss : List S) → EachClosed events failed end es ss → length jobs ≡ length ss → (end ≡ Start) ⊎ (end ≡ Memory) → EachDelivered events failed store n jobs es ss
+  delivered_from store n [] [] [] h same which = tt
+  delivered_from store n (j ∷ js) (e ∷ es) (s ∷ ss) h same which =
+      let here = h.0 in (faithful_closed store n j e (events s) (failed s) which here.0 here.1 here.2, delivered_from store (n + 1) js es ss h.1 (omega arith) which)
+  delivered_from store n [] [] (s ∷ ss) h same which = absurd h
+  delivered_from store n [] (e ∷ es) [] h same which = absurd h
+  delivered_from store n [] (e ∷ es) (s ∷ ss) h same which = absurd (omega arith)
+  delivered_from store n (j ∷ js) [] [] h same which = absurd (omega arith)
+  delivered_from store n (j ∷ js) (e ∷ es) [] h same which = absurd h
+  delivered_from store n (j ∷ js) [] (s ∷ ss) h same which = absurd h
+
+  -- sinks that were closed alone are delivered to faithfully, where their jobs ended for want of memory or of threads
+  pub delivered_of_closed : (store : Blocks) (jobs : List JobMeaning) (es : List End) (ss : List S) → EachClosed events failed end es ss → length jobs ≡ length ss → (end ≡ Start) ⊎ (end ≡ Memory) → EachDelivered events failed store 0 jobs es ss
+  delivered_of_closed store jobs es ss h same which = delivered_from store 0 jobs es ss h same which
+
+  -- no delivery is among their events
+  pub none_delivered : (es : List End) (ss : List S) (s : S) (d : Delivery) → EachClosed events failed end es ss → Contains ss s → Contains (events s) (delivery d) → ⊥
+  none_delivered [] [] s d h among told = none_in s among
+  none_delivered (e ∷ es) (t ∷ ss) s d h among told =
+      elim (cases_cons t ss s among) [
+        | inl same ↦
+            (let here = h.0 in
+            let there : Contains (close end ∷ []) (delivery d) = subst (λ (l : List Event). Contains l (delivery d)) (ap events (sym same) ∙ here.1) told in
+            elim (cases_cons (close end) [] (delivery d) there) [ inl e ↦ cc | inr r ↦ none_in (delivery d) r ])
+        | inr rest ↦ none_delivered es ss s d h.1 rest told
+      ]
+  none_delivered es ss s d h among told = absurd h
+
+  -- none of their jobs was walked
+  pub none_walked : (es : List End) (s : S) (ss : List S) → EachClosed events failed end es (s ∷ ss) → (end ≡ Start) ⊎ (end ≡ Memory) → AllWalked es → ⊥
+  none_walked [] s ss h which walked = absurd h
+  none_walked (e ∷ es) s ss h which walked =
+      let here = h.0 in elim which [ inl start ↦ walked.1 (0, omega arith, here.0 ∙ start) | inr memory ↦ walked.0 (0, omega arith, here.0 ∙ memory) ]
+
+  all_of_none : (store : Blocks) (jobs : List JobMeaning) (es : List End) (ss : List S) (job seq : ℕ) → EachClosed events failed end es ss → length jobs ≡ length ss → (end ≡ Start) ⊎ (end ≡ Memory) → AllWalked es → seq < visit_count store jobs job → ⊥
+  all_of_none store [] es ss job seq h same which walked lt =
+      let none : visit_count store [] job ≡ 0 = refl in omega arith
+  all_of_none store (j ∷ js) es [] job seq h same which walked lt = omega arith
+  all_of_none store (j ∷ js) es (s ∷ ss) job seq h same which walked lt = none_walked es s ss h which walked
+
+  -- whatever pairs were checked, each that of a visit and once, are enough for them
+  pub closed_checked : (store : Blocks) (jobs : List JobMeaning) (es : List End) (ss : List S) (pairs : List (ℕ × ℕ))
+      → EachClosed events failed end es ss → length jobs ≡ length ss → (end ≡ Start) ⊎ (end ≡ Memory) → IsEachOnce pairs → ((job seq : ℕ) → Contains pairs (job, seq) → seq < visit_count store jobs job) → IsCheckedOnce events store jobs es ss pairs
+  closed_checked store jobs es ss pairs h same which once within = record {
+    once = once;
+    within = within;
+    delivered = λ s d among told. absurd (none_delivered es ss s d h among told);
+    all = λ walked job seq lt. absurd (all_of_none store jobs es ss job seq h same which walked lt);
+  }

@@ -1,0 +1,22 @@
+-- The seats of a new queue.
+use Rattle.std.proofs.Common.{◌≡◌, ◌<◌, ◌≤◌, ◌+◌, ℕ, List, [], All, length, map, replicate, ap, sym, subst, refl, ◌∙◌, arith}
+use Rattle.atomic_table.specs.Seated.{TableId}
+use Rattle.ix_walk.specs.Store.{Blocks}
+use Rattle.ix_walk.specs.JobMeaning.{JobMeaning}
+use Rattle.ix_stages.specs.declared.course.JobVisits.{JobVisits}
+use Rattle.ix_stages.specs.Course.{IsCourseOf, course_of}
+use Rattle.ix_stages.specs.Items.{count_up}
+use Rattle.ix_stages.specs.Seats.{JobView, SeatView, new_job, new_taker, seat_count}
+use Rattle.ix_flow.specs.Ready.{IsReady}
+use Rattle.ix_flow.proofs.Lists.{all_count, all_same}
+
+module _ (store : Blocks) (jobs : List JobMeaning) (t : TableId) (course : List JobVisits) (all : ℕ) (same : course ≡ course_of store jobs) where
+  pub seats_ready : (n : ℕ) (seats : List JobView) → n ≡ length jobs → seats ≡ map (new_job t course all) (count_up 0 n) → All (IsReady store jobs t) seats
+  seats_ready n seats many is =
+      subst (All (IsReady store jobs t)) (sym is)
+      (all_count (IsReady store jobs t) (new_job t course all) 0 n (length jobs) (omega (arith, many)) (λ j lt. record { table = refl; job = lt; begins = (refl, refl); course = same }))
+
+  pub takers_ready : (n : ℕ) (takers : List SeatView) → IsCourseOf store (course_of store jobs) → takers ≡ replicate n (new_taker t course all) → All (λ s. (s.table ≡ t) × IsCourseOf store s.hand.course × (s.hand.taken ≡ [])) takers
+  takers_ready n takers of is =
+      let P : SeatView → Type 0 = λ s. (s.table ≡ t) × IsCourseOf store s.hand.course × (s.hand.taken ≡ []) in
+      subst (All P) (sym is) (all_same P (new_taker t course all) n (refl, subst (λ (k : List JobVisits). IsCourseOf store k) (sym same) of, refl))

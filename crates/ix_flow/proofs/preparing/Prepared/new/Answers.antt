@@ -1,0 +1,52 @@
+use Rattle.std.proofs.Common.{◌≡◌, ◌≤◌, ◌<◌, ◌+◌, [], ℕ, List, All, length, map, replicate, vec_len, vec_capacity, ap, sym, subst, refl, ◌∙◌, arith}
+use Rattle.std.specs.Global.{Vec}
+use Rattle.ix_stages.specs.declared.course.JobVisits.{JobVisits}
+use Rattle.ix_stages.specs.Course.{course_of}
+use Rattle.ix_stages.specs.Claims.{SeatMeaning}
+use Rattle.ix_stages.specs.Queue.{table_of}
+use Rattle.ix_stages.specs.Seats.{JobView, SeatView}
+use Rattle.ix_flow.specs.Ready.{IsReady}
+use Rattle.ix_flow.proofs.Lists.{length_count, length_same, all_same}
+use Rattle.ix_flow.proofs.Makes.{seats_ready, takers_ready}
+use Rattle.ix_flow.proofs.preparing.Prepared.new.Goals as goal
+
+pub new-requires-2-clause-values : goal.new-requires-2-clause-values
+new-requires-2-clause-values g c =
+    let len = ap length c.in_ok-parts.ensures.jobs ∙ length_count _ 0 c.len-count.result in
+    let many = c.len-count.ensures in
+    let ok = c.args.jobs.now.ok.0 in
+    let most = c.requires.jobs in
+    omega (arith, len, many, ok, most)
+
+pub make_places-requires : goal.make_places-requires
+make_places-requires g c =
+    let same : course_of c.of.result.value c.of-2.result.value.items ≡ course_of c.args.store.now c.args.jobs.now.items = λ i. course_of (c.of.ensures i) (c.of-2.ensures i).items in
+    takers_ready c.args.store.now c.args.jobs.now.items (table_of c.in_ok-parts.parts.queue) _ _ same c.args.verifiers c.in_ok-parts.parts.takers.items (c.course_of_jobs.ensures.store c.args.store.now c.args.jobs.now.items) c.in_ok-parts.ensures.takers
+
+pub returns : goal.returns
+returns g c =
+    let verifiers = c.args.verifiers in
+    let store = c.args.store.now in
+    let jobs = c.args.jobs.now.items in
+    let t = table_of c.in_ok-parts.parts.queue in
+    let same : course_of c.of.result.value c.of-2.result.value.items ≡ course_of store jobs = λ i. course_of (c.of.ensures i) (c.of-2.ensures i).items in
+    let takers : vec_len c.in_ok-parts.parts.takers ≡ verifiers = c.in_ok-parts.parts.takers.ok.0 ∙ (ap length c.in_ok-parts.ensures.takers ∙ length_same _ verifiers) in
+    let many : c.len-count.result ≡ length jobs = c.len-count.ensures ∙ c.args.jobs.now.ok.0 in
+    let seats : All (IsReady store jobs t) c.in_ok-parts.parts.jobs.items = seats_ready store jobs t _ _ same c.len-count.result c.in_ok-parts.parts.jobs.items many c.in_ok-parts.ensures.jobs in
+    let stop = c.in_ok-parts.ensures.stop in
+    let claims = c.in_ok-claims.claims in
+    record {
+      places = c.in_ok-places.ensures.places;
+      count = c.in_ok-places.ensures.count ∙ takers;
+      posts = (c.in_ok-posts.ensures.items, c.in_ok-posts.ensures.capacity);
+      stations = c.in_ok-stations.ensures;
+      seats = subst (λ (l : List JobView). All (IsReady store jobs t) l) (sym c.in_ok-claims.ensures.claims.0) seats;
+      claimers = subst (λ (l : List (SeatMeaning JobView)). All (λ s. s.of ≡ claims) l) (sym c.in_ok-claims.ensures.seats) (all_same (λ (s : SeatMeaning JobView). s.of ≡ claims) _ c.args.sizes.walkers refl);
+      desk = record {
+        limits = subst (λ l. All (λ job. job.limit ≤ 1000000) l) c.deref.ensures.value c.see_limits.ensures;
+        stop = (ap (λ (v : SeatView). v.table) stop, ap (λ (v : SeatView). v.hand.course) stop ∙ same);
+        join = c.in_ok-joined.ensures;
+        ends = (c.in_ok-with_capacity.ensures.items, (let a = many in let b = c.in_ok-with_capacity.ensures.capacity in omega (arith, a, b)));
+        collector = (c.in_ok-new.ensures.unused, c.in_ok-new.ensures.jobs ∙ many);
+      };
+    }

@@ -1,0 +1,46 @@
+//! Exports of which nothing is delivered, since no thread could be started.
+
+ghost use Rattle.std.specs.Prelude.{◌≡◌, ◌≤◌, ◌<◌, ℕ, [], length, vec_capacity, Contains};
+ghost use Rattle.ix_car.specs.declared.sink.End.TheVariants.{Start};
+ghost use Rattle.ix_car.specs.Headline.{EachFresh, EachKept, IsEachOnce, checked_by, visit_count};
+ghost use Rattle.ix_flow.specs.Closed.{EachClosed};
+ghost use Rattle.ix_flow.specs.Flowing.{IsFlown};
+
+use crate::flowing::Flown;
+use ix_car::{End, Sink};
+use ix_check::Check;
+use ix_walk::{Job, Store};
+
+// Closes every sink with one end.
+fn close_all<S: Sink>(sinks: &mut [S], end: End, ends: Vec<End>) -> Vec<End>
+    requires room { (ends.items ≡ []) × (length sinks.old ≤ vec_capacity ends) }
+    requires fresh { EachFresh S.events S.failed sinks.old }
+    ensures closed { EachClosed S.events S.failed end result.items sinks.new }
+    ensures facts { EachKept S.fact sinks.old sinks.new }
+{
+    let mut ends = ends;
+    for sink in sinks.iter_mut() {
+        sink.close(end);
+        ends.push_reserved(end);
+    }
+    ends
+}
+
+/// Closes every sink with Start.
+pub(crate) fn unexported<S: Sink, C: Check>(
+    _store: &Store,
+    _jobs: &[Job],
+    sinks: &mut [S],
+    checks: Vec<C>,
+    ends: Vec<End>,
+) -> Flown<C>
+    requires room { (ends.items ≡ []) × (length sinks.old ≤ vec_capacity ends) }
+    requires sinks { length sinks.old ≡ length _jobs.now }
+    requires fresh { EachFresh S.events S.failed sinks.old }
+    requires once { IsEachOnce (checked_by C.checked checks.items) }
+    requires within { (job seq : ℕ) → Contains (checked_by C.checked checks.items) (job, seq) → seq < visit_count _store.now _jobs.now job }
+    ensures { IsFlown S.events S.failed S.fact C.checked _store.now _jobs.now sinks.old sinks.new result }
+{
+    let ends = close_all(sinks, End::Start, ends);
+    Flown { checks, ends }
+}
