@@ -10,6 +10,8 @@ mod queue;
 mod rule;
 mod seats;
 mod settle;
+#[cfg(test)]
+mod tests;
 mod verdicted;
 mod verifier;
 
