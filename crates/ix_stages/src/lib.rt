@@ -12,6 +12,8 @@ mod queue;
 mod rule;
 mod seats;
 mod settle;
+#[cfg(test)]
+mod tests;
 mod verdicted;
 mod verifier;
 

@@ -1,5 +1,5 @@
 -- The seats of a queue of walks.
-use Rattle.std.specs.Prelude.{◌≡◌, ℕ, false, List, IfSome}
+use Rattle.std.specs.Prelude.{◌≡◌, false, List, IfSome}
 use Rattle.ix_stages.specs.declared.course.JobVisits.{JobVisits}
 use Rattle.ix_stages.specs.declared.queue.VisitQueue.{VisitQueue}
 use Rattle.ix_tests.specs.declared.queue.Seats.{Seats}

@@ -8,7 +8,7 @@ ghost use Rattle.ix_stages.specs.Good.{IsCloseOf};
 ghost use Rattle.ix_stages.specs.Course.{course_of};
 ghost use Rattle.ix_stages.specs.Queue.{table_of};
 ghost use Rattle.ix_tests.specs.Walkers.{CanWalk, IsWalker, IsTaker, CanRun, HasRun};
-ghost use Rattle.ix_stages.specs.Seats.{new_job, new_taker, new_stop, seat_count};
+ghost use Rattle.ix_stages.specs.Seats.{IsNext, new_job, new_taker, new_stop, seat_count};
 
 use crate::fixtures::{
     ABC, ALL, INNER, INNER_BLOCK, ONE_LINK, ONE_LINK_BLOCK, OUTER, OUTER_BLOCK, job_of, store_of,
@@ -39,6 +39,17 @@ struct Walks<'a> {
 
 impl Course for Walks<'_> {
     ghost plan = { λ w. course_of w.store.now w.jobs.now };
+}
+
+// Four blocks, each linked by the one before.
+fn chain_of(alloc: Global) -> Result<Store, Fail> {
+    let blocks = [
+        (OUTER, OUTER_BLOCK),
+        (INNER, INNER_BLOCK),
+        (ONE_LINK, ONE_LINK_BLOCK),
+        (ABC, "616263"),
+    ];
+    store_of(alloc, blocks.as_slice())
 }
 
 // So many jobs of everything below a root.
@@ -389,6 +400,41 @@ fn run_five<R: Threads + Wait + Sync>(
     )
 }
 
+// Puts a close at a full queue, and once a visit was taken. Whether it came back, then the first
+// visit was taken, and then there was room.
+fn close_at_full<R: Wait>(
+    rt: &R,
+    queue: &VisitQueue,
+    seat: &mut JobSeat,
+    taker: &mut TakeSeat,
+    close: Item,
+) -> bool
+    requires seat { (seat.old.table ≡ table_of queue.now) × (seat.old.closed ≡ false) × IsNext seat.old close }
+    requires taker { taker.old.table ≡ table_of queue.now }
+    ensures { taker.new.table ≡ taker.old.table }
+{
+    let Err(back) = queue.try_put(rt, seat, close) else {
+        return false;
+    };
+    match queue.try_take(rt, taker) {
+        Some(Item::Visit(visit)) => visit.seq == 0 && queue.try_put(rt, seat, back).is_ok(),
+        _ => false,
+    }
+}
+
+// Takes until the queue is empty, eight items at most, and counts them.
+fn count_left<R: Wait>(rt: &R, queue: &VisitQueue, taker: &mut TakeSeat) -> u32
+    requires { taker.old.table ≡ table_of queue.now }
+    ensures { taker.new.table ≡ taker.old.table }
+{
+    for count in 0..8 {
+        if queue.try_take(rt, taker).is_none() {
+            return count;
+        }
+    }
+    8
+}
+
 // Whether the numbers of each of three jobs rise.
 fn rise(numbers: &[(u32, u32)]) -> bool {
     let mut next = [0; 3];
@@ -408,7 +454,10 @@ fn count_of(numbers: &[(u32, u32)], job: u32, seq: u32) -> usize {
 
 // Each number of each job was taken once, and each taker took those of a job in rising order.
 fn each_once(rt: &impl Abort, first: &[(u32, u32)], second: &[(u32, u32)]) {
-    assert!(rt; rise(first) && rise(second), "the numbers of a job don't rise");
+    assert!(rt;
+        rise(first) && rise(second),
+        "the numbers of a job don't rise"
+    );
     assert_eq!(rt; first.len().saturating_add(second.len()), 303);
     for job in 0..3 {
         for seq in 0..101 {
@@ -421,13 +470,7 @@ fn each_once(rt: &impl Abort, first: &[(u32, u32)], second: &[(u32, u32)]) {
 #[test]
 fn chain_through_queue_and_lane(rt: HostRuntime) -> Result<(), Fail> {
     let alloc = rt.alloc();
-    let blocks = [
-        (OUTER, OUTER_BLOCK),
-        (INNER, INNER_BLOCK),
-        (ONE_LINK, ONE_LINK_BLOCK),
-        (ABC, "616263"),
-    ];
-    let store = store_of(alloc, blocks.as_slice())?;
+    let store = chain_of(alloc)?;
     let jobs = jobs_of(alloc, OUTER, 1, 100)?;
     course_of_jobs();
     let QueueParts {
@@ -442,9 +485,20 @@ fn chain_through_queue_and_lane(rt: HostRuntime) -> Result<(), Fail> {
     assert!(rt; queue.try_stop(&rt, &mut stop));
     let (mut sender, mut receiver) = lane(alloc, 8)?;
     let mut check = ShaCheck::new(alloc);
-    verify(&rt, alloc, &store, &queue, &mut takers[0], &mut sender, &mut check);
+    verify(
+        &rt,
+        alloc,
+        &store,
+        &queue,
+        &mut takers[0],
+        &mut sender,
+        &mut check,
+    );
     gives_chain(&rt, &mut receiver);
-    assert_eq!(rt; check.receipts(), [(0, 0), (0, 1), (0, 2), (0, 3)].as_slice());
+    assert_eq!(rt;
+        check.receipts(),
+        [(0, 0), (0, 1), (0, 2), (0, 3)].as_slice()
+    );
     let mut rest = queue.settle(seats, stop, takers);
     assert!(rt; queue.take_rest(&rt, &mut rest).is_none());
     Ok(())
@@ -510,5 +564,41 @@ fn three_walks_through_room_for_one(rt: HostRuntime) -> Result<(), Fail> {
     keep_taker(&queue, &mut takers, u.seat)?;
     let mut rest = queue.settle(seats, stop, takers);
     assert!(rt; queue.take_rest(&rt, &mut rest).is_none());
+    Ok(())
+}
+
+// The chain's four visits fill the queue. None of the contracts says when a queue is full or empty.
+#[test]
+fn full_and_empty(rt: HostRuntime) -> Result<(), Fail> {
+    let alloc = rt.alloc();
+    let store = chain_of(alloc)?;
+    let jobs = jobs_of(alloc, OUTER, 1, 100)?;
+    let QueueParts {
+        queue,
+        jobs: mut seats,
+        mut takers,
+        mut stop,
+    } = queue_of(alloc, &store, &jobs, 4, 1)?;
+    let Some(mut taker) = next_taker(&queue, &mut takers) else {
+        return Err("a taker was wanted".into());
+    };
+    let Some(mut seat) = next_walker(&store, &jobs, &queue, &mut seats) else {
+        return Err("a seat was wanted".into());
+    };
+    let Some(job) = jobs.get(seat.job() as usize) else {
+        return Err("a job was wanted".into());
+    };
+    course_of_jobs();
+    let end = put_visits(&rt, alloc, &store, job, &jobs, &queue, &mut seat)?;
+    assert!(rt; !queue.try_stop(&rt, &mut stop), "a Stop in a full queue");
+    let close = Item::Close {
+        job: seat.job(),
+        seq: seat.next(),
+        end,
+    };
+    assert!(rt; close_at_full(&rt, &queue, &mut seat, &mut taker, close));
+    assert_eq!(rt; count_left(&rt, &queue, &mut taker), 4);
+    assert!(rt; queue.try_stop(&rt, &mut stop), "no Stop in an empty queue");
+    assert!(rt; matches!(queue.try_take(&rt, &mut taker), Some(Item::Stop)));
     Ok(())
 }

@@ -1,4 +1,3 @@
-use Rattle.std.proofs.Common.{All}
 use Rattle.std.proofs.lemmas.List.Elements.{All-same}
 use Rattle.ix_stages.specs.Course.{course_of}
 use Rattle.ix_tests.specs.Walkers.{CanWalk, IsTaker}
