@@ -5,19 +5,27 @@ ghost use Rattle.std.specs.Prelude.{◌≡◌, ◌++◌, [], map, option_to_list
 ghost use Rattle.ix_car.specs.Events.{delivery, close as closing};
 
 use crate::export::{Log, log_of};
-use crate::fixtures::{CHAIN_CAR, CHAIN_JOBS, LIST_CAR, LIST_JOBS, bytes_of};
+use crate::fixtures::{ABC, ALL, CHAIN_CAR, CHAIN_JOBS, LIST_CAR, LIST_JOBS, bytes_of, store_of};
 use ix_car::{End, Sink, SinkFault};
+use ix_cbor::decode;
 use ix_check::{Check, ShaCheck, Verdict};
+use ix_cid::Cid;
 use ix_pipeline::{Gate, Open, Plan, export};
 use ix_run::prepare;
-use ix_walk::{Store, Visit};
+use ix_selector::Selector;
+use ix_walk::{Job, Store, Visit};
+use sha2::{Digest, Sha256};
 use std::alloc::{AllocError, Global};
+use std::sync::Arc;
 use std::sync::atomic::{AtomicBool, AtomicU32, Ordering};
 use std::test::Fail;
 use std::thread;
 
 // How often a side looks whether what it waits for began.
 const TURNS: u32 = 10_000_000;
+
+// How many visits of the forty layers are wanted.
+const LIMIT: u32 = 1_000;
 
 // Something that is to begin while another side waits for it.
 #[derive(Drop)]
@@ -41,9 +49,9 @@ impl Awaited {
         self.count.fetch_add(1, Ordering::SeqCst);
     }
 
-    // Waits until it began. It is missed where it never does.
-    fn wait(&self) {
-        for _ in 0..TURNS {
+    // Waits until it began, for so many turns. It is missed where it never does.
+    fn wait(&self, turns: u32) {
+        for _ in 0..turns {
             if self.count.load(Ordering::SeqCst) >= self.wanted {
                 return;
             }
@@ -101,7 +109,7 @@ impl Check for LastHeld<'_> {
         visit: &Visit,
     ) -> Result<Verdict, AllocError> {
         if visit.seq == 3 {
-            self.begun.wait();
+            self.begun.wait(TURNS);
         }
         self.check.check(alloc, store, visit)
     }
@@ -128,6 +136,32 @@ impl Check for CheckTelling<'_> {
     }
 }
 
+// Checks as `ShaCheck` does, the slow one once there were enough calls on the other.
+#[derive(Drop)]
+struct Paced<'a> {
+    check: ShaCheck,
+    begun: &'a Awaited,
+    is_slow: bool,
+}
+
+impl Check for Paced<'_> {
+    ghost checked = { λ c. c.check };
+
+    fn check(
+        &mut self,
+        alloc: Global,
+        store: &Store,
+        visit: &Visit,
+    ) -> Result<Verdict, AllocError> {
+        if self.is_slow {
+            self.begun.wait(10 * TURNS);
+        } else {
+            self.begun.tell();
+        }
+        self.check.check(alloc, store, visit)
+    }
+}
+
 // Holds the walk at its second visit until the check of the first began.
 #[derive(Drop)]
 struct SecondHeld<'a> {
@@ -137,7 +171,7 @@ struct SecondHeld<'a> {
 impl Gate for SecondHeld<'_> {
     fn pass(&self, _job: u32, seq: u32) {
         if seq == 1 {
-            self.begun.wait();
+            self.begun.wait(TURNS);
         }
     }
 }
@@ -155,7 +189,7 @@ impl Gate for OneHeld<'_> {
             return;
         }
         if job == self.job {
-            self.begun.wait();
+            self.begun.wait(TURNS);
         } else {
             self.begun.tell();
         }
@@ -248,5 +282,85 @@ fn no_walker_has_a_fixed_share(rt: HostRuntime) -> Result<(), Fail> {
         assert!(rt; !begun.is_missed(), "a job waited for one that nobody walked");
         assert!(rt; out.ends.as_slice() == [End::Done; 3].as_slice());
     }
+    Ok(())
+}
+
+// Forty layers, each a list of two links to the next, above a raw block; and the CID of the first.
+fn layers(alloc: Global) -> Result<(Store, Cid), Fail> {
+    let mut store = store_of(alloc, &[(ABC, "616263")])?;
+    let mut cid = bytes_of(alloc, &[ABC])?;
+    for _ in 0..40 {
+        let mut block = bytes_of(alloc, &["82"])?;
+        for _ in 0..2 {
+            block.extend_from_slice(b"\xd8\x2a\x58\x25\x00")?;
+            block.extend_from_slice(cid.as_slice())?;
+        }
+        cid = bytes_of(alloc, &["01711220"])?;
+        cid.extend_from_slice(Sha256::digest(block.as_slice()).as_slice())?;
+        let (key, _) = Cid::read(alloc, cid.as_slice())?;
+        store.add(key, block)?;
+    }
+    let (root, _) = Cid::read(alloc, cid.as_slice())?;
+    Ok((store, root))
+}
+
+// Everything below the CID.
+fn all_below(alloc: Global, root: Cid) -> Result<Job, Fail> {
+    let tree = decode(alloc, bytes_of(alloc, &[ALL])?.as_slice())?;
+    let selector = Selector::read(alloc, &tree)?;
+    Ok(Job::new(String::from_str(alloc, "a")?, root, selector, LIMIT)?)
+}
+
+// How many visits stand in the receipts, if none stands twice.
+fn count_once(seen: &mut [bool], receipts: &[(u32, u32)]) -> Result<u32, Fail> {
+    let mut count = 0u32;
+    for (_, seq) in receipts {
+        match seen.get_mut(*seq as usize) {
+            Some(place) if !*place => *place = true,
+            _ => return Err("a visit was checked twice".into()),
+        }
+        count = count.saturating_add(1);
+    }
+    Ok(count)
+}
+
+#[test]
+fn slow_verifier(rt: HostRuntime) -> Result<(), Fail> {
+    let alloc = rt.alloc();
+    let (store, root) = layers(alloc)?;
+    let store = Arc::new(alloc, store)?;
+    let jobs = Arc::new(alloc, vec![in alloc; all_below(alloc, root)?]?)?;
+    let begun = Awaited::new(100);
+    let mut sinks = [log_of(alloc, LIMIT as usize)?];
+    let slow = Paced {
+        check: ShaCheck::new(alloc),
+        begun: &begun,
+        is_slow: true,
+    };
+    let other = Paced {
+        check: ShaCheck::new(alloc),
+        begun: &begun,
+        is_slow: false,
+    };
+    let checks = vec![in alloc; slow, other]?;
+    let plan = Plan {
+        walkers: 1,
+        queue: 1,
+        lane: 1,
+    };
+    let Ok(out) = export(
+        &rt, alloc, &store, &jobs, &mut sinks, checks, &Open, plan,
+    ) else {
+        return Err(Fail::from(AllocError));
+    };
+    assert!(rt; !begun.is_missed(), "one verifier waited, and the other had nothing to check");
+    assert!(rt; out.ends.as_slice() == [End::Limit].as_slice());
+    let mut seen = [false; 1_000];
+    let mut count = 0u32;
+    for paced in out.checks.iter() {
+        count = count.saturating_add(count_once(&mut seen, paced.check.receipts())?);
+    }
+    assert_eq!(rt; count, LIMIT);
+    assert_eq!(rt; sinks[0].deliveries.len(), LIMIT as usize);
     Ok(())
 }
