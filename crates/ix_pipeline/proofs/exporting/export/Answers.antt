@@ -3,7 +3,6 @@ use Rattle.std.specs.Arc.{arc_value}
 use Rattle.std.specs.Global.{Vec}
 use Rattle.ix_walk.specs.Store.{Blocks}
 use Rattle.ix_walk.specs.JobMeaning.{JobMeaning}
-use Rattle.ix_pipeline.specs.Headline.{EachDelivered, IsCheckedOnce, checked_by}
 use Rattle.ix_flow.specs.Flowing.{IsFlown}
 use Rattle.ix_flow.specs.Prepared.{IsPrepared}
 use Rattle.ix_pipeline.proofs.Exported.{kept_same, archived_of_delivered}
@@ -11,6 +10,3 @@ use Rattle.ix_pipeline.proofs.exporting.export.Goals as goal
 
 pub returns-in_default-clause-facts : goal.returns-in_default-clause-facts
 returns-in_default-clause-facts g c = kept_same g.S.Sink.fact c.args.sinks.now
-
-pub returns : goal.returns
-returns g c = ?

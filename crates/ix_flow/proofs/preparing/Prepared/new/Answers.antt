@@ -1,4 +1,4 @@
-use Rattle.std.proofs.Common.{◌≡◌, ◌≤◌, ◌<◌, ◌+◌, [], ℕ, List, All, length, map, replicate, vec_len, vec_capacity, ap, sym, subst, refl, ◌∙◌, arith}
+use Rattle.std.proofs.Common.{rules, ◌≡◌, ◌≤◌, ◌<◌, ◌+◌, [], ℕ, List, All, length, map, replicate, vec_len, vec_capacity, ap, sym, subst, refl, ◌∙◌, arith}
 use Rattle.std.specs.Global.{Vec}
 use Rattle.ix_stages.specs.declared.course.JobVisits.{JobVisits}
 use Rattle.ix_stages.specs.Course.{course_of}
@@ -10,8 +10,8 @@ use Rattle.ix_flow.proofs.Lists.{length_count, length_same, all_same}
 use Rattle.ix_flow.proofs.Makes.{seats_ready, takers_ready}
 use Rattle.ix_flow.proofs.preparing.Prepared.new.Goals as goal
 
-pub new-requires-2-clause-values : goal.new-requires-2-clause-values
-new-requires-2-clause-values g c =
+pub new-requires-3-clause-values : goal.new-requires-3-clause-values
+new-requires-3-clause-values g c =
     let len = ap length c.in_ok-parts.ensures.jobs ∙ length_count _ 0 c.len-count.result in
     let many = c.len-count.ensures in
     let ok = c.args.jobs.now.ok.0 in
@@ -44,7 +44,7 @@ returns g c =
       claimers = subst (λ (l : List (SeatMeaning JobView)). All (λ s. s.of ≡ claims) l) (sym c.in_ok-claims.ensures.seats) (all_same (λ (s : SeatMeaning JobView). s.of ≡ claims) _ c.args.sizes.walkers refl);
       desk = record {
         limits = subst (λ l. All (λ job. job.limit ≤ 1000000) l) c.deref.ensures.value c.see_limits.ensures;
-        stop = (ap (λ (v : SeatView). v.table) stop, ap (λ (v : SeatView). v.hand.course) stop ∙ same);
+        stop = (search rules, search rules);
         join = c.in_ok-joined.ensures;
         ends = (c.in_ok-with_capacity.ensures.items, (let a = many in let b = c.in_ok-with_capacity.ensures.capacity in omega (arith, a, b)));
         collector = (c.in_ok-new.ensures.unused, c.in_ok-new.ensures.jobs ∙ many);
