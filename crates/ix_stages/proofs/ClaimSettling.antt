@@ -1,7 +1,7 @@
 -- Seats are joined one by one.
-use Rattle.std.proofs.Common.{◌≡◌, ℕ, suc, All, get_or, ◌+◌, ◌<◌, Bool, true, false, ◌||◌, cond, List, [], ◌∷◌, ◌++◌, length, sym, refl, ap, ◌∙◌, subst, arith, length-append, append_assoc, append-nil}
+use Rattle.std.proofs.Common.{◌≡◌, ℕ, suc, All, ◌+◌, ◌<◌, Bool, true, false, ◌||◌, cond, List, [], ◌∷◌, ◌++◌, sym, refl, ap, ◌∙◌, arith, length-append, append_assoc, append-nil}
 use Rattle.ix_stages.specs.declared.claim_rule.ClaimView.{ClaimView}
-use Rattle.ix_stages.specs.ClaimRule.{claimer, spent}
+use Rattle.ix_stages.specs.ClaimRule.{spent}
 use Rattle.ix_stages.specs.Claims.{ClaimsMeaning, SeatMeaning, all_places, some_ended}
 use Rattle.ix_stages.specs.ClaimsJoined.{with_seat, HasJoined}
 

@@ -1,10 +1,10 @@
 -- Each step keeps the rule of the claims.
-use Rattle.std.proofs.Common.{◌≡◌, ◌≢◌, ℕ, zero, suc, ◌+◌, ◌-◌, ◌%◌, ◌^◌, ◌<◌, ◌≤◌, ◌==◌, ◌⊎◌, Bool, true, false, cond, min, List, [], ◌∷◌, ◌++◌, length, map, set, sym, refl, ap, ◌∙◌, subst, inl, inr, ⊎_elim, arith, Option, Some, None, MatchBool, length-append}
+use Rattle.std.proofs.Common.{◌≡◌, ℕ, zero, suc, ◌+◌, ◌%◌, ◌^◌, ◌<◌, ◌≤◌, ◌==◌, Bool, true, false, cond, min, List, [], ◌∷◌, ◌++◌, length, map, set, sym, refl, ap, ◌∙◌, subst, arith, Option, Some, MatchBool}
 use Rattle.std.specs.Prelude.{slice_get, slice_index, nat_lt}
 use Rattle.std.proofs.lemmas.Bool.Decides.{nat_tests}
-use mathlib.Core.Option.{some, some-injective, some-ne-none, none}
+use mathlib.Core.Option.{some, some-ne-none, none}
 use lib.ListN.{get_elem?}
-use Rattle.atomic_table.specs.Table.{State, Me, Act, keeps, takes, Valid, stepped, opening, homes_after, carried_after, Allows, Enters, Splits, Joins}
+use Rattle.atomic_table.specs.Table.{State, Me, Act, keeps, takes, Valid, stepped, opening, carried_after, Allows, Enters, Splits, Joins}
 use Rattle.atomic_table.proofs.Lists.{set_else}
 use Rattle.ix_stages.specs.declared.claim_rule.ClaimView.{ClaimView}
 use Rattle.ix_stages.specs.ClaimRule.{claimer, spent, one_less, one_seat, total, FitsClaimer, IsClaimed, gains, refused, Draws, Tells, Looks}

@@ -1,5 +1,5 @@
 -- The rule of claims, for any number of seats.
-use Rattle.std.specs.Prelude.{◌≡◌, ℕ, ◌+◌, ◌-◌, ◌≤◌, ◌<◌, Bool, cond, nat_lt, ◌==◌, List, [], ◌∷◌, ◌++◌, length, slice_get, Option, Some, None, MatchBool, min}
+use Rattle.std.specs.Prelude.{◌≡◌, ℕ, ◌+◌, ◌-◌, ◌≤◌, ◌<◌, nat_lt, List, [], ◌∷◌, ◌++◌, length, slice_get, Option, Some, MatchBool, min}
 use mathlib.Core.Option.{some}
 use lib.ListN.{get_elem?}
 use Rattle.atomic_table.specs.Table.{State, Me}

@@ -1,5 +1,5 @@
 -- What a view knows once seats were joined into it.
-use Rattle.std.specs.Prelude.{◌≡◌, ℕ, ◌+◌, ◌<◌, true, cond, List, [], ◌∷◌, ◌++◌, length}
+use Rattle.std.specs.Prelude.{◌≡◌, ◌+◌, ◌<◌, true, cond, List, ◌++◌, length}
 use Rattle.ix_stages.specs.declared.claim_rule.ClaimView.{ClaimView}
 use Rattle.ix_stages.specs.ClaimRule.{claimer}
 use Rattle.ix_stages.specs.Claims.{ClaimsMeaning, SeatMeaning, all_places, some_ended}

@@ -1,5 +1,5 @@
 //! Lanes and claims, in one thread and among several. What receives, sends or claims is passed no
-//! runtime, so that none of it may wait.
+//! runtime, or one that can't wait.
 
 ghost use Rattle.std.specs.Prelude.{◌≡◌, All, IfOk};
 
@@ -70,6 +70,11 @@ fn receive_all(receiver: LaneOut) -> bool {
     true
 }
 
+// Sends in one thread and receives in another, by a runtime that starts threads and can't wait.
+fn pass_all<R: Threads>(rt: &R, sender: LaneIn, receiver: LaneOut) -> (bool, bool) {
+    thread::join(rt, move || send_all(sender), move || receive_all(receiver))
+}
+
 #[test]
 fn lane_of_capacity_one(rt: HostRuntime) -> Result<(), Fail> {
     let (mut sender, mut receiver) = lane(rt.alloc(), 1)?;
@@ -110,11 +115,7 @@ fn rest_of_a_lane(rt: HostRuntime) -> Result<(), Fail> {
 #[test]
 fn items_in_order_through_a_lane_of_one(rt: HostRuntime) -> Result<(), Fail> {
     let (sender, receiver) = lane(rt.alloc(), 1)?;
-    let (sent, received) = thread::join(
-        &rt,
-        move || send_all(sender),
-        move || receive_all(receiver),
-    );
+    let (sent, received) = pass_all(&rt, sender, receiver);
     assert!(rt; sent, "the lane stayed full");
     assert!(rt; received, "the lane stayed empty, or gave another item");
     Ok(())

@@ -1,4 +1,4 @@
-use Rattle.std.proofs.Common.{◌≡◌, ◌<◌, ap, ◌∙◌, arith}
+use Rattle.std.proofs.Common.{◌<◌, ap, ◌∙◌, arith}
 use Rattle.ix_stages.specs.declared.claim_rule.ClaimView.{ClaimView}
 use Rattle.ix_stages.proofs.Claiming.{deals}
 use Rattle.ix_stages.proofs.claims.deal.Goals as goal

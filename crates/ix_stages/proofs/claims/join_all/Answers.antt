@@ -1,5 +1,4 @@
 use Rattle.std.proofs.Common.{◌≡◌, ◌++◌, ◌∷◌, [], List, All, ap, sym, subst, ◌∙◌, append_assoc}
-use Rattle.std.specs.Vec.Iter.{into_iter_items}
 use Rattle.ix_stages.specs.declared.claim_rule.ClaimView.{ClaimView}
 use Rattle.ix_stages.specs.Claims.{SeatMeaning}
 use Rattle.ix_stages.specs.ClaimsJoined.{HasJoined}
