@@ -1,6 +1,6 @@
 -- What contracts see of the two ends of a lane, and of all lanes.
 use Rattle.std.specs.Prelude.{ℕ, List, [], ◌∷◌, ◌++◌}
-use Rattle.rtrb.specs.Ring.{sent, received, known_free, IsPair, SameProducer, SameConsumer}
+use Rattle.rtrb.specs.Ring.{sent, received, known_free, known_items, IsPair, SameProducer, SameConsumer}
 use Rattle.ix_stages.specs.declared.verdicted.Verdicted.{Verdicted}
 use Rattle.ix_stages.specs.declared.lanes.LaneIn.{LaneIn}
 use Rattle.ix_stages.specs.declared.lanes.LaneOut.{LaneOut}
@@ -14,6 +14,10 @@ received_by l = received l.consumer
 -- how many items the end knows to have room for
 abbrev pub room_in : LaneIn → ℕ
 room_in l = known_free l.producer
+
+-- the items that the end has seen in the lane: the next ones that it receives
+abbrev pub seen_in : LaneOut → List Verdicted
+seen_in l = known_items l.consumer
 
 -- the two ends of one lane
 abbrev pub IsLane : LaneIn → LaneOut → Type 0

@@ -10,3 +10,6 @@ pub mod Queue
 pub mod Settled
 pub mod Verified
 pub mod Lanes
+pub mod Claims
+pub mod ClaimRule
+pub mod ClaimsJoined

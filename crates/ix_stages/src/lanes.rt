@@ -2,10 +2,10 @@
 
 ghost use Rattle.std.specs.Prelude.{◌≡◌, ◌<◌, ◌≤◌, ◌+◌, [], ◌∷◌, ◌++◌, IfOk, IfSome, IfNone, MatchResult, MatchOption};
 ghost use mathlib.Core.List.{IsPrefix};
-ghost use Rattle.ix_stages.specs.Lanes.{sent_by, received_by, room_in, IsLane, SameIn, SameOut};
+ghost use Rattle.ix_stages.specs.Lanes.{sent_by, received_by, room_in, seen_in, IsLane, SameIn, SameOut};
 
 use crate::verdicted::Verdicted;
-use rtrb::{Consumer, Producer, PushError, RingBuffer};
+use rtrb::{Consumer, PopError, Producer, PushError, RingBuffer};
 use std::alloc::{AllocError, Global};
 
 /// The end at which a verifier sends.
@@ -22,7 +22,7 @@ pub struct LaneOut {
 
 /// The two ends of a lane with room for so many items.
 pub fn lane(alloc: Global, capacity: u32) -> Result<(LaneIn, LaneOut), AllocError>
-    ensures { IfOk result (λ l. IsLane l.0 l.1 × (sent_by l.0 ≡ []) × (received_by l.1 ≡ []) × (room_in l.0 ≡ capacity)) }
+    ensures { IfOk result (λ l. IsLane l.0 l.1 × (sent_by l.0 ≡ []) × (received_by l.1 ≡ []) × (room_in l.0 ≡ capacity) × (seen_in l.1 ≡ [])) }
 {
     let (producer, consumer) = RingBuffer::new(alloc, capacity as usize)?;
     Ok((LaneIn { producer }, LaneOut { consumer }))
@@ -47,8 +47,12 @@ impl LaneOut {
     pub fn try_recv(&mut self) -> Option<Verdicted>
         ensures same { SameOut self.old self.new }
         ensures received { MatchOption result (received_by self.new ≡ received_by self.old) (λ item. received_by self.new ≡ received_by self.old ++ item ∷ []) }
+        ensures seen { MatchOption result (seen_in self.old ≡ []) (λ item. IsPrefix (seen_in self.old) (item ∷ seen_in self.new)) }
     {
-        self.consumer.pop().ok()
+        match self.consumer.pop() {
+            Ok(item) => Some(item),
+            Err(PopError::Empty) => None,
+        }
     }
 }
 

@@ -1,6 +1,8 @@
 //! The visit queue, lanes and claims: what the threads of an export meet through.
 #![tactic(auto)]
 
+mod claim_rule;
+mod claims;
 mod course;
 mod hand;
 mod item;
@@ -15,6 +17,7 @@ mod tests;
 mod verdicted;
 mod verifier;
 
+pub use claims::{ClaimSeat, Claims};
 pub use course::{Course, course_of_jobs, well_taken_is_good};
 pub use item::Item;
 pub use lanes::{LaneIn, LaneOut, lane, lane_rest};
