@@ -1,4 +1,4 @@
-use Rattle.std.proofs.Common.{◌≡◌, ◌+◌, ◌≤◌, ℕ, List, Some, Result, length, drop, eq-eqb, sym, ap, subst, ◌∙◌}
+use Rattle.std.proofs.Common.{◌≡◌, ◌≤◌, ℕ, List, Some, Result, length, drop, eq-eqb, sym, ap, subst, ◌∙◌}
 use Rattle.ix_walk.specs.declared.visit.Visit.{Visit}
 use Rattle.ix_walk.specs.declared.fault.WalkStop.{WalkStop}
 use Rattle.ix_walk.specs.Visits.{visits_of, is_over_limit}
