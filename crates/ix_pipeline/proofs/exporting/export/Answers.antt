@@ -1,12 +1,21 @@
-use Rattle.std.proofs.Common.{rules, ◌≡◌, ◌∙◌, ℕ, List, ap, sym, subst, vec_len}
+use Rattle.std.proofs.Common.{List, ◌∙◌, ap, subst}
 use Rattle.std.specs.Arc.{arc_value}
 use Rattle.std.specs.Global.{Vec}
 use Rattle.ix_walk.specs.Store.{Blocks}
 use Rattle.ix_walk.specs.JobMeaning.{JobMeaning}
-use Rattle.ix_flow.specs.Flowing.{IsFlown}
-use Rattle.ix_flow.specs.Prepared.{IsPrepared}
+use Rattle.ix_walk.specs.declared.job.Job.{Job}
+use Rattle.ix_pipeline.specs.Headline.{EachDelivered}
 use Rattle.ix_pipeline.proofs.Exported.{kept_same, archived_of_delivered}
 use Rattle.ix_pipeline.proofs.exporting.export.Goals as goal
 
 pub returns-in_default-clause-facts : goal.returns-in_default-clause-facts
 returns-in_default-clause-facts g c = kept_same g.S.Sink.fact c.args.sinks.now
+
+pub returns-clause-archived : goal.returns-clause-archived
+returns-clause-archived g c =
+    let ends = c.flow-checks.result.ends.items in
+    let sinks = c.flow-checks.new.sinks in
+    archived_of_delivered g.S.Sink.events g.S.Sink.failed c.faithful_is_archived.ensures (arc_value c.args.store.now) 0 (arc_value c.args.jobs.now).items ends sinks
+    (subst (λ (v : Vec Job). EachDelivered g.S.Sink.events g.S.Sink.failed (arc_value c.args.store.now) 0 v.items ends sinks) c.deref-4.ensures
+    (subst (λ (s : Blocks). EachDelivered g.S.Sink.events g.S.Sink.failed s 0 c.deref-4.result.now.items ends sinks) c.deref-3.ensures
+    (subst (λ (js : List JobMeaning). EachDelivered g.S.Sink.events g.S.Sink.failed c.deref-3.result.now 0 js ends sinks) c.as_slice.ensures.value c.flow-checks.ensures.delivered)))
