@@ -11,9 +11,9 @@ mod export;
 #[cfg(test)]
 mod fixtures;
 #[cfg(test)]
-mod queue;
-#[cfg(test)]
 mod pipeline;
+#[cfg(test)]
+mod queue;
 #[cfg(test)]
 mod refusals;
 #[cfg(test)]

@@ -209,18 +209,24 @@ fn delivery_begins_before_checking_has_ended(rt: HostRuntime) -> Result<(), Fail
     let log = log_of(alloc, 9)?;
     let mut sinks = [Telling { log, begun: &begun }];
     let check = ShaCheck::new(alloc);
-    let checks = vec![in alloc; LastHeld { check, begun: &begun }]?;
+    let checks = vec![in alloc;
+        LastHeld {
+            check,
+            begun: &begun
+        },
+    ]?;
     let plan = Plan {
         walkers: 1,
         queue: 256,
         lane: 64,
     };
-    let Ok(out) = export(
-        &rt, alloc, &store, &jobs, &mut sinks, checks, &Open, plan,
-    ) else {
+    let Ok(out) = export(&rt, alloc, &store, &jobs, &mut sinks, checks, &Open, plan) else {
         return Err(Fail::from(AllocError));
     };
-    assert!(rt; !begun.is_missed(), "nothing was delivered while a check waited");
+    assert!(rt;
+        !begun.is_missed(),
+        "nothing was delivered while a check waited"
+    );
     assert!(rt; out.ends.as_slice() == [End::Done].as_slice());
     assert_eq!(rt; sinks[0].log.deliveries.len(), 4);
     Ok(())
@@ -238,19 +244,25 @@ fn checking_begins_before_the_walk_ends(rt: HostRuntime) -> Result<(), Fail> {
     let begun = Awaited::new(1);
     let mut sinks = [log_of(alloc, 9)?];
     let check = ShaCheck::new(alloc);
-    let checks = vec![in alloc; CheckTelling { check, begun: &begun }]?;
+    let checks = vec![in alloc;
+        CheckTelling {
+            check,
+            begun: &begun
+        },
+    ]?;
     let gate = SecondHeld { begun: &begun };
     let plan = Plan {
         walkers: 1,
         queue: 256,
         lane: 64,
     };
-    let Ok(out) = export(
-        &rt, alloc, &store, &jobs, &mut sinks, checks, &gate, plan,
-    ) else {
+    let Ok(out) = export(&rt, alloc, &store, &jobs, &mut sinks, checks, &gate, plan) else {
         return Err(Fail::from(AllocError));
     };
-    assert!(rt; !begun.is_missed(), "nothing was checked while the walk waited");
+    assert!(rt;
+        !begun.is_missed(),
+        "nothing was checked while the walk waited"
+    );
     assert!(rt; out.ends.as_slice() == [End::Done].as_slice());
     assert_eq!(rt; sinks[0].deliveries.len(), 4);
     Ok(())
@@ -274,12 +286,13 @@ fn no_walker_has_a_fixed_share(rt: HostRuntime) -> Result<(), Fail> {
             queue: 256,
             lane: 64,
         };
-        let Ok(out) = export(
-            &rt, alloc, &store, &jobs, &mut sinks, checks, &gate, plan,
-        ) else {
+        let Ok(out) = export(&rt, alloc, &store, &jobs, &mut sinks, checks, &gate, plan) else {
             return Err(Fail::from(AllocError));
         };
-        assert!(rt; !begun.is_missed(), "a job waited for one that nobody walked");
+        assert!(rt;
+            !begun.is_missed(),
+            "a job waited for one that nobody walked"
+        );
         assert!(rt; out.ends.as_slice() == [End::Done; 3].as_slice());
     }
     Ok(())
@@ -348,12 +361,13 @@ fn slow_verifier(rt: HostRuntime) -> Result<(), Fail> {
         queue: 1,
         lane: 1,
     };
-    let Ok(out) = export(
-        &rt, alloc, &store, &jobs, &mut sinks, checks, &Open, plan,
-    ) else {
+    let Ok(out) = export(&rt, alloc, &store, &jobs, &mut sinks, checks, &Open, plan) else {
         return Err(Fail::from(AllocError));
     };
-    assert!(rt; !begun.is_missed(), "one verifier waited, and the other had nothing to check");
+    assert!(rt;
+        !begun.is_missed(),
+        "one verifier waited, and the other had nothing to check"
+    );
     assert!(rt; out.ends.as_slice() == [End::Limit].as_slice());
     let mut seen = [false; 1_000];
     let mut count = 0u32;
