@@ -125,12 +125,7 @@ pub(crate) fn gather<R: Wait, S: Sink>(
 
 /// Puts a Stop for each of so many verifiers, where no walker has put anything: each takes one, and
 /// its lane has room for what it sends then.
-pub(crate) fn stop_idle<R: Wait>(
-    rt: &R,
-    queue: &VisitQueue,
-    stop: &mut StopSeat,
-    verifiers: usize,
-)
+pub(crate) fn stop_idle<R: Wait>(rt: &R, queue: &VisitQueue, stop: &mut StopSeat, verifiers: usize)
     requires { stop.old.table ≡ table_of queue.now }
     ensures { (stop.new.table ≡ stop.old.table) × (stop.new.hand.course ≡ stop.old.hand.course) }
 {

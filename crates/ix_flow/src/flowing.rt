@@ -119,7 +119,16 @@ fn collect_all<R: Threads + Wait, S: Sink, C: Check + Drop>(
         ends,
     } = desk;
     let verifiers = handles.len();
-    gather(rt, alloc, queue, &mut stop, verifiers, &mut collector, outs, sinks);
+    gather(
+        rt,
+        alloc,
+        queue,
+        &mut stop,
+        verifiers,
+        &mut collector,
+        outs,
+        sinks,
+    );
     let Joined {
         takers,
         senders,
@@ -158,15 +167,26 @@ where
         claimers,
         desk,
     } = work;
-    let Stations { handles, mut outs } =
-        start_verifiers(scope, rt, alloc, store, queue, posts, stations);
+    let Stations { handles, mut outs } = start_verifiers(
+        scope, rt, alloc, store, queue, posts, stations,
+    );
     if handles.is_empty() {
         return unexported(store, jobs, sinks, Vec::new(alloc), desk.ends);
     }
     if !start_walkers(scope, rt, alloc, store, jobs, gate, queue, claims, claimers) {
         return stop_early(rt, alloc, store, jobs, queue, sinks, handles, desk);
     }
-    collect_all(rt, alloc, store, jobs, queue, sinks, handles, outs.as_mut_slice(), desk)
+    collect_all(
+        rt,
+        alloc,
+        store,
+        jobs,
+        queue,
+        sinks,
+        handles,
+        outs.as_mut_slice(),
+        desk,
+    )
 }
 
 // The same, with a place for what it leaves.

@@ -170,8 +170,7 @@ impl<C: Check + Drop> Prepared<C> {
             jobs: Snapshot::of(jobs),
         };
         let count = jobs.len();
-        let parts =
-            VisitQueue::new(alloc, &course, sizes.queue, count as u32, verifiers as u32)?;
+        let parts = VisitQueue::new(alloc, &course, sizes.queue, count as u32, verifiers as u32)?;
         let QueueParts {
             queue,
             jobs: seats,

@@ -137,9 +137,7 @@ pub(crate) fn start_walkers<'s, 'e, R: Threads + Wait + Sync + 'e, G: Gate + Syn
 {
     let mut started = false;
     for claimer in claimers {
-        started |= start_walker(
-            scope, rt, alloc, store, jobs, gate, queue, claims, claimer,
-        );
+        started |= start_walker(scope, rt, alloc, store, jobs, gate, queue, claims, claimer);
     }
     started
 }

@@ -72,7 +72,16 @@ where
     let Ok(prepared) = Prepared::new(alloc, store, jobs, sizes, checks.len()) else {
         return Err(NotStarted { checks });
     };
-    let Flown { checks, ends } = flow(rt, alloc, store, jobs.as_slice(), sinks, checks, gate, prepared);
+    let Flown { checks, ends } = flow(
+        rt,
+        alloc,
+        store,
+        jobs.as_slice(),
+        sinks,
+        checks,
+        gate,
+        prepared,
+    );
     faithful_is_archived();
     Ok(Outcome { checks, ends })
 }

@@ -24,7 +24,7 @@ returns g c =
     let desk = c.requires.desk in
     let told = c.receive_rest.ensures.told in
     let from : IsCollectedFrom g.S.Sink.events g.S.Sink.failed store jobs got c.receive_rest.new.collector c.receive_rest.new.sinks =
-        record { good = good; sized = c.receive_rest.ensures.jobs ∙ (c.gather.ensures.jobs ∙ desk.collector.1); collected = told.collected store jobs } in
+    record { good = good; sized = c.receive_rest.ensures.jobs ∙ (c.gather.ensures.jobs ∙ desk.collector.1); collected = told.collected store jobs } in
     let e = c.ends-ends.ensures in
     record {
       delivered = e.delivered store jobs got from;

@@ -14,7 +14,7 @@ put-requires-clause-next g c =
     let gives = given_is c.loop-item.item-iterator c.next.new.self c.in-Some.item (Ok c.in-Ok-item.visit) c.in-Some.ensures.steps c.in-Ok-item.is in (
       h.going,
       visit_is_next c.course_of_jobs.ensures.visit c.args.store.now c.args._jobs.now c.job-number.result c.args.job.now c.in-Ok-item.visit c.next.new.self.visits c.loop-item.seat
-      (ap (λ (n : ℕ). slice_get c.args._jobs.now n) number ∙ c.requires.job) h.job (h.course ∙ c.requires.ready.course) (sym h.left ∙ gives.1),
+          (ap (λ (n : ℕ). slice_get c.args._jobs.now n) number ∙ c.requires.job) h.job (h.course ∙ c.requires.ready.course) (sym h.left ∙ gives.1),
     )
 
 pub loop-item-preserved : goal.loop-item-preserved
