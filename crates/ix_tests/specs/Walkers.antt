@@ -1,9 +1,7 @@
 -- The seats of a queue of walks.
-use Rattle.std.specs.Prelude.{◌≡◌, false, List, IfSome}
+use Rattle.std.specs.Prelude.{◌≡◌, false, List, Option, IfSome}
 use Rattle.ix_stages.specs.declared.course.JobVisits.{JobVisits}
 use Rattle.ix_stages.specs.declared.queue.VisitQueue.{VisitQueue}
-use Rattle.ix_tests.specs.declared.queue.Seats.{Seats}
-use Rattle.ix_tests.specs.declared.queue.Walked.{Walked}
 use Rattle.ix_stages.specs.Queue.{table_of}
 use Rattle.ix_stages.specs.Seats.{JobView, SeatView}
 
@@ -18,16 +16,16 @@ IsWalker queue s = s.table ≡ table_of queue
 abbrev pub IsTaker : VisitQueue → SeatView → Type 0
 IsTaker queue s = s.table ≡ table_of queue
 
--- three walkers may begin
-pub record CanRun (queue : VisitQueue) (course : List JobVisits) (seats : Seats) : Type 0 where
-  pub first : CanWalk queue course seats.first
-  pub second : CanWalk queue course seats.second
-  pub third : CanWalk queue course seats.third
-  pub stop : seats.stop.table ≡ table_of queue
+-- three walkers may begin, and Stops be put
+pub record CanRun (queue : VisitQueue) (course : List JobVisits) (one two three : JobView) (stopper : SeatView) : Type 0 where
+  pub first : CanWalk queue course one
+  pub second : CanWalk queue course two
+  pub third : CanWalk queue course three
+  pub stop : stopper.table ≡ table_of queue
 
 -- what they come back as is of the same queue
-pub record HasRun (queue : VisitQueue) (walked : Walked) : Type 0 where
-  pub first : IfSome walked.first (IsWalker queue)
-  pub second : IfSome walked.second (IsWalker queue)
-  pub third : IfSome walked.third (IsWalker queue)
-  pub stop : walked.stop.table ≡ table_of queue
+pub record HasRun (queue : VisitQueue) (one two three : Option JobView) (stopper : SeatView) : Type 0 where
+  pub first : IfSome one (IsWalker queue)
+  pub second : IfSome two (IsWalker queue)
+  pub third : IfSome three (IsWalker queue)
+  pub stop : stopper.table ≡ table_of queue

@@ -322,8 +322,8 @@ fn walk_three<R: Threads + Wait + Sync>(
     queue: &VisitQueue,
     seats: Seats,
 ) -> Walked
-    requires { CanRun queue.now (course_of store.now jobs.now) seats }
-    ensures { HasRun queue.now result }
+    requires { CanRun queue.now (course_of store.now jobs.now) seats.first seats.second seats.third seats.stop }
+    ensures { HasRun queue.now result.first result.second result.third result.stop }
 {
     let Seats {
         first,
@@ -381,17 +381,17 @@ fn run_five<R: Threads + Wait + Sync>(
     first: TakeSeat,
     second: TakeSeat,
 ) -> (Walked, (Option<Taken>, Option<Taken>))
-    requires walkers { CanRun queue.now (course_of store.now jobs.now) walkers }
+    requires walkers { CanRun queue.now (course_of store.now jobs.now) walkers.first walkers.second walkers.third walkers.stop }
     requires first { IsTaker queue.now first }
     requires second { IsTaker queue.now second }
-    ensures walked { HasRun queue.now result.0 }
+    ensures walked { HasRun queue.now result.0.first result.0.second result.0.third result.0.stop }
     ensures first { IfSome result.1.0 (λ t. IsTaker queue.now t.seat) }
     ensures second { IfSome result.1.1 (λ t. IsTaker queue.now t.seat) }
 {
     thread::join(
         rt,
         || -> Walked
-            requires { CanRun queue.now (course_of store.now jobs.now) walkers }
+            requires { CanRun queue.now (course_of store.now jobs.now) walkers.first walkers.second walkers.third walkers.stop }
         { walk_three(rt, alloc, store, jobs, queue, walkers) },
         || -> (Option<Taken>, Option<Taken>)
             requires first { IsTaker queue.now first }
