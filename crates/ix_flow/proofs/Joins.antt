@@ -1,11 +1,10 @@
 -- One verifier more was joined.
-use Rattle.std.proofs.Common.{◌≡◌, ℕ, List, [], ◌∷◌, ◌++◌, map, ap, sym, subst, refl, ◌∙◌, append_assoc, append-nil}
+use Rattle.std.proofs.Common.{◌≡◌, ℕ, List, [], ◌∷◌, ◌++◌, ap, sym, subst, ◌∙◌, append_assoc, append-nil}
 use Rattle.ix_walk.specs.Store.{Blocks}
 use Rattle.ix_car.specs.Headline.{checked_by}
 use Rattle.ix_stages.specs.declared.item.Item.{Item}
 use Rattle.ix_stages.specs.declared.verdicted.Verdicted.{Verdicted}
 use Rattle.ix_stages.specs.declared.hand.Hand.{Hand}
-use Rattle.ix_stages.specs.Items.{concat}
 use Rattle.ix_stages.specs.Received.{pairs_of}
 use Rattle.ix_stages.specs.Seats.{SeatView}
 use Rattle.ix_stages.specs.Sent.{SentFor}

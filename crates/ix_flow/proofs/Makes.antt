@@ -1,12 +1,12 @@
 -- The seats of a new queue.
-use Rattle.std.proofs.Common.{◌≡◌, ◌<◌, ◌≤◌, ◌+◌, ℕ, List, [], All, length, map, replicate, ap, sym, subst, refl, ◌∙◌, arith}
+use Rattle.std.proofs.Common.{◌≡◌, ℕ, List, [], All, length, map, replicate, sym, subst, refl, arith}
 use Rattle.atomic_table.specs.Seated.{TableId}
 use Rattle.ix_walk.specs.Store.{Blocks}
 use Rattle.ix_walk.specs.JobMeaning.{JobMeaning}
 use Rattle.ix_stages.specs.declared.course.JobVisits.{JobVisits}
 use Rattle.ix_stages.specs.Course.{IsCourseOf, course_of}
 use Rattle.ix_stages.specs.Items.{count_up}
-use Rattle.ix_stages.specs.Seats.{JobView, SeatView, new_job, new_taker, seat_count}
+use Rattle.ix_stages.specs.Seats.{JobView, SeatView, new_job, new_taker}
 use Rattle.ix_flow.specs.Ready.{IsReady}
 use Rattle.ix_flow.proofs.Lists.{all_count, all_same}
 

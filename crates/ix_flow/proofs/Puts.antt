@@ -1,6 +1,5 @@
 -- What a walker puts is next in its job's course.
-use Rattle.std.proofs.Common.{◌≡◌, ◌<◌, ◌≤◌, ◌+◌, ◌==◌, ℕ, true, false, Bool, List, [], ◌∷◌, length, drop, slice_get, Some, All, Result, arith, ap, sym, subst, refl, ◌∙◌, eq-eqb}
-use Rattle.atomic_table.specs.Seated.{TableId}
+use Rattle.std.proofs.Common.{◌≡◌, ℕ, List, ◌∷◌, drop, slice_get, Some, Result, sym, subst, ◌∙◌, eq-eqb}
 use Rattle.ix_walk.specs.declared.visit.Visit.{Visit}
 use Rattle.ix_walk.specs.Store.{Blocks}
 use Rattle.ix_walk.specs.JobMeaning.{JobMeaning}
@@ -9,12 +8,10 @@ use Rattle.ix_walk.specs.WalkLeft.{WalkLeft, GivesNext}
 use Rattle.ix_walk.specs.Visits.{visits_of, is_over_limit}
 use Rattle.ix_car.specs.declared.sink.End.{End}
 use Rattle.ix_stages.specs.declared.course.JobVisits.{JobVisits}
-use Rattle.ix_stages.specs.declared.item.Item.{Item}
 use Rattle.ix_stages.specs.declared.item.Item.TheVariants as item
 use Rattle.ix_stages.specs.Course.{Allowed, course_of}
 use Rattle.ix_stages.specs.Good.{IsCloseOf}
 use Rattle.ix_stages.specs.Seats.{IsNext, JobView}
-use Rattle.ix_flow.specs.Ready.{IsReady}
 use Rattle.ix_flow.proofs.Lists.{next_at}
 
 -- the law of courses: what they allow

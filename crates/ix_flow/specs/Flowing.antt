@@ -1,7 +1,5 @@
 -- What a flow is given, and what it leaves.
 use Rattle.std.specs.Prelude.{◌≡◌, ℕ, ◌≤◌, List, [], length, All, Some, vec_len, vec_capacity}
-use Rattle.std.specs.Global.{Vec}
-use Rattle.std.specs.declared.thread.PromisedHandle.{PromisedHandle}
 use Rattle.atomic_table.specs.Seated.{TableId}
 use Rattle.ix_walk.specs.Store.{Blocks}
 use Rattle.ix_walk.specs.JobMeaning.{JobMeaning}
@@ -12,14 +10,12 @@ use Rattle.ix_stages.specs.Claims.{ClaimsMeaning}
 use Rattle.ix_stages.specs.Course.{course_of}
 use Rattle.ix_stages.specs.Seats.{JobView}
 use Rattle.ix_collect.specs.Collected.{job_count, IsUnused}
-use Rattle.ix_flow.specs.declared.verifying.Verifier.{Verifier}
-use Rattle.ix_flow.specs.declared.verifying.Began.{Began}
 use Rattle.ix_flow.specs.declared.flowing.Flown.{Flown}
 use Rattle.ix_flow.specs.declared.flowing.Desk.{Desk}
 use Rattle.ix_flow.specs.declared.flowing.Work.{Work}
 use Rattle.ix_flow.specs.declared.flowing.Back.{Back}
 use Rattle.ix_flow.specs.Ready.{IsReady}
-use Rattle.ix_flow.specs.Stations.{IsPost, IsBegan, HasStationRoom, HasJoinRoom}
+use Rattle.ix_flow.specs.Stations.{IsPost, HasStationRoom, HasJoinRoom}
 
 -- each sink was told what its job calls for and keeps what it promised, and each visit was checked as often as it is to be
 pub record IsFlown {S C : Type 0} (events : S → List Event) (failed : S → List Delivery) (fact : Fact S) (checked : C → List (ℕ × ℕ)) (store : Blocks) (jobs : List JobMeaning) (first sinks : List S) (f : Flown C) : Type 0 where

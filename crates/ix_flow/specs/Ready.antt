@@ -1,5 +1,5 @@
 -- The seats that walkers claim.
-use Rattle.std.specs.Prelude.{◌≡◌, ℕ, ◌<◌, ◌≤◌, false, List, length}
+use Rattle.std.specs.Prelude.{◌≡◌, ◌<◌, false, List, length}
 use Rattle.atomic_table.specs.Seated.{TableId}
 use Rattle.ix_walk.specs.Store.{Blocks}
 use Rattle.ix_walk.specs.JobMeaning.{JobMeaning}

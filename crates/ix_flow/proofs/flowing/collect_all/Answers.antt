@@ -1,11 +1,9 @@
-use Rattle.std.proofs.Common.{rules, ◌≡◌, ◌≤◌, ◌+◌, ℕ, List, length, vec_capacity, ap, sym, subst, ◌∙◌, arith}
+use Rattle.std.proofs.Common.{ℕ, List, sym, subst, ◌∙◌}
 use Rattle.ix_car.specs.Headline.{IsCheckedOnce}
 use Rattle.ix_collect.proofs.Kept.{kept_trans}
 use Rattle.ix_stages.specs.declared.lanes.LaneIn.{LaneIn}
 use Rattle.ix_stages.specs.Good.{IsGood}
 use Rattle.ix_stages.specs.Lanes.{all_sent}
-use Rattle.ix_stages.specs.Sent.{SentFor}
-use Rattle.ix_stages.specs.Settled.{taken_by}
 use Rattle.ix_collect.specs.Collected.{IsCollectedFrom}
 use Rattle.ix_flow.proofs.Ends.{lanes_back}
 use Rattle.ix_flow.proofs.flowing.collect_all.Goals as goal

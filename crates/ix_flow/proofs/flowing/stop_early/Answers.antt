@@ -1,5 +1,5 @@
-use Rattle.std.proofs.Common.{◌<◌, ℕ, List, Contains, ap, sym, subst}
-use Rattle.ix_car.specs.Headline.{IsEachOnce, visit_count}
+use Rattle.std.proofs.Common.{ℕ, List, Contains, sym, subst}
+use Rattle.ix_car.specs.Headline.{IsEachOnce}
 use Rattle.ix_stages.specs.declared.lanes.LaneIn.{LaneIn}
 use Rattle.ix_stages.specs.Good.{IsGood}
 use Rattle.ix_stages.specs.Lanes.{all_sent}

@@ -1,6 +1,5 @@
-use Rattle.std.proofs.Common.{◌≡◌, ◌<◌, ◌≤◌, ◌+◌, ◌∙◌, ℕ, List, [], ◌∷◌, length, drop, slice_get, Ok, Err, refl, sym, ap, subst, arith}
-use Rattle.ix_walk.specs.declared.visit.Visit.{Visit}
-use Rattle.ix_walk.specs.Visits.{visits_of, is_over_limit}
+use Rattle.std.proofs.Common.{◌∙◌, ℕ, drop, slice_get, Ok, sym, ap, arith}
+use Rattle.ix_walk.specs.Visits.{visits_of}
 use Rattle.ix_stages.specs.declared.hand.Hand.{Hand}
 use Rattle.ix_car.specs.declared.sink.End.TheVariants.{Done}
 use Rattle.ix_flow.proofs.Lists.{next_at, all_past}

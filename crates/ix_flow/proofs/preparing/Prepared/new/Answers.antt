@@ -1,10 +1,8 @@
-use Rattle.std.proofs.Common.{rules, ◌≡◌, ◌≤◌, ◌<◌, ◌+◌, [], ℕ, List, All, length, map, replicate, vec_len, vec_capacity, ap, sym, subst, refl, ◌∙◌, arith}
-use Rattle.std.specs.Global.{Vec}
-use Rattle.ix_stages.specs.declared.course.JobVisits.{JobVisits}
+use Rattle.std.proofs.Common.{rules, ◌≡◌, ◌≤◌, List, All, length, vec_len, ap, sym, subst, refl, ◌∙◌, arith}
 use Rattle.ix_stages.specs.Course.{course_of}
 use Rattle.ix_stages.specs.Claims.{SeatMeaning}
 use Rattle.ix_stages.specs.Queue.{table_of}
-use Rattle.ix_stages.specs.Seats.{JobView, SeatView}
+use Rattle.ix_stages.specs.Seats.{JobView}
 use Rattle.ix_flow.specs.Ready.{IsReady}
 use Rattle.ix_flow.proofs.Lists.{length_count, length_same, all_same}
 use Rattle.ix_flow.proofs.Makes.{seats_ready, takers_ready}
