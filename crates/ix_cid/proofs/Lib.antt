@@ -12,3 +12,4 @@ pub mod Quanta
 pub mod Base32Laws
 pub mod HexText
 pub mod Texts
+pub mod Usual

@@ -1,10 +1,10 @@
 //! The parts of the CID at the front of some bytes, read in place.
 
-ghost use Rattle.std.specs.Prelude.{◌≡◌, ◌-◌, Ok, length};
+ghost use Rattle.std.specs.Prelude.{◌≡◌, ◌-◌, Ok, Some, length, IfSome};
 ghost use Rattle.ix_cid.specs.Cid.{◌>>=◌ as ◌and_then◌, number_at, bytes_at, version_0_at, version_1_at, numbered_at, parts_at, has_sha2_256};
 ghost use Rattle.ix_cid.specs.Parts.{Reads, parts_view};
 
-use crate::code::{DAG_PB, SHA2_256, SHA2_256_LENGTH};
+use crate::code::{DAG_CBOR, DAG_PB, RAW, SHA2_256, SHA2_256_LENGTH};
 use crate::fault::{CidFault, VarintFault};
 use crate::varint::read_varint;
 
@@ -13,6 +13,11 @@ const VERSION_0_FRONT: [u8; 2] = [0x12, 0x20];
 
 // How many bytes a CIDv0 has.
 const VERSION_0_LENGTH: u64 = 34;
+
+// What most CIDs begin with: version 1, DAG-CBOR or raw, sha2-256, and 32 digest bytes.
+const DAG_CBOR_FRONT: [u8; 4] = [0x01, 0x71, 0x12, 0x20];
+
+const RAW_FRONT: [u8; 4] = [0x01, 0x55, 0x12, 0x20];
 
 /// The parts of a CID, the digest where it stands in the CID's bytes.
 #[derive(Debug, Clone, Copy)]
@@ -99,11 +104,39 @@ fn split_numbered(bytes: &[u8]) -> Result<(Parts<'_>, &[u8]), CidFault>
     split_version_1(rest)
 }
 
+// The parts of the CID at the front, and the bytes after it, where it begins as most do: these four bytes
+// tell all but the digest.
+fn split_usual(bytes: &[u8]) -> Option<(Parts<'_>, &[u8])>
+    ensures exact { IfSome result (λ r. parts_at bytes.now ≡ Ok (parts_view r.0, r.1.now)) }
+{
+    let codec = if bytes.starts_with(&DAG_CBOR_FRONT) {
+        DAG_CBOR
+    } else if bytes.starts_with(&RAW_FRONT) {
+        RAW
+    } else {
+        return None;
+    };
+    let behind = &bytes[RAW_FRONT.len()..];
+    if behind.len() < SHA2_256_LENGTH {
+        return None;
+    }
+    let (digest, rest) = behind.split_at(SHA2_256_LENGTH);
+    let parts = Parts {
+        version: 1,
+        codec,
+        hash_code: SHA2_256,
+        digest,
+    };
+    Some((parts, rest))
+}
+
 /// The parts of the CID at the front, and the bytes after it.
 pub fn split_parts(bytes: &[u8]) -> Result<(Parts<'_>, &[u8]), CidFault>
     ensures exact { Reads (λ r. (parts_view r.0, r.1.now)) result (parts_at bytes.now) }
 {
-    if bytes.starts_with(&VERSION_0_FRONT) {
+    if let Some(usual) = split_usual(bytes) {
+        Ok(usual)
+    } else if bytes.starts_with(&VERSION_0_FRONT) {
         split_version_0(bytes)
     } else {
         split_numbered(bytes)

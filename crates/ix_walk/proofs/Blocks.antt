@@ -15,7 +15,7 @@ none_behind n (x ∷ xs) c e =
     elim (bytes_eq x.0 c) as (λ b. None ≡ (if b then Some n else position_behind (n + 1) xs c) → (if b then Some x.1 else block_of xs c) ≡ None)
     [ true ↦ (λ h. cc) | false ↦ (λ h. none_behind (n + 1) xs c h) ] e
 
-some_behind : (n place : ℕ) (store : Blocks) (c : List ℕ) → Some place ≡ position_behind n store c → (n ≤ place) × (place < n + length store) × (block_of store c ≡ slice_get (map (λ e. e.1) store) (place - n))
+pub some_behind : (n place : ℕ) (store : Blocks) (c : List ℕ) → Some place ≡ position_behind n store c → (n ≤ place) × (place < n + length store) × (block_of store c ≡ slice_get (map (λ e. e.1) store) (place - n))
 some_behind n place [] c e = cc
 some_behind n place (x ∷ xs) c e =
     elim (bytes_eq x.0 c) as (λ b. Some place ≡ (if b then Some n else position_behind (n + 1) xs c)

@@ -1,5 +1,6 @@
 pub mod Names
 pub mod Stores
+pub mod Indexes
 pub mod Reached
 pub mod Parts
 pub mod Blocks

@@ -1,17 +1,15 @@
 -- A store with one pair more, and its map.
-use Rattle.std.proofs.Common.{◌≡◌, ℕ, zero, suc, ◌+◌, Bool, true, false, ◌||◌, cond, List, [], ◌∷◌, ◌++◌, length, ◌<◌, map, get_or, slice_get, option_map, Some, None, Result, Ok, Err, OnOk, is_err, bytes_eq, refl, sym, ap, subst, ◌∙◌, zero-add, arith, inl, inr}
+use Rattle.std.proofs.Common.{◌≡◌, ℕ, zero, suc, ◌+◌, Bool, true, false, ◌||◌, cond, List, [], ◌∷◌, ◌++◌, length, take, drop, ◌<◌, map, get_or, slice_get, option_map, Some, None, bytes_eq, refl, sym, ap, subst, ◌∙◌, zero-add, arith, inl, inr, ⊎_elim}
+use Rattle.std.specs.Prelude.{Option}
 use Rattle.std.specs.Option.{is_some}
-use Rattle.std.specs.BTreeMap.{BTreeMap, get, Updates}
-use Rattle.std.specs.Cmp.Lexicographic.{slice_cmp}
-use Rattle.std.specs.Ordering.{nat_cmp}
 use Rattle.std.proofs.lemmas.Bool.{false≢true, cases_Bool, false_from_ne_true}
 use Rattle.std.proofs.lemmas.Slice.Eq.{bytes_eq-Decides}
-use Rattle.std.proofs.lemmas.Map.Text.{is_eq-slice_cmp}
-use Rattle.std.proofs.lemmas.List.{length-map, map-append}
+use Rattle.std.proofs.lemmas.List.{length-map, map-append, take_more, drop_more, take-append-drop}
 use Rattle.std.proofs.lemmas.Option.{none-some, get_or_from_slice_get, slice_get-map, slice_get_read}
 use Rattle.std.proofs.Math.Bool.{or-true}
-use Rattle.ix_walk.specs.declared.store.Entry.{Entry}
-use Rattle.ix_walk.specs.Store.{Blocks, has_cid, HasDistinctCids, position_behind, position_of, IsIndexed}
+use Rattle.ix_walk.proofs.Blocks.{some_behind}
+use Rattle.ix_walk.specs.declared.entry.Entry.{Entry}
+use Rattle.ix_walk.specs.Store.{Blocks, has_cid, with_block, HasDistinctCids, position_behind, position_of}
 
 -- of two tests that fail together the first fails
 or-left : (x y : Bool) → (x || y) ≡ false → x ≡ false
@@ -34,7 +32,7 @@ bytes-apart-back a b apart =
     false_from_ne_true (bytes_eq b a) (λ h. false≢true (sym apart ∙ (bytes_eq-Decides a b).1 (sym ((bytes_eq-Decides b a).0 h))))
 
 -- a CID has a place where the pairs have it
-is_some-position : (n : ℕ) (es : Blocks) (c : List ℕ) → is_some (position_behind n es c) ≡ has_cid es c
+pub is_some-position : (n : ℕ) (es : Blocks) (c : List ℕ) → is_some (position_behind n es c) ≡ has_cid es c
 is_some-position n [] c = refl
 is_some-position n (e ∷ es) c =
     elim (bytes_eq e.0 c) as (λ b. is_some (cond b (Some n) (position_behind (n + 1) es c)) ≡ (b || has_cid es c)) [
@@ -50,13 +48,13 @@ has_cid-push (e ∷ es) k b c h apart =
     ∙ has_cid-push es k b c (or-right (bytes_eq e.0 c) (has_cid es c) h) apart
 
 -- a new CID keeps them distinct
-distinct-push : (es : Blocks) (k b : List ℕ) → HasDistinctCids es → has_cid es k ≡ false → HasDistinctCids (es ++ (k, b) ∷ [])
+pub distinct-push : (es : Blocks) (k b : List ℕ) → HasDistinctCids es → has_cid es k ≡ false → HasDistinctCids (es ++ (k, b) ∷ [])
 distinct-push [] k b h new = (refl, tt)
 distinct-push (e ∷ es) k b h new =
     (has_cid-push es k b e.0 h.0 (bytes-apart-back e.0 k (or-left (bytes_eq e.0 k) (has_cid es k) new)), distinct-push es k b h.1 (or-right (bytes_eq e.0 k) (has_cid es k) new))
 
 -- where the pairs stand once a new CID is at the end
-position-push : (n : ℕ) (es : Blocks) (k b c : List ℕ) → has_cid es k ≡ false → cond (bytes_eq k c) (Some (n + length es)) (position_behind n es c) ≡ position_behind n (es ++ (k, b) ∷ []) c
+pub position-push : (n : ℕ) (es : Blocks) (k b c : List ℕ) → has_cid es k ≡ false → cond (bytes_eq k c) (Some (n + length es)) (position_behind n es c) ≡ position_behind n (es ++ (k, b) ∷ []) c
 position-push n [] k b c new = ap (λ m. cond (bytes_eq k c) (Some m) None) (omega arith)
 position-push n (e ∷ es) k b c new =
     elim (cases_Bool (bytes_eq e.0 c)) [
@@ -73,18 +71,6 @@ position-push n (e ∷ es) k b c new =
           ∙ sym (ap (λ x. cond x (Some n) (position_behind (n + 1) (es ++ (k, b) ∷ []) c)) other)
     ]
 
--- the map that has the new place of a new CID is the map of the longer list
-pub indexed-push : (m n : BTreeMap (List ℕ) ℕ) (es : Blocks) (k b : List ℕ) (place : ℕ) → IsIndexed m es → has_cid es k ≡ false → place ≡ length es → Updates (slice_cmp nat_cmp) m n k (Some place) → IsIndexed n (es ++ (k, b) ∷ [])
-indexed-push m n es k b place h new at updates = record {
-  distinct = distinct-push es k b h.distinct new;
-  places = λ c.
-      updates.0 c
-      ∙ ap (λ x. cond x (Some place) (get (slice_cmp nat_cmp) m c)) (is_eq-slice_cmp k c)
-      ∙ ap (λ o. cond (bytes_eq k c) (Some place) o) (h.places c)
-      ∙ ap (λ p. cond (bytes_eq k c) (Some p) (position_of es c)) (at ∙ sym (zero-add (length es)))
-      ∙ position-push 0 es k b c new;
-}
-
 -- the pairs have the CID of each of them
 has_cid-at : (i : ℕ) (es : Blocks) (e : List ℕ × List ℕ) (c : List ℕ) → slice_get es i ≡ Some e → bytes_eq e.0 c ≡ true → has_cid es c ≡ true
 has_cid-at i [] e c at same = absurd (none-some e at)
@@ -100,17 +86,6 @@ position-at n zero (x ∷ es) e c h at same =
 position-at n (suc i) (x ∷ es) e c h at same =
     let apart : bytes_eq x.0 c ≡ false = false_from_ne_true (bytes_eq x.0 c) (λ first. false≢true (sym h.0 ∙ has_cid-at i es e x.0 at ((bytes_eq-Decides e.0 x.0).1 ((bytes_eq-Decides e.0 c).0 same ∙ sym ((bytes_eq-Decides x.0 c).0 first))))) in
     ap (λ y. cond y (Some n) (position_behind (n + 1) es c)) apart ∙ position-at (n + 1) i es e c h.1 at same ∙ ap Some (omega arith)
-
--- what a look-up in the map tells of the list
-pub has_cid-by_key : (m : BTreeMap (List ℕ) ℕ) (es now : Blocks) (c : List ℕ) (r b : Bool) → IsIndexed m es → es ≡ now → r ≡ is_some (get (slice_cmp nat_cmp) m c) → r ≡ b → has_cid now c ≡ b
-has_cid-by_key m es now c r b h is found answer =
-    ap (λ l. has_cid l c) (sym is) ∙ sym (is_some-position 0 es c) ∙ sym (ap is_some (h.places c)) ∙ sym found ∙ answer
-
--- the map of the longer list, as an addition tells it
-pub indexed-added : (m n : BTreeMap (List ℕ) ℕ) (es now later : Blocks) (k key b : List ℕ) (place : ℕ) → IsIndexed m es → es ≡ now → has_cid now k ≡ false → key ≡ k → place ≡ length now → Updates (slice_cmp nat_cmp) m n key (Some place) → later ≡ es ++ (k, b) ∷ [] → IsIndexed n later
-indexed-added m n es now later k key b place h is new same at updates longer =
-    subst (λ (l : Blocks). IsIndexed n l) (sym longer)
-    (indexed-push m n es k b place h (ap (λ l. has_cid l k) is ∙ new) (at ∙ ap length (sym is)) (subst (λ (x : List ℕ). Updates (slice_cmp nat_cmp) m n x (Some place)) same updates))
 
 -- an entry as a pair
 abbrev pub pair : Entry → List ℕ × List ℕ
@@ -141,7 +116,67 @@ position-there entries now place e c h is at same =
     ∙ position-at 0 place (map pair entries) (pair e) c h (slice_get-map pair entries place ∙ ap (λ o. option_map pair o) at) same
     ∙ ap Some (zero-add place)
 
--- what holds on Ok holds where there is no Err
-pub holds-at_ok : {T E P : Type 0} (r : Result T E) → OnOk r P → is_err r ≡ false → P
-holds-at_ok (Ok x) h fine = h
-holds-at_ok (Err e) h fine = absurd (false≢true (sym fine))
+-- the pair at the place of a CID has this CID
+pub cid-at : (n i : ℕ) (es : Blocks) (e : List ℕ × List ℕ) (c : List ℕ) → slice_get es i ≡ Some e → position_behind n es c ≡ Some (n + i) → bytes_eq e.0 c ≡ true
+cid-at n i [] e c at is = absurd (none-some e at)
+cid-at n zero (x ∷ es) e c at is =
+    let there : bytes_eq x.0 c ≡ bytes_eq e.0 c = ap (λ (p : List ℕ × List ℕ). bytes_eq p.0 c) (get_or_from_slice_get (x ∷ es) 0 e e at) in
+    ⊎_elim (λ same. sym there ∙ same) (λ other.
+    let later : Some (n + 0) ≡ position_behind (n + 1) es c = sym is ∙ ap (λ b. cond b (Some n) (position_behind (n + 1) es c)) other in
+    absurd (omega (arith, (some_behind (n + 1) (n + 0) es c later).0))) (cases_Bool (bytes_eq x.0 c))
+cid-at n (suc i) (x ∷ es) e c at is =
+    ⊎_elim (λ same.
+    let first : Some n ≡ Some (n + suc i) = sym (ap (λ b. cond b (Some n) (position_behind (n + 1) es c)) same) ∙ is in
+    let here : n ≡ n + suc i = cc in
+    absurd (omega arith)) (λ other.
+    let on : n + suc i ≡ (n + 1) + i = omega arith in
+    cid-at (n + 1) i es e c at (sym (ap (λ b. cond b (Some n) (position_behind (n + 1) es c)) other) ∙ is ∙ ap Some on)) (cases_Bool (bytes_eq x.0 c))
+
+-- the CID of the entry at the place of a CID
+pub same-there : (entries : List Entry) (place : ℕ) (e : Entry) (c : List ℕ) → slice_get entries place ≡ Some e → position_of (map pair entries) c ≡ Some place → bytes_eq e.cid c ≡ true
+same-there entries place e c at is = cid-at 0 place (map pair entries) (pair e) c (slice_get-map pair entries place ∙ ap (λ o. option_map pair o) at) (is ∙ ap Some (sym (zero-add place)))
+
+-- a CID in the midst differs from the others
+has_cid-midst : (xs ys : Blocks) (k b c : List ℕ) → has_cid (xs ++ (k, b) ∷ ys) c ≡ false → bytes_eq k c ≡ false
+has_cid-midst [] ys k b c h = or-left (bytes_eq k c) (has_cid ys c) h
+has_cid-midst (x ∷ xs) ys k b c h = has_cid-midst xs ys k b c (or-right (bytes_eq x.0 c) (has_cid (xs ++ (k, b) ∷ ys) c) h)
+
+-- of distinct CIDs none stands before its place
+pub has_cid-before : (xs ys : Blocks) (k b : List ℕ) → HasDistinctCids (xs ++ (k, b) ∷ ys) → has_cid xs k ≡ false
+has_cid-before [] ys k b h = refl
+has_cid-before (x ∷ xs) ys k b h =
+    ap (λ v. v || has_cid xs k) (bytes-apart-back k x.0 (has_cid-midst xs ys k b x.0 h.0)) ∙ has_cid-before xs ys k b h.1
+
+-- entries up to one, and this one
+pub entries-more : (entries : List Entry) (place : ℕ) (e : Entry) → place < length entries → e ≡ get_or entries place e → map pair (take (place + 1) entries) ≡ map pair (take place entries) ++ (e.cid, e.block.items) ∷ []
+entries-more entries place e within at = ap (λ (l : List Entry). map pair l) (take_more entries place e within ∙ ap (λ (x : Entry). take place entries ++ x ∷ []) (sym at)) ∙ map-append pair (take place entries) (e ∷ [])
+
+-- entries with distinct CIDs don't have that of one before it
+pub entries-before : (entries : List Entry) (place : ℕ) (e : Entry) → place < length entries → e ≡ get_or entries place e → HasDistinctCids (map pair entries) → has_cid (map pair (take place entries)) e.cid ≡ false
+entries-before entries place e within at h =
+    let parts : entries ≡ take place entries ++ e ∷ drop (place + 1) entries =
+    sym (take-append-drop place entries) ∙ ap (λ (l : List Entry). take place entries ++ l) (drop_more entries place e within ∙ ap (λ (x : Entry). x ∷ drop (place + 1) entries) (sym at)) in
+    has_cid-before (map pair (take place entries)) (map pair (drop (place + 1) entries)) e.cid e.block.items
+    (subst (λ (l : Blocks). HasDistinctCids l) (ap (λ (l : List Entry). map pair l) parts ∙ map-append pair (take place entries) (e ∷ drop (place + 1) entries)) h)
+
+-- a CID that isn't there has no place
+pub position-none : (n : ℕ) (es : Blocks) (c : List ℕ) → has_cid es c ≡ false → position_behind n es c ≡ None
+position-none n [] c h = refl
+position-none n (e ∷ es) c h =
+    ap (λ v. cond v (Some n) (position_behind (n + 1) es c)) (or-left (bytes_eq e.0 c) (has_cid es c) h) ∙ position-none (n + 1) es c (or-right (bytes_eq e.0 c) (has_cid es c) h)
+
+-- whether a CID has a place tells whether it is there
+pub has-by_place : (items entries : List Entry) (now : Blocks) (c : List ℕ) (o : Option ℕ) → items ≡ entries → map pair entries ≡ now → position_of (map pair items) c ≡ o → has_cid now c ≡ is_some o
+has-by_place items entries now c o same is at =
+    ap (λ (l : Blocks). has_cid l c) (sym is ∙ ap (λ (l : List Entry). map pair l) (sym same)) ∙ sym (is_some-position 0 (map pair items) c) ∙ ap (λ (p : Option ℕ). is_some p) at
+
+-- nothing is added where the CID is there
+pub with-held : (now : Blocks) (c b : List ℕ) → has_cid now c ≡ true → now ≡ with_block now (c, b)
+with-held now c b h = ap (λ v. cond v now (now ++ (c, b) ∷ [])) (sym h)
+
+-- where it isn't, the pair of one entry more is
+pub with-new : (entries kept later : List Entry) (now : Blocks) (e : Entry) → map pair entries ≡ now → kept ≡ entries → later ≡ kept ++ e ∷ [] → has_cid now e.cid ≡ false → map pair later ≡ with_block now (e.cid, e.block.items)
+with-new entries kept later now e is same longer h =
+    pairs-push entries later e (longer ∙ ap (λ (l : List Entry). l ++ e ∷ []) same)
+    ∙ ap (λ (l : Blocks). l ++ (e.cid, e.block.items) ∷ []) is
+    ∙ ap (λ v. cond v now (now ++ (e.cid, e.block.items) ∷ [])) (sym h)

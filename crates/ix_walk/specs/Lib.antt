@@ -9,6 +9,7 @@ pub use Rattle.ix_selector.specs.Enters
 pub use Rattle.ix_selector.specs.IsEntered
 pub use Rattle.ix_selector.specs.Residual
 pub mod Store
+pub mod Index
 pub mod JobMeaning
 pub mod Job
 pub mod Arrivals

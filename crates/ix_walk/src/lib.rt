@@ -3,7 +3,9 @@
 
 mod arriving;
 mod descent;
+mod entry;
 mod fault;
+mod index;
 mod job;
 mod store;
 mod subtree;

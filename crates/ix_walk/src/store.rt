@@ -3,16 +3,11 @@
 ghost use Rattle.std.specs.Prelude.{◌≡◌, ◌<◌, [], ◌∷◌, ◌++◌, length, map, slice_get, Some, true, false, IfOk, OnOk, OnErr, not, ◌==◌};
 ghost use Rattle.ix_walk.specs.Store.{has_cid, with_block, position_of};
 
+use crate::entry::Entry;
+use crate::index::{Index, Seat, holds};
 use ix_cid::Cid;
 use std::alloc::{AllocError, Global};
-use std::collections::BTreeMap;
 use std::marker::Model;
-
-#[derive(Drop)]
-struct Entry {
-    cid: Cid,
-    block: Vec<u8>,
-}
 
 /// Blocks under their CIDs, seen as the list of pairs in the order of adding.
 #[derive(Drop)]
@@ -20,12 +15,12 @@ pub struct Store {
     alloc: Global,
     entries: Vec<Entry>,
     // Where the entry of each CID stands.
-    index: BTreeMap<Cid, usize>,
+    index: Index,
 }
 
 impl Model for Store {
     ghost use Rattle.std.specs.Prelude.{List, ℕ, map};
-    ghost use Rattle.ix_walk.specs.Store.{IsIndexed};
+    ghost use Rattle.ix_walk.specs.Index.{IsIndexed};
 
     ghost Value = { List (List ℕ × List ℕ) };
 
@@ -42,7 +37,7 @@ impl Store {
         Store {
             alloc,
             entries: Vec::new(alloc),
-            index: BTreeMap::new(alloc),
+            index: Index::new(alloc),
         }
     }
 
@@ -52,10 +47,14 @@ impl Store {
         ensures added { OnOk result (self.new ≡ with_block self.old (cid, bytes.items)) }
         ensures err { OnErr result (self.new ≡ self.old) }
     {
-        if self.has(&cid) {
+        self.index.make_room(self.alloc, self.entries.as_slice())?;
+        let Seat::Vacant(vacancy) = self.index.seat(self.entries.as_slice(), &cid) else {
             return Ok(false);
-        }
-        self.add_new(cid, bytes)?;
+        };
+        self.entries.reserve(1)?;
+        self.index
+            .fill(self.alloc, self.entries.as_slice(), vacancy, &cid)?;
+        self.entries.push_reserved(Entry { cid, block: bytes });
         Ok(true)
     }
 
@@ -65,42 +64,24 @@ impl Store {
         ensures added { OnOk result (self.new ≡ with_block self.old (cid, block.now)) }
         ensures err { OnErr result (self.new ≡ self.old) }
     {
-        let is_new = !self.has(&cid);
-        if is_new {
-            let copy = Vec::from_slice(self.alloc, block)?;
-            self.add_new(cid, copy)?;
-        }
-        Ok(is_new)
-    }
-
-    // Adds a block whose CID isn't there.
-    fn add_new(&mut self, cid: Cid, bytes: Vec<u8>) -> Result<(), AllocError>
-        requires { has_cid self.old cid ≡ false }
-        ensures added { OnOk result (self.new ≡ self.old ++ (cid, bytes.items) ∷ []) }
-        ensures err { OnErr result (self.new ≡ self.old) }
-    {
-        let key = cid.try_clone(self.alloc)?;
-        let place = self.len();
-        self.entries.push(Entry { cid, block: bytes })?;
-        if self.index.insert(key, place).is_err() {
-            let _ = self.entries.pop();
-            return Err(AllocError);
-        }
-        Ok(())
-    }
-
-    // Whether the CID is there.
-    fn has(&self, cid: &Cid) -> bool
-        ensures { result ≡ has_cid self.now cid.now }
-    {
-        self.index.contains_key(cid)
+        self.index.make_room(self.alloc, self.entries.as_slice())?;
+        let seat = self.index.seat(self.entries.as_slice(), &cid);
+        let Seat::Vacant(vacancy) = seat else {
+            return Ok(false);
+        };
+        let copy = Vec::from_slice(self.alloc, block)?;
+        self.entries.reserve(1)?;
+        self.index
+            .fill(self.alloc, self.entries.as_slice(), vacancy, &cid)?;
+        self.entries.push_reserved(Entry { cid, block: copy });
+        Ok(true)
     }
 
     /// Where the block of a CID stands.
     pub fn find(&self, cid: &Cid) -> Option<usize>
         ensures { result ≡ position_of self.now cid.now }
     {
-        self.index.get(cid).copied()
+        self.index.find(self.entries.as_slice(), cid)
     }
 
     /// Where the block of a CID stands. The place that is guessed is looked at first, so that a good
@@ -109,18 +90,8 @@ impl Store {
         ensures { result ≡ position_of self.now cid.now }
     {
         match guess {
-            Some(place) if self.has_at(place, cid) => Some(place),
+            Some(place) if holds(self.entries.as_slice(), place, cid) => Some(place),
             _ => self.find(cid),
-        }
-    }
-
-    // Whether the block of a CID stands at a place.
-    fn has_at(&self, place: usize, cid: &Cid) -> bool
-        ensures { result ≡ true → position_of self.now cid.now ≡ Some place }
-    {
-        match self.entries.get(place) {
-            Some(entry) => entry.cid == *cid,
-            None => false,
         }
     }
 
