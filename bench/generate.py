@@ -196,7 +196,30 @@ def body(car, chance, levels):
     return car.add(DAG_CBOR, map_of({"x": links[0], "list": list_of(links[1:])}))
 
 
-WORKLOADS = {work.__name__: work for work in (leaves, small, deep, shared, nested)}
+def hostile(car, size, chance):
+    """Selectors whose ways to one place are many, and wide ones: a union of two that doubles the ways at each step,
+    and five recursions inside one another, along a chain of lists; a union of as many members as the size over a
+    short chain; as many fields as the size over a map of as many keys."""
+    leaf = car.add(RAW, chance.randbytes(40))
+    chain = car.add(DAG_CBOR, list_of([link(leaf)]))
+    for number in range(size):
+        chain = car.add(DAG_CBOR, list_of([link(chain)]))
+        if number < 21:
+            short = chain
+    names = [f"name-{number}" for number in range(size)]
+    wide_map = car.add(DAG_CBOR, map_of(dict.fromkeys(names, link(leaf))))
+    inside = recursion(everywhere(EDGE))
+    for _ in range(4):
+        inside = recursion(union(everywhere(EDGE), inside))
+    return [
+        job("doubling", chain, recursion(union(everywhere(EDGE), everywhere(EDGE)))),
+        job("inside", chain, inside),
+        job("union", short, recursion(union(*[everywhere(EDGE)] * size))),
+        job("fields", wide_map, fields(**dict.fromkeys(names, MATCHER))),
+    ]
+
+
+WORKLOADS = {work.__name__: work for work in (leaves, small, deep, shared, nested, hostile)}
 
 
 def main():

@@ -16,7 +16,7 @@ import time
 
 TOP = pathlib.Path(__file__).resolve().parent.parent
 PROGRAM = TOP / "crates/ix_export/out/ix_export"
-SIZES = {"leaves": 1_000, "small": 200_000, "deep": 200_000, "shared": 10_000, "nested": 220_000}
+SIZES = {"leaves": 1_000, "small": 200_000, "deep": 200_000, "shared": 10_000, "nested": 220_000, "hostile": 16_000}
 MIB = 1 << 20
 THREADS = (1, 2, 4)
 ROW = "| {:8} | {:>7} | {:>7} | {:>7} |" + 9 * " {:>5} |" + " {:>8} | {:>6} | {:>9} | {:>6} |"
