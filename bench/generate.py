@@ -98,7 +98,11 @@ class Car:
 
     def add(self, codec, block):
         """Writes the section of a block, and answers the block's CID."""
-        cid = bytes([1, codec, 0x12, 32]) + hashlib.sha256(block).digest()
+        return self.add_under(codec, hashlib.sha256(block).digest(), block)
+
+    def add_under(self, codec, digest, block):
+        """Writes the section of a block under a digest that needn't be its own, and answers the CID."""
+        cid = bytes([1, codec, 0x12, 32]) + digest
         self.size += self.file.write(varint(len(cid) + len(block)) + cid)
         self.size += self.file.write(block)
         if self.size > MOST_BYTES:
@@ -219,7 +223,34 @@ def hostile(car, size, chance):
     ]
 
 
-WORKLOADS = {work.__name__: work for work in (leaves, small, deep, shared, nested, hostile)}
+def under_digests(car, size, digest):
+    """Small raw blocks under these digests, and a job over one more block: nearly all is loading."""
+    for place in range(size - 1):
+        car.add_under(RAW, digest(), place.to_bytes(8, "big"))
+    return [job("last", car.add(RAW, b"last"), MATCHER)]
+
+
+def random_cids(car, size, chance):
+    """Random digests, as honest ones are."""
+    return under_digests(car, size, lambda: chance.randbytes(32))
+
+
+def prefix_cids(car, size, chance):
+    """Digests that begin and end alike: the program looks CIDs up by their last eight bytes, and what these
+    don't tell apart by all bytes in turn."""
+    front, back = chance.randbytes(16), chance.randbytes(8)
+    return under_digests(car, size, lambda: front + chance.randbytes(8) + back)
+
+
+def bucket_cids(car, size, chance):
+    """Digests whose last eight bytes differ and come to one slot of the program's table, since the lower half
+    of the number that they spell is one."""
+    middle = chance.randbytes(4)
+    return under_digests(car, size, lambda: chance.randbytes(24) + middle + chance.randbytes(4))
+
+
+MAKERS = (leaves, small, deep, shared, nested, hostile, random_cids, prefix_cids, bucket_cids)
+WORKLOADS = {make.__name__.replace("_", "-"): make for make in MAKERS}
 
 
 def main():

@@ -16,10 +16,20 @@ import time
 
 TOP = pathlib.Path(__file__).resolve().parent.parent
 PROGRAM = TOP / "crates/ix_export/out/ix_export"
-SIZES = {"leaves": 1_000, "small": 200_000, "deep": 200_000, "shared": 10_000, "nested": 220_000, "hostile": 16_000}
+SIZES = {
+    "leaves": 1_000,
+    "small": 200_000,
+    "deep": 200_000,
+    "shared": 10_000,
+    "nested": 220_000,
+    "hostile": 16_000,
+    "random-cids": 200_000,
+    "prefix-cids": 200_000,
+    "bucket-cids": 200_000,
+}
 MIB = 1 << 20
 THREADS = (1, 2, 4)
-ROW = "| {:8} | {:>7} | {:>7} | {:>7} |" + 9 * " {:>5} |" + " {:>8} | {:>6} | {:>9} | {:>6} |"
+ROW = "| {:11} | {:>7} | {:>7} | {:>7} |" + 9 * " {:>5} |" + " {:>8} | {:>6} | {:>9} | {:>6} |"
 
 
 def stay():

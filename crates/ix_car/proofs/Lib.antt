@@ -1,3 +1,4 @@
+pub mod Bits
 pub mod Open
 pub mod Pruning
 pub mod Growth

@@ -1,10 +1,6 @@
 -- What an archive keeps, with one delivery more.
-use Rattle.std.proofs.Common.{◌≡◌, ℕ, ◌+◌, ◌≤◌, Bool, true, false, ◌&&◌, ◌||◌, cond, List, [], ◌∷◌, ◌++◌, length, refl, sym, ap, ◌∙◌, arith, ◌-◌, ◌^◌}
-use Rattle.std.specs.Prelude.{Option, Some, None, if◌then◌else◌, bytes_eq, min}
-use Rattle.std.specs.BTreeSet.{BTreeSet, contains, Updates}
-use Rattle.std.specs.BTreeMap.{is_at}
-use Rattle.std.specs.List.{list_any}
-use Rattle.std.specs.Ordering.{nat_cmp}
+use Rattle.std.proofs.Common.{◌≡◌, ℕ, ◌+◌, ◌≤◌, Bool, true, false, ◌&&◌, ◌||◌, List, [], ◌∷◌, ◌++◌, length, refl, sym, ap, ◌∙◌, arith, ◌-◌, ◌^◌}
+use Rattle.std.specs.Prelude.{Option, Some, None, if◌then◌else◌, ◌==◌, bytes_eq, min}
 use Rattle.std.proofs.lemmas.Bool.{false≢true}
 use Rattle.std.proofs.lemmas.Bool.Decides.{nat_tests}
 use Rattle.std.proofs.lemmas.Slice.Eq.{bytes_eq-Decides}
@@ -13,6 +9,8 @@ use Rattle.ix_check.specs.Verdict.{passes}
 use Rattle.ix_check.specs.declared.verdict.Verdict.{Verdict}
 use Rattle.ix_check.specs.declared.verdict.Verdict.TheVariants.{Codec, Hash, Missing, Damaged, Malformed, Sound}
 use Rattle.ix_walk.specs.Store.{Blocks, position_behind, position_of}
+use Rattle.ix_car.specs.declared.marks.Marks.{Marks}
+use Rattle.ix_car.specs.Marks.{is_marked}
 use Rattle.ix_car.specs.declared.archive.Skip.{Skip}
 use Rattle.ix_car.specs.declared.sink.Delivery.{Delivery}
 use Rattle.ix_car.specs.declared.sink.End.{End}
@@ -70,16 +68,16 @@ bytes-fit : (t : ℕ) → t ≤ 2 ^ 64 - 1 → t ≡ at_most 64 t
 bytes-fit t within = omega arith
 
 -- the same tally with a set of the same places
-pub tally-same : (store : Blocks) (ds failed : List Delivery) (closed : List End) (cut : Option ℕ) (c : Counts) (w v : BTreeSet ℕ) (skips : List Skip) → IsTally store ds failed closed cut c w skips → v.keys ≡ w.keys → IsTally store ds failed closed cut c v skips
-tally-same store ds failed closed cut c w v skips h keys = record {
+pub tally-same : (store : Blocks) (ds failed : List Delivery) (closed : List End) (cut : Option ℕ) (c : Counts) (w v : Marks) (skips : List Skip) → IsTally store ds failed closed cut c w skips → ((n : ℕ) → is_marked v n ≡ is_marked w n) → IsTally store ds failed closed cut c v skips
+tally-same store ds failed closed cut c w v skips h same = record {
   cut_is = h.cut_is;
   counts_are = h.counts_are;
   skips_is = h.skips_is;
-  written_is = λ none unclosed e place at. ap (λ ks. list_any (is_at (nat_cmp place)) ks) keys ∙ h.written_is none unclosed e place at;
+  written_is = λ none unclosed e place at. same place ∙ h.written_is none unclosed e place at;
 }
 
 -- a failure leaves no promise of what was written
-pub tally-failed : (store : Blocks) (ds failed : List Delivery) (closed : List End) (d : Delivery) (cut : Option ℕ) (c : Counts) (t : ℕ) (w v : BTreeSet ℕ) (skips : List Skip) → IsTally store ds failed closed cut c w skips → t ≤ 2 ^ 64 - 1 → IsTally store ds (d ∷ []) closed cut (record { visits = c.visits; kept = c.kept; sections = c.sections; bytes = t }) v skips
+pub tally-failed : (store : Blocks) (ds failed : List Delivery) (closed : List End) (d : Delivery) (cut : Option ℕ) (c : Counts) (t : ℕ) (w v : Marks) (skips : List Skip) → IsTally store ds failed closed cut c w skips → t ≤ 2 ^ 64 - 1 → IsTally store ds (d ∷ []) closed cut (record { visits = c.visits; kept = c.kept; sections = c.sections; bytes = t }) v skips
 tally-failed store ds failed closed d cut c t w v skips h within = record {
   cut_is = h.cut_is;
   counts_are = λ i. record { visits = visits-of store ds c h.counts_are i; kept = kept-of store ds c h.counts_are i; sections = sections-of store ds c h.counts_are i; bytes = bytes-fit t within i };
@@ -88,7 +86,7 @@ tally-failed store ds failed closed d cut c t w v skips h within = record {
 }
 
 -- a close leaves no promise of what was written
-pub tally-closed : (store : Blocks) (ds failed : List Delivery) (closed : List End) (end : End) (cut : Option ℕ) (c : Counts) (w v : BTreeSet ℕ) (skips : List Skip) → IsTally store ds failed closed cut c w skips → IsTally store ds failed (end ∷ []) cut c v skips
+pub tally-closed : (store : Blocks) (ds failed : List Delivery) (closed : List End) (end : End) (cut : Option ℕ) (c : Counts) (w v : Marks) (skips : List Skip) → IsTally store ds failed closed cut c w skips → IsTally store ds failed (end ∷ []) cut c v skips
 tally-closed store ds failed closed end cut c w v skips h =
     record { cut_is = h.cut_is; counts_are = h.counts_are; skips_is = h.skips_is; written_is = λ none unclosed e place at. absurd cc }
 
@@ -98,7 +96,7 @@ visits-more store ds es d c n h longer is =
     is ∙ count-more (2 ^ 32 - 1) (length ds) (length es) c.visits (visits-of store ds c h) (ap length longer ∙ length_push ds d)
 
 -- a delivery that is cut off
-pub tally-cut_off : (store : Blocks) (ds es failed : List Delivery) (closed : List End) (d : Delivery) (cut : Option ℕ) (c : Counts) (n : ℕ) (w : BTreeSet ℕ) (skips : List Skip) → IsTally store ds failed closed cut c w skips → is_below (cut_behind ds) d.visit.depth ≡ true → es ≡ ds ++ d ∷ [] → n ≡ at_most 32 (c.visits + 1)
+pub tally-cut_off : (store : Blocks) (ds es failed : List Delivery) (closed : List End) (d : Delivery) (cut : Option ℕ) (c : Counts) (n : ℕ) (w : Marks) (skips : List Skip) → IsTally store ds failed closed cut c w skips → is_below (cut_behind ds) d.visit.depth ≡ true → es ≡ ds ++ d ∷ [] → n ≡ at_most 32 (c.visits + 1)
     → IsTally store es failed closed cut (record { visits = n; kept = c.kept; sections = c.sections; bytes = c.bytes }) w skips
 tally-cut_off store ds es failed closed d cut c n w skips h below longer visits =
     let same : kept es ≡ kept ds = ap kept longer ∙ kept-cut_off ds d below in
@@ -122,7 +120,7 @@ or-nothing true b h = refl
 or-nothing false b h = h
 
 -- a skip
-pub tally-skip : (store : Blocks) (ds es failed : List Delivery) (closed : List End) (d : Delivery) (cut : Option ℕ) (c : Counts) (n k : ℕ) (w : BTreeSet ℕ) (skips more : List Skip) → IsTally store ds failed closed cut c w skips → is_below (cut_behind ds) d.visit.depth ≡ false → is_sound d.verdict ≡ false → es ≡ ds ++ d ∷ []
+pub tally-skip : (store : Blocks) (ds es failed : List Delivery) (closed : List End) (d : Delivery) (cut : Option ℕ) (c : Counts) (n k : ℕ) (w : Marks) (skips more : List Skip) → IsTally store ds failed closed cut c w skips → is_below (cut_behind ds) d.visit.depth ≡ false → is_sound d.verdict ≡ false → es ≡ ds ++ d ∷ []
     → more ≡ skips ++ record { seq = d.visit.seq; cid = d.visit.cid; verdict = d.verdict } ∷ [] → n ≡ at_most 32 (c.visits + 1) → k ≡ at_most 32 (c.kept + 1)
     → IsTally store es failed closed (Some d.visit.depth) (record { visits = n; kept = k; sections = c.sections; bytes = c.bytes }) w more
 tally-skip store ds es failed closed d cut c n k w skips more h uncut unsound longer added visits keeps =
@@ -151,7 +149,7 @@ repeat-told store ks d c place none at =
     by (bytes_eq d.visit.cid c) (is_told ks d.visit.cid) refl refl
 
 -- a sound one that has its section, or no block
-pub tally-repeat : (store : Blocks) (ds es failed : List Delivery) (closed : List End) (d : Delivery) (cut : Option ℕ) (c : Counts) (n k : ℕ) (w : BTreeSet ℕ) (skips : List Skip) → IsTally store ds failed closed cut c w skips → is_below (cut_behind ds) d.visit.depth ≡ false → is_sound d.verdict ≡ true → place_due store (kept ds) d.visit.cid ≡ None
+pub tally-repeat : (store : Blocks) (ds es failed : List Delivery) (closed : List End) (d : Delivery) (cut : Option ℕ) (c : Counts) (n k : ℕ) (w : Marks) (skips : List Skip) → IsTally store ds failed closed cut c w skips → is_below (cut_behind ds) d.visit.depth ≡ false → is_sound d.verdict ≡ true → place_due store (kept ds) d.visit.cid ≡ None
     → es ≡ ds ++ d ∷ [] → n ≡ at_most 32 (c.visits + 1) → k ≡ at_most 32 (c.kept + 1) → IsTally store es failed closed None (record { visits = n; kept = k; sections = c.sections; bytes = c.bytes }) w skips
 tally-repeat store ds es failed closed d cut c n k w skips h uncut sound none longer visits keeps =
     let left : kept es ≡ kept ds ++ d ∷ [] = ap kept longer ∙ kept-uncut ds d uncut in
@@ -196,27 +194,27 @@ or-true true = refl
 or-true false = refl
 
 -- the test of a place
-at-place : (here place : ℕ) → here ≡ place → is_at (nat_cmp here) place ≡ true
+at-place : (here place : ℕ) → here ≡ place → (here == place) ≡ true
 at-place here place same = grind (arith, nat_tests)
 
-apart-place : (here place : ℕ) → (here ≡ place → ⊥) → is_at (nat_cmp here) place ≡ false
+apart-place : (here place : ℕ) → (here ≡ place → ⊥) → (here == place) ≡ false
 apart-place here place apart = grind (arith, nat_tests)
 
 -- which places the set has, once one is put in
-put-place : (store : Blocks) (ks : List Delivery) (w v : BTreeSet ℕ) (d c : List ℕ) (here place : ℕ) → Updates nat_cmp w v here true → position_of store d ≡ Some here → position_of store c ≡ Some place → contains nat_cmp w place ≡ is_told ks c → contains nat_cmp v place ≡ (is_told ks c || bytes_eq d c)
+put-place : (store : Blocks) (ks : List Delivery) (w v : Marks) (d c : List ℕ) (here place : ℕ) → ((n : ℕ) → is_marked v n ≡ ((here == n) || is_marked w n)) → position_of store d ≡ Some here → position_of store c ≡ Some place → is_marked w place ≡ is_told ks c → is_marked v place ≡ (is_told ks c || bytes_eq d c)
 put-place store ks w v d c here place updates at there was =
-    let by : (same : Bool) → bytes_eq d c ≡ same → cond (is_at (nat_cmp here) place) true (contains nat_cmp w place) ≡ (is_told ks c || same) = λ same. elim same as (λ b. bytes_eq d c ≡ b → cond (is_at (nat_cmp here) place) true (contains nat_cmp w place) ≡ (is_told ks c || b)) [
+    let by : (same : Bool) → bytes_eq d c ≡ same → ((here == place) || is_marked w place) ≡ (is_told ks c || same) = λ same. elim same as (λ b. bytes_eq d c ≡ b → ((here == place) || is_marked w place) ≡ (is_told ks c || b)) [
       | true ↦ (λ e. let one : position_of store c ≡ Some here = ap (λ x. position_of store x) (sym ((bytes_eq-Decides d c).0 e)) ∙ at in
           let same_place : here ≡ place = some-same here place (sym one ∙ there) in
-          ap (λ b. cond b true (contains nat_cmp w place)) (at-place here place same_place) ∙ sym (or-true (is_told ks c)))
+          ap (λ b. b || is_marked w place) (at-place here place same_place) ∙ sym (or-true (is_told ks c)))
       | false ↦ (λ e. let apart : here ≡ place → ⊥ = λ p. false≢true (sym e ∙ (bytes_eq-Decides d c).1 (one-place 0 place store d c (at ∙ ap Some p) there)) in
-          ap (λ b. cond b true (contains nat_cmp w place)) (apart-place here place apart) ∙ was ∙ sym (or-nothing (is_told ks c) false refl))
+          ap (λ b. b || is_marked w place) (apart-place here place apart) ∙ was ∙ sym (or-nothing (is_told ks c) false refl))
     ] in
-    updates.0 place ∙ by (bytes_eq d c) refl
+    updates place ∙ by (bytes_eq d c) refl
 
 -- a section
-pub tally-section : (store : Blocks) (ds es failed : List Delivery) (closed : List End) (d : Delivery) (cut : Option ℕ) (c : Counts) (n k s t here : ℕ) (w v : BTreeSet ℕ) (skips : List Skip) → IsTally store ds failed closed cut c w skips → is_below (cut_behind ds) d.visit.depth ≡ false → is_sound d.verdict ≡ true
-    → place_due store (kept ds) d.visit.cid ≡ Some here → Updates nat_cmp w v here true → es ≡ ds ++ d ∷ [] → n ≡ at_most 32 (c.visits + 1) → k ≡ at_most 32 (c.kept + 1) → s ≡ at_most 32 (c.sections + 1) → t ≤ 2 ^ 64 - 1
+pub tally-section : (store : Blocks) (ds es failed : List Delivery) (closed : List End) (d : Delivery) (cut : Option ℕ) (c : Counts) (n k s t here : ℕ) (w v : Marks) (skips : List Skip) → IsTally store ds failed closed cut c w skips → is_below (cut_behind ds) d.visit.depth ≡ false → is_sound d.verdict ≡ true
+    → place_due store (kept ds) d.visit.cid ≡ Some here → ((n : ℕ) → is_marked v n ≡ ((here == n) || is_marked w n)) → es ≡ ds ++ d ∷ [] → n ≡ at_most 32 (c.visits + 1) → k ≡ at_most 32 (c.kept + 1) → s ≡ at_most 32 (c.sections + 1) → t ≤ 2 ^ 64 - 1
     → IsTally store es failed closed None (record { visits = n; kept = k; sections = s; bytes = t }) v skips
 tally-section store ds es failed closed d cut c n k s t here w v skips h uncut sound due updates longer visits keeps sections within =
     let left : kept es ≡ kept ds ++ d ∷ [] = ap kept longer ∙ kept-uncut ds d uncut in

@@ -13,12 +13,12 @@ ghost use Rattle.ix_car.specs.ArchiveNew.{IsNoArchive};
 use crate::archive::output::{header_of, set_section_head, write_section, write_text};
 use crate::fault::SinkFault;
 use crate::history::History;
+use crate::marks::Marks;
 use crate::sink::{Delivery, End, Sink};
 use ix_check::Verdict;
 use ix_cid::Cid;
 use ix_walk::{Job, Store, Visit};
 use std::alloc::Global;
-use std::collections::BTreeSet;
 use std::io::Write;
 use std::marker::Model;
 
@@ -65,7 +65,7 @@ pub struct Archive<'a, W: Write> {
     cut: Option<u32>,
     counts: Counts,
     // Where the blocks that were written stand in the store; none any more once it is closed.
-    written: BTreeSet<usize>,
+    written: Marks,
     skips: Vec<Skip>,
     // What stands before a section's block. Its room is kept from one section to the next.
     scratch: Vec<u8>,
@@ -130,7 +130,7 @@ impl<'a, W: Write> Archive<'a, W> {
                 sections: 0,
                 bytes: taken as u64,
             },
-            written: BTreeSet::new(alloc),
+            written: Marks::new(alloc),
             skips: Vec::new(alloc),
             scratch: header,
             writer,
@@ -199,7 +199,7 @@ impl<'a, W: Write> Archive<'a, W> {
         ensures { result ≡ place_due self.now.store (kept self.now.deliveries) visit.now.cid }
     {
         match self.store.find_near(visit.block, &visit.cid) {
-            Some(place) if !self.written.contains(&place) => Some(place),
+            Some(place) if !self.written.contains(place) => Some(place),
             _ => None,
         }
     }

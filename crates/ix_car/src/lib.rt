@@ -5,6 +5,7 @@ mod archive;
 mod fault;
 mod history;
 pub mod law;
+mod marks;
 mod reader;
 mod sink;
 

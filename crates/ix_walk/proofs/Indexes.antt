@@ -1,13 +1,12 @@
 -- Slots with one more taken, look-ups through them, and an index of one pair more.
 use Rattle.std.proofs.Common.{◌≡◌, ◌⊎◌, ℕ, zero, suc, ◌+◌, ◌-◌, ◌<◌, ◌≤◌, ◌%◌, true, false, cond, ltb, List, [], ◌∷◌, ◌++◌, length, take, drop, get_or, Some, None, refl, sym, ap, subst, ◌∙◌, zero-add, inl, inr, ⊎_elim, arith, length-drop, length-take, length-set}
-use Rattle.std.specs.Prelude.{Option, bytes_eq, Result, Ok, Err, OnOk, OnErr}
-use Rattle.std.specs.Result.{is_err}
+use Rattle.std.specs.Prelude.{Option, bytes_eq}
 use Rattle.std.specs.Option.{is_some}
 use Rattle.std.specs.BTreeMap.{BTreeMap, get, is_at, Updates}
 use Rattle.std.specs.Map.{lookup}
 use Rattle.std.specs.Cmp.Lexicographic.{slice_cmp}
 use Rattle.std.specs.Ordering.{nat_cmp}
-use Rattle.std.proofs.lemmas.Bool.{cases_Bool, false≢true, ltb-true, ltb-false}
+use Rattle.std.proofs.lemmas.Bool.{cases_Bool, ltb-true, ltb-false}
 use Rattle.std.proofs.lemmas.Slice.Eq.{bytes_eq-Decides}
 use Rattle.std.proofs.lemmas.Map.Text.{is_eq-slice_cmp}
 use Rattle.std.proofs.Math.ListN.{set, drop_of_length-le}
@@ -259,16 +258,6 @@ indexed-same index later es h slots same = record {
 -- a slot to which a place goes is the first free one of its window
 pub vacancy-at : (index : Index) (u slot : ℕ) → IsVacancy index u (At slot) → AtFirst index.slots.items u slot
 vacancy-at index u slot v = at-first index.slots.items u slot v.0 v.1 v.2
-
--- what holds on Ok holds where there is no Err
-pub holds-at_ok : {T E P : Type 0} (r : Result T E) → OnOk r P → is_err r ≡ false → P
-holds-at_ok (Ok x) h fine = h
-holds-at_ok (Err e) h fine = absurd (false≢true (sym fine))
-
--- what holds on Err holds there
-pub holds-at_err : {T E P : Type 0} (r : Result T E) → OnErr r P → is_err r ≡ true → P
-holds-at_err (Ok x) h failed = absurd (false≢true failed)
-holds-at_err (Err e) h failed = h
 
 -- trees with the same entries have the same places
 pub same-behind : (m n : BTreeMap (List ℕ) ℕ) (c : List ℕ) → n.entries ≡ m.entries → get (slice_cmp nat_cmp) n c ≡ get (slice_cmp nat_cmp) m c

@@ -1,6 +1,7 @@
--- A store with one pair more, and its map.
+-- A store with one pair more, and where its pairs stand.
 use Rattle.std.proofs.Common.{◌≡◌, ℕ, zero, suc, ◌+◌, Bool, true, false, ◌||◌, cond, List, [], ◌∷◌, ◌++◌, length, take, drop, ◌<◌, map, get_or, slice_get, option_map, Some, None, bytes_eq, refl, sym, ap, subst, ◌∙◌, zero-add, arith, inl, inr, ⊎_elim}
-use Rattle.std.specs.Prelude.{Option}
+use Rattle.std.specs.Prelude.{Option, Result, Ok, Err, OnOk, OnErr}
+use Rattle.std.specs.Result.{is_err}
 use Rattle.std.specs.Option.{is_some}
 use Rattle.std.proofs.lemmas.Bool.{false≢true, cases_Bool, false_from_ne_true}
 use Rattle.std.proofs.lemmas.Slice.Eq.{bytes_eq-Decides}
@@ -180,3 +181,13 @@ with-new entries kept later now e is same longer h =
     pairs-push entries later e (longer ∙ ap (λ (l : List Entry). l ++ e ∷ []) same)
     ∙ ap (λ (l : Blocks). l ++ (e.cid, e.block.items) ∷ []) is
     ∙ ap (λ v. cond v now (now ++ (e.cid, e.block.items) ∷ [])) (sym h)
+
+-- what holds on Ok holds where there is no Err
+pub holds-at_ok : {T E P : Type 0} (r : Result T E) → OnOk r P → is_err r ≡ false → P
+holds-at_ok (Ok x) h fine = h
+holds-at_ok (Err e) h fine = absurd (false≢true (sym fine))
+
+-- what holds on Err holds there
+pub holds-at_err : {T E P : Type 0} (r : Result T E) → OnErr r P → is_err r ≡ true → P
+holds-at_err (Ok x) h failed = absurd (false≢true failed)
+holds-at_err (Err e) h failed = h

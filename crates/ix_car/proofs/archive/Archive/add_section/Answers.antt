@@ -48,7 +48,7 @@ invariant_of-self-2 g c =
     (subst (λ v. is_below (cut_behind v.deliveries) d.visit.depth ≡ false) (sym c.self.view_is) c.requires.uncut)
     c.requires.sound
     (subst (λ v. place_due v.store (kept v.deliveries) d.visit.cid ≡ Some c.args.place) (sym c.self.view_is) c.requires.due)
-    (at-ok c.insert.result c.is_err-2.result c.insert.ensures.updates c.is_err-2.ensures.value c.if-is_err-2.false)
+    (at-ok c.insert.result c.is_err-2.result c.insert.ensures.inserted c.is_err-2.ensures.value c.if-is_err-2.false)
     c.note.ensures c.one_more-self-inside.ensures c.one_more-self-inside-2.ensures c.one_more-self-inside-3.ensures within
 
 pub returns : goal.returns

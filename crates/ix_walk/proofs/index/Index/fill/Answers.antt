@@ -7,8 +7,8 @@ use Rattle.std.specs.Ordering.{nat_cmp}
 use Rattle.ix_walk.specs.Index.{tail_of, IsVacancy}
 use Rattle.ix_walk.specs.declared.index.Slot.TheVariants.{Taken}
 use Rattle.ix_walk.specs.declared.index.Vacancy.{Vacancy}
-use Rattle.ix_walk.proofs.Stores.{pair}
-use Rattle.ix_walk.proofs.Indexes.{vacancy-at, indexed-slot, indexed-behind, indexed-same, holds-at_ok, holds-at_err, same-behind}
+use Rattle.ix_walk.proofs.Stores.{pair, holds-at_ok, holds-at_err}
+use Rattle.ix_walk.proofs.Indexes.{vacancy-at, indexed-slot, indexed-behind, indexed-same, same-behind}
 use Rattle.ix_walk.proofs.index.Index.fill.Goals as goal
 
 pub index_mut-requires : goal.index_mut-requires
