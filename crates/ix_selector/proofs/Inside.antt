@@ -12,10 +12,12 @@ use Rattle.ix_selector.specs.declared.pair.Recursion.{Recursion}
 use Rattle.ix_selector.specs.declared.reached.Reached.{Reached}
 use Rattle.ix_selector.specs.Pattern.{Pattern, Fields as FieldPatterns, Members, matcher, all, fields, index, range, recursive, union, edge, no_fields, field, no_members, member, members_of, Around, unguarded, guarded, MayStand, IsGuarded, AreGuarded, EachGuarded}
 use Rattle.ix_selector.specs.Enters.{Path, Frame, IsMember, head, tail, Enters, in_union, in_recursion, at_edge, at_edge_within}
-use Rattle.ix_selector.specs.Places.{at, places_of, seen, AreBelow, IsSpot, AreSpots}
+use Rattle.ix_selector.specs.Places.{at, places_of, seen, AreBelow, IsSpot, AreSpots, IsNumber}
+use Rattle.ix_selector.specs.Standing.{IsBeside, StandsIn, in_own, in_same}
 use Rattle.ix_selector.specs.Reaching.{members_at, at_start, entered_again}
-use Rattle.ix_selector.specs.Pairs.{frames, selector_at, EntersAt, SomeEnter, around, IsSequence, IsPair, Stands, IsStanding, HasNoEdge, AreReached, ReachedEnters, Same, Joins}
+use Rattle.ix_selector.specs.Pairs.{frames, selector_at, EntersAt, SomeEnter, around, IsSequence, sequence_of, IsPair, Stands, IsStanding, HasNoEdge, AreReached, ReachedEnters, Same, Joins}
 use Rattle.ix_selector.proofs.Spots.{place-seen, spot-at}
+use Rattle.ix_selector.proofs.Standing.{own-start}
 use Rattle.ix_selector.proofs.Entering.{inner_only}
 use Rattle.ix_selector.proofs.Reaching.{none-enter, standing-more, again-more, joins-same}
 
@@ -81,7 +83,7 @@ module _ (spots : List Spot) (table : AreSpots 0 spots) (x : Pair) (is_pair : Is
   sequence_guarded = let g = subst (IsGuarded (around x.recursion)) is_recursive is_pair.guarded in g.1
 
   pub sequence-pair : IsPair spots sequence_pair
-  sequence-pair = record { within = sequence_within; guarded = loosened (at (places_of spots) k) sequence_guarded; sequence = (sequence_within, sequence_guarded) }
+  sequence-pair = record { within = sequence_within; guarded = loosened (at (places_of spots) k) sequence_guarded; sequence = (sequence_within, sequence_guarded); stands = in_own (record { depth = d; within = is_pair.within; is = is }) }
 
   pub sequence-enters : Same (EntersAt spots sequence_pair) (EntersAt spots x)
   sequence-enters p = (
@@ -112,12 +114,12 @@ enter_members spots x [] p n h = elim n [ ]
 enter_members spots x (k ∷ ks) p head h = cons-here spots (record { place = k; recursion = x.recursion }) (members_at x ks) p h
 enter_members spots x (k ∷ ks) p (tail n) h = cons-there spots (record { place = k; recursion = x.recursion }) (members_at x ks) p (enter_members spots x ks p n h)
 
-each_pair : (spots : List Spot) (x : Pair) (ks : List ℕ) → IsPair spots x → AreBelow x.place ks → EachGuarded (around x.recursion) (members_of (map (at (places_of spots)) ks)) → All (IsPair spots) (members_at x ks)
-each_pair spots x [] is below g = All-nil (IsPair spots)
-each_pair spots x (k ∷ ks) is below g =
+each_pair : (spots : List Spot) (x : Pair) (ks : List ℕ) → IsPair spots x → ((k : ℕ) → IsNumber ks k → IsBeside spots x.place k) → AreBelow x.place ks → EachGuarded (around x.recursion) (members_of (map (at (places_of spots)) ks)) → All (IsPair spots) (members_at x ks)
+each_pair spots x [] is beside below g = All-nil (IsPair spots)
+each_pair spots x (k ∷ ks) is beside below g =
     All-cons (IsPair spots) (record { place = k; recursion = x.recursion }) (members_at x ks)
-    (record { within = let within = is.within in let b = below.0 in omega arith; guarded = g.0; sequence = is.sequence })
-    (each_pair spots x ks is below.1 g.1)
+    (record { within = let within = is.within in let b = below.0 in omega arith; guarded = g.0; sequence = is.sequence; stands = in_same (beside k (inl refl)) is.stands })
+    (each_pair spots x ks is (λ j h. beside j (inr h)) below.1 g.1)
 
 each_no_edge : (spots : List Spot) (x : Pair) (a : Around) (ks : List ℕ) → (MayStand a → ⊥) → EachGuarded a (members_of (map (at (places_of spots)) ks)) → All (HasNoEdge spots) (members_at x ks)
 each_no_edge spots x a [] never g = All-nil (HasNoEdge spots)
@@ -132,7 +134,7 @@ module _ (spots : List Spot) (table : AreSpots 0 spots) (x : Pair) (is_pair : Is
   members-before = spot-is spots x.place (Union ks) table is_pair.within is
 
   pub members-pairs : All (IsPair spots) (members_at x ks.items)
-  members-pairs = each_pair spots x ks.items is_pair members-before (subst (IsGuarded (around x.recursion)) is_union is_pair.guarded)
+  members-pairs = each_pair spots x ks.items is_pair (λ k h. record { spot = Union ks; within = is_pair.within; is = is; names = h }) members-before (subst (IsGuarded (around x.recursion)) is_union is_pair.guarded)
 
   pub members-enter : Same (SomeEnter spots (members_at x ks.items)) (EntersAt spots x)
   members-enter p = (
@@ -198,12 +200,12 @@ edge_enters : (spots : List Spot) (r : Option Recursion) → (p : Path)
 edge_enters spots None p = (λ h. absurd (none-enter spots p h), λ h. absurd (out_nothing h))
 edge_enters spots (Some r) p = again_enters spots r.sequence r.depth p
 
-again_pairs : (spots : List Spot) (q : ℕ) (d : Option ℕ) → (q < length spots) × IsGuarded unguarded (at (places_of spots) q)
+again_pairs : (spots : List Spot) (q : ℕ) (d : Option ℕ) → (q < length spots) × IsGuarded unguarded (at (places_of spots) q) → StandsIn spots q (Some q)
     → All (IsPair spots) (entered_again (Some (record { sequence = q; depth = d }))) × All (HasNoEdge spots) (entered_again (Some (record { sequence = q; depth = d })))
-again_pairs spots q d is = by d where
+again_pairs spots q d is stands = by d where
   one : (n : Option ℕ) → All (IsPair spots) (at_start (Some (record { sequence = q; depth = n }))) × All (HasNoEdge spots) (at_start (Some (record { sequence = q; depth = n })))
   one n = (
-    All-cons (IsPair spots) _ [] (record { within = is.0; guarded = loosened (at (places_of spots) q) is.1; sequence = is }) (All-nil (IsPair spots)),
+    All-cons (IsPair spots) _ [] (record { within = is.0; guarded = loosened (at (places_of spots) q) is.1; sequence = is; stands = stands }) (All-nil (IsPair spots)),
     All-cons (HasNoEdge spots) _ [] (record { around = unguarded; never = λ m. m; guarded = is.1 }) (All-nil (HasNoEdge spots)),
   )
 
@@ -215,9 +217,9 @@ again_pairs spots q d is = by d where
   by None = one None
   by (Some n) = test (nat_le 2 n) (Some (n - 1))
 
-edge_pairs : (spots : List Spot) (r : Option Recursion) → IsSequence spots r → All (IsPair spots) (entered_again r) × All (HasNoEdge spots) (entered_again r)
-edge_pairs spots None is = (All-nil (IsPair spots), All-nil (HasNoEdge spots))
-edge_pairs spots (Some r) is = again_pairs spots r.sequence r.depth is
+edge_pairs : (spots : List Spot) (k : ℕ) (r : Option Recursion) → IsSequence spots r → StandsIn spots k (sequence_of r) → All (IsPair spots) (entered_again r) × All (HasNoEdge spots) (entered_again r)
+edge_pairs spots k None is stands = (All-nil (IsPair spots), All-nil (HasNoEdge spots))
+edge_pairs spots k (Some r) is stands = again_pairs spots r.sequence r.depth is (own-start stands refl)
 
 module _ (spots : List Spot) (table : AreSpots 0 spots) (x : Pair) (is_pair : IsPair spots x) (is : Edge ≡ get_or spots x.place Edge) (old new : Reached) (were : AreReached spots old)
     (standing : new.standing ≡ old.standing) (again : new.again.items ≡ old.again.items ++ entered_again x.recursion) where
@@ -226,7 +228,7 @@ module _ (spots : List Spot) (table : AreSpots 0 spots) (x : Pair) (is_pair : Is
 
   pub edge-reached : AreReached spots new
   edge-reached =
-      let more = edge_pairs spots x.recursion is_pair.sequence in record {
+      let more = edge_pairs spots x.place x.recursion is_pair.sequence is_pair.stands in record {
         pairs = subst (λ l. All (IsPair spots) l.items) (sym standing) were.pairs;
         standing = subst (λ l. All (IsStanding spots) l.items) (sym standing) were.standing;
         again = subst (All (IsPair spots)) (sym again) (All-append (IsPair spots) old.again.items (entered_again x.recursion) were.again more.0);

@@ -1,5 +1,5 @@
 -- Where a step leads from a place that stands.
-use Rattle.std.proofs.Common.{◌≡◌, ℕ, ◌<◌, ⊎_elim, pos, Bool, true, false, true≢false, List, [], ◌∷◌, length, refl, sym, ◌∙◌, subst}
+use Rattle.std.proofs.Common.{◌≡◌, ℕ, ◌<◌, ⊎_elim, pos, Bool, true, false, true≢false, List, [], ◌∷◌, length, refl, sym, ◌∙◌, subst, inl, inr}
 use Rattle.std.specs.Prelude.{ℤ, Option, Some, None, IfSome, IfNone, int_le, int_lt}
 use Rattle.std.specs.Bool.{then_some}
 use Rattle.std.specs.Global.{Vec}
@@ -12,7 +12,8 @@ use Rattle.ix_selector.specs.declared.pair.Recursion.{Recursion}
 use Rattle.ix_selector.specs.Pattern.{Pattern, matcher, all, index, range, behind_step, IsGuarded}
 use Rattle.ix_selector.specs.Enters.{Step, key, nth, Path, Frame, Enters, below_all, below_index, below_range}
 use Rattle.ix_selector.specs.Steps.{is_at, is_within}
-use Rattle.ix_selector.specs.Places.{at, places_of, seen, AreNamedBelow}
+use Rattle.ix_selector.specs.Places.{at, places_of, seen, AreNamedBelow, HasNumber}
+use Rattle.ix_selector.specs.Standing.{IsBeside, in_same}
 use Rattle.ix_selector.specs.Named.{IsNumbered, HasName}
 use Rattle.ix_selector.specs.Pairs.{frames, selector_at, EntersAt, around, IsPair, Stands, Same, LeadsTo, LeadsNowhere}
 use Rattle.ix_selector.proofs.Decides.{and_parts, and_both, holds, is_true}
@@ -60,11 +61,12 @@ behind_around : (r : Option Recursion) → behind_step (around r) ≡ around r
 behind_around None = refl
 behind_around (Some r) = refl
 
-pub behind-pair : (spots : List Spot) (x : Pair) (t : Step) (k : ℕ) → IsPair spots x → k < length spots → LeadsTo (selector_at spots x) t (at (places_of spots) k) → IsPair spots (record { place = k; recursion = x.recursion })
-behind-pair spots x t k is within leads = record {
+pub behind-pair : (spots : List Spot) (x : Pair) (t : Step) (k : ℕ) → IsPair spots x → k < length spots → IsBeside spots x.place k → LeadsTo (selector_at spots x) t (at (places_of spots) k) → IsPair spots (record { place = k; recursion = x.recursion })
+behind-pair spots x t k is within beside leads = record {
   within = within;
   guarded = subst (λ a. IsGuarded a (at (places_of spots) k)) (behind_around x.recursion) (leads.guarded (around x.recursion) is.guarded);
   sequence = is.sequence;
+  stands = in_same beside is.stands;
 }
 
 pub behind-enters : (spots : List Spot) (x : Pair) (t : Step) (k : ℕ) → LeadsTo (selector_at spots x) t (at (places_of spots) k) → Same (EntersAt spots (record { place = k; recursion = x.recursion })) (λ p. EntersAt spots x (t ∷ p))
@@ -107,3 +109,11 @@ name-below n names (key l) k below h = by names below h where
   by : (names : List (Vec ℕ × ℕ)) → AreNamedBelow n names → IsNumbered names l k → k < n
   by [] below h = absurd h
   by (f ∷ fs) below h = ⊎_elim (λ (here : (f.0.items ≡ l) × (f.1 ≡ k)). subst (λ j. j < n) here.1 below.0) (λ (there : IsNumbered fs l k). by fs below.1 there) h
+
+-- the number behind the name of a step is one of those that fields name
+pub name-number : (names : List (Vec ℕ × ℕ)) (t : Step) (k : ℕ) → HasName names t k → HasNumber names k
+name-number names (nth m) k h = absurd h
+name-number names (key l) k h = by names h where
+  by : (names : List (Vec ℕ × ℕ)) → IsNumbered names l k → HasNumber names k
+  by [] h = absurd h
+  by (f ∷ fs) h = ⊎_elim (λ (here : (f.0.items ≡ l) × (f.1 ≡ k)). inl here.1) (λ (there : IsNumbered fs l k). inr (by fs there)) h

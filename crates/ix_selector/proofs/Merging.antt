@@ -1,18 +1,20 @@
 -- Pairs that are joined, and what they keep.
-use Rattle.std.proofs.Common.{◌≡◌, ℕ, ◌+◌, ◌<◌, ◌⊎◌, inl, inr, ⊎_elim, List, [], ◌∷◌, ◌++◌, take, drop, get_or, length, refl, sym, ◌∙◌, ap, subst, arith}
-use Rattle.std.specs.Prelude.{Option, Some, None}
+use Rattle.std.proofs.Common.{◌≡◌, ℕ, ◌+◌, ◌<◌, ◌≤◌, ◌⊎◌, inl, inr, ⊎_elim, List, [], ◌∷◌, ◌++◌, take, drop, get_or, length, refl, sym, ◌∙◌, ap, subst, arith}
+use Rattle.std.specs.Prelude.{Option, Some, None, Result, Ok, Err, IfOk}
 use Rattle.std.specs.List.{All, Contains, refill}
-use Rattle.std.specs.List.Sorted.{IsPermutation}
-use Rattle.std.proofs.lemmas.List.{take_more, take_all, drop_all, append-nil}
-use Rattle.std.proofs.lemmas.List.Elements.{All-nil, All-push, All-weaker, All-contains, All-contains_itself, Contains-append_left, Contains-push}
+use Rattle.std.specs.List.Sorted.{IsPermutation, IsNonDecreasingBy}
+use Rattle.std.proofs.lemmas.List.{take_more, take_all, drop_all, append-nil, get_or_default, get_or-take, length-take-le}
+use Rattle.std.proofs.lemmas.List.Elements.{All-nil, All-head, All-tail, All-push, All-weaker, All-contains, All-contains_itself, Contains-append_left, Contains-push}
 use Rattle.std.proofs.lemmas.List.Sorted.{Contains-permutation, IsPermutation-sym, length_permutation}
 use Rattle.ix_selector.specs.declared.spot.Spot.{Spot}
 use Rattle.ix_selector.specs.declared.pair.Pair.{Pair}
 use Rattle.ix_selector.specs.declared.pair.Recursion.{Recursion}
 use Rattle.ix_selector.specs.Pattern.{Pattern, unguarded, IsGuarded}
 use Rattle.ix_selector.specs.Enters.{Path, Enters}
-use Rattle.ix_selector.specs.Places.{at, places_of}
-use Rattle.ix_selector.specs.Pairs.{deeper, IsDeeper, IsJoined, frames, selector_at, around, IsSequence, IsPair, IsStanding, HasNoEdge, sequence_of, IsAt, IsOf, EntersAt, SomeEnter, Joins, EnterSame, EnterMore}
+use Rattle.ix_selector.specs.Places.{at, places_of, AreNamedOnce}
+use Rattle.ix_selector.specs.Standing.{StandsIn}
+use Rattle.ix_selector.proofs.Standing.{stands-once}
+use Rattle.ix_selector.specs.Pairs.{deeper, IsDeeper, IsJoined, frames, selector_at, around, IsSequence, IsPair, IsStanding, HasNoEdge, sequence_of, AgreesWith, Agree, AreRisingFrom, ArePlacesRising, IsUpTo, IsAt, IsOf, EntersAt, SomeEnter, Joins, EnterSame, EnterMore}
 use Rattle.ix_selector.proofs.Entering.{deeper-left, deeper-right, deeper-either}
 use Rattle.ix_selector.proofs.Reaching.{some-push, some-permutation}
 
@@ -40,6 +42,7 @@ pair-at spots x y same is = record {
       subst (λ a. IsGuarded a (selector_at spots y)) (around-same x.recursion y.recursion same.sequence)
       (subst (λ n. IsGuarded (around x.recursion) (at (places_of spots) n)) (sym same.place) is.guarded);
   sequence = is_sequence-same spots x.recursion y.recursion same.sequence is.sequence;
+  stands = subst (λ n. StandsIn spots n (sequence_of y.recursion)) (sym same.place) (subst (λ q. StandsIn spots x.place q) (sym same.sequence) is.stands);
 }
 
 pub standing-at : (spots : List Spot) (x y : Pair) → IsAt x y → IsStanding spots x → IsStanding spots y
@@ -136,13 +139,14 @@ of-more xs zs ys more all = All-weaker (IsOf xs) (IsOf zs) (λ y is. record { pa
 
 -- ---- pairs merged one by one
 
--- of these pairs, and entering what they enter
+-- of these pairs, and entering what they enter, with rising places
 pub record Merged (rs xs : List Pair) : Type 0 where
   pub enters : EnterSame rs xs
   pub among : All (IsOf xs) rs
+  pub rising : ArePlacesRising rs
 
 pub merged-none : Merged [] []
-merged-none = record { enters = λ spots p. (λ h. h, λ h. h); among = All-nil (IsOf []) }
+merged-none = record { enters = λ spots p. (λ h. h, λ h. h); among = All-nil (IsOf []); rising = tt }
 
 -- what is of pairs that are of others is of the others
 at-twice : (x y z : Pair) → IsAt x y → IsAt y z → IsAt x z
@@ -158,8 +162,9 @@ of-both : (rs front : List Pair) (x : Pair) → All (IsOf front) rs → All (IsO
 of-both rs front x all = All-push (IsOf (front ++ x ∷ [])) rs x (of-more front (front ++ x ∷ []) rs (λ y among. Contains-append_left front (x ∷ []) y among) all) (of-last front x)
 
 -- one more
-pub merged-more : (rs qs xs : List Pair) (i : ℕ) (x : Pair) → i < length xs → x ≡ get_or xs i x → Merged rs (take i xs) → EnterMore qs rs x → All (IsOf (rs ++ x ∷ [])) qs → Merged qs (take (i + 1) xs)
-merged-more rs qs xs i x within is so_far enters among =
+pub merged-more : (rs qs xs : List Pair) (i : ℕ) (x : Pair) → i < length xs → x ≡ get_or xs i x → Merged rs (take i xs) → EnterMore qs rs x → All (IsOf (rs ++ x ∷ [])) qs → ArePlacesRising qs
+    → Merged qs (take (i + 1) xs)
+merged-more rs qs xs i x within is so_far enters among rising =
     let front = take i xs in
     let more : take (i + 1) xs ≡ front ++ x ∷ [] = take_more xs i x within ∙ ap (λ y. take i xs ++ y ∷ []) (sym is) in
     subst (λ l. Merged qs l) (sym more) (record {
@@ -168,6 +173,7 @@ merged-more rs qs xs i x within is so_far enters among =
         λ h. (enters spots p).1 (⊎_elim (λ (a : SomeEnter spots front p). inl ((so_far.enters spots p).1 a)) (λ (b : EntersAt spots x p). inr b) ((some-push spots front x p).0 h)),
       );
       among = of-chain (rs ++ x ∷ []) (front ++ x ∷ []) qs (of-both rs front x so_far.among) among;
+      rising = rising;
     })
 
 -- in another order
@@ -178,6 +184,7 @@ merged-sorted rs xs ys moved all = record {
       let here = all.enters spots p in
       (λ h. same.0 (here.0 h), λ h. here.1 (same.1 h));
   among = of-more ys xs rs (λ y among. Contains-permutation ys xs y (IsPermutation-sym xs ys moved) among) all.among;
+  rising = all.rising;
 }
 
 -- the last of the pairs joined with one more
@@ -213,11 +220,82 @@ pushed xs x = (λ spots p. some-push spots xs x p, of-itself (xs ++ x ∷ [])) w
   of-itself ys = All-weaker (Contains ys) (IsOf ys) (λ y among. itself-of ys y among) ys (All-contains_itself ys)
 
 -- a slice that was sorted is put back whole
-pub refilled : (xs was ws now : List Pair) → was ≡ xs → IsPermutation was ws → now ≡ refill (length xs) xs ws → IsPermutation xs now
+pub refilled : (xs was ws now : List Pair) → was ≡ xs → IsPermutation was ws → now ≡ refill (length xs) xs ws → now ≡ ws
 refilled xs was ws now same moved is =
     let as_long : length ws ≡ length xs = length_permutation was ws moved ∙ ap length same in
-    let whole : refill (length xs) xs ws ≡ ws = take_all_of ws xs as_long in
-    subst (λ l. IsPermutation l now) same (subst (IsPermutation was) (sym (is ∙ whole)) moved) where
+    is ∙ take_all_of ws xs as_long where
       take_all_of : (ws xs : List Pair) → length ws ≡ length xs → refill (length xs) xs ws ≡ ws
       take_all_of ws xs e =
           ap (λ n. take (length xs) (ws ++ drop n xs)) e ∙ ap (λ l. take (length xs) (ws ++ l)) (drop_all (length xs) xs (omega arith)) ∙ ap (take (length xs)) (append-nil ws) ∙ take_all (length xs) ws (omega arith)
+
+-- ---- places rise
+
+rising-last : (n : ℕ) (front : List Pair) (a b : Pair) → b.place ≡ a.place → AreRisingFrom n (front ++ a ∷ []) → AreRisingFrom n (front ++ b ∷ [])
+rising-last n [] a b same h = (subst (λ k. n ≤ k) (sym same) h.0, tt)
+rising-last n (x ∷ front) a b same h = (h.0, rising-last (x.place + 1) front a b same h.1)
+
+rising-push : (n : ℕ) (front : List Pair) (a x : Pair) → a.place < x.place → AreRisingFrom n (front ++ a ∷ []) → AreRisingFrom n ((front ++ a ∷ []) ++ x ∷ [])
+rising-push n [] a x above h = (h.0, (omega arith, tt))
+rising-push n (y ∷ front) a x above h = (h.0, rising-push (y.place + 1) front a x above h.1)
+
+-- the last is joined with one more at its place
+pub joined-rising : (front : List Pair) (last x both : Pair) → IsJoined last x both → ArePlacesRising (front ++ last ∷ []) → ArePlacesRising (front ++ both ∷ [])
+joined-rising front last x both is h = rising-last 0 front last both is.1 h
+
+-- one that isn't joined with the last is behind it
+pub pushed-rising : (front : List Pair) (last x : Pair) → All (IsUpTo x) (front ++ last ∷ []) → (AgreesWith last x → last.place ≡ x.place → ⊥) → ArePlacesRising (front ++ last ∷ []) → ArePlacesRising ((front ++ last ∷ []) ++ x ∷ [])
+pushed-rising front last x up_to none h =
+    let here = All-contains (IsUpTo x) (front ++ last ∷ []) last up_to (Contains-push front last) in
+    let apart : last.place ≡ x.place → ⊥ = none here.1 in
+    rising-push 0 front last x (above last.place x.place here.0 apart) h where
+      above : (a b : ℕ) → a ≤ b → (a ≡ b → ⊥) → a < b
+      above a b le apart = omega arith
+
+-- all so far are up to the next of sorted pairs
+pub up-to : (rs xs : List Pair) (i : ℕ) (x : Pair) → i < length xs → x ≡ get_or xs i x → IsNonDecreasingBy (λ (y : Pair). y.place) xs → Agree xs → All (IsOf (take i xs)) rs → All (IsUpTo x) rs
+up-to rs xs i x within is sorted agree all = All-weaker (IsOf (take i xs)) (IsUpTo x) (λ y of. by y of of.among.0 of.among.1 of.among.2) rs all where
+  by : (y : Pair) (of : IsOf (take i xs) y) (k : ℕ) → k < length (take i xs) → get_or (take i xs) k of.pair ≡ of.pair → IsUpTo x y
+  by y of k below at =
+      let long : length (take i xs) ≡ i = length-take-le i xs (omega arith) in
+      let there : get_or xs k of.pair ≡ of.pair = sym (get_or-take i xs k of.pair (omega arith)) ∙ at in
+      let before : of.pair.place ≤ x.place = subst (λ (z : Pair). z.place ≤ x.place) there (subst (λ (z : Pair). (get_or xs k of.pair).place ≤ z.place) (get_or_default xs i of.pair x within ∙ sym is) (sorted k i of.pair (omega arith) within)) in
+      let place = of.at.place in
+      let inside : Contains xs x = (i, within, sym is) in
+      let front : Contains xs of.pair = (k, omega arith, there) in (
+        subst (λ n. n ≤ x.place) (sym of.at.place) before,
+        λ same. of.at.sequence ∙ agree.at of.pair x front inside (sym of.at.place ∙ same),
+      )
+
+pub agree-permutation : (xs ys : List Pair) → IsPermutation xs ys → Agree xs → Agree ys
+agree-permutation xs ys moved agree = record {
+  at = λ x y a b. agree.at x y (Contains-permutation ys xs x (IsPermutation-sym xs ys moved) a) (Contains-permutation ys xs y (IsPermutation-sym xs ys moved) b);
+}
+
+-- pairs of one selector agree
+pub pairs-agree : (spots : List Spot) (xs : List Pair) → AreNamedOnce spots → All (IsPair spots) xs → Agree xs
+pairs-agree spots xs once all = record {
+  at = λ x y a b same.
+      let one = All-contains (IsPair spots) xs x all a in
+      let other = All-contains (IsPair spots) xs y all b in
+      stands-once once one.stands (subst (λ n. StandsIn spots n (sequence_of y.recursion)) (sym same) other.stands);
+}
+
+-- ---- there are no more pairs than places
+
+few_rising : (n m : ℕ) (xs : List Pair) → AreRisingFrom n xs → All (λ (x : Pair). x.place < m) xs → n ≤ m → length xs + n ≤ m
+few_rising n m [] h below le = omega arith
+few_rising n m (x ∷ xs) h below le =
+    let first : x.place < m = All-head (λ (y : Pair). y.place < m) x xs below in
+    let from = h.0 in
+    let rest = few_rising (x.place + 1) m xs h.1 (All-tail (λ (y : Pair). y.place < m) x xs below) (omega arith) in
+    omega arith
+
+pub few-pairs : (spots : List Spot) (xs : List Pair) → ArePlacesRising xs → All (IsPair spots) xs → length xs ≤ length spots
+few-pairs spots xs h all =
+    let few = few_rising 0 (length spots) xs h (All-weaker (IsPair spots) (λ (x : Pair). x.place < length spots) (λ x is. is.within) xs all) (omega arith) in
+    omega arith
+
+-- what follows from two clauses on a value
+pub both-ok : {X E : Type 0} (r : Result X E) {P Q R : X → Type 0} → ((x : X) → P x → Q x → R x) → IfOk r P → IfOk r Q → IfOk r R
+both-ok (Ok x) f p q = f x p q
+both-ok (Err e) f p q = tt

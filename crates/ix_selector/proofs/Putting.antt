@@ -1,5 +1,5 @@
 -- The table of places while fields and members are put into it.
-use Rattle.std.proofs.Common.{◌≡◌, ℕ, zero, suc, ◌+◌, ◌<◌, List, [], ◌∷◌, ◌++◌, map, take, get_or, length, sym, ◌∙◌, ap, subst, arith}
+use Rattle.std.proofs.Common.{◌≡◌, ℕ, zero, suc, ◌+◌, ◌<◌, List, [], ◌∷◌, ◌++◌, map, take, get_or, length, sym, ◌∙◌, ap, subst, arith, ◌≤◌}
 use Rattle.std.specs.Global.{Vec}
 use Rattle.std.specs.declared.cmp.Ordering.TheVariants.{Less}
 use Rattle.std.proofs.lemmas.List.{map_push, take_more, length-append}
@@ -9,26 +9,28 @@ use Rattle.ix_selector.specs.declared.spot.Spot.{Spot}
 use Rattle.ix_selector.specs.Pattern.{Pattern, pattern_of, fields_of, members_of}
 use Rattle.ix_selector.specs.Views.{seen_field}
 use Rattle.ix_selector.specs.Ordered.{IsBeforeAll, IsOrdered, AreOrdered, EachOrdered}
-use Rattle.ix_selector.specs.Places.{at, named_at, places_of, seen, IsBefore, AreRising, AreBelow, AreNamedBelow, IsSpot}
+use Rattle.ix_selector.specs.Places.{at, named_at, places_of, seen, IsBefore, AreRising, AreBelow, AreNamedBelow, IsSpot, Names, IsNumber, HasNumber, IsFreeFrom}
 use Rattle.ix_selector.specs.Grown.{Grows}
-use Rattle.ix_selector.proofs.Spots.{at-last, grows-one, grows-twice, longer, map-kept, named-kept, below-more, named_below-more, below-push, named_below-push}
+use Rattle.ix_selector.proofs.Spots.{at-last, grows-one, grows-twice, longer, map-kept, named-kept, below-more, named_below-more, below-push, named_below-push, numbers-free, names-free}
 
 -- so many fields were put
 pub record FieldsPut (old new : List Spot) (names : List (Vec ℕ × ℕ)) (done : List (Vec ℕ × Sel)) : Type 0 where
   pub grows : Grows old new
   pub below : AreNamedBelow (length new) names
   pub named : map (named_at (places_of new)) names ≡ map seen_field done
+  pub free : (k : ℕ) → HasNumber names k → IsFreeFrom (length old) new k
 
 pub record MembersPut (old new : List Spot) (numbers : List ℕ) (done : List Sel) : Type 0 where
   pub grows : Grows old new
   pub below : AreBelow (length new) numbers
   pub members : map (at (places_of new)) numbers ≡ map pattern_of done
+  pub free : (k : ℕ) → IsNumber numbers k → IsFreeFrom (length old) new k
 
 -- one more
 pub fields-more : (old mid new : List Spot) (names : List (Vec ℕ × ℕ)) (fs : List (Vec ℕ × Sel)) (i : ℕ) (f : Vec ℕ × Sel) (name : Vec ℕ) (n : ℕ)
-    → i < length fs → f ≡ get_or fs i f → name.items ≡ f.0.items → FieldsPut old mid names (take i fs) → Grows mid new → n < length new → at (places_of new) n ≡ pattern_of f.1
+    → i < length fs → f ≡ get_or fs i f → name.items ≡ f.0.items → FieldsPut old mid names (take i fs) → Grows mid new → n < length new → length mid ≤ n → n + 1 ≡ length new → at (places_of new) n ≡ pattern_of f.1
     → FieldsPut old new (names ++ (name, n) ∷ []) (take (i + 1) fs)
-fields-more old mid new names fs i f name n within is same put grows below there = record {
+fields-more old mid new names fs i f name n within is same put grows below behind last there = record {
   grows = grows-twice old mid new put.grows grows;
   below = named_below-push (length new) names (name, n) (named_below-more (length mid) (length new) names (longer mid new grows) put.below) below;
   named =
@@ -36,12 +38,13 @@ fields-more old mid new names fs i f name n within is same put grows below there
       ∙ (λ j. (named-kept mid new grows names put.below ∙ put.named) j ++ (same j, there j) ∷ [])
       ∙ sym (map_push seen_field (take i fs) f)
       ∙ ap (map seen_field) (sym (take_more fs i f within ∙ ap (λ x. take i fs ++ x ∷ []) (sym is)));
+  free = names-free old mid new names (name, n) (longer old mid put.grows) grows put.below put.free behind last;
 }
 
 pub members-more : (old mid new : List Spot) (numbers : List ℕ) (ss : List Sel) (i : ℕ) (s : Sel) (n : ℕ)
-    → i < length ss → s ≡ get_or ss i s → MembersPut old mid numbers (take i ss) → Grows mid new → n < length new → at (places_of new) n ≡ pattern_of s
+    → i < length ss → s ≡ get_or ss i s → MembersPut old mid numbers (take i ss) → Grows mid new → n < length new → length mid ≤ n → n + 1 ≡ length new → at (places_of new) n ≡ pattern_of s
     → MembersPut old new (numbers ++ n ∷ []) (take (i + 1) ss)
-members-more old mid new numbers ss i s n within is put grows below there = record {
+members-more old mid new numbers ss i s n within is put grows below behind last there = record {
   grows = grows-twice old mid new put.grows grows;
   below = below-push (length new) numbers n (below-more (length mid) (length new) numbers (longer mid new grows) put.below) below;
   members =
@@ -49,6 +52,7 @@ members-more old mid new numbers ss i s n within is put grows below there = reco
       ∙ (λ j. (map-kept mid new grows numbers put.below ∙ put.members) j ++ there j ∷ [])
       ∙ sym (map_push pattern_of (take i ss) s)
       ∙ ap (map pattern_of) (sym (take_more ss i s within ∙ ap (λ x. take i ss ++ x ∷ []) (sym is)));
+  free = numbers-free old mid new numbers n (longer old mid put.grows) grows put.below put.free behind last;
 }
 
 -- each of ordered fields is ordered, and each member
@@ -81,10 +85,8 @@ rising-put ps (n ∷ names) (f ∷ fs) h ordered =
     (subst (λ l. IsBefore l names) (sym (ap (λ (p : List ℕ × Pattern). p.0) both.0)) (before-put ps f.0.items names fs both.1 ordered.0), rising-put ps names fs both.1 ordered.2)
 
 -- the selector's own spot is put last
-pub last-put : (old mid : List Spot) (x : Spot) (s : Pattern) → Grows old mid → IsSpot (length mid) x → seen (places_of mid) x ≡ s
+pub last-put : (old mid : List Spot) (x : Spot) (s : Pattern) → Grows old mid → IsSpot (length mid) x → ((k : ℕ) → Names x k → IsFreeFrom (length old) mid k) → seen (places_of mid) x ≡ s
     → Grows old (mid ++ x ∷ []) × (length mid < length (mid ++ x ∷ [])) × (at (places_of (mid ++ x ∷ [])) (length mid) ≡ s)
-last-put old mid x s grows one is =
-    let more = grows-one mid x grows.spots one in
-    (grows-twice old mid (mid ++ x ∷ []) grows more, below, at-last mid x ∙ is) where
-      below : length mid < length (mid ++ x ∷ [])
-      below = let n = length-append mid (x ∷ []) in omega arith
+last-put old mid x s grows one free is = (grows-one old mid x grows one free, below, at-last mid x ∙ is) where
+  below : length mid < length (mid ++ x ∷ [])
+  below = let n = length-append mid (x ∷ []) in omega arith

@@ -13,11 +13,14 @@ use Rattle.ix_selector.specs.Pattern.{Pattern, matcher, all, fields, index, rang
 use Rattle.ix_selector.specs.Enters.{Step, Path, Frame, Enters, at_matcher, at_all, at_fields, at_index, at_range}
 use Rattle.ix_selector.specs.IsEntered.{is_entered}
 use Rattle.ix_selector.specs.Residual.{Place, IsAmong, here, there, ResidualEnters, residual_enters, IsBehind}
-use Rattle.ix_selector.specs.Places.{at, places_of}
-use Rattle.ix_selector.specs.Pairs.{frames, place_of, selector_at, EntersAt, SomeEnter, around, IsSequence, IsPair, Stands, IsStanding, HasNoEdge, AreReached, ReachedEnters, Same, Joins, EnterSame}
+use Rattle.ix_selector.specs.Places.{at, places_of, AreSpots}
+use Rattle.ix_selector.specs.Standing.{in_none}
+use Rattle.ix_selector.proofs.Spots.{last-free}
+use Rattle.ix_selector.specs.Pairs.{frames, place_of, selector_at, EntersAt, SomeEnter, around, IsSequence, IsPair, Stands, IsStanding, HasNoEdge, AreReached, ReachedEnters, Same, Joins, EnterSame, IsOf}
 use Rattle.ix_selector.proofs.Decides.{FramesGuarded}
 use Rattle.ix_selector.proofs.Tested.{around_of, ArePlaces, start_tested, step_tested_some, step_tested_none}
 use Rattle.ix_selector.proofs.Reaching.{none-enter, some-push, Reaches}
+use Rattle.ix_selector.proofs.Merging.{pairs-of}
 use Rattle.ix_selector.proofs.Inside.{some-cons, cons-here, cons-there}
 
 -- ---- pairs seen as places
@@ -77,24 +80,25 @@ module _ (spots : List Spot) (x : Pair) (old new : Reached) (nothing : old.stand
   )
 
 -- the root's pair, of a selector that stands in no recursion
-pub root-pair : (spots : List Spot) (n : ℕ) (s : Pattern) → n < length spots → at (places_of spots) n ≡ s → IsSelector s → IsPair spots (record { place = n; recursion = None })
-root-pair spots n s within is selector = record { within = within; guarded = subst (IsGuarded outside) (sym is) selector.edges; sequence = tt }
+pub root-pair : (spots : List Spot) (n : ℕ) (s : Pattern) → AreSpots 0 spots → n + 1 ≡ length spots → at (places_of spots) n ≡ s → IsSelector s → IsPair spots (record { place = n; recursion = None })
+root-pair spots n s table last is selector = record { within = omega arith; guarded = subst (IsGuarded outside) (sym is) selector.edges; sequence = tt; stands = in_none (last-free spots n table last) }
 
 root_no_edge : (spots : List Spot) (n : ℕ) (s : Pattern) → at (places_of spots) n ≡ s → IsSelector s → HasNoEdge spots (record { place = n; recursion = None })
 root_no_edge spots n s is selector = record { around = outside; never = λ m. m; guarded = subst (IsGuarded outside) (sym is) selector.edges }
 
 module _ (spots : List Spot) (n : ℕ) (s : Pattern) (is : at (places_of spots) n ≡ s) (selector : IsSelector s) (old new : Reached) (nothing : old.standing.items ≡ []) (none : old.again.items ≡ [])
     (reached : AreReached spots new) (enters : Joins (ReachedEnters spots new) (ReachedEnters spots old) (EntersAt spots (record { place = n; recursion = None })))
-    (again : HasNoEdge spots (record { place = n; recursion = None }) → new.again.items ≡ old.again.items) where
-  pub start-entered : (p : Path) → (ResidualEnters (map (place_of spots) new.standing.items) p → Enters s [] p) × (Enters s [] p → ResidualEnters (map (place_of spots) new.standing.items) p)
+    (again : HasNoEdge spots (record { place = n; recursion = None }) → new.again.items ≡ old.again.items)
+    (xs : List Pair) (merged : EnterSame xs new.standing.items) (among : All (IsOf new.standing.items) xs) where
+  pub start-entered : (p : Path) → (ResidualEnters (map (place_of spots) xs) p → Enters s [] p) × (Enters s [] p → ResidualEnters (map (place_of spots) xs) p)
   start-entered p =
       let both = root_enters spots (record { place = n; recursion = None }) old new nothing none enters (again (root_no_edge spots n s is selector)) p in (
-        λ h. subst (λ q. Enters q [] p) is (both.0 (residual-some spots new.standing.items p h)),
-        λ h. some-residual spots new.standing.items p (both.1 (subst (λ q. Enters q [] p) (sym is) h)),
+        λ h. subst (λ q. Enters q [] p) is (both.0 ((merged spots p).0 (residual-some spots xs p h))),
+        λ h. some-residual spots xs p ((merged spots p).1 (both.1 (subst (λ q. Enters q [] p) (sym is) h))),
       )
 
-  pub start-tested : (p : Path) → residual_enters (map (place_of spots) new.standing.items) p ≡ is_entered s p
-  start-tested = start_tested (map (place_of spots) new.standing.items) s (are_places spots new.standing.items reached.pairs) selector start-entered
+  pub start-tested : (p : Path) → residual_enters (map (place_of spots) xs) p ≡ is_entered s p
+  start-tested = start_tested (map (place_of spots) xs) s (are_places spots xs (pairs-of spots new.standing.items xs among reached.pairs)) selector start-entered
 
 -- ---- pairs behind a step, one by one
 

@@ -1,11 +1,11 @@
 -- The selectors at the places of a table, as it grows.
-use Rattle.std.proofs.Common.{◌≡◌, ℕ, zero, suc, ◌+◌, ◌<◌, ◌≤◌, List, [], ◌∷◌, ◌++◌, map, get_or, length, refl, sym, ◌∙◌, ap, subst, arith}
+use Rattle.std.proofs.Common.{◌≡◌, ℕ, zero, suc, ◌+◌, ◌<◌, ◌≤◌, ◌⊎◌, inl, inr, ⊎_elim, List, [], ◌∷◌, ◌++◌, map, get_or, length, refl, sym, ◌∙◌, ap, subst, arith}
 use Rattle.std.specs.Global.{Vec}
 use Rattle.std.proofs.lemmas.List.{append_assoc, append-nil, length-append}
 use Rattle.ix_selector.specs.declared.spot.Spot.{Spot}
 use Rattle.ix_selector.specs.declared.spot.Spot.TheVariants.{Matcher, All, Fields, Index, Range, Recursive, Union, Edge}
 use Rattle.ix_selector.specs.Pattern.{Pattern, all, fields, index, range, recursive, union, fields_of, members_of}
-use Rattle.ix_selector.specs.Places.{at, named_at, seen, seen_behind, places_of, AreBelow, AreNamedBelow, IsSpot, AreSpots}
+use Rattle.ix_selector.specs.Places.{at, named_at, seen, seen_behind, places_of, AreBelow, AreNamedBelow, IsSpot, AreSpots, IsNumber, HasNumber, Names, IsFree, AreNamedOnce, AreFrom, IsFreeFrom}
 use Rattle.ix_selector.specs.Grown.{Grows}
 
 -- what stands in the front stays there
@@ -127,19 +127,114 @@ pub named-grown : (xs ys : List Spot) (fs : List (Vec ℕ × ℕ)) → AreNamedB
 named-grown xs ys [] h = refl
 named-grown xs ys (f ∷ fs) h = λ i. (f.0.items, at-grown xs ys f.1 h.0 i) ∷ named-grown xs ys fs h.1 i
 
+-- ---- which places are named
+
+number-push : (ks : List ℕ) (j k : ℕ) → IsNumber (ks ++ j ∷ []) k → IsNumber ks k ⊎ (j ≡ k)
+number-push [] j k h = ⊎_elim (λ (here : j ≡ k). inr here) (λ (there : ⊥). absurd there) h
+number-push (l ∷ ks) j k h = ⊎_elim (λ (here : l ≡ k). inl (inl here)) (λ (there : IsNumber (ks ++ j ∷ []) k). ⊎_elim (λ (a : IsNumber ks k). inl (inr a)) (λ (b : j ≡ k). inr b) (number-push ks j k there)) h
+
+named-push : (fs : List (Vec ℕ × ℕ)) (f : Vec ℕ × ℕ) (k : ℕ) → HasNumber (fs ++ f ∷ []) k → HasNumber fs k ⊎ (f.1 ≡ k)
+named-push [] f k h = ⊎_elim (λ (here : f.1 ≡ k). inr here) (λ (there : ⊥). absurd there) h
+named-push (g ∷ fs) f k h = ⊎_elim (λ (here : g.1 ≡ k). inl (inl here)) (λ (there : HasNumber (fs ++ f ∷ []) k). ⊎_elim (λ (a : HasNumber fs k). inl (inr a)) (λ (b : f.1 ≡ k). inr b) (named-push fs f k there)) h
+
+number-below : (n : ℕ) (ks : List ℕ) (k : ℕ) → AreBelow n ks → IsNumber ks k → k < n
+number-below n [] k below h = absurd h
+number-below n (j ∷ ks) k below h = ⊎_elim (λ (here : j ≡ k). subst (λ l. l < n) here below.0) (λ (there : IsNumber ks k). number-below n ks k below.1 there) h
+
+name-number-below : (n : ℕ) (fs : List (Vec ℕ × ℕ)) (k : ℕ) → AreNamedBelow n fs → HasNumber fs k → k < n
+name-number-below n [] k below h = absurd h
+name-number-below n (f ∷ fs) k below h = ⊎_elim (λ (here : f.1 ≡ k). subst (λ l. l < n) here below.0) (λ (there : HasNumber fs k). name-number-below n fs k below.1 there) h
+
+-- a spot names places before it
+pub names-before : (n : ℕ) (x : Spot) (k : ℕ) → IsSpot n x → Names x k → k < n
+names-before n Matcher k is h = absurd h
+names-before n (All j) k is h = subst (λ l. l < n) h is
+names-before n (Fields names) k is h = name-number-below n names.items k is.0 h
+names-before n (Index i j) k is h = subst (λ l. l < n) h is
+names-before n (Range i l j) k is h = subst (λ l. l < n) h is
+names-before n (Recursive limit j) k is h = subst (λ l. l < n) h is
+names-before n (Union js) k is h = number-below n js.items k is h
+names-before n Edge k is h = absurd h
+
+-- no spot names the last place
+last_free : (m : ℕ) (xs : List Spot) (n : ℕ) → AreSpots m xs → m + length xs ≤ n + 1 → IsFree xs n
+last_free m [] n spots far = tt
+last_free m (x ∷ xs) n spots far = (λ h. let before = names-before m x n spots.0 h in absurd (omega arith), last_free (m + 1) xs n spots.1 (omega arith))
+
+pub last-free : (xs : List Spot) (n : ℕ) → AreSpots 0 xs → n + 1 ≡ length xs → IsFree xs n
+last-free xs n spots is = last_free 0 xs n spots (omega arith)
+
+free-append : (xs ys : List Spot) (k : ℕ) → IsFree xs k → IsFree ys k → IsFree (xs ++ ys) k
+free-append [] ys k a b = b
+free-append (x ∷ xs) ys k a b = (a.0, free-append xs ys k a.1 b)
+
+from_free : (m : ℕ) (xs : List Spot) (k : ℕ) → AreFrom m xs → k < m → IsFree xs k
+from_free m [] k from below = tt
+from_free m (x ∷ xs) k from below = (λ h. let above = from.0 k h in absurd (omega arith), from_free m xs k from.1 below)
+
+from-weaker : (m n : ℕ) (xs : List Spot) → m ≤ n → AreFrom n xs → AreFrom m xs
+from-weaker m n [] le from = tt
+from-weaker m n (x ∷ xs) le from = (λ k h. let above = from.0 k h in omega arith, from-weaker m n xs le from.1)
+
+from-append : (m : ℕ) (xs ys : List Spot) → AreFrom m xs → AreFrom m ys → AreFrom m (xs ++ ys)
+from-append m [] ys a b = b
+from-append m (x ∷ xs) ys a b = (a.0, from-append m xs ys a.1 b)
+
+once-push : (xs : List Spot) (y : Spot) → AreNamedOnce xs → ((k : ℕ) → Names y k → IsFree xs k) → AreNamedOnce (xs ++ y ∷ [])
+once-push [] y once free = (λ k h. tt, tt)
+once-push (x ∷ xs) y once free = (λ k h. free-append xs (y ∷ []) k (once.0 k h) (λ g. (free k g).0 h, tt), once-push xs y once.1 (λ k h. (free k h).1))
+
 -- ---- growing
 
-pub grows-nothing : (xs : List Spot) → AreSpots 0 xs → Grows xs xs
-grows-nothing xs h = record { more = []; grown = sym (append-nil xs); spots = h }
-
-pub grows-twice : (xs ys zs : List Spot) → Grows xs ys → Grows ys zs → Grows xs zs
-grows-twice xs ys zs g h = record { more = g.more ++ h.more; grown = h.grown ∙ ap (λ l. l ++ h.more) g.grown ∙ append_assoc xs g.more h.more; spots = h.spots }
-
-pub grows-one : (xs : List Spot) (x : Spot) → AreSpots 0 xs → IsSpot (length xs) x → Grows xs (xs ++ x ∷ [])
-grows-one xs x h one = record { more = x ∷ []; grown = refl; spots = spots-append 0 xs (x ∷ []) h (subst (λ n. IsSpot n x) {x = length xs} (omega arith) one, tt) }
+pub grows-nothing : (xs : List Spot) → AreSpots 0 xs → AreNamedOnce xs → Grows xs xs
+grows-nothing xs h once = record { more = []; grown = sym (append-nil xs); from = tt; spots = h; once = once }
 
 pub longer : (xs ys : List Spot) → Grows xs ys → length xs ≤ length ys
 longer xs ys g = let n : length ys ≡ length xs + length g.more = ap length g.grown ∙ length-append xs g.more in omega arith
+
+pub grows-twice : (xs ys zs : List Spot) → Grows xs ys → Grows ys zs → Grows xs zs
+grows-twice xs ys zs g h = record {
+  more = g.more ++ h.more;
+  grown = h.grown ∙ ap (λ l. l ++ h.more) g.grown ∙ append_assoc xs g.more h.more;
+  from = from-append (length xs) g.more h.more g.from (from-weaker (length xs) (length ys) h.more (longer xs ys g) h.from);
+  spots = h.spots;
+  once = h.once;
+}
+
+-- a spot that names places that were free behind the front
+pub grows-one : (xs ys : List Spot) (x : Spot) → Grows xs ys → IsSpot (length ys) x → ((k : ℕ) → Names x k → IsFreeFrom (length xs) ys k) → Grows xs (ys ++ x ∷ [])
+grows-one xs ys x g one free = record {
+  more = g.more ++ x ∷ [];
+  grown = ap (λ l. l ++ x ∷ []) g.grown ∙ append_assoc xs g.more (x ∷ []);
+  from = from-append (length xs) g.more (x ∷ []) g.from (λ k h. (free k h).0, tt);
+  spots = spots-append 0 ys (x ∷ []) g.spots (subst (λ n. IsSpot n x) {x = length ys} (omega arith) one, tt);
+  once = once-push ys x g.once (λ k h. (free k h).1);
+}
+
+-- a place that is free stays so
+pub free-kept : (xs ys : List Spot) → Grows xs ys → (k : ℕ) → k < length xs → IsFree xs k → IsFree ys k
+free-kept xs ys g k below free = subst (λ l. IsFree l k) (sym g.grown) (free-append xs g.more k free (from_free (length xs) g.more k g.from below))
+
+-- the last place is free
+pub one-free : (xs ys : List Spot) (n : ℕ) → length xs ≤ n → n + 1 ≡ length ys → AreSpots 0 ys → (k : ℕ) → n ≡ k → IsFreeFrom (length xs) ys k
+one-free xs ys n behind is spots k same = subst (IsFreeFrom (length xs) ys) same (behind, last-free ys n spots is)
+
+-- numbers that were free, and the last place
+pub numbers-free : (xs ms ys : List Spot) (ks : List ℕ) (n : ℕ) → length xs ≤ length ms → Grows ms ys → AreBelow (length ms) ks → ((k : ℕ) → IsNumber ks k → IsFreeFrom (length xs) ms k) → length ms ≤ n → n + 1 ≡ length ys
+    → (k : ℕ) → IsNumber (ks ++ n ∷ []) k → IsFreeFrom (length xs) ys k
+numbers-free xs ms ys ks n le g below free behind is k h =
+    ⊎_elim
+    (λ (old : IsNumber ks k). let was = free k old in (was.0, free-kept ms ys g k (number-below (length ms) ks k below old) was.1))
+    (λ (new : n ≡ k). one-free xs ys n (omega arith) is g.spots k new)
+    (number-push ks n k h)
+
+pub names-free : (xs ms ys : List Spot) (fs : List (Vec ℕ × ℕ)) (f : Vec ℕ × ℕ) → length xs ≤ length ms → Grows ms ys → AreNamedBelow (length ms) fs → ((k : ℕ) → HasNumber fs k → IsFreeFrom (length xs) ms k) → length ms ≤ f.1 → f.1 + 1 ≡ length ys
+    → (k : ℕ) → HasNumber (fs ++ f ∷ []) k → IsFreeFrom (length xs) ys k
+names-free xs ms ys fs f le g below free behind is k h =
+    ⊎_elim
+    (λ (old : HasNumber fs k). let was = free k old in (was.0, free-kept ms ys g k (name-number-below (length ms) fs k below old) was.1))
+    (λ (new : f.1 ≡ k). one-free xs ys f.1 (omega arith) is g.spots k new)
+    (named-push fs f k h)
 
 pub at-kept : (xs ys : List Spot) → Grows xs ys → (k : ℕ) → k < length xs → at (places_of ys) k ≡ at (places_of xs) k
 at-kept xs ys g k h = ap (λ l. at (places_of l) k) g.grown ∙ at-grown xs g.more k h

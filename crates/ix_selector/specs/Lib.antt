@@ -17,6 +17,7 @@ pub mod Ordered
 pub mod Views
 pub mod Places
 pub mod Grown
+pub mod Standing
 pub mod Named
 pub mod Pairs
 pub mod Reaching

@@ -1,5 +1,5 @@
 -- Places of a selector, each in the innermost recursion round it, and what they enter.
-use Rattle.std.specs.Prelude.{◌≡◌, ◌⊎◌, ℕ, ◌-◌, ◌<◌, max, nat_le, if◌then◌else◌, List, [], ◌∷◌, length, Option, Some, None}
+use Rattle.std.specs.Prelude.{◌≡◌, ◌⊎◌, ℕ, ◌+◌, ◌-◌, ◌<◌, ◌≤◌, max, nat_le, if◌then◌else◌, List, [], ◌∷◌, length, Option, Some, None}
 use Rattle.std.specs.List.{All, Contains}
 use Rattle.ix_selector.specs.declared.spot.Spot.{Spot}
 use Rattle.ix_selector.specs.declared.pair.Pair.{Pair}
@@ -8,6 +8,7 @@ use Rattle.ix_selector.specs.declared.reached.Reached.{Reached}
 use Rattle.ix_selector.specs.Pattern.{Pattern, matcher, all, fields, index, range, recursive, union, edge, Around, outside, unguarded, guarded, behind_step, MayStand, IsGuarded}
 use Rattle.ix_selector.specs.Enters.{Step, Path, Frame, Enters}
 use Rattle.ix_selector.specs.Places.{at, places_of}
+use Rattle.ix_selector.specs.Standing.{StandsIn}
 use Rattle.ix_selector.specs.Residual.{Place}
 
 -- the recursion behind one of its edges
@@ -64,21 +65,41 @@ abbrev pub IsSequence : List Spot → Option Recursion → Type 0
 IsSequence spots None = Unit {0}
 IsSequence spots (Some r) = (r.sequence < length spots) × IsGuarded unguarded (at (places_of spots) r.sequence)
 
--- a place of these, in a recursion whose sequence is one of them
-pub record IsPair (spots : List Spot) (x : Pair) : Type 0 where
-  pub within : x.place < length spots
-  pub guarded : IsGuarded (around x.recursion) (selector_at spots x)
-  pub sequence : IsSequence spots x.recursion
-
 -- the sequence of the innermost recursion
 abbrev pub sequence_of : Option Recursion → Option ℕ
 sequence_of None = None
 sequence_of (Some r) = Some r.sequence
 
+-- a place of these, in the innermost recursion round it
+pub record IsPair (spots : List Spot) (x : Pair) : Type 0 where
+  pub within : x.place < length spots
+  pub guarded : IsGuarded (around x.recursion) (selector_at spots x)
+  pub sequence : IsSequence spots x.recursion
+  pub stands : StandsIn spots x.place (sequence_of x.recursion)
+
 -- at the same place in the same recursion, with whatever depth
 pub record IsAt (x y : Pair) : Type 0 where
   pub place : y.place ≡ x.place
   pub sequence : sequence_of y.recursion ≡ sequence_of x.recursion
+
+-- pairs at one place stand in one recursion
+abbrev pub AgreesWith : Pair → Pair → Type 0
+AgreesWith x y = x.place ≡ y.place → sequence_of x.recursion ≡ sequence_of y.recursion
+
+pub record Agree (xs : List Pair) : Type 0 where
+  pub at : (x y : Pair) → Contains xs x → Contains xs y → AgreesWith x y
+
+-- each place is greater than those before it, and none is below a number
+abbrev pub AreRisingFrom : ℕ → List Pair → Type 0
+AreRisingFrom n [] = Unit {0}
+AreRisingFrom n (x ∷ xs) = (n ≤ x.place) × AreRisingFrom (x.place + 1) xs
+
+abbrev pub ArePlacesRising : List Pair → Type 0
+ArePlacesRising xs = AreRisingFrom 0 xs
+
+-- it is at the place of x or before it, and at that place in the recursion of x
+abbrev pub IsUpTo : Pair → Pair → Type 0
+IsUpTo x y = (y.place ≤ x.place) × AgreesWith y x
 
 -- at the place of one of these
 pub record IsOf (xs : List Pair) (y : Pair) : Type 0 where

@@ -1,5 +1,5 @@
 -- The places of a selector, by number: itself and the selectors inside it, each behind those inside it.
-use Rattle.std.specs.Prelude.{◌≡◌, ℕ, ◌+◌, ◌<◌, List, [], ◌∷◌, ◌++◌, map, get_or}
+use Rattle.std.specs.Prelude.{◌≡◌, ◌⊎◌, ℕ, ◌+◌, ◌<◌, ◌≤◌, List, [], ◌∷◌, ◌++◌, map, get_or}
 use Rattle.std.specs.Global.{Vec}
 use Rattle.std.specs.declared.cmp.Ordering.TheVariants.{Less}
 use Rattle.ix_cbor.specs.Spelling.{key_cmp}
@@ -68,3 +68,42 @@ IsSpot n Edge = Unit {0}
 abbrev pub AreSpots : ℕ → List Spot → Type 0
 AreSpots n [] = Unit {0}
 AreSpots n (x ∷ xs) = IsSpot n x × AreSpots (n + 1) xs
+
+-- ---- which places a spot names
+
+abbrev pub IsNumber : List ℕ → ℕ → Type 0
+IsNumber [] k = ⊥
+IsNumber (j ∷ js) k = (j ≡ k) ⊎ IsNumber js k
+
+abbrev pub HasNumber : List (Vec ℕ × ℕ) → ℕ → Type 0
+HasNumber [] k = ⊥
+HasNumber (f ∷ fs) k = (f.1 ≡ k) ⊎ HasNumber fs k
+
+abbrev pub Names : Spot → ℕ → Type 0
+Names Matcher k = ⊥
+Names (All j) k = j ≡ k
+Names (Fields names) k = HasNumber names.items k
+Names (Index i j) k = j ≡ k
+Names (Range i l j) k = j ≡ k
+Names (Recursive limit j) k = j ≡ k
+Names (Union js) k = IsNumber js.items k
+Names Edge k = ⊥
+
+-- no spot names the place
+abbrev pub IsFree : List Spot → ℕ → Type 0
+IsFree [] k = Unit {0}
+IsFree (x ∷ xs) k = (Names x k → ⊥) × IsFree xs k
+
+-- no two spots name one place
+abbrev pub AreNamedOnce : List Spot → Type 0
+AreNamedOnce [] = Unit {0}
+AreNamedOnce (x ∷ xs) = ((k : ℕ) → Names x k → IsFree xs k) × AreNamedOnce xs
+
+-- the spots name places from a number on
+abbrev pub AreFrom : ℕ → List Spot → Type 0
+AreFrom m [] = Unit {0}
+AreFrom m (x ∷ xs) = ((k : ℕ) → Names x k → m ≤ k) × AreFrom m xs
+
+-- no spot names the place, which is from a number on
+abbrev pub IsFreeFrom : ℕ → List Spot → ℕ → Type 0
+IsFreeFrom m xs k = (m ≤ k) × IsFree xs k

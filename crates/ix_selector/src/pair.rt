@@ -1,7 +1,7 @@
 //! Places of a selector, each in the innermost recursion round it.
 
-ghost use Rattle.std.specs.Prelude.{◌≡◌, IfSome};
-ghost use Rattle.ix_selector.specs.Pairs.{lowered, deeper, IsJoined};
+ghost use Rattle.std.specs.Prelude.{◌≡◌, ◌≢◌, IfSome, IfNone};
+ghost use Rattle.ix_selector.specs.Pairs.{lowered, deeper, IsJoined, AgreesWith};
 
 use smallvec::SmallVec;
 
@@ -54,7 +54,8 @@ impl Pair {
     /// One pair for two ways to a place in one recursion: that with the greater depth enters what
     /// both enter.
     pub(crate) fn joined(self, other: Pair) -> Option<Pair>
-        ensures { IfSome result (IsJoined self other) }
+        ensures some { IfSome result (IsJoined self other) }
+        ensures none { IfNone result (AgreesWith self other → self.place ≢ other.place) }
     {
         if self.place != other.place {
             return None;

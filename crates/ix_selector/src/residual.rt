@@ -5,6 +5,7 @@ ghost use Rattle.ix_selector.specs.Enters.{Enters, Path};
 ghost use Rattle.ix_selector.specs.IsEntered.{is_entered};
 ghost use Rattle.ix_selector.specs.Residual.{ResidualEnters, residual_enters, step_of, IsBehind};
 
+use crate::merge::merged;
 use crate::pair::{Pair, Pairs};
 use crate::reached::{Reached, reach};
 use crate::selector::Selector;
@@ -23,9 +24,9 @@ pub struct Residual<'s> {
 }
 
 impl<'s> Model for Residual<'s> {
-    ghost use Rattle.std.specs.Prelude.{List, map};
+    ghost use Rattle.std.specs.Prelude.{◌≤◌, List, map, length};
     ghost use Rattle.std.specs.List.{All};
-    ghost use Rattle.ix_selector.specs.Places.{AreSpots};
+    ghost use Rattle.ix_selector.specs.Places.{AreSpots, AreNamedOnce};
     ghost use Rattle.ix_selector.specs.Pairs.{place_of, IsPair, IsStanding};
     ghost use Rattle.ix_selector.specs.Residual.{Place, coded_places};
 
@@ -35,7 +36,7 @@ impl<'s> Model for Residual<'s> {
 
     ghost view = { λ r. map (place_of r.spots.now) r.pairs.items };
 
-    ghost invariant = { λ r. AreSpots 0 r.spots.now × All (IsPair r.spots.now) r.pairs.items × All (IsStanding r.spots.now) r.pairs.items };
+    ghost invariant = { λ r. AreSpots 0 r.spots.now × All (IsPair r.spots.now) r.pairs.items × All (IsStanding r.spots.now) r.pairs.items × AreNamedOnce r.spots.now × (length r.pairs.items ≤ length r.spots.now) };
 }
 
 impl<'s> Residual<'s> {
@@ -51,7 +52,7 @@ impl<'s> Residual<'s> {
             recursion: None,
         };
         reach(spots, root, &mut reached)?;
-        let pairs = reached.standing;
+        let pairs = merged(alloc, reached.standing)?;
         Ok(Residual { spots, pairs })
     }
 

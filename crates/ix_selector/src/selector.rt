@@ -1,8 +1,8 @@
 //! Selectors that keep the rules on edges.
 
-ghost use Rattle.std.specs.Prelude.{◌≡◌, ◌+◌, ◌<◌, length, IfOk};
+ghost use Rattle.std.specs.Prelude.{◌≡◌, ◌+◌, length, IfOk};
 ghost use Rattle.ix_selector.specs.Pattern.{IsSelector};
-ghost use Rattle.ix_selector.specs.Places.{at, places_of, AreSpots};
+ghost use Rattle.ix_selector.specs.Places.{at, places_of, AreSpots, AreNamedOnce};
 ghost use Rattle.ix_selector.specs.Reading.{selector_of};
 ghost use Rattle.ix_selector.specs.Gives.{Gives};
 
@@ -22,10 +22,10 @@ pub struct Selector {
 }
 
 impl Model for Selector {
-    ghost use Rattle.std.specs.Prelude.{◌<◌, length};
+    ghost use Rattle.std.specs.Prelude.{◌≡◌, ◌+◌, length};
     ghost use Rattle.ix_selector.specs.Pattern.{Pattern, IsSelector};
     ghost use Rattle.ix_selector.specs.PatternCode.{coded_pattern};
-    ghost use Rattle.ix_selector.specs.Places.{at, places_of, AreSpots};
+    ghost use Rattle.ix_selector.specs.Places.{at, places_of, AreSpots, AreNamedOnce};
 
     ghost Value = { Pattern };
 
@@ -33,7 +33,7 @@ impl Model for Selector {
 
     ghost view = { λ s. at (places_of s.spots.items) s.root };
 
-    ghost invariant = { λ s. IsSelector (at (places_of s.spots.items) s.root) × AreSpots 0 s.spots.items × (s.root < length s.spots.items) };
+    ghost invariant = { λ s. IsSelector (at (places_of s.spots.items) s.root) × AreSpots 0 s.spots.items × AreNamedOnce s.spots.items × (s.root + 1 ≡ length s.spots.items) };
 }
 
 impl Selector {
@@ -51,7 +51,8 @@ impl Selector {
     /// Its places, and the number of its own.
     pub(crate) fn places(&self) -> (&[Spot], usize)
         ensures spots { AreSpots 0 result.0.now }
-        ensures root { (result.1 < length result.0.now) × (at (places_of result.0.now) result.1 ≡ self.now) }
+        ensures once { AreNamedOnce result.0.now }
+        ensures root { (result.1 + 1 ≡ length result.0.now) × (at (places_of result.0.now) result.1 ≡ self.now) }
         ensures selector { IsSelector self.now }
     {
         (self.spots.as_slice(), self.root)

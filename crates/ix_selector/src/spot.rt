@@ -1,10 +1,10 @@
 //! The places of a selector: itself and the selectors inside it, by number.
 
-ghost use Rattle.std.specs.Prelude.{◌≡◌, ◌+◌, ◌<◌, map, length, IfOk};
+ghost use Rattle.std.specs.Prelude.{◌≡◌, ℕ, ◌+◌, ◌<◌, ◌≤◌, map, length, IfOk};
 ghost use Rattle.ix_selector.specs.Pattern.{pattern_of, fields_of, members_of};
 ghost use Rattle.ix_selector.specs.Ordered.{IsOrdered, AreOrdered, EachOrdered};
 ghost use Rattle.ix_selector.specs.Views.{seen_field};
-ghost use Rattle.ix_selector.specs.Places.{at, named_at, places_of, AreSpots, IsSpot, seen, AreRising, AreNamedBelow, AreBelow};
+ghost use Rattle.ix_selector.specs.Places.{at, named_at, places_of, AreSpots, AreNamedOnce, IsSpot, seen, AreRising, AreNamedBelow, AreBelow, IsNumber, HasNumber, Names, IsFreeFrom};
 ghost use Rattle.ix_selector.specs.Grown.{Grows};
 
 use crate::sel::Sel;
@@ -34,9 +34,11 @@ pub(crate) fn push_spots(
 ) -> Result<usize, AllocError>
     requires ordered { IsOrdered (pattern_of sel.now) }
     requires spots { AreSpots 0 spots.old.items }
+    requires once { AreNamedOnce spots.old.items }
     ensures grows { IfOk result (λ _. Grows spots.old.items spots.new.items) }
     ensures place { IfOk result (λ n. (n < length spots.new.items) × (at (places_of spots.new.items) n ≡ pattern_of sel.now)) }
     ensures last { IfOk result (λ n. n + 1 ≡ length spots.new.items) }
+    ensures behind { IfOk result (λ n. length spots.old.items ≤ n) }
 {
     let spot = spot_of(alloc, sel, spots)?;
     let number = spots.len();
@@ -49,8 +51,10 @@ pub(crate) fn push_spots(
 fn spot_of(alloc: Global, sel: &Sel, spots: &mut Vec<Spot>) -> Result<Spot, AllocError>
     requires ordered { IsOrdered (pattern_of sel.now) }
     requires spots { AreSpots 0 spots.old.items }
+    requires once { AreNamedOnce spots.old.items }
     ensures grows { IfOk result (λ _. Grows spots.old.items spots.new.items) }
     ensures spot { IfOk result (λ x. IsSpot (length spots.new.items) x × (seen (places_of spots.new.items) x ≡ pattern_of sel.now)) }
+    ensures free { IfOk result (λ x. (k : ℕ) → Names x k → IsFreeFrom (length spots.old.items) spots.new.items k) }
 {
     match sel {
         Sel::Matcher => Ok(Spot::Matcher),
@@ -77,8 +81,10 @@ fn push_fields(
 ) -> Result<Vec<(Vec<u8>, usize)>, AllocError>
     requires ordered { AreOrdered (fields_of (map seen_field fields.now)) }
     requires spots { AreSpots 0 spots.old.items }
+    requires once { AreNamedOnce spots.old.items }
     ensures grows { IfOk result (λ _. Grows spots.old.items spots.new.items) }
     ensures named { IfOk result (λ names. AreNamedBelow (length spots.new.items) names.items × AreRising names.items × (map (named_at (places_of spots.new.items)) names.items ≡ map seen_field fields.now)) }
+    ensures free { IfOk result (λ names. (k : ℕ) → HasNumber names.items k → IsFreeFrom (length spots.old.items) spots.new.items k) }
 {
     let mut names = Vec::new(alloc);
     for (name, sel) in fields {
@@ -97,8 +103,10 @@ fn push_members(
 ) -> Result<Vec<usize>, AllocError>
     requires ordered { EachOrdered (members_of (map pattern_of members.now)) }
     requires spots { AreSpots 0 spots.old.items }
+    requires once { AreNamedOnce spots.old.items }
     ensures grows { IfOk result (λ _. Grows spots.old.items spots.new.items) }
     ensures members { IfOk result (λ numbers. AreBelow (length spots.new.items) numbers.items × (map (at (places_of spots.new.items)) numbers.items ≡ map pattern_of members.now)) }
+    ensures free { IfOk result (λ numbers. (k : ℕ) → IsNumber numbers.items k → IsFreeFrom (length spots.old.items) spots.new.items k) }
 {
     let mut numbers = Vec::new(alloc);
     for sel in members {

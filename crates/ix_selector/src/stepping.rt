@@ -1,8 +1,9 @@
 //! Steps from the places of a selector to those behind them.
 
-ghost use Rattle.std.specs.Prelude.{◌≡◌, ◌∷◌, ◌<◌, length, IfOk, OnOk, IfSome, IfNone};
+ghost use Rattle.std.specs.Prelude.{◌∷◌, ◌<◌, ◌≤◌, length, IfOk, OnOk, IfSome, IfNone};
 ghost use Rattle.std.specs.List.{All};
-ghost use Rattle.ix_selector.specs.Places.{at, places_of, AreSpots, AreRising};
+ghost use Rattle.ix_selector.specs.Places.{at, places_of, AreSpots, AreNamedOnce, AreRising};
+ghost use Rattle.ix_selector.specs.Standing.{IsBeside};
 ghost use Rattle.ix_selector.specs.Named.{HasName, HasNoName};
 ghost use Rattle.ix_selector.specs.Pairs.{selector_at, Stands, IsPair, IsStanding, AreReached, ReachedEnters, EntersAt, SomeEnter, Joins, Same, LeadsTo, LeadsNowhere};
 ghost use Rattle.ix_selector.specs.Enters.{Path};
@@ -37,6 +38,7 @@ fn behind(spots: &[Spot], place: usize, step: &Step) -> Option<usize>
     requires spots { AreSpots 0 spots.now }
     requires place { place < length spots.now }
     ensures within { IfSome result (λ k. k < length spots.now) }
+    ensures beside { IfSome result (IsBeside spots.now place) }
     ensures some { IfSome result (λ k. LeadsTo (at (places_of spots.now) place) (step_of step.now) (at (places_of spots.now) k)) }
     ensures none { IfNone result (Stands (at (places_of spots.now) place) → LeadsNowhere (at (places_of spots.now) place) (step_of step.now)) }
 {
@@ -74,8 +76,10 @@ fn step_from(
 // The places that stand, where the sequences that edges enter again are reached too.
 fn entered_again(alloc: Global, spots: &[Spot], reached: Reached) -> Result<Pairs, AllocError>
     requires spots { AreSpots 0 spots.now }
+    requires once { AreNamedOnce spots.now }
     requires reached { AreReached spots.now reached }
     ensures pairs { IfOk result (λ r. All (IsPair spots.now) r.items × All (IsStanding spots.now) r.items) }
+    ensures few { IfOk result (λ r. length r.items ≤ length spots.now) }
     ensures enters { IfOk result (λ r. Same (SomeEnter spots.now r.items) (ReachedEnters spots.now reached)) }
 {
     let Reached { standing, again } = reached;
@@ -98,8 +102,10 @@ pub(crate) fn stepped(
     step: &Step,
 ) -> Result<Pairs, AllocError>
     requires spots { AreSpots 0 spots.now }
+    requires once { AreNamedOnce spots.now }
     requires pairs { All (IsPair spots.now) pairs.now × All (IsStanding spots.now) pairs.now }
     ensures pairs { IfOk result (λ r. All (IsPair spots.now) r.items × All (IsStanding spots.now) r.items) }
+    ensures few { IfOk result (λ r. length r.items ≤ length spots.now) }
     ensures enters { IfOk result (λ r. Same (SomeEnter spots.now r.items) (λ p. SomeEnter spots.now pairs.now (step_of step.now ∷ p))) }
 {
     let mut reached = Reached::new(alloc);

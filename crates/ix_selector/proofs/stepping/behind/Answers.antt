@@ -1,4 +1,4 @@
-use Rattle.std.proofs.Common.{◌≡◌, ◌<◌, true, false, rules, arith, length, get_or, sym, subst, ◌∙◌, to_z, of_z}
+use Rattle.std.proofs.Common.{refl, ◌≡◌, ◌<◌, true, false, rules, arith, length, get_or, sym, subst, ◌∙◌, to_z, of_z}
 use mir.Syntax.{w128}
 use Rattle.std.proofs.lemmas.Int.{to_z-of_z}
 use Rattle.std.proofs.lemmas.Option.{IfSome_then}
@@ -8,9 +8,10 @@ use Rattle.ix_selector.specs.Places.{at, places_of, AreRising}
 use Rattle.ix_selector.specs.Named.{HasName, HasNoName}
 use Rattle.ix_selector.specs.Residual.{step_of}
 use Rattle.ix_selector.specs.Pairs.{Stands, LeadsTo, LeadsNowhere}
+use Rattle.ix_selector.specs.Standing.{IsBeside}
 use Rattle.ix_selector.proofs.Inside.{place-is, spot-is}
 use Rattle.ix_selector.proofs.Named.{fields_lead, fields_nowhere}
-use Rattle.ix_selector.proofs.Leading.{all_leads, index_leads, index_nowhere, range_leads, range_nowhere, chosen-some, chosen-none, if-none, default-nowhere, name-below}
+use Rattle.ix_selector.proofs.Leading.{all_leads, index_leads, index_nowhere, range_leads, range_nowhere, chosen-some, chosen-none, if-none, default-nowhere, name-below, name-number}
 use Rattle.ix_selector.proofs.stepping.behind.Goals as goal
 
 pub named-requires : goal.named-requires
@@ -117,3 +118,31 @@ returns-in_default-clause-none c =
     let ps = places_of c.args.spots.now in
     subst (λ s. Stands s → LeadsNowhere s (step_of c.args.step.now)) (sym (place-is c.args.spots.now c.args.place c.index-spots-place.result c.requires.spots c.requires.place c.index-spots-place.is))
     (default-nowhere ps c.index-spots-place.result c.in_default.not-All c.in_default.not-Fields c.in_default.not-Index c.in_default.not-Range (step_of c.args.step.now))
+
+pub returns-in-All-clause-beside : goal.returns-in-All-clause-beside
+returns-in-All-clause-beside c =
+    let is = subst (λ y. y ≡ get_or c.args.spots.now c.args.place y) c.in-All.is c.index-spots-place.is in
+    record { spot = All c.in-All.next; within = c.requires.place; is = is; names = refl }
+
+pub returns-in-Fields-clause-beside : goal.returns-in-Fields-clause-beside
+returns-in-Fields-clause-beside c =
+    let is = subst (λ y. y ≡ get_or c.args.spots.now c.args.place y) c.in-Fields.is c.index-spots-place.is in
+    IfSome_then c.named.result c.named.ensures.some
+    (λ k has. record {
+      spot = Fields c.in-Fields.names;
+      within = c.requires.place;
+      is = is;
+      names = name-number c.in-Fields.names.items (step_of c.args.step.now) k (subst (λ l. HasName l (step_of c.args.step.now) k) c.deref.ensures.value has);
+    })
+
+pub returns-in-Index-clause-beside : goal.returns-in-Index-clause-beside
+returns-in-Index-clause-beside c =
+    let is = subst (λ y. y ≡ get_or c.args.spots.now c.args.place y) c.in-Index.is c.index-spots-place.is in
+    chosen-some (IsBeside c.args.spots.now c.args.place) c.is_at.result c.in-Index.next c.then_some.result c.then_some.ensures
+    (λ e. record { spot = Index c.in-Index.position c.in-Index.next; within = c.requires.place; is = is; names = refl })
+
+pub returns-in-Range-clause-beside : goal.returns-in-Range-clause-beside
+returns-in-Range-clause-beside c =
+    let is = subst (λ y. y ≡ get_or c.args.spots.now c.args.place y) c.in-Range.is c.index-spots-place.is in
+    chosen-some (IsBeside c.args.spots.now c.args.place) c.is_within.result c.in-Range.next c.then_some-in-Range.result c.then_some-in-Range.ensures
+    (λ e. record { spot = Range c.in-Range.start c.in-Range.end c.in-Range.next; within = c.requires.place; is = is; names = refl })

@@ -4,7 +4,7 @@ use Rattle.std.proofs.lemmas.Result.{IfOk-weaker}
 use Rattle.std.specs.List.{All}
 use Rattle.ix_selector.specs.Pairs.{HasNoEdge, SomeEnter, ReachedEnters, Same, EnterSame}
 use Rattle.ix_selector.specs.declared.reached.Reached.{Reached}
-use Rattle.ix_selector.proofs.Merging.{no_edge-of}
+use Rattle.ix_selector.proofs.Merging.{no_edge-of, pairs-agree, both-ok, pairs-of, few-pairs}
 use Rattle.ix_selector.proofs.Reaching.{Reaches, reaches-next}
 use Rattle.ix_selector.proofs.Residues.{again-done, same-twice}
 use Rattle.ix_selector.proofs.stepping.entered_again.Goals as goal
@@ -26,3 +26,15 @@ returns-clause-enters c =
     (λ r merged. same-twice (SomeEnter spots r.items) (SomeEnter spots c.loop-pair.reached.standing.items) (ReachedEnters spots c.args.reached) (merged spots)
     (again-done spots c.args.reached start c.loop-pair.reached items refl c.new.ensures.items all same none))
     c.merged-2.ensures.enters
+
+pub merged-requires : goal.merged-requires
+merged-requires c = record { agree = pairs-agree c.args.spots.now c.args.reached.again.items c.requires.once c.requires.reached.again }
+
+pub merged-requires-2 : goal.merged-requires-2
+merged-requires-2 c = record { agree = pairs-agree c.args.spots.now c.loop-pair.reached.standing.items c.requires.once c.loop-pair.invariant.reached.pairs }
+
+pub returns-clause-few : goal.returns-clause-few
+returns-clause-few c =
+    let spots = c.args.spots.now in
+    both-ok c.merged-2.result
+    (λ r among rising. few-pairs spots r.items rising (pairs-of spots c.loop-pair.reached.standing.items r.items among c.loop-pair.invariant.reached.pairs)) c.merged-2.ensures.among c.merged-2.ensures.rising

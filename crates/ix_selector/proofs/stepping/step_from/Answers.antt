@@ -7,7 +7,7 @@ use Rattle.ix_selector.proofs.Leading.{behind-pair, behind-enters}
 use Rattle.ix_selector.proofs.stepping.step_from.Goals as goal
 
 pub reach-requires-clause-pair : goal.reach-requires-clause-pair
-reach-requires-clause-pair c = behind-pair c.args.spots.now c.args.pair (step_of c.args.step.now) c.in-Some.place c.requires.pair.0 c.in-Some.ensures.within c.in-Some.ensures.some
+reach-requires-clause-pair c = behind-pair c.args.spots.now c.args.pair (step_of c.args.step.now) c.in-Some.place c.requires.pair.0 c.in-Some.ensures.within c.in-Some.ensures.beside c.in-Some.ensures.some
 
 pub returns-in-Some-clause-enters : goal.returns-in-Some-clause-enters
 returns-in-Some-clause-enters c =

@@ -13,7 +13,7 @@ push_spots-requires-clause-ordered c =
 pub invariant_of-result : goal.invariant_of-result
 invariant_of-result c =
     let is = reads_selector (data_of c.root.result.now) (pattern_of c.in_ok-sel.sel) c.in_ok-sel.ensures in
-    (subst IsSelector (sym c.in_ok-root.ensures.place.1) is, c.in_ok-root.ensures.grows.spots, c.in_ok-root.ensures.place.0)
+    (subst IsSelector (sym c.in_ok-root.ensures.place.1) is, c.in_ok-root.ensures.grows.spots, c.in_ok-root.ensures.grows.once, c.in_ok-root.ensures.last)
 
 pub returns-clause-selector : goal.returns-clause-selector
 returns-clause-selector c =
