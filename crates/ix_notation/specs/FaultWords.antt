@@ -45,7 +45,7 @@ selector_words sel.Memory = codes "no memory"
 abbrev pub line_of : NotationFault → List ℕ
 line_of (Json place) = codes "selector: no JSON at " ++ decimal place
 line_of Repeated = codes "selector: repeated key"
-line_of Number = codes "selector: number out of range"
+line_of Number = codes "selector: not an integer from -2^64 to 2^64 - 1"
 line_of Hex = codes "selector: hex"
 line_of (Block fault) = codes "selector: " ++ (block_words fault.kind ++ (codes " at " ++ decimal fault.place))
 line_of (Selector fault) = codes "selector: " ++ selector_words fault
