@@ -3,7 +3,7 @@
 ghost use Rattle.std.specs.Prelude.{◌≡◌, Ok, IfOk, IfErr, string_bytes};
 ghost use Rattle.ix_cbor.specs.Spelling.{IsCanonical};
 ghost use Rattle.ix_selector.specs.Reading.{selector_of};
-ghost use Rattle.ix_notation.specs.Notation.{IsSelectorHex, IsSelectorData, IsSelectorOf, IsRefused};
+ghost use Rattle.ix_notation.specs.Notation.{IsSelectorHex, IsSelectorJson, IsSelectorOf, IsRefused};
 
 use crate::fault::NotationFault;
 use crate::print::text_of;
@@ -28,7 +28,7 @@ pub fn hex_of_json(alloc: Global, text: &[u8]) -> Result<String, NotationFault>
 
 /// The same selector as JSON with a line end, out of its DAG-CBOR in hexadecimal.
 pub fn json_of_hex(alloc: Global, text: &str) -> Result<String, NotationFault>
-    ensures selector { IfOk result (λ line. IsSelectorData text.now) }
+    ensures selector { IfOk result (λ line. IsSelectorJson text.now (string_bytes line)) }
 {
     let bytes = match hex::decode(alloc, text.as_bytes()) {
         Ok(bytes) => bytes,
