@@ -39,7 +39,7 @@ fail() {
 run() {
   title="request $1 and threads $2 refused of ${*:3}"
   runs=$((runs + 1))
-  rm -rf out
+  rm -rf out counts
   mkdir out
   status=0
   REFUSE_REQUEST=$1 REFUSE_THREADS=$2 REFUSE_COUNTS=$scratch/counts LD_PRELOAD=$library \
@@ -103,6 +103,7 @@ each_request() {
     read -r begun _ <counts
     [ "$begun" -le "$requests" ] || requests=$begun
   done
+  [ "$requests" -gt 0 ] || fail 'no request was counted'
   while [ "$request" -lt "$requests" ]; do
     request=$((request + 1))
     run "$request" 0 "$@"

@@ -15,6 +15,7 @@ extern void *dlsym(void *, const char *);
 extern int open(const char *, int, ...);
 extern int dprintf(int, const char *, ...);
 extern int close(int);
+extern int *__errno_location(void);
 extern void *__libc_malloc(size_t);
 extern void *__libc_calloc(size_t, size_t);
 extern void *__libc_realloc(void *, size_t);
@@ -39,7 +40,7 @@ __attribute__((constructor)) static void begin(void) {
   armed = 1;
 }
 
-__attribute__((destructor)) static void end(void) {
+static void tell(void) {
   const char *path = getenv("REFUSE_COUNTS");
   armed = 0;
   int file = path ? open(path, WRITE_NEW, 0644) : -1;
@@ -49,10 +50,20 @@ __attribute__((destructor)) static void end(void) {
   }
 }
 
+/* The program ends here, and no destructor runs. */
+void _exit(int status) {
+  void (*leave)(int) = dlsym(NEXT, "_exit");
+  tell();
+  leave(status);
+  __builtin_unreachable();
+}
+
 /* Whether this request is the one to be refused. */
 static int is_refused(void) {
   if (!armed) return 0;
-  return __atomic_add_fetch(&requests, 1, __ATOMIC_SEQ_CST) == refused_request;
+  if (__atomic_add_fetch(&requests, 1, __ATOMIC_SEQ_CST) != refused_request) return 0;
+  *__errno_location() = NO_MEMORY;
+  return 1;
 }
 
 void *malloc(size_t size) { return is_refused() ? 0 : __libc_malloc(size); }
