@@ -4,7 +4,7 @@ use Rattle.std.specs.Prelude.{Option, Some, None, Result, Ok, Err, IfOk}
 use Rattle.std.specs.List.{All, Contains, refill}
 use Rattle.std.specs.List.Sorted.{IsPermutation, IsNonDecreasingBy}
 use Rattle.std.proofs.lemmas.List.{take_more, take_all, drop_all, append-nil, get_or_default, get_or-take, length-take-le}
-use Rattle.std.proofs.lemmas.List.Elements.{All-nil, All-head, All-tail, All-push, All-weaker, All-contains, All-contains_itself, Contains-append_left, Contains-push}
+use Rattle.std.proofs.lemmas.List.Elements.{All-head, All-tail, All-push, All-weaker, All-contains, All-contains_itself, Contains-append_left, Contains-push}
 use Rattle.std.proofs.lemmas.List.Sorted.{Contains-permutation, IsPermutation-sym, length_permutation}
 use Rattle.ix_selector.specs.declared.spot.Spot.{Spot}
 use Rattle.ix_selector.specs.declared.pair.Pair.{Pair}
@@ -144,9 +144,6 @@ pub record Merged (rs xs : List Pair) : Type 0 where
   pub enters : EnterSame rs xs
   pub among : All (IsOf xs) rs
   pub rising : ArePlacesRising rs
-
-pub merged-none : Merged [] []
-merged-none = record { enters = λ spots p. (λ h. h, λ h. h); among = All-nil (IsOf []); rising = tt }
 
 -- what is of pairs that are of others is of the others
 at-twice : (x y z : Pair) → IsAt x y → IsAt y z → IsAt x z

@@ -1,5 +1,5 @@
 -- What pairs enter, and what is added where one more is reached.
-use Rattle.std.proofs.Common.{◌≡◌, ℕ, ◌+◌, ◌<◌, ◌⊎◌, inl, inr, ⊎_elim, List, [], ◌∷◌, ◌++◌, take, get_or, length, refl, sym, ◌∙◌, ap, subst, arith}
+use Rattle.std.proofs.Common.{◌≡◌, ℕ, ◌+◌, ◌<◌, ◌⊎◌, inl, inr, ⊎_elim, List, [], ◌∷◌, ◌++◌, take, get_or, length, sym, ◌∙◌, ap, subst, arith}
 use Rattle.std.specs.List.{All, Contains}
 use Rattle.std.specs.List.Sorted.{IsPermutation}
 use Rattle.std.proofs.lemmas.List.{take_more}
@@ -130,9 +130,6 @@ pub record Reaches (spots : List Spot) (old new : Reached) (xs : List Pair) : Ty
   pub reached : AreReached spots new
   pub enters : Joins (ReachedEnters spots new) (ReachedEnters spots old) (SomeEnter spots xs)
   pub again : All (HasNoEdge spots) xs → new.again.items ≡ old.again.items
-
-pub reaches-none : (spots : List Spot) (r : Reached) → AreReached spots r → Reaches spots r r []
-reaches-none spots r is = record { reached = is; enters = joins-nothing (ReachedEnters spots r) (SomeEnter spots []) (none-enter spots); again = λ h. refl }
 
 -- one more
 pub reaches-more : (spots : List Spot) (old mid new : Reached) (xs : List Pair) (x : Pair) → Reaches spots old mid xs → AreReached spots new

@@ -4,7 +4,7 @@ use Rattle.std.specs.Prelude.{Option, Some, None}
 use Rattle.std.proofs.lemmas.Bool.{eqb-true}
 use Rattle.std.specs.List.{All}
 use Rattle.std.proofs.lemmas.List.{take_more}
-use Rattle.std.proofs.lemmas.List.Elements.{All-nil, All-head, All-tail}
+use Rattle.std.proofs.lemmas.List.Elements.{All-head, All-tail}
 use Rattle.ix_selector.specs.declared.spot.Spot.{Spot}
 use Rattle.ix_selector.specs.declared.pair.Pair.{Pair}
 use Rattle.ix_selector.specs.declared.pair.Recursion.{Recursion}
@@ -105,20 +105,6 @@ module _ (spots : List Spot) (n : ℕ) (s : Pattern) (is : at (places_of spots) 
 pub record Stepped (spots : List Spot) (t : Step) (r : Reached) (xs : List Pair) : Type 0 where
   pub reached : AreReached spots r
   pub enters : Same (ReachedEnters spots r) (λ p. SomeEnter spots xs (t ∷ p))
-
-pub reached-nothing : (spots : List Spot) (r : Reached) → r.standing.items ≡ [] → r.again.items ≡ [] → AreReached spots r
-reached-nothing spots r nothing none = record {
-  pairs = subst (All (IsPair spots)) (sym nothing) (All-nil (IsPair spots));
-  standing = subst (All (IsStanding spots)) (sym nothing) (All-nil (IsStanding spots));
-  again = subst (All (IsPair spots)) (sym none) (All-nil (IsPair spots));
-  sequences = subst (All (HasNoEdge spots)) (sym none) (All-nil (HasNoEdge spots));
-}
-
-pub stepped-nothing : (spots : List Spot) (t : Step) (r : Reached) → r.standing.items ≡ [] → r.again.items ≡ [] → Stepped spots t r []
-stepped-nothing spots t r nothing none = record {
-  reached = reached-nothing spots r nothing none;
-  enters = λ p. (λ h. absurd (empty_enters spots r p nothing none h), λ h. absurd (none-enter spots (t ∷ p) h));
-}
 
 pub stepped-more : (spots : List Spot) (t : Step) (old new : Reached) (xs : List Pair) (i : ℕ) (x : Pair) → i < length xs → x ≡ get_or xs i x → Stepped spots t old (take i xs) → AreReached spots new
     → Joins (ReachedEnters spots new) (ReachedEnters spots old) (λ p. EntersAt spots x (t ∷ p)) → Stepped spots t new (take (i + 1) xs)

@@ -186,9 +186,6 @@ once-push (x ∷ xs) y once free = (λ k h. free-append xs (y ∷ []) k (once.0 
 
 -- ---- growing
 
-pub grows-nothing : (xs : List Spot) → AreSpots 0 xs → AreNamedOnce xs → Grows xs xs
-grows-nothing xs h once = record { more = []; grown = sym (append-nil xs); from = tt; spots = h; once = once }
-
 pub longer : (xs ys : List Spot) → Grows xs ys → length xs ≤ length ys
 longer xs ys g = let n : length ys ≡ length xs + length g.more = ap length g.grown ∙ length-append xs g.more in omega arith
 
@@ -235,9 +232,6 @@ names-free xs ms ys fs f le g below free behind is k h =
     (λ (old : HasNumber fs k). let was = free k old in (was.0, free-kept ms ys g k (name-number-below (length ms) fs k below old) was.1))
     (λ (new : f.1 ≡ k). one-free xs ys f.1 (omega arith) is g.spots k new)
     (named-push fs f k h)
-
-pub at-kept : (xs ys : List Spot) → Grows xs ys → (k : ℕ) → k < length xs → at (places_of ys) k ≡ at (places_of xs) k
-at-kept xs ys g k h = ap (λ l. at (places_of l) k) g.grown ∙ at-grown xs g.more k h
 
 pub map-kept : (xs ys : List Spot) → Grows xs ys → (ks : List ℕ) → AreBelow (length xs) ks → map (at (places_of ys)) ks ≡ map (at (places_of xs)) ks
 map-kept xs ys g ks h = ap (λ l. map (at (places_of l)) ks) g.grown ∙ map-grown xs g.more ks h
