@@ -200,6 +200,29 @@ def body(car, chance, levels):
     return car.add(DAG_CBOR, map_of({"x": links[0], "list": list_of(links[1:])}))
 
 
+def hostile(car, size, chance):
+    """Selectors whose ways to one place are many, and wide ones: a union of two that doubles the ways at each step,
+    and five recursions inside one another, along a chain of lists; a union of as many members as the size over a
+    short chain; as many fields as the size over a map of as many keys."""
+    leaf = car.add(RAW, chance.randbytes(40))
+    chain = car.add(DAG_CBOR, list_of([link(leaf)]))
+    for number in range(size):
+        chain = car.add(DAG_CBOR, list_of([link(chain)]))
+        if number < 21:
+            short = chain
+    names = [f"name-{number}" for number in range(size)]
+    wide_map = car.add(DAG_CBOR, map_of(dict.fromkeys(names, link(leaf))))
+    inside = recursion(everywhere(EDGE))
+    for _ in range(4):
+        inside = recursion(union(everywhere(EDGE), inside))
+    return [
+        job("doubling", chain, recursion(union(everywhere(EDGE), everywhere(EDGE)))),
+        job("inside", chain, inside),
+        job("union", short, recursion(union(*[everywhere(EDGE)] * size))),
+        job("fields", wide_map, fields(**dict.fromkeys(names, MATCHER))),
+    ]
+
+
 def under_digests(car, size, digest):
     """Small raw blocks under these digests, and a job over one more block: nearly all is loading."""
     for place in range(size - 1):
@@ -226,7 +249,7 @@ def bucket_cids(car, size, chance):
     return under_digests(car, size, lambda: chance.randbytes(24) + middle + chance.randbytes(4))
 
 
-MAKERS = (leaves, small, deep, shared, nested, random_cids, prefix_cids, bucket_cids)
+MAKERS = (leaves, small, deep, shared, nested, hostile, random_cids, prefix_cids, bucket_cids)
 WORKLOADS = {make.__name__.replace("_", "-"): make for make in MAKERS}
 
 

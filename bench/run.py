@@ -22,20 +22,27 @@ SIZES = {
     "deep": 200_000,
     "shared": 10_000,
     "nested": 220_000,
+    "hostile": 16_000,
     "random-cids": 200_000,
     "prefix-cids": 200_000,
     "bucket-cids": 200_000,
 }
 MIB = 1 << 20
 THREADS = (1, 2, 4)
-ROW = "| {:11} | {:>7} | {:>7} | {:>7} | {:>5} | {:>5} | {:>5} | {:>5} | {:>5} | {:>5} | {:>8} | {:>6} | {:>9} | {:>6} |"
+ROW = "| {:11} | {:>7} | {:>7} | {:>7} |" + 9 * " {:>5} |" + " {:>8} | {:>6} | {:>9} | {:>6} |"
 
 
-def run_once(words, answer):
-    """The seconds and the peak memory in bytes of one run, whose standard output goes to a file."""
+def stay():
+    """Keeps a program, before it begins, on the first of its processors."""
+    os.sched_setaffinity(0, {min(os.sched_getaffinity(0))})
+
+
+def run_once(words, answer, alone=False):
+    """The seconds and the peak memory in bytes of one run, whose standard output goes to a file; where it is
+    alone, on one processor."""
     with open(answer, "wb") as file:
         begin = time.monotonic()
-        child = subprocess.Popen(words, stdout=file)
+        child = subprocess.Popen(words, stdout=file, preexec_fn=stay if alone else None)
         _, status, used = os.wait4(child.pid, 0)
         seconds = time.monotonic() - begin
     child.returncode = os.waitstatus_to_exitcode(status)
@@ -44,13 +51,14 @@ def run_once(words, answer):
     return seconds, used.ru_maxrss * 1024
 
 
-def export(room, jobs, threads):
-    """One run of the program into a fresh output folder, with so many walkers and verifiers."""
+def export(room, jobs, threads, alone=False):
+    """One run of the program into a fresh output folder, with so many walkers and verifiers; where it is
+    alone, on one processor."""
     out = room / "out"
     out.mkdir()
     words = [PROGRAM, "jobs", "--blocks", room / "blocks.car", "--jobs", room / jobs, "--out", out]
     words += ["--walkers", str(threads), "--verifiers", str(threads)]
-    measured = run_once(words, room / "report.txt")
+    measured = run_once(words, room / "report.txt", alone)
     shutil.rmtree(out)
     return measured
 
@@ -61,6 +69,7 @@ class Bench:
     def __init__(self, workload, size, seed, room):
         self.workload, self.size, self.room = workload, size, room
         self.seconds = dict.fromkeys(THREADS, float("inf"))
+        self.alone = dict.fromkeys(THREADS, float("inf"))
         self.loading = self.hashing = float("inf")
         self.memory = 0
         words = [sys.executable, TOP / "bench/generate.py", workload, str(size), room, "--seed", str(seed)]
@@ -77,10 +86,13 @@ class Bench:
             seconds, memory = export(self.room, "jobs.txt", threads)
             self.seconds[threads] = min(self.seconds[threads], seconds)
             self.memory = max(self.memory, memory)
+        for threads in (THREADS[0], THREADS[-1]):
+            seconds, _ = export(self.room, "jobs.txt", threads, alone=True)
+            self.alone[threads] = min(self.alone[threads], seconds)
 
     def gain(self, threads):
-        """How many times as fast the work behind loading is as with one walker and one verifier."""
-        return (self.seconds[1] - self.loading) / (self.seconds[threads] - self.loading)
+        """How many times as fast the work behind loading is as with one of each on one processor."""
+        return (self.alone[1] - self.loading) / (self.seconds[threads] - self.loading)
 
     def print_row(self, factor):
         size = (self.room / "blocks.car").stat().st_size
@@ -92,8 +104,10 @@ class Bench:
             f"{size / MIB:.1f}",
             visits,
             f"{self.loading:.2f}",
+            f"{self.alone[THREADS[0]]:.2f}",
             *(f"{self.seconds[threads]:.2f}" for threads in THREADS),
-            *(f"{self.gain(threads):.2f}" for threads in THREADS[1:]),
+            f"{self.alone[THREADS[-1]]:.2f}",
+            *(f"{self.gain(threads):.2f}" for threads in THREADS),
             round(visits / self.seconds[THREADS[-1]]),
             f"{self.memory / MIB:.0f}",
             f"{self.seconds[1] / self.hashing:.1f}",
@@ -126,8 +140,8 @@ def main():
     # Builds the program where it isn't built.
     subprocess.run([TOP / "ix_export", "--help"], stdout=subprocess.DEVNULL, check=True)
     times = [f"{threads}+{threads}" for threads in THREADS]
-    gains = [f"x{threads}" for threads in THREADS[1:]]
-    head = ("workload", "size", "MiB", "visits", "load", *times, *gains, "visits/s", "peak", "sha256sum", "factor")
+    gains = [f"x{threads}" for threads in THREADS]
+    head = ("workload", "size", "MiB", "visits", "load", "one", *times, "crowd", *gains, "visits/s", "peak", "sha256sum", "factor")
     print(ROW.format(*head))
     print("|---" * len(head) + "|")
     for workload in words.workloads or SIZES:

@@ -24,6 +24,14 @@ run_bare() {
   "$top/ix_export" "$@" || status=$?
 }
 
+# run_with_room KIB WORD..: no file can be longer than so many KiB. A write beyond fails.
+run_with_room() {
+  local room=$1
+  shift
+  (trap '' XFSZ && ulimit -f "$room" && run_bare "$@" && exit "$status") >"$scratch/stdout" 2>"$scratch/stderr" &&
+    status=0 || status=$?
+}
+
 # The command `jobs` on the files of the case.
 run_jobs() {
   run jobs --blocks blocks.car --jobs jobs.txt --out out

@@ -146,3 +146,52 @@ outputs_stay() {
 outputs_stay 'cannot read jobs.txt' 'rm jobs.txt'
 outputs_stay 'blocks: header at 0' 'bytes 00 >blocks.car'
 outputs_stay 'jobs: repeated at line 2' 'echo "$good_job" >>jobs.txt'
+
+# input_refused TITLE LINE INPUT OUTPUT COMMAND: an output that the command makes of an input, by whatever name, is
+# refused with the line before anything is made, and the input stays.
+input_refused() {
+  begin "$1"
+  good_files
+  echo "b ${good_job#a }" >>jobs.txt
+  bytes "$(repeated 300 ff)" >out/a.car
+  cp "$3" "$scratch/input"
+  eval "$5"
+  run_jobs
+  refused "$2"
+  expect_same "$3" "$scratch/input" "$3"
+  expect_folder out a.car "$4"
+  expect_bytes out/a.car "$(repeated 300 ff)"
+}
+
+input_refused 'an output that is the file of blocks by a symbolic link' 'cannot write out/b.car' blocks.car b.car \
+  'ln -s ../blocks.car out/b.car'
+input_refused 'an output that is the file of blocks by a hard link' 'cannot write out/b.car' blocks.car b.car \
+  'ln blocks.car out/b.car'
+input_refused 'an output that is the job file' 'cannot write out/b.car' jobs.txt b.car 'ln jobs.txt out/b.car'
+input_refused 'an output that is written where the file of blocks is' 'cannot write out/b.car' blocks.car b.car.part \
+  'ln -s ../blocks.car out/b.car.part'
+input_refused 'a folder in place of the second archive, and the first stays' 'cannot write out/b.car' blocks.car b.car \
+  'mkdir out/b.car'
+input_refused 'a folder in place of what is written of the second archive' 'cannot write out/b.car' blocks.car \
+  b.car.part 'mkdir out/b.car.part'
+
+begin 'an output that is the file of blocks by its name'
+bytes "$no_roots" "$(section "$empty_cid" '')" "$one_blocks" >out/a.car
+cp out/a.car blocks.car
+write_jobs "a $one_job"
+run jobs --blocks out/a.car --jobs jobs.txt --out out
+refused 'cannot write out/a.car'
+expect_folder out a.car
+expect_same out/a.car blocks.car out/a.car
+
+# The run before left good archives; this one may open fewer files than it has jobs.
+begin 'more jobs than files that may be open: the archives of the run before stay'
+write_blocks "$one_blocks"
+seq -f "j%g $one_job" 100 >jobs.txt
+for number in $(seq 100); do bytes "$one_archive" >"out/j$number.car"; done
+(ulimit -n 64 && run_jobs && exit "$status") && status=0 || status=$?
+expect_text 'exit status' 2 "$status"
+expect_lines 'standard output' '' "$scratch/stdout"
+grep -qxE 'cannot write out/j[0-9]+\.car' "$scratch/stderr" || fail 'standard error' /dev/null "$scratch/stderr"
+expect_folder out $(seq -f 'j%g.car' 100 | sort)
+expect_text 'digests of the archives' "$(digest "$one_archive")" "$(sha256sum out/* | cut -c 1-64 | uniq)"

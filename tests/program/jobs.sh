@@ -120,13 +120,43 @@ expect 0 "a $one_line
 total jobs=1 done=1 skips=0" ''
 expect_bytes out/a.car "$one_archive"
 
-begin 'an archive in the place of the file of blocks'
-bytes "$no_roots" "$(section "$empty_cid" '')" "$one_blocks" >out/a.car
+begin 'the archives are on the disk before they get their names'
+write_blocks "$one_blocks"
+write_jobs "a $one_job" "short $(text "$one_cid") 1 $all"
+run jobs --blocks blocks.car --jobs jobs.txt --out out --sync
+expect 4 "a $one_line
+short limit visits=1 kept=1 sections=1 bytes=138
+total jobs=2 done=1 skips=0" ''
+expect_folder out a.car short.car
+expect_bytes out/a.car "$one_archive"
+expect_bytes out/short.car "$(header "$one_cid")" "$(section "$one_cid" "$one")"
+
+begin 'what an interrupted run left is replaced'
+write_blocks "$one_blocks"
+write_jobs "a $one_job" "b $one_job"
+bytes "$(repeated 1000 ff)" >out/a.car.part
+bytes ff >elsewhere
+ln -s ../elsewhere out/b.car.part
+run_jobs
+expect 0 "a $one_line
+b $one_line
+total jobs=2 done=2 skips=0" ''
+expect_folder out a.car b.car
+expect_bytes out/a.car "$one_archive"
+expect_bytes out/b.car "$one_archive"
+expect_bytes elsewhere ff
+
+begin 'a link in the place of an archive is replaced, and not what it names'
+write_blocks "$one_blocks"
 write_jobs "a $one_job"
-run jobs --blocks out/a.car --jobs jobs.txt --out out
+bytes ff >elsewhere
+ln -s ../elsewhere out/a.car
+run_jobs
 expect 0 "a $one_line
 total jobs=1 done=1 skips=0" ''
 expect_bytes out/a.car "$one_archive"
+expect_bytes elsewhere ff
+[ ! -L out/a.car ] || fail 'out/a.car is a link' /dev/null /dev/null
 
 begin 'paths with blanks and letters beyond ASCII'
 mkdir 'out püt'

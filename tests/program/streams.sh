@@ -51,31 +51,97 @@ run_two_jobs >/dev/full 2>"$scratch/stderr"
 refused 'cannot write -'
 expect_two_archives
 
-begin 'an archive that finds no room: its job ends with write, the others are unharmed'
-write_blocks "$one_blocks"
-write_jobs "a $one_job" "b $one_job" "c $one_job"
-ln -s /dev/full out/b.car
-run_jobs
+# long_block BYTES: a raw block of so many bytes, and its CID.
+long_block() {
+  long=$(repeated "$1" 6c)
+  long_cid=$(raw "$long")
+}
+
+# What waits in memory finds no room when it is written at last: of 1,024 bytes.
+begin 'an archive that finds no room at its end: its job ends with write, the others are unharmed'
+long_block 2000
+write_blocks "$one_blocks" "$(section "$long_cid" "$long")"
+write_jobs "a $one_job" "b $(text "$long_cid") 1 $matcher" "c $one_job"
+bytes "$(repeated 300 ff)" >out/b.car
+run_with_room 1 jobs --blocks blocks.car --jobs jobs.txt --out out
 expect 4 "a $one_line
-b write ${one_line#done }
+b write visits=1 kept=1 sections=1 bytes=$((59 + 2 + 36 + 2000))
 c $one_line
 total jobs=3 done=2 skips=0" ''
+expect_folder out a.car b.car b.car.part c.car
 expect_bytes out/a.car "$one_archive"
+expect_bytes out/b.car "$(repeated 300 ff)"
 expect_bytes out/c.car "$one_archive"
+bytes "$(header "$long_cid")" "$(section "$long_cid" "$long")" >whole
+head -c 1024 whole >wanted.part
+expect_same out/b.car.part wanted.part out/b.car.part
 
-# The block is longer than what waits in memory, so that the failure comes before the last write: of
-# the archive, the header and the head of the section were taken.
+# The block is longer than what waits in memory, so that the failure comes before the last write: of 16 KiB.
 begin 'an archive with a long block that finds no room'
-long=$(repeated 100000 6c)
-long_cid=$(raw "$long")
-write_blocks "$(section "$long_cid" "$long")"
-write_jobs "a $(text "$long_cid") 1 $matcher" "b $(text "$long_cid") 1 $matcher"
-ln -s /dev/full out/a.car
-run_jobs
-expect 4 "a write visits=0 kept=0 sections=0 bytes=$((59 + 3 + 36))
-b done visits=1 kept=1 sections=1 bytes=$((59 + 3 + 36 + 100000))
+long_block 100000
+write_blocks "$one_blocks" "$(section "$long_cid" "$long")"
+write_jobs "a $(text "$long_cid") 1 $matcher" "b $one_job"
+run_with_room 16 jobs --blocks blocks.car --jobs jobs.txt --out out
+expect 4 "a write visits=0 kept=0 sections=0 bytes=16384
+b $one_line
 total jobs=2 done=1 skips=0" ''
-expect_bytes out/b.car "$(header "$long_cid")" "$(section "$long_cid" "$long")"
+expect_folder out a.car.part b.car
+expect_bytes out/b.car "$one_archive"
+bytes "$(header "$long_cid")" "$(section "$long_cid" "$long")" >whole
+head -c 16384 whole >wanted.part
+expect_same out/a.car.part wanted.part out/a.car.part
+
+# The same on a full disk, where the machine lets a small one be made.
+begin 'an archive on a full disk'
+long_block 100000
+write_blocks "$(section "$long_cid" "$long")"
+write_jobs "a $(text "$long_cid") 1 $matcher"
+if unshare --mount --map-root-user mount -t tmpfs -o size=64k none out 2>/dev/null; then
+  unshare --mount --map-root-user bash -c '
+    mount -t tmpfs -o size=64k none out && printf old >out/a.car && "$@" && exit; status=$?
+    ls -A out >files; cat out/a.car >archive; exit "$status"' bash \
+    "$top/ix_export" jobs --blocks blocks.car --jobs jobs.txt --out out >"$scratch/stdout" 2>"$scratch/stderr" &&
+    status=0 || status=$?
+  sed -i 's/bytes=.*/bytes/' "$scratch/stdout"
+  expect 4 'a write visits=0 kept=0 sections=0 bytes
+total jobs=1 done=0 skips=0' ''
+  expect_text 'files on the disk' $'a.car\na.car.part' "$(cat files)"
+  expect_text 'the archive of the run before' old "$(cat archive)"
+fi
+
+# A run that is ended by a signal in the middle of a write leaves no archive under its name, and the next run is right.
+begin 'a run that is interrupted in a write, and the next'
+long_block 100000
+write_blocks "$one_blocks" "$(section "$long_cid" "$long")"
+write_jobs "a $(text "$long_cid") 1 $matcher" "b $one_job"
+bytes "$(repeated 300 ff)" >out/b.car
+{ (ulimit -c 0 -f 16 && exec "$top/ix_export" jobs --blocks blocks.car --jobs jobs.txt --out out) ||
+  status=$?; } >"$scratch/stdout" 2>/dev/null
+expect 153 '' ''
+expect_folder out a.car.part b.car b.car.part
+expect_bytes out/b.car "$(repeated 300 ff)"
+run_jobs
+expect 0 "a done visits=1 kept=1 sections=1 bytes=$((59 + 3 + 36 + 100000))
+b $one_line
+total jobs=2 done=2 skips=0" ''
+expect_folder out a.car b.car
+expect_bytes out/a.car "$(header "$long_cid")" "$(section "$long_cid" "$long")"
+expect_bytes out/b.car "$one_archive"
+
+# The first job takes long enough for a folder to come into the place of its archive while it runs.
+begin 'an archive that finds its name taken: the report, the other archives, and a line'
+write_blocks "$one_blocks" "$(section "$self_cid" "81$(link "$self_cid")")"
+write_jobs "a $(text "$self_cid") 1000000 $all" "b $one_job"
+(until [ -e out/b.car.part ]; do :; done; mkdir out/a.car) &
+run_jobs
+wait
+expect 2 "a limit visits=1000000 kept=1 sections=0 bytes=59
+  0 damaged bafyrei$(repeated 52 a)
+b $one_line
+total jobs=2 done=1 skips=1" 'cannot write out/a.car'
+expect_folder out a.car a.car.part b.car
+expect_bytes out/a.car.part "$(header "$self_cid")"
+expect_bytes out/b.car "$one_archive"
 
 begin 'jobs: standard output is closed, and there is no job'
 write_blocks
@@ -83,14 +149,15 @@ write_blocks
 run_bare jobs --blocks blocks.car --jobs jobs.txt --out out >&- 2>"$scratch/stderr"
 refused 'cannot write -'
 
-begin 'a header that finds no room: its job is named by its number, from 0'
+begin 'a header that finds no room: its job is named by its number, from 0, and nothing is left'
 long_cid=01551ea09c01$(repeated 20000 64)
 write_blocks "$one_blocks"
 write_jobs "a $one_job" "b $(text "$long_cid") 1 $matcher" "c $(text "$long_cid") 1 $matcher"
-ln -s /dev/full out/b.car
-ln -s /dev/full out/c.car
-run_jobs
+bytes "$(repeated 300 ff)" >out/a.car
+run_with_room 16 jobs --blocks blocks.car --jobs jobs.txt --out out
 refused 'cannot write job 1'
+expect_folder out a.car
+expect_bytes out/a.car "$(repeated 300 ff)"
 
 # A file that is opened gets the first number that is free. Where that is the number of standard output
 # or standard error, no report and no message may get into the file: an archive that is there is whole.

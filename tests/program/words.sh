@@ -28,6 +28,10 @@ words_refused jobs --blocks blocks.car --out out
 words_refused jobs "${inputs[@]}" --out
 words_refused jobs "${inputs[@]}" --out out --quiet
 words_refused jobs "${inputs[@]}" --out out more
+words_refused jobs "${inputs[@]}" --out out --sync --sync
+words_refused selector '{".":{}}' more
+words_refused selector '{".":{}}' --hex a1612ea0
+words_refused selector --hex
 for option in --walkers --verifiers; do
   for number in 0 65 x -1 '' 4294967297; do
     words_refused jobs "${inputs[@]}" --out out "$option" "$number"
@@ -53,8 +57,16 @@ helps() {
   done
 }
 
-helps --help -- root jobs CARv1
-helps -h -- root jobs
+helps --help -- root jobs selector CARv1 UnixFS --version
+helps -h -- root jobs selector
 helps root --help -- '--cid <TEXT>' hexadecimal 'standard input' 'Status: 0'
 helps jobs --help -- 'NAME ROOT LIMIT SELECTOR' '--blocks <FILE>' '--jobs <FILE>' '--out <DIR>' '--walkers <N>' \
-  '--verifiers <N>' '1 to 64' 'default: 4' "$abc_text 1000 $matcher" 1000000 DIR/NAME.car damaged 'Status: 0' 1073741824
+  '--verifiers <N>' '1 to 64' 'default: 4' "$abc_text 1000 $matcher" 1000000 DIR/NAME.car damaged 'Status: 0' 1073741824 \
+  DIR/NAME.car.part --sync 'counts twice' SHA-256 'the command `selector`'
+helps selector --help -- '--hex <TEXT>' '[JSON]' '{"R":{"l":{"none":{}},":>":{"a":{">":{"@":{}}}}}}' docs/SELECTORS.md
+
+for word in --version -V; do
+  begin "the version, by $word"
+  run "$word"
+  expect 0 "ix_export 1.0.0, proved with $(rt version)" ''
+done

@@ -85,8 +85,9 @@ fn key_text(bytes: &[u8]) -> Result<(&[u8], &[u8]), Stop>
     }
 }
 
-// The shorter key first, keys of one length by their bytes.
-pub(crate) fn compare_keys(before: &[u8], key: &[u8]) -> Ordering
+/// The order of keys in a map (DAG-CBOR; RFC 8949 section 4.2.3): the shorter key first, keys of one
+/// length by their bytes.
+pub fn compare_keys(before: &[u8], key: &[u8]) -> Ordering
     ensures { result ≡ key_cmp before.now key.now }
 {
     before.len().cmp(&key.len()).then_with(|| before.cmp(key))

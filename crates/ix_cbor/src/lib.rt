@@ -17,7 +17,7 @@ mod write;
 
 pub use codec::{decode, encode};
 pub use fault::{CborFault, CborKind};
-pub use head::push_head;
+pub use head::{compare_keys, push_head};
 pub use major::Major;
 pub use node::Node;
 pub use tree::Tree;

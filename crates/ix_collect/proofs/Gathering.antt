@@ -1,5 +1,7 @@
 -- What was received from lanes, as one lane gives one item more.
-use Rattle.std.proofs.Common.{◌≡◌, ℕ, zero, suc, ◌+◌, ◌<◌, ◌≤◌, List, [], ◌∷◌, ◌++◌, length, get_or, set, take, drop, take_all, drop-set-lt, append-nil, refl, sym, ◌∙◌, ap, subst, arith, append_assoc}
+use Rattle.std.proofs.Common.{◌≡◌, ℕ, zero, suc, ◌+◌, ◌<◌, ◌≤◌, Bool, true, false, length-append, List, [], ◌∷◌, ◌++◌, length, get_or, set, take, drop, take_all, drop-set-lt, append-nil, refl, sym, ◌∙◌, ap, subst, arith, append_assoc}
+use Rattle.std.specs.Prelude.{cond}
+use Rattle.std.specs.Int.{from_bool}
 use Rattle.std.proofs.lemmas.List.{take_more_set, drop_more}
 use Rattle.ix_stages.specs.declared.verdicted.Verdicted.{Verdicted}
 use Rattle.ix_stages.specs.declared.lanes.LaneOut.{LaneOut}
@@ -40,6 +42,24 @@ among (y ∷ ls) (suc i) l m at lt =
       old_is = ap (λ (k : List Verdicted). received_by y ++ k) r.old_is ∙ sym (append_assoc (received_by y) (r.before ++ received_by l) r.after) ∙ ap (λ (k : List Verdicted). k ++ r.after) (sym (append_assoc (received_by y) r.before (received_by l)));
       new_is = ap (λ (k : List Verdicted). received_by y ++ k) r.new_is ∙ sym (append_assoc (received_by y) (r.before ++ received_by m) r.after) ∙ ap (λ (k : List Verdicted). k ++ r.after) (sym (append_assoc (received_by y) r.before (received_by m)));
     }
+
+-- a lane gives some items more
+pub length_set : (before old new after : List Verdicted) (k : ℕ) → length new ≡ k + length old → length (before ++ new ++ after) ≡ k + length (before ++ old ++ after)
+length_set before old new after k e =
+    let a : length (before ++ old ++ after) ≡ length (before ++ old) + length after = length-append (before ++ old) after in
+    let b : length (before ++ old) ≡ length before + length old = length-append before old in
+    let c : length (before ++ new ++ after) ≡ length (before ++ new) + length after = length-append (before ++ new) after in
+    let d : length (before ++ new) ≡ length before + length new = length-append before new in
+    omega arith
+
+-- a truth value as a number
+pub bool_one : (b : Bool) → from_bool b ≡ cond b 1 0
+bool_one true = refl
+bool_one false = refl
+
+pub one_at_most : (b : Bool) → cond b 1 0 ≤ 1
+one_at_most true = omega arith
+one_at_most false = omega arith
 
 -- a lane gives one verifier's last more, or none
 pub lasts_set : (before old new after : List Verdicted) (k : ℕ) → last_count new ≡ k + last_count old → last_count (before ++ new ++ after) ≡ k + last_count (before ++ old ++ after)

@@ -1,6 +1,6 @@
 //! The collector takes from all lanes.
 
-ghost use Rattle.std.specs.Prelude.{◌≡◌, ◌+◌, ◌++◌, length, List, cond};
+ghost use Rattle.std.specs.Prelude.{◌≡◌, ◌≤◌, ◌+◌, ◌++◌, length, List, cond};
 ghost use Rattle.ix_walk.specs.Store.{Blocks};
 ghost use Rattle.ix_walk.specs.JobMeaning.{JobMeaning};
 ghost use Rattle.ix_car.specs.Headline.{EachKept};
@@ -21,18 +21,28 @@ fn is_last(item: &Verdicted) -> bool
     matches!(item, Verdicted::Last)
 }
 
+/// What came from the lanes.
+#[derive(Clone, Copy, Debug, PartialEq, Eq)]
+pub struct Received {
+    /// How many items.
+    pub items: usize,
+    /// How many of them were a verifier's last.
+    pub lasts: usize,
+}
+
 // Receives an item from a lane, if it has one. What other lanes gave stands before and behind it.
-// True is a verifier's last.
 fn receive_one<S: Sink>(
     alloc: Global,
     collector: &mut Collector,
     lane: &mut LaneOut,
     sinks: &mut [S],
-) -> bool
+) -> Received
     requires sinks { length sinks.old ≡ job_count collector.old }
     requires may { MayTell S.events S.failed collector.old sinks.old }
     ensures lane { SameOut lane.old lane.new }
-    ensures last { last_count (received_by lane.new) ≡ cond result 1 0 + last_count (received_by lane.old) }
+    ensures one { (result.items ≤ 1) × (result.lasts ≤ 1) }
+    ensures items { length (received_by lane.new) ≡ result.items + length (received_by lane.old) }
+    ensures last { last_count (received_by lane.new) ≡ result.lasts + last_count (received_by lane.old) }
     ensures sinks { length sinks.new ≡ job_count collector.new }
     ensures jobs { job_count collector.new ≡ job_count collector.old }
     ensures may { MayTell S.events S.failed collector.new sinks.new }
@@ -41,37 +51,42 @@ fn receive_one<S: Sink>(
     ensures collected { (store : Blocks) (jobs : List JobMeaning) (before after : List Verdicted) → IsCollected S.events S.failed store jobs (before ++ received_by lane.old ++ after) collector.old sinks.old → IsCollected S.events S.failed store jobs (before ++ received_by lane.new ++ after) collector.new sinks.new }
 {
     let Some(item) = lane.try_recv() else {
-        return false;
+        return Received { items: 0, lasts: 0 };
     };
     let last = is_last(&item);
+    let lasts = usize::from(last);
     collector.receive(alloc, item, sinks);
-    last
+    Received { items: 1, lasts }
 }
 
-/// Receives one item from each lane that has one, and says how many of them were a verifier's last.
-/// What was received from elsewhere stands before what the lanes gave.
+/// Receives one item from each lane that has one, and says how many came. What was received from
+/// elsewhere stands before what the lanes gave.
 pub fn round<S: Sink>(
     alloc: Global,
     collector: &mut Collector,
     lanes: &mut [LaneOut],
     sinks: &mut [S],
-) -> usize
+) -> Received
     requires sinks { length sinks.old ≡ job_count collector.old }
     requires may { MayTell S.events S.failed collector.old sinks.old }
     ensures sinks { length sinks.new ≡ job_count collector.new }
     ensures jobs { job_count collector.new ≡ job_count collector.old }
     ensures may { MayTell S.events S.failed collector.new sinks.new }
     ensures lanes { EachSameOut lanes.old lanes.new }
-    ensures lasts { last_count (all_received lanes.new) ≡ result + last_count (all_received lanes.old) }
+    ensures items { length (all_received lanes.new) ≡ result.items + length (all_received lanes.old) }
+    ensures lasts { last_count (all_received lanes.new) ≡ result.lasts + last_count (all_received lanes.old) }
     ensures kept { EachKept S.fact sinks.old sinks.new }
     ensures done { IsDone collector.old → IsDone collector.new }
     ensures collected { (store : Blocks) (jobs : List JobMeaning) (before : List Verdicted) → IsCollected S.events S.failed store jobs (before ++ all_received lanes.old) collector.old sinks.old → IsCollected S.events S.failed store jobs (before ++ all_received lanes.new) collector.new sinks.new }
 {
+    let mut items = 0;
     let mut lasts = 0;
     for i in 0..lanes.len() {
-        lasts += usize::from(receive_one(alloc, collector, &mut lanes[i], sinks));
+        let received = receive_one(alloc, collector, &mut lanes[i], sinks);
+        items += received.items;
+        lasts += received.lasts;
     }
-    lasts
+    Received { items, lasts }
 }
 
 /// Receives what is left in a lane of which both ends are here. What other lanes gave stands before

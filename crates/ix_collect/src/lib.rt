@@ -7,4 +7,4 @@ pub mod law;
 mod progress;
 
 pub use collector::Collector;
-pub use gather::{drain, finish, round};
+pub use gather::{Received, drain, finish, round};

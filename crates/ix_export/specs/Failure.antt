@@ -48,6 +48,10 @@ pub record NamesOutput (folder : List ℕ) (jobs : List JobMeaning) (failure : F
   pub among : Contains jobs job
   pub names : Names CannotWrite (output_path folder job.name) failure
 
+-- the failure names the output of this job, or memory ran out
+abbrev pub IsFailureOf : List ℕ → JobMeaning → Failure → Type 0
+IsFailureOf folder job failure = Names CannotWrite (output_path folder job.name) failure
+
 -- an output can't be made, or memory ran out
 abbrev pub IsOutputFailure : List ℕ → List JobMeaning → Failure → Type 0
 IsOutputFailure folder jobs failure = (failure ≡ Fault Memory) ⊎ NamesOutput folder jobs failure

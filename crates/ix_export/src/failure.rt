@@ -6,6 +6,7 @@ ghost use Rattle.ix_export.specs.declared.failure.Failure.TheVariants.{CannotRea
 ghost use Rattle.ix_export.specs.Failure.{IsRefusal, IsWordsOf, Names, NamesFile};
 
 use clap::error::ErrorKind as UsageKind;
+use ix_notation::NotationFault;
 use ix_run::{RunFault, fault_line};
 use std::alloc::{AllocError, AllocFailed, Global};
 use std::io::{self, ErrorKind};
@@ -22,6 +23,8 @@ pub enum Failure {
     Words,
     /// What the library refuses, and want of memory.
     Fault(RunFault),
+    /// A text that is no selector.
+    Selector(NotationFault),
     /// An input that can't be read: its path, where standard input is `-`.
     CannotRead(String),
     /// An input of more than 1 GiB: its path.
@@ -88,6 +91,10 @@ impl Failure {
                 Ok(line) => rt.eprintln(line.as_str()),
                 Err(_) => rt.eprintln("memory"),
             },
+            Failure::Selector(fault) => match ix_notation::fault_line(rt.alloc(), fault) {
+                Ok(line) => rt.eprintln(line.as_str()),
+                Err(_) => rt.eprintln("memory"),
+            },
             Failure::CannotRead(path) => eprintln!(rt; "cannot read {path}"),
             Failure::TooLarge(path) => eprintln!(rt; "too large {path}"),
             Failure::CannotWrite(path) => eprintln!(rt; "cannot write {path}"),
@@ -136,6 +143,17 @@ impl From<RunFault> for Failure {
 
     fn from(fault: RunFault) -> Failure {
         Failure::Fault(fault)
+    }
+}
+
+impl From<NotationFault> for Failure {
+    ghost use Rattle.std.specs.Prelude.{◌≡◌};
+    ghost use Rattle.ix_export.specs.declared.failure.Failure.TheVariants.{Selector};
+
+    ghost from_gives = { λ fault failure. failure ≡ Selector fault };
+
+    fn from(fault: NotationFault) -> Failure {
+        Failure::Selector(fault)
     }
 }
 

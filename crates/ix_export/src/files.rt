@@ -1,21 +1,16 @@
-//! Files, as they are read and made.
+//! Files, as they are read.
 
 ghost use Rattle.std.specs.Prelude.{◌≡◌, ◌≤◌, length, IfOk, IfErr, IfSome};
-ghost use Rattle.ix_export.specs.Failure.{IsInputFailure, IsOutputFailure};
+ghost use Rattle.ix_export.specs.Failure.{IsInputFailure};
 
 use crate::failure::Failure;
-use ix_run::RunFault;
-use ix_walk::Job;
 use std::alloc::Global;
 use std::fs::{self, OpenFile};
-use std::io::{BufWriter, Read};
+use std::io::Read;
 use std::rt::Files;
 
 // The greatest input, in bytes.
 const LARGEST_INPUT: u64 = 1 << 30;
-
-// How many bytes of an output wait in memory.
-const BUFFER: usize = 16 * 1024;
 
 // A file that is always there, and has no bytes.
 const NOTHING: &str = "/dev/null";
@@ -77,30 +72,4 @@ pub fn read_all<R: Read + Drop>(
         Ok(_) => Ok(input),
         Err(error) => Err(Failure::cannot_read(alloc, path, &error)),
     }
-}
-
-/// The files of the archives, one for each job, in a folder that is there.
-pub fn make_outputs<R: Files + AllocGlobal>(
-    rt: &R,
-    folder: &str,
-    jobs: &[Job],
-) -> Result<Vec<BufWriter<R::File>>, Failure>
-    ensures each { IfOk result (λ outputs. length outputs.items ≡ length jobs.now) }
-    ensures refused { IfErr result (λ failure. IsOutputFailure folder.now jobs.now failure) }
-{
-    let alloc = rt.alloc();
-    let mut outputs = Vec::with_capacity(alloc, jobs.len())?;
-    for job in jobs {
-        let name = job.name();
-        let path = format!(in alloc; "{folder}/{name}.car")?;
-        let file = match fs::create(rt, path.as_str()) {
-            Ok(file) => file,
-            Err(error) => return Err(Failure::cannot_write(alloc, path.as_str(), &error)),
-        };
-        match BufWriter::with_capacity(alloc, BUFFER, file) {
-            Ok(output) => outputs.push(output)?,
-            Err(_) => return Err(Failure::Fault(RunFault::Memory)),
-        }
-    }
-    Ok(outputs)
 }

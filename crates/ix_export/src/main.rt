@@ -3,15 +3,18 @@
 
 mod failure;
 mod files;
+mod outputs;
 mod words;
 
 ghost use Rattle.std.specs.Prelude.{◌≤◌};
 
 use clap::ArgMatches;
 use failure::Failure;
-use files::{make_outputs, read_all, read_file, stand_in};
+use files::{read_all, read_file, stand_in};
+use ix_notation::{hex_of_json, json_of_hex};
 use ix_pipeline::Plan;
 use ix_run::{prepare, printed_root, root_of_text, run};
+use outputs::{make_outputs, name_outputs, remove_outputs};
 use std::io::Write;
 use std::process::ExitCode;
 use std::rt::{Env, Files};
@@ -41,13 +44,29 @@ fn obey<R: AllocGlobal + Env + Files + Input + Print + Threads + Wait + Sync>(
     let arguments = env::args(rt).map_err(|error| Failure::of_words(&error))?;
     let words: Vec<String> = arguments.collect(alloc)?;
     let matches = command_line(alloc)?.try_get_matches_from(words.as_slice())?;
-    match matches.subcommand_matches("jobs") {
-        Some(words) => export_jobs(rt, words),
-        None => {
-            let root = matches.subcommand_matches("root");
-            export_one(rt, root.and_then(|root| root.get_str("cid")).unwrap_or(""))
-        }
+    if let Some(words) = matches.subcommand_matches("jobs") {
+        return export_jobs(rt, words);
     }
+    if let Some(words) = matches.subcommand_matches("selector") {
+        return convert_selector(rt, words);
+    }
+    let root = matches.subcommand_matches("root");
+    export_one(rt, root.and_then(|root| root.get_str("cid")).unwrap_or(""))
+}
+
+// The command `selector`: from JSON to hexadecimal, or back.
+fn convert_selector<'a, R: AllocGlobal + Input + Print>(
+    rt: &R,
+    words: &ArgMatches<'a>,
+) -> Result<u8, Failure> {
+    let alloc = rt.alloc();
+    let line = match (words.get_str("hex"), words.get_str("json")) {
+        (Some(text), _) => json_of_hex(alloc, text)?,
+        (None, Some(text)) => hex_of_json(alloc, text.as_bytes())?,
+        (None, None) => hex_of_json(alloc, read_all(alloc, rt.reader(), 0, "-")?.as_slice())?,
+    };
+    print_all(rt, line.as_bytes())?;
+    Ok(0)
 }
 
 // The command `root`: its faults come in the order text, standard input, hexadecimal, CAR.
@@ -60,27 +79,45 @@ fn export_one<R: AllocGlobal + Input + Print>(rt: &R, text: &str) -> Result<u8, 
     Ok(0)
 }
 
-// The command `jobs`: its faults come in the order blocks, job file, what they hold, outputs.
+// The command `jobs`: its faults come in the order blocks, job file, what they hold, outputs. A run
+// that is refused leaves no output.
 fn export_jobs<'a, R: AllocGlobal + Files + Print + Threads + Wait + Sync>(
     rt: &R,
     words: &ArgMatches<'a>,
 ) -> Result<u8, Failure> {
     let alloc = rt.alloc();
     let standing = stand_in(rt);
-    let car = read_file(rt, words.get_str("blocks").unwrap_or(""))?;
-    let file = read_file(rt, words.get_str("jobs").unwrap_or(""))?;
+    let inputs = ["blocks", "jobs"].map(|name| words.get_str(name).unwrap_or(""));
+    let car = read_file(rt, inputs[0])?;
+    let file = read_file(rt, inputs[1])?;
     let (store, jobs) = prepare(alloc, car.as_slice(), file.as_slice())?;
     drop((car, file));
     let folder = words.get_str("out").unwrap_or("");
-    let writers = make_outputs(rt, folder, jobs.as_slice())?;
+    let writers = make_outputs(rt, folder, jobs.as_slice(), inputs)?;
     let plan = Plan {
         walkers: threads(words, "walkers"),
         queue: QUEUE,
         lane: LANE,
     };
     let verifiers = threads(words, "verifiers");
-    let out = run(rt, alloc, &store, &jobs, writers, verifiers, plan)?;
+    let out = match run(rt, alloc, &store, &jobs, writers, verifiers, plan) {
+        Ok(out) => out,
+        Err(fault) => {
+            remove_outputs(rt, folder, jobs.as_slice(), jobs.len());
+            return Err(Failure::from(fault));
+        }
+    };
+    let sync = words.get_flag("sync");
+    let named = name_outputs(
+        rt,
+        folder,
+        jobs.as_slice(),
+        out.ends.as_slice(),
+        out.writers.as_slice(),
+        sync,
+    );
     print_all(rt, out.report.as_slice())?;
+    named?;
     drop(standing);
     Ok(out.status)
 }

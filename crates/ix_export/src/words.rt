@@ -3,8 +3,15 @@
 use clap::{Arg, ArgAction, Command, value_parser};
 use std::alloc::{AllocError, Global};
 
+// The program's version, and the toolchain with which it is proved.
+const VERSION: &str = "1.0.0, proved with rattle-kit-13b logic dac8208d650f15bf";
+
 // The texts of the help.
 const ABOUT: &str = "Cuts subgraphs out of CARv1 files";
+
+const HELP: &str =
+    "Exported are blocks of raw and DAG-CBOR under SHA-256; links of other codecs and hashes are\n\
+told as skipped. UnixFS (codec dag-pb) isn't read.";
 
 const ROOT_ABOUT: &str =
     "Writes the archive of one root: a CAR file on standard input, the archive on standard output, both in hexadecimal";
@@ -22,25 +29,44 @@ const JOBS_HELP: &str =
   photos bafkreif2pall7dybz7vecqka3zo24irdwabwdi4wc55jznaq75q7eaavvu 1000 a1612ea0\n\
 \n\
 NAME is 1 to 64 of a to z, 0 to 9, - and _, ROOT is the text of a CIDv1 (base32), LIMIT is how\n\
-many blocks may be visited, 1 to 1000000, and SELECTOR is an IPLD selector as DAG-CBOR in\n\
-hexadecimal. Empty lines and lines that begin with # are ignored. There are at most 1000 jobs.\n\
+many arrivals at blocks there may be, 1 to 1000000, and SELECTOR is an IPLD selector as DAG-CBOR\n\
+in hexadecimal, which the command `selector` makes of JSON. A block that is linked twice is\n\
+arrived at twice: it counts twice, and is checked twice. Empty lines and lines that begin with #\n\
+are ignored. There are at most 1000 jobs.\n\
 \n\
-The archive of a job is DIR/NAME.car; a file that is there is replaced, and DIR must be there.\n\
+The archive of a job is written to DIR/NAME.car.part. When the run has ended it is named\n\
+DIR/NAME.car, in place of a file that is there, where its job ended with done or limit; otherwise\n\
+DIR/NAME.car stays as it was. DIR must be there. As many files are open at once as there are jobs.\n\
 The report on standard output has a line for each job, how it ended (done, limit, memory, write,\n\
 start) and what was counted, then a line for each link that was skipped (codec, hash, missing,\n\
-damaged, malformed), and at last the totals.\n\
+damaged, malformed), and at last the totals. Codecs other than raw and DAG-CBOR, and hashes other\n\
+than SHA-256, are skipped; UnixFS isn't read.\n\
 \n\
 Status: 0 where every job is done and nothing was skipped, 3 where every job is done and something\n\
 was skipped, 4 where a job ended otherwise, 2 where the words or a file are refused, with a line\n\
 on standard error. A file has at most 1073741824 bytes.";
 
+const SELECTOR_ABOUT: &str =
+    "Turns a selector from JSON into the hexadecimal of a job file, or back";
+
+const SELECTOR_HELP: &str =
+    "JSON has the keys of the IPLD Selectors specification. Everything below a root is\n\
+\n\
+  {\"R\":{\"l\":{\"none\":{}},\":>\":{\"a\":{\">\":{\"@\":{}}}}}}\n\
+\n\
+Without JSON and --hex, JSON is read from standard input. docs/SELECTORS.md has the forms and\n\
+recipes. Status: 0 where a line was printed, 2 where it is no selector, with a line that says why.";
+
 /// The command line, of which the help is made.
 pub fn command_line<'a>(alloc: Global) -> Result<Command<'a>, AllocError> {
     Command::new(alloc, "ix_export")
         .about(ABOUT)
+        .after_help(HELP)
+        .version(VERSION)
         .subcommand_required(true)
-        .subcommand(root_command(alloc)?)?
-        .subcommand(jobs_command(alloc)?)
+        .subcommand(jobs_command(alloc)?)?
+        .subcommand(selector_command(alloc)?)?
+        .subcommand(root_command(alloc)?)
 }
 
 fn root_command<'a>(alloc: Global) -> Result<Command<'a>, AllocError> {
@@ -59,7 +85,25 @@ fn jobs_command<'a>(alloc: Global) -> Result<Command<'a>, AllocError> {
         .arg(text_argument(alloc, "jobs", "FILE", "The job file"))?
         .arg(text_argument(alloc, "out", "DIR", "Where the archives go"))?
         .arg(number_argument(alloc, "walkers", "How many threads walk, 1 to 64"))?
-        .arg(number_argument(alloc, "verifiers", "How many threads hash, 1 to 64"))
+        .arg(number_argument(alloc, "verifiers", "How many threads hash, 1 to 64"))?
+        .arg(sync_argument(alloc))
+}
+
+fn selector_command<'a>(alloc: Global) -> Result<Command<'a>, AllocError> {
+    let json = Arg::new(alloc, "json")
+        .value_name("JSON")
+        .help("The selector as JSON");
+    let hex = Arg::new(alloc, "hex")
+        .long("hex")
+        .value_name("TEXT")
+        .help("The selector in hexadecimal, to be printed as JSON")
+        .action(ArgAction::Set)
+        .conflicts_with("json")?;
+    Command::new(alloc, "selector")
+        .about(SELECTOR_ABOUT)
+        .after_help(SELECTOR_HELP)
+        .arg(json)?
+        .arg(hex)
 }
 
 // An option with a text that must be given.
@@ -81,4 +125,12 @@ fn number_argument<'a>(alloc: Global, name: &'a str, help: &'a str) -> Arg<'a> {
         .value_parser(value_parser!(u32).range(1..65))
         .default_value("4")
         .action(ArgAction::Set)
+}
+
+// The option that has the archives on the disk before they get their names.
+fn sync_argument<'a>(alloc: Global) -> Arg<'a> {
+    Arg::new(alloc, "sync")
+        .long("sync")
+        .help("Each archive is on the disk before it gets its name")
+        .action(ArgAction::SetTrue)
 }

@@ -10,12 +10,20 @@ ghost use Rattle.ix_flow.specs.Gathered.{IsTold};
 
 use ix_car::Sink;
 use ix_collect::{Collector, finish, round};
-use ix_stages::{LaneIn, LaneOut, StopSeat, VisitQueue};
+use ix_stages::{LaneIn, LaneOut, StopSeat, VisitQueue, Waiting};
 use std::alloc::Global;
 use std::sync::Wait;
-use std::thread;
 
-// Receives from all lanes until every sink was closed.
+// Waits on, or begins to wait anew where something came.
+fn wait_on<R: Wait>(rt: &R, waiting: &mut Waiting, came: bool) {
+    if came {
+        *waiting = Waiting::new();
+    } else {
+        waiting.pause(rt);
+    }
+}
+
+// Receives from all lanes until every sink was closed. It looks for that only where nothing came.
 fn collect<R: Wait, S: Sink>(
     rt: &R,
     alloc: Global,
@@ -30,19 +38,22 @@ fn collect<R: Wait, S: Sink>(
     ensures lanes { EachSameOut outs.old outs.new }
     ensures done { IsDone collector.new }
 {
+    let mut waiting = Waiting::new();
+    let mut idle = true;
     for _ in rt.forever() {
-        if collector.is_done() {
+        if idle && collector.is_done() {
             return;
         }
-        round(alloc, collector, outs, sinks);
-        thread::yield_now();
+        let received = round(alloc, collector, outs, sinks);
+        idle = received.items == 0;
+        wait_on(rt, &mut waiting, !idle);
     }
     unreachable!()
 }
 
-// Puts a Stop, if fewer were put than there are verifiers and the queue has room. Says how many were
+// Puts Stops while the queue has room and fewer were put than there are verifiers. Says how many were
 // put by then.
-fn put_stop<R: Wait>(
+fn put_stops<R: Wait>(
     rt: &R,
     queue: &VisitQueue,
     stop: &mut StopSeat,
@@ -52,13 +63,12 @@ fn put_stop<R: Wait>(
     requires { stop.old.table ≡ table_of queue.now }
     ensures { (stop.new.table ≡ stop.old.table) × (stop.new.hand.course ≡ stop.old.hand.course) }
 {
-    if stops >= verifiers {
-        return stops;
+    for put in stops..verifiers {
+        if !queue.try_stop(rt, stop) {
+            return put;
+        }
     }
-    if !queue.try_stop(rt, stop) {
-        return stops;
-    }
-    stops + 1
+    verifiers
 }
 
 // Puts a Stop for each of so many verifiers, and receives on, so that nobody waits for ever at a
@@ -82,15 +92,17 @@ fn stop_verifiers<R: Wait, S: Sink>(
     ensures lanes { EachSameOut outs.old outs.new }
     ensures done { IsDone collector.old → IsDone collector.new }
 {
+    let mut waiting = Waiting::new();
     let mut stops = 0usize;
     let mut lasts = 0usize;
     for _ in rt.forever() {
         if lasts >= verifiers {
             return;
         }
-        stops = put_stop(rt, queue, stop, stops, verifiers);
-        lasts = lasts.saturating_add(round(alloc, collector, outs, sinks));
-        thread::yield_now();
+        stops = put_stops(rt, queue, stop, stops, verifiers);
+        let received = round(alloc, collector, outs, sinks);
+        lasts = lasts.saturating_add(received.lasts);
+        wait_on(rt, &mut waiting, received.items > 0);
     }
     unreachable!()
 }
@@ -129,13 +141,14 @@ pub(crate) fn stop_idle<R: Wait>(rt: &R, queue: &VisitQueue, stop: &mut StopSeat
     requires { stop.old.table ≡ table_of queue.now }
     ensures { (stop.new.table ≡ stop.old.table) × (stop.new.hand.course ≡ stop.old.hand.course) }
 {
+    let mut waiting = Waiting::new();
     let mut stops = 0usize;
     for _ in rt.forever() {
         if stops >= verifiers {
             return;
         }
-        stops = put_stop(rt, queue, stop, stops, verifiers);
-        thread::yield_now();
+        stops = put_stops(rt, queue, stop, stops, verifiers);
+        waiting.pause(rt);
     }
     unreachable!()
 }

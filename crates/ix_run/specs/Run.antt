@@ -75,6 +75,8 @@ pub record HasRun {W : Type 0} (told : W → Option (List ℕ)) (store : Blocks)
   pub ran : EachRun told store 0 jobs before results out.writers.items
   pub report : out.report.items ≡ report_of jobs results
   pub status : out.status ≡ status_of results
+  -- the ends are those that the report tells
+  pub ends : out.ends.items ≡ map (λ r. r.end) results
 
 -- the header of one of the jobs can't be written, or memory ran out
 abbrev pub IsRunRefusal : List JobMeaning → RunFault → Type 0

@@ -1,6 +1,6 @@
 //! A run: every job's archive, the report and the status.
 
-ghost use Rattle.std.specs.Prelude.{◌≡◌, ◌≤◌, [], length, vec_len, IfOk, IfErr};
+ghost use Rattle.std.specs.Prelude.{◌≡◌, ◌≤◌, [], length, map, vec_len, IfOk, IfErr};
 ghost use Rattle.std.specs.Arc.{arc_value};
 ghost use Rattle.std.specs.Io.KnownBytes.{Keeps};
 ghost use Rattle.ix_pipeline.specs.Headline.{EachUnused};
@@ -19,11 +19,13 @@ use std::io::Write;
 use std::sync::{Arc, Wait};
 use std::thread::Threads;
 
-/// What a run leaves: the report, the exit status, and the writers, in the order of the jobs.
+/// What a run leaves: the report, the exit status, and, in the order of the jobs, the ends that the
+/// report tells and the writers.
 #[derive(Drop)]
 pub struct RunOut<W> {
     pub report: Vec<u8>,
     pub status: u8,
+    pub ends: Vec<End>,
     pub writers: Vec<W>,
 }
 
@@ -50,11 +52,20 @@ pub fn run<R: Threads + Wait + Sync, W: Write + Drop>(
     let (results, writers) = run_by(rt, alloc, store, jobs, writers, verifiers, plan)?;
     let report = report(alloc, jobs.as_slice(), results.as_slice())?;
     let status = status(results.as_slice());
+    let ends = ends_of(alloc, results.as_slice())?;
     Ok(RunOut {
         report,
         status,
+        ends,
         writers,
     })
+}
+
+// How each job ended.
+fn ends_of(alloc: Global, results: &[JobResult]) -> Result<Vec<End>, AllocError>
+    ensures { IfOk result (λ ends. ends.items ≡ map (λ r. r.end) results.now) }
+{
+    results.iter().map(|told| told.end).collect(alloc)
 }
 
 // Runs the jobs over the store by walkers and verifiers: what was told of each, and its writer.

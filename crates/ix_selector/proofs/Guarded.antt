@@ -60,7 +60,7 @@ limit_fits (map no_entries) limit h = err_no_ok Keys h
 limit_fits other limit h = err_no_ok Kind h
 
 -- a matcher alone is read from its form
-matcher_only : (es : Entries) (s : Pattern) → matcher_of es ≡ Ok s → matcher ≡ s
+pub matcher_only : (es : Entries) (s : Pattern) → matcher_of es ≡ Ok s → matcher ≡ s
 matcher_only no_entries s h = ok_same matcher s h
 matcher_only (entry k d es) s h =
     by_test (bytes_eq k (codes "label")) (labelled d (matcher_of es)) (Err (Unsupported MatcherField)) s (matcher ≡ s) (λ e. matcher_only es s (rest_of d (matcher_of es) s e)) (λ e. err_no_ok (Unsupported MatcherField) e) h where

@@ -1,15 +1,13 @@
 -- What the selectors of the program are, where the search doesn't see it.
-use Rattle.std.proofs.Common.{◌≡◌, ℕ, List, [], ◌∷◌, map, refl, sym, ◌∙◌, ap, true}
-use Rattle.std.specs.Prelude.{Option, ℤ, if◌then◌else◌}
+use Rattle.std.proofs.Common.{◌≡◌, ℕ, List, [], ◌∷◌, map, refl, sym, ◌∙◌, ap}
+use Rattle.std.specs.Prelude.{Option, ℤ}
 use Rattle.std.specs.Global.{Vec}
 use Rattle.ix_selector.specs.declared.sel.Sel.{Sel}
 use Rattle.ix_selector.specs.declared.sel.Sel.TheVariants.{Fields, Index, Range, Union, Recursive, rolls-Fields, rolls-Index, rolls-Range, rolls-Union, rolls-Recursive}
 use Rattle.ix_selector.specs.declared.sel.Sel.TheOpen as layer
 use Rattle.ix_selector.specs.declared.sel.Sel.TheFolds.{fold-roll-Sel}
-use Rattle.ix_selector.specs.Pattern.{Pattern, fields, index, range, recursive, union, fields_of, members_of, field, member, pattern_step, pattern_of}
-use Rattle.ix_selector.specs.Enters.{Step}
-use Rattle.ix_selector.specs.Derivative.{replaced, fields_replaced, members_replaced, is_at, is_within, named_left, left_after}
-use Rattle.ix_selector.specs.Edges.{seen_field, replaced_field}
+use Rattle.ix_selector.specs.Pattern.{Pattern, fields, index, range, recursive, union, fields_of, members_of, pattern_step, pattern_of}
+use Rattle.ix_selector.specs.Views.{seen_field}
 
 -- a union, with its members as a list
 pub pattern_of-union : (v : _) → pattern_of (Union v) ≡ union (members_of (map pattern_of v.items))
@@ -34,31 +32,3 @@ pattern_of-index i b = ap pattern_of (sym (rolls-Index i b)) ∙ fold-roll-Sel P
 
 pattern_of-range : (i j : ℤ) (b : _) → pattern_of (Range i j b) ≡ range i j (pattern_of b.value)
 pattern_of-range i j b = ap pattern_of (sym (rolls-Range i j b)) ∙ fold-roll-Sel Pattern pattern_step (layer.Range i j b)
-
--- what is left behind a step to the position, to one within the range, and to a key
-pub left_after-index : (x : Pattern) (sel : Sel) (i : ℤ) (b : _) (t : Step) → sel ≡ Index i b → is_at i t ≡ true → left_after x (pattern_of sel) t ≡ replaced x (pattern_of b.value) ∷ []
-left_after-index x sel i b t is test = ap (λ s. left_after x s t) (ap pattern_of is ∙ pattern_of-index i b) ∙ ap (λ c. if c then replaced x (pattern_of b.value) ∷ [] else []) test
-
-pub left_after-range : (x : Pattern) (sel : Sel) (i j : ℤ) (b : _) (t : Step) → sel ≡ Range i j b → is_within i j t ≡ true → left_after x (pattern_of sel) t ≡ replaced x (pattern_of b.value) ∷ []
-left_after-range x sel i j b t is test = ap (λ s. left_after x s t) (ap pattern_of is ∙ pattern_of-range i j b) ∙ ap (λ c. if c then replaced x (pattern_of b.value) ∷ [] else []) test
-
-pub left_after-fields : (x : Pattern) (sel : Sel) (v : _) (t : Step) → sel ≡ Fields v → left_after x (pattern_of sel) t ≡ named_left x (fields_of (map seen_field v.items)) t
-left_after-fields x sel v t is = ap (λ s. left_after x s t) (ap pattern_of is ∙ pattern_of-fields v)
-
--- replacing goes over the selectors one by one
-members_replaced-map : (x : Pattern) (ss : List Sel) → members_replaced x (members_of (map pattern_of ss)) ≡ members_of (map (λ s. replaced x (pattern_of s)) ss)
-members_replaced-map x [] = refl
-members_replaced-map x (s ∷ ss) = ap (member (replaced x (pattern_of s))) (members_replaced-map x ss)
-
--- the same for the selectors behind keys
-fields_replaced-map : (x : Pattern) (fs : List (Vec ℕ × Sel)) → fields_replaced x (fields_of (map seen_field fs)) ≡ fields_of (map (replaced_field x) fs)
-fields_replaced-map x [] = refl
-fields_replaced-map x (f ∷ fs) = ap (field f.0.items (replaced x (pattern_of f.1))) (fields_replaced-map x fs)
-
--- a union with its own edges replaced
-pub replaced-union : (x : Pattern) (v : _) → replaced x (pattern_of (Union v)) ≡ union (members_of (map (λ s. replaced x (pattern_of s)) v.items))
-replaced-union x v = ap (replaced x) (pattern_of-union v) ∙ ap union (members_replaced-map x v.items)
-
--- fields with their own edges replaced
-pub replaced-fields : (x : Pattern) (v : _) → replaced x (pattern_of (Fields v)) ≡ fields (fields_of (map (replaced_field x) v.items))
-replaced-fields x v = ap (replaced x) (pattern_of-fields v) ∙ ap fields (fields_replaced-map x v.items)

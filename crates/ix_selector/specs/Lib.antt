@@ -12,5 +12,12 @@ pub mod Enters
 pub mod IsEntered
 pub mod Residual
 pub mod Examples
-pub mod Derivative
-pub mod Edges
+pub mod Steps
+pub mod Ordered
+pub mod Views
+pub mod Places
+pub mod Grown
+pub mod Standing
+pub mod Named
+pub mod Pairs
+pub mod Reaching

@@ -1,14 +1,18 @@
 //! IPLD selectors, and stepping along a path.
 #![tactic(auto)]
 
-mod derivative;
 mod fault;
 pub mod law;
+mod merge;
+mod pair;
+mod reached;
 mod read;
 mod residual;
 mod sel;
 mod selector;
+mod spot;
 mod step;
+mod stepping;
 
 pub use fault::{Form, SelFault};
 pub use residual::Residual;

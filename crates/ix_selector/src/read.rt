@@ -4,7 +4,7 @@ ghost use Rattle.std.specs.Prelude.{◌≡◌, codes, map, IfOk};
 ghost use Rattle.ix_cbor.specs.Data.{data_of};
 ghost use Rattle.ix_selector.specs.Pattern.{pattern_of, fields_of, members_of, Around as SpecAround, behind_step};
 ghost use Rattle.ix_selector.specs.Reading.{Reader, integer_of, entries_of_map, one_of, two_of, three_of, has_key, limit_of, matcher_of, all_read, fields_form, index_form, range_form, recursive_form, union_form, edge_form, form_of, fields_read, members_read, read_with, selector_at, without_envelope, selector_of};
-ghost use Rattle.ix_selector.specs.Edges.{seen_field};
+ghost use Rattle.ix_selector.specs.Views.{seen_field};
 ghost use Rattle.ix_selector.specs.Gives.{Gives, Reads};
 ghost use Rattle.ix_selector.specs.Shapes.{around_of, entries_data, items_data, in_map, none_limit, depth_limit, inside, Shapes};
 

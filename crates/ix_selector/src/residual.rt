@@ -5,33 +5,38 @@ ghost use Rattle.ix_selector.specs.Enters.{Enters, Path};
 ghost use Rattle.ix_selector.specs.IsEntered.{is_entered};
 ghost use Rattle.ix_selector.specs.Residual.{ResidualEnters, residual_enters, step_of, IsBehind};
 
-use crate::derivative::{copied, left_after, stands};
-use crate::sel::Sel;
+use crate::merge::merged;
+use crate::pair::{Pair, Pairs};
+use crate::reached::{Reached, reach};
 use crate::selector::Selector;
+use crate::spot::Spot;
 use crate::step::Step;
+use crate::stepping::stepped;
 use std::alloc::{AllocError, Global};
-use std::marker::{Model, PhantomData};
+use std::marker::Model;
 
-/// What is left of a selector at a place, seen as a set of selectors inside recursions.
+/// What is left of a selector at a place, seen as a set of selectors inside recursions. No two of
+/// them stand at one place of the selector, so it has at most as many as the selector has places.
 #[derive(Drop)]
 pub struct Residual<'s> {
-    rest: Sel,
-    // A form that shares the selector's places can come behind the same signatures.
-    of: PhantomData<&'s Selector>,
+    spots: &'s [Spot],
+    pairs: Pairs,
 }
 
 impl<'s> Model for Residual<'s> {
-    ghost use Rattle.std.specs.Prelude.{List, [], ◌∷◌};
-    ghost use Rattle.ix_selector.specs.Pattern.{pattern_of, outside, IsGuarded};
+    ghost use Rattle.std.specs.Prelude.{◌≤◌, List, map, length};
+    ghost use Rattle.std.specs.List.{All};
+    ghost use Rattle.ix_selector.specs.Places.{AreSpots, AreNamedOnce};
+    ghost use Rattle.ix_selector.specs.Pairs.{place_of, IsPair, IsStanding};
     ghost use Rattle.ix_selector.specs.Residual.{Place, coded_places};
 
     ghost Value = { List Place };
 
     ghost coded = { coded_places };
 
-    ghost view = { λ r. record { selector = pattern_of r.rest; around = [] } ∷ [] };
+    ghost view = { λ r. map (place_of r.spots.now) r.pairs.items };
 
-    ghost invariant = { λ r. IsGuarded outside (pattern_of r.rest) };
+    ghost invariant = { λ r. AreSpots 0 r.spots.now × All (IsPair r.spots.now) r.pairs.items × All (IsStanding r.spots.now) r.pairs.items × AreNamedOnce r.spots.now × (length r.pairs.items ≤ length r.spots.now) };
 }
 
 impl<'s> Residual<'s> {
@@ -40,11 +45,15 @@ impl<'s> Residual<'s> {
         ensures entered { IfOk result (λ r. (p : Path) → (ResidualEnters r p ↔ Enters selector.now [] p)) }
         ensures tested { IfOk result (λ r. (p : Path) → residual_enters r p ≡ is_entered selector.now p) }
     {
-        let rest = copied(alloc, selector.root())?;
-        Ok(Residual {
-            rest,
-            of: PhantomData,
-        })
+        let (spots, place) = selector.places();
+        let mut reached = Reached::new(alloc);
+        let root = Pair {
+            place,
+            recursion: None,
+        };
+        reach(spots, root, &mut reached)?;
+        let pairs = merged(alloc, reached.standing)?;
+        Ok(Residual { spots, pairs })
     }
 
     /// What is left behind a step, where the child is entered.
@@ -54,14 +63,11 @@ impl<'s> Residual<'s> {
         ensures none { IfOk result (λ o. IfNone o (¬ ResidualEnters self.now (step_of step.now ∷ []))) }
         ensures tested { IfOk result (IsBehind self.now (step_of step.now)) }
     {
-        let rest = left_after(alloc, &self.rest, step)?;
-        if stands(&rest) {
-            Ok(Some(Residual {
-                rest,
-                of: PhantomData,
-            }))
-        } else {
-            Ok(None)
+        let spots = self.spots;
+        let pairs = stepped(alloc, spots, self.pairs.as_slice(), step)?;
+        if pairs.is_empty() {
+            return Ok(None);
         }
+        Ok(Some(Residual { spots, pairs }))
     }
 }

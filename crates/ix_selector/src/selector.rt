@@ -1,13 +1,14 @@
 //! Selectors that keep the rules on edges.
 
-ghost use Rattle.std.specs.Prelude.{◌≡◌, IfOk};
+ghost use Rattle.std.specs.Prelude.{◌≡◌, ◌+◌, length, IfOk};
 ghost use Rattle.ix_selector.specs.Pattern.{IsSelector};
+ghost use Rattle.ix_selector.specs.Places.{at, places_of, AreSpots, AreNamedOnce};
 ghost use Rattle.ix_selector.specs.Reading.{selector_of};
 ghost use Rattle.ix_selector.specs.Gives.{Gives};
 
 use crate::fault::SelFault;
 use crate::read;
-use crate::sel::Sel;
+use crate::spot::{Spot, push_spots};
 use ix_cbor::Tree;
 use std::alloc::Global;
 use std::marker::Model;
@@ -16,39 +17,44 @@ use std::marker::Model;
 /// most 128 deep.
 #[derive(Debug, Drop)]
 pub struct Selector {
-    sel: Sel,
+    spots: Vec<Spot>,
+    root: usize,
 }
 
 impl Model for Selector {
-    ghost use Rattle.ix_selector.specs.Pattern.{Pattern, pattern_of, IsSelector};
+    ghost use Rattle.std.specs.Prelude.{◌≡◌, ◌+◌, length};
+    ghost use Rattle.ix_selector.specs.Pattern.{Pattern, IsSelector};
     ghost use Rattle.ix_selector.specs.PatternCode.{coded_pattern};
+    ghost use Rattle.ix_selector.specs.Places.{at, places_of, AreSpots, AreNamedOnce};
 
     ghost Value = { Pattern };
 
     ghost coded = { coded_pattern };
 
-    ghost view = { λ s. pattern_of s.sel };
+    ghost view = { λ s. at (places_of s.spots.items) s.root };
 
-    ghost invariant = { λ s. IsSelector (pattern_of s.sel) };
+    ghost invariant = { λ s. IsSelector (at (places_of s.spots.items) s.root) × AreSpots 0 s.spots.items × AreNamedOnce s.spots.items × (s.root + 1 ≡ length s.spots.items) };
 }
 
 impl Selector {
-    ghost use Rattle.ix_selector.specs.Pattern.{pattern_of};
-
     /// The selector for which a tree stands.
     pub fn read(alloc: Global, tree: &Tree) -> Result<Selector, SelFault>
         ensures exact { Gives (λ s. s) result (selector_of tree.now) }
         ensures selector { IfOk result (λ s. IsSelector s) }
     {
         let sel = read::selector_of(alloc, tree.root())?;
-        Ok(Selector { sel })
+        let mut spots = Vec::new(alloc);
+        let root = push_spots(alloc, &sel, &mut spots)?;
+        Ok(Selector { spots, root })
     }
 
-    /// The selector as a tree.
-    pub(crate) fn root(&self) -> &Sel
-        ensures root { pattern_of result.now ≡ self.now }
+    /// Its places, and the number of its own.
+    pub(crate) fn places(&self) -> (&[Spot], usize)
+        ensures spots { AreSpots 0 result.0.now }
+        ensures once { AreNamedOnce result.0.now }
+        ensures root { (result.1 + 1 ≡ length result.0.now) × (at (places_of result.0.now) result.1 ≡ self.now) }
         ensures selector { IsSelector self.now }
     {
-        &self.sel
+        (self.spots.as_slice(), self.root)
     }
 }

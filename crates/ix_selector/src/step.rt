@@ -1,7 +1,7 @@
 //! Steps from a map or a list to one child.
 
 ghost use Rattle.std.specs.Prelude.{◌≡◌};
-ghost use Rattle.ix_selector.specs.Derivative.{is_key, is_at, is_within};
+ghost use Rattle.ix_selector.specs.Steps.{is_at, is_within};
 ghost use Rattle.ix_selector.specs.Residual.{step_of};
 
 /// A step from a node to one of its children.
@@ -14,16 +14,6 @@ pub enum Step<'a> {
 }
 
 impl Step<'_> {
-    /// Whether the step goes to this key.
-    pub(crate) fn is_key(&self, name: &[u8]) -> bool
-        ensures { result ≡ is_key name.now (step_of self.now) }
-    {
-        match self {
-            Step::Key(key) => name == *key,
-            Step::Pos(_) => false,
-        }
-    }
-
     /// Whether the step goes to this position.
     pub(crate) fn is_at(&self, position: i128) -> bool
         ensures { result ≡ is_at position (step_of self.now) }

@@ -16,6 +16,7 @@ mod settle;
 mod tests;
 mod verdicted;
 mod verifier;
+mod waiting;
 
 pub use claims::{ClaimSeat, Claims};
 pub use course::{Course, course_of_jobs, well_taken_is_good};
@@ -26,3 +27,4 @@ pub use queue::VisitQueue;
 pub use seats::{JobSeat, Rest, StopSeat, TakeSeat};
 pub use verdicted::Verdicted;
 pub use verifier::verify;
+pub use waiting::Waiting;

@@ -10,9 +10,9 @@ use crate::hand::Hand;
 use crate::item::Item;
 use crate::rule::{Puts, Takes, VisitRule};
 use crate::seats::{JobSeat, StopSeat, TakeSeat};
+use crate::waiting::Waiting;
 use crossbeam_queue::RuledArrayQueue;
 use std::sync::Wait;
-use std::thread;
 
 pub(crate) type Line = RuledArrayQueue<Item, Hand, VisitRule>;
 
@@ -73,12 +73,13 @@ impl VisitQueue {
         ensures put { (seat.new.hand ≡ after_put seat.old.hand item) × (seat.new.next ≡ next_after seat.old.next item) × (seat.new.closed ≡ closed_after item) }
     {
         let mut item = item;
+        let mut waiting = Waiting::new();
         for _ in rt.forever() {
             match self.try_put(rt, seat, item) {
                 Ok(()) => return,
                 Err(back) => item = back,
             }
-            thread::yield_now();
+            waiting.pause(rt);
         }
         unreachable!()
     }
@@ -89,11 +90,12 @@ impl VisitQueue {
         ensures same { seat.new.table ≡ seat.old.table }
         ensures taken { IsTake seat.old.hand result seat.new.hand }
     {
+        let mut waiting = Waiting::new();
         for _ in rt.forever() {
             if let Some(item) = self.try_take(rt, seat) {
                 return item;
             }
-            thread::yield_now();
+            waiting.pause(rt);
         }
         unreachable!()
     }

@@ -13,11 +13,11 @@ use crate::lanes::LaneIn;
 use crate::queue::VisitQueue;
 use crate::seats::TakeSeat;
 use crate::verdicted::Verdicted;
+use crate::waiting::Waiting;
 use ix_check::Check;
 use ix_walk::Store;
 use std::alloc::{AllocError, Global};
 use std::sync::Wait;
-use std::thread;
 
 // What is sent for the item: a visit is checked, once.
 fn judge<C: Check>(alloc: Global, store: &Store, check: &mut C, item: Item) -> Verdicted
@@ -44,12 +44,13 @@ fn send<R: Wait>(rt: &R, lane: &mut LaneIn, item: Verdicted)
     ensures sent { sent_by lane.new ≡ sent_by lane.old ++ item ∷ [] }
 {
     let mut item = item;
+    let mut waiting = Waiting::new();
     for _ in rt.forever() {
         match lane.try_send(item) {
             Ok(()) => return,
             Err(back) => item = back,
         }
-        thread::yield_now();
+        waiting.pause(rt);
     }
     unreachable!()
 }

@@ -8,7 +8,7 @@ use crate::export::log_of;
 use crate::fixtures::{ABC, cid_of};
 use ix_car::{End, Sink};
 use ix_check::Verdict;
-use ix_collect::{Collector, drain, finish, round};
+use ix_collect::{Collector, Received, drain, finish, round};
 use ix_stages::{LaneIn, LaneOut, Verdicted, lane};
 use ix_walk::Visit;
 use std::alloc::{AllocError, Global};
@@ -139,9 +139,10 @@ fn lanes_into_one_sink(rt: HostRuntime) -> Result<(), Fail> {
     let mut logs = [log_of(alloc, 9)?];
     let mut collector = Collector::new(alloc, 1)?;
     collector.begins(&logs);
-    assert_eq!(rt; round(alloc, &mut collector, &mut read, &mut logs), 0);
-    assert_eq!(rt; round(alloc, &mut collector, &mut read, &mut logs), 1);
-    assert_eq!(rt; round(alloc, &mut collector, &mut read, &mut logs), 0);
+    for (items, lasts) in [(1, 0), (1, 1), (0, 0)] {
+        let received = round(alloc, &mut collector, &mut read, &mut logs);
+        assert_eq!(rt; received, Received { items, lasts });
+    }
     drain(
         &rt,
         alloc,

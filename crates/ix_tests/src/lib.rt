@@ -7,6 +7,8 @@ mod archives;
 #[cfg(test)]
 mod collector;
 #[cfg(test)]
+mod crowd;
+#[cfg(test)]
 mod export;
 #[cfg(test)]
 mod fixtures;

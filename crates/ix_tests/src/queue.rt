@@ -504,6 +504,75 @@ fn chain_through_queue_and_lane(rt: HostRuntime) -> Result<(), Fail> {
     Ok(())
 }
 
+// The seats of three walkers, and that for Stops.
+fn three_walkers(
+    store: &Store,
+    jobs: &[Job],
+    queue: &VisitQueue,
+    seats: Vec<JobSeat>,
+    stop: StopSeat,
+) -> Option<Seats>
+    requires seats { All (CanWalk queue.now (course_of store.now jobs.now)) seats.items }
+    requires stop { stop.table ≡ table_of queue.now }
+    ensures { IfSome result (λ w. CanRun queue.now (course_of store.now jobs.now) w.first w.second w.third w.stop) }
+{
+    let mut seats = seats;
+    let third = next_walker(store, jobs, queue, &mut seats)?;
+    let second = next_walker(store, jobs, queue, &mut seats)?;
+    let first = next_walker(store, jobs, queue, &mut seats)?;
+    Some(Seats {
+        first,
+        second,
+        third,
+        stop,
+    })
+}
+
+// The seats with which three walkers came back.
+fn walkers_back(
+    alloc: Global,
+    queue: &VisitQueue,
+    first: Option<JobSeat>,
+    second: Option<JobSeat>,
+    third: Option<JobSeat>,
+) -> Result<Vec<JobSeat>, AllocError>
+    requires first { IfSome first (IsWalker queue.now) }
+    requires second { IfSome second (IsWalker queue.now) }
+    requires third { IfSome third (IsWalker queue.now) }
+    ensures { IfOk result (λ seats. All (IsWalker queue.now) seats.items) }
+{
+    let mut seats = Vec::new(alloc);
+    keep_walker(queue, &mut seats, first)?;
+    keep_walker(queue, &mut seats, second)?;
+    keep_walker(queue, &mut seats, third)?;
+    Ok(seats)
+}
+
+// The seats with which two takers came back, whose numbers are looked at.
+fn takers_back(
+    rt: &impl Abort,
+    alloc: Global,
+    queue: &VisitQueue,
+    first: Option<Taken>,
+    second: Option<Taken>,
+) -> Result<Vec<TakeSeat>, AllocError>
+    requires first { IfSome first (λ t. IsTaker queue.now t.seat) }
+    requires second { IfSome second (λ t. IsTaker queue.now t.seat) }
+    ensures { IfOk result (λ seats. All (IsTaker queue.now) seats.items) }
+{
+    let Some(first) = first else {
+        return Err(AllocError);
+    };
+    let Some(second) = second else {
+        return Err(AllocError);
+    };
+    each_once(rt, first.numbers.as_slice(), second.numbers.as_slice());
+    let mut takers = Vec::new(alloc);
+    keep_taker(queue, &mut takers, first.seat)?;
+    keep_taker(queue, &mut takers, second.seat)?;
+    Ok(takers)
+}
+
 #[test]
 fn three_walks_through_room_for_one(rt: HostRuntime) -> Result<(), Fail> {
     let alloc = rt.alloc();
@@ -512,57 +581,24 @@ fn three_walks_through_room_for_one(rt: HostRuntime) -> Result<(), Fail> {
     let jobs = jobs_of(alloc, ONE_LINK, 3, 100)?;
     let QueueParts {
         queue,
-        jobs: mut seats,
+        jobs: seats,
         mut takers,
         stop,
     } = queue_of(alloc, &store, &jobs, 1, 2)?;
-    let wanted = "three seats and two takers were wanted";
-    let Some(third) = next_walker(&store, &jobs, &queue, &mut seats) else {
-        return Err(wanted.into());
+    let Some(walkers) = three_walkers(&store, &jobs, &queue, seats, stop) else {
+        return Err("three seats were wanted".into());
     };
-    let Some(second) = next_walker(&store, &jobs, &queue, &mut seats) else {
-        return Err(wanted.into());
+    let Some(second) = next_taker(&queue, &mut takers) else {
+        return Err("two takers were wanted".into());
     };
-    let Some(first) = next_walker(&store, &jobs, &queue, &mut seats) else {
-        return Err(wanted.into());
+    let Some(first) = next_taker(&queue, &mut takers) else {
+        return Err("two takers were wanted".into());
     };
-    let Some(u) = next_taker(&queue, &mut takers) else {
-        return Err(wanted.into());
-    };
-    let Some(t) = next_taker(&queue, &mut takers) else {
-        return Err(wanted.into());
-    };
-    let walkers = Seats {
-        first,
-        second,
-        third,
-        stop,
-    };
-    let (walked, taken) = run_five(&rt, alloc, &store, &jobs, &queue, walkers, t, u);
-    let Walked {
-        first,
-        second,
-        third,
-        stop,
-        is_stopped,
-    } = walked;
-    assert!(rt; is_stopped, "a full queue stayed full");
-    let mut seats = Vec::new(alloc);
-    keep_walker(&queue, &mut seats, first)?;
-    keep_walker(&queue, &mut seats, second)?;
-    keep_walker(&queue, &mut seats, third)?;
-    let (first, second) = taken;
-    let Some(t) = first else {
-        return Err(Fail::from(AllocError));
-    };
-    let Some(u) = second else {
-        return Err(Fail::from(AllocError));
-    };
-    each_once(&rt, t.numbers.as_slice(), u.numbers.as_slice());
-    let mut takers = Vec::new(alloc);
-    keep_taker(&queue, &mut takers, t.seat)?;
-    keep_taker(&queue, &mut takers, u.seat)?;
-    let mut rest = queue.settle(seats, stop, takers);
+    let (walked, taken) = run_five(&rt, alloc, &store, &jobs, &queue, walkers, first, second);
+    assert!(rt; walked.is_stopped, "a full queue stayed full");
+    let seats = walkers_back(alloc, &queue, walked.first, walked.second, walked.third)?;
+    let takers = takers_back(&rt, alloc, &queue, taken.0, taken.1)?;
+    let mut rest = queue.settle(seats, walked.stop, takers);
     assert!(rt; queue.take_rest(&rt, &mut rest).is_none());
     Ok(())
 }

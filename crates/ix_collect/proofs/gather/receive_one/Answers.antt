@@ -1,11 +1,11 @@
-use Rattle.std.proofs.Common.{rules, ◌≡◌, ◌+◌, [], ◌∷◌, ◌++◌, List, ap, arith, subst, sym}
+use Rattle.std.proofs.Common.{rules, ◌≡◌, ◌∙◌, ◌≤◌, ◌+◌, [], ◌∷◌, ◌++◌, List, ap, arith, subst, sym, length, length-append}
 use Rattle.std.specs.Prelude.{cond}
 use Rattle.ix_collect.proofs.Kept.{kept_same}
 use Rattle.ix_stages.specs.declared.verdicted.Verdicted.{Verdicted}
 use Rattle.ix_stages.specs.Lanes.{received_by}
 use Rattle.ix_collect.specs.Collected.{IsCollected, is_last, last_count}
 use Rattle.ix_collect.proofs.Goodness.{weigh_append}
-use Rattle.ix_collect.proofs.Gathering.{inserts_mid}
+use Rattle.ix_collect.proofs.Gathering.{inserts_mid, bool_one, one_at_most}
 use Rattle.ix_collect.proofs.gather.receive_one.Goals as goal
 
 pub returns-in_default-clause-kept : goal.returns-in_default-clause-kept
@@ -27,5 +27,20 @@ returns-clause-last g c =
     let gives : received_by c.try_recv.new.self ≡ received_by c.args.lane.now ++ item ∷ [] = search rules in
     let counts : last_count (received_by c.args.lane.now ++ item ∷ []) ≡ last_count (received_by c.args.lane.now) + last_count (item ∷ []) = weigh_append is_last (received_by c.args.lane.now) (item ∷ []) in
     let one : cond c.is_last-last.result 1 0 ≡ is_last item = c.is_last-last.ensures in
+    let as_one : c.from-lasts.result ≡ cond c.is_last-last.result 1 0 = c.from-lasts.ensures ∙ bool_one c.is_last-last.result in
     let new : last_count (received_by c.try_recv.new.self) ≡ last_count (received_by c.args.lane.now ++ item ∷ []) = ap last_count gives in
     omega arith
+
+pub returns-clause-items : goal.returns-clause-items
+returns-clause-items g c =
+    let item = c.in-Some.item in
+    let gives : received_by c.try_recv.new.self ≡ received_by c.args.lane.now ++ item ∷ [] = search rules in
+    let counts : length (received_by c.args.lane.now ++ item ∷ []) ≡ length (received_by c.args.lane.now) + 1 = length-append (received_by c.args.lane.now) (item ∷ []) in
+    let new : length (received_by c.try_recv.new.self) ≡ length (received_by c.args.lane.now ++ item ∷ []) = ap (λ (l : List Verdicted). length l) gives in
+    omega arith
+
+pub returns-clause-one : goal.returns-clause-one
+returns-clause-one g c =
+    let as_one : c.from-lasts.result ≡ cond c.is_last-last.result 1 0 = c.from-lasts.ensures ∙ bool_one c.is_last-last.result in
+    let most = one_at_most c.is_last-last.result in
+    (omega arith, omega arith)

@@ -13,7 +13,8 @@ invariant-loop-i g l = record {
   sinks : length l.sinks ≡ job_count l.collector;
   jobs : job_count l.collector ≡ job_count l.fn.collector;
   may : MayTell g.S.Sink.events g.S.Sink.failed l.collector l.sinks;
-  few : l.lasts ≤ l.i;
+  few : (l.items ≤ l.i) × (l.lasts ≤ l.i);
+  items : length (all_received l.lanes) ≡ l.items + length (all_received l.initial.lanes);
   lasts : last_count (all_received l.lanes) ≡ l.lasts + last_count (all_received l.initial.lanes);
   same : EachSameOut l.initial.lanes l.lanes;
   kept : EachKept g.S.Sink.fact l.initial.sinks l.sinks;

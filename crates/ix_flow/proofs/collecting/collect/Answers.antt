@@ -10,11 +10,11 @@ loop-init g c = record { told = c.requires; jobs = refl; kept = kept_same g.S.Si
 pub loop-preserved : goal.loop-preserved
 loop-preserved g c =
     let h = c.loop.invariant in
-    let e = c.round.ensures in
+    let e = c.round-received.ensures in
     let told = h.told in
     record {
       told = record { sized = e.sinks; may = e.may; collected = λ store jobs. e.collected store jobs [] (told.collected store jobs) };
       jobs = e.jobs ∙ h.jobs;
-      kept = kept_trans g.S.Sink.fact c.args.sinks.now c.loop.sinks c.round.new.sinks h.kept e.kept;
-      lanes = each_same c.args.outs.now c.loop.outs c.round.new.lanes h.lanes e.lanes;
+      kept = kept_trans g.S.Sink.fact c.args.sinks.now c.loop.sinks c.round-received.new.sinks h.kept e.kept;
+      lanes = each_same c.args.outs.now c.loop.outs c.round-received.new.lanes h.lanes e.lanes;
     }

@@ -10,14 +10,14 @@ loop-init g c = record { stop = (refl, refl); told = c.requires.told; jobs = ref
 pub loop-preserved : goal.loop-preserved
 loop-preserved g c =
     let h = c.loop.invariant in
-    let e = c.round.ensures in
-    let s = c.put_stop-stops.ensures in
+    let e = c.round-received.ensures in
+    let s = c.put_stops-stops.ensures in
     let told = h.told in
     record {
       stop = (s.0 ∙ h.stop.0, s.1 ∙ h.stop.1);
       told = record { sized = e.sinks; may = e.may; collected = λ store jobs. e.collected store jobs [] (told.collected store jobs) };
       jobs = e.jobs ∙ h.jobs;
-      kept = kept_trans g.S.Sink.fact c.args.sinks.now c.loop.sinks c.round.new.sinks h.kept e.kept;
-      lanes = each_same c.args.outs.now c.loop.outs c.round.new.lanes h.lanes e.lanes;
+      kept = kept_trans g.S.Sink.fact c.args.sinks.now c.loop.sinks c.round-received.new.sinks h.kept e.kept;
+      lanes = each_same c.args.outs.now c.loop.outs c.round-received.new.lanes h.lanes e.lanes;
       done = λ d. e.done (h.done d);
     }

@@ -4,7 +4,7 @@ use Rattle.std.proofs.lemmas.List.{map_push}
 use Rattle.ix_cbor.specs.Data.{data_of}
 use Rattle.ix_selector.specs.Pattern.{fields, pattern_of}
 use Rattle.ix_selector.specs.Reading.{◌>>=◌, selector_at, fields_read, members_read}
-use Rattle.ix_selector.specs.Edges.{seen_field}
+use Rattle.ix_selector.specs.Views.{seen_field}
 use Rattle.ix_selector.specs.Shapes.{around_of, entries_data, items_data, inside}
 use Rattle.ix_selector.specs.Gives.{Gives}
 use Rattle.ix_selector.proofs.Views.{pattern_of-fields}

@@ -1,7 +1,7 @@
 use Rattle.std.proofs.Common.{◌≡◌, ◌+◌, ◌*◌, map, drop}
 use Rattle.ix_selector.specs.Pattern.{pattern_of}
 use Rattle.ix_selector.specs.Reading.{selector_at, fields_read, members_read}
-use Rattle.ix_selector.specs.Edges.{seen_field}
+use Rattle.ix_selector.specs.Views.{seen_field}
 use Rattle.ix_selector.specs.Shapes.{around_of, entries_data, items_data}
 use Rattle.ix_selector.proofs.Fronts.{with_fields, with_members}
 use Rattle.ix_selector.proofs.read.+levels.Given as goal

@@ -1,10 +1,27 @@
-use Rattle.std.proofs.Common.{◌∙◌}
-use Rattle.ix_selector.specs.Pattern.{pattern_of}
-use Rattle.ix_selector.proofs.Places.{start-enters, start-tested}
+use Rattle.ix_selector.proofs.Residues.{root-pair, start-entered, start-tested}
+use Rattle.ix_selector.proofs.Merging.{pairs-agree, pairs-of, standing-of, few-pairs}
 use Rattle.ix_selector.proofs.residual.Residual.start.Goals as goal
 
+pub reach-requires-clause-pair : goal.reach-requires-clause-pair
+reach-requires-clause-pair c = root-pair c.places-place.result.0.now c.places-place.result.1 c.args.selector.now c.places-place.ensures.spots c.places-place.ensures.root.0 c.places-place.ensures.root.1 c.places-place.ensures.selector
+
+pub merged-requires : goal.merged-requires
+merged-requires c = record { agree = pairs-agree c.places-place.result.0.now c.reach.new.reached.standing.items c.places-place.ensures.once c.in_ok-reach.ensures.reached.pairs }
+
+pub invariant_of-result : goal.invariant_of-result
+invariant_of-result c =
+    let spots = c.places-place.result.0.now in
+    let reached = c.in_ok-reach.ensures.reached in
+    let among = c.in_ok-pairs.ensures.among in
+    let pairs = pairs-of spots c.reach.new.reached.standing.items c.in_ok-pairs.pairs.items among reached.pairs in
+    (c.places-place.ensures.spots, pairs, standing-of spots c.reach.new.reached.standing.items c.in_ok-pairs.pairs.items among reached.standing, c.places-place.ensures.once, few-pairs spots c.in_ok-pairs.pairs.items c.in_ok-pairs.ensures.rising pairs)
+
 pub returns-clause-entered : goal.returns-clause-entered
-returns-clause-entered c = start-enters c.args.selector.now (pattern_of c.in_ok-rest.rest) (c.in_ok-rest.ensures ∙ c.root.ensures.root)
+returns-clause-entered c =
+    start-entered c.places-place.result.0.now c.places-place.result.1 c.args.selector.now c.places-place.ensures.root.1 c.places-place.ensures.selector c.new-reached.result c.reach.new.reached c.new-reached.ensures.0 c.new-reached.ensures.1
+    c.in_ok-reach.ensures.reached c.in_ok-reach.ensures.enters c.in_ok-reach.ensures.again c.in_ok-pairs.pairs.items c.in_ok-pairs.ensures.enters c.in_ok-pairs.ensures.among
 
 pub returns-clause-tested : goal.returns-clause-tested
-returns-clause-tested c = start-tested c.args.selector.now (pattern_of c.in_ok-rest.rest) (c.in_ok-rest.ensures ∙ c.root.ensures.root) c.root.ensures.selector
+returns-clause-tested c =
+    start-tested c.places-place.result.0.now c.places-place.result.1 c.args.selector.now c.places-place.ensures.root.1 c.places-place.ensures.selector c.new-reached.result c.reach.new.reached c.new-reached.ensures.0 c.new-reached.ensures.1
+    c.in_ok-reach.ensures.reached c.in_ok-reach.ensures.enters c.in_ok-reach.ensures.again c.in_ok-pairs.pairs.items c.in_ok-pairs.ensures.enters c.in_ok-pairs.ensures.among

@@ -1,29 +1,46 @@
-use Rattle.std.proofs.Common.{sym}
-use Rattle.ix_selector.specs.Pattern.{pattern_of}
+use Rattle.std.proofs.Common.{◌≡◌, map, sym, ap, subst, ◌∙◌}
+use Rattle.std.specs.List.{All}
+use Rattle.ix_selector.specs.Pairs.{place_of, IsPair}
 use Rattle.ix_selector.specs.Residual.{step_of}
-use Rattle.ix_selector.proofs.Places.{below-enters, below-guarded, here-enters, here-none, some-tested, none-tested}
+use Rattle.ix_selector.proofs.Residues.{step-below, step-entered, step-none, step-tested, step-tested_none, nothing-left, something-left}
 use Rattle.ix_selector.proofs.residual.Residual.step.Goals as goal
 
-pub invariant_of-result : goal.invariant_of-result
-invariant_of-result c = below-guarded (pattern_of c.self.inside.rest) (pattern_of c.in_ok-rest.rest) (step_of c.args.step.now) c.in_ok-rest.ensures c.self.invariant
+pub returns-then-is_empty-clause-none : goal.returns-then-is_empty-clause-none
+returns-then-is_empty-clause-none c =
+    let spots = c.self.inside.spots.now in
+    let t = step_of c.args.step.now in
+    let from : c.args.self.now ≡ map (place_of spots) c.as_slice.result.now = sym c.self.view_is ∙ ap (map (place_of spots)) (sym c.as_slice.ensures) in
+    let pairs : All (IsPair spots) c.as_slice.result.now = subst (All (IsPair spots)) (sym c.as_slice.ensures) c.self.invariant.1 in
+    step-none spots c.as_slice.result.now c.in_ok-pairs.pairs.items t c.args.self.now from pairs c.in_ok-pairs.ensures.pairs.0 c.in_ok-pairs.ensures.pairs.1 c.in_ok-pairs.ensures.enters (nothing-left c.in_ok-pairs.pairs.items (sym c.if-is_empty.ensures))
 
-pub returns-then-stands-clause-entered : goal.returns-then-stands-clause-entered
-returns-then-stands-clause-entered c =
-    let guarded = below-guarded (pattern_of c.self.inside.rest) (pattern_of c.in_ok-rest.rest) (step_of c.args.step.now) c.in_ok-rest.ensures c.self.invariant in
-    here-enters (pattern_of c.in_ok-rest.rest) guarded (sym c.if-stands.ensures)
+pub returns-then-is_empty-clause-tested : goal.returns-then-is_empty-clause-tested
+returns-then-is_empty-clause-tested c =
+    let spots = c.self.inside.spots.now in
+    let t = step_of c.args.step.now in
+    let from : c.args.self.now ≡ map (place_of spots) c.as_slice.result.now = sym c.self.view_is ∙ ap (map (place_of spots)) (sym c.as_slice.ensures) in
+    let pairs : All (IsPair spots) c.as_slice.result.now = subst (All (IsPair spots)) (sym c.as_slice.ensures) c.self.invariant.1 in
+    step-tested_none spots c.as_slice.result.now c.in_ok-pairs.pairs.items t c.args.self.now from pairs c.in_ok-pairs.ensures.pairs.0 c.in_ok-pairs.ensures.pairs.1 c.in_ok-pairs.ensures.enters (nothing-left c.in_ok-pairs.pairs.items (sym c.if-is_empty.ensures))
 
-pub returns-then-stands-clause-below : goal.returns-then-stands-clause-below
-returns-then-stands-clause-below c =
-    below-enters (pattern_of c.self.inside.rest) (pattern_of c.in_ok-rest.rest) (step_of c.args.step.now) c.args.self.now (sym c.self.view_is) c.in_ok-rest.ensures c.self.invariant
+pub returns-clause-entered : goal.returns-clause-entered
+returns-clause-entered c =
+    let spots = c.self.inside.spots.now in
+    let t = step_of c.args.step.now in
+    let from : c.args.self.now ≡ map (place_of spots) c.as_slice.result.now = sym c.self.view_is ∙ ap (map (place_of spots)) (sym c.as_slice.ensures) in
+    let pairs : All (IsPair spots) c.as_slice.result.now = subst (All (IsPair spots)) (sym c.as_slice.ensures) c.self.invariant.1 in
+    step-entered spots c.as_slice.result.now c.in_ok-pairs.pairs.items t c.args.self.now from pairs c.in_ok-pairs.ensures.pairs.0 c.in_ok-pairs.ensures.pairs.1 c.in_ok-pairs.ensures.enters (something-left c.in_ok-pairs.pairs.items (sym c.if-is_empty.ensures))
 
-pub returns-clause-none : goal.returns-clause-none
-returns-clause-none c =
-    here-none (pattern_of c.self.inside.rest) (pattern_of c.in_ok-rest.rest) (step_of c.args.step.now) c.args.self.now (sym c.self.view_is) c.in_ok-rest.ensures c.self.invariant (sym c.if-stands.ensures)
-
-pub returns-then-stands-clause-tested : goal.returns-then-stands-clause-tested
-returns-then-stands-clause-tested c =
-    some-tested (pattern_of c.self.inside.rest) (pattern_of c.in_ok-rest.rest) (step_of c.args.step.now) c.args.self.now (sym c.self.view_is) c.in_ok-rest.ensures c.self.invariant (sym c.if-stands.ensures)
+pub returns-clause-below : goal.returns-clause-below
+returns-clause-below c =
+    let spots = c.self.inside.spots.now in
+    let t = step_of c.args.step.now in
+    let from : c.args.self.now ≡ map (place_of spots) c.as_slice.result.now = sym c.self.view_is ∙ ap (map (place_of spots)) (sym c.as_slice.ensures) in
+    let pairs : All (IsPair spots) c.as_slice.result.now = subst (All (IsPair spots)) (sym c.as_slice.ensures) c.self.invariant.1 in
+    step-below spots c.as_slice.result.now c.in_ok-pairs.pairs.items t c.args.self.now from pairs c.in_ok-pairs.ensures.pairs.0 c.in_ok-pairs.ensures.pairs.1 c.in_ok-pairs.ensures.enters
 
 pub returns-clause-tested : goal.returns-clause-tested
 returns-clause-tested c =
-    none-tested (pattern_of c.self.inside.rest) (pattern_of c.in_ok-rest.rest) (step_of c.args.step.now) c.args.self.now (sym c.self.view_is) c.in_ok-rest.ensures c.self.invariant (sym c.if-stands.ensures)
+    let spots = c.self.inside.spots.now in
+    let t = step_of c.args.step.now in
+    let from : c.args.self.now ≡ map (place_of spots) c.as_slice.result.now = sym c.self.view_is ∙ ap (map (place_of spots)) (sym c.as_slice.ensures) in
+    let pairs : All (IsPair spots) c.as_slice.result.now = subst (All (IsPair spots)) (sym c.as_slice.ensures) c.self.invariant.1 in
+    step-tested spots c.as_slice.result.now c.in_ok-pairs.pairs.items t c.args.self.now from pairs c.in_ok-pairs.ensures.pairs.0 c.in_ok-pairs.ensures.pairs.1 c.in_ok-pairs.ensures.enters (something-left c.in_ok-pairs.pairs.items (sym c.if-is_empty.ensures))

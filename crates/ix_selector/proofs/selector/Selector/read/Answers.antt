@@ -1,10 +1,21 @@
+use Rattle.std.proofs.Common.{subst, sym}
 use Rattle.ix_cbor.specs.Data.{data_of}
-use Rattle.ix_selector.specs.Pattern.{pattern_of}
+use Rattle.ix_cbor.specs.Spelling.{IsCanonical}
+use Rattle.ix_selector.specs.Pattern.{pattern_of, IsSelector}
 use Rattle.ix_selector.proofs.Guarded.{reads_selector}
+use Rattle.ix_selector.proofs.Ordered.{reads_ordered}
 use Rattle.ix_selector.proofs.selector.Selector.read.Goals as goal
 
+pub push_spots-requires-clause-ordered : goal.push_spots-requires-clause-ordered
+push_spots-requires-clause-ordered c =
+    reads_ordered (data_of c.root.result.now) (pattern_of c.in_ok-sel.sel) (subst IsCanonical (sym c.root.ensures.root) c.root.ensures.canonical) c.in_ok-sel.ensures
+
 pub invariant_of-result : goal.invariant_of-result
-invariant_of-result c = reads_selector (data_of c.root.result.now) (pattern_of c.in_ok-sel.sel) c.in_ok-sel.ensures
+invariant_of-result c =
+    let is = reads_selector (data_of c.root.result.now) (pattern_of c.in_ok-sel.sel) c.in_ok-sel.ensures in
+    (subst IsSelector (sym c.in_ok-root.ensures.place.1) is, c.in_ok-root.ensures.grows.spots, c.in_ok-root.ensures.grows.once, c.in_ok-root.ensures.last)
 
 pub returns-clause-selector : goal.returns-clause-selector
-returns-clause-selector c = reads_selector (data_of c.root.result.now) (pattern_of c.in_ok-sel.sel) c.in_ok-sel.ensures
+returns-clause-selector c =
+    let is = reads_selector (data_of c.root.result.now) (pattern_of c.in_ok-sel.sel) c.in_ok-sel.ensures in
+    subst IsSelector (sym c.in_ok-root.ensures.place.1) is

@@ -1,0 +1,68 @@
+-- What the conversions of selectors print.
+use Rattle.std.specs.Prelude.{◌≡◌, ℕ, List, [], ◌∷◌, ◌++◌, Ok, Err}
+use Rattle.std.specs.Fmt.{signed_decimal}
+use Rattle.json.specs.Token.{Token}
+use Rattle.json.specs.Print.{print}
+use Rattle.hex.specs.Hex.{encode_lower, decode_of}
+use Rattle.ix_cbor.specs.Data.{Data, Items, Entries, no_items, item, no_entries, entry}
+use Rattle.ix_cbor.specs.Data as data_model
+use Rattle.ix_cbor.specs.Spelling.{IsCanonical, spelling_of, Spells}
+use Rattle.ix_selector.specs.Pattern.{Pattern}
+use Rattle.ix_selector.specs.Reading.{selector_of}
+use Rattle.ix_notation.specs.declared.fault.NotationFault.{NotationFault}
+use Rattle.ix_notation.specs.declared.fault.NotationFault.TheVariants.{Json, Repeated, Number, Hex, Block, Selector, Name, Memory}
+
+-- the data stands for a selector
+pub record IsSelectorOf (d : Data) : Type 0 where
+  pub pattern : Pattern
+  pub read : selector_of d ≡ Ok pattern
+
+-- the line is the hexadecimal of the one spelling of data that stands for a selector, and a line end
+pub record IsSelectorHex (line : List ℕ) : Type 0 where
+  pub selector_data : Data
+  pub canonical : IsCanonical selector_data
+  pub selector : IsSelectorOf selector_data
+  pub printed : line ≡ encode_lower (spelling_of selector_data) ++ 10 ∷ []
+
+-- The tokens of data as JSON: null, truth values, integers, texts, lists and maps stand for themselves. JSON has no
+-- word for a float, a byte string and a link.
+abbrev mutual
+  pub tokens_of : Data → List Token
+  tokens_of data_model.null = Token.null ∷ []
+  tokens_of (data_model.boolean b) = Token.boolean b ∷ []
+  tokens_of (data_model.integer n) = Token.number (signed_decimal n) ∷ []
+  tokens_of (data_model.float bits) = Token.bad ∷ []
+  tokens_of (data_model.bytes b) = Token.bad ∷ []
+  tokens_of (data_model.text t) = Token.string t ∷ []
+  tokens_of (data_model.list ds) = Token.begin_array ∷ items_tokens ds
+  tokens_of (data_model.map es) = Token.begin_object ∷ entries_tokens es
+  tokens_of (data_model.link c) = Token.bad ∷ []
+
+  -- with the closing bracket
+  pub items_tokens : Items → List Token
+  items_tokens no_items = Token.end_array ∷ []
+  items_tokens (item d ds) = tokens_of d ++ items_tokens ds
+
+  pub entries_tokens : Entries → List Token
+  entries_tokens no_entries = Token.end_object ∷ []
+  entries_tokens (entry k d es) = Token.key k ∷ (tokens_of d ++ entries_tokens es)
+
+-- the text is the hexadecimal of a block that stands for a selector, and the line is its JSON and a line end
+pub record IsSelectorJson (text line : List ℕ) : Type 0 where
+  pub block : List ℕ
+  pub selector_data : Data
+  pub decoded : decode_of text ≡ Ok block
+  pub spelled : Spells block selector_data
+  pub selector : IsSelectorOf selector_data
+  pub printed : line ≡ print (tokens_of selector_data) ++ 10 ∷ []
+
+-- the data is refused with this fault, or memory ran out
+abbrev pub IsRefused : Data → NotationFault → Type 0
+IsRefused d (Selector fault) = selector_of d ≡ Err fault
+IsRefused d Memory = Unit {0}
+IsRefused d (Json place) = ⊥
+IsRefused d Repeated = ⊥
+IsRefused d Number = ⊥
+IsRefused d Hex = ⊥
+IsRefused d (Block fault) = ⊥
+IsRefused d Name = ⊥

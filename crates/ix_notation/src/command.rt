@@ -1,0 +1,60 @@
+//! The command `selector`, from text to text.
+
+ghost use Rattle.std.specs.Prelude.{◌≡◌, Ok, IfOk, IfErr, string_bytes};
+ghost use Rattle.ix_cbor.specs.Spelling.{IsCanonical};
+ghost use Rattle.ix_selector.specs.Reading.{selector_of};
+ghost use Rattle.ix_notation.specs.Notation.{IsSelectorHex, IsSelectorJson, IsSelectorOf, IsRefused};
+
+use crate::fault::NotationFault;
+use crate::print::text_of;
+use crate::read::tree_of;
+use hex::FromHexError;
+use ix_cbor::{Tree, decode, encode};
+use ix_selector::{SelFault, Selector};
+use std::alloc::Global;
+
+/// The selector of a JSON text with the keys of the IPLD Selectors specification, as DAG-CBOR in
+/// lower-case hexadecimal with a line end. A selector that `Selector::read` refuses is refused.
+pub fn hex_of_json(alloc: Global, text: &[u8]) -> Result<String, NotationFault>
+    ensures selector { IfOk result (λ line. IsSelectorHex (string_bytes line)) }
+{
+    let tree = tree_of(alloc, text)?;
+    judge(alloc, &tree)?;
+    let bytes = encode(alloc, &tree)?;
+    let mut line = hex::encode(alloc, bytes.as_slice())?;
+    line.push('\n')?;
+    Ok(line)
+}
+
+/// The same selector as JSON with a line end, out of its DAG-CBOR in hexadecimal.
+pub fn json_of_hex(alloc: Global, text: &str) -> Result<String, NotationFault>
+    ensures selector { IfOk result (λ line. IsSelectorJson text.now (string_bytes line)) }
+{
+    let bytes = match hex::decode(alloc, text.as_bytes()) {
+        Ok(bytes) => bytes,
+        Err(FromHexError::OutOfMemory) => return Err(NotationFault::Memory),
+        Err(_) => return Err(NotationFault::Hex),
+    };
+    let tree = match decode(alloc, bytes.as_slice()) {
+        Ok(tree) => tree,
+        Err(fault) => return Err(NotationFault::Block(fault)),
+    };
+    judge(alloc, &tree)?;
+    let Ok(mut line) = String::from_utf8(text_of(alloc, tree.root())?) else {
+        return Err(NotationFault::Name);
+    };
+    line.push('\n')?;
+    Ok(line)
+}
+
+// Whether a tree stands for a selector.
+fn judge(alloc: Global, tree: &Tree) -> Result<(), NotationFault>
+    ensures selector { IfOk result (λ _. IsSelectorOf tree.now) }
+    ensures refused { IfErr result (IsRefused tree.now) }
+{
+    match Selector::read(alloc, tree) {
+        Ok(_) => Ok(()),
+        Err(SelFault::Memory) => Err(NotationFault::Memory),
+        Err(fault) => Err(NotationFault::Selector(fault)),
+    }
+}

@@ -1,0 +1,102 @@
+//! Data as JSON.
+
+ghost use Rattle.std.specs.Prelude.{◌≡◌, ◌++◌, ◌∷◌, [], OnOk, IfOk, map};
+ghost use Rattle.std.specs.Fmt.{signed_decimal};
+ghost use Rattle.std.specs.Str.{IsUtf8};
+ghost use Rattle.json.specs.Token.{number};
+ghost use Rattle.json.specs.Print.{print};
+ghost use Rattle.ix_cbor.specs.Data.{data_of, items_of, entry_of, entries_of};
+ghost use Rattle.ix_notation.specs.Notation.{tokens_of, items_tokens, entries_tokens};
+
+use crate::fault::NotationFault;
+use ix_cbor::Node;
+use ix_selector::SelFault;
+use json::{Writer, is_number};
+use std::alloc::Global;
+
+// The JSON text of data that a selector has, without blanks. No selector has a float, a byte string
+// or a link.
+pub(crate) fn text_of(alloc: Global, node: &Node) -> Result<Vec<u8>, NotationFault>
+    ensures text { IfOk result (λ text. text.items ≡ print (tokens_of (data_of node.now))) }
+    ensures utf8 { IfOk result (λ text. IsUtf8 text.items) }
+{
+    let mut out = Writer::new(Vec::new(alloc));
+    push_node(alloc, &mut out, node)?;
+    Ok(out.into_inner())
+}
+
+// Appends the tokens of a node.
+#[cycle(push_node)]
+fn push_node(alloc: Global, out: &mut Writer, node: &Node) -> Result<(), NotationFault>
+    ensures ok { OnOk result (out.new.tokens ≡ out.old.tokens ++ tokens_of (data_of node.now)) }
+    ensures before { out.new.before ≡ out.old.before }
+{
+    match node {
+        Node::Null => Ok(out.null()?),
+        Node::Bool(truth) => Ok(out.boolean(*truth)?),
+        Node::Int(number) => push_integer(alloc, out, *number),
+        Node::Text(text) => Ok(out.string(name_of(text.as_slice())?)?),
+        Node::List(members) => {
+            out.begin_array()?;
+            push_members(alloc, out, members)
+        }
+        Node::Map(entries) => {
+            out.begin_object()?;
+            push_entries(alloc, out, entries)
+        }
+        Node::Bits64(_) | Node::Bytes(_) | Node::Link(_) => {
+            Err(NotationFault::Selector(SelFault::Kind))
+        }
+    }
+}
+
+// Appends the members of a list and the closing bracket.
+#[cycle(push_node)]
+fn push_members(alloc: Global, out: &mut Writer, members: &[Node]) -> Result<(), NotationFault>
+    ensures ok { OnOk result (out.new.tokens ≡ out.old.tokens ++ items_tokens (items_of (map data_of members.now))) }
+    ensures before { out.new.before ≡ out.old.before }
+{
+    for member in members {
+        push_node(alloc, out, member)?;
+    }
+    Ok(out.end_array()?)
+}
+
+// Appends the keys and values of a map and the closing brace.
+#[cycle(push_node)]
+fn push_entries(
+    alloc: Global,
+    out: &mut Writer,
+    entries: &[(Vec<u8>, Node)],
+) -> Result<(), NotationFault>
+    ensures ok { OnOk result (out.new.tokens ≡ out.old.tokens ++ entries_tokens (entries_of (map entry_of entries.now))) }
+    ensures before { out.new.before ≡ out.old.before }
+{
+    for (key, value) in entries {
+        out.key(name_of(key.as_slice())?)?;
+        push_node(alloc, out, value)?;
+    }
+    Ok(out.end_object()?)
+}
+
+// Appends an integer in decimal.
+fn push_integer(alloc: Global, out: &mut Writer, integer: i128) -> Result<(), NotationFault>
+    ensures ok { OnOk result (out.new.tokens ≡ out.old.tokens ++ number (signed_decimal integer) ∷ []) }
+    ensures before { out.new.before ≡ out.old.before }
+{
+    let digits = format!(in alloc; "{integer}")?;
+    if !is_number(digits.as_str()) {
+        return Err(NotationFault::Number);
+    }
+    Ok(out.number(digits.as_str())?)
+}
+
+// A name or a label as text.
+fn name_of(bytes: &[u8]) -> Result<&str, NotationFault>
+    ensures { IfOk result (λ text. text.now ≡ bytes.now) }
+{
+    match str::from_utf8(bytes) {
+        Ok(text) => Ok(text),
+        Err(_) => Err(NotationFault::Name),
+    }
+}

@@ -1,0 +1,88 @@
+//! Data out of JSON.
+
+ghost use Rattle.std.specs.Prelude.{◌≡◌, IfErr};
+
+use crate::fault::NotationFault;
+use ix_cbor::{Node, Tree};
+use json::{Error, Reader, Scratch, Value};
+use std::alloc::Global;
+use std::cmp::Ordering;
+
+// How deep arrays and objects may nest, as lists and maps of a block.
+const DEPTH: usize = 512;
+
+// The tree that a JSON text has: null, truth values, integers, texts, lists and maps stand for
+// themselves, whatever the order of the keys.
+pub(crate) fn tree_of(alloc: Global, text: &[u8]) -> Result<Tree, NotationFault> {
+    let text = match str::from_utf8(text) {
+        Ok(text) => text,
+        Err(error) => return Err(NotationFault::Json(error.valid_up_to())),
+    };
+    let mut scratch = Scratch::new(alloc);
+    let mut reader = Reader::new(text, &mut scratch)?;
+    let value = match Value::read(alloc, &mut reader, DEPTH) {
+        Ok(value) => value,
+        Err(Error::OutOfMemory) => return Err(NotationFault::Memory),
+        Err(_) => return Err(NotationFault::Json(reader.offset())),
+    };
+    if reader.next().is_some() {
+        return Err(NotationFault::Json(reader.offset()));
+    }
+    // Keys rise and nesting is bounded, so an integer is the one thing that can have no spelling.
+    match Tree::new(node_of(alloc, &value)?) {
+        Ok(tree) => Ok(tree),
+        Err(_) => Err(NotationFault::Number),
+    }
+}
+
+// The node of a value.
+#[cycle(node_of)]
+fn node_of(alloc: Global, value: &Value<'_>) -> Result<Node, NotationFault> {
+    match value {
+        Value::Null => Ok(Node::Null),
+        Value::Bool(truth) => Ok(Node::Bool(*truth)),
+        Value::Number(digits) => match digits.parse::<i128>() {
+            Ok(number) => Ok(Node::Int(number)),
+            Err(_) => Err(NotationFault::Number),
+        },
+        Value::String(text) => Ok(Node::Text(Vec::from_slice(alloc, text.as_bytes())?)),
+        Value::Array(members) => Ok(Node::List(members_of(alloc, members)?)),
+        Value::Object(members) => Ok(Node::Map(entries_of(alloc, members)?)),
+    }
+}
+
+// The nodes of an array's values.
+#[cycle(node_of)]
+fn members_of(alloc: Global, values: &[Value<'_>]) -> Result<Vec<Node>, NotationFault> {
+    let mut members = Vec::new(alloc);
+    for value in values {
+        members.push(node_of(alloc, value)?)?;
+    }
+    Ok(members)
+}
+
+// The keys and nodes of an object's members, in the order of the keys in data.
+#[cycle(node_of)]
+fn entries_of(
+    alloc: Global,
+    values: &[(&str, Value<'_>)],
+) -> Result<Vec<(Vec<u8>, Node)>, NotationFault> {
+    let mut entries: Vec<(Vec<u8>, Node)> = Vec::new(alloc);
+    for (name, value) in values {
+        let node = node_of(alloc, value)?;
+        let name = name.as_bytes();
+        let found = entries
+            .as_slice()
+            .binary_search_by(|entry| order_of_keys(entry.0.as_slice(), name));
+        match found {
+            Ok(_) => return Err(NotationFault::Repeated),
+            Err(place) => entries.insert(place, (Vec::from_slice(alloc, name)?, node))?,
+        }
+    }
+    Ok(entries)
+}
+
+// The order of keys in data: the shorter first, keys of one length by their bytes.
+fn order_of_keys(a: &[u8], b: &[u8]) -> Ordering {
+    a.len().cmp(&b.len()).then_with(|| a.cmp(b))
+}

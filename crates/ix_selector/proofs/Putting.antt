@@ -1,0 +1,92 @@
+-- The table of places while fields and members are put into it.
+use Rattle.std.proofs.Common.{◌≡◌, ℕ, zero, suc, ◌+◌, ◌<◌, List, [], ◌∷◌, ◌++◌, map, take, get_or, length, sym, ◌∙◌, ap, subst, arith, ◌≤◌}
+use Rattle.std.specs.Global.{Vec}
+use Rattle.std.specs.declared.cmp.Ordering.TheVariants.{Less}
+use Rattle.std.proofs.lemmas.List.{map_push, take_more, length-append}
+use Rattle.ix_cbor.specs.Spelling.{key_cmp}
+use Rattle.ix_selector.specs.declared.sel.Sel.{Sel}
+use Rattle.ix_selector.specs.declared.spot.Spot.{Spot}
+use Rattle.ix_selector.specs.Pattern.{Pattern, pattern_of, fields_of, members_of}
+use Rattle.ix_selector.specs.Views.{seen_field}
+use Rattle.ix_selector.specs.Ordered.{IsBeforeAll, IsOrdered, AreOrdered, EachOrdered}
+use Rattle.ix_selector.specs.Places.{at, named_at, places_of, seen, IsBefore, AreRising, AreBelow, AreNamedBelow, IsSpot, Names, IsNumber, HasNumber, IsFreeFrom}
+use Rattle.ix_selector.specs.Grown.{Grows}
+use Rattle.ix_selector.proofs.Spots.{at-last, grows-one, grows-twice, longer, map-kept, named-kept, below-more, named_below-more, below-push, named_below-push, numbers-free, names-free}
+
+-- so many fields were put
+pub record FieldsPut (old new : List Spot) (names : List (Vec ℕ × ℕ)) (done : List (Vec ℕ × Sel)) : Type 0 where
+  pub grows : Grows old new
+  pub below : AreNamedBelow (length new) names
+  pub named : map (named_at (places_of new)) names ≡ map seen_field done
+  pub free : (k : ℕ) → HasNumber names k → IsFreeFrom (length old) new k
+
+pub record MembersPut (old new : List Spot) (numbers : List ℕ) (done : List Sel) : Type 0 where
+  pub grows : Grows old new
+  pub below : AreBelow (length new) numbers
+  pub members : map (at (places_of new)) numbers ≡ map pattern_of done
+  pub free : (k : ℕ) → IsNumber numbers k → IsFreeFrom (length old) new k
+
+-- one more
+pub fields-more : (old mid new : List Spot) (names : List (Vec ℕ × ℕ)) (fs : List (Vec ℕ × Sel)) (i : ℕ) (f : Vec ℕ × Sel) (name : Vec ℕ) (n : ℕ)
+    → i < length fs → f ≡ get_or fs i f → name.items ≡ f.0.items → FieldsPut old mid names (take i fs) → Grows mid new → n < length new → length mid ≤ n → n + 1 ≡ length new → at (places_of new) n ≡ pattern_of f.1
+    → FieldsPut old new (names ++ (name, n) ∷ []) (take (i + 1) fs)
+fields-more old mid new names fs i f name n within is same put grows below behind last there = record {
+  grows = grows-twice old mid new put.grows grows;
+  below = named_below-push (length new) names (name, n) (named_below-more (length mid) (length new) names (longer mid new grows) put.below) below;
+  named =
+      map_push (named_at (places_of new)) names (name, n)
+      ∙ (λ j. (named-kept mid new grows names put.below ∙ put.named) j ++ (same j, there j) ∷ [])
+      ∙ sym (map_push seen_field (take i fs) f)
+      ∙ ap (map seen_field) (sym (take_more fs i f within ∙ ap (λ x. take i fs ++ x ∷ []) (sym is)));
+  free = names-free old mid new names (name, n) (longer old mid put.grows) grows put.below put.free behind last;
+}
+
+pub members-more : (old mid new : List Spot) (numbers : List ℕ) (ss : List Sel) (i : ℕ) (s : Sel) (n : ℕ)
+    → i < length ss → s ≡ get_or ss i s → MembersPut old mid numbers (take i ss) → Grows mid new → n < length new → length mid ≤ n → n + 1 ≡ length new → at (places_of new) n ≡ pattern_of s
+    → MembersPut old new (numbers ++ n ∷ []) (take (i + 1) ss)
+members-more old mid new numbers ss i s n within is put grows below behind last there = record {
+  grows = grows-twice old mid new put.grows grows;
+  below = below-push (length new) numbers n (below-more (length mid) (length new) numbers (longer mid new grows) put.below) below;
+  members =
+      map_push (at (places_of new)) numbers n
+      ∙ (λ j. (map-kept mid new grows numbers put.below ∙ put.members) j ++ there j ∷ [])
+      ∙ sym (map_push pattern_of (take i ss) s)
+      ∙ ap (map pattern_of) (sym (take_more ss i s within ∙ ap (λ x. take i ss ++ x ∷ []) (sym is)));
+  free = numbers-free old mid new numbers n (longer old mid put.grows) grows put.below put.free behind last;
+}
+
+-- each of ordered fields is ordered, and each member
+pub field-ordered : (fs : List (Vec ℕ × Sel)) (i : ℕ) (d : Vec ℕ × Sel) → AreOrdered (fields_of (map seen_field fs)) → i < length fs → IsOrdered (pattern_of (get_or fs i d).1)
+field-ordered [] i d h within = absurd (omega arith)
+field-ordered (f ∷ fs) zero d h within = h.1
+field-ordered (f ∷ fs) (suc i) d h within = field-ordered fs i d h.2 (omega arith)
+
+pub member-ordered : (ss : List Sel) (i : ℕ) (d : Sel) → EachOrdered (members_of (map pattern_of ss)) → i < length ss → IsOrdered (pattern_of (get_or ss i d))
+member-ordered [] i d h within = absurd (omega arith)
+member-ordered (s ∷ ss) zero d h within = h.0
+member-ordered (s ∷ ss) (suc i) d h within = member-ordered ss i d h.1 (omega arith)
+
+-- the names of ordered fields rise
+first_of : (x y : List ℕ × Pattern) (xs ys : List (List ℕ × Pattern)) → x ∷ xs ≡ y ∷ ys → (x ≡ y) × (xs ≡ ys)
+first_of x y xs ys h = (cc, cc)
+
+before-put : (ps : List Pattern) (k : List ℕ) (names : List (Vec ℕ × ℕ)) (fs : List (Vec ℕ × Sel)) → map (named_at ps) names ≡ map seen_field fs → IsBeforeAll k (fields_of (map seen_field fs)) → IsBefore k names
+before-put ps k [] fs h before = tt
+before-put ps k (n ∷ names) [] h before = absurd cc
+before-put ps k (n ∷ names) (f ∷ fs) h before =
+    let both = first_of (named_at ps n) (seen_field f) _ _ h in
+    (subst (λ l. key_cmp k l ≡ Less) (sym (ap (λ (p : List ℕ × Pattern). p.0) both.0)) before.0, before-put ps k names fs both.1 before.1)
+
+pub rising-put : (ps : List Pattern) (names : List (Vec ℕ × ℕ)) (fs : List (Vec ℕ × Sel)) → map (named_at ps) names ≡ map seen_field fs → AreOrdered (fields_of (map seen_field fs)) → AreRising names
+rising-put ps [] fs h ordered = tt
+rising-put ps (n ∷ names) [] h ordered = absurd cc
+rising-put ps (n ∷ names) (f ∷ fs) h ordered =
+    let both = first_of (named_at ps n) (seen_field f) _ _ h in
+    (subst (λ l. IsBefore l names) (sym (ap (λ (p : List ℕ × Pattern). p.0) both.0)) (before-put ps f.0.items names fs both.1 ordered.0), rising-put ps names fs both.1 ordered.2)
+
+-- the selector's own spot is put last
+pub last-put : (old mid : List Spot) (x : Spot) (s : Pattern) → Grows old mid → IsSpot (length mid) x → ((k : ℕ) → Names x k → IsFreeFrom (length old) mid k) → seen (places_of mid) x ≡ s
+    → Grows old (mid ++ x ∷ []) × (length mid < length (mid ++ x ∷ [])) × (at (places_of (mid ++ x ∷ [])) (length mid) ≡ s)
+last-put old mid x s grows one free is = (grows-one old mid x grows one free, below, at-last mid x ∙ is) where
+  below : length mid < length (mid ++ x ∷ [])
+  below = let n = length-append mid (x ∷ []) in omega arith

@@ -1,0 +1,6 @@
+use Rattle.std.proofs.Common.{take}
+use Rattle.ix_selector.proofs.Merging.{Merged}
+use Rattle.ix_selector.proofs.merge.merged.Given as goal
+
+abbrev pub invariant-loop-pair : goal.invariant-loop-pair
+invariant-loop-pair l = Merged l.merged.items (take l.pair-index l.pair-items)

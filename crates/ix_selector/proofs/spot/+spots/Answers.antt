@@ -1,0 +1,84 @@
+use Rattle.std.proofs.Common.{rules, ◌≡◌, ◌+◌, ◌<◌, ◌++◌, ◌∷◌, [], length, map, take, ap, sym, ◌∙◌, subst, arith}
+use Rattle.std.proofs.lemmas.List.{take_all}
+use Rattle.ix_selector.specs.declared.sel.Sel.TheFolds.{the_lemmas}
+use Rattle.ix_selector.specs.Pattern.{pattern_of, fields, fields_of}
+use Rattle.ix_selector.specs.Ordered.{IsOrdered, AreOrdered}
+use Rattle.ix_selector.specs.Places.{at, places_of}
+use Rattle.ix_selector.specs.Views.{seen_field}
+use Rattle.ix_selector.specs.Grown.{Grows}
+use Rattle.ix_selector.proofs.Views.{pattern_of-fields}
+use Rattle.ix_selector.proofs.Spots.{longer, one-free}
+use Rattle.ix_selector.proofs.Putting.{FieldsPut, MembersPut, fields-more, members-more, field-ordered, member-ordered, rising-put, last-put}
+use Rattle.ix_selector.proofs.spot.+spots.Goals as goal
+
+pub push_fields-push_spots-requires : goal.push_fields-push_spots-requires
+push_fields-push_spots-requires t c =
+    (search (rules, the_lemmas), (subst (λ f. IsOrdered (pattern_of f.1)) (sym c.loop-name-item.is) (field-ordered c.args.fields.now c.loop-name.name-index c.loop-name-item.result c.requires.ordered c.loop-name-test.true), (c.loop-name.invariant.grows.spots, c.loop-name.invariant.grows.once)))
+
+pub push_fields-loop-name-preserved : goal.push_fields-loop-name-preserved
+push_fields-loop-name-preserved t c =
+    let same : c.in_ok-from_slice.field-0.items ≡ c.loop-name-item.result.0.items = search rules in
+    let there : at (places_of c.push_spots.new.spots.items) c.in_ok-number.number ≡ pattern_of c.loop-name-item.result.1 = search rules in
+    subst (λ l. FieldsPut c.args.spots.now.items c.push_spots.new.spots.items l (take (c.loop-name.name-index + 1) c.args.fields.now)) (sym c.in_ok-push.ensures.items)
+    (fields-more c.args.spots.now.items c.loop-name.spots.items c.push_spots.new.spots.items c.loop-name.names.items c.args.fields.now c.loop-name.name-index c.loop-name-item.result c.in_ok-from_slice.field-0 c.in_ok-number.number
+    c.loop-name-test.true c.loop-name-item.is same c.loop-name.invariant c.in_ok-number.ensures.grows c.in_ok-number.ensures.place.0 c.in_ok-number.ensures.behind c.in_ok-number.ensures.last there)
+
+pub push_fields-returns-clause-named : goal.push_fields-returns-clause-named
+push_fields-returns-clause-named t c =
+    let named = c.loop-name.invariant.named ∙ ap (map seen_field) (take_all c.loop-name.name-index c.args.fields.now c.loop-name-test.false) in
+    (c.loop-name.invariant.below, rising-put (places_of c.loop-name.spots.items) c.loop-name.names.items c.args.fields.now named c.requires.ordered, named)
+
+pub push_members-push_spots-requires : goal.push_members-push_spots-requires
+push_members-push_spots-requires t c =
+    (search (rules, the_lemmas), (subst (λ s. IsOrdered (pattern_of s)) (sym c.sel-item.is) (member-ordered c.args.members.now c.loop-sel.sel-index c.sel-item.result c.requires.ordered c.loop-sel-test.true), (c.loop-sel.invariant.grows.spots, c.loop-sel.invariant.grows.once)))
+
+pub push_members-loop-sel-preserved : goal.push_members-loop-sel-preserved
+push_members-loop-sel-preserved t c =
+    subst (λ l. MembersPut c.args.spots.now.items c.push_spots.new.spots.items l (take (c.loop-sel.sel-index + 1) c.args.members.now)) (sym c.in_ok-push.ensures.items)
+    (members-more c.args.spots.now.items c.loop-sel.spots.items c.push_spots.new.spots.items c.loop-sel.numbers.items c.args.members.now c.loop-sel.sel-index c.sel-item.result c.in_ok-push_spots.field-0
+    c.loop-sel-test.true c.sel-item.is c.loop-sel.invariant c.in_ok-push_spots.ensures.grows c.in_ok-push_spots.ensures.place.0 c.in_ok-push_spots.ensures.behind c.in_ok-push_spots.ensures.last c.in_ok-push_spots.ensures.place.1)
+
+pub push_spots-returns-clause-grows : goal.push_spots-returns-clause-grows
+push_spots-returns-clause-grows t c =
+    let put = last-put c.args.spots.now.items c.spot_of.new.spots.items c.in_ok-spot.spot (pattern_of c.args.sel.now) c.in_ok-spot.ensures.grows c.in_ok-spot.ensures.spot.0 c.in_ok-spot.ensures.free c.in_ok-spot.ensures.spot.1 in
+    subst (Grows c.args.spots.now.items) (sym c.in_ok-push.ensures.items) put.0
+
+pub push_spots-returns-clause-place : goal.push_spots-returns-clause-place
+push_spots-returns-clause-place t c =
+    let put = last-put c.args.spots.now.items c.spot_of.new.spots.items c.in_ok-spot.spot (pattern_of c.args.sel.now) c.in_ok-spot.ensures.grows c.in_ok-spot.ensures.spot.0 c.in_ok-spot.ensures.free c.in_ok-spot.ensures.spot.1 in
+    let number : c.len-number.result ≡ length c.spot_of.new.spots.items = search rules in
+    subst (λ l. (c.len-number.result < length l) × (at (places_of l) c.len-number.result ≡ pattern_of c.args.sel.now)) (sym c.in_ok-push.ensures.items)
+    (subst (λ n. (n < length (c.spot_of.new.spots.items ++ c.in_ok-spot.spot ∷ [])) × (at (places_of (c.spot_of.new.spots.items ++ c.in_ok-spot.spot ∷ [])) n ≡ pattern_of c.args.sel.now)) (sym number) (put.1, put.2))
+
+pub spot_of-push_fields-requires : goal.spot_of-push_fields-requires
+spot_of-push_fields-requires t c =
+    let is = ap pattern_of c.in-Fields.is ∙ pattern_of-fields c.in-Fields.fields in
+    (search (rules, the_lemmas), (subst (λ l. AreOrdered (fields_of (map seen_field l))) (sym c.deref-in-Fields.ensures.value) (subst IsOrdered is c.requires.ordered), (c.requires.spots, c.requires.once)))
+
+pub spot_of-returns-in_ok-push_fields-in-Fields-clause-spot : goal.spot_of-returns-in_ok-push_fields-in-Fields-clause-spot
+spot_of-returns-in_ok-push_fields-in-Fields-clause-spot t c =
+    let is = ap pattern_of c.in-Fields.is ∙ pattern_of-fields c.in-Fields.fields in
+    let named = c.in_ok-push_fields-in-Fields.ensures.named in
+    ((named.0, named.1), ap (λ l. fields (fields_of l)) (named.2 ∙ ap (map seen_field) c.deref-in-Fields.ensures.value) ∙ sym is)
+
+pub push_spots-returns-clause-behind : goal.push_spots-returns-clause-behind
+push_spots-returns-clause-behind t c =
+    let number : c.len-number.result ≡ length c.spot_of.new.spots.items = search rules in
+    let more = longer c.args.spots.now.items c.spot_of.new.spots.items c.in_ok-spot.ensures.grows in
+    omega arith
+
+pub spot_of-returns-in_ok-push_spots-in-All-clause-free : goal.spot_of-returns-in_ok-push_spots-in-All-clause-free
+spot_of-returns-in_ok-push_spots-in-All-clause-free t c =
+    one-free c.args.spots.now.items c.push_spots.new.spots.items c.in_ok-push_spots-in-All.field-0 c.in_ok-push_spots-in-All.ensures.behind c.in_ok-push_spots-in-All.ensures.last c.in_ok-push_spots-in-All.ensures.grows.spots
+
+pub spot_of-returns-in_ok-push_spots-in-Index-clause-free : goal.spot_of-returns-in_ok-push_spots-in-Index-clause-free
+spot_of-returns-in_ok-push_spots-in-Index-clause-free t c =
+    one-free c.args.spots.now.items c.push_spots-in-Index.new.spots.items c.in_ok-push_spots-in-Index.field-0 c.in_ok-push_spots-in-Index.ensures.behind c.in_ok-push_spots-in-Index.ensures.last c.in_ok-push_spots-in-Index.ensures.grows.spots
+
+pub spot_of-returns-in_ok-push_spots-in-Range-clause-free : goal.spot_of-returns-in_ok-push_spots-in-Range-clause-free
+spot_of-returns-in_ok-push_spots-in-Range-clause-free t c =
+    one-free c.args.spots.now.items c.push_spots-in-Range.new.spots.items c.in_ok-push_spots-in-Range.field-0 c.in_ok-push_spots-in-Range.ensures.behind c.in_ok-push_spots-in-Range.ensures.last c.in_ok-push_spots-in-Range.ensures.grows.spots
+
+pub spot_of-returns-in_ok-push_spots-in-Recursive-clause-free : goal.spot_of-returns-in_ok-push_spots-in-Recursive-clause-free
+spot_of-returns-in_ok-push_spots-in-Recursive-clause-free t c =
+    one-free c.args.spots.now.items c.push_spots-in-Recursive.new.spots.items c.in_ok-push_spots-in-Recursive.field-0 c.in_ok-push_spots-in-Recursive.ensures.behind c.in_ok-push_spots-in-Recursive.ensures.last c.in_ok-push_spots-in-Recursive.ensures.grows.spots

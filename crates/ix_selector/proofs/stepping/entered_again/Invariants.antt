@@ -1,0 +1,6 @@
+use Rattle.std.proofs.Common.{take}
+use Rattle.ix_selector.proofs.Reaching.{Reaches}
+use Rattle.ix_selector.proofs.stepping.entered_again.Given as goal
+
+abbrev pub invariant-loop-pair : goal.invariant-loop-pair
+invariant-loop-pair l = Reaches l.spots l.initial.reached l.reached (take l.pair-index l.pair-items)

@@ -1,0 +1,7 @@
+use Rattle.std.proofs.Common.{take}
+use Rattle.ix_selector.specs.Residual.{step_of}
+use Rattle.ix_selector.proofs.Residues.{Stepped}
+use Rattle.ix_selector.proofs.stepping.stepped.Given as goal
+
+abbrev pub invariant-loop-pair : goal.invariant-loop-pair
+invariant-loop-pair l = Stepped l.spots (step_of l.step) l.reached (take l.pair-index l.pairs)

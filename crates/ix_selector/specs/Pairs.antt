@@ -1,0 +1,167 @@
+-- Places of a selector, each in the innermost recursion round it, and what they enter.
+use Rattle.std.specs.Prelude.{◌≡◌, ◌⊎◌, ℕ, ◌+◌, ◌-◌, ◌<◌, ◌≤◌, max, nat_le, if◌then◌else◌, List, [], ◌∷◌, length, Option, Some, None}
+use Rattle.std.specs.List.{All, Contains}
+use Rattle.ix_selector.specs.declared.spot.Spot.{Spot}
+use Rattle.ix_selector.specs.declared.pair.Pair.{Pair}
+use Rattle.ix_selector.specs.declared.pair.Recursion.{Recursion}
+use Rattle.ix_selector.specs.declared.reached.Reached.{Reached}
+use Rattle.ix_selector.specs.Pattern.{Pattern, matcher, all, fields, index, range, recursive, union, edge, Around, outside, unguarded, guarded, behind_step, MayStand, IsGuarded}
+use Rattle.ix_selector.specs.Enters.{Step, Path, Frame, Enters}
+use Rattle.ix_selector.specs.Places.{at, places_of}
+use Rattle.ix_selector.specs.Standing.{StandsIn}
+use Rattle.ix_selector.specs.Residual.{Place}
+
+-- the recursion behind one of its edges
+abbrev pub lowered : Recursion → Option Recursion
+lowered r = by r.depth where
+  by : Option ℕ → Option Recursion
+  by None = Some r
+  by (Some d) = if nat_le 2 d then Some (record { sequence = r.sequence; depth = Some (d - 1) }) else None
+
+-- the greater depth; none is above all
+abbrev pub deeper : Option ℕ → Option ℕ → Option ℕ
+deeper None e = None
+deeper (Some d) None = None
+deeper (Some d) (Some e) = Some (max d e)
+
+abbrev pub IsDeeper : Option Recursion → Option Recursion → Option Recursion → Type 0
+IsDeeper None None None = Unit {0}
+IsDeeper (Some a) (Some b) (Some c) = (a.sequence ≡ b.sequence) × (c.sequence ≡ a.sequence) × (c.depth ≡ deeper a.depth b.depth)
+IsDeeper a b c = ⊥
+
+-- one pair for two ways to a place, with the greater depth
+abbrev pub IsJoined : Pair → Pair → Pair → Type 0
+IsJoined a b c = (a.place ≡ b.place) × (c.place ≡ a.place) × IsDeeper a.recursion b.recursion c.recursion
+
+-- the recursion round a place, with its sequence
+abbrev pub frames : List Pattern → Option Recursion → List Frame
+frames places None = []
+frames places (Some r) = record { sequence = at places r.sequence; depth = r.depth } ∷ []
+
+-- the selector of a pair, inside its recursion
+abbrev pub place_of : List Spot → Pair → Place
+place_of spots x = record { selector = at (places_of spots) x.place; around = frames (places_of spots) x.recursion }
+
+-- the selector of the pair
+abbrev pub selector_at : List Spot → Pair → Pattern
+selector_at spots x = at (places_of spots) x.place
+
+-- it enters the path
+abbrev pub EntersAt : List Spot → Pair → Path → Type 0
+EntersAt spots x p = Enters (selector_at spots x) (frames (places_of spots) x.recursion) p
+
+-- one of them enters the path
+pub record SomeEnter (spots : List Spot) (xs : List Pair) (p : Path) : Type 0 where
+  pub pair : Pair
+  pub among : Contains xs pair
+  pub enters : EntersAt spots pair p
+
+-- whatever stands round a place in a recursion, a step was made since
+abbrev pub around : Option Recursion → Around
+around None = outside
+around (Some r) = guarded
+
+abbrev pub IsSequence : List Spot → Option Recursion → Type 0
+IsSequence spots None = Unit {0}
+IsSequence spots (Some r) = (r.sequence < length spots) × IsGuarded unguarded (at (places_of spots) r.sequence)
+
+-- the sequence of the innermost recursion
+abbrev pub sequence_of : Option Recursion → Option ℕ
+sequence_of None = None
+sequence_of (Some r) = Some r.sequence
+
+-- a place of these, in the innermost recursion round it
+pub record IsPair (spots : List Spot) (x : Pair) : Type 0 where
+  pub within : x.place < length spots
+  pub guarded : IsGuarded (around x.recursion) (selector_at spots x)
+  pub sequence : IsSequence spots x.recursion
+  pub stands : StandsIn spots x.place (sequence_of x.recursion)
+
+-- at the same place in the same recursion, with whatever depth
+pub record IsAt (x y : Pair) : Type 0 where
+  pub place : y.place ≡ x.place
+  pub sequence : sequence_of y.recursion ≡ sequence_of x.recursion
+
+-- pairs at one place stand in one recursion
+abbrev pub AgreesWith : Pair → Pair → Type 0
+AgreesWith x y = x.place ≡ y.place → sequence_of x.recursion ≡ sequence_of y.recursion
+
+pub record Agree (xs : List Pair) : Type 0 where
+  pub at : (x y : Pair) → Contains xs x → Contains xs y → AgreesWith x y
+
+-- each place is greater than those before it, and none is below a number
+abbrev pub AreRisingFrom : ℕ → List Pair → Type 0
+AreRisingFrom n [] = Unit {0}
+AreRisingFrom n (x ∷ xs) = (n ≤ x.place) × AreRisingFrom (x.place + 1) xs
+
+abbrev pub ArePlacesRising : List Pair → Type 0
+ArePlacesRising xs = AreRisingFrom 0 xs
+
+-- it is at the place of x or before it, and at that place in the recursion of x
+abbrev pub IsUpTo : Pair → Pair → Type 0
+IsUpTo x y = (y.place ≤ x.place) × AgreesWith y x
+
+-- at the place of one of these
+pub record IsOf (xs : List Pair) (y : Pair) : Type 0 where
+  pub pair : Pair
+  pub among : Contains xs pair
+  pub at : IsAt pair y
+
+-- enters where it stands
+abbrev pub Stands : Pattern → Type 0
+Stands matcher = Unit {0}
+Stands (all s) = Unit {0}
+Stands (fields fs) = Unit {0}
+Stands (index i s) = Unit {0}
+Stands (range i j s) = Unit {0}
+Stands (recursive limit s) = ⊥
+Stands (union ss) = ⊥
+Stands edge = ⊥
+
+abbrev pub IsStanding : List Spot → Pair → Type 0
+IsStanding spots x = Stands (selector_at spots x)
+
+-- no edge of it stands before a step
+pub record NoEdge (s : Pattern) : Type 0 where
+  pub around : Around
+  pub never : MayStand around → ⊥
+  pub guarded : IsGuarded around s
+
+abbrev pub HasNoEdge : List Spot → Pair → Type 0
+HasNoEdge spots x = NoEdge (selector_at spots x)
+
+-- what was reached are pairs: those that stand, and sequences that edges enter again
+pub record AreReached (spots : List Spot) (r : Reached) : Type 0 where
+  pub pairs : All (IsPair spots) r.standing.items
+  pub standing : All (IsStanding spots) r.standing.items
+  pub again : All (IsPair spots) r.again.items
+  pub sequences : All (HasNoEdge spots) r.again.items
+
+-- one of those that were reached enters the path
+abbrev pub ReachedEnters : List Spot → Reached → Path → Type 0
+ReachedEnters spots r p = SomeEnter spots r.standing.items p ⊎ SomeEnter spots r.again.items p
+
+-- the same paths
+abbrev pub Same : (Path → Type 0) → (Path → Type 0) → Type 0
+Same A B = (p : Path) → (A p → B p) × (B p → A p)
+
+-- the paths of the second and of the third
+abbrev pub Joins : (Path → Type 0) → (Path → Type 0) → (Path → Type 0) → Type 0
+Joins A B C = (p : Path) → (A p → B p ⊎ C p) × (B p ⊎ C p → A p)
+
+-- the same paths, whatever the table of places
+abbrev pub EnterSame : List Pair → List Pair → Type 0
+EnterSame xs ys = (spots : List Spot) → Same (SomeEnter spots xs) (SomeEnter spots ys)
+
+-- the paths of ys and of x
+abbrev pub EnterMore : List Pair → List Pair → Pair → Type 0
+EnterMore xs ys x = (spots : List Spot) → Joins (SomeEnter spots xs) (SomeEnter spots ys) (EntersAt spots x)
+
+-- behind the step s enters what r enters, and its edges stay guarded
+pub record LeadsTo (s : Pattern) (t : Step) (r : Pattern) : Type 0 where
+  pub enters : (e : List Frame) (p : Path) → (Enters s e (t ∷ p) → Enters r e p) × (Enters r e p → Enters s e (t ∷ p))
+  pub guarded : (a : Around) → IsGuarded a s → IsGuarded (behind_step a) r
+
+-- behind the step nothing is entered
+abbrev pub LeadsNowhere : Pattern → Step → Type 0
+LeadsNowhere s t = (e : List Frame) (p : Path) → Enters s e (t ∷ p) → ⊥

@@ -1,0 +1,44 @@
+//! Pairs of which no two stand at one place.
+
+ghost use Rattle.std.specs.Prelude.{◌∷◌, [], ◌++◌, IfOk, OnOk};
+ghost use Rattle.std.specs.List.{All};
+ghost use Rattle.ix_selector.specs.Pairs.{Agree, ArePlacesRising, IsUpTo, IsOf, EnterSame, EnterMore};
+
+use crate::pair::{Pair, Pairs};
+use smallvec::SmallVec;
+use std::alloc::{AllocError, Global};
+
+/// The pairs in the order of their places, with one pair for all ways to a place.
+pub(crate) fn merged(alloc: Global, mut pairs: Pairs) -> Result<Pairs, AllocError>
+    requires agree { Agree pairs.items }
+    ensures enters { IfOk result (λ r. EnterSame r.items pairs.items) }
+    ensures among { IfOk result (λ r. All (IsOf pairs.items) r.items) }
+    ensures rising { IfOk result (λ r. ArePlacesRising r.items) }
+{
+    pairs.as_mut_slice().sort_unstable_by_key(|pair| pair.place);
+    let mut merged = SmallVec::new(alloc);
+    for pair in pairs.as_slice() {
+        push_merged(&mut merged, *pair)?;
+    }
+    Ok(merged)
+}
+
+// Puts a pair behind the others, or joins it with the last of them.
+fn push_merged(merged: &mut Pairs, pair: Pair) -> Result<(), AllocError>
+    requires rising { ArePlacesRising merged.old.items }
+    requires up_to { All (IsUpTo pair) merged.old.items }
+    ensures enters { OnOk result (EnterMore merged.new.items merged.old.items pair) }
+    ensures among { OnOk result (All (IsOf (merged.old.items ++ pair ∷ [])) merged.new.items) }
+    ensures rising { OnOk result (ArePlacesRising merged.new.items) }
+{
+    let Some(last) = merged.pop() else {
+        return Ok(merged.push(pair)?);
+    };
+    match last.joined(pair) {
+        Some(both) => Ok(merged.push(both)?),
+        None => {
+            merged.push(last)?;
+            Ok(merged.push(pair)?)
+        }
+    }
+}

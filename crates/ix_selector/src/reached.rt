@@ -1,0 +1,99 @@
+//! What is reached from a place without a step.
+
+ghost use Rattle.std.specs.Prelude.{◌≡◌, [], ◌++◌, OnOk};
+ghost use Rattle.ix_selector.specs.Places.{AreSpots, AreBelow};
+ghost use Rattle.ix_selector.specs.Pairs.{IsPair, HasNoEdge, AreReached, ReachedEnters, EntersAt, SomeEnter, Joins};
+ghost use Rattle.ix_selector.specs.Reaching.{members_at, entered_again};
+ghost use Rattle.std.specs.List.{All};
+
+use crate::pair::{Pair, Pairs, Recursion};
+use crate::spot::Spot;
+use smallvec::SmallVec;
+use std::alloc::{AllocError, Global};
+
+/// The places that stand, and the sequences that edges enter again.
+#[derive(Drop)]
+pub(crate) struct Reached {
+    pub standing: Pairs,
+    pub again: Pairs,
+}
+
+impl Reached {
+    /// Nothing so far.
+    pub(crate) fn new(alloc: Global) -> Reached
+        ensures { (result.standing.items ≡ []) × (result.again.items ≡ []) }
+    {
+        Reached {
+            standing: SmallVec::new(alloc),
+            again: SmallVec::new(alloc),
+        }
+    }
+}
+
+/// Adds what a pair enters: the places that stand behind unions and recursions, and the sequences
+/// that its edges enter again.
+#[cycle(reach)]
+pub(crate) fn reach(spots: &[Spot], pair: Pair, reached: &mut Reached) -> Result<(), AllocError>
+    requires spots { AreSpots 0 spots.now }
+    requires pair { IsPair spots.now pair }
+    requires reached { AreReached spots.now reached.old }
+    ensures reached { OnOk result (AreReached spots.now reached.new) }
+    ensures enters { OnOk result (Joins (ReachedEnters spots.now reached.new) (ReachedEnters spots.now reached.old) (EntersAt spots.now pair)) }
+    ensures again { OnOk result (HasNoEdge spots.now pair → reached.new.again.items ≡ reached.old.again.items) }
+{
+    match &spots[pair.place] {
+        Spot::Recursive(depth, sequence) => {
+            let recursion = Some(Recursion {
+                sequence: *sequence,
+                depth: *depth,
+            });
+            let place = *sequence;
+            reach(spots, Pair { place, recursion }, reached)
+        }
+        Spot::Union(members) => reach_each(spots, members, pair, reached),
+        Spot::Edge => reach_again(pair, reached),
+        _ => Ok(reached.standing.push(pair)?),
+    }
+}
+
+// Adds what the members of a union enter, which stand before it.
+#[cycle(reach)]
+fn reach_each(
+    spots: &[Spot],
+    members: &[usize],
+    pair: Pair,
+    reached: &mut Reached,
+) -> Result<(), AllocError>
+    requires spots { AreSpots 0 spots.now }
+    requires members { AreBelow pair.place members.now }
+    requires pairs { All (IsPair spots.now) (members_at pair members.now) }
+    requires reached { AreReached spots.now reached.old }
+    ensures reached { OnOk result (AreReached spots.now reached.new) }
+    ensures enters { OnOk result (Joins (ReachedEnters spots.now reached.new) (ReachedEnters spots.now reached.old) (SomeEnter spots.now (members_at pair members.now))) }
+    ensures again { OnOk result (All (HasNoEdge spots.now) (members_at pair members.now) → reached.new.again.items ≡ reached.old.again.items) }
+{
+    for member in members {
+        let place = *member;
+        let recursion = pair.recursion;
+        reach(spots, Pair { place, recursion }, reached)?;
+    }
+    Ok(())
+}
+
+// Adds the sequence that an edge enters again, where its recursion has a depth left.
+fn reach_again(pair: Pair, reached: &mut Reached) -> Result<(), AllocError>
+    ensures standing { reached.new.standing ≡ reached.old.standing }
+    ensures again { OnOk result (reached.new.again.items ≡ reached.old.again.items ++ entered_again pair.recursion) }
+{
+    let Some(recursion) = pair.recursion else {
+        return Ok(());
+    };
+    let Some(lower) = recursion.lowered() else {
+        return Ok(());
+    };
+    reached.again.push(Pair {
+        place: lower.sequence,
+        recursion: Some(lower),
+    })?;
+    Ok(())
+}

@@ -1,0 +1,116 @@
+//! The places of a selector: itself and the selectors inside it, by number.
+
+ghost use Rattle.std.specs.Prelude.{◌≡◌, ℕ, ◌+◌, ◌<◌, ◌≤◌, map, length, IfOk};
+ghost use Rattle.ix_selector.specs.Pattern.{pattern_of, fields_of, members_of};
+ghost use Rattle.ix_selector.specs.Ordered.{IsOrdered, AreOrdered, EachOrdered};
+ghost use Rattle.ix_selector.specs.Views.{seen_field};
+ghost use Rattle.ix_selector.specs.Places.{at, named_at, places_of, AreSpots, AreNamedOnce, IsSpot, seen, AreRising, AreNamedBelow, AreBelow, IsNumber, HasNumber, Names, IsFreeFrom};
+ghost use Rattle.ix_selector.specs.Grown.{Grows};
+
+use crate::sel::Sel;
+use std::alloc::{AllocError, Global};
+
+/// What stands at a place, with the numbers of the places next inside it.
+#[derive(Debug, Drop)]
+pub(crate) enum Spot {
+    Matcher,
+    All(usize),
+    // In the order of their names.
+    Fields(Vec<(Vec<u8>, usize)>),
+    Index(i128, usize),
+    Range(i128, i128, usize),
+    Recursive(Option<u32>, usize),
+    Union(Vec<usize>),
+    Edge,
+}
+
+/// Puts the places of a selector behind those that are there, the inner ones first, and answers
+/// its own number.
+#[cycle(spots)]
+pub(crate) fn push_spots(
+    alloc: Global,
+    sel: &Sel,
+    spots: &mut Vec<Spot>,
+) -> Result<usize, AllocError>
+    requires ordered { IsOrdered (pattern_of sel.now) }
+    requires spots { AreSpots 0 spots.old.items }
+    requires once { AreNamedOnce spots.old.items }
+    ensures grows { IfOk result (λ _. Grows spots.old.items spots.new.items) }
+    ensures place { IfOk result (λ n. (n < length spots.new.items) × (at (places_of spots.new.items) n ≡ pattern_of sel.now)) }
+    ensures last { IfOk result (λ n. n + 1 ≡ length spots.new.items) }
+    ensures behind { IfOk result (λ n. length spots.old.items ≤ n) }
+{
+    let spot = spot_of(alloc, sel, spots)?;
+    let number = spots.len();
+    spots.push(spot)?;
+    Ok(number)
+}
+
+// What stands at a selector's place. The places inside it are put behind those that are there.
+#[cycle(spots)]
+fn spot_of(alloc: Global, sel: &Sel, spots: &mut Vec<Spot>) -> Result<Spot, AllocError>
+    requires ordered { IsOrdered (pattern_of sel.now) }
+    requires spots { AreSpots 0 spots.old.items }
+    requires once { AreNamedOnce spots.old.items }
+    ensures grows { IfOk result (λ _. Grows spots.old.items spots.new.items) }
+    ensures spot { IfOk result (λ x. IsSpot (length spots.new.items) x × (seen (places_of spots.new.items) x ≡ pattern_of sel.now)) }
+    ensures free { IfOk result (λ x. (k : ℕ) → Names x k → IsFreeFrom (length spots.old.items) spots.new.items k) }
+{
+    match sel {
+        Sel::Matcher => Ok(Spot::Matcher),
+        Sel::All(next) => Ok(Spot::All(push_spots(alloc, next, spots)?)),
+        Sel::Fields(fields) => Ok(Spot::Fields(push_fields(alloc, fields, spots)?)),
+        Sel::Index(at, next) => Ok(Spot::Index(*at, push_spots(alloc, next, spots)?)),
+        Sel::Range(start, end, next) => {
+            Ok(Spot::Range(*start, *end, push_spots(alloc, next, spots)?))
+        }
+        Sel::Recursive(limit, sequence) => {
+            Ok(Spot::Recursive(*limit, push_spots(alloc, sequence, spots)?))
+        }
+        Sel::Union(members) => Ok(Spot::Union(push_members(alloc, members, spots)?)),
+        Sel::Edge => Ok(Spot::Edge),
+    }
+}
+
+// The names of fields, with the numbers of their selectors.
+#[cycle(spots)]
+fn push_fields(
+    alloc: Global,
+    fields: &[(Vec<u8>, Sel)],
+    spots: &mut Vec<Spot>,
+) -> Result<Vec<(Vec<u8>, usize)>, AllocError>
+    requires ordered { AreOrdered (fields_of (map seen_field fields.now)) }
+    requires spots { AreSpots 0 spots.old.items }
+    requires once { AreNamedOnce spots.old.items }
+    ensures grows { IfOk result (λ _. Grows spots.old.items spots.new.items) }
+    ensures named { IfOk result (λ names. AreNamedBelow (length spots.new.items) names.items × AreRising names.items × (map (named_at (places_of spots.new.items)) names.items ≡ map seen_field fields.now)) }
+    ensures free { IfOk result (λ names. (k : ℕ) → HasNumber names.items k → IsFreeFrom (length spots.old.items) spots.new.items k) }
+{
+    let mut names = Vec::new(alloc);
+    for (name, sel) in fields {
+        let number = push_spots(alloc, sel, spots)?;
+        names.push((Vec::from_slice(alloc, name)?, number))?;
+    }
+    Ok(names)
+}
+
+// The numbers of the members of a union.
+#[cycle(spots)]
+fn push_members(
+    alloc: Global,
+    members: &[Sel],
+    spots: &mut Vec<Spot>,
+) -> Result<Vec<usize>, AllocError>
+    requires ordered { EachOrdered (members_of (map pattern_of members.now)) }
+    requires spots { AreSpots 0 spots.old.items }
+    requires once { AreNamedOnce spots.old.items }
+    ensures grows { IfOk result (λ _. Grows spots.old.items spots.new.items) }
+    ensures members { IfOk result (λ numbers. AreBelow (length spots.new.items) numbers.items × (map (at (places_of spots.new.items)) numbers.items ≡ map pattern_of members.now)) }
+    ensures free { IfOk result (λ numbers. (k : ℕ) → IsNumber numbers.items k → IsFreeFrom (length spots.old.items) spots.new.items k) }
+{
+    let mut numbers = Vec::new(alloc);
+    for sel in members {
+        numbers.push(push_spots(alloc, sel, spots)?)?;
+    }
+    Ok(numbers)
+}

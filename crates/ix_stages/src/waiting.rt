@@ -1,0 +1,46 @@
+//! How a thread waits for another: first it gives its processor away, and where that isn't enough it
+//! sleeps, longer each time.
+
+use std::sync::Wait;
+use std::thread;
+use std::thread::Parker;
+use std::time::Duration;
+
+// How often a thread gives its processor away before it sleeps.
+const YIELDS: u32 = 16;
+
+// The first sleep, in microseconds.
+const SHORTEST_NAP: u64 = 32;
+
+// The longest sleep, in microseconds.
+const LONGEST_NAP: u64 = 1_000;
+
+/// A wait for another thread, from its begin on.
+#[derive(Drop)]
+pub struct Waiting {
+    // How often the processor is still given away.
+    yields: u32,
+    // The next sleep, in microseconds.
+    nap: u64,
+}
+
+impl Waiting {
+    /// A wait that begins.
+    pub fn new() -> Waiting {
+        Waiting {
+            yields: YIELDS,
+            nap: SHORTEST_NAP,
+        }
+    }
+
+    /// Lets others run. At most a millisecond goes by where a processor is free.
+    pub fn pause<R: Wait>(&mut self, rt: &R) {
+        if self.yields > 0 {
+            self.yields -= 1;
+            thread::yield_now();
+            return;
+        }
+        Parker::new().park_timeout(rt, Duration::from_micros(self.nap));
+        self.nap = self.nap.saturating_mul(2).min(LONGEST_NAP);
+    }
+}

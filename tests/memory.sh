@@ -1,0 +1,158 @@
+#!/usr/bin/env bash
+# Runs the built program with each of its requests for memory refused in turn, and with each set of its
+# thread starts refused. No run may end by a signal, and each archive is the wanted one where its job is
+# told as done, and else a beginning of it. Ends with status 1 at the first run that is wrong.
+# The library that refuses is made by the toolchain's own compiler; without one this says so and ends well.
+set -Eeuo pipefail
+export LC_ALL=C
+
+top=$(cd "$(dirname "${BASH_SOURCE[0]}")/.." && pwd)
+scratch=$(mktemp -d)
+trap 'cd / && rm -rf "$scratch"' EXIT
+trap 'exit 1' HUP INT TERM PIPE
+trap 'echo "tests/memory.sh: the command failed: $BASH_COMMAND" >&2' ERR
+
+library=$scratch/refuse.so
+compiler=$(dirname "$(readlink -f "$(command -v rt)")")/../toolchain/bin/clang
+if ! "$compiler" -shared -fPIC -O1 -nostdlib -fuse-ld=lld "$top/tests/memory/refuse.c" -o "$library"; then
+  echo "tests/memory.sh: no compiler makes the library that refuses: no run"
+  exit 0
+fi
+
+# Builds the program where it isn't built.
+"$top/ix_export" --help >/dev/null
+program=$top/crates/ix_export/out/ix_export
+title='before the first run'
+source "$top/tests/program/cases.sh"
+source "$top/tests/program/blocks.sh"
+runs=0
+cd "$scratch"
+
+fail() {
+  echo "tests/memory.sh: FAILED: $title: $1" >&2
+  echo "status $status; standard output and error were:" >&2
+  cat stdout stderr >&2
+  exit 1
+}
+
+# run REQUEST THREADS WORD..: one run in an empty output folder.
+run() {
+  title="request $1 and threads $2 refused of ${*:3}"
+  runs=$((runs + 1))
+  rm -rf out
+  mkdir out
+  status=0
+  REFUSE_REQUEST=$1 REFUSE_THREADS=$2 REFUSE_COUNTS=$scratch/counts LD_PRELOAD=$library \
+    timeout 60 "$program" "${@:3}" <input >stdout 2>stderr || status=$?
+}
+
+# begins FILE WHOLE: the file is the whole one or a beginning of it.
+begins() {
+  local said
+  said=$(cmp "$1" "$2" 2>&1) || [[ $said == *"EOF on $1"* ]] || fail "$1 is no beginning of the archive"
+}
+
+# How the report tells that the job ended, if it does.
+told() {
+  sed -n "s/^$1 \([a-z]*\) .*/\1/p" stdout
+}
+
+judge_root() {
+  begins stdout root.wanted
+  case $status in
+    0) cmp -s stdout root.wanted || fail 'not the whole archive' ;;
+    2) ;;
+    *) fail 'another status' ;;
+  esac
+}
+
+judge_jobs() {
+  local name file
+  case $status in
+    0 | 2 | 3 | 4) ;;
+    *) fail 'another status' ;;
+  esac
+  for name in "${jobs[@]}"; do
+    for file in "out/$name.car" "out/$name.car.part"; do
+      [ ! -e "$file" ] || begins "$file" "$wanted/$name.car"
+    done
+    case $(told "$name") in
+      done | limit) has_archive "$name" ;;
+      memory | write | start) ;;
+      '') [ "$status" = 2 ] || fail "$name isn't told" ;;
+      *) fail 'a job ended in another way' ;;
+    esac
+  done
+}
+
+# The job's archive is whole, under its name, or where the run ended with status 2, since a file found no
+# memory for its name, still under the name before.
+has_archive() {
+  cmp -s "out/$1.car" "$wanted/$1.car" && return
+  [ "$status" = 2 ] && cmp -s "out/$1.car.part" "$wanted/$1.car" || fail "$1 isn't whole"
+}
+
+# each_request JUDGE WORD..: every request that a run makes is refused once. How many there are depends
+# on the schedule, so it goes on to the first number that no run reached, of five.
+each_request() {
+  local judge=$1 request=0 requests=0 begun
+  shift
+  for begun in 1 2 3 4 5; do
+    run 0 0 "$@"
+    "$judge"
+    read -r begun _ <counts
+    [ "$begun" -le "$requests" ] || requests=$begun
+  done
+  while [ "$request" -lt "$requests" ]; do
+    request=$((request + 1))
+    run "$request" 0 "$@"
+    "$judge"
+  done
+}
+
+# each_start THREADS: every set of thread starts is refused, of so many walkers and as many verifiers. The
+# verifiers are started first. Every job ends with start exactly where none of one kind was started.
+each_start() {
+  local all=$(((1 << $1) - 1)) set name
+  for ((set = 0; set < 1 << 2 * $1; set++)); do
+    run 0 "$set" "${words[@]}" --walkers "$1" --verifiers "$1"
+    judge_jobs
+    for name in "${jobs[@]}"; do
+      if ((set >> $1 == all || (set & all) == all)); then
+        [ "$(told "$name")" = start ] || fail "$name did not end with start"
+      else
+        [[ $(told "$name") == @(done|limit) ]] || fail "$name did not end as it should"
+      fi
+    done
+  done
+}
+
+# each_of FILE_OF_BLOCKS FILE_OF_JOBS WANTED JOB..: both for the jobs, whose archives lie in the folder WANTED.
+each_of() {
+  wanted=$3 jobs=("${@:4}")
+  words=(jobs --blocks "$1" --jobs "$2" --out out)
+  each_start 1
+  each_start 2
+  each_request judge_jobs "${words[@]}" --walkers 2 --verifiers 2
+}
+
+: >input
+each_of "$top/examples/library.car" "$top/examples/library.jobs" "$top/examples/expected" album first-three front whole
+
+# A list of two links, of which the first is to a damaged block: one job over it, and three.
+write_blocks "$(section "$fork_cid" "$fork")" "$(section "$with_zero_cid" "$with_one")" "$one_blocks"
+mkdir damaged
+for name in a b c; do
+  bytes "$(header "$fork_cid")" "$(section "$fork_cid" "$fork")" "$one_blocks" >"damaged/$name.car"
+done
+write_jobs "a $(text "$fork_cid") 100 $all"
+each_of blocks.car jobs.txt damaged a
+write_jobs {a,b,c}" $(text "$fork_cid") 100 $all"
+each_of blocks.car jobs.txt damaged a b c
+
+cp "$top/crates/ix_export/stdin" input
+mapfile -t root <"$top/crates/ix_export/args"
+cp "$top/crates/ix_export/stdout" root.wanted
+each_request judge_root "${root[@]}"
+
+echo "tests/memory.sh: $runs runs passed"

@@ -1,0 +1,62 @@
+# The command `selector`, and the recipes of docs/SELECTORS.md over the example directory: of each, the JSON gives the
+# hexadecimal, that gives the JSON, and a job with it is told as the document says.
+
+library_root=bafyreigiavswv62tcfji62na4ecatawlzg33sy6uezl5lj3g56mxdhbnmq
+mapfile -t recipes < <(sed -n '/^## Recipes/,$s/^    //p' "$top/docs/SELECTORS.md")
+
+begin 'the number of recipes'
+expect_text 'lines of recipes' 42 "${#recipes[@]}"
+
+begin 'the recipes, one by one'
+: >jobs.txt
+: >lines
+for ((at = 0; at < ${#recipes[@]}; at += 3)); do
+  run selector "${recipes[at]}"
+  expect 0 "${recipes[at + 1]}" ''
+  run selector --hex "${recipes[at + 1]}"
+  expect 0 "${recipes[at]}" ''
+  run selector <<<"  ${recipes[at]}"
+  expect 0 "${recipes[at + 1]}" ''
+  echo "r$at $library_root 1000 ${recipes[at + 1]}" >>jobs.txt
+  echo "r$at ${recipes[at + 2]}" >>lines
+done
+title='the recipes as jobs'
+run jobs --blocks "$top/examples/library.car" --jobs jobs.txt --out out
+expect_text 'exit status' 3 "$status"
+grep '^r' "$scratch/stdout" >came
+expect_same 'lines of the report' lines came
+
+begin 'a selector as deep as can be, and one deeper'
+deep=$(repeated 127 '{"a":{">":')
+deep_hex=$(repeated 127 a16161a1613e)$matcher
+run selector "$deep{\".\":{}}$(repeated 127 '}}')"
+expect 0 "$deep_hex" ''
+run selector --hex "$deep_hex"
+expect 0 "$deep{\".\":{}}$(repeated 127 '}}')" ''
+run selector "{\"a\":{\">\":$deep{\".\":{}}$(repeated 128 '}}')"
+refused 'selector: nested too deep'
+
+# selector_refused LINE WORD..
+selector_refused() {
+  local line=$1
+  shift
+  begin "$line, for the selector '$*'"
+  run selector "$@"
+  refused "$line"
+}
+
+selector_refused 'selector: edge outside a recursion' '{"a":{">":{"@":{}}}}'
+selector_refused 'selector: edge outside a recursion' --hex a16161a1613ea16140a0
+selector_refused 'selector: interpret-as is not supported' '{"~":{}}'
+selector_refused 'selector: repeated key' '{".":{},".":{}}'
+selector_refused 'selector: unknown key' '{"x":{}}'
+selector_refused 'selector: no JSON at 0' ''
+selector_refused 'selector: hex' --hex a1612e0
+
+begin 'selector: standard input is closed'
+run selector <&-
+refused 'cannot read -'
+
+begin 'selector: standard output is full'
+run_bare selector '{".":{}}' >/dev/full 2>"$scratch/stderr"
+refused 'cannot write -'
