@@ -49,10 +49,11 @@ impl Marks {
         Ok(())
     }
 
-    // Takes all places out.
+    // Takes all places out, and lets the memory go.
     pub(crate) fn clear(&mut self)
         ensures { (n : ℕ) → is_marked self.new n ≡ false }
     {
         self.words.clear();
+        self.words.shrink_to_fit();
     }
 }
