@@ -150,7 +150,7 @@ run_bare jobs --blocks blocks.car --jobs jobs.txt --out out >&- 2>"$scratch/stde
 refused 'cannot write -'
 
 begin 'a header that finds no room: its job is named by its number, from 0, and nothing is left'
-long_cid=01551ea09c01$(repeated 20000 64)
+long_cid=01551e$(varint 60000)$(repeated 60000 64)
 write_blocks "$one_blocks"
 write_jobs "a $one_job" "b $(text "$long_cid") 1 $matcher" "c $(text "$long_cid") 1 $matcher"
 bytes "$(repeated 300 ff)" >out/a.car
