@@ -57,7 +57,10 @@ pub fn fault_line(alloc: Global, fault: &NotationFault) -> Result<String, AllocE
     match fault {
         NotationFault::Json(place) => format!(in alloc; "selector: no JSON at {place}"),
         NotationFault::Repeated => String::from_str(alloc, "selector: repeated key"),
-        NotationFault::Number => String::from_str(alloc, "selector: not an integer from -2^64 to 2^64 - 1"),
+        NotationFault::Number => String::from_str(
+            alloc,
+            "selector: not an integer from -2^64 to 2^64 - 1",
+        ),
         NotationFault::Hex => String::from_str(alloc, "selector: hex"),
         NotationFault::Block(fault) => {
             let kind = block_words(fault.kind);

@@ -1,4 +1,4 @@
-use Rattle.std.proofs.Common.{rules, ◌≡◌, ◌∙◌, ◌≤◌, ◌+◌, [], ◌∷◌, ◌++◌, List, ap, arith, subst, sym, length, length-append}
+use Rattle.std.proofs.Common.{rules, ◌≡◌, ◌∙◌, ◌+◌, [], ◌∷◌, ◌++◌, List, ap, arith, subst, sym, length, length-append}
 use Rattle.std.specs.Prelude.{cond}
 use Rattle.ix_collect.proofs.Kept.{kept_same}
 use Rattle.ix_stages.specs.declared.verdicted.Verdicted.{Verdicted}

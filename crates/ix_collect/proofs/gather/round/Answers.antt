@@ -1,4 +1,4 @@
-use Rattle.std.proofs.Common.{◌++◌, ◌+◌, ◌≤◌, Bool, true, false, arith, set, rules, refl, ◌≡◌, ◌<◌, List, length, get_or, ap, sym, ◌∙◌, subst, length-set}
+use Rattle.std.proofs.Common.{◌++◌, ◌+◌, arith, set, rules, refl, ◌≡◌, ◌<◌, List, length, get_or, ap, sym, ◌∙◌, subst, length-set}
 use Rattle.ix_collect.proofs.Kept.{kept_same, kept_trans}
 use Rattle.ix_stages.specs.declared.verdicted.Verdicted.{Verdicted}
 use Rattle.ix_stages.specs.declared.lanes.LaneOut.{LaneOut}
