@@ -77,7 +77,7 @@ first-free (Taken a q ∷ l) zero h = absurd h
 first-free (Taken a q ∷ l) (suc n) h = first-free l n h
 
 -- behind slots that are taken a free one is the first
-first-from : (l : List Slot) (n : ℕ) → AreTaken (take n l) → n < length l → get_or l n Free ≡ Free → IsFirstFree l n
+pub first-from : (l : List Slot) (n : ℕ) → AreTaken (take n l) → n < length l → get_or l n Free ≡ Free → IsFirstFree l n
 first-from [] n taken within free = absurd (omega arith)
 first-from (Free ∷ l) zero taken within free = tt
 first-from (Free ∷ l) (suc n) taken within free = absurd taken
@@ -85,7 +85,7 @@ first-from (Taken a q ∷ l) zero taken within free = absurd (let clash : ⊥ = 
 first-from (Taken a q ∷ l) (suc n) taken within free = first-from l n taken (omega arith) free
 
 -- one slot more that is taken
-taken-more : (l : List Slot) (n t p : ℕ) → AreTaken (take n l) → n < length l → get_or l n Free ≡ Taken t p → AreTaken (take (suc n) l)
+pub taken-more : (l : List Slot) (n t p : ℕ) → AreTaken (take n l) → n < length l → get_or l n Free ≡ Taken t p → AreTaken (take (suc n) l)
 taken-more [] n t p taken within at = tt
 taken-more (Free ∷ l) zero t p taken within at = absurd (let clash : ⊥ = cc in clash)
 taken-more (Free ∷ l) (suc n) t p taken within at = absurd taken
@@ -262,3 +262,7 @@ vacancy-at index u slot v = at-first index.slots.items u slot v.0 v.1 v.2
 -- trees with the same entries have the same places
 pub same-behind : (m n : BTreeMap (List ℕ) ℕ) (c : List ℕ) → n.entries ≡ m.entries → get (slice_cmp nat_cmp) n c ≡ get (slice_cmp nat_cmp) m c
 same-behind m n c same = ap (λ (es : List (List ℕ × ℕ)). lookup (is_at (slice_cmp nat_cmp c)) es) same
+
+-- slots that are all taken up to the last
+pub taken-all : (l : List Slot) (n : ℕ) → AreTaken (take n l) → length l ≤ n → AreTaken l
+taken-all l n h past = subst (λ (r : List Slot). AreTaken r) (take_all n l past) h

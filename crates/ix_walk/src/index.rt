@@ -69,10 +69,8 @@ impl Index {
             behind: BTreeMap::new(alloc),
         };
         for (place, entry) in entries.iter().enumerate() {
-            let before = &entries[..place];
-            if let Seat::Vacant(vacancy) = index.seat(before, &entry.cid) {
-                index.fill(alloc, before, vacancy, &entry.cid)?;
-            }
+            let vacancy = index.vacancy(tail_of(&entry.cid));
+            index.fill(alloc, &entries[..place], vacancy, &entry.cid)?;
         }
         Ok(index)
     }
@@ -101,6 +99,19 @@ impl Index {
         }
         let first = (tail % starts as u64) as usize;
         (first, &self.slots[first..first + PROBES])
+    }
+
+    // Where the place of a CID with this number goes that the index hasn't.
+    fn vacancy(&self, tail: u64) -> Vacancy
+        ensures { IsVacancy self.now tail result }
+    {
+        let (first, window) = self.window(tail);
+        for (step, slot) in window.iter().enumerate() {
+            let Slot::Taken { .. } = *slot else {
+                return Vacancy::At(first + step);
+            };
+        }
+        Vacancy::Behind
     }
 
     // Where the entry of a CID stands, or where its place goes.
