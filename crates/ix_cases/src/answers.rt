@@ -27,6 +27,8 @@ pub fn answer<R: Threads + Wait + Sync>(
         "head" => trees::head(alloc, input),
         "selector" => selectors::selector(alloc, input),
         "step" => selectors::steps(alloc, input),
+        "notation" => selectors::notation(alloc, input),
+        "notation_of" => selectors::notation_of(alloc, input),
         "new_job" => walks::new_job(alloc, input),
         "jobs" => jobs::jobs(alloc, input),
         "prepare" => jobs::prepared(alloc, input),

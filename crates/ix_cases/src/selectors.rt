@@ -4,6 +4,7 @@ use crate::nodes::node_of;
 use crate::texts::{bytes_of_hex, two_words};
 use anyhow::{Result, bail};
 use ix_cbor::{Tree, decode};
+use ix_notation::{NotationFault, fault_line, hex_of_json, json_of_hex};
 use ix_selector::{Residual, Selector, Step};
 use std::alloc::Global;
 
@@ -37,6 +38,27 @@ pub fn selector(alloc: Global, input: &str) -> Result<String> {
     match Selector::read(alloc, &tree) {
         Ok(_) => Ok(String::from_str(alloc, "ok")?),
         Err(fault) => Ok(format!(in alloc; "{fault:?}")?),
+    }
+}
+
+/// `notation JSON = HEX` or a line of `fault_line`
+pub fn notation(alloc: Global, input: &str) -> Result<String> {
+    line_of(alloc, hex_of_json(alloc, input.as_bytes()))
+}
+
+/// `notation_of HEX = JSON` or such a line
+pub fn notation_of(alloc: Global, input: &str) -> Result<String> {
+    line_of(alloc, json_of_hex(alloc, input))
+}
+
+// The line that was printed, without its end, or that of the refusal.
+fn line_of(alloc: Global, printed: Result<String, NotationFault>) -> Result<String> {
+    match printed {
+        Ok(line) => match line.as_str().strip_suffix('\n') {
+            Some(line) => Ok(String::from_str(alloc, line)?),
+            None => bail!("no line end"),
+        },
+        Err(fault) => Ok(fault_line(alloc, &fault)?),
     }
 }
 
