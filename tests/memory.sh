@@ -42,8 +42,8 @@ run() {
   rm -rf out counts
   mkdir out
   status=0
-  REFUSE_REQUEST=$1 REFUSE_THREADS=$2 REFUSE_COUNTS=$scratch/counts LD_PRELOAD=$library \
-    timeout 60 "$program" "${@:3}" <input >stdout 2>stderr || status=$?
+  timeout 60 env REFUSE_REQUEST="$1" REFUSE_THREADS="$2" REFUSE_COUNTS="$scratch/counts" LD_PRELOAD="$library" \
+    "$program" "${@:3}" <input >stdout 2>stderr || status=$?
 }
 
 # begins FILE WHOLE: the file is the whole one or a beginning of it.
