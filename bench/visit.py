@@ -14,16 +14,16 @@ import tempfile
 TOP = pathlib.Path(__file__).resolve().parent.parent
 PROGRAM = TOP / "crates/ix_export/out/ix_export"
 FREQUENCY = 8_000
-# The first part whose word stands in a symbol counts; what no part names is `other`.
+# The first part whose word stands in a symbol counts; what no part names is `other`. What a verifier's thread and the
+# collector do is inlined into the body of the thread and into that of the run.
 PARTS = {
     "queue: put": r"try_put|push_as",
-    "queue: take": r"try_take|pop_as",
-    "lane: send": r"try_send|lane_in|rtrb.*push",
-    "lane: receive": r"try_recv|lane_out|rtrb.*pop",
-    "collect and write": r"collect|ring|deliver|archive|ix_car",
+    "queue: take, lane: send": r"scope::entry|pop_as|try_send",
+    "lane: receive": r"run_by|try_recv|ix_collect|ix_ring",
+    "write": r"ix_car",
     "check": r"ix_check|sha2|compress",
     "walk": r"ix_walk|ix_cbor|ix_selector|ix_cid",
-    "wait": r"yield|park|futex|schedule|waiting",
+    "wait": r"yield|park|futex|sched|task_switch|syscall|waiting",
 }
 
 
@@ -60,7 +60,7 @@ def main():
                 parts[part] += number
             print(f"{threads}+{threads}: {visits} visits; microseconds of processor time for each")
             for part, number in parts.most_common():
-                print(f"  {part:18} {number / FREQUENCY / visits * 1e6:6.2f}")
+                print(f"  {part:24} {number / FREQUENCY / visits * 1e6:6.2f}")
             for symbol, number in counts.most_common(words.symbols):
                 print(f"    {number / FREQUENCY / visits * 1e6:6.2f} {symbol[:100]}")
 
