@@ -1,5 +1,6 @@
 pub mod Bytes
 pub mod Cids
+pub mod Deeper
 pub mod Complete
 pub mod EntryFronts
 pub mod Faults
@@ -9,6 +10,8 @@ pub mod Keys
 pub mod Laws
 pub mod Members
 pub mod Leaves
+pub mod Links
+pub mod Skips
 pub mod Owns
 pub mod Places
 pub mod Refusals

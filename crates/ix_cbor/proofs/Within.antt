@@ -59,7 +59,7 @@ string_of_major_within : (n major : ℕ) (other : List ℕ → Result (List ℕ 
 string_of_major_within n major other [] o h = err _ (omega arith)
 string_of_major_within n major other (x ∷ b) o h = if_within (x / 32 == major) (string_within n (x ∷ b) (x % 32) b h (omega arith)) (o (x ∷ b) h)
 
-key_within : (n : ℕ) (before : Option (List ℕ)) (b : List ℕ) → length b ≤ n → IsWithin n (key_at before b)
+pub key_within : (n : ℕ) (before : Option (List ℕ)) (b : List ℕ) → length b ≤ n → IsWithin n (key_at before b)
 key_within n before b h =
     then_within (string_of_major 3 (λ at. fails kinds.KeyKind at) b) (λ k. if rises before k.0 then Ok k else fails kinds.KeyOrder b)
     (string_of_major_within n 3 (λ at. fails kinds.KeyKind at) b (λ at k. stopped kinds.KeyKind at k) h) (λ k rest. if_within (rises before k.0) (ok k.0 k.1 rest) (stopped kinds.KeyOrder b h))
@@ -92,7 +92,7 @@ own_with_within n at major argument b a h =
     (if_within (major == 4) (ok (list_of argument) b h) (if_within (major == 5) (ok (map_of argument) b h)
     (then_within (link_at at argument b) (λ d. Ok (leaf d.0, d.1)) (link_within n at argument b a h) (λ d k. ok (leaf d.0) d.1 k)))))))
 
-own_within : (n : ℕ) (b : List ℕ) → length b ≤ n → IsWithin n (own_at b)
+pub own_within : (n : ℕ) (b : List ℕ) → length b ≤ n → IsWithin n (own_at b)
 own_within n [] h = err _ (omega arith)
 own_within n (x ∷ b) h =
     let rest : length b ≤ n = omega arith in
@@ -124,7 +124,7 @@ no_members_within n at (list_of count) b a h = err _ a
 no_members_within n at (map_of count) b a h = err _ a
 
 -- an item with its members
-item_within : (n levels : ℕ) (b : List ℕ) → length b ≤ n → IsWithin n (item_at levels b)
+pub item_within : (n levels : ℕ) (b : List ℕ) → length b ≤ n → IsWithin n (item_at levels b)
 unfolding item_at
 item_within n zero b h = then_within (own_at b) (with_members None b) (own_within n b h) (λ own k. no_members_within n b own.0 own.1 h k)
 item_within n (suc levels) b h =
@@ -139,3 +139,13 @@ rest_within n (Err g) f h e = let here : g ≡ f = cc in subst (λ (g : Fault). 
 -- the place of a block's fault lies within the block
 pub decoded_within : (b : List ℕ) (f : Fault) → decoded b ≡ Err f → f.left ≤ length b
 decoded_within b f e = rest_within (length b) (item_at 512 b) f (item_within (length b) 512 b (omega arith)) e
+
+-- the place of a reading's fault
+pub err_within : {A : Type 0} (n : ℕ) (r : Result (A × List ℕ) Fault) (f : Fault) → IsWithin n r → r ≡ Err f → f.left ≤ n
+err_within n (Ok x) f h e = absurd cc
+err_within n (Err g) f h e = let here : g ≡ f = cc in subst (λ (g : Fault). g.left ≤ n) here h.within
+
+-- what is left behind a value
+pub ok_within : {A : Type 0} (n : ℕ) (r : Result (A × List ℕ) Fault) (x : A × List ℕ) → IsWithin n r → r ≡ Ok x → length x.1 ≤ n
+ok_within n (Ok y) x h e = let here : y ≡ x = cc in subst (λ y. length y.1 ≤ n) here h.within
+ok_within n (Err f) x h e = absurd cc

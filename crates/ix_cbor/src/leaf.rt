@@ -1,24 +1,24 @@
 //! What an item is by its own head.
 
-ghost use Rattle.std.specs.Prelude.{◌≡◌};
+ghost use Rattle.std.specs.Prelude.{◌≡◌, IfOk};
 ghost use Rattle.ix_cbor.specs.declared.fault.CborKind.TheVariants as kinds;
-ghost use Rattle.ix_cbor.specs.Data.{data_of, float, link};
-ghost use Rattle.ix_cbor.specs.Reading.{fails, string_of_major, float_at, simple_at, link_of, link_at, own_behind, own_at};
+ghost use Rattle.ix_cbor.specs.Data.{float, link};
+ghost use Rattle.ix_cbor.specs.Reading.{fails, string_of_major, float_at, is_cid, link_of, link_at, own_behind, own_at};
 ghost use Rattle.ix_cbor.specs.Majors.{number_of};
-ghost use Rattle.ix_cbor.specs.Stops.{Reads, ReadsOrRunsOut, own_of};
+ghost use Rattle.ix_cbor.specs.Fronts.{own_of_front, HasCid};
+ghost use Rattle.ix_cbor.specs.Stops.{Reads};
 
 use crate::canonical::is_finite;
 use crate::fault::CborKind;
-use crate::head::{argument, string};
+use crate::front::Front;
+use crate::head::{argument, string, take};
 use crate::information::{
     FALSE, FLOAT_16, FLOAT_32, FLOAT_64, LINK, NULL, OPEN, TRUE, information_of,
 };
 use crate::major::Major;
-use crate::node::Node;
-use crate::read::{Own, Stop};
+use crate::read::Stop;
 use crate::width::u64_of;
-use ix_cid::{Cid, CidFault};
-use std::alloc::Global;
+use ix_cid::Cid;
 
 // The bits of a finite float.
 fn float_bits<'a>(at: &'a [u8], bytes: &'a [u8]) -> Result<(u64, &'a [u8]), Stop>
@@ -36,17 +36,17 @@ fn float_bits<'a>(at: &'a [u8], bytes: &'a [u8]) -> Result<(u64, &'a [u8]), Stop
 }
 
 // A truth value, null or a float, by the information in a head of major type 7.
-fn simple<'a>(at: &'a [u8], information: u8, bytes: &'a [u8]) -> Result<(Node, &'a [u8]), Stop>
-    ensures { Reads (λ r. (data_of r.0, r.1.now)) result (simple_at at.now information bytes.now) }
+fn simple<'a>(at: &'a [u8], information: u8, bytes: &'a [u8]) -> Result<(Front<'a>, &'a [u8]), Stop>
+    ensures { Reads (λ r. (own_of_front r.0, r.1.now)) result (own_behind at.now 7 information bytes.now) }
 {
     match information {
-        FALSE => Ok((Node::Bool(false), bytes)),
-        TRUE => Ok((Node::Bool(true), bytes)),
-        NULL => Ok((Node::Null, bytes)),
+        FALSE => Ok((Front::Bool(false), bytes)),
+        TRUE => Ok((Front::Bool(true), bytes)),
+        NULL => Ok((Front::Null, bytes)),
         FLOAT_16 | FLOAT_32 => Err(Stop::at(CborKind::Float, at)),
         FLOAT_64 => {
             let (bits, rest) = float_bits(at, bytes)?;
-            Ok((Node::Bits64(bits), rest))
+            Ok((Front::Bits64(bits), rest))
         }
         OPEN => Err(Stop::at(CborKind::Indefinite, at)),
         _ => Err(Stop::at(CborKind::Simple, at)),
@@ -66,126 +66,77 @@ fn tag_content<'a>(at: &'a [u8], bytes: &'a [u8]) -> Result<(&'a [u8], &'a [u8])
     }
 }
 
-// The CID in a tag's content, behind a `00`.
-fn cid_in<'a>(
-    alloc: Global,
-    at: &'a [u8],
-    content: &'a [u8],
-    rest: &'a [u8],
-) -> Result<(Cid, &'a [u8]), Stop>
-    ensures { ReadsOrRunsOut (λ r. (link r.0, r.1.now)) result (link_of at.now (content.now, rest.now)) }
+// Whether bytes are one whole CID.
+fn is_cid(bytes: &[u8]) -> bool
+    ensures { result ≡ is_cid bytes.now }
 {
-    if let [0, bytes @ ..] = content {
-        match Cid::read(alloc, bytes) {
-            Ok((cid, length)) => {
-                if length == bytes.len() {
-                    return Ok((cid, rest));
-                }
-            }
-            Err(CidFault::Memory) => {
-                return Err(Stop::memory());
-            }
-            Err(_) => {}
-        }
+    match Cid::length_at(bytes) {
+        Ok(length) => length == bytes.len(),
+        Err(_) => false,
     }
-    Err(Stop::at(CborKind::Link, at))
+}
+
+// The bytes of the CID in a tag's content, behind a `00`.
+fn cid_in<'a>(at: &'a [u8], content: &'a [u8], rest: &'a [u8]) -> Result<(&'a [u8], &'a [u8]), Stop>
+    ensures { Reads (λ r. (link r.0.now, r.1.now)) result (link_of at.now (content.now, rest.now)) }
+{
+    match content {
+        [0, cid @ ..] if is_cid(cid) => Ok((cid, rest)),
+        _ => Err(Stop::at(CborKind::Link, at)),
+    }
 }
 
 // A link, by its tag.
-fn tagged<'a>(
-    alloc: Global,
-    at: &'a [u8],
-    tag: u64,
-    bytes: &'a [u8],
-) -> Result<(Node, &'a [u8]), Stop>
-    ensures { ReadsOrRunsOut (λ r. (data_of r.0, r.1.now)) result (link_at at.now tag bytes.now) }
+fn tagged<'a>(at: &'a [u8], tag: u64, bytes: &'a [u8]) -> Result<(&'a [u8], &'a [u8]), Stop>
+    ensures { Reads (λ r. (link r.0.now, r.1.now)) result (link_at at.now tag bytes.now) }
 {
     if tag != LINK {
         return Err(Stop::at(CborKind::Tag, at));
     }
     let (content, rest) = tag_content(at, bytes)?;
-    let (cid, rest) = cid_in(alloc, at, content, rest)?;
-    Ok((Node::Link(cid), rest))
-}
-
-// A byte string, by the information in a head of major type 2.
-fn byte_string<'a>(
-    alloc: Global,
-    at: &'a [u8],
-    information: u8,
-    bytes: &'a [u8],
-) -> Result<(Own, &'a [u8]), Stop>
-    ensures { ReadsOrRunsOut (λ r. (own_of r.0, r.1.now)) result (own_behind at.now 2 information bytes.now) }
-{
-    let (string, rest) = string(at, information, bytes)?;
-    let node = Node::Bytes(Vec::from_slice(alloc, string)?);
-    Ok((Own::Leaf(node), rest))
-}
-
-// A text, by the information in a head of major type 3.
-fn text<'a>(
-    alloc: Global,
-    at: &'a [u8],
-    information: u8,
-    bytes: &'a [u8],
-) -> Result<(Own, &'a [u8]), Stop>
-    ensures { ReadsOrRunsOut (λ r. (own_of r.0, r.1.now)) result (own_behind at.now 3 information bytes.now) }
-{
-    let (string, rest) = string(at, information, bytes)?;
-    let node = Node::Text(Vec::from_slice(alloc, string)?);
-    Ok((Own::Leaf(node), rest))
+    cid_in(at, content, rest)
 }
 
 // What an item with this major type and information in its first byte is.
 fn of_major<'a>(
-    alloc: Global,
     at: &'a [u8],
     major: Major,
     information: u8,
     bytes: &'a [u8],
-) -> Result<(Own, &'a [u8]), Stop>
-    ensures { ReadsOrRunsOut (λ r. (own_of r.0, r.1.now)) result (own_behind at.now (number_of major) information bytes.now) }
+) -> Result<(Front<'a>, &'a [u8]), Stop>
+    ensures { Reads (λ r. (own_of_front r.0, r.1.now)) result (own_behind at.now (number_of major) information bytes.now) }
 {
+    if let Major::Simple = major {
+        return simple(at, information, bytes);
+    }
+    let (argument, rest) = argument(at, information, bytes)?;
     match major {
-        Major::Unsigned => {
-            let (number, rest) = argument(at, information, bytes)?;
-            Ok((Own::Leaf(Node::Int(i128::from(number))), rest))
+        Major::Unsigned => Ok((Front::Int(i128::from(argument)), rest)),
+        Major::Negative => Ok((Front::Int(-1 - i128::from(argument)), rest)),
+        Major::Bytes => {
+            let (string, rest) = take(argument, rest)?;
+            Ok((Front::Bytes(string), rest))
         }
-        Major::Negative => {
-            let (number, rest) = argument(at, information, bytes)?;
-            Ok((Own::Leaf(Node::Int(-1 - i128::from(number))), rest))
+        Major::Text => {
+            let (string, rest) = take(argument, rest)?;
+            Ok((Front::Text(string), rest))
         }
-        Major::Bytes => byte_string(alloc, at, information, bytes),
-        Major::Text => text(alloc, at, information, bytes),
-        Major::List => {
-            let (count, rest) = argument(at, information, bytes)?;
-            Ok((Own::ListOf(count), rest))
-        }
-        Major::Map => {
-            let (count, rest) = argument(at, information, bytes)?;
-            Ok((Own::MapOf(count), rest))
-        }
-        Major::Tag => {
-            let (tag, rest) = argument(at, information, bytes)?;
-            let (node, rest) = tagged(alloc, at, tag, rest)?;
-            Ok((Own::Leaf(node), rest))
-        }
-        Major::Simple => {
-            let (node, rest) = simple(at, information, bytes)?;
-            Ok((Own::Leaf(node), rest))
+        Major::List => Ok((Front::List(argument), rest)),
+        Major::Map => Ok((Front::Map(argument), rest)),
+        Major::Tag | Major::Simple => {
+            let (cid, rest) = tagged(at, argument, rest)?;
+            Ok((Front::Link(cid), rest))
         }
     }
 }
 
 // The tests at one item, before any member of it is read.
-pub(crate) fn head_of_item(alloc: Global, bytes: &[u8]) -> Result<(Own, &[u8]), Stop>
-    ensures { ReadsOrRunsOut (λ r. (own_of r.0, r.1.now)) result (own_at bytes.now) }
+pub(crate) fn front_of_item(bytes: &[u8]) -> Result<(Front<'_>, &[u8]), Stop>
+    ensures exact { Reads (λ r. (own_of_front r.0, r.1.now)) result (own_at bytes.now) }
+    ensures cid { IfOk result (λ r. HasCid r.0) }
 {
     match bytes {
         [] => Err(Stop::at_end()),
-        [head, rest @ ..] => {
-            let major = Major::of(*head);
-            of_major(alloc, bytes, major, information_of(*head), rest)
-        }
+        [head, rest @ ..] => of_major(bytes, Major::of(*head), information_of(*head), rest),
     }
 }

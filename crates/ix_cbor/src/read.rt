@@ -1,14 +1,18 @@
 //! The parts of decode.
 
-ghost use Rattle.std.specs.Prelude.{◌≡◌, map, Some, None};
-ghost use Rattle.ix_cbor.specs.Data.{data_of, items_of, entry_of, entries_of};
-ghost use Rattle.ix_cbor.specs.Reading.{item_with, item_at, items_at, entries_at};
-ghost use Rattle.ix_cbor.specs.Stops.{ReadsOrRunsOut};
+ghost use Rattle.std.specs.Prelude.{◌≡◌, map, Some, None, IfOk};
+ghost use Rattle.ix_cid.specs.Cid.{IsCid};
+ghost use Rattle.ix_cbor.specs.Data.{data_of, items_of, entry_of, entries_of, link};
+ghost use Rattle.ix_cbor.specs.Reading.{own_at, item_with, item_at, items_at, entries_at};
+ghost use Rattle.ix_cbor.specs.Fronts.{own_of_front, HasCid};
+ghost use Rattle.ix_cbor.specs.Stops.{ReadsOrRunsOut, own_of};
 
-use crate::fault::CborKind;
+use crate::fault::{CborFault, CborKind};
+use crate::front::Front;
 use crate::head::key;
-use crate::leaf::head_of_item;
+use crate::leaf::front_of_item;
 use crate::node::Node;
+use ix_cid::Cid;
 use std::alloc::{AllocError, AllocFailed, Global};
 
 // A fault, and how many bytes there are from its place to the end.
@@ -19,7 +23,7 @@ pub(crate) struct Stop {
 }
 
 impl Stop {
-    ghost use Rattle.std.specs.Prelude.{◌≡◌, length};
+    ghost use Rattle.std.specs.Prelude.{◌≡◌, ◌≤◌, ◌-◌, length};
     ghost use Rattle.ix_cbor.specs.declared.fault.CborKind.TheVariants.{Truncated, Memory};
 
     // A fault at the front of these bytes.
@@ -39,6 +43,17 @@ impl Stop {
         Stop {
             kind: CborKind::Truncated,
             left: 0,
+        }
+    }
+
+    // The same fault, its place counted from the front of these bytes.
+    pub(crate) fn within(self, bytes: &[u8]) -> CborFault
+        requires { self.left ≤ length bytes.now }
+        ensures { result ≡ record { kind = self.kind; place = length bytes.now - self.left } }
+    {
+        CborFault {
+            kind: self.kind,
+            place: bytes.len() - self.left,
         }
     }
 
@@ -81,6 +96,43 @@ pub(crate) enum Own {
     Leaf(Node),
     ListOf(u64),
     MapOf(u64),
+}
+
+// The node of a link.
+fn link_node(alloc: Global, cid: &[u8]) -> Result<Node, AllocError>
+    requires { IsCid cid.now }
+    ensures { IfOk result (λ n. data_of n ≡ link cid.now) }
+{
+    match Cid::read(alloc, cid) {
+        Ok((cid, _)) => Ok(Node::Link(cid)),
+        Err(_) => Err(AllocError),
+    }
+}
+
+// What an item is, with its strings copied.
+fn copied(alloc: Global, front: Front) -> Result<Own, AllocError>
+    requires { HasCid front }
+    ensures { IfOk result (λ o. own_of o ≡ own_of_front front.entry) }
+{
+    Ok(match front {
+        Front::Null => Own::Leaf(Node::Null),
+        Front::Bool(truth) => Own::Leaf(Node::Bool(truth)),
+        Front::Int(number) => Own::Leaf(Node::Int(number)),
+        Front::Bits64(bits) => Own::Leaf(Node::Bits64(bits)),
+        Front::Bytes(bytes) => Own::Leaf(Node::Bytes(Vec::from_slice(alloc, bytes)?)),
+        Front::Text(text) => Own::Leaf(Node::Text(Vec::from_slice(alloc, text)?)),
+        Front::Link(cid) => Own::Leaf(link_node(alloc, cid)?),
+        Front::List(count) => Own::ListOf(count),
+        Front::Map(count) => Own::MapOf(count),
+    })
+}
+
+// The tests at one item, before any member of it is read.
+fn head_of_item(alloc: Global, bytes: &[u8]) -> Result<(Own, &[u8]), Stop>
+    ensures { ReadsOrRunsOut (λ r. (own_of r.0, r.1.now)) result (own_at bytes.now) }
+{
+    let (front, rest) = front_of_item(bytes)?;
+    Ok((copied(alloc, front)?, rest))
 }
 
 // One item, where no list or map may stand.

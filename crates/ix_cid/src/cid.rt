@@ -31,10 +31,10 @@ impl Model for Cid {
 }
 
 impl Cid {
-    ghost use Rattle.ix_cid.specs.Cid.{cid_at, version_of, codec_of, hash_code_of, digest_of, parts_of, IsCid};
+    ghost use Rattle.ix_cid.specs.Cid.{◌>>=◌ as ◌and_then◌, cid_at, version_of, codec_of, hash_code_of, digest_of, parts_of, IsCid};
     ghost use Rattle.ix_cid.specs.CidText.{text_of, cid_of_text};
     ghost use Rattle.ix_cid.specs.Gives.{Gives};
-    ghost use Rattle.ix_cid.specs.Parts.{parts_view};
+    ghost use Rattle.ix_cid.specs.Parts.{Reads, parts_view};
 
     /// The bytes.
     pub fn as_bytes(&self) -> &[u8]
@@ -64,6 +64,15 @@ impl Cid {
             Ok(bytes) => Ok((Cid { bytes }, length)),
             Err(_) => Err(CidFault::Memory),
         }
+    }
+
+    /// The length of the CID at the front, which is not copied. The faults are those of `read` but for
+    /// want of memory.
+    pub fn length_at(bytes: &[u8]) -> Result<usize, CidFault>
+        ensures exact { Reads (λ n. n) result (cid_at bytes.now and_then (λ r. Ok r.1)) }
+    {
+        let (_, rest) = split_parts(bytes)?;
+        Ok(bytes.len() - rest.len())
     }
 
     /// All parts, from one reading of the bytes.

@@ -1,0 +1,13 @@
+use Rattle.std.proofs.Common.{length}
+use Rattle.ix_cbor.specs.Fronts.{behind_item}
+use Rattle.ix_cbor.proofs.Places.{answered}
+use Rattle.ix_cbor.proofs.Skips.{skip_within}
+use Rattle.ix_cbor.proofs.skip.skip_item.Goals as goal
+
+pub within-requires : goal.within-requires
+within-requires c = skip_within c.args.bytes.now _ c.in-Err.ensures
+
+pub returns-in-Err : goal.returns-in-Err
+returns-in-Err c =
+    let b = c.args.bytes.now in
+    answered (length b) (behind_item 512 b) c.in-Err.stop.kind c.in-Err.stop.left c.within.result (skip_within b _ c.in-Err.ensures) c.within.ensures c.in-Err.ensures

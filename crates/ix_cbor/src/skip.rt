@@ -1,0 +1,99 @@
+//! Going over items, without a tree.
+
+ghost use Rattle.std.specs.Prelude.{None, Some};
+ghost use Rattle.ix_cbor.specs.Reading.{◌>>=◌ as ◌then◌, item_with, item_at, items_at, entries_at};
+ghost use Rattle.ix_cbor.specs.Fronts.{Answers, behind, behind_item, judged};
+ghost use Rattle.ix_cbor.specs.Stops.{Reads};
+
+use crate::canonical::LEVELS;
+use crate::fault::{CborFault, CborKind};
+use crate::front::Front;
+use crate::head::key;
+use crate::leaf::front_of_item;
+use crate::read::Stop;
+
+// The bytes behind one item, where no list or map may stand.
+fn behind_leaf(bytes: &[u8]) -> Result<&[u8], Stop>
+    ensures { Reads (λ r. r.now) result (item_with None bytes.now then behind) }
+{
+    let (front, rest) = front_of_item(bytes)?;
+    match front {
+        Front::List(_) | Front::Map(_) => Err(Stop::at(CborKind::Nesting, bytes)),
+        _ => Ok(rest),
+    }
+}
+
+// The bytes behind one item, where a list or map may stand, and others nest so deep inside it.
+#[cycle(behind_item)]
+fn behind_branch(bytes: &[u8], levels: u32) -> Result<&[u8], Stop>
+    ensures { Reads (λ r. r.now) result (item_with (Some (item_at levels)) bytes.now then behind) }
+{
+    let (front, rest) = front_of_item(bytes)?;
+    match front {
+        Front::List(count) => behind_items(rest, count, levels),
+        Front::Map(count) => behind_entries(rest, count, levels),
+        _ => Ok(rest),
+    }
+}
+
+// The bytes behind one item, where lists and maps may nest so deep.
+#[cycle(behind_item)]
+fn behind_item(bytes: &[u8], levels: u32) -> Result<&[u8], Stop>
+    ensures { Reads (λ r. r.now) result (behind_item levels bytes.now) }
+{
+    if levels == 0 {
+        behind_leaf(bytes)
+    } else {
+        behind_branch(bytes, levels - 1)
+    }
+}
+
+// The bytes behind so many members of a list, inside which lists and maps may nest so deep.
+#[cycle(behind_item)]
+fn behind_items(bytes: &[u8], count: u64, levels: u32) -> Result<&[u8], Stop>
+    ensures { Reads (λ r. r.now) result (items_at (item_at levels) count bytes.now then behind) }
+{
+    let mut rest = bytes;
+    for _ in 0..count {
+        rest = behind_item(rest, levels)?;
+    }
+    Ok(rest)
+}
+
+// The bytes behind so many keys and values of a map, inside which lists and maps may nest so deep.
+#[cycle(behind_item)]
+fn behind_entries(bytes: &[u8], count: u64, levels: u32) -> Result<&[u8], Stop>
+    ensures { Reads (λ r. r.now) result (entries_at (item_at levels) None count bytes.now then behind) }
+{
+    let mut rest = bytes;
+    let mut before = None;
+    for _ in 0..count {
+        let (name, value) = key(before, rest)?;
+        rest = behind_item(value, levels)?;
+        before = Some(name);
+    }
+    Ok(rest)
+}
+
+/// The bytes behind the item that begins here, inside which lists and maps nest at most 512 deep. The
+/// place of a fault is counted from here, and means what that of `decode` does.
+pub fn skip_item(bytes: &[u8]) -> Result<&[u8], CborFault>
+    ensures { Answers (λ r. r.now) bytes.now result (behind_item 512 bytes.now) }
+{
+    match behind_item(bytes, LEVELS) {
+        Ok(rest) => Ok(rest),
+        Err(stop) => Err(stop.within(bytes)),
+    }
+}
+
+/// Whether a block decodes (DAG-CBOR, RFC 8949), or why not: the faults are those of `decode` but for want
+/// of memory, of which this takes none.
+pub fn check(bytes: &[u8]) -> Result<(), CborFault>
+    ensures { Answers (λ _. tt) bytes.now result (judged bytes.now) }
+{
+    match behind_item(bytes, LEVELS) {
+        Ok([]) => Ok(()),
+        Ok(rest) => Err(Stop::at(CborKind::Rest, rest).within(bytes)),
+        Err(stop) => Err(stop.within(bytes)),
+    }
+}
