@@ -2,7 +2,9 @@ pub mod Names
 pub mod Stores
 pub mod Indexes
 pub mod Reached
+pub mod Stands
 pub mod Parts
+pub mod Openings
 pub mod Blocks
 pub mod Roots
 pub mod Takes

@@ -1,206 +1,228 @@
--- Subtrees on a stack, taken apart.
-use Rattle.std.proofs.Common.{◌≡◌, ℕ, ◌+◌, ◌-◌, ◌<◌, ◌≤◌, Bool, true, false, eqb, List, [], ◌∷◌, ◌++◌, length, length-append, map, reverse, refl, sym, ◌∙◌, ap, subst, append_assoc, append-nil, arith}
-use Rattle.std.specs.Prelude.{Option, Some, None, Result, Ok, Err, OnOk, if◌then◌else◌}
-use Rattle.std.specs.Global.{Vec}
-use Rattle.std.proofs.lemmas.List.{reverse-append, nil_from_length}
-use Rattle.std.proofs.lemmas.Bool.{eqb-true}
-use Rattle.ix_cbor.specs.declared.node.Node.{Node}
-use Rattle.ix_cbor.specs.Data.{Data, Items, Entries, item, entry, items_of, entries_of, data_of}
-use Rattle.ix_cbor.specs.Data.{entry_of}
-use Rattle.ix_selector.specs.Enters.{Step, key, nth}
-use Rattle.ix_selector.specs.Residual.{Place, residual_enters}
-use Rattle.ix_walk.specs.declared.subtree.Members.{Members}
-use Rattle.ix_walk.specs.declared.subtree.Waiting.{Waiting}
-use Rattle.ix_walk.specs.declared.subtree.Waiting.TheVariants as parts
+-- Items gone into, child by child.
+use Rattle.std.proofs.Common.{◌≡◌, ℕ, ◌-◌, ◌≤◌, Bool, true, false, List, [], ◌∷◌, ◌++◌, refl, sym, ◌∙◌, ap, subst, arith}
+use Rattle.std.specs.Prelude.{Option, Some, None, Ok, nat_lt, if◌then◌else◌}
+use Rattle.std.proofs.Math.Path.{fun_ext}
+use Rattle.std.proofs.lemmas.Bool.Decides.{nat_tests}
+use Rattle.ix_cbor.specs.declared.front.Front.{Front}
+use Rattle.ix_cbor.specs.declared.front.Front.TheVariants as fronts
+use Rattle.ix_cbor.specs.Data.{Data, Items, Entries, null, boolean, integer, float, bytes, text, link, item, entry, no_items, no_entries}
+use Rattle.ix_cbor.specs.Data as nodes
+use Rattle.ix_cbor.specs.Reading.{◌>>=◌, own_at, Own, item_at, items_at, entries_at, with_members}
+use Rattle.ix_cbor.specs.Fronts.{own_of_front}
+use Rattle.ix_cbor.proofs.Fronts.{item_at-above}
+use Rattle.ix_cbor.proofs.Deeper.{item_deeper, items_also, entries_also}
+use Rattle.ix_cbor.proofs.Steps.{bind_ok, ok_same, ok_data, as_list, as_map}
+use Rattle.ix_selector.specs.Enters.{Step}
+use Rattle.ix_selector.specs.Residual.{Place, residual_enters, IsBehind}
+use Rattle.ix_walk.specs.declared.subtree.Children.TheVariants.{Members, Values}
 use Rattle.ix_walk.specs.declared.subtree.Pending.{Pending}
-use Rattle.ix_walk.specs.declared.subtree.Found.{Found}
+use Rattle.ix_walk.specs.declared.subtree.Pending.TheVariants.{Link, Open}
+use Rattle.ix_walk.specs.declared.subtree.Opened.{Opened}
 use Rattle.ix_walk.specs.Arrivals.{Arrival, Inside}
-use Rattle.ix_walk.specs.Walking.{Test, Reach, reached_part, reach_from, Part, members, values, part_of, pending_arrivals, some_pending, stack_arrivals, NoDeeper, weight_of, part_weight, pending_weight, some_weight, stack_weight}
-use Rattle.ix_walk.specs.Descent.{child_arrivals, DepthIs, IsChild, is_spent, pushed, Opens, Keeps, Finds}
+use Rattle.ix_walk.specs.Walking.{Test, test_behind, reached_below, reached_part, reach_from, Part, to_cid, members, values, opened, all_arrivals, weight_of, part_weight, or_none, part_at}
+use Rattle.ix_walk.specs.Descent.{may_hold_links, waiting_for, Adds, node_arrivals, child_arrivals, IsNode, IsChild}
+use Rattle.ix_walk.proofs.Stands.{open_on}
 
--- ---- a stack
+-- ---- one item
 
-pub stack_push : (inside : Inside) (limit : ℕ) (ps : List Pending) (p : Pending) → stack_arrivals inside limit (ps ++ p ∷ []) ≡ pending_arrivals inside limit p ++ stack_arrivals inside limit ps
-stack_push inside limit [] p = sym (append-nil (pending_arrivals inside limit p))
-stack_push inside limit (x ∷ ps) p =
-    ap (λ (z : List Arrival). z ++ pending_arrivals inside limit x) (stack_push inside limit ps p)
-    ∙ append_assoc (pending_arrivals inside limit p) (stack_arrivals inside limit ps) (pending_arrivals inside limit x)
+abbrev no_arrivals : Inside → ℕ → List Arrival
+no_arrivals inside limit = []
 
-pub weight_push : (ps : List Pending) (p : Pending) → stack_weight (ps ++ p ∷ []) ≡ pending_weight p + stack_weight ps
-weight_push [] p = refl
-weight_push (x ∷ ps) p = let e = weight_push ps p in omega arith
+-- nothing waits, and there is nothing to arrive at
+pub adds_none : (arrivals : Inside → ℕ → List Arrival) (weight depth : ℕ) (rest : List ℕ) → ((inside : Inside) (limit : ℕ) → arrivals inside limit ≡ []) → Adds arrivals weight depth rest None rest
+adds_none arrivals weight depth rest nothing = λ ps old e. (
+  old,
+  e,
+  record {
+    first = λ inside limit. ap (λ z. z ++ all_arrivals inside limit old) (sym (nothing inside limit));
+    deep = λ bound h n. n;
+    light = omega arith;
+  },
+  refl,
+)
 
-pub deep_push : (bound : ℕ) (ps : List Pending) (p : Pending) → p.depth ≤ bound → NoDeeper bound ps → NoDeeper bound (ps ++ p ∷ [])
-deep_push bound [] p h n = (h, tt)
-deep_push bound (x ∷ ps) p h n = (n.0, deep_push bound ps p h n.1)
+-- a link waits
+adds_link : (places : List Place) (c : List ℕ) (depth : ℕ) (rest : List ℕ) → Adds (node_arrivals places (link c) depth) 1 depth rest (Some (Link (record { residual = places; cid = c; depth = depth }))) rest
+adds_link places c depth rest = λ ps old e. (
+  _,
+  ap (λ o. elim o [ None ↦ None | Some ss ↦ Some (record { places = places; part = to_cid c; depth = depth } ∷ ss) ]) e,
+  record {
+    first = λ inside limit. refl;
+    deep = λ bound h n. (h, n);
+    light = omega arith;
+  },
+  refl,
+)
 
-pub deep_pop : (bound : ℕ) (ps : List Pending) (p : Pending) → NoDeeper bound (ps ++ p ∷ []) → (p.depth ≤ bound) × NoDeeper bound ps
-deep_pop bound [] p n = (n.0, tt)
-deep_pop bound (x ∷ ps) p n = let more = deep_pop bound ps p n.1 in (more.0, (n.0, more.1))
+-- an open item waits
+pub adds_open : (o : Opened) (part : Part) (b rest : List ℕ) → part_at o.children b ≡ Some (part, rest)
+    → Adds (λ inside limit. reached_part (reach_from inside limit o.depth) (residual_enters o.residual) part) (part_weight part) o.depth rest (Some (Open o)) b
+adds_open o part b rest here = λ ps old e. (
+  opened o part ∷ old,
+  open_on b o ps part rest old here e,
+  record {
+    first = λ inside limit. refl;
+    deep = λ bound h n. (h, n);
+    light = omega arith;
+  },
+  refl,
+)
 
--- ---- a subtree
+-- so many members stand here
+pub members_here : (count left : ℕ) (b rest : List ℕ) (ds : Items) → left ≤ count → items_at (item_at 512) left b ≡ Ok (ds, rest) → part_at (Members count left) b ≡ Some (members (count - left) ds, rest)
+members_here count left b rest ds h e =
+    let fits : nat_lt count left ≡ false = not_below count left h in
+    ap (λ t. if t then None else or_none (items_at (item_at 512) left b >>= (λ ds. Ok (members (count - left) ds.0, ds.1)))) fits
+    ∙ ap (λ r. or_none (r >>= (λ ds. Ok (members (count - left) ds.0, ds.1)))) e where
+      not_below : (n k : ℕ) → k ≤ n → nat_lt n k ≡ false
+      not_below n k h = grind (arith, nat_tests)
 
--- a part is a child and what is left behind it
-pub record IsSplit (whole : Part) (t : Step) (d : Data) (rest : Part) : Type 0 where
-  pub arrivals : (cross : Reach) (enters : Test) → reached_part cross enters whole ≡ child_arrivals cross enters t d ++ reached_part cross enters rest
-  pub weight : weight_of d + part_weight rest < part_weight whole
+pub values_here : (left : ℕ) (b rest : List ℕ) (es : Entries) → entries_at (item_at 512) None left b ≡ Ok (es, rest) → part_at (Values left) b ≡ Some (values es, rest)
+values_here left b rest es e = ap (λ r. or_none (r >>= (λ es. Ok (values es.0, es.1)))) e
 
-member_split : (n : ℕ) (d : Data) (ds : Items) → IsSplit (members n (item d ds)) (nth n) d (members (n + 1) ds)
-member_split n d ds = record { arrivals = λ cross enters. refl; weight = omega arith }
+-- an item by its front: what is read where it stands
+item_by_front : (f : Front) (at behind rest : List ℕ) (d : Data) → own_at at ≡ Ok (own_of_front f, behind) → item_at 512 at ≡ Ok (d, rest)
+    → with_members (Some (item_at 511)) at (own_of_front f, behind) ≡ Ok (d, rest)
+item_by_front f at behind rest d own e =
+    ap (λ r. r >>= with_members (Some (item_at 511)) at) (sym own) ∙ sym (item_at-above 512 at (omega arith)) ∙ e
 
-value_split : (k : List ℕ) (d : Data) (es : Entries) → IsSplit (values (entry k d es)) (key k) d (values es)
-value_split k d es = record { arrivals = λ cross enters. refl; weight = omega arith }
+-- what an item without members is
+whole : (x d : Data) (behind rest : List ℕ) (P : Data → List ℕ → Type 0) → ok_data (x, behind) ≡ ok_data (d, rest) → P x behind → P d rest
+whole x d behind rest P e p = subst (λ (y : Data × List ℕ). P y.0 y.1) (ok_same (x, behind) (d, rest) e) p
 
--- the members of a list, the next one last
-pub members_split : (count place : ℕ) (xs rest : List Node) (d : Node) → xs ≡ rest ++ d ∷ [] → length xs ≤ count → place ≡ count - length rest - 1
-    → IsSplit (members (count - length xs) (items_of (map data_of (reverse xs)))) (nth place) (data_of d) (members (count - length rest) (items_of (map data_of (reverse rest))))
-members_split count place xs rest d e fits is =
-    let n : length xs ≡ length rest + 1 = ap length e ∙ length-append rest (d ∷ []) in
-    let first : place ≡ count - length xs = omega arith in
-    let next : place + 1 ≡ count - length rest = omega arith in
-    let items : items_of (map data_of (reverse xs)) ≡ item (data_of d) (items_of (map data_of (reverse rest))) =
-    ap (λ (l : List Node). items_of (map data_of (reverse l))) e ∙ ap (λ (l : List Node). items_of (map data_of l)) (reverse-append rest (d ∷ [])) in
-    let base : IsSplit (members place (item (data_of d) (items_of (map data_of (reverse rest))))) (nth place) (data_of d) (members (place + 1) (items_of (map data_of (reverse rest)))) =
-    member_split place (data_of d) (items_of (map data_of (reverse rest))) in
-    let one : IsSplit (members place (item (data_of d) (items_of (map data_of (reverse rest))))) (nth place) (data_of d) (members (count - length rest) (items_of (map data_of (reverse rest)))) =
-    subst (λ (m : ℕ). IsSplit (members place (item (data_of d) (items_of (map data_of (reverse rest))))) (nth place) (data_of d) (members m (items_of (map data_of (reverse rest))))) next base in
-    let two : IsSplit (members (count - length xs) (item (data_of d) (items_of (map data_of (reverse rest))))) (nth place) (data_of d) (members (count - length rest) (items_of (map data_of (reverse rest)))) =
-    subst (λ (m : ℕ). IsSplit (members m (item (data_of d) (items_of (map data_of (reverse rest))))) (nth place) (data_of d) (members (count - length rest) (items_of (map data_of (reverse rest))))) first one in
-    subst (λ (i : Items). IsSplit (members (count - length xs) i) (nth place) (data_of d) (members (count - length rest) (items_of (map data_of (reverse rest))))) (sym items) two
+-- a list whose members are read
+list_waits : (places : List Place) (depth n : ℕ) (behind rest : List ℕ) (d : Data) → (items_at (item_at 511) n behind >>= as_list) ≡ Ok (d, rest)
+    → Adds (node_arrivals places d depth) (weight_of d) depth rest (Some (Open (record { residual = places; children = Members n n; depth = depth }))) behind
+list_waits places depth n behind rest d e =
+    let m = bind_ok (items_at (item_at 511) n behind) as_list (d, rest) e in
+    let o : Opened = record { residual = places; children = Members n n; depth = depth } in
+    let z : n - n ≡ 0 = omega arith in
+    let here = members_here n n behind m.0.1 m.0.0 (omega arith) (items_also (item_at 511) (item_at 512) (item_deeper 511) n behind m.0 m.1) in
+    let first : part_at (Members n n) behind ≡ Some (members 0 m.0.0, m.0.1) = here ∙ ap (λ k. Some (members k m.0.0, m.0.1)) z in
+    whole (nodes.list m.0.0) d m.0.1 rest
+    (λ x l. Adds (node_arrivals places x depth) (weight_of x) depth l (Some (Open (record { residual = places; children = Members n n; depth = depth }))) behind) m.2
+    (adds_open (record { residual = places; children = Members n n; depth = depth }) (members 0 m.0.0) behind m.0.1 first)
 
--- the values of a map, the next one last
-pub values_split : (xs rest : List (Vec ℕ × Node)) (k : Vec ℕ) (d : Node) → xs ≡ rest ++ (k, d) ∷ []
-    → IsSplit (values (entries_of (map entry_of (reverse xs)))) (key k.items) (data_of d) (values (entries_of (map entry_of (reverse rest))))
-values_split xs rest k d e =
-    let entries : entries_of (map entry_of (reverse xs)) ≡ entry k.items (data_of d) (entries_of (map entry_of (reverse rest))) =
-    ap (λ (l : List (Vec ℕ × Node)). entries_of (map entry_of (reverse l))) e ∙ ap (λ (l : List (Vec ℕ × Node)). entries_of (map entry_of l)) (reverse-append rest ((k, d) ∷ [])) in
-    subst (λ (i : Entries). IsSplit (values i) (key k.items) (data_of d) (values (entries_of (map entry_of (reverse rest))))) (sym entries) (value_split k.items (data_of d) (entries_of (map entry_of (reverse rest))))
+-- a map whose keys and values are read
+map_waits : (places : List Place) (depth n : ℕ) (behind rest : List ℕ) (d : Data) → (entries_at (item_at 511) None n behind >>= as_map) ≡ Ok (d, rest)
+    → Adds (node_arrivals places d depth) (weight_of d) depth rest (Some (Open (record { residual = places; children = Values n; depth = depth }))) behind
+map_waits places depth n behind rest d e =
+    let m = bind_ok (entries_at (item_at 511) None n behind) as_map (d, rest) e in
+    let here = values_here n behind m.0.1 m.0.0 (entries_also (item_at 511) (item_at 512) (item_deeper 511) None n behind m.0 m.1) in
+    whole (nodes.map m.0.0) d m.0.1 rest
+    (λ x l. Adds (node_arrivals places x depth) (weight_of x) depth l (Some (Open (record { residual = places; children = Values n; depth = depth }))) behind) m.2
+    (adds_open (record { residual = places; children = Values n; depth = depth }) (values m.0.0) behind m.0.1 here)
 
--- a list of no length
-none_in : {A : Type 0} (xs : List A) → eqb (length xs) 0 ≡ true → xs ≡ []
-none_in xs h = nil_from_length xs (eqb-true (length xs) 0 h)
+-- an item without links
+flat_waits : (places : List Place) (depth : ℕ) (x d : Data) (behind rest : List ℕ) → ((inside : Inside) (limit : ℕ) → node_arrivals places x depth inside limit ≡ []) → ok_data (x, behind) ≡ ok_data (d, rest)
+    → Adds (node_arrivals places d depth) (weight_of d) depth rest None behind
+flat_waits places depth x d behind rest nothing e =
+    whole x d behind rest (λ y l. Adds (node_arrivals places y depth) (weight_of y) depth l None behind) e (adds_none (node_arrivals places x depth) (weight_of x) depth behind nothing)
 
--- what is spent has no arrivals
-spent_arrivals : (cross : Reach) (enters : Test) (w : Waiting) → is_spent w ≡ true → reached_part cross enters (part_of w) ≡ []
-spent_arrivals cross enters (parts.Link c) h = absurd cc
-spent_arrivals cross enters (parts.Members m) h =
-    ap (λ (l : List Node). reached_part cross enters (members (m.count - length m.rest.items) (items_of (map data_of (reverse l))))) (none_in m.rest.items h)
-spent_arrivals cross enters (parts.Values rest) h =
-    ap (λ (l : List (Vec ℕ × Node)). reached_part cross enters (values (entries_of (map entry_of (reverse l))))) (none_in rest.items h)
+by_front : (f : Front) (places : List Place) (depth : ℕ) (at behind rest : List ℕ) (d : Data) → with_members (Some (item_at 511)) at (own_of_front f, behind) ≡ Ok (d, rest)
+    → Adds (node_arrivals places d depth) (weight_of d) depth rest (waiting_for places f depth) behind
+by_front fronts.Null places depth at behind rest d e = flat_waits places depth null d behind rest (λ inside limit. refl) e
+by_front (fronts.Bool b) places depth at behind rest d e = flat_waits places depth (boolean b) d behind rest (λ inside limit. refl) e
+by_front (fronts.Int n) places depth at behind rest d e = flat_waits places depth (integer n) d behind rest (λ inside limit. refl) e
+by_front (fronts.Bits64 bits) places depth at behind rest d e = flat_waits places depth (float bits) d behind rest (λ inside limit. refl) e
+by_front (fronts.Bytes b) places depth at behind rest d e = flat_waits places depth (bytes b.now) d behind rest (λ inside limit. refl) e
+by_front (fronts.Text t) places depth at behind rest d e = flat_waits places depth (text t.now) d behind rest (λ inside limit. refl) e
+by_front (fronts.Link c) places depth at behind rest d e =
+    whole (link c.now) d behind rest
+    (λ x l. Adds (node_arrivals places x depth) (weight_of x) depth l (Some (Link (record { residual = places; cid = c.now; depth = depth }))) behind) e (adds_link places c.now depth behind)
+by_front (fronts.List n) places depth at behind rest d e = list_waits places depth n behind rest d e
+by_front (fronts.Map n) places depth at behind rest d e = map_waits places depth n behind rest d e
 
--- a stack with the rest of a subtree, unless that is spent
-abbrev kept_rest : List Pending → Pending → List Pending
-kept_rest old rest = if is_spent rest.waiting then old else old ++ rest ∷ []
+-- what waits behind the front of an item that is entered
+pub node_waits : (f : Front) (places : List Place) (depth : ℕ) (at behind : List ℕ) → own_at at ≡ Ok (own_of_front f, behind) → IsNode places at depth (waiting_for places f depth, behind)
+node_waits f places depth at behind own = λ d rest e. by_front f places depth at behind rest d (item_by_front f at behind rest d own e)
 
-rest_arrivals : (inside : Inside) (limit : ℕ) (old : List Pending) (rest : Pending) → stack_arrivals inside limit (kept_rest old rest) ≡ pending_arrivals inside limit rest ++ stack_arrivals inside limit old
-rest_arrivals inside limit old rest =
-    let by : (b : Bool) → is_spent rest.waiting ≡ b → stack_arrivals inside limit (if b then old else old ++ rest ∷ []) ≡ pending_arrivals inside limit rest ++ stack_arrivals inside limit old = λ b.
-    elim b as (λ v. is_spent rest.waiting ≡ v → stack_arrivals inside limit (if v then old else old ++ rest ∷ []) ≡ pending_arrivals inside limit rest ++ stack_arrivals inside limit old) [
-      | true ↦ (λ h. ap (λ (z : List Arrival). z ++ stack_arrivals inside limit old) (sym (spent_arrivals (reach_from inside limit rest.depth) (residual_enters rest.residual) rest.waiting h)))
-      | false ↦ (λ h. stack_push inside limit old rest)
-    ] in
-    by (is_spent rest.waiting) refl
+-- ---- a child
 
-rest_weight : (old : List Pending) (rest : Pending) → stack_weight (kept_rest old rest) ≤ pending_weight rest + stack_weight old
-rest_weight old rest =
-    elim (is_spent rest.waiting) as (λ b. stack_weight (if b then old else old ++ rest ∷ []) ≤ pending_weight rest + stack_weight old) [
-      | true ↦ omega arith
-      | false ↦ (let e = weight_push old rest in omega arith)
-    ]
+-- a child that is entered has what is below it
+entered_is : (places more : List Place) (t : Step) (d : Data) (depth : ℕ) → IsBehind places t (Some more) → (inside : Inside) (limit : ℕ)
+    → node_arrivals more d depth inside limit ≡ child_arrivals (reach_from inside limit depth) (residual_enters places) t d
+entered_is places more t d depth is inside limit =
+    ap (λ (e : Test). reached_below (reach_from inside limit depth) e d) (fun_ext is.1)
+    ∙ sym (ap (λ (b : Bool). if b then reached_below (reach_from inside limit depth) (test_behind (residual_enters places) t) d else []) is.0)
 
-rest_deep : (bound : ℕ) (old : List Pending) (rest : Pending) → rest.depth ≤ bound → NoDeeper bound old → NoDeeper bound (kept_rest old rest)
-rest_deep bound old rest h n =
-    elim (is_spent rest.waiting) as (λ b. NoDeeper bound (if b then old else old ++ rest ∷ []))
-    [ true ↦ n | false ↦ deep_push bound old rest h n ]
+-- a child that isn't has nothing
+apart_is : (places : List Place) (t : Step) (d : Data) (depth : ℕ) → IsBehind places t None → (inside : Inside) (limit : ℕ) → child_arrivals (reach_from inside limit depth) (residual_enters places) t d ≡ []
+apart_is places t d depth is inside limit = ap (λ (b : Bool). if b then reached_below (reach_from inside limit depth) (test_behind (residual_enters places) t) d else []) is
 
-pushed_arrivals : (inside : Inside) (limit : ℕ) (old : List Pending) (rest : Pending) (o : Option Pending)
-    → stack_arrivals inside limit (pushed old rest o) ≡ some_pending inside limit o ++ (pending_arrivals inside limit rest ++ stack_arrivals inside limit old)
-pushed_arrivals inside limit old rest None = ap (stack_arrivals inside limit) (append-nil (kept_rest old rest)) ∙ rest_arrivals inside limit old rest
-pushed_arrivals inside limit old rest (Some child) =
-    stack_push inside limit (kept_rest old rest) child ∙ ap (λ (z : List Arrival). pending_arrivals inside limit child ++ z) (rest_arrivals inside limit old rest)
+-- the same arrivals in other words
+adds_same : (arrivals others : Inside → ℕ → List Arrival) (weight depth : ℕ) (rest : List ℕ) (o : Option Pending) (at : List ℕ) → ((inside : Inside) (limit : ℕ) → arrivals inside limit ≡ others inside limit)
+    → Adds arrivals weight depth rest o at → Adds others weight depth rest o at
+adds_same arrivals others weight depth rest o at same adds = λ ps old e.
+    let a = adds ps old e in (
+      a.0,
+      a.1,
+      record {
+        first = λ inside limit. a.2.first inside limit ∙ ap (λ z. z ++ all_arrivals inside limit old) (same inside limit);
+        deep = a.2.deep;
+        light = a.2.light;
+      },
+      a.3,
+    )
 
-pushed_weight : (old : List Pending) (rest : Pending) (o : Option Pending) → stack_weight (pushed old rest o) ≤ some_weight o + pending_weight rest + stack_weight old
-pushed_weight old rest None = let e = ap stack_weight (append-nil (kept_rest old rest)) in let f = rest_weight old rest in omega arith
-pushed_weight old rest (Some child) = let e = weight_push (kept_rest old rest) child in let f = rest_weight old rest in omega arith
+pub child_entered : (f : Front) (places more : List Place) (t : Step) (depth : ℕ) (at behind : List ℕ) → own_at at ≡ Ok (own_of_front f, behind) → IsBehind places t (Some more)
+    → IsChild places t at depth (waiting_for more f depth, behind)
+child_entered f places more t depth at behind own is = λ d rest e.
+    adds_same (node_arrivals more d depth) (λ inside limit. child_arrivals (reach_from inside limit depth) (residual_enters places) t d) (weight_of d) depth rest (waiting_for more f depth) behind
+    (entered_is places more t d depth is) (node_waits f more depth at behind own d rest e)
 
-pushed_deep : (bound depth : ℕ) (old : List Pending) (rest : Pending) (o : Option Pending) → rest.depth ≤ bound → rest.depth ≡ depth → DepthIs depth o → NoDeeper bound old → NoDeeper bound (pushed old rest o)
-pushed_deep bound depth old rest None h e is n = subst (NoDeeper bound) (sym (append-nil (kept_rest old rest))) (rest_deep bound old rest h n)
-pushed_deep bound depth old rest (Some child) h e is n = deep_push bound (kept_rest old rest) child (omega arith) (rest_deep bound old rest h n)
+pub child_apart : (places : List Place) (t : Step) (depth : ℕ) (at end : List ℕ) → ((d : Data) (rest : List ℕ) → item_at 512 at ≡ Ok (d, rest) → end ≡ rest) → IsBehind places t None
+    → IsChild places t at depth (None, end)
+child_apart places t depth at end ends is = λ d rest e.
+    subst (λ l. Adds (λ inside limit. child_arrivals (reach_from inside limit depth) (residual_enters places) t d) (weight_of d) depth rest None l) (sym (ends d rest e))
+    (adds_none (λ inside limit. child_arrivals (reach_from inside limit depth) (residual_enters places) t d) (weight_of d) depth rest (apart_is places t d depth is))
 
--- what is left of a subtree and a child of it, put on the stack
-pub split_opens : (places : List Place) (depth : ℕ) (whole rest : Waiting) (t : Step) (d : Data) (o : Option Pending) (old new : List Pending)
-    → IsSplit (part_of whole) t d (part_of rest) → IsChild places t d depth o
-    → new ≡ pushed old (record { residual = places; waiting = rest; depth = depth }) o
-    → Opens (record { residual = places; waiting = whole; depth = depth }) old None new
-split_opens places depth whole rest t d o old new split child is =
-    let behind : Pending = record { residual = places; waiting = rest; depth = depth } in
-    let opens : Opens (record { residual = places; waiting = whole; depth = depth }) old None (pushed old (record { residual = places; waiting = rest; depth = depth }) o) = record {
-      arrivals = λ inside limit.
-          ap (λ (z : List Arrival). z ++ stack_arrivals inside limit old) (split.arrivals (reach_from inside limit depth) (residual_enters places))
-          ∙ ap (λ (z : List Arrival). (z ++ reached_part (reach_from inside limit depth) (residual_enters places) (part_of rest)) ++ stack_arrivals inside limit old) (sym (child.arrivals inside limit))
-          ∙ append_assoc (some_pending inside limit o) (reached_part (reach_from inside limit depth) (residual_enters places) (part_of rest)) (stack_arrivals inside limit old)
-          ∙ sym (pushed_arrivals inside limit old (record { residual = places; waiting = rest; depth = depth }) o);
-      deep = λ bound h n. (tt, pushed_deep bound depth old (record { residual = places; waiting = rest; depth = depth }) o h refl child.deep n);
-      weight = let e = pushed_weight old (record { residual = places; waiting = rest; depth = depth }) o in let w = split.weight in let v = child.weight in omega arith;
-    } in
-    subst (λ (n : List Pending). Opens (record { residual = places; waiting = whole; depth = depth }) old None n) (sym is) opens
+-- an item in which no link can be has nothing, whether it is entered or not
+when_flat : (b : Bool) (xs : List Arrival) → xs ≡ [] → (if b then xs else []) ≡ []
+when_flat true xs e = e
+when_flat false xs e = refl
 
--- a link is found
-pub link_opens : (places : List Place) (depth : ℕ) (c : List ℕ) (old : List Pending)
-    → Opens (record { residual = places; waiting = parts.Link c; depth = depth }) old (Some (record { residual = places; cid = c; depth = depth })) old
-link_opens places depth c old = record { arrivals = λ inside limit. refl; deep = λ bound h n. (h, n); weight = omega arith }
+flat_child : (places : List Place) (t : Step) (depth : ℕ) (x d : Data) (behind rest : List ℕ) → ((inside : Inside) (limit : ℕ) (e : Test) → reached_below (reach_from inside limit depth) e x ≡ []) → ok_data (x, behind) ≡ ok_data (d, rest)
+    → Adds (λ inside limit. child_arrivals (reach_from inside limit depth) (residual_enters places) t d) (weight_of d) depth rest None behind
+flat_child places t depth x d behind rest nothing e =
+    whole x d behind rest (λ y l. Adds (λ inside limit. child_arrivals (reach_from inside limit depth) (residual_enters places) t y) (weight_of y) depth l None behind) e
+    (adds_none (λ inside limit. child_arrivals (reach_from inside limit depth) (residual_enters places) t x) (weight_of x) depth behind
+    (λ inside limit. when_flat (residual_enters places (t ∷ [])) _ (nothing inside limit (test_behind (residual_enters places) t))))
 
--- ---- many subtrees
+flat_front : (f : Front) (places : List Place) (t : Step) (depth : ℕ) (at behind rest : List ℕ) (d : Data) → may_hold_links f ≡ false → with_members (Some (item_at 511)) at (own_of_front f, behind) ≡ Ok (d, rest)
+    → Adds (λ inside limit. child_arrivals (reach_from inside limit depth) (residual_enters places) t d) (weight_of d) depth rest None behind
+flat_front fronts.Null places t depth at behind rest d flat e = flat_child places t depth null d behind rest (λ inside limit f. refl) e
+flat_front (fronts.Bool b) places t depth at behind rest d flat e = flat_child places t depth (boolean b) d behind rest (λ inside limit f. refl) e
+flat_front (fronts.Int n) places t depth at behind rest d flat e = flat_child places t depth (integer n) d behind rest (λ inside limit f. refl) e
+flat_front (fronts.Bits64 bits) places t depth at behind rest d flat e = flat_child places t depth (float bits) d behind rest (λ inside limit f. refl) e
+flat_front (fronts.Bytes b) places t depth at behind rest d flat e = flat_child places t depth (bytes b.now) d behind rest (λ inside limit f. refl) e
+flat_front (fronts.Text s) places t depth at behind rest d flat e = flat_child places t depth (text s.now) d behind rest (λ inside limit f. refl) e
+flat_front (fronts.Link c) places t depth at behind rest d flat e = absurd cc
+flat_front (fronts.List n) places t depth at behind rest d flat e = absurd cc
+flat_front (fronts.Map n) places t depth at behind rest d flat e = absurd cc
 
--- the last one was taken apart, and no link was found in it
-pub opens_keeps : (first stack ps new : List Pending) (p : Pending) → stack ≡ ps ++ p ∷ [] → Opens p ps None new → Keeps first stack → Keeps first new
-opens_keeps first stack ps new p e opens keeps = record {
-  arrivals = λ inside limit.
-      keeps.arrivals inside limit ∙ ap (stack_arrivals inside limit) e ∙ stack_push inside limit ps p ∙ opens.arrivals inside limit;
-  deep = λ bound n.
-      let taken = deep_pop bound ps p (subst (NoDeeper bound) e (keeps.deep bound n)) in
-      (opens.deep bound taken.0 taken.1).1;
-}
+pub child_flat : (f : Front) (places : List Place) (t : Step) (depth : ℕ) (at behind : List ℕ) → own_at at ≡ Ok (own_of_front f, behind) → may_hold_links f ≡ false → IsChild places t at depth (None, behind)
+child_flat f places t depth at behind own flat = λ d rest e. flat_front f places t depth at behind rest d flat (item_by_front f at behind rest d own e)
 
--- a link was found in it
-pub opens_finds : (first stack ps new : List Pending) (p : Pending) (f : Found) → stack ≡ ps ++ p ∷ [] → Opens p ps (Some f) new → Keeps first stack → Finds first (Some f) new
-opens_finds first stack ps new p f e opens keeps = record {
-  arrivals = λ inside limit.
-      keeps.arrivals inside limit ∙ ap (stack_arrivals inside limit) e ∙ stack_push inside limit ps p ∙ opens.arrivals inside limit;
-  deep = λ bound n.
-      let taken = deep_pop bound ps p (subst (NoDeeper bound) e (keeps.deep bound n)) in
-      opens.deep bound taken.0 taken.1;
-  ends = tt;
-}
+-- an item is there only where its front is
+pub item_has_front : (b : List ℕ) (x : Data × List ℕ) → item_at 512 b ≡ Ok x → (own : Own × List ℕ) × (own_at b ≡ Ok own)
+item_has_front b x e =
+    let m = bind_ok (own_at b) (with_members (Some (item_at 511)) b) x (sym (item_at-above 512 b (omega arith)) ∙ e) in (m.0, m.1)
 
--- it waits for less
-pub opens_lighter : (stack ps new : List Pending) (p : Pending) (o : Option Found) → stack ≡ ps ++ p ∷ [] → Opens p ps o new → stack_weight new < stack_weight stack
-opens_lighter stack ps new p o e opens =
-    let w = opens.weight in
-    let v : stack_weight stack ≡ pending_weight p + stack_weight ps = ap stack_weight e ∙ weight_push ps p in
-    omega arith
+-- an item without members ends where its front does
+whole_ends : (x d : Data) (behind rest : List ℕ) → ok_data (x, behind) ≡ ok_data (d, rest) → behind ≡ rest
+whole_ends x d behind rest e = ap (λ (y : Data × List ℕ). y.1) (ok_same (x, behind) (d, rest) e)
 
--- ---- in the words of the calls
+ends_by : (f : Front) (at behind rest : List ℕ) (d : Data) → ((n : ℕ) → f ≡ fronts.List n → ⊥) → ((n : ℕ) → f ≡ fronts.Map n → ⊥) → with_members (Some (item_at 511)) at (own_of_front f, behind) ≡ Ok (d, rest) → behind ≡ rest
+ends_by fronts.Null at behind rest d not_list not_map e = whole_ends null d behind rest e
+ends_by (fronts.Bool b) at behind rest d not_list not_map e = whole_ends (boolean b) d behind rest e
+ends_by (fronts.Int n) at behind rest d not_list not_map e = whole_ends (integer n) d behind rest e
+ends_by (fronts.Bits64 bits) at behind rest d not_list not_map e = whole_ends (float bits) d behind rest e
+ends_by (fronts.Bytes b) at behind rest d not_list not_map e = whole_ends (bytes b.now) d behind rest e
+ends_by (fronts.Text s) at behind rest d not_list not_map e = whole_ends (text s.now) d behind rest e
+ends_by (fronts.Link c) at behind rest d not_list not_map e = whole_ends (link c.now) d behind rest e
+ends_by (fronts.List n) at behind rest d not_list not_map e = absurd (not_list n refl)
+ends_by (fronts.Map n) at behind rest d not_list not_map e = absurd (not_map n refl)
 
-on_ok : {E : Type 0} (r : Result (Unit {0}) E) (P Q : Type 0) → (P → Q) → OnOk r P → OnOk r Q
-on_ok (Ok u) P Q f h = f h
-on_ok (Err e) P Q f h = tt
-
-pub members_open : {E : Type 0} (r : Result (Unit {0}) E) (places : List Place) (depth place : ℕ) (m rest : Members) (d : Node) (o : Option Pending) (old new : List Pending)
-    → OnOk r (new ≡ pushed old (record { residual = places; waiting = parts.Members rest; depth = depth }) o)
-    → m.rest.items ≡ rest.rest.items ++ d ∷ [] → rest.count ≡ m.count → place ≡ m.count - length rest.rest.items - 1 → IsChild places (nth place) (data_of d) depth o
-    → OnOk r (Opens (record { residual = places; waiting = parts.Members m; depth = depth }) old None new)
-members_open r places depth place m rest d o old new made items counts is child =
-    let fits : length m.rest.items ≤ m.count = omega (arith, m.fits, m.rest.ok.0) in
-    let split : IsSplit (members (m.count - length m.rest.items) (items_of (map data_of (reverse m.rest.items)))) (nth place) (data_of d) (members (rest.count - length rest.rest.items) (items_of (map data_of (reverse rest.rest.items)))) =
-    subst (λ (n : ℕ). IsSplit (members (m.count - length m.rest.items) (items_of (map data_of (reverse m.rest.items)))) (nth place) (data_of d) (members (n - length rest.rest.items) (items_of (map data_of (reverse rest.rest.items))))) (sym counts)
-    (members_split m.count place m.rest.items rest.rest.items d items fits is) in
-    on_ok r _ _ (λ e. split_opens places depth (parts.Members m) (parts.Members rest) (nth place) (data_of d) o old new split child e) made
-
-pub values_open : {E : Type 0} (r : Result (Unit {0}) E) (places : List Place) (depth : ℕ) (vs rest : Vec (Vec ℕ × Node)) (k : Vec ℕ) (l : List ℕ) (d : Node) (o : Option Pending) (old new : List Pending)
-    → OnOk r (new ≡ pushed old (record { residual = places; waiting = parts.Values rest; depth = depth }) o)
-    → vs.items ≡ rest.items ++ (k, d) ∷ [] → l ≡ k.items → IsChild places (key l) (data_of d) depth o
-    → OnOk r (Opens (record { residual = places; waiting = parts.Values vs; depth = depth }) old None new)
-values_open r places depth vs rest k l d o old new made items named child =
-    let same : IsChild places (key k.items) (data_of d) depth o = subst (λ (j : List ℕ). IsChild places (key j) (data_of d) depth o) named child in
-    on_ok r _ _ (λ e. split_opens places depth (parts.Values vs) (parts.Values rest) (key k.items) (data_of d) o old new (values_split vs.items rest.items k d items) same e) made
+pub leaf_ends : (f : Front) (at behind : List ℕ) → own_at at ≡ Ok (own_of_front f, behind) → ((n : ℕ) → f ≡ fronts.List n → ⊥) → ((n : ℕ) → f ≡ fronts.Map n → ⊥) → (d : Data) (rest : List ℕ) → item_at 512 at ≡ Ok (d, rest) → behind ≡ rest
+leaf_ends f at behind own not_list not_map d rest e = ends_by f at behind rest d not_list not_map (item_by_front f at behind rest d own e)

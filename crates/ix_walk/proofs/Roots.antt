@@ -1,77 +1,75 @@
 -- Arriving at a link: its visit, and the root behind it.
-use Rattle.std.proofs.Common.{◌≡◌, ℕ, suc, ◌+◌, ◌-◌, Bool, List, [], ◌∷◌, ◌++◌, refl, sym, ◌∙◌, ap, subst, arith}
-use Rattle.std.specs.Prelude.{Option, Some, None}
-use Rattle.ix_cbor.specs.Data as nodes
-use Rattle.ix_cbor.specs.Data.{Data, null, boolean, integer, float, bytes, text, list, link}
+use Rattle.std.proofs.Common.{◌≡◌, ℕ, suc, ◌+◌, ◌-◌, Bool, List, [], ◌∷◌, ◌++◌, reverse, refl, sym, ◌∙◌, ap, arith}
+use Rattle.std.specs.Prelude.{Option, Some, None, Ok, option_to_list}
+use Rattle.ix_cbor.specs.Reading.{◌>>=◌}
 use Rattle.ix_selector.specs.Residual.{Place, residual_enters}
-use Rattle.ix_walk.specs.declared.subtree.Waiting.{Waiting}
+use Rattle.ix_walk.specs.declared.subtree.Children.TheVariants.{Item}
 use Rattle.ix_walk.specs.declared.subtree.Pending.{Pending}
+use Rattle.ix_walk.specs.declared.subtree.Pending.TheVariants.{Open}
+use Rattle.ix_walk.specs.declared.subtree.Trail.{Trail}
 use Rattle.ix_walk.specs.Arrivals.{Arrival, when_some}
 use Rattle.ix_walk.specs.Store.{Blocks, position_of, value_of}
-use Rattle.ix_walk.specs.Walking.{Test, Reach, arrival, reached_below, reached_at, reached_part, reach_from, Part, to_cid, members, values, part_of, part_below, stack_arrivals, NoDeeper}
-use Rattle.ix_walk.specs.Arriving.{IsReading, Roots, Arrives}
-use Rattle.ix_walk.proofs.Parts.{stack_push, deep_push}
-
--- what is below a node is what is in its part
-below_is : (cross : Reach) (enters : Test) (d : Data) (x : Part) → Some x ≡ part_below d → reached_part cross enters x ≡ reached_below cross enters d
-below_is cross enters null x e = cc
-below_is cross enters (boolean b) x e = cc
-below_is cross enters (integer n) x e = cc
-below_is cross enters (float bits) x e = cc
-below_is cross enters (bytes b) x e = cc
-below_is cross enters (text t) x e = cc
-below_is cross enters (list ds) x e = let f : x ≡ members 0 ds = cc in ap (reached_part cross enters) f
-below_is cross enters (nodes.map es) x e = let f : x ≡ values es = cc in ap (reached_part cross enters) f
-below_is cross enters (link c) x e = let f : x ≡ to_cid c = cc in ap (reached_part cross enters) f
-
-nothing_below : (cross : Reach) (enters : Test) (d : Data) → None ≡ part_below d → [] ≡ reached_below cross enters d
-nothing_below cross enters null e = refl
-nothing_below cross enters (boolean b) e = refl
-nothing_below cross enters (integer n) e = refl
-nothing_below cross enters (float bits) e = refl
-nothing_below cross enters (bytes b) e = refl
-nothing_below cross enters (text t) e = refl
-nothing_below cross enters (list ds) e = cc
-nothing_below cross enters (nodes.map es) e = cc
-nothing_below cross enters (link c) e = cc
+use Rattle.ix_walk.specs.Walking.{arrival, reached_at, node, Subtree, all_arrivals, NoDeeper, or_none, part_at, stands, trail_stands}
+use Rattle.ix_walk.specs.Descent.{node_arrivals}
+use Rattle.ix_walk.specs.Arriving.{IsReading, IsBack, Roots, Arrives}
+use Rattle.ix_walk.proofs.Blocks.{item_of_block}
+use Rattle.ix_walk.proofs.Stands.{open_on, reversed_both}
 
 -- there is no root
-pub roots_none : (places : List Place) (depth : ℕ) (old : List Pending) → Roots places None depth old old
-roots_none places depth old = record { arrivals = λ inside limit. refl; deep = λ bound h n. n }
+pub roots_none : (places : List Place) (depth : ℕ) (t : Trail) → Roots places None depth t t
+roots_none places depth t = λ value is ss e. (
+  ss,
+  e,
+  record {
+    arrivals = λ inside limit. sym (ap (λ v. when_some v (λ d. node_arrivals places d depth inside limit) ++ all_arrivals inside limit ss) is);
+    deep = λ bound h n. n;
+  },
+)
 
--- no link can be in the root
-pub roots_flat : (places : List Place) (d : Data) (depth : ℕ) (old : List Pending) → None ≡ part_below d → Roots places (Some d) depth old old
-roots_flat places d depth old e = record {
-  arrivals = λ inside limit. ap (λ (z : List Arrival). z ++ stack_arrivals inside limit old) (nothing_below (reach_from inside limit depth) (residual_enters places) d e);
-  deep = λ bound h n. n;
-}
+-- the way back stands where the walk stood, whatever comes before it
+pub back_of_none : (at rest : List ℕ) → stands rest [] ≡ stands at []
+back_of_none at rest = refl
 
-pub roots_push : (places : List Place) (d : Data) (depth : ℕ) (w : Waiting) (old new : List Pending) → Some (part_of w) ≡ part_below d
-    → new ≡ old ++ (record { residual = places; waiting = w; depth = depth }) ∷ [] → Roots places (Some d) depth old new
-roots_push places d depth w old new e is = record {
-  arrivals = λ inside limit.
-      ap (stack_arrivals inside limit) is ∙ stack_push inside limit old (record { residual = places; waiting = w; depth = depth })
-      ∙ ap (λ (z : List Arrival). z ++ stack_arrivals inside limit old) (below_is (reach_from inside limit depth) (residual_enters places) d (part_of w) e);
-  deep = λ bound h n. subst (NoDeeper bound) (sym is) (deep_push bound old (record { residual = places; waiting = w; depth = depth }) h n);
-}
+-- a root above the way back
+pub roots_some : (places : List Place) (b : List ℕ) (depth : ℕ) (back : Option Pending) (old new : Trail) → IsBack old back → new.at.now ≡ b
+    → new.stack.items ≡ (old.stack.items ++ option_to_list back) ++ Open (record { residual = places; children = Item; depth = depth }) ∷ []
+    → Roots places (Some b) depth old new
+roots_some places b depth back old new is_back at_is pushed = λ value is ss e.
+    let d = is.0 in
+    let ps = option_to_list back ++ reverse old.stack.items in
+    let here : part_at Item b ≡ Some (node d, []) = ap (λ r. or_none (r >>= (λ x. Ok (node x.0, x.1)))) (item_of_block b d is.2) in
+    let behind : stands [] ps ≡ Some ss = is_back [] ∙ e in
+    let on = open_on b (record { residual = places; children = Item; depth = depth }) ps (node d) [] ss here behind in
+    let all : trail_stands new ≡ stands b (Open (record { residual = places; children = Item; depth = depth }) ∷ ps) =
+    ap (λ l. stands l (reverse new.stack.items)) at_is ∙ ap (stands b) (reversed_both new.stack.items old.stack.items back (Some (Open (record { residual = places; children = Item; depth = depth }))) pushed) in (
+      _,
+      all ∙ on,
+      record {
+        arrivals = λ inside limit. sym (ap (λ v. when_some v (λ d. node_arrivals places d depth inside limit) ++ all_arrivals inside limit ss) is.1);
+        deep = λ bound h n. (h, n);
+      },
+    )
 
-deep_more : (bound : ℕ) (ps : List Pending) → NoDeeper bound ps → NoDeeper (bound + 1) ps
+deep_more : (bound : ℕ) (ss : List Subtree) → NoDeeper bound ss → NoDeeper (bound + 1) ss
 deep_more bound [] n = tt
-deep_more bound (p ∷ ps) n = (let h = n.0 in omega arith, deep_more bound ps n.1)
+deep_more bound (s ∷ ss) n = (let h = n.0 in omega arith, deep_more bound ss n.1)
 
--- a visit, and the root behind it on the stack
-pub arrives : (store : Blocks) (number seq : ℕ) (places : List Place) (depth : ℕ) (c : List ℕ) (block : Option ℕ) (value : Option Data) (malformed : Bool) (old new : List Pending)
-    → block ≡ position_of store c → IsReading store c value malformed → Roots places value (depth + 1) old new
+-- a visit, and the root behind it
+pub arrives : (store : Blocks) (number seq : ℕ) (places : List Place) (depth : ℕ) (c : List ℕ) (block : Option ℕ) (bytes : Option (List ℕ)) (malformed : Bool) (old new : Trail)
+    → block ≡ position_of store c → IsReading store c bytes malformed → Roots places bytes (depth + 1) old new
     → Arrives store number seq (record { residual = places; cid = c; depth = depth }) old (record { job = number; seq = seq; depth = depth; cid = c; block = block; malformed = malformed }) new
-arrives store number seq places depth c block value malformed old new found reading roots = record {
-  visit =
-      ap (λ (b : Option ℕ). record { job = number; seq = seq; depth = depth; cid = c; block = b; malformed = malformed }) found
-      ∙ ap (λ (m : Bool). record { job = number; seq = seq; depth = depth; cid = c; block = position_of store c; malformed = m }) reading.1;
-  arrivals = λ limit lt.
-      let k : limit - depth ≡ suc (limit - (depth + 1)) = omega arith in
-      ap (λ (n : ℕ). reached_at (value_of store) n depth (residual_enters places) c ++ stack_arrivals (value_of store) limit old) k
-      ∙ ap (λ (z : List Arrival). arrival depth c ∷ z)
-      (ap (λ (o : Option Data). when_some o (λ d. reached_below (reach_from (value_of store) limit (depth + 1)) (residual_enters places) d) ++ stack_arrivals (value_of store) limit old) (sym reading.0)
-      ∙ sym (roots.arrivals (value_of store) limit));
-  deep = λ bound h n. roots.deep (bound + 1) (omega arith) (deep_more bound old n);
-}
+arrives store number seq places depth c block bytes malformed old new found reading roots = λ ss e.
+    let r = roots (value_of store c) reading.0 ss e in (
+      r.0,
+      r.1,
+      record {
+        visit =
+            ap (λ (b : Option ℕ). record { job = number; seq = seq; depth = depth; cid = c; block = b; malformed = malformed }) found
+            ∙ ap (λ (m : Bool). record { job = number; seq = seq; depth = depth; cid = c; block = position_of store c; malformed = m }) reading.1;
+        arrivals = λ limit lt.
+            let k : limit - depth ≡ suc (limit - (depth + 1)) = omega arith in
+            ap (λ (n : ℕ). reached_at (value_of store) n depth (residual_enters places) c ++ all_arrivals (value_of store) limit ss) k
+            ∙ ap (λ (z : List Arrival). arrival depth c ∷ z) (sym (r.2.arrivals (value_of store) limit));
+        deep = λ bound h n. r.2.deep (bound + 1) (omega arith) (deep_more bound ss n);
+      },
+    )

@@ -1,21 +1,21 @@
 -- A walk that begins.
-use Rattle.std.proofs.Common.{◌≡◌, ℕ, ◌-◌, Bool, false, List, [], ◌∷◌, length, take, map, sym, ◌∙◌, ap, arith}
-use Rattle.std.specs.Prelude.{nat_lt}
+use Rattle.std.proofs.Common.{◌≡◌, ℕ, ◌-◌, ◌≤◌, Bool, false, List, [], ◌∷◌, length, take, map, reverse, append-nil, sym, ◌∙◌, ap, arith}
+use Rattle.std.specs.Prelude.{Some, nat_lt}
 use Rattle.std.proofs.Math.Path.{fun_ext}
 use Rattle.std.proofs.lemmas.List.{take-map, length-map}
 use Rattle.ix_selector.specs.Enters.{Path}
 use Rattle.ix_selector.specs.IsEntered.{is_entered}
 use Rattle.ix_selector.specs.Residual.{Place, residual_enters}
-use Rattle.ix_walk.specs.declared.subtree.Waiting.TheVariants as parts
 use Rattle.ix_walk.specs.declared.subtree.Pending.{Pending}
+use Rattle.ix_walk.specs.declared.subtree.Pending.TheVariants.{Link}
 use Rattle.ix_walk.specs.declared.visit.Visit.{Visit}
 use Rattle.ix_walk.specs.JobMeaning.{JobMeaning}
 use Rattle.ix_walk.specs.Arrivals.{Arrival}
 use Rattle.ix_walk.specs.Store.{Blocks, value_of}
 use Rattle.ix_walk.specs.Visits.{believed, is_over_limit, visits_of, visits_from}
 use Rattle.ix_walk.specs.WalkLeft.{WalkLeft}
-use Rattle.ix_walk.specs.Walking.{Test, reached_at, stack_arrivals, walk_left}
-use Rattle.ix_walk.proofs.Reached.{forget, at, visits_forget}
+use Rattle.ix_walk.specs.Walking.{Test, reached_at, to_cid, Subtree, all_arrivals, or_nil, stands, NoDeeper, walk_left}
+use Rattle.ix_walk.proofs.Reached.{forget, at as reached, visits_forget}
 
 left : (visits more : List Visit) (limited over : Bool) → visits ≡ more → limited ≡ over
     → (let a : WalkLeft = record { visits = visits; limited = limited; ended = false } in a) ≡ record { visits = more; limited = over; ended = false }
@@ -23,22 +23,36 @@ left visits more limited over e f =
     ap (λ (v : List Visit). let a : WalkLeft = record { visits = v; limited = limited; ended = false } in a) e
     ∙ ap (λ (b : Bool). let a : WalkLeft = record { visits = more; limited = b; ended = false } in a) f
 
+-- the one subtree of a walk that begins
+abbrev from_root : List Place → List ℕ → List Subtree
+from_root r root = record { places = r; part = to_cid root; depth = 0 } ∷ []
+
+begins : (at : List ℕ) (stack : List Pending) (r : List Place) (root : List ℕ) → stack ≡ Link (record { residual = r; cid = root; depth = 0 }) ∷ [] → stands at (reverse stack) ≡ Some (from_root r root)
+begins at stack r root e = ap (λ ps. stands at (reverse ps)) e
+
 -- at its beginning a walk has all the visits of its job
-pub starts_walk : (store : Blocks) (number : ℕ) (job : JobMeaning) (r : List Place) (stack : List Pending) → ((p : Path) → residual_enters r p ≡ is_entered job.selector p)
-    → stack ≡ (record { residual = r; waiting = parts.Link job.root; depth = 0 }) ∷ []
-    → walk_left store number job.limit 0 stack false ≡ record { visits = visits_of store number job; limited = is_over_limit store job; ended = false }
-starts_walk store number job r stack tested is =
+pub starts_walk : (store : Blocks) (number : ℕ) (job : JobMeaning) (r : List Place) (at : List ℕ) (stack : List Pending) → ((p : Path) → residual_enters r p ≡ is_entered job.selector p)
+    → stack ≡ Link (record { residual = r; cid = job.root; depth = 0 }) ∷ []
+    → walk_left store number job.limit 0 (or_nil (stands at (reverse stack))) false ≡ record { visits = visits_of store number job; limited = is_over_limit store job; ended = false }
+starts_walk store number job r at stack tested is =
     let z : job.limit - 0 ≡ job.limit = omega arith in
-    let same : stack_arrivals (value_of store) job.limit stack ≡ map forget (believed store job) =
-    ap (stack_arrivals (value_of store) job.limit) is
+    let ss = or_nil (stands at (reverse stack)) in
+    let same : all_arrivals (value_of store) job.limit ss ≡ map forget (believed store job) =
+    ap (λ o. all_arrivals (value_of store) job.limit (or_nil o)) (begins at stack r job.root is)
+    ∙ append-nil (reached_at (value_of store) (job.limit - 0) 0 (residual_enters r) job.root)
     ∙ ap (λ (n : ℕ). reached_at (value_of store) n 0 (residual_enters r) job.root) z
     ∙ ap (λ (t : Test). reached_at (value_of store) job.limit 0 t job.root) (fun_ext tested)
-    ∙ sym (at (is_entered job.selector) (value_of store) job.limit 0 job.root []) in
+    ∙ sym (reached (is_entered job.selector) (value_of store) job.limit 0 job.root []) in
     left _ _ _ _
-    (ap (λ (n : ℕ). visits_from store number 0 (take n (stack_arrivals (value_of store) job.limit stack))) z
+    (ap (λ (n : ℕ). visits_from store number 0 (take n (all_arrivals (value_of store) job.limit ss))) z
     ∙ ap (λ (xs : List Arrival). visits_from store number 0 (take job.limit xs)) same
     ∙ ap (visits_from store number 0) (take-map forget job.limit (believed store job))
     ∙ visits_forget store number 0 (take job.limit (believed store job)))
-    (ap (λ (n : ℕ). nat_lt n (length (stack_arrivals (value_of store) job.limit stack))) z
+    (ap (λ (n : ℕ). nat_lt n (length (all_arrivals (value_of store) job.limit ss))) z
     ∙ ap (λ (xs : List Arrival). nat_lt job.limit (length xs)) same
     ∙ ap (nat_lt job.limit) (length-map (believed store job) forget))
+
+-- and stands at its root
+pub starts_within : (limit : ℕ) (r : List Place) (root at : List ℕ) (stack : List Pending) → stack ≡ Link (record { residual = r; cid = root; depth = 0 }) ∷ []
+    → (0 ≤ limit) × (ss : List Subtree) × (stands at (reverse stack) ≡ Some ss) × NoDeeper 0 ss
+starts_within limit r root at stack is = (omega arith, from_root r root, begins at stack r root is, (omega arith, tt))

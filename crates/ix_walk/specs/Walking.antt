@@ -1,13 +1,16 @@
 -- What a walk is about to give, from what it keeps.
-use Rattle.std.specs.Prelude.{ℕ, zero, suc, ◌+◌, ◌-◌, ◌≤◌, Bool, true, false, List, [], ◌∷◌, ◌++◌, length, reverse, take, map, Option, Some, None, nat_lt, if◌then◌else◌}
+use Rattle.std.specs.Prelude.{◌≡◌, ℕ, zero, suc, ◌+◌, ◌-◌, ◌≤◌, Bool, true, false, List, [], ◌∷◌, ◌++◌, length, reverse, take, Option, Some, None, option_map, option_and_then, Result, Ok, Err, nat_lt, if◌then◌else◌}
 use Rattle.ix_cbor.specs.Data as nodes
-use Rattle.ix_cbor.specs.Data.{Data, Items, Entries, null, boolean, integer, float, bytes, text, list, link, no_items, item, no_entries, entry, items_of, entries_of, data_of}
-use Rattle.ix_cbor.specs.Data.{entry_of}
+use Rattle.ix_cbor.specs.Data.{Data, Items, Entries, null, boolean, integer, float, bytes, text, list, link, no_items, item, no_entries, entry}
+use Rattle.ix_cbor.specs.Reading.{Fault, ◌>>=◌, item_at, items_at, entries_at}
 use Rattle.ix_selector.specs.Enters.{Step, key, nth, Path}
-use Rattle.ix_selector.specs.Residual.{residual_enters}
-use Rattle.ix_walk.specs.declared.subtree.Waiting.{Waiting}
-use Rattle.ix_walk.specs.declared.subtree.Waiting.TheVariants.{Link, Members, Values}
+use Rattle.ix_selector.specs.Residual.{Place, residual_enters}
+use Rattle.ix_walk.specs.declared.subtree.Children.{Children}
+use Rattle.ix_walk.specs.declared.subtree.Children.TheVariants.{Item, Members, Values}
 use Rattle.ix_walk.specs.declared.subtree.Pending.{Pending}
+use Rattle.ix_walk.specs.declared.subtree.Pending.TheVariants.{Link, Open, Back}
+use Rattle.ix_walk.specs.declared.subtree.Opened.{Opened}
+use Rattle.ix_walk.specs.declared.subtree.Trail.{Trail}
 use Rattle.ix_walk.specs.declared.subtree.Found.{Found}
 use Rattle.ix_walk.specs.Store.{Blocks, value_of}
 use Rattle.ix_walk.specs.Arrivals.{Arrival, Inside, when_some}
@@ -60,31 +63,16 @@ reached_at inside zero depth enters c = arrival depth c ∷ []
 reached_at inside (suc links) depth enters c =
     arrival depth c ∷ when_some (inside c) (λ d. reached_below (reached_at inside links (depth + 1)) enters d)
 
--- what is waiting: a link, the members of a list from a place on, or the values of a map
+-- what is left of a subtree: a link, a node, the members of a list from a place on, or the values of a map
 pub data Part : Type 0 where
   to_cid : List ℕ → Part
+  node : Data → Part
   members : ℕ → Items → Part
   values : Entries → Part
 
-abbrev pub part_of : Waiting → Part
-part_of (Link c) = to_cid c
-part_of (Members m) = members (m.count - length m.rest.items) (items_of (map data_of (reverse m.rest.items)))
-part_of (Values rest) = values (entries_of (map entry_of (reverse rest.items)))
-
--- what there is below a node, if anything can be
-abbrev pub part_below : Data → Option Part
-part_below (list ds) = Some (members 0 ds)
-part_below (nodes.map es) = Some (values es)
-part_below (link c) = Some (to_cid c)
-part_below null = None
-part_below (boolean b) = None
-part_below (integer n) = None
-part_below (float bits) = None
-part_below (bytes b) = None
-part_below (text t) = None
-
 abbrev pub reached_part : Reach → Test → Part → List Arrival
 reached_part cross enters (to_cid c) = cross enters c
+reached_part cross enters (node d) = reached_below cross enters d
 reached_part cross enters (members n ds) = reached_in_items cross enters n ds
 reached_part cross enters (values es) = reached_in_entries cross enters es
 
@@ -92,27 +80,29 @@ reached_part cross enters (values es) = reached_in_entries cross enters es
 abbrev pub reach_from : Inside → ℕ → ℕ → Reach
 reach_from inside limit depth = reached_at inside (limit - depth) depth
 
--- the arrivals in a subtree that is waiting
-abbrev pub pending_arrivals : Inside → ℕ → Pending → List Arrival
-pending_arrivals inside limit p = reached_part (reach_from inside limit p.depth) (residual_enters p.residual) (part_of p.waiting)
+-- a subtree of which something is left: what the selector enters there, and how many links were crossed
+pub record Subtree : Type 0 where
+  pub places : List Place
+  pub part : Part
+  pub depth : ℕ
 
-abbrev pub some_pending : Inside → ℕ → Option Pending → List Arrival
-some_pending inside limit None = []
-some_pending inside limit (Some p) = pending_arrivals inside limit p
+-- the arrivals in it
+abbrev pub subtree_arrivals : Inside → ℕ → Subtree → List Arrival
+subtree_arrivals inside limit s = reached_part (reach_from inside limit s.depth) (residual_enters s.places) s.part
 
--- those of a stack, the last one first
-abbrev pub stack_arrivals : Inside → ℕ → List Pending → List Arrival
-stack_arrivals inside limit [] = []
-stack_arrivals inside limit (p ∷ ps) = stack_arrivals inside limit ps ++ pending_arrivals inside limit p
+-- those of many, one after the other
+abbrev pub all_arrivals : Inside → ℕ → List Subtree → List Arrival
+all_arrivals inside limit [] = []
+all_arrivals inside limit (s ∷ ss) = subtree_arrivals inside limit s ++ all_arrivals inside limit ss
 
 abbrev pub found_arrivals : Inside → ℕ → Option Found → List Arrival
 found_arrivals inside limit None = []
 found_arrivals inside limit (Some f) = reach_from inside limit f.depth (residual_enters f.residual) f.cid
 
--- nothing that waits lies deeper
-abbrev pub NoDeeper : ℕ → List Pending → Type 0
+-- nothing that is left lies deeper
+abbrev pub NoDeeper : ℕ → List Subtree → Type 0
 NoDeeper depth [] = Unit {0}
-NoDeeper depth (p ∷ ps) = (p.depth ≤ depth) × NoDeeper depth ps
+NoDeeper depth (s ∷ ss) = (s.depth ≤ depth) × NoDeeper depth ss
 
 abbrev pub FoundWithin : ℕ → Option Found → Type 0
 FoundWithin depth None = Unit {0}
@@ -141,26 +131,66 @@ abbrev mutual
 
 abbrev pub part_weight : Part → ℕ
 part_weight (to_cid c) = 1
+part_weight (node d) = weight_of d + 1
 part_weight (members n ds) = items_weight ds + 1
 part_weight (values es) = entries_weight es + 1
 
-abbrev pub pending_weight : Pending → ℕ
-pending_weight p = part_weight (part_of p.waiting)
+abbrev pub all_weight : List Subtree → ℕ
+all_weight [] = 0
+all_weight (s ∷ ss) = part_weight s.part + all_weight ss
 
-abbrev pub some_weight : Option Pending → ℕ
-some_weight None = 0
-some_weight (Some p) = pending_weight p
+-- ---- what a walk keeps, as subtrees
 
-abbrev pub stack_weight : List Pending → ℕ
-stack_weight [] = 0
-stack_weight (p ∷ ps) = pending_weight p + stack_weight ps
+abbrev pub or_none : {A : Type 0} → Result A Fault → Option A
+or_none (Ok x) = Some x
+or_none (Err f) = None
 
-abbrev pub walk_left : Blocks → ℕ → ℕ → ℕ → List Pending → Bool → WalkLeft
-walk_left store number limit given stack true = nothing_left
-walk_left store number limit given stack false =
-    let arrivals = stack_arrivals (value_of store) limit stack in
+-- what is left of an open list or map whose next child stands at the front of these bytes, and the bytes behind it
+abbrev pub part_at : Children → List ℕ → Option (Part × List ℕ)
+part_at Item b = or_none (item_at 512 b >>= (λ d. Ok (node d.0, d.1)))
+part_at (Members count left) b =
+    if nat_lt count left then None else or_none (items_at (item_at 512) left b >>= (λ ds. Ok (members (count - left) ds.0, ds.1)))
+part_at (Values left) b = or_none (entries_at (item_at 512) None left b >>= (λ es. Ok (values es.0, es.1)))
+
+abbrev pub opened : Opened → Part → Subtree
+opened o part = record { places = o.residual; part = part; depth = o.depth }
+
+-- the subtrees of a stack, the next one first, where the walk stands at the front of these bytes: an open list or map goes
+-- on where the one inside it ends, and behind all of a block the walk goes back to where it came from
+abbrev pub stands : List ℕ → List Pending → Option (List Subtree)
+stands b [] = Some []
+stands b (Link f ∷ ps) = option_map (λ ss. record { places = f.residual; part = to_cid f.cid; depth = f.depth } ∷ ss) (stands b ps)
+stands b (Open o ∷ ps) = option_and_then (λ x. option_map (λ ss. opened o x.0 ∷ ss) (stands x.1 ps)) (part_at o.children b)
+stands b (Back c ∷ ps) = stands c.now ps
+
+abbrev pub trail_stands : Trail → Option (List Subtree)
+trail_stands t = stands t.at.now (reverse t.stack.items)
+
+abbrev pub or_nil : Option (List Subtree) → List Subtree
+or_nil None = []
+or_nil (Some ss) = ss
+
+-- what a walk has still to go through
+abbrev pub subtrees : Trail → List Subtree
+subtrees t = or_nil (trail_stands t)
+
+-- how often a walk goes back behind a block
+abbrev pub backs : List Pending → ℕ
+backs [] = 0
+backs (Link f ∷ ps) = backs ps
+backs (Open o ∷ ps) = backs ps
+backs (Back c ∷ ps) = backs ps + 1
+
+abbrev pub walk_left : Blocks → ℕ → ℕ → ℕ → List Subtree → Bool → WalkLeft
+walk_left store number limit given ss true = nothing_left
+walk_left store number limit given ss false =
+    let arrivals = all_arrivals (value_of store) limit ss in
     record { visits = visits_from store number given (take (limit - given) arrivals); limited = nat_lt (limit - given) (length arrivals); ended = false }
 
--- what a walk keeps: nothing waits deeper than there are visits given, and these are within the limit
-abbrev pub IsWalk : ℕ → ℕ → List Pending → Type 0
-IsWalk limit given stack = (given ≤ limit) × NoDeeper given stack
+-- what is left can be gone through
+abbrev pub IsStanding : Trail → Type 0
+IsStanding t = (ss : List Subtree) × (trail_stands t ≡ Some ss)
+
+-- what a walk keeps: nothing is left deeper than there are visits given, and these are within the limit
+abbrev pub IsWalk : ℕ → ℕ → Trail → Type 0
+IsWalk limit given t = (given ≤ limit) × (ss : List Subtree) × (trail_stands t ≡ Some ss) × NoDeeper given ss

@@ -1,17 +1,16 @@
 //! Arriving at a link.
 
-ghost use Rattle.std.specs.Prelude.{◌≡◌, ◌+◌, ◌<◌, ◌^◌, IfOk, OnOk, option_map, Some};
-ghost use Rattle.ix_cbor.specs.Data.{data_of};
+ghost use Rattle.std.specs.Prelude.{◌≡◌, ◌+◌, ◌<◌, ◌^◌, IfOk, OnOk, option_map};
 ghost use Rattle.ix_walk.specs.Store.{is_walkable, position_of};
-ghost use Rattle.ix_walk.specs.Arriving.{IsReading, Roots, Arrives, Takes};
+ghost use Rattle.ix_walk.specs.Arriving.{IsReading, IsBack, Roots, Arrives, Takes};
 ghost use Rattle.ix_walk.specs.Walking.{IsWalk};
 
-use crate::descent::{next_found, waiting_in};
+use crate::descent::next_found;
 use crate::fault::WalkStop;
 use crate::store::Store;
-use crate::subtree::{Found, Pending};
+use crate::subtree::{Children, Found, Opened, Pending, Trail};
 use crate::visit::Visit;
-use ix_cbor::{CborKind, Node, decode};
+use ix_cbor::check;
 use ix_cid::Cid;
 use ix_cid::code::DAG_CBOR;
 use ix_selector::Residual;
@@ -25,65 +24,67 @@ fn may_enter(cid: &Cid) -> bool
     parts.codec == DAG_CBOR && parts.has_sha2_256()
 }
 
-// The root of a CID's block, and whether the block should have one and has none.
-fn read_block(
-    alloc: Global,
-    store: &Store,
-    cid: &Cid,
-    block: Option<usize>,
-) -> Result<(Option<Node>, bool), AllocError>
+// The bytes of a CID's block, if the walk goes into it, and whether it should be DAG-CBOR and is none.
+fn read_block<'a>(store: &'a Store, cid: &Cid, block: Option<usize>) -> (Option<&'a [u8]>, bool)
     requires { block ≡ position_of store.now cid.now }
-    ensures { IfOk result (λ r. IsReading store.now cid.now (option_map data_of r.0) r.1) }
+    ensures { IsReading store.now cid.now (option_map (λ b. b.now) result.0) result.1 }
 {
     let Some(place) = block else {
-        return Ok((None, false));
+        return (None, false);
     };
     if !may_enter(cid) {
-        return Ok((None, false));
+        return (None, false);
     }
-    match decode(alloc, store.bytes(place)) {
-        Ok(tree) => Ok((Some(tree.into_root()), false)),
-        Err(fault) => match fault.kind {
-            CborKind::Memory => Err(AllocError),
-            _ => Ok((None, true)),
-        },
+    let bytes = store.bytes(place);
+    match check(bytes) {
+        Ok(()) => (Some(bytes), false),
+        Err(_) => (None, true),
     }
 }
 
-// Puts a root on the stack.
+// The way back to where the walk stands, if it has something left there.
+fn way_back<'a>(trail: &Trail<'a>) -> Option<Pending<'a>>
+    ensures { IsBack trail.now result }
+{
+    match trail.stack.last() {
+        None | Some(Pending::Back(_)) => None,
+        Some(_) => Some(Pending::Back(trail.at)),
+    }
+}
+
+// Goes to the front of a block, if there is one. The place in the block before is kept where something of
+// that is left.
 fn push_root<'a>(
-    stack: &mut Vec<Pending<'a>>,
+    trail: &mut Trail<'a>,
     residual: Residual<'a>,
-    node: Option<Node>,
+    block: Option<&'a [u8]>,
     depth: u32,
 ) -> Result<(), AllocError>
-    ensures { OnOk result (Roots residual.entry (option_map data_of node) depth stack.old.items stack.new.items) }
+    ensures { OnOk result (Roots residual.entry (option_map (λ b. b.now) block.entry) depth trail.old trail.new) }
 {
-    let Some(node) = node else {
+    let Some(bytes) = block else {
         return Ok(());
     };
-    let Some(waiting) = waiting_in(node) else {
-        return Ok(());
-    };
-    stack.push(Pending {
+    let back = way_back(trail);
+    let root = Opened {
         residual,
-        waiting,
+        children: Children::Item,
         depth,
-    })?;
-    Ok(())
+    };
+    trail.at = bytes;
+    trail.push_both(back, Some(Pending::Open(root)))
 }
 
-// Gives the visit of a link, and puts what is behind it on the stack.
-pub(crate) fn arrive<'a>(
-    alloc: Global,
-    store: &Store,
+// Gives the visit of a link, and goes to what is behind it.
+fn arrive<'a>(
+    store: &'a Store,
     number: u32,
     seq: u32,
     found: Found<'a>,
-    stack: &mut Vec<Pending<'a>>,
+    trail: &mut Trail<'a>,
 ) -> Result<Visit, AllocError>
     requires { found.depth + 1 < 2 ^ 32 }
-    ensures { IfOk result (λ v. Arrives store.now number seq found.entry stack.old.items v stack.new.items) }
+    ensures { IfOk result (λ v. Arrives store.now number seq found.entry trail.old v trail.new) }
 {
     let Found {
         residual,
@@ -91,8 +92,8 @@ pub(crate) fn arrive<'a>(
         depth,
     } = found;
     let block = store.find(&cid);
-    let (node, malformed) = read_block(alloc, store, &cid, block)?;
-    push_root(stack, residual, node, depth + 1)?;
+    let (bytes, malformed) = read_block(store, &cid, block);
+    push_root(trail, residual, bytes, depth + 1)?;
     Ok(Visit {
         job: number,
         seq,
@@ -106,21 +107,21 @@ pub(crate) fn arrive<'a>(
 // The next visit of a walk that has given so many.
 pub(crate) fn take_next<'a>(
     alloc: Global,
-    store: &Store,
+    store: &'a Store,
     number: u32,
     limit: u32,
     given: u32,
-    stack: &mut Vec<Pending<'a>>,
+    trail: &mut Trail<'a>,
 ) -> Result<Option<Visit>, WalkStop>
-    requires { IsWalk limit given stack.old.items }
-    ensures { Takes store.now number limit given stack.old.items result stack.new.items }
+    requires { IsWalk limit given trail.old }
+    ensures { Takes store.now number limit given trail.old result trail.new }
 {
-    let Some(found) = next_found(alloc, stack)? else {
+    let Some(found) = next_found(alloc, trail)? else {
         return Ok(None);
     };
     if given == limit {
         return Err(WalkStop::Limit);
     }
-    let visit = arrive(alloc, store, number, given, found, stack)?;
+    let visit = arrive(store, number, given, found, trail)?;
     Ok(Some(visit))
 }

@@ -7,7 +7,7 @@ use crate::arriving::take_next;
 use crate::fault::WalkStop;
 use crate::job::Job;
 use crate::store::Store;
-use crate::subtree::{Pending, Waiting};
+use crate::subtree::{Found, Pending, Trail};
 use crate::visit::Visit;
 use ix_selector::Residual;
 use std::alloc::{AllocError, Global};
@@ -21,7 +21,7 @@ pub struct Walk<'a> {
     number: u32,
     limit: u32,
     given: u32,
-    stack: Vec<Pending<'a>>,
+    trail: Trail<'a>,
     ended: bool,
 }
 
@@ -30,11 +30,11 @@ impl<'a> Model for Walk<'a> {
 
     ghost Value = { WalkLeft };
 
-    ghost use Rattle.ix_walk.specs.Walking.{walk_left, IsWalk};
+    ghost use Rattle.ix_walk.specs.Walking.{walk_left, subtrees, IsWalk};
 
-    ghost view = { λ w. walk_left w.store.now w.number w.limit w.given w.stack.items w.ended };
+    ghost view = { λ w. walk_left w.store.now w.number w.limit w.given (subtrees w.trail) w.ended };
 
-    ghost invariant = { λ w. IsWalk w.limit w.given w.stack.items };
+    ghost invariant = { λ w. IsWalk w.limit w.given w.trail };
 }
 
 impl<'a> Walk<'a> {
@@ -53,18 +53,18 @@ impl<'a> Walk<'a> {
         let residual = Residual::start(alloc, job.selector())?;
         let cid = job.root().try_clone(alloc)?;
         let mut stack = Vec::new(alloc);
-        stack.push(Pending {
+        stack.push(Pending::Link(Found {
             residual,
-            waiting: Waiting::Link(cid),
+            cid,
             depth: 0,
-        })?;
+        }))?;
         Ok(Walk {
             alloc,
             store,
             number,
             limit: job.limit(),
             given: 0,
-            stack,
+            trail: Trail { at: &[], stack },
             ended: false,
         })
     }
@@ -90,19 +90,19 @@ impl<'a> Iterator for Walk<'a> {
             self.number,
             self.limit,
             self.given,
-            &mut self.stack,
+            &mut self.trail,
         ) {
             Ok(Some(visit)) => {
                 self.given += 1;
                 Some(Ok(visit))
             }
             Ok(None) => {
-                self.stack.clear();
+                self.trail.stack.clear();
                 self.ended = true;
                 None
             }
             Err(stop) => {
-                self.stack.clear();
+                self.trail.stack.clear();
                 self.ended = true;
                 Some(Err(stop))
             }

@@ -1,4 +1,4 @@
-use Rattle.std.proofs.Common.{◌+◌, sym, subst, take, map}
+use Rattle.std.proofs.Common.{sym, subst, take, map}
 use Rattle.ix_walk.specs.Index.{IsIndexed}
 use Rattle.ix_walk.specs.Store.{Blocks}
 use Rattle.ix_walk.proofs.Stores.{pair, entries-more, entries-before, position-none}
