@@ -44,16 +44,19 @@ pub fn pushed_varints(alloc: Global, input: &str) -> Result<String> {
 /// `cid HEX = VERSION CODEC HASH_CODE DIGEST LENGTH`
 pub fn cid(alloc: Global, input: &str) -> Result<String> {
     let bytes = bytes_of_hex(alloc, input)?;
-    let (cid, length) = match Cid::read(alloc, bytes.as_slice()) {
-        Ok(read) => read,
-        Err(fault) => return Ok(fault.to_string(alloc)?),
-    };
-    ensure!(cid.as_bytes().len() == length, "the length isn't the CID's");
+    match Cid::read(alloc, bytes.as_slice()) {
+        Ok((cid, length)) => parts_of(alloc, bytes.as_slice(), &cid, length),
+        Err(fault) => Ok(fault.to_string(alloc)?),
+    }
+}
+
+// The parts of a CID that was read, and its length.
+fn parts_of(alloc: Global, bytes: &[u8], cid: &Cid, length: usize) -> Result<String> {
     ensure!(
-        bytes.as_slice().starts_with(cid.as_bytes()),
+        cid.as_bytes().len() == length && bytes.starts_with(cid.as_bytes()),
         "the bytes are others"
     );
-    ensure!(cid.try_clone(alloc)? == cid, "a copy is another");
+    ensure!(cid.try_clone(alloc)? == *cid, "a copy is another");
     let version = cid.version();
     let codec = cid.codec();
     let hash_code = cid.hash_code();
@@ -66,32 +69,30 @@ pub fn compared_cids(alloc: Global, input: &str) -> Result<String> {
     let (first, second) = two_words(input)?;
     let first = cid_of(alloc, first)?;
     let second = cid_of(alloc, second)?;
-    let order = first.cmp(&second);
-    ensure!(
-        second.cmp(&first) == order.reverse(),
-        "the order has no reverse"
-    );
-    ensure!(
-        first.partial_cmp(&second) == Some(order),
-        "two orders differ"
-    );
-    ensure!((first < second) == (order == Ordering::Less), "`<` differs");
-    ensure!(
-        (first == second) == (order == Ordering::Equal),
-        "`==` differs"
-    );
-    let hashing = BuildHasherDefault::<FoldHasher>::new();
-    let same_hash = hashing.hash_one(&first) == hashing.hash_one(&second);
-    ensure!(
-        same_hash == (order == Ordering::Equal),
-        "the hashes don't go with `==`"
-    );
-    let word = match order {
-        Ordering::Less => "less",
-        Ordering::Equal => "equal",
-        Ordering::Greater => "greater",
+    let word = match order_of(&first, &second) {
+        Some(Ordering::Less) => "less",
+        Some(Ordering::Equal) => "equal",
+        Some(Ordering::Greater) => "greater",
+        None => "two comparisons differ",
     };
     Ok(String::from_str(alloc, word)?)
+}
+
+// The order of two CIDs, where all comparisons and the hashes agree.
+fn order_of(first: &Cid, second: &Cid) -> Option<Ordering> {
+    let order = first.cmp(second);
+    let agrees = second.cmp(first) == order.reverse()
+        && first.partial_cmp(second) == Some(order)
+        && (*first < *second) == (order == Ordering::Less)
+        && (*first == *second) == (order == Ordering::Equal)
+        && have_one_hash(first, second) == (order == Ordering::Equal);
+    if agrees { Some(order) } else { None }
+}
+
+// Whether the hashes of two CIDs are equal.
+fn have_one_hash(first: &Cid, second: &Cid) -> bool {
+    let hashing = BuildHasherDefault::<FoldHasher>::new();
+    hashing.hash_one(first) == hashing.hash_one(second)
 }
 
 /// `text HEX = TEXT`

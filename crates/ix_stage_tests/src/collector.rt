@@ -11,6 +11,7 @@ use ix_fixtures::{ABC, Log, cid_of};
 use ix_stages::{LaneIn, LaneOut, Verdicted, lane};
 use ix_walk::Visit;
 use std::alloc::{AllocError, Global};
+use std::process::Abort;
 use std::test::Fail;
 
 // What is sent, of a job: a visit, with a verdict or without, or the close, each with its number.
@@ -97,6 +98,33 @@ fn lane_of(alloc: Global, capacity: u32, items: &[Sent]) -> Result<(LaneIn, Lane
     Ok((sender, receiver))
 }
 
+// A round over the lanes gives so many items, of which so many are a verifier's last.
+fn round_gives<S: Sink>(
+    rt: &impl Abort,
+    alloc: Global,
+    collector: &mut Collector,
+    lanes: &mut [LaneOut],
+    sinks: &mut [S],
+    wanted: (usize, usize),
+)
+    requires sinks { length sinks.old ≡ job_count collector.old }
+    requires may { MayTell S.events S.failed collector.old sinks.old }
+    ensures sinks { length sinks.new ≡ job_count collector.new }
+    ensures jobs { job_count collector.new ≡ job_count collector.old }
+    ensures may { MayTell S.events S.failed collector.new sinks.new }
+{
+    let received = round(alloc, collector, lanes, sinks);
+    assert!(rt; (received.items, received.lasts) == wanted);
+}
+
+// The log has so many deliveries, in the order of their numbers.
+fn has_in_order(rt: &impl Abort, log: &Log, count: usize) {
+    assert_eq!(rt; log.deliveries.len(), count);
+    for (number, delivery) in log.deliveries.iter().enumerate() {
+        assert!(rt; delivery.visit.seq as usize == number);
+    }
+}
+
 #[test]
 fn ends_of_four_jobs(rt: HostRuntime) -> Result<(), Fail> {
     let alloc = rt.alloc();
@@ -116,10 +144,7 @@ fn ends_of_four_jobs(rt: HostRuntime) -> Result<(), Fail> {
     let ends = collector.ends(&logs, Vec::with_capacity(alloc, 4)?);
     assert!(rt; ends.as_slice() == [End::Done, End::Write, End::Memory, End::Memory].as_slice());
     for (log, count) in logs.iter().zip([3, 1, 0, 0]) {
-        assert_eq!(rt; log.deliveries.len(), count);
-        for (number, delivery) in log.deliveries.iter().enumerate() {
-            assert!(rt; delivery.visit.seq as usize == number);
-        }
+        has_in_order(&rt, log, count);
     }
     Ok(())
 }
@@ -138,12 +163,9 @@ fn lanes_into_one_sink(rt: HostRuntime) -> Result<(), Fail> {
     let mut logs = [Log::new(alloc, 9)?];
     let mut collector = Collector::new(alloc, 1)?;
     collector.begins(&logs);
-    let first = round(alloc, &mut collector, &mut read, &mut logs);
-    assert!(rt; (first.items, first.lasts) == (1, 0));
-    let second = round(alloc, &mut collector, &mut read, &mut logs);
-    assert!(rt; (second.items, second.lasts) == (1, 1));
-    let third = round(alloc, &mut collector, &mut read, &mut logs);
-    assert!(rt; (third.items, third.lasts) == (0, 0));
+    round_gives(&rt, alloc, &mut collector, &mut read, &mut logs, (1, 0));
+    round_gives(&rt, alloc, &mut collector, &mut read, &mut logs, (1, 1));
+    round_gives(&rt, alloc, &mut collector, &mut read, &mut logs, (0, 0));
     drain(
         &rt,
         alloc,
@@ -164,9 +186,6 @@ fn lanes_into_one_sink(rt: HostRuntime) -> Result<(), Fail> {
     assert!(rt; collector.is_done());
     let ends = collector.ends(&logs, Vec::with_capacity(alloc, 1)?);
     assert!(rt; ends.as_slice() == [End::Done].as_slice());
-    assert_eq!(rt; logs[0].deliveries.len(), 3);
-    for (number, delivery) in logs[0].deliveries.iter().enumerate() {
-        assert!(rt; delivery.visit.seq as usize == number);
-    }
+    has_in_order(&rt, &logs[0], 3);
     Ok(())
 }

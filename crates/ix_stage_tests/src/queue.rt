@@ -89,7 +89,34 @@ fn put_visits<R: Wait>(
     Ok(End::Done)
 }
 
-// Puts the visits of the seat's job and its close.
+// Puts the visits of the seat's job, and gives its close.
+fn put_job<R: Wait>(
+    rt: &R,
+    alloc: Global,
+    store: &Store,
+    jobs: &[Job],
+    queue: &VisitQueue,
+    seat: &mut JobSeat,
+) -> Result<Item, AllocError>
+    requires queue { seat.old.table ≡ table_of queue.now }
+    requires course { seat.old.hand.course ≡ course_of store.now jobs.now }
+    requires fresh { (seat.old.next ≡ 0) × (seat.old.closed ≡ false) }
+    ensures table { seat.new.table ≡ seat.old.table }
+    ensures next { IfOk result (λ close. (seat.new.closed ≡ false) × IsNext seat.new close) }
+{
+    course_of_jobs();
+    let Some(job) = jobs.get(seat.job() as usize) else {
+        return Err(AllocError);
+    };
+    let end = put_visits(rt, alloc, store, job, jobs, queue, seat)?;
+    Ok(Item::Close {
+        job: seat.job(),
+        seq: seat.next(),
+        end,
+    })
+}
+
+// Puts them and the close.
 fn put_walk<R: Wait>(
     rt: &R,
     alloc: Global,
@@ -103,14 +130,8 @@ fn put_walk<R: Wait>(
     requires fresh { (seat.old.next ≡ 0) × (seat.old.closed ≡ false) }
     ensures { seat.new.table ≡ seat.old.table }
 {
-    course_of_jobs();
-    let job = seat.job();
-    let Some(walked) = jobs.get(job as usize) else {
-        return Err(AllocError);
-    };
-    let end = put_visits(rt, alloc, store, walked, jobs, queue, seat)?;
-    let seq = seat.next();
-    queue.put(rt, seat, Item::Close { job, seq, end });
+    let close = put_job(rt, alloc, store, jobs, queue, seat)?;
+    queue.put(rt, seat, close);
     Ok(())
 }
 
@@ -577,6 +598,30 @@ fn three_walks_through_room_for_one(rt: HostRuntime) -> Result<(), Fail> {
     Ok(())
 }
 
+// The visits of the seat's job fill the queue, whose close and Stop find room once it is emptied.
+fn fills_and_empties<R: Abort + Wait>(
+    rt: &R,
+    alloc: Global,
+    store: &Store,
+    jobs: &[Job],
+    queue: &VisitQueue,
+    seat: &mut JobSeat,
+    taker: &mut TakeSeat,
+    stop: &mut StopSeat,
+) -> Result<(), AllocError>
+    requires seat { CanWalk queue.now (course_of store.now jobs.now) seat.old }
+    requires taker { taker.old.table ≡ table_of queue.now }
+    requires stop { stop.old.table ≡ table_of queue.now }
+{
+    let close = put_job(rt, alloc, store, jobs, queue, seat)?;
+    assert!(rt; !queue.try_stop(rt, stop), "a Stop in a full queue");
+    assert!(rt; close_at_full(rt, queue, seat, taker, close));
+    assert_eq!(rt; count_left(rt, queue, taker), 4);
+    assert!(rt; queue.try_stop(rt, stop), "no Stop in an empty queue");
+    assert!(rt; matches!(queue.try_take(rt, taker), Some(Item::Stop)));
+    Ok(())
+}
+
 // The chain's four visits fill the queue. None of the contracts says when a queue is full or empty.
 #[test]
 fn full_and_empty(rt: HostRuntime) -> Result<(), Fail> {
@@ -589,26 +634,14 @@ fn full_and_empty(rt: HostRuntime) -> Result<(), Fail> {
         mut takers,
         mut stop,
     } = queue_of(alloc, &store, &jobs, 4, 1)?;
-    let Some(mut taker) = next_taker(&queue, &mut takers) else {
-        return Err("a taker was wanted".into());
+    let (Some(mut taker), Some(mut seat)) = (
+        next_taker(&queue, &mut takers),
+        next_walker(&store, &jobs, &queue, &mut seats),
+    ) else {
+        return Err("a seat and a taker were wanted".into());
     };
-    let Some(mut seat) = next_walker(&store, &jobs, &queue, &mut seats) else {
-        return Err("a seat was wanted".into());
-    };
-    let Some(job) = jobs.get(seat.job() as usize) else {
-        return Err("a job was wanted".into());
-    };
-    course_of_jobs();
-    let end = put_visits(&rt, alloc, &store, job, &jobs, &queue, &mut seat)?;
-    assert!(rt; !queue.try_stop(&rt, &mut stop), "a Stop in a full queue");
-    let close = Item::Close {
-        job: seat.job(),
-        seq: seat.next(),
-        end,
-    };
-    assert!(rt; close_at_full(&rt, &queue, &mut seat, &mut taker, close));
-    assert_eq!(rt; count_left(&rt, &queue, &mut taker), 4);
-    assert!(rt; queue.try_stop(&rt, &mut stop), "no Stop in an empty queue");
-    assert!(rt; matches!(queue.try_take(&rt, &mut taker), Some(Item::Stop)));
+    fills_and_empties(
+        &rt, alloc, &store, &jobs, &queue, &mut seat, &mut taker, &mut stop,
+    )?;
     Ok(())
 }
