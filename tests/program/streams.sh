@@ -57,6 +57,13 @@ long_block() {
   long_cid=$(raw "$long")
 }
 
+# expect_beginning FILE BYTES: the file has the first so many bytes of the archive of the long block.
+expect_beginning() {
+  bytes "$(header "$long_cid")" "$(section "$long_cid" "$long")" >whole
+  head -c "$2" whole >wanted.part
+  expect_same "$1" wanted.part "$1"
+}
+
 # What waits in memory finds no room when it is written at last: of 1,024 bytes.
 begin 'an archive that finds no room at its end: its job ends with write, the others are unharmed'
 long_block 2000
@@ -72,9 +79,7 @@ expect_folder out a.car b.car b.car.part c.car
 expect_bytes out/a.car "$one_archive"
 expect_bytes out/b.car "$(repeated 300 ff)"
 expect_bytes out/c.car "$one_archive"
-bytes "$(header "$long_cid")" "$(section "$long_cid" "$long")" >whole
-head -c 1024 whole >wanted.part
-expect_same out/b.car.part wanted.part out/b.car.part
+expect_beginning out/b.car.part 1024
 
 # The block is longer than what waits in memory, so that the failure comes before the last write: of 16 KiB.
 begin 'an archive with a long block that finds no room'
@@ -87,9 +92,7 @@ b $one_line
 total jobs=2 done=1 skips=0" ''
 expect_folder out a.car.part b.car
 expect_bytes out/b.car "$one_archive"
-bytes "$(header "$long_cid")" "$(section "$long_cid" "$long")" >whole
-head -c 16384 whole >wanted.part
-expect_same out/a.car.part wanted.part out/a.car.part
+expect_beginning out/a.car.part 16384
 
 # The same on a full disk, where the machine lets a small one be made.
 begin 'an archive on a full disk'

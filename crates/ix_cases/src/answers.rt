@@ -1,8 +1,9 @@
 //! The words of cases, and the call that each stands for.
 
 use crate::example::Example;
-use crate::{cids, jobs, runs, selectors, stores, trees, walks};
+use crate::{jobs, runs, stores, walks};
 use anyhow::{Result, bail};
+use ix_case_words::{cids, selectors, trees};
 use std::alloc::Global;
 use std::sync::Wait;
 use std::thread::Threads;

@@ -2,8 +2,8 @@
 
 use crate::answers::answer;
 use crate::example::Example;
-use crate::names::Names;
 use anyhow::{Context, Result};
+use ix_case_words::Names;
 use std::alloc::Global;
 use std::sync::Wait;
 use std::thread::Threads;

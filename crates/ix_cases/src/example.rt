@@ -1,11 +1,11 @@
 //! What the lines of an example set up for the calls behind them.
 
-use crate::cids::cid_of;
-use crate::selectors::selector_of;
-use crate::texts::{bytes_of_hex, two_words};
 use crate::walks::MATCHER;
 use anyhow::{Context, Result, bail};
 use ix_car::{Counts, End, Skip};
+use ix_case_words::cids::cid_of;
+use ix_case_words::selectors::selector_of;
+use ix_case_words::texts::{bytes_of_hex, two_words};
 use ix_check::Verdict;
 use ix_jobs::JobResult;
 use ix_walk::{Job, Store};

@@ -8,18 +8,11 @@
 
 mod answers;
 mod bench;
-mod cids;
 mod example;
 mod jobs;
-mod names;
-mod nodes;
-mod notation;
 mod runs;
-mod selectors;
 mod stores;
 mod tally;
-mod texts;
-mod trees;
 mod walks;
 
 use anyhow::{Context, Result};

@@ -4,8 +4,8 @@ ghost use Rattle.std.specs.Prelude.{◌≡◌};
 ghost use Rattle.ix_pipeline.specs.Planned.{IsPlan};
 
 use crate::example::Example;
-use crate::texts::{escaped, hex_of};
 use anyhow::{Result, bail};
+use ix_case_words::texts::{escaped, hex_of};
 use ix_jobs::{report, status};
 use ix_pipeline::Plan;
 use ix_run::{RunOut, fault_line, prepare, run};

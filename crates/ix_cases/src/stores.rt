@@ -1,10 +1,10 @@
 //! The store of an example, and CARv1 files.
 
-use crate::cids::cid_of;
 use crate::example::Example;
-use crate::texts::{bytes_of_hex, hex_of, two_words};
 use anyhow::{Result, bail};
 use ix_car::read_car;
+use ix_case_words::cids::cid_of;
+use ix_case_words::texts::{bytes_of_hex, hex_of, two_words};
 use ix_walk::Store;
 use std::alloc::Global;
 

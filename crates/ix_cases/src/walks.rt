@@ -1,9 +1,9 @@
 //! Jobs, their walks, and verdicts.
 
-use crate::cids::cid_of;
-use crate::selectors::selector_of;
-use crate::texts::{hex_of, two_words};
 use anyhow::{Result, bail, ensure};
+use ix_case_words::cids::cid_of;
+use ix_case_words::selectors::selector_of;
+use ix_case_words::texts::{hex_of, two_words};
 use ix_check::{Check, ShaCheck};
 use ix_walk::{Job, Store, Visit, Walk};
 use std::alloc::{AllocError, Global};

@@ -1,0 +1,109 @@
+//! Varints and CIDs.
+
+use crate::texts::{bytes_of_hex, hex_of, two_words};
+use anyhow::{Result, bail, ensure};
+use ix_cid::{Cid, push_varint, read_varint};
+use std::alloc::Global;
+use std::cmp::Ordering;
+use std::hash::{BuildHasher, BuildHasherDefault, FoldHasher};
+
+/// The CID that bytes in hexadecimal are.
+pub fn cid_of(alloc: Global, text: &str) -> Result<Cid> {
+    let bytes = bytes_of_hex(alloc, text)?;
+    match Cid::read(alloc, bytes.as_slice()) {
+        Ok((cid, length)) => {
+            ensure!(length == bytes.len(), "bytes follow the CID {text}");
+            Ok(cid)
+        }
+        Err(fault) => bail!("{text} is no CID: {fault}"),
+    }
+}
+
+/// `varint HEX = NUMBER LENGTH`
+pub fn varint(alloc: Global, input: &str) -> Result<String> {
+    let bytes = bytes_of_hex(alloc, input)?;
+    match read_varint(bytes.as_slice()) {
+        Ok((number, length)) => Ok(format!(in alloc; "{number} {length}")?),
+        Err(fault) => Ok(format!(in alloc; "{fault:?}")?),
+    }
+}
+
+/// `push_varint NUMBER NUMBER.. = HEX`
+pub fn pushed_varints(alloc: Global, input: &str) -> Result<String> {
+    let mut out = Vec::new(alloc);
+    for number in input.split_whitespace() {
+        let number = number.parse::<u64>()?;
+        if number >= 1 << 63 {
+            bail!("no varint has this number");
+        }
+        push_varint(&mut out, number)?;
+    }
+    hex_of(alloc, out.as_slice())
+}
+
+/// `cid HEX = VERSION CODEC HASH_CODE DIGEST LENGTH`
+pub fn cid(alloc: Global, input: &str) -> Result<String> {
+    let bytes = bytes_of_hex(alloc, input)?;
+    match Cid::read(alloc, bytes.as_slice()) {
+        Ok((cid, length)) => parts_of(alloc, bytes.as_slice(), &cid, length),
+        Err(fault) => Ok(fault.to_string(alloc)?),
+    }
+}
+
+// The parts of a CID that was read, and its length.
+fn parts_of(alloc: Global, bytes: &[u8], cid: &Cid, length: usize) -> Result<String> {
+    ensure!(
+        cid.as_bytes().len() == length && bytes.starts_with(cid.as_bytes()),
+        "the bytes are others"
+    );
+    ensure!(cid.try_clone(alloc)? == *cid, "a copy is another");
+    let version = cid.version();
+    let codec = cid.codec();
+    let hash_code = cid.hash_code();
+    let digest = hex_of(alloc, cid.digest())?;
+    Ok(format!(in alloc; "{version} {codec} {hash_code} {digest} {length}")?)
+}
+
+/// `cids HEX HEX = less`, `equal` or `greater`, by each comparison and by the hashes
+pub fn compared_cids(alloc: Global, input: &str) -> Result<String> {
+    let (first, second) = two_words(input)?;
+    let first = cid_of(alloc, first)?;
+    let second = cid_of(alloc, second)?;
+    let word = match order_of(&first, &second) {
+        Some(Ordering::Less) => "less",
+        Some(Ordering::Equal) => "equal",
+        Some(Ordering::Greater) => "greater",
+        None => "two comparisons differ",
+    };
+    Ok(String::from_str(alloc, word)?)
+}
+
+// The order of two CIDs, where all comparisons and the hashes agree.
+fn order_of(first: &Cid, second: &Cid) -> Option<Ordering> {
+    let order = first.cmp(second);
+    let agrees = second.cmp(first) == order.reverse()
+        && first.partial_cmp(second) == Some(order)
+        && (*first < *second) == (order == Ordering::Less)
+        && (*first == *second) == (order == Ordering::Equal)
+        && have_one_hash(first, second) == (order == Ordering::Equal);
+    if agrees { Some(order) } else { None }
+}
+
+// Whether the hashes of two CIDs are equal.
+fn have_one_hash(first: &Cid, second: &Cid) -> bool {
+    let hashing = BuildHasherDefault::<FoldHasher>::new();
+    hashing.hash_one(first) == hashing.hash_one(second)
+}
+
+/// `text HEX = TEXT`
+pub fn text(alloc: Global, input: &str) -> Result<String> {
+    Ok(cid_of(alloc, input)?.text(alloc)?)
+}
+
+/// `from_text TEXT = HEX`
+pub fn cid_of_text(alloc: Global, input: &str) -> Result<String> {
+    match Cid::from_text(alloc, input) {
+        Ok(cid) => hex_of(alloc, cid.as_bytes()),
+        Err(fault) => Ok(fault.to_string(alloc)?),
+    }
+}

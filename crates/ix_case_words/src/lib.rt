@@ -1,0 +1,14 @@
+//! The words of cases about bytes alone: varints, CIDs, blocks, trees and selectors. Each function
+//! that a word stands for takes the case's input and gives its answer, or an error for an input that
+//! says nothing.
+#![tactic(auto)]
+
+pub mod cids;
+mod names;
+mod nodes;
+mod notation;
+pub mod selectors;
+pub mod texts;
+pub mod trees;
+
+pub use names::Names;

@@ -1,0 +1,333 @@
+//! Exports in which one stage waits for another: delivery goes on while visits are checked, checks
+//! while jobs are walked, and any walker takes any job.
+
+use crate::exporting::{chain, exported, list, plan_of};
+use ix_car::{End, Sink, SinkFault};
+use ix_check::{Check, ShaCheck, Verdict};
+use ix_cid::Cid;
+use ix_fixtures::{ABC, ALL, Log, bytes_of, job_at, store_of};
+use ix_pipeline::{Gate, Open};
+use ix_walk::{Store, Visit};
+use sha2::{Digest, Sha256};
+use std::alloc::{AllocError, Global};
+use std::sync::Arc;
+use std::sync::atomic::{AtomicBool, AtomicU32, Ordering};
+use std::test::Fail;
+use std::thread;
+
+// How often a side looks whether what it waits for began.
+const TURNS: u32 = 10_000_000;
+
+// How many visits of the forty layers are wanted.
+const LIMIT: u32 = 1_000;
+
+// Something that is to begin while another side waits for it.
+#[derive(Drop)]
+struct Awaited {
+    count: AtomicU32,
+    wanted: u32,
+    is_missed: AtomicBool,
+}
+
+impl Awaited {
+    // It has begun once it was told so many times.
+    fn new(wanted: u32) -> Awaited {
+        Awaited {
+            count: AtomicU32::new(0),
+            wanted,
+            is_missed: AtomicBool::new(false),
+        }
+    }
+
+    fn tell(&self) {
+        self.count.fetch_add(1, Ordering::SeqCst);
+    }
+
+    // Waits until it began, for so many turns. It is missed where it never does.
+    fn wait(&self, turns: u32) {
+        for _ in 0..turns {
+            if self.count.load(Ordering::SeqCst) >= self.wanted {
+                return;
+            }
+            thread::yield_now();
+        }
+        self.is_missed.store(true, Ordering::SeqCst);
+    }
+
+    fn is_missed(&self) -> bool {
+        self.is_missed.load(Ordering::SeqCst)
+    }
+}
+
+// Keeps what it is told, and tells that its first delivery began.
+#[derive(Drop)]
+struct Telling<'a> {
+    log: Log,
+    begun: &'a Awaited,
+}
+
+impl Sink for Telling<'_> {
+    ghost use Rattle.std.specs.Prelude.{◌++◌, map, option_to_list};
+    ghost use Rattle.ix_car.specs.Events.{delivery, close as closing};
+
+    ghost events = { λ s. map delivery s.log.deliveries.items ++ map closing (option_to_list s.log.closed) };
+
+    ghost failed = { λ s. option_to_list s.log.failed };
+
+    ghost fact = { λ _ _ _ _. Unit {0} };
+
+    fn deliver(&mut self, alloc: Global, visit: Visit, verdict: Verdict) -> Result<(), SinkFault> {
+        self.begun.tell();
+        self.log.deliver(alloc, visit, verdict)
+    }
+
+    fn close(&mut self, end: End) {
+        self.log.close(end);
+    }
+}
+
+// Checks as `ShaCheck` does, the fourth visit of a job once what it waits for began.
+#[derive(Drop)]
+struct LastHeld<'a> {
+    check: ShaCheck,
+    begun: &'a Awaited,
+}
+
+impl Check for LastHeld<'_> {
+    ghost checked = { λ c. c.check };
+
+    fn check(
+        &mut self,
+        alloc: Global,
+        store: &Store,
+        visit: &Visit,
+    ) -> Result<Verdict, AllocError> {
+        if visit.seq == 3 {
+            self.begun.wait(TURNS);
+        }
+        self.check.check(alloc, store, visit)
+    }
+}
+
+// Checks as `ShaCheck` does, and tells that a check began.
+#[derive(Drop)]
+struct CheckTelling<'a> {
+    check: ShaCheck,
+    begun: &'a Awaited,
+}
+
+impl Check for CheckTelling<'_> {
+    ghost checked = { λ c. c.check };
+
+    fn check(
+        &mut self,
+        alloc: Global,
+        store: &Store,
+        visit: &Visit,
+    ) -> Result<Verdict, AllocError> {
+        self.begun.tell();
+        self.check.check(alloc, store, visit)
+    }
+}
+
+// Checks as `ShaCheck` does, the slow one once there were enough calls on the other.
+#[derive(Drop)]
+struct Paced<'a> {
+    check: ShaCheck,
+    begun: &'a Awaited,
+    is_slow: bool,
+}
+
+impl Check for Paced<'_> {
+    ghost checked = { λ c. c.check };
+
+    fn check(
+        &mut self,
+        alloc: Global,
+        store: &Store,
+        visit: &Visit,
+    ) -> Result<Verdict, AllocError> {
+        if self.is_slow {
+            self.begun.wait(10 * TURNS);
+        } else {
+            self.begun.tell();
+        }
+        self.check.check(alloc, store, visit)
+    }
+}
+
+// Holds the walk at its second visit until the check of the first began.
+#[derive(Drop)]
+struct SecondHeld<'a> {
+    begun: &'a Awaited,
+}
+
+impl Gate for SecondHeld<'_> {
+    fn pass(&self, _job: u32, seq: u32) {
+        if seq == 1 {
+            self.begun.wait(TURNS);
+        }
+    }
+}
+
+// Holds one job at its first visit until the others began.
+#[derive(Drop)]
+struct OneHeld<'a> {
+    job: u32,
+    begun: &'a Awaited,
+}
+
+impl Gate for OneHeld<'_> {
+    fn pass(&self, job: u32, seq: u32) {
+        if seq != 0 {
+            return;
+        }
+        if job == self.job {
+            self.begun.wait(TURNS);
+        } else {
+            self.begun.tell();
+        }
+    }
+}
+
+#[test]
+fn delivery_begins_before_checking_has_ended(rt: HostRuntime) -> Result<(), Fail> {
+    let alloc = rt.alloc();
+    let (store, jobs) = chain(alloc, 1)?;
+    let begun = Awaited::new(1);
+    let log = Log::new(alloc, 9)?;
+    let mut sinks = [Telling { log, begun: &begun }];
+    let check = ShaCheck::new(alloc);
+    let checks = vec![in alloc;
+        LastHeld {
+            check,
+            begun: &begun
+        },
+    ]?;
+    let plan = plan_of(1, 256, 64);
+    let out = exported(&rt, alloc, &store, &jobs, &mut sinks, checks, &Open, plan)?;
+    assert!(rt;
+        !begun.is_missed(),
+        "nothing was delivered while a check waited"
+    );
+    assert!(rt; out.ends.as_slice() == [End::Done].as_slice());
+    assert_eq!(rt; sinks[0].log.deliveries.len(), 4);
+    Ok(())
+}
+
+#[test]
+fn checking_begins_before_the_walk_ends(rt: HostRuntime) -> Result<(), Fail> {
+    let alloc = rt.alloc();
+    let (store, jobs) = chain(alloc, 1)?;
+    let begun = Awaited::new(1);
+    let mut sinks = [Log::new(alloc, 9)?];
+    let check = ShaCheck::new(alloc);
+    let checks = vec![in alloc;
+        CheckTelling {
+            check,
+            begun: &begun
+        },
+    ]?;
+    let gate = SecondHeld { begun: &begun };
+    let plan = plan_of(1, 256, 64);
+    let out = exported(&rt, alloc, &store, &jobs, &mut sinks, checks, &gate, plan)?;
+    assert!(rt;
+        !begun.is_missed(),
+        "nothing was checked while the walk waited"
+    );
+    assert!(rt; out.ends.as_slice() == [End::Done].as_slice());
+    assert_eq!(rt; sinks[0].deliveries.len(), 4);
+    Ok(())
+}
+
+#[test]
+fn no_walker_has_a_fixed_share(rt: HostRuntime) -> Result<(), Fail> {
+    let alloc = rt.alloc();
+    for job in 0..3 {
+        let (store, jobs) = list(alloc, 3)?;
+        let begun = Awaited::new(2);
+        let mut sinks = [
+            Log::new(alloc, 9)?,
+            Log::new(alloc, 9)?,
+            Log::new(alloc, 9)?,
+        ];
+        let checks = vec![in alloc; ShaCheck::new(alloc)]?;
+        let gate = OneHeld { job, begun: &begun };
+        let plan = plan_of(2, 256, 64);
+        let out = exported(&rt, alloc, &store, &jobs, &mut sinks, checks, &gate, plan)?;
+        assert!(rt;
+            !begun.is_missed(),
+            "a job waited for one that nobody walked"
+        );
+        assert!(rt; out.ends.as_slice() == [End::Done; 3].as_slice());
+    }
+    Ok(())
+}
+
+// Forty layers, each a list of two links to the next, above a raw block; and the CID of the first.
+fn layers(alloc: Global) -> Result<(Store, Cid), Fail> {
+    let mut store = store_of(alloc, &[(ABC, "616263")])?;
+    let mut cid = bytes_of(alloc, &[ABC])?;
+    for _ in 0..40 {
+        let mut block = bytes_of(alloc, &["82"])?;
+        for _ in 0..2 {
+            block.extend_from_slice(b"\xd8\x2a\x58\x25\x00")?;
+            block.extend_from_slice(cid.as_slice())?;
+        }
+        cid = bytes_of(alloc, &["01711220"])?;
+        cid.extend_from_slice(Sha256::digest(block.as_slice()).as_slice())?;
+        let (key, _) = Cid::read(alloc, cid.as_slice())?;
+        store.add(key, block)?;
+    }
+    let (root, _) = Cid::read(alloc, cid.as_slice())?;
+    Ok((store, root))
+}
+
+// How many visits stand in the receipts, if none stands twice.
+fn count_once(seen: &mut [bool], receipts: &[(u32, u32)]) -> Result<u32, Fail> {
+    let mut count = 0u32;
+    for (_, seq) in receipts {
+        match seen.get_mut(*seq as usize) {
+            Some(place) if !*place => *place = true,
+            _ => return Err("a visit was checked twice".into()),
+        }
+        count = count.saturating_add(1);
+    }
+    Ok(count)
+}
+
+#[test]
+fn slow_verifier(rt: HostRuntime) -> Result<(), Fail> {
+    let alloc = rt.alloc();
+    let (store, root) = layers(alloc)?;
+    let store = Arc::new(alloc, store)?;
+    let jobs = Arc::new(alloc, vec![in alloc; job_at(alloc, root, ALL, LIMIT)?]?)?;
+    let begun = Awaited::new(100);
+    let mut sinks = [Log::new(alloc, LIMIT as usize)?];
+    let slow = Paced {
+        check: ShaCheck::new(alloc),
+        begun: &begun,
+        is_slow: true,
+    };
+    let other = Paced {
+        check: ShaCheck::new(alloc),
+        begun: &begun,
+        is_slow: false,
+    };
+    let checks = vec![in alloc; slow, other]?;
+    let plan = plan_of(1, 1, 1);
+    let out = exported(&rt, alloc, &store, &jobs, &mut sinks, checks, &Open, plan)?;
+    assert!(rt;
+        !begun.is_missed(),
+        "one verifier waited, and the other had nothing to check"
+    );
+    assert!(rt; out.ends.as_slice() == [End::Limit].as_slice());
+    let mut seen = [false; 1_000];
+    let mut count = 0u32;
+    for paced in out.checks.iter() {
+        count = count.saturating_add(count_once(&mut seen, paced.check.receipts())?);
+    }
+    assert_eq!(rt; count, LIMIT);
+    assert_eq!(rt; sinks[0].deliveries.len(), LIMIT as usize);
+    Ok(())
+}

@@ -1,0 +1,5 @@
+use Rattle.std.proofs.Common.{◌≡◌, ◌≤◌, All, length}
+use Rattle.ix_fixtures.proofs.jobs.jobs_of.Given as goal
+
+abbrev pub invariant-loop : goal.invariant-loop
+invariant-loop l = All (λ job. job.limit ≤ 1000000) l.jobs.items × (length l.jobs.items ≡ l.counter)

@@ -1,0 +1,44 @@
+//! Jobs over blocks.
+
+ghost use Rattle.std.specs.Prelude.{◌≡◌, ◌≤◌, All, IfOk, length};
+
+use crate::blocks::cid_of;
+use ix_cbor::decode;
+use ix_cid::Cid;
+use ix_selector::Selector;
+use ix_walk::Job;
+use std::alloc::Global;
+use std::test::Fail;
+
+/// The selector of everything below.
+pub const ALL: &str = "a16152a2616ca1646e6f6e65a0623a3ea16161a1613ea16140a0";
+
+/// The job of a root, a selector in hexadecimal and a limit.
+pub fn job_at(alloc: Global, root: Cid, selector: &str, limit: u32) -> Result<Job, Fail>
+    ensures { IfOk result (λ job. job.limit ≡ limit) }
+{
+    let tree = decode(alloc, hex::decode(alloc, selector)?.as_slice())?;
+    let selector = Selector::read(alloc, &tree)?;
+    let name = String::from_str(alloc, "a")?;
+    Ok(Job::new(name, root, selector, limit)?)
+}
+
+/// The same of a root in hexadecimal.
+pub fn job_of(alloc: Global, root: &str, selector: &str, limit: u32) -> Result<Job, Fail>
+    ensures { IfOk result (λ job. job.limit ≡ limit) }
+{
+    job_at(alloc, cid_of(alloc, root)?, selector, limit)
+}
+
+/// So many jobs of everything below a root in hexadecimal.
+pub fn jobs_of(alloc: Global, root: &str, count: u32, limit: u32) -> Result<Vec<Job>, Fail>
+    requires { limit ≤ 1000000 }
+    ensures small { IfOk result (λ jobs. All (λ job. job.limit ≤ 1000000) jobs.items) }
+    ensures each { IfOk result (λ jobs. length jobs.items ≡ count) }
+{
+    let mut jobs = Vec::new(alloc);
+    for _ in 0..count {
+        jobs.push(job_of(alloc, root, ALL, limit)?)?;
+    }
+    Ok(jobs)
+}

@@ -1,0 +1,191 @@
+//! A collector that receives what verifiers send, in mixed order.
+
+ghost use Rattle.std.specs.Prelude.{◌≡◌, length, IfOk};
+ghost use Rattle.ix_stages.specs.Lanes.{IsLane};
+ghost use Rattle.ix_collect.specs.Collected.{job_count, MayTell};
+
+use ix_car::{End, Sink};
+use ix_check::Verdict;
+use ix_collect::{Collector, drain, finish, round};
+use ix_fixtures::{ABC, Log, cid_of};
+use ix_stages::{LaneIn, LaneOut, Verdicted, lane};
+use ix_walk::Visit;
+use std::alloc::{AllocError, Global};
+use std::process::Abort;
+use std::test::Fail;
+
+// What is sent, of a job: a visit, with a verdict or without, or the close, each with its number.
+#[derive(Drop)]
+enum Sent {
+    Checked(u32, u32),
+    Unchecked(u32, u32),
+    Closed(u32, u32, End),
+    Last,
+}
+
+// Job 0 is done, job 1 has a sink that fails at its second delivery, job 2 a visit that found no
+// memory, and job 3 a walk that did.
+const FOUR_JOBS: [Sent; 12] = [
+    Sent::Checked(0, 2),
+    Sent::Closed(0, 3, End::Done),
+    Sent::Checked(1, 1),
+    Sent::Checked(0, 0),
+    Sent::Checked(1, 0),
+    Sent::Checked(0, 1),
+    Sent::Closed(1, 2, End::Limit),
+    Sent::Closed(2, 2, End::Done),
+    Sent::Unchecked(2, 0),
+    Sent::Last,
+    Sent::Checked(2, 1),
+    Sent::Closed(3, 0, End::Memory),
+];
+
+fn item_of(alloc: Global, sent: &Sent) -> Result<Verdicted, Fail> {
+    Ok(match sent {
+        Sent::Checked(job, seq) => Verdicted::Checked {
+            visit: Visit {
+                job: *job,
+                seq: *seq,
+                depth: 0,
+                cid: cid_of(alloc, ABC)?,
+                block: None,
+                malformed: false,
+            },
+            verdict: Verdict::Missing,
+        },
+        Sent::Unchecked(job, seq) => Verdicted::Unchecked {
+            job: *job,
+            seq: *seq,
+        },
+        Sent::Closed(job, seq, end) => Verdicted::Close {
+            job: *job,
+            seq: *seq,
+            end: *end,
+        },
+        Sent::Last => Verdicted::Last,
+    })
+}
+
+fn receive_all<S: Sink>(
+    alloc: Global,
+    collector: &mut Collector,
+    sinks: &mut [S],
+    items: &[Sent],
+) -> Result<(), Fail>
+    requires sinks { length sinks.old ≡ job_count collector.old }
+    requires may { MayTell S.events S.failed collector.old sinks.old }
+    ensures sinks { length sinks.new ≡ job_count collector.new }
+    ensures jobs { job_count collector.new ≡ job_count collector.old }
+    ensures may { MayTell S.events S.failed collector.new sinks.new }
+{
+    for sent in items {
+        let item = item_of(alloc, sent)?;
+        collector.receive(alloc, item, sinks);
+    }
+    Ok(())
+}
+
+// A lane with room for so many items, into which these were sent.
+fn lane_of(alloc: Global, capacity: u32, items: &[Sent]) -> Result<(LaneIn, LaneOut), Fail>
+    ensures { IfOk result (λ l. IsLane l.0 l.1) }
+{
+    let (mut sender, receiver) = lane(alloc, capacity)?;
+    for sent in items {
+        if sender.try_send(item_of(alloc, sent)?).is_err() {
+            return Err(Fail::from(AllocError));
+        }
+    }
+    Ok((sender, receiver))
+}
+
+// A round over the lanes gives so many items, of which so many are a verifier's last.
+fn round_gives<S: Sink>(
+    rt: &impl Abort,
+    alloc: Global,
+    collector: &mut Collector,
+    lanes: &mut [LaneOut],
+    sinks: &mut [S],
+    wanted: (usize, usize),
+)
+    requires sinks { length sinks.old ≡ job_count collector.old }
+    requires may { MayTell S.events S.failed collector.old sinks.old }
+    ensures sinks { length sinks.new ≡ job_count collector.new }
+    ensures jobs { job_count collector.new ≡ job_count collector.old }
+    ensures may { MayTell S.events S.failed collector.new sinks.new }
+{
+    let received = round(alloc, collector, lanes, sinks);
+    assert!(rt; (received.items, received.lasts) == wanted);
+}
+
+// The log has so many deliveries, in the order of their numbers.
+fn has_in_order(rt: &impl Abort, log: &Log, count: usize) {
+    assert_eq!(rt; log.deliveries.len(), count);
+    for (number, delivery) in log.deliveries.iter().enumerate() {
+        assert!(rt; delivery.visit.seq as usize == number);
+    }
+}
+
+#[test]
+fn ends_of_four_jobs(rt: HostRuntime) -> Result<(), Fail> {
+    let alloc = rt.alloc();
+    let mut logs = [
+        Log::new(alloc, 9)?,
+        Log::new(alloc, 1)?,
+        Log::new(alloc, 9)?,
+        Log::new(alloc, 9)?,
+    ];
+    let mut collector = Collector::new(alloc, 4)?;
+    collector.begins(&logs);
+    let (before, last) = FOUR_JOBS.split_at(11);
+    receive_all(alloc, &mut collector, &mut logs, before)?;
+    assert!(rt; !collector.is_done());
+    receive_all(alloc, &mut collector, &mut logs, last)?;
+    assert!(rt; collector.is_done());
+    let ends = collector.ends(&logs, Vec::with_capacity(alloc, 4)?);
+    assert!(rt; ends.as_slice() == [End::Done, End::Write, End::Memory, End::Memory].as_slice());
+    for (log, count) in logs.iter().zip([3, 1, 0, 0]) {
+        has_in_order(&rt, log, count);
+    }
+    Ok(())
+}
+
+// One lane is read in rounds, one is drained, and two are finished.
+#[test]
+fn lanes_into_one_sink(rt: HostRuntime) -> Result<(), Fail> {
+    let alloc = rt.alloc();
+    let (_sender, receiver) = lane_of(alloc, 2, &[Sent::Checked(0, 1), Sent::Last])?;
+    let mut read = [receiver];
+    let (mut sender, mut receiver) = lane_of(alloc, 1, &[Sent::Checked(0, 0)])?;
+    let (first_in, first_out) = lane_of(alloc, 2, &[Sent::Closed(0, 3, End::Done), Sent::Last])?;
+    let (second_in, second_out) = lane_of(alloc, 3, &[Sent::Checked(0, 2), Sent::Last])?;
+    let mut senders = [first_in, second_in];
+    let mut receivers = [first_out, second_out];
+    let mut logs = [Log::new(alloc, 9)?];
+    let mut collector = Collector::new(alloc, 1)?;
+    collector.begins(&logs);
+    round_gives(&rt, alloc, &mut collector, &mut read, &mut logs, (1, 0));
+    round_gives(&rt, alloc, &mut collector, &mut read, &mut logs, (1, 1));
+    round_gives(&rt, alloc, &mut collector, &mut read, &mut logs, (0, 0));
+    drain(
+        &rt,
+        alloc,
+        &mut collector,
+        &mut sender,
+        &mut receiver,
+        &mut logs,
+    );
+    assert!(rt; !collector.is_done());
+    finish(
+        &rt,
+        alloc,
+        &mut collector,
+        &mut senders,
+        &mut receivers,
+        &mut logs,
+    );
+    assert!(rt; collector.is_done());
+    let ends = collector.ends(&logs, Vec::with_capacity(alloc, 1)?);
+    assert!(rt; ends.as_slice() == [End::Done].as_slice());
+    has_in_order(&rt, &logs[0], 3);
+    Ok(())
+}

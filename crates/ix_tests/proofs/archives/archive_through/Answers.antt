@@ -1,6 +1,0 @@
-use Rattle.ix_car.proofs.Delivered.{open-at_first}
-use Rattle.ix_tests.proofs.archives.archive_through.Goals as goal
-
-pub deliver_all-requires : goal.deliver_all-requires
-deliver_all-requires c =
-    let begun = c.in-Ok.ensures.begun in record { unclosed = open-at_first c.in-Ok.archive begun.no_deliveries begun.not_closed; unfailed = begun.no_failure }

@@ -1,7 +1,0 @@
-use Rattle.std.proofs.Common.{◌≡◌, []}
-use Rattle.ix_car.specs.Events.{IsOpen}
-use Rattle.ix_car.specs.ArchiveMeaning.{events_of}
-use Rattle.ix_tests.proofs.archives.deliver_all.Given as goal
-
-abbrev pub invariant-loop-delivery : goal.invariant-loop-delivery
-invariant-loop-delivery g l = IsOpen (events_of l.archive) × (l.archive.failed ≡ [])

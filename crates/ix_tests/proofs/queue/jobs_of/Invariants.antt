@@ -1,5 +1,0 @@
-use Rattle.std.proofs.Common.{◌≡◌, ◌≤◌, All, length}
-use Rattle.ix_tests.proofs.queue.jobs_of.Given as goal
-
-abbrev pub invariant-loop : goal.invariant-loop
-invariant-loop l = All (λ job. job.limit ≤ 1000000) l.jobs.items × (length l.jobs.items ≡ l.counter)

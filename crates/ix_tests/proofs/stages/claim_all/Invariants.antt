@@ -1,5 +1,0 @@
-use Rattle.std.proofs.Common.{◌≡◌}
-use Rattle.ix_tests.proofs.stages.claim_all.Given as goal
-
-abbrev pub invariant-loop : goal.invariant-loop
-invariant-loop l = l.seat.of ≡ l.claims
