@@ -1,23 +1,23 @@
 -- Slots with one more taken, look-ups through them, and an index of one pair more.
 use Rattle.std.proofs.Common.{◌≡◌, ◌⊎◌, ℕ, zero, suc, ◌+◌, ◌-◌, ◌<◌, ◌≤◌, ◌%◌, true, false, cond, ltb, List, [], ◌∷◌, ◌++◌, length, take, drop, get_or, Some, None, refl, sym, ap, subst, ◌∙◌, zero-add, inl, inr, ⊎_elim, arith, length-drop, length-take, length-set}
-use Rattle.std.specs.Prelude.{Option, bytes_eq}
-use Rattle.std.specs.Option.{is_some}
-use Rattle.std.specs.BTreeMap.{BTreeMap, get, is_at, Updates}
+use Rattle.std.specs.Prelude.{Option, bytes_eq, not}
+use Rattle.std.proofs.Math.Dec.{eqb}
+use Rattle.std.specs.Option.{is_some, unwrap_or}
+use Rattle.std.specs.BTreeMap.{BTreeMap, get, is_at}
 use Rattle.std.specs.Map.{lookup}
 use Rattle.std.specs.Cmp.Lexicographic.{slice_cmp}
 use Rattle.std.specs.Ordering.{nat_cmp}
-use Rattle.std.proofs.lemmas.Bool.{cases_Bool, ltb-true, ltb-false}
+use Rattle.std.proofs.lemmas.Bool.{cases_Bool, ltb-true, ltb-false, false≢true, eq-eqb, ne_eqb}
 use Rattle.std.proofs.lemmas.Slice.Eq.{bytes_eq-Decides}
-use Rattle.std.proofs.lemmas.Map.Text.{is_eq-slice_cmp}
 use Rattle.std.proofs.Math.ListN.{set, drop_of_length-le}
 use Rattle.std.proofs.lemmas.Option.{none-some}
 use Rattle.std.proofs.lemmas.List.{drop-set-lt, drop-set-add, get_or-take, get_or-drop, drop_more, take_all}
 use Rattle.ix_walk.specs.Store.{Blocks, has_cid, position_of}
-use Rattle.ix_walk.specs.Index.{tail_of, first_of, window_of, Leads, AreTaken, IsFirstFree, place_behind, IsIndexed, IsVacancy}
+use Rattle.ix_walk.specs.Index.{tail_of, first_of, window_of, Leads, AreTaken, IsFirstFree, place_behind, AreLedTo, IsFreeSlot, IsIndexed}
 use Rattle.ix_walk.specs.declared.index.Slot.{Slot}
 use Rattle.ix_walk.specs.declared.index.Slot.TheVariants.{Free, Taken}
-use Rattle.ix_walk.specs.declared.index.Vacancy.TheVariants.{At}
 use Rattle.ix_walk.specs.declared.index.Index.{Index}
+use Rattle.ix_walk.proofs.Blocks.{place_within}
 use Rattle.ix_walk.proofs.Stores.{is_some-position, distinct-push, position-push}
 
 -- what a look-up through slots has passed: n of them, all taken, none of them what it looks for
@@ -170,10 +170,10 @@ passed-more l n b t o a q h within at other =
     }
 
 -- behind the last slot the tree has what is there
-pub passed-all : (l : List Slot) (n : ℕ) (b : Option ℕ) (t : ℕ) (o : Option ℕ) → Passed l n b t o → length l ≤ n → b ≡ None → (o ≡ None) × AreTaken l
-passed-all l n b t o h past none =
+pub passed-all : (l : List Slot) (n : ℕ) (b : Option ℕ) (t : ℕ) (o : Option ℕ) → Passed l n b t o → length l ≤ n → AreTaken l × ((p : ℕ) → o ≡ Some p → b ≡ Some p)
+passed-all l n b t o h past =
     let end : drop n l ≡ [] = drop_of_length-le l past in
-    (none-from o (λ p is. none-some p (sym none ∙ subst (λ (r : List Slot). Leads r b t p) end (h.on p is))), subst (λ (r : List Slot). AreTaken r) (take_all n l past) h.taken)
+    (subst (λ (r : List Slot). AreTaken r) (take_all n l past) h.taken, λ p is. subst (λ (r : List Slot). Leads r b t p) end (h.on p is))
 
 -- a CID without a place isn't there
 absent : (es : Blocks) (k : List ℕ) → position_of es k ≡ None → has_cid es k ≡ false
@@ -199,6 +199,89 @@ position-stays es k b c p h is =
     (λ other. sym (position-new es k b c h) ∙ ap (λ v. cond v (Some (length es)) (position_of es c)) other ∙ is)
     (cases_Bool (bytes_eq k c))
 
+-- a look-up comes where it came if the tree has what it came to
+leads-with : (l : List Slot) (b d : Option ℕ) (t p : ℕ) → (b ≡ Some p → d ≡ Some p) → Leads l b t p → Leads l d t p
+leads-with [] b d t p on h = on h
+leads-with (Free ∷ l) b d t p on h = absurd h
+leads-with (Taken a q ∷ l) b d t p on h = ⊎_elim (λ here. inl here) (λ later. inr (leads-with l b d t p on later)) h
+
+-- a table with the new place in a slot
+pub led-slot : (slots : List Slot) (index : Index) (es : Blocks) (k b : List ℕ) (at : ℕ) → AreLedTo slots index es → position_of es k ≡ None → AtFirst slots (tail_of k) at → AreLedTo (set slots at (Taken (tail_of k) (length es))) index (es ++ (k, b) ∷ [])
+led-slot slots index es k b at h new first c p is =
+    let later = set slots at (Taken (tail_of k) (length es)) in
+    ⊎_elim
+    (λ here.
+    subst (λ (d : List ℕ). Leads (window_of later (tail_of d)) (place_behind index d) (tail_of d) p) here.0
+    (subst (λ (q : ℕ). Leads (window_of later (tail_of k)) (place_behind index k) (tail_of k) q) (sym here.1) (first.comes (place_behind index k) (length es))))
+    (λ other. window-set slots at (Taken (tail_of k) (length es)) (place_behind index c) (tail_of c) (tail_of c) p first.free (h c p other.1))
+    (position-split es k b c p new is)
+
+-- a table with the new place in the tree
+pub led-behind : (slots : List Slot) (index : Index) (es : Blocks) (k b : List ℕ) → AreLedTo slots index es → position_of es k ≡ None → AreTaken (window_of slots (tail_of k)) → place_behind index k ≡ Some (length es) → AreLedTo slots index (es ++ (k, b) ∷ [])
+led-behind slots index es k b h new full there c p is =
+    ⊎_elim
+    (λ here.
+    subst (λ (d : List ℕ). Leads (window_of slots (tail_of d)) (place_behind index d) (tail_of d) p) here.0
+    (subst (λ (o : Option ℕ). Leads (window_of slots (tail_of k)) o (tail_of k) p) (sym (there ∙ ap Some (sym here.1))) (leads-past (window_of slots (tail_of k)) (tail_of k) p full)))
+    (λ other. h c p other.1)
+    (position-split es k b c p new is)
+
+-- what the tree has for a CID once it has s for k
+abbrev pub Puts : Index → Index → List ℕ → ℕ → Type 0
+Puts index later k s = (c : List ℕ) → place_behind later c ≡ cond (bytes_eq k c) (Some s) (place_behind index c)
+
+-- the tree then has what it had
+put-keeps : (index later : Index) (k c : List ℕ) (s p q : ℕ) → Puts index later k s → s ≡ unwrap_or (place_behind index k) p → place_behind index c ≡ Some q → place_behind later c ≡ Some q
+put-keeps index later k c s p q puts stood is =
+    ⊎_elim
+    (λ same.
+    let at_k : place_behind index k ≡ Some q = ap (place_behind index) ((bytes_eq-Decides k c).0 same) ∙ is in
+    let sq : s ≡ q = stood ∙ ap (λ (o : Option ℕ). unwrap_or o p) at_k in
+    puts c ∙ ap (λ v. cond v (Some s) (place_behind index c)) same ∙ ap Some sq)
+    (λ other. puts c ∙ ap (λ v. cond v (Some s) (place_behind index c)) other ∙ is)
+    (cases_Bool (bytes_eq k c))
+
+-- a table stays one
+pub led-put : (slots : List Slot) (index later : Index) (es : Blocks) (k : List ℕ) (s p : ℕ) → AreLedTo slots index es → Puts index later k s → s ≡ unwrap_or (place_behind index k) p → AreLedTo slots later es
+led-put slots index later es k s p h puts stood c q is =
+    leads-with (window_of slots (tail_of c)) (place_behind index c) (place_behind later c) (tail_of c) q (put-keeps index later k c s p q puts stood) (h c q is)
+
+-- what is there if it is anything
+unwrap-true : (o : Option ℕ) (p : ℕ) → ((q : ℕ) → o ≡ Some q → q ≡ p) → unwrap_or o p ≡ p
+unwrap-true None p h = refl
+unwrap-true (Some q) p h = h q refl
+
+-- a place that the tree has or is given for a CID is its place
+pub stood-true : (index : Index) (es : Blocks) (k : List ℕ) (s p : ℕ) → IsIndexed index es → position_of es k ≡ Some p → s ≡ unwrap_or (place_behind index k) p → s ≡ p
+stood-true index es k s p h at stood = stood ∙ unwrap-true (place_behind index k) p (λ q is. let e : Some p ≡ Some q = sym at ∙ h.true_behind k q is in let r : q ≡ p = cc in r)
+
+-- an index whose tree was given a place that is true
+pub indexed-put : (index later : Index) (es : Blocks) (k : List ℕ) (s p : ℕ) → IsIndexed index es → position_of es k ≡ Some p → later.slots.items ≡ index.slots.items → Puts index later k s → s ≡ unwrap_or (place_behind index k) p → IsIndexed later es
+indexed-put index later es k s p h at slots puts stood =
+    let sp : s ≡ p = stood-true index es k s p h at stood in
+    record {
+      distinct = h.distinct;
+      leads = subst (λ (l : List Slot). AreLedTo l later es) (sym slots) (led-put index.slots.items index later es k s p h.leads puts stood);
+      true_behind = λ c q is.
+          ⊎_elim
+          (λ same.
+          let e : Some s ≡ Some q = sym (puts c ∙ ap (λ v. cond v (Some s) (place_behind index c)) same) ∙ is in
+          let r : p ≡ q = cc in
+          ap (position_of es) (sym ((bytes_eq-Decides k c).0 same)) ∙ at ∙ ap Some r)
+          (λ other. h.true_behind c q (sym (puts c ∙ ap (λ v. cond v (Some s) (place_behind index c)) other) ∙ is))
+          (cases_Bool (bytes_eq k c));
+    }
+
+-- an index under another table
+pub indexed-table : (index later : Index) (es : Blocks) → IsIndexed index es → later.behind ≡ index.behind → AreLedTo later.slots.items index es → IsIndexed later es
+indexed-table index later es h behind led =
+    let same : (c : List ℕ) → place_behind later c ≡ place_behind index c = λ c. ap (λ (m : BTreeMap (List ℕ) ℕ). get (slice_cmp nat_cmp) m c) behind in
+    record {
+      distinct = h.distinct;
+      leads = λ c p is. subst (λ (o : Option ℕ). Leads (window_of later.slots.items (tail_of c)) o (tail_of c) p) (sym (same c)) (led c p is);
+      true_behind = λ c p is. h.true_behind c p (sym (same c) ∙ is);
+    }
+
 -- the index with the new place in a slot
 pub indexed-slot : (index later : Index) (es : Blocks) (k b : List ℕ) (at : ℕ) → IsIndexed index es → position_of es k ≡ None → AtFirst index.slots.items (tail_of k) at → later.slots.items ≡ set index.slots.items at (Taken (tail_of k) (length es)) → later.behind ≡ index.behind → IsIndexed later (es ++ (k, b) ∷ [])
 indexed-slot index later es k b at h new first slots behind =
@@ -206,44 +289,66 @@ indexed-slot index later es k b at h new first slots behind =
     record {
       distinct = distinct-push es k b h.distinct (absent es k new);
       leads = λ c p is.
-          ⊎_elim
-          (λ here.
-          let at_k : Leads (window_of later.slots.items (tail_of k)) (place_behind later k) (tail_of k) (length es) =
-          subst (λ (l : List Slot). Leads (window_of l (tail_of k)) (place_behind later k) (tail_of k) (length es)) (sym slots) (first.comes (place_behind later k) (length es)) in
-          subst (λ (d : List ℕ). Leads (window_of later.slots.items (tail_of d)) (place_behind later d) (tail_of d) p) here.0
-          (subst (λ (q : ℕ). Leads (window_of later.slots.items (tail_of k)) (place_behind later k) (tail_of k) q) (sym here.1) at_k))
-          (λ other.
           subst (λ (l : List Slot). Leads (window_of l (tail_of c)) (place_behind later c) (tail_of c) p) (sym slots)
-          (window-set index.slots.items at (Taken (tail_of k) (length es)) (place_behind later c) (tail_of c) (tail_of c) p first.free
-          (subst (λ (o : Option ℕ). Leads (window_of index.slots.items (tail_of c)) o (tail_of c) p) (sym (same c)) (h.leads c p other.1))))
-          (position-split es k b c p new is);
+          (subst (λ (o : Option ℕ). Leads (window_of (set index.slots.items at (Taken (tail_of k) (length es))) (tail_of c)) o (tail_of c) p) (sym (same c))
+          (led-slot index.slots.items index es k b at h.leads new first c p is));
       true_behind = λ c p is. position-stays es k b c p new (h.true_behind c p (sym (same c) ∙ is));
     }
 
 -- the index with the new place in the tree
-pub indexed-behind : (index later : Index) (es : Blocks) (k b : List ℕ) → IsIndexed index es → position_of es k ≡ None → AreTaken (window_of index.slots.items (tail_of k)) → later.slots.items ≡ index.slots.items → Updates (slice_cmp nat_cmp) index.behind later.behind k (Some (length es)) → IsIndexed later (es ++ (k, b) ∷ [])
-indexed-behind index later es k b h new full slots updates =
-    let place : (c : List ℕ) → place_behind later c ≡ cond (bytes_eq k c) (Some (length es)) (place_behind index c) =
-    λ c. updates.0 c ∙ ap (λ v. cond v (Some (length es)) (place_behind index c)) (is_eq-slice_cmp k c) in
+pub indexed-behind : (index later : Index) (es : Blocks) (k b : List ℕ) (s : ℕ) → IsIndexed index es → position_of es k ≡ None → AreTaken (window_of index.slots.items (tail_of k)) → later.slots.items ≡ index.slots.items → Puts index later k s → s ≡ unwrap_or (place_behind index k) (length es) → IsIndexed later (es ++ (k, b) ∷ [])
+indexed-behind index later es k b s h new full slots puts stood =
+    let sn : s ≡ length es = stood ∙ unwrap-true (place_behind index k) (length es) (λ q is. absurd (none-some q (sym new ∙ h.true_behind k q is))) in
+    let at_k : place_behind later k ≡ Some (length es) = puts k ∙ ap (λ v. cond v (Some s) (place_behind index k)) ((bytes_eq-Decides k k).1 refl) ∙ ap Some sn in
     record {
       distinct = distinct-push es k b h.distinct (absent es k new);
-      leads = λ c p is.
-          subst (λ (l : List Slot). Leads (window_of l (tail_of c)) (place_behind later c) (tail_of c) p) (sym slots)
-          (⊎_elim
-          (λ here.
-          let full_c : AreTaken (window_of index.slots.items (tail_of c)) = subst (λ (d : List ℕ). AreTaken (window_of index.slots.items (tail_of d))) here.0 full in
-          let at_c : place_behind later c ≡ Some p = place c ∙ ap (λ v. cond v (Some (length es)) (place_behind index c)) ((bytes_eq-Decides k c).1 here.0) ∙ ap Some (sym here.1) in
-          subst (λ (o : Option ℕ). Leads (window_of index.slots.items (tail_of c)) o (tail_of c) p) (sym at_c) (leads-past (window_of index.slots.items (tail_of c)) (tail_of c) p full_c))
-          (λ other.
-          let at_c : place_behind later c ≡ place_behind index c = place c ∙ ap (λ v. cond v (Some (length es)) (place_behind index c)) other.0 in
-          subst (λ (o : Option ℕ). Leads (window_of index.slots.items (tail_of c)) o (tail_of c) p) (sym at_c) (h.leads c p other.1))
-          (position-split es k b c p new is));
+      leads = subst (λ (l : List Slot). AreLedTo l later (es ++ (k, b) ∷ [])) (sym slots)
+          (led-behind index.slots.items later es k b (led-put index.slots.items index later es k s (length es) h.leads puts stood) new full at_k);
       true_behind = λ c p is.
           ⊎_elim
-          (λ same. sym (position-new es k b c new) ∙ ap (λ v. cond v (Some (length es)) (position_of es c)) same ∙ sym (ap (λ v. cond v (Some (length es)) (place_behind index c)) same) ∙ sym (place c) ∙ is)
-          (λ other. position-stays es k b c p new (h.true_behind c p (sym (ap (λ v. cond v (Some (length es)) (place_behind index c)) other) ∙ sym (place c) ∙ is)))
+          (λ same.
+          let e : Some s ≡ Some p = sym (puts c ∙ ap (λ v. cond v (Some s) (place_behind index c)) same) ∙ is in
+          let r : length es ≡ p = cc in
+          sym (position-new es k b c new) ∙ ap (λ v. cond v (Some (length es)) (position_of es c)) same ∙ ap Some r)
+          (λ other. position-stays es k b c p new (h.true_behind c p (sym (puts c ∙ ap (λ v. cond v (Some s) (place_behind index c)) other) ∙ is)))
           (cases_Bool (bytes_eq k c));
     }
+
+-- what comes to the same in both is the same
+same-options : (a b : Option ℕ) → ((p : ℕ) → a ≡ Some p → b ≡ Some p) → ((p : ℕ) → b ≡ Some p → a ≡ Some p) → a ≡ b
+same-options (Some p) b on back = sym (on p refl)
+same-options None None on back = refl
+same-options None (Some p) on back = back p refl
+
+-- where the table hasn't a CID, the tree has its place
+pub found-behind : (index : Index) (es : Blocks) (k : List ℕ) → IsIndexed index es → ((p : ℕ) → position_of es k ≡ Some p → place_behind index k ≡ Some p) → place_behind index k ≡ position_of es k
+found-behind index es k h on = same-options (place_behind index k) (position_of es k) (λ p is. h.true_behind k p is) on
+
+-- a CID is there where it has a place
+pub has-by : (es : Blocks) (k : List ℕ) (o : Option ℕ) → position_of es k ≡ o → has_cid es k ≡ is_some o
+has-by es k o h = sym (is_some-position 0 es k) ∙ ap (λ (p : Option ℕ). is_some p) h
+
+-- the place behind the pairs is the one of a new CID alone
+stood-by : (es : Blocks) (k : List ℕ) (s : ℕ) (o : Option ℕ) → position_of es k ≡ o → s ≡ unwrap_or o (length es) → eqb s (length es) ≡ not (has_cid es k)
+stood-by es k s None at stood = eq-eqb s (length es) stood ∙ ap not (sym (has-by es k None at))
+stood-by es k s (Some q) at stood =
+    let within : q < length es = place_within q es k (sym at) in
+    ne_eqb s (length es) (λ same. omega (arith, within, stood, same)) ∙ ap not (sym (has-by es k (Some q) at))
+
+pub stood-answer : (index : Index) (es : Blocks) (k : List ℕ) (s : ℕ) → IsIndexed index es → ((p : ℕ) → position_of es k ≡ Some p → place_behind index k ≡ Some p) → s ≡ unwrap_or (place_behind index k) (length es) → eqb s (length es) ≡ not (has_cid es k)
+stood-answer index es k s h on stood =
+    stood-by es k s (position_of es k) refl (stood ∙ ap (λ (o : Option ℕ). unwrap_or o (length es)) (found-behind index es k h on))
+
+put-same-at : (index later : Index) (es : Blocks) (k : List ℕ) (s : ℕ) (o : Option ℕ) → position_of es k ≡ o → IsIndexed index es → ((p : ℕ) → position_of es k ≡ Some p → place_behind index k ≡ Some p) → has_cid es k ≡ true → later.slots.items ≡ index.slots.items → Puts index later k s → s ≡ unwrap_or (place_behind index k) (length es) → IsIndexed later es
+put-same-at index later es k s None at h on held slots puts stood = absurd (false≢true (sym (has-by es k None at) ∙ held))
+put-same-at index later es k s (Some q) at h on held slots puts stood =
+    let behind : place_behind index k ≡ Some q = on q at in
+    indexed-put index later es k s q h at slots puts (stood ∙ ap (λ (o : Option ℕ). unwrap_or o (length es)) behind ∙ sym (ap (λ (o : Option ℕ). unwrap_or o q) behind))
+
+-- a tree that had the place of a CID keeps its places
+pub put-same : (index later : Index) (es : Blocks) (k : List ℕ) (s : ℕ) → IsIndexed index es → ((p : ℕ) → position_of es k ≡ Some p → place_behind index k ≡ Some p) → has_cid es k ≡ true → later.slots.items ≡ index.slots.items → Puts index later k s → s ≡ unwrap_or (place_behind index k) (length es) → IsIndexed later es
+put-same index later es k s h on held slots puts stood =
+    put-same-at index later es k s (position_of es k) refl h on held slots puts stood
 
 -- an index whose tree has the same places
 pub indexed-same : (index later : Index) (es : Blocks) → IsIndexed index es → later.slots.items ≡ index.slots.items → ((c : List ℕ) → place_behind later c ≡ place_behind index c) → IsIndexed later es
@@ -256,8 +361,8 @@ indexed-same index later es h slots same = record {
 }
 
 -- a slot to which a place goes is the first free one of its window
-pub vacancy-at : (index : Index) (u slot : ℕ) → IsVacancy index u (At slot) → AtFirst index.slots.items u slot
-vacancy-at index u slot v = at-first index.slots.items u slot v.0 v.1 v.2
+pub free-at : (slots : List Slot) (u slot : ℕ) → IsFreeSlot slots u slot → AtFirst slots u slot
+free-at slots u slot v = at-first slots u slot v.0 v.1 v.2
 
 -- trees with the same entries have the same places
 pub same-behind : (m n : BTreeMap (List ℕ) ℕ) (c : List ℕ) → n.entries ≡ m.entries → get (slice_cmp nat_cmp) n c ≡ get (slice_cmp nat_cmp) m c
@@ -266,3 +371,23 @@ same-behind m n c same = ap (λ (es : List (List ℕ × ℕ)). lookup (is_at (sl
 -- slots that are all taken up to the last
 pub taken-all : (l : List Slot) (n : ℕ) → AreTaken (take n l) → length l ≤ n → AreTaken l
 taken-all l n h past = subst (λ (r : List Slot). AreTaken r) (take_all n l past) h
+
+-- a look-up for another place goes on behind a taken slot
+pub leads-on : (l : List Slot) (n : ℕ) (b : Option ℕ) (t p a q : ℕ) → get_or l n Free ≡ Taken a q → n < length l → (q ≡ p → ⊥) → Leads (drop n l) b t p → Leads (drop (n + 1) l) b t p
+leads-on l n b t p a q at within other h =
+    let next : drop n l ≡ Taken a q ∷ drop (n + 1) l = drop_more l n Free within ∙ ap (λ (s : Slot). s ∷ drop (n + 1) l) at in
+    ⊎_elim (λ here. absurd (other here.1)) (λ later. later) (subst (λ (r : List Slot). Leads r b t p) next h)
+
+-- a look-up comes to no place at a free slot
+pub leads-free : (l : List Slot) (n : ℕ) (b : Option ℕ) (t p : ℕ) → get_or l n Free ≡ Free → n < length l → Leads (drop n l) b t p → ⊥
+leads-free l n b t p at within h =
+    let next : drop n l ≡ Free ∷ drop (n + 1) l = drop_more l n Free within ∙ ap (λ (s : Slot). s ∷ drop (n + 1) l) at in
+    subst (λ (r : List Slot). Leads r b t p) next h
+
+-- behind the last slot it comes to what the tree has
+pub leads-end : (l : List Slot) (n : ℕ) (b : Option ℕ) (t p : ℕ) → length l ≤ n → Leads (drop n l) b t p → b ≡ Some p
+leads-end l n b t p past h = subst (λ (r : List Slot). Leads r b t p) (drop_of_length-le l past) h
+
+-- what the tree has for the CID that was put
+pub behind-put : (index later : Index) (es : Blocks) (k : List ℕ) (s p : ℕ) → IsIndexed index es → position_of es k ≡ Some p → Puts index later k s → s ≡ unwrap_or (place_behind index k) p → place_behind later k ≡ Some p
+behind-put index later es k s p h at puts stood = puts k ∙ ap (λ v. cond v (Some s) (place_behind index k)) ((bytes_eq-Decides k k).1 refl) ∙ ap Some (stood-true index es k s p h at stood)

@@ -7,10 +7,8 @@ use Rattle.std.specs.Int.{w64, from_le_bytes}
 use Rattle.ix_walk.specs.Store.{Blocks, HasDistinctCids, position_of}
 use Rattle.ix_walk.specs.declared.index.Slot.{Slot}
 use Rattle.ix_walk.specs.declared.index.Slot.TheVariants.{Free, Taken}
-use Rattle.ix_walk.specs.declared.index.Vacancy.{Vacancy}
-use Rattle.ix_walk.specs.declared.index.Vacancy.TheVariants.{At, Behind}
 use Rattle.ix_walk.specs.declared.index.Seat.{Seat}
-use Rattle.ix_walk.specs.declared.index.Seat.TheVariants.{Held, Vacant}
+use Rattle.ix_walk.specs.declared.index.Seat.TheVariants.{Held, Open, Behind}
 use Rattle.ix_walk.specs.declared.index.Index.{Index}
 
 -- the number of a CID: its last eight bytes, the first the lowest; 0 for a shorter one
@@ -49,18 +47,27 @@ IsFirstFree (Taken t p ∷ slots) (suc n) = IsFirstFree slots n
 abbrev pub place_behind : Index → List ℕ → Option ℕ
 place_behind index c = get (slice_cmp nat_cmp) index.behind c
 
+-- a look-up through these slots, and behind them in the tree of the index, comes to the place of each CID
+abbrev pub AreLedTo : List Slot → Index → Blocks → Type 0
+AreLedTo slots index blocks = (c : List ℕ) (place : ℕ) → position_of blocks c ≡ Some place → Leads (window_of slots (tail_of c)) (place_behind index c) (tail_of c) place
+
 -- an index of pairs with distinct CIDs: the look-up of each comes to its place, and the tree has no wrong one
 pub record IsIndexed (index : Index) (blocks : Blocks) : Type 0 where
   pub distinct : HasDistinctCids blocks
-  pub leads : (c : List ℕ) (place : ℕ) → position_of blocks c ≡ Some place → Leads (window_of index.slots.items (tail_of c)) (place_behind index c) (tail_of c) place
+  pub leads : AreLedTo index.slots.items index blocks
   pub true_behind : (c : List ℕ) (place : ℕ) → place_behind index c ≡ Some place → position_of blocks c ≡ Some place
 
--- where the place of a number goes that the index hasn't: the first free slot of its look-up, or the tree
-abbrev pub IsVacancy : Index → ℕ → Vacancy → Type 0
-IsVacancy index tail (At slot) = (n : ℕ) × (slot ≡ first_of index.slots.items tail + n) × IsFirstFree (window_of index.slots.items tail) n
-IsVacancy index tail Behind = AreTaken (window_of index.slots.items tail)
+-- a slot is the first free one of the look-up of a number
+abbrev pub IsFreeSlot : List Slot → ℕ → ℕ → Type 0
+IsFreeSlot slots tail slot = (n : ℕ) × (slot ≡ first_of slots tail + n) × IsFirstFree (window_of slots tail) n
 
--- where a CID stands, or where its place goes
+-- what a search for it answers
+abbrev pub FindsFree : List Slot → ℕ → Option ℕ → Type 0
+FindsFree slots tail (Some slot) = IsFreeSlot slots tail slot
+FindsFree slots tail None = AreTaken (window_of slots tail)
+
+-- where the table has a CID, or where its place goes; where that is the tree, the tree has what is there
 abbrev pub IsSeat : Index → Blocks → List ℕ → Seat → Type 0
 IsSeat index blocks c (Held place) = position_of blocks c ≡ Some place
-IsSeat index blocks c (Vacant vacancy) = (position_of blocks c ≡ None) × IsVacancy index (tail_of c) vacancy
+IsSeat index blocks c (Open slot) = (position_of blocks c ≡ None) × IsFreeSlot index.slots.items (tail_of c) slot
+IsSeat index blocks c Behind = AreTaken (window_of index.slots.items (tail_of c)) × ((place : ℕ) → position_of blocks c ≡ Some place → place_behind index c ≡ Some place)

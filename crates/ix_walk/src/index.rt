@@ -5,9 +5,10 @@
 //! one number, or with numbers that come to one slot. So a look-up goes through a bounded number of slots, and
 //! what finds none of them free goes to a tree over whole CIDs.
 
-ghost use Rattle.std.specs.Prelude.{◌≡◌, ◌↔◌, ◌++◌, List, [], ◌∷◌, map, None, Some, IsTrue, IfOk, OnOk, OnErr, ℕ};
+ghost use Rattle.std.specs.Prelude.{◌≡◌, ◌↔◌, ◌++◌, List, [], ◌∷◌, map, Option, Some, true, false, not, IsTrue, IfOk, OnErr, ℕ, bytes_eq, if◌then◌else◌};
+ghost use Rattle.std.specs.Option.{unwrap_or};
 ghost use Rattle.ix_walk.specs.Store.{has_cid, position_of, HasDistinctCids};
-ghost use Rattle.ix_walk.specs.Index.{tail_of, first_of, window_of, IsIndexed, IsVacancy, IsSeat};
+ghost use Rattle.ix_walk.specs.Index.{tail_of, first_of, window_of, place_behind, Leads, AreLedTo, IsIndexed, FindsFree, IsSeat};
 
 use crate::entry::Entry;
 use ix_cid::Cid;
@@ -27,21 +28,16 @@ pub(crate) enum Slot {
     Taken { tail: u64, place: usize },
 }
 
-// Where the place of a CID goes that the index hasn't: a slot of the table, or the tree.
-#[derive(Clone, Copy)]
-pub(crate) enum Vacancy {
-    At(usize),
-    Behind,
-}
-
-// Where the entry of a CID stands, or where its place goes.
+// Where the table has the entry of a CID, or the free slot where its place goes, or that it goes to the tree.
 #[derive(Clone, Copy)]
 pub(crate) enum Seat {
     Held(usize),
-    Vacant(Vacancy),
+    Open(usize),
+    Behind,
 }
 
-// A table of slots, and a tree behind it for the CIDs that found no free slot.
+// A table of slots, and a tree behind it for the CIDs that found no free slot. What once stood in the tree
+// stays there.
 #[derive(Drop)]
 pub(crate) struct Index {
     slots: Vec<Slot>,
@@ -59,22 +55,6 @@ impl Index {
         }
     }
 
-    // The index of these entries, in whose table look-ups begin at so many slots.
-    fn with_starts(alloc: Global, entries: &[Entry], starts: usize) -> Result<Index, AllocError>
-        requires { HasDistinctCids (map (λ e. (e.cid, e.block.items)) entries.now) }
-        ensures { IfOk result (λ index. IsIndexed index (map (λ e. (e.cid, e.block.items)) entries.now)) }
-    {
-        let mut index = Index {
-            slots: vec![in alloc; Slot::Free; starts.saturating_add(PROBES - 1)]?,
-            behind: BTreeMap::new(alloc),
-        };
-        for (place, entry) in entries.iter().enumerate() {
-            let vacancy = index.vacancy(tail_of(&entry.cid));
-            index.fill(alloc, &entries[..place], vacancy, &entry.cid)?;
-        }
-        Ok(index)
-    }
-
     // The index with room for one entry more: its table is doubled where half of its slots may be taken.
     pub(crate) fn make_room(&mut self, alloc: Global, entries: &[Entry]) -> Result<(), AllocError>
         requires { IsIndexed self.old (map (λ e. (e.cid, e.block.items)) entries.now) }
@@ -83,56 +63,83 @@ impl Index {
         let starts = self.slots.len().saturating_sub(PROBES - 1);
         if entries.len() >= starts / 2 {
             let more = starts.saturating_mul(2).max(LEAST_STARTS);
-            *self = Index::with_starts(alloc, entries, more)?;
+            self.slots = self.table_of(alloc, entries, more)?;
         }
         Ok(())
     }
 
-    // The slot at which the look-up of a number begins, and those through which it goes.
-    fn window(&self, tail: u64) -> (usize, &[Slot])
-        ensures first { result.0 ≡ first_of self.now.slots.items tail }
-        ensures slots { result.1.now ≡ window_of self.now.slots.items tail }
+    // A table of these entries for this index, in which look-ups begin at so many slots. The entries that find no
+    // free slot there go to the tree, unless they stand there.
+    fn table_of(
+        &mut self,
+        alloc: Global,
+        entries: &[Entry],
+        starts: usize,
+    ) -> Result<Vec<Slot>, AllocError>
+        requires { IsIndexed self.old (map (λ e. (e.cid, e.block.items)) entries.now) }
+        ensures same { IsIndexed self.new (map (λ e. (e.cid, e.block.items)) entries.now) }
+        ensures table { IfOk result (λ slots. AreLedTo slots.items self.new (map (λ e. (e.cid, e.block.items)) entries.now)) }
     {
-        let starts = self.slots.len().saturating_sub(PROBES - 1);
-        if starts == 0 {
-            return (tail as usize, &[]);
+        let mut slots = vec![in alloc; Slot::Free; starts.saturating_add(PROBES - 1)]?;
+        for (place, entry) in entries.iter().enumerate() {
+            let tail = tail_of(&entry.cid);
+            match free_slot(slots.as_slice(), tail) {
+                Some(slot) => slots[slot] = Slot::Taken { tail, place },
+                None if self.has_place(tail, place) => {
+                    self.put_behind(alloc, &entry.cid, place)?;
+                }
+                None => {}
+            }
         }
-        let first = (tail % starts as u64) as usize;
-        (first, &self.slots[first..first + PROBES])
+        Ok(slots)
     }
 
-    // Where the place of a CID with this number goes that the index hasn't.
-    fn vacancy(&self, tail: u64) -> Vacancy
-        ensures { IsVacancy self.now tail result }
+    // Whether the look-up of a number goes through a slot with this place. Where it doesn't, only the tree can
+    // lead to it.
+    fn has_place(&self, tail: u64, place: usize) -> bool
+        ensures { result ≡ false → (behind : Option ℕ) → Leads (window_of self.now.slots.items tail) behind tail place → behind ≡ Some place }
     {
-        let (first, window) = self.window(tail);
-        for (step, slot) in window.iter().enumerate() {
-            let Slot::Taken { .. } = *slot else {
-                return Vacancy::At(first + step);
-            };
+        let (_, window) = window(self.slots.as_slice(), tail);
+        for slot in window {
+            if let Slot::Taken { place: other, .. } = *slot {
+                if other == place {
+                    return true;
+                }
+            }
         }
-        Vacancy::Behind
+        false
     }
 
-    // Where the entry of a CID stands, or where its place goes.
-    pub(crate) fn seat(&self, entries: &[Entry], cid: &Cid) -> Seat
+    // The place that the tree has for a CID. Where it has none, it is given this one.
+    fn put_behind(&mut self, alloc: Global, cid: &Cid, place: usize) -> Result<usize, AllocError>
+        ensures slots { self.new.slots ≡ self.old.slots }
+        ensures stood { IfOk result (λ stood. stood ≡ unwrap_or (place_behind self.old cid.now) place) }
+        ensures put { IfOk result (λ stood. (c : List ℕ) → place_behind self.new c ≡ (if bytes_eq cid.now c then Some stood else place_behind self.old c)) }
+        ensures err { OnErr result ((c : List ℕ) → place_behind self.new c ≡ place_behind self.old c) }
+    {
+        let key = cid.try_clone(alloc)?;
+        match self.behind.entry(key) {
+            Ok(entry) => Ok(*entry.or_insert(place)),
+            Err(_) => Err(AllocError),
+        }
+    }
+
+    // Where the table has the entry of a CID, or where its place goes.
+    fn seat(&self, entries: &[Entry], cid: &Cid) -> Seat
         requires { IsIndexed self.now (map (λ e. (e.cid, e.block.items)) entries.now) }
         ensures { IsSeat self.now (map (λ e. (e.cid, e.block.items)) entries.now) cid.now result }
     {
         let tail = tail_of(cid);
-        let (first, window) = self.window(tail);
+        let (first, window) = window(self.slots.as_slice(), tail);
         for (step, slot) in window.iter().enumerate() {
             let Slot::Taken { tail: other, place } = *slot else {
-                return Seat::Vacant(Vacancy::At(first + step));
+                return Seat::Open(first + step);
             };
             if other == tail && holds(entries, place, cid) {
                 return Seat::Held(place);
             }
         }
-        match self.behind.get(cid) {
-            Some(place) => Seat::Held(*place),
-            None => Seat::Vacant(Vacancy::Behind),
-        }
+        Seat::Behind
     }
 
     // Where the entry of a CID stands.
@@ -142,41 +149,64 @@ impl Index {
     {
         match self.seat(entries, cid) {
             Seat::Held(place) => Some(place),
-            Seat::Vacant(_) => None,
+            Seat::Open(_) => None,
+            Seat::Behind => self.behind.get(cid).copied(),
         }
     }
 
-    // Puts the place behind the entries where the place of this new CID goes.
-    pub(crate) fn fill(
+    // Enters the place behind the entries for a CID, unless its entry is among them, and tells whether it did.
+    pub(crate) fn enter(
         &mut self,
         alloc: Global,
         entries: &[Entry],
-        vacancy: Vacancy,
         cid: &Cid,
-    ) -> Result<(), AllocError>
-        requires indexed { IsIndexed self.old (map (λ e. (e.cid, e.block.items)) entries.now) }
-        requires absent { position_of (map (λ e. (e.cid, e.block.items)) entries.now) cid.now ≡ None }
-        requires vacant { IsVacancy self.old (tail_of cid.now) vacancy }
-        ensures filled { OnOk result ((b : List ℕ) → IsIndexed self.new (map (λ e. (e.cid, e.block.items)) entries.now ++ (cid.now, b) ∷ [])) }
+    ) -> Result<bool, AllocError>
+        requires { IsIndexed self.old (map (λ e. (e.cid, e.block.items)) entries.now) }
+        ensures answer { IfOk result (λ entered. entered ≡ not (has_cid (map (λ e. (e.cid, e.block.items)) entries.now) cid.now)) }
+        ensures entered { IfOk result (λ entered. IsTrue entered → (b : List ℕ) → IsIndexed self.new (map (λ e. (e.cid, e.block.items)) entries.now ++ (cid.now, b) ∷ [])) }
+        ensures held { IfOk result (λ entered. entered ≡ false → IsIndexed self.new (map (λ e. (e.cid, e.block.items)) entries.now)) }
         ensures err { OnErr result (IsIndexed self.new (map (λ e. (e.cid, e.block.items)) entries.now)) }
     {
         let place = entries.len();
-        match vacancy {
-            Vacancy::At(slot) => {
-                self.slots[slot] = Slot::Taken {
-                    tail: tail_of(cid),
-                    place,
-                };
+        match self.seat(entries, cid) {
+            Seat::Held(_) => Ok(false),
+            Seat::Open(slot) => {
+                let tail = tail_of(cid);
+                self.slots[slot] = Slot::Taken { tail, place };
+                Ok(true)
             }
-            Vacancy::Behind => {
-                let key = cid.try_clone(alloc)?;
-                if self.behind.insert(key, place).is_err() {
-                    return Err(AllocError);
-                }
+            Seat::Behind => {
+                let stood = self.put_behind(alloc, cid, place)?;
+                Ok(stood == place)
             }
         }
-        Ok(())
     }
+}
+
+// The slot at which the look-up of a number begins, and those through which it goes.
+fn window(slots: &[Slot], tail: u64) -> (usize, &[Slot])
+    ensures first { result.0 ≡ first_of slots.now tail }
+    ensures slots { result.1.now ≡ window_of slots.now tail }
+{
+    let starts = slots.len().saturating_sub(PROBES - 1);
+    if starts == 0 {
+        return (tail as usize, &[]);
+    }
+    let first = (tail % starts as u64) as usize;
+    (first, &slots[first..first + PROBES])
+}
+
+// The first free slot of the look-up of a number.
+fn free_slot(slots: &[Slot], tail: u64) -> Option<usize>
+    ensures { FindsFree slots.now tail result }
+{
+    let (first, window) = window(slots, tail);
+    for (step, slot) in window.iter().enumerate() {
+        let Slot::Taken { .. } = *slot else {
+            return Some(first + step);
+        };
+    }
+    None
 }
 
 // The number of a CID.

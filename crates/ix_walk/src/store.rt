@@ -4,7 +4,7 @@ ghost use Rattle.std.specs.Prelude.{◌≡◌, ◌<◌, [], ◌∷◌, ◌++◌,
 ghost use Rattle.ix_walk.specs.Store.{has_cid, with_block, position_of};
 
 use crate::entry::Entry;
-use crate::index::{Index, Seat, holds};
+use crate::index::{Index, holds};
 use ix_cid::Cid;
 use std::alloc::{AllocError, Global};
 use std::marker::Model;
@@ -48,12 +48,11 @@ impl Store {
         ensures err { OnErr result (self.new ≡ self.old) }
     {
         self.index.make_room(self.alloc, self.entries.as_slice())?;
-        let Seat::Vacant(vacancy) = self.index.seat(self.entries.as_slice(), &cid) else {
-            return Ok(false);
-        };
         self.entries.reserve(1)?;
-        self.index
-            .fill(self.alloc, self.entries.as_slice(), vacancy, &cid)?;
+        let entered = self.index.enter(self.alloc, self.entries.as_slice(), &cid)?;
+        if !entered {
+            return Ok(false);
+        }
         self.entries.push_reserved(Entry { cid, block: bytes });
         Ok(true)
     }
@@ -65,14 +64,15 @@ impl Store {
         ensures err { OnErr result (self.new ≡ self.old) }
     {
         self.index.make_room(self.alloc, self.entries.as_slice())?;
-        let seat = self.index.seat(self.entries.as_slice(), &cid);
-        let Seat::Vacant(vacancy) = seat else {
-            return Ok(false);
-        };
-        let copy = Vec::from_slice(self.alloc, block)?;
         self.entries.reserve(1)?;
-        self.index
-            .fill(self.alloc, self.entries.as_slice(), vacancy, &cid)?;
+        let mut copy = Vec::with_capacity(self.alloc, block.len())?;
+        let is_new = self.index.enter(self.alloc, self.entries.as_slice(), &cid)?;
+        if !is_new {
+            return Ok(false);
+        }
+        if copy.extend_from_slice(block).is_err() {
+            unreachable!();
+        }
         self.entries.push_reserved(Entry { cid, block: copy });
         Ok(true)
     }
