@@ -1,7 +1,8 @@
 #!/usr/bin/env bash
 # Runs the built program with each of its requests for memory refused in turn, and with each set of its
-# thread starts refused. No run may end by a signal, and each archive is the wanted one where its job is
-# told as done, and else a beginning of it. Ends with status 1 at the first run that is wrong.
+# thread starts refused, also where one check never finds memory. No run may end by a signal, and each
+# archive is the wanted one where its job is told as done, and else a beginning of it. Ends with status 1
+# at the first run that is wrong.
 # The library that refuses is made by the toolchain's own compiler; without one this says so and ends well.
 set -Eeuo pipefail
 export LC_ALL=C
@@ -26,6 +27,10 @@ title='before the first run'
 source "$top/tests/program/cases.sh"
 source "$top/tests/program/blocks.sh"
 runs=0
+# The request that is refused in every run, as START:NUMBER for the NUMBERth of the thread of that start, and
+# how jobs end where every kind of thread was started.
+held=
+ended='done|limit'
 cd "$scratch"
 
 fail() {
@@ -37,13 +42,13 @@ fail() {
 
 # run REQUEST THREADS WORD..: one run in an empty output folder.
 run() {
-  title="request $1 and threads $2 refused of ${*:3}"
+  title="request $1, threads $2 and '$held' refused of ${*:3}"
   runs=$((runs + 1))
   rm -rf out counts
   mkdir out
   status=0
-  timeout 60 env REFUSE_REQUEST="$1" REFUSE_THREADS="$2" REFUSE_COUNTS="$scratch/counts" LD_PRELOAD="$library" \
-    "$program" "${@:3}" <input >stdout 2>stderr || status=$?
+  timeout 60 env REFUSE_REQUEST="$1" REFUSE_THREADS="$2" ${held:+"REFUSE_OF=$held"} REFUSE_COUNTS="$scratch/counts" \
+    LD_PRELOAD="$library" "$program" "${@:3}" <input >stdout 2>stderr || status=$?
 }
 
 # begins FILE WHOLE: the file is the whole one or a beginning of it.
@@ -122,7 +127,7 @@ each_start() {
       if ((set >> $1 == all || (set & all) == all)); then
         [ "$(told "$name")" = start ] || fail "$name did not end with start"
       else
-        [[ $(told "$name") == @(done|limit) ]] || fail "$name did not end as it should"
+        [[ $(told "$name") == @($ended) ]] || fail "$name did not end as it should"
       fi
     done
   done
@@ -150,6 +155,39 @@ write_jobs "a $(text "$fork_cid") 100 $all"
 each_of blocks.car jobs.txt damaged a
 write_jobs {a,b,c}" $(text "$fork_cid") 100 $all"
 each_of blocks.car jobs.txt damaged a b c
+
+# A check that finds no memory for the third visit of a job: the job ends with memory, and the next is done.
+# One verifier checks all visits in order, and its receipts are what it asks memory for, so some request of
+# its thread, the first that is started, is for that visit's.
+inner=81$(link "$one_cid")
+inner_cid=$(cbor "$inner")
+outer=81$(link "$inner_cid")
+outer_cid=$(cbor "$outer")
+write_blocks "$(section "$outer_cid" "$outer")" "$(section "$inner_cid" "$inner")" "$one_blocks"
+chain=$(section "$outer_cid" "$outer")$(section "$inner_cid" "$inner")$one_blocks
+mkdir chain
+bytes "$one_archive" >chain/first.car
+bytes "$(header "$outer_cid")" "$chain" | tee chain/a.car >chain/b.car
+write_jobs "first $one_job" {a,b}" $(text "$outer_cid") 100 $all"
+wanted=chain jobs=(first a b)
+words=(jobs --blocks blocks.car --jobs jobs.txt --out out)
+for number in $(seq 50); do
+  held=0:$number
+  run 0 0 "${words[@]}" --walkers 1 --verifiers 1
+  judge_jobs
+  ! grep -q '^a memory visits=2 ' stdout || break
+done
+expect_text 'the report' "first $one_line
+a memory visits=2 kept=2 sections=2 bytes=$((59 + 2 * 79))
+b done visits=4 kept=4 sections=4 bytes=336
+total jobs=3 done=2 skips=0" "$(<stdout)"
+ended='done|memory'
+each_start 1
+each_start 2
+for threads in 1 2; do
+  each_request judge_jobs "${words[@]}" --walkers "$threads" --verifiers "$threads"
+done
+held=
 
 cp "$top/crates/ix_export/stdin" input
 mapfile -t root <"$top/crates/ix_export/args"

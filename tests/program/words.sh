@@ -29,6 +29,7 @@ words_refused jobs "${inputs[@]}" --out
 words_refused jobs "${inputs[@]}" --out out --quiet
 words_refused jobs "${inputs[@]}" --out out more
 words_refused jobs "${inputs[@]}" --out out --sync --sync
+words_refused jobs "${inputs[@]}" --out out --progress --progress
 words_refused selector '{".":{}}' more
 words_refused selector '{".":{}}' --hex a1612ea0
 words_refused selector --hex
@@ -62,7 +63,7 @@ helps -h -- root jobs selector
 helps root --help -- '--cid <TEXT>' hexadecimal 'standard input' 'Status: 0'
 helps jobs --help -- 'NAME ROOT LIMIT SELECTOR' '--blocks <FILE>' '--jobs <FILE>' '--out <DIR>' '--walkers <N>' \
   '--verifiers <N>' '1 to 64' 'default: 4' "$abc_text 1000 $matcher" 1000000 DIR/NAME.car damaged 'Status: 0' 1073741824 \
-  DIR/NAME.car.part --sync 'counts twice' SHA-256 'the command `selector`'
+  DIR/NAME.car.part --sync --progress 'counts twice' SHA-256 'the command `selector`'
 helps selector --help -- '--hex <TEXT>' '[JSON]' '{"R":{"l":{"none":{}},":>":{"a":{">":{"@":{}}}}}}' docs/SELECTORS.md
 
 for word in --version -V; do

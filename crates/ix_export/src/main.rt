@@ -4,21 +4,25 @@
 mod failure;
 mod files;
 mod outputs;
+mod progress;
 mod words;
 
-ghost use Rattle.std.specs.Prelude.{◌≤◌};
+ghost use Rattle.std.specs.Prelude.{◌≡◌, ◌≤◌, length};
+ghost use Rattle.std.specs.Arc.{arc_value};
 
 use clap::ArgMatches;
 use failure::Failure;
 use files::{read_all, read_file, stand_in};
 use ix_notation::{hex_of_json, json_of_hex};
 use ix_pipeline::Plan;
-use ix_run::{prepare, printed_root, root_of_text, run};
+use ix_run::{RunFault, RunOut, prepare, printed_root, root_of_text, run, run_watched};
+use ix_walk::{Job, Store};
 use outputs::{make_outputs, name_outputs, remove_outputs};
+use progress::Progress;
 use std::io::Write;
 use std::process::ExitCode;
 use std::rt::{Env, Files};
-use std::sync::Wait;
+use std::sync::{Arc, Wait};
 use std::thread::Threads;
 use std::{env, io};
 use words::command_line;
@@ -37,7 +41,7 @@ fn main(rt: HostRuntime) -> ExitCode {
 }
 
 // Does what the words say, and answers the status.
-fn obey<R: AllocGlobal + Env + Files + Input + Print + Threads + Wait + Sync>(
+fn obey<R: AllocGlobal + Env + Eprint + Files + Input + Print + Threads + Wait + Sync>(
     rt: &R,
 ) -> Result<u8, Failure> {
     let alloc = rt.alloc();
@@ -81,7 +85,7 @@ fn export_one<R: AllocGlobal + Input + Print>(rt: &R, text: &str) -> Result<u8, 
 
 // The command `jobs`: its faults come in the order blocks, job file, what they hold, outputs. A run
 // that is refused leaves no output.
-fn export_jobs<'a, R: AllocGlobal + Files + Print + Threads + Wait + Sync>(
+fn export_jobs<'a, R: AllocGlobal + Eprint + Files + Print + Threads + Wait + Sync>(
     rt: &R,
     words: &ArgMatches<'a>,
 ) -> Result<u8, Failure> {
@@ -94,13 +98,7 @@ fn export_jobs<'a, R: AllocGlobal + Files + Print + Threads + Wait + Sync>(
     drop((car, file));
     let folder = words.get_str("out").unwrap_or("");
     let writers = make_outputs(rt, folder, jobs.as_slice(), inputs)?;
-    let plan = Plan {
-        walkers: threads(words, "walkers"),
-        queue: QUEUE,
-        lane: LANE,
-    };
-    let verifiers = threads(words, "verifiers");
-    let out = match run(rt, alloc, &store, &jobs, writers, verifiers, plan) {
+    let out = match run_by_words(rt, words, &store, &jobs, writers) {
         Ok(out) => out,
         Err(fault) => {
             remove_outputs(rt, folder, jobs.as_slice(), jobs.len());
@@ -120,6 +118,31 @@ fn export_jobs<'a, R: AllocGlobal + Files + Print + Threads + Wait + Sync>(
     named?;
     drop(standing);
     Ok(out.status)
+}
+
+// Runs the jobs by as many threads as the words say, and tells how it goes on where they ask for that.
+fn run_by_words<'a, R: AllocGlobal + Eprint + Threads + Wait + Sync, W: Write + Drop>(
+    rt: &R,
+    words: &ArgMatches<'a>,
+    store: &Arc<Store>,
+    jobs: &Arc<Vec<Job>>,
+    writers: Vec<W>,
+) -> Result<RunOut<W>, RunFault>
+    requires writers { length writers.items ≡ length (arc_value jobs.now).items }
+    requires jobs { length (arc_value jobs.now).items ≤ 1000 }
+{
+    let alloc = rt.alloc();
+    let verifiers = threads(words, "verifiers");
+    let plan = Plan {
+        walkers: threads(words, "walkers"),
+        queue: QUEUE,
+        lane: LANE,
+    };
+    if !words.get_flag("progress") {
+        return run(rt, alloc, store, jobs, writers, verifiers, plan);
+    }
+    let progress = Progress::new(rt, jobs.len());
+    run_watched(rt, alloc, store, jobs, writers, verifiers, plan, &progress)
 }
 
 // How many threads the option with this name asks for. The command line has let no number through

@@ -42,6 +42,10 @@ start) and what was counted, then a line for each link that was skipped (codec, 
 damaged, malformed), and at last the totals. Codecs other than raw and DAG-CBOR, and hashes other\n\
 than SHA-256, are skipped; UnixFS isn't read.\n\
 \n\
+With --progress a line goes to standard error when the archive of a job is closed and after each\n\
+100000 visits: how many jobs of all are closed, how many visits were delivered, and how many bytes\n\
+of archives were written.\n\
+\n\
 Status: 0 where every job is done and nothing was skipped, 3 where every job is done and something\n\
 was skipped, 4 where a job ended otherwise, 2 where the words or a file are refused, with a line\n\
 on standard error. A file has at most 1073741824 bytes.";
@@ -86,7 +90,16 @@ fn jobs_command<'a>(alloc: Global) -> Result<Command<'a>, AllocError> {
         .arg(text_argument(alloc, "out", "DIR", "Where the archives go"))?
         .arg(number_argument(alloc, "walkers", "How many threads walk, 1 to 64"))?
         .arg(number_argument(alloc, "verifiers", "How many threads hash, 1 to 64"))?
-        .arg(sync_argument(alloc))
+        .arg(flag_argument(
+            alloc,
+            "sync",
+            "Each archive is on the disk before it gets its name",
+        ))?
+        .arg(flag_argument(
+            alloc,
+            "progress",
+            "Tells on standard error how the run goes on",
+        ))
 }
 
 fn selector_command<'a>(alloc: Global) -> Result<Command<'a>, AllocError> {
@@ -127,10 +140,10 @@ fn number_argument<'a>(alloc: Global, name: &'a str, help: &'a str) -> Arg<'a> {
         .action(ArgAction::Set)
 }
 
-// The option that has the archives on the disk before they get their names.
-fn sync_argument<'a>(alloc: Global) -> Arg<'a> {
-    Arg::new(alloc, "sync")
-        .long("sync")
-        .help("Each archive is on the disk before it gets its name")
+// An option without a value.
+fn flag_argument<'a>(alloc: Global, name: &'a str, help: &'a str) -> Arg<'a> {
+    Arg::new(alloc, name)
+        .long(name)
+        .help(help)
         .action(ArgAction::SetTrue)
 }

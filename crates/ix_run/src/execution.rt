@@ -9,6 +9,7 @@ ghost use Rattle.ix_run.specs.declared.fault.RunFault.TheVariants.{Memory};
 ghost use Rattle.ix_run.specs.Run.{HasRun, EachRun, IsRunRefusal, EachBegun, EachEnded, IsEndOf};
 
 use crate::fault::RunFault;
+use crate::watch::{Unwatched, Watch, Watched};
 use ix_car::{Archive, ArchiveNew, End};
 use ix_check::{Check, ShaCheck};
 use ix_jobs::{JobResult, report, status};
@@ -49,7 +50,29 @@ pub fn run<R: Threads + Wait + Sync, W: Write + Drop>(
     ensures ran { IfOk result (λ out. HasRun W.contents (arc_value store.now) (arc_value jobs.now).items writers.items out) }
     ensures refused { IfErr result (λ fault. IsRunRefusal (arc_value jobs.now).items fault) }
 {
-    let (results, writers) = run_by(rt, alloc, store, jobs, writers, verifiers, plan)?;
+    let watch = Unwatched;
+    run_watched(rt, alloc, store, jobs, writers, verifiers, plan, &watch)
+}
+
+/// The same, of which a watch is told while it goes on: at first of the bytes of each header, then of
+/// each delivery and its bytes, and of each close.
+pub fn run_watched<R: Threads + Wait + Sync, W: Write + Drop, V: Watch>(
+    rt: &R,
+    alloc: Global,
+    store: &Arc<Store>,
+    jobs: &Arc<Vec<Job>>,
+    writers: Vec<W>,
+    verifiers: u32,
+    plan: Plan,
+    watch: &V,
+) -> Result<RunOut<W>, RunFault>
+    requires writers { length writers.items ≡ length (arc_value jobs.now).items }
+    requires jobs { length (arc_value jobs.now).items ≤ 1000 }
+    requires plan { IsPlan plan verifiers }
+    ensures ran { IfOk result (λ out. HasRun W.contents (arc_value store.now) (arc_value jobs.now).items writers.items out) }
+    ensures refused { IfErr result (λ fault. IsRunRefusal (arc_value jobs.now).items fault) }
+{
+    let (results, writers) = run_by(rt, alloc, store, jobs, writers, verifiers, plan, watch)?;
     let report = report(alloc, jobs.as_slice(), results.as_slice())?;
     let status = status(results.as_slice());
     let ends = ends_of(alloc, results.as_slice())?;
@@ -69,7 +92,7 @@ fn ends_of(alloc: Global, results: &[JobResult]) -> Result<Vec<End>, AllocError>
 }
 
 // Runs the jobs over the store by walkers and verifiers: what was told of each, and its writer.
-fn run_by<R: Threads + Wait + Sync, W: Write + Drop>(
+fn run_by<R: Threads + Wait + Sync, W: Write + Drop, V: Watch>(
     rt: &R,
     alloc: Global,
     store: &Arc<Store>,
@@ -77,6 +100,7 @@ fn run_by<R: Threads + Wait + Sync, W: Write + Drop>(
     writers: Vec<W>,
     verifiers: u32,
     plan: Plan,
+    watch: &V,
 ) -> Result<(Vec<JobResult>, Vec<W>), RunFault>
     requires writers { length writers.items ≡ length (arc_value jobs.now).items }
     requires jobs { length (arc_value jobs.now).items ≤ 1000 }
@@ -84,7 +108,7 @@ fn run_by<R: Threads + Wait + Sync, W: Write + Drop>(
     ensures ran { IfOk result (λ r. EachRun W.contents (arc_value store.now) 0 (arc_value jobs.now).items writers.items r.0.items r.1.items) }
     ensures refused { IfErr result (λ fault. IsRunRefusal (arc_value jobs.now).items fault) }
 {
-    let mut archives = begun(alloc, store, jobs.as_slice(), writers)?;
+    let mut archives = begun(alloc, store, jobs.as_slice(), writers, watch)?;
     let checks = sha_checks(alloc, verifiers)?;
     let sinks = archives.as_mut_slice();
     match export(rt, alloc, store, jobs, sinks, checks, &Open, plan) {
@@ -119,18 +143,20 @@ pub fn run_jobs<W: Write + Drop, C: Check>(
     ensures ran { IfOk result (λ r. EachRun W.contents store.now 0 jobs.now writers.items r.0.items r.1.items) }
     ensures refused { IfErr result (λ fault. IsRunRefusal jobs.now fault) }
 {
-    let mut archives = begun(alloc, store, jobs, writers)?;
+    let watch = Unwatched;
+    let mut archives = begun(alloc, store, jobs, writers, &watch)?;
     let ends = export_plain(alloc, store, jobs, archives.as_mut_slice(), check)?;
     ended(alloc, archives, ends.as_slice())
 }
 
-// An archive for each job, with its header written.
-fn begun<'a, W: Write + Drop>(
+// An archive for each job, with its header written, of which the watch is told.
+fn begun<'a, W: Write + Drop, V: Watch>(
     alloc: Global,
     store: &'a Store,
     jobs: &[Job],
     writers: Vec<W>,
-) -> Result<Vec<Archive<'a, W>>, RunFault>
+    watch: &'a V,
+) -> Result<Vec<Watched<'a, W, V>>, RunFault>
     requires writers { length writers.items ≡ length jobs.now }
     requires jobs { length jobs.now ≤ 1000 }
     ensures begun { IfOk result (λ archives. EachBegun W.contents store.now jobs.now writers.items archives.items) }
@@ -139,7 +165,7 @@ fn begun<'a, W: Write + Drop>(
     let mut archives = Vec::with_capacity(alloc, jobs.len())?;
     for (job, writer) in jobs.iter().zip(writers) {
         match Archive::new(alloc, store, job, writer) {
-            Ok(archive) => archives.push(archive)?,
+            Ok(archive) => archives.push(Watched::new(archive, watch))?,
             Err(ArchiveNew::Write(_)) => return Err(RunFault::Write(archives.len() as u32)),
             Err(ArchiveNew::Memory(_)) => return Err(RunFault::Memory),
         }
@@ -148,9 +174,9 @@ fn begun<'a, W: Write + Drop>(
 }
 
 // The results of the archives with these ends, and their writers.
-fn ended<'a, W: Write + Drop>(
+fn ended<'a, W: Write + Drop, V: Watch>(
     alloc: Global,
-    archives: Vec<Archive<'a, W>>,
+    archives: Vec<Watched<'a, W, V>>,
     ends: &[End],
 ) -> Result<(Vec<JobResult>, Vec<W>), RunFault>
     requires { length archives.items ≡ length ends.now }

@@ -22,7 +22,7 @@ loop-job-preserved g c =
       jobs = turn job_of c.args.jobs.now ys (iter_rest c.loop-job.job-iterator.a) (iter_rest c.next.new.self.a) x was.jobs steps.0;
       writers = turn writer_of c.args.writers.items ys (into_iter_items c.loop-job.job-iterator.b) (into_iter_items c.next.new.self.b) x was.writers steps.1.0;
       sized = let fewer = ap length steps.1.0 in let size = was.sized in omega (arith, steps.1.1);
-      begun = rw (taken_more job_of ys x, taken_more writer_of ys x) (rw c.in_ok-push-in-Ok.ensures.items more);
+      begun = rw (taken_more job_of ys x, taken_more writer_of ys x) (rw c.in_ok-push-in-Ok.ensures.items (rw c.new-in-Ok.ensures more));
     }
 
 -- an archive for each job that was taken, and a job is there that wasn't

@@ -2,7 +2,7 @@ use Rattle.std.proofs.Common.{◌≡◌, sym, ◌∙◌, ap, subst, length, map}
 use Rattle.std.specs.Arc.{arc_value}
 use Rattle.ix_jobs.specs.Report.{report_of, status_of}
 use Rattle.ix_run.proofs.Runs.{run-length}
-use Rattle.ix_run.proofs.execution.run.Goals as goal
+use Rattle.ix_run.proofs.execution.run_watched.Goals as goal
 
 pub report-requires : goal.report-requires
 report-requires g c =

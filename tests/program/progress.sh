@@ -1,0 +1,58 @@
+# The option --progress: the lines on standard error, and that nothing else of a run changes.
+
+begin 'progress: a line at each close'
+write_blocks "$one_blocks"
+write_jobs "a $one_job" "short $(text "$one_cid") 1 $all"
+run jobs "${inputs[@]}" --out out --walkers 1 --verifiers 1 --progress
+# Both headers are written at first, of 59 bytes each; then the archives, of 178 and 138 bytes.
+expect 4 "a $one_line
+short limit visits=1 kept=1 sections=1 bytes=138
+total jobs=2 done=1 skips=0" "progress: 1 of 2 jobs closed, 2 visits delivered, $((178 + 59)) bytes written
+progress: 2 of 2 jobs closed, 3 visits delivered, $((178 + 138)) bytes written"
+expect_folder out a.car short.car
+expect_bytes out/a.car "$one_archive"
+
+# A raw block under lists of two links, each to the one before: 2^17 - 1 visits of 17 blocks.
+top_cid=$abc_cid
+lists=
+for _ in $(seq 16); do
+  list=82$(link "$top_cid")$(link "$top_cid")
+  top_cid=$(cbor "$list")
+  lists+=$(section "$top_cid" "$list")
+done
+
+begin 'progress: a line after each 100,000 visits'
+write_blocks "$lists" "$(section "$abc_cid" "$abc")"
+write_jobs "a $(text "$top_cid") 1000000 $all"
+run jobs "${inputs[@]}" --out out --progress
+# The first 17 visits go down to the raw block, so all sections are written with them.
+whole=$((59 + 16 * 120 + 40))
+expect 0 "a done visits=131071 kept=131071 sections=17 bytes=$whole
+total jobs=1 done=1 skips=0" "progress: 0 of 1 jobs closed, 100000 visits delivered, $whole bytes written
+progress: 1 of 1 jobs closed, 131071 visits delivered, $whole bytes written"
+
+begin 'progress: the examples by many threads'
+run jobs --blocks "$top/examples/library.car" --jobs "$top/examples/library.jobs" --out out --progress
+expect_text 'exit status' 4 "$status"
+expect_lines 'standard output' "$(cat "$top/examples/expected/report.txt")" "$scratch/stdout"
+expect_text 'jobs closed' "$(seq -f 'progress: %g of 4 jobs closed' 4)" "$(cut -d, -f1 "$scratch/stderr")"
+expect_text 'the last line' 'progress: 4 of 4 jobs closed, 27 visits delivered, 2524 bytes written' \
+  "$(tail -n 1 "$scratch/stderr")"
+for name in album first-three front whole; do
+  expect_same "out/$name.car" "$top/examples/expected/$name.car" "out/$name.car"
+done
+
+begin 'progress: standard error is closed'
+write_blocks "$one_blocks"
+write_jobs "a $one_job"
+run_bare jobs "${inputs[@]}" --out out --progress 2>&- >"$scratch/stdout"
+expect 0 "a $one_line
+total jobs=1 done=1 skips=0" ''
+expect_folder out a.car
+expect_bytes out/a.car "$one_archive"
+
+begin 'progress: nothing is told of a run that is refused'
+write_blocks "$one_blocks"
+write_jobs "a $one_job"
+run jobs "${inputs[@]}" --out none --progress
+refused 'cannot write none/a.car'
