@@ -1,6 +1,7 @@
 #!/usr/bin/env python3
 """Runs the built program on input that is made to hurt it: files cut at each byte, with each byte changed, selectors
-and job files cut at each byte, and mutations by chance. Ends with status 1 at the first run that is wrong.
+and job files cut at each byte, blocks with many links, and mutations by chance. Ends with status 1 at the first run that
+is wrong.
 
 No run may end by a signal or take a minute. Where a file is refused, it is one line of the known ones. Where the run
 ends with status 0 or 3, each archive is its job's header and sections that agree with their hashes, no CID twice; at
@@ -10,6 +11,7 @@ any other status what there is of an archive begins so.
 import argparse
 import base64
 import hashlib
+import os
 import pathlib
 import random
 import re
@@ -211,6 +213,35 @@ def cut_jobs(runner):
         runner.run(blocks, jobs[:length])
 
 
+def peak(runner):
+    """The memory in bytes that the program takes at most for the input of the last run."""
+    words = [PROGRAM, "jobs", "--blocks", "blocks.car", "--jobs", "jobs.txt", "--out", "out", "--walkers", "1", "--verifiers", "1"]
+    child = subprocess.Popen(words, cwd=runner.room, stdout=subprocess.DEVNULL)
+    _, status, used = os.wait4(child.pid, 0)
+    child.returncode = os.waitstatus_to_exitcode(status)
+    return used.ru_maxrss * 1024
+
+
+def wide_blocks(runner):
+    """Blocks with many links: a damaged one with 20,000 to itself, which takes no memory for a visit that is open, and
+    a map of 100,000."""
+    itself = cid(DAG_CBOR, b"")
+    block = b"\x99" + (20_000).to_bytes(2, "big") + link(itself) * 20_000
+    blocks = NO_ROOTS + section(itself, block)
+    came = runner.run(blocks, f"a {text(itself)} 300 {ALL}\n".encode())
+    if came[0] != 4 or not came[1].startswith("a limit visits=300 kept=1 sections=0 "):
+        raise Wrong(f"300 visits were wanted: {came[1][:80]!r}")
+    if (most := peak(runner)) > len(blocks) + (64 << 20):
+        raise Wrong(f"a walk through {len(blocks)} bytes took {most}")
+    leaf = cid(RAW, b"abc")
+    keys = [b"\x65" + f"{number:05}".encode() for number in range(100_000)]
+    block = b"\xba" + len(keys).to_bytes(4, "big") + b"".join(key + link(leaf) for key in keys)
+    root = cid(DAG_CBOR, block)
+    came = runner.run(NO_ROOTS + section(root, block) + section(leaf, b"abc"), f"a {text(root)} 1000000 {ALL}\n".encode(), 2)
+    if came[0] != 0 or not came[1].startswith("a done visits=100001 kept=100001 sections=2 "):
+        raise Wrong(f"100,001 visits were wanted: {came[1][:80]!r}")
+
+
 def mutated(chance, data, words):
     """The bytes with some changes: bits, bytes, cuts, and pieces that come twice or elsewhere."""
     data = bytearray(data)
@@ -279,7 +310,7 @@ def main():
     subprocess.run([TOP / "ix_export", "--help"], stdout=subprocess.DEVNULL, check=True)
     with tempfile.TemporaryDirectory(prefix="hostile-") as room:
         runner = Runner(pathlib.Path(room))
-        for part in (cut_blocks, changed_blocks, cut_selectors, cut_jobs):
+        for part in (wide_blocks, cut_blocks, changed_blocks, cut_selectors, cut_jobs):
             try:
                 part(runner)
             except Wrong as wrong:
