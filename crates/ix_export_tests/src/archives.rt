@@ -11,6 +11,7 @@ use ix_fixtures::{CHAIN_ARCHIVE, LIST_ARCHIVE, Refusing, bytes_of};
 use ix_pipeline::{Gate, Open};
 use ix_walk::{Job, Store, Visit};
 use std::alloc::{AllocError, Global};
+use std::process::Abort;
 use std::sync::atomic::{AtomicBool, Ordering};
 use std::test::Fail;
 use std::thread;
@@ -226,6 +227,16 @@ fn refused_memory(rt: HostRuntime) -> Result<(), Fail> {
     Ok(())
 }
 
+// What was written is a beginning of the whole archive, with as many bytes as the end says.
+fn says_what_was_written(rt: &impl Abort, end: End, written: &[u8], whole: &[u8]) {
+    assert!(rt; whole.starts_with(written));
+    match end {
+        End::Done => assert_eq!(rt; written.len(), whole.len()),
+        End::Start => assert_eq!(rt; written.len(), 59),
+        _ => {}
+    }
+}
+
 // What each end says of an archive. Where an allocation fails or a thread can't be started, this
 // ends with an error or fails at the last assertion alone.
 #[test]
@@ -252,12 +263,7 @@ fn ends_say_what_was_written(rt: HostRuntime) -> Result<(), Fail> {
     )?;
     for (archive, end) in archives.into_iter().zip(out.ends.iter()) {
         let (written, _, _) = archive.into_parts();
-        assert!(rt; whole.as_slice().starts_with(written.as_slice()));
-        match end {
-            End::Done => assert_eq!(rt; written.len(), whole.len()),
-            End::Start => assert_eq!(rt; written.len(), 59),
-            _ => {}
-        }
+        says_what_was_written(&rt, *end, written.as_slice(), whole.as_slice());
     }
     assert_eq!(rt; out.ends.as_slice(), [End::Done; 3].as_slice());
     Ok(())
