@@ -1,8 +1,8 @@
 -- The entries of a header.
-use Rattle.std.proofs.Common.{◌≡◌, ℕ, List, map, ap, sym, ◌∙◌}
+use Rattle.std.proofs.Common.{ℕ, List, map}
 use Rattle.std.specs.Prelude.{Option}
 use Rattle.std.specs.Global.{Vec}
-use Rattle.ix_cbor.specs.Data.{Data, data_of, data_step, entry_of, entries_of}
+use Rattle.ix_cbor.specs.Data.{Data, entry_of, entries_of}
 use Rattle.ix_cbor.specs.declared.node.Node.{Node}
 use Rattle.ix_car.specs.Reading.{value_at}
 

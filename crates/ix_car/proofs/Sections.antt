@@ -1,7 +1,10 @@
 -- The sections of a file, read one by one into a store.
-use Rattle.std.proofs.Common.{◌≡◌, ℕ, zero, suc, ◌+◌, ◌<◌, ◌≤◌, Bool, true, false, cond, ltb, leb, eqb, ◌&&◌, List, [], ◌∷◌, length, drop, take, get_or, refl, sym, ◌∙◌, ap, arith, length-drop}
+use Rattle.std.proofs.Common.{◌≡◌, ℕ, zero, suc, ◌+◌, ◌-◌, ◌++◌, ◌<◌, ◌≤◌, Bool, true, false, cond, ltb, leb, eqb, ◌&&◌, List, [], ◌∷◌, length, drop, take, get_or, refl, sym, ◌∙◌, ap, subst, inl, inr, arith, length-drop}
 use Rattle.std.specs.Prelude.{Result, Ok, Err}
-use Rattle.std.proofs.lemmas.Bool.{ltb-false}
+use Rattle.std.proofs.lemmas.Bool.{cases_Bool, ltb-true, ltb-false}
+use Rattle.std.proofs.lemmas.List.{length-append, drop-drop, drop-append-le, take_all}
+use Rattle.std.proofs.Math.ListN.{drop_of_length-le}
+use Rattle.std.proofs.Math.Seq.{drop-append_seam, take-append_seam}
 use Rattle.ix_cid.specs.declared.fault.VarintFault.{VarintFault}
 use Rattle.ix_cid.specs.declared.fault.VarintFault.TheVariants as varints
 use Rattle.ix_cid.specs.Varint.{continued, number_of_groups, varint_at}
@@ -10,6 +13,7 @@ use Rattle.ix_walk.specs.Store.{Blocks, with_block}
 use Rattle.ix_car.specs.declared.fault.CarKind.{CarKind}
 use Rattle.ix_car.specs.declared.fault.CarKind.TheVariants.{Memory}
 use Rattle.ix_car.specs.Gives.{FailsAs}
+use Rattle.ix_car.specs.Reads.{IsEnd}
 use Rattle.ix_car.specs.Reading.{Fault, ◌>>=◌, text_at, text_behind, pair_of, section_at, sections_at}
 
 -- an answer behind a test for a fault
@@ -103,3 +107,36 @@ GoesOn-last store (x ∷ b) whole none so_far = absurd (omega (arith, none))
 pub FailsAs-along : {A B : Type 0} (kind : CarKind) (left : ℕ) (a : Result A Fault) (b : Result B Fault) → ((f : Fault) → a ≡ Err f → b ≡ Err f) → FailsAs kind left a → FailsAs kind left b
 FailsAs-along Memory left a b h fails = tt
 FailsAs-along kind left a b h fails = h _ fails
+
+-- the end of an end is an end
+pub end-of-end : (x y b : List ℕ) → IsEnd x y → IsEnd y b → IsEnd x b
+end-of-end x y b h k = (k.0 + h.0, h.1 ∙ ap (λ (l : List ℕ). drop h.0 l) k.1 ∙ drop-drop h.0 k.0 b)
+
+-- and so is what is behind a front of it
+pub end-behind : (x y b : List ℕ) → IsEnd (x ++ y) b → IsEnd y b
+end-behind x y b h = end-of-end y (x ++ y) b (length x, sym (drop-append_seam x y)) h
+
+-- a part of bytes is where they have it, counted from their end
+pub part-of-end : (x y b : List ℕ) → IsEnd (x ++ y) b → take (length x) (drop (length b - length y - length x) b) ≡ x
+part-of-end [] y b h = refl
+part-of-end (a ∷ x) y b h =
+    let size : length (a ∷ x) + length y ≡ length b - h.0 = sym (length-append (a ∷ x) y) ∙ ap length h.1 ∙ length-drop h.0 b in
+    let at : length b - length y - length (a ∷ x) ≡ h.0 = omega (arith, size) in
+    ap (λ (n : ℕ). take (length (a ∷ x)) (drop n b)) at ∙ ap (λ (l : List ℕ). take (length (a ∷ x)) l) (sym h.1) ∙ take-append_seam (a ∷ x) y
+
+-- an end without a front of it is an end
+pub end-cut : (k : ℕ) (x y b : List ℕ) → IsEnd (x ++ y) b → IsEnd (drop k x ++ y) b
+end-cut k x y b h = elim (cases_Bool (ltb (length x) k)) [
+  | inl past ↦ subst (λ (l : List ℕ). IsEnd (l ++ y) b) (sym (drop_of_length-le x (omega (arith, ltb-true (length x) k past)))) (end-behind x y b h)
+  | inr within ↦ subst (λ (l : List ℕ). IsEnd l b) (drop-append-le k x y (ltb-false (length x) k within)) (end-of-end (drop k (x ++ y)) (x ++ y) b (k, refl) h)
+]
+
+-- the same as a part of it is read
+pub end-from : (k : ℕ) (x y b : List ℕ) → IsEnd (x ++ y) b → IsEnd (take (length x - k) (drop k x) ++ y) b
+end-from k x y b h = subst (λ (l : List ℕ). IsEnd (l ++ y) b) (sym (take_all (length x - k) (drop k x) (omega (arith, length-drop k x)))) (end-cut k x y b h)
+
+-- an end is no longer than what it ends
+pub end-within : (x y b : List ℕ) → IsEnd (x ++ y) b → length x + length y ≤ length b
+end-within x y b h =
+    let size : length x + length y ≡ length b - h.0 = sym (length-append x y) ∙ ap length h.1 ∙ length-drop h.0 b in
+    omega (arith, size)

@@ -1,5 +1,5 @@
 -- What the parts of reading a CARv1 file answer.
-use Rattle.std.specs.Prelude.{◌≡◌, Result, Ok, Err}
+use Rattle.std.specs.Prelude.{◌≡◌, ℕ, List, drop, Result, Ok, Err}
 use Rattle.ix_car.specs.Reading.{Fault}
 use Rattle.ix_car.specs.Gives.{FailsAs}
 use Rattle.ix_car.specs.declared.reader.section.Stop.{Stop}
@@ -13,3 +13,7 @@ Reads view (Err e) meant = meant ≡ Err (record { kind = e.kind; left = e.left 
 abbrev pub ReadsOrRunsOut : {X A : Type 0} → (X → A) → Result X Stop → Result A Fault → Type 0
 ReadsOrRunsOut view (Ok x) meant = meant ≡ Ok (view x)
 ReadsOrRunsOut view (Err e) meant = FailsAs e.kind e.left meant
+
+-- these bytes are the end of others
+abbrev pub IsEnd : List ℕ → List ℕ → Type 0
+IsEnd end bytes = (n : ℕ) × (end ≡ drop n bytes)

@@ -11,5 +11,5 @@ mod sink;
 
 pub use archive::{Archive, ArchiveNew, Counts, Skip};
 pub use fault::{CarFault, CarKind, SinkFault};
-pub use reader::read_car;
+pub use reader::{load_car, read_car};
 pub use sink::{Delivery, End, Sink};

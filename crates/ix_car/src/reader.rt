@@ -1,10 +1,11 @@
 //! Reading CARv1 files.
 
 ghost use Rattle.std.specs.Prelude.{◌≡◌, ◌≤◌, [], length, IfErr};
+ghost use Rattle.std.specs.Arc.{arc_value};
 ghost use Rattle.ix_walk.specs.Store.{Blocks};
 ghost use Rattle.ix_car.specs.Reading.{sections_at, blocks_of};
 ghost use Rattle.ix_car.specs.Gives.{Gives};
-ghost use Rattle.ix_car.specs.Reads.{ReadsOrRunsOut};
+ghost use Rattle.ix_car.specs.Reads.{ReadsOrRunsOut, IsEnd};
 
 mod header;
 mod section;
@@ -14,6 +15,7 @@ use crate::reader::header::header_at;
 use crate::reader::section::{Stop, section_at};
 use ix_walk::Store;
 use std::alloc::Global;
+use std::sync::Arc;
 
 /// The blocks of a CARv1 file (a header, then sections of a CID and a block) under their CIDs, in the
 /// order of the sections, or the file's first fault.
@@ -28,29 +30,51 @@ use std::alloc::Global;
 ///
 /// Any number of roots is read, none included, and other keys of the header are ignored. Of
 /// sections with one CID the first counts, whatever the bytes: the later ones are read to their end
-/// and left out. The file is read once, and a block that counts is copied once.
+/// and left out. The file is copied once and read once.
 pub fn read_car(alloc: Global, bytes: &[u8]) -> Result<Store, CarFault>
     ensures { Gives (λ store. store) bytes.now result (blocks_of bytes.now) }
 {
-    match store_of_file(alloc, bytes) {
-        Ok(store) => Ok(store),
-        Err(stop) => Err(CarFault {
-            kind: stop.kind,
-            place: bytes.len() - stop.left,
+    match Vec::from_slice(alloc, bytes) {
+        Ok(copy) => load_car(alloc, copy),
+        Err(_) => Err(CarFault {
+            kind: CarKind::Memory,
+            place: 0,
         }),
     }
 }
 
-fn store_of_file(alloc: Global, bytes: &[u8]) -> Result<Store, Stop>
-    ensures reads { ReadsOrRunsOut (λ store. store) result (blocks_of bytes.now) }
-    ensures within { IfErr result (λ stop. stop.left ≤ length bytes.now) }
+/// The blocks of a CARv1 file as `read_car` reads them, where the store takes over the file's bytes: each block
+/// stays where it lies in them, and none is copied.
+pub fn load_car(alloc: Global, bytes: Vec<u8>) -> Result<Store, CarFault>
+    ensures { Gives (λ store. store) bytes.items result (blocks_of bytes.items) }
 {
-    let sections = header_at(alloc, bytes)?;
-    store_of_sections(alloc, sections)
+    let length = bytes.len();
+    let Ok(file) = Arc::new(alloc, bytes) else {
+        return Err(CarFault {
+            kind: CarKind::Memory,
+            place: 0,
+        });
+    };
+    match store_of_file(alloc, &file) {
+        Ok(store) => Ok(store),
+        Err(stop) => Err(CarFault {
+            kind: stop.kind,
+            place: length - stop.left,
+        }),
+    }
 }
 
-// The blocks of sections up to the end.
-fn store_of_sections(alloc: Global, sections: &[u8]) -> Result<Store, Stop>
+fn store_of_file(alloc: Global, file: &Arc<Vec<u8>>) -> Result<Store, Stop>
+    ensures reads { ReadsOrRunsOut (λ store. store) result (blocks_of (arc_value file.now).items) }
+    ensures within { IfErr result (λ stop. stop.left ≤ length (arc_value file.now).items) }
+{
+    let sections = header_at(alloc, file.as_slice())?;
+    store_of_sections(alloc, file, sections)
+}
+
+// The blocks of the sections at the end of a file.
+fn store_of_sections(alloc: Global, file: &Arc<Vec<u8>>, sections: &[u8]) -> Result<Store, Stop>
+    requires { IsEnd sections.now (arc_value file.now).items }
     ensures reads { ReadsOrRunsOut (λ store. store) result (sections_at (length sections.now) [] sections.now) }
     ensures within { IfErr result (λ stop. stop.left ≤ length sections.now) }
 {
@@ -58,7 +82,8 @@ fn store_of_sections(alloc: Global, sections: &[u8]) -> Result<Store, Stop>
     let mut store = Store::new(alloc);
     while !rest.is_empty() {
         let (cid, block, after) = section_at(alloc, rest)?;
-        if store.add_copy(cid, block).is_err() {
+        let start = file.len() - after.len() - block.len();
+        if store.add_within(cid, file, start, block.len()).is_err() {
             return Err(Stop::at(CarKind::Memory, rest));
         }
         rest = after;

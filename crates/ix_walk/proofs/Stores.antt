@@ -8,6 +8,7 @@ use Rattle.std.proofs.lemmas.Slice.Eq.{bytes_eq-Decides}
 use Rattle.std.proofs.lemmas.List.{length-map, map-append, take_more, drop_more, take-append-drop}
 use Rattle.std.proofs.lemmas.Option.{none-some, get_or_from_slice_get, slice_get-map, slice_get_read}
 use Rattle.std.proofs.Math.Bool.{or-true}
+use Rattle.ix_walk.specs.Entry.{content}
 use Rattle.ix_walk.proofs.Blocks.{some_behind}
 use Rattle.ix_walk.specs.declared.entry.Entry.{Entry}
 use Rattle.ix_walk.specs.Store.{Blocks, has_cid, with_block, HasDistinctCids, position_behind, position_of}
@@ -90,10 +91,10 @@ position-at n (suc i) (x ∷ es) e c h at same =
 
 -- an entry as a pair
 abbrev pub pair : Entry → List ℕ × List ℕ
-pair e = (e.cid, e.block.items)
+pair e = (e.cid, content e.block)
 
 -- the pairs of entries with one entry more
-pub pairs-push : (xs ys : List Entry) (e : Entry) → ys ≡ xs ++ e ∷ [] → map pair ys ≡ map pair xs ++ (e.cid, e.block.items) ∷ []
+pub pairs-push : (xs ys : List Entry) (e : Entry) → ys ≡ xs ++ e ∷ [] → map pair ys ≡ map pair xs ++ (e.cid, content e.block) ∷ []
 pairs-push xs ys e is = ap (λ (l : List Entry). map pair l) is ∙ map-append pair xs (e ∷ [])
 
 -- the block of a pair
@@ -101,7 +102,7 @@ abbrev pub block : List ℕ × List ℕ → List ℕ
 block p = p.1
 
 -- the block of the entry at a place
-pub block-at : (entries : List Entry) (now : Blocks) (place : ℕ) (e : Entry) (r : List ℕ) → map pair entries ≡ now → place < length now → e ≡ get_or entries place e → r ≡ e.block.items → slice_get (map block now) place ≡ Some r
+pub block-at : (entries : List Entry) (now : Blocks) (place : ℕ) (e : Entry) (r : List ℕ) → map pair entries ≡ now → place < length now → e ≡ get_or entries place e → r ≡ content e.block → slice_get (map block now) place ≡ Some r
 block-at entries now place e r is within at same =
     let lt : place < length entries = omega (arith, ap length is, length-map entries pair) in
     let found : slice_get (map pair entries) place ≡ Some (pair e) = slice_get-map pair entries place ∙ ap (λ o. option_map pair o) (slice_get_read entries (length entries) place e refl lt at) in
@@ -149,7 +150,7 @@ has_cid-before (x ∷ xs) ys k b h =
     ap (λ v. v || has_cid xs k) (bytes-apart-back k x.0 (has_cid-midst xs ys k b x.0 h.0)) ∙ has_cid-before xs ys k b h.1
 
 -- entries up to one, and this one
-pub entries-more : (entries : List Entry) (place : ℕ) (e : Entry) → place < length entries → e ≡ get_or entries place e → map pair (take (place + 1) entries) ≡ map pair (take place entries) ++ (e.cid, e.block.items) ∷ []
+pub entries-more : (entries : List Entry) (place : ℕ) (e : Entry) → place < length entries → e ≡ get_or entries place e → map pair (take (place + 1) entries) ≡ map pair (take place entries) ++ (e.cid, content e.block) ∷ []
 entries-more entries place e within at = ap (λ (l : List Entry). map pair l) (take_more entries place e within ∙ ap (λ (x : Entry). take place entries ++ x ∷ []) (sym at)) ∙ map-append pair (take place entries) (e ∷ [])
 
 -- entries with distinct CIDs don't have that of one before it
@@ -157,7 +158,7 @@ pub entries-before : (entries : List Entry) (place : ℕ) (e : Entry) → place 
 entries-before entries place e within at h =
     let parts : entries ≡ take place entries ++ e ∷ drop (place + 1) entries =
     sym (take-append-drop place entries) ∙ ap (λ (l : List Entry). take place entries ++ l) (drop_more entries place e within ∙ ap (λ (x : Entry). x ∷ drop (place + 1) entries) (sym at)) in
-    has_cid-before (map pair (take place entries)) (map pair (drop (place + 1) entries)) e.cid e.block.items
+    has_cid-before (map pair (take place entries)) (map pair (drop (place + 1) entries)) e.cid (content e.block)
     (subst (λ (l : Blocks). HasDistinctCids l) (ap (λ (l : List Entry). map pair l) parts ∙ map-append pair (take place entries) (e ∷ drop (place + 1) entries)) h)
 
 -- a CID that isn't there has no place
@@ -176,11 +177,11 @@ pub with-held : (now : Blocks) (c b : List ℕ) → has_cid now c ≡ true → n
 with-held now c b h = ap (λ v. cond v now (now ++ (c, b) ∷ [])) (sym h)
 
 -- where it isn't, the pair of one entry more is
-pub with-new : (entries kept later : List Entry) (now : Blocks) (e : Entry) → map pair entries ≡ now → kept ≡ entries → later ≡ kept ++ e ∷ [] → has_cid now e.cid ≡ false → map pair later ≡ with_block now (e.cid, e.block.items)
+pub with-new : (entries kept later : List Entry) (now : Blocks) (e : Entry) → map pair entries ≡ now → kept ≡ entries → later ≡ kept ++ e ∷ [] → has_cid now e.cid ≡ false → map pair later ≡ with_block now (e.cid, content e.block)
 with-new entries kept later now e is same longer h =
     pairs-push entries later e (longer ∙ ap (λ (l : List Entry). l ++ e ∷ []) same)
-    ∙ ap (λ (l : Blocks). l ++ (e.cid, e.block.items) ∷ []) is
-    ∙ ap (λ v. cond v now (now ++ (e.cid, e.block.items) ∷ [])) (sym h)
+    ∙ ap (λ (l : Blocks). l ++ (e.cid, content e.block) ∷ []) is
+    ∙ ap (λ v. cond v now (now ++ (e.cid, content e.block) ∷ [])) (sym h)
 
 -- what holds on Ok holds where there is no Err
 pub holds-at_ok : {T E P : Type 0} (r : Result T E) → OnOk r P → is_err r ≡ false → P

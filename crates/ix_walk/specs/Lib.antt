@@ -18,4 +18,5 @@ pub mod WalkLeft
 pub mod Walking
 pub mod Descent
 pub mod Arriving
+pub mod Entry
 pub mod Examples

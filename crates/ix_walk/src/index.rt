@@ -7,6 +7,7 @@
 
 ghost use Rattle.std.specs.Prelude.{◌≡◌, ◌↔◌, ◌++◌, List, [], ◌∷◌, map, Option, Some, true, false, not, IsTrue, IfOk, OnErr, ℕ, bytes_eq, if◌then◌else◌};
 ghost use Rattle.std.specs.Option.{unwrap_or};
+ghost use Rattle.ix_walk.specs.Entry.{content};
 ghost use Rattle.ix_walk.specs.Store.{has_cid, position_of, HasDistinctCids};
 ghost use Rattle.ix_walk.specs.Index.{tail_of, first_of, window_of, place_behind, Leads, AreLedTo, IsIndexed, FindsFree, IsSeat};
 
@@ -57,8 +58,8 @@ impl Index {
 
     // The index with room for one entry more: its table is doubled where half of its slots may be taken.
     pub(crate) fn make_room(&mut self, alloc: Global, entries: &[Entry]) -> Result<(), AllocError>
-        requires { IsIndexed self.old (map (λ e. (e.cid, e.block.items)) entries.now) }
-        ensures { IsIndexed self.new (map (λ e. (e.cid, e.block.items)) entries.now) }
+        requires { IsIndexed self.old (map (λ e. (e.cid, content e.block)) entries.now) }
+        ensures { IsIndexed self.new (map (λ e. (e.cid, content e.block)) entries.now) }
     {
         let starts = self.slots.len().saturating_sub(PROBES - 1);
         if entries.len() >= starts / 2 {
@@ -76,9 +77,9 @@ impl Index {
         entries: &[Entry],
         starts: usize,
     ) -> Result<Vec<Slot>, AllocError>
-        requires { IsIndexed self.old (map (λ e. (e.cid, e.block.items)) entries.now) }
-        ensures same { IsIndexed self.new (map (λ e. (e.cid, e.block.items)) entries.now) }
-        ensures table { IfOk result (λ slots. AreLedTo slots.items self.new (map (λ e. (e.cid, e.block.items)) entries.now)) }
+        requires { IsIndexed self.old (map (λ e. (e.cid, content e.block)) entries.now) }
+        ensures same { IsIndexed self.new (map (λ e. (e.cid, content e.block)) entries.now) }
+        ensures table { IfOk result (λ slots. AreLedTo slots.items self.new (map (λ e. (e.cid, content e.block)) entries.now)) }
     {
         let mut slots = vec![in alloc; Slot::Free; starts.saturating_add(PROBES - 1)]?;
         for (place, entry) in entries.iter().enumerate() {
@@ -126,8 +127,8 @@ impl Index {
 
     // Where the table has the entry of a CID, or where its place goes.
     fn seat(&self, entries: &[Entry], cid: &Cid) -> Seat
-        requires { IsIndexed self.now (map (λ e. (e.cid, e.block.items)) entries.now) }
-        ensures { IsSeat self.now (map (λ e. (e.cid, e.block.items)) entries.now) cid.now result }
+        requires { IsIndexed self.now (map (λ e. (e.cid, content e.block)) entries.now) }
+        ensures { IsSeat self.now (map (λ e. (e.cid, content e.block)) entries.now) cid.now result }
     {
         let tail = tail_of(cid);
         let (first, window) = window(self.slots.as_slice(), tail);
@@ -144,8 +145,8 @@ impl Index {
 
     // Where the entry of a CID stands.
     pub(crate) fn find(&self, entries: &[Entry], cid: &Cid) -> Option<usize>
-        requires { IsIndexed self.now (map (λ e. (e.cid, e.block.items)) entries.now) }
-        ensures { result ≡ position_of (map (λ e. (e.cid, e.block.items)) entries.now) cid.now }
+        requires { IsIndexed self.now (map (λ e. (e.cid, content e.block)) entries.now) }
+        ensures { result ≡ position_of (map (λ e. (e.cid, content e.block)) entries.now) cid.now }
     {
         match self.seat(entries, cid) {
             Seat::Held(place) => Some(place),
@@ -161,11 +162,11 @@ impl Index {
         entries: &[Entry],
         cid: &Cid,
     ) -> Result<bool, AllocError>
-        requires { IsIndexed self.old (map (λ e. (e.cid, e.block.items)) entries.now) }
-        ensures answer { IfOk result (λ entered. entered ≡ not (has_cid (map (λ e. (e.cid, e.block.items)) entries.now) cid.now)) }
-        ensures entered { IfOk result (λ entered. IsTrue entered → (b : List ℕ) → IsIndexed self.new (map (λ e. (e.cid, e.block.items)) entries.now ++ (cid.now, b) ∷ [])) }
-        ensures held { IfOk result (λ entered. entered ≡ false → IsIndexed self.new (map (λ e. (e.cid, e.block.items)) entries.now)) }
-        ensures err { OnErr result (IsIndexed self.new (map (λ e. (e.cid, e.block.items)) entries.now)) }
+        requires { IsIndexed self.old (map (λ e. (e.cid, content e.block)) entries.now) }
+        ensures answer { IfOk result (λ entered. entered ≡ not (has_cid (map (λ e. (e.cid, content e.block)) entries.now) cid.now)) }
+        ensures entered { IfOk result (λ entered. IsTrue entered → (b : List ℕ) → IsIndexed self.new (map (λ e. (e.cid, content e.block)) entries.now ++ (cid.now, b) ∷ [])) }
+        ensures held { IfOk result (λ entered. entered ≡ false → IsIndexed self.new (map (λ e. (e.cid, content e.block)) entries.now)) }
+        ensures err { OnErr result (IsIndexed self.new (map (λ e. (e.cid, content e.block)) entries.now)) }
     {
         let place = entries.len();
         match self.seat(entries, cid) {
@@ -221,9 +222,9 @@ fn tail_of(cid: &Cid) -> u64
 
 // Whether the entry of a CID stands at a place.
 pub(crate) fn holds(entries: &[Entry], place: usize, cid: &Cid) -> bool
-    requires { HasDistinctCids (map (λ e. (e.cid, e.block.items)) entries.now) }
+    requires { HasDistinctCids (map (λ e. (e.cid, content e.block)) entries.now) }
     ensures { IsTrue result
-        ↔ (position_of (map (λ e. (e.cid, e.block.items)) entries.now) cid.now ≡ Some place) }
+        ↔ (position_of (map (λ e. (e.cid, content e.block)) entries.now) cid.now ≡ Some place) }
 {
     match entries.get(place) {
         Some(entry) => entry.cid == *cid,

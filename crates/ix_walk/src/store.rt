@@ -1,13 +1,16 @@
 //! Blocks under their CIDs.
 
-ghost use Rattle.std.specs.Prelude.{◌≡◌, ◌<◌, [], ◌∷◌, ◌++◌, length, map, slice_get, Some, true, false, IfOk, OnOk, OnErr, not, ◌==◌};
+ghost use Rattle.std.specs.Prelude.{◌≡◌, ◌<◌, [], ◌∷◌, ◌++◌, length, map, take, drop, slice_get, Some, true, false, IfOk, OnOk, OnErr, not, ◌==◌};
+ghost use Rattle.std.specs.Arc.{arc_value};
+ghost use Rattle.ix_walk.specs.Entry.{content};
 ghost use Rattle.ix_walk.specs.Store.{has_cid, with_block, position_of};
 
-use crate::entry::Entry;
+use crate::entry::{Block, Entry};
 use crate::index::{Index, holds};
 use ix_cid::Cid;
 use std::alloc::{AllocError, Global};
 use std::marker::Model;
+use std::sync::Arc;
 
 /// Blocks under their CIDs, seen as the list of pairs in the order of adding.
 #[derive(Drop)]
@@ -20,13 +23,14 @@ pub struct Store {
 
 impl Model for Store {
     ghost use Rattle.std.specs.Prelude.{List, ℕ, map};
+    ghost use Rattle.ix_walk.specs.Entry.{content};
     ghost use Rattle.ix_walk.specs.Index.{IsIndexed};
 
     ghost Value = { List (List ℕ × List ℕ) };
 
-    ghost view = { λ s. map (λ e. (e.cid, e.block.items)) s.entries.items };
+    ghost view = { λ s. map (λ e. (e.cid, content e.block)) s.entries.items };
 
-    ghost invariant = { λ s. IsIndexed s.index (map (λ e. (e.cid, e.block.items)) s.entries.items) };
+    ghost invariant = { λ s. IsIndexed s.index (map (λ e. (e.cid, content e.block)) s.entries.items) };
 }
 
 impl Store {
@@ -47,13 +51,39 @@ impl Store {
         ensures added { OnOk result (self.new ≡ with_block self.old (cid, bytes.items)) }
         ensures err { OnErr result (self.new ≡ self.old) }
     {
+        self.add_block(cid, Block::Own(bytes))
+    }
+
+    /// Adds a block that lies in shared bytes, as many as its size from a place on, unless its CID is there. Nothing is
+    /// copied: the store keeps a share of the bytes.
+    pub fn add_within(
+        &mut self,
+        cid: Cid,
+        bytes: &Arc<Vec<u8>>,
+        start: usize,
+        size: usize,
+    ) -> Result<bool, AllocError>
+        ensures answer { IfOk result (λ added. added ≡ not (has_cid self.old cid)) }
+        ensures added { OnOk result (self.new ≡ with_block self.old (cid, take size (drop start (arc_value bytes.now).items))) }
+        ensures err { OnErr result (self.new ≡ self.old) }
+    {
+        let bytes = Arc::try_clone(bytes)?;
+        self.add_block(cid, Block::Within { bytes, start, size })
+    }
+
+    // Adds a block, wherever its bytes are, unless its CID is there.
+    fn add_block(&mut self, cid: Cid, block: Block) -> Result<bool, AllocError>
+        ensures answer { IfOk result (λ added. added ≡ not (has_cid self.old cid)) }
+        ensures added { OnOk result (self.new ≡ with_block self.old (cid, content block)) }
+        ensures err { OnErr result (self.new ≡ self.old) }
+    {
         self.index.make_room(self.alloc, self.entries.as_slice())?;
         self.entries.reserve(1)?;
         let entered = self.index.enter(self.alloc, self.entries.as_slice(), &cid)?;
         if !entered {
             return Ok(false);
         }
-        self.entries.push_reserved(Entry { cid, block: bytes });
+        self.entries.push_reserved(Entry { cid, block });
         Ok(true)
     }
 
@@ -73,7 +103,10 @@ impl Store {
         if copy.extend_from_slice(block).is_err() {
             unreachable!();
         }
-        self.entries.push_reserved(Entry { cid, block: copy });
+        self.entries.push_reserved(Entry {
+            cid,
+            block: Block::Own(copy),
+        });
         Ok(true)
     }
 
@@ -100,7 +133,7 @@ impl Store {
         requires { place < length self.now }
         ensures { slice_get (map (λ e. e.1) self.now) place ≡ Some result.now }
     {
-        self.entries[place].block.as_slice()
+        self.entries[place].block.bytes()
     }
 
     /// How many blocks there are.

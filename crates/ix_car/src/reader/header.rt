@@ -4,7 +4,7 @@ ghost use Rattle.std.specs.Prelude.{◌≡◌, ◌<◌, ◌≤◌, map, length, 
 ghost use Rattle.ix_cbor.specs.Data.{data_of, items_of, entry_of, entries_of};
 ghost use Rattle.ix_cbor.specs.Reading.{data_at};
 ghost use Rattle.ix_car.specs.Reading.{value_at, are_links, has_roots, version_fault, header_fault, header_at};
-ghost use Rattle.ix_car.specs.Reads.{ReadsOrRunsOut};
+ghost use Rattle.ix_car.specs.Reads.{ReadsOrRunsOut, IsEnd};
 
 use crate::fault::CarKind;
 use crate::reader::section::{Stop, text_at};
@@ -15,6 +15,7 @@ use std::alloc::{AllocError, Global};
 pub(super) fn header_at(alloc: Global, bytes: &[u8]) -> Result<&[u8], Stop>
     ensures reads { ReadsOrRunsOut (λ rest. rest.now) result (header_at bytes.now) }
     ensures shorter { IfOk result (λ rest. length rest.now < length bytes.now) }
+    ensures end { IfOk result (λ rest. IsEnd rest.now bytes.now) }
     ensures within { IfErr result (λ stop. stop.left ≤ length bytes.now) }
 {
     let (text, rest) = text_at(bytes)?;

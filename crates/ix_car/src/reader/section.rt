@@ -1,8 +1,8 @@
 //! Reading the parts of a CARv1 file: a text behind its length, and a section.
 
-ghost use Rattle.std.specs.Prelude.{◌≡◌, ◌<◌, ◌≤◌, length, IfOk, IfErr};
+ghost use Rattle.std.specs.Prelude.{◌≡◌, ◌<◌, ◌≤◌, ◌++◌, length, IfOk, IfErr};
 ghost use Rattle.ix_car.specs.Reading.{text_at, section_at};
-ghost use Rattle.ix_car.specs.Reads.{Reads, ReadsOrRunsOut};
+ghost use Rattle.ix_car.specs.Reads.{Reads, ReadsOrRunsOut, IsEnd};
 
 use crate::fault::CarKind;
 use ix_cid::{Cid, CidFault, VarintFault, read_varint};
@@ -31,6 +31,7 @@ impl Stop {
 pub(super) fn text_at(bytes: &[u8]) -> Result<(&[u8], &[u8]), Stop>
     ensures reads { Reads (λ r. (r.0.now, r.1.now)) result (text_at bytes.now) }
     ensures shorter { IfOk result (λ r. length r.1.now < length bytes.now) }
+    ensures end { IfOk result (λ r. IsEnd (r.0.now ++ r.1.now) bytes.now) }
     ensures within { IfErr result (λ stop. stop.left ≤ length bytes.now) }
 {
     let (length, size) = match read_varint(bytes) {
@@ -51,6 +52,7 @@ pub(super) fn text_at(bytes: &[u8]) -> Result<(&[u8], &[u8]), Stop>
 pub(super) fn section_at(alloc: Global, bytes: &[u8]) -> Result<(Cid, &[u8], &[u8]), Stop>
     ensures reads { ReadsOrRunsOut (λ r. ((r.0, r.1.now), r.2.now)) result (section_at bytes.now) }
     ensures shorter { IfOk result (λ r. length r.2.now < length bytes.now) }
+    ensures end { IfOk result (λ r. IsEnd (r.1.now ++ r.2.now) bytes.now) }
     ensures within { IfErr result (λ stop. stop.left ≤ length bytes.now) }
 {
     let (section, rest) = text_at(bytes)?;

@@ -1,13 +1,15 @@
-use Rattle.std.proofs.Common.{◌≡◌, ◌<◌, List, [], ℕ, length, arith, rules, sym, ◌∙◌}
+use Rattle.std.proofs.Common.{◌≡◌, ◌<◌, List, [], ℕ, length, take, drop, ◌++◌, ◌-◌, arith, rules, sym, ap, ◌∙◌}
 use Rattle.std.proofs.lemmas.Result.{err_from_is_err_and}
 use Rattle.ix_walk.proofs.Stores.{holds-at_ok}
 use Rattle.ix_walk.specs.Store.{with_block}
+use Rattle.std.specs.Arc.{arc_value}
+use Rattle.ix_car.specs.Reads.{IsEnd}
 use Rattle.ix_car.specs.Reading.{sections_at, section_at}
-use Rattle.ix_car.proofs.Sections.{GoesOn-first, GoesOn-more, GoesOn-fails, GoesOn-last, FailsAs-along}
+use Rattle.ix_car.proofs.Sections.{GoesOn-first, GoesOn-more, GoesOn-fails, GoesOn-last, FailsAs-along, end-of-end, end-behind, end-within, part-of-end}
 use Rattle.ix_car.proofs.reader.store_of_sections.Goals as goal
 
 pub loop-rest-init : goal.loop-rest-init
-loop-rest-init c = record { within = omega arith; goes_on = rw c.new-store.ensures (GoesOn-first c.args.sections.now) }
+loop-rest-init c = record { within = omega arith; end = c.requires; goes_on = rw c.new-store.ensures (GoesOn-first c.args.sections.now) }
 
 pub returns-in_err-cid-clause-reads : goal.returns-in_err-cid-clause-reads
 returns-in_err-cid-clause-reads c =
@@ -17,14 +19,28 @@ returns-in_err-cid-clause-reads c =
     rw (p.1, p.2)
     (FailsAs-along c.in_err-cid.field-0.0.kind c.in_err-cid.field-0.0.left (section_at c.loop-rest.rest.now) whole (GoesOn-fails c.loop-rest.store c.loop-rest.rest.now whole some c.loop-rest.invariant.goes_on) c.in_err-cid.ensures.reads)
 
+pub overflow_sub-start-in-loop-rest : goal.overflow_sub-start-in-loop-rest
+overflow_sub-start-in-loop-rest c =
+    let file = (arc_value c.args.file.now).items in
+    let long : c.len.result ≡ length file = search rules in
+    let lies = end-of-end (c.in_ok-cid.block.now ++ c.in_ok-cid.after.now) c.loop-rest.rest.now file c.in_ok-cid.ensures.end c.loop-rest.invariant.end in
+    omega (arith, long, end-within c.in_ok-cid.block.now c.in_ok-cid.after.now file lies)
+
 pub loop-rest-preserved : goal.loop-rest-preserved
 loop-rest-preserved c =
     let whole = sections_at (length c.args.sections.now) [] c.args.sections.now in
     let some : 0 < length c.loop-rest.rest.now = search rules in
     let s : (List ℕ × List ℕ) × List ℕ = ((c.in_ok-cid.cid, c.in_ok-cid.block.now), c.in_ok-cid.after.now) in
-    let added : c.add_copy.new.self ≡ with_block c.loop-rest.store s.0 = holds-at_ok c.add_copy.result c.add_copy.ensures.added (sym c.is_err.ensures.value ∙ c.if-is_err.false) in
+    let file = (arc_value c.args.file.now).items in
+    let long : c.len.result ≡ length file = search rules in
+    let lies : IsEnd (c.in_ok-cid.block.now ++ c.in_ok-cid.after.now) file = end-of-end (c.in_ok-cid.block.now ++ c.in_ok-cid.after.now) c.loop-rest.rest.now file c.in_ok-cid.ensures.end c.loop-rest.invariant.end in
+    let part : take (length c.in_ok-cid.block.now) (drop (length file - length c.in_ok-cid.after.now - length c.in_ok-cid.block.now) file) ≡ c.in_ok-cid.block.now = part-of-end c.in_ok-cid.block.now c.in_ok-cid.after.now file lies in
+    let added : c.add_within.new.self ≡ with_block c.loop-rest.store s.0 = holds-at_ok c.add_within.result c.add_within.ensures.added (sym c.is_err.ensures.value ∙ c.if-is_err.false)
+    ∙ ap (λ (n : ℕ). with_block c.loop-rest.store (c.in_ok-cid.cid, take (length c.in_ok-cid.block.now) (drop (n - length c.in_ok-cid.after.now - length c.in_ok-cid.block.now) file))) long
+    ∙ ap (λ (b : List ℕ). with_block c.loop-rest.store (c.in_ok-cid.cid, b)) part in
     record {
       within = omega (arith, c.in_ok-cid.ensures.shorter);
+      end = end-behind c.in_ok-cid.block.now c.in_ok-cid.after.now file lies;
       goes_on = rw added (GoesOn-more c.loop-rest.store c.loop-rest.rest.now whole s some c.in_ok-cid.ensures.reads c.loop-rest.invariant.goes_on);
     }
 

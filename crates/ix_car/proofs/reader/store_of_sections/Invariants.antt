@@ -1,11 +1,14 @@
 use Rattle.std.proofs.Common.{◌≤◌, [], length}
+use Rattle.std.specs.Arc.{arc_value}
 use Rattle.ix_car.specs.Reading.{sections_at}
+use Rattle.ix_car.specs.Reads.{IsEnd}
 use Rattle.ix_car.proofs.Sections.{GoesOn}
 use Rattle.ix_car.proofs.reader.store_of_sections.Given as goal
 
 abbrev pub invariant-loop-rest : goal.invariant-loop-rest
 invariant-loop-rest l = record {
   within : length l.rest ≤ length l.sections;
+  end : IsEnd l.rest (arc_value l.file).items;
   goes_on : GoesOn l.store l.rest (sections_at (length l.sections) [] l.sections);
 }
 

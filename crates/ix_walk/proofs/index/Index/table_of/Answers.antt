@@ -3,6 +3,7 @@ use Rattle.std.proofs.lemmas.List.{length-map, length-take, take_all}
 use Rattle.std.proofs.lemmas.Option.{slice_get_read}
 use Rattle.std.proofs.lemmas.Slice.Eq.{bytes_eq-Decides}
 use Rattle.std.proofs.Math.ListN.{set}
+use Rattle.ix_walk.specs.Entry.{content}
 use Rattle.ix_walk.specs.Index.{tail_of, window_of, place_behind, Leads, IsFreeSlot, AreTaken, AreLedTo, IsIndexed}
 use Rattle.ix_walk.specs.Store.{Blocks, position_of}
 use Rattle.ix_walk.specs.declared.entry.Entry.{Entry}
@@ -37,12 +38,12 @@ loop-place-preserved c =
     let led : AreLedTo slots index before = c.loop-place.invariant.1 in
     let new : position_of before e.cid ≡ None = position-none 0 before e.cid (entries-before entries place e c.loop-place-test.true c.index-entries-place.is indexed.distinct) in
     let few : place ≡ length before = omega (arith, c.loop-place-test.true, length-map (take place entries) pair, length-take place entries) in
-    let more : map pair (take (place + 1) entries) ≡ before ++ (e.cid, e.block.items) ∷ [] = entries-more entries place e c.loop-place-test.true c.index-entries-place.is in
+    let more : map pair (take (place + 1) entries) ≡ before ++ (e.cid, content e.block) ∷ [] = entries-more entries place e c.loop-place-test.true c.index-entries-place.is in
     let there : position_of (map pair entries) e.cid ≡ Some place = position-there entries (map pair entries) place e e.cid indexed.distinct refl (slice_get_read entries (length entries) place e refl c.loop-place-test.true c.index-entries-place.is) ((bytes_eq-Decides e.cid e.cid).1 refl) in
     elim c.match-free_slot.branch [
       | in-Some w ↦
           let free : IsFreeSlot slots (tail_of e.cid) w.in-Some.slot = subst (λ (n : ℕ). IsFreeSlot slots n w.in-Some.slot) c.tail_of-tail.ensures (subst (λ (r : List Slot). IsFreeSlot r t w.in-Some.slot) c.as_slice.ensures.value w.in-Some.ensures) in
-          let here : AreLedTo (set slots w.in-Some.slot (Taken (tail_of e.cid) (length before))) index (before ++ (e.cid, e.block.items) ∷ []) = led-slot slots index before e.cid e.block.items w.in-Some.slot led new (free-at slots (tail_of e.cid) w.in-Some.slot free) in
+          let here : AreLedTo (set slots w.in-Some.slot (Taken (tail_of e.cid) (length before))) index (before ++ (e.cid, content e.block) ∷ []) = led-slot slots index before e.cid (content e.block) w.in-Some.slot led new (free-at slots (tail_of e.cid) w.in-Some.slot free) in
           let written : c.match-free_slot.slots.items ≡ set slots w.in-Some.slot (Taken (tail_of e.cid) (length before)) =
           ap (λ v. v.items) w.slots-is ∙ ap (λ (n : ℕ). set slots w.in-Some.slot (Taken n place)) c.tail_of-tail.ensures ∙ ap (λ (n : ℕ). set slots w.in-Some.slot (Taken (tail_of e.cid) n)) few in (
             subst (λ (i : Index). IsIndexed i (map pair entries)) (sym w.self-is) indexed,
@@ -56,7 +57,7 @@ loop-place-preserved c =
           let s = w.in_ok-put_behind-in-None.ensures in
           let led-later = led-put slots index later before e.cid _ place led s.put s.stood in
           let at_e = behind-put index later (map pair entries) e.cid _ place indexed there s.put s.stood in
-          let here : AreLedTo slots later (before ++ (e.cid, e.block.items) ∷ []) = led-behind slots later before e.cid e.block.items led-later new full (at_e ∙ ap Some few) in (
+          let here : AreLedTo slots later (before ++ (e.cid, content e.block) ∷ []) = led-behind slots later before e.cid (content e.block) led-later new full (at_e ∙ ap Some few) in (
             subst (λ (i : Index). IsIndexed i (map pair entries)) (sym w.self-is) (indexed-put index later (map pair entries) e.cid _ place indexed there (ap (λ v. v.items) s.slots) s.put s.stood),
             subst (λ (i : Index). AreLedTo c.match-free_slot.slots.items i (map pair (take (place + 1) entries))) (sym w.self-is)
                 (subst (λ (l : List Slot). AreLedTo l later (map pair (take (place + 1) entries))) (sym (ap (λ v. v.items) w.slots-is))
@@ -67,7 +68,7 @@ loop-place-preserved c =
           let old : Leads (window_of index.slots.items (tail_of e.cid)) (place_behind index e.cid) (tail_of e.cid) place = indexed.leads e.cid place there in
           let at_e : place_behind index e.cid ≡ Some place = w.has_place.ensures w.if-has_place.false (place_behind index e.cid)
           (subst (λ (n : ℕ). Leads (window_of index.slots.items n) (place_behind index e.cid) n place) (sym c.tail_of-tail.ensures) old) in
-          let here : AreLedTo slots index (before ++ (e.cid, e.block.items) ∷ []) = led-behind slots index before e.cid e.block.items led new full (at_e ∙ ap Some few) in (
+          let here : AreLedTo slots index (before ++ (e.cid, content e.block) ∷ []) = led-behind slots index before e.cid (content e.block) led new full (at_e ∙ ap Some few) in (
             subst (λ (i : Index). IsIndexed i (map pair entries)) (sym w.self-is) indexed,
             subst (λ (i : Index). AreLedTo c.match-free_slot.slots.items i (map pair (take (place + 1) entries))) (sym w.self-is)
                 (subst (λ (l : List Slot). AreLedTo l index (map pair (take (place + 1) entries))) (sym (ap (λ v. v.items) w.slots-is))

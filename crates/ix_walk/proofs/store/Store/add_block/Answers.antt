@@ -1,7 +1,7 @@
 use Rattle.std.proofs.Common.{◌≡◌, false, rules}
 use Rattle.ix_walk.specs.Store.{has_cid}
 use Rattle.ix_walk.proofs.Stores.{with-new}
-use Rattle.ix_walk.proofs.store.Store.add.Goals as goal
+use Rattle.ix_walk.proofs.store.Store.add_block.Goals as goal
 
 pub returns-clause-added : goal.returns-clause-added
 returns-clause-added c =
