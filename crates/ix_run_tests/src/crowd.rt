@@ -1,19 +1,23 @@
-//! Many jobs, by many threads that have room for one item; the writer of one job is slow.
+//! As many jobs as there may be, by as many threads, which have room for one item.
 
 use crate::input::{CHAIN_CAR, CHAIN_JOBS};
 use ix_fixtures::{CHAIN_ARCHIVE, bytes_of};
 use ix_pipeline::Plan;
-use ix_run::{prepare, run};
+use ix_run::{RunOut, prepare, run};
 use std::alloc::{AllocError, Global};
 use std::io::{self, Write};
+use std::sync::Wait;
 use std::test::Fail;
-use std::thread;
+use std::thread::{self, Threads};
 
-const JOBS: usize = 100;
+const JOBS: usize = 1_000;
 
-const THREADS: u32 = 16;
+const THREADS: u32 = 64;
 
-// The job whose writer is slow, and how often that gives its processor away at each write.
+// How often all jobs are run.
+const RUNS: u32 = 4;
+
+// The job whose writer may be slow, and how often that gives its processor away at each write.
 const SLOW: usize = 7;
 
 const YIELDS: u32 = 1_000;
@@ -50,37 +54,63 @@ fn job_file(alloc: Global) -> Result<String, Fail> {
     Ok(text)
 }
 
-// A writer for each of the jobs.
-fn writers(alloc: Global) -> Result<Vec<Slow>, AllocError> {
+// A writer for each of the jobs, of which one gives its processor away so often at each write.
+fn writers(alloc: Global, yields: u32) -> Result<Vec<Slow>, AllocError> {
     let mut writers = Vec::new(alloc);
     for number in 0..JOBS {
         let bytes = Vec::new(alloc);
-        let yields = if number == SLOW { YIELDS } else { 0 };
+        let yields = if number == SLOW { yields } else { 0 };
         writers.push(Slow { bytes, yields })?;
     }
     Ok(writers)
 }
 
-#[test]
-fn hundred_jobs_by_sixteen_threads(rt: HostRuntime) -> Result<(), Fail> {
-    let alloc = rt.alloc();
+// The report: every job is done, with the four blocks of the chain.
+fn wanted_report(alloc: Global) -> Result<String, AllocError> {
+    let mut text = String::new(alloc);
+    for number in 0..JOBS {
+        let line = format!(in alloc; "{number} done visits=4 kept=4 sections=4 bytes=336\n")?;
+        text.push_str(line.as_str())?;
+    }
+    let last = format!(in alloc; "total jobs={JOBS} done={JOBS} skips=0\n")?;
+    text.push_str(last.as_str())?;
+    Ok(text)
+}
+
+// Runs all jobs, with room for one item in the queue and in each lane.
+fn run_all<R: Threads + Wait + Sync>(
+    rt: &R,
+    alloc: Global,
+    yields: u32,
+) -> Result<RunOut<Slow>, Fail> {
     let car = bytes_of(alloc, CHAIN_CAR.as_slice())?;
     let (store, jobs) = prepare(alloc, car.as_slice(), job_file(alloc)?.as_bytes())?;
-    let writers = writers(alloc)?;
+    let writers = writers(alloc, yields)?;
     if jobs.len() != writers.len() {
-        return Err("a hundred jobs were wanted".into());
+        return Err("a thousand jobs were wanted".into());
     }
     let plan = Plan {
         walkers: THREADS,
         queue: 1,
         lane: 1,
     };
-    let out = run(&rt, alloc, &store, &jobs, writers, THREADS, plan)?;
-    assert_eq!(rt; out.status, 0);
+    Ok(run(rt, alloc, &store, &jobs, writers, THREADS, plan)?)
+}
+
+#[test]
+fn thousand_jobs_by_sixty_four_threads(rt: HostRuntime) -> Result<(), Fail> {
+    let alloc = rt.alloc();
     let whole = bytes_of(alloc, CHAIN_ARCHIVE.as_slice())?;
-    assert_eq!(rt; out.writers.len(), JOBS);
-    for writer in &out.writers {
-        assert!(rt; writer.bytes == whole);
+    let report = wanted_report(alloc)?;
+    // In the first run the writer of one job is slow.
+    for run in 0..RUNS {
+        let yields = if run == 0 { YIELDS } else { 0 };
+        let out = run_all(&rt, alloc, yields)?;
+        assert!(rt; out.report.as_slice() == report.as_bytes());
+        assert_eq!(rt; out.writers.len(), JOBS);
+        for writer in &out.writers {
+            assert!(rt; writer.bytes == whole);
+        }
     }
     Ok(())
 }
