@@ -11,5 +11,5 @@ mod root;
 pub use command::{printed_root, root_of_text};
 pub use execution::{RunOut, run, run_jobs};
 pub use fault::{RunFault, fault_line};
-pub use preparation::prepare;
+pub use preparation::{load, prepare};
 pub use root::export_root;
