@@ -15,7 +15,7 @@ use failure::Failure;
 use files::{read_all, read_file, stand_in};
 use ix_notation::{hex_of_json, json_of_hex};
 use ix_pipeline::Plan;
-use ix_run::{RunFault, RunOut, prepare, printed_root, root_of_text, run, run_watched};
+use ix_run::{RunFault, RunOut, load, printed_root, root_of_text, run, run_watched};
 use ix_walk::{Job, Store};
 use outputs::{make_outputs, name_outputs, remove_outputs};
 use progress::Progress;
@@ -94,8 +94,8 @@ fn export_jobs<'a, R: AllocGlobal + Eprint + Files + Print + Threads + Wait + Sy
     let inputs = ["blocks", "jobs"].map(|name| words.get_str(name).unwrap_or(""));
     let car = read_file(rt, inputs[0])?;
     let file = read_file(rt, inputs[1])?;
-    let (store, jobs) = prepare(alloc, car.as_slice(), file.as_slice())?;
-    drop((car, file));
+    let (store, jobs) = load(alloc, car, file.as_slice())?;
+    drop(file);
     let folder = words.get_str("out").unwrap_or("");
     let writers = make_outputs(rt, folder, jobs.as_slice(), inputs)?;
     let out = match run_by_words(rt, words, &store, &jobs, writers) {

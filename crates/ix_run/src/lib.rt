@@ -12,6 +12,6 @@ mod watch;
 pub use command::{printed_root, root_of_text};
 pub use execution::{RunOut, run, run_jobs, run_watched};
 pub use fault::{RunFault, fault_line};
-pub use preparation::prepare;
+pub use preparation::{load, prepare};
 pub use root::export_root;
 pub use watch::{Watch, Watched};

@@ -7,7 +7,7 @@ ghost use Rattle.ix_jobs.specs.Jobs.{jobs_of};
 ghost use Rattle.ix_run.specs.Prepare.{IsPrepareRefusal};
 
 use crate::fault::RunFault;
-use ix_car::read_car;
+use ix_car::{load_car, read_car};
 use ix_jobs::read_jobs;
 use ix_walk::{Job, Store};
 use std::alloc::Global;
@@ -27,5 +27,21 @@ pub fn prepare(
 {
     let store = read_car(alloc, car)?;
     let jobs = read_jobs(alloc, jobs)?;
+    Ok((Arc::new(alloc, store)?, Arc::new(alloc, jobs)?))
+}
+
+/// The same of a CARv1 file whose bytes the store takes over, so that no block is copied.
+pub fn load(
+    alloc: Global,
+    car: Vec<u8>,
+    job_file: &[u8],
+) -> Result<(Arc<Store>, Arc<Vec<Job>>), RunFault>
+    ensures blocks { IfOk result (λ p. blocks_of car.items ≡ Ok (arc_value p.0)) }
+    ensures jobs { IfOk result (λ p. jobs_of job_file.now ≡ Ok (arc_value p.1).items) }
+    ensures few { IfOk result (λ p. length (arc_value p.1).items ≤ 1000) }
+    ensures refused { IfErr result (λ fault. IsPrepareRefusal car.items job_file.now fault) }
+{
+    let store = load_car(alloc, car)?;
+    let jobs = read_jobs(alloc, job_file)?;
     Ok((Arc::new(alloc, store)?, Arc::new(alloc, jobs)?))
 }
