@@ -296,3 +296,9 @@ few-pairs spots xs h all =
 pub both-ok : {X E : Type 0} (r : Result X E) {P Q R : X → Type 0} → ((x : X) → P x → Q x → R x) → IfOk r P → IfOk r Q → IfOk r R
 both-ok (Ok x) f p q = f x p q
 both-ok (Err e) f p q = tt
+
+-- fewer than two pairs rise
+pub rising-short : (xs : List Pair) → length xs < 2 → ArePlacesRising xs
+rising-short [] few = tt
+rising-short (x ∷ []) few = (omega arith, tt)
+rising-short (x ∷ y ∷ xs) few = absurd (omega arith)

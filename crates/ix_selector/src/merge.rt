@@ -9,7 +9,21 @@ use smallvec::SmallVec;
 use std::alloc::{AllocError, Global};
 
 /// The pairs in the order of their places, with one pair for all ways to a place.
-pub(crate) fn merged(alloc: Global, mut pairs: Pairs) -> Result<Pairs, AllocError>
+pub(crate) fn merged(alloc: Global, pairs: Pairs) -> Result<Pairs, AllocError>
+    requires agree { Agree pairs.items }
+    ensures enters { IfOk result (λ r. EnterSame r.items pairs.items) }
+    ensures among { IfOk result (λ r. All (IsOf pairs.items) r.items) }
+    ensures rising { IfOk result (λ r. ArePlacesRising r.items) }
+{
+    if pairs.len() < 2 {
+        Ok(pairs)
+    } else {
+        joined_by_place(alloc, pairs)
+    }
+}
+
+// The same of any pairs, by sorting them.
+fn joined_by_place(alloc: Global, mut pairs: Pairs) -> Result<Pairs, AllocError>
     requires agree { Agree pairs.items }
     ensures enters { IfOk result (λ r. EnterSame r.items pairs.items) }
     ensures among { IfOk result (λ r. All (IsOf pairs.items) r.items) }

@@ -107,12 +107,12 @@ stretch-set n f l at x b t p free h =
 
 -- the window of a table of so many slots
 abbrev window_in : ℕ → List Slot → ℕ → List Slot
-window_in n l t = cond (ltb n 16) [] (take 16 (drop (t % (n - 15)) l))
+window_in n l t = cond (ltb n 8) [] (take 8 (drop (t % (n - 7)) l))
 
 window-set-in : (n : ℕ) (l : List Slot) (at : ℕ) (x : Slot) (b : Option ℕ) (u t p : ℕ) → get_or l at Free ≡ Free → Leads (window_in n l u) b t p → Leads (window_in n (set l at x) u) b t p
 window-set-in n l at x b u t p free =
-    elim (ltb n 16) as (λ v. Leads (cond v [] (take 16 (drop (u % (n - 15)) l))) b t p → Leads (cond v [] (take 16 (drop (u % (n - 15)) (set l at x)))) b t p)
-    [ true ↦ λ h. h | false ↦ λ h. stretch-set 16 (u % (n - 15)) l at x b t p free h ]
+    elim (ltb n 8) as (λ v. Leads (cond v [] (take 8 (drop (u % (n - 7)) l))) b t p → Leads (cond v [] (take 8 (drop (u % (n - 7)) (set l at x)))) b t p)
+    [ true ↦ λ h. h | false ↦ λ h. stretch-set 8 (u % (n - 7)) l at x b t p free h ]
 
 -- a write to a free slot keeps where look-ups come
 window-set : (l : List Slot) (at : ℕ) (x : Slot) (b : Option ℕ) (u t p : ℕ) → get_or l at Free ≡ Free → Leads (window_of l u) b t p → Leads (window_of (set l at x) u) b t p
@@ -125,19 +125,19 @@ pub record AtFirst (l : List Slot) (u at : ℕ) : Type 0 where
   pub free : get_or l at Free ≡ Free
   pub comes : (b : Option ℕ) (p : ℕ) → Leads (window_of (set l at (Taken u p)) u) b u p
 
-stretch-first : (f : ℕ) (l : List Slot) (n : ℕ) → IsFirstFree (take 16 (drop f l)) n → (f + n < length l) × (get_or l (f + n) Free ≡ Free) × ((b : Option ℕ) (t p : ℕ) → Leads (take 16 (drop f (set l (f + n) (Taken t p)))) b t p)
+stretch-first : (f : ℕ) (l : List Slot) (n : ℕ) → IsFirstFree (take 8 (drop f l)) n → (f + n < length l) × (get_or l (f + n) Free ≡ Free) × ((b : Option ℕ) (t p : ℕ) → Leads (take 8 (drop f (set l (f + n) (Taken t p)))) b t p)
 stretch-first f l n h =
-    let short : n < length (take 16 (drop f l)) = first-within (take 16 (drop f l)) n h in
-    let few : n < 16 = omega (arith, short, length-take 16 (drop f l)) in (
-      omega (arith, short, length-take 16 (drop f l), length-drop f l),
-      sym (get_or-drop f l n Free) ∙ sym (get_or-take 16 (drop f l) n Free few) ∙ first-free (take 16 (drop f l)) n h,
-      λ b t p. subst (λ (r : List Slot). Leads r b t p) (sym (ap (λ (r : List Slot). take 16 r) (drop-set-add f l n (Taken t p)) ∙ take-set 16 (drop f l) n (Taken t p))) (leads-first (take 16 (drop f l)) n b t p h),
+    let short : n < length (take 8 (drop f l)) = first-within (take 8 (drop f l)) n h in
+    let few : n < 8 = omega (arith, short, length-take 8 (drop f l)) in (
+      omega (arith, short, length-take 8 (drop f l), length-drop f l),
+      sym (get_or-drop f l n Free) ∙ sym (get_or-take 8 (drop f l) n Free few) ∙ first-free (take 8 (drop f l)) n h,
+      λ b t p. subst (λ (r : List Slot). Leads r b t p) (sym (ap (λ (r : List Slot). take 8 r) (drop-set-add f l n (Taken t p)) ∙ take-set 8 (drop f l) n (Taken t p))) (leads-first (take 8 (drop f l)) n b t p h),
     )
 
-window-first-in : (m : ℕ) (l : List Slot) (u n : ℕ) → IsFirstFree (window_in m l u) n → ((u % (m - 15)) + n < length l) × (get_or l ((u % (m - 15)) + n) Free ≡ Free) × ((b : Option ℕ) (p : ℕ) → Leads (window_in m (set l ((u % (m - 15)) + n) (Taken u p)) u) b u p)
+window-first-in : (m : ℕ) (l : List Slot) (u n : ℕ) → IsFirstFree (window_in m l u) n → ((u % (m - 7)) + n < length l) × (get_or l ((u % (m - 7)) + n) Free ≡ Free) × ((b : Option ℕ) (p : ℕ) → Leads (window_in m (set l ((u % (m - 7)) + n) (Taken u p)) u) b u p)
 window-first-in m l u n =
-    elim (ltb m 16) as (λ v. IsFirstFree (cond v [] (take 16 (drop (u % (m - 15)) l))) n → ((u % (m - 15)) + n < length l) × (get_or l ((u % (m - 15)) + n) Free ≡ Free) × ((b : Option ℕ) (p : ℕ) → Leads (cond v [] (take 16 (drop (u % (m - 15)) (set l ((u % (m - 15)) + n) (Taken u p))))) b u p))
-    [ true ↦ λ h. absurd h | false ↦ λ h. let s = stretch-first (u % (m - 15)) l n h in (s.0, s.1, λ b p. s.2 b u p) ]
+    elim (ltb m 8) as (λ v. IsFirstFree (cond v [] (take 8 (drop (u % (m - 7)) l))) n → ((u % (m - 7)) + n < length l) × (get_or l ((u % (m - 7)) + n) Free ≡ Free) × ((b : Option ℕ) (p : ℕ) → Leads (cond v [] (take 8 (drop (u % (m - 7)) (set l ((u % (m - 7)) + n) (Taken u p))))) b u p))
+    [ true ↦ λ h. absurd h | false ↦ λ h. let s = stretch-first (u % (m - 7)) l n h in (s.0, s.1, λ b p. s.2 b u p) ]
 
 -- a place that goes to a slot goes to the first free one of its window
 pub at-first : (l : List Slot) (u at n : ℕ) → at ≡ first_of l u + n → IsFirstFree (window_of l u) n → AtFirst l u at

@@ -17,11 +17,11 @@ tail_of c = if nat_lt (length c) 8 then 0 else from_le_bytes w64 (drop (length c
 
 -- the slot at which the look-up of a number begins
 abbrev pub first_of : List Slot → ℕ → ℕ
-first_of slots tail = tail % (length slots - 15)
+first_of slots tail = tail % (length slots - 7)
 
 -- the slots through which the look-up of a number goes
 abbrev pub window_of : List Slot → ℕ → List Slot
-window_of slots tail = if nat_lt (length slots) 16 then [] else take 16 (drop (first_of slots tail) slots)
+window_of slots tail = if nat_lt (length slots) 8 then [] else take 8 (drop (first_of slots tail) slots)
 
 -- A look-up of a number through these slots, up to the first free one, and then in the tree, comes to this place.
 abbrev pub Leads : List Slot → Option ℕ → ℕ → ℕ → Type 0

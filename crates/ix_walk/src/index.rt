@@ -17,7 +17,7 @@ use std::alloc::{AllocError, Global};
 use std::collections::BTreeMap;
 
 // How many slots a look-up goes through at most.
-const PROBES: usize = 16;
+const PROBES: usize = 8;
 
 // At how many slots a look-up may begin in the smallest table.
 const LEAST_STARTS: usize = 64;
