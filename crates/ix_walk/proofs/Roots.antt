@@ -15,17 +15,6 @@ use Rattle.ix_walk.specs.Arriving.{IsReading, Roots, Arrives}
 use Rattle.ix_walk.proofs.Blocks.{item_of_block}
 use Rattle.ix_walk.proofs.Stands.{open_on, reversed_push, trail_without}
 
--- there is no root
-pub roots_none : (places : List Place) (depth : ℕ) (t : Trail) → Roots places None depth t t
-roots_none places depth t = λ value is ss e. (
-  ss,
-  e,
-  record {
-    arrivals = λ inside limit. sym (ap (λ v. when_some v (λ d. node_arrivals places d depth inside limit) ++ all_arrivals inside limit ss) is);
-    deep = λ bound h n. n;
-  },
-)
-
 -- arrivals at a root that is there
 rooted : (places : List Place) (depth : ℕ) (value : Option Data) (d : Data) (xs ys : List Arrival) (inside : Inside) (limit : ℕ) → value ≡ Some d → ys ≡ node_arrivals places d depth inside limit ++ xs
     → ys ≡ when_some value (λ d. node_arrivals places d depth inside limit) ++ xs

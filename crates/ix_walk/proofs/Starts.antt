@@ -1,6 +1,6 @@
 -- A walk that begins.
-use Rattle.std.proofs.Common.{◌≡◌, ℕ, ◌-◌, ◌≤◌, Bool, false, List, [], ◌∷◌, length, take, map, reverse, append-nil, sym, ◌∙◌, ap, subst, arith}
-use Rattle.std.specs.Prelude.{Some, None, option_map, nat_lt}
+use Rattle.std.proofs.Common.{◌≡◌, ℕ, ◌-◌, Bool, false, List, [], ◌∷◌, length, take, map, reverse, append-nil, sym, ◌∙◌, ap, subst, arith}
+use Rattle.std.specs.Prelude.{Some, option_map, nat_lt}
 use Rattle.std.proofs.Math.Path.{fun_ext}
 use Rattle.std.proofs.lemmas.List.{take-map, length-map}
 use Rattle.ix_selector.specs.Enters.{Path}
@@ -14,7 +14,6 @@ use Rattle.ix_walk.specs.Store.{Blocks, value_of}
 use Rattle.ix_walk.specs.Visits.{believed, is_over_limit, visits_of, visits_from}
 use Rattle.ix_walk.specs.WalkLeft.{WalkLeft}
 use Rattle.ix_walk.specs.Walking.{Test, reached_at, to_cid, Subtree, all_arrivals, or_nil, stands, with_next, trail_stands, subtrees, walk_left, IsWalk}
-use Rattle.ix_walk.proofs.Stands.{trail_without}
 use Rattle.ix_walk.proofs.Reached.{forget, at as reached, visits_forget}
 
 left : (visits more : List Visit) (limited over : Bool) → visits ≡ more → limited ≡ over
@@ -64,7 +63,3 @@ starts_limit store number limit job r t is tested next empty =
 -- and stands at its root
 pub starts_within : (limit : ℕ) (r : List Place) (root : List ℕ) (t : Trail) → t.next ≡ Some (record { residual = r; cid = root; depth = 0 }) → t.stack.items ≡ [] → IsWalk limit 0 t
 starts_within limit r root t next empty = (omega arith, from_root r root, begins t r root next empty, (omega arith, tt))
-
--- a walk of which nothing is left
-pub ends_within : (limit given : ℕ) (t : Trail) → given ≤ limit → t.next ≡ None → t.stack.items ≡ [] → IsWalk limit given t
-ends_within limit given t h next empty = (h, [], trail_without t next ∙ ap (λ os. stands t.at.now (reverse os)) empty, tt)

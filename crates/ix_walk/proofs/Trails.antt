@@ -14,13 +14,10 @@ use Rattle.ix_walk.specs.Arrivals.{Arrival, Inside}
 use Rattle.ix_walk.specs.Walking.{is_spent, with_children, Part, to_cid, members, values, part_weight, Subtree, opened, found, all_arrivals, found_arrivals, NoDeeper, all_weight, part_at, goes_on, stands, with_next, trail_stands, subtrees, IsStanding}
 use Rattle.ix_walk.specs.Descent.{part_arrivals, IsNext, Keeps, IsFound, Leaves, Finds, trail_weight}
 use Rattle.ix_walk.proofs.Openings.{spent_part}
-use Rattle.ix_walk.proofs.Stands.{some_same, some_mapped, open_apart, open_on, reversed_push, subtrees_are, trail_without}
+use Rattle.ix_walk.proofs.Stands.{some_mapped, open_apart, open_on, reversed_push, subtrees_are, trail_without}
 
 pub keeps_on : (a b c : List Subtree) → Keeps a b → Keeps b c → Keeps a c
 keeps_on a b c k l = record { arrivals = λ inside limit. k.arrivals inside limit ∙ l.arrivals inside limit; deep = λ bound n. l.deep bound (k.deep bound n) }
-
-pub keeps_same : (a : List Subtree) → Keeps a a
-keeps_same a = record { arrivals = λ inside limit. refl; deep = λ bound n. n }
 
 -- what an open item had
 had : (o : Opened) (part : Part) (others ss : List Subtree) (first : Inside → ℕ → List Arrival) (left : Part) → opened o part ∷ others ≡ ss
@@ -114,9 +111,6 @@ pub record IsKept (old new : Trail) : Type 0 where
   pub next : new.next ≡ None
   pub keeps : (ss : List Subtree) → trail_stands old ≡ Some ss → (more : List Subtree) × (trail_stands new ≡ Some more) × Keeps ss more
 
-pub kept_same : (t : Trail) → t.next ≡ None → IsKept t t
-kept_same t next = record { next = next; keeps = λ ss e. (ss, e, keeps_same ss) }
-
 -- and it is less
 pub record Steps (old new : Trail) : Type 0 where
   pub next : new.next ≡ None
@@ -190,20 +184,6 @@ link_found first loop mid new o n f rest kept then items pushed is same leaves =
         arrivals = λ inside limit. k.2.arrivals inside limit ∙ g.2.arrivals inside limit ∙ ap (λ z. found_arrivals inside limit (Some f) ++ z) (l.2.arrivals inside limit);
         deep = λ bound n. let m = g.2.deep bound (k.2.deep bound n) in (m.0, l.2.deep bound m.1);
         ends = tt;
-      },
-    )
-
--- nothing is left
-pub none_found : (first loop new : Trail) → IsKept first loop → new.next ≡ None → new.stack.items ≡ [] → loop.stack.items ≡ [] → Finds first None new
-none_found first loop new kept then empty nothing = λ ss e.
-    let k = kept.keeps ss e in
-    let is : k.0 ≡ [] = some_same k.0 [] (sym k.1 ∙ trail_without loop kept.next ∙ ap (λ os. stands loop.at.now (reverse os)) nothing) in (
-      [],
-      trail_without new then ∙ ap (λ os. stands new.at.now (reverse os)) empty,
-      record {
-        arrivals = λ inside limit. k.2.arrivals inside limit ∙ ap (all_arrivals inside limit) is;
-        deep = λ bound n. (tt, tt);
-        ends = refl;
       },
     )
 

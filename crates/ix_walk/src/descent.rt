@@ -110,7 +110,31 @@ pub(crate) fn node_at<'a>(
     Ok((entered_by(alloc, front, residual, depth)?, behind))
 }
 
-// What the child is that stands here, where the selector enters it, and where the walk then stands.
+// What the child is that stands here, with this front and these bytes behind it, where the selector enters it; and where
+// the walk then stands. It isn't inlined, so that children without links don't pay for its locals.
+#[inline(never)]
+fn step_into<'a>(
+    alloc: Global,
+    residual: &Residual<'a>,
+    step: &Step,
+    at: &'a [u8],
+    front: Front<'_>,
+    behind: &'a [u8],
+    depth: u32,
+) -> Result<(Option<Entered<'a>>, &'a [u8]), AllocError>
+    requires item { IsItem at.now }
+    requires front { own_at at.now ≡ Ok (own_of_front front, behind.now) }
+    requires cid { HasCid front }
+    ensures { IfOk result (λ r. IsChild residual.now (step_of step.now) at.now depth r.0 r.1.now) }
+{
+    match residual.step(alloc, step)? {
+        Some(residual) => Ok((entered_by(alloc, front, residual, depth)?, behind)),
+        None => Ok((None, end_of(at, front, behind))),
+    }
+}
+
+// What the child is that stands here, where the selector enters it and a link can be in it, and where the walk then
+// stands.
 fn child_at<'a>(
     alloc: Global,
     residual: &Residual<'a>,
@@ -122,12 +146,10 @@ fn child_at<'a>(
     ensures { IfOk result (λ r. IsChild residual.now (step_of step.now) at.now depth r.0 r.1.now) }
 {
     let (front, behind) = front_at(at);
-    if !may_hold_links(front) {
-        return Ok((None, behind));
-    }
-    match residual.step(alloc, step)? {
-        Some(residual) => Ok((entered_by(alloc, front, residual, depth)?, behind)),
-        None => Ok((None, end_of(at, front, behind))),
+    if may_hold_links(front) {
+        step_into(alloc, residual, step, at, front, behind, depth)
+    } else {
+        Ok((None, behind))
     }
 }
 
