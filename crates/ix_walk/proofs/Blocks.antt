@@ -7,6 +7,7 @@ use Rattle.ix_cbor.specs.Fronts.{judged}
 use Rattle.ix_cbor.proofs.Steps.{bind_ok, ok_same, ok_data}
 use Rattle.ix_walk.specs.Store.{Blocks, block_of, position_behind, position_of, is_walkable, value_of}
 use Rattle.ix_walk.specs.Visits.{is_malformed}
+use Rattle.ix_walk.specs.Descent.{IsItem}
 use Rattle.ix_walk.specs.Arriving.{IsReading}
 
 none_behind : (n : ℕ) (store : Blocks) (c : List ℕ) → None ≡ position_behind n store c → block_of store c ≡ None
@@ -81,3 +82,7 @@ item_of_block b d e = let x = bind_ok (item_at 512 b) nothing_after d e in x.1 �
   all : (x : Data × List ℕ) (d : Data) → nothing_after x ≡ Ok d → ok_data x ≡ Ok (d, [])
   all (y, []) d e = ap (λ z. Ok (z, [])) (ok_same y d e)
   all (y, (l ∷ ls)) d e = absurd cc
+
+-- a block that decodes is an item
+pub checked_item : (b : List ℕ) → judged b ≡ Ok tt → IsItem b
+checked_item b e = let d = bind_ok (decoded b) (λ d. Ok tt) tt e in ((d.0, []), item_of_block b d.0 d.1)

@@ -5,6 +5,7 @@ pub mod Reached
 pub mod Stands
 pub mod Parts
 pub mod Openings
+pub mod Trails
 pub mod Blocks
 pub mod Roots
 pub mod Takes

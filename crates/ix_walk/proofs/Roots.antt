@@ -1,52 +1,66 @@
 -- Arriving at a link: its visit, and the root behind it.
-use Rattle.std.proofs.Common.{◌≡◌, ℕ, suc, ◌+◌, ◌-◌, Bool, List, [], ◌∷◌, ◌++◌, reverse, refl, sym, ◌∙◌, ap, arith}
-use Rattle.std.specs.Prelude.{Option, Some, None, Ok, option_to_list}
-use Rattle.ix_cbor.specs.Reading.{◌>>=◌}
+use Rattle.std.proofs.Common.{◌≡◌, ℕ, suc, ◌+◌, ◌-◌, Bool, List, [], ◌∷◌, ◌++◌, reverse, sym, ◌∙◌, ap, arith}
+use Rattle.std.specs.Prelude.{Option, Some, None, option_map}
+use Rattle.ix_cbor.specs.Data.{Data}
 use Rattle.ix_selector.specs.Residual.{Place, residual_enters}
-use Rattle.ix_walk.specs.declared.subtree.Children.TheVariants.{Item}
-use Rattle.ix_walk.specs.declared.subtree.Pending.{Pending}
-use Rattle.ix_walk.specs.declared.subtree.Pending.TheVariants.{Open}
+use Rattle.ix_walk.specs.declared.subtree.Entered.TheVariants.{Link, Open}
+use Rattle.ix_walk.specs.declared.subtree.Opened.{Opened}
+use Rattle.ix_walk.specs.declared.subtree.Found.{Found}
 use Rattle.ix_walk.specs.declared.subtree.Trail.{Trail}
-use Rattle.ix_walk.specs.Arrivals.{Arrival, when_some}
+use Rattle.ix_walk.specs.Arrivals.{Arrival, Inside, when_some}
 use Rattle.ix_walk.specs.Store.{Blocks, position_of, value_of}
-use Rattle.ix_walk.specs.Walking.{arrival, reached_at, node, Subtree, all_arrivals, NoDeeper, or_none, part_at, stands, trail_stands}
-use Rattle.ix_walk.specs.Descent.{node_arrivals}
-use Rattle.ix_walk.specs.Arriving.{IsReading, IsBack, Roots, Arrives}
+use Rattle.ix_walk.specs.Walking.{arrival, reached_at, Subtree, all_arrivals, NoDeeper, opened, found, stands, with_next, trail_stands}
+use Rattle.ix_walk.specs.Descent.{node_arrivals, IsNode}
+use Rattle.ix_walk.specs.Arriving.{IsReading, Roots, Arrives}
 use Rattle.ix_walk.proofs.Blocks.{item_of_block}
-use Rattle.ix_walk.proofs.Stands.{open_on, reversed_both}
+use Rattle.ix_walk.proofs.Stands.{open_on, reversed_push, trail_without}
 
--- there is no root
-pub roots_none : (places : List Place) (depth : ℕ) (t : Trail) → Roots places None depth t t
-roots_none places depth t = λ value is ss e. (
-  ss,
-  e,
-  record {
-    arrivals = λ inside limit. sym (ap (λ v. when_some v (λ d. node_arrivals places d depth inside limit) ++ all_arrivals inside limit ss) is);
-    deep = λ bound h n. n;
-  },
-)
+-- arrivals at a root that is there
+rooted : (places : List Place) (depth : ℕ) (value : Option Data) (d : Data) (xs ys : List Arrival) (inside : Inside) (limit : ℕ) → value ≡ Some d → ys ≡ node_arrivals places d depth inside limit ++ xs
+    → ys ≡ when_some value (λ d. node_arrivals places d depth inside limit) ++ xs
+rooted places depth value d xs ys inside limit is e = e ∙ sym (ap (λ v. when_some v (λ d. node_arrivals places d depth inside limit) ++ xs) is)
 
--- the way back stands where the walk stood, whatever comes before it
-pub back_of_none : (at rest : List ℕ) → stands rest [] ≡ stands at []
-back_of_none at rest = refl
-
--- a root above the way back
-pub roots_some : (places : List Place) (b : List ℕ) (depth : ℕ) (back : Option Pending) (old new : Trail) → IsBack old back → new.at.now ≡ b
-    → new.stack.items ≡ (old.stack.items ++ option_to_list back) ++ Open (record { residual = places; children = Item; depth = depth }) ∷ []
-    → Roots places (Some b) depth old new
-roots_some places b depth back old new is_back at_is pushed = λ value is ss e.
-    let d = is.0 in
-    let ps = option_to_list back ++ reverse old.stack.items in
-    let here : part_at Item b ≡ Some (node d, []) = ap (λ r. or_none (r >>= (λ x. Ok (node x.0, x.1)))) (item_of_block b d is.2) in
-    let behind : stands [] ps ≡ Some ss = is_back [] ∙ e in
-    let on = open_on b (record { residual = places; children = Item; depth = depth }) ps (node d) [] ss here behind in
-    let all : trail_stands new ≡ stands b (Open (record { residual = places; children = Item; depth = depth }) ∷ ps) =
-    ap (λ l. stands l (reverse new.stack.items)) at_is ∙ ap (stands b) (reversed_both new.stack.items old.stack.items back (Some (Open (record { residual = places; children = Item; depth = depth }))) pushed) in (
-      _,
-      all ∙ on,
+-- a root in which no link can be
+pub roots_flat : (places : List Place) (b at : List ℕ) (depth : ℕ) (old new : Trail) → IsNode places b depth None at → new ≡ old → Roots places (Some b) depth old new
+roots_flat places b at depth old new node same = λ value is ss e.
+    let n = node is.0 [] (item_of_block b is.0 is.2) in (
+      ss,
+      ap trail_stands same ∙ e,
       record {
-        arrivals = λ inside limit. sym (ap (λ v. when_some v (λ d. node_arrivals places d depth inside limit) ++ all_arrivals inside limit ss) is.1);
-        deep = λ bound h n. (h, n);
+        arrivals = λ inside limit. rooted places depth value is.0 (all_arrivals inside limit ss) (all_arrivals inside limit ss) inside limit is.1 (ap (λ z. z ++ all_arrivals inside limit ss) (sym (n.1 inside limit)));
+        deep = λ bound h n. n;
+      },
+    )
+
+-- a root that is a link
+pub roots_link : (places : List Place) (b at : List ℕ) (depth : ℕ) (f : Found) (old new : Trail) → IsNode places b depth (Some (Link f)) at → old.next ≡ None → new.at.now ≡ old.at.now → new.stack.items ≡ old.stack.items → new.next ≡ Some f
+    → Roots places (Some b) depth old new
+roots_link places b at depth f old new node none at_is stack_is next_is = λ value is ss e.
+    let n = node is.0 [] (item_of_block b is.0 is.2) in
+    let below : stands new.at.now (reverse new.stack.items) ≡ Some ss = ap (λ l. stands l (reverse new.stack.items)) at_is ∙ ap (λ os. stands old.at.now (reverse os)) stack_is ∙ sym (trail_without old none) ∙ e in (
+      found f ∷ ss,
+      ap (λ o. option_map (with_next o) (stands new.at.now (reverse new.stack.items))) next_is ∙ ap (option_map (with_next (Some f))) below,
+      record {
+        arrivals = λ inside limit. rooted places depth value is.0 (all_arrivals inside limit ss) (all_arrivals inside limit (found f ∷ ss)) inside limit is.1 (ap (λ z. z ++ all_arrivals inside limit ss) (n.1.reaches inside limit));
+        deep = λ bound h m. (let k = n.1.deep in omega (arith, h, k), m);
+      },
+    )
+
+-- a root that is a list or map, behind which the walk goes back to where it stood
+pub roots_open : (places : List Place) (b at : List ℕ) (depth : ℕ) (o root : Opened) (old new : Trail) → IsNode places b depth (Some (Open o)) at → old.next ≡ None → new.next ≡ None → new.at.now ≡ at
+    → new.stack.items ≡ old.stack.items ++ root ∷ [] → root ≡ record { residual = o.residual; children = o.children; depth = o.depth; back = Some old.at }
+    → Roots places (Some b) depth old new
+roots_open places b at depth o root old new node none next_is at_is pushed root_is = λ value is ss e.
+    let n = node is.0 [] (item_of_block b is.0 is.2) in
+    let r : Opened = record { residual = o.residual; children = o.children; depth = o.depth; back = Some old.at } in
+    let below : stands old.at.now (reverse old.stack.items) ≡ Some ss = sym (trail_without old none) ∙ e in
+    let on : stands at (r ∷ reverse old.stack.items) ≡ Some (opened r n.1 ∷ ss) = open_on at r (reverse old.stack.items) n.1 [] ss n.2 below in
+    let stack_is : reverse new.stack.items ≡ r ∷ reverse old.stack.items = reversed_push new.stack.items old.stack.items root pushed ∙ ap (λ x. x ∷ reverse old.stack.items) root_is in (
+      opened r n.1 ∷ ss,
+      trail_without new next_is ∙ ap (λ l. stands l (reverse new.stack.items)) at_is ∙ ap (stands at) stack_is ∙ on,
+      record {
+        arrivals = λ inside limit. rooted places depth value is.0 (all_arrivals inside limit ss) (all_arrivals inside limit (opened r n.1 ∷ ss)) inside limit is.1 (ap (λ z. z ++ all_arrivals inside limit ss) (n.3.reaches inside limit));
+        deep = λ bound h m. (let k = n.3.deep in omega (arith, h, k), m);
       },
     )
 

@@ -1,12 +1,10 @@
 -- A stack as subtrees, put together and taken apart.
 use Rattle.std.proofs.Common.{◌≡◌, ℕ, List, [], ◌∷◌, ◌++◌, reverse, refl, ◌∙◌, ap}
-use Rattle.std.specs.Prelude.{Option, Some, None, option_map, option_and_then, option_to_list}
+use Rattle.std.specs.Prelude.{Option, Some, None, option_map, option_and_then}
 use Rattle.std.proofs.lemmas.List.{reverse-append}
-use Rattle.ix_walk.specs.declared.subtree.Pending.{Pending}
-use Rattle.ix_walk.specs.declared.subtree.Pending.TheVariants.{Open}
 use Rattle.ix_walk.specs.declared.subtree.Opened.{Opened}
 use Rattle.ix_walk.specs.declared.subtree.Trail.{Trail}
-use Rattle.ix_walk.specs.Walking.{Part, Subtree, opened, part_at, stands, trail_stands, subtrees, or_nil}
+use Rattle.ix_walk.specs.Walking.{Part, Subtree, opened, part_at, goes_on, stands, with_next, trail_stands, subtrees, or_nil}
 
 abbrev pub given : {A : Type 0} → A → Option A
 given x = Some x
@@ -25,41 +23,39 @@ some_then f None y e = absurd cc
 some_then f (Some x) y e = (x, refl, e)
 
 -- an open item above others, taken apart
-pub record IsOpen (b : List ℕ) (o : Opened) (ps : List Pending) (ss : List Subtree) : Type 0 where
+pub record IsOpen (b : List ℕ) (o : Opened) (os : List Opened) (ss : List Subtree) : Type 0 where
   pub part : Part
   pub rest : List ℕ
   pub others : List Subtree
   pub here : part_at o.children b ≡ Some (part, rest)
-  pub behind : stands rest ps ≡ Some others
+  pub behind : stands (goes_on o.back rest) os ≡ Some others
   pub all : opened o part ∷ others ≡ ss
 
-abbrev add_opened : Opened → List Pending → Part × List ℕ → Option (List Subtree)
-add_opened o ps x = option_map (λ ss. opened o x.0 ∷ ss) (stands x.1 ps)
+abbrev add_opened : Opened → List Opened → Part × List ℕ → Option (List Subtree)
+add_opened o os x = option_map (λ ss. opened o x.0 ∷ ss) (stands (goes_on o.back x.1) os)
 
-pub open_apart : (b : List ℕ) (o : Opened) (ps : List Pending) (ss : List Subtree) → stands b (Open o ∷ ps) ≡ Some ss → IsOpen b o ps ss
-open_apart b o ps ss e =
-    let x = some_then (add_opened o ps) (part_at o.children b) ss e in
-    let m = some_mapped (λ ss. opened o x.0.0 ∷ ss) (stands x.0.1 ps) ss x.2 in
+pub open_apart : (b : List ℕ) (o : Opened) (os : List Opened) (ss : List Subtree) → stands b (o ∷ os) ≡ Some ss → IsOpen b o os ss
+open_apart b o os ss e =
+    let x = some_then (add_opened o os) (part_at o.children b) ss e in
+    let m = some_mapped (λ ss. opened o x.0.0 ∷ ss) (stands (goes_on o.back x.0.1) os) ss x.2 in
     record { part = x.0.0; rest = x.0.1; others = m.0; here = x.1; behind = m.1; all = m.2 }
 
 -- and put together
-pub open_on : (b : List ℕ) (o : Opened) (ps : List Pending) (part : Part) (rest : List ℕ) (others : List Subtree) → part_at o.children b ≡ Some (part, rest) → stands rest ps ≡ Some others
-    → stands b (Open o ∷ ps) ≡ Some (opened o part ∷ others)
-open_on b o ps part rest others here behind =
-    ap (option_and_then (add_opened o ps)) here ∙ ap (option_map (λ ss. opened o part ∷ ss)) behind
+pub open_on : (b : List ℕ) (o : Opened) (os : List Opened) (part : Part) (rest : List ℕ) (others : List Subtree) → part_at o.children b ≡ Some (part, rest) → stands (goes_on o.back rest) os ≡ Some others
+    → stands b (o ∷ os) ≡ Some (opened o part ∷ others)
+open_on b o os part rest others here behind =
+    ap (option_and_then (add_opened o os)) here ∙ ap (option_map (λ ss. opened o part ∷ ss)) behind
 
 -- the last of a list is the first of it reversed
 pub reversed_push : {A : Type 0} (xs ys : List A) (x : A) → xs ≡ ys ++ x ∷ [] → reverse xs ≡ x ∷ reverse ys
 reversed_push xs ys x e = ap reverse e ∙ reverse-append ys (x ∷ [])
 
--- one or none, reversed
-pub reversed_option : {A : Type 0} (xs : List A) (o : Option A) → reverse (xs ++ option_to_list o) ≡ option_to_list o ++ reverse xs
-reversed_option xs None = reverse-append xs []
-reversed_option xs (Some x) = reverse-append xs (x ∷ [])
-
-pub reversed_both : {A : Type 0} (xs ys : List A) (o p : Option A) → xs ≡ (ys ++ option_to_list o) ++ option_to_list p → reverse xs ≡ option_to_list p ++ (option_to_list o ++ reverse ys)
-reversed_both xs ys o p e =
-    ap reverse e ∙ reversed_option (ys ++ option_to_list o) p ∙ ap (λ zs. option_to_list p ++ zs) (reversed_option ys o)
+-- where no link comes first
+pub trail_without : (t : Trail) → t.next ≡ None → trail_stands t ≡ stands t.at.now (reverse t.stack.items)
+trail_without t e = ap (λ o. option_map (with_next o) (stands t.at.now (reverse t.stack.items))) e ∙ mapped (stands t.at.now (reverse t.stack.items)) where
+  mapped : (o : Option (List Subtree)) → option_map (with_next None) o ≡ o
+  mapped None = refl
+  mapped (Some ss) = refl
 
 -- what a walk has still to go through, where that is known
 pub subtrees_are : (t : Trail) (ss : List Subtree) → trail_stands t ≡ Some ss → subtrees t ≡ ss

@@ -1,9 +1,8 @@
 -- What arriving at a link does.
-use Rattle.std.specs.Prelude.{◌≡◌, ℕ, ◌+◌, ◌<◌, ◌≤◌, Bool, false, List, ◌∷◌, ◌++◌, Option, Some, None, Result, Ok, Err, option_to_list, reverse}
+use Rattle.std.specs.Prelude.{◌≡◌, ℕ, ◌+◌, ◌<◌, ◌≤◌, Bool, false, List, ◌∷◌, ◌++◌, Option, Some, None, Result, Ok, Err}
 use Rattle.ix_cbor.specs.Data.{Data}
 use Rattle.ix_cbor.specs.Reading.{decoded}
 use Rattle.ix_selector.specs.Residual.{Place}
-use Rattle.ix_walk.specs.declared.subtree.Pending.{Pending}
 use Rattle.ix_walk.specs.declared.subtree.Found.{Found}
 use Rattle.ix_walk.specs.declared.subtree.Trail.{Trail}
 use Rattle.ix_walk.specs.declared.visit.Visit.{Visit}
@@ -11,7 +10,7 @@ use Rattle.ix_walk.specs.declared.fault.WalkStop.{WalkStop}
 use Rattle.ix_walk.specs.Store.{Blocks, value_of}
 use Rattle.ix_walk.specs.Arrivals.{Inside, when_some}
 use Rattle.ix_walk.specs.Visits.{is_malformed, visit_of}
-use Rattle.ix_walk.specs.Walking.{arrival, Subtree, all_arrivals, found_arrivals, NoDeeper, stands, trail_stands, subtrees, walk_left, IsWalk}
+use Rattle.ix_walk.specs.Walking.{arrival, Subtree, all_arrivals, found_arrivals, NoDeeper, trail_stands, subtrees, walk_left, IsWalk}
 use Rattle.ix_walk.specs.Descent.{node_arrivals}
 use Rattle.ix_walk.specs.WalkLeft.{GivesNext, nothing_left}
 
@@ -28,10 +27,6 @@ IsReading store c block malformed = IsValue (value_of store c) block × (malform
 pub record IsRooted (places : List Place) (value : Option Data) (depth : ℕ) (old new : List Subtree) : Type 0 where
   pub arrivals : (inside : Inside) (limit : ℕ) → all_arrivals inside limit new ≡ when_some value (λ d. node_arrivals places d depth inside limit) ++ all_arrivals inside limit old
   pub deep : (bound : ℕ) → depth ≤ bound → NoDeeper bound old → NoDeeper bound new
-
--- above these the walk goes on where it stood, wherever what is above them ends
-abbrev pub IsBack : Trail → Option Pending → Type 0
-IsBack t o = (rest : List ℕ) → stands rest (option_to_list o ++ reverse t.stack.items) ≡ trail_stands t
 
 abbrev pub Roots : List Place → Option (List ℕ) → ℕ → Trail → Trail → Type 0
 Roots places block depth old new =

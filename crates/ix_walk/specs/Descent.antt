@@ -1,5 +1,5 @@
 -- What going into a block does.
-use Rattle.std.specs.Prelude.{◌≡◌, ℕ, ◌+◌, ◌<◌, ◌≤◌, ◌==◌, Bool, true, false, List, [], ◌∷◌, ◌++◌, Option, Some, None, IfNone, Ok, if◌then◌else◌, option_to_list, reverse}
+use Rattle.std.specs.Prelude.{◌≡◌, ℕ, ◌+◌, ◌<◌, ◌≤◌, Bool, true, false, List, [], ◌∷◌, ◌++◌, Option, Some, None, IfNone, Ok, if◌then◌else◌}
 use Rattle.ix_cbor.specs.declared.front.Front.{Front}
 use Rattle.ix_cbor.specs.declared.front.Front.TheVariants as fronts
 use Rattle.ix_cbor.specs.Data.{Data}
@@ -7,14 +7,13 @@ use Rattle.ix_cbor.specs.Reading.{item_at, key_at}
 use Rattle.ix_selector.specs.Enters.{Step}
 use Rattle.ix_selector.specs.Residual.{Place, residual_enters}
 use Rattle.ix_walk.specs.declared.subtree.Children.{Children}
-use Rattle.ix_walk.specs.declared.subtree.Children.TheVariants.{Item, Members, Values}
-use Rattle.ix_walk.specs.declared.subtree.Pending.{Pending}
-use Rattle.ix_walk.specs.declared.subtree.Pending.TheVariants.{Link, Open}
-use Rattle.ix_walk.specs.declared.subtree.Opened.{Opened}
+use Rattle.ix_walk.specs.declared.subtree.Children.TheVariants.{Members, Values}
+use Rattle.ix_walk.specs.declared.subtree.Entered.{Entered}
+use Rattle.ix_walk.specs.declared.subtree.Entered.TheVariants.{Link, Open}
 use Rattle.ix_walk.specs.declared.subtree.Trail.{Trail}
 use Rattle.ix_walk.specs.declared.subtree.Found.{Found}
 use Rattle.ix_walk.specs.Arrivals.{Arrival, Inside}
-use Rattle.ix_walk.specs.Walking.{Reach, Test, test_behind, reached_below, reach_from, Part, Subtree, all_arrivals, found_arrivals, NoDeeper, FoundWithin, weight_of, all_weight, part_at, stands, trail_stands, subtrees, backs}
+use Rattle.ix_walk.specs.Walking.{test_behind, reached_below, reached_part, reach_from, Part, part_weight, Subtree, subtree_arrivals, all_arrivals, found_arrivals, NoDeeper, FoundWithin, weight_of, all_weight, part_at, opened, found, trail_stands, subtrees}
 
 -- an item can be read here
 abbrev pub IsItem : List ℕ → Type 0
@@ -40,66 +39,74 @@ may_hold_links (fronts.Bits64 bits) = false
 may_hold_links (fronts.Bytes b) = false
 may_hold_links (fronts.Text t) = false
 
--- what waits behind the front of an item, if a link can be there
-abbrev pub waiting_for : List Place → Front → ℕ → Option Pending
-waiting_for places (fronts.Link c) depth = Some (Link (record { residual = places; cid = c.now; depth = depth }))
-waiting_for places (fronts.List n) depth = Some (Open (record { residual = places; children = Members n n; depth = depth }))
-waiting_for places (fronts.Map n) depth = Some (Open (record { residual = places; children = Values n; depth = depth }))
-waiting_for places fronts.Null depth = None
-waiting_for places (fronts.Bool b) depth = None
-waiting_for places (fronts.Int n) depth = None
-waiting_for places (fronts.Bits64 bits) depth = None
-waiting_for places (fronts.Bytes b) depth = None
-waiting_for places (fronts.Text t) depth = None
+-- what an item with this front is for a walk that enters it, if a link can be there
+abbrev pub entered_by : List Place → Front → ℕ → Option Entered
+entered_by places (fronts.Link c) depth = Some (Link (record { residual = places; cid = c.now; depth = depth }))
+entered_by places (fronts.List n) depth = Some (Open (record { residual = places; children = Members n n; depth = depth; back = None }))
+entered_by places (fronts.Map n) depth = Some (Open (record { residual = places; children = Values n; depth = depth; back = None }))
+entered_by places fronts.Null depth = None
+entered_by places (fronts.Bool b) depth = None
+entered_by places (fronts.Int n) depth = None
+entered_by places (fronts.Bits64 bits) depth = None
+entered_by places (fronts.Bytes b) depth = None
+entered_by places (fronts.Text t) depth = None
 
--- no child is left
-abbrev pub is_spent : Children → Bool
-is_spent Item = false
-is_spent (Members count left) = left == 0
-is_spent (Values left) = left == 0
+-- at this depth a subtree has these arrivals, and isn't heavier than that
+pub record IsSubtree (arrivals : Inside → ℕ → List Arrival) (weight depth : ℕ) (s : Subtree) : Type 0 where
+  pub reaches : (inside : Inside) (limit : ℕ) → subtree_arrivals inside limit s ≡ arrivals inside limit
+  pub deep : s.depth ≡ depth
+  pub light : part_weight s.part ≤ weight
 
--- an open list or map, unless it is spent
-abbrev pub kept : Opened → Option Pending
-kept o = if is_spent o.children then None else Some (Open o)
-
--- these arrivals come before those of other subtrees
-pub record IsBefore (arrivals : Inside → ℕ → List Arrival) (weight depth : ℕ) (old new : List Subtree) : Type 0 where
-  pub first : (inside : Inside) (limit : ℕ) → all_arrivals inside limit new ≡ arrivals inside limit ++ all_arrivals inside limit old
-  pub deep : (bound : ℕ) → depth ≤ bound → NoDeeper bound old → NoDeeper bound new
-  pub light : all_weight new ≤ weight + all_weight old
-
--- What waits, where the walk stands at some bytes, has these arrivals, and behind it the walk stands at the rest. It is no way back.
-abbrev pub Adds : (Inside → ℕ → List Arrival) → ℕ → ℕ → List ℕ → Option Pending → List ℕ → Type 0
-Adds arrivals weight depth rest o at =
-    (ps : List Pending) (old : List Subtree) → stands rest ps ≡ Some old → (new : List Subtree) × (stands at (option_to_list o ++ ps) ≡ Some new) × IsBefore arrivals weight depth old new × (backs (option_to_list o ++ ps) ≡ backs ps)
+-- What was entered has these arrivals, and ends before the rest, where the walk now stands at these bytes. Where nothing
+-- was, there are none.
+abbrev pub Enters : (Inside → ℕ → List Arrival) → ℕ → ℕ → List ℕ → Option Entered → List ℕ → Type 0
+Enters arrivals weight depth rest None at = (at ≡ rest) × ((inside : Inside) (limit : ℕ) → arrivals inside limit ≡ [])
+Enters arrivals weight depth rest (Some (Link f)) at = (at ≡ rest) × IsSubtree arrivals weight depth (found f)
+Enters arrivals weight depth rest (Some (Open o)) at =
+    (o.back ≡ None) × (part : Part) × (part_at o.children at ≡ Some (part, rest)) × IsSubtree arrivals weight depth (opened o part)
 
 -- the arrivals in a node, and in a child, if it is entered
 abbrev pub node_arrivals : List Place → Data → ℕ → Inside → ℕ → List Arrival
 node_arrivals places d depth inside limit = reached_below (reach_from inside limit depth) (residual_enters places) d
 
-abbrev pub child_arrivals : Reach → Test → Step → Data → List Arrival
-child_arrivals cross enters t d = if enters (t ∷ []) then reached_below cross (test_behind enters t) d else []
+abbrev pub child_arrivals : List Place → Step → Data → ℕ → Inside → ℕ → List Arrival
+child_arrivals places t d depth inside limit = if residual_enters places (t ∷ []) then reached_below (reach_from inside limit depth) (test_behind (residual_enters places) t) d else []
 
--- this waits for the item that stands at some bytes
-abbrev pub IsNode : List Place → List ℕ → ℕ → Option Pending × List ℕ → Type 0
-IsNode places at depth r = (d : Data) (rest : List ℕ) → item_at 512 at ≡ Ok (d, rest) → Adds (node_arrivals places d depth) (weight_of d) depth rest r.0 r.1
+abbrev pub part_arrivals : List Place → Part → ℕ → Inside → ℕ → List Arrival
+part_arrivals places part depth inside limit = reached_part (reach_from inside limit depth) (residual_enters places) part
+
+-- this was entered of the item that stands at some bytes
+abbrev pub IsNode : List Place → List ℕ → ℕ → Option Entered → List ℕ → Type 0
+IsNode places at depth o now = (d : Data) (rest : List ℕ) → item_at 512 at ≡ Ok (d, rest) → Enters (node_arrivals places d depth) (weight_of d) depth rest o now
 
 -- the same of a child behind a step
-abbrev pub IsChild : List Place → Step → List ℕ → ℕ → Option Pending × List ℕ → Type 0
-IsChild places t at depth r =
-    (d : Data) (rest : List ℕ) → item_at 512 at ≡ Ok (d, rest)
-    → Adds (λ inside limit. child_arrivals (reach_from inside limit depth) (residual_enters places) t d) (weight_of d) depth rest r.0 r.1
+abbrev pub IsChild : List Place → Step → List ℕ → ℕ → Option Entered → List ℕ → Type 0
+IsChild places t at depth o now = (d : Data) (rest : List ℕ) → item_at 512 at ≡ Ok (d, rest) → Enters (child_arrivals places t d depth) (weight_of d) depth rest o now
+
+-- A part is gone through to a child that was entered: what is behind that child, whose bytes end before the others.
+pub record IsGone (places : List Place) (depth : ℕ) (part : Part) (rest : List ℕ) (e : Entered) (children : Children) (now : List ℕ) : Type 0 where
+  pub first : Inside → ℕ → List Arrival
+  pub weight : ℕ
+  pub middle : List ℕ
+  pub others : Part
+  pub entered : Enters first weight depth middle (Some e) now
+  pub behind : part_at children middle ≡ Some (others, rest)
+  pub arrivals : (inside : Inside) (limit : ℕ) → part_arrivals places part depth inside limit ≡ first inside limit ++ part_arrivals places others depth inside limit
+  pub lighter : weight + part_weight others < part_weight part
+
+-- An open list or map is gone through to its next child that is entered, or to its end.
+abbrev pub IsNext : List Place → ℕ → Children → List ℕ → Option Entered → Children → List ℕ → Type 0
+IsNext places depth old at None new now = (x : Part × List ℕ) → part_at old at ≡ Some x → (now ≡ x.1) × ((inside : Inside) (limit : ℕ) → part_arrivals places x.0 depth inside limit ≡ [])
+IsNext places depth old at (Some e) new now = (x : Part × List ℕ) → part_at old at ≡ Some x → IsGone places depth x.0 x.1 e new now
 
 -- the same arrivals are left
 pub record Keeps (old new : List Subtree) : Type 0 where
   pub arrivals : (inside : Inside) (limit : ℕ) → all_arrivals inside limit old ≡ all_arrivals inside limit new
   pub deep : (bound : ℕ) → NoDeeper bound old → NoDeeper bound new
 
--- what was left of an open list or map above a trail is left on it: its next child, and behind that the others
-abbrev pub Opens : Opened → Trail → Trail → Type 0
-Opens o old new =
-    (ss : List Subtree) → stands old.at.now (Open o ∷ reverse old.stack.items) ≡ Some ss
-    → (more : List Subtree) × (trail_stands new ≡ Some more) × Keeps ss more × (all_weight more < all_weight ss) × (backs (reverse new.stack.items) ≡ backs (reverse old.stack.items))
+-- what has no arrival is let go
+abbrev pub Leaves : Trail → Trail → Type 0
+Leaves old new = (ss : List Subtree) → trail_stands old ≡ Some ss → (more : List Subtree) × (trail_stands new ≡ Some more) × Keeps ss more
 
 -- the first link of what is left, or there is none
 pub record IsFound (old : List Subtree) (o : Option Found) (new : List Subtree) : Type 0 where
@@ -112,4 +119,4 @@ Finds old o new = (ss : List Subtree) → trail_stands old ≡ Some ss → (more
 
 -- how often a walk can go on before it comes to a link
 abbrev pub trail_weight : Trail → ℕ
-trail_weight t = all_weight (subtrees t) + backs (reverse t.stack.items)
+trail_weight t = all_weight (subtrees t)

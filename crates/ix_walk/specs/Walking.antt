@@ -1,14 +1,13 @@
 -- What a walk is about to give, from what it keeps.
-use Rattle.std.specs.Prelude.{◌≡◌, ℕ, zero, suc, ◌+◌, ◌-◌, ◌≤◌, Bool, true, false, List, [], ◌∷◌, ◌++◌, length, reverse, take, Option, Some, None, option_map, option_and_then, Result, Ok, Err, nat_lt, if◌then◌else◌}
+use Rattle.std.specs.Prelude.{◌≡◌, ℕ, zero, suc, ◌+◌, ◌-◌, ◌≤◌, Bool, true, false, List, [], ◌∷◌, ◌++◌, length, reverse, take, Option, Some, None, option_map, option_and_then, Result, Ok, Err, nat_lt, ◌==◌, if◌then◌else◌}
+use Rattle.std.specs.Borrow.{Bor}
 use Rattle.ix_cbor.specs.Data as nodes
 use Rattle.ix_cbor.specs.Data.{Data, Items, Entries, null, boolean, integer, float, bytes, text, list, link, no_items, item, no_entries, entry}
 use Rattle.ix_cbor.specs.Reading.{Fault, ◌>>=◌, item_at, items_at, entries_at}
 use Rattle.ix_selector.specs.Enters.{Step, key, nth, Path}
 use Rattle.ix_selector.specs.Residual.{Place, residual_enters}
 use Rattle.ix_walk.specs.declared.subtree.Children.{Children}
-use Rattle.ix_walk.specs.declared.subtree.Children.TheVariants.{Item, Members, Values}
-use Rattle.ix_walk.specs.declared.subtree.Pending.{Pending}
-use Rattle.ix_walk.specs.declared.subtree.Pending.TheVariants.{Link, Open, Back}
+use Rattle.ix_walk.specs.declared.subtree.Children.TheVariants.{Members, Values}
 use Rattle.ix_walk.specs.declared.subtree.Opened.{Opened}
 use Rattle.ix_walk.specs.declared.subtree.Trail.{Trail}
 use Rattle.ix_walk.specs.declared.subtree.Found.{Found}
@@ -63,16 +62,14 @@ reached_at inside zero depth enters c = arrival depth c ∷ []
 reached_at inside (suc links) depth enters c =
     arrival depth c ∷ when_some (inside c) (λ d. reached_below (reached_at inside links (depth + 1)) enters d)
 
--- what is left of a subtree: a link, a node, the members of a list from a place on, or the values of a map
+-- what is left of a subtree: a link, the members of a list from a place on, or the values of a map
 pub data Part : Type 0 where
   to_cid : List ℕ → Part
-  node : Data → Part
   members : ℕ → Items → Part
   values : Entries → Part
 
 abbrev pub reached_part : Reach → Test → Part → List Arrival
 reached_part cross enters (to_cid c) = cross enters c
-reached_part cross enters (node d) = reached_below cross enters d
 reached_part cross enters (members n ds) = reached_in_items cross enters n ds
 reached_part cross enters (values es) = reached_in_entries cross enters es
 
@@ -131,7 +128,6 @@ abbrev mutual
 
 abbrev pub part_weight : Part → ℕ
 part_weight (to_cid c) = 1
-part_weight (node d) = weight_of d + 1
 part_weight (members n ds) = items_weight ds + 1
 part_weight (values es) = entries_weight es + 1
 
@@ -141,13 +137,17 @@ all_weight (s ∷ ss) = part_weight s.part + all_weight ss
 
 -- ---- what a walk keeps, as subtrees
 
+-- no child is left
+abbrev pub is_spent : Children → Bool
+is_spent (Members count left) = left == 0
+is_spent (Values left) = left == 0
+
 abbrev pub or_none : {A : Type 0} → Result A Fault → Option A
 or_none (Ok x) = Some x
 or_none (Err f) = None
 
 -- what is left of an open list or map whose next child stands at the front of these bytes, and the bytes behind it
 abbrev pub part_at : Children → List ℕ → Option (Part × List ℕ)
-part_at Item b = or_none (item_at 512 b >>= (λ d. Ok (node d.0, d.1)))
 part_at (Members count left) b =
     if nat_lt count left then None else or_none (items_at (item_at 512) left b >>= (λ ds. Ok (members (count - left) ds.0, ds.1)))
 part_at (Values left) b = or_none (entries_at (item_at 512) None left b >>= (λ es. Ok (values es.0, es.1)))
@@ -155,16 +155,31 @@ part_at (Values left) b = or_none (entries_at (item_at 512) None left b >>= (λ 
 abbrev pub opened : Opened → Part → Subtree
 opened o part = record { places = o.residual; part = part; depth = o.depth }
 
+-- the same list or map, with these children left
+abbrev pub with_children : Opened → Children → Opened
+with_children o children = record { residual = o.residual; children = children; depth = o.depth; back = o.back }
+
+abbrev pub found : Found → Subtree
+found f = record { places = f.residual; part = to_cid f.cid; depth = f.depth }
+
+-- where the walk goes on behind an open list or map, which ends before these bytes
+abbrev pub goes_on : Option (Bor (List ℕ)) → List ℕ → List ℕ
+goes_on None rest = rest
+goes_on (Some b) rest = b.now
+
 -- the subtrees of a stack, the next one first, where the walk stands at the front of these bytes: an open list or map goes
--- on where the one inside it ends, and behind all of a block the walk goes back to where it came from
-abbrev pub stands : List ℕ → List Pending → Option (List Subtree)
+-- on where the one inside it ends, and where that is behind all of its block, in the block that the walk came from
+abbrev pub stands : List ℕ → List Opened → Option (List Subtree)
 stands b [] = Some []
-stands b (Link f ∷ ps) = option_map (λ ss. record { places = f.residual; part = to_cid f.cid; depth = f.depth } ∷ ss) (stands b ps)
-stands b (Open o ∷ ps) = option_and_then (λ x. option_map (λ ss. opened o x.0 ∷ ss) (stands x.1 ps)) (part_at o.children b)
-stands b (Back c ∷ ps) = stands c.now ps
+stands b (o ∷ os) = option_and_then (λ x. option_map (λ ss. opened o x.0 ∷ ss) (stands (goes_on o.back x.1) os)) (part_at o.children b)
+
+-- a link at which the walk arrives comes before all of them
+abbrev pub with_next : Option Found → List Subtree → List Subtree
+with_next None ss = ss
+with_next (Some f) ss = found f ∷ ss
 
 abbrev pub trail_stands : Trail → Option (List Subtree)
-trail_stands t = stands t.at.now (reverse t.stack.items)
+trail_stands t = option_map (with_next t.next) (stands t.at.now (reverse t.stack.items))
 
 abbrev pub or_nil : Option (List Subtree) → List Subtree
 or_nil None = []
@@ -173,13 +188,6 @@ or_nil (Some ss) = ss
 -- what a walk has still to go through
 abbrev pub subtrees : Trail → List Subtree
 subtrees t = or_nil (trail_stands t)
-
--- how often a walk goes back behind a block
-abbrev pub backs : List Pending → ℕ
-backs [] = 0
-backs (Link f ∷ ps) = backs ps
-backs (Open o ∷ ps) = backs ps
-backs (Back c ∷ ps) = backs ps + 1
 
 abbrev pub walk_left : Blocks → ℕ → ℕ → ℕ → List Subtree → Bool → WalkLeft
 walk_left store number limit given ss true = nothing_left

@@ -1,14 +1,15 @@
 //! Arriving at a link.
 
-ghost use Rattle.std.specs.Prelude.{◌≡◌, ◌+◌, ◌<◌, ◌^◌, IfOk, OnOk, option_map};
+ghost use Rattle.std.specs.Prelude.{◌≡◌, ◌+◌, ◌<◌, ◌^◌, IfOk, IfSome, OnOk, None, option_map};
 ghost use Rattle.ix_walk.specs.Store.{is_walkable, position_of};
-ghost use Rattle.ix_walk.specs.Arriving.{IsReading, IsBack, Roots, Arrives, Takes};
+ghost use Rattle.ix_walk.specs.Descent.{IsItem};
+ghost use Rattle.ix_walk.specs.Arriving.{IsReading, Roots, Arrives, Takes};
 ghost use Rattle.ix_walk.specs.Walking.{IsWalk};
 
-use crate::descent::next_found;
+use crate::descent::{next_found, node_at};
 use crate::fault::WalkStop;
 use crate::store::Store;
-use crate::subtree::{Children, Found, Opened, Pending, Trail};
+use crate::subtree::{Entered, Found, Trail};
 use crate::visit::Visit;
 use ix_cbor::check;
 use ix_cid::Cid;
@@ -27,7 +28,8 @@ fn may_enter(cid: &Cid) -> bool
 // The bytes of a CID's block, if the walk goes into it, and whether it should be DAG-CBOR and is none.
 fn read_block<'a>(store: &'a Store, cid: &Cid, block: Option<usize>) -> (Option<&'a [u8]>, bool)
     requires { block ≡ position_of store.now cid.now }
-    ensures { IsReading store.now cid.now (option_map (λ b. b.now) result.0) result.1 }
+    ensures reading { IsReading store.now cid.now (option_map (λ b. b.now) result.0) result.1 }
+    ensures item { IfSome result.0 (λ b. IsItem b.now) }
 {
     let Some(place) = block else {
         return (None, false);
@@ -42,48 +44,45 @@ fn read_block<'a>(store: &'a Store, cid: &Cid, block: Option<usize>) -> (Option<
     }
 }
 
-// The way back to where the walk stands, if it has something left there.
-fn way_back<'a>(trail: &Trail<'a>) -> Option<Pending<'a>>
-    ensures { IsBack trail.now result }
-{
-    match trail.stack.last() {
-        None | Some(Pending::Back(_)) => None,
-        Some(_) => Some(Pending::Back(trail.at)),
-    }
-}
-
-// Goes to the front of a block, if there is one. The place in the block before is kept where something of
-// that is left.
-fn push_root<'a>(
+// Goes into a block, if there is one: to its first child, or to the link that it is.
+fn enter_block<'a>(
+    alloc: Global,
     trail: &mut Trail<'a>,
     residual: Residual<'a>,
     block: Option<&'a [u8]>,
     depth: u32,
 ) -> Result<(), AllocError>
+    requires next { trail.old.next ≡ None }
+    requires block { IfSome block (λ b. IsItem b.now) }
     ensures { OnOk result (Roots residual.entry (option_map (λ b. b.now) block.entry) depth trail.old trail.new) }
 {
     let Some(bytes) = block else {
         return Ok(());
     };
-    let back = way_back(trail);
-    let root = Opened {
-        residual,
-        children: Children::Item,
-        depth,
-    };
-    trail.at = bytes;
-    trail.push_both(back, Some(Pending::Open(root)))
+    let (entered, at) = node_at(alloc, residual, bytes, depth)?;
+    match entered {
+        Some(Entered::Link(found)) => trail.next = Some(found),
+        Some(Entered::Open(mut root)) => {
+            root.back = Some(trail.at);
+            trail.stack.push(root)?;
+            trail.at = at;
+        }
+        None => {}
+    }
+    Ok(())
 }
 
 // Gives the visit of a link, and goes to what is behind it.
 fn arrive<'a>(
+    alloc: Global,
     store: &'a Store,
     number: u32,
     seq: u32,
     found: Found<'a>,
     trail: &mut Trail<'a>,
 ) -> Result<Visit, AllocError>
-    requires { found.depth + 1 < 2 ^ 32 }
+    requires depth { found.depth + 1 < 2 ^ 32 }
+    requires next { trail.old.next ≡ None }
     ensures { IfOk result (λ v. Arrives store.now number seq found.entry trail.old v trail.new) }
 {
     let Found {
@@ -93,7 +92,7 @@ fn arrive<'a>(
     } = found;
     let block = store.find(&cid);
     let (bytes, malformed) = read_block(store, &cid, block);
-    push_root(trail, residual, bytes, depth + 1)?;
+    enter_block(alloc, trail, residual, bytes, depth + 1)?;
     Ok(Visit {
         job: number,
         seq,
@@ -122,6 +121,6 @@ pub(crate) fn take_next<'a>(
     if given == limit {
         return Err(WalkStop::Limit);
     }
-    let visit = arrive(store, number, given, found, trail)?;
+    let visit = arrive(alloc, store, number, given, found, trail)?;
     Ok(Some(visit))
 }

@@ -7,10 +7,10 @@ ghost use Rattle.ix_cbor.specs.Reading.{own_at, item_at, key_at};
 ghost use Rattle.ix_cbor.specs.Fronts.{own_of_front, HasCid};
 ghost use Rattle.ix_selector.specs.Residual.{step_of};
 ghost use Rattle.ix_walk.specs.declared.subtree.Children.TheVariants as children;
-ghost use Rattle.ix_walk.specs.Walking.{IsStanding};
-ghost use Rattle.ix_walk.specs.Descent.{IsItem, IsKey, IsPart, may_hold_links, waiting_for, IsNode, IsChild, Opens, Finds};
+ghost use Rattle.ix_walk.specs.Walking.{with_children, IsStanding};
+ghost use Rattle.ix_walk.specs.Descent.{IsItem, IsKey, IsPart, may_hold_links, entered_by, IsNode, IsChild, IsNext, Finds, Leaves};
 
-use crate::subtree::{Children, Found, Opened, Pending, Trail};
+use crate::subtree::{Children, Entered, Found, Opened, Trail};
 use ix_cbor::{Front, read_front, read_key, skip_item};
 use ix_cid::Cid;
 use ix_selector::{Residual, Step};
@@ -54,19 +54,19 @@ fn cid_of(alloc: Global, bytes: &[u8]) -> Result<Cid, AllocError>
     }
 }
 
-// What waits behind the front of an item that is entered, if a link can be there.
-fn waiting_in<'a>(
+// What an item with this front is for the walk, which enters it, if a link can be there.
+fn entered_by<'a>(
     alloc: Global,
     front: Front<'_>,
     residual: Residual<'a>,
     depth: u32,
-) -> Result<Option<Pending<'a>>, AllocError>
+) -> Result<Option<Entered<'a>>, AllocError>
     requires { HasCid front }
-    ensures { IfOk result (λ o. o ≡ waiting_for residual.entry front.entry depth) }
+    ensures { IfOk result (λ o. o ≡ entered_by residual.entry front.entry depth) }
 {
     let children = match front {
         Front::Link(cid) => {
-            return Ok(Some(Pending::Link(Found {
+            return Ok(Some(Entered::Link(Found {
                 residual,
                 cid: cid_of(alloc, cid)?,
                 depth,
@@ -81,10 +81,11 @@ fn waiting_in<'a>(
         | Front::Bytes(_)
         | Front::Text(_) => return Ok(None),
     };
-    Ok(Some(Pending::Open(Opened {
+    Ok(Some(Entered::Open(Opened {
         residual,
         children,
         depth,
+        back: None,
     })))
 }
 
@@ -95,84 +96,85 @@ fn may_hold_links(front: Front<'_>) -> bool
     matches!(front, Front::Link(_) | Front::List(_) | Front::Map(_))
 }
 
-// What waits in the item that stands here, which is entered, and where the walk then stands.
-fn node_at<'a>(
+// What the item is that stands here, which is entered, and where the walk then stands.
+pub(crate) fn node_at<'a>(
     alloc: Global,
     residual: Residual<'a>,
     at: &'a [u8],
     depth: u32,
-) -> Result<(Option<Pending<'a>>, &'a [u8]), AllocError>
+) -> Result<(Option<Entered<'a>>, &'a [u8]), AllocError>
     requires { IsItem at.now }
-    ensures { IfOk result (λ r. IsNode residual.entry at.now depth (r.0, r.1.now)) }
+    ensures { IfOk result (λ r. IsNode residual.entry at.now depth r.0 r.1.now) }
 {
     let (front, behind) = front_at(at);
-    Ok((waiting_in(alloc, front, residual, depth)?, behind))
+    Ok((entered_by(alloc, front, residual, depth)?, behind))
 }
 
-// What waits in the child that stands here, where the selector enters it, and where the walk then stands.
+// What the child is that stands here, with this front and these bytes behind it, where the selector enters it; and where
+// the walk then stands. It isn't inlined, so that children without links don't pay for its locals.
+#[inline(never)]
+fn step_into<'a>(
+    alloc: Global,
+    residual: &Residual<'a>,
+    step: &Step,
+    at: &'a [u8],
+    front: Front<'_>,
+    behind: &'a [u8],
+    depth: u32,
+) -> Result<(Option<Entered<'a>>, &'a [u8]), AllocError>
+    requires item { IsItem at.now }
+    requires front { own_at at.now ≡ Ok (own_of_front front, behind.now) }
+    requires cid { HasCid front }
+    ensures { IfOk result (λ r. IsChild residual.now (step_of step.now) at.now depth r.0 r.1.now) }
+{
+    match residual.step(alloc, step)? {
+        Some(residual) => Ok((entered_by(alloc, front, residual, depth)?, behind)),
+        None => Ok((None, end_of(at, front, behind))),
+    }
+}
+
+// What the child is that stands here, where the selector enters it and a link can be in it, and where the walk then
+// stands.
 fn child_at<'a>(
     alloc: Global,
     residual: &Residual<'a>,
     step: &Step,
     at: &'a [u8],
     depth: u32,
-) -> Result<(Option<Pending<'a>>, &'a [u8]), AllocError>
+) -> Result<(Option<Entered<'a>>, &'a [u8]), AllocError>
     requires { IsItem at.now }
-    ensures { IfOk result (λ r. IsChild residual.now (step_of step.now) at.now depth (r.0, r.1.now)) }
+    ensures { IfOk result (λ r. IsChild residual.now (step_of step.now) at.now depth r.0 r.1.now) }
 {
     let (front, behind) = front_at(at);
-    if !may_hold_links(front) {
-        return Ok((None, behind));
-    }
-    match residual.step(alloc, step)? {
-        Some(residual) => Ok((waiting_in(alloc, front, residual, depth)?, behind)),
-        None => Ok((None, end_of(at, front, behind))),
+    if may_hold_links(front) {
+        step_into(alloc, residual, step, at, front, behind, depth)
+    } else {
+        Ok((None, behind))
     }
 }
 
-// Goes into a block's root.
-fn open_root<'a>(
+// The next member of a list that is entered and may hold a link; how many are then left, and where the walk stands.
+fn next_member<'a>(
     alloc: Global,
-    residual: Residual<'a>,
+    residual: &Residual<'a>,
     depth: u32,
-    trail: &mut Trail<'a>,
-) -> Result<(), AllocError>
-    requires { IsItem trail.old.at.now }
-    ensures { OnOk result (Opens (record { residual = residual.entry; children = children.Item; depth = depth }) trail.old trail.new) }
-{
-    let (child, at) = node_at(alloc, residual, trail.at, depth)?;
-    trail.at = at;
-    trail.push_both(None, child)
-}
-
-// Goes into the next member of a list.
-fn open_member<'a>(
-    alloc: Global,
-    residual: Residual<'a>,
     count: u64,
-    left: u64,
-    depth: u32,
-    trail: &mut Trail<'a>,
-) -> Result<(), AllocError>
-    requires { IsPart (children.Members count left) trail.old.at.now }
-    ensures { OnOk result (Opens (record { residual = residual.entry; children = children.Members count left; depth = depth }) trail.old trail.new) }
+    left: &mut u64,
+    at: &mut &'a [u8],
+) -> Result<Option<Entered<'a>>, AllocError>
+    requires { IsPart (children.Members count left.old) at.old.now }
+    ensures { IfOk result (λ o. IsNext residual.now depth (children.Members count left.old) at.old.now o (children.Members count left.new) at.new.now) }
 {
-    if left == 0 {
-        return Ok(());
+    while *left > 0 {
+        let place = Step::Pos(count - *left);
+        let (child, behind) = child_at(alloc, residual, &place, at, depth)?;
+        *left -= 1;
+        *at = behind;
+        if child.is_some() {
+            return Ok(child);
+        }
     }
-    let place = Step::Pos(count - left);
-    let (child, at) = child_at(alloc, &residual, &place, trail.at, depth)?;
-    let children = Children::Members {
-        count,
-        left: left - 1,
-    };
-    let others = Opened {
-        residual,
-        children,
-        depth,
-    };
-    trail.at = at;
-    trail.push_both(others.unless_spent(), child)
+    Ok(None)
 }
 
 // The key that stands here, and the bytes behind it.
@@ -186,49 +188,91 @@ fn key_at(at: &[u8]) -> (&[u8], &[u8])
     }
 }
 
-// Goes into the next value of a map.
-fn open_value<'a>(
+// The next value of a map that is entered and may hold a link; how many are then left, and where the walk stands.
+fn next_value<'a>(
     alloc: Global,
-    residual: Residual<'a>,
-    left: u64,
+    residual: &Residual<'a>,
     depth: u32,
-    trail: &mut Trail<'a>,
-) -> Result<(), AllocError>
-    requires { IsPart (children.Values left) trail.old.at.now }
-    ensures { OnOk result (Opens (record { residual = residual.entry; children = children.Values left; depth = depth }) trail.old trail.new) }
+    left: &mut u64,
+    at: &mut &'a [u8],
+) -> Result<Option<Entered<'a>>, AllocError>
+    requires { IsPart (children.Values left.old) at.old.now }
+    ensures { IfOk result (λ o. IsNext residual.now depth (children.Values left.old) at.old.now o (children.Values left.new) at.new.now) }
 {
-    if left == 0 {
-        return Ok(());
+    while *left > 0 {
+        let (key, value) = key_at(at);
+        let (child, behind) = child_at(alloc, residual, &Step::Key(key), value, depth)?;
+        *left -= 1;
+        *at = behind;
+        if child.is_some() {
+            return Ok(child);
+        }
     }
-    let (key, value) = key_at(trail.at);
-    let (child, at) = child_at(alloc, &residual, &Step::Key(key), value, depth)?;
-    let children = Children::Values { left: left - 1 };
-    let others = Opened {
-        residual,
-        children,
-        depth,
-    };
-    trail.at = at;
-    trail.push_both(others.unless_spent(), child)
+    Ok(None)
 }
 
-// Goes into the next child of an item.
-fn open_next<'a>(alloc: Global, opened: Opened<'a>, trail: &mut Trail<'a>) -> Result<(), AllocError>
-    requires { IsPart opened.children trail.old.at.now }
-    ensures { OnOk result (Opens opened.entry trail.old trail.new) }
+// The next child of a list or map that is entered and may hold a link.
+fn next_child<'a>(
+    alloc: Global,
+    opened: &mut Opened<'a>,
+    at: &mut &'a [u8],
+) -> Result<Option<Entered<'a>>, AllocError>
+    requires { IsPart opened.old.children at.old.now }
+    ensures next { IfOk result (λ o. IsNext opened.old.residual opened.old.depth opened.old.children at.old.now o opened.new.children at.new.now) }
+    ensures same { IfOk result (λ _. opened.new ≡ with_children opened.old opened.new.children) }
 {
     let Opened {
         residual,
         children,
         depth,
+        ..
     } = opened;
     match children {
-        Children::Item => open_root(alloc, residual, depth, trail),
-        Children::Members { count, left } => open_member(
-            alloc, residual, count, left, depth, trail,
-        ),
-        Children::Values { left } => open_value(alloc, residual, left, depth, trail),
+        Children::Members { count, left } => {
+            next_member(alloc, residual, *depth, *count, left, at)
+        }
+        Children::Values { left } => next_value(alloc, residual, *depth, left, at),
     }
+}
+
+// Goes on behind what has no child left, so that a chain of links each of which stands last in its block takes no more
+// of the stack the longer it is.
+fn leave_spent(trail: &mut Trail<'_>)
+    requires { trail.old.next ≡ None }
+    ensures next { trail.new.next ≡ None }
+    ensures left { Leaves trail.old trail.new }
+{
+    while let Some(opened) = trail.stack.last() {
+        if !opened.children.is_spent() {
+            return;
+        }
+        trail.at = opened.back.unwrap_or(trail.at);
+        trail.stack.pop();
+    }
+}
+
+// The next link in the lists and maps that are open, in the order of the traversal.
+fn next_below<'a>(alloc: Global, trail: &mut Trail<'a>) -> Result<Option<Found<'a>>, AllocError>
+    requires next { trail.old.next ≡ None }
+    requires standing { IsStanding trail.old }
+    ensures next { IfOk result (λ _. trail.new.next ≡ None) }
+    ensures found { IfOk result (λ o. Finds trail.old o trail.new) }
+{
+    while let Some(mut opened) = trail.stack.pop() {
+        match next_child(alloc, &mut opened, &mut trail.at)? {
+            Some(Entered::Link(found)) => {
+                trail.stack.push(opened)?;
+                leave_spent(trail);
+                return Ok(Some(found));
+            }
+            Some(Entered::Open(inner)) => {
+                trail.stack.push(opened)?;
+                trail.stack.push(inner)?;
+            }
+            None => trail.at = opened.back.unwrap_or(trail.at),
+        }
+    }
+    Ok(None)
 }
 
 // The next link, in the order of the traversal.
@@ -237,14 +281,11 @@ pub(crate) fn next_found<'a>(
     trail: &mut Trail<'a>,
 ) -> Result<Option<Found<'a>>, AllocError>
     requires { IsStanding trail.old }
-    ensures { IfOk result (λ o. Finds trail.old o trail.new) }
+    ensures next { IfOk result (λ _. trail.new.next ≡ None) }
+    ensures found { IfOk result (λ o. Finds trail.old o trail.new) }
 {
-    while let Some(pending) = trail.stack.pop() {
-        match pending {
-            Pending::Link(found) => return Ok(Some(found)),
-            Pending::Open(opened) => open_next(alloc, opened, trail)?,
-            Pending::Back(at) => trail.at = at,
-        }
+    match trail.next.take() {
+        Some(found) => Ok(Some(found)),
+        None => next_below(alloc, trail),
     }
-    Ok(None)
 }

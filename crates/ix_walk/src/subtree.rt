@@ -1,29 +1,29 @@
 //! What a walk keeps of the blocks that it stands in: places in their bytes, and no node.
 
-ghost use Rattle.std.specs.Prelude.{◌≡◌, ◌++◌, OnOk, option_to_list};
-ghost use Rattle.ix_walk.specs.Descent.{kept};
+ghost use Rattle.std.specs.Prelude.{◌≡◌, Some, None, []};
+ghost use Rattle.ix_walk.specs.Walking.{is_spent};
 
 use ix_cid::Cid;
 use ix_selector::Residual;
-use std::alloc::AllocError;
+use std::alloc::Global;
 
-// The children that are left of an item.
+// The children that are left of a list or map.
 #[derive(Clone, Copy)]
 pub enum Children {
-    // The item itself: a block's root.
-    Item,
     // The last so many members of a list that has so many.
     Members { count: u64, left: u64 },
     // So many keys and values of a map.
     Values { left: u64 },
 }
 
-// An item that is gone through.
+// A list or map that is gone through.
 #[derive(Drop)]
 pub struct Opened<'a> {
     pub residual: Residual<'a>,
     pub children: Children,
     pub depth: u32,
+    // Where the walk goes on behind it, where that isn't behind its last child: in the block that the walk came from.
+    pub back: Option<&'a [u8]>,
 }
 
 // A link that is arrived at.
@@ -34,53 +34,52 @@ pub struct Found<'a> {
     pub depth: u32,
 }
 
-// What is left to do.
+// What the selector enters, and in which a link can be.
 #[derive(Drop)]
-pub enum Pending<'a> {
-    // To arrive at a link.
+pub enum Entered<'a> {
     Link(Found<'a>),
-    // To go on with an item, where the walk then stands.
     Open(Opened<'a>),
-    // To go back to a place, in the block that the walk came from.
-    Back(&'a [u8]),
 }
 
-// Where a walk stands in the bytes of a block, and what is left to do, the next at the end.
+// Where a walk stands in the bytes of a block, and what is left to do: to arrive at a link, and then to go on with the
+// lists and maps that are open, the next at the end.
 #[derive(Drop)]
 pub struct Trail<'a> {
     pub at: &'a [u8],
-    pub stack: Vec<Pending<'a>>,
+    pub next: Option<Found<'a>>,
+    pub stack: Vec<Opened<'a>>,
 }
 
-impl<'a> Opened<'a> {
-    // The item, unless no child of it is left. So a chain of links each of which stands last in its block
-    // takes no more of the stack the longer it is.
-    pub(crate) fn unless_spent(self) -> Option<Pending<'a>>
-        ensures { result ≡ kept self.entry }
+impl Children {
+    // Whether no child is left.
+    pub(crate) fn is_spent(self) -> bool
+        ensures { result ≡ is_spent self }
     {
-        match self.children {
-            Children::Members { left: 0, .. } | Children::Values { left: 0 } => None,
-            _ => Some(Pending::Open(self)),
+        match self {
+            Children::Members { left, .. } | Children::Values { left } => left == 0,
         }
     }
 }
 
 impl<'a> Trail<'a> {
-    // Puts two on the stack, the second above the first.
-    pub(crate) fn push_both(
-        &mut self,
-        first: Option<Pending<'a>>,
-        second: Option<Pending<'a>>,
-    ) -> Result<(), AllocError>
-        ensures at { self.new.at ≡ self.old.at }
-        ensures pushed { OnOk result (self.new.stack.items ≡ (self.old.stack.items ++ option_to_list first.entry) ++ option_to_list second.entry) }
+    // A trail on which the walk has a link to arrive at, and nothing else.
+    pub(crate) fn to_link(alloc: Global, found: Found<'a>) -> Trail<'a>
+        ensures next { result.next ≡ Some found.entry }
+        ensures stack { result.stack.items ≡ [] }
     {
-        if let Some(first) = first {
-            self.stack.push(first)?;
+        Trail {
+            at: &[],
+            next: Some(found),
+            stack: Vec::new(alloc),
         }
-        if let Some(second) = second {
-            self.stack.push(second)?;
-        }
-        Ok(())
+    }
+
+    // Lets go of all that is left.
+    pub(crate) fn clear(&mut self)
+        ensures next { self.new.next ≡ None }
+        ensures stack { self.new.stack.items ≡ [] }
+    {
+        self.next = None;
+        self.stack.clear();
     }
 }

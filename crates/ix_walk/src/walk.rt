@@ -7,7 +7,7 @@ use crate::arriving::take_next;
 use crate::fault::WalkStop;
 use crate::job::Job;
 use crate::store::Store;
-use crate::subtree::{Found, Pending, Trail};
+use crate::subtree::{Found, Trail};
 use crate::visit::Visit;
 use ix_selector::Residual;
 use std::alloc::{AllocError, Global};
@@ -52,19 +52,18 @@ impl<'a> Walk<'a> {
     {
         let residual = Residual::start(alloc, job.selector())?;
         let cid = job.root().try_clone(alloc)?;
-        let mut stack = Vec::new(alloc);
-        stack.push(Pending::Link(Found {
+        let root = Found {
             residual,
             cid,
             depth: 0,
-        }))?;
+        };
         Ok(Walk {
             alloc,
             store,
             number,
             limit: job.limit(),
             given: 0,
-            trail: Trail { at: &[], stack },
+            trail: Trail::to_link(alloc, root),
             ended: false,
         })
     }
@@ -97,12 +96,12 @@ impl<'a> Iterator for Walk<'a> {
                 Some(Ok(visit))
             }
             Ok(None) => {
-                self.trail.stack.clear();
+                self.trail.clear();
                 self.ended = true;
                 None
             }
             Err(stop) => {
-                self.trail.stack.clear();
+                self.trail.clear();
                 self.ended = true;
                 Some(Err(stop))
             }

@@ -1,23 +1,16 @@
-use Rattle.std.proofs.Common.{◌≡◌, ℕ, List, [], ◌∷◌, ◌++◌, reverse, false, sym, ◌∙◌, ap, subst}
+use Rattle.std.proofs.Common.{◌≡◌, ℕ, List, ◌∙◌, ap}
+use Rattle.std.specs.Prelude.{Option, Some}
 use Rattle.ix_selector.specs.Pattern.{Pattern}
 use Rattle.ix_selector.specs.IsEntered.{is_entered}
-use Rattle.ix_walk.specs.declared.subtree.Pending.{Pending}
-use Rattle.ix_walk.specs.declared.subtree.Pending.TheVariants.{Link}
-use Rattle.ix_walk.specs.Visits.{visits_of, is_over_limit}
-use Rattle.ix_walk.specs.Walking.{walk_left, or_nil, stands}
-use Rattle.ix_walk.proofs.Starts.{starts_walk, starts_within}
+use Rattle.ix_walk.specs.declared.subtree.Found.{Found}
+use Rattle.ix_walk.proofs.Starts.{starts_limit, starts_within}
 use Rattle.ix_walk.proofs.walk.Walk.new.Goals as goal
 
 pub returns : goal.returns
 returns c =
-    let waits : List ℕ → Pending = λ (cid : List ℕ). Link (record { residual = c.in_ok-residual.residual; cid = cid; depth = 0 }) in
-    let stack : c.push.new.self.items ≡ waits c.args.job.now.root ∷ [] =
-    c.in_ok-push.ensures.items ∙ ap (λ (l : List Pending). l ++ waits c.in_ok-cid.cid ∷ []) c.new-stack.ensures.items ∙ ap (λ (cid : List ℕ). waits cid ∷ []) (c.in_ok-cid.ensures.same ∙ c.root.ensures) in
-    subst (λ (n : ℕ). walk_left c.args.store.now c.args.number n 0 (or_nil (stands [] (reverse c.push.new.self.items))) false ≡ record { visits = visits_of c.args.store.now c.args.number c.args.job.now; limited = is_over_limit c.args.store.now c.args.job.now; ended = false })
-    (sym c.limit.ensures.is)
-    (starts_walk c.args.store.now c.args.number c.args.job.now c.in_ok-residual.residual [] c.push.new.self.items (λ p. c.in_ok-residual.ensures.tested p ∙ ap (λ (s : Pattern). is_entered s p) c.selector.ensures) stack)
+    let next : List ℕ → Option Found = λ (cid : List ℕ). Some (record { residual = c.in_ok-residual.residual; cid = cid; depth = 0 }) in
+    let root : next c.in_ok-cid.cid ≡ next c.args.job.now.root = ap next (c.in_ok-cid.ensures.same ∙ c.root.ensures) in
+    starts_limit c.args.store.now c.args.number c.limit.result c.args.job.now c.in_ok-residual.residual c.to_link.result c.limit.ensures.is (λ p. c.in_ok-residual.ensures.tested p ∙ ap (λ (s : Pattern). is_entered s p) c.selector.ensures) (c.to_link.ensures.next ∙ root) c.to_link.ensures.stack
 
 pub invariant_of-result : goal.invariant_of-result
-invariant_of-result c =
-    starts_within c.limit.result c.in_ok-residual.residual c.in_ok-cid.cid [] c.push.new.self.items
-    (c.in_ok-push.ensures.items ∙ ap (λ (l : List Pending). l ++ Link (record { residual = c.in_ok-residual.residual; cid = c.in_ok-cid.cid; depth = 0 }) ∷ []) c.new-stack.ensures.items)
+invariant_of-result c = starts_within c.limit.result c.in_ok-residual.residual c.in_ok-cid.cid c.to_link.result c.to_link.ensures.next c.to_link.ensures.stack

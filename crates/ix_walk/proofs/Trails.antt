@@ -1,0 +1,212 @@
+-- A stack of open lists and maps, gone on with.
+use Rattle.std.proofs.Common.{◌≡◌, ℕ, ◌+◌, ◌-◌, ◌<◌, true, List, [], ◌∷◌, ◌++◌, length, take, get_or, reverse, refl, sym, ◌∙◌, ap, subst, append_assoc, arith}
+use Rattle.std.specs.Borrow.{Bor}
+use Rattle.std.specs.Option.{unwrap_or}
+use Rattle.std.specs.Prelude.{Option, Some, None, option_map, nat_lt}
+use Rattle.std.proofs.lemmas.Bool.Decides.{nat_tests}
+use Rattle.std.proofs.lemmas.List.{take_more, take_all}
+use Rattle.ix_walk.specs.declared.subtree.Children.{Children}
+use Rattle.ix_walk.specs.declared.subtree.Entered.TheVariants.{Link, Open}
+use Rattle.ix_walk.specs.declared.subtree.Opened.{Opened}
+use Rattle.ix_walk.specs.declared.subtree.Trail.{Trail}
+use Rattle.ix_walk.specs.declared.subtree.Found.{Found}
+use Rattle.ix_walk.specs.Arrivals.{Arrival, Inside}
+use Rattle.ix_walk.specs.Walking.{is_spent, with_children, Part, to_cid, members, values, part_weight, Subtree, opened, found, all_arrivals, found_arrivals, NoDeeper, all_weight, part_at, goes_on, stands, with_next, trail_stands, subtrees, IsStanding}
+use Rattle.ix_walk.specs.Descent.{part_arrivals, IsNext, Keeps, IsFound, Leaves, Finds, trail_weight}
+use Rattle.ix_walk.proofs.Openings.{spent_part}
+use Rattle.ix_walk.proofs.Stands.{some_mapped, open_apart, open_on, reversed_push, subtrees_are, trail_without}
+
+pub keeps_on : (a b c : List Subtree) → Keeps a b → Keeps b c → Keeps a c
+keeps_on a b c k l = record { arrivals = λ inside limit. k.arrivals inside limit ∙ l.arrivals inside limit; deep = λ bound n. l.deep bound (k.deep bound n) }
+
+-- what an open item had
+had : (o : Opened) (part : Part) (others ss : List Subtree) (first : Inside → ℕ → List Arrival) (left : Part) → opened o part ∷ others ≡ ss
+    → ((inside : Inside) (limit : ℕ) → part_arrivals o.residual part o.depth inside limit ≡ first inside limit ++ part_arrivals o.residual left o.depth inside limit)
+    → (inside : Inside) (limit : ℕ) → all_arrivals inside limit ss ≡ first inside limit ++ (part_arrivals o.residual left o.depth inside limit ++ all_arrivals inside limit others)
+had o part others ss first left all is inside limit =
+    ap (all_arrivals inside limit) (sym all) ∙ ap (λ z. z ++ all_arrivals inside limit others) (is inside limit)
+    ∙ append_assoc (first inside limit) (part_arrivals o.residual left o.depth inside limit) (all_arrivals inside limit others)
+
+-- a link was entered
+pub gone_link : (o : Opened) (f : Found) (c : Children) (at now : List ℕ) (os : List Opened) (ss : List Subtree) → IsNext o.residual o.depth o.children at (Some (Link f)) c now → stands at (o ∷ os) ≡ Some ss
+    → (new : List Subtree) × (stands now (with_children o c ∷ os) ≡ Some new) × IsFound ss (Some f) new
+gone_link o f c at now os ss next e =
+    let a = open_apart at o os ss e in
+    let g = next (a.part, a.rest) a.here in
+    let s = g.entered in (
+      opened o g.others ∷ a.others,
+      open_on now (with_children o c) os g.others a.rest a.others (ap (part_at c) s.0 ∙ g.behind) a.behind,
+      record {
+        arrivals = λ inside limit. had o a.part a.others ss g.first g.others a.all g.arrivals inside limit
+            ∙ ap (λ z. z ++ (part_arrivals o.residual g.others o.depth inside limit ++ all_arrivals inside limit a.others)) (sym (s.1.reaches inside limit));
+        deep = λ bound n.
+            let m : NoDeeper bound (opened o a.part ∷ a.others) = subst (NoDeeper bound) (sym a.all) n in
+            (let d = s.1.deep in let h = m.0 in omega (arith, d, h), (m.0, m.1));
+        ends = tt;
+      },
+    )
+
+-- a list or map was
+pub gone_open : (o p : Opened) (c : Children) (at now : List ℕ) (os : List Opened) (ss : List Subtree) → IsNext o.residual o.depth o.children at (Some (Open p)) c now → stands at (o ∷ os) ≡ Some ss
+    → (new : List Subtree) × (stands now (p ∷ with_children o c ∷ os) ≡ Some new) × Keeps ss new × (all_weight new < all_weight ss)
+gone_open o p c at now os ss next e =
+    let a = open_apart at o os ss e in
+    let g = next (a.part, a.rest) a.here in
+    let s = g.entered in
+    let others : stands g.middle (with_children o c ∷ os) ≡ Some (opened o g.others ∷ a.others) = open_on g.middle (with_children o c) os g.others a.rest a.others g.behind a.behind in (
+      opened p s.1 ∷ opened o g.others ∷ a.others,
+      open_on now p (with_children o c ∷ os) s.1 g.middle (opened o g.others ∷ a.others) s.2 (ap (λ b. stands (goes_on b g.middle) (with_children o c ∷ os)) s.0 ∙ others),
+      record {
+        arrivals = λ inside limit. had o a.part a.others ss g.first g.others a.all g.arrivals inside limit
+            ∙ ap (λ z. z ++ (part_arrivals o.residual g.others o.depth inside limit ++ all_arrivals inside limit a.others)) (sym (s.3.reaches inside limit));
+        deep = λ bound n.
+            let m : NoDeeper bound (opened o a.part ∷ a.others) = subst (NoDeeper bound) (sym a.all) n in
+            (let d = s.3.deep in let h = m.0 in omega (arith, d, h), (m.0, m.1));
+      },
+      (let t : all_weight ss ≡ part_weight a.part + all_weight a.others = ap all_weight (sym a.all) in let l = s.3.light in let k = g.lighter in omega (arith, t, l, k)),
+    )
+
+-- an open item without arrivals is let go
+let_go : (o : Opened) (part : Part) (at rest : List ℕ) (os : List Opened) (others ss : List Subtree) → stands (goes_on o.back rest) os ≡ Some others → opened o part ∷ others ≡ ss → at ≡ rest
+    → ((inside : Inside) (limit : ℕ) → part_arrivals o.residual part o.depth inside limit ≡ [])
+    → (new : List Subtree) × (stands (goes_on o.back at) os ≡ Some new) × Keeps ss new × (all_weight new < all_weight ss)
+let_go o part at rest os others ss behind all is nothing = (
+  others,
+  ap (λ l. stands (goes_on o.back l) os) is ∙ behind,
+  record {
+    arrivals = λ inside limit. ap (all_arrivals inside limit) (sym all) ∙ ap (λ z. z ++ all_arrivals inside limit others) (nothing inside limit);
+    deep = λ bound n. let m : NoDeeper bound (opened o part ∷ others) = subst (NoDeeper bound) (sym all) n in m.1;
+  },
+  (let t : all_weight ss ≡ part_weight part + all_weight others = ap all_weight (sym all) in let s = some_weight part in omega (arith, t, s)),
+) where
+  some_weight : (p : Part) → 0 < part_weight p
+  some_weight (to_cid c) = omega arith
+  some_weight (members n ds) = omega arith
+  some_weight (values es) = omega arith
+
+-- nothing more was entered
+pub gone_none : (o : Opened) (c : Children) (at now : List ℕ) (os : List Opened) (ss : List Subtree) → IsNext o.residual o.depth o.children at None c now → stands at (o ∷ os) ≡ Some ss
+    → (new : List Subtree) × (stands (goes_on o.back now) os ≡ Some new) × Keeps ss new × (all_weight new < all_weight ss)
+gone_none o c at now os ss next e =
+    let a = open_apart at o os ss e in
+    let g = next (a.part, a.rest) a.here in
+    let_go o a.part now a.rest os a.others ss a.behind a.all g.0 g.1
+
+-- no child is left
+pub spent_gone : (o : Opened) (at : List ℕ) (os : List Opened) (ss : List Subtree) → is_spent o.children ≡ true → stands at (o ∷ os) ≡ Some ss
+    → (new : List Subtree) × (stands (goes_on o.back at) os ≡ Some new) × Keeps ss new × (all_weight new < all_weight ss)
+spent_gone o at os ss spent e =
+    let a = open_apart at o os ss e in
+    let s = spent_part o.children at (a.part, a.rest) spent a.here in
+    let_go o a.part at a.rest os a.others ss a.behind a.all s.0 (s.1 o.residual o.depth)
+
+-- ---- trails
+
+pub goes_to : (b : Option (Bor (List ℕ))) (at : Bor (List ℕ)) → (unwrap_or b at).now ≡ goes_on b at.now
+goes_to None at = refl
+goes_to (Some b) at = refl
+
+-- no link comes first, and what was left is left still
+pub record IsKept (old new : Trail) : Type 0 where
+  pub next : new.next ≡ None
+  pub keeps : (ss : List Subtree) → trail_stands old ≡ Some ss → (more : List Subtree) × (trail_stands new ≡ Some more) × Keeps ss more
+
+-- and it is less
+pub record Steps (old new : Trail) : Type 0 where
+  pub next : new.next ≡ None
+  pub on : (ss : List Subtree) → trail_stands old ≡ Some ss → (more : List Subtree) × (trail_stands new ≡ Some more) × Keeps ss more × (all_weight more < all_weight ss)
+
+pub steps_kept : (first loop new : Trail) → IsKept first loop → Steps loop new → IsKept first new
+steps_kept first loop new kept steps = record {
+  next = steps.next;
+  keeps = λ ss e.
+      let k = kept.keeps ss e in
+      let s = steps.on k.0 k.1 in (s.0, s.1, keeps_on ss k.0 s.0 k.2 s.2);
+}
+
+pub steps_lighter : (first loop new : Trail) → IsStanding first → IsKept first loop → Steps loop new → trail_weight new < trail_weight loop
+steps_lighter first loop new is kept steps =
+    let k = kept.keeps is.0 is.1 in
+    let s = steps.on k.0 k.1 in
+    let w : all_weight (subtrees loop) ≡ all_weight k.0 = ap all_weight (subtrees_are loop k.0 k.1) in
+    let v : all_weight (subtrees new) ≡ all_weight s.0 = ap all_weight (subtrees_are new s.0 s.1) in
+    let l = s.3 in omega (arith, w, v, l)
+
+-- the next item of a stack, above the others
+above : (t : Trail) (o : Opened) (rest : List Opened) (ss : List Subtree) → t.next ≡ None → t.stack.items ≡ rest ++ o ∷ [] → trail_stands t ≡ Some ss → stands t.at.now (o ∷ reverse rest) ≡ Some ss
+above t o rest ss next items e = ap (stands t.at.now) (sym (reversed_push t.stack.items rest o items)) ∙ sym (trail_without t next) ∙ e
+
+-- others, wherever the walk stands
+below : (t : Trail) (rest : List Opened) (at : List ℕ) (ss : List Subtree) → t.next ≡ None → t.stack.items ≡ rest → t.at.now ≡ at → stands at (reverse rest) ≡ Some ss → trail_stands t ≡ Some ss
+below t rest at ss next items at_is e = trail_without t next ∙ ap (λ l. stands l (reverse t.stack.items)) at_is ∙ ap (λ os. stands at (reverse os)) items ∙ e
+
+-- an item that has no child left is let go
+pub step_spent : (old new : Trail) (o : Opened) (rest : List Opened) → old.next ≡ None → new.next ≡ None → old.stack.items ≡ rest ++ o ∷ [] → new.stack.items ≡ rest → is_spent o.children ≡ true → new.at.now ≡ goes_on o.back old.at.now
+    → Steps old new
+step_spent old new o rest next then items left spent at_is = record {
+  next = then;
+  on = λ ss e.
+      let g = spent_gone o old.at.now (reverse rest) ss spent (above old o rest ss next items e) in (g.0, below new rest (goes_on o.back old.at.now) g.0 then left at_is g.1, g.2, g.3);
+}
+
+-- one of which nothing more comes
+pub step_none : (old new : Trail) (o : Opened) (c : Children) (now : List ℕ) (rest : List Opened) → old.next ≡ None → new.next ≡ None → old.stack.items ≡ rest ++ o ∷ [] → new.stack.items ≡ rest
+    → IsNext o.residual o.depth o.children old.at.now None c now → new.at.now ≡ goes_on o.back now → Steps old new
+step_none old new o c now rest next then items left is at_is = record {
+  next = then;
+  on = λ ss e.
+      let g = gone_none o c old.at.now now (reverse rest) ss is (above old o rest ss next items e) in (g.0, below new rest (goes_on o.back now) g.0 then left at_is g.1, g.2, g.3);
+}
+
+-- one in which another was entered
+pub step_open : (old new : Trail) (o n p : Opened) (rest : List Opened) → old.next ≡ None → new.next ≡ None → old.stack.items ≡ rest ++ o ∷ [] → new.stack.items ≡ (rest ++ n ∷ []) ++ p ∷ []
+    → IsNext o.residual o.depth o.children old.at.now (Some (Open p)) n.children new.at.now → n ≡ with_children o n.children → Steps old new
+step_open old new o n p rest next then items pushed is same = record {
+  next = then;
+  on = λ ss e.
+      let g = gone_open o p n.children old.at.now new.at.now (reverse rest) ss is (above old o rest ss next items e) in
+      let stack : reverse new.stack.items ≡ p ∷ with_children o n.children ∷ reverse rest =
+      reversed_push new.stack.items (rest ++ n ∷ []) p pushed ∙ ap (λ os. p ∷ os) (reversed_push (rest ++ n ∷ []) rest n refl ∙ ap (λ x. x ∷ reverse rest) same) in
+      (g.0, trail_without new then ∙ ap (stands new.at.now) stack ∙ g.1, g.2, g.3);
+}
+
+-- a link was found, and what has no child left is let go
+pub link_found : (first loop mid new : Trail) (o n : Opened) (f : Found) (rest : List Opened) → IsKept first loop → mid.next ≡ None → loop.stack.items ≡ rest ++ o ∷ [] → mid.stack.items ≡ rest ++ n ∷ []
+    → IsNext o.residual o.depth o.children loop.at.now (Some (Link f)) n.children mid.at.now → n ≡ with_children o n.children → Leaves mid new → Finds first (Some f) new
+link_found first loop mid new o n f rest kept then items pushed is same leaves = λ ss e.
+    let k = kept.keeps ss e in
+    let g = gone_link o f n.children loop.at.now mid.at.now (reverse rest) k.0 is (above loop o rest k.0 kept.next items k.1) in
+    let stack : reverse mid.stack.items ≡ with_children o n.children ∷ reverse rest = reversed_push mid.stack.items rest n pushed ∙ ap (λ x. x ∷ reverse rest) same in
+    let l = leaves g.0 (trail_without mid then ∙ ap (stands mid.at.now) stack ∙ g.1) in (
+      l.0,
+      l.1,
+      record {
+        arrivals = λ inside limit. k.2.arrivals inside limit ∙ g.2.arrivals inside limit ∙ ap (λ z. found_arrivals inside limit (Some f) ++ z) (l.2.arrivals inside limit);
+        deep = λ bound n. let m = g.2.deep bound (k.2.deep bound n) in (m.0, l.2.deep bound m.1);
+        ends = tt;
+      },
+    )
+
+-- the link that comes first is taken
+pub next_taken : (old new : Trail) (f : Found) → old.next ≡ Some f → new.next ≡ None → new.at.now ≡ old.at.now → new.stack.items ≡ old.stack.items → Finds old (Some f) new
+next_taken old new f next then at_is stack_is = λ ss e.
+    let m = some_mapped (with_next (Some f)) (stands old.at.now (reverse old.stack.items)) ss (ap (λ o. option_map (with_next o) (stands old.at.now (reverse old.stack.items))) (sym next) ∙ e) in (
+      m.0,
+      below new old.stack.items old.at.now m.0 then stack_is at_is m.1,
+      record {
+        arrivals = λ inside limit. ap (all_arrivals inside limit) (sym m.2);
+        deep = λ bound n. let k : NoDeeper bound (found f ∷ m.0) = subst (NoDeeper bound) (sym m.2) n in (k.0, k.1);
+        ends = tt;
+      },
+    )
+
+-- the last of a stack, and those before it
+pub last_popped : (xs ys ds : List Opened) (o : Opened) (n : ℕ) → ds ≡ xs → length ds ≡ n → ys ≡ take (n - 1) xs → (true ≡ nat_lt 0 (length ds)) → o ≡ get_or ds (length ds - 1) o → xs ≡ ys ++ o ∷ []
+last_popped xs ys ds o n same len is some last =
+    let long : 0 < length xs = subst (λ (l : List Opened). 0 < length l) same (holds (length ds) (sym some)) in
+    let m : length xs ≡ n = sym (ap length same) ∙ len in
+    let here : o ≡ get_or xs (n - 1) o = last ∙ ap (λ (l : List Opened). get_or l (length l - 1) o) same ∙ ap (λ (k : ℕ). get_or xs (k - 1) o) m in
+    let k : n - 1 + 1 ≡ length xs = omega (arith, long, m) in
+    sym (take_all (n - 1 + 1) xs (omega (arith, k))) ∙ take_more xs (n - 1) o (omega (arith, long, m)) ∙ ap (λ (l : List Opened). l ++ get_or xs (n - 1) o ∷ []) (sym is) ∙ ap (λ (p : Opened). ys ++ p ∷ []) (sym here) where
+      holds : (n : ℕ) → nat_lt 0 n ≡ true → 0 < n
+      holds n h = grind (arith, nat_tests)
