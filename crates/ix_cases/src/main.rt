@@ -42,14 +42,34 @@ fn try_files<R: AllocGlobal + Env + Eprint + Files + Print + Threads + Wait + Sy
 ) -> Result<Tally> {
     let mut bench = Bench::new(rt.alloc())?;
     let mut tally = Tally::new();
-    for path in env::args(rt)?.skip(1) {
-        let path = path.as_str();
-        let text = fs::read_to_string(rt, path).context(format_args!("cannot read {path}"))?;
-        try_file(rt, &mut bench, path, text.as_str(), &mut tally)?;
-        tally.count_file();
-    }
+    count_files(rt, &mut bench, &mut tally)?;
     println!(rt; "{tally}")?;
     Ok(tally)
+}
+
+// Counts the cases of the files that the arguments name.
+fn count_files<R: AllocGlobal + Env + Eprint + Files + Threads + Wait + Sync>(
+    rt: &R,
+    bench: &mut Bench,
+    tally: &mut Tally,
+) -> Result<()> {
+    for path in env::args(rt)?.skip(1) {
+        count_file(rt, bench, path.as_str(), tally)?;
+    }
+    Ok(())
+}
+
+// Counts the file with this path, and its cases.
+fn count_file<R: AllocGlobal + Eprint + Files + Threads + Wait + Sync>(
+    rt: &R,
+    bench: &mut Bench,
+    path: &str,
+    tally: &mut Tally,
+) -> Result<()> {
+    let text = fs::read_to_string(rt, path).context(format_args!("cannot read {path}"))?;
+    try_file(rt, bench, path, text.as_str(), tally)?;
+    tally.count_file();
+    Ok(())
 }
 
 // Answers the cases of a file, and tells of each that differs.
