@@ -67,12 +67,12 @@ fn text_of_job(alloc: Global, job: &Job) -> Result<String> {
 pub fn walk(alloc: Global, store: &Store, input: &str) -> Result<String> {
     let (number, rest) = two_words(input)?;
     let job = job_of_words(alloc, rest)?;
-    text_of_walk(alloc, store, &job, number.parse::<u32>()?)
+    text_of_walk(alloc, store, &job, number)
 }
 
 // The visits of the job with this number, and the stop behind them.
-fn text_of_walk(alloc: Global, store: &Store, job: &Job, number: u32) -> Result<String> {
-    let mut walk = Walk::new(alloc, store, job, number)?;
+fn text_of_walk(alloc: Global, store: &Store, job: &Job, number: &str) -> Result<String> {
+    let mut walk = Walk::new(alloc, store, job, number.parse::<u32>()?)?;
     let answer = text_of_visits(alloc, store, &mut walk)?;
     ensure!(is_over(&mut walk), "the walk goes on behind its end");
     Ok(answer)
@@ -127,8 +127,7 @@ fn push_block(answer: &mut String, store: &Store, visit: &Visit) -> Result<(), A
 /// `visits ROOT LIMIT SELECTOR = COUNT`, and the stop behind it
 pub fn visits(alloc: Global, store: &Store, input: &str) -> Result<String> {
     let job = job_of_words(alloc, input)?;
-    let (count, stop) = counted(Walk::new(alloc, store, &job, 0)?);
-    Ok(text_of_count(alloc, count, stop)?)
+    text_of_count(alloc, store, &job)
 }
 
 // How many visits a walk gives, and its stop.
@@ -144,22 +143,23 @@ fn counted(walk: Walk<'_>) -> (u32, Option<WalkStop>) {
     (count, stopped)
 }
 
-// A count, and the stop behind it.
-fn text_of_count(
-    alloc: Global,
-    count: u32,
-    stopped: Option<WalkStop>,
-) -> Result<String, AllocError> {
-    match stopped {
-        Some(stop) => format!(in alloc; "{count} {stop:?}"),
-        None => count.to_string(alloc),
+// How many visits a job has, and the stop behind the count.
+fn text_of_count(alloc: Global, store: &Store, job: &Job) -> Result<String> {
+    match counted(Walk::new(alloc, store, job, 0)?) {
+        (count, Some(stop)) => Ok(format!(in alloc; "{count} {stop:?}")?),
+        (count, None) => Ok(count.to_string(alloc)?),
     }
 }
 
 /// `verdict ROOT = VERDICT` of the visit of a root, with the receipt of the check
 pub fn verdict(alloc: Global, store: &Store, input: &str) -> Result<String> {
     let job = job_of(alloc, "a", input, "1", MATCHER)?;
-    let verdict = verdict_of_first(alloc, store, &job)?;
+    text_of_verdict(alloc, store, &job)
+}
+
+// The verdict of a job's first visit, as text.
+fn text_of_verdict(alloc: Global, store: &Store, job: &Job) -> Result<String> {
+    let verdict = verdict_of_first(alloc, store, job)?;
     Ok(verdict.to_string(alloc)?)
 }
 
