@@ -3,7 +3,7 @@
 use crate::texts::{bytes_of_hex, hex_of, two_words};
 use anyhow::{Result, bail, ensure};
 use ix_cid::{Cid, push_varint, read_varint};
-use std::alloc::Global;
+use std::alloc::{AllocError, Global};
 use std::cmp::Ordering;
 use std::hash::{BuildHasher, BuildHasherDefault, FoldHasher};
 
@@ -56,7 +56,7 @@ fn parts_of(alloc: Global, bytes: &[u8], cid: &Cid, length: usize) -> Result<Str
         cid.as_bytes().len() == length && bytes.starts_with(cid.as_bytes()),
         "the bytes are others"
     );
-    ensure!(cid.try_clone(alloc)? == *cid, "a copy is another");
+    ensure!(is_copied(alloc, cid)?, "a copy is another");
     let version = cid.version();
     let codec = cid.codec();
     let hash_code = cid.hash_code();
@@ -64,18 +64,27 @@ fn parts_of(alloc: Global, bytes: &[u8], cid: &Cid, length: usize) -> Result<Str
     Ok(format!(in alloc; "{version} {codec} {hash_code} {digest} {length}")?)
 }
 
+// Whether a copy of a CID is equal to it.
+fn is_copied(alloc: Global, cid: &Cid) -> Result<bool, AllocError> {
+    let copy = cid.try_clone(alloc)?;
+    Ok(copy == *cid)
+}
+
 /// `cids HEX HEX = less`, `equal` or `greater`, by each comparison and by the hashes
 pub fn compared_cids(alloc: Global, input: &str) -> Result<String> {
     let (first, second) = two_words(input)?;
-    let first = cid_of(alloc, first)?;
-    let second = cid_of(alloc, second)?;
-    let word = match order_of(&first, &second) {
+    let order = order_of(&cid_of(alloc, first)?, &cid_of(alloc, second)?);
+    Ok(String::from_str(alloc, word_of(order))?)
+}
+
+// The word of an order on which all comparisons agree.
+fn word_of(order: Option<Ordering>) -> &'static str {
+    match order {
         Some(Ordering::Less) => "less",
         Some(Ordering::Equal) => "equal",
         Some(Ordering::Greater) => "greater",
         None => "two comparisons differ",
-    };
-    Ok(String::from_str(alloc, word)?)
+    }
 }
 
 // The order of two CIDs, where all comparisons and the hashes agree.

@@ -49,17 +49,11 @@ impl Names {
     fn push_inside(&self, out: &mut String, inside: &str) -> Result<()> {
         if let Some((part, count)) = inside.split_once('*') {
             let part = self.text_of(part).unwrap_or(part);
-            for _ in 0..count.parse::<u32>()? {
-                out.push_str(part)?;
-            }
-            return Ok(());
+            return push_times(out, part, count.parse::<u32>()?);
         }
         if let Some((name, count)) = inside.split_once('#') {
             let text = self.text_of(name).context("no such name")?;
-            for number in 0..count.parse::<u32>()? {
-                push_numbered(out, text, number)?;
-            }
-            return Ok(());
+            return push_with_numbers(out, text, count.parse::<u32>()?);
         }
         let text = self
             .text_of(inside)
@@ -72,6 +66,22 @@ impl Names {
     fn text_of(&self, name: &str) -> Option<&str> {
         self.texts.get(name).map(|text| text.as_str())
     }
+}
+
+// Appends a text so many times.
+fn push_times(out: &mut String, text: &str, count: u32) -> Result<()> {
+    for _ in 0..count {
+        out.push_str(text)?;
+    }
+    Ok(())
+}
+
+// Appends a text once for each number below the count, with the number in place of each `#`.
+fn push_with_numbers(out: &mut String, text: &str, count: u32) -> Result<()> {
+    for number in 0..count {
+        push_numbered(out, text, number)?;
+    }
+    Ok(())
 }
 
 // Appends a text with a number in place of each `#`.

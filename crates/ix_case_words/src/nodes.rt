@@ -46,17 +46,30 @@ pub fn node_of(alloc: Global, text: &str) -> Result<Node> {
     let mut open = Vec::new(alloc);
     let mut whole = None;
     for word in text.split_whitespace() {
-        match without_mark(word) {
-            "[" => open.push(Open::new(alloc, false))?,
-            "{" => open.push(Open::new(alloc, true))?,
-            "]" | "}" => {
-                let node = open.pop().context("nothing is open")?.closed(alloc)?;
-                place(&mut open, &mut whole, node)?;
-            }
-            word => place_word(alloc, &mut open, &mut whole, word)?,
-        }
+        read_word(alloc, &mut open, &mut whole, without_mark(word))?;
     }
     whole.context("no node")
+}
+
+// Begins or ends a list or a map, or puts a word where it belongs.
+fn read_word(
+    alloc: Global,
+    open: &mut Vec<Open>,
+    whole: &mut Option<Node>,
+    word: &str,
+) -> Result<()> {
+    match word {
+        "[" => Ok(open.push(Open::new(alloc, false))?),
+        "{" => Ok(open.push(Open::new(alloc, true))?),
+        "]" | "}" => close(alloc, open, whole),
+        word => place_word(alloc, open, whole, word),
+    }
+}
+
+// Ends the innermost list or map.
+fn close(alloc: Global, open: &mut Vec<Open>, whole: &mut Option<Node>) -> Result<()> {
+    let node = open.pop().context("nothing is open")?.closed(alloc)?;
+    place(open, whole, node)
 }
 
 // A word without the comma or colon behind it.

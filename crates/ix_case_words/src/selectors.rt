@@ -5,8 +5,8 @@ use crate::texts::{bytes_of_hex, two_words};
 use anyhow::{Result, bail};
 use ix_cbor::{Tree, decode};
 use ix_notation::{NotationFault, fault_line, hex_of_json, json_of_hex};
-use ix_selector::{Residual, Selector, Step};
-use std::alloc::Global;
+use ix_selector::{Residual, SelFault, Selector, Step};
+use std::alloc::{AllocError, Global};
 
 /// The selector for which a block in hexadecimal, or a node in diagnostic notation, stands.
 pub fn selector_of(alloc: Global, text: &str) -> Result<Selector> {
@@ -35,10 +35,15 @@ fn tree_of(alloc: Global, text: &str) -> Result<Tree> {
 /// `selector SELECTOR = ok` or the fault
 pub fn selector(alloc: Global, input: &str) -> Result<String> {
     let tree = tree_of(alloc, input)?;
-    match Selector::read(alloc, &tree) {
-        Ok(_) => Ok(String::from_str(alloc, "ok")?),
-        Err(fault) => Ok(format!(in alloc; "{fault:?}")?),
+    match fault_of(alloc, &tree) {
+        None => Ok(String::from_str(alloc, "ok")?),
+        Some(fault) => Ok(format!(in alloc; "{fault:?}")?),
     }
+}
+
+// Why a tree stands for no selector.
+fn fault_of(alloc: Global, tree: &Tree) -> Option<SelFault> {
+    Selector::read(alloc, tree).err()
 }
 
 /// `notation JSON = HEX` or a line of `fault_line`
@@ -67,21 +72,29 @@ fn line_of(alloc: Global, printed: Result<String, NotationFault>) -> Result<Stri
 pub fn steps(alloc: Global, input: &str) -> Result<String> {
     let (path, selector) = two_words(input)?;
     let selector = selector_of(alloc, selector)?;
-    let mut residual = Residual::start(alloc, &selector)?;
     let mut answer = String::new(alloc);
+    push_steps(alloc, &mut answer, &selector, path)?;
+    Ok(answer.as_str().trim_end().to_string(alloc)?)
+}
+
+// Appends whether each step of a path is entered, up to the first that isn't, with a space behind it.
+fn push_steps(
+    alloc: Global,
+    answer: &mut String,
+    selector: &Selector,
+    path: &str,
+) -> Result<(), AllocError> {
+    let mut residual = Residual::start(alloc, selector)?;
     for name in path.split('/') {
         match residual.step(alloc, &step_of(name))? {
             Some(next) => {
                 residual = next;
                 answer.push_str("1 ")?;
             }
-            None => {
-                answer.push_str("0 ")?;
-                break;
-            }
+            None => return answer.push_str("0 "),
         }
     }
-    Ok(answer.as_str().trim_end().to_string(alloc)?)
+    Ok(())
 }
 
 // The step of a name.

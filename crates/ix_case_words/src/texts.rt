@@ -25,29 +25,30 @@ pub fn unescaped(alloc: Global, text: &str) -> Result<Vec<u8>> {
     let mut parts = text.split('\\');
     let mut bytes = Vec::from_slice(alloc, parts.next().unwrap_or("").as_bytes())?;
     for part in parts {
-        let behind = match part.as_bytes() {
-            [b'n', behind @ ..] => {
-                bytes.push(b'\n')?;
-                behind
-            }
-            [b'r', behind @ ..] => {
-                bytes.push(b'\r')?;
-                behind
-            }
-            [b't', behind @ ..] => {
-                bytes.push(b'\t')?;
-                behind
-            }
-            [b'x', high, low, behind @ ..] => {
-                let byte = hex::decode(alloc, [*high, *low].as_slice())?;
-                bytes.extend_from_slice(byte.as_slice())?;
-                behind
-            }
-            _ => bail!("no such escape: {part}"),
-        };
-        bytes.extend_from_slice(behind)?;
+        push_unescaped(&mut bytes, part)?;
     }
     Ok(bytes)
+}
+
+// Appends what a backslash and the part behind it are.
+fn push_unescaped(bytes: &mut Vec<u8>, part: &str) -> Result<()> {
+    let (byte, behind) = match part.as_bytes() {
+        [b'n', behind @ ..] => (b'\n', behind),
+        [b'r', behind @ ..] => (b'\r', behind),
+        [b't', behind @ ..] => (b'\t', behind),
+        [b'x', high, low, behind @ ..] => (byte_of_hex([*high, *low].as_slice())?, behind),
+        _ => bail!("no such escape: {part}"),
+    };
+    bytes.push(byte)?;
+    bytes.extend_from_slice(behind)?;
+    Ok(())
+}
+
+// The byte of two hexadecimal digits.
+fn byte_of_hex(digits: &[u8]) -> Result<u8> {
+    let mut byte = [0u8];
+    hex::decode_to_slice(digits, &mut byte)?;
+    Ok(byte[0])
 }
 
 /// Bytes as such a text.

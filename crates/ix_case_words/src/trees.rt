@@ -4,48 +4,75 @@ use crate::nodes::node_of;
 use crate::notation::written;
 use crate::texts::{bytes_of_hex, hex_of, two_words};
 use anyhow::{Result, bail, ensure};
-use ix_cbor::{Major, Tree, push_head};
-use std::alloc::Global;
+use ix_cbor::{CborFault, Major, Node, Tree, push_head};
+use std::alloc::{AllocError, Global};
 
 /// `decode HEX = NODE` or `KIND at PLACE`; a block that is decoded is also spelled again
 pub fn decode(alloc: Global, input: &str) -> Result<String> {
     let bytes = bytes_of_hex(alloc, input)?;
     match ix_cbor::decode(alloc, bytes.as_slice()) {
-        Ok(tree) => {
-            let spelled = ix_cbor::encode(alloc, &tree)?;
-            ensure!(spelled == bytes, "it is not spelled again");
-            Ok(written(alloc, tree.root())?)
-        }
-        Err(fault) => {
-            let kind = fault.kind;
-            let place = fault.place;
-            Ok(format!(in alloc; "{kind:?} at {place}")?)
-        }
+        Ok(tree) => text_of_tree(alloc, &tree, bytes.as_slice()),
+        Err(fault) => text_of_fault(alloc, fault),
     }
+}
+
+// A tree that these bytes spell, in diagnostic notation.
+fn text_of_tree(alloc: Global, tree: &Tree, bytes: &[u8]) -> Result<String> {
+    ensure!(is_spelled(alloc, tree, bytes)?, "it is not spelled again");
+    Ok(written(alloc, tree.root())?)
+}
+
+// Whether these bytes spell a tree.
+fn is_spelled(alloc: Global, tree: &Tree, bytes: &[u8]) -> Result<bool, AllocError> {
+    let spelled = ix_cbor::encode(alloc, tree)?;
+    Ok(spelled.as_slice() == bytes)
+}
+
+// `KIND at PLACE`
+fn text_of_fault(alloc: Global, fault: CborFault) -> Result<String> {
+    let kind = fault.kind;
+    let place = fault.place;
+    Ok(format!(in alloc; "{kind:?} at {place}")?)
 }
 
 /// `tree NODE = HEX` or `handed back`
 pub fn tree(alloc: Global, input: &str) -> Result<String> {
-    let node = match Tree::new(node_of(alloc, input)?) {
-        Ok(tree) => {
-            let spelled = ix_cbor::encode(alloc, &tree)?;
-            ensure!(
-                written(alloc, tree.root())?.as_str() == input,
-                "the root is another"
-            );
-            ensure!(
-                written(alloc, &tree.into_root())?.as_str() == input,
-                "the node is another"
-            );
-            return hex_of(alloc, spelled.as_slice());
-        }
-        Err(node) => node,
-    };
+    match Tree::new(node_of(alloc, input)?) {
+        Ok(tree) => hex_of_tree(alloc, tree, input),
+        Err(node) => handed_back(alloc, &node, input),
+    }
+}
+
+// The block of a tree whose root is written as this text.
+fn hex_of_tree(alloc: Global, tree: Tree, text: &str) -> Result<String> {
+    let spelled = ix_cbor::encode(alloc, &tree)?;
+    ensure_root(alloc, tree, text)?;
+    hex_of(alloc, spelled.as_slice())
+}
+
+// Fails where a tree's root isn't written as this text, in the tree or out of it.
+fn ensure_root(alloc: Global, tree: Tree, text: &str) -> Result<()> {
+    ensure!(is_written(alloc, tree.root(), text)?, "the root is another");
     ensure!(
-        written(alloc, &node)?.as_str() == input,
+        is_written(alloc, &tree.into_root(), text)?,
+        "the node is another"
+    );
+    Ok(())
+}
+
+// The answer for a node that is no tree and is written as this text.
+fn handed_back(alloc: Global, node: &Node, text: &str) -> Result<String> {
+    ensure!(
+        is_written(alloc, node, text)?,
         "what is handed back is another"
     );
     Ok(String::from_str(alloc, "handed back")?)
+}
+
+// Whether a node is written as this text.
+fn is_written(alloc: Global, node: &Node, text: &str) -> Result<bool, AllocError> {
+    let written = written(alloc, node)?;
+    Ok(written.as_str() == text)
 }
 
 /// `head MAJOR ARGUMENT = HEX`

@@ -4,7 +4,7 @@ use crate::answers::answer;
 use crate::example::Example;
 use anyhow::{Context, Result};
 use ix_case_words::Names;
-use std::alloc::Global;
+use std::alloc::{AllocError, Global};
 use std::sync::Wait;
 use std::thread::Threads;
 
@@ -67,32 +67,50 @@ impl Bench {
             return Ok(Outcome::Nothing);
         }
         let line = self.names.written_out(line)?;
-        let line = line.as_str();
+        if self.set(line.as_str())? {
+            return Ok(Outcome::Nothing);
+        }
+        self.try_case(rt, line.as_str())
+    }
+
+    // Names or sets up what a line says, and answers whether it is such a line.
+    fn set(&mut self, line: &str) -> Result<bool> {
         let (word, rest) = line.split_once(' ').unwrap_or((line, ""));
         match word {
             "let" => self.names.give(rest)?,
             "example" => self.example = Example::new(self.alloc, rest)?,
-            _ if self.example.set(word, rest)? => {}
-            _ => return self.try_case(rt, line),
+            _ => return self.example.set(word, rest),
         }
-        Ok(Outcome::Nothing)
+        Ok(true)
     }
 
-    // Compares what a case answers with what is wanted. Where the text that is wanted ends with `..`
-    // the answer goes on in any way.
+    // Compares what a case answers with what is wanted.
     fn try_case<R: Threads + Wait + Sync>(&mut self, rt: &R, line: &str) -> Result<Outcome> {
         let (call, wanted) = line.split_once(" = ").context("no ` = `")?;
         let (word, input) = call.split_once(' ').unwrap_or((call, ""));
         let answer = answer(rt, self.alloc, &mut self.example, word, input)?;
-        let agrees = match wanted.strip_suffix("..") {
-            Some(front) => answer.as_str().starts_with(front),
-            None => answer.as_str() == wanted,
-        };
-        if agrees {
-            return Ok(Outcome::Agrees);
-        }
-        Ok(Outcome::Differs(format!(in self.alloc;
-            "{call}\n  wanted {wanted}\n  came   {answer}"
-        )?))
+        Ok(outcome_of_answer(self.alloc, call, wanted, answer.as_str())?)
+    }
+}
+
+// What comes of a call with this answer.
+fn outcome_of_answer(
+    alloc: Global,
+    call: &str,
+    wanted: &str,
+    answer: &str,
+) -> Result<Outcome, AllocError> {
+    if agrees(wanted, answer) {
+        return Ok(Outcome::Agrees);
+    }
+    Ok(Outcome::Differs(format!(in alloc; "{call}\n  wanted {wanted}\n  came   {answer}")?))
+}
+
+// Whether an answer is the one that is wanted. Where the text that is wanted ends with `..` the answer
+// goes on in any way.
+fn agrees(wanted: &str, answer: &str) -> bool {
+    match wanted.strip_suffix("..") {
+        Some(front) => answer.starts_with(front),
+        None => answer == wanted,
     }
 }

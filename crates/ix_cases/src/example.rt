@@ -1,10 +1,9 @@
 //! What the lines of an example set up for the calls behind them.
 
-use crate::walks::MATCHER;
+use crate::walks::{MATCHER, job_of};
 use anyhow::{Context, Result, bail};
 use ix_car::{Counts, End, Skip};
 use ix_case_words::cids::cid_of;
-use ix_case_words::selectors::selector_of;
 use ix_case_words::texts::{bytes_of_hex, two_words};
 use ix_check::Verdict;
 use ix_jobs::JobResult;
@@ -13,6 +12,9 @@ use std::alloc::Global;
 
 /// The header of a CARv1 file without roots, in hexadecimal.
 const HEADER: &str = "11a265726f6f7473806776657273696f6e01";
+
+/// The root of each job of which something is told.
+const TOLD_ROOT: &str = "01550000";
 
 /// What the lines of an example set up.
 #[derive(Drop)]
@@ -92,59 +94,76 @@ impl Example {
 
     // Adds an archive: a header, and the sections with these numbers.
     fn add_archive(&mut self, line: &str) -> Result<()> {
-        let mut words = line.split(' ');
-        let mut archive = String::from_str(self.alloc, words.next().unwrap_or(""))?;
-        for number in words {
-            let section = self.sections.get(number.parse::<usize>()?);
-            archive.push_str(section.context("no such section")?.as_str())?;
-        }
+        let archive = self.archive_of(line)?;
         let archive = bytes_of_hex(self.alloc, archive.as_str())?;
         self.archives.push(archive)?;
         Ok(())
     }
 
+    // A header and the sections with these numbers, in hexadecimal.
+    fn archive_of(&self, line: &str) -> Result<String> {
+        let mut words = line.split(' ');
+        let mut archive = String::from_str(self.alloc, words.next().unwrap_or(""))?;
+        for number in words {
+            archive.push_str(self.section(number)?)?;
+        }
+        Ok(archive)
+    }
+
+    // The section with this number, in hexadecimal.
+    fn section(&self, number: &str) -> Result<&str> {
+        let section = self.sections.get(number.parse::<usize>()?);
+        Ok(section.context("no such section")?.as_str())
+    }
+
     // Adds what is told of a job: its name, its end and its counts.
     fn add_result(&mut self, line: &str) -> Result<()> {
-        let words: Vec<&str> = line.split(' ').collect(self.alloc)?;
-        let [name, end, visits, kept, sections, bytes] = words.as_slice() else {
-            bail!("six words are wanted");
-        };
-        let counts = Counts {
-            visits: visits.parse::<u32>()?,
-            kept: kept.parse::<u32>()?,
-            sections: sections.parse::<u32>()?,
-            bytes: bytes.parse::<u64>()?,
-        };
-        let end = end_of(end)?;
-        let skips = Vec::new(self.alloc);
-        self.told.push(told_job(self.alloc, name)?)?;
-        self.results.push(JobResult { end, counts, skips })?;
+        let (name, result) = result_of(self.alloc, line)?;
+        self.told
+            .push(job_of(self.alloc, name, TOLD_ROOT, "1", MATCHER)?)?;
+        self.results.push(result)?;
         Ok(())
     }
 
     // Adds a skip to what is told of the last job.
     fn add_skip(&mut self, line: &str) -> Result<()> {
-        let (seq, rest) = two_words(line)?;
-        let (verdict, cid) = two_words(rest)?;
-        let skip = Skip {
-            seq: seq.parse::<u32>()?,
-            cid: cid_of(self.alloc, cid)?,
-            verdict: verdict_of(verdict)?,
-        };
+        let skip = skip_of(self.alloc, line)?;
         let result = self.results.last_mut().context("no job")?;
         result.skips.push(skip)?;
         Ok(())
     }
 }
 
-// A job with this name.
-fn told_job(alloc: Global, name: &str) -> Result<Job> {
-    let name = String::from_str(alloc, name)?;
-    let root = cid_of(alloc, "01550000")?;
-    match Job::new(name, root, selector_of(alloc, MATCHER)?, 1) {
-        Ok(job) => Ok(job),
-        Err(fault) => bail!("no job: {fault:?}"),
-    }
+// The name of a job, and what is told of it.
+fn result_of(alloc: Global, line: &str) -> Result<(&str, JobResult)> {
+    let words: Vec<&str> = line.split(' ').collect(alloc)?;
+    let [name, end, visits, kept, sections, bytes] = words.as_slice() else {
+        bail!("six words are wanted");
+    };
+    let counts = counts_of(visits, kept, sections, bytes)?;
+    let end = end_of(end)?;
+    let skips = Vec::new(alloc);
+    Ok((name, JobResult { end, counts, skips }))
+}
+
+// The counts that these words say.
+fn counts_of(visits: &str, kept: &str, sections: &str, bytes: &str) -> Result<Counts> {
+    Ok(Counts {
+        visits: visits.parse::<u32>()?,
+        kept: kept.parse::<u32>()?,
+        sections: sections.parse::<u32>()?,
+        bytes: bytes.parse::<u64>()?,
+    })
+}
+
+// The skip that a line `SEQ VERDICT CID` says.
+fn skip_of(alloc: Global, line: &str) -> Result<Skip> {
+    let (seq, rest) = two_words(line)?;
+    let (verdict, cid) = two_words(rest)?;
+    let seq = seq.parse::<u32>()?;
+    let cid = cid_of(alloc, cid)?;
+    let verdict = verdict_of(verdict)?;
+    Ok(Skip { seq, cid, verdict })
 }
 
 // The end with this word.

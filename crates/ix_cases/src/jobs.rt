@@ -3,31 +3,43 @@
 use anyhow::Result;
 use ix_case_words::cids::cid_of;
 use ix_case_words::texts::{bytes_of_hex, escaped, hex_of, two_words, unescaped};
-use ix_jobs::read_jobs;
+use ix_jobs::{JobsFault, read_jobs};
 use ix_run::{RunFault, export_root, fault_line, prepare, printed_root, root_of_text};
-use std::alloc::Global;
+use ix_walk::Job;
+use std::alloc::{AllocError, Global};
 
 /// `jobs TEXT = COUNT jobs; NAME ROOT LIMIT; ..` or `KIND at line NUMBER`
 pub fn jobs(alloc: Global, input: &str) -> Result<String> {
     let file = unescaped(alloc, input)?;
     match read_jobs(alloc, file.as_slice()) {
-        Ok(jobs) => {
-            let count = jobs.len();
-            let mut answer = format!(in alloc; "{count} jobs")?;
-            for job in &jobs {
-                let name = job.name();
-                let root = job.root().text(alloc)?;
-                let limit = job.limit();
-                write!(answer, "; {name} {root} {limit}")?;
-            }
-            Ok(answer)
-        }
-        Err(fault) => {
-            let kind = fault.kind;
-            let line = fault.line;
-            Ok(format!(in alloc; "{kind} at line {line}")?)
-        }
+        Ok(jobs) => text_of_jobs(alloc, &jobs),
+        Err(fault) => text_of_fault(alloc, fault),
     }
+}
+
+// `COUNT jobs; NAME ROOT LIMIT; ..`
+fn text_of_jobs(alloc: Global, jobs: &[Job]) -> Result<String> {
+    let count = jobs.len();
+    let mut answer = format!(in alloc; "{count} jobs")?;
+    for job in jobs {
+        push_job(alloc, &mut answer, job)?;
+    }
+    Ok(answer)
+}
+
+// Appends `; NAME ROOT LIMIT`.
+fn push_job(alloc: Global, answer: &mut String, job: &Job) -> Result<(), AllocError> {
+    let name = job.name();
+    let root = job.root().text(alloc)?;
+    let limit = job.limit();
+    write!(answer, "; {name} {root} {limit}")
+}
+
+// `KIND at line NUMBER`
+fn text_of_fault(alloc: Global, fault: JobsFault) -> Result<String> {
+    let kind = fault.kind;
+    let line = fault.line;
+    Ok(format!(in alloc; "{kind} at line {line}")?)
 }
 
 /// `prepare HEX TEXT = COUNT blocks, COUNT jobs` or the line of the fault
@@ -36,13 +48,19 @@ pub fn prepared(alloc: Global, input: &str) -> Result<String> {
     let car = bytes_of_hex(alloc, car)?;
     let file = unescaped(alloc, file)?;
     match prepare(alloc, car.as_slice(), file.as_slice()) {
-        Ok((store, jobs)) => {
-            let blocks = store.len();
-            let jobs = jobs.len();
-            Ok(format!(in alloc; "{blocks} blocks, {jobs} jobs")?)
-        }
-        Err(fault) => Ok(fault_line(alloc, &fault)?),
+        Ok((store, jobs)) => text_of_counts(alloc, store.len(), jobs.len()),
+        Err(fault) => line_of_fault(alloc, &fault),
     }
+}
+
+// `COUNT blocks, COUNT jobs`
+fn text_of_counts(alloc: Global, blocks: usize, jobs: usize) -> Result<String> {
+    Ok(format!(in alloc; "{blocks} blocks, {jobs} jobs")?)
+}
+
+/// The line of a fault.
+pub fn line_of_fault(alloc: Global, fault: &RunFault) -> Result<String> {
+    Ok(fault_line(alloc, fault)?)
 }
 
 /// `root HEX CID = HEX` or the line of the fault
@@ -51,7 +69,7 @@ pub fn root(alloc: Global, input: &str) -> Result<String> {
     let car = bytes_of_hex(alloc, car)?;
     match export_root(alloc, car.as_slice(), cid_of(alloc, root)?) {
         Ok(archive) => hex_of(alloc, archive.as_slice()),
-        Err(fault) => Ok(fault_line(alloc, &fault)?),
+        Err(fault) => line_of_fault(alloc, &fault),
     }
 }
 
@@ -60,8 +78,8 @@ pub fn printed(alloc: Global, input: &str) -> Result<String> {
     let (text, input) = input.split_once(' ').unwrap_or((input, ""));
     let input = unescaped(alloc, input)?;
     match output_of(alloc, text, input.as_slice()) {
-        Ok(output) => Ok(escaped(alloc, output.as_bytes())?),
-        Err(fault) => Ok(fault_line(alloc, &fault)?),
+        Ok(output) => escaped(alloc, output.as_bytes()),
+        Err(fault) => line_of_fault(alloc, &fault),
     }
 }
 

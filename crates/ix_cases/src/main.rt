@@ -16,7 +16,7 @@ mod tally;
 mod walks;
 
 use anyhow::{Context, Result};
-use bench::Bench;
+use bench::{Bench, Outcome};
 use std::process::ExitCode;
 use std::rt::{Env, Files};
 use std::sync::Wait;
@@ -40,16 +40,44 @@ fn main(rt: HostRuntime) -> ExitCode {
 fn try_files<R: AllocGlobal + Env + Eprint + Files + Print + Threads + Wait + Sync>(
     rt: &R,
 ) -> Result<Tally> {
-    let mut bench = Bench::new(rt.alloc())?;
-    let mut tally = Tally::new();
-    for path in env::args(rt)?.skip(1) {
-        let path = path.as_str();
-        let text = fs::read_to_string(rt, path).context(format_args!("cannot read {path}"))?;
-        try_file(rt, &mut bench, path, text.as_str(), &mut tally)?;
-        tally.count_file();
-    }
+    let tally = tally_of_files(rt)?;
     println!(rt; "{tally}")?;
     Ok(tally)
+}
+
+// Counts the cases of the files that the arguments name.
+fn tally_of_files<R: AllocGlobal + Env + Eprint + Files + Threads + Wait + Sync>(
+    rt: &R,
+) -> Result<Tally> {
+    let mut bench = Bench::new(rt.alloc())?;
+    let mut tally = Tally::new();
+    count_files(rt, &mut bench, &mut tally)?;
+    Ok(tally)
+}
+
+// Adds the cases of these files to a tally.
+fn count_files<R: AllocGlobal + Env + Eprint + Files + Threads + Wait + Sync>(
+    rt: &R,
+    bench: &mut Bench,
+    tally: &mut Tally,
+) -> Result<()> {
+    for path in env::args(rt)?.skip(1) {
+        count_file(rt, bench, path.as_str(), tally)?;
+    }
+    Ok(())
+}
+
+// Counts the file with this path, and its cases.
+fn count_file<R: AllocGlobal + Eprint + Files + Threads + Wait + Sync>(
+    rt: &R,
+    bench: &mut Bench,
+    path: &str,
+    tally: &mut Tally,
+) -> Result<()> {
+    let text = fs::read_to_string(rt, path).context(format_args!("cannot read {path}"))?;
+    try_file(rt, bench, path, text.as_str(), tally)?;
+    tally.count_file();
+    Ok(())
 }
 
 // Answers the cases of a file, and tells of each that differs.
@@ -62,11 +90,22 @@ fn try_file<R: AllocGlobal + Eprint + Threads + Wait + Sync>(
 ) -> Result<()> {
     for (number, line) in (1u64..).zip(text.lines()) {
         let outcome = bench.outcome_of(rt, line)?;
-        if let Some(difference) = outcome.difference() {
-            let name = bench.example_name();
-            eprintln!(rt; "{path}:{number}: {name}: {difference}")?;
-        }
+        tell_difference(rt, path, number, bench.example_name(), &outcome)?;
         tally.count(&outcome);
+    }
+    Ok(())
+}
+
+// Tells of a case that differs, with its file, its line and its example.
+fn tell_difference<R: Eprint>(
+    rt: &R,
+    path: &str,
+    number: u64,
+    name: &str,
+    outcome: &Outcome,
+) -> Result<()> {
+    if let Some(difference) = outcome.difference() {
+        eprintln!(rt; "{path}:{number}: {name}: {difference}")?;
     }
     Ok(())
 }

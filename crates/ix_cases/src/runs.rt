@@ -1,17 +1,20 @@
 //! Runs of an example, and reports.
 
-ghost use Rattle.std.specs.Prelude.{◌≡◌};
+ghost use Rattle.std.specs.Prelude.{◌≡◌, ◌≤◌, length};
+ghost use Rattle.std.specs.Arc.{arc_value};
 ghost use Rattle.ix_pipeline.specs.Planned.{IsPlan};
 
 use crate::example::Example;
+use crate::jobs::line_of_fault;
 use anyhow::{Result, bail};
 use ix_case_words::texts::{escaped, hex_of};
 use ix_jobs::{report, status};
 use ix_pipeline::Plan;
-use ix_run::{RunOut, fault_line, prepare, run};
+use ix_run::{RunOut, prepare, run};
+use ix_walk::{Job, Store};
 use std::alloc::{AllocError, Global};
 use std::io::{self, ErrorKind, Write};
-use std::sync::Wait;
+use std::sync::{Arc, Wait};
 use std::thread::Threads;
 
 /// What is answered where everything is as the example says.
@@ -43,18 +46,27 @@ impl Write for Narrow {
 /// `run = as written`, where report, status and archives are as the example says by each plan; else
 /// the first that differs, or the line of the fault
 pub fn runs<R: Threads + Wait + Sync>(rt: &R, alloc: Global, example: &Example) -> Result<String> {
-    let answers = [
-        run_by(rt, alloc, example, 2, plan_of(2, 256, 64))?,
-        run_by(rt, alloc, example, 4, plan_of(3, 1, 1))?,
-        run_by(rt, alloc, example, 1, plan_of(1, 1, 1))?,
-        run_by(rt, alloc, example, 64, plan_of(64, 4096, 4096))?,
-    ];
-    for answer in answers {
-        if answer.as_str() != AS_WRITTEN {
-            return Ok(answer);
-        }
+    let first = run_by(rt, alloc, example, 2, plan_of(2, 256, 64))?;
+    let second = run_by(rt, alloc, example, 4, plan_of(3, 1, 1))?;
+    let answer = first_differing(first, second);
+    let third = run_by(rt, alloc, example, 1, plan_of(1, 1, 1))?;
+    let answer = first_differing(answer, third);
+    let fourth = run_by(rt, alloc, example, 64, plan_of(64, 4096, 4096))?;
+    Ok(first_differing(answer, fourth))
+}
+
+// The first answer, or the second where the first is that all is as written.
+fn first_differing(first: String, second: String) -> String {
+    if is_as_written(first.as_str()) {
+        second
+    } else {
+        first
     }
-    Ok(String::from_str(alloc, AS_WRITTEN)?)
+}
+
+// Whether an answer is that all is as written.
+fn is_as_written(answer: &str) -> bool {
+    answer == AS_WRITTEN
 }
 
 // So many walkers, and so much room in the queue and in each lane.
@@ -79,18 +91,32 @@ fn run_by<R: Threads + Wait + Sync>(
     requires { IsPlan plan verifiers }
 {
     let car = example.car()?;
-    let file = example.jobs.as_bytes();
-    let (store, jobs) = match prepare(alloc, car.as_slice(), file) {
-        Ok(prepared) => prepared,
-        Err(fault) => return Ok(fault_line(alloc, &fault)?),
-    };
+    match prepare(alloc, car.as_slice(), example.jobs.as_bytes()) {
+        Ok((store, jobs)) => run_prepared(rt, alloc, example, &store, &jobs, verifiers, plan),
+        Err(fault) => line_of_fault(alloc, &fault),
+    }
+}
+
+// The same of the store and the jobs that a run needs.
+fn run_prepared<R: Threads + Wait + Sync>(
+    rt: &R,
+    alloc: Global,
+    example: &Example,
+    store: &Arc<Store>,
+    jobs: &Arc<Vec<Job>>,
+    verifiers: u32,
+    plan: Plan,
+) -> Result<String>
+    requires jobs { length (arc_value jobs.now).items ≤ 1000 }
+    requires plan { IsPlan plan verifiers }
+{
     let writers = writers_of(alloc, example, jobs.len())?;
     if writers.len() != jobs.len() {
         bail!("a writer for each job was wanted");
     }
-    match run(rt, alloc, &store, &jobs, writers, verifiers, plan) {
+    match run(rt, alloc, store, jobs, writers, verifiers, plan) {
         Ok(out) => compared(alloc, example, &out),
-        Err(fault) => Ok(fault_line(alloc, &fault)?),
+        Err(fault) => line_of_fault(alloc, &fault),
     }
 }
 
@@ -108,19 +134,45 @@ fn writers_of(alloc: Global, example: &Example, count: usize) -> Result<Vec<Narr
 
 // What a run left that isn't as the example says.
 fn compared(alloc: Global, example: &Example, out: &RunOut<Narrow>) -> Result<String> {
-    let report = out.report.as_slice();
+    match difference(alloc, example, out.report.as_slice(), out.status)? {
+        Some(answer) => Ok(answer),
+        None => compared_archives(alloc, &out.writers, &example.archives),
+    }
+}
+
+// The report, or else the status, where it isn't as the example says.
+fn difference(
+    alloc: Global,
+    example: &Example,
+    report: &[u8],
+    status: u8,
+) -> Result<Option<String>> {
     if report != example.report.as_bytes() {
-        return escaped(alloc, report);
+        return Ok(Some(escaped(alloc, report)?));
     }
-    let status = out.status.to_string(alloc)?;
-    if status != example.status {
-        return Ok(format!(in alloc; "status {status}")?);
+    Ok(difference_of_status(alloc, example.status.as_str(), status)?)
+}
+
+// A status that isn't the one that is wanted.
+fn difference_of_status(
+    alloc: Global,
+    wanted: &str,
+    status: u8,
+) -> Result<Option<String>, AllocError> {
+    let status = status.to_string(alloc)?;
+    if status.as_str() == wanted {
+        return Ok(None);
     }
-    if out.writers.len() != example.archives.len() {
+    Ok(Some(format!(in alloc; "status {status}")?))
+}
+
+// The first archive that isn't the one that is wanted.
+fn compared_archives(alloc: Global, writers: &[Narrow], archives: &[Vec<u8>]) -> Result<String> {
+    if writers.len() != archives.len() {
         bail!("an archive for each job is wanted");
     }
-    for (writer, archive) in out.writers.iter().zip(example.archives.iter()) {
-        if writer.bytes != *archive {
+    for (writer, archive) in writers.iter().zip(archives) {
+        if writer.bytes.as_slice() != archive.as_slice() {
             return hex_of(alloc, writer.bytes.as_slice());
         }
     }
@@ -135,12 +187,14 @@ pub fn told(alloc: Global, example: &Example) -> Result<String> {
         bail!("a result for each job is wanted");
     }
     let report = report(alloc, example.told.as_slice(), results)?;
-    if report.as_slice() != example.report.as_bytes() {
-        return escaped(alloc, report.as_slice());
+    let difference = difference(alloc, example, report.as_slice(), status(results))?;
+    Ok(or_as_written(alloc, difference)?)
+}
+
+// What differs, or that all is as written.
+fn or_as_written(alloc: Global, difference: Option<String>) -> Result<String, AllocError> {
+    match difference {
+        Some(answer) => Ok(answer),
+        None => String::from_str(alloc, AS_WRITTEN),
     }
-    let status = status(results).to_string(alloc)?;
-    if status != example.status {
-        return Ok(format!(in alloc; "status {status}")?);
-    }
-    Ok(String::from_str(alloc, AS_WRITTEN)?)
 }

@@ -2,7 +2,7 @@
 
 use crate::example::Example;
 use anyhow::{Result, bail};
-use ix_car::read_car;
+use ix_car::{CarFault, read_car};
 use ix_case_words::cids::cid_of;
 use ix_case_words::texts::{bytes_of_hex, hex_of, two_words};
 use ix_walk::Store;
@@ -25,15 +25,20 @@ pub fn add_copy(alloc: Global, store: &mut Store, input: &str) -> Result<String>
 
 /// `find CID = PLACE` or `none`, which a search near any place gives too
 pub fn find(alloc: Global, store: &Store, input: &str) -> Result<String> {
-    let cid = cid_of(alloc, input)?;
+    match found(alloc, store, input)? {
+        Some(place) => Ok(place.to_string(alloc)?),
+        None => Ok(String::from_str(alloc, "none")?),
+    }
+}
+
+// The place of a CID, which a search near any place has to give too.
+fn found(alloc: Global, store: &Store, cid: &str) -> Result<Option<usize>> {
+    let cid = cid_of(alloc, cid)?;
     let found = store.find(&cid);
     if store.find_near(None, &cid) != found || store.find_near(Some(0), &cid) != found {
         bail!("a search near a place differs");
     }
-    match found {
-        Some(place) => Ok(place.to_string(alloc)?),
-        None => Ok(String::from_str(alloc, "none")?),
-    }
+    Ok(found)
 }
 
 /// `bytes PLACE = HEX` or `none`
@@ -57,21 +62,29 @@ pub fn blocks(alloc: Global, store: &Store) -> Result<String> {
 /// `car HEX = COUNT` of blocks, which are the store behind it, or `KIND at PLACE`; `car = ..` reads
 /// the example's own file
 pub fn car(alloc: Global, example: &mut Example, input: &str) -> Result<String> {
-    let bytes = if input.is_empty() {
-        example.car()?
-    } else {
-        bytes_of_hex(alloc, input)?
-    };
+    let bytes = car_bytes(alloc, example, input)?;
     match read_car(alloc, bytes.as_slice()) {
         Ok(read) => {
             let count = read.len();
             example.store = read;
             Ok(count.to_string(alloc)?)
         }
-        Err(fault) => {
-            let kind = fault.kind;
-            let place = fault.place;
-            Ok(format!(in alloc; "{kind} at {place}")?)
-        }
+        Err(fault) => text_of_fault(alloc, fault),
     }
+}
+
+// The bytes of a CARv1 file in hexadecimal, or of the example's own file.
+fn car_bytes(alloc: Global, example: &Example, input: &str) -> Result<Vec<u8>> {
+    if input.is_empty() {
+        example.car()
+    } else {
+        bytes_of_hex(alloc, input)
+    }
+}
+
+// `KIND at PLACE`
+fn text_of_fault(alloc: Global, fault: CarFault) -> Result<String> {
+    let kind = fault.kind;
+    let place = fault.place;
+    Ok(format!(in alloc; "{kind} at {place}")?)
 }

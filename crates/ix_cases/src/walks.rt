@@ -1,19 +1,21 @@
 //! Jobs, their walks, and verdicts.
 
+ghost use Rattle.ix_check.specs.Visits.{IsVisitOf};
+
 use anyhow::{Result, bail, ensure};
 use ix_case_words::cids::cid_of;
 use ix_case_words::selectors::selector_of;
 use ix_case_words::texts::{hex_of, two_words};
-use ix_check::{Check, ShaCheck};
-use ix_walk::{Job, Store, Visit, Walk};
+use ix_check::{Check, ShaCheck, Verdict};
+use ix_walk::{Job, JobFault, Store, Visit, Walk, WalkStop};
 use std::alloc::{AllocError, Global};
 
 /// The matcher.
 pub const MATCHER: &str = "a1612ea0";
 
-// The job of a root, a limit and a selector.
-fn job_of(alloc: Global, root: &str, limit: &str, selector: &str) -> Result<Job> {
-    let name = String::from_str(alloc, "a")?;
+/// The job of a name, a root, a limit and a selector.
+pub fn job_of(alloc: Global, name: &str, root: &str, limit: &str, selector: &str) -> Result<Job> {
+    let name = String::from_str(alloc, name)?;
     let root = cid_of(alloc, root)?;
     let selector = selector_of(alloc, selector)?;
     match Job::new(name, root, selector, limit.parse::<u32>()?) {
@@ -22,22 +24,41 @@ fn job_of(alloc: Global, root: &str, limit: &str, selector: &str) -> Result<Job>
     }
 }
 
+// The job of `ROOT LIMIT SELECTOR`.
+fn job_of_words(alloc: Global, input: &str) -> Result<Job> {
+    let (root, rest) = two_words(input)?;
+    let (limit, selector) = two_words(rest)?;
+    job_of(alloc, "a", root, limit, selector)
+}
+
 /// `new_job LIMIT ROOT NAME = NAME ROOT LIMIT` or the fault, with the matcher
 pub fn new_job(alloc: Global, input: &str) -> Result<String> {
     let (limit, rest) = two_words(input)?;
     let (root, name) = rest.split_once(' ').unwrap_or((rest, ""));
-    let limit = limit.parse::<u32>()?;
-    let root = cid_of(alloc, root)?;
-    let name = String::from_str(alloc, name)?;
-    match Job::new(name, root, selector_of(alloc, MATCHER)?, limit) {
-        Ok(job) => {
-            let name = job.name();
-            let root = hex_of(alloc, job.root().as_bytes())?;
-            let limit = job.limit();
-            Ok(format!(in alloc; "{name} {root} {limit}")?)
-        }
+    match job_or_fault(alloc, limit.parse::<u32>()?, root, name)? {
+        Ok(job) => text_of_job(alloc, &job),
         Err(fault) => Ok(format!(in alloc; "{fault:?}")?),
     }
+}
+
+// The job of a limit, a root and a name, with the matcher, or its fault.
+fn job_or_fault(
+    alloc: Global,
+    limit: u32,
+    root: &str,
+    name: &str,
+) -> Result<Result<Job, JobFault>> {
+    let root = cid_of(alloc, root)?;
+    let name = String::from_str(alloc, name)?;
+    Ok(Job::new(name, root, selector_of(alloc, MATCHER)?, limit))
+}
+
+// `NAME ROOT LIMIT` of a job.
+fn text_of_job(alloc: Global, job: &Job) -> Result<String> {
+    let name = job.name();
+    let root = hex_of(alloc, job.root().as_bytes())?;
+    let limit = job.limit();
+    Ok(format!(in alloc; "{name} {root} {limit}")?)
 }
 
 /// `walk NUMBER ROOT LIMIT SELECTOR = VISIT VISIT .. STOP`, each visit as the job's number, its own
@@ -45,68 +66,121 @@ pub fn new_job(alloc: Global, input: &str) -> Result<String> {
 /// stands behind a malformed one
 pub fn walk(alloc: Global, store: &Store, input: &str) -> Result<String> {
     let (number, rest) = two_words(input)?;
-    let (root, rest) = two_words(rest)?;
-    let (limit, selector) = two_words(rest)?;
-    let job = job_of(alloc, root, limit, selector)?;
-    let mut walk = Walk::new(alloc, store, &job, number.parse::<u32>()?)?;
+    let job = job_of_words(alloc, rest)?;
+    text_of_walk(alloc, store, &job, number)
+}
+
+// The visits of the job with this number, and the stop behind them.
+fn text_of_walk(alloc: Global, store: &Store, job: &Job, number: &str) -> Result<String> {
+    let mut walk = Walk::new(alloc, store, job, number.parse::<u32>()?)?;
+    let answer = text_of_visits(alloc, store, &mut walk)?;
+    ensure!(is_over(&mut walk), "the walk goes on behind its end");
+    Ok(answer)
+}
+
+// Whether a walk gives nothing more, though it is asked twice.
+fn is_over(walk: &mut Walk<'_>) -> bool {
+    walk.next().is_none() && walk.next().is_none()
+}
+
+// What a walk gives up to its end.
+fn text_of_visits(alloc: Global, store: &Store, walk: &mut Walk<'_>) -> Result<String, AllocError> {
     let mut answer = String::new(alloc);
-    for item in &mut walk {
+    push_visits(&mut answer, store, walk)?;
+    answer.as_str().trim_end().to_string(alloc)
+}
+
+// Appends what a walk gives up to its end, with a space behind each.
+fn push_visits(answer: &mut String, store: &Store, walk: &mut Walk<'_>) -> Result<(), AllocError> {
+    for item in walk {
         match item {
-            Ok(visit) => push_visit(&mut answer, store, &visit)?,
+            Ok(visit) => push_visit(answer, store, &visit)?,
             Err(stop) => write!(answer, "{stop:?} ")?,
         }
     }
-    ensure!(walk.next().is_none(), "the walk goes on behind its end");
-    ensure!(walk.next().is_none(), "the walk goes on behind its end");
-    Ok(answer.as_str().trim_end().to_string(alloc)?)
+    Ok(())
 }
 
 // Appends a visit and a space.
 fn push_visit(answer: &mut String, store: &Store, visit: &Visit) -> Result<(), AllocError> {
-    let job = visit.job;
-    let seq = visit.seq;
-    let depth = visit.depth;
-    let mark = if visit.malformed { "!" } else { "" };
-    match visit.block {
-        Some(place) if store.find(&visit.cid) == Some(place) => {
-            write!(answer, "{job}.{seq}.{depth}.{place}{mark} ")
-        }
-        Some(place) => write!(answer, "{job}.{seq}.{depth}.other{place}{mark} "),
-        None => write!(answer, "{job}.{seq}.{depth}.none{mark} "),
+    push_numbers(answer, visit.job, visit.seq, visit.depth)?;
+    push_block(answer, store, visit)?;
+    answer.push_str(if visit.malformed { "! " } else { " " })
+}
+
+// Appends a visit's job, number and depth, with a dot behind each.
+fn push_numbers(answer: &mut String, job: u32, seq: u32, depth: u32) -> Result<(), AllocError> {
+    write!(answer, "{job}.{seq}.{depth}.")
+}
+
+// Appends the place of a visit's block, with `other` before it where the store has the block elsewhere.
+fn push_block(answer: &mut String, store: &Store, visit: &Visit) -> Result<(), AllocError> {
+    let Some(place) = visit.block else {
+        return answer.push_str("none");
+    };
+    if store.find(&visit.cid) != Some(place) {
+        answer.push_str("other")?;
     }
+    write!(answer, "{place}")
 }
 
 /// `visits ROOT LIMIT SELECTOR = COUNT`, and the stop behind it
 pub fn visits(alloc: Global, store: &Store, input: &str) -> Result<String> {
-    let (root, rest) = two_words(input)?;
-    let (limit, selector) = two_words(rest)?;
-    let job = job_of(alloc, root, limit, selector)?;
+    let job = job_of_words(alloc, input)?;
+    text_of_count(alloc, store, &job)
+}
+
+// How many visits a walk gives, and its stop.
+fn counted(walk: Walk<'_>) -> (u32, Option<WalkStop>) {
     let mut count = 0u32;
     let mut stopped = None;
-    for item in Walk::new(alloc, store, &job, 0)? {
+    for item in walk {
         match item {
             Ok(_) => count = count.saturating_add(1),
             Err(stop) => stopped = Some(stop),
         }
     }
-    match stopped {
-        Some(stop) => Ok(format!(in alloc; "{count} {stop:?}")?),
-        None => Ok(count.to_string(alloc)?),
+    (count, stopped)
+}
+
+// How many visits a job has, and the stop behind the count.
+fn text_of_count(alloc: Global, store: &Store, job: &Job) -> Result<String> {
+    match counted(Walk::new(alloc, store, job, 0)?) {
+        (count, Some(stop)) => Ok(format!(in alloc; "{count} {stop:?}")?),
+        (count, None) => Ok(count.to_string(alloc)?),
     }
 }
 
 /// `verdict ROOT = VERDICT` of the visit of a root, with the receipt of the check
 pub fn verdict(alloc: Global, store: &Store, input: &str) -> Result<String> {
-    let job = job_of(alloc, input, "1", MATCHER)?;
-    let mut walk = Walk::new(alloc, store, &job, 0)?;
-    let mut check = ShaCheck::new(alloc);
-    let verdict = match walk.next() {
-        Some(Ok(visit)) => check.check(alloc, store, &visit)?,
+    let job = job_of(alloc, "a", input, "1", MATCHER)?;
+    text_of_verdict(alloc, store, &job)
+}
+
+// The verdict of a job's first visit, as text.
+fn text_of_verdict(alloc: Global, store: &Store, job: &Job) -> Result<String> {
+    let verdict = verdict_of_first(alloc, store, job)?;
+    Ok(verdict.to_string(alloc)?)
+}
+
+// The verdict of a job's first visit.
+fn verdict_of_first(alloc: Global, store: &Store, job: &Job) -> Result<Verdict> {
+    let mut walk = Walk::new(alloc, store, job, 0)?;
+    match walk.next() {
+        Some(Ok(visit)) => verdict_of_visit(alloc, store, &visit),
         _ => bail!("no visit"),
-    };
+    }
+}
+
+// The verdict of a visit, for which there has to be the receipt of the first one.
+fn verdict_of_visit(alloc: Global, store: &Store, visit: &Visit) -> Result<Verdict>
+    requires { IsVisitOf store.now visit.now }
+{
+    let mut check = ShaCheck::new(alloc);
+    let verdict = check.check(alloc, store, visit)?;
     ensure!(
         check.receipts() == [(0, 0)].as_slice(),
         "the receipts are others"
     );
-    Ok(verdict.to_string(alloc)?)
+    Ok(verdict)
 }
