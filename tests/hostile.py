@@ -1,7 +1,7 @@
 #!/usr/bin/env python3
 """Runs the built program on input that is made to hurt it: files cut at each byte, with each byte changed, selectors
-and job files cut at each byte, blocks with many links, and mutations by chance. Ends with status 1 at the first run that
-is wrong.
+and job files cut at each byte, blocks with many links, CIDs chosen for one place of the index, and mutations by chance.
+Ends with status 1 at the first run that is wrong.
 
 No run may end by a signal or take a minute. Where a file is refused, it is one line of the known ones. Where the run
 ends with status 0 or 3, each archive is its job's header and sections that agree with their hashes, no CID twice; at
@@ -43,6 +43,8 @@ REFUSALS = re.compile(
 )
 JOB = re.compile(r"^(\S+) (done|limit|memory|write|start) visits=\d+ kept=\d+ sections=(\d+) bytes=(\d+)$")
 SECONDS_A_RUN = 60
+# About three is usual; a busy machine may double what it measures.
+MOST_TIMES_HONEST = 6
 
 
 def varint(number):
@@ -242,6 +244,36 @@ def wide_blocks(runner):
         raise Wrong(f"100,001 visits were wanted: {came[1][:80]!r}")
 
 
+def loading_times(room, workloads):
+    """The processor seconds of the program over so many small blocks under each kind of CIDs, the least of five runs,
+    which take turns."""
+    for workload in workloads:
+        words = [sys.executable, TOP / "bench/generate.py", workload, "200000", room / workload]
+        subprocess.run(words, check=True)
+    least = dict.fromkeys(workloads, float("inf"))
+    for _ in range(5):
+        for workload in workloads:
+            folder = room / workload
+            words = [PROGRAM, "jobs", "--blocks", folder / "blocks.car", "--jobs", folder / "jobs.txt", "--out", folder]
+            child = subprocess.Popen(words + ["--walkers", "1", "--verifiers", "1"], stdout=subprocess.DEVNULL)
+            _, status, used = os.wait4(child.pid, 0)
+            child.returncode = os.waitstatus_to_exitcode(status)
+            if child.returncode != 0:
+                raise Wrong(f"status {child.returncode} of {workload}")
+            least[workload] = min(least[workload], used.ru_utime + used.ru_stime)
+    return least
+
+
+def chosen_cids(runner):
+    """200,000 CIDs that strangers chose so that they stand in one place of the index: to load them takes a few times
+    as long as to load honest ones, and not thousands of times."""
+    seconds = loading_times(runner.room, ("random-cids", "prefix-cids", "bucket-cids"))
+    for workload in ("prefix-cids", "bucket-cids"):
+        runner.runs += 1
+        if seconds[workload] > MOST_TIMES_HONEST * seconds["random-cids"]:
+            raise Wrong(f"{workload} took {seconds[workload]:.2f} seconds, random ones {seconds['random-cids']:.2f}")
+
+
 def mutated(chance, data, words):
     """The bytes with some changes: bits, bytes, cuts, and pieces that come twice or elsewhere."""
     data = bytearray(data)
@@ -310,7 +342,7 @@ def main():
     subprocess.run([TOP / "ix_export", "--help"], stdout=subprocess.DEVNULL, check=True)
     with tempfile.TemporaryDirectory(prefix="hostile-") as room:
         runner = Runner(pathlib.Path(room))
-        for part in (wide_blocks, cut_blocks, changed_blocks, cut_selectors, cut_jobs):
+        for part in (wide_blocks, chosen_cids, cut_blocks, changed_blocks, cut_selectors, cut_jobs):
             try:
                 part(runner)
             except Wrong as wrong:
