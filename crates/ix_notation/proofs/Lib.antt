@@ -1,1 +1,4 @@
+mod Decimals
 mod Pushed
+mod Refusals
+mod Selectors

@@ -1,2 +1,3 @@
 pub mod FaultWords
 pub mod Notation
+pub mod Printed
