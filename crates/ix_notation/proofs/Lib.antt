@@ -1,4 +1,5 @@
 mod Decimals
 mod Pushed
 mod Refusals
+mod Sayings
 mod Selectors

@@ -14,6 +14,7 @@ use Rattle.ix_selector.specs.Pattern.{Pattern}
 use Rattle.ix_selector.specs.Reading.{selector_of}
 use Rattle.ix_selector.specs.declared.fault.SelFault.{SelFault}
 use Rattle.ix_notation.specs.Printed.{HasBadText}
+use Rattle.ix_notation.specs.Saying.{IsJsonOf}
 use Rattle.ix_notation.specs.declared.fault.NotationFault.{NotationFault}
 use Rattle.ix_notation.specs.declared.fault.NotationFault.TheVariants.{Json, Repeated, Number, Hex, Block, Selector, Name, Memory}
 
@@ -22,9 +23,10 @@ pub record IsSelectorOf (d : Data) : Type 0 where
   pub pattern : Pattern
   pub read : selector_of d ≡ Ok pattern
 
--- the line is the hexadecimal of the one spelling of data that stands for a selector, and a line end
-pub record IsSelectorHex (line : List ℕ) : Type 0 where
+-- the text is the JSON of data that stands for a selector, and the line is the hexadecimal of its one spelling and a line end
+pub record IsSelectorHex (text line : List ℕ) : Type 0 where
   pub selector_data : Data
+  pub read : IsJsonOf text selector_data
   pub canonical : IsCanonical selector_data
   pub selector : IsSelectorOf selector_data
   pub printed : line ≡ encode_lower (spelling_of selector_data) ++ 10 ∷ []

@@ -16,7 +16,7 @@ use std::alloc::Global;
 /// The selector of a JSON text with the keys of the IPLD Selectors specification, as DAG-CBOR in
 /// lower-case hexadecimal with a line end. A selector that `Selector::read` refuses is refused.
 pub fn hex_of_json(alloc: Global, text: &[u8]) -> Result<String, NotationFault>
-    ensures selector { IfOk result (λ line. IsSelectorHex (string_bytes line)) }
+    ensures selector { IfOk result (λ line. IsSelectorHex text.now (string_bytes line)) }
 {
     let tree = tree_of(alloc, text)?;
     judge(alloc, &tree)?;

@@ -1,19 +1,23 @@
 //! Data out of JSON.
 
-ghost use Rattle.std.specs.Prelude.{◌≡◌, IfErr};
+ghost use Rattle.std.specs.Prelude.{◌≡◌, [], IfOk, IfErr, map};
+ghost use Rattle.json.specs.Value.{value_view, items_view, members_view};
+ghost use Rattle.ix_cbor.specs.Data.{data_of, entry_of};
+ghost use Rattle.ix_notation.specs.Saying.{Says, ItemsSay, ArePut, IsJsonOf};
 
 use crate::fault::NotationFault;
-use ix_cbor::{Node, Tree};
+use ix_cbor::{Node, Tree, compare_keys};
 use json::{Error, Reader, Scratch, Value};
 use std::alloc::Global;
-use std::cmp::Ordering;
 
 // How deep arrays and objects may nest, as lists and maps of a block.
 const DEPTH: usize = 512;
 
 // The tree that a JSON text has: null, truth values, integers, texts, lists and maps stand for
 // themselves, whatever the order of the keys.
-pub(crate) fn tree_of(alloc: Global, text: &[u8]) -> Result<Tree, NotationFault> {
+pub(crate) fn tree_of(alloc: Global, text: &[u8]) -> Result<Tree, NotationFault>
+    ensures says { IfOk result (λ t. IsJsonOf text.now t) }
+{
     let text = match str::from_utf8(text) {
         Ok(text) => text,
         Err(error) => return Err(NotationFault::Json(error.valid_up_to())),
@@ -37,7 +41,9 @@ pub(crate) fn tree_of(alloc: Global, text: &[u8]) -> Result<Tree, NotationFault>
 
 // The node of a value.
 #[cycle(node_of)]
-fn node_of(alloc: Global, value: &Value<'_>) -> Result<Node, NotationFault> {
+fn node_of(alloc: Global, value: &Value<'_>) -> Result<Node, NotationFault>
+    ensures says { IfOk result (λ n. Says (value_view value.now) (data_of n)) }
+{
     match value {
         Value::Null => Ok(Node::Null),
         Value::Bool(truth) => Ok(Node::Bool(*truth)),
@@ -53,7 +59,9 @@ fn node_of(alloc: Global, value: &Value<'_>) -> Result<Node, NotationFault> {
 
 // The nodes of an array's values.
 #[cycle(node_of)]
-fn members_of(alloc: Global, values: &[Value<'_>]) -> Result<Vec<Node>, NotationFault> {
+fn members_of(alloc: Global, values: &[Value<'_>]) -> Result<Vec<Node>, NotationFault>
+    ensures says { IfOk result (λ v. ItemsSay (items_view values.now) (map data_of v.items)) }
+{
     let mut members = Vec::new(alloc);
     for value in values {
         members.push(node_of(alloc, value)?)?;
@@ -66,23 +74,20 @@ fn members_of(alloc: Global, values: &[Value<'_>]) -> Result<Vec<Node>, Notation
 fn entries_of(
     alloc: Global,
     values: &[(&str, Value<'_>)],
-) -> Result<Vec<(Vec<u8>, Node)>, NotationFault> {
+) -> Result<Vec<(Vec<u8>, Node)>, NotationFault>
+    ensures says { IfOk result (λ v. ArePut (members_view values.now) [] (map entry_of v.items)) }
+{
     let mut entries: Vec<(Vec<u8>, Node)> = Vec::new(alloc);
     for (name, value) in values {
         let node = node_of(alloc, value)?;
         let name = name.as_bytes();
         let found = entries
             .as_slice()
-            .binary_search_by(|entry| order_of_keys(entry.0.as_slice(), name));
+            .binary_search_by(|entry| compare_keys(entry.0.as_slice(), name));
         match found {
             Ok(_) => return Err(NotationFault::Repeated),
             Err(place) => entries.insert(place, (Vec::from_slice(alloc, name)?, node))?,
         }
     }
     Ok(entries)
-}
-
-// The order of keys in data: the shorter first, keys of one length by their bytes.
-fn order_of_keys(a: &[u8], b: &[u8]) -> Ordering {
-    a.len().cmp(&b.len()).then_with(|| a.cmp(b))
 }
