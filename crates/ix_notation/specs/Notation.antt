@@ -3,6 +3,7 @@ use Rattle.std.specs.Prelude.{◌≡◌, ◌≢◌, ℕ, List, [], ◌∷◌, �
 use Rattle.std.specs.Fmt.{signed_decimal}
 use Rattle.json.specs.Token.{Token}
 use Rattle.json.specs.Print.{print}
+use Rattle.json.specs.Strict.{HasUniqueKeys}
 use Rattle.hex.specs.Hex.{encode_lower, decode_of}
 use Rattle.ix_cbor.specs.Data.{Data, Items, Entries, no_items, item, no_entries, entry}
 use Rattle.ix_cbor.specs.Data as data_model
@@ -14,7 +15,7 @@ use Rattle.ix_selector.specs.Pattern.{Pattern}
 use Rattle.ix_selector.specs.Reading.{selector_of}
 use Rattle.ix_selector.specs.declared.fault.SelFault.{SelFault}
 use Rattle.ix_notation.specs.Printed.{HasBadText}
-use Rattle.ix_notation.specs.Saying.{IsJsonOf}
+use Rattle.ix_notation.specs.Saying.{AreIntegers, IsJsonOf, IsOtherJson, IsNoJson}
 use Rattle.ix_notation.specs.declared.fault.NotationFault.{NotationFault}
 use Rattle.ix_notation.specs.declared.fault.NotationFault.TheVariants.{Json, Repeated, Number, Hex, Block, Selector, Name, Memory}
 
@@ -110,3 +111,21 @@ IsHexRefused text Memory = Unit {0}
 IsHexRefused text (Json place) = ⊥
 IsHexRefused text Repeated = ⊥
 IsHexRefused text Number = ⊥
+
+-- the text is a JSON value, and the data that it says are no selector for this reason
+pub record IsSayingRefused (text : List ℕ) (fault : SelFault) : Type 0 where
+  pub said_data : Data
+  pub read : IsJsonOf text said_data
+  pub canonical : IsCanonical said_data
+  pub refused : selector_of said_data ≡ Err fault
+
+-- why the text is no JSON of a selector, or memory ran out
+abbrev pub IsJsonRefused : List ℕ → NotationFault → Type 0
+IsJsonRefused text (Json place) = IsNoJson text place
+IsJsonRefused text Repeated = IsOtherJson text HasUniqueKeys
+IsJsonRefused text Number = IsOtherJson text AreIntegers
+IsJsonRefused text (Selector fault) = IsSayingRefused text fault
+IsJsonRefused text Memory = Unit {0}
+IsJsonRefused text Hex = ⊥
+IsJsonRefused text (Block fault) = ⊥
+IsJsonRefused text Name = ⊥

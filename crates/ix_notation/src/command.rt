@@ -3,7 +3,7 @@
 ghost use Rattle.std.specs.Prelude.{◌≡◌, Ok, IfOk, IfErr, string_bytes};
 ghost use Rattle.ix_cbor.specs.Spelling.{IsCanonical};
 ghost use Rattle.ix_selector.specs.Reading.{selector_of};
-ghost use Rattle.ix_notation.specs.Notation.{IsSelectorHex, IsSelectorJson, IsSelectorOf, IsRefused, IsHexRefused};
+ghost use Rattle.ix_notation.specs.Notation.{IsSelectorHex, IsSelectorJson, IsSelectorOf, IsRefused, IsHexRefused, IsJsonRefused};
 
 use crate::fault::NotationFault;
 use crate::print::text_of;
@@ -17,6 +17,7 @@ use std::alloc::Global;
 /// lower-case hexadecimal with a line end. A selector that `Selector::read` refuses is refused.
 pub fn hex_of_json(alloc: Global, text: &[u8]) -> Result<String, NotationFault>
     ensures selector { IfOk result (λ line. IsSelectorHex text.now (string_bytes line)) }
+    ensures refused { IfErr result (IsJsonRefused text.now) }
 {
     let tree = tree_of(alloc, text)?;
     judge(alloc, &tree)?;
