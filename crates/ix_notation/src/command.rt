@@ -14,7 +14,12 @@ use ix_selector::{SelFault, Selector};
 use std::alloc::Global;
 
 /// The selector of a JSON text with the keys of the IPLD Selectors specification, as DAG-CBOR in
-/// lower-case hexadecimal with a line end. A selector that `Selector::read` refuses is refused.
+/// lower-case hexadecimal with a line end, whatever the order of the keys. Refused are a text that is
+/// not UTF-8, or no JSON value with arrays and objects at most 512 deep (`Json`); a value with an
+/// object that has a key twice (`Repeated`); a value with a number that is no integer in decimal
+/// digits alone, or none from -2^64 to 2^64 - 1 (`Number`); and data that is no selector (`Selector`).
+/// A value that is both of `Repeated` and `Number` is told one of them. No other refusal comes, but
+/// for want of memory.
 pub fn hex_of_json(alloc: Global, text: &[u8]) -> Result<String, NotationFault>
     ensures selector { IfOk result (λ line. IsSelectorHex text.now (string_bytes line)) }
     ensures refused { IfErr result (IsJsonRefused text.now) }

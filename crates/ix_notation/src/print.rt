@@ -58,7 +58,8 @@ fn push_node(alloc: Global, out: &mut Writer, node: &Node) -> Result<(), Notatio
 fn push_members(alloc: Global, out: &mut Writer, members: &[Node]) -> Result<(), NotationFault>
     ensures ok { OnOk result (out.new.tokens ≡ out.old.tokens ++ items_tokens (items_of (map data_of members.now))) }
     ensures before { out.new.before ≡ out.old.before }
-    ensures refused { IfErr result (IsUnprinted (ItemsHaveBadText (items_of (map data_of members.now))) (ItemsHaveOtherKind (items_of (map data_of members.now)))) }
+    ensures refused { IfErr result (IsUnprinted (ItemsHaveBadText (items_of (map data_of members.now)))
+        (ItemsHaveOtherKind (items_of (map data_of members.now)))) }
 {
     for member in members {
         push_node(alloc, out, member)?;
@@ -75,7 +76,8 @@ fn push_entries(
 ) -> Result<(), NotationFault>
     ensures ok { OnOk result (out.new.tokens ≡ out.old.tokens ++ entries_tokens (entries_of (map entry_of entries.now))) }
     ensures before { out.new.before ≡ out.old.before }
-    ensures refused { IfErr result (IsUnprinted (EntriesHaveBadText (entries_of (map entry_of entries.now))) (EntriesHaveOtherKind (entries_of (map entry_of entries.now)))) }
+    ensures refused { IfErr result (IsUnprinted (EntriesHaveBadText (entries_of (map entry_of entries.now)))
+        (EntriesHaveOtherKind (entries_of (map entry_of entries.now)))) }
 {
     for (key, value) in entries {
         out.key(name_of(key.as_slice())?)?;

@@ -20,7 +20,8 @@ use std::cmp::Ordering;
 const DEPTH: usize = 512;
 
 // The tree that a JSON text has: null, truth values, integers, texts, lists and maps stand for
-// themselves, whatever the order of the keys.
+// themselves, whatever the order of the keys. A text that has none is refused by `Json`, `Repeated`
+// or `Number`.
 pub(crate) fn tree_of(alloc: Global, text: &[u8]) -> Result<Tree, NotationFault>
     ensures says { IfOk result (λ t. IsJsonOf text.now t) }
     ensures refused { IfErr result (IsJsonRefused text.now) }
@@ -46,12 +47,14 @@ pub(crate) fn tree_of(alloc: Global, text: &[u8]) -> Result<Tree, NotationFault>
     }
 }
 
-// The node of a value.
+// The node of a value, which has a spelling where each number is an integer that has one.
 #[cycle(node_of)]
 fn node_of(alloc: Global, value: &Value<'_>) -> Result<Node, NotationFault>
     ensures says { IfOk result (λ n. Says (value_view value.now) (data_of n)) }
-    ensures fits { IfOk result (λ n. AreIntegers (value_view value.now) → Fits (depth (value_view value.now)) (data_of n)) }
-    ensures refused { IfErr result (IsUnread (AreIntegers (value_view value.now)) (HasUniqueKeys (value_view value.now))) }
+    ensures fits { IfOk result (λ n. AreIntegers (value_view value.now)
+        → Fits (depth (value_view value.now)) (data_of n)) }
+    ensures refused { IfErr result (IsUnread (AreIntegers (value_view value.now))
+        (HasUniqueKeys (value_view value.now))) }
 {
     match value {
         Value::Null => Ok(Node::Null),
@@ -70,8 +73,10 @@ fn node_of(alloc: Global, value: &Value<'_>) -> Result<Node, NotationFault>
 #[cycle(node_of)]
 fn members_of(alloc: Global, values: &[Value<'_>]) -> Result<Vec<Node>, NotationFault>
     ensures says { IfOk result (λ v. ItemsSay (items_view values.now) (map data_of v.items)) }
-    ensures fits { IfOk result (λ v. ItemsAreIntegers (items_view values.now) → ItemsFit (items_depth (items_view values.now)) (items_of (map data_of v.items))) }
-    ensures refused { IfErr result (IsUnread (ItemsAreIntegers (items_view values.now)) (ItemsHaveUniqueKeys (items_view values.now))) }
+    ensures fits { IfOk result (λ v. ItemsAreIntegers (items_view values.now)
+        → ItemsFit (items_depth (items_view values.now)) (items_of (map data_of v.items))) }
+    ensures refused { IfErr result (IsUnread (ItemsAreIntegers (items_view values.now))
+        (ItemsHaveUniqueKeys (items_view values.now))) }
 {
     let mut members = Vec::new(alloc);
     for value in values {
@@ -87,8 +92,10 @@ fn entries_of(
     values: &[(&str, Value<'_>)],
 ) -> Result<Vec<(Vec<u8>, Node)>, NotationFault>
     ensures says { IfOk result (λ v. ArePut (members_view values.now) [] (map entry_of v.items)) }
-    ensures fits { IfOk result (λ v. MembersAreIntegers (members_view values.now) → EntriesFit (members_depth (members_view values.now)) None (entries_of (map entry_of v.items))) }
-    ensures refused { IfErr result (IsUnread (MembersAreIntegers (members_view values.now)) (AreDistinct (keys (members_view values.now)) × MembersHaveUniqueKeys (members_view values.now))) }
+    ensures fits { IfOk result (λ v. MembersAreIntegers (members_view values.now)
+        → EntriesFit (members_depth (members_view values.now)) None (entries_of (map entry_of v.items))) }
+    ensures refused { IfErr result (IsUnread (MembersAreIntegers (members_view values.now))
+        (AreDistinct (keys (members_view values.now)) × MembersHaveUniqueKeys (members_view values.now))) }
 {
     let mut entries: Vec<(Vec<u8>, Node)> = Vec::new(alloc);
     for (name, value) in values {
