@@ -1,30 +1,19 @@
 -- Entries in the order of their keys, and one put in at its place.
-use Rattle.std.proofs.Common.{◌≡◌, ◌≢◌, ℕ, zero, suc, ◌+◌, ◌-◌, ◌^◌, ◌<◌, ◌≤◌, List, [], ◌∷◌, length, map, get_or, refl, sym, ap, ◌∙◌, subst, arith}
-use Rattle.std.specs.Prelude.{insert, Option, None}
-use Rattle.std.specs.Ordering.{nat_cmp, ordering_then, ordering_index, ordering_reverse}
+use Rattle.std.proofs.Common.{◌≡◌, ℕ, zero, suc, ◌+◌, ◌<◌, ◌≤◌, List, [], ◌∷◌, length, get_or, refl, sym, ap, ◌∙◌, subst, arith}
+use Rattle.std.specs.Prelude.{insert}
+use Rattle.std.specs.Ordering.{ordering_then, ordering_index, ordering_reverse}
 use Rattle.std.specs.Cmp.{IsTotalOrder}
-use Rattle.std.specs.Cmp.Lexicographic.{slice_cmp}
 use Rattle.std.specs.declared.cmp.Ordering.{Ordering}
 use Rattle.std.specs.declared.cmp.Ordering.TheVariants.{Less, Equal, Greater}
 use Rattle.std.specs.Global.{Vec}
 use Rattle.std.proofs.lemmas.Cmp.{nat_list_cmp_total, nat_cmp_total, on_total, then_total}
 use Rattle.std.proofs.lemmas.Map.Lookups.{exact_bytes}
-use Rattle.json.specs.Json.{object}
-use Rattle.json.specs.declared.value.Value.{Value}
-use Rattle.json.specs.declared.value.Value as value
-use Rattle.json.specs.Strict.{keys, AreDistinct, MembersHaveUniqueKeys}
-use Rattle.json.specs.Tree.{depth, members_depth, items_depth}
-use Rattle.json.specs.Value.{value_view, items_view, members_view}
-use Rattle.json.proofs.Trees.{view-Object, view-Array}
+use Rattle.json.specs.Strict.{keys, AreDistinct}
+use Rattle.json.specs.Value.{members_view}
 use Rattle.ix_cbor.specs.declared.node.Node.{Node}
-use Rattle.ix_cbor.specs.declared.node.Node.TheVariants as variants
-use Rattle.ix_cbor.specs.Data.{Data, Entries, data_of, entry_of, entries_of, items_of, entry, no_entries}
-use Rattle.ix_cbor.specs.Spelling.{key_cmp, Rises}
-use Rattle.ix_cbor.specs.Fits.{Fits, ItemsFit, EntriesFit}
-use Rattle.ix_cbor.proofs.Fitting.{node_items, node_entries, list-fits, map-fits, item_count-nodes, entry_count-nodes, data_of-list, data_of-map}
-use Rattle.ix_notation.specs.Saying.{AreIntegers, ItemsAreIntegers, MembersAreIntegers}
+use Rattle.ix_cbor.specs.Spelling.{key_cmp}
 use Rattle.ix_notation.proofs.Sayings.{Entry, Member}
-use Rattle.ix_notation.proofs.Unread.{item_integers, item_within, member_integers, member_within, key_at_place, length-keys}
+use Rattle.ix_notation.proofs.Unread.{key_at_place, length-keys}
 
 key_total : IsTotalOrder key_cmp
 key_total = then_total (on_total length nat_cmp_total) nat_list_cmp_total

@@ -1,14 +1,12 @@
 -- Why data isn't printed, from a part to the whole.
-use Rattle.std.proofs.Common.{◌≡◌, ℕ, zero, suc, ◌+◌, ◌<◌, List, [], ◌∷◌, length, map, get_or, inl, inr, sym, subst, arith}
-use Rattle.std.specs.Prelude.{◌⊎◌, Result, Ok, Err, IfErr}
+use Rattle.std.proofs.Common.{◌≡◌, ℕ, zero, suc, ◌<◌, List, [], ◌∷◌, length, get_or, inl, inr, sym, subst, arith}
 use Rattle.std.specs.Str.{IsUtf8}
 use Rattle.std.specs.Global.{Vec}
 use Rattle.ix_cbor.specs.declared.node.Node.{Node}
-use Rattle.ix_cbor.specs.Data.{Data, data_of, entry_of}
+use Rattle.ix_cbor.specs.Data.{Data, data_of}
 use Rattle.ix_cbor.proofs.Fitting.{node_items, node_entries}
 use Rattle.ix_notation.specs.declared.fault.NotationFault.{NotationFault}
 use Rattle.ix_notation.specs.declared.fault.NotationFault.TheVariants.{Json, Repeated, Number, Hex, Block, Selector, Name, Memory}
-use Rattle.ix_selector.specs.Reading.{selector_of}
 use Rattle.ix_notation.specs.Notation.{IsSelectorOf, IsRefused, IsHexOf, IsHexRefused}
 use Rattle.ix_notation.proofs.Selectors.{selector_plain}
 use Rattle.ix_notation.specs.Printed.{HasBadText, ItemsHaveBadText, EntriesHaveBadText, HasOtherKind, ItemsHaveOtherKind, EntriesHaveOtherKind, IsUnprinted}

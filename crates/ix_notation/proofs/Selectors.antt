@@ -1,5 +1,5 @@
 -- No part of a selector's data is a float, a byte string or a link.
-use Rattle.std.proofs.Common.{◌≡◌, List, ℕ, inl, inr}
+use Rattle.std.proofs.Common.{◌≡◌, ℕ, inl, inr}
 use Rattle.std.specs.Prelude.{◌⊎◌, Ok, Option}
 use Rattle.ix_cbor.specs.Data.{Data, Items, Entries}
 use Rattle.ix_selector.specs.Pattern.{Pattern, Fields, Members}

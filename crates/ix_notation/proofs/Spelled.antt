@@ -1,8 +1,7 @@
 -- What was made of items and members has a spelling.
-use Rattle.std.proofs.Common.{◌≡◌, ◌≢◌, ℕ, zero, suc, ◌+◌, ◌-◌, ◌^◌, ◌<◌, ◌≤◌, List, [], ◌∷◌, ◌++◌, length, map, get_or, refl, sym, ap, ◌∙◌, subst, arith}
-use Rattle.std.specs.Prelude.{insert, Option, None, max}
+use Rattle.std.proofs.Common.{◌≡◌, ℕ, zero, suc, ◌^◌, ◌<◌, ◌≤◌, List, [], ◌∷◌, ◌++◌, length, get_or, sym, ap, ◌∙◌, subst, arith}
+use Rattle.std.specs.Prelude.{insert, None}
 use Rattle.std.specs.Global.{Vec}
-use Rattle.std.specs.declared.cmp.Ordering.TheVariants.{Less}
 use Rattle.json.specs.Json.{object, array}
 use Rattle.json.specs.declared.value.Value.{Value}
 use Rattle.json.specs.declared.value.Value as value
@@ -13,9 +12,9 @@ use Rattle.ix_cbor.specs.declared.node.Node.{Node}
 use Rattle.ix_cbor.specs.declared.node.Node.TheVariants as variants
 use Rattle.ix_cbor.specs.Data.{Data, data_of, list}
 use Rattle.ix_cbor.specs.Data as data_model
-use Rattle.ix_cbor.specs.Spelling.{Rises, AreRising, item_count, entry_count}
+use Rattle.ix_cbor.specs.Spelling.{Rises, item_count, entry_count}
 use Rattle.ix_cbor.specs.Fits.{Fits, ItemsFit, EntriesFit}
-use Rattle.ix_cbor.proofs.Fitting.{node_items, node_entries, list-fits, map-fits, item_count-nodes, entry_count-nodes, data_of-list, data_of-map}
+use Rattle.ix_cbor.proofs.Fitting.{node_items, node_entries, item_count-nodes, entry_count-nodes, data_of-list, data_of-map}
 use Rattle.ix_notation.specs.Saying.{AreIntegers, ItemsAreIntegers, MembersAreIntegers}
 use Rattle.ix_notation.proofs.Sayings.{Entry, Member}
 use Rattle.ix_notation.proofs.KeyOrder.{IsBelow, AreSorted}

@@ -8,7 +8,7 @@ use Rattle.json.specs.Json as json_model
 use Rattle.json.specs.Lex.{tokens}
 use Rattle.ix_cbor.specs.Data.{Data, items_of, entries_of}
 use Rattle.ix_cbor.specs.Data as data_model
-use Rattle.ix_cbor.specs.Spelling.{IsCanonical, IsSpellable}
+use Rattle.ix_cbor.specs.Spelling.{IsSpellable}
 use Rattle.ix_notation.specs.declared.fault.NotationFault.{NotationFault}
 use Rattle.ix_notation.specs.declared.fault.NotationFault.TheVariants.{Json as NoJson, Repeated, Number, Hex, Block, Selector, Name, Memory}
 

@@ -1,4 +1,3 @@
-use Rattle.std.proofs.Common.{◌≤◌}
 use Rattle.json.specs.Strict.{keys}
 use Rattle.json.specs.Value.{members_view}
 use Rattle.ix_notation.proofs.KeyOrder.{AreSorted, AreAmong}
