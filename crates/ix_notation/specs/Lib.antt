@@ -1,2 +1,4 @@
 pub mod FaultWords
 pub mod Notation
+pub mod Printed
+pub mod Saying

@@ -1,14 +1,21 @@
 -- What the conversions of selectors print.
-use Rattle.std.specs.Prelude.{◌≡◌, ℕ, List, [], ◌∷◌, ◌++◌, Ok, Err}
+use Rattle.std.specs.Prelude.{◌≡◌, ◌≢◌, ℕ, List, [], ◌∷◌, ◌++◌, Ok, Err, IsErr}
 use Rattle.std.specs.Fmt.{signed_decimal}
 use Rattle.json.specs.Token.{Token}
 use Rattle.json.specs.Print.{print}
+use Rattle.json.specs.Strict.{HasUniqueKeys}
 use Rattle.hex.specs.Hex.{encode_lower, decode_of}
 use Rattle.ix_cbor.specs.Data.{Data, Items, Entries, no_items, item, no_entries, entry}
 use Rattle.ix_cbor.specs.Data as data_model
+use Rattle.ix_cbor.specs.Gives.{IsFirstOf}
 use Rattle.ix_cbor.specs.Spelling.{IsCanonical, spelling_of, Spells}
+use Rattle.ix_cbor.specs.declared.fault.CborFault.{CborFault}
+use Rattle.ix_cbor.specs.declared.fault.CborKind.TheVariants as kinds
 use Rattle.ix_selector.specs.Pattern.{Pattern}
 use Rattle.ix_selector.specs.Reading.{selector_of}
+use Rattle.ix_selector.specs.declared.fault.SelFault.{SelFault}
+use Rattle.ix_notation.specs.Printed.{HasBadText}
+use Rattle.ix_notation.specs.Saying.{AreIntegers, IsJsonOf, IsOtherJson, IsNoJson}
 use Rattle.ix_notation.specs.declared.fault.NotationFault.{NotationFault}
 use Rattle.ix_notation.specs.declared.fault.NotationFault.TheVariants.{Json, Repeated, Number, Hex, Block, Selector, Name, Memory}
 
@@ -17,9 +24,10 @@ pub record IsSelectorOf (d : Data) : Type 0 where
   pub pattern : Pattern
   pub read : selector_of d ≡ Ok pattern
 
--- the line is the hexadecimal of the one spelling of data that stands for a selector, and a line end
-pub record IsSelectorHex (line : List ℕ) : Type 0 where
+-- the text is the JSON of data that stands for a selector, and the line is the hexadecimal of its one spelling and a line end
+pub record IsSelectorHex (text line : List ℕ) : Type 0 where
   pub selector_data : Data
+  pub read : IsJsonOf text selector_data
   pub canonical : IsCanonical selector_data
   pub selector : IsSelectorOf selector_data
   pub printed : line ≡ encode_lower (spelling_of selector_data) ++ 10 ∷ []
@@ -66,3 +74,58 @@ IsRefused d Number = ⊥
 IsRefused d Hex = ⊥
 IsRefused d (Block fault) = ⊥
 IsRefused d Name = ⊥
+
+-- the text is the hexadecimal of a block, and the fault is the first one of the block
+pub record IsBlockRefused (text : List ℕ) (fault : CborFault) : Type 0 where
+  pub block : List ℕ
+  pub decoded : decode_of text ≡ Ok block
+  pub first : IsFirstOf block fault
+  pub kind : fault.kind ≢ kinds.Memory
+
+-- the text is the hexadecimal of a block that spells the data
+pub record IsHexOf (text : List ℕ) (d : Data) : Type 0 where
+  pub block : List ℕ
+  pub decoded : decode_of text ≡ Ok block
+  pub spelled : Spells block d
+
+-- the text is the hexadecimal of a block, and its data is no selector for this reason
+pub record IsDataRefused (text : List ℕ) (fault : SelFault) : Type 0 where
+  pub block_data : Data
+  pub spelled : IsHexOf text block_data
+  pub refused : selector_of block_data ≡ Err fault
+
+-- the text is the hexadecimal of a block that stands for a selector, and a name or a label in it is not UTF-8
+pub record IsNameRefused (text : List ℕ) : Type 0 where
+  pub selector_data : Data
+  pub spelled : IsHexOf text selector_data
+  pub selector : IsSelectorOf selector_data
+  pub name : HasBadText selector_data
+
+-- why the text is no hexadecimal of a selector that JSON can tell, or memory ran out
+abbrev pub IsHexRefused : List ℕ → NotationFault → Type 0
+IsHexRefused text Hex = IsErr (decode_of text)
+IsHexRefused text (Block fault) = IsBlockRefused text fault
+IsHexRefused text (Selector fault) = IsDataRefused text fault
+IsHexRefused text Name = IsNameRefused text
+IsHexRefused text Memory = Unit {0}
+IsHexRefused text (Json place) = ⊥
+IsHexRefused text Repeated = ⊥
+IsHexRefused text Number = ⊥
+
+-- the text is a JSON value, and the data that it says are no selector for this reason
+pub record IsSayingRefused (text : List ℕ) (fault : SelFault) : Type 0 where
+  pub said_data : Data
+  pub read : IsJsonOf text said_data
+  pub canonical : IsCanonical said_data
+  pub refused : selector_of said_data ≡ Err fault
+
+-- why the text is no JSON of a selector, or memory ran out
+abbrev pub IsJsonRefused : List ℕ → NotationFault → Type 0
+IsJsonRefused text (Json place) = IsNoJson text place
+IsJsonRefused text Repeated = IsOtherJson text HasUniqueKeys
+IsJsonRefused text Number = IsOtherJson text AreIntegers
+IsJsonRefused text (Selector fault) = IsSayingRefused text fault
+IsJsonRefused text Memory = Unit {0}
+IsJsonRefused text Hex = ⊥
+IsJsonRefused text (Block fault) = ⊥
+IsJsonRefused text Name = ⊥

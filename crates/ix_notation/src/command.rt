@@ -3,20 +3,26 @@
 ghost use Rattle.std.specs.Prelude.{◌≡◌, Ok, IfOk, IfErr, string_bytes};
 ghost use Rattle.ix_cbor.specs.Spelling.{IsCanonical};
 ghost use Rattle.ix_selector.specs.Reading.{selector_of};
-ghost use Rattle.ix_notation.specs.Notation.{IsSelectorHex, IsSelectorJson, IsSelectorOf, IsRefused};
+ghost use Rattle.ix_notation.specs.Notation.{IsSelectorHex, IsSelectorJson, IsSelectorOf, IsRefused, IsHexRefused, IsJsonRefused};
 
 use crate::fault::NotationFault;
 use crate::print::text_of;
 use crate::read::tree_of;
 use hex::FromHexError;
-use ix_cbor::{Tree, decode, encode};
+use ix_cbor::{CborKind, Tree, decode, encode};
 use ix_selector::{SelFault, Selector};
 use std::alloc::Global;
 
 /// The selector of a JSON text with the keys of the IPLD Selectors specification, as DAG-CBOR in
-/// lower-case hexadecimal with a line end. A selector that `Selector::read` refuses is refused.
+/// lower-case hexadecimal with a line end, whatever the order of the keys. Refused are a text that is
+/// not UTF-8, or no JSON value with arrays and objects at most 512 deep (`Json`); a value with an
+/// object that has a key twice (`Repeated`); a value with a number that is no integer in decimal
+/// digits alone, or none from -2^64 to 2^64 - 1 (`Number`); and data that is no selector (`Selector`).
+/// A value that is both of `Repeated` and `Number` is told one of them. No other refusal comes, but
+/// for want of memory.
 pub fn hex_of_json(alloc: Global, text: &[u8]) -> Result<String, NotationFault>
-    ensures selector { IfOk result (λ line. IsSelectorHex (string_bytes line)) }
+    ensures selector { IfOk result (λ line. IsSelectorHex text.now (string_bytes line)) }
+    ensures refused { IfErr result (IsJsonRefused text.now) }
 {
     let tree = tree_of(alloc, text)?;
     judge(alloc, &tree)?;
@@ -26,9 +32,13 @@ pub fn hex_of_json(alloc: Global, text: &[u8]) -> Result<String, NotationFault>
     Ok(line)
 }
 
-/// The same selector as JSON with a line end, out of its DAG-CBOR in hexadecimal.
+/// The same selector as JSON with a line end, out of its DAG-CBOR in hexadecimal. Refused are, in
+/// this order: a text that is no hexadecimal (`Hex`); bytes that are no block, with the first fault of
+/// the block (`Block`); data that is no selector (`Selector`); and a selector in which a name or a
+/// label is not UTF-8 (`Name`). No other refusal comes, but for want of memory.
 pub fn json_of_hex(alloc: Global, text: &str) -> Result<String, NotationFault>
     ensures selector { IfOk result (λ line. IsSelectorJson text.now (string_bytes line)) }
+    ensures refused { IfErr result (IsHexRefused text.now) }
 {
     let bytes = match hex::decode(alloc, text.as_bytes()) {
         Ok(bytes) => bytes,
@@ -37,6 +47,7 @@ pub fn json_of_hex(alloc: Global, text: &str) -> Result<String, NotationFault>
     };
     let tree = match decode(alloc, bytes.as_slice()) {
         Ok(tree) => tree,
+        Err(fault) if fault.kind == CborKind::Memory => return Err(NotationFault::Memory),
         Err(fault) => return Err(NotationFault::Block(fault)),
     };
     judge(alloc, &tree)?;

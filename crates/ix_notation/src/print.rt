@@ -1,17 +1,18 @@
 //! Data as JSON.
 
-ghost use Rattle.std.specs.Prelude.{◌≡◌, ◌++◌, ◌∷◌, [], OnOk, IfOk, map};
+ghost use Rattle.std.specs.Prelude.{◌≡◌, ◌++◌, ◌∷◌, [], OnOk, IfOk, IfErr, map};
 ghost use Rattle.std.specs.Fmt.{signed_decimal};
 ghost use Rattle.std.specs.Str.{IsUtf8};
 ghost use Rattle.json.specs.Token.{number};
 ghost use Rattle.json.specs.Print.{print};
 ghost use Rattle.ix_cbor.specs.Data.{data_of, items_of, entry_of, entries_of};
 ghost use Rattle.ix_notation.specs.Notation.{tokens_of, items_tokens, entries_tokens};
+ghost use Rattle.ix_notation.specs.Printed.{HasBadText, ItemsHaveBadText, EntriesHaveBadText, HasOtherKind, ItemsHaveOtherKind, EntriesHaveOtherKind, IsUnprinted};
 
 use crate::fault::NotationFault;
 use ix_cbor::Node;
 use ix_selector::SelFault;
-use json::{Writer, is_number};
+use json::Writer;
 use std::alloc::Global;
 
 // The JSON text of data that a selector has, without blanks. No selector has a float, a byte string
@@ -19,6 +20,7 @@ use std::alloc::Global;
 pub(crate) fn text_of(alloc: Global, node: &Node) -> Result<Vec<u8>, NotationFault>
     ensures text { IfOk result (λ text. text.items ≡ print (tokens_of (data_of node.now))) }
     ensures utf8 { IfOk result (λ text. IsUtf8 text.items) }
+    ensures refused { IfErr result (IsUnprinted (HasBadText (data_of node.now)) (HasOtherKind (data_of node.now))) }
 {
     let mut out = Writer::new(Vec::new(alloc));
     push_node(alloc, &mut out, node)?;
@@ -30,6 +32,7 @@ pub(crate) fn text_of(alloc: Global, node: &Node) -> Result<Vec<u8>, NotationFau
 fn push_node(alloc: Global, out: &mut Writer, node: &Node) -> Result<(), NotationFault>
     ensures ok { OnOk result (out.new.tokens ≡ out.old.tokens ++ tokens_of (data_of node.now)) }
     ensures before { out.new.before ≡ out.old.before }
+    ensures refused { IfErr result (IsUnprinted (HasBadText (data_of node.now)) (HasOtherKind (data_of node.now))) }
 {
     match node {
         Node::Null => Ok(out.null()?),
@@ -55,6 +58,8 @@ fn push_node(alloc: Global, out: &mut Writer, node: &Node) -> Result<(), Notatio
 fn push_members(alloc: Global, out: &mut Writer, members: &[Node]) -> Result<(), NotationFault>
     ensures ok { OnOk result (out.new.tokens ≡ out.old.tokens ++ items_tokens (items_of (map data_of members.now))) }
     ensures before { out.new.before ≡ out.old.before }
+    ensures refused { IfErr result (IsUnprinted (ItemsHaveBadText (items_of (map data_of members.now)))
+        (ItemsHaveOtherKind (items_of (map data_of members.now)))) }
 {
     for member in members {
         push_node(alloc, out, member)?;
@@ -71,6 +76,8 @@ fn push_entries(
 ) -> Result<(), NotationFault>
     ensures ok { OnOk result (out.new.tokens ≡ out.old.tokens ++ entries_tokens (entries_of (map entry_of entries.now))) }
     ensures before { out.new.before ≡ out.old.before }
+    ensures refused { IfErr result (IsUnprinted (EntriesHaveBadText (entries_of (map entry_of entries.now)))
+        (EntriesHaveOtherKind (entries_of (map entry_of entries.now)))) }
 {
     for (key, value) in entries {
         out.key(name_of(key.as_slice())?)?;
@@ -83,17 +90,16 @@ fn push_entries(
 fn push_integer(alloc: Global, out: &mut Writer, integer: i128) -> Result<(), NotationFault>
     ensures ok { OnOk result (out.new.tokens ≡ out.old.tokens ++ number (signed_decimal integer) ∷ []) }
     ensures before { out.new.before ≡ out.old.before }
+    ensures refused { IfErr result (λ e. e ≡ NotationFault.Memory) }
 {
     let digits = format!(in alloc; "{integer}")?;
-    if !is_number(digits.as_str()) {
-        return Err(NotationFault::Number);
-    }
     Ok(out.number(digits.as_str())?)
 }
 
 // A name or a label as text.
 fn name_of(bytes: &[u8]) -> Result<&str, NotationFault>
-    ensures { IfOk result (λ text. text.now ≡ bytes.now) }
+    ensures same { IfOk result (λ text. text.now ≡ bytes.now) }
+    ensures refused { IfErr result (λ e. (e ≡ NotationFault.Name) × ¬ IsUtf8 bytes.now) }
 {
     match str::from_utf8(bytes) {
         Ok(text) => Ok(text),

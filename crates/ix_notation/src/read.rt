@@ -1,9 +1,17 @@
 //! Data out of JSON.
 
-ghost use Rattle.std.specs.Prelude.{◌≡◌, IfErr};
+ghost use Rattle.std.specs.Prelude.{◌≡◌, [], IfOk, IfErr, None, map};
+ghost use Rattle.json.specs.Strict.{keys, AreDistinct, HasUniqueKeys, ItemsHaveUniqueKeys, MembersHaveUniqueKeys};
+ghost use Rattle.json.specs.Tree.{depth, items_depth, members_depth};
+ghost use Rattle.json.specs.Value.{value_view, items_view, members_view};
+ghost use Rattle.ix_cbor.specs.Data.{data_of, items_of, entry_of, entries_of};
+ghost use Rattle.ix_cbor.specs.Spelling.{key_cmp};
+ghost use Rattle.ix_cbor.specs.Fits.{Fits, ItemsFit, EntriesFit};
+ghost use Rattle.ix_notation.specs.Saying.{Says, ItemsSay, ArePut, AreIntegers, ItemsAreIntegers, MembersAreIntegers, IsJsonOf, IsUnread};
+ghost use Rattle.ix_notation.specs.Notation.{IsJsonRefused};
 
 use crate::fault::NotationFault;
-use ix_cbor::{Node, Tree};
+use ix_cbor::{Node, Tree, compare_keys};
 use json::{Error, Reader, Scratch, Value};
 use std::alloc::Global;
 use std::cmp::Ordering;
@@ -12,8 +20,12 @@ use std::cmp::Ordering;
 const DEPTH: usize = 512;
 
 // The tree that a JSON text has: null, truth values, integers, texts, lists and maps stand for
-// themselves, whatever the order of the keys.
-pub(crate) fn tree_of(alloc: Global, text: &[u8]) -> Result<Tree, NotationFault> {
+// themselves, whatever the order of the keys. A text that has none is refused by `Json`, `Repeated`
+// or `Number`.
+pub(crate) fn tree_of(alloc: Global, text: &[u8]) -> Result<Tree, NotationFault>
+    ensures says { IfOk result (λ t. IsJsonOf text.now t) }
+    ensures refused { IfErr result (IsJsonRefused text.now) }
+{
     let text = match str::from_utf8(text) {
         Ok(text) => text,
         Err(error) => return Err(NotationFault::Json(error.valid_up_to())),
@@ -35,9 +47,15 @@ pub(crate) fn tree_of(alloc: Global, text: &[u8]) -> Result<Tree, NotationFault>
     }
 }
 
-// The node of a value.
+// The node of a value, which has a spelling where each number is an integer that has one.
 #[cycle(node_of)]
-fn node_of(alloc: Global, value: &Value<'_>) -> Result<Node, NotationFault> {
+fn node_of(alloc: Global, value: &Value<'_>) -> Result<Node, NotationFault>
+    ensures says { IfOk result (λ n. Says (value_view value.now) (data_of n)) }
+    ensures fits { IfOk result (λ n. AreIntegers (value_view value.now)
+        → Fits (depth (value_view value.now)) (data_of n)) }
+    ensures refused { IfErr result (IsUnread (AreIntegers (value_view value.now))
+        (HasUniqueKeys (value_view value.now))) }
+{
     match value {
         Value::Null => Ok(Node::Null),
         Value::Bool(truth) => Ok(Node::Bool(*truth)),
@@ -53,7 +71,13 @@ fn node_of(alloc: Global, value: &Value<'_>) -> Result<Node, NotationFault> {
 
 // The nodes of an array's values.
 #[cycle(node_of)]
-fn members_of(alloc: Global, values: &[Value<'_>]) -> Result<Vec<Node>, NotationFault> {
+fn members_of(alloc: Global, values: &[Value<'_>]) -> Result<Vec<Node>, NotationFault>
+    ensures says { IfOk result (λ v. ItemsSay (items_view values.now) (map data_of v.items)) }
+    ensures fits { IfOk result (λ v. ItemsAreIntegers (items_view values.now)
+        → ItemsFit (items_depth (items_view values.now)) (items_of (map data_of v.items))) }
+    ensures refused { IfErr result (IsUnread (ItemsAreIntegers (items_view values.now))
+        (ItemsHaveUniqueKeys (items_view values.now))) }
+{
     let mut members = Vec::new(alloc);
     for value in values {
         members.push(node_of(alloc, value)?)?;
@@ -66,23 +90,26 @@ fn members_of(alloc: Global, values: &[Value<'_>]) -> Result<Vec<Node>, Notation
 fn entries_of(
     alloc: Global,
     values: &[(&str, Value<'_>)],
-) -> Result<Vec<(Vec<u8>, Node)>, NotationFault> {
+) -> Result<Vec<(Vec<u8>, Node)>, NotationFault>
+    ensures says { IfOk result (λ v. ArePut (members_view values.now) [] (map entry_of v.items)) }
+    ensures fits { IfOk result (λ v. MembersAreIntegers (members_view values.now)
+        → EntriesFit (members_depth (members_view values.now)) None (entries_of (map entry_of v.items))) }
+    ensures refused { IfErr result (IsUnread (MembersAreIntegers (members_view values.now))
+        (AreDistinct (keys (members_view values.now)) × MembersHaveUniqueKeys (members_view values.now))) }
+{
     let mut entries: Vec<(Vec<u8>, Node)> = Vec::new(alloc);
     for (name, value) in values {
         let node = node_of(alloc, value)?;
         let name = name.as_bytes();
-        let found = entries
-            .as_slice()
-            .binary_search_by(|entry| order_of_keys(entry.0.as_slice(), name));
+        let found = entries.as_slice().binary_search_by(
+            |entry: &(Vec<u8>, Node)| -> Ordering
+                ensures { result ≡ key_cmp entry.now.0.items name.entry.now }
+            { compare_keys(entry.0.as_slice(), name) },
+        );
         match found {
             Ok(_) => return Err(NotationFault::Repeated),
             Err(place) => entries.insert(place, (Vec::from_slice(alloc, name)?, node))?,
         }
     }
     Ok(entries)
-}
-
-// The order of keys in data: the shorter first, keys of one length by their bytes.
-fn order_of_keys(a: &[u8], b: &[u8]) -> Ordering {
-    a.len().cmp(&b.len()).then_with(|| a.cmp(b))
 }

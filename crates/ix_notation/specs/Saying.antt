@@ -1,0 +1,94 @@
+-- Which data a JSON value says, whatever the order of its keys, and when it says none that a block has.
+use Rattle.std.specs.Prelude.{◌≡◌, ◌⊎◌, ℕ, ℤ, ◌≤◌, List, [], ◌∷◌, length, insert, Option, Some, None, option_and_then}
+use Rattle.std.specs.Str.{IsUtf8}
+use Rattle.std.specs.Str.Lossy.{utf8_valid_len}
+use Rattle.std.specs.Str.Parse.{IsNumeral, without_leading_sign, signed_digits_value}
+use Rattle.json.specs.Json.{Json, if_last, value}
+use Rattle.json.specs.Json as json_model
+use Rattle.json.specs.Lex.{tokens}
+use Rattle.ix_cbor.specs.Data.{Data, items_of, entries_of}
+use Rattle.ix_cbor.specs.Data as data_model
+use Rattle.ix_cbor.specs.Spelling.{IsSpellable}
+use Rattle.ix_notation.specs.declared.fault.NotationFault.{NotationFault}
+use Rattle.ix_notation.specs.declared.fault.NotationFault.TheVariants.{Json as NoJson, Repeated, Number, Hex, Block, Selector, Name, Memory}
+
+-- the value that a text is, where arrays and objects nest at most 512 deep
+abbrev pub json_of : List ℕ → Option Json
+json_of text = option_and_then (λ p. if_last p.0 p.1) (value 512 (tokens text))
+
+-- decimal digits alone behind a sign or none, and the integer that they write
+pub record IsInteger (digits : List ℕ) (n : ℤ) : Type 0 where
+  pub numeral : IsNumeral 10 (without_leading_sign digits)
+  pub same : n ≡ signed_digits_value 10 digits
+
+abbrev mutual
+  -- null, truth values, integers, texts, arrays and objects stand for themselves
+  pub Says : Json → Data → Type 0
+  Says json_model.null d = d ≡ data_model.null
+  Says (json_model.boolean b) d = d ≡ data_model.boolean b
+  Says (json_model.number digits) d = (n : ℤ) × IsInteger digits n × (d ≡ data_model.integer n)
+  Says (json_model.string s) d = d ≡ data_model.text s
+  Says (json_model.array js) d = (ds : List Data) × ItemsSay js ds × (d ≡ data_model.list (items_of ds))
+  Says (json_model.object ms) d = (es : List (List ℕ × Data)) × ArePut ms [] es × (d ≡ data_model.map (entries_of es))
+
+  -- each item says the data at its place
+  pub ItemsSay : json_model.Items → List Data → Type 0
+  ItemsSay json_model.no_items ds = ds ≡ []
+  ItemsSay (json_model.item j js) ds = (d : Data) × (more : List Data) × Says j d × ItemsSay js more × (ds ≡ d ∷ more)
+
+  -- the entries are those before, and for each member its key with what its value says, put in at some place
+  pub ArePut : json_model.Members → List (List ℕ × Data) → List (List ℕ × Data) → Type 0
+  ArePut json_model.no_members before after = after ≡ before
+  ArePut (json_model.member k j ms) before after =
+      (d : Data) × (place : ℕ) × (place ≤ length before) × Says j d × ArePut ms (insert before place (k, d)) after
+
+abbrev mutual
+  -- each number is an integer in decimal digits alone, from -2^64 to 2^64 - 1
+  pub AreIntegers : Json → Type 0
+  AreIntegers json_model.null = Unit {0}
+  AreIntegers (json_model.boolean b) = Unit {0}
+  AreIntegers (json_model.number digits) = (n : ℤ) × IsInteger digits n × IsSpellable (data_model.integer n)
+  AreIntegers (json_model.string s) = Unit {0}
+  AreIntegers (json_model.array js) = ItemsAreIntegers js
+  AreIntegers (json_model.object ms) = MembersAreIntegers ms
+
+  pub ItemsAreIntegers : json_model.Items → Type 0
+  ItemsAreIntegers json_model.no_items = Unit {0}
+  ItemsAreIntegers (json_model.item j js) = AreIntegers j × ItemsAreIntegers js
+
+  -- of the members' values
+  pub MembersAreIntegers : json_model.Members → Type 0
+  MembersAreIntegers json_model.no_members = Unit {0}
+  MembersAreIntegers (json_model.member k j ms) = AreIntegers j × MembersAreIntegers ms
+
+-- the text is UTF-8 and that JSON value
+pub record IsValueOf (text : List ℕ) (j : Json) : Type 0 where
+  pub utf8 : IsUtf8 text
+  pub read : json_of text ≡ Some j
+
+-- the text is a JSON value that says the data
+pub record IsJsonOf (text : List ℕ) (d : Data) : Type 0 where
+  pub json_value : Json
+  pub read : IsValueOf text json_value
+  pub says : Says json_value d
+
+-- the text is a JSON value that isn't so
+pub record IsOtherJson (text : List ℕ) (IsSo : Json → Type 0) : Type 0 where
+  pub json_value : Json
+  pub read : IsValueOf text json_value
+  pub other : ¬ IsSo json_value
+
+-- the text is UTF-8 up to this place and no further, or it is UTF-8 and no JSON value
+abbrev pub IsNoJson : List ℕ → ℕ → Type 0
+IsNoJson text place = ((¬ IsUtf8 text) × (place ≡ utf8_valid_len text)) ⊎ (IsUtf8 text × (json_of text ≡ None))
+
+-- Number comes where not all are integers, Repeated where keys are not unique, and else memory ran out
+abbrev pub IsUnread : Type 0 → Type 0 → NotationFault → Type 0
+IsUnread integers unique Number = ¬ integers
+IsUnread integers unique Repeated = ¬ unique
+IsUnread integers unique Memory = Unit {0}
+IsUnread integers unique (NoJson place) = ⊥
+IsUnread integers unique Hex = ⊥
+IsUnread integers unique (Block fault) = ⊥
+IsUnread integers unique (Selector fault) = ⊥
+IsUnread integers unique Name = ⊥
