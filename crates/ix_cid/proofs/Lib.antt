@@ -13,3 +13,4 @@ pub mod Base32Laws
 pub mod HexText
 pub mod Texts
 pub mod Usual
+pub mod Words

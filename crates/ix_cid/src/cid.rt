@@ -1,6 +1,8 @@
 //! CIDs, seen as their bytes.
 
 ghost use Rattle.std.specs.Prelude.{◌≡◌, ◌<◌, ◌^◌, Ok, Err, Some, length, IfOk, IfSome, string_bytes};
+ghost use Rattle.std.specs.Cmp.Lexicographic.{slice_cmp};
+ghost use Rattle.std.specs.Ordering.{nat_cmp};
 
 use crate::fault::CidFault;
 use crate::parts::{Parts, numbered_length, split_parts};
@@ -167,6 +169,26 @@ impl Eq for Cid {
     ghost laws = { Prim.search (comparing, rules) };
 }
 
+// The order of bytes, eight at a time as one number. CIDs begin alike, and a tree of them compares many.
+fn order_of_bytes(left: &[u8], right: &[u8]) -> Ordering
+    ensures { result ≡ slice_cmp nat_cmp left.now right.now }
+{
+    match (left.split_first_chunk(), right.split_first_chunk()) {
+        (Some((front, more)), Some((other, rest))) => match order_of_words(front, other) {
+            Ordering::Equal => order_of_bytes(more, rest),
+            order => order,
+        },
+        _ => left.cmp(right),
+    }
+}
+
+// The order of eight bytes.
+fn order_of_words(left: &[u8; 8], right: &[u8; 8]) -> Ordering
+    ensures { result ≡ slice_cmp nat_cmp left.now right.now }
+{
+    u64::from_be_bytes(*left).cmp(&u64::from_be_bytes(*right))
+}
+
 impl Ord for Cid {
     ghost use Rattle.std.specs.Ordering.{nat_cmp};
     ghost use Rattle.std.proofs.Common.{rules};
@@ -182,7 +204,7 @@ impl Ord for Cid {
     ghost matches_eq = { Prim.search (comparing, rules) };
 
     fn cmp(&self, other: &Cid) -> Ordering {
-        self.bytes.as_slice().cmp(other.bytes.as_slice())
+        order_of_bytes(self.bytes.as_slice(), other.bytes.as_slice())
     }
 }
 
