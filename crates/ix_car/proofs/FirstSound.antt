@@ -155,16 +155,8 @@ sections-due store ks d place sound due =
     ∙ ap (λ b. sections_of store ks ++ (if b then d ∷ [] else [])) has)
     ∙ length-append (sections_of store ks) (d ∷ [])
 
--- what is due in each case
-pub due-cut_off : (store : Blocks) (ds : List Delivery) (d : Delivery) → is_below (cut_behind ds) d.visit.depth ≡ true → text_due store ds d ≡ []
-due-cut_off store ds d below = ap (λ b. if b then [] else text_behind store (kept ds) d) below
-
 due-kept : (store : Blocks) (ds : List Delivery) (d : Delivery) → is_below (cut_behind ds) d.visit.depth ≡ false → text_due store ds d ≡ text_behind store (kept ds) d
 due-kept store ds d uncut = ap (λ b. if b then [] else text_behind store (kept ds) d) uncut
-
-pub due-unsound : (store : Blocks) (ds : List Delivery) (d : Delivery) → is_below (cut_behind ds) d.visit.depth ≡ false → is_sound d.verdict ≡ false → text_due store ds d ≡ []
-due-unsound store ds d uncut unsound =
-    due-kept store ds d uncut ∙ ap (λ b. if b then (if is_told (kept ds) d.visit.cid then [] else section_of store d) else []) unsound
 
 no-text : (told : Bool) (place : Option ℕ) (text : List ℕ) → (place ≡ None → text ≡ []) → (if told then None else place) ≡ None → (if told then [] else text) ≡ []
 no-text true place text h none = refl

@@ -1,7 +1,7 @@
 -- Known bytes that grow, and parts of texts.
 use Rattle.std.proofs.Common.{◌≡◌, ℕ, ◌+◌, ◌<◌, ◌≤◌, List, [], ◌++◌, length, take, drop, sym, ap, ◌∙◌, subst, arith}
 use Rattle.std.specs.Prelude.{Option, Some, None}
-use Rattle.std.specs.Io.KnownBytes.{Appends, Keeps}
+use Rattle.std.specs.Io.KnownBytes.{Appends}
 use Rattle.std.proofs.lemmas.List.{append-nil, append_assoc, take-take, drop-take, take-append-drop, take-append-le, drop_at, length-drop}
 use Rattle.ix_car.specs.ArchiveMeaning.{IsProperPrefix}
 
@@ -16,13 +16,6 @@ appends-twice None b c x y h k = tt
 appends-twice (Some xs) None c x y h k = absurd h
 appends-twice (Some xs) (Some ys) None x y h k = absurd k
 appends-twice (Some xs) (Some ys) (Some zs) x y h k = k ∙ ap (λ l. l ++ y) h ∙ append_assoc xs x y
-
--- bytes that grow, and then stay
-pub appends-kept : (a b c : Option (List ℕ)) (x : List ℕ) → Appends a b x → Keeps b c → Appends a c x
-appends-kept None b c x h k = tt
-appends-kept (Some xs) None c x h k = absurd h
-appends-kept (Some xs) (Some ys) None x h k = absurd k
-appends-kept (Some xs) (Some ys) (Some zs) x h k = k ∙ h
 
 -- what known bytes are once they have grown
 pub appended : (xs text : List ℕ) (after : Option (List ℕ)) → Appends (Some xs) after text → after ≡ Some (xs ++ text)
@@ -47,10 +40,6 @@ appends-section a b c n m head block within whole h k =
     let same : length head ≡ n = omega arith in
     appends-turn a b c n m (head ++ block) (subst (λ l. Appends a b l) (sym (take-append-le n head block within)) h)
     (subst (λ l. Appends b c (take m l)) (sym (drop_at head block n same)) k)
-
--- a part of a head alone
-pub appends-head : (a b : Option (List ℕ)) (n : ℕ) (head block : List ℕ) → n ≤ length head → Appends a b (take n head) → Appends a b (take n (head ++ block))
-appends-head a b n head block within h = subst (λ l. Appends a b l) (sym (take-append-le n head block within)) h
 
 -- fewer bytes than a text has are a proper part of it
 pub proper-take : (n : ℕ) (text : List ℕ) → n < length text → IsProperPrefix (take n text) text

@@ -8,11 +8,6 @@ pub pushed : {X T E : Type 0} (r : Result T E) (b : Bool) (new old : List X) (x 
 pushed (Ok u) b new old x h e fine = h
 pushed (Err f) b new old x h e fine = absurd (false≢true (sym fine ∙ e))
 
--- and one that was
-pub unpushed : {X T E : Type 0} (r : Result T E) (b : Bool) (new old : List X) (x : X) → new ≡ (if is_ok r then old ++ x ∷ [] else old) → b ≡ is_err r → b ≡ true → new ≡ old
-unpushed (Ok u) b new old x h e wrong = absurd (false≢true (sym e ∙ wrong))
-unpushed (Err f) b new old x h e wrong = h
-
 -- what holds where a call is no error
 pub at-ok : {T E P : Type 0} (r : Result T E) (b : Bool) → OnOk r P → b ≡ is_err r → b ≡ false → P
 at-ok (Ok x) b h e fine = h

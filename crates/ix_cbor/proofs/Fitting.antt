@@ -40,14 +40,6 @@ pub map-fits : (n : ℕ) (es : Entries) → entry_count es < 2 ^ 64 → n ≢ 0 
 map-fits n es count above =
     (λ h. record { parts = h.parts.1; nesting = omega (arith, h.nesting); above = tt }, λ h. record { parts = (count, h.parts); nesting = omega (arith, h.nesting) })
 
--- the data of a byte string
-pub data_of-bytes : (v : Vec ℕ) → data_of (variants.Bytes v) ≡ bytes v.items
-data_of-bytes v = ap data_of (sym (rolls-Bytes v)) ∙ fold-roll-Node Data data_step (layer.Bytes v)
-
--- the data of a text
-pub data_of-text : (v : Vec ℕ) → data_of (variants.Text v) ≡ text v.items
-data_of-text v = ap data_of (sym (rolls-Text v)) ∙ fold-roll-Node Data data_step (layer.Text v)
-
 -- the data of a node with members
 pub data_of-list : (v : Vec Node) → data_of (variants.List v) ≡ list (node_items v.items)
 data_of-list v = ap data_of (sym (rolls-List v)) ∙ fold-roll-Node Data data_step (layer.List v)

@@ -1,9 +1,9 @@
 -- What stands behind items that are gone over.
 use Rattle.std.proofs.Common.{◌≡◌, ◌+◌, ◌<◌, ◌≤◌, ◌-◌, arith, ℕ, suc, List, [], ◌∷◌, length, refl, sym, ◌∙◌, ap}
-use Rattle.std.specs.Prelude.{Option, Some, None, Result, Ok, Err}
+use Rattle.std.specs.Prelude.{Option, Some, Result, Ok, Err}
 use Rattle.ix_cbor.specs.declared.fault.CborKind.TheVariants.{Rest}
-use Rattle.ix_cbor.specs.Data.{Data, Items, Entries, list, map}
-use Rattle.ix_cbor.specs.Reading.{Fault, Parse, ◌>>=◌, key_at, own_at, Own, list_of, map_of, items_at, entries_at, with_members, item_with, item_at, nothing_after}
+use Rattle.ix_cbor.specs.Data.{Data, Items, Entries}
+use Rattle.ix_cbor.specs.Reading.{Fault, Parse, ◌>>=◌, key_at, Own, items_at, entries_at, with_members, item_at, nothing_after}
 use Rattle.ix_cbor.specs.Fronts.{behind, behind_item, judged}
 use Rattle.ix_cbor.proofs.Steps.{with_item, items_behind, with_entry, entries_behind, value_behind}
 use Rattle.ix_cbor.proofs.Within.{item_within, err_within, ok_within}
@@ -35,20 +35,6 @@ item_over read count i b next whole lt e so_far =
     let k : count - i ≡ suc n = omega arith in
     let x = read_before (read b) next e in
     sym (past_item x.0 (items_at read n next)) ∙ ap (λ r. r >>= items_behind read n >>= behind) (sym x.1) ∙ ap (λ m. items_at read m b >>= behind) (sym k) ∙ so_far
-
--- a member can't be gone over
-pub item_stops : (read : Parse Data) (count i : ℕ) (b : List ℕ) (whole : Result (List ℕ) Fault) (f : Fault) → i < count → (read b >>= behind) ≡ Err f
-    → (items_at read (count - i) b >>= behind) ≡ whole → whole ≡ Err f
-item_stops read count i b whole f lt e so_far =
-    let n = count - (i + 1) in
-    let k : count - i ≡ suc n = omega arith in
-    sym so_far ∙ ap (λ m. items_at read m b >>= behind) k ∙ ap (λ r. r >>= items_behind read n >>= behind) (fault_before (read b) f e)
-
--- all members are gone over
-pub items_over : (read : Parse Data) (count i : ℕ) (b : List ℕ) (whole : Result (List ℕ) Fault) → count ≤ i → (items_at read (count - i) b >>= behind) ≡ whole → whole ≡ Ok b
-items_over read count i b whole le so_far =
-    let k : count - i ≡ 0 = omega arith in
-    sym so_far ∙ ap (λ m. items_at read m b >>= behind) k
 
 module _ (read : Parse Data) (last : Option (List ℕ)) (count i : ℕ) (b : List ℕ) (whole : Result (List ℕ) Fault) where
   -- one key and value more are gone over
@@ -86,28 +72,6 @@ module _ (read : Parse Data) (last : Option (List ℕ)) (count i : ℕ) (b : Lis
 -- what stands behind an item's own part and its members
 abbrev pub over : Option (Parse Data) → List ℕ → Own → List ℕ → Result (List ℕ) Fault
 over inner at own b = with_members inner at (own, b) >>= behind
-
--- an item by its own part
-pub item_by_own : (inner : Option (Parse Data)) (b rest : List ℕ) (own : Own) → own_at b ≡ Ok (own, rest) → (item_with inner b >>= behind) ≡ over inner b own rest
-item_by_own inner b rest own e = ap (λ r. r >>= with_members inner b >>= behind) e
-
--- the members of a list, and the keys and values of a map
-pub over_list : (read : Parse Data) (at : List ℕ) (n : ℕ) (b : List ℕ) → over (Some read) at (list_of n) b ≡ (items_at read n b >>= behind)
-over_list read at n b = members (items_at read n b) where
-  members : (r : Result (Items × List ℕ) Fault) → (r >>= (λ ds. Ok (list ds.0, ds.1)) >>= behind) ≡ (r >>= behind)
-  members (Ok x) = refl
-  members (Err f) = refl
-
-pub over_map : (read : Parse Data) (at : List ℕ) (n : ℕ) (b : List ℕ) → over (Some read) at (map_of n) b ≡ (entries_at read None n b >>= behind)
-over_map read at n b = members (entries_at read None n b) where
-  members : (r : Result (Entries × List ℕ) Fault) → (r >>= (λ es. Ok (map es.0, es.1)) >>= behind) ≡ (r >>= behind)
-  members (Ok x) = refl
-  members (Err f) = refl
-
--- a block whose item ends where the bytes do
-pub judged_done : (b next : List ℕ) → behind_item 512 b ≡ Ok next → length next ≡ 0 → judged b ≡ Ok tt
-judged_done b [] e h = let x = read_before (item_at 512 b) [] e in ap (λ r. r >>= nothing_after >>= (λ d. Ok tt)) x.1
-judged_done b (y ∷ next) e h = absurd (omega (arith, h))
 
 -- a block with bytes behind its item
 pub judged_more : (b next : List ℕ) → behind_item 512 b ≡ Ok next → 1 ≤ length next → judged b ≡ Err (record { kind = Rest; left = length next })

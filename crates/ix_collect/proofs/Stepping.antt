@@ -520,16 +520,6 @@ safe_on p events new failed refused d unclosed safe told none =
     may Failed e = tt
     may Stopped e = tt
 
--- an open sink
-pub open_of : (p : Progress) (events : List Event) (failed : List Delivery) → p.end ≡ None → IsSafe p events failed → IsOpen events
-open_of p events failed unclosed safe = let was : IsSafeAt None p.stage events failed = subst (λ (x : Option End). IsSafeAt x p.stage events failed) unclosed safe in was.0
-
-pub unfailed_of : (p : Progress) (events : List Event) (failed : List Delivery) → p.end ≡ None → p.stage ≡ Delivering → IsSafe p events failed → failed ≡ []
-unfailed_of p events failed unclosed at safe =
-    let was : IsSafeAt None p.stage events failed = subst (λ (x : Option End). IsSafeAt x p.stage events failed) unclosed safe in
-    let now : IsSafeAt None Delivering events failed = subst (λ (x : Stage). IsSafeAt None x events failed) at was in
-    now.1
-
 module _ (all : List Delivery) (over : Bool) where
   -- an item counts, and no close goes
   item_counts : (item : Verdicted) (t u : Tally) → IsItem all over item t u → (u.count ≡ 1 + t.count) × ((k : ℕ) → t.closes k ≤ u.closes k)

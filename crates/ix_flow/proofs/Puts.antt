@@ -32,9 +32,6 @@ pub close_is_allowed : AllowsCloses → (store : Blocks) (jobs : List JobMeaning
 close_is_allowed law store jobs n job end s at number course fits =
     subst (λ (k : List JobVisits). Allowed k (item.Close s.job s.next end)) (sym course) (subst (λ (m : ℕ). Allowed (course_of store jobs) (item.Close m s.next end)) (sym number) (law store jobs n s.next job end at fits))
 
-pub close_is_next : (end : End) (s t : JobView) (job seq : ℕ) → job ≡ s.job → seq ≡ s.next → Allowed s.hand.course (item.Close s.job s.next end) → IsNext s (item.Close job seq end)
-close_is_next end s t job seq a b allowed = (eq-eqb job s.job a, b, subst (λ (m : ℕ). Allowed s.hand.course (item.Close m seq end)) (sym a) (subst (λ (m : ℕ). Allowed s.hand.course (item.Close s.job m end)) (sym b) allowed))
-
 -- what a walk gives next is known
 pub given_is : (walk left : WalkLeft) (r s : Result Visit WalkStop) → GivesNext walk (Some r) left → r ≡ s → GivesNext walk (Some s) left
 given_is walk left r s g e = subst (λ (x : Result Visit WalkStop). GivesNext walk (Some x) left) e g

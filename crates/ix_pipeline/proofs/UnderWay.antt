@@ -251,10 +251,6 @@ limits store number job walk left state before told u g =
     on_end store number job state Limit u.given before told u.on (all_given store number job walk state before told u g.1) u.pairs
     (λ (m : ℕ) all failed. (all, sym u.limited ∙ g.2, failed)) (λ (e : Limit ≡ Start). cc)
 
--- there was no memory for the walk
-pub unwalked : (store : Blocks) (number : ℕ) (job : JobMeaning) (before : List (ℕ × ℕ)) (told : Told) → told.events ≡ [] → told.failed ≡ [] → told.pairs ≡ before → IsWalked store number job Memory before told
-unwalked store number job before told events failed pairs = on_memory store number job Taking 0 0 before told (events, failed) (omega arith) (omega arith) (pairs ∙ sym (append-nil before))
-
 -- the sink of a walked job may be closed
 pub open_walked : (store : Blocks) (number : ℕ) (job : JobMeaning) (end : End) (before : List (ℕ × ℕ)) (told : Told) → IsWalked store number job end before told → IsOpen told.events
 open_walked store number job end before told w = subst (λ (l : List Event). IsOpen l) (sym w.events) (open_deliveries (take w.count (judged_visits store number job)))

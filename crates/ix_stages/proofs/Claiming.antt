@@ -255,10 +255,3 @@ claimed_at {T} me n w false is c below = let above : length me.0.values ≤ n = 
 
 pub claimed_below : {T : Type 0} (me : Me (Option T) (ClaimView T)) (n : ℕ) (w : Me (Option T) (ClaimView T)) → Draws me n w → n < length me.0.values → (x : T) × (slice_get me.0.values n ≡ Some x) × (w ≡ (gains me.0 n, (n, Some x) ∷ me.1))
 claimed_below me n w c below = claimed_at me n w (nat_lt n (length me.0.values)) refl c below
-
--- a number that has no value is a refusal
-pub refused_above : {T : Type 0} (me : Me (Option T) (ClaimView T)) (n : ℕ) (w : Me (Option T) (ClaimView T)) → Draws me n w → length me.0.values ≤ n → w ≡ (refused me.0, me.1)
-refused_above {T} me n w c above =
-    let P : Bool → Type 0 = λ b. MatchBool b ((x : T) × (slice_get me.0.values n ≡ Some x) × (w ≡ (gains me.0 n, (n, Some x) ∷ me.1))) (w ≡ (refused me.0, me.1)) in
-    let is : nat_lt n (length me.0.values) ≡ false = grind (arith, nat_tests) in
-    subst P is c

@@ -88,10 +88,6 @@ next_hand v j n (item.Close k m e) h is seq may =
     }
 next_hand v j n item.Stop h is seq may = absurd (true≢false (sym is))
 
--- what may not be put twice leaves room for the next number
-pub next_fits : (v : Hand) (j n : ℕ) (x : Item) → IsJobHand v j n false → n ≤ 1000000
-next_fits v j n x h = let a = h.small.0 in let b = h.small.1 in omega (arith, a, b)
-
 -- a Stop is of no job
 pub may_stop : (v : Hand) → v.blank ≡ false → 0 < v.parts → v.job ≡ None → MayPut v item.Stop
 may_stop v live part none = record { live = live; part = part; allowed = tt; own = λ j e. absurd (true≢false (sym e)); mine = λ j e. (let q : ⊥ = cc (none, e) in absurd q) }
@@ -100,11 +96,6 @@ pub next_one : (j n : ℕ) (x : Item) → is_of j x ≡ true → closed_after x 
 next_one j n (item.Visit v) is stays = refl
 next_one j n (item.Close k m e) is stays = absurd (true≢false stays)
 next_one j n item.Stop is stays = absurd (true≢false (sym is))
-
-pub next_same : (n : ℕ) (x : Item) → closed_after x ≡ true → next_after n x ≡ n
-next_same n (item.Visit v) shut = absurd (true≢false (sym shut))
-next_same n (item.Close k m e) shut = refl
-next_same n item.Stop shut = absurd (true≢false (sym shut))
 
 pub IsCourse-at : (c : List JobVisits) (j : ℕ) → IsCourse c → length (course_visits c j) ≤ 1000000
 IsCourse-at [] j h = omega arith

@@ -49,10 +49,6 @@ no_data false = (refl, refl)
 pub read_absent : (store : Blocks) (c : List ℕ) → None ≡ position_of store c → IsReading store c None false
 read_absent store c e = let k : block_of store c ≡ None = none_behind 0 store c e in rw k (no_data (is_walkable c))
 
--- a CID into which a walk may not go
-pub read_apart : (store : Blocks) (c : List ℕ) → is_walkable c ≡ false → IsReading store c None false
-read_apart store c w = rw w (refl, refl)
-
 -- a block that spells data
 spelled : (store : Blocks) (c b : List ℕ) (d : Data) → is_walkable c ≡ true → block_of store c ≡ Some b → decoded b ≡ Ok d → (value_of store c ≡ Some d) × (false ≡ is_malformed store c)
 spelled store c b d w k g = rw (w, k, g) (refl, refl)

@@ -3,8 +3,7 @@ use Rattle.std.proofs.Common.{◌≡◌, ◌⊎◌, ℕ, zero, suc, ◌+◌, ◌
 use Rattle.std.specs.Prelude.{Option, bytes_eq, not}
 use Rattle.std.proofs.Math.Dec.{eqb}
 use Rattle.std.specs.Option.{is_some, unwrap_or}
-use Rattle.std.specs.BTreeMap.{BTreeMap, get, is_at}
-use Rattle.std.specs.Map.{lookup}
+use Rattle.std.specs.BTreeMap.{BTreeMap, get}
 use Rattle.std.specs.Cmp.Lexicographic.{slice_cmp}
 use Rattle.std.specs.Ordering.{nat_cmp}
 use Rattle.std.proofs.lemmas.Bool.{cases_Bool, ltb-true, ltb-false, false≢true, eq-eqb, ne_eqb}
@@ -272,16 +271,6 @@ indexed-put index later es k s p h at slots puts stood =
           (cases_Bool (bytes_eq k c));
     }
 
--- an index under another table
-pub indexed-table : (index later : Index) (es : Blocks) → IsIndexed index es → later.behind ≡ index.behind → AreLedTo later.slots.items index es → IsIndexed later es
-indexed-table index later es h behind led =
-    let same : (c : List ℕ) → place_behind later c ≡ place_behind index c = λ c. ap (λ (m : BTreeMap (List ℕ) ℕ). get (slice_cmp nat_cmp) m c) behind in
-    record {
-      distinct = h.distinct;
-      leads = λ c p is. subst (λ (o : Option ℕ). Leads (window_of later.slots.items (tail_of c)) o (tail_of c) p) (sym (same c)) (led c p is);
-      true_behind = λ c p is. h.true_behind c p (sym (same c) ∙ is);
-    }
-
 -- the index with the new place in a slot
 pub indexed-slot : (index later : Index) (es : Blocks) (k b : List ℕ) (at : ℕ) → IsIndexed index es → position_of es k ≡ None → AtFirst index.slots.items (tail_of k) at → later.slots.items ≡ set index.slots.items at (Taken (tail_of k) (length es)) → later.behind ≡ index.behind → IsIndexed later (es ++ (k, b) ∷ [])
 indexed-slot index later es k b at h new first slots behind =
@@ -363,10 +352,6 @@ indexed-same index later es h slots same = record {
 -- a slot to which a place goes is the first free one of its window
 pub free-at : (slots : List Slot) (u slot : ℕ) → IsFreeSlot slots u slot → AtFirst slots u slot
 free-at slots u slot v = at-first slots u slot v.0 v.1 v.2
-
--- trees with the same entries have the same places
-pub same-behind : (m n : BTreeMap (List ℕ) ℕ) (c : List ℕ) → n.entries ≡ m.entries → get (slice_cmp nat_cmp) n c ≡ get (slice_cmp nat_cmp) m c
-same-behind m n c same = ap (λ (es : List (List ℕ × ℕ)). lookup (is_at (slice_cmp nat_cmp c)) es) same
 
 -- slots that are all taken up to the last
 pub taken-all : (l : List Slot) (n : ℕ) → AreTaken (take n l) → length l ≤ n → AreTaken l

@@ -1,6 +1,6 @@
 -- An open list or map, gone through child by child.
 use Rattle.std.proofs.Common.{◌≡◌, ℕ, zero, suc, ◌+◌, ◌-◌, ◌<◌, ◌≤◌, Bool, true, false, List, [], ◌++◌, refl, sym, ◌∙◌, ap, subst, arith}
-use Rattle.std.specs.Prelude.{Option, Some, None, Result, Ok, Err, OnOk, is_some, nat_lt, if◌then◌else◌, ◌==◌}
+use Rattle.std.specs.Prelude.{Option, Some, None, Result, Ok, Err, is_some, nat_lt, if◌then◌else◌, ◌==◌}
 use Rattle.std.proofs.lemmas.Bool.Decides.{nat_tests}
 use Rattle.ix_cbor.specs.Data.{Data, Items, Entries, item, entry, no_items, no_entries}
 use Rattle.ix_cbor.specs.Reading.{Fault, ◌>>=◌, item_at, items_at, entries_at, key_at}
@@ -238,11 +238,6 @@ value_item (suc left) b k v some p named =
     let f = first_entry left b i.0.0 i.0.1 i.1 in
     let same : (k, v) ≡ (f.name, f.value) = ok_same (k, v) (f.name, f.value) (sym named ∙ f.named) in
     ((f.head, f.middle), ap (item_at 512) (ap (λ (x : List ℕ × List ℕ). x.1) same) ∙ f.here)
-
--- in the words of the calls
-pub on_ok : {E : Type 0} (r : Result (Unit {0}) E) (P Q : Type 0) → (P → Q) → OnOk r P → OnOk r Q
-on_ok (Ok u) P Q f h = f h
-on_ok (Err e) P Q f h = tt
 
 -- ---- the children in turn
 

@@ -1,6 +1,6 @@
 -- A store with one pair more, and where its pairs stand.
 use Rattle.std.proofs.Common.{◌≡◌, ℕ, zero, suc, ◌+◌, Bool, true, false, ◌||◌, cond, List, [], ◌∷◌, ◌++◌, length, take, drop, ◌<◌, map, get_or, slice_get, option_map, Some, None, bytes_eq, refl, sym, ap, subst, ◌∙◌, zero-add, arith, inl, inr, ⊎_elim}
-use Rattle.std.specs.Prelude.{Option, Result, Ok, Err, OnOk, OnErr}
+use Rattle.std.specs.Prelude.{Result, Ok, Err, OnOk}
 use Rattle.std.specs.Result.{is_err}
 use Rattle.std.specs.Option.{is_some}
 use Rattle.std.proofs.lemmas.Bool.{false≢true, cases_Bool, false_from_ne_true}
@@ -167,15 +167,6 @@ position-none n [] c h = refl
 position-none n (e ∷ es) c h =
     ap (λ v. cond v (Some n) (position_behind (n + 1) es c)) (or-left (bytes_eq e.0 c) (has_cid es c) h) ∙ position-none (n + 1) es c (or-right (bytes_eq e.0 c) (has_cid es c) h)
 
--- whether a CID has a place tells whether it is there
-pub has-by_place : (items entries : List Entry) (now : Blocks) (c : List ℕ) (o : Option ℕ) → items ≡ entries → map pair entries ≡ now → position_of (map pair items) c ≡ o → has_cid now c ≡ is_some o
-has-by_place items entries now c o same is at =
-    ap (λ (l : Blocks). has_cid l c) (sym is ∙ ap (λ (l : List Entry). map pair l) (sym same)) ∙ sym (is_some-position 0 (map pair items) c) ∙ ap (λ (p : Option ℕ). is_some p) at
-
--- nothing is added where the CID is there
-pub with-held : (now : Blocks) (c b : List ℕ) → has_cid now c ≡ true → now ≡ with_block now (c, b)
-with-held now c b h = ap (λ v. cond v now (now ++ (c, b) ∷ [])) (sym h)
-
 -- where it isn't, the pair of one entry more is
 pub with-new : (entries kept later : List Entry) (now : Blocks) (e : Entry) → map pair entries ≡ now → kept ≡ entries → later ≡ kept ++ e ∷ [] → has_cid now e.cid ≡ false → map pair later ≡ with_block now (e.cid, content e.block)
 with-new entries kept later now e is same longer h =
@@ -187,8 +178,3 @@ with-new entries kept later now e is same longer h =
 pub holds-at_ok : {T E P : Type 0} (r : Result T E) → OnOk r P → is_err r ≡ false → P
 holds-at_ok (Ok x) h fine = h
 holds-at_ok (Err e) h fine = absurd (false≢true (sym fine))
-
--- what holds on Err holds there
-pub holds-at_err : {T E P : Type 0} (r : Result T E) → OnErr r P → is_err r ≡ true → P
-holds-at_err (Ok x) h failed = absurd (false≢true failed)
-holds-at_err (Err e) h failed = h

@@ -1,6 +1,6 @@
 -- What a walk gives next.
 use Rattle.std.proofs.Common.{◌≡◌, ℕ, zero, suc, ◌+◌, ◌-◌, ◌<◌, ◌≤◌, true, false, List, [], ◌∷◌, ◌++◌, length, take, refl, sym, ◌∙◌, ap, subst, arith}
-use Rattle.std.specs.Prelude.{Some, None, Ok, Err, nat_lt}
+use Rattle.std.specs.Prelude.{Some, Ok, Err, nat_lt}
 use Rattle.std.proofs.lemmas.Bool.Decides.{nat_tests}
 use Rattle.ix_walk.specs.declared.subtree.Found.{Found}
 use Rattle.ix_walk.specs.declared.visit.Visit.{Visit}
@@ -16,27 +16,11 @@ use Rattle.ix_walk.specs.Descent.{IsFound, Finds}
 use Rattle.ix_walk.specs.Arriving.{IsArrived, Arrives}
 use Rattle.ix_selector.specs.Residual.{residual_enters}
 
-no_visits : (store : Blocks) (number given n : ℕ) → visits_from store number given (take n []) ≡ []
-no_visits store number given zero = refl
-no_visits store number given (suc n) = refl
-
-lt_zero : (n : ℕ) → nat_lt n 0 ≡ false
-lt_zero n = grind (arith, nat_tests)
-
 zero_lt : (n : ℕ) → nat_lt 0 (suc n) ≡ true
 zero_lt n = grind (arith, nat_tests)
 
 lt_suc : (m l : ℕ) → nat_lt m l ≡ nat_lt (suc m) (suc l)
 lt_suc m l = grind (arith, nat_tests)
-
--- nothing is left
-pub takes_none : (store : Blocks) (number limit given : ℕ) (old new : List Subtree) → IsFound old None new → GivesNext (walk_left store number limit given old false) None nothing_left
-takes_none store number limit given old new finds =
-    let e : all_arrivals (value_of store) limit old ≡ [] = finds.arrivals (value_of store) limit ∙ ap (all_arrivals (value_of store) limit) finds.ends in (
-      ap (λ (z : List Arrival). visits_from store number given (take (limit - given) z)) e ∙ no_visits store number given (limit - given),
-      ap (λ (z : List Arrival). nat_lt (limit - given) (length z)) e ∙ lt_zero (limit - given),
-      refl,
-    )
 
 -- an arrival is left, and no visit
 limit_with : (store : Blocks) (number limit given : ℕ) (old : List Subtree) (a : Arrival) (rest : List Arrival) → given ≡ limit → all_arrivals (value_of store) limit old ≡ a ∷ rest
@@ -83,12 +67,6 @@ first_visit store number limit given old mid new f v lt deep finds arrives =
     visit_with store number limit given old new (arrival f.depth f.cid) v lt arrives.visit (finds.arrivals (value_of store) limit ∙ arrives.arrivals limit low)
 
 -- ---- the same of a trail
-
--- nothing is left on it
-pub trail_none : (store : Blocks) (number limit given : ℕ) (old new : Trail) → IsWalk limit given old → Finds old None new → GivesNext (walk_left store number limit given (subtrees old) false) None nothing_left
-trail_none store number limit given old new is finds =
-    let f = finds is.1 is.2 in
-    subst (λ z. GivesNext (walk_left store number limit given z false) None nothing_left) (sym (subtrees_are old is.1 is.2)) (takes_none store number limit given is.1 f.0 f.2)
 
 pub trail_limit : (store : Blocks) (number limit given : ℕ) (old new : Trail) (f : Found) → given ≡ limit → IsWalk limit given old → Finds old (Some f) new
     → GivesNext (walk_left store number limit given (subtrees old) false) (Some (Err Limit)) nothing_left

@@ -1,4 +1,4 @@
-use Rattle.std.proofs.Common.{◌≡◌, ◌⊎◌, length, map, sym, ◌∙◌, ap, subst, List, Bor, inl, inr, arith}
+use Rattle.std.proofs.Common.{◌≡◌, ◌⊎◌, length, map, sym, ◌∙◌, ap, subst, Bor, inl, inr, arith}
 use Rattle.std.specs.Io.KnownBytes.{Keeps}
 use Rattle.std.specs.Slice.Iter.{iter_rest}
 use Rattle.std.specs.Vec.Iter.{into_iter_items}

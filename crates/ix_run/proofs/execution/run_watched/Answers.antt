@@ -1,4 +1,4 @@
-use Rattle.std.proofs.Common.{◌≡◌, sym, ◌∙◌, ap, subst, length, map}
+use Rattle.std.proofs.Common.{◌≡◌, sym, ◌∙◌, ap, length, map}
 use Rattle.std.specs.Arc.{arc_value}
 use Rattle.ix_jobs.specs.Report.{report_of, status_of}
 use Rattle.ix_run.proofs.Runs.{run-length}

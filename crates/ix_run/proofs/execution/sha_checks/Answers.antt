@@ -1,4 +1,4 @@
-use Rattle.std.proofs.Common.{◌+◌, ◌∙◌, ap, sym, subst, arith, ℕ, List}
+use Rattle.std.proofs.Common.{◌+◌, ◌∙◌, ap, sym, subst, ℕ, List}
 use Rattle.ix_pipeline.specs.Headline.{EachUnused}
 use Rattle.ix_run.proofs.Runs.{unused_push}
 use Rattle.ix_run.proofs.execution.sha_checks.Goals as goal
