@@ -12,8 +12,6 @@ mod queue;
 mod rule;
 mod seats;
 mod settle;
-#[cfg(test)]
-mod tests;
 mod verdicted;
 mod verifier;
 mod waiting;

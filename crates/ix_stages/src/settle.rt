@@ -27,7 +27,13 @@ fn join_job(line: &Line, pass: &mut Pass<Item, Hand>, seat: JobSeat)
     ensures part { seat.hand.parts ≡ 1 }
     ensures taken { seat.hand.taken ≡ [] }
 {
-    let JobSeat { pass: other, .. } = seat;
+    // Each field is named: a seat has no lock.
+    let JobSeat {
+        pass: other,
+        job: _,
+        next: _,
+        closed: _,
+    } = seat;
     line.absorb::<Joins>(pass, other);
 }
 
