@@ -1,24 +1,19 @@
 //! `ix_export`: cuts subgraphs out of CARv1 files.
 #![tactic(auto)]
 
-mod failure;
-mod files;
-mod outputs;
-mod progress;
 mod words;
 
 ghost use Rattle.std.specs.Prelude.{◌≡◌, ◌≤◌, length};
 ghost use Rattle.std.specs.Arc.{arc_value};
 
 use clap::ArgMatches;
-use failure::Failure;
-use files::{read_all, read_file, stand_in};
+use ix_files::{
+    Failure, Progress, make_outputs, name_outputs, read_all, read_file, remove_outputs, stand_in,
+};
 use ix_notation::{hex_of_json, json_of_hex};
 use ix_pipeline::Plan;
 use ix_run::{RunFault, RunOut, load, printed_root, root_of_text, run, run_watched};
 use ix_walk::{Job, Store};
-use outputs::{make_outputs, name_outputs, remove_outputs};
-use progress::Progress;
 use std::io::Write;
 use std::process::ExitCode;
 use std::rt::{Env, Files};

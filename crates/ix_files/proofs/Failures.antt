@@ -2,8 +2,8 @@
 use Rattle.std.proofs.Common.{◌≡◌, refl, ℕ, List, inr}
 use Rattle.std.specs.Prelude.{String, string_bytes}
 use Rattle.std.specs.Global.{Global}
-use Rattle.ix_export.specs.declared.failure.Failure.{Failure}
-use Rattle.ix_export.specs.Failure.{Names, NamesFile}
+use Rattle.ix_files.specs.declared.failure.Failure.{Failure}
+use Rattle.ix_files.specs.Failure.{Names, NamesFile}
 
 pub named : (told : String Global → Failure) (path : List ℕ) (name : String Global) → string_bytes name ≡ path → Names told path (told name)
 named told path name same = inr (record { name = name; named = same; told_is = refl })

@@ -1,7 +1,7 @@
 use Rattle.std.proofs.Common.{◌≡◌, ◌<◌, sym, subst, length, arith}
 use Rattle.std.specs.Prelude.{IfSome}
-use Rattle.ix_export.proofs.Inputs.{whole_read}
-use Rattle.ix_export.proofs.files.read_all.Goals as goal
+use Rattle.ix_files.proofs.Inputs.{whole_read}
+use Rattle.ix_files.proofs.files.read_all.Goals as goal
 
 pub returns-in-Ok-2-clause-whole : goal.returns-in-Ok-2-clause-whole
 returns-in-Ok-2-clause-whole g c =

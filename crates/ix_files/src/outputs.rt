@@ -4,7 +4,7 @@
 //! has ended. So a file under its final name is one that some report told.
 
 ghost use Rattle.std.specs.Prelude.{◌≡◌, length, IfOk, IfErr, string_bytes};
-ghost use Rattle.ix_export.specs.Failure.{output_path, IsFailureOf, IsOutputFailure};
+ghost use Rattle.ix_files.specs.Failure.{output_path, IsFailureOf, IsOutputFailure};
 
 use crate::failure::Failure;
 use ix_car::End;

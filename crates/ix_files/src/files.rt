@@ -1,7 +1,7 @@
 //! Files, as they are read.
 
 ghost use Rattle.std.specs.Prelude.{◌≡◌, ◌≤◌, length, IfOk, IfErr, IfSome};
-ghost use Rattle.ix_export.specs.Failure.{IsInputFailure};
+ghost use Rattle.ix_files.specs.Failure.{IsInputFailure};
 
 use crate::failure::Failure;
 use std::alloc::Global;

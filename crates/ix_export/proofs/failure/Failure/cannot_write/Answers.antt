@@ -1,7 +1,0 @@
-use Rattle.std.proofs.Common.{rules}
-use Rattle.ix_export.specs.declared.failure.Failure.TheVariants.{CannotWrite}
-use Rattle.ix_export.proofs.Failures.{named_file}
-use Rattle.ix_export.proofs.failure.Failure.cannot_write.Goals as goal
-
-pub returns-in-Ok : goal.returns-in-Ok
-returns-in-Ok c = named_file (λ x. CannotWrite x) c.args.path.now c.in-Ok.path _ c.in-Ok.ensures.ok (search rules)
