@@ -138,8 +138,8 @@ def tree(car, size, node):
     return cids
 
 
-def small(car, size, chance):
-    """Small maps and lists with few links: one job over all."""
+def small_tree(car, size, chance):
+    """Small maps and lists with few links."""
 
     def node(links, place):
         number = integer(chance.getrandbits(40))
@@ -148,7 +148,21 @@ def small(car, size, chance):
         named = dict(zip(("left", "right", "up", "down"), links))
         return map_of({"place": integer(place), "number": number, **named})
 
-    return [job("small", tree(car, size, node)[0], ALL)]
+    return tree(car, size, node)
+
+
+def small(car, size, chance):
+    """Small maps and lists with few links: one job over all."""
+    return [job("small", small_tree(car, size, chance)[0], ALL)]
+
+
+def parts(car, size, chance):
+    """The blocks of `small`, and sixteen jobs, one over each of the subtrees on its third level: each block but
+    the first five is in one job."""
+    if size < 21:
+        raise SystemExit("the size of the workload parts is 21 or more")
+    cids = small_tree(car, size, chance)
+    return [job(f"part-{number}", cids[5 + number], ALL) for number in range(16)]
 
 
 def deep(car, size, chance):
@@ -249,7 +263,7 @@ def bucket_cids(car, size, chance):
     return under_digests(car, size, lambda: chance.randbytes(24) + middle + chance.randbytes(4))
 
 
-MAKERS = (leaves, small, deep, shared, nested, hostile, random_cids, prefix_cids, bucket_cids)
+MAKERS = (leaves, small, parts, deep, shared, nested, hostile, random_cids, prefix_cids, bucket_cids)
 WORKLOADS = {make.__name__.replace("_", "-"): make for make in MAKERS}
 
 

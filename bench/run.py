@@ -19,6 +19,7 @@ PROGRAM = TOP / "crates/ix_export/out/ix_export"
 SIZES = {
     "leaves": 1_000,
     "small": 200_000,
+    "parts": 200_000,
     "deep": 200_000,
     "shared": 10_000,
     "nested": 220_000,
