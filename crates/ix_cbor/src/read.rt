@@ -16,7 +16,7 @@ use ix_cid::Cid;
 use std::alloc::{AllocError, AllocFailed, Global};
 
 // A fault, and how many bytes there are from its place to the end.
-#[derive(Debug, Drop)]
+#[derive(Drop)]
 pub(crate) struct Stop {
     pub kind: CborKind,
     pub left: usize,

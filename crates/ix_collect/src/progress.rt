@@ -15,7 +15,7 @@ use ix_stages::Verdicted;
 use std::alloc::{AllocError, Global};
 
 /// What becomes of the visits of a job that are next.
-#[derive(Debug, Drop, Clone, Copy, PartialEq, Eq)]
+#[derive(Drop, Clone, Copy, PartialEq, Eq)]
 pub(crate) enum Stage {
     /// They are delivered.
     Delivering,
@@ -26,7 +26,7 @@ pub(crate) enum Stage {
 }
 
 /// The close of a job's walk.
-#[derive(Debug, Drop, Clone, Copy)]
+#[derive(Drop, Clone, Copy)]
 pub(crate) struct WalkEnd {
     pub(crate) seq: u32,
     pub(crate) end: End,

@@ -6,7 +6,7 @@ ghost use Rattle.ix_pipeline.specs.Progress.{end_on};
 use ix_car::End;
 
 /// What becomes of the visits of a job that are still to come.
-#[derive(Debug, Drop, Clone, Copy, PartialEq, Eq)]
+#[derive(Drop, Clone, Copy, PartialEq, Eq)]
 pub(crate) enum SinkState {
     /// They are checked, and delivered with their verdicts.
     Taking,

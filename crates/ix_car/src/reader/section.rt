@@ -9,7 +9,7 @@ use ix_cid::{Cid, CidFault, VarintFault, read_varint};
 use std::alloc::Global;
 
 // What is wrong, and how many bytes there are from its place to the end.
-#[derive(Debug, Drop)]
+#[derive(Drop)]
 pub(super) struct Stop {
     pub(super) kind: CarKind,
     pub(super) left: usize,
