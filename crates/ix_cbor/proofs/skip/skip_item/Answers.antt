@@ -1,4 +1,4 @@
-use Rattle.std.proofs.Common.{length}
+use Rattle.std.proofs.Common.{rules, length}
 use Rattle.ix_cbor.specs.Fronts.{behind_item}
 use Rattle.ix_cbor.proofs.Places.{answered}
 use Rattle.ix_cbor.proofs.Skips.{skip_within}
@@ -11,3 +11,6 @@ pub returns-in-Err : goal.returns-in-Err
 returns-in-Err c =
     let b = c.args.bytes.now in
     answered (length b) (behind_item 512 b) c.in-Err.stop.kind c.in-Err.stop.left c.within.result (skip_within b _ c.in-Err.ensures) c.within.ensures c.in-Err.ensures
+
+pub returns-in-Ok : goal.returns-in-Ok
+returns-in-Ok c = search rules

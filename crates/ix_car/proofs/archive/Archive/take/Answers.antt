@@ -1,4 +1,4 @@
-use Rattle.std.proofs.Common.{◌≡◌, false, true, sym, subst, ◌∙◌}
+use Rattle.std.proofs.Common.{rules, ◌≡◌, false, true, sym, subst, ◌∙◌}
 use Rattle.std.specs.Prelude.{None}
 use Rattle.ix_car.specs.Kept.{is_below, kept}
 use Rattle.ix_car.specs.Archive.{is_sound}
@@ -14,3 +14,6 @@ returns-in-None g c =
     let sound : is_sound d.verdict ≡ true = sym c.is_sound.ensures ∙ c.if-not-is_sound.false in
     let none : place_due a.store (kept a.deliveries) d.visit.cid ≡ None = sym c.place_due.ensures ∙ c.in-None.is in
     subst (λ t. IsAdded g.W.Write.contents d t a c.add_repeat.new.self) (sym (due-repeat a.store a.deliveries d uncut sound none)) c.add_repeat.ensures
+
+pub returns-then-is_cut_off : goal.returns-then-is_cut_off
+returns-then-is_cut_off g c = search rules
