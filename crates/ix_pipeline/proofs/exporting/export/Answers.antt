@@ -1,4 +1,4 @@
-use Rattle.std.proofs.Common.{List, subst}
+use Rattle.std.proofs.Common.{rules, List, subst}
 use Rattle.std.specs.Arc.{arc_value}
 use Rattle.std.specs.Global.{Vec}
 use Rattle.ix_walk.specs.Store.{Blocks}
@@ -19,3 +19,6 @@ returns-clause-archived g c =
     (subst (λ (v : Vec Job). EachDelivered g.S.Sink.events g.S.Sink.failed (arc_value c.args.store.now) 0 v.items ends sinks) c.deref-4.ensures
     (subst (λ (s : Blocks). EachDelivered g.S.Sink.events g.S.Sink.failed s 0 c.deref-4.result.now.items ends sinks) c.deref-3.ensures
     (subst (λ (js : List JobMeaning). EachDelivered g.S.Sink.events g.S.Sink.failed c.deref-3.result.now 0 js ends sinks) c.as_slice.ensures.value c.flow-checks.ensures.delivered)))
+
+pub returns-clause-checked : goal.returns-clause-checked
+returns-clause-checked g c = search rules
