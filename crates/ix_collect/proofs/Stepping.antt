@@ -10,8 +10,8 @@ use Rattle.ix_car.specs.Events.{Event, delivery, close, IsOpen}
 use Rattle.ix_car.specs.Faithful.{EndFits}
 use Rattle.ix_stages.specs.declared.verdicted.Verdicted.{Verdicted}
 use Rattle.ix_stages.specs.declared.verdicted.Verdicted.TheVariants as items
-use Rattle.ix_ring.specs.declared.ring.RingFault.{RingFault}
-use Rattle.ix_ring.specs.declared.ring.RingFault.TheVariants as faults
+use Rattle.ix_ring.specs.declared.fault.RingFault.{RingFault}
+use Rattle.ix_ring.specs.declared.fault.RingFault.TheVariants as faults
 use Rattle.ix_collect.specs.declared.progress.Progress.{Progress}
 use Rattle.ix_collect.specs.declared.progress.Stage.{Stage}
 use Rattle.ix_collect.specs.declared.progress.Stage.TheVariants.{Delivering, Failed, Stopped}

@@ -2,7 +2,7 @@
 use Rattle.std.proofs.Common.{◌≡◌, refl, ℕ, List, inr}
 use Rattle.std.specs.Prelude.{String, string_bytes}
 use Rattle.std.specs.Global.{Global}
-use Rattle.ix_files.specs.declared.failure.Failure.{Failure}
+use Rattle.ix_files.specs.declared.fault.Failure.{Failure}
 use Rattle.ix_files.specs.Failure.{Names, NamesFile}
 
 pub named : (told : String Global → Failure) (path : List ℕ) (name : String Global) → string_bytes name ≡ path → Names told path (told name)

@@ -5,8 +5,8 @@ use Rattle.clap.specs.Values.{kind_of}
 use Rattle.clap.specs.declared.error.Error.{Error}
 use Rattle.clap.specs.declared.error.kind.ErrorKind.TheVariants.{OutOfMemory, DisplayHelp, DisplayVersion}
 use Rattle.ix_walk.specs.JobMeaning.{JobMeaning}
-use Rattle.ix_files.specs.declared.failure.Failure.{Failure}
-use Rattle.ix_files.specs.declared.failure.Failure.TheVariants.{Usage, Words, Fault, CannotRead, TooLarge, CannotWrite}
+use Rattle.ix_files.specs.declared.fault.Failure.{Failure}
+use Rattle.ix_files.specs.declared.fault.Failure.TheVariants.{Usage, Words, Fault, CannotRead, TooLarge, CannotWrite}
 use Rattle.ix_run.specs.declared.fault.RunFault.TheVariants.{Memory}
 
 -- clap's refusal is told as it is, but for want of memory

@@ -3,7 +3,7 @@
 ghost use Rattle.std.specs.Prelude.{◌≡◌, ◌≤◌, length, IfOk, IfErr, IfSome};
 ghost use Rattle.ix_files.specs.Failure.{IsInputFailure};
 
-use crate::failure::Failure;
+use crate::fault::Failure;
 use std::alloc::Global;
 use std::fs::{self, OpenFile};
 use std::io::Read;

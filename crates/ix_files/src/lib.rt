@@ -2,12 +2,12 @@
 //! ends early.
 #![tactic(auto)]
 
-mod failure;
+mod fault;
 mod files;
 mod outputs;
 mod progress;
 
-pub use failure::Failure;
+pub use fault::Failure;
 pub use files::{StandIns, read_all, read_file, stand_in};
 pub use outputs::{make_outputs, name_outputs, remove_outputs};
 pub use progress::Progress;

@@ -13,12 +13,18 @@ use std::test::Fail;
 /// The selector of everything below.
 pub const ALL: &str = "a16152a2616ca1646e6f6e65a0623a3ea16161a1613ea16140a0";
 
+// The selector in hexadecimal.
+fn selector_of(alloc: Global, text: &str) -> Result<Selector, Fail> {
+    let block = hex::decode(alloc, text)?;
+    let tree = decode(alloc, block.as_slice())?;
+    Ok(Selector::read(alloc, &tree)?)
+}
+
 /// The job of a root, a selector in hexadecimal and a limit.
 pub fn job_at(alloc: Global, root: Cid, selector: &str, limit: u32) -> Result<Job, Fail>
     ensures { IfOk result (λ job. job.limit ≡ limit) }
 {
-    let tree = decode(alloc, hex::decode(alloc, selector)?.as_slice())?;
-    let selector = Selector::read(alloc, &tree)?;
+    let selector = selector_of(alloc, selector)?;
     let name = String::from_str(alloc, "a")?;
     Ok(Job::new(name, root, selector, limit)?)
 }

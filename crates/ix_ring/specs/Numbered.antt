@@ -1,8 +1,8 @@
 -- Items with numbers, as a ring holds them.
 use Rattle.std.specs.Prelude.{◌≡◌, ◌≤◌, ◌<◌, ℕ, zero, suc, ◌+◌, List, [], ◌∷◌, Option, Some, None, ◌==◌, if◌then◌else◌, refl}
 use Rattle.std.specs.Coded.{Coded, code_by, coded×, coded_list, coded_ℕ}
-use Rattle.ix_ring.specs.declared.ring.RingFault.{RingFault}
-use Rattle.ix_ring.specs.declared.ring.RingFault.TheVariants.{Passed, Far, Taken, Memory}
+use Rattle.ix_ring.specs.declared.fault.RingFault.{RingFault}
+use Rattle.ix_ring.specs.declared.fault.RingFault.TheVariants.{Passed, Far, Taken, Memory}
 
 -- the number that comes out next, and the items with their numbers
 pub record Numbered (T : Type 0) : Type 0 where

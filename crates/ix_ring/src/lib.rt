@@ -1,6 +1,8 @@
 //! Items by number, in a window that moves on.
 #![tactic(auto)]
 
+mod fault;
 mod ring;
 
-pub use ring::{Ring, RingFault};
+pub use fault::RingFault;
+pub use ring::Ring;

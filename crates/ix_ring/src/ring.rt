@@ -1,36 +1,15 @@
 //! Items by number, in a window that moves on.
 
-ghost use Rattle.std.specs.Prelude.{◌≡◌, ◌<◌, ◌≤◌, ◌+◌, ◌-◌, ℕ, [], length, slice_set, drop, IfOk, OnOk, OnErr, IfErr, MatchOption, MatchBool, None, Some, IsTrue, ◌↔◌};
-ghost use Rattle.ix_ring.specs.Numbered.{slot, found, IsHeldWithin, IsPlaced, IsRefused, IsMemory, IsPopped};
+ghost use Rattle.std.specs.Prelude.{◌≡◌, ◌<◌, ◌≤◌, ◌+◌, ◌-◌, ℕ, [], length, slice_set, drop, IfOk, OnOk, OnErr, IfErr, MatchOption, MatchBool, None, Some};
+ghost use Rattle.ix_ring.specs.Numbered.{slot, found, IsHeldWithin, IsPlaced, IsRefused, IsPopped};
 
+use crate::fault::RingFault;
 use circular_buffer::HeapCircularBuffer;
 use std::alloc::{AllocError, Global};
 use std::marker::Model;
 
 // How far above the next number an item may be placed.
 const REACH: u64 = 1_048_576;
-
-/// Why an item was not placed, with the item.
-#[derive(Debug, PartialEq, Eq, Drop)]
-pub enum RingFault<T> {
-    /// Its number is below the next one.
-    Passed(T),
-    /// Its number is 1,048,576 or more above the next one.
-    Far(T),
-    /// An item of that number is there.
-    Taken(T),
-    /// No memory was left.
-    Memory(T),
-}
-
-impl<T> RingFault<T> {
-    /// Whether no memory was left.
-    pub fn is_memory(&self) -> bool
-        ensures { IsTrue result ↔ IsMemory self.now }
-    {
-        matches!(self, RingFault::Memory(_))
-    }
-}
 
 /// Items by number. They go in in any order, and come out by their numbers from 0 on.
 ///

@@ -1,5 +1,6 @@
 -- What the command `root` exports.
-use Rattle.std.specs.Prelude.{ℕ, Bool, true, false, List, [], ◌∷◌, codes, Result, Ok}
+use Rattle.std.specs.Prelude.{◌≡◌, ℕ, Bool, true, false, List, [], ◌∷◌, ◌++◌, codes, Result, Ok, Some}
+use Rattle.std.specs.Global.{Vec}
 use Rattle.ix_selector.specs.Pattern.{matcher}
 use Rattle.ix_walk.specs.Store.{Blocks}
 use Rattle.ix_walk.specs.JobMeaning.{JobMeaning}
@@ -11,6 +12,7 @@ use Rattle.ix_car.specs.Archive.{archive_with}
 use Rattle.ix_car.specs.Reading.{Fault, ◌>>=◌, blocks_of}
 use Rattle.ix_car.specs.Gives.{IsFaultOf}
 use Rattle.ix_jobs.specs.declared.outcome.JobResult.{JobResult}
+use Rattle.ix_run.specs.Run.{EachRun}
 use Rattle.ix_run.specs.declared.fault.RunFault.{RunFault}
 use Rattle.ix_run.specs.declared.fault.RunFault.TheVariants as faults
 
@@ -39,6 +41,14 @@ abbrev pub is_whole : List JobResult → Bool
 is_whole [] = false
 is_whole (r ∷ []) = is_whole_end r.end
 is_whole (r ∷ s ∷ rs) = false
+
+-- what is told of a job that runs alone, and what was written to memory, from nothing on
+abbrev pub IsRunAlone : Blocks → JobMeaning → List JobResult → List (Vec ℕ) → Type 0
+IsRunAlone store job results archives = (empty : Vec ℕ) × (empty.items ≡ []) × EachRun (λ v. Some v.items) store 0 (job ∷ []) (empty ∷ []) results archives
+
+-- the last one
+abbrev pub IsLast : List (Vec ℕ) → Vec ℕ → Type 0
+IsLast archives archive = (before : List (Vec ℕ)) × (archives ≡ before ++ archive ∷ [])
 
 -- why a file is refused: the first fault of its blocks, or memory ran out
 abbrev pub IsRefusalOf : List ℕ → RunFault → Type 0

@@ -1,9 +1,9 @@
 //! The archive of one root.
 
-ghost use Rattle.std.specs.Prelude.{◌≡◌, IfOk, IfErr, Ok};
+ghost use Rattle.std.specs.Prelude.{◌≡◌, IfOk, IfErr, Ok, true};
 ghost use Rattle.ix_selector.specs.Pattern.{matcher};
 ghost use Rattle.ix_run.specs.declared.fault.RunFault.TheVariants.{Memory};
-ghost use Rattle.ix_run.specs.Root.{root_job, exported_from, is_whole, IsRefusalOf};
+ghost use Rattle.ix_run.specs.Root.{root_job, exported_from, is_whole, IsRunAlone, IsLast, IsRefusalOf};
 
 use crate::execution::run_jobs;
 use crate::fault::RunFault;
@@ -13,7 +13,7 @@ use ix_check::ShaCheck;
 use ix_cid::Cid;
 use ix_jobs::JobResult;
 use ix_selector::Selector;
-use ix_walk::Job;
+use ix_walk::{Job, Store};
 use std::alloc::Global;
 use std::slice;
 
@@ -28,22 +28,37 @@ pub fn export_root(alloc: Global, car: &[u8], root: Cid) -> Result<Vec<u8>, RunF
 {
     let store = read_car(alloc, car)?;
     let job = root_job(alloc, root)?;
+    let (results, archives) = run_alone(alloc, &store, &job)?;
+    whole_archive(results.as_slice(), archives)
+}
+
+// What is told of a job that runs alone, and what was written.
+fn run_alone(
+    alloc: Global,
+    store: &Store,
+    job: &Job,
+) -> Result<(Vec<JobResult>, Vec<Vec<u8>>), RunFault>
+    ensures ran { IfOk result (λ r. IsRunAlone store.now job.now r.0.items r.1.items) }
+    ensures memory { IfErr result (λ fault. fault ≡ Memory) }
+{
     let writers = vec![in alloc; Vec::new(alloc)]?;
     let mut check = ShaCheck::new(alloc);
     // A vector takes what it is given while there is memory.
-    let Ok((results, mut writers)) = run_jobs(
-        alloc,
-        &store,
-        slice::from_ref(&job),
-        writers,
-        &mut check,
-    ) else {
-        return Err(RunFault::Memory);
-    };
-    if !is_whole(results.as_slice()) {
+    match run_jobs(alloc, store, slice::from_ref(job), writers, &mut check) {
+        Ok(ran) => Ok(ran),
+        Err(_) => Err(RunFault::Memory),
+    }
+}
+
+// The archive of one job, where it is whole.
+fn whole_archive(results: &[JobResult], mut archives: Vec<Vec<u8>>) -> Result<Vec<u8>, RunFault>
+    ensures whole { IfOk result (λ archive. (is_whole results.now ≡ true) × IsLast archives.items archive) }
+    ensures memory { IfErr result (λ fault. fault ≡ Memory) }
+{
+    if !is_whole(results) {
         return Err(RunFault::Memory);
     }
-    match writers.pop() {
+    match archives.pop() {
         Some(archive) => Ok(archive),
         None => Err(RunFault::Memory),
     }

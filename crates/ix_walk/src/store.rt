@@ -93,21 +93,11 @@ impl Store {
         ensures added { OnOk result (self.new ≡ with_block self.old (cid, block.now)) }
         ensures err { OnErr result (self.new ≡ self.old) }
     {
-        self.index.make_room(self.alloc, self.entries.as_slice())?;
-        self.entries.reserve(1)?;
-        let mut copy = Vec::with_capacity(self.alloc, block.len())?;
-        let is_new = self.index.enter(self.alloc, self.entries.as_slice(), &cid)?;
-        if !is_new {
+        if self.find(&cid).is_some() {
             return Ok(false);
         }
-        if copy.extend_from_slice(block).is_err() {
-            unreachable!();
-        }
-        self.entries.push_reserved(Entry {
-            cid,
-            block: Block::Own(copy),
-        });
-        Ok(true)
+        let copy = Vec::from_slice(self.alloc, block)?;
+        self.add(cid, copy)
     }
 
     /// Where the block of a CID stands.

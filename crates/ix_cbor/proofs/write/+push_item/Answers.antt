@@ -1,3 +1,4 @@
+use Rattle.std.proofs.lemmas.Grind.{common_steps}
 use Rattle.std.proofs.Common.{rules, arith}
 use Rattle.ix_cbor.specs.declared.node.Node.TheFolds.{the_lemmas}
 use Rattle.ix_cbor.proofs.Pushed.{value-spellable, map-rising, list-pushed, map-pushed}
@@ -20,3 +21,45 @@ push_item-returns-in_ok-push_head-in-Map t c = record {
 pub push_item-push_entries-requires : goal.push_item-push_entries-requires
 push_item-push_entries-requires t c =
     (search (rules, the_lemmas), map-rising c.args.node.now c.in-Map.entries c.deref-in-Map.result.now c.in-Map.is c.deref-in-Map.ensures.value c.requires)
+
+pub push_item-push_int-requires : goal.push_item-push_int-requires
+push_item-push_int-requires t c = search (rules, the_lemmas)
+
+pub push_item-push_members-requires : goal.push_item-push_members-requires
+push_item-push_members-requires t c = search (rules, the_lemmas)
+
+pub push_item-returns-in-Null : goal.push_item-returns-in-Null
+push_item-returns-in-Null t c = search (rules, the_lemmas)
+
+pub push_item-returns-in-Bool-true : goal.push_item-returns-in-Bool-true
+push_item-returns-in-Bool-true t c = search (rules, the_lemmas)
+
+pub push_item-returns-in-Bool-false : goal.push_item-returns-in-Bool-false
+push_item-returns-in-Bool-false t c = search (rules, the_lemmas)
+
+pub push_item-returns-in-Int : goal.push_item-returns-in-Int
+push_item-returns-in-Int t c = search (rules, the_lemmas)
+
+pub push_item-returns-in-Bits64 : goal.push_item-returns-in-Bits64
+push_item-returns-in-Bits64 t c = search (rules, the_lemmas)
+
+pub push_item-returns-in-Bytes : goal.push_item-returns-in-Bytes
+push_item-returns-in-Bytes t c = search (rules, the_lemmas)
+
+pub push_item-returns-in-Text : goal.push_item-returns-in-Text
+push_item-returns-in-Text t c = search (rules, the_lemmas)
+
+pub push_item-returns-in-Link : goal.push_item-returns-in-Link
+push_item-returns-in-Link t c = search (rules, the_lemmas)
+
+pub push_entries-loop-key-preserved : goal.push_entries-loop-key-preserved
+push_entries-loop-key-preserved t c = grind (arith, common_steps)
+
+pub push_entries-returns : goal.push_entries-returns
+push_entries-returns t c = grind (arith, common_steps)
+
+pub push_members-loop-member-preserved : goal.push_members-loop-member-preserved
+push_members-loop-member-preserved t c = grind (arith, common_steps)
+
+pub push_members-returns : goal.push_members-returns
+push_members-returns t c = grind (arith, common_steps)

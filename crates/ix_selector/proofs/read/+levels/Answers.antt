@@ -1,4 +1,6 @@
-use Rattle.std.proofs.Common.{rules, ◌≡◌, map, ◌++◌, ◌∷◌, [], subst, sym, refl, ap, ◌∙◌, List, ℕ}
+use Rattle.std.proofs.lemmas.Grind.{common_steps}
+use Rattle.ix_selector.specs.declared.sel.Sel.TheFolds.{the_lemmas}
+use Rattle.std.proofs.Common.{arith, rules, ◌≡◌, map, ◌++◌, ◌∷◌, [], subst, sym, refl, ap, ◌∙◌, List, ℕ}
 use Rattle.std.specs.Prelude.{Ok}
 use Rattle.std.proofs.lemmas.List.{map_push}
 use Rattle.ix_cbor.specs.Data.{data_of}
@@ -50,3 +52,30 @@ selector_inside-returns-in_ok-fields_inside-in-Fields t c =
     ∙ ap (λ a. fields_read (selector_at c.args.levels a) (entries_data c.in-Fields.names.now) >>= (λ fs. Ok (fields fs))) (sym c.around_step-behind.ensures)
     ∙ ap (λ r. r >>= (λ fs. Ok (fields fs))) c.in_ok-fields_inside-in-Fields.ensures
     ∙ ap (λ s. Ok s) (sym (pattern_of-fields c.in_ok-fields_inside-in-Fields.field-0))
+
+pub selector_inside-returns-in-Matcher : goal.selector_inside-returns-in-Matcher
+selector_inside-returns-in-Matcher t c = search (rules, the_lemmas)
+
+pub selector_inside-returns-in_ok-boxed-in-All : goal.selector_inside-returns-in_ok-boxed-in-All
+selector_inside-returns-in_ok-boxed-in-All t c = search (rules, the_lemmas)
+
+pub selector_inside-returns-in_ok-boxed-in-Index : goal.selector_inside-returns-in_ok-boxed-in-Index
+selector_inside-returns-in_ok-boxed-in-Index t c = search (rules, the_lemmas)
+
+pub selector_inside-returns-in_ok-boxed-in-Range : goal.selector_inside-returns-in_ok-boxed-in-Range
+selector_inside-returns-in_ok-boxed-in-Range t c = search (rules, the_lemmas)
+
+pub selector_inside-returns-in_ok-boxed-in-Recursive : goal.selector_inside-returns-in_ok-boxed-in-Recursive
+selector_inside-returns-in_ok-boxed-in-Recursive t c = search (rules, the_lemmas)
+
+pub selector_inside-returns-in_ok-members_inside-in-Union : goal.selector_inside-returns-in_ok-members_inside-in-Union
+selector_inside-returns-in_ok-members_inside-in-Union t c = search (rules, the_lemmas)
+
+pub selector_inside-returns-in-Edge : goal.selector_inside-returns-in-Edge
+selector_inside-returns-in-Edge t c = search (rules, the_lemmas)
+
+pub fields_inside-returns-in_err-sel : goal.fields_inside-returns-in_err-sel
+fields_inside-returns-in_err-sel t c = grind (arith, common_steps)
+
+pub members_inside-returns-in_err-sel : goal.members_inside-returns-in_err-sel
+members_inside-returns-in_err-sel t c = grind (arith, common_steps)

@@ -82,3 +82,39 @@ spot_of-returns-in_ok-push_spots-in-Range-clause-free t c =
 pub spot_of-returns-in_ok-push_spots-in-Recursive-clause-free : goal.spot_of-returns-in_ok-push_spots-in-Recursive-clause-free
 spot_of-returns-in_ok-push_spots-in-Recursive-clause-free t c =
     one-free c.args.spots.now.items c.push_spots-in-Recursive.new.spots.items c.in_ok-push_spots-in-Recursive.field-0 c.in_ok-push_spots-in-Recursive.ensures.behind c.in_ok-push_spots-in-Recursive.ensures.last c.in_ok-push_spots-in-Recursive.ensures.grows.spots
+
+pub spot_of-push_spots-requires : goal.spot_of-push_spots-requires
+spot_of-push_spots-requires t c = search (rules, the_lemmas)
+
+pub spot_of-push_spots-requires-in-Index : goal.spot_of-push_spots-requires-in-Index
+spot_of-push_spots-requires-in-Index t c = search (rules, the_lemmas)
+
+pub spot_of-push_spots-requires-in-Range : goal.spot_of-push_spots-requires-in-Range
+spot_of-push_spots-requires-in-Range t c = search (rules, the_lemmas)
+
+pub spot_of-push_spots-requires-in-Recursive : goal.spot_of-push_spots-requires-in-Recursive
+spot_of-push_spots-requires-in-Recursive t c = search (rules, the_lemmas)
+
+pub spot_of-push_members-requires : goal.spot_of-push_members-requires
+spot_of-push_members-requires t c = search (rules, the_lemmas)
+
+pub spot_of-returns-in-Matcher-clause-spot : goal.spot_of-returns-in-Matcher-clause-spot
+spot_of-returns-in-Matcher-clause-spot t c = search (rules, the_lemmas)
+
+pub spot_of-returns-in_ok-push_spots-in-All-clause-spot : goal.spot_of-returns-in_ok-push_spots-in-All-clause-spot
+spot_of-returns-in_ok-push_spots-in-All-clause-spot t c = search (rules, the_lemmas)
+
+pub spot_of-returns-in_ok-push_spots-in-Index-clause-spot : goal.spot_of-returns-in_ok-push_spots-in-Index-clause-spot
+spot_of-returns-in_ok-push_spots-in-Index-clause-spot t c = search (rules, the_lemmas)
+
+pub spot_of-returns-in_ok-push_spots-in-Range-clause-spot : goal.spot_of-returns-in_ok-push_spots-in-Range-clause-spot
+spot_of-returns-in_ok-push_spots-in-Range-clause-spot t c = search (rules, the_lemmas)
+
+pub spot_of-returns-in_ok-push_spots-in-Recursive-clause-spot : goal.spot_of-returns-in_ok-push_spots-in-Recursive-clause-spot
+spot_of-returns-in_ok-push_spots-in-Recursive-clause-spot t c = search (rules, the_lemmas)
+
+pub spot_of-returns-in_ok-push_members-in-Union-clause-spot : goal.spot_of-returns-in_ok-push_members-in-Union-clause-spot
+spot_of-returns-in_ok-push_members-in-Union-clause-spot t c = search (rules, the_lemmas)
+
+pub spot_of-returns-in-Edge-clause-spot : goal.spot_of-returns-in-Edge-clause-spot
+spot_of-returns-in-Edge-clause-spot t c = search (rules, the_lemmas)

@@ -1,4 +1,5 @@
-use Rattle.std.proofs.Common.{refl, sym, subst}
+use Rattle.std.proofs.lemmas.Grind.{common_steps}
+use Rattle.std.proofs.Common.{rules, refl, sym, subst}
 use Rattle.std.proofs.lemmas.List.{get_or_default, take_all}
 use Rattle.std.proofs.lemmas.Result.{IfOk-weaker}
 use Rattle.std.specs.List.{All}
@@ -38,3 +39,6 @@ returns-clause-few c =
     let spots = c.args.spots.now in
     both-ok c.merged-2.result
     (λ r among rising. few-pairs spots r.items rising (pairs-of spots c.loop-pair.reached.standing.items r.items among c.loop-pair.invariant.reached.pairs)) c.merged-2.ensures.among c.merged-2.ensures.rising
+
+pub returns-clause-pairs : goal.returns-clause-pairs
+returns-clause-pairs c = search (rules, common_steps)

@@ -1,11 +1,16 @@
-use Rattle.std.proofs.Common.{◌≡◌, ◌∙◌, ap, false, List, ℕ, rules}
-use Rattle.ix_walk.specs.Store.{has_cid, with_block}
-use Rattle.ix_walk.proofs.Stores.{with-new}
+use Rattle.std.proofs.Common.{◌≡◌, ◌∙◌, ap, sym, true, cond, [], ◌∷◌, ◌++◌}
+use Rattle.std.specs.Prelude.{not}
+use Rattle.std.specs.Option.{is_some}
+use Rattle.ix_walk.specs.Store.{has_cid}
+use Rattle.ix_walk.proofs.Stores.{is_some-position}
 use Rattle.ix_walk.proofs.store.Store.add_copy.Goals as goal
 
-pub returns-clause-added : goal.returns-clause-added
-returns-clause-added c =
-    let new : has_cid c.args.self.now c.args.cid ≡ false = search rules in
-    let copied : c.extend_from_slice.new.self.items ≡ c.args.block.now = search rules in
-    with-new c.self.inside.entries.items c.reserve.new.self.items c.push_reserved.new.self.items c.args.self.now _ c.self.view_is c.reserve.ensures.items c.push_reserved.ensures.items new
-    ∙ ap (λ (b : List ℕ). with_block c.args.self.now (c.args.cid, b)) copied
+pub returns-then-is_some-clause-answer : goal.returns-then-is_some-clause-answer
+returns-then-is_some-clause-answer c =
+    let held : has_cid c.args.self.now c.args.cid ≡ true = sym (is_some-position 0 c.args.self.now c.args.cid) ∙ ap is_some (sym c.find.ensures) ∙ sym c.is_some.ensures ∙ c.if-is_some.true in
+    sym (ap not held)
+
+pub returns-then-is_some-clause-added : goal.returns-then-is_some-clause-added
+returns-then-is_some-clause-added c =
+    let held : has_cid c.args.self.now c.args.cid ≡ true = sym (is_some-position 0 c.args.self.now c.args.cid) ∙ ap is_some (sym c.find.ensures) ∙ sym c.is_some.ensures ∙ c.if-is_some.true in
+    sym (ap (λ v. cond v c.args.self.now (c.args.self.now ++ (c.args.cid, c.args.block.now) ∷ [])) held)

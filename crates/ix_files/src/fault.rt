@@ -2,7 +2,7 @@
 
 ghost use Rattle.std.specs.Prelude.{◌≡◌, ◌↔◌, IsTrue};
 ghost use Rattle.std.specs.IoError.{error_kind};
-ghost use Rattle.ix_files.specs.declared.failure.Failure.TheVariants.{CannotRead, TooLarge, CannotWrite};
+ghost use Rattle.ix_files.specs.declared.fault.Failure.TheVariants.{CannotRead, TooLarge, CannotWrite};
 ghost use Rattle.ix_files.specs.Failure.{IsRefusal, IsWordsOf, Names, NamesFile};
 
 use clap::error::ErrorKind as UsageKind;
@@ -113,7 +113,7 @@ fn is_want_of_memory(error: &io::Error) -> bool
 
 impl From<AllocError> for Failure {
     ghost use Rattle.std.specs.Prelude.{◌≡◌};
-    ghost use Rattle.ix_files.specs.declared.failure.Failure.TheVariants.{Fault};
+    ghost use Rattle.ix_files.specs.declared.fault.Failure.TheVariants.{Fault};
     ghost use Rattle.ix_run.specs.declared.fault.RunFault.TheVariants.{Memory};
 
     ghost from_gives = { λ _ failure. failure ≡ Fault Memory };
@@ -125,7 +125,7 @@ impl From<AllocError> for Failure {
 
 impl<T: Drop> From<AllocFailed<T>> for Failure {
     ghost use Rattle.std.specs.Prelude.{◌≡◌};
-    ghost use Rattle.ix_files.specs.declared.failure.Failure.TheVariants.{Fault};
+    ghost use Rattle.ix_files.specs.declared.fault.Failure.TheVariants.{Fault};
     ghost use Rattle.ix_run.specs.declared.fault.RunFault.TheVariants.{Memory};
 
     ghost from_gives = { λ _ failure. failure ≡ Fault Memory };
@@ -137,7 +137,7 @@ impl<T: Drop> From<AllocFailed<T>> for Failure {
 
 impl From<RunFault> for Failure {
     ghost use Rattle.std.specs.Prelude.{◌≡◌};
-    ghost use Rattle.ix_files.specs.declared.failure.Failure.TheVariants.{Fault};
+    ghost use Rattle.ix_files.specs.declared.fault.Failure.TheVariants.{Fault};
 
     ghost from_gives = { λ fault failure. failure ≡ Fault fault };
 
@@ -148,7 +148,7 @@ impl From<RunFault> for Failure {
 
 impl From<NotationFault> for Failure {
     ghost use Rattle.std.specs.Prelude.{◌≡◌};
-    ghost use Rattle.ix_files.specs.declared.failure.Failure.TheVariants.{Selector};
+    ghost use Rattle.ix_files.specs.declared.fault.Failure.TheVariants.{Selector};
 
     ghost from_gives = { λ fault failure. failure ≡ Selector fault };
 

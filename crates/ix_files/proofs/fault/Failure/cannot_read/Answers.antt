@@ -1,7 +1,7 @@
 use Rattle.std.proofs.Common.{rules}
-use Rattle.ix_files.specs.declared.failure.Failure.TheVariants.{CannotRead}
+use Rattle.ix_files.specs.declared.fault.Failure.TheVariants.{CannotRead}
 use Rattle.ix_files.proofs.Failures.{named_file}
-use Rattle.ix_files.proofs.failure.Failure.cannot_read.Goals as goal
+use Rattle.ix_files.proofs.fault.Failure.cannot_read.Goals as goal
 
 pub returns-in-Ok : goal.returns-in-Ok
 returns-in-Ok c = named_file (λ x. CannotRead x) c.args.path.now c.in-Ok.path _ c.in-Ok.ensures.ok (search rules)
