@@ -69,5 +69,5 @@ helps selector --help -- '--hex <TEXT>' '[JSON]' '{"R":{"l":{"none":{}},":>":{"a
 for word in --version -V; do
   begin "the version, by $word"
   run "$word"
-  expect 0 "ix_export 1.0.0, proved with $(rt version)" ''
+  expect 0 "ix_export 1.0.0, proved in Rattle's $(rt version | cut -d' ' -f2-)" ''
 done

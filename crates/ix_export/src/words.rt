@@ -3,8 +3,8 @@
 use clap::{Arg, ArgAction, Command, value_parser};
 use std::alloc::{AllocError, Global};
 
-// The program's version, and the toolchain with which it is proved.
-const VERSION: &str = "1.0.0, proved with rattle-kit-13b and 13f, logic dac8208d650f15bf";
+// The program's version, and the logic of the toolchain in which it is proved.
+const VERSION: &str = "1.0.0, proved in Rattle's logic dac8208d650f15bf";
 
 // The texts of the help.
 const ABOUT: &str = "Cuts subgraphs out of CARv1 files";
