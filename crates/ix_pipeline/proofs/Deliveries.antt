@@ -25,4 +25,4 @@ hands_of store v d state r events told failed refused pairs more right checked h
       by_state Failed (Ok Taking) h = absurd h
       by_state Failed (Ok Failed) h = (h.0, h.1, checked)
       by_state Taking (Err e) h = (h.0, h.1, inr checked)
-      by_state Failed (Err e) h = (h.0, h.1, inr checked)
+      by_state Failed (Err e) h = absurd h

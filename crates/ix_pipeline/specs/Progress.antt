@@ -76,10 +76,11 @@ pub record IsExported (store : Blocks) (number : ℕ) (job : JobMeaning) (end : 
 abbrev pub Exports : Blocks → ℕ → JobMeaning → End → List Event → List Delivery → List (ℕ × ℕ) → List (ℕ × ℕ) → Type 0
 Exports store number job end events failed old new = (checks : ℕ) × IsExported store number job end events failed checks × (new ≡ old ++ pairs_of number checks)
 
--- a delivery is taken, or its write fails, as long as none has failed; want of memory tells the sink nothing
+-- a delivery is taken, or its write fails, as long as none has failed; want of memory tells the sink nothing, and behind a failed write there is none
 abbrev pub Delivers : Delivery → SinkState → List Event → List Delivery → Result SinkState AllocError → List Event → List Delivery → Type 0
 Delivers d Taking events failed (Ok Taking) told refused = (told ≡ events ++ delivery d ∷ []) × (refused ≡ [])
 Delivers d Taking events failed (Ok Failed) told refused = (told ≡ events) × (refused ≡ d ∷ [])
 Delivers d Failed events failed (Ok Taking) told refused = ⊥
 Delivers d Failed events failed (Ok Failed) told refused = (told ≡ events) × (refused ≡ failed)
-Delivers d state events failed (Err e) told refused = (told ≡ events) × (refused ≡ failed)
+Delivers d Taking events failed (Err e) told refused = (told ≡ events) × (refused ≡ failed)
+Delivers d Failed events failed (Err e) told refused = ⊥
