@@ -1,6 +1,6 @@
 //! The archive of one root.
 
-ghost use Rattle.std.specs.Prelude.{◌≡◌, IfOk, IfErr, Ok, true};
+ghost use Rattle.std.specs.Prelude.{◌≡◌, ◌⊎◌, IfOk, IfErr, IfSome, IfNone, Ok, true, false, []};
 ghost use Rattle.ix_selector.specs.Pattern.{matcher};
 ghost use Rattle.ix_run.specs.declared.fault.RunFault.TheVariants.{Memory};
 ghost use Rattle.ix_run.specs.Root.{root_job, exported_from, is_whole, IsRunAlone, IsLast, IsRefusalOf};
@@ -29,7 +29,7 @@ pub fn export_root(alloc: Global, car: &[u8], root: Cid) -> Result<Vec<u8>, RunF
     let store = read_car(alloc, car)?;
     let job = root_job(alloc, root)?;
     let (results, archives) = run_alone(alloc, &store, &job)?;
-    whole_archive(results.as_slice(), archives)
+    whole_archive(results.as_slice(), archives).ok_or(RunFault::Memory)
 }
 
 // What is told of a job that runs alone, and what was written.
@@ -51,16 +51,14 @@ fn run_alone(
 }
 
 // The archive of one job, where it is whole.
-fn whole_archive(results: &[JobResult], mut archives: Vec<Vec<u8>>) -> Result<Vec<u8>, RunFault>
-    ensures whole { IfOk result (λ archive. (is_whole results.now ≡ true) × IsLast archives.items archive) }
-    ensures memory { IfErr result (λ fault. fault ≡ Memory) }
+fn whole_archive(results: &[JobResult], mut archives: Vec<Vec<u8>>) -> Option<Vec<u8>>
+    ensures whole { IfSome result (λ archive. (is_whole results.now ≡ true) × IsLast archives.items archive) }
+    ensures none { IfNone result ((is_whole results.now ≡ false) ⊎ (archives.items ≡ [])) }
 {
-    if !is_whole(results) {
-        return Err(RunFault::Memory);
-    }
-    match archives.pop() {
-        Some(archive) => Ok(archive),
-        None => Err(RunFault::Memory),
+    if is_whole(results) {
+        archives.pop()
+    } else {
+        None
     }
 }
 
