@@ -1,7 +1,7 @@
 -- Why no archive could be begun.
 use Rattle.std.specs.Prelude.{◌≡◌, ℕ, List, [], Option, Some}
-use Rattle.ix_car.specs.declared.archive.ArchiveNew.{ArchiveNew}
-use Rattle.ix_car.specs.declared.archive.ArchiveNew.TheVariants.{Write, Memory}
+use Rattle.ix_car.specs.declared.fault.ArchiveNew.{ArchiveNew}
+use Rattle.ix_car.specs.declared.fault.ArchiveNew.TheVariants.{Write, Memory}
 use Rattle.ix_car.specs.ArchiveMeaning.{TookPartOfHeader}
 
 -- A writer that had no bytes took a part of the header and not the whole, or no memory was left and the writer is as it was.

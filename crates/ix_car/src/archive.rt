@@ -11,7 +11,7 @@ ghost use Rattle.ix_car.specs.Report.{at_most, skips_of, counts_of};
 ghost use Rattle.ix_car.specs.ArchiveNew.{IsNoArchive};
 
 use crate::archive::output::{header_of, set_section_head, write_section, write_text};
-use crate::fault::SinkFault;
+use crate::fault::{ArchiveNew, SinkFault};
 use crate::history::History;
 use crate::marks::Marks;
 use crate::sink::{Delivery, End, Sink};
@@ -82,15 +82,6 @@ impl<'a, W: Write> Model for Archive<'a, W> {
     ghost view = { λ a. record { store = a.store.now; root = a.root; deliveries = a.deliveries; failed = option_to_list a.failed; closed = option_to_list a.closed; taken = a.counts.bytes; writer = a.writer } };
 
     ghost invariant = { λ a. IsTally a.store.now a.deliveries (option_to_list a.failed) (option_to_list a.closed) a.cut a.counts a.written a.skips.items };
-}
-
-/// Why no archive could be begun; the writer is handed back.
-#[derive(Debug, Drop)]
-pub enum ArchiveNew<W> {
-    /// The writer took a part of the header and failed.
-    Write(W),
-    /// No memory was left, and no byte was written.
-    Memory(W),
 }
 
 impl<'a, W: Write> Archive<'a, W> {

@@ -1,4 +1,4 @@
-//! Why a file and why a delivery is refused.
+//! Why a file and why a delivery is refused, and why no archive could be begun.
 
 use std::fmt;
 
@@ -52,4 +52,13 @@ pub enum SinkFault {
     Write,
     /// No memory was left. The sink is as it was.
     Memory,
+}
+
+/// Why no archive could be begun; the writer is handed back.
+#[derive(Debug, Drop)]
+pub enum ArchiveNew<W> {
+    /// The writer took a part of the header and failed.
+    Write(W),
+    /// No memory was left, and no byte was written.
+    Memory(W),
 }

@@ -9,7 +9,7 @@ mod marks;
 mod reader;
 mod sink;
 
-pub use archive::{Archive, ArchiveNew, Counts, Skip};
-pub use fault::{CarFault, CarKind, SinkFault};
+pub use archive::{Archive, Counts, Skip};
+pub use fault::{ArchiveNew, CarFault, CarKind, SinkFault};
 pub use reader::{load_car, read_car};
 pub use sink::{Delivery, End, Sink};

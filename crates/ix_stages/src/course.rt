@@ -21,8 +21,8 @@ pub struct JobVisits {
     pub over: bool,
 }
 
-/// A value that names a course, which contracts alone see: for each job its visits and how its walk
-/// ends.
+/// A value that names a course, which contracts alone see: for each job its visits, and whether there
+/// are more arrivals than those.
 pub trait Course {
     ghost use Rattle.ix_stages.specs.declared.course.JobVisits.{JobVisits};
 

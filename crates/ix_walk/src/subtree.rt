@@ -9,7 +9,7 @@ use std::alloc::Global;
 
 // The children that are left of a list or map.
 #[derive(Clone, Copy)]
-pub enum Children {
+pub(crate) enum Children {
     // The last so many members of a list that has so many.
     Members { count: u64, left: u64 },
     // So many keys and values of a map.
@@ -18,7 +18,7 @@ pub enum Children {
 
 // A list or map that is gone through.
 #[derive(Drop)]
-pub struct Opened<'a> {
+pub(crate) struct Opened<'a> {
     pub residual: Residual<'a>,
     pub children: Children,
     pub depth: u32,
@@ -28,7 +28,7 @@ pub struct Opened<'a> {
 
 // A link that is arrived at.
 #[derive(Drop)]
-pub struct Found<'a> {
+pub(crate) struct Found<'a> {
     pub residual: Residual<'a>,
     pub cid: Cid,
     pub depth: u32,
@@ -36,7 +36,7 @@ pub struct Found<'a> {
 
 // What the selector enters, and in which a link can be.
 #[derive(Drop)]
-pub enum Entered<'a> {
+pub(crate) enum Entered<'a> {
     Link(Found<'a>),
     Open(Opened<'a>),
 }
@@ -44,7 +44,7 @@ pub enum Entered<'a> {
 // Where a walk stands in the bytes of a block, and what is left to do: to arrive at a link, and then to go on with the
 // lists and maps that are open, the next at the end.
 #[derive(Drop)]
-pub struct Trail<'a> {
+pub(crate) struct Trail<'a> {
     pub at: &'a [u8],
     pub next: Option<Found<'a>>,
     pub stack: Vec<Opened<'a>>,
