@@ -10,11 +10,14 @@ use std::hash::{BuildHasher, BuildHasherDefault, FoldHasher};
 /// The CID that bytes in hexadecimal are.
 pub fn cid_of(alloc: Global, text: &str) -> Result<Cid> {
     let bytes = bytes_of_hex(alloc, text)?;
-    match Cid::read(alloc, bytes.as_slice()) {
-        Ok((cid, length)) => {
-            ensure!(length == bytes.len(), "bytes follow the CID {text}");
-            Ok(cid)
-        }
+    whole_cid(alloc, bytes.as_slice(), text)
+}
+
+// The CID that bytes are, which have this text.
+fn whole_cid(alloc: Global, bytes: &[u8], text: &str) -> Result<Cid> {
+    match Cid::read(alloc, bytes) {
+        Ok((_, length)) if length < bytes.len() => bail!("bytes follow the CID {text}"),
+        Ok((cid, _)) => Ok(cid),
         Err(fault) => bail!("{text} is no CID: {fault}"),
     }
 }
@@ -73,8 +76,15 @@ fn is_copied(alloc: Global, cid: &Cid) -> Result<bool, AllocError> {
 /// `cids HEX HEX = less`, `equal` or `greater`, by each comparison and by the hashes
 pub fn compared_cids(alloc: Global, input: &str) -> Result<String> {
     let (first, second) = two_words(input)?;
-    let order = order_of(&cid_of(alloc, first)?, &cid_of(alloc, second)?);
+    let first = cid_of(alloc, first)?;
+    let order = order_of_word(alloc, &first, second)?;
     Ok(String::from_str(alloc, word_of(order))?)
+}
+
+// The order of a CID and one in hexadecimal.
+fn order_of_word(alloc: Global, first: &Cid, second: &str) -> Result<Option<Ordering>> {
+    let second = cid_of(alloc, second)?;
+    Ok(order_of(first, &second))
 }
 
 // The word of an order on which all comparisons agree.

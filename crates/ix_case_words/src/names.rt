@@ -38,28 +38,35 @@ impl Names {
         let mut parts = line.split('<');
         let mut out = String::from_str(self.alloc, parts.next().unwrap_or(""))?;
         for part in parts {
-            let (inside, behind) = part.split_once('>').context("a `<` has no `>`")?;
-            self.push_inside(&mut out, inside)?;
-            out.push_str(behind)?;
+            self.push_part(&mut out, part)?;
         }
         Ok(out)
+    }
+
+    // Appends what stands behind a `<`, up to the next.
+    fn push_part(&self, out: &mut String, part: &str) -> Result<()> {
+        let (inside, behind) = part.split_once('>').context("a `<` has no `>`")?;
+        self.push_inside(out, inside)?;
+        out.push_str(behind)?;
+        Ok(())
     }
 
     // Appends what stands between `<` and `>`, written out.
     fn push_inside(&self, out: &mut String, inside: &str) -> Result<()> {
         if let Some((part, count)) = inside.split_once('*') {
             let part = self.text_of(part).unwrap_or(part);
-            return push_times(out, part, count.parse::<u32>()?);
+            return push_times(out, part, count);
         }
         if let Some((name, count)) = inside.split_once('#') {
-            let text = self.text_of(name).context("no such name")?;
-            return push_with_numbers(out, text, count.parse::<u32>()?);
+            return push_with_numbers(out, self.named(name)?, count);
         }
-        let text = self
-            .text_of(inside)
-            .context(format_args!("no name {inside}"))?;
-        out.push_str(text)?;
+        out.push_str(self.named(inside)?)?;
         Ok(())
+    }
+
+    // The text of a name that has one.
+    fn named(&self, name: &str) -> Result<&str> {
+        self.text_of(name).context(format_args!("no name {name}"))
     }
 
     // The text of a name.
@@ -69,16 +76,16 @@ impl Names {
 }
 
 // Appends a text so many times.
-fn push_times(out: &mut String, text: &str, count: u32) -> Result<()> {
-    for _ in 0..count {
+fn push_times(out: &mut String, text: &str, count: &str) -> Result<()> {
+    for _ in 0..count.parse::<u32>()? {
         out.push_str(text)?;
     }
     Ok(())
 }
 
 // Appends a text once for each number below the count, with the number in place of each `#`.
-fn push_with_numbers(out: &mut String, text: &str, count: u32) -> Result<()> {
-    for number in 0..count {
+fn push_with_numbers(out: &mut String, text: &str, count: &str) -> Result<()> {
+    for number in 0..count.parse::<u32>()? {
         push_numbered(out, text, number)?;
     }
     Ok(())

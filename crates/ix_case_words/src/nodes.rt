@@ -6,38 +6,46 @@ use anyhow::{Context, Result, bail};
 use ix_cbor::Node;
 use std::alloc::Global;
 
-// A list or a map whose end is still to come. A map has a key for each member.
+// A list or a map whose end is still to come. A map may have a key without a value.
 #[derive(Drop)]
-struct Open {
-    is_map: bool,
-    keys: Vec<Vec<u8>>,
-    members: Vec<Node>,
+enum Open {
+    List(Vec<Node>),
+    Map(Vec<(Vec<u8>, Node)>, Option<Vec<u8>>),
 }
 
 impl Open {
-    fn new(alloc: Global, is_map: bool) -> Open {
-        Open {
-            is_map,
-            keys: Vec::new(alloc),
-            members: Vec::new(alloc),
-        }
-    }
-
     // Whether the next word is a key.
     fn wants_key(&self) -> bool {
-        self.is_map && self.keys.len() == self.members.len()
+        matches!(self, Open::Map(_, None))
     }
 
     // The list or the map.
-    fn closed(self, alloc: Global) -> Result<Node> {
-        if !self.is_map {
-            return Ok(Node::List(self.members));
+    fn closed(self) -> Node {
+        match self {
+            Open::List(members) => Node::List(members),
+            Open::Map(entries, _) => Node::Map(entries),
         }
-        let mut entries = Vec::new(alloc);
-        for entry in self.keys.into_iter().zip(self.members) {
-            entries.push(entry)?;
+    }
+
+    // Takes the key of the next value.
+    fn put_key(&mut self, key: Vec<u8>) -> Result<()> {
+        match self {
+            Open::Map(_, next) => *next = Some(key),
+            Open::List(_) => bail!("a list has no keys"),
         }
-        Ok(Node::Map(entries))
+        Ok(())
+    }
+
+    // Takes the next member or value.
+    fn put(&mut self, node: Node) -> Result<()> {
+        match self {
+            Open::List(members) => members.push(node)?,
+            Open::Map(entries, key) => {
+                let key = key.take().context("a value has no key")?;
+                entries.push((key, node))?;
+            }
+        }
+        Ok(())
     }
 }
 
@@ -59,17 +67,17 @@ fn read_word(
     word: &str,
 ) -> Result<()> {
     match word {
-        "[" => Ok(open.push(Open::new(alloc, false))?),
-        "{" => Ok(open.push(Open::new(alloc, true))?),
-        "]" | "}" => close(alloc, open, whole),
+        "[" => Ok(open.push(Open::List(Vec::new(alloc)))?),
+        "{" => Ok(open.push(Open::Map(Vec::new(alloc), None))?),
+        "]" | "}" => close(open, whole),
         word => place_word(alloc, open, whole, word),
     }
 }
 
 // Ends the innermost list or map.
-fn close(alloc: Global, open: &mut Vec<Open>, whole: &mut Option<Node>) -> Result<()> {
-    let node = open.pop().context("nothing is open")?.closed(alloc)?;
-    place(open, whole, node)
+fn close(open: &mut Vec<Open>, whole: &mut Option<Node>) -> Result<()> {
+    let innermost = open.pop().context("nothing is open")?;
+    place(open, whole, innermost.closed())
 }
 
 // A word without the comma or colon behind it.
@@ -87,8 +95,7 @@ fn place_word(
 ) -> Result<()> {
     if let Some(innermost) = open.last_mut() {
         if innermost.wants_key() {
-            innermost.keys.push(text_of(alloc, word)?)?;
-            return Ok(());
+            return innermost.put_key(text_of(alloc, word)?);
         }
     }
     place(open, whole, leaf_of(alloc, word)?)
@@ -97,33 +104,38 @@ fn place_word(
 // Puts a node into the innermost list or map; it is the whole where none is open.
 fn place(open: &mut Vec<Open>, whole: &mut Option<Node>, node: Node) -> Result<()> {
     match open.last_mut() {
-        None => *whole = Some(node),
-        Some(innermost) => innermost.members.push(node)?,
+        Some(innermost) => innermost.put(node),
+        None => {
+            *whole = Some(node);
+            Ok(())
+        }
     }
-    Ok(())
 }
 
 // The node of a word that is neither a list nor a map.
 fn leaf_of(alloc: Global, word: &str) -> Result<Node> {
     match word {
-        "null" => return Ok(Node::Null),
-        "false" => return Ok(Node::Bool(false)),
-        "true" => return Ok(Node::Bool(true)),
-        _ => {}
+        "null" => Ok(Node::Null),
+        "false" => Ok(Node::Bool(false)),
+        "true" => Ok(Node::Bool(true)),
+        _ if word.starts_with('"') => Ok(Node::Text(text_of(alloc, word)?)),
+        _ if word.contains('\'') => marked_of(alloc, word),
+        _ => Ok(Node::Int(word.parse::<i128>()?)),
     }
-    if let Some(digits) = inside(word, "float'", "'") {
-        return Ok(Node::Bits64(u64::from_str_radix(digits, 16)?));
-    }
+}
+
+// The node of a word in which something says what stands between single quotes.
+fn marked_of(alloc: Global, word: &str) -> Result<Node> {
     if let Some(digits) = inside(word, "h'", "'") {
         return Ok(Node::Bytes(bytes_of_hex(alloc, digits)?));
     }
     if let Some(digits) = inside(word, "42(h'00", "')") {
         return Ok(Node::Link(cid_of(alloc, digits)?));
     }
-    if word.starts_with('"') {
-        return Ok(Node::Text(text_of(alloc, word)?));
+    match inside(word, "float'", "'") {
+        Some(digits) => Ok(Node::Bits64(u64::from_str_radix(digits, 16)?)),
+        None => bail!("no node: {word}"),
     }
-    Ok(Node::Int(word.parse::<i128>()?))
 }
 
 // The bytes of a text between quotes.

@@ -35,9 +35,14 @@ fn tree_of(alloc: Global, text: &str) -> Result<Tree> {
 /// `selector SELECTOR = ok` or the fault
 pub fn selector(alloc: Global, input: &str) -> Result<String> {
     let tree = tree_of(alloc, input)?;
-    match fault_of(alloc, &tree) {
-        None => Ok(String::from_str(alloc, "ok")?),
-        Some(fault) => Ok(format!(in alloc; "{fault:?}")?),
+    Ok(text_of_reading(alloc, &tree)?)
+}
+
+// `ok` where a tree stands for a selector, else the fault
+fn text_of_reading(alloc: Global, tree: &Tree) -> Result<String, AllocError> {
+    match fault_of(alloc, tree) {
+        None => String::from_str(alloc, "ok"),
+        Some(fault) => format!(in alloc; "{fault:?}"),
     }
 }
 

@@ -43,30 +43,30 @@ pub fn tree(alloc: Global, input: &str) -> Result<String> {
     }
 }
 
-// The block of a tree whose root is written as this text.
+// The block of a tree whose root is written as this text, in the tree and out of it.
 fn hex_of_tree(alloc: Global, tree: Tree, text: &str) -> Result<String> {
-    let spelled = ix_cbor::encode(alloc, &tree)?;
-    ensure_root(alloc, tree, text)?;
-    hex_of(alloc, spelled.as_slice())
+    let hex = hex_of_root(alloc, &tree, text)?;
+    ensure_written(alloc, &tree.into_root(), text)?;
+    Ok(hex)
 }
 
-// Fails where a tree's root isn't written as this text, in the tree or out of it.
-fn ensure_root(alloc: Global, tree: Tree, text: &str) -> Result<()> {
-    ensure!(is_written(alloc, tree.root(), text)?, "the root is another");
-    ensure!(
-        is_written(alloc, &tree.into_root(), text)?,
-        "the node is another"
-    );
-    Ok(())
+// The block of a tree whose root is written as this text.
+fn hex_of_root(alloc: Global, tree: &Tree, text: &str) -> Result<String> {
+    ensure_written(alloc, tree.root(), text)?;
+    let spelled = ix_cbor::encode(alloc, tree)?;
+    hex_of(alloc, spelled.as_slice())
 }
 
 // The answer for a node that is no tree and is written as this text.
 fn handed_back(alloc: Global, node: &Node, text: &str) -> Result<String> {
-    ensure!(
-        is_written(alloc, node, text)?,
-        "what is handed back is another"
-    );
+    ensure_written(alloc, node, text)?;
     Ok(String::from_str(alloc, "handed back")?)
+}
+
+// Fails where a node isn't written as this text.
+fn ensure_written(alloc: Global, node: &Node, text: &str) -> Result<()> {
+    ensure!(is_written(alloc, node, text)?, "the node is another");
+    Ok(())
 }
 
 // Whether a node is written as this text.

@@ -10,10 +10,10 @@ use ix_jobs::JobResult;
 use ix_walk::{Job, Store};
 use std::alloc::Global;
 
-/// The header of a CARv1 file without roots, in hexadecimal.
+// The header of a CARv1 file without roots, in hexadecimal.
 const HEADER: &str = "11a265726f6f7473806776657273696f6e01";
 
-/// The root of each job of which something is told.
+// The root of each job of which something is told.
 const TOLD_ROOT: &str = "01550000";
 
 /// What the lines of an example set up.

@@ -17,7 +17,7 @@ use std::io::{self, ErrorKind, Write};
 use std::sync::{Arc, Wait};
 use std::thread::Threads;
 
-/// What is answered where everything is as the example says.
+// What is answered where everything is as the example says.
 const AS_WRITTEN: &str = "as written";
 
 // A writer that takes so many bytes and then fails.
