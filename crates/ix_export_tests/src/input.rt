@@ -2,7 +2,7 @@
 
 use ix_fixtures::{ABC, INNER, INNER_BLOCK, ONE_LINK, ONE_LINK_BLOCK, OUTER, OUTER_BLOCK};
 
-/// A header of a CARv1 file without roots.
+// A header of a CARv1 file without roots.
 const HEADER: &str = "11a265726f6f7473806776657273696f6e01";
 
 /// A file of four blocks, each linked by the one before.

@@ -216,7 +216,7 @@ fn delivery_begins_before_checking_has_ended(rt: HostRuntime) -> Result<(), Fail
 }
 
 #[test]
-fn checking_begins_before_the_walk_ends(rt: HostRuntime) -> Result<(), Fail> {
+fn checking_before_the_walk_ends(rt: HostRuntime) -> Result<(), Fail> {
     let alloc = rt.alloc();
     let (store, jobs) = chain(alloc, 1)?;
     let begun = Awaited::new(1);

@@ -3,7 +3,7 @@
 
 ghost use Rattle.std.specs.Prelude.{◌≡◌, All, IfOk};
 
-use ix_stages::{ClaimSeat, Claims, LaneIn, LaneOut, Verdicted, lane, lane_rest};
+use ix_stages::{ClaimSeat, Claims, LaneIn, LaneOut, Verdicted, lane_rest};
 use std::alloc::{AllocError, Global};
 use std::sync::atomic::{AtomicBool, AtomicU64, Ordering};
 use std::test::Fail;
@@ -76,8 +76,8 @@ fn pass_all<R: Threads>(rt: &R, sender: LaneIn, receiver: LaneOut) -> (bool, boo
 }
 
 #[test]
-fn lane_of_capacity_one(rt: HostRuntime) -> Result<(), Fail> {
-    let (mut sender, mut receiver) = lane(rt.alloc(), 1)?;
+fn lane(rt: HostRuntime) -> Result<(), Fail> {
+    let (mut sender, mut receiver) = ix_stages::lane(rt.alloc(), 1)?;
     assert!(rt; sender.try_send(item(0)).is_ok());
     assert!(rt;
         matches!(
@@ -97,7 +97,7 @@ fn lane_of_capacity_one(rt: HostRuntime) -> Result<(), Fail> {
 
 #[test]
 fn rest_of_a_lane(rt: HostRuntime) -> Result<(), Fail> {
-    let (mut sender, mut receiver) = lane(rt.alloc(), 2)?;
+    let (mut sender, mut receiver) = ix_stages::lane(rt.alloc(), 2)?;
     let sent = [
         sender.try_send(item(0)).is_ok(),
         sender.try_send(item(1)).is_ok(),
@@ -114,7 +114,7 @@ fn rest_of_a_lane(rt: HostRuntime) -> Result<(), Fail> {
 
 #[test]
 fn items_in_order_through_a_lane_of_one(rt: HostRuntime) -> Result<(), Fail> {
-    let (sender, receiver) = lane(rt.alloc(), 1)?;
+    let (sender, receiver) = ix_stages::lane(rt.alloc(), 1)?;
     let (sent, received) = pass_all(&rt, sender, receiver);
     assert!(rt; sent, "the lane stayed full");
     assert!(rt; received, "the lane stayed empty, or gave another item");
@@ -133,7 +133,7 @@ fn settle_one(
 }
 
 #[test]
-fn claims_by_one_seat(rt: HostRuntime) -> Result<(), Fail> {
+fn claims(rt: HostRuntime) -> Result<(), Fail> {
     let alloc = rt.alloc();
     let values = Vec::from_array(alloc, ["x", "y"])?;
     let (claims, seats) = Claims::new(alloc, values, 1)?;

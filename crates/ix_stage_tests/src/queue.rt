@@ -624,7 +624,7 @@ fn fills_and_empties<R: Abort + Wait>(
 
 // The chain's four visits fill the queue. None of the contracts says when a queue is full or empty.
 #[test]
-fn full_and_empty(rt: HostRuntime) -> Result<(), Fail> {
+fn queue(rt: HostRuntime) -> Result<(), Fail> {
     let alloc = rt.alloc();
     let store = chain_of(alloc)?;
     let jobs = jobs_of(alloc, OUTER, 1, 100)?;

@@ -29,7 +29,7 @@ fn calls() -> [(Call, u64); 12] {
 }
 
 #[test]
-fn letters_come_out_by_number(rt: HostRuntime) -> Result<(), Fail> {
+fn ring(rt: HostRuntime) -> Result<(), Fail> {
     let mut ring = Ring::new(rt.alloc())?;
     assert_eq!(rt; ring.next(), 0);
     for (call, next) in calls() {
