@@ -3,7 +3,7 @@
 
 mod words;
 
-ghost use Rattle.std.specs.Prelude.{◌≡◌, ◌≤◌, length};
+ghost use Rattle.std.specs.Prelude.{◌≡◌, ◌≤◌, length, IfOk};
 ghost use Rattle.std.specs.Arc.{arc_value};
 
 use clap::ArgMatches;
@@ -14,7 +14,7 @@ use ix_notation::{hex_of_json, json_of_hex};
 use ix_pipeline::Plan;
 use ix_run::{RunFault, RunOut, load, printed_root, root_of_text, run, run_watched};
 use ix_walk::{Job, Store};
-use std::io::Write;
+use std::io::{BufWriter, Write};
 use std::process::ExitCode;
 use std::rt::{Env, Files};
 use std::sync::{Arc, Wait};
@@ -39,10 +39,22 @@ fn main(rt: HostRuntime) -> ExitCode {
 fn obey<R: AllocGlobal + Env + Eprint + Files + Input + Print + Threads + Wait + Sync>(
     rt: &R,
 ) -> Result<u8, Failure> {
-    let alloc = rt.alloc();
+    let words = words_of(rt)?;
+    let matches = command_line(rt.alloc())?.try_get_matches_from(words.as_slice())?;
+    obey_command(rt, &matches)
+}
+
+// The words that the program was started with.
+fn words_of<R: AllocGlobal + Env>(rt: &R) -> Result<Vec<String>, Failure> {
     let arguments = env::args(rt).map_err(|error| Failure::of_words(&error))?;
-    let words: Vec<String> = arguments.collect(alloc)?;
-    let matches = command_line(alloc)?.try_get_matches_from(words.as_slice())?;
+    Ok(arguments.collect(rt.alloc())?)
+}
+
+// Does what the command says that the words name.
+fn obey_command<'a, R: AllocGlobal + Eprint + Files + Input + Print + Threads + Wait + Sync>(
+    rt: &R,
+    matches: &ArgMatches<'a>,
+) -> Result<u8, Failure> {
     if let Some(words) = matches.subcommand_matches("jobs") {
         return export_jobs(rt, words);
     }
@@ -84,34 +96,61 @@ fn export_jobs<'a, R: AllocGlobal + Eprint + Files + Print + Threads + Wait + Sy
     rt: &R,
     words: &ArgMatches<'a>,
 ) -> Result<u8, Failure> {
-    let alloc = rt.alloc();
     let standing = stand_in(rt);
     let inputs = ["blocks", "jobs"].map(|name| words.get_str(name).unwrap_or(""));
+    let (store, jobs) = load_files(rt, inputs)?;
+    let status = export_loaded(rt, words, inputs, &store, &jobs)?;
+    drop(standing);
+    Ok(status)
+}
+
+// What the file of blocks and the job file hold.
+fn load_files<R: AllocGlobal + Files>(
+    rt: &R,
+    inputs: [&str; 2],
+) -> Result<(Arc<Store>, Arc<Vec<Job>>), Failure>
+    ensures { IfOk result (λ loaded. length (arc_value loaded.1).items ≤ 1000) }
+{
     let car = read_file(rt, inputs[0])?;
     let file = read_file(rt, inputs[1])?;
-    let (store, jobs) = load(alloc, car, file.as_slice())?;
-    drop(file);
+    Ok(load(rt.alloc(), car, file.as_slice())?)
+}
+
+// Runs the jobs of these files, and makes and names their outputs, or removes them where the run is
+// refused.
+fn export_loaded<'a, R: AllocGlobal + Eprint + Files + Print + Threads + Wait + Sync>(
+    rt: &R,
+    words: &ArgMatches<'a>,
+    inputs: [&str; 2],
+    store: &Arc<Store>,
+    jobs: &Arc<Vec<Job>>,
+) -> Result<u8, Failure>
+    requires { length (arc_value jobs.now).items ≤ 1000 }
+{
     let folder = words.get_str("out").unwrap_or("");
     let writers = make_outputs(rt, folder, jobs.as_slice(), inputs)?;
-    let out = match run_by_words(rt, words, &store, &jobs, writers) {
-        Ok(out) => out,
+    match run_by_words(rt, words, store, jobs, writers) {
+        Ok(out) => tell(rt, words, folder, jobs.as_slice(), &out),
         Err(fault) => {
             remove_outputs(rt, folder, jobs.as_slice(), jobs.len());
-            return Err(Failure::from(fault));
+            Err(Failure::from(fault))
         }
-    };
+    }
+}
+
+// Names the outputs of a run, and prints its report.
+fn tell<'a, R: AllocGlobal + Files + Print>(
+    rt: &R,
+    words: &ArgMatches<'a>,
+    folder: &str,
+    jobs: &[Job],
+    out: &RunOut<BufWriter<R::File>>,
+) -> Result<u8, Failure> {
     let sync = words.get_flag("sync");
-    let named = name_outputs(
-        rt,
-        folder,
-        jobs.as_slice(),
-        out.ends.as_slice(),
-        out.writers.as_slice(),
-        sync,
-    );
+    let outputs = out.writers.as_slice();
+    let named = name_outputs(rt, folder, jobs, out.ends.as_slice(), outputs, sync);
     print_all(rt, out.report.as_slice())?;
     named?;
-    drop(standing);
     Ok(out.status)
 }
 

@@ -68,9 +68,16 @@ pub fn command_line<'a>(alloc: Global) -> Result<Command<'a>, AllocError> {
         .after_help(HELP)
         .version(VERSION)
         .subcommand_required(true)
-        .subcommand(jobs_command(alloc)?)?
-        .subcommand(selector_command(alloc)?)?
-        .subcommand(root_command(alloc)?)
+        .subcommands(commands(alloc)?)
+}
+
+// The commands that stand behind the program's name.
+fn commands<'a>(alloc: Global) -> Result<Vec<Command<'a>>, AllocError> {
+    let mut commands = Vec::new(alloc);
+    commands.push(jobs_command(alloc)?)?;
+    commands.push(selector_command(alloc)?)?;
+    commands.push(root_command(alloc)?)?;
+    Ok(commands)
 }
 
 fn root_command<'a>(alloc: Global) -> Result<Command<'a>, AllocError> {
@@ -82,41 +89,43 @@ fn root_command<'a>(alloc: Global) -> Result<Command<'a>, AllocError> {
 }
 
 fn jobs_command<'a>(alloc: Global) -> Result<Command<'a>, AllocError> {
-    Command::new(alloc, "jobs")
-        .about(JOBS_ABOUT)
-        .after_help(JOBS_HELP)
-        .arg(text_argument(alloc, "blocks", "FILE", "The blocks: a CARv1 file"))?
-        .arg(text_argument(alloc, "jobs", "FILE", "The job file"))?
-        .arg(text_argument(alloc, "out", "DIR", "Where the archives go"))?
-        .arg(number_argument(alloc, "walkers", "How many threads walk, 1 to 64"))?
-        .arg(number_argument(alloc, "verifiers", "How many threads hash, 1 to 64"))?
-        .arg(flag_argument(
+    let options = vec![in alloc;
+        text_argument(alloc, "blocks", "FILE", "The blocks: a CARv1 file"),
+        text_argument(alloc, "jobs", "FILE", "The job file"),
+        text_argument(alloc, "out", "DIR", "Where the archives go"),
+        number_argument(alloc, "walkers", "How many threads walk, 1 to 64"),
+        number_argument(alloc, "verifiers", "How many threads hash, 1 to 64"),
+        flag_argument(
             alloc,
             "sync",
             "Each archive is on the disk before it gets its name",
-        ))?
-        .arg(flag_argument(
+        ),
+        flag_argument(
             alloc,
             "progress",
             "Tells on standard error how the run goes on",
-        ))
+        ),
+    ]?;
+    Command::new(alloc, "jobs")
+        .about(JOBS_ABOUT)
+        .after_help(JOBS_HELP)
+        .args(options)
 }
 
 fn selector_command<'a>(alloc: Global) -> Result<Command<'a>, AllocError> {
-    let json = Arg::new(alloc, "json")
-        .value_name("JSON")
-        .help("The selector as JSON");
     let hex = Arg::new(alloc, "hex")
         .long("hex")
         .value_name("TEXT")
         .help("The selector in hexadecimal, to be printed as JSON")
         .action(ArgAction::Set)
         .conflicts_with("json")?;
+    let json = Arg::new(alloc, "json")
+        .value_name("JSON")
+        .help("The selector as JSON");
     Command::new(alloc, "selector")
         .about(SELECTOR_ABOUT)
         .after_help(SELECTOR_HELP)
-        .arg(json)?
-        .arg(hex)
+        .args(vec![in alloc; json, hex]?)
 }
 
 // An option with a text that must be given.
