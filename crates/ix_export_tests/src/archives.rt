@@ -1,20 +1,24 @@
 //! Exports by walkers and verifiers that wait for one another, and by some that find no memory or
 //! aren't started.
 
-ghost use Rattle.std.specs.Prelude.{◌≡◌, [], IfOk};
+ghost use Rattle.std.specs.Prelude.{◌≡◌, ◌≤◌, [], length, vec_len, IfOk};
+ghost use Rattle.std.specs.Arc.{arc_value};
 ghost use Rattle.ix_car.specs.ArchiveMeaning.{events_of};
+ghost use Rattle.ix_pipeline.specs.Headline.{EachFresh, EachUnused};
+ghost use Rattle.ix_pipeline.specs.Planned.{IsPlan};
 
 use crate::exporting::{chain, exported, list, plan_of};
-use ix_car::{Archive, Counts, End};
+use ix_car::{Archive, Counts, End, Skip};
 use ix_check::{Check, ShaCheck, Verdict};
 use ix_fixtures::{CHAIN_ARCHIVE, LIST_ARCHIVE, Refusing, bytes_of};
-use ix_pipeline::{Gate, Open};
+use ix_pipeline::{Gate, Open, Plan};
 use ix_walk::{Job, Store, Visit};
 use std::alloc::{AllocError, Global};
 use std::process::Abort;
 use std::sync::atomic::{AtomicBool, Ordering};
+use std::sync::{Arc, Wait};
 use std::test::Fail;
-use std::thread;
+use std::thread::{self, Threads};
 
 // How often a side looks whether the other began.
 const TURNS: u32 = 10_000_000;
@@ -105,11 +109,75 @@ fn archive_of<'a>(alloc: Global, store: &'a Store, job: &Job) -> Result<Archive<
     }
 }
 
+// Such an archive for each job.
+fn archives_of<'a>(
+    alloc: Global,
+    store: &'a Store,
+    jobs: &[Job],
+) -> Result<Vec<Archive<'a, Vec<u8>>>, Fail>
+    ensures count { IfOk result (λ r. length r.items ≡ length jobs.now) }
+    ensures fresh { IfOk result (λ r. EachFresh events_of (λ a. a.failed) r.items) }
+{
+    let mut archives = Vec::new(alloc);
+    for job in jobs {
+        archives.push(archive_of(alloc, store, job)?)?;
+    }
+    Ok(archives)
+}
+
+// What an archive in memory is left with.
+#[derive(Drop)]
+struct Left {
+    bytes: Vec<u8>,
+    skips: Vec<Skip>,
+    counts: Counts,
+}
+
+// Exports into such archives: what each is left with, and how its job ended.
+fn archived<C, G, R>(
+    rt: &R,
+    alloc: Global,
+    store: &Arc<Store>,
+    jobs: &Arc<Vec<Job>>,
+    checks: Vec<C>,
+    gate: &G,
+    plan: Plan,
+) -> Result<(Vec<Left>, Vec<End>), Fail>
+where
+    C: Check + Send + Drop,
+    G: Gate + Sync,
+    R: Threads + Wait + Sync,
+    requires unused { EachUnused C.checked checks.items }
+    requires jobs { length (arc_value jobs.now).items ≤ 1000 }
+    requires plan { IsPlan plan (vec_len checks) }
+{
+    let mut archives = archives_of(alloc, store, jobs.as_slice())?;
+    let sinks = archives.as_mut_slice();
+    let out = exported(rt, alloc, store, jobs, sinks, checks, gate, plan)?;
+    let mut all_left = Vec::new(alloc);
+    for archive in archives {
+        let (bytes, skips, counts) = archive.into_parts();
+        all_left.push(Left {
+            bytes,
+            skips,
+            counts,
+        })?;
+    }
+    Ok((all_left, out.ends))
+}
+
+// Whether so many jobs are done, each with this archive.
+fn are_done(all_left: &[Left], ends: &[End], count: usize, whole: &[u8]) -> bool {
+    all_left.len() == count
+        && ends.len() == count
+        && ends.iter().all(|end| *end == End::Done)
+        && all_left.iter().all(|left| left.bytes.as_slice() == whole)
+}
+
 #[test]
 fn held_verifiers(rt: HostRuntime) -> Result<(), Fail> {
     let alloc = rt.alloc();
     let (store, jobs) = chain(alloc, 1)?;
-    let mut archives = [archive_of(alloc, &store, &jobs[0])?];
     let meeting = Meeting::new();
     let first = Held {
         check: ShaCheck::new(alloc),
@@ -123,26 +191,13 @@ fn held_verifiers(rt: HostRuntime) -> Result<(), Fail> {
     };
     let checks = vec![in alloc; first, second]?;
     let plan = plan_of(1, 256, 64);
-    let out = exported(
-        &rt,
-        alloc,
-        &store,
-        &jobs,
-        &mut archives,
-        checks,
-        &Open,
-        plan,
-    )?;
+    let (all_left, ends) = archived(&rt, alloc, &store, &jobs, checks, &Open, plan)?;
     assert!(rt;
         !meeting.is_missed(),
         "no check began while the other waited"
     );
-    assert!(rt; out.ends.as_slice() == [End::Done].as_slice());
     let whole = bytes_of(alloc, CHAIN_ARCHIVE.as_slice())?;
-    for archive in archives {
-        let (bytes, _, _) = archive.into_parts();
-        assert!(rt; bytes == whole);
-    }
+    assert!(rt; are_done(all_left.as_slice(), ends.as_slice(), 1, whole.as_slice()));
     Ok(())
 }
 
@@ -150,36 +205,33 @@ fn held_verifiers(rt: HostRuntime) -> Result<(), Fail> {
 fn held_walkers(rt: HostRuntime) -> Result<(), Fail> {
     let alloc = rt.alloc();
     let (store, jobs) = chain(alloc, 2)?;
-    let mut archives = [
-        archive_of(alloc, &store, &jobs[0])?,
-        archive_of(alloc, &store, &jobs[1])?,
-    ];
     let checks = vec![in alloc; ShaCheck::new(alloc)]?;
     let gate = HeldGate {
         meeting: Meeting::new(),
     };
     let plan = plan_of(2, 256, 64);
-    let out = exported(
-        &rt,
-        alloc,
-        &store,
-        &jobs,
-        &mut archives,
-        checks,
-        &gate,
-        plan,
-    )?;
+    let (all_left, ends) = archived(&rt, alloc, &store, &jobs, checks, &gate, plan)?;
     assert!(rt;
         !gate.meeting.is_missed(),
         "no walk began while the other waited"
     );
-    assert!(rt; out.ends.as_slice() == [End::Done, End::Done].as_slice());
     let whole = bytes_of(alloc, CHAIN_ARCHIVE.as_slice())?;
-    for archive in archives {
-        let (bytes, _, _) = archive.into_parts();
-        assert!(rt; bytes == whole);
-    }
+    assert!(rt; are_done(all_left.as_slice(), ends.as_slice(), 2, whole.as_slice()));
     Ok(())
+}
+
+// An archive has so many sections, which are a beginning of this one, and skips nothing.
+fn has_begun(rt: &impl Abort, left: &Left, sections: u32, bytes: u64, whole: &[u8]) {
+    let wanted = Counts {
+        visits: sections,
+        kept: sections,
+        sections,
+        bytes,
+    };
+    assert_eq!(rt; left.counts, wanted);
+    assert!(rt; whole.starts_with(left.bytes.as_slice()));
+    assert_eq!(rt; left.bytes.len() as u64, bytes);
+    assert!(rt; left.skips.is_empty());
 }
 
 // Each of two checks finds no memory for the third visit of the first job.
@@ -187,10 +239,6 @@ fn held_walkers(rt: HostRuntime) -> Result<(), Fail> {
 fn refused_memory(rt: HostRuntime) -> Result<(), Fail> {
     let alloc = rt.alloc();
     let (store, jobs) = chain(alloc, 2)?;
-    let mut archives = [
-        archive_of(alloc, &store, &jobs[0])?,
-        archive_of(alloc, &store, &jobs[1])?,
-    ];
     let first = Refusing {
         check: ShaCheck::new(alloc),
     };
@@ -199,30 +247,12 @@ fn refused_memory(rt: HostRuntime) -> Result<(), Fail> {
     };
     let checks = vec![in alloc; first, second]?;
     let plan = plan_of(2, 256, 64);
-    let out = exported(
-        &rt,
-        alloc,
-        &store,
-        &jobs,
-        &mut archives,
-        checks,
-        &Open,
-        plan,
-    )?;
-    assert!(rt; out.ends.as_slice() == [End::Memory, End::Done].as_slice());
+    let (all_left, ends) = archived(&rt, alloc, &store, &jobs, checks, &Open, plan)?;
+    assert!(rt; ends.as_slice() == [End::Memory, End::Done].as_slice());
+    assert_eq!(rt; all_left.len(), 2);
     let whole = bytes_of(alloc, CHAIN_ARCHIVE.as_slice())?;
-    for (archive, (count, bytes)) in archives.into_iter().zip([(2, 217), (4, 336)]) {
-        let (written, skips, counts) = archive.into_parts();
-        let wanted = Counts {
-            visits: count,
-            kept: count,
-            sections: count,
-            bytes,
-        };
-        assert_eq!(rt; counts, wanted);
-        assert!(rt; whole.as_slice().starts_with(written.as_slice()));
-        assert_eq!(rt; written.len() as u64, bytes);
-        assert!(rt; skips.is_empty());
+    for (left, (sections, bytes)) in all_left.iter().zip([(2, 217), (4, 336)]) {
+        has_begun(&rt, left, sections, bytes, whole.as_slice());
     }
     Ok(())
 }
@@ -244,27 +274,13 @@ fn ends_say_what_was_written(rt: HostRuntime) -> Result<(), Fail> {
     let alloc = rt.alloc();
     let (store, jobs) = list(alloc, 3)?;
     let whole = bytes_of(alloc, LIST_ARCHIVE.as_slice())?;
-    let mut archives = [
-        archive_of(alloc, &store, &jobs[0])?,
-        archive_of(alloc, &store, &jobs[1])?,
-        archive_of(alloc, &store, &jobs[2])?,
-    ];
     let checks = vec![in alloc; ShaCheck::new(alloc), ShaCheck::new(alloc)]?;
     let plan = plan_of(2, 256, 64);
-    let out = exported(
-        &rt,
-        alloc,
-        &store,
-        &jobs,
-        &mut archives,
-        checks,
-        &Open,
-        plan,
-    )?;
-    for (archive, end) in archives.into_iter().zip(out.ends.iter()) {
-        let (written, _, _) = archive.into_parts();
-        says_what_was_written(&rt, *end, written.as_slice(), whole.as_slice());
+    let (all_left, ends) = archived(&rt, alloc, &store, &jobs, checks, &Open, plan)?;
+    assert_eq!(rt; all_left.len(), 3);
+    for (left, end) in all_left.iter().zip(ends.iter()) {
+        says_what_was_written(&rt, *end, left.bytes.as_slice(), whole.as_slice());
     }
-    assert_eq!(rt; out.ends.as_slice(), [End::Done; 3].as_slice());
+    assert_eq!(rt; ends.as_slice(), [End::Done; 3].as_slice());
     Ok(())
 }

@@ -1,11 +1,17 @@
 //! Runs with a check that finds no memory, and with a writer of a test's own.
 
+ghost use Rattle.std.specs.Prelude.{◌≡◌, ◌≤◌, [], length, IfOk};
+ghost use Rattle.std.specs.Arc.{arc_value};
+
 use crate::input::{CHAIN_CAR, CHAIN_JOBS};
-use ix_check::ShaCheck;
+use ix_check::{Check, ShaCheck};
 use ix_fixtures::{CHAIN_ARCHIVE, Refusing, bytes_of};
-use ix_jobs::{report, status};
+use ix_jobs::{JobResult, report, status};
 use ix_run::{prepare, run_jobs};
+use ix_walk::{Job, Store};
+use std::alloc::Global;
 use std::io::{self, ErrorKind, Write};
+use std::sync::Arc;
 use std::test::Fail;
 
 // A writer in memory whose flush may fail.
@@ -29,62 +35,113 @@ impl Write for Flushed {
     }
 }
 
-#[test]
-fn want_of_memory(rt: HostRuntime) -> Result<(), Fail> {
-    let alloc = rt.alloc();
+// What a run tells, and what it wrote.
+#[derive(Drop)]
+struct Ran<W> {
+    report: Vec<u8>,
+    status: u8,
+    writers: Vec<W>,
+}
+
+// The chain, and its two jobs.
+fn two_jobs(alloc: Global) -> Result<(Arc<Store>, Arc<Vec<Job>>), Fail>
+    ensures { IfOk result (λ p. length (arc_value p.1).items ≡ 2) }
+{
     let car = bytes_of(alloc, CHAIN_CAR.as_slice())?;
     let (store, jobs) = prepare(alloc, car.as_slice(), CHAIN_JOBS.as_bytes())?;
-    let writers = vec![in alloc; Vec::new(alloc), Vec::new(alloc)]?;
-    if writers.len() != jobs.len() {
+    if jobs.len() != 2 {
         return Err("two jobs were wanted".into());
     }
-    let mut check = Refusing {
-        check: ShaCheck::new(alloc),
-    };
-    let (results, writers) = run_jobs(alloc, &store, jobs.as_slice(), writers, &mut check)?;
+    Ok((store, jobs))
+}
+
+// Runs jobs by this check, to these writers.
+fn run_two<W: Write + Drop, C: Check>(
+    alloc: Global,
+    store: &Store,
+    jobs: &[Job],
+    writers: Vec<W>,
+    check: &mut C,
+) -> Result<Ran<W>, Fail>
+    requires unused { C.checked check.old ≡ [] }
+    requires writers { length writers.items ≡ length jobs.now }
+    requires jobs { length jobs.now ≤ 1000 }
+{
+    let (results, writers) = run_jobs(alloc, store, jobs, writers, check)?;
+    let report = report_of(alloc, jobs, results.as_slice())?;
+    Ok(Ran {
+        report,
+        status: status(results.as_slice()),
+        writers,
+    })
+}
+
+// The report of jobs with these results.
+fn report_of(alloc: Global, jobs: &[Job], results: &[JobResult]) -> Result<Vec<u8>, Fail> {
     if results.len() != jobs.len() {
         return Err("a result for each job was wanted".into());
     }
-    let made = report(alloc, jobs.as_slice(), results.as_slice())?;
-    let text = "a memory visits=2 kept=2 sections=2 bytes=217\n\
-        b done visits=4 kept=4 sections=4 bytes=336\n\
-        total jobs=2 done=1 skips=0\n";
-    assert_eq!(rt; made.as_slice(), text.as_bytes());
-    assert_eq!(rt; status(results.as_slice()), 4);
+    Ok(report(alloc, jobs, results)?)
+}
+
+// Whether a run tells this report, in which a job ends otherwise than done.
+fn tells<W>(ran: &Ran<W>, report: &str) -> bool {
+    ran.report.as_slice() == report.as_bytes() && ran.status == 4
+}
+
+// Whether the first writer has the archive up to its third section, and the second has all of it.
+fn are_cut_and_whole(alloc: Global, writers: &[Vec<u8>]) -> Result<bool, Fail> {
     let beginning = bytes_of(alloc, &CHAIN_ARCHIVE[..9])?;
     let whole = bytes_of(alloc, CHAIN_ARCHIVE.as_slice())?;
-    assert!(rt; writers == vec![in alloc; beginning, whole]?);
+    Ok(match writers {
+        [first, second] => *first == beginning && *second == whole,
+        _ => false,
+    })
+}
+
+#[test]
+fn want_of_memory(rt: HostRuntime) -> Result<(), Fail> {
+    let alloc = rt.alloc();
+    let (store, jobs) = two_jobs(alloc)?;
+    let mut check = Refusing {
+        check: ShaCheck::new(alloc),
+    };
+    let writers = vec![in alloc; Vec::new(alloc), Vec::new(alloc)]?;
+    let ran = run_two(alloc, &store, jobs.as_slice(), writers, &mut check)?;
+    let report = "a memory visits=2 kept=2 sections=2 bytes=217\n\
+        b done visits=4 kept=4 sections=4 bytes=336\n\
+        total jobs=2 done=1 skips=0\n";
+    assert!(rt; tells(&ran, report));
+    assert!(rt; are_cut_and_whole(alloc, ran.writers.as_slice())?);
     Ok(())
+}
+
+// A writer to which nothing was written so far.
+fn empty_writer(alloc: Global, fails: bool) -> Flushed {
+    Flushed {
+        bytes: Vec::new(alloc),
+        fails,
+    }
+}
+
+// Whether two writers have the archive.
+fn are_whole(alloc: Global, writers: &[Flushed]) -> Result<bool, Fail> {
+    let whole = bytes_of(alloc, CHAIN_ARCHIVE.as_slice())?;
+    Ok(writers.len() == 2 && writers.iter().all(|writer| writer.bytes == whole))
 }
 
 // A flush that fails is a failed write, and the bytes are there.
 #[test]
 fn failing_flush(rt: HostRuntime) -> Result<(), Fail> {
     let alloc = rt.alloc();
-    let car = bytes_of(alloc, CHAIN_CAR.as_slice())?;
-    let (store, jobs) = prepare(alloc, car.as_slice(), CHAIN_JOBS.as_bytes())?;
-    let mut writers = Vec::new(alloc);
-    for fails in [false, true] {
-        let bytes = Vec::new(alloc);
-        writers.push(Flushed { bytes, fails })?;
-    }
-    if writers.len() != jobs.len() {
-        return Err("two jobs were wanted".into());
-    }
+    let (store, jobs) = two_jobs(alloc)?;
     let mut check = ShaCheck::new(alloc);
-    let (results, writers) = run_jobs(alloc, &store, jobs.as_slice(), writers, &mut check)?;
-    if results.len() != jobs.len() {
-        return Err("a result for each job was wanted".into());
-    }
-    let made = report(alloc, jobs.as_slice(), results.as_slice())?;
-    let text = "a done visits=4 kept=4 sections=4 bytes=336\n\
+    let writers = vec![in alloc; empty_writer(alloc, false), empty_writer(alloc, true)]?;
+    let ran = run_two(alloc, &store, jobs.as_slice(), writers, &mut check)?;
+    let report = "a done visits=4 kept=4 sections=4 bytes=336\n\
         b write visits=4 kept=4 sections=4 bytes=336\n\
         total jobs=2 done=1 skips=0\n";
-    assert_eq!(rt; made.as_slice(), text.as_bytes());
-    assert_eq!(rt; status(results.as_slice()), 4);
-    let whole = bytes_of(alloc, CHAIN_ARCHIVE.as_slice())?;
-    for writer in &writers {
-        assert_eq!(rt; writer.bytes.as_slice(), whole.as_slice());
-    }
+    assert!(rt; tells(&ran, report));
+    assert!(rt; are_whole(alloc, ran.writers.as_slice())?);
     Ok(())
 }
