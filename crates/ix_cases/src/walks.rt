@@ -67,14 +67,14 @@ fn text_of_job(alloc: Global, job: &Job) -> Result<String> {
 pub fn walk(alloc: Global, store: &Store, input: &str) -> Result<String> {
     let (number, rest) = two_words(input)?;
     let job = job_of_words(alloc, rest)?;
-    text_of_walk(alloc, store, &job, number)
+    let mut walk = Walk::new(alloc, store, &job, number.parse::<u32>()?)?;
+    text_of_walk(alloc, store, &mut walk)
 }
 
-// The visits of the job with this number, and the stop behind them.
-fn text_of_walk(alloc: Global, store: &Store, job: &Job, number: &str) -> Result<String> {
-    let mut walk = Walk::new(alloc, store, job, number.parse::<u32>()?)?;
-    let answer = text_of_visits(alloc, store, &mut walk)?;
-    ensure!(is_over(&mut walk), "the walk goes on behind its end");
+// The visits of a walk, and the stop behind them.
+fn text_of_walk(alloc: Global, store: &Store, walk: &mut Walk<'_>) -> Result<String> {
+    let answer = text_of_visits(alloc, store, walk)?;
+    ensure!(is_over(walk), "the walk goes on behind its end");
     Ok(answer)
 }
 

@@ -61,6 +61,9 @@ spot_of-returns-in_ok-push_fields-in-Fields-clause-spot t c =
     let named = c.in_ok-push_fields-in-Fields.ensures.named in
     ((named.0, named.1), ap (λ l. fields (fields_of l)) (named.2 ∙ ap (map seen_field) c.deref-in-Fields.ensures.value) ∙ sym is)
 
+pub push_spots-returns-clause-last : goal.push_spots-returns-clause-last
+push_spots-returns-clause-last t c = search rules
+
 pub push_spots-returns-clause-behind : goal.push_spots-returns-clause-behind
 push_spots-returns-clause-behind t c =
     let number : c.len-number.result ≡ length c.spot_of.new.spots.items = search rules in
