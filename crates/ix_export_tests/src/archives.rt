@@ -11,7 +11,7 @@ use crate::exporting::{chain, exported, list, plan_of};
 use ix_car::{Archive, Counts, End, Skip};
 use ix_check::{Check, ShaCheck, Verdict};
 use ix_fixtures::{CHAIN_ARCHIVE, LIST_ARCHIVE, Refusing, bytes_of};
-use ix_pipeline::{Gate, Open, Plan};
+use ix_pipeline::{Gate, Open, Outcome, Plan};
 use ix_walk::{Job, Store, Visit};
 use std::alloc::{AllocError, Global};
 use std::process::Abort;
@@ -125,16 +125,16 @@ fn archives_of<'a>(
     Ok(archives)
 }
 
-// What an archive in memory is left with.
+/// What an archive in memory is left with.
 #[derive(Drop)]
-struct Left {
-    bytes: Vec<u8>,
-    skips: Vec<Skip>,
-    counts: Counts,
+pub struct Left {
+    pub bytes: Vec<u8>,
+    pub skips: Vec<Skip>,
+    pub counts: Counts,
 }
 
-// Exports into such archives: what each is left with, and how its job ended.
-fn archived<C, G, R>(
+/// Exports into such archives: what each is left with, and what the export leaves.
+pub fn archived<C, G, R>(
     rt: &R,
     alloc: Global,
     store: &Arc<Store>,
@@ -142,7 +142,7 @@ fn archived<C, G, R>(
     checks: Vec<C>,
     gate: &G,
     plan: Plan,
-) -> Result<(Vec<Left>, Vec<End>), Fail>
+) -> Result<(Vec<Left>, Outcome<C>), Fail>
 where
     C: Check + Send + Drop,
     G: Gate + Sync,
@@ -163,7 +163,7 @@ where
             counts,
         })?;
     }
-    Ok((all_left, out.ends))
+    Ok((all_left, out))
 }
 
 // Whether so many jobs are done, each with this archive.
@@ -191,13 +191,20 @@ fn held_verifiers(rt: HostRuntime) -> Result<(), Fail> {
     };
     let checks = vec![in alloc; first, second]?;
     let plan = plan_of(1, 256, 64);
-    let (all_left, ends) = archived(&rt, alloc, &store, &jobs, checks, &Open, plan)?;
+    let (all_left, out) = archived(&rt, alloc, &store, &jobs, checks, &Open, plan)?;
     assert!(rt;
         !meeting.is_missed(),
         "no check began while the other waited"
     );
     let whole = bytes_of(alloc, CHAIN_ARCHIVE.as_slice())?;
-    assert!(rt; are_done(all_left.as_slice(), ends.as_slice(), 1, whole.as_slice()));
+    assert!(rt;
+        are_done(
+            all_left.as_slice(),
+            out.ends.as_slice(),
+            1,
+            whole.as_slice()
+        )
+    );
     Ok(())
 }
 
@@ -210,13 +217,20 @@ fn held_walkers(rt: HostRuntime) -> Result<(), Fail> {
         meeting: Meeting::new(),
     };
     let plan = plan_of(2, 256, 64);
-    let (all_left, ends) = archived(&rt, alloc, &store, &jobs, checks, &gate, plan)?;
+    let (all_left, out) = archived(&rt, alloc, &store, &jobs, checks, &gate, plan)?;
     assert!(rt;
         !gate.meeting.is_missed(),
         "no walk began while the other waited"
     );
     let whole = bytes_of(alloc, CHAIN_ARCHIVE.as_slice())?;
-    assert!(rt; are_done(all_left.as_slice(), ends.as_slice(), 2, whole.as_slice()));
+    assert!(rt;
+        are_done(
+            all_left.as_slice(),
+            out.ends.as_slice(),
+            2,
+            whole.as_slice()
+        )
+    );
     Ok(())
 }
 
@@ -247,8 +261,8 @@ fn refused_memory(rt: HostRuntime) -> Result<(), Fail> {
     };
     let checks = vec![in alloc; first, second]?;
     let plan = plan_of(2, 256, 64);
-    let (all_left, ends) = archived(&rt, alloc, &store, &jobs, checks, &Open, plan)?;
-    assert!(rt; ends.as_slice() == [End::Memory, End::Done].as_slice());
+    let (all_left, out) = archived(&rt, alloc, &store, &jobs, checks, &Open, plan)?;
+    assert!(rt; out.ends.as_slice() == [End::Memory, End::Done].as_slice());
     assert_eq!(rt; all_left.len(), 2);
     let whole = bytes_of(alloc, CHAIN_ARCHIVE.as_slice())?;
     for (left, (sections, bytes)) in all_left.iter().zip([(2, 217), (4, 336)]) {
@@ -276,11 +290,11 @@ fn ends_say_what_was_written(rt: HostRuntime) -> Result<(), Fail> {
     let whole = bytes_of(alloc, LIST_ARCHIVE.as_slice())?;
     let checks = vec![in alloc; ShaCheck::new(alloc), ShaCheck::new(alloc)]?;
     let plan = plan_of(2, 256, 64);
-    let (all_left, ends) = archived(&rt, alloc, &store, &jobs, checks, &Open, plan)?;
+    let (all_left, out) = archived(&rt, alloc, &store, &jobs, checks, &Open, plan)?;
     assert_eq!(rt; all_left.len(), 3);
-    for (left, end) in all_left.iter().zip(ends.iter()) {
+    for (left, end) in all_left.iter().zip(out.ends.iter()) {
         says_what_was_written(&rt, *end, left.bytes.as_slice(), whole.as_slice());
     }
-    assert_eq!(rt; ends.as_slice(), [End::Done; 3].as_slice());
+    assert_eq!(rt; out.ends.as_slice(), [End::Done; 3].as_slice());
     Ok(())
 }

@@ -1,11 +1,12 @@
 //! Exports in which one stage waits for another: delivery goes on while visits are checked, checks
 //! while jobs are walked, and any walker takes any job.
 
+use crate::archives::{Left, archived};
 use crate::exporting::{chain, exported, list, plan_of};
-use ix_car::{End, Sink, SinkFault};
+use ix_car::{Counts, End, Sink, SinkFault};
 use ix_check::{Check, ShaCheck, Verdict};
 use ix_cid::Cid;
-use ix_fixtures::{ABC, ALL, Log, bytes_of, job_at, store_of};
+use ix_fixtures::{ABC, ALL, Log, ROOTS, VERSION, bytes_of, job_at, store_of};
 use ix_pipeline::{Gate, Open};
 use ix_walk::{Store, Visit};
 use sha2::{Digest, Sha256};
@@ -20,6 +21,14 @@ const TURNS: u32 = 10_000_000;
 
 // How many visits of the forty layers are wanted.
 const LIMIT: u32 = 1_000;
+
+// The counts of these visits: each layer is written once.
+const LAYER_COUNTS: Counts = Counts {
+    visits: LIMIT,
+    kept: LIMIT,
+    sections: 41,
+    bytes: 4_899,
+};
 
 // Something that is to begin while another side waits for it.
 #[derive(Drop)]
@@ -264,10 +273,21 @@ fn no_walker_has_a_fixed_share(rt: HostRuntime) -> Result<(), Fail> {
     Ok(())
 }
 
-// Forty layers, each a list of two links to the next, above a raw block; and the CID of the first.
-fn layers(alloc: Global) -> Result<(Store, Cid), Fail> {
+// An archive of these sections.
+fn archive_of(alloc: Global, root: &[u8], sections: &[u8]) -> Result<Vec<u8>, Fail> {
+    let mut archive = bytes_of(alloc, &[ROOTS])?;
+    archive.extend_from_slice(root)?;
+    archive.extend_from_slice(bytes_of(alloc, &[VERSION])?.as_slice())?;
+    archive.extend_from_slice(sections)?;
+    Ok(archive)
+}
+
+// Forty layers, each a list of two links to the next, above a raw block; the CID of the first; and
+// the archive of all of them.
+fn layers(alloc: Global) -> Result<(Store, Cid, Vec<u8>), Fail> {
     let mut store = store_of(alloc, &[(ABC, "616263")])?;
     let mut cid = bytes_of(alloc, &[ABC])?;
+    let mut sections = bytes_of(alloc, &["27", ABC, "616263"])?;
     for _ in 0..40 {
         let mut block = bytes_of(alloc, &["82"])?;
         for _ in 0..2 {
@@ -276,11 +296,27 @@ fn layers(alloc: Global) -> Result<(Store, Cid), Fail> {
         }
         cid = bytes_of(alloc, &["01711220"])?;
         cid.extend_from_slice(Sha256::digest(block.as_slice()).as_slice())?;
+        let mut with_section = bytes_of(alloc, &["77"])?;
+        with_section.extend_from_slice(cid.as_slice())?;
+        with_section.extend_from_slice(block.as_slice())?;
+        with_section.extend_from_slice(sections.as_slice())?;
+        sections = with_section;
         let (key, _) = Cid::read(alloc, cid.as_slice())?;
         store.add(key, block)?;
     }
     let (root, _) = Cid::read(alloc, cid.as_slice())?;
-    Ok((store, root))
+    let archive = archive_of(alloc, cid.as_slice(), sections.as_slice())?;
+    Ok((store, root, archive))
+}
+
+// Whether there is one archive, with these counts and bytes and without skips.
+fn is_archived(all_left: &[Left], counts: Counts, archive: &[u8]) -> bool {
+    match all_left {
+        [left] => {
+            left.counts == counts && left.bytes.as_slice() == archive && left.skips.is_empty()
+        }
+        _ => false,
+    }
 }
 
 // How many visits stand in the receipts, if none stands twice.
@@ -299,11 +335,10 @@ fn count_once(seen: &mut [bool], receipts: &[(u32, u32)]) -> Result<u32, Fail> {
 #[test]
 fn slow_verifier(rt: HostRuntime) -> Result<(), Fail> {
     let alloc = rt.alloc();
-    let (store, root) = layers(alloc)?;
+    let (store, root, archive) = layers(alloc)?;
     let store = Arc::new(alloc, store)?;
     let jobs = Arc::new(alloc, vec![in alloc; job_at(alloc, root, ALL, LIMIT)?]?)?;
     let begun = Awaited::new(100);
-    let mut sinks = [Log::new(alloc, LIMIT as usize)?];
     let slow = Paced {
         check: ShaCheck::new(alloc),
         begun: &begun,
@@ -316,7 +351,7 @@ fn slow_verifier(rt: HostRuntime) -> Result<(), Fail> {
     };
     let checks = vec![in alloc; slow, other]?;
     let plan = plan_of(1, 1, 1);
-    let out = exported(&rt, alloc, &store, &jobs, &mut sinks, checks, &Open, plan)?;
+    let (all_left, out) = archived(&rt, alloc, &store, &jobs, checks, &Open, plan)?;
     assert!(rt;
         !begun.is_missed(),
         "one verifier waited, and the other had nothing to check"
@@ -328,6 +363,6 @@ fn slow_verifier(rt: HostRuntime) -> Result<(), Fail> {
         count = count.saturating_add(count_once(&mut seen, paced.check.receipts())?);
     }
     assert_eq!(rt; count, LIMIT);
-    assert_eq!(rt; sinks[0].deliveries.len(), LIMIT as usize);
+    assert!(rt; is_archived(all_left.as_slice(), LAYER_COUNTS, archive.as_slice()));
     Ok(())
 }
