@@ -89,6 +89,13 @@ fn put_visits<R: Wait>(
     Ok(End::Done)
 }
 
+// The seat's job.
+fn job_of_seat<'a>(jobs: &'a [Job], seat: &JobSeat) -> Option<&'a Job>
+    ensures { IfSome result (λ job. slice_get jobs.now seat.now.job ≡ Some job.now) }
+{
+    jobs.get(seat.job() as usize)
+}
+
 // Puts the visits of the seat's job, and gives its close.
 fn put_job<R: Wait>(
     rt: &R,
@@ -105,7 +112,7 @@ fn put_job<R: Wait>(
     ensures next { IfOk result (λ close. (seat.new.closed ≡ false) × IsNext seat.new close) }
 {
     course_of_jobs();
-    let Some(job) = jobs.get(seat.job() as usize) else {
+    let Some(job) = job_of_seat(jobs, seat) else {
         return Err(AllocError);
     };
     let end = put_visits(rt, alloc, store, job, jobs, queue, seat)?;
@@ -598,6 +605,43 @@ fn three_walks_through_room_for_one(rt: HostRuntime) -> Result<(), Fail> {
     Ok(())
 }
 
+// Whether the first visit of the seat's job fills a queue with room for one, so that the second
+// comes back, and then the first is taken and nothing behind it.
+fn has_room_for_one<R: Wait>(
+    rt: &R,
+    alloc: Global,
+    store: &Store,
+    jobs: &[Job],
+    queue: &VisitQueue,
+    seat: &mut JobSeat,
+    taker: &mut TakeSeat,
+) -> Result<bool, AllocError>
+    requires seat { CanWalk queue.now (course_of store.now jobs.now) seat.old }
+    requires taker { taker.old.table ≡ table_of queue.now }
+{
+    course_of_jobs();
+    let Some(job) = job_of_seat(jobs, seat) else {
+        return Ok(false);
+    };
+    let mut walk = Walk::new(alloc, store, job, seat.job())?;
+    let Some(Ok(first)) = walk.next() else {
+        return Ok(false);
+    };
+    let Some(Ok(second)) = walk.next() else {
+        return Ok(false);
+    };
+    let Ok(()) = queue.try_put(rt, seat, Item::Visit(first)) else {
+        return Ok(false);
+    };
+    let Err(Item::Visit(back)) = queue.try_put(rt, seat, Item::Visit(second)) else {
+        return Ok(false);
+    };
+    let Some(Item::Visit(taken)) = queue.try_take(rt, taker) else {
+        return Ok(false);
+    };
+    Ok(taken.seq == 0 && back.seq == 1 && queue.try_take(rt, taker).is_none())
+}
+
 // The visits of the seat's job fill the queue, whose close and Stop find room once it is emptied.
 fn fills_and_empties<R: Abort + Wait>(
     rt: &R,
@@ -622,9 +666,31 @@ fn fills_and_empties<R: Abort + Wait>(
     Ok(())
 }
 
-// The chain's four visits fill the queue. None of the contracts says when a queue is full or empty.
+// None of the contracts says when a queue is full or empty.
 #[test]
 fn queue(rt: HostRuntime) -> Result<(), Fail> {
+    let alloc = rt.alloc();
+    let store = chain_of(alloc)?;
+    let jobs = jobs_of(alloc, OUTER, 1, 100)?;
+    let QueueParts {
+        queue,
+        jobs: mut seats,
+        mut takers,
+        ..
+    } = queue_of(alloc, &store, &jobs, 1, 1)?;
+    let (Some(mut taker), Some(mut seat)) = (
+        next_taker(&queue, &mut takers),
+        next_walker(&store, &jobs, &queue, &mut seats),
+    ) else {
+        return Err("a seat and a taker were wanted".into());
+    };
+    assert!(rt; has_room_for_one(&rt, alloc, &store, &jobs, &queue, &mut seat, &mut taker,)?);
+    Ok(())
+}
+
+// The chain's four visits fill the queue.
+#[test]
+fn close_and_stop_at_a_full_queue(rt: HostRuntime) -> Result<(), Fail> {
     let alloc = rt.alloc();
     let store = chain_of(alloc)?;
     let jobs = jobs_of(alloc, OUTER, 1, 100)?;
