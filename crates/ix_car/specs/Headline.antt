@@ -1,5 +1,5 @@
 -- What an export leaves: each sink's events, archives and checks.
-use Rattle.std.specs.Prelude.{◌≡◌, ℕ, ◌+◌, ◌<◌, List, [], ◌∷◌, ◌++◌, length, Option, Some, None, slice_get, Contains}
+use Rattle.std.specs.Prelude.{◌≡◌, ◌⊎◌, ℕ, ◌+◌, ◌<◌, List, [], ◌∷◌, ◌++◌, length, Option, Some, None, slice_get, Contains, All}
 use Rattle.ix_walk.specs.Store.{Blocks}
 use Rattle.ix_walk.specs.JobMeaning.{JobMeaning}
 use Rattle.ix_walk.specs.Visits.{visits_of}
@@ -66,13 +66,22 @@ visit_count store jobs n = count (slice_get jobs n) where
 abbrev pub AllWalked : List End → Type 0
 AllWalked ends = (Contains ends Memory → ⊥) × (Contains ends Start → ⊥)
 
--- The pairs that were checked: none twice, each that of a visit, among them those of all deliveries, and all where every job was walked.
+-- the job with this number ended neither for want of memory nor of threads
+abbrev pub IsWalkedAt : List End → ℕ → Type 0
+IsWalkedAt ends job = (slice_get ends job ≡ Some Memory → ⊥) × (slice_get ends job ≡ Some Start → ⊥)
+
+-- The pairs that were checked: none twice, each that of a visit, among them those of all deliveries, all of each job that was walked, and so all where every job was.
 pub record IsCheckedOnce {S : Type 0} (events : S → List Event) (store : Blocks) (jobs : List JobMeaning) (ends : List End) (sinks : List S) (pairs : List (ℕ × ℕ)) : Type 0 where
   pub once : IsEachOnce pairs
   pub within : (job seq : ℕ) → Contains pairs (job, seq) → seq < visit_count store jobs job
   pub delivered : (s : S) (d : Delivery) → Contains sinks s → Contains (events s) (delivery d) → Contains pairs (d.visit.job, d.visit.seq)
+  pub every : (job seq : ℕ) → IsWalkedAt ends job → seq < visit_count store jobs job → Contains pairs (job, seq)
   pub all : AllWalked ends → (job seq : ℕ) → seq < visit_count store jobs job → Contains pairs (job, seq)
 
 -- no job ended for want of threads
 abbrev pub NoneIsStart : List End → Type 0
 NoneIsStart ends = Contains ends Start → ⊥
+
+-- no job ended for want of threads, or every job did
+abbrev pub NoneOrAllStart : List End → Type 0
+NoneOrAllStart ends = NoneIsStart ends ⊎ All (λ end. end ≡ Start) ends

@@ -1,11 +1,10 @@
 -- The order of bytes is the order of the numbers that they spell, eight at a time.
-use Rattle.std.proofs.Common.{◌≡◌, Ordering, Less, Equal, Greater, ℕ, suc, ◌+◌, ◌*◌, ◌^◌, ◌<◌, ◌≤◌, List, [], ◌∷◌, ◌++◌, length, take, drop, refl, sym, ap, ◌∙◌, subst, arith}
+use Rattle.std.proofs.Common.{◌≡◌, Ordering, Less, Equal, Greater, ℕ, suc, ◌+◌, ◌*◌, ◌^◌, ◌<◌, ◌≤◌, List, [], ◌∷◌, length, refl, sym, ap, ◌∙◌, subst, arith}
 use Rattle.std.specs.Int.{w64, from_be_bytes}
 use Rattle.std.specs.Ordering.{MatchOrdering, nat_cmp, ordering_then}
 use Rattle.std.specs.Cmp.{ranks, nat_cmp_is}
 use Rattle.std.specs.Cmp.Lexicographic.{slice_cmp}
 use Rattle.std.proofs.Math.Nat.{mul-le-mul_right, pow-suc}
-use Rattle.std.proofs.lemmas.List.{take-append-drop, length-take}
 use Rattle.ix_cid.specs.Bytes.{AreBytes}
 
 -- what is behind the first byte are bytes
@@ -59,39 +58,9 @@ worth_eight (a ∷ b ∷ c ∷ d ∷ e ∷ f ∷ []) eight = absurd (omega (arit
 worth_eight (a ∷ b ∷ c ∷ d ∷ e ∷ f ∷ g ∷ []) eight = absurd (omega (arith, eight))
 worth_eight (a ∷ b ∷ c ∷ d ∷ e ∷ f ∷ g ∷ h ∷ i ∷ bs) eight = absurd (omega (arith, eight))
 
--- what decides first, then and last may be taken together from either end
-in_turn : (p q r o : Ordering) → p ≡ ordering_then q r → ordering_then o p ≡ ordering_then (ordering_then o q) r
-in_turn p q r Less e = refl
-in_turn p q r Equal e = e
-in_turn p q r Greater e = refl
-
--- fronts of one length decide, and where they are equal what stands behind them
-fronts : (xs ys more rest : List ℕ) → length xs ≡ length ys → slice_cmp nat_cmp (xs ++ more) (ys ++ rest) ≡ ordering_then (slice_cmp nat_cmp xs ys) (slice_cmp nat_cmp more rest)
-fronts [] [] more rest same = refl
-fronts [] (y ∷ ys) more rest same = absurd (omega (arith, same))
-fronts (x ∷ xs) [] more rest same = absurd (omega (arith, same))
-fronts (x ∷ xs) (y ∷ ys) more rest same = in_turn _ _ _ (nat_cmp x y) (fronts xs ys more rest (omega (arith, same)))
-
 -- the order of the numbers that eight bytes spell is theirs
 pub order_of_eight : (xs ys : List ℕ) → length xs ≡ 8 → length ys ≡ 8 → AreBytes xs → AreBytes ys
     → nat_cmp (from_be_bytes w64 xs) (from_be_bytes w64 ys) ≡ slice_cmp nat_cmp xs ys
 order_of_eight xs ys m n xb yb =
     ap (λ (a : ℕ). nat_cmp a (from_be_bytes w64 ys)) (worth_eight xs m) ∙ ap (nat_cmp (worth xs)) (worth_eight ys n)
     ∙ sym (nat_cmp_is (worth xs) (worth ys) (slice_cmp nat_cmp xs ys) (ranked xs ys (m ∙ sym n) xb yb))
-
--- the first eight bytes decide, and where they are equal what stands behind them
-pub eight_first : (xs ys front other more rest : List ℕ) (o : Ordering) → 8 ≤ length xs → 8 ≤ length ys
-    → front ≡ take 8 xs → other ≡ take 8 ys → more ≡ drop 8 xs → rest ≡ drop 8 ys
-    → o ≡ slice_cmp nat_cmp front other → ordering_then o (slice_cmp nat_cmp more rest) ≡ slice_cmp nat_cmp xs ys
-eight_first xs ys front other more rest o long far f g m r is =
-    let same : length front ≡ length other = omega (arith, ap length f, ap length g, length-take 8 xs, length-take 8 ys) in
-    ap (λ (p : Ordering). ordering_then p (slice_cmp nat_cmp more rest)) is
-    ∙ sym (fronts front other more rest same)
-    ∙ ap (λ (l : List ℕ). slice_cmp nat_cmp l (other ++ rest)) (ap (λ (l : List ℕ). l ++ more) f ∙ ap (λ (l : List ℕ). take 8 xs ++ l) m ∙ take-append-drop 8 xs)
-    ∙ ap (slice_cmp nat_cmp xs) (ap (λ (l : List ℕ). l ++ rest) g ∙ ap (λ (l : List ℕ). take 8 ys ++ l) r ∙ take-append-drop 8 ys)
-
--- what isn't equal is decided
-pub decided : (o behind : Ordering) → (o ≡ Equal → ⊥) → o ≡ ordering_then o behind
-decided Less p unequal = refl
-decided Equal p unequal = absurd (unequal refl)
-decided Greater p unequal = refl

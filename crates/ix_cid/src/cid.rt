@@ -170,16 +170,22 @@ impl Eq for Cid {
 }
 
 // The order of bytes, eight at a time as one number. CIDs begin alike, and a tree of them compares many.
+// Strangers choose long ones that agree up to their ends, so this is a loop.
 fn order_of_bytes(left: &[u8], right: &[u8]) -> Ordering
     ensures { result ≡ slice_cmp nat_cmp left.now right.now }
 {
-    match (left.split_first_chunk(), right.split_first_chunk()) {
-        (Some((front, more)), Some((other, rest))) => match order_of_words(front, other) {
-            Ordering::Equal => order_of_bytes(more, rest),
-            order => order,
-        },
-        _ => left.cmp(right),
+    let mut here = left;
+    let mut there = right;
+    'words: while let (Some((front, more)), Some((other, rest))) = (
+        here.split_first_chunk(),
+        there.split_first_chunk(),
+    ) {
+        match order_of_words(front, other) {
+            Ordering::Equal => (here, there) = (more, rest),
+            order => return order,
+        }
     }
+    here.cmp(there)
 }
 
 // The order of eight bytes.

@@ -1,4 +1,15 @@
 //! Content identifiers: varints, CIDs and their texts.
+//!
+//! A CID is read exactly where the front of the bytes is one, and a refusal is the first fault; no
+//! CID is the beginning of another. A CIDv1 and its text in base32 give one another. Appending
+//! leaves everything as it was where memory runs out.
+//!
+//! ```rust
+//! let text = "bafkreif2pall7dybz7vecqka3zo24irdwabwdi4wc55jznaq75q7eaavvu";
+//! let cid = Cid::from_text(alloc, text)?;
+//! let (same, length) = Cid::read(alloc, cid.as_bytes())?;
+//! assert!(rt; same == cid && length == 36 && cid.codec() == code::RAW);
+//! ```
 #![tactic(auto)]
 
 mod base32;

@@ -11,9 +11,9 @@ use Rattle.ix_collect.specs.declared.collector.Collector.{Collector}
 use Rattle.ix_stages.specs.Received.{Tally, tally, Inserts, job_of}
 use Rattle.ix_stages.specs.Good.{judged_at, over_at, IsAllowed, IsGood}
 use Rattle.std.specs.Prelude.{not, ◌||◌}
-use Rattle.ix_collect.specs.Progress.{IsNew, IsFine, IsItem, IsSafe, IsCome, IsEnded}
+use Rattle.ix_collect.specs.Progress.{IsNew, IsFine, IsItem, IsSafe, IsCome, IsEnded, IsMisplaced}
 use Rattle.std.proofs.lemmas.List.{take_more}
-use Rattle.ix_collect.specs.Collected.{AllNew, EachSafe, EachCome, IsCollected, AllEnded, IsClosedAt}
+use Rattle.ix_collect.specs.Collected.{AllNew, EachSafe, EachCome, IsCollected, AllEnded, IsClosedAt, IsMisplacedAt}
 use Rattle.ix_collect.proofs.Goodness.{tally_same, fine_of, item_of, good_before}
 
 -- the job of an item that may be sent is there
@@ -48,6 +48,11 @@ pub closed_at : (ps : List Progress) (i : ℕ) (p : Progress) → p ≡ get_or p
 closed_at [] i p at h = absurd h
 closed_at (x ∷ ps) zero p at h = subst IsEnded (sym at) h
 closed_at (x ∷ ps) (suc i) p at h = closed_at ps i p at h
+
+pub misplaced_at : (ps : List Progress) (x : Verdicted) (i : ℕ) (p : Progress) → p ≡ get_or ps i p → IsMisplacedAt ps x i → IsMisplaced p x
+misplaced_at [] x i p at h = absurd h
+misplaced_at (q ∷ ps) x zero p at h = subst (λ (r : Progress). IsMisplaced r x) (sym at) h
+misplaced_at (q ∷ ps) x (suc i) p at h = misplaced_at ps x i p at h
 
 -- what was noted stays noted, and an item that can't come is
 pub stays_noted : (noted more : Bool) → noted ≡ true → (noted || more) ≡ true

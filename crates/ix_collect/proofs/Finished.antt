@@ -5,6 +5,7 @@ use Rattle.std.proofs.lemmas.Bool.{cases_lt}
 use Rattle.std.proofs.lemmas.Bool.Decides.{nat_tests}
 use Rattle.std.proofs.lemmas.List.{length-map}
 use Rattle.std.proofs.lemmas.List.Elements.{All-head, All-tail, Contains-push_cases}
+use Rattle.std.proofs.lemmas.Option.{slice_get_past}
 use Rattle.ix_walk.specs.Store.{Blocks}
 use Rattle.ix_walk.specs.JobMeaning.{JobMeaning}
 use Rattle.ix_walk.specs.Arrivals.{Arrival}
@@ -16,7 +17,7 @@ use Rattle.ix_car.specs.Events.{Event, delivery, close}
 use Rattle.ix_car.specs.Verified.{judged, judged_visits}
 use Rattle.ix_car.specs.Faithful.{IsFaithful, EndFits}
 use Rattle.ix_car.specs.Headline.{EachDelivered, IsCheckedOnce, IsEachOnce, NoneIsStart, visit_count}
-use Rattle.ix_collect.proofs.Members.{cases_cons, none_in, has_first, has_rest}
+use Rattle.ix_collect.proofs.Members.{cases_cons, none_in, has_first, has_rest, has_got}
 use Rattle.ix_stages.specs.declared.verdicted.Verdicted.{Verdicted}
 use Rattle.ix_stages.specs.declared.verdicted.Verdicted.TheVariants.{Checked, Unchecked, Close, Last}
 use Rattle.ix_collect.specs.declared.progress.Progress.{Progress}
@@ -228,7 +229,7 @@ module _ {S : Type 0} (events : S → List Event) (failed : S → List Delivery)
 
   -- each visit of a job that was walked was checked
   every_from : (n i job seq : ℕ) (ps : List Progress) (ss : List S) (es : List End)
-      → job ≡ n + i → i < length ps → EachCome events failed store jobs got n ps ss → EachEnded ps es → (Contains es Memory → ⊥) → seq < length (judged_at store jobs job) → Contains (pairs_of got) (job, seq)
+      → job ≡ n + i → i < length ps → EachCome events failed store jobs got n ps ss → EachEnded ps es → (slice_get es i ≡ Some Memory → ⊥) → seq < length (judged_at store jobs job) → Contains (pairs_of got) (job, seq)
   every_from n i job seq [] ss es at lt come ended walked within = absurd (omega arith)
   every_from n i job seq (p ∷ ps) [] es at lt come ended walked within = absurd come
   every_from n i job seq (p ∷ ps) (s ∷ ss) [] at lt come ended walked within = absurd ended
@@ -236,26 +237,29 @@ module _ {S : Type 0} (events : S → List Event) (failed : S → List Delivery)
       let same : job ≡ n = omega arith in
       let w = over_of n p s e ended.0 come.0 in
       let here : seq < length (judged_at store jobs n) = subst (λ (k : ℕ). seq < length (judged_at store jobs k)) same within in
-      let counts : 0 < weigh (is_checked n seq) got = w.every (λ (m : e ≡ Memory). walked (0, omega arith, m)) seq here in
+      let counts : 0 < weigh (is_checked n seq) got = w.every (λ (m : e ≡ Memory). walked (ap (λ (x : End). Some x) m)) seq here in
       subst (λ (k : ℕ). Contains (pairs_of got) (k, seq)) (sym same) (has_pair n seq got counts)
   every_from n (suc i) job seq (p ∷ ps) (s ∷ ss) (e ∷ es) at lt come ended walked within =
-      every_from (n + 1) i job seq ps ss es (omega arith) (omega arith) come.1 ended.1 (λ (c : Contains es Memory). walked (has_rest e es Memory c)) within
-
-  none_past : (rest : List JobMeaning) (n : ℕ) → length rest ≤ n → slice_get rest n ≡ None
-  none_past [] n le = refl
-  none_past (j ∷ rest) zero le = absurd (omega arith)
-  none_past (j ∷ rest) (suc n) le = none_past rest n (omega arith)
+      every_from (n + 1) i job seq ps ss es (omega arith) (omega arith) come.1 ended.1 walked within
 
   job_below : (job seq : ℕ) → seq < length (judged_at store jobs job) → job < length jobs
   job_below job seq lt =
       elim (cases_lt job (length jobs)) [
         | inl less ↦ less
         | inr past ↦
-            (let none : slice_get jobs job ≡ None = none_past jobs job past in
+            (let none : slice_get jobs job ≡ None = slice_get_past jobs job past in
             let zero_then : visit_count store jobs job ≡ 0 = rw none refl in
             let same : visit_count store jobs job ≡ length (judged_at store jobs job) = count_is store jobs job in
             absurd (omega arith))
       ]
+
+  -- the same by the end of the job alone
+  every_at : (job seq : ℕ) (ps : List Progress) (ss : List S) (es : List End)
+      → length ps ≡ length jobs → EachCome events failed store jobs got 0 ps ss → EachEnded ps es → (slice_get es job ≡ Some Memory → ⊥) → seq < visit_count store jobs job → Contains (pairs_of got) (job, seq)
+  every_at job seq ps ss es len come ended walked lt =
+      let within : seq < length (judged_at store jobs job) = subst (λ (k : ℕ). seq < k) (count_is store jobs job) lt in
+      let there : job < length jobs = job_below job seq within in
+      every_from 0 job job seq ps ss es (omega arith) (omega arith) come ended walked within
 
   pub checked_from : (ps : List Progress) (ss : List S) (es : List End)
       → IsGood store jobs got → length ps ≡ length jobs → EachCome events failed store jobs got 0 ps ss → EachEnded ps es → IsCheckedOnce events store jobs es ss (pairs_of got)
@@ -264,10 +268,8 @@ module _ {S : Type 0} (events : S → List Event) (failed : S → List Delivery)
         (λ j n. let most : weigh (is_checked j n) got + weigh (is_unchecked j n) got + weigh (is_close j n) got ≤ 1 = good.once j n in omega arith);
     within = λ job seq c. subst (λ (k : ℕ). seq < k) (sym (count_is store jobs job)) (pairs_within store jobs got job seq good.allowed c);
     delivered = λ s d among c. told_from 0 jobs ps ss es s d from_all len come ended among c;
-    all = λ walked job seq lt.
-        let within : seq < length (judged_at store jobs job) = subst (λ (k : ℕ). seq < k) (count_is store jobs job) lt in
-        let there : job < length jobs = job_below job seq within in
-        every_from 0 job job seq ps ss es (omega arith) (omega arith) come ended walked.0 within;
+    every = λ job seq walked lt. every_at job seq ps ss es len come ended walked.0 lt;
+    all = λ walked job seq lt. every_at job seq ps ss es len come ended (λ e. walked.0 (has_got es job Memory e)) lt;
   }
 
 module _ (store : Blocks) (jobs : List JobMeaning) (got : List Verdicted) where

@@ -1,6 +1,7 @@
 -- What stands in a list.
-use Rattle.std.proofs.Common.{◌≡◌, ◌⊎◌, ℕ, zero, suc, ◌<◌, List, [], ◌∷◌, length, slice_index_or, Contains, refl, inl, inr, arith}
+use Rattle.std.proofs.Common.{◌≡◌, ◌⊎◌, ℕ, zero, suc, ◌<◌, List, [], ◌∷◌, length, slice_index_or, slice_get, Some, Contains, refl, inl, inr, arith}
 use Rattle.std.proofs.lemmas.List.Elements.{Contains-append_right}
+use Rattle.std.proofs.lemmas.Option.{slice_get_within, get_or_from_slice_get}
 
 module _ {X : Type 0} where
   -- an element of a list is its first, or one of the rest
@@ -21,3 +22,6 @@ module _ {X : Type 0} where
 
   pub has_rest : (y : X) (ys : List X) (x : X) → Contains ys x → Contains (y ∷ ys) x
   has_rest y ys x h = Contains-append_right (y ∷ []) ys x h
+
+  pub has_got : (xs : List X) (i : ℕ) (x : X) → slice_get xs i ≡ Some x → Contains xs x
+  has_got xs i x e = (i, slice_get_within xs i x e, get_or_from_slice_get xs i x x e)

@@ -11,7 +11,7 @@ use Rattle.ix_collect.specs.declared.collector.Collector.{Collector}
 use Rattle.ix_stages.specs.declared.verdicted.Verdicted.TheVariants.{Checked, Unchecked, Close, Last}
 use Rattle.ix_stages.specs.Received.{weigh, tally}
 use Rattle.ix_stages.specs.Good.{IsGood, judged_at, over_at}
-use Rattle.ix_collect.specs.Progress.{IsNew, IsSafe, IsCome, IsEnded}
+use Rattle.ix_collect.specs.Progress.{IsNew, IsSafe, IsCome, IsEnded, IsMisplaced}
 
 abbrev pub AllNew : List Progress → Type 0
 AllNew [] = Unit {0}
@@ -26,6 +26,12 @@ abbrev pub IsClosedAt : List Progress → ℕ → Type 0
 IsClosedAt [] job = ⊥
 IsClosedAt (p ∷ ps) zero = IsEnded p
 IsClosedAt (p ∷ ps) (suc job) = IsClosedAt ps job
+
+-- the job with this number has no place for the item
+abbrev pub IsMisplacedAt : List Progress → Verdicted → ℕ → Type 0
+IsMisplacedAt [] item job = ⊥
+IsMisplacedAt (p ∷ ps) item zero = IsMisplaced p item
+IsMisplacedAt (p ∷ ps) item (suc job) = IsMisplacedAt ps item job
 
 abbrev pub EachEnded : List Progress → List End → Type 0
 EachEnded [] [] = Unit {0}
@@ -59,9 +65,9 @@ IsUnused c = AllNew c.jobs.items × (c.noted ≡ false)
 abbrev pub IsDone : Collector → Type 0
 IsDone c = AllEnded c.jobs.items
 
--- no item of the job can come: there is no such job, or its sink was closed
-abbrev pub IsStray : Collector → ℕ → Type 0
-IsStray c job = (job_count c ≤ job) ⊎ IsClosedAt c.jobs.items job
+-- the item of the job with this number can't come: there is no such job, its sink was closed, or it has no place for the item
+abbrev pub IsStray : Collector → Verdicted → ℕ → Type 0
+IsStray c item job = (job_count c ≤ job) ⊎ (IsClosedAt c.jobs.items job ⊎ IsMisplacedAt c.jobs.items item job)
 
 -- every sink was closed, with these ends
 abbrev pub HasEnds : Collector → List End → Type 0

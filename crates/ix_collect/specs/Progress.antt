@@ -11,7 +11,7 @@ use Rattle.ix_collect.specs.declared.progress.Progress.{Progress}
 use Rattle.ix_collect.specs.declared.progress.Stage.{Stage}
 use Rattle.ix_collect.specs.declared.progress.Stage.TheVariants.{Delivering, Failed, Stopped}
 use Rattle.ix_collect.specs.declared.progress.WalkEnd.{WalkEnd}
-use Rattle.ix_ring.specs.Numbered.{Numbered, found}
+use Rattle.ix_ring.specs.Numbered.{Numbered, found, IsFree}
 use Rattle.ix_stages.specs.Received.{Tally, seen, point}
 use Rattle.ix_stages.specs.Good.{IsCloseOf}
 
@@ -124,6 +124,13 @@ IsComeTo all over t p events failed (Some end) = IsOver all over t end events fa
 -- how far a job has come, between two items
 abbrev pub IsCome : List Delivery → Bool → Tally → Progress → List Event → List Delivery → Type 0
 IsCome all over t p events failed = IsComeTo all over t p events failed p.end
+
+-- the job has no place for the item: while visits are delivered its number was passed, is too far or is taken, or it is a second close
+abbrev pub IsMisplaced : Progress → Verdicted → Type 0
+IsMisplaced p (Checked v d) = (p.stage ≡ Delivering) × (IsFree p.ring v.seq → ⊥)
+IsMisplaced p (Unchecked j n) = (p.stage ≡ Delivering) × (IsFree p.ring n → ⊥)
+IsMisplaced p (Close j n end) = (w : WalkEnd) × (p.close ≡ Some w)
+IsMisplaced p Last = Unit {0}
 
 abbrev pub MayDeliver : Stage → List Delivery → Type 0
 MayDeliver Delivering failed = failed ≡ []

@@ -54,7 +54,9 @@ impl Collector {
     }
 
     /// Receives an item: delivers what is next of its job, and closes the job's sink where all has
-    /// arrived. An item that can't come is noted, and reaches no sink.
+    /// arrived. An item that can't come is noted, and reaches no sink: one of a job that isn't there or
+    /// whose sink was closed, a second close, and, while the job's visits are delivered, a visit whose
+    /// number was passed, is too far above the next or has come before.
     pub fn receive<S: Sink>(&mut self, alloc: Global, item: Verdicted, sinks: &mut [S])
         requires sinks { length sinks.old ≡ job_count self.old }
         requires may { MayTell S.events S.failed self.old sinks.old }
@@ -64,7 +66,7 @@ impl Collector {
         ensures kept { EachKept S.fact sinks.old sinks.new }
         ensures done { IsDone self.old → IsDone self.new }
         ensures last { job_of item ≡ None → (self.new ≡ self.old) × (sinks.new ≡ sinks.old) }
-        ensures stray { (job : ℕ) → job_of item ≡ Some job → IsStray self.old job → (is_noted self.new ≡ true) × (sinks.new ≡ sinks.old) }
+        ensures stray { (job : ℕ) → job_of item ≡ Some job → IsStray self.old item job → (is_noted self.new ≡ true) × (sinks.new ≡ sinks.old) }
         ensures noted { is_noted self.old ≡ true → is_noted self.new ≡ true }
         ensures guarded { is_noted self.old ≡ false → is_noted self.new ≡ true → sinks.new ≡ sinks.old }
         ensures collected { (store : Blocks) (jobs : List JobMeaning) (got more : List Verdicted) → Inserts item got more → IsCollected S.events S.failed store jobs got self.old sinks.old → IsCollected S.events S.failed store jobs more self.new sinks.new }
@@ -79,6 +81,13 @@ impl Collector {
         }
         let fine = self.jobs[job].receive(alloc, item, &mut sinks[job]);
         self.noted |= !fine;
+    }
+
+    /// Whether an item came that can't come.
+    pub fn is_noted(&self) -> bool
+        ensures { result ≡ is_noted self.now }
+    {
+        self.noted
     }
 
     /// Whether every sink was closed.

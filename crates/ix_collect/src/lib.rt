@@ -1,4 +1,20 @@
 //! The collector: what verifiers send becomes what each job's sink is told.
+//!
+//! In whatever order the items come: where they are what verifiers send of jobs, each sink is told
+//! its job's first visits with their verdicts, in order and once each, and one close, last; and
+//! each visit was checked as often as it is to be. An item of an unknown job, or of one whose sink
+//! is closed, is noted and changes no sink.
+//!
+//! ```rust
+//! let mut collector = Collector::new(alloc, sinks.len() as u32)?;
+//! collector.begins(&sinks);
+//! for item in items {
+//!     collector.receive(alloc, item, &mut sinks);
+//! }
+//! if collector.is_done() {
+//!     let ends = collector.ends(&sinks, Vec::with_capacity(alloc, sinks.len())?);
+//! }
+//! ```
 #![tactic(auto)]
 
 mod collector;

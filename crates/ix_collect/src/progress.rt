@@ -1,13 +1,15 @@
 //! What was received of one job, and how far its sink has come.
 
-ghost use Rattle.std.specs.Prelude.{◌≡◌, ◌+◌, None, List, Bool, true, false, IfOk, IsTrue, ◌↔◌, unwrap_or};
+ghost use Rattle.std.specs.Prelude.{◌≡◌, ◌+◌, Some, None, List, Bool, true, false, IfOk, IsTrue, ◌↔◌, unwrap_or};
 ghost use Rattle.ix_car.specs.declared.sink.Delivery.{Delivery};
 ghost use Rattle.ix_car.specs.declared.sink.End.TheVariants.{Memory};
 ghost use Rattle.ix_car.specs.Events.{Event};
 ghost use Rattle.ix_car.specs.Headline.{Keeps};
 ghost use Rattle.ix_collect.specs.declared.progress.Stage.TheVariants.{Delivering};
+ghost use Rattle.ix_collect.specs.declared.progress.WalkEnd.{WalkEnd};
+ghost use Rattle.ix_ring.specs.Numbered.{IsFree};
 ghost use Rattle.ix_stages.specs.Received.{Tally};
-ghost use Rattle.ix_collect.specs.Progress.{IsFine, IsArrival, IsCloseArrival, IsItem, IsUnderWay, IsPoppedUnderWay, IsCalm, IsCome, IsSafe, IsNew, IsEnded, end_of};
+ghost use Rattle.ix_collect.specs.Progress.{IsFine, IsArrival, IsCloseArrival, IsItem, IsUnderWay, IsPoppedUnderWay, IsCalm, IsCome, IsSafe, IsNew, IsEnded, IsMisplaced, end_of};
 
 use ix_car::{Delivery, End, Sink, SinkFault};
 use ix_ring::Ring;
@@ -74,6 +76,7 @@ impl Progress {
     // that can't be.
     fn take(&mut self, seq: u32, judged: Option<Delivery>) -> bool
         ensures end { self.new.end ≡ self.old.end }
+        ensures misplaced { self.old.stage ≡ Delivering → (IsFree self.old.ring seq → ⊥) → result ≡ false }
         ensures safe { (events : List Event) (failed : List Delivery) → IsSafe self.old events failed → IsSafe self.new events failed }
         ensures taken { (all : List Delivery) (over : Bool) (t u : Tally) (events : List Event) (failed : List Delivery) → IsFine all u → IsArrival all seq judged t u → IsUnderWay all over t self.old events failed → (result ≡ true) × IsUnderWay all over u self.new events failed }
     {
@@ -96,6 +99,7 @@ impl Progress {
     // The close of the job's walk came. False is a second one.
     fn note_close(&mut self, seq: u32, end: End) -> bool
         ensures end { self.new.end ≡ self.old.end }
+        ensures second { (w : WalkEnd) → self.old.close ≡ Some w → result ≡ false }
         ensures safe { (events : List Event) (failed : List Delivery) → IsSafe self.old events failed → IsSafe self.new events failed }
         ensures noted { (all : List Delivery) (over : Bool) (t u : Tally) (events : List Event) (failed : List Delivery) → IsFine all u → IsCloseArrival all over seq end t u → IsUnderWay all over t self.old events failed → (result ≡ true) × IsUnderWay all over u self.new events failed }
     {
@@ -203,6 +207,7 @@ impl Progress {
         ensures kept { Keeps S.fact sink.old sink.new }
         ensures ended { IsEnded self.old → IsEnded self.new }
         ensures late { IsEnded self.old → result ≡ false }
+        ensures misplaced { IsMisplaced self.old item → result ≡ false }
         ensures refused { result ≡ false → sink.new ≡ sink.old }
         ensures received { (all : List Delivery) (over : Bool) (t u : Tally) → IsFine all u → IsItem all over item t u → IsCome all over t self.old (S.events sink.old) (S.failed sink.old) → (result ≡ true) × IsCome all over u self.new (S.events sink.new) (S.failed sink.new) }
     {
@@ -220,6 +225,7 @@ impl Progress {
     // Notes an item, whether or not it is next.
     fn note(&mut self, item: Verdicted) -> bool
         ensures end { self.new.end ≡ self.old.end }
+        ensures misplaced { IsMisplaced self.old item → result ≡ false }
         ensures safe { (events : List Event) (failed : List Delivery) → IsSafe self.old events failed → IsSafe self.new events failed }
         ensures noted { (all : List Delivery) (over : Bool) (t u : Tally) (events : List Event) (failed : List Delivery) → IsFine all u → IsItem all over item t u → IsUnderWay all over t self.old events failed → (result ≡ true) × IsUnderWay all over u self.new events failed }
     {

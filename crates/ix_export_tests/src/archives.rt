@@ -57,8 +57,11 @@ impl Meeting {
         self.is_missed.store(true, Ordering::SeqCst);
     }
 
-    fn is_missed(&self) -> bool {
-        self.is_missed.load(Ordering::SeqCst)
+    // Whether both sides began, and neither missed the other.
+    fn is_met(&self) -> bool {
+        self.first.load(Ordering::SeqCst)
+            && self.second.load(Ordering::SeqCst)
+            && !self.is_missed.load(Ordering::SeqCst)
     }
 }
 
@@ -193,8 +196,8 @@ fn held_verifiers(rt: HostRuntime) -> Result<(), Fail> {
     let plan = plan_of(1, 256, 64);
     let (all_left, out) = archived(&rt, alloc, &store, &jobs, checks, &Open, plan)?;
     assert!(rt;
-        !meeting.is_missed(),
-        "no check began while the other waited"
+        meeting.is_met(),
+        "a check didn't begin while the other waited"
     );
     let whole = bytes_of(alloc, CHAIN_ARCHIVE.as_slice())?;
     assert!(rt;
@@ -219,8 +222,8 @@ fn held_walkers(rt: HostRuntime) -> Result<(), Fail> {
     let plan = plan_of(2, 256, 64);
     let (all_left, out) = archived(&rt, alloc, &store, &jobs, checks, &gate, plan)?;
     assert!(rt;
-        !gate.meeting.is_missed(),
-        "no walk began while the other waited"
+        gate.meeting.is_met(),
+        "a walk didn't begin while the other waited"
     );
     let whole = bytes_of(alloc, CHAIN_ARCHIVE.as_slice())?;
     assert!(rt;

@@ -1,5 +1,18 @@
 //! Tests of exports, to sinks, by checks and through gates of a test's own; of runs, by a check and
-//! to writers of a test's own; and of the lines of refusals.
+//! to writers of a test's own; of exports whose threads can't all be started; and of the lines of
+//! refusals.
+//!
+//! It has no public call and promises nothing: what its tests find is what they say. An export in a
+//! test is as
+//!
+//! ```rust
+//! let (store, jobs) = chain(alloc, 2)?;
+//! let mut sinks = [Log::new(alloc, 9)?, Log::new(alloc, 9)?];
+//! let checks = vec![in alloc; ShaCheck::new(alloc)]?;
+//! let plan = plan_of(1, 256, 64);
+//! let out = exported(&rt, alloc, &store, &jobs, &mut sinks, checks, &Open, plan)?;
+//! assert!(rt; out.ends.as_slice() == [End::Done, End::Done].as_slice());
+//! ```
 #![tactic(auto)]
 
 #[cfg(test)]
@@ -16,5 +29,7 @@ mod refusals;
 mod runs;
 #[cfg(test)]
 mod sinks;
+#[cfg(test)]
+mod starts;
 #[cfg(test)]
 mod waiting;

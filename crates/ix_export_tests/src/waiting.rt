@@ -35,6 +35,7 @@ const LAYER_COUNTS: Counts = Counts {
 struct Awaited {
     count: AtomicU32,
     wanted: u32,
+    waits: AtomicU32,
     is_missed: AtomicBool,
 }
 
@@ -44,6 +45,7 @@ impl Awaited {
         Awaited {
             count: AtomicU32::new(0),
             wanted,
+            waits: AtomicU32::new(0),
             is_missed: AtomicBool::new(false),
         }
     }
@@ -54,6 +56,7 @@ impl Awaited {
 
     // Waits until it began, for so many turns. It is missed where it never does.
     fn wait(&self, turns: u32) {
+        self.waits.fetch_add(1, Ordering::SeqCst);
         for _ in 0..turns {
             if self.count.load(Ordering::SeqCst) >= self.wanted {
                 return;
@@ -65,6 +68,11 @@ impl Awaited {
 
     fn is_missed(&self) -> bool {
         self.is_missed.load(Ordering::SeqCst)
+    }
+
+    // Whether one side waited for it, and didn't miss it.
+    fn is_met(&self) -> bool {
+        self.waits.load(Ordering::SeqCst) == 1 && !self.is_missed()
     }
 }
 
@@ -216,8 +224,8 @@ fn delivery_begins_before_checking_has_ended(rt: HostRuntime) -> Result<(), Fail
     let plan = plan_of(1, 256, 64);
     let out = exported(&rt, alloc, &store, &jobs, &mut sinks, checks, &Open, plan)?;
     assert!(rt;
-        !begun.is_missed(),
-        "nothing was delivered while a check waited"
+        begun.is_met(),
+        "no check waited, or nothing was delivered meanwhile"
     );
     assert!(rt; out.ends.as_slice() == [End::Done].as_slice());
     assert_eq!(rt; sinks[0].log.deliveries.len(), 4);
@@ -241,8 +249,8 @@ fn checking_before_the_walk_ends(rt: HostRuntime) -> Result<(), Fail> {
     let plan = plan_of(1, 256, 64);
     let out = exported(&rt, alloc, &store, &jobs, &mut sinks, checks, &gate, plan)?;
     assert!(rt;
-        !begun.is_missed(),
-        "nothing was checked while the walk waited"
+        begun.is_met(),
+        "no walk waited, or nothing was checked meanwhile"
     );
     assert!(rt; out.ends.as_slice() == [End::Done].as_slice());
     assert_eq!(rt; sinks[0].deliveries.len(), 4);
@@ -265,8 +273,8 @@ fn no_walker_has_a_fixed_share(rt: HostRuntime) -> Result<(), Fail> {
         let plan = plan_of(2, 256, 64);
         let out = exported(&rt, alloc, &store, &jobs, &mut sinks, checks, &gate, plan)?;
         assert!(rt;
-            !begun.is_missed(),
-            "a job waited for one that nobody walked"
+            begun.is_met(),
+            "no job waited, or one for another that nobody walked"
         );
         assert!(rt; out.ends.as_slice() == [End::Done; 3].as_slice());
     }

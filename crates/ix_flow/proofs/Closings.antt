@@ -1,6 +1,8 @@
 -- Sinks that were closed with one end, and told nothing else.
-use Rattle.std.proofs.Common.{◌≡◌, ◌⊎◌, ℕ, zero, suc, ◌+◌, ◌<◌, ◌≤◌, List, [], ◌∷◌, ◌++◌, length, get_or, set, take, drop, Contains, refl, sym, ◌∙◌, ap, subst, inl, inr, arith, take_all, drop-set-lt}
+use Rattle.std.proofs.Common.{◌≡◌, ◌⊎◌, ℕ, zero, suc, ◌+◌, ◌<◌, ◌≤◌, List, [], ◌∷◌, ◌++◌, length, get_or, set, take, drop, slice_get, Some, None, All, Contains, refl, sym, ◌∙◌, ap, subst, inl, inr, arith, take_all, drop-set-lt}
+use Rattle.std.proofs.lemmas.Bool.{cases_lt}
 use Rattle.std.proofs.lemmas.List.{take_more_set, drop_more}
+use Rattle.std.proofs.lemmas.Option.{slice_get_past}
 use Rattle.ix_walk.specs.Store.{Blocks}
 use Rattle.ix_walk.specs.JobMeaning.{JobMeaning}
 use Rattle.ix_walk.specs.Visits.{is_over_limit}
@@ -10,10 +12,11 @@ use Rattle.ix_car.specs.declared.sink.End.TheVariants.{Memory, Start}
 use Rattle.ix_car.specs.Events.{Event, delivery, close}
 use Rattle.ix_car.specs.Verified.{judged_visits}
 use Rattle.ix_car.specs.Faithful.{IsFaithful, EndFits}
-use Rattle.ix_car.specs.Headline.{EachDelivered, EachFresh, Fact, Keeps, EachKept, IsCheckedOnce, IsEachOnce, AllWalked, visit_count}
+use Rattle.ix_car.specs.Headline.{EachDelivered, EachFresh, Fact, Keeps, EachKept, IsCheckedOnce, IsEachOnce, AllWalked, IsWalkedAt, visit_count}
 use Rattle.ix_collect.proofs.Members.{cases_cons, none_in}
 use Rattle.ix_collect.proofs.Kept.{kept_same}
 use Rattle.ix_flow.specs.Closed.{EachClosed}
+use Rattle.ix_flow.proofs.Lists.{all_cons}
 
 kept_set : {S : Type 0} (fact : Fact S) (ss ts : List S) (i : ℕ) (x y : S) → EachKept fact ss ts → x ≡ get_or ts i x → Keeps fact x y → EachKept fact ss (set ts i y)
 kept_set fact [] [] i x y h at keeps = tt
@@ -26,6 +29,14 @@ kept_length fact [] [] h = refl
 kept_length fact (s ∷ ss) (t ∷ ts) h = ap suc (kept_length fact ss ts h.1)
 kept_length fact [] (t ∷ ts) h = absurd h
 kept_length fact (s ∷ ss) [] h = absurd h
+
+-- a visit is one of a job that is there
+visit_job : (store : Blocks) (jobs : List JobMeaning) (job seq : ℕ) → seq < visit_count store jobs job → job < length jobs
+visit_job store jobs job seq lt =
+    elim (cases_lt job (length jobs)) [
+      | inl less ↦ less
+      | inr past ↦ (let none : slice_get jobs job ≡ None = slice_get_past jobs job past in let zero_then : visit_count store jobs job ≡ 0 = rw none refl in absurd (omega arith))
+    ]
 
 -- The first sinks were closed with this end, the others are fresh, and each still promises what it did.
 pub record IsClosedTo {S : Type 0} (events : S → List Event) (failed : S → List Delivery) (fact : Fact S) (end : End) (i : ℕ) (es : List End) (first sinks : List S) : Type 0 where
@@ -129,6 +140,24 @@ module _ {S : Type 0} (events : S → List Event) (failed : S → List Delivery)
   all_of_none store (j ∷ js) es [] job seq h same which walked lt = omega arith
   all_of_none store (j ∷ js) es (s ∷ ss) job seq h same which walked lt = none_walked es s ss h which walked
 
+  closed_get : (es : List End) (ss : List S) (i : ℕ) → EachClosed events failed end es ss → i < length ss → slice_get es i ≡ Some end
+  closed_get [] [] i h lt = absurd (omega arith)
+  closed_get (e ∷ es) (s ∷ ss) zero h lt = let here = h.0 in ap (λ (x : End). Some x) here.0
+  closed_get (e ∷ es) (s ∷ ss) (suc i) h lt = closed_get es ss i h.1 (omega arith)
+  closed_get es ss i h lt = absurd h
+
+  every_of_none : (store : Blocks) (jobs : List JobMeaning) (es : List End) (ss : List S) (job seq : ℕ) → EachClosed events failed end es ss → length jobs ≡ length ss → (end ≡ Start) ⊎ (end ≡ Memory) → IsWalkedAt es job → seq < visit_count store jobs job → ⊥
+  every_of_none store jobs es ss job seq h same which walked lt =
+      let below : job < length jobs = visit_job store jobs job seq lt in
+      let at : slice_get es job ≡ Some end = closed_get es ss job h (omega arith) in
+      elim which [ inl start ↦ walked.1 (at ∙ ap (λ (x : End). Some x) start) | inr memory ↦ walked.0 (at ∙ ap (λ (x : End). Some x) memory) ]
+
+  -- every job ended so
+  pub all_ended : (es : List End) (ss : List S) → EachClosed events failed end es ss → All (λ e. e ≡ end) es
+  all_ended [] [] h = λ k d lt. absurd (omega (arith, lt))
+  all_ended (e ∷ es) (s ∷ ss) h = let here = h.0 in all_cons (λ (x : End). x ≡ end) e es here.0 (all_ended es ss h.1)
+  all_ended es ss h = absurd h
+
   -- whatever pairs were checked, each that of a visit and once, are enough for them
   pub closed_checked : (store : Blocks) (jobs : List JobMeaning) (es : List End) (ss : List S) (pairs : List (ℕ × ℕ))
       → EachClosed events failed end es ss → length jobs ≡ length ss → (end ≡ Start) ⊎ (end ≡ Memory) → IsEachOnce pairs → ((job seq : ℕ) → Contains pairs (job, seq) → seq < visit_count store jobs job) → IsCheckedOnce events store jobs es ss pairs
@@ -136,5 +165,6 @@ module _ {S : Type 0} (events : S → List Event) (failed : S → List Delivery)
     once = once;
     within = within;
     delivered = λ s d among told. absurd (none_delivered es ss s d h among told);
+    every = λ job seq walked lt. absurd (every_of_none store jobs es ss job seq h same which walked lt);
     all = λ walked job seq lt. absurd (all_of_none store jobs es ss job seq h same which walked lt);
   }

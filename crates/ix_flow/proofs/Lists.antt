@@ -31,7 +31,7 @@ module _ {X : Type 0} where
   all_past (y ∷ xs) zero e le = cc
   all_past (y ∷ xs) (suc n) e le = let h = all_past xs n e (omega (arith, le)) in omega (arith, h)
 
-  all_cons : (P : X → Type 0) (x : X) (xs : List X) → P x → All P xs → All P (x ∷ xs)
+  pub all_cons : (P : X → Type 0) (x : X) (xs : List X) → P x → All P xs → All P (x ∷ xs)
   all_cons P x xs p h zero d l = p
   all_cons P x xs p h (suc k) d l = h k d (omega (arith, l))
 

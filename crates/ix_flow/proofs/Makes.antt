@@ -1,5 +1,5 @@
 -- The seats of a new queue.
-use Rattle.std.proofs.Common.{◌≡◌, ℕ, List, [], All, length, map, replicate, sym, subst, refl, arith}
+use Rattle.std.proofs.Common.{◌≡◌, ℕ, zero, suc, List, [], ◌∷◌, All, length, map, replicate, sym, ◌∙◌, ap, subst, refl, arith}
 use Rattle.atomic_table.specs.Seated.{TableId}
 use Rattle.ix_walk.specs.Store.{Blocks}
 use Rattle.ix_walk.specs.JobMeaning.{JobMeaning}
@@ -15,6 +15,14 @@ module _ (store : Blocks) (jobs : List JobMeaning) (t : TableId) (course : List 
   seats_ready n seats many is =
       subst (All (IsReady store jobs t)) (sym is)
       (all_count (IsReady store jobs t) (new_job t course all) 0 n (length jobs) (omega (arith, many)) (λ j lt. record { table = refl; job = lt; begins = (refl, refl); course = same }))
+
+  jobs_counted : (n k : ℕ) → map (λ s. s.job) (map (new_job t course all) (count_up n k)) ≡ count_up n k
+  jobs_counted n zero = refl
+  jobs_counted n (suc k) = ap (λ (l : List ℕ). n ∷ l) (jobs_counted (suc n) k)
+
+  -- one for each job, in their order
+  pub seats_each : (n : ℕ) (seats : List JobView) → n ≡ length jobs → seats ≡ map (new_job t course all) (count_up 0 n) → map (λ s. s.job) seats ≡ count_up 0 (length jobs)
+  seats_each n seats many is = ap (λ (l : List JobView). map (λ s. s.job) l) is ∙ (jobs_counted 0 n ∙ ap (count_up 0) many)
 
   pub takers_ready : (n : ℕ) (takers : List SeatView) → IsCourseOf store (course_of store jobs) → takers ≡ replicate n (new_taker t course all) → All (λ s. (s.table ≡ t) × IsCourseOf store s.hand.course × (s.hand.taken ≡ [])) takers
   takers_ready n takers of is =

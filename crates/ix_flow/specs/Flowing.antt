@@ -5,7 +5,7 @@ use Rattle.ix_walk.specs.Store.{Blocks}
 use Rattle.ix_walk.specs.JobMeaning.{JobMeaning}
 use Rattle.ix_car.specs.declared.sink.Delivery.{Delivery}
 use Rattle.ix_car.specs.Events.{Event}
-use Rattle.ix_car.specs.Headline.{EachDelivered, EachFresh, EachKept, Fact, IsCheckedOnce, checked_by}
+use Rattle.ix_car.specs.Headline.{EachDelivered, EachFresh, EachKept, Fact, IsCheckedOnce, NoneOrAllStart, checked_by}
 use Rattle.ix_stages.specs.Claims.{ClaimsMeaning}
 use Rattle.ix_stages.specs.Course.{course_of}
 use Rattle.ix_stages.specs.Seats.{JobView}
@@ -17,11 +17,12 @@ use Rattle.ix_flow.specs.declared.flowing.Back.{Back}
 use Rattle.ix_flow.specs.Ready.{IsReady}
 use Rattle.ix_flow.specs.Stations.{IsPost, HasStationRoom, HasJoinRoom}
 
--- each sink was told what its job calls for and keeps what it promised, and each visit was checked as often as it is to be
+-- each sink was told what its job calls for and keeps what it promised, each visit was checked as often as it is to be, and threads were wanting for no job or for all
 pub record IsFlown {S C : Type 0} (events : S → List Event) (failed : S → List Delivery) (fact : Fact S) (checked : C → List (ℕ × ℕ)) (store : Blocks) (jobs : List JobMeaning) (first sinks : List S) (f : Flown C) : Type 0 where
   pub delivered : EachDelivered events failed store 0 jobs f.ends.items sinks
   pub kept : EachKept fact first sinks
   pub checks : IsCheckedOnce events store jobs f.ends.items sinks (checked_by checked f.checks.items)
+  pub started : NoneOrAllStart f.ends.items
 
 -- the flow has ended
 pub record IsFlownTo {S C : Type 0} (events : S → List Event) (failed : S → List Delivery) (fact : Fact S) (checked : C → List (ℕ × ℕ)) (store : Blocks) (jobs : List JobMeaning) (first sinks : List S) (b : Back C) : Type 0 where

@@ -5,7 +5,7 @@ ghost use Rattle.ix_walk.specs.JobMeaning.{JobMeaning};
 ghost use Rattle.ix_car.specs.Headline.{EachUnused};
 ghost use Rattle.ix_stages.specs.Course.{IsCourseOf};
 ghost use Rattle.ix_stages.specs.Queue.{table_of};
-ghost use Rattle.ix_flow.specs.Prepared.{IsPlace, IsPrepared};
+ghost use Rattle.ix_flow.specs.Prepared.{IsPlace, IsPrepared, walker_count};
 ghost use Rattle.ix_flow.specs.Stations.{HasJoinRoom, HasStationRoom, IsPost};
 
 use crate::flowing::Desk;
@@ -160,8 +160,10 @@ impl<C: Check + Drop> Prepared<C> {
         requires jobs { length jobs.now.items ≤ 1000 }
         requires walkers { (1 ≤ sizes.walkers) × (sizes.walkers ≤ 64) }
         requires queue { 0 < sizes.queue }
+        requires lane { 0 < sizes.lane }
         requires verifiers { verifiers ≤ 64 }
-        ensures { IfOk result (λ p. IsPrepared store.now jobs.now.items verifiers p) }
+        ensures prepared { IfOk result (λ p. IsPrepared store.now jobs.now.items verifiers p) }
+        ensures walkers { IfOk result (λ p. walker_count p ≡ sizes.walkers) }
     {
         course_of_jobs();
         see_limits(jobs);

@@ -14,8 +14,8 @@ use Rattle.ix_car.specs.Verified.{judged, judged_visits}
 use Rattle.ix_car.specs.Faithful.{IsFaithful}
 use Rattle.ix_car.specs.Archived.{IsArchived}
 use Rattle.ix_pipeline.specs.Progress.{pairs_of, IsExported, Exports}
-use Rattle.ix_pipeline.specs.Headline.{EachDelivered, EachArchived, EachFresh, Fact, Keeps, EachKept, IsCheckedOnce, NoneIsStart, AllWalked, visit_count}
-use Rattle.ix_pipeline.proofs.Pairs.{pairs_over, cases_cons, none_in, has_rest, in_pairs, has_pair, once_over, over_push}
+use Rattle.ix_pipeline.specs.Headline.{EachDelivered, EachArchived, EachFresh, Fact, Keeps, EachKept, IsCheckedOnce, NoneIsStart, AllWalked, IsWalkedAt, visit_count}
+use Rattle.ix_pipeline.proofs.Pairs.{pairs_over, cases_cons, none_in, has_got, in_pairs, has_pair, once_over, over_push}
 
 -- what is delivered of visits has the job's number, and a number among them
 delivered_at : (store : Blocks) (number start count : ℕ) (found : List Arrival) (d : Delivery)
@@ -90,7 +90,7 @@ module _ {S : Type 0} (events : S → List Event) (failed : S → List Delivery)
 
   -- each visit of a job that was walked was checked
   all_at : (store : Blocks) (n : ℕ) (js : List JobMeaning) (es : List End) (ss : List S) (ks : List ℕ) (i : ℕ) (j : JobMeaning) (job seq : ℕ)
-      → EachExported store n js es ss ks → (Contains es Memory → ⊥) → job ≡ n + i → slice_get js i ≡ Some j → seq < length (visits_of store job j) → Contains (pairs_over n ks) (job, seq)
+      → EachExported store n js es ss ks → (slice_get es i ≡ Some Memory → ⊥) → job ≡ n + i → slice_get js i ≡ Some j → seq < length (visits_of store job j) → Contains (pairs_over n ks) (job, seq)
   all_at store n [] [] [] [] i j job seq h walked at found lt = absurd (nothing i found) where
     nothing : (i : ℕ) → slice_get [] i ≡ Some j → ⊥
     nothing i e = cc
@@ -98,13 +98,13 @@ module _ {S : Type 0} (events : S → List Event) (failed : S → List Delivery)
       let x = h.0 in
       let same : j' ≡ j = cc in
       let here : job ≡ n = omega arith in
-      let whole : k ≡ length (visits_of store n j') = x.all (λ (m : e ≡ Memory). walked (0, omega arith, m)) in
+      let whole : k ≡ length (visits_of store n j') = x.all (λ (m : e ≡ Memory). walked (ap (λ (y : End). Some y) m)) in
       let size : length (visits_of store n j') ≡ length (visits_of store job j) = ap (λ (y : JobMeaning). length (visits_of store n y)) same ∙ ap (λ (m : ℕ). length (visits_of store m j)) (sym here) in
       let below : seq < k = omega arith in
       Contains-append_left (pairs_of n k) (pairs_over (n + 1) ks) (job, seq) (subst (λ (m : ℕ). Contains (pairs_of n k) (m, seq)) (sym here) (has_pair n k seq below))
   all_at store n (j' ∷ js) (e ∷ es) (s ∷ ss) (k ∷ ks) (suc i) j job seq h walked at found lt =
       Contains-append_right (pairs_of n k) (pairs_over (n + 1) ks) (job, seq)
-      (all_at store (n + 1) js es ss ks i j job seq h.1 (λ (c : Contains es Memory). walked (has_rest e es Memory c)) (omega arith) found lt)
+      (all_at store (n + 1) js es ss ks i j job seq h.1 walked (omega arith) found lt)
   all_at store n js es ss ks i j job seq h walked at found lt = absurd h
 
   -- what was told of a job is checked
@@ -135,10 +135,10 @@ module _ {S : Type 0} (events : S → List Event) (failed : S → List Delivery)
   told_at store n js es ss ks s d h among c = absurd h
 
   all_of : (store : Blocks) (jobs : List JobMeaning) (es : List End) (ss : List S) (ks : List ℕ) (job seq : ℕ) (o : Option JobMeaning)
-      → EachExported store 0 jobs es ss ks → AllWalked es → slice_get jobs job ≡ o → seq < visit_count store jobs job → Contains (pairs_over 0 ks) (job, seq)
+      → EachExported store 0 jobs es ss ks → (slice_get es job ≡ Some Memory → ⊥) → slice_get jobs job ≡ o → seq < visit_count store jobs job → Contains (pairs_over 0 ks) (job, seq)
   all_of store jobs es ss ks job seq None h walked found lt = let none : visit_count store jobs job ≡ 0 = count_none store jobs job found in absurd (omega arith)
   all_of store jobs es ss ks job seq (Some j) h walked found lt =
-      all_at store 0 jobs es ss ks job j job seq h walked.0 (omega arith) found (subst (λ (n : ℕ). seq < n) (count_some store jobs job j found) lt)
+      all_at store 0 jobs es ss ks job j job seq h walked (omega arith) found (subst (λ (n : ℕ). seq < n) (count_some store jobs job j found) lt)
 
   checked_once : (store : Blocks) (jobs : List JobMeaning) (es : List End) (ss : List S) (ks : List ℕ) → EachExported store 0 jobs es ss ks → IsCheckedOnce events store jobs es ss (pairs_over 0 ks)
   checked_once store jobs es ss ks h = record {
@@ -149,7 +149,8 @@ module _ {S : Type 0} (events : S → List Event) (failed : S → List Delivery)
         let found : slice_get jobs job ≡ Some w.1 = subst (λ (i : ℕ). slice_get jobs i ≡ Some w.1) at w.3 in
         subst (λ (n : ℕ). seq < n) (sym (count_some store jobs job w.1 found)) w.4;
     delivered = λ s d among c. told_at store 0 jobs es ss ks s d h among c;
-    all = λ walked job seq lt. all_of store jobs es ss ks job seq (slice_get jobs job) h walked refl lt;
+    every = λ job seq walked lt. all_of store jobs es ss ks job seq (slice_get jobs job) h walked.0 refl lt;
+    all = λ walked job seq lt. all_of store jobs es ss ks job seq (slice_get jobs job) h (λ e. walked.0 (has_got es job Memory e)) refl lt;
   }
 
 -- what each sink promised, it promises still

@@ -1,6 +1,7 @@
 -- The pairs that were checked: of a job, and of jobs in turn.
-use Rattle.std.proofs.Common.{◌≡◌, ◌⊎◌, ℕ, zero, suc, ◌+◌, ◌<◌, ◌≤◌, List, [], ◌∷◌, ◌++◌, length, slice_index_or, Contains, refl, sym, ◌∙◌, ap, subst, inl, inr, arith, append_assoc, append-nil}
+use Rattle.std.proofs.Common.{◌≡◌, ◌⊎◌, ℕ, zero, suc, ◌+◌, ◌<◌, ◌≤◌, List, [], ◌∷◌, ◌++◌, length, slice_index_or, slice_get, Some, Contains, refl, sym, ◌∙◌, ap, subst, inl, inr, arith, append_assoc, append-nil}
 use Rattle.std.proofs.lemmas.List.Elements.{Contains-append_left, Contains-append_right, Contains-append_cases, Contains-push, Contains-push_cases}
+use Rattle.std.proofs.lemmas.Option.{slice_get_within, get_or_from_slice_get}
 use Rattle.ix_pipeline.specs.Progress.{pairs_of}
 use Rattle.ix_pipeline.specs.Headline.{IsEachOnce}
 
@@ -25,7 +26,10 @@ none_in {X = X} x h = absurd (less h.0 h.1) where
 pub has_first : {X : Type 0} (y : X) (ys : List X) → Contains (y ∷ ys) y
 has_first y ys = (0, omega arith, refl)
 
-pub has_rest : {X : Type 0} (y : X) (ys : List X) (x : X) → Contains ys x → Contains (y ∷ ys) x
+pub has_got : {X : Type 0} (xs : List X) (i : ℕ) (x : X) → slice_get xs i ≡ Some x → Contains xs x
+has_got xs i x e = (i, slice_get_within xs i x e, get_or_from_slice_get xs i x x e)
+
+has_rest : {X : Type 0} (y : X) (ys : List X) (x : X) → Contains ys x → Contains (y ∷ ys) x
 has_rest y ys x h = Contains-append_right (y ∷ []) ys x h
 
 -- which pairs a job has

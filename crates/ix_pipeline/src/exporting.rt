@@ -2,7 +2,7 @@
 
 ghost use Rattle.std.specs.Prelude.{◌≡◌, ◌≤◌, length, vec_len, IfOk, IfErr};
 ghost use Rattle.std.specs.Arc.{arc_value};
-ghost use Rattle.ix_pipeline.specs.Headline.{EachDelivered, EachArchived, EachFresh, EachKept, EachUnused, IsCheckedOnce, checked_by};
+ghost use Rattle.ix_pipeline.specs.Headline.{EachDelivered, EachArchived, EachFresh, EachKept, EachUnused, IsCheckedOnce, NoneOrAllStart, checked_by};
 ghost use Rattle.ix_pipeline.specs.Planned.{IsPlan};
 
 use crate::plan::Plan;
@@ -36,8 +36,9 @@ pub struct NotStarted<C> {
 ///
 /// Walkers claim jobs and put their visits into a queue, verifiers take them from it, check them,
 /// each visit once, and send their verdicts, and the caller delivers each job's visits in their order
-/// with their verdicts and closes its sink, all at the same time. A job ends with Start only where no
-/// walker or no verifier could be started. Whoever walks a job passes the gate with each visit.
+/// with their verdicts and closes its sink, all at the same time. Jobs end with Start only where no
+/// walker or no verifier could be started, and then all do. Whoever walks a job passes the gate with
+/// each visit. Every visit of a job that ends neither with Memory nor with Start was checked.
 pub fn export<S, C, G, R>(
     rt: &R,
     alloc: Global,
@@ -60,6 +61,7 @@ where
     requires plan { IsPlan plan (vec_len checks) }
     ensures delivered { IfOk result (λ out. EachDelivered S.events S.failed (arc_value store.now) 0 (arc_value jobs.now).items out.ends.items sinks.new) }
     ensures archived { IfOk result (λ out. EachArchived S.events S.failed (arc_value store.now) 0 (arc_value jobs.now).items out.ends.items sinks.new) }
+    ensures started { IfOk result (λ out. NoneOrAllStart out.ends.items) }
     ensures facts { EachKept S.fact sinks.old sinks.new }
     ensures checked { IfOk result (λ out. IsCheckedOnce S.events (arc_value store.now) (arc_value jobs.now).items out.ends.items sinks.new (checked_by C.checked out.checks.items)) }
     ensures not_started { IfErr result (λ none. (sinks.new ≡ sinks.old) × (none.checks.items ≡ checks.items)) }

@@ -1,4 +1,17 @@
 //! The exporter: on one thread, and by walkers and verifiers.
+//!
+//! By 1 to 64 walkers and as many verifiers, in every schedule and whichever threads can't be
+//! started: each sink is told its job's first visits with their verdicts, in order and once each,
+//! and one close, last; its archive is that of the job at Done and else a beginning of it. Where
+//! nothing was started, sinks and checks are as they were.
+//!
+//! ```rust
+//! let plan = Plan { walkers: 4, queue: 256, lane: 64 };
+//! match export(rt, alloc, &store, &jobs, &mut sinks, checks, &Open, plan) {
+//!     Ok(outcome) => println!(rt; "{} jobs", outcome.ends.len())?,
+//!     Err(_) => println!(rt; "no memory")?,
+//! }
+//! ```
 #![tactic(auto)]
 
 mod exporting;

@@ -149,6 +149,44 @@ fn ends_of_four_jobs(rt: HostRuntime) -> Result<(), Fail> {
     Ok(())
 }
 
+// Items of which the last can't come: a number that was passed, one that is taken, one too far above
+// the next, a second close, an item behind the close of the sink, and one of a job that isn't there.
+const STRAYS: [&[Sent]; 6] = [
+    &[Sent::Checked(0, 0), Sent::Checked(0, 0)],
+    &[Sent::Checked(0, 1), Sent::Unchecked(0, 1)],
+    &[Sent::Checked(0, 1), Sent::Checked(0, 1_048_576)],
+    &[Sent::Closed(0, 1, End::Done), Sent::Closed(0, 1, End::Done)],
+    &[Sent::Closed(0, 0, End::Done), Sent::Checked(0, 0)],
+    &[Sent::Checked(0, 1), Sent::Checked(1, 0)],
+];
+
+// A collector for one job notes the last of these items, and none before it, and its sink is told no
+// more by it.
+fn notes_the_last(rt: &impl Abort, alloc: Global, items: &[Sent]) -> Result<(), Fail> {
+    let mut logs = [Log::new(alloc, 9)?];
+    let mut collector = Collector::new(alloc, 1)?;
+    collector.begins(&logs);
+    let Some((last, before)) = items.split_last() else {
+        return Err("an item was wanted".into());
+    };
+    receive_all(alloc, &mut collector, &mut logs, before)?;
+    assert!(rt; !collector.is_noted());
+    let told = (logs[0].deliveries.len(), logs[0].closed);
+    let item = item_of(alloc, last)?;
+    collector.receive(alloc, item, &mut logs);
+    assert!(rt; collector.is_noted());
+    assert!(rt; (logs[0].deliveries.len(), logs[0].closed) == told);
+    Ok(())
+}
+
+#[test]
+fn strays_are_noted(rt: HostRuntime) -> Result<(), Fail> {
+    for items in &STRAYS {
+        notes_the_last(&rt, rt.alloc(), *items)?;
+    }
+    Ok(())
+}
+
 // One lane is read in rounds, one is drained, and two are finished.
 #[test]
 fn lanes_into_one_sink(rt: HostRuntime) -> Result<(), Fail> {

@@ -1,5 +1,17 @@
 //! Tests of the ring, lanes, claims, the visit queue, the collector and archives, call by call and
 //! among threads.
+//!
+//! It has no public call and promises nothing: what its tests find is what they say. A test is as
+//!
+//! ```rust
+//! #[test]
+//! fn first_of_a_lane(rt: HostRuntime) -> Result<(), Fail> {
+//!     let (mut sender, mut receiver) = ix_stages::lane(rt.alloc(), 1)?;
+//!     assert!(rt; sender.try_send(item(0)).is_ok());
+//!     assert!(rt; receiver.try_recv().is_some());
+//!     Ok(())
+//! }
+//! ```
 #![tactic(auto)]
 
 #[cfg(test)]

@@ -1,4 +1,19 @@
 //! The visit queue, lanes and claims: what the threads of an export meet through.
+//!
+//! In every schedule: no value is claimed twice; what is taken from the queue is what a job's
+//! course allows, nothing twice, and in the end all that was put; what is received from a lane is
+//! the beginning of what was sent into it. A verifier sends one answer for each item that it takes.
+//! That a call that waits returns is not promised.
+//!
+//! ```rust
+//! let values = Vec::from_array(alloc, ["x", "y"])?;
+//! let (claims, mut seats) = Claims::new(alloc, values, 1)?;
+//! if let Some(mut seat) = seats.pop() {
+//!     assert!(rt; claims.claim(&mut seat) == Some((0, "x")));
+//!     assert!(rt; claims.claim(&mut seat) == Some((1, "y")));
+//!     assert!(rt; claims.claim(&mut seat).is_none());
+//! }
+//! ```
 #![tactic(auto)]
 
 mod claim_rule;

@@ -27,13 +27,15 @@ fn join_job(line: &Line, pass: &mut Pass<Item, Hand>, seat: JobSeat)
     ensures part { seat.hand.parts ≡ 1 }
     ensures taken { seat.hand.taken ≡ [] }
 {
-    // Each field is named: a seat has no lock.
+    // Each field is named, with its type: a seat has no lock.
     let JobSeat {
         pass: other,
-        job: _,
-        next: _,
-        closed: _,
+        job,
+        next,
+        closed,
     } = seat;
+    let (_, _, _): (u32, u32, bool) = (job, next, closed);
+    let other: Pass<Item, Hand> = other;
     line.absorb::<Joins>(pass, other);
 }
 
@@ -47,6 +49,7 @@ fn join_taker(line: &Line, pass: &mut Pass<Item, Hand>, seat: TakeSeat)
     ensures put { seat.hand.put ≡ [] }
 {
     let TakeSeat { pass: other } = seat;
+    let other: Pass<Item, Hand> = other;
     line.absorb::<Joins>(pass, other);
 }
 
@@ -91,7 +94,8 @@ impl VisitQueue {
         ensures own { result.hand.taken ≡ [] }
         ensures good { IsWellTaken stop.hand.course (taken_by takers.items) }
     {
-        let StopSeat { mut pass } = stop;
+        let StopSeat { pass } = stop;
+        let mut pass: Pass<Item, Hand> = pass;
         join_jobs(&self.line, &mut pass, jobs);
         join_takers(&self.line, &mut pass, takers);
         self.line.learn_as::<Learns>(&mut pass);
@@ -106,6 +110,11 @@ impl VisitQueue {
         ensures some { IfSome result (λ x. IsTake rest.old.hand x rest.new.hand) }
         ensures none { IfNone result ((rest.new.hand ≡ rest.old.hand) × (rest.old.hand.parts ≡ rest.old.hand.all → (h : Item → ℕ) → weigh h (all_put rest.old.hand) ≡ weigh h (all_taken rest.old.hand))) }
     {
-        self.line.pop_as::<Takes, R>(rt, &mut rest.pass)
+        // A queue is one ruled queue and nothing else, and what is left of its seats one pass.
+        let VisitQueue { line } = self;
+        let line: &Line = line;
+        let Rest { pass } = rest;
+        let pass: &mut Pass<Item, Hand> = pass;
+        line.pop_as::<Takes, R>(rt, pass)
     }
 }

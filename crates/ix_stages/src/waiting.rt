@@ -12,7 +12,7 @@ const YIELDS: u32 = 16;
 // The first sleep, in microseconds.
 const SHORTEST_NAP: u64 = 32;
 
-// The longest sleep, in microseconds.
+// The longest sleep that is asked for, in microseconds. The system may let it last longer.
 const LONGEST_NAP: u64 = 1_000;
 
 /// A wait for another thread, from its begin on.
@@ -33,7 +33,8 @@ impl Waiting {
         }
     }
 
-    /// Lets others run. At most a millisecond goes by where a processor is free.
+    /// Lets others run: the first times it gives its processor away, and then it asks for a sleep, twice
+    /// as long each time up to a millisecond.
     pub fn pause<R: Wait>(&mut self, rt: &R) {
         if self.yields > 0 {
             self.yields -= 1;

@@ -1,5 +1,5 @@
-use Rattle.std.proofs.Common.{refl, sym, ◌∙◌, inl}
-use Rattle.ix_flow.proofs.Closings.{kept_length, delivered_of_closed, closed_checked}
+use Rattle.std.proofs.Common.{refl, sym, ◌∙◌, inl, inr}
+use Rattle.ix_flow.proofs.Closings.{kept_length, delivered_of_closed, closed_checked, all_ended}
 use Rattle.ix_car.specs.declared.sink.End.TheVariants.{Start}
 use Rattle.ix_flow.proofs.closing.unexported.Goals as goal
 
@@ -11,4 +11,5 @@ returns g c =
       delivered = delivered_of_closed g.S.Sink.events g.S.Sink.failed Start c.args._store.now c.args._jobs.now c.close_all-ends.result.items c.close_all-ends.new.sinks e.closed same (inl refl);
       kept = e.facts;
       checks = closed_checked g.S.Sink.events g.S.Sink.failed Start c.args._store.now c.args._jobs.now c.close_all-ends.result.items c.close_all-ends.new.sinks _ e.closed same (inl refl) c.requires.once c.requires.within;
+      started = inr (all_ended g.S.Sink.events g.S.Sink.failed Start c.close_all-ends.result.items c.close_all-ends.new.sinks e.closed);
     }

@@ -1,4 +1,4 @@
-use Rattle.std.proofs.Common.{ℕ, List, sym, subst, ◌∙◌}
+use Rattle.std.proofs.Common.{ℕ, List, sym, subst, inl, ◌∙◌}
 use Rattle.ix_car.specs.Headline.{IsCheckedOnce}
 use Rattle.ix_collect.proofs.Kept.{kept_trans}
 use Rattle.ix_stages.specs.declared.lanes.LaneIn.{LaneIn}
@@ -28,4 +28,5 @@ returns g c =
       delivered = e.delivered store jobs got from;
       kept = kept_trans g.S.Sink.fact c.args.sinks.now c.gather.new.sinks c.receive_rest.new.sinks c.gather.ensures.kept c.receive_rest.ensures.kept;
       checks = subst (λ (ps : List (ℕ × ℕ)). IsCheckedOnce g.S.Sink.events store jobs c.ends-ends.result.items c.receive_rest.new.sinks ps) (sym c.join_verifiers-takers.ensures.checked) (e.checked store jobs got from);
+      started = inl (e.started store jobs got from);
     }

@@ -5,7 +5,7 @@ use Rattle.ix_collect.specs.Collected.{IsStray}
 use Rattle.std.proofs.Common.{inl, inr, ℕ, arith, subst, set, rules, ◌≡◌, ◌<◌, ◌≤◌, refl, sym, ◌∙◌, Some, length, get_or, ap, length-set}
 use Rattle.ix_collect.proofs.Kept.{kept_set, kept_same}
 use Rattle.ix_stages.specs.Received.{job_of}
-use Rattle.ix_collect.proofs.Collecting.{safe_at, safe_set, collected_none, collected_unknown, collected_one, ended_set, closed_at, stays_noted, is_noted_then, not_fine}
+use Rattle.ix_collect.proofs.Collecting.{safe_at, safe_set, collected_none, collected_unknown, collected_one, ended_set, closed_at, misplaced_at, stays_noted, is_noted_then, not_fine}
 use Rattle.ix_collect.proofs.collector.Collector.receive.Goals as goal
 
 pub returns-in_default-clause-kept : goal.returns-in_default-clause-kept
@@ -70,11 +70,17 @@ returns-clause-stray g c = λ job of stray.
     let lt : c.in-Some.job < length c.args.self.now.jobs.items = search rules in
     let known : Some c.in-Some.job ≡ Some job = sym c.in-Some.is ∙ c.job_of.ensures ∙ of in
     let same : c.in-Some.job ≡ job = cc in
-    let here : IsStray c.args.self.now c.in-Some.job = subst (λ (n : ℕ). IsStray c.args.self.now n) (sym same) stray in
-    let ended : IsEnded c.index_mut.result.now =
-    elim here [ inl past ↦ absurd (omega arith) | inr closed ↦ closed_at c.args.self.now.jobs.items c.in-Some.job c.index_mut.result.now c.index_mut.ensures.value closed ]
-    in
-    let bad : c.receive-fine.result ≡ false = c.receive-fine.ensures.late ended in (
+    let here : IsStray c.args.self.now c.args.item c.in-Some.job = subst (λ (n : ℕ). IsStray c.args.self.now c.args.item n) (sym same) stray in
+    let bad : c.receive-fine.result ≡ false =
+    elim here [
+      | inl past ↦ absurd (omega arith)
+      | inr stands ↦
+          elim stands [
+            | inl closed ↦ c.receive-fine.ensures.late (closed_at c.args.self.now.jobs.items c.in-Some.job c.index_mut.result.now c.index_mut.ensures.value closed)
+            | inr misplaced ↦ c.receive-fine.ensures.misplaced (misplaced_at c.args.self.now.jobs.items c.args.item c.in-Some.job c.index_mut.result.now c.index_mut.ensures.value misplaced)
+          ]
+    ]
+    in (
       is_noted_then c.args.self.now.noted c.receive-fine.result bad,
       ap (λ (s : g.row.S.Denot). set c.args.sinks.now c.in-Some.job s) (c.receive-fine.ensures.refused bad) ∙ set-get_or c.args.sinks.now c.in-Some.job c.index-sinks-job.result,
     )

@@ -1,11 +1,11 @@
-use Rattle.std.proofs.Common.{rules, ◌≡◌, ◌≤◌, List, All, length, vec_len, ap, sym, subst, refl, ◌∙◌, arith}
+use Rattle.std.proofs.Common.{rules, ◌≡◌, ◌≤◌, List, All, length, map, vec_len, ap, sym, subst, refl, ◌∙◌, arith}
 use Rattle.ix_stages.specs.Course.{course_of}
 use Rattle.ix_stages.specs.Claims.{SeatMeaning}
 use Rattle.ix_stages.specs.Queue.{table_of}
 use Rattle.ix_stages.specs.Seats.{JobView}
 use Rattle.ix_flow.specs.Ready.{IsReady}
 use Rattle.ix_flow.proofs.Lists.{length_count, length_same, all_same}
-use Rattle.ix_flow.proofs.Makes.{seats_ready, takers_ready}
+use Rattle.ix_flow.proofs.Makes.{seats_ready, seats_each, takers_ready}
 use Rattle.ix_flow.proofs.preparing.Prepared.new.Goals as goal
 
 pub new-requires-3-clause-values : goal.new-requires-3-clause-values
@@ -21,8 +21,8 @@ make_places-requires g c =
     let same : course_of c.of.result.value c.of-2.result.value.items ≡ course_of c.args.store.now c.args.jobs.now.items = λ i. course_of (c.of.ensures i) (c.of-2.ensures i).items in
     takers_ready c.args.store.now c.args.jobs.now.items (table_of c.in_ok-parts.parts.queue) _ _ same c.args.verifiers c.in_ok-parts.parts.takers.items (c.course_of_jobs.ensures.store c.args.store.now c.args.jobs.now.items) c.in_ok-parts.ensures.takers
 
-pub returns : goal.returns
-returns g c =
+pub returns-clause-prepared : goal.returns-clause-prepared
+returns-clause-prepared g c =
     let verifiers = c.args.verifiers in
     let store = c.args.store.now in
     let jobs = c.args.jobs.now.items in
@@ -39,6 +39,7 @@ returns g c =
       posts = (c.in_ok-posts.ensures.items, c.in_ok-posts.ensures.capacity);
       stations = c.in_ok-stations.ensures;
       seats = subst (λ (l : List JobView). All (IsReady store jobs t) l) (sym c.in_ok-claims.ensures.claims.0) seats;
+      each = ap (λ (l : List JobView). map (λ s. s.job) l) c.in_ok-claims.ensures.claims.0 ∙ seats_each store jobs t _ _ same c.len-count.result c.in_ok-parts.parts.jobs.items many c.in_ok-parts.ensures.jobs;
       claimers = subst (λ (l : List (SeatMeaning JobView)). All (λ s. s.of ≡ claims) l) (sym c.in_ok-claims.ensures.seats) (all_same (λ (s : SeatMeaning JobView). s.of ≡ claims) _ c.args.sizes.walkers refl);
       desk = record {
         limits = subst (λ l. All (λ job. job.limit ≤ 1000000) l) c.deref.ensures.value c.see_limits.ensures;
@@ -48,3 +49,6 @@ returns g c =
         collector = (c.in_ok-new.ensures.unused, c.in_ok-new.ensures.jobs ∙ many);
       };
     }
+
+pub returns-clause-walkers : goal.returns-clause-walkers
+returns-clause-walkers g c = c.in_ok-claims.claimers.ok.0 ∙ (ap length c.in_ok-claims.ensures.seats ∙ length_same _ c.args.sizes.walkers)

@@ -1,0 +1,107 @@
+//! An export of which some threads can't be started: which checks come back, and what they checked.
+//!
+//! Which starts are refused stands in the environment, as `tests/memory.sh` says it to the library that
+//! refuses them: bit i of `REFUSE_THREADS` for the thread start with number i, verifiers before walkers.
+//! Without it all threads are started.
+
+ghost use Rattle.std.specs.Prelude.{◌≡◌, []};
+
+use crate::exporting::{exported, list, plan_of};
+use ix_car::End;
+use ix_check::{Check, ShaCheck, Verdict};
+use ix_fixtures::Log;
+use ix_pipeline::Open;
+use ix_walk::{Store, Visit};
+use std::alloc::{AllocError, Global};
+use std::env;
+use std::rt::Env;
+use std::test::Fail;
+
+// The verifiers, by the bits of their starts, and the walkers behind them.
+const VERIFIERS: u32 = 0b111;
+
+const WALKERS: u32 = 0b11000;
+
+// How many visits the three jobs have together.
+const VISITS: usize = 15;
+
+// Checks as `ShaCheck` does, and has the number of its verifier.
+#[derive(Drop)]
+struct Numbered {
+    number: u32,
+    check: ShaCheck,
+}
+
+impl Check for Numbered {
+    ghost checked = { λ c. c.check };
+
+    fn check(
+        &mut self,
+        alloc: Global,
+        store: &Store,
+        visit: &Visit,
+    ) -> Result<Verdict, AllocError> {
+        self.check.check(alloc, store, visit)
+    }
+}
+
+fn with_number(alloc: Global, number: u32) -> Numbered
+    ensures { result.check ≡ [] }
+{
+    Numbered {
+        number,
+        check: ShaCheck::new(alloc),
+    }
+}
+
+// The thread starts that are refused, a bit for each.
+fn refused_starts<R: AllocGlobal + Env>(rt: &R) -> u32 {
+    match env::var(rt, "REFUSE_THREADS") {
+        Ok(text) => text.as_str().parse().unwrap_or(0),
+        Err(_) => 0,
+    }
+}
+
+// Whether these checks are those of the verifiers whose starts weren't refused, in their order.
+fn are_started(checks: &[Numbered], refused: u32) -> bool {
+    let started = (0..3).filter(|number| refused >> number & 1 == 0);
+    checks.iter().map(|check| check.number).eq(started)
+}
+
+// How many visits they checked.
+fn checked_by(checks: &[Numbered]) -> usize {
+    let mut count = 0usize;
+    for numbered in checks {
+        count = count.saturating_add(numbered.check.receipts().len());
+    }
+    count
+}
+
+#[test]
+fn checks_of_verifiers_that_started(rt: HostRuntime) -> Result<(), Fail> {
+    let alloc = rt.alloc();
+    let (store, jobs) = list(alloc, 3)?;
+    let mut sinks = [
+        Log::new(alloc, 9)?,
+        Log::new(alloc, 9)?,
+        Log::new(alloc, 9)?,
+    ];
+    let checks = vec![in alloc;
+        with_number(alloc, 0),
+        with_number(alloc, 1),
+        with_number(alloc, 2),
+    ]?;
+    let plan = plan_of(2, 1, 1);
+    let out = exported(&rt, alloc, &store, &jobs, &mut sinks, checks, &Open, plan)?;
+    let refused = refused_starts(&rt);
+    let is_idle = refused & VERIFIERS == VERIFIERS || refused & WALKERS == WALKERS;
+    let (end, visits) = if is_idle {
+        (End::Start, 0)
+    } else {
+        (End::Done, VISITS)
+    };
+    assert!(rt; are_started(out.checks.as_slice(), refused));
+    assert_eq!(rt; checked_by(out.checks.as_slice()), visits);
+    assert!(rt; out.ends.as_slice() == [end; 3].as_slice());
+    Ok(())
+}
