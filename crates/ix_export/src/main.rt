@@ -1,4 +1,13 @@
 //! `ix_export`: cuts subgraphs out of CARv1 files.
+//!
+//! It reads the words and the files, has `ix_run` and `ix_notation` answer, prints that and gives
+//! its status. The first fault is told by one line on standard error, in the order in which it
+//! goes: words, blocks, job file, what they hold, outputs; the status is then 2. That it prints
+//! what they answer is tested, and no contract says it.
+//!
+//! ```sh
+//! ix_export jobs --blocks examples/library.car --jobs examples/library.jobs --out out
+//! ```
 #![tactic(auto)]
 
 mod words;
@@ -14,6 +23,7 @@ use ix_notation::{hex_of_json, json_of_hex};
 use ix_pipeline::Plan;
 use ix_run::{RunFault, RunOut, load, printed_root, root_of_text, run, run_watched};
 use ix_walk::{Job, Store};
+use std::fs::File;
 use std::io::{BufWriter, Write};
 use std::process::ExitCode;
 use std::rt::{Env, Files};
@@ -36,7 +46,7 @@ fn main(rt: HostRuntime) -> ExitCode {
 }
 
 // Does what the words say, and answers the status.
-fn obey<R: AllocGlobal + Env + Eprint + Files + Input + Print + Threads + Wait + Sync>(
+fn obey<R: AllocGlobal + Env + Eprint + Files<File = File> + Input + Print + Threads + Wait + Sync>(
     rt: &R,
 ) -> Result<u8, Failure> {
     let words = words_of(rt)?;
@@ -51,10 +61,10 @@ fn words_of<R: AllocGlobal + Env>(rt: &R) -> Result<Vec<String>, Failure> {
 }
 
 // Does what the command says that the words name.
-fn obey_command<'a, R: AllocGlobal + Eprint + Files + Input + Print + Threads + Wait + Sync>(
-    rt: &R,
-    matches: &ArgMatches<'a>,
-) -> Result<u8, Failure> {
+fn obey_command<
+    'a,
+    R: AllocGlobal + Eprint + Files<File = File> + Input + Print + Threads + Wait + Sync,
+>(rt: &R, matches: &ArgMatches<'a>) -> Result<u8, Failure> {
     if let Some(words) = matches.subcommand_matches("jobs") {
         return export_jobs(rt, words);
     }
@@ -92,7 +102,7 @@ fn export_one<R: AllocGlobal + Input + Print>(rt: &R, text: &str) -> Result<u8, 
 
 // The command `jobs`: its faults come in the order blocks, job file, what they hold, outputs. A run
 // that is refused leaves no output.
-fn export_jobs<'a, R: AllocGlobal + Eprint + Files + Print + Threads + Wait + Sync>(
+fn export_jobs<'a, R: AllocGlobal + Eprint + Files<File = File> + Print + Threads + Wait + Sync>(
     rt: &R,
     words: &ArgMatches<'a>,
 ) -> Result<u8, Failure> {
@@ -118,7 +128,7 @@ fn load_files<R: AllocGlobal + Files>(
 
 // Runs the jobs of these files, and makes and names their outputs, or removes them where the run is
 // refused.
-fn export_loaded<'a, R: AllocGlobal + Eprint + Files + Print + Threads + Wait + Sync>(
+fn export_loaded<'a, R: AllocGlobal + Eprint + Files<File = File> + Print + Threads + Wait + Sync>(
     rt: &R,
     words: &ArgMatches<'a>,
     inputs: [&str; 2],
@@ -139,7 +149,7 @@ fn export_loaded<'a, R: AllocGlobal + Eprint + Files + Print + Threads + Wait + 
 }
 
 // Names the outputs of a run, and prints its report.
-fn tell<'a, R: AllocGlobal + Files + Print>(
+fn tell<'a, R: AllocGlobal + Files<File = File> + Print>(
     rt: &R,
     words: &ArgMatches<'a>,
     folder: &str,

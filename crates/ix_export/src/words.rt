@@ -24,15 +24,17 @@ Status: 0 where an archive was printed, 2 where the words or the input are refus
 const JOBS_ABOUT: &str = "Writes an archive for each job of a job file, and a report";
 
 const JOBS_HELP: &str =
-    "Each line of the job file is a job, NAME ROOT LIMIT SELECTOR with one space between:\n\
+    "Each line of the job file is a job, NAME ROOTS LIMIT SELECTOR with one space between:\n\
 \n\
   photos bafkreif2pall7dybz7vecqka3zo24irdwabwdi4wc55jznaq75q7eaavvu 1000 a1612ea0\n\
 \n\
-NAME is 1 to 64 of a to z, 0 to 9, - and _, ROOT is the text of a CIDv1 (base32), LIMIT is how\n\
-many arrivals at blocks there may be, 1 to 1000000, and SELECTOR is an IPLD selector as DAG-CBOR\n\
-in hexadecimal, which the command `selector` makes of JSON. A block that is linked twice is\n\
-arrived at twice: it counts twice, and is checked twice. Empty lines and lines that begin with #\n\
-are ignored. There are at most 1000 jobs.\n\
+NAME is 1 to 64 of a to z, 0 to 9, - and _, ROOTS are the texts of 1 to 64 CIDv1s (base32) with\n\
+one comma between, LIMIT is how many arrivals at blocks there may be from all roots together, 1 to\n\
+1000000, and SELECTOR is an IPLD selector as DAG-CBOR in hexadecimal, which the command `selector`\n\
+makes of JSON. A block that is linked twice is arrived at twice: it counts twice, and is checked\n\
+twice. Empty lines and lines that begin with # are ignored. There are at most 1000 jobs.\n\
+\n\
+A job has one archive, whose header names its roots in their order, and which has each block once.\n\
 \n\
 The archive of a job is written to DIR/NAME.car.part. When the run has ended it is named\n\
 DIR/NAME.car, in place of a file that is there, where its job ended with done or limit; otherwise\n\

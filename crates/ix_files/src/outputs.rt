@@ -1,7 +1,9 @@
-//! The outputs of a run: files that get their names once their archives are told whole.
+//! The outputs of a run: files that get their names once their archives are whole.
 //!
 //! The archive of a job is written to `DIR/NAME.car.part`, and renamed to `DIR/NAME.car` when the run
-//! has ended. So a file under its final name is one that some report told.
+//! has ended and the job is told as done or limit, before the report is printed. From when it is made
+//! until it has its name the file is locked, by the advisory lock of its system that goes with the
+//! process, so that no other run takes it for one that was left there.
 
 ghost use Rattle.std.specs.Prelude.{◌≡◌, length, IfOk, IfErr, string_bytes};
 ghost use Rattle.ix_files.specs.Failure.{output_path, IsFailureOf, IsOutputFailure};
@@ -11,7 +13,7 @@ use ix_car::End;
 use ix_run::RunFault;
 use ix_walk::Job;
 use std::alloc::{AllocError, Global};
-use std::fs::{self, File, OpenFile};
+use std::fs::{self, File, Metadata, OpenFile};
 use std::io::{self, BufWriter, ErrorKind};
 use std::os::unix::fs::MetadataExt;
 use std::rt::Files;
@@ -43,10 +45,20 @@ struct FileId {
     number: u64,
 }
 
-/// The files of the archives, one for each job, in a folder that is there. An output that is a folder,
-/// or one of the files with the paths `inputs` under whatever name, is refused before anything is
-/// made; where a file can't be made, those made before it are removed.
-pub fn make_outputs<R: Files + AllocGlobal>(
+impl FileId {
+    fn of(metadata: &Metadata) -> FileId {
+        FileId {
+            device: metadata.dev(),
+            number: metadata.ino(),
+        }
+    }
+}
+
+/// The files of the archives, one for each job, in a folder that is there, each locked until it is
+/// closed. An output that is a folder, or one of the files with the paths `inputs` under whatever
+/// name, or that another run writes, is refused before anything is made; where a file can't be made,
+/// those made before it are removed.
+pub fn make_outputs<R: Files<File = File> + AllocGlobal>(
     rt: &R,
     folder: &str,
     jobs: &[Job],
@@ -62,7 +74,10 @@ pub fn make_outputs<R: Files + AllocGlobal>(
         match make_output(rt, folder, job) {
             Ok(output) => outputs.push(output)?,
             Err(failure) => {
-                remove_outputs(rt, folder, jobs, outputs.len());
+                let made = outputs.len();
+                // Closed, they are no longer locked.
+                drop(outputs);
+                remove_outputs(rt, folder, jobs, made);
                 return Err(failure);
             }
         }
@@ -71,18 +86,24 @@ pub fn make_outputs<R: Files + AllocGlobal>(
 }
 
 /// Removes what was written of the first jobs, so many, and has no final name. What can't be removed
-/// stays: there is nothing more to be done about it.
-pub fn remove_outputs<R: Files + AllocGlobal>(rt: &R, folder: &str, jobs: &[Job], count: usize) {
+/// stays: there is nothing more to be done about it. So does what another run has made there since.
+pub fn remove_outputs<R: Files<File = File> + AllocGlobal>(
+    rt: &R,
+    folder: &str,
+    jobs: &[Job],
+    count: usize,
+) {
     for job in jobs.iter().take(count) {
         if let Ok(places) = places_of(rt.alloc(), folder, job) {
-            let _ = fs::remove_file(rt, places.part.as_str());
+            remove_left(rt, places.part.as_str());
         }
     }
 }
 
 /// Gives its name to each archive whose job is told as done or limit, in the order of the jobs; where
-/// `sync` is set, its bytes are on the disk before. The others stay as they were written. The first
-/// failure is told, and the names behind it are given nevertheless.
+/// `sync` is set, its bytes are on the disk before. An archive whose file no longer stands where it was
+/// made gets none. The others stay as they were written. The first failure is told, and the names
+/// behind it are given nevertheless.
 pub fn name_outputs<R: Files + AllocGlobal>(
     rt: &R,
     folder: &str,
@@ -127,14 +148,19 @@ fn name_output<R: Files + AllocGlobal>(
             return Err(Failure::cannot_write(alloc, path, &error));
         }
     }
-    match fs::rename(rt, places.part.as_str(), path) {
+    let part = places.part.as_str();
+    if !stands_under(rt, output.get_ref(), part) {
+        let error = io::Error::from(ErrorKind::NotFound);
+        return Err(Failure::cannot_write(alloc, path, &error));
+    }
+    match fs::rename(rt, part, path) {
         Ok(()) => Ok(()),
         Err(error) => Err(Failure::cannot_write(alloc, path, &error)),
     }
 }
 
-// Refuses an output that is a folder or an input.
-fn judge_outputs<R: Files + AllocGlobal>(
+// Refuses an output that is a folder or an input, or that another run writes.
+fn judge_outputs<R: Files<File = File> + AllocGlobal>(
     rt: &R,
     folder: &str,
     jobs: &[Job],
@@ -150,7 +176,7 @@ fn judge_outputs<R: Files + AllocGlobal>(
 }
 
 // The same of one output.
-fn judge_output<R: Files + AllocGlobal>(
+fn judge_output<R: Files<File = File> + AllocGlobal>(
     rt: &R,
     folder: &str,
     job: &Job,
@@ -161,19 +187,52 @@ fn judge_output<R: Files + AllocGlobal>(
     let alloc = rt.alloc();
     let places = places_of(alloc, folder, job)?;
     let path = places.path.as_str();
+    let part = places.part.as_str();
     let is_folder = match fs::metadata(rt, path) {
         Ok(metadata) => metadata.is_dir(),
         Err(_) => false,
     };
-    if is_folder || is_input(rt, path, inputs) || is_input(rt, places.part.as_str(), inputs) {
+    if is_folder || is_input(rt, path, inputs) || is_input(rt, part, inputs) {
         let error = io::Error::from(ErrorKind::AlreadyExists);
+        return Err(Failure::cannot_write(alloc, path, &error));
+    }
+    if is_left(rt, part) && lock_left(rt, part).is_none() {
+        let error = io::Error::from(ErrorKind::WouldBlock);
         return Err(Failure::cannot_write(alloc, path, &error));
     }
     Ok(())
 }
 
-// Makes the file to which the archive of a job is written, in place of one that was left there.
-fn make_output<R: Files + AllocGlobal>(
+// Whether a file was left at a path, which some run may still write.
+fn is_left<R: Files>(rt: &R, part: &str) -> bool {
+    match fs::symlink_metadata(rt, part) {
+        Ok(metadata) => metadata.is_file(),
+        Err(_) => false,
+    }
+}
+
+// The file that was left at a path, locked, unless another run writes it or it can't be opened.
+fn lock_left<R: Files<File = File>>(rt: &R, part: &str) -> Option<File> {
+    let file = fs::open(rt, part).ok()?;
+    if file.try_lock().is_err() || !stands_under(rt, &file, part) {
+        return None;
+    }
+    Some(file)
+}
+
+// Removes what was left at a path, unless another run writes it. It is locked until it is gone.
+fn remove_left<R: Files<File = File>>(rt: &R, part: &str) {
+    if !is_left(rt, part) {
+        let _ = fs::remove_file(rt, part);
+    } else if let Some(file) = lock_left(rt, part) {
+        let _ = fs::remove_file(rt, part);
+        drop(file);
+    }
+}
+
+// Makes the file to which the archive of a job is written, in place of one that was left there, and
+// locks it.
+fn make_output<R: Files<File = File> + AllocGlobal>(
     rt: &R,
     folder: &str,
     job: &Job,
@@ -183,18 +242,31 @@ fn make_output<R: Files + AllocGlobal>(
     let alloc = rt.alloc();
     let places = places_of(alloc, folder, job)?;
     let part = places.part.as_str();
-    // Where nothing was left there is nothing to remove, and what can't be removed can't be made.
-    let _ = fs::remove_file(rt, part);
+    // What can't be removed can't be made.
+    remove_left(rt, part);
     let file = match File::create_new(rt, part) {
         Ok(file) => file,
         Err(error) => return Err(Failure::cannot_write(alloc, places.path.as_str(), &error)),
     };
+    // A run that begins at the same time may have locked it first, and taken it away.
+    if file.try_lock().is_err() || !stands_under(rt, &file, part) {
+        let error = io::Error::from(ErrorKind::WouldBlock);
+        return Err(Failure::cannot_write(alloc, places.path.as_str(), &error));
+    }
     match BufWriter::with_capacity(alloc, BUFFER, file) {
         Ok(output) => Ok(output),
         Err(_) => {
-            let _ = fs::remove_file(rt, part);
+            remove_left(rt, part);
             Err(Failure::Fault(RunFault::Memory))
         }
+    }
+}
+
+// Whether an open file is the one that stands at a path.
+fn stands_under<R: Files>(rt: &R, file: &R::File, path: &str) -> bool {
+    match (file.metadata(), fs::symlink_metadata(rt, path)) {
+        (Ok(open), Ok(standing)) => FileId::of(&open) == FileId::of(&standing),
+        _ => false,
     }
 }
 
@@ -209,10 +281,7 @@ fn is_input<R: Files>(rt: &R, path: &str, inputs: [Option<FileId>; 2]) -> bool {
 // What the file at a path is, where there is one.
 fn file_id<R: Files>(rt: &R, path: &str) -> Option<FileId> {
     match fs::metadata(rt, path) {
-        Ok(metadata) => Some(FileId {
-            device: metadata.dev(),
-            number: metadata.ino(),
-        }),
+        Ok(metadata) => Some(FileId::of(&metadata)),
         Err(_) => None,
     }
 }
