@@ -1,6 +1,7 @@
 #!/usr/bin/env python3
 """Runs the built program on input that is made to hurt it: files cut at each byte, with each byte changed, selectors
-and job files cut at each byte, blocks with many links, CIDs chosen for one place of the index, and mutations by chance.
+and job files cut at each byte, roots of a job cut and changed, blocks with many links, CIDs chosen for one place of the
+index, long ones that are alike, and mutations by chance.
 Ends with status 1 at the first run that is wrong.
 
 No run may end by a signal or take a minute. Where a file is refused, it is one line of the known ones. Where the run
@@ -21,7 +22,7 @@ import sys
 import tempfile
 
 TOP = pathlib.Path(__file__).resolve().parent.parent
-PROGRAM = TOP / "crates/ix_export/out/ix_export"
+PROGRAM = subprocess.run([TOP / "ix_export", "--where"], stdout=subprocess.PIPE, check=True, text=True).stdout.strip()
 NO_ROOTS = bytes.fromhex("11a265726f6f7473806776657273696f6e01")
 RAW, DAG_CBOR = 0x55, 0x71
 MATCHER = "a1612ea0"
@@ -73,11 +74,10 @@ def section(key, block):
     return varint(len(key) + len(block)) + key + block
 
 
-def header(key):
-    """The header of the archive with this root, whose CID is below 255 bytes."""
-    long = len(key) + 1
-    head = bytes([0x40 + long]) if long < 24 else bytes([0x58, long])
-    body = bytes.fromhex("a265726f6f747381d82a") + head + b"\0" + key + bytes.fromhex("6776657273696f6e01")
+def header(keys):
+    """The header of the archive with these roots, below 24, whose CIDs have 36 bytes."""
+    links = b"".join(link(key) for key in keys)
+    body = bytes.fromhex("a265726f6f7473") + bytes([0x80 + len(keys)]) + links + bytes.fromhex("6776657273696f6e01")
     return varint(len(body)) + body
 
 
@@ -215,6 +215,28 @@ def cut_jobs(runner):
         runner.run(blocks, jobs[:length])
 
 
+def several_roots(runner):
+    """A job line of three roots: cut behind each of their characters, with each of them changed, and whole."""
+    root, sections = damaged_list()
+    whole = NO_ROOTS + b"".join(sections)
+    keys = [cid(RAW, b"abc"), root, cid(RAW, b"abc")]
+    texts = [text(key) for key in keys]
+    roots = ",".join(texts)
+    for length in range(len(roots)):
+        parts = roots[:length].split(",")
+        came = runner.run(whole, f"a {roots[:length]} 100 {ALL}\n".encode(), 2)
+        if parts != texts[: len(parts)]:
+            wanted(came, 2, f"jobs: {'root' if length else 'fields'} at line 1\n")
+        elif came[0] == 2:
+            raise Wrong("whole roots were refused")
+    for place in range(len(roots)):
+        changed = roots[:place] + chr(ord(roots[place]) ^ 1) + roots[place + 1 :]
+        runner.run(whole, f"a {changed} 100 {ALL}\n".encode(), 2)
+    runner.run(whole, f"a {roots} 100 {ALL}\n".encode(), 2)
+    if not (runner.room / "out/a.car").read_bytes().startswith(header(keys)):
+        raise Wrong("the header has other roots")
+
+
 def peak(runner):
     """The memory in bytes that the program takes at most for the input of the last run."""
     words = [PROGRAM, "jobs", "--blocks", "blocks.car", "--jobs", "jobs.txt", "--out", "out", "--walkers", "1", "--verifiers", "1"]
@@ -274,6 +296,19 @@ def chosen_cids(runner):
             raise Wrong(f"{workload} took {seconds[workload]:.2f} seconds, random ones {seconds['random-cids']:.2f}")
 
 
+def long_cids(runner):
+    """Ten sections under one number of the index, more than a look-up goes through, of which the last two have CIDs of
+    16 MB that agree up to their last bytes: these are told apart without a stack that is as deep as they are long."""
+    leaf = cid(RAW, b"abc")
+    tail = leaf[-8:]
+    others = [bytes([1, RAW, 0x12, 0x20]) + bytes(23) + bytes([number]) + tail for number in range(7)]
+    long = [bytes([1, RAW, 0x12]) + varint(16_000_000) + bytes(15_999_991) + bytes([last]) + tail for last in (0, 1)]
+    blocks = NO_ROOTS + section(leaf, b"abc") + b"".join(section(key, b"") for key in others + long)
+    came = runner.run(blocks, f"a {text(leaf)} 1 {MATCHER}\n".encode())
+    if came[0] != 0 or not came[1].startswith("a done visits=1 kept=1 sections=1 "):
+        raise Wrong(f"one sound visit was wanted: {came[1][:80]!r}")
+
+
 def mutated(chance, data, words):
     """The bytes with some changes: bits, bytes, cuts, and pieces that come twice or elsewhere."""
     data = bytearray(data)
@@ -311,8 +346,9 @@ def graph(chance):
         sections.append(section(keys[-1], block))
     lines = []
     for number in range(chance.randrange(1, 6)):
+        roots = ",".join(text(chance.choice(keys)) for _ in range(chance.choice((1, 1, 2, 3))))
         limit = chance.choice((1, 3, 100, 1000))
-        lines.append(f"job-{number} {text(chance.choice(keys))} {limit} {chance.choice(SELECTORS)}\n")
+        lines.append(f"job-{number} {roots} {limit} {chance.choice(SELECTORS)}\n")
     return b"".join(sections), "".join(lines).encode()
 
 
@@ -325,7 +361,7 @@ def fuzz(runner, seed, runs):
         if what != 1:
             blocks = mutated(chance, blocks, [b"\xff" * 9, b"\xd8\x2a", b"\x9b" + b"\xff" * 8, blocks[18:60]])
         if what != 0:
-            words = [b" ", b"\n", b"#", b"\xc3", jobs[:30], ALL.encode(), b"1000000", b"a1617c82"]
+            words = [b" ", b",", b"\n", b"#", b"\xc3", jobs[:30], ALL.encode(), b"1000000", b"a1617c82"]
             jobs = mutated(chance, jobs, words)
         try:
             runner.run(blocks, jobs, 4)
@@ -338,11 +374,9 @@ def main():
     parser.add_argument("--seed", type=int, default=1)
     parser.add_argument("--runs", type=int, default=600, help="how many mutations are tried")
     words = parser.parse_args()
-    # Builds the program where it isn't built.
-    subprocess.run([TOP / "ix_export", "--help"], stdout=subprocess.DEVNULL, check=True)
     with tempfile.TemporaryDirectory(prefix="hostile-") as room:
         runner = Runner(pathlib.Path(room))
-        for part in (wide_blocks, chosen_cids, cut_blocks, changed_blocks, cut_selectors, cut_jobs):
+        for part in (wide_blocks, chosen_cids, long_cids, cut_blocks, changed_blocks, cut_selectors, cut_jobs, several_roots):
             try:
                 part(runner)
             except Wrong as wrong:

@@ -1,8 +1,8 @@
 #!/usr/bin/env bash
 # Runs the built program with each of its requests for memory refused in turn, and with each set of its
-# thread starts refused, also where one check never finds memory. No run may end by a signal, and each
-# archive is the wanted one where its job is told as done, and else a beginning of it. Ends with status 1
-# at the first run that is wrong.
+# thread starts refused, also where one check never finds memory; and a test of exports with each set of
+# its thread starts refused. No run may end by a signal, and each archive is the wanted one where its job
+# is told as done, and else a beginning of it. Ends with status 1 at the first run that is wrong.
 # The library that refuses is made by the toolchain's own compiler; without one this says so and ends well.
 set -Eeuo pipefail
 export LC_ALL=C
@@ -21,8 +21,7 @@ if ! "$compiler" -shared -fPIC -O1 -nostdlib -fuse-ld=lld "$top/tests/memory/ref
 fi
 
 # Builds the program where it isn't built.
-"$top/ix_export" --help >/dev/null
-program=$top/crates/ix_export/out/ix_export
+program=$("$top/ix_export" --where)
 title='before the first run'
 source "$top/tests/program/cases.sh"
 source "$top/tests/program/blocks.sh"
@@ -143,7 +142,7 @@ each_of() {
 }
 
 : >input
-each_of "$top/examples/library.car" "$top/examples/library.jobs" "$top/examples/expected" album first-three front whole
+each_of "$top/examples/library.car" "$top/examples/library.jobs" "$top/examples/expected" album first-three front parts whole
 
 # A list of two links, of which the first is to a damaged block: one job over it, and three.
 write_blocks "$(section "$fork_cid" "$fork")" "$(section "$with_zero_cid" "$with_one")" "$one_blocks"
@@ -188,6 +187,22 @@ for threads in 1 2; do
   each_request judge_jobs "${words[@]}" --walkers "$threads" --verifiers "$threads"
 done
 held=
+
+# Which checks an export hands back, and that nothing was checked where its jobs end with start: the test that says so, with
+# each set of starts of its three verifiers and two walkers refused. The gate leaves it where it built it.
+tests=$top/crates/ix_export_tests/out/ix_export_tests_tests
+if [ -x "$tests" ]; then
+  for ((set = 0; set < 32; set++)); do
+    title="threads $set refused of the test of starts"
+    runs=$((runs + 1))
+    status=0
+    timeout 60 env REFUSE_THREADS="$set" LD_PRELOAD="$library" \
+      "$tests" starts::checks_of_verifiers_that_started >stdout 2>stderr || status=$?
+    [ "$status" = 0 ] || fail 'the test failed'
+  done
+else
+  echo "tests/memory.sh: the tests of exports weren't built here: not run with starts refused"
+fi
 
 cp "$top/crates/ix_export/stdin" input
 mapfile -t root <"$top/crates/ix_export/args"

@@ -56,7 +56,11 @@ with_length() {
 
 # The header of an archive of a root, and the section of a CID and a block.
 header() {
-  with_length a265726f6f747381 "$(link "$1")" 6776657273696f6e01
+  local cid links=
+  for cid in "$@"; do
+    links+=$(link "$cid")
+  done
+  with_length "a265726f6f7473$(printf '%02x' $((0x80 + $#)))" "$links" 6776657273696f6e01
 }
 
 section() {

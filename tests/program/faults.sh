@@ -89,6 +89,11 @@ line_refused name "../b $abc_text 1 $matcher"
 line_refused name "$(repeated 65 b) $abc_text 1 $matcher"
 line_refused root "b x 1 $matcher"
 line_refused root "b ${abc_text}aaaa 1 $matcher"
+line_refused root "b $abc_text, 1 $matcher"
+line_refused root "b $abc_text,,$abc_text 1 $matcher"
+line_refused root "b $abc_text,x 1 $matcher"
+line_refused root "b $abc_text$(repeated 64 ",$abc_text") 1 $matcher"
+line_refused fields "b $abc_text, $abc_text 1 $matcher"
 for limit in 0 01 +1 1x 1000001 4294967297 18446744073709551617; do
   line_refused limit "b $abc_text $limit $matcher"
 done

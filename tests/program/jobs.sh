@@ -31,6 +31,27 @@ expect 3 "a done visits=5 kept=4 sections=3 bytes=298
 total jobs=1 done=1 skips=1" ''
 expect_bytes out/a.car "$(header "$fork_cid")" "$(section "$fork_cid" "$fork")" "$one_blocks"
 
+begin 'two roots: one header, one limit, and a block once'
+write_blocks "$one_blocks"
+write_jobs "a $abc_text,$(text "$one_cid") 3 $all" "short $abc_text,$(text "$one_cid") 2 $all" "twice $abc_text,$abc_text 10 $matcher"
+run_jobs
+expect 4 "a done visits=3 kept=3 sections=2 bytes=219
+short limit visits=2 kept=2 sections=2 bytes=219
+twice done visits=2 kept=2 sections=1 bytes=140
+total jobs=3 done=2 skips=0" ''
+expect_bytes out/a.car "$(header "$abc_cid" "$one_cid")" "$(section "$abc_cid" "$abc")" "$(section "$one_cid" "$one")"
+expect_bytes out/short.car "$(header "$abc_cid" "$one_cid")" "$(section "$abc_cid" "$abc")" "$(section "$one_cid" "$one")"
+expect_bytes out/twice.car "$(header "$abc_cid" "$abc_cid")" "$(section "$abc_cid" "$abc")"
+
+begin 'a damaged root before a good one'
+write_blocks "$(section "$with_zero_cid" "$with_one")" "$(section "$abc_cid" "$abc")"
+write_jobs "a $(text "$with_zero_cid"),$abc_text 100 $all"
+run_jobs
+expect 3 "a done visits=3 kept=2 sections=1 bytes=140
+  0 damaged $(text "$with_zero_cid")
+total jobs=1 done=1 skips=1" ''
+expect_bytes out/a.car "$(header "$with_zero_cid" "$abc_cid")" "$(section "$abc_cid" "$abc")"
+
 begin 'links of another codec and hash, and a block that does not decode'
 pb_cid=01701220$(digest "$abc")
 pb_0_cid=1220$(digest "$abc")

@@ -35,10 +35,10 @@ begin 'progress: the examples by many threads'
 run jobs --blocks "$top/examples/library.car" --jobs "$top/examples/library.jobs" --out out --progress
 expect_text 'exit status' 4 "$status"
 expect_lines 'standard output' "$(cat "$top/examples/expected/report.txt")" "$scratch/stdout"
-expect_text 'jobs closed' "$(seq -f 'progress: %g of 4 jobs closed' 4)" "$(cut -d, -f1 "$scratch/stderr")"
-expect_text 'the last line' 'progress: 4 of 4 jobs closed, 27 visits delivered, 2524 bytes written' \
+expect_text 'jobs closed' "$(seq -f 'progress: %g of 5 jobs closed' 5)" "$(cut -d, -f1 "$scratch/stderr")"
+expect_text 'the last line' 'progress: 5 of 5 jobs closed, 35 visits delivered, 3161 bytes written' \
   "$(tail -n 1 "$scratch/stderr")"
-for name in album first-three front whole; do
+for name in album first-three front parts whole; do
   expect_same "out/$name.car" "$top/examples/expected/$name.car" "out/$name.car"
 done
 

@@ -56,18 +56,18 @@ module _ {W : Type 0} (told : W → Option (List ℕ)) (d : Delivery) (before : 
   delivers-refused text (Err Memory) after h none = ap (λ a. a.failed) h ∙ none
 
   -- the bytes before, where the archive has written what it should
-  bytes-before : (store : Blocks) (job : JobMeaning) → HasWritten (told before.writer) store job.root before.deliveries before.failed → before.failed ≡ [] → told before.writer ≡ Some (archive_with store job.root (kept before.deliveries))
-  bytes-before store job h none = subst (λ f. HasWritten (told before.writer) store job.root before.deliveries f) none h
+  bytes-before : (store : Blocks) (job : JobMeaning) → HasWritten (told before.writer) store job.roots before.deliveries before.failed → before.failed ≡ [] → told before.writer ≡ Some (archive_with store job.roots (kept before.deliveries))
+  bytes-before store job h none = subst (λ f. HasWritten (told before.writer) store job.roots before.deliveries f) none h
 
   -- the bytes after
-  bytes-after : (text : List ℕ) (after : ArchiveMeaning W) (store : Blocks) (job : JobMeaning) → HasWritten (told before.writer) store job.root before.deliveries before.failed → before.failed ≡ [] → HasTaken told before after text → told after.writer ≡ Some (archive_with store job.root (kept before.deliveries) ++ text)
+  bytes-after : (text : List ℕ) (after : ArchiveMeaning W) (store : Blocks) (job : JobMeaning) → HasWritten (told before.writer) store job.roots before.deliveries before.failed → before.failed ≡ [] → HasTaken told before after text → told after.writer ≡ Some (archive_with store job.roots (kept before.deliveries) ++ text)
   bytes-after text after store job h none took =
-      appended (archive_with store job.root (kept before.deliveries)) text (told after.writer) (subst (λ o. Appends o (told after.writer) text) (bytes-before store job h none) took.grown)
+      appended (archive_with store job.roots (kept before.deliveries)) text (told after.writer) (subst (λ o. Appends o (told after.writer) text) (bytes-before store job h none) took.grown)
 
   -- their number
-  counted-after : (text : List ℕ) (after : ArchiveMeaning W) (store : Blocks) (job : JobMeaning) → HasWritten (told before.writer) store job.root before.deliveries before.failed → IsCountOf before.taken (told before.writer) → before.failed ≡ [] → HasTaken told before after text → IsCountOf after.taken (told after.writer)
+  counted-after : (text : List ℕ) (after : ArchiveMeaning W) (store : Blocks) (job : JobMeaning) → HasWritten (told before.writer) store job.roots before.deliveries before.failed → IsCountOf before.taken (told before.writer) → before.failed ≡ [] → HasTaken told before after text → IsCountOf after.taken (told after.writer)
   counted-after text after store job h count none took bytes is =
-      let whole = archive_with store job.root (kept before.deliveries) in
+      let whole = archive_with store job.roots (kept before.deliveries) in
       let same : bytes ≡ whole ++ text = some-text bytes (whole ++ text) (sym is ∙ bytes-after text after store job h none took) in
       took.counted
       ∙ count-add (2 ^ 64 - 1) (length whole) (length text) before.taken (count whole (bytes-before store job h none))
@@ -75,38 +75,38 @@ module _ {W : Type 0} (told : W → Option (List ℕ)) (d : Delivery) (before : 
       ∙ ap (λ l. at_most 64 (length l)) (sym same)
 
   -- what is due is the same over a store that is the archive's
-  due-there : (store : Blocks) (job : JobMeaning) → before.store ≡ store → archive_with store job.root (kept (before.deliveries ++ d ∷ [])) ≡ archive_with store job.root (kept before.deliveries) ++ text_due before.store before.deliveries d
+  due-there : (store : Blocks) (job : JobMeaning) → before.store ≡ store → archive_with store job.roots (kept (before.deliveries ++ d ∷ [])) ≡ archive_with store job.roots (kept before.deliveries) ++ text_due before.store before.deliveries d
   due-there store job same =
-      archive-due store job.root before.deliveries d ∙ ap (λ s. archive_with store job.root (kept before.deliveries) ++ text_due s before.deliveries d) (sym same)
+      archive-due store job.roots before.deliveries d ∙ ap (λ s. archive_with store job.roots (kept before.deliveries) ++ text_due s before.deliveries d) (sym same)
 
   added-written : (after : ArchiveMeaning W) (store : Blocks) (job : JobMeaning) → IsAdded told d (text_due before.store before.deliveries d) before after → before.failed ≡ [] → before.store ≡ store
-      → HasWritten (told before.writer) store job.root before.deliveries before.failed → HasWritten (told after.writer) store job.root after.deliveries after.failed
+      → HasWritten (told before.writer) store job.roots before.deliveries before.failed → HasWritten (told after.writer) store job.roots after.deliveries after.failed
   added-written after store job added none same h =
-      let is : told after.writer ≡ Some (archive_with store job.root (kept (before.deliveries ++ d ∷ []))) = bytes-after (text_due before.store before.deliveries d) after store job h none added.wrote ∙ ap Some (sym (due-there store job same)) in
-      let by_none : HasWritten (told after.writer) store job.root after.deliveries [] = is ∙ ap (λ l. Some (archive_with store job.root (kept l))) (sym added.deliveries) in
-      subst (λ f. HasWritten (told after.writer) store job.root after.deliveries f) (sym added.failed) by_none
+      let is : told after.writer ≡ Some (archive_with store job.roots (kept (before.deliveries ++ d ∷ []))) = bytes-after (text_due before.store before.deliveries d) after store job h none added.wrote ∙ ap Some (sym (due-there store job same)) in
+      let by_none : HasWritten (told after.writer) store job.roots after.deliveries [] = is ∙ ap (λ l. Some (archive_with store job.roots (kept l))) (sym added.deliveries) in
+      subst (λ f. HasWritten (told after.writer) store job.roots after.deliveries f) (sym added.failed) by_none
 
   added-archived : (after : ArchiveMeaning W) (store : Blocks) (job : JobMeaning) (first : Option (List ℕ)) → IsAdded told d (text_due before.store before.deliveries d) before after → before.failed ≡ [] → HasArchived told before store job first → HasArchived told after store job first
   added-archived after store job first added none h = record {
     same_store = added.wrote.same_store ∙ h.same_store;
-    same_root = added.wrote.same_root ∙ h.same_root;
+    same_roots = added.wrote.same_roots ∙ h.same_roots;
     written = λ fresh. added-written after store job added none h.same_store (h.written fresh);
     counted = λ fresh. counted-after (text_due before.store before.deliveries d) after store job (h.written fresh) (h.counted fresh) none added.wrote;
   }
 
   failed-written : (after : ArchiveMeaning W) (store : Blocks) (job : JobMeaning) → IsFailed told d (text_due before.store before.deliveries d) before after → before.failed ≡ [] → before.store ≡ store
-      → HasWritten (told before.writer) store job.root before.deliveries before.failed → HasWritten (told after.writer) store job.root after.deliveries after.failed
+      → HasWritten (told before.writer) store job.roots before.deliveries before.failed → HasWritten (told after.writer) store job.roots after.deliveries after.failed
   failed-written after store job refused none same h =
-      let whole = archive_with store job.root (kept before.deliveries) in
-      let proper : IsProperPrefix (whole ++ refused.part) (archive_with store job.root (kept (before.deliveries ++ d ∷ []))) = subst (λ l. IsProperPrefix (whole ++ refused.part) l) (sym (due-there store job same)) (proper-behind whole refused.part (text_due before.store before.deliveries d) refused.proper) in
-      let by_one : HasWritten (told after.writer) store job.root before.deliveries (d ∷ []) = (whole ++ refused.part, bytes-after refused.part after store job h none refused.wrote, proper) in
-      let by_deliveries : HasWritten (told after.writer) store job.root after.deliveries (d ∷ []) = subst (λ l. HasWritten (told after.writer) store job.root l (d ∷ [])) (sym refused.deliveries) by_one in
-      subst (λ f. HasWritten (told after.writer) store job.root after.deliveries f) (sym refused.failed) by_deliveries
+      let whole = archive_with store job.roots (kept before.deliveries) in
+      let proper : IsProperPrefix (whole ++ refused.part) (archive_with store job.roots (kept (before.deliveries ++ d ∷ []))) = subst (λ l. IsProperPrefix (whole ++ refused.part) l) (sym (due-there store job same)) (proper-behind whole refused.part (text_due before.store before.deliveries d) refused.proper) in
+      let by_one : HasWritten (told after.writer) store job.roots before.deliveries (d ∷ []) = (whole ++ refused.part, bytes-after refused.part after store job h none refused.wrote, proper) in
+      let by_deliveries : HasWritten (told after.writer) store job.roots after.deliveries (d ∷ []) = subst (λ l. HasWritten (told after.writer) store job.roots l (d ∷ [])) (sym refused.deliveries) by_one in
+      subst (λ f. HasWritten (told after.writer) store job.roots after.deliveries f) (sym refused.failed) by_deliveries
 
   failed-archived : (after : ArchiveMeaning W) (store : Blocks) (job : JobMeaning) (first : Option (List ℕ)) → IsFailed told d (text_due before.store before.deliveries d) before after → before.failed ≡ [] → HasArchived told before store job first → HasArchived told after store job first
   failed-archived after store job first refused none h = record {
     same_store = refused.wrote.same_store ∙ h.same_store;
-    same_root = refused.wrote.same_root ∙ h.same_root;
+    same_roots = refused.wrote.same_roots ∙ h.same_roots;
     written = λ fresh. failed-written after store job refused none h.same_store (h.written fresh);
     counted = λ fresh. counted-after refused.part after store job (h.written fresh) (h.counted fresh) none refused.wrote;
   }
@@ -124,11 +124,11 @@ module _ {W : Type 0} (told : W → Option (List ℕ)) (d : Delivery) (before : 
   delivers-memory text (Err Memory) after h e = h
 
 -- a delivery that writes nothing
-pub adds-nothing : {W : Type 0} (told : W → Option (List ℕ)) (d : Delivery) (store : Blocks) (root : List ℕ) (ds es failed : List Delivery) (closed : List End) (taken : ℕ) (writer : W) → failed ≡ [] → taken ≤ 2 ^ 64 - 1 → es ≡ ds ++ d ∷ []
-    → IsAdded told d [] (record { store = store; root = root; deliveries = ds; failed = failed; closed = closed; taken = taken; writer = writer }) (record { store = store; root = root; deliveries = es; failed = failed; closed = closed; taken = taken; writer = writer })
-adds-nothing told d store root ds es failed closed taken writer none within longer =
+pub adds-nothing : {W : Type 0} (told : W → Option (List ℕ)) (d : Delivery) (store : Blocks) (roots : List (List ℕ)) (ds es failed : List Delivery) (closed : List End) (taken : ℕ) (writer : W) → failed ≡ [] → taken ≤ 2 ^ 64 - 1 → es ≡ ds ++ d ∷ []
+    → IsAdded told d [] (record { store = store; roots = roots; deliveries = ds; failed = failed; closed = closed; taken = taken; writer = writer }) (record { store = store; roots = roots; deliveries = es; failed = failed; closed = closed; taken = taken; writer = writer })
+adds-nothing told d store roots ds es failed closed taken writer none within longer =
     let stays : taken ≡ min (taken + 0) (2 ^ 64 - 1) = omega arith in record {
-      wrote = record { same_store = refl; same_root = refl; same_close = refl; grown = appends-nothing (told writer); counted = stays };
+      wrote = record { same_store = refl; same_roots = refl; same_close = refl; grown = appends-nothing (told writer); counted = stays };
       deliveries = longer;
       failed = none;
     }
@@ -146,14 +146,14 @@ pub due-within : (store : Blocks) (ks : List Delivery) (c : List ℕ) (place : �
 due-within store ks c place due = place_within place store c (sym (due-told store ks c place due).1)
 
 -- a delivery whose section was written whole
-pub adds-section : {W : Type 0} (told : W → Option (List ℕ)) (d : Delivery) (store : Blocks) (root : List ℕ) (ds es failed : List Delivery) (closed : List End) (taken more n : ℕ) (writer later : W) (text due : List ℕ) → failed ≡ [] → es ≡ ds ++ d ∷ [] → text ≡ due → n ≤ length text → length text ≤ n
+pub adds-section : {W : Type 0} (told : W → Option (List ℕ)) (d : Delivery) (store : Blocks) (roots : List (List ℕ)) (ds es failed : List Delivery) (closed : List End) (taken more n : ℕ) (writer later : W) (text due : List ℕ) → failed ≡ [] → es ≡ ds ++ d ∷ [] → text ≡ due → n ≤ length text → length text ≤ n
     → Appends (told writer) (told later) (take n text) → more ≡ at_most 64 (taken + n)
-    → IsAdded told d due (record { store = store; root = root; deliveries = ds; failed = failed; closed = closed; taken = taken; writer = writer }) (record { store = store; root = root; deliveries = es; failed = failed; closed = closed; taken = more; writer = later })
-adds-section told d store root ds es failed closed taken more n writer later text due none longer is within whole grown counted =
+    → IsAdded told d due (record { store = store; roots = roots; deliveries = ds; failed = failed; closed = closed; taken = taken; writer = writer }) (record { store = store; roots = roots; deliveries = es; failed = failed; closed = closed; taken = more; writer = later })
+adds-section told d store roots ds es failed closed taken more n writer later text due none longer is within whole grown counted =
     let many : n ≡ length due = let same : n ≡ length text = omega arith in same ∙ ap length is in record {
       wrote = record {
         same_store = refl;
-        same_root = refl;
+        same_roots = refl;
         same_close = refl;
         grown = subst (λ l. Appends (told writer) (told later) l) (take_all n text whole ∙ is) grown;
         counted = counted ∙ ap (λ m. at_most 64 (taken + m)) many;
@@ -163,16 +163,16 @@ adds-section told d store root ds es failed closed taken more n writer later tex
     }
 
 -- a delivery whose section was written in part
-pub fails-section : {W : Type 0} (told : W → Option (List ℕ)) (d : Delivery) (store : Blocks) (root : List ℕ) (ds es failed : List Delivery) (closed : List End) (taken more n : ℕ) (writer later : W) (text due : List ℕ) → es ≡ ds → text ≡ due → n < length text
+pub fails-section : {W : Type 0} (told : W → Option (List ℕ)) (d : Delivery) (store : Blocks) (roots : List (List ℕ)) (ds es failed : List Delivery) (closed : List End) (taken more n : ℕ) (writer later : W) (text due : List ℕ) → es ≡ ds → text ≡ due → n < length text
     → Appends (told writer) (told later) (take n text) → more ≡ at_most 64 (taken + n)
-    → IsFailed told d due (record { store = store; root = root; deliveries = ds; failed = failed; closed = closed; taken = taken; writer = writer }) (record { store = store; root = root; deliveries = es; failed = d ∷ []; closed = closed; taken = more; writer = later })
-fails-section told d store root ds es failed closed taken more n writer later text due same is short grown counted =
+    → IsFailed told d due (record { store = store; roots = roots; deliveries = ds; failed = failed; closed = closed; taken = taken; writer = writer }) (record { store = store; roots = roots; deliveries = es; failed = d ∷ []; closed = closed; taken = more; writer = later })
+fails-section told d store roots ds es failed closed taken more n writer later text due same is short grown counted =
     let within : n ≤ length text = omega arith in record {
       part = take n text;
       proper = subst (λ l. IsProperPrefix (take n text) l) is (proper-take n text short);
       wrote = record {
         same_store = refl;
-        same_root = refl;
+        same_roots = refl;
         same_close = refl;
         grown = grown;
         counted = counted ∙ ap (λ m. at_most 64 (taken + m)) (sym (length-take-le n text within));
@@ -182,22 +182,22 @@ fails-section told d store root ds es failed closed taken more n writer later te
     }
 
 -- a writer that took a part of a header
-pub begins-in_part : {W : Type 0} (told : W → Option (List ℕ)) (writer later : W) (root header : List ℕ) (n : ℕ) → header ≡ header_of root → n < length header → Appends (told writer) (told later) (take n header) → told writer ≡ Some [] → TookPartOfHeader (told later) root
-begins-in_part told writer later root header n is short grown fresh = (
+pub begins-in_part : {W : Type 0} (told : W → Option (List ℕ)) (writer later : W) (roots : List (List ℕ)) (header : List ℕ) (n : ℕ) → header ≡ header_of roots → n < length header → Appends (told writer) (told later) (take n header) → told writer ≡ Some [] → TookPartOfHeader (told later) roots
+begins-in_part told writer later roots header n is short grown fresh = (
   take n header,
   appended [] (take n header) (told later) (subst (λ o. Appends o (told later) (take n header)) fresh grown),
   subst (λ l. IsProperPrefix (take n header) l) is (proper-take n header short),
 )
 
 -- an archive whose header was written
-pub begins-archived : {W : Type 0} (told : W → Option (List ℕ)) (writer later : W) (store : Blocks) (job : JobMeaning) (root header : List ℕ) (ds : List Delivery) (n : ℕ) → root ≡ job.root → header ≡ header_of job.root → ds ≡ [] → n ≤ length header → length header ≤ n → n ≤ 2 ^ 64 - 1
+pub begins-archived : {W : Type 0} (told : W → Option (List ℕ)) (writer later : W) (store : Blocks) (job : JobMeaning) (roots : List (List ℕ)) (header : List ℕ) (ds : List Delivery) (n : ℕ) → roots ≡ job.roots → header ≡ header_of job.roots → ds ≡ [] → n ≤ length header → length header ≤ n → n ≤ 2 ^ 64 - 1
     → Appends (told writer) (told later) (take n header)
-    → HasArchived told (record { store = store; root = root; deliveries = ds; failed = []; closed = []; taken = n; writer = later }) store job (told writer)
-begins-archived told writer later store job root header ds n same is none within whole fits grown =
+    → HasArchived told (record { store = store; roots = roots; deliveries = ds; failed = []; closed = []; taken = n; writer = later }) store job (told writer)
+begins-archived told writer later store job roots header ds n same is none within whole fits grown =
     let took : told writer ≡ Some [] → told later ≡ Some header = λ fresh. appended [] (take n header) (told later) (subst (λ o. Appends o (told later) (take n header)) fresh grown) ∙ ap Some (take_all n header whole) in record {
       same_store = refl;
-      same_root = same;
-      written = λ fresh. took fresh ∙ ap Some (is ∙ sym (append-nil (header_of job.root))) ∙ ap (λ l. Some (archive_with store job.root (kept l))) (sym none);
+      same_roots = same;
+      written = λ fresh. took fresh ∙ ap Some (is ∙ sym (append-nil (header_of job.roots))) ∙ ap (λ l. Some (archive_with store job.roots (kept l))) (sym none);
       counted = λ fresh bytes tells. let one : bytes ≡ header = some-text bytes header (sym tells ∙ took fresh) in
           let many : n ≡ min (length header) (2 ^ 64 - 1) = omega arith in many ∙ ap (λ l. at_most 64 (length l)) (sym one);
     }

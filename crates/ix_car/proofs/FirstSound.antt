@@ -58,13 +58,13 @@ first-text f true true d = refl
 first-text f true false d = append-nil (f d)
 
 -- one more kept delivery writes its text at the end of the archive
-pub archive-push : (store : Blocks) (root : List ℕ) (ks : List Delivery) (d : Delivery) → archive_with store root (ks ++ d ∷ []) ≡ archive_with store root ks ++ text_behind store ks d
-archive-push store root ks d =
-    ap (λ l. header_of root ++ flat_map (section_of store) l) (first_sound-push ks d)
-    ∙ ap (λ l. header_of root ++ l)
+pub archive-push : (store : Blocks) (roots : List (List ℕ)) (ks : List Delivery) (d : Delivery) → archive_with store roots (ks ++ d ∷ []) ≡ archive_with store roots ks ++ text_behind store ks d
+archive-push store roots ks d =
+    ap (λ l. header_of roots ++ flat_map (section_of store) l) (first_sound-push ks d)
+    ∙ ap (λ l. header_of roots ++ l)
     (flat_map-append (section_of store) (first_sound ks) (first_of ks d)
     ∙ ap (λ l. flat_map (section_of store) (first_sound ks) ++ l) (first-text (section_of store) (is_sound d.verdict) (is_told ks d.visit.cid) d))
-    ∙ sym (append_assoc (header_of root) (flat_map (section_of store) (first_sound ks)) (text_behind store ks d))
+    ∙ sym (append_assoc (header_of roots) (flat_map (section_of store) (first_sound ks)) (text_behind store ks d))
 
 -- what is kept with one more delivery
 pub kept-push : (ds : List Delivery) (d : Delivery) → kept (ds ++ d ∷ []) ≡ (if is_below (cut_behind ds) d.visit.depth then kept ds else kept ds ++ d ∷ [])
@@ -77,11 +77,11 @@ pub cut-push : (ds : List Delivery) (d : Delivery) → cut_behind (ds ++ d ∷ [
 cut-push ds d = cut_after-append (λ e. e.visit.depth) (λ e. passes e.verdict) None ds (d ∷ [])
 
 -- one more delivery writes what is due at the end of the archive
-pub archive-due : (store : Blocks) (root : List ℕ) (ds : List Delivery) (d : Delivery) → archive_with store root (kept (ds ++ d ∷ [])) ≡ archive_with store root (kept ds) ++ text_due store ds d
-archive-due store root ds d =
-    ap (λ ks. archive_with store root ks) (kept-push ds d)
-    ∙ elim (is_below (cut_behind ds) d.visit.depth) as (λ b. archive_with store root (if b then kept ds else kept ds ++ d ∷ []) ≡ archive_with store root (kept ds) ++ (if b then [] else text_behind store (kept ds) d))
-    [ true ↦ sym (append-nil (archive_with store root (kept ds))) | false ↦ archive-push store root (kept ds) d ]
+pub archive-due : (store : Blocks) (roots : List (List ℕ)) (ds : List Delivery) (d : Delivery) → archive_with store roots (kept (ds ++ d ∷ [])) ≡ archive_with store roots (kept ds) ++ text_due store ds d
+archive-due store roots ds d =
+    ap (λ ks. archive_with store roots ks) (kept-push ds d)
+    ∙ elim (is_below (cut_behind ds) d.visit.depth) as (λ b. archive_with store roots (if b then kept ds else kept ds ++ d ∷ []) ≡ archive_with store roots (kept ds) ++ (if b then [] else text_behind store (kept ds) d))
+    [ true ↦ sym (append-nil (archive_with store roots (kept ds))) | false ↦ archive-push store roots (kept ds) d ]
 
 -- the skips of kept deliveries
 abbrev pub skips_in : List Delivery → List Skip

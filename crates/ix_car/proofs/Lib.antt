@@ -11,4 +11,5 @@ pub mod Distinct
 pub mod Numbers
 pub mod Archives
 pub mod HeaderLemmas
+pub mod HeaderLinks
 pub mod Sections

@@ -1,6 +1,6 @@
 -- The number of an arrival is its place, so the verified traversal is what is kept of the visits.
 use Rattle.std.proofs.Common.{◌≡◌, ℕ, zero, suc, ◌+◌, true, false, List, [], ◌∷◌, ◌++◌, take, drop, map, refl, sym, ◌∙◌, ap, eq-eqb, take-append-drop, ltb-false, length}
-use Rattle.std.specs.Prelude.{Option, Some, None, if◌then◌else◌, ◌==◌}
+use Rattle.std.specs.Prelude.{Option, Some, None, if◌then◌else◌, ◌&&◌, ◌==◌}
 use Rattle.std.proofs.lemmas.Bool.{and_from}
 use Rattle.std.proofs.lemmas.List.{take_all, take-map}
 use Rattle.std.proofs.lemmas.Slice.Eq.{bytes_eq-Decides}
@@ -16,7 +16,7 @@ use Rattle.ix_car.specs.Kept.{is_below, kept_behind, kept}
 use Rattle.ix_car.specs.Verified.{is_good, judged, judged_visits, verified, verified_arrivals, same_step, same_path, number_among}
 use Rattle.ix_car.proofs.Pruning.{kept_arrivals, pruning, kept-take}
 use Rattle.ix_car.proofs.RisingKeys.{value_of-rising}
-use Rattle.ix_car.proofs.Distinct.{agree, DiffersFromAll, AreDistinct, at_distinct}
+use Rattle.ix_car.proofs.Distinct.{agree, DiffersFromAll, AreDistinct, from_distinct}
 
 -- ---- numbers
 
@@ -29,7 +29,9 @@ same_path-refl [] = refl
 same_path-refl (t ∷ p) = and_from (same_step t t) (same_path p p) (same_step-refl t) (same_path-refl p)
 
 agree-refl : (a : Arrival) → agree a a ≡ true
-agree-refl a = and_from (same_path a.path a.path) (a.depth == a.depth) (same_path-refl a.path) (eq-eqb a.depth a.depth refl)
+agree-refl a =
+    and_from (a.root == a.root) (same_path a.path a.path && (a.depth == a.depth)) (eq-eqb a.root a.root refl)
+    (and_from (same_path a.path a.path) (a.depth == a.depth) (same_path-refl a.path) (eq-eqb a.depth a.depth refl))
 
 -- the visit of an arrival with its verdict and this number
 abbrev judged_at : Blocks → ℕ → ℕ → Arrival → Delivery
@@ -52,7 +54,7 @@ numbered-all store number n (x ∷ xs) distinct =
     λ i. judged_at store number (if sym (agree-refl x) i then n else number_among (n + 1) xs x) x ∷ (numbered-all store number (n + 1) xs distinct.1 ∙ sym (numbered-behind store number n x xs xs distinct.0)) i
 
 believed-distinct : (store : Blocks) (job : JobMeaning) → AreDistinct (believed store job)
-believed-distinct store job = at_distinct (is_entered job.selector) (value_of store) (value_of-rising store) job.limit 0 job.root []
+believed-distinct store job = from_distinct (is_entered job.selector) (value_of store) (value_of-rising store) job.limit 0 job.roots
 
 -- ---- the visits of a job
 
@@ -84,7 +86,7 @@ kept-visits store number job =
 
 -- the verified arrivals are what is kept of the believed ones
 kept-believed : (store : Blocks) (job : JobMeaning) → kept_arrivals (is_good store) None (believed store job) ≡ verified_arrivals store job
-kept-believed store job = pruning (is_good store) (is_entered job.selector) (value_of store) job.limit job.root []
+kept-believed store job = pruning (is_good store) (is_entered job.selector) (value_of store) job.limit 0 job.roots
 
 -- numbers don't matter to what is kept
 kept-numbered : (store : Blocks) (number : ℕ) (number_of : Arrival → ℕ) (cut : Option ℕ) (xs : List Arrival)

@@ -5,7 +5,7 @@ use Rattle.std.proofs.lemmas.Bool.{le-ltb, lt-ltb}
 use Rattle.ix_cbor.specs.Data as nodes
 use Rattle.ix_cbor.specs.Data.{Data, Items, Entries, no_items, item, no_entries, entry}
 use Rattle.ix_selector.specs.Enters.{key, nth, Path}
-use Rattle.ix_walk.specs.Arrivals.{Arrival, Crossing, Inside, behind, when_some, arrivals_below, arrivals_in_items, arrivals_in_entries, arrivals_at}
+use Rattle.ix_walk.specs.Arrivals.{Arrival, Crossing, Inside, behind, when_some, arrivals_below, arrivals_in_items, arrivals_in_entries, arrivals_at, arrivals_from}
 use Rattle.ix_car.specs.Kept.{is_below, cut_at, kept_behind, kept_of, without_deeper, cut_after as cut_of}
 use Rattle.ix_car.specs.Verified.{only_passing}
 
@@ -136,14 +136,14 @@ module _ (pass : List ℕ → Bool) where
       gone_entries (entry l x es) p = gone-append d _ _ (chosen_gone (enters (behind p (key l))) _ (gone_below x (behind p (key l)))) (gone_entries es p)
 
   -- an entry that isn't cut off is left, with what is left behind it
-  entry_left : (k : ℕ) (cut : Option ℕ) (p : Path) (c : List ℕ) (rest : List Arrival) → AtLeast k cut
-      → kept_arrivals cut (record { path = p; depth = k; cid = c } ∷ rest) ≡ record { path = p; depth = k; cid = c } ∷ kept_arrivals (if pass c then None else Some k) rest
-  entry_left k cut p c rest a =
-      ap (λ b. if b then kept_arrivals cut rest else record { path = p; depth = k; cid = c } ∷ kept_arrivals (if pass c then None else Some k) rest) (not_below k cut a)
+  entry_left : (root k : ℕ) (cut : Option ℕ) (p : Path) (c : List ℕ) (rest : List Arrival) → AtLeast k cut
+      → kept_arrivals cut (record { root = root; path = p; depth = k; cid = c } ∷ rest) ≡ record { root = root; path = p; depth = k; cid = c } ∷ kept_arrivals (if pass c then None else Some k) rest
+  entry_left root k cut p c rest a =
+      ap (λ b. if b then kept_arrivals cut rest else record { root = root; path = p; depth = k; cid = c } ∷ kept_arrivals (if pass c then None else Some k) rest) (not_below k cut a)
 
-  after_entry : (k : ℕ) (cut : Option ℕ) (p : Path) (c : List ℕ) (rest : List Arrival) → AtLeast k cut
-      → after_arrivals cut (record { path = p; depth = k; cid = c } ∷ rest) ≡ after_arrivals (if pass c then None else Some k) rest
-  after_entry k cut p c rest a =
+  after_entry : (root k : ℕ) (cut : Option ℕ) (p : Path) (c : List ℕ) (rest : List Arrival) → AtLeast k cut
+      → after_arrivals cut (record { root = root; path = p; depth = k; cid = c } ∷ rest) ≡ after_arrivals (if pass c then None else Some k) rest
+  after_entry root k cut p c rest a =
       ap (λ b. if b then after_arrivals cut rest else after_arrivals (if pass c then None else Some k) rest) (not_below k cut a)
 
   -- an entry deeper than the cut goes, with what goes behind it
@@ -155,11 +155,11 @@ module _ (pass : List ℕ → Bool) where
       }
 
   module _ (enters : Path → Bool) (inside : Inside) where
-    abbrev whole_at : ℕ → ℕ → Crossing
-    whole_at links k = arrivals_at enters inside links k
+    abbrev whole_at : ℕ → ℕ → ℕ → Crossing
+    whole_at root links k = arrivals_at enters inside root links k
 
-    abbrev pruned_at : ℕ → ℕ → Crossing
-    pruned_at links k = arrivals_at enters (only_passing pass inside) links k
+    abbrev pruned_at : ℕ → ℕ → ℕ → Crossing
+    pruned_at root links k = arrivals_at enters (only_passing pass inside) root links k
 
     -- what is behind an entry
     abbrev rest_at : Crossing → Option Data → Path → List Arrival
@@ -169,10 +169,10 @@ module _ (pass : List ℕ → Bool) where
     gone_rest d cross h None p = record { left = refl; after = refl }
     gone_rest d cross h (Some n) p = gone_below enters d cross h n p
 
-    at_gone : (links d k : ℕ) → d < k → Goes d (whole_at links k)
-    at_gone zero d k deep c p = gone-entry d (record { path = p; depth = k; cid = c }) [] deep (record { left = refl; after = refl })
-    at_gone (suc links) d k deep c p =
-        gone-entry d (record { path = p; depth = k; cid = c }) _ deep (gone_rest d (whole_at links (k + 1)) (at_gone links d (k + 1) (omega arith)) (inside c) p)
+    at_gone : (root links d k : ℕ) → d < k → Goes d (whole_at root links k)
+    at_gone root zero d k deep c p = gone-entry d (record { root = root; path = p; depth = k; cid = c }) [] deep (record { left = refl; after = refl })
+    at_gone root (suc links) d k deep c p =
+        gone-entry d (record { root = root; path = p; depth = k; cid = c }) _ deep (gone_rest d (whole_at root links (k + 1)) (at_gone root links d (k + 1) (omega arith)) (inside c) p)
 
     deeper : (k : ℕ) (cross pruned : Crossing) → Prunes (k + 1) cross pruned → (o : Option Data) (p : Path) → Pruned k None (rest_at cross o p) (rest_at pruned o p)
     deeper k cross pruned h None p = record { left = refl; after = tt }
@@ -188,19 +188,32 @@ module _ (pass : List ℕ → Bool) where
     behind_it k cross pruned h g o p true = deeper k cross pruned h o p
     behind_it k cross pruned h g o p false = cut_off k _ (gone_rest k cross g o p)
 
-    at_prunes : (links k : ℕ) → Prunes k (whole_at links k) (pruned_at links k)
-    at_prunes zero k cut c p a =
+    at_prunes : (root links k : ℕ) → Prunes k (whole_at root links k) (pruned_at root links k)
+    at_prunes root zero k cut c p a =
         let one : (b : Bool) → AtLeast k (if b then None else Some k) = λ b. elim b as (λ v. AtLeast k (if v then None else Some k)) [ true ↦ tt | false ↦ omega arith ] in
-        record { left = entry_left k cut p c [] a; after = subst (AtLeast k) (sym (after_entry k cut p c [] a)) (one (pass c)) }
-    at_prunes (suc links) k cut c p a =
-        let rest = behind_it k (whole_at links (k + 1)) (pruned_at links (k + 1)) (at_prunes links (k + 1)) (at_gone links k (k + 1) (omega arith)) (inside c) p (pass c) in record {
-          left = entry_left k cut p c _ a ∙ ap (λ l. record { path = p; depth = k; cid = c } ∷ l) rest.left;
-          after = subst (AtLeast k) (sym (after_entry k cut p c _ a)) rest.after;
+        record { left = entry_left root k cut p c [] a; after = subst (AtLeast k) (sym (after_entry root k cut p c [] a)) (one (pass c)) }
+    at_prunes root (suc links) k cut c p a =
+        let rest = behind_it k (whole_at root links (k + 1)) (pruned_at root links (k + 1)) (at_prunes root links (k + 1)) (at_gone root links k (k + 1) (omega arith)) (inside c) p (pass c) in record {
+          left = entry_left root k cut p c _ a ∙ ap (λ l. record { root = root; path = p; depth = k; cid = c } ∷ l) rest.left;
+          after = subst (AtLeast k) (sym (after_entry root k cut p c _ a)) rest.after;
         }
 
+    abbrev whole_from : ℕ → ℕ → List (List ℕ) → List Arrival
+    whole_from links root cs = arrivals_from enters inside links root cs
+
+    abbrev pruned_from : ℕ → ℕ → List (List ℕ) → List Arrival
+    pruned_from links root cs = arrivals_from enters (only_passing pass inside) links root cs
+
+    -- a root has depth 0, so it is not cut off, whatever was cut before
+    from_prunes : (links root : ℕ) (cs : List (List ℕ)) (cut : Option ℕ) → AtLeast 0 cut → Pruned 0 cut (whole_from links root cs) (pruned_from links root cs)
+    from_prunes links root [] cut a = record { left = refl; after = a }
+    from_prunes links root (c ∷ cs) cut a =
+        pruned-append 0 cut (whole_at root links 0 c []) (whole_from links (root + 1) cs) (pruned_at root links 0 c []) (pruned_from links (root + 1) cs)
+        (at_prunes root links 0 cut c [] a) (λ d b. from_prunes links (root + 1) cs d b)
+
     -- cutting by depth equals never having gone in
-    pub pruning : (links : ℕ) (c : List ℕ) (p : Path) → kept_arrivals None (whole_at links 0 c p) ≡ pruned_at links 0 c p
-    pruning links c p = (at_prunes links 0 None c p tt).left
+    pub pruning : (links root : ℕ) (cs : List (List ℕ)) → kept_arrivals None (whole_from links root cs) ≡ pruned_from links root cs
+    pruning links root cs = (from_prunes links root cs None tt).left
 
 -- what is left of the beginning of a list is the beginning of what is left
 pub kept-take : {X : Type 0} (depth : X → ℕ) (pass : X → Bool) (cut : Option ℕ) (n : ℕ) (xs : List X) → (m : ℕ) × (kept_behind depth pass cut (take n xs) ≡ take m (kept_behind depth pass cut xs))

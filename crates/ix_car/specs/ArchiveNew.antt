@@ -5,6 +5,6 @@ use Rattle.ix_car.specs.declared.fault.ArchiveNew.TheVariants.{Write, Memory}
 use Rattle.ix_car.specs.ArchiveMeaning.{TookPartOfHeader}
 
 -- A writer that had no bytes took a part of the header and not the whole, or no memory was left and the writer is as it was.
-abbrev pub IsNoArchive : {W : Type 0} → (W → Option (List ℕ)) → W → List ℕ → ArchiveNew W → Type 0
-IsNoArchive told before root (Write after) = told before ≡ Some [] → TookPartOfHeader (told after) root
-IsNoArchive told before root (Memory after) = after ≡ before
+abbrev pub IsNoArchive : {W : Type 0} → (W → Option (List ℕ)) → W → List (List ℕ) → ArchiveNew W → Type 0
+IsNoArchive told before roots (Write after) = told before ≡ Some [] → TookPartOfHeader (told after) roots
+IsNoArchive told before roots (Memory after) = after ≡ before

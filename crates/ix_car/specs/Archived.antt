@@ -1,5 +1,5 @@
 -- What the archive of a job is, in the end.
-use Rattle.std.specs.Prelude.{◌≡◌, List, ◌++◌, Option, Some, ℕ}
+use Rattle.std.specs.Prelude.{◌≡◌, List, [], ◌∷◌, ◌++◌, Option, Some, ℕ}
 use Rattle.ix_walk.specs.Store.{Blocks}
 use Rattle.ix_walk.specs.JobMeaning.{JobMeaning}
 use Rattle.ix_car.specs.declared.sink.Delivery.{Delivery}
@@ -19,5 +19,5 @@ TellsBeginning told whole = (bytes : List ℕ) × (told ≡ Some bytes) × IsBeg
 
 -- What an archive over the store and the job has written, where its writer tells its bytes: the whole archive at Done, and else its beginning.
 pub record IsArchived (store : Blocks) (number : ℕ) (job : JobMeaning) (end : End) (events : List Event) (failed : List Delivery) : Type 0 where
-  pub whole : end ≡ Done → (told : Option (List ℕ)) → HasWritten told store job.root (deliveries_of events) failed → told ≡ Some (archive_of store number job)
-  pub beginning : (bytes : List ℕ) → HasWritten (Some bytes) store job.root (deliveries_of events) failed → IsBeginning bytes (archive_of store number job)
+  pub whole : end ≡ Done → (told : Option (List ℕ)) → HasWritten told store job.roots (deliveries_of events) failed → told ≡ Some (archive_of store number job)
+  pub beginning : (bytes : List ℕ) → HasWritten (Some bytes) store job.roots (deliveries_of events) failed → IsBeginning bytes (archive_of store number job)

@@ -45,10 +45,10 @@ pub record IsTally (store : Blocks) (ds failed : List Delivery) (closed : List E
   -- while nothing failed and nothing was closed, the place of a CID is in the set where a kept sound delivery has that CID
   pub written_is : failed ≡ [] → closed ≡ [] → (c : List ℕ) (place : ℕ) → position_of store c ≡ Some place → is_marked written place ≡ is_told (kept ds) c
 
--- the writer took this text, its bytes were counted, and store, root and close are as they were
+-- the writer took this text, its bytes were counted, and store, roots and close are as they were
 pub record HasTaken {W : Type 0} (told : W → Option (List ℕ)) (before after : ArchiveMeaning W) (text : List ℕ) : Type 0 where
   pub same_store : after.store ≡ before.store
-  pub same_root : after.root ≡ before.root
+  pub same_roots : after.roots ≡ before.roots
   pub same_close : after.closed ≡ before.closed
   pub grown : Appends (told before.writer) (told after.writer) text
   pub counted : after.taken ≡ at_most 64 (before.taken + length text)

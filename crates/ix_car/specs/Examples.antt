@@ -22,16 +22,26 @@ first_is_cut_off = refl
 pub three_sections : map (λ d. d.visit.seq) (first_sound (kept deliveries)) ≡ 0 ∷ 3 ∷ 4 ∷ []
 three_sections = refl
 
+-- what is below a damaged root is cut off, and the next root is kept
+pub next_root : kept (at 0 0 88 Damaged ∷ at 1 1 97 Sound ∷ at 2 0 70 Sound ∷ at 3 1 97 Sound ∷ []) ≡ at 0 0 88 Damaged ∷ at 2 0 70 Sound ∷ at 3 1 97 Sound ∷ []
+next_root = refl
+
 -- a damaged cycle: everything behind the first is cut off
 pub cycle : kept (at 0 0 1 Damaged ∷ at 1 1 1 Damaged ∷ at 2 2 1 Damaged ∷ []) ≡ at 0 0 1 Damaged ∷ []
 cycle = refl
 
--- a root's header is 59 bytes with its length
+-- a root's header is 59 bytes with its length, that of one named twice 100, and 24 roots take a head of two bytes
 abbrev pub root : List ℕ
 root = 1 ∷ 0x55 ∷ 0x12 ∷ 0x20 ∷ replicate 32 7
 
-pub header_length : length (header_of root) ≡ 59
+pub header_length : length (header_of (root ∷ [])) ≡ 59
 header_length = refl
+
+pub header_of_two : length (header_of (root ∷ root ∷ [])) ≡ 100
+header_of_two = refl
+
+pub header_of_24 : length (header_of (replicate 24 root)) ≡ 1004
+header_of_24 = refl
 
 pub empty_file : blocks_of [] ≡ Err (record { kind = Truncated; left = 0 })
 unfolding sections_at item_at

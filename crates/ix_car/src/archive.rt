@@ -1,7 +1,7 @@
-//! Archives (CARv1): a header with the root of a job, and a section for each sound block at its first
+//! Archives (CARv1): a header with the roots of a job, and a section for each sound block at its first
 //! visit.
 
-ghost use Rattle.std.specs.Prelude.{◌≡◌, ◌+◌, true, false, None, Some, [], IfOk, IfErr};
+ghost use Rattle.std.specs.Prelude.{◌≡◌, ◌+◌, true, false, None, Some, [], ◌∷◌, IfOk, IfErr};
 ghost use Rattle.ix_walk.specs.Store.{position_of};
 ghost use Rattle.ix_car.specs.Kept.{is_below, kept};
 ghost use Rattle.ix_car.specs.Archive.{is_sound};
@@ -21,6 +21,7 @@ use ix_walk::{Job, Store, Visit};
 use std::alloc::Global;
 use std::io::Write;
 use std::marker::Model;
+use std::snapshot::Snapshot;
 
 mod output;
 
@@ -56,8 +57,8 @@ pub struct Counts {
 #[derive(Drop)]
 pub struct Archive<'a, W: Write> {
     store: &'a Store,
-    root: Cid,
-    // What was delivered. Contracts speak of it, and nothing else does.
+    // The job and what was delivered. Contracts speak of these, and nothing else does.
+    job: Snapshot<Job>,
     deliveries: History<Delivery>,
     failed: Option<Delivery>,
     closed: Option<End>,
@@ -73,35 +74,32 @@ pub struct Archive<'a, W: Write> {
 }
 
 impl<'a, W: Write> Model for Archive<'a, W> {
-    ghost use Rattle.std.specs.Prelude.{option_to_list};
+    ghost use Rattle.std.specs.Prelude.{[], ◌∷◌, option_to_list};
     ghost use Rattle.ix_car.specs.ArchiveMeaning.{ArchiveMeaning};
     ghost use Rattle.ix_car.specs.Archiving.{IsTally};
 
     ghost Value = { ArchiveMeaning W };
 
-    ghost view = { λ a. record { store = a.store.now; root = a.root; deliveries = a.deliveries; failed = option_to_list a.failed; closed = option_to_list a.closed; taken = a.counts.bytes; writer = a.writer } };
+    ghost view = { λ a. record { store = a.store.now; roots = a.job.value.roots; deliveries = a.deliveries; failed = option_to_list a.failed; closed = option_to_list a.closed; taken = a.counts.bytes; writer = a.writer } };
 
     ghost invariant = { λ a. IsTally a.store.now a.deliveries (option_to_list a.failed) (option_to_list a.closed) a.cut a.counts a.written a.skips.items };
 }
 
 impl<'a, W: Write> Archive<'a, W> {
     /// Begins the archive of a job over a store: its header is written, the length of a DAG-CBOR map
-    /// as a varint and the map, with `roots`, a list of the root's link, and `version` 1. Where that
-    /// fails the writer is handed back.
+    /// as a varint and the map, with `roots`, a list of a link to each root, and `version` 1. Where
+    /// that fails the writer is handed back.
     pub fn new(
         alloc: Global,
         store: &'a Store,
         job: &Job,
         mut writer: W,
     ) -> Result<Archive<'a, W>, ArchiveNew<W>>
-        ensures begun { IfOk result (λ a. IsBegun a store.now job.now.root) }
+        ensures begun { IfOk result (λ a. IsBegun a store.now job.now.roots) }
         ensures fact { IfOk result (λ a. HasArchived W.contents a store.now job.now (W.contents writer)) }
-        ensures refused { IfErr result (λ e. IsNoArchive W.contents writer job.now.root e) }
+        ensures refused { IfErr result (λ e. IsNoArchive W.contents writer job.now.roots e) }
     {
-        let Ok(root) = job.root().try_clone(alloc) else {
-            return Err(ArchiveNew::Memory(writer));
-        };
-        let Ok(header) = header_of(alloc, &root) else {
+        let Ok(header) = header_of(alloc, job.roots()) else {
             return Err(ArchiveNew::Memory(writer));
         };
         let taken = write_text(&mut writer, header.as_slice());
@@ -110,7 +108,7 @@ impl<'a, W: Write> Archive<'a, W> {
         }
         Ok(Archive {
             store,
-            root,
+            job: Snapshot::of(job),
             deliveries: History::new(),
             failed: None,
             closed: None,

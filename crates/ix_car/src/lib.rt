@@ -1,4 +1,22 @@
 //! CARv1 files, sinks and archives.
+//!
+//! A CARv1 file is read as its blocks, or refused with the first fault and its place. An archive is
+//! the sink of one job: it writes the header at once, then each sound block that it is told of,
+//! once, and leaves out what lies below a block that isn't sound. What it wrote, counted and
+//! skipped is what its deliveries call for.
+//!
+//! ```rust
+//! let store = read_car(alloc, file)?;
+//! let mut archive = Archive::new(alloc, &store, &job, Vec::new(alloc))?;
+//! let mut check = ShaCheck::new(alloc);
+//! for item in Walk::new(alloc, &store, &job, 0)? {
+//!     let visit = item?;
+//!     let verdict = check.check(alloc, &store, &visit)?;
+//!     archive.deliver(alloc, visit, verdict)?;
+//! }
+//! archive.close(End::Done);
+//! let (bytes, skips, counts) = archive.into_parts();
+//! ```
 #![tactic(auto)]
 
 mod archive;

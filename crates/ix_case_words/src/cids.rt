@@ -22,6 +22,36 @@ fn whole_cid(alloc: Global, bytes: &[u8], text: &str) -> Result<Cid> {
     }
 }
 
+/// The CIDs that bytes in hexadecimal are, with a comma between; `-` is none.
+pub fn cids_of(alloc: Global, texts: &str) -> Result<Vec<Cid>> {
+    let mut cids = Vec::new(alloc);
+    if texts == "-" {
+        return Ok(cids);
+    }
+    for text in texts.split(',') {
+        cids.push(cid_of(alloc, text)?)?;
+    }
+    Ok(cids)
+}
+
+/// The texts of CIDs, with a comma between.
+pub fn text_of_cids(alloc: Global, cids: &[Cid]) -> Result<String, AllocError> {
+    let mut texts = Vec::new(alloc);
+    for cid in cids {
+        texts.push(cid.text(alloc)?)?;
+    }
+    texts.join(alloc, ",")
+}
+
+/// CIDs in hexadecimal, with a comma between.
+pub fn hex_of_cids(alloc: Global, cids: &[Cid]) -> Result<String> {
+    let mut texts = Vec::new(alloc);
+    for cid in cids {
+        texts.push(hex_of(alloc, cid.as_bytes())?)?;
+    }
+    Ok(texts.join(alloc, ",")?)
+}
+
 /// `varint HEX = NUMBER LENGTH`
 pub fn varint(alloc: Global, input: &str) -> Result<String> {
     let bytes = bytes_of_hex(alloc, input)?;

@@ -1,6 +1,13 @@
 //! The words of cases about bytes alone: varints, CIDs, blocks, trees and selectors. Each function
-//! that a word stands for takes the case's input and gives its answer, or an error for an input that
-//! says nothing.
+//! that a word stands for takes the case's input and gives its answer, or an error for an input
+//! that says nothing.
+//!
+//! It promises nothing by contract: its answers are compared with those that the cases want.
+//!
+//! ```rust
+//! let answer = selectors::notation(alloc, "{\".\":{}}")?;
+//! assert!(rt; answer.as_str() == "a1612ea0");
+//! ```
 #![tactic(auto)]
 
 pub mod cids;

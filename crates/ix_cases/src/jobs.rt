@@ -1,14 +1,14 @@
 //! Job files, what a run needs, and the archive of one root.
 
 use anyhow::Result;
-use ix_case_words::cids::cid_of;
+use ix_case_words::cids::{cid_of, text_of_cids};
 use ix_case_words::texts::{bytes_of_hex, escaped, hex_of, two_words, unescaped};
 use ix_jobs::{JobsFault, read_jobs};
 use ix_run::{RunFault, export_root, fault_line, prepare, printed_root, root_of_text};
 use ix_walk::Job;
 use std::alloc::{AllocError, Global};
 
-/// `jobs TEXT = COUNT jobs; NAME ROOT LIMIT; ..` or `KIND at line NUMBER`
+/// `jobs TEXT = COUNT jobs; NAME ROOTS LIMIT; ..` or `KIND at line NUMBER`
 pub fn jobs(alloc: Global, input: &str) -> Result<String> {
     let file = unescaped(alloc, input)?;
     match read_jobs(alloc, file.as_slice()) {
@@ -17,7 +17,7 @@ pub fn jobs(alloc: Global, input: &str) -> Result<String> {
     }
 }
 
-// `COUNT jobs; NAME ROOT LIMIT; ..`
+// `COUNT jobs; NAME ROOTS LIMIT; ..`
 fn text_of_jobs(alloc: Global, jobs: &[Job]) -> Result<String> {
     let count = jobs.len();
     let mut answer = format!(in alloc; "{count} jobs")?;
@@ -27,12 +27,12 @@ fn text_of_jobs(alloc: Global, jobs: &[Job]) -> Result<String> {
     Ok(answer)
 }
 
-// Appends `; NAME ROOT LIMIT`.
+// Appends `; NAME ROOTS LIMIT`.
 fn push_job(alloc: Global, answer: &mut String, job: &Job) -> Result<(), AllocError> {
     let name = job.name();
-    let root = job.root().text(alloc)?;
+    let roots = text_of_cids(alloc, job.roots())?;
     let limit = job.limit();
-    write!(answer, "; {name} {root} {limit}")
+    write!(answer, "; {name} {roots} {limit}")
 }
 
 // `KIND at line NUMBER`

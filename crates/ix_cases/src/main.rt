@@ -4,6 +4,10 @@
 //! Its words are the paths of the files. It prints one line with how many cases agree. The status
 //! is 1 where one differs, which standard error then tells with its file and line, and 2 where a
 //! file can't be read.
+//!
+//! ```sh
+//! ix_cases varints.cases cids.cases
+//! ```
 #![tactic(auto)]
 
 mod answers;

@@ -3,9 +3,9 @@
 ghost use Rattle.ix_check.specs.Visits.{IsVisitOf};
 
 use anyhow::{Result, bail, ensure};
-use ix_case_words::cids::cid_of;
+use ix_case_words::cids::{cids_of, hex_of_cids};
 use ix_case_words::selectors::selector_of;
-use ix_case_words::texts::{hex_of, two_words};
+use ix_case_words::texts::two_words;
 use ix_check::{Check, ShaCheck, Verdict};
 use ix_walk::{Job, JobFault, Store, Visit, Walk, WalkStop};
 use std::alloc::{AllocError, Global};
@@ -13,55 +13,55 @@ use std::alloc::{AllocError, Global};
 /// The matcher.
 pub const MATCHER: &str = "a1612ea0";
 
-/// The job of a name, a root, a limit and a selector.
-pub fn job_of(alloc: Global, name: &str, root: &str, limit: &str, selector: &str) -> Result<Job> {
+/// The job of a name, roots, a limit and a selector.
+pub fn job_of(alloc: Global, name: &str, roots: &str, limit: &str, selector: &str) -> Result<Job> {
     let name = String::from_str(alloc, name)?;
-    let root = cid_of(alloc, root)?;
+    let roots = cids_of(alloc, roots)?;
     let selector = selector_of(alloc, selector)?;
-    match Job::new(name, root, selector, limit.parse::<u32>()?) {
+    match Job::new(name, roots, selector, limit.parse::<u32>()?) {
         Ok(job) => Ok(job),
         Err(fault) => bail!("no job: {fault:?}"),
     }
 }
 
-// The job of `ROOT LIMIT SELECTOR`.
+// The job of `ROOTS LIMIT SELECTOR`.
 fn job_of_words(alloc: Global, input: &str) -> Result<Job> {
-    let (root, rest) = two_words(input)?;
+    let (roots, rest) = two_words(input)?;
     let (limit, selector) = two_words(rest)?;
-    job_of(alloc, "a", root, limit, selector)
+    job_of(alloc, "a", roots, limit, selector)
 }
 
-/// `new_job LIMIT ROOT NAME = NAME ROOT LIMIT` or the fault, with the matcher
+/// `new_job LIMIT ROOTS NAME = NAME ROOTS LIMIT` or the fault, with the matcher
 pub fn new_job(alloc: Global, input: &str) -> Result<String> {
     let (limit, rest) = two_words(input)?;
-    let (root, name) = rest.split_once(' ').unwrap_or((rest, ""));
-    match job_or_fault(alloc, limit.parse::<u32>()?, root, name)? {
+    let (roots, name) = rest.split_once(' ').unwrap_or((rest, ""));
+    match job_or_fault(alloc, limit.parse::<u32>()?, roots, name)? {
         Ok(job) => text_of_job(alloc, &job),
         Err(fault) => Ok(format!(in alloc; "{fault:?}")?),
     }
 }
 
-// The job of a limit, a root and a name, with the matcher, or its fault.
+// The job of a limit, roots and a name, with the matcher, or its fault.
 fn job_or_fault(
     alloc: Global,
     limit: u32,
-    root: &str,
+    roots: &str,
     name: &str,
 ) -> Result<Result<Job, JobFault>> {
-    let root = cid_of(alloc, root)?;
+    let roots = cids_of(alloc, roots)?;
     let name = String::from_str(alloc, name)?;
-    Ok(Job::new(name, root, selector_of(alloc, MATCHER)?, limit))
+    Ok(Job::new(name, roots, selector_of(alloc, MATCHER)?, limit))
 }
 
-// `NAME ROOT LIMIT` of a job.
+// `NAME ROOTS LIMIT` of a job.
 fn text_of_job(alloc: Global, job: &Job) -> Result<String> {
     let name = job.name();
-    let root = hex_of(alloc, job.root().as_bytes())?;
+    let roots = hex_of_cids(alloc, job.roots())?;
     let limit = job.limit();
-    Ok(format!(in alloc; "{name} {root} {limit}")?)
+    Ok(format!(in alloc; "{name} {roots} {limit}")?)
 }
 
-/// `walk NUMBER ROOT LIMIT SELECTOR = VISIT VISIT .. STOP`, each visit as the job's number, its own
+/// `walk NUMBER ROOTS LIMIT SELECTOR = VISIT VISIT .. STOP`, each visit as the job's number, its own
 /// number, its depth and the place of its block, with a dot between; `none` is no block, and `!`
 /// stands behind a malformed one
 pub fn walk(alloc: Global, store: &Store, input: &str) -> Result<String> {
@@ -124,7 +124,7 @@ fn push_block(answer: &mut String, store: &Store, visit: &Visit) -> Result<(), A
     write!(answer, "{place}")
 }
 
-/// `visits ROOT LIMIT SELECTOR = COUNT`, and the stop behind it
+/// `visits ROOTS LIMIT SELECTOR = COUNT`, and the stop behind it
 pub fn visits(alloc: Global, store: &Store, input: &str) -> Result<String> {
     let job = job_of_words(alloc, input)?;
     text_of_count(alloc, store, &job)

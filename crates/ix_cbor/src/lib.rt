@@ -1,4 +1,17 @@
 //! Strict DAG-CBOR: nodes, trees, decoding and encoding.
+//!
+//! A node has at most one spelling. `decode` answers a tree exactly where the block is the spelling
+//! of its root, and otherwise the first fault with its place; `encode` gives the spelling. `check`
+//! answers the same and takes no memory; `read_front`, `read_key` and `skip_item` read one item
+//! where it stands, without a tree.
+//!
+//! ```rust
+//! // A list of 1 and null.
+//! let block = b"\x82\x01\xf6";
+//! let tree = decode(alloc, block)?;
+//! assert!(rt; matches!(tree.root(), Node::List(items) if items.len() == 2));
+//! assert!(rt; encode(alloc, &tree)?.as_slice() == block.as_slice());
+//! ```
 #![tactic(auto)]
 
 mod canonical;
@@ -25,3 +38,4 @@ pub use major::Major;
 pub use node::Node;
 pub use skip::{check, skip_item};
 pub use tree::Tree;
+pub use write::push_link;

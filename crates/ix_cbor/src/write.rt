@@ -1,6 +1,6 @@
 //! The parts of encode.
 
-ghost use Rattle.std.specs.Prelude.{◌≡◌, ◌+◌, ◌^◌, ◌<◌, ◌++◌, OnOk, length, map};
+ghost use Rattle.std.specs.Prelude.{◌≡◌, ℕ, List, ◌++◌, OnOk, OnErr, length, map};
 ghost use Rattle.ix_cbor.specs.Data.{data_of, integer, float, items_of, entry_of, entries_of};
 ghost use Rattle.ix_cbor.specs.Majors.{number_of};
 ghost use Rattle.ix_cbor.specs.Spelling.{head_of, link_spelling, spelling_of, items_spelling, entries_spelling, IsSpellable, AreSpellable, AreRising};
@@ -39,10 +39,11 @@ fn push_string(out: &mut Vec<u8>, major: Major, bytes: &[u8]) -> Result<(), Allo
     out.extend_from_slice(bytes)
 }
 
-// Tag 42 over a byte string of `00` and the CID.
-fn push_link(out: &mut Vec<u8>, cid: &[u8]) -> Result<(), AllocError>
-    requires { length cid.now + 1 < 2 ^ 64 }
+/// Writes the spelling of a link at the end: tag 42 over a byte string of `00` and the CID. An `Err`
+/// leaves what was there at the front.
+pub fn push_link(out: &mut Vec<u8>, cid: &[u8]) -> Result<(), AllocError>
     ensures ok { OnOk result (out.new.items ≡ out.old.items ++ link_spelling cid.now) }
+    ensures err { OnErr result ((part : List ℕ) × (out.new.items ≡ out.old.items ++ part)) }
 {
     push_head(out, Major::Tag, LINK)?;
     push_head(out, Major::Bytes, cid.len() as u64 + 1)?;

@@ -26,7 +26,7 @@ pub fn job_at(alloc: Global, root: Cid, selector: &str, limit: u32) -> Result<Jo
 {
     let selector = selector_of(alloc, selector)?;
     let name = String::from_str(alloc, "a")?;
-    Ok(Job::new(name, root, selector, limit)?)
+    Ok(Job::new(name, vec![in alloc; root]?, selector, limit)?)
 }
 
 /// The same of a root in hexadecimal.

@@ -1,5 +1,14 @@
-//! What tests share: blocks under their CIDs, jobs over them, a sink that keeps what it is told, and
-//! a check that finds no memory.
+//! What tests share: blocks under their CIDs, jobs over them, a sink that keeps what it is told,
+//! and a check that finds no memory.
+//!
+//! Jobs have the root, selector and limit that are given, and as many as are asked for. A log keeps
+//! each delivery and the close, as a sink is to.
+//!
+//! ```rust
+//! let store = chain_of(alloc)?;
+//! let jobs = jobs_of(alloc, OUTER, 2, 100)?;
+//! assert!(rt; store.len() == 4 && jobs.len() == 2);
+//! ```
 #![tactic(auto)]
 
 mod blocks;

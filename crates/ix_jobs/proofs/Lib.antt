@@ -1,3 +1,4 @@
+pub mod Roots
 pub mod Pieces
 pub mod LinesInTurn
 pub mod Texts

@@ -4,16 +4,25 @@ use Rattle.hex.specs.Hex.{decode_pairs}
 use Rattle.ix_cbor.specs.Reading.{item_at}
 use Rattle.ix_selector.specs.Pattern.{matcher}
 use Rattle.ix_selector.specs.Reading.{selector_at}
-use Rattle.ix_jobs.specs.declared.fault.JobsKind.TheVariants.{Fields, Name, Limit, Hex, Selector, Repeated}
+use Rattle.ix_jobs.specs.declared.fault.JobsKind.TheVariants.{Fields, Name, Root, Limit, Hex, Selector, Repeated}
 use Rattle.ix_jobs.specs.Jobs.{jobs_of}
 use Rattle.ix_jobs.specs.Report.{report_of, job_line, skip_line}
 use Rattle.ix_check.specs.declared.verdict.Verdict.TheVariants.{Missing}
 use Rattle.ix_car.specs.declared.sink.End.TheVariants.{Done}
 use Rattle.std.specs.Fmt.{digits}
 
-pub one_job : jobs_of (codes "# x" ++ 10 ∷ codes "a bafkqaaa 10 a1612ea0" ++ 13 ∷ 10 ∷ []) ≡ Ok (record { name = codes "a"; root = 1 ∷ 0x55 ∷ 0 ∷ 0 ∷ []; selector = matcher; limit = 10 } ∷ [])
+pub one_job : jobs_of (codes "# x" ++ 10 ∷ codes "a bafkqaaa 10 a1612ea0" ++ 13 ∷ 10 ∷ []) ≡ Ok (record { name = codes "a"; roots = (1 ∷ 0x55 ∷ 0 ∷ 0 ∷ []) ∷ []; selector = matcher; limit = 10 } ∷ [])
 unfolding item_at selector_at decode_pairs
 one_job = refl
+
+-- the second is that of DAG-CBOR with no bytes
+pub two_roots : jobs_of (codes "a bafkqaaa,bafyqaaa 10 a1612ea0") ≡ Ok (record { name = codes "a"; roots = (1 ∷ 0x55 ∷ 0 ∷ 0 ∷ []) ∷ (1 ∷ 0x71 ∷ 0 ∷ 0 ∷ []) ∷ []; selector = matcher; limit = 10 } ∷ [])
+unfolding item_at selector_at decode_pairs
+two_roots = refl
+
+pub empty_root : jobs_of (codes "a bafkqaaa, 10 a1612ea0") ≡ Err (Root, 1)
+unfolding item_at selector_at decode_pairs
+empty_root = refl
 
 pub twice : jobs_of (codes "a bafkqaaa 10 a1612ea0" ++ 10 ∷ codes "a bafkqaaa 10 a1612ea0") ≡ Err (Repeated, 2)
 unfolding item_at selector_at decode_pairs

@@ -1,5 +1,5 @@
 -- The job file: its jobs, or the first faulty line with the first test that fails.
-use Rattle.std.specs.Prelude.{ℕ, ◌+◌, Bool, true, not, ◌&&◌, List, [], ◌∷◌, ◌++◌, length, nat_le, ◌==◌, if◌then◌else◌, bytes_eq, Result, Ok, Err}
+use Rattle.std.specs.Prelude.{ℕ, ◌+◌, Bool, true, not, ◌&&◌, List, [], ◌∷◌, ◌++◌, length, nat_le, nat_lt, ◌==◌, if◌then◌else◌, bytes_eq, Result, Ok, Err}
 use Rattle.std.specs.List.{list_all, list_any, slice_split}
 use Rattle.std.specs.Str.{all_ascii_digits}
 use Rattle.std.specs.Str.Lines.{strip_carriage_return}
@@ -47,6 +47,19 @@ limit_in (d ∷ ds) =
 abbrev pub root_in : List ℕ → Result (List ℕ) JobsKind
 root_in text = or_fault Root (cid_of_text text)
 
+-- the CIDs of texts, each of a CIDv1
+abbrev pub cids_in : List (List ℕ) → Result (List (List ℕ)) JobsKind
+cids_in [] = Ok []
+cids_in (t ∷ ts) = root_in t >>= (λ c. cids_in ts >>= (λ cs. Ok (c ∷ cs)))
+
+-- the texts between commas
+abbrev pub root_texts : List ℕ → List (List ℕ)
+root_texts text = slice_split (λ b. b == 44) text
+
+-- the CIDs of one to 64 texts with one comma between
+abbrev pub roots_in : List ℕ → Result (List (List ℕ)) JobsKind
+roots_in text = if nat_lt 64 (length (root_texts text)) then Err Root else cids_in (root_texts text)
+
 -- an even number of hexadecimal digits, in either case
 abbrev pub bytes_in : List ℕ → Result (List ℕ) JobsKind
 bytes_in digits = or_fault Hex (decode_of digits)
@@ -60,9 +73,9 @@ selector_in digits = bytes_in digits >>= (λ bytes. data_in bytes >>= (λ d. or_
 
 -- the job of four fields
 abbrev pub job_of_fields : List ℕ → List ℕ → List ℕ → List ℕ → Result JobMeaning JobsKind
-job_of_fields name root limit selector =
-    name_in name >>= (λ n. root_in root >>= (λ r. limit_in limit >>= (λ l. selector_in selector >>= (λ s.
-    Ok (record { name = n; root = r; selector = s; limit = l })))))
+job_of_fields name roots limit selector =
+    name_in name >>= (λ n. roots_in roots >>= (λ r. limit_in limit >>= (λ l. selector_in selector >>= (λ s.
+    Ok (record { name = n; roots = r; selector = s; limit = l })))))
 
 abbrev pub is_empty : List ℕ → Bool
 is_empty field = length field == 0

@@ -13,7 +13,7 @@ pub enum JobsKind {
     Fields,
     /// The first field is no name: 1 to 64 bytes of `a` to `z`, `0` to `9`, `-` and `_`.
     Name,
-    /// The second field is the text of no CIDv1.
+    /// The second field isn't one to 64 texts of CIDv1s with one comma between.
     Root,
     /// The third field isn't decimal digits without a leading zero, from 1 to 1,000,000.
     Limit,

@@ -1,7 +1,7 @@
-//! The root, the limit and the selector of a job, as their fields.
+//! The roots, the limit and the selector of a job, as their fields.
 
-ghost use Rattle.std.specs.Prelude.{◌≤◌, IfOk};
-ghost use Rattle.ix_jobs.specs.Jobs.{root_in, limit_in, bytes_in, data_in, selector_in};
+ghost use Rattle.std.specs.Prelude.{◌≤◌, length, IfOk};
+ghost use Rattle.ix_jobs.specs.Jobs.{root_in, roots_in, limit_in, bytes_in, data_in, selector_in};
 ghost use Rattle.ix_jobs.specs.Gives.{Gives, Reads};
 
 use crate::fault::JobsKind;
@@ -9,11 +9,26 @@ use hex::FromHexError;
 use ix_cbor::{CborKind, Tree, decode};
 use ix_cid::{Cid, CidFault};
 use ix_selector::{SelFault, Selector};
-use ix_walk::GREATEST_LIMIT;
+use ix_walk::{GREATEST_LIMIT, MOST_ROOTS};
 use std::alloc::Global;
 
-/// The CIDv1 with a text.
-pub(crate) fn root_in(alloc: Global, text: &str) -> Result<Cid, JobsKind>
+/// The CIDv1s of one to 64 texts with one comma between.
+pub(crate) fn roots_in(alloc: Global, text: &str) -> Result<Vec<Cid>, JobsKind>
+    ensures exact { Gives (λ roots. roots.items) result (roots_in text.now) }
+    ensures within { IfOk result (λ roots. (1 ≤ length roots.items) × (length roots.items ≤ 64)) }
+{
+    if text.split(',').count() > MOST_ROOTS {
+        return Err(JobsKind::Root);
+    }
+    let mut roots = Vec::new(alloc);
+    for part in text.split(',') {
+        roots.push(root_in(alloc, part)?)?;
+    }
+    Ok(roots)
+}
+
+// The CIDv1 with a text.
+fn root_in(alloc: Global, text: &str) -> Result<Cid, JobsKind>
     ensures { Gives (λ cid. cid) result (root_in text.now) }
 {
     match Cid::from_text(alloc, text) {

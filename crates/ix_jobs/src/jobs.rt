@@ -2,8 +2,8 @@
 //!
 //! A file is cut into lines at `0a`, and one `0d` at the end of a line is dropped. Empty lines and
 //! lines that begin with `#` are ignored, whatever bytes they have. Each other line is one job: its
-//! name, the text of its root's CID, its limit of visits and its selector in hexadecimal, with one
-//! space between.
+//! name, the texts of its roots' CIDs with one comma between, its limit of visits and its selector in
+//! hexadecimal, with one space between.
 
 ghost use Rattle.std.specs.Prelude.{◌≡◌, ◌==◌, Ok, IfOk, IfErr};
 ghost use Rattle.std.specs.List.{before_first, after_first};

@@ -8,7 +8,7 @@ ghost use Rattle.ix_jobs.specs.LineParts.{first_field, last_field};
 ghost use Rattle.ix_jobs.specs.Gives.{Gives, Reads};
 
 use crate::fault::JobsKind;
-use crate::field::{limit_in, root_in, selector_in};
+use crate::field::{limit_in, roots_in, selector_in};
 use crate::job_list::JobList;
 use ix_walk::{Job, is_name};
 use std::alloc::Global;
@@ -49,8 +49,8 @@ fn line_job(alloc: Global, line: &[u8]) -> Result<Job, JobsKind>
     ensures { Gives (λ job. job) result (line_job line.now) }
 {
     let text = text_in(line)?;
-    let (name, root, limit, selector) = fields_in(text)?;
-    job_of_fields(alloc, name, root, limit, selector)
+    let (name, roots, limit, selector) = fields_in(text)?;
+    job_of_fields(alloc, name, roots, limit, selector)
 }
 
 // The text of a line, of printable bytes alone.
@@ -78,10 +78,10 @@ fn fields_in(text: &str) -> Result<(&str, &str, &str, &str), JobsKind>
     ensures { Reads (λ f. (f.0.now, f.1.now, f.2.now, f.3.now)) result (fields_in text.now) }
 {
     let (name, rest) = first_field(text)?;
-    let (root, rest) = first_field(rest)?;
+    let (roots, rest) = first_field(rest)?;
     let (limit, rest) = first_field(rest)?;
     let selector = last_field(rest)?;
-    Ok((name, root, limit, selector))
+    Ok((name, roots, limit, selector))
 }
 
 // The field before the first space, and what stands behind the space.
@@ -109,19 +109,19 @@ fn last_field(text: &str) -> Result<&str, JobsKind>
 fn job_of_fields(
     alloc: Global,
     name: &str,
-    root: &str,
+    roots: &str,
     limit: &str,
     selector: &str,
 ) -> Result<Job, JobsKind>
     ensures { Gives (λ job. job) result
-        (job_of_fields name.now root.now limit.now selector.now) }
+        (job_of_fields name.now roots.now limit.now selector.now) }
 {
     if !is_name(name) {
         return Err(JobsKind::Name);
     }
-    let root = root_in(alloc, root)?;
+    let roots = roots_in(alloc, roots)?;
     let limit = limit_in(limit)?;
     let selector = selector_in(alloc, selector)?;
     let name = String::from_str(alloc, name)?;
-    Ok(Job::new(name, root, selector, limit).unwrap())
+    Ok(Job::new(name, roots, selector, limit).unwrap())
 }

@@ -1,4 +1,14 @@
 //! Selectors as JSON, with the keys of the IPLD Selectors specification, and in hexadecimal.
+//!
+//! Both ways go through the same data: JSON of a selector becomes the hexadecimal of its one
+//! spelling and a line end, and that becomes JSON again. What is refused has a reason, each its own
+//! fault, and `fault_line` is the line that the program prints for it.
+//!
+//! ```rust
+//! let line = hex_of_json(alloc, b"{\".\":{}}")?;
+//! assert!(rt; line.as_str() == "a1612ea0\n");
+//! assert!(rt; json_of_hex(alloc, "a1612ea0")?.as_str() == "{\".\":{}}\n");
+//! ```
 #![tactic(auto)]
 
 mod command;

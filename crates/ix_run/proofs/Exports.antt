@@ -37,13 +37,13 @@ all_told Start m all over failed whole fits = absurd (true≢false (sym whole))
 module _ {W : Type 0} (told : W → Option (List ℕ)) where
   -- the archive of all visits of a job that was walked to its end or its limit
   one_archive : (store : Blocks) (job : JobMeaning) (before : W) (result : JobResult) (after : W) → is_whole_end result.end ≡ true → told before ≡ Some [] → IsRun told store 0 job before result after
-      → told after ≡ Some (archive_with store job.root (kept (judged_visits store 0 job)))
+      → told after ≡ Some (archive_with store job.roots (kept (judged_visits store 0 job)))
   one_archive store job before result after whole fresh run =
       let all = judged_visits store 0 job in
       let fits = all_told run.end run.faithful.count all _ run.failed (whole_close run.end result.end run.ended whole) run.faithful.fits in
       let same : run.delivered ≡ take run.faithful.count all = same_deliveries run.delivered (run.end ∷ []) (take run.faithful.count all) run.end run.faithful.told in
       let each : run.delivered ≡ all = same ∙ ap (λ n. take n all) fits.0 ∙ take_all (length all) all (omega arith) in
-      subst (λ ds. told after ≡ Some (archive_with store job.root (kept ds))) each (subst (HasWritten (told after) store job.root run.delivered) fits.1 (run.written fresh))
+      subst (λ ds. told after ≡ Some (archive_with store job.roots (kept ds))) each (subst (HasWritten (told after) store job.roots run.delivered) fits.1 (run.written fresh))
 
   -- the archive of the one root
   pub exported_by : (car root : List ℕ) (store : Blocks) (job : JobMeaning) (jobs : List JobMeaning) (before : W) (befores afters rest : List W) (after : W) (results : List JobResult) (bytes : List ℕ)
@@ -56,9 +56,9 @@ module _ {W : Type 0} (told : W → Option (List ℕ)) where
 
         of_one : (w : W) (r : JobResult) → IsRun told store 0 job before r w → is_whole_end r.end ≡ true → w ≡ after → exported_from car root ≡ Ok bytes
         of_one w r run whole same =
-            let wrote : told after ≡ Some (archive_with store job.root (kept (judged_visits store 0 job))) = subst (λ v. told v ≡ Some (archive_with store job.root (kept (judged_visits store 0 job)))) same (one_archive store job before r w whole fresh run) in
-            let is_bytes : archive_with store job.root (kept (judged_visits store 0 job)) ≡ bytes = some_same _ _ (sym wrote ∙ shows) in
-            ap (λ r. r >>= (λ b. Ok (exported b root))) read ∙ ap Ok (ap (λ (j : JobMeaning). archive_with store j.root (kept (judged_visits store 0 j))) (sym is_job) ∙ is_bytes)
+            let wrote : told after ≡ Some (archive_with store job.roots (kept (judged_visits store 0 job))) = subst (λ v. told v ≡ Some (archive_with store job.roots (kept (judged_visits store 0 job)))) same (one_archive store job before r w whole fresh run) in
+            let is_bytes : archive_with store job.roots (kept (judged_visits store 0 job)) ≡ bytes = some_same _ _ (sym wrote ∙ shows) in
+            ap (λ r. r >>= (λ b. Ok (exported b root))) read ∙ ap Ok (ap (λ (j : JobMeaning). archive_with store j.roots (kept (judged_visits store 0 j))) (sym is_job) ∙ is_bytes)
 
         last_one : (w : W) (rest : List W) → w ∷ [] ≡ rest ++ after ∷ [] → w ≡ after
         last_one w [] h = cc

@@ -37,9 +37,9 @@ keeps_told (Some xs) None bytes h e = absurd h
 keeps_told (Some xs) (Some ys) bytes h e = ap (λ l. Some l) (h ∙ some_same xs bytes e)
 
 -- an archive's writer tells some bytes
-tells : (told : Option (List ℕ)) (store : Blocks) (root : List ℕ) (ds failed : List Delivery) → HasWritten told store root ds failed → (bytes : List ℕ) × (told ≡ Some bytes)
-tells told store root ds [] h = (_, h)
-tells told store root ds (d ∷ more) h = (h.0, h.1)
+tells : (told : Option (List ℕ)) (store : Blocks) (roots : List (List ℕ)) (ds failed : List Delivery) → HasWritten told store roots ds failed → (bytes : List ℕ) × (told ≡ Some bytes)
+tells told store roots ds [] h = (_, h)
+tells told store roots ds (d ∷ more) h = (h.0, h.1)
 
 -- the number of bytes is that of the bytes that are told in the end
 count_kept : (old new : Option (List ℕ)) (taken : ℕ) (bytes : List ℕ) → known.Keeps old new → old ≡ Some bytes → IsCountOf taken old → IsCountOf taken new
@@ -57,8 +57,8 @@ module _ {W : Type 0} (told : W → Option (List ℕ)) where
       let shown : events_of last ≡ map delivery ds ++ close end ∷ [] = faithful.told ∙ ap (λ l. map delivery l ++ close end ∷ []) (sym same) in
       let of_events : deliveries_of (events_of last) ≡ ds = deliveries_of-told ds last.closed in
       let fact : HasArchived told last store job (told before) = kept store job (told before) fresh in
-      let wrote : (h : told before ≡ Some []) → HasWritten (told last.writer) store job.root (deliveries_of (events_of last)) last.failed =
-      λ h. subst (λ l. HasWritten (told last.writer) store job.root l last.failed) (sym of_events) (fact.written h) in
+      let wrote : (h : told before ≡ Some []) → HasWritten (told last.writer) store job.roots (deliveries_of (events_of last)) last.failed =
+      λ h. subst (λ l. HasWritten (told last.writer) store job.roots l last.failed) (sym of_events) (fact.written h) in
       record {
         end = end;
         delivered = ds;
@@ -69,17 +69,17 @@ module _ {W : Type 0} (told : W → Option (List ℕ)) where
         skips = ended.skips;
         counts = ended.counts ∙ ap (λ s. counts_of s ds last.taken) fact.same_store;
         counted = λ h.
-            let some = tells (told last.writer) store job.root ds last.failed (fact.written h) in
+            let some = tells (told last.writer) store job.roots ds last.failed (fact.written h) in
             count_kept (told last.writer) (told after) last.taken some.0 ended.flushed some.1 (fact.counted h);
         written = λ h.
-            let some = tells (told last.writer) store job.root ds last.failed (fact.written h) in
+            let some = tells (told last.writer) store job.roots ds last.failed (fact.written h) in
             let same_told : told last.writer ≡ told after = some.1 ∙ sym (keeps_told (told last.writer) (told after) some.0 ended.flushed some.1) in
-            subst (λ o. HasWritten o store job.root ds last.failed) same_told (fact.written h);
+            subst (λ o. HasWritten o store job.roots ds last.failed) same_told (fact.written h);
         whole = λ h done. keeps_told (told last.writer) (told after) _ ended.flushed (archived.whole (done_is_done end result.end ended.ended done) (told last.writer) (wrote h));
         beginning = λ h bytes shows.
-            let some = tells (told last.writer) store job.root ds last.failed (fact.written h) in
+            let some = tells (told last.writer) store job.roots ds last.failed (fact.written h) in
             let same_bytes : some.0 ≡ bytes = some_same some.0 bytes (sym (keeps_told (told last.writer) (told after) some.0 ended.flushed some.1) ∙ shows) in
-            archived.beginning bytes (subst (λ o. HasWritten o store job.root (deliveries_of (events_of last)) last.failed) (some.1 ∙ ap (λ l. Some l) same_bytes) (wrote h));
+            archived.beginning bytes (subst (λ o. HasWritten o store job.roots (deliveries_of (events_of last)) last.failed) (some.1 ∙ ap (λ l. Some l) same_bytes) (wrote h));
       }
 
   pub runs : (store : Blocks) (n : ℕ) (jobs : List JobMeaning) (before after : List W) (first last : List (ArchiveMeaning W)) (es : List End) (results : List JobResult)
@@ -109,7 +109,7 @@ module _ {W : Type 0} (told : W → Option (List ℕ)) where
 
   -- an archive more
   pub EachBegun-more : (store : Blocks) (jobs : List JobMeaning) (writers : List W) (archives : List (ArchiveMeaning W)) (job : JobMeaning) (writer : W) (archive : ArchiveMeaning W)
-      → EachBegun told store jobs writers archives → IsBegun archive store job.root → HasArchived told archive store job (told writer)
+      → EachBegun told store jobs writers archives → IsBegun archive store job.roots → HasArchived told archive store job (told writer)
       → EachBegun told store (jobs ++ job ∷ []) (writers ++ writer ∷ []) (archives ++ archive ∷ [])
   EachBegun-more store [] [] [] job writer archive so_far begun fact = ((begun, fact), tt)
   EachBegun-more store [] [] (a ∷ xs) job writer archive so_far begun fact = absurd so_far
@@ -153,8 +153,8 @@ module _ {W : Type 0} (told : W → Option (List ℕ)) where
   begun-length store (j ∷ js) (w ∷ ws) [] h = absurd h
   begun-length store (j ∷ js) (w ∷ ws) (a ∷ xs) h = ap suc (begun-length store js ws xs h.1)
 
-  no_events : (store : Blocks) (root : List ℕ) (a : ArchiveMeaning W) → IsBegun a store root → events_of a ≡ []
-  no_events store root a h = ap (λ ds. map delivery ds ++ map close a.closed) h.no_deliveries ∙ ap (λ l. map close l) h.not_closed
+  no_events : (store : Blocks) (roots : List (List ℕ)) (a : ArchiveMeaning W) → IsBegun a store roots → events_of a ≡ []
+  no_events store roots a h = ap (λ ds. map delivery ds ++ map close a.closed) h.no_deliveries ∙ ap (λ l. map close l) h.not_closed
 
   pub begun-fresh : (store : Blocks) (jobs : List JobMeaning) (writers : List W) (archives : List (ArchiveMeaning W)) → EachBegun told store jobs writers archives → EachFresh events_of (λ a. a.failed) archives
   begun-fresh store [] [] [] h = tt
@@ -164,7 +164,7 @@ module _ {W : Type 0} (told : W → Option (List ℕ)) where
   begun-fresh store (j ∷ js) [] [] h = absurd h
   begun-fresh store (j ∷ js) [] (a ∷ xs) h = absurd h
   begun-fresh store (j ∷ js) (w ∷ ws) [] h = absurd h
-  begun-fresh store (j ∷ js) (w ∷ ws) (a ∷ xs) h = ((no_events store j.root a h.0.0, h.0.0.no_failure), begun-fresh store js ws xs h.1)
+  begun-fresh store (j ∷ js) (w ∷ ws) (a ∷ xs) h = ((no_events store j.roots a h.0.0, h.0.0.no_failure), begun-fresh store js ws xs h.1)
 
   -- as many ends as sinks
   pub delivered-length : (store : Blocks) (n : ℕ) (jobs : List JobMeaning) (es : List End) (sinks : List (ArchiveMeaning W)) → EachDelivered events_of (λ a. a.failed) store n jobs es sinks → length sinks ≡ length es

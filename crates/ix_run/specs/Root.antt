@@ -18,11 +18,11 @@ use Rattle.ix_run.specs.declared.fault.RunFault.TheVariants as faults
 
 -- the job of a root: the matcher, and one visit
 abbrev pub root_job : List ℕ → JobMeaning
-root_job root = record { name = codes "root"; root = root; selector = matcher; limit = 1 }
+root_job root = record { name = codes "root"; roots = root ∷ []; selector = matcher; limit = 1 }
 
 -- the archive of what is kept of the visits of that job
 abbrev pub exported : Blocks → List ℕ → List ℕ
-exported store root = archive_with store root (kept (judged_visits store 0 (root_job root)))
+exported store root = archive_with store (root ∷ []) (kept (judged_visits store 0 (root_job root)))
 
 -- the same from the bytes of a CARv1 file
 abbrev pub exported_from : List ℕ → List ℕ → Result (List ℕ) Fault

@@ -40,7 +40,7 @@ pub record IsRun {W : Type 0} (told : W → Option (List ℕ)) (store : Blocks) 
   -- the bytes that were counted are those of the writer
   pub counted : told before ≡ Some [] → IsCountOf taken (told after)
   -- the writer has the archive of what was delivered, or after a failed write a part of it
-  pub written : told before ≡ Some [] → HasWritten (told after) store job.root delivered failed
+  pub written : told before ≡ Some [] → HasWritten (told after) store job.roots delivered failed
   pub whole : told before ≡ Some [] → result.end ≡ ends.Done → told after ≡ Some (archive_of store number job)
   pub beginning : told before ≡ Some [] → (bytes : List ℕ) → told after ≡ Some bytes → IsBeginning bytes (archive_of store number job)
 
@@ -54,7 +54,7 @@ module _ {W : Type 0} (told : W → Option (List ℕ)) where
   -- an archive for each job and its writer, told nothing so far
   abbrev pub EachBegun : Blocks → List JobMeaning → List W → List (ArchiveMeaning W) → Type 0
   EachBegun store [] [] [] = Unit {0}
-  EachBegun store (j ∷ js) (w ∷ ws) (a ∷ xs) = (IsBegun a store j.root × HasArchived told a store j (told w)) × EachBegun store js ws xs
+  EachBegun store (j ∷ js) (w ∷ ws) (a ∷ xs) = (IsBegun a store j.roots × HasArchived told a store j (told w)) × EachBegun store js ws xs
   EachBegun store js ws xs = ⊥
 
   -- what was told of an archive, and its writer, which was flushed

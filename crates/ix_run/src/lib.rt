@@ -1,4 +1,20 @@
 //! A run over a file of blocks and a job file, the archive of one root, and the lines of refusals.
+//!
+//! `prepare` reads both files, or tells the first fault. `run` walks each job and writes its
+//! archive. In every schedule: the report and the status are those of what was told of the jobs,
+//! and each archive, over a writer that had no bytes, is that of its job at Done and else a
+//! beginning of it.
+//!
+//! ```rust
+//! let (store, jobs) = prepare(alloc, car, job_file)?;
+//! let mut writers = Vec::with_capacity(alloc, jobs.len())?;
+//! for _ in 0..jobs.len() {
+//!     writers.push(Vec::new(alloc))?;
+//! }
+//! let plan = Plan { walkers: 4, queue: 256, lane: 64 };
+//! let out = run(rt, alloc, &store, &jobs, writers, 4, plan)?;
+//! println!(rt; "{} bytes of report, status {}", out.report.len(), out.status)?;
+//! ```
 #![tactic(auto)]
 
 mod command;

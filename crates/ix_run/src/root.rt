@@ -78,9 +78,10 @@ fn root_job(alloc: Global, root: Cid) -> Result<Job, RunFault>
     ensures memory { IfErr result (λ fault. fault ≡ Memory) }
 {
     let name = String::from_str(alloc, "root")?;
+    let roots = vec![in alloc; root]?;
     let selector = matcher(alloc)?;
-    // The name and the limit are those of a job.
-    match Job::new(name, root, selector, 1) {
+    // The name, the one root and the limit are those of a job.
+    match Job::new(name, roots, selector, 1) {
         Ok(job) => Ok(job),
         Err(_) => Err(RunFault::Memory),
     }

@@ -8,5 +8,6 @@ pub mod Openings
 pub mod Trails
 pub mod Blocks
 pub mod Roots
+pub mod Nexts
 pub mod Takes
 pub mod Starts

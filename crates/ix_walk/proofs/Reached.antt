@@ -1,17 +1,17 @@
--- The arrivals by paths from the root and by paths relative to each place are the same, but for the path.
-use Rattle.std.proofs.Common.{◌≡◌, ℕ, zero, suc, ◌+◌, Bool, true, false, List, [], ◌∷◌, ◌++◌, map, refl, ◌∙◌, ap, append_assoc}
+-- The arrivals by paths from a root and by paths relative to each place are the same, but for the root and the path.
+use Rattle.std.proofs.Common.{◌≡◌, ℕ, zero, suc, ◌+◌, Bool, true, false, List, [], ◌∷◌, ◌++◌, map, flat_map, refl, ◌∙◌, ap, append_assoc}
 use Rattle.std.specs.Prelude.{Option, Some, None, if◌then◌else◌}
 use Rattle.std.proofs.Math.Path.{fun_ext}
 use Rattle.std.proofs.lemmas.List.{map-append}
 use Rattle.ix_cbor.specs.Data as nodes
 use Rattle.ix_cbor.specs.Data.{Data, Items, Entries, null, boolean, integer, float, bytes, text, list, link, no_items, item, no_entries, entry}
 use Rattle.ix_selector.specs.Enters.{Step, key, nth, Path}
-use Rattle.ix_walk.specs.Arrivals.{Arrival, Crossing, behind, arrivals_below, arrivals_in_items, arrivals_in_entries, Inside, when_some, arrivals_at}
+use Rattle.ix_walk.specs.Arrivals.{Arrival, Crossing, behind, arrivals_below, arrivals_in_items, arrivals_in_entries, Inside, when_some, arrivals_at, arrivals_from}
 use Rattle.ix_walk.specs.Store.{Blocks}
 use Rattle.ix_walk.specs.Visits.{visits_from, visit_of}
 use Rattle.ix_walk.specs.Walking.{Test, test_behind, arrival, Reach, reached_below, reached_in_items, reached_in_entries, reached_at}
 
--- an arrival without its path
+-- an arrival without its root and its path
 abbrev pub forget : Arrival → Arrival
 forget a = arrival a.depth a.cid
 
@@ -23,7 +23,7 @@ test_from enters p q = enters (p ++ q)
 from_behind : (enters : Test) (p : Path) (t : Step) → test_from enters (behind p t) ≡ test_behind (test_from enters p) t
 from_behind enters p t = fun_ext (λ q. ap enters (append_assoc p (t ∷ []) q))
 
--- arrivals without their paths, if a child is entered
+-- arrivals without roots and paths, if a child is entered
 when_entered : (b : Bool) (xs ys : List Arrival) → map forget xs ≡ ys → map forget (if b then xs else []) ≡ (if b then ys else [])
 when_entered true xs ys e = e
 when_entered false xs ys e = refl
@@ -65,14 +65,19 @@ when_both None f g e = refl
 when_both (Some d) f g e = e d
 
 -- at a CID, whatever path leads to it
-pub at : (enters : Test) (inside : Inside) (links depth : ℕ) (c : List ℕ) (p : Path) → map forget (arrivals_at enters inside links depth c p) ≡ reached_at inside links depth (test_from enters p) c
-at enters inside zero depth c p = refl
-at enters inside (suc links) depth c p =
+pub at : (enters : Test) (inside : Inside) (root links depth : ℕ) (c : List ℕ) (p : Path) → map forget (arrivals_at enters inside root links depth c p) ≡ reached_at inside links depth (test_from enters p) c
+at enters inside root zero depth c p = refl
+at enters inside root (suc links) depth c p =
     ap (λ (xs : List Arrival). arrival depth c ∷ xs)
-    (when_both (inside c) (λ d. arrivals_below enters (arrivals_at enters inside links (depth + 1)) d p) (λ d. reached_below (reached_at inside links (depth + 1)) (test_from enters p) d)
-    (λ d. below enters (arrivals_at enters inside links (depth + 1)) (reached_at inside links (depth + 1)) (λ e q. at enters inside links (depth + 1) e q) d p))
+    (when_both (inside c) (λ d. arrivals_below enters (arrivals_at enters inside root links (depth + 1)) d p) (λ d. reached_below (reached_at inside links (depth + 1)) (test_from enters p) d)
+    (λ d. below enters (arrivals_at enters inside root links (depth + 1)) (reached_at inside links (depth + 1)) (λ e q. at enters inside root links (depth + 1) e q) d p))
 
--- visits don't show a path
+-- from one root after the other
+pub from_roots : (enters : Test) (inside : Inside) (links root : ℕ) (cs : List (List ℕ)) → map forget (arrivals_from enters inside links root cs) ≡ flat_map (reached_at inside links 0 enters) cs
+from_roots enters inside links root [] = refl
+from_roots enters inside links root (c ∷ cs) = joined (arrivals_at enters inside root links 0 c []) (arrivals_from enters inside links (root + 1) cs) _ _ (at enters inside root links 0 c []) (from_roots enters inside links (root + 1) cs)
+
+-- visits show neither a root nor a path
 pub visits_forget : (store : Blocks) (number seq : ℕ) (xs : List Arrival) → visits_from store number seq (map forget xs) ≡ visits_from store number seq xs
 visits_forget store number seq [] = refl
 visits_forget store number seq (a ∷ xs) = ap (λ vs. visit_of store number seq a ∷ vs) (visits_forget store number (seq + 1) xs)

@@ -1,7 +1,8 @@
 -- What arriving at a link does.
-use Rattle.std.specs.Prelude.{◌≡◌, ℕ, ◌+◌, ◌<◌, ◌≤◌, Bool, false, List, ◌∷◌, ◌++◌, Option, Some, None, Result, Ok, Err}
+use Rattle.std.specs.Prelude.{◌≡◌, ℕ, ◌+◌, ◌<◌, ◌≤◌, Bool, false, List, [], ◌∷◌, ◌++◌, Option, Some, None, IfNone, Result, Ok, Err}
 use Rattle.ix_cbor.specs.Data.{Data}
 use Rattle.ix_cbor.specs.Reading.{decoded}
+use Rattle.ix_selector.specs.Pattern.{Pattern}
 use Rattle.ix_selector.specs.Residual.{Place}
 use Rattle.ix_walk.specs.declared.subtree.Found.{Found}
 use Rattle.ix_walk.specs.declared.subtree.Trail.{Trail}
@@ -10,9 +11,9 @@ use Rattle.ix_walk.specs.declared.fault.WalkStop.{WalkStop}
 use Rattle.ix_walk.specs.Store.{Blocks, value_of}
 use Rattle.ix_walk.specs.Arrivals.{Inside, when_some}
 use Rattle.ix_walk.specs.Visits.{is_malformed, visit_of}
-use Rattle.ix_walk.specs.Walking.{arrival, Subtree, all_arrivals, found_arrivals, NoDeeper, trail_stands, subtrees, walk_left, IsWalk}
+use Rattle.ix_walk.specs.Walking.{arrival, Subtree, all_arrivals, found_arrivals, NoDeeper, FoundWithin, trail_stands, subtrees, arrivals_left, walk_left, IsWalk}
 use Rattle.ix_walk.specs.Descent.{node_arrivals}
-use Rattle.ix_walk.specs.WalkLeft.{GivesNext, nothing_left}
+use Rattle.ix_walk.specs.WalkLeft.{WalkLeft, GivesNext, nothing_left}
 
 -- the bytes spell the data of a CID's block, or there are none
 abbrev pub IsValue : Option Data → Option (List ℕ) → Type 0
@@ -43,9 +44,23 @@ abbrev pub Arrives : Blocks → ℕ → ℕ → Found → Trail → Visit → Tr
 Arrives store number seq f old v new =
     (ss : List Subtree) → trail_stands old ≡ Some ss → (more : List Subtree) × (trail_stands new ≡ Some more) × IsArrived store number seq f ss v more
 
--- what is taken of a walk that has not ended, and what is then left of it
-abbrev pub Takes : Blocks → ℕ → ℕ → ℕ → Trail → Result (Option Visit) WalkStop → Trail → Type 0
-Takes store number limit given old (Ok (Some v)) new =
-    GivesNext (walk_left store number limit given (subtrees old) false) (Some (Ok v)) (walk_left store number limit (given + 1) (subtrees new) false) × IsWalk limit (given + 1) new
-Takes store number limit given old (Ok None) new = GivesNext (walk_left store number limit given (subtrees old) false) None nothing_left
-Takes store number limit given old (Err stop) new = GivesNext (walk_left store number limit given (subtrees old) false) (Some (Err stop)) nothing_left
+-- the next link of what is left, or the next root where nothing is, or there is neither
+pub record IsNextArrival (selector : Pattern) (old : List Subtree) (roots : List (List ℕ)) (o : Option Found) (new : List Subtree) (rest : List (List ℕ)) : Type 0 where
+  pub arrivals : (inside : Inside) (limit : ℕ) → arrivals_left selector inside limit old roots ≡ found_arrivals inside limit o ++ arrivals_left selector inside limit new rest
+  pub deep : (bound : ℕ) → NoDeeper bound old → FoundWithin bound o × NoDeeper bound new
+  pub ends : IfNone o ((new ≡ []) × (rest ≡ []))
+
+abbrev pub FindsNext : Pattern → Trail → List (List ℕ) → Option Found → Trail → List (List ℕ) → Type 0
+FindsNext selector old roots o new rest =
+    (ss : List Subtree) → trail_stands old ≡ Some ss → (more : List Subtree) × (trail_stands new ≡ Some more) × IsNextArrival selector ss roots o more rest
+
+-- what is left of a walk that has not ended
+abbrev pub trail_left : Blocks → ℕ → ℕ → ℕ → Pattern → Trail → List (List ℕ) → WalkLeft
+trail_left store number limit given selector t roots = walk_left store number limit given (arrivals_left selector (value_of store) limit (subtrees t) roots) false
+
+-- what is taken of it, and what is then left
+abbrev pub Takes : Blocks → ℕ → ℕ → ℕ → Pattern → Trail → List (List ℕ) → Result (Option Visit) WalkStop → Trail → List (List ℕ) → Type 0
+Takes store number limit given selector old roots (Ok (Some v)) new rest =
+    GivesNext (trail_left store number limit given selector old roots) (Some (Ok v)) (trail_left store number limit (given + 1) selector new rest) × IsWalk limit (given + 1) new
+Takes store number limit given selector old roots (Ok None) new rest = GivesNext (trail_left store number limit given selector old roots) None nothing_left
+Takes store number limit given selector old roots (Err stop) new rest = GivesNext (trail_left store number limit given selector old roots) (Some (Err stop)) nothing_left

@@ -1,17 +1,19 @@
 -- What a walk is about to give, from what it keeps.
-use Rattle.std.specs.Prelude.{◌≡◌, ℕ, zero, suc, ◌+◌, ◌-◌, ◌≤◌, Bool, true, false, List, [], ◌∷◌, ◌++◌, length, reverse, take, Option, Some, None, option_map, option_and_then, Result, Ok, Err, nat_lt, ◌==◌, if◌then◌else◌}
+use Rattle.std.specs.Prelude.{◌≡◌, ℕ, zero, suc, ◌+◌, ◌-◌, ◌≤◌, Bool, true, false, List, [], ◌∷◌, ◌++◌, length, flat_map, reverse, take, Option, Some, None, option_map, option_and_then, Result, Ok, Err, nat_lt, ◌==◌, if◌then◌else◌}
 use Rattle.std.specs.Borrow.{Bor}
 use Rattle.ix_cbor.specs.Data as nodes
 use Rattle.ix_cbor.specs.Data.{Data, Items, Entries, null, boolean, integer, float, bytes, text, list, link, no_items, item, no_entries, entry}
 use Rattle.ix_cbor.specs.Reading.{Fault, ◌>>=◌, item_at, items_at, entries_at}
 use Rattle.ix_selector.specs.Enters.{Step, key, nth, Path}
+use Rattle.ix_selector.specs.Pattern.{Pattern}
+use Rattle.ix_selector.specs.IsEntered.{is_entered}
 use Rattle.ix_selector.specs.Residual.{Place, residual_enters}
 use Rattle.ix_walk.specs.declared.subtree.Children.{Children}
 use Rattle.ix_walk.specs.declared.subtree.Children.TheVariants.{Members, Values}
 use Rattle.ix_walk.specs.declared.subtree.Opened.{Opened}
 use Rattle.ix_walk.specs.declared.subtree.Trail.{Trail}
 use Rattle.ix_walk.specs.declared.subtree.Found.{Found}
-use Rattle.ix_walk.specs.Store.{Blocks, value_of}
+use Rattle.ix_walk.specs.Store.{Blocks}
 use Rattle.ix_walk.specs.Arrivals.{Arrival, Inside, when_some}
 use Rattle.ix_walk.specs.Visits.{visits_from}
 use Rattle.ix_walk.specs.WalkLeft.{WalkLeft, nothing_left}
@@ -24,9 +26,9 @@ Test = Path → Bool
 abbrev pub test_behind : Test → Step → Test
 test_behind enters t q = enters (t ∷ q)
 
--- an arrival with no path, since a visit has none
+-- an arrival with no root and no path, since a visit has neither
 abbrev pub arrival : ℕ → List ℕ → Arrival
-arrival depth c = record { path = []; depth = depth; cid = c }
+arrival depth c = record { root = 0; path = []; depth = depth; cid = c }
 
 -- what is arrived at through a link to a CID
 abbrev pub Reach : Type 0
@@ -189,10 +191,17 @@ or_nil (Some ss) = ss
 abbrev pub subtrees : Trail → List Subtree
 subtrees t = or_nil (trail_stands t)
 
-abbrev pub walk_left : Blocks → ℕ → ℕ → ℕ → List Subtree → Bool → WalkLeft
-walk_left store number limit given ss true = nothing_left
-walk_left store number limit given ss false =
-    let arrivals = all_arrivals (value_of store) limit ss in
+-- the arrivals from roots at which the walk has not arrived
+abbrev pub root_arrivals : Pattern → Inside → ℕ → List (List ℕ) → List Arrival
+root_arrivals selector inside limit roots = flat_map (reached_at inside limit 0 (is_entered selector)) roots
+
+-- what a walk has still to arrive at: what its trail has left, and behind it the other roots
+abbrev pub arrivals_left : Pattern → Inside → ℕ → List Subtree → List (List ℕ) → List Arrival
+arrivals_left selector inside limit ss roots = all_arrivals inside limit ss ++ root_arrivals selector inside limit roots
+
+abbrev pub walk_left : Blocks → ℕ → ℕ → ℕ → List Arrival → Bool → WalkLeft
+walk_left store number limit given arrivals true = nothing_left
+walk_left store number limit given arrivals false =
     record { visits = visits_from store number given (take (limit - given) arrivals); limited = nat_lt (limit - given) (length arrivals); ended = false }
 
 -- what is left can be gone through

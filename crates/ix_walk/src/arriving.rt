@@ -3,11 +3,12 @@
 ghost use Rattle.std.specs.Prelude.{◌≡◌, ◌+◌, ◌<◌, ◌^◌, IfOk, IfSome, OnOk, None, option_map};
 ghost use Rattle.ix_walk.specs.Store.{is_walkable, position_of};
 ghost use Rattle.ix_walk.specs.Descent.{IsItem};
-ghost use Rattle.ix_walk.specs.Arriving.{IsReading, Roots, Arrives, Takes};
-ghost use Rattle.ix_walk.specs.Walking.{IsWalk};
+ghost use Rattle.ix_walk.specs.Arriving.{IsReading, Roots, Arrives, FindsNext, Takes};
+ghost use Rattle.ix_walk.specs.Walking.{IsStanding, IsWalk};
 
 use crate::descent::{next_found, node_at};
 use crate::fault::WalkStop;
+use crate::job::Job;
 use crate::store::Store;
 use crate::subtree::{Entered, Found, Trail};
 use crate::visit::Visit;
@@ -103,22 +104,51 @@ fn arrive<'a>(
     })
 }
 
+// The next link of what the walk has entered, or the next root where nothing is left of those before.
+fn next_arrival<'a>(
+    alloc: Global,
+    job: &'a Job,
+    trail: &mut Trail<'a>,
+    roots: &mut &'a [Cid],
+) -> Result<Option<Found<'a>>, AllocError>
+    requires { IsStanding trail.old }
+    ensures next { IfOk result (λ _. trail.new.next ≡ None) }
+    ensures found { IfOk result (λ o. FindsNext job.now.selector trail.old roots.old.now o trail.new roots.new.now) }
+{
+    if let Some(found) = next_found(alloc, trail)? {
+        return Ok(Some(found));
+    }
+    let Some((root, rest)) = roots.split_first() else {
+        return Ok(None);
+    };
+    let residual = Residual::start(alloc, job.selector())?;
+    let cid = root.try_clone(alloc)?;
+    *roots = rest;
+    Ok(Some(Found {
+        residual,
+        cid,
+        depth: 0,
+    }))
+}
+
 // The next visit of a walk that has given so many.
 pub(crate) fn take_next<'a>(
     alloc: Global,
     store: &'a Store,
+    job: &'a Job,
     number: u32,
-    limit: u32,
     given: u32,
     trail: &mut Trail<'a>,
+    roots: &mut &'a [Cid],
 ) -> Result<Option<Visit>, WalkStop>
-    requires { IsWalk limit given trail.old }
-    ensures { Takes store.now number limit given trail.old result trail.new }
+    requires { IsWalk job.now.limit given trail.old }
+    ensures takes { Takes store.now number job.now.limit given job.now.selector trail.old roots.old.now result trail.new roots.new.now }
+    ensures within { IfOk result (λ o. IfSome o (λ _. given < 1000000)) }
 {
-    let Some(found) = next_found(alloc, trail)? else {
+    let Some(found) = next_arrival(alloc, job, trail, roots)? else {
         return Ok(None);
     };
-    if given == limit {
+    if given == job.limit() {
         return Err(WalkStop::Limit);
     }
     let visit = arrive(alloc, store, number, given, found, trail)?;

@@ -11,6 +11,10 @@ pub enum JobFault {
     LimitZero,
     /// The limit is above 1,000,000.
     LimitTooLarge,
+    /// There is no root.
+    NoRoot,
+    /// There are more than 64 roots.
+    TooManyRoots,
 }
 
 /// Why a walk stops before its end.

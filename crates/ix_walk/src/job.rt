@@ -15,11 +15,14 @@ const LONGEST_NAME: usize = 64;
 /// How many visits a job may ask for.
 pub const GREATEST_LIMIT: u32 = 1_000_000;
 
-/// A name, a root, a selector and a limit of visits.
+/// How many roots a job may have.
+pub const MOST_ROOTS: usize = 64;
+
+/// A name, roots, a selector and a limit of visits.
 #[derive(Drop)]
 pub struct Job {
     name: String,
-    root: Cid,
+    roots: Vec<Cid>,
     selector: Selector,
     limit: u32,
 }
@@ -32,17 +35,22 @@ impl Model for Job {
 
     ghost coded = { coded_job };
 
-    ghost view = { λ j. record { name = string_bytes j.name; root = j.root; selector = j.selector; limit = j.limit } };
+    ghost view = { λ j. record { name = string_bytes j.name; roots = j.roots.items; selector = j.selector; limit = j.limit } };
 
-    ghost invariant = { λ j. IsJob (record { name = string_bytes j.name; root = j.root; selector = j.selector; limit = j.limit }) };
+    ghost invariant = { λ j. IsJob (record { name = string_bytes j.name; roots = j.roots.items; selector = j.selector; limit = j.limit }) };
 }
 
 impl Job {
-    /// The job, or its first fault: the name, then the limit.
-    pub fn new(name: String, root: Cid, selector: Selector, limit: u32) -> Result<Job, JobFault>
-        ensures ok { IfOk result (λ j. j ≡ record { name = string_bytes name; root = root; selector = selector; limit = limit }) }
-        ensures fits { OnOk result (job_fault (string_bytes name) limit ≡ None) }
-        ensures fault { IfErr result (λ e. job_fault (string_bytes name) limit ≡ Some e) }
+    /// The job, or its first fault: the name, then the limit, then how many roots there are.
+    pub fn new(
+        name: String,
+        roots: Vec<Cid>,
+        selector: Selector,
+        limit: u32,
+    ) -> Result<Job, JobFault>
+        ensures ok { IfOk result (λ j. j ≡ record { name = string_bytes name; roots = roots.items; selector = selector; limit = limit }) }
+        ensures fits { OnOk result (job_fault (string_bytes name) roots.items limit ≡ None) }
+        ensures fault { IfErr result (λ e. job_fault (string_bytes name) roots.items limit ≡ Some e) }
     {
         if !is_name(name.as_str()) {
             return Err(JobFault::Name);
@@ -53,9 +61,15 @@ impl Job {
         if limit > GREATEST_LIMIT {
             return Err(JobFault::LimitTooLarge);
         }
+        if roots.is_empty() {
+            return Err(JobFault::NoRoot);
+        }
+        if roots.len() > MOST_ROOTS {
+            return Err(JobFault::TooManyRoots);
+        }
         Ok(Job {
             name,
-            root,
+            roots,
             selector,
             limit,
         })
@@ -68,11 +82,11 @@ impl Job {
         self.name.as_str()
     }
 
-    /// Where a walk begins.
-    pub fn root(&self) -> &Cid
-        ensures { result.now ≡ self.now.root }
+    /// Where a walk begins, and where it goes on when nothing is left below those before.
+    pub fn roots(&self) -> &[Cid]
+        ensures { result.now ≡ self.now.roots }
     {
-        &self.root
+        self.roots.as_slice()
     }
 
     /// What a walk enters.

@@ -1,6 +1,6 @@
 //! What a walk keeps of the blocks that it stands in: places in their bytes, and no node.
 
-ghost use Rattle.std.specs.Prelude.{◌≡◌, Some, None, []};
+ghost use Rattle.std.specs.Prelude.{◌≡◌, None, []};
 ghost use Rattle.ix_walk.specs.Walking.{is_spent};
 
 use ix_cid::Cid;
@@ -62,14 +62,14 @@ impl Children {
 }
 
 impl<'a> Trail<'a> {
-    // A trail on which the walk has a link to arrive at, and nothing else.
-    pub(crate) fn to_link(alloc: Global, found: Found<'a>) -> Trail<'a>
-        ensures next { result.next ≡ Some found.entry }
+    // A trail on which nothing is left.
+    pub(crate) fn new(alloc: Global) -> Trail<'a>
+        ensures next { result.next ≡ None }
         ensures stack { result.stack.items ≡ [] }
     {
         Trail {
             at: &[],
-            next: Some(found),
+            next: None,
             stack: Vec::new(alloc),
         }
     }

@@ -7,9 +7,9 @@ use crate::arriving::take_next;
 use crate::fault::WalkStop;
 use crate::job::Job;
 use crate::store::Store;
-use crate::subtree::{Found, Trail};
+use crate::subtree::Trail;
 use crate::visit::Visit;
-use ix_selector::Residual;
+use ix_cid::Cid;
 use std::alloc::{AllocError, Global};
 use std::marker::Model;
 
@@ -18,10 +18,12 @@ use std::marker::Model;
 pub struct Walk<'a> {
     alloc: Global,
     store: &'a Store,
+    job: &'a Job,
     number: u32,
-    limit: u32,
     given: u32,
     trail: Trail<'a>,
+    // The roots at which the walk has not arrived.
+    roots: &'a [Cid],
     ended: bool,
 }
 
@@ -30,11 +32,12 @@ impl<'a> Model for Walk<'a> {
 
     ghost Value = { WalkLeft };
 
-    ghost use Rattle.ix_walk.specs.Walking.{walk_left, subtrees, IsWalk};
+    ghost use Rattle.ix_walk.specs.Store.{value_of};
+    ghost use Rattle.ix_walk.specs.Walking.{walk_left, arrivals_left, subtrees, IsWalk};
 
-    ghost view = { λ w. walk_left w.store.now w.number w.limit w.given (subtrees w.trail) w.ended };
+    ghost view = { λ w. walk_left w.store.now w.number w.job.now.limit w.given (arrivals_left w.job.now.selector (value_of w.store.now) w.job.now.limit (subtrees w.trail) w.roots.now) w.ended };
 
-    ghost invariant = { λ w. IsWalk w.limit w.given w.trail };
+    ghost invariant = { λ w. IsWalk w.job.now.limit w.given w.trail };
 }
 
 impl<'a> Walk<'a> {
@@ -50,20 +53,14 @@ impl<'a> Walk<'a> {
     ) -> Result<Walk<'a>, AllocError>
         ensures { IfOk result (λ w. w ≡ record { visits = visits_of store.now number job.now; limited = is_over_limit store.now job.now; ended = false }) }
     {
-        let residual = Residual::start(alloc, job.selector())?;
-        let cid = job.root().try_clone(alloc)?;
-        let root = Found {
-            residual,
-            cid,
-            depth: 0,
-        };
         Ok(Walk {
             alloc,
             store,
+            job,
             number,
-            limit: job.limit(),
             given: 0,
-            trail: Trail::to_link(alloc, root),
+            trail: Trail::new(alloc),
+            roots: job.roots(),
             ended: false,
         })
     }
@@ -86,10 +83,11 @@ impl<'a> Iterator for Walk<'a> {
         match take_next(
             self.alloc,
             self.store,
+            self.job,
             self.number,
-            self.limit,
             self.given,
             &mut self.trail,
+            &mut self.roots,
         ) {
             Ok(Some(visit)) => {
                 self.given += 1;

@@ -4,36 +4,45 @@ ghost use Rattle.std.specs.Prelude.{◌≡◌, ◌≤◌, ◌+◌, ◌++◌, len
 ghost use Rattle.std.specs.Io.KnownBytes.{Appends};
 ghost use Rattle.ix_cid.specs.Varint.{varint_of};
 ghost use Rattle.ix_cbor.specs.Spelling.{spelling_of};
-ghost use Rattle.ix_car.specs.Archive.{header_data, header_of};
+ghost use Rattle.ix_cbor.specs.Data.{list};
+ghost use Rattle.ix_car.specs.Archive.{links_to, header_data, header_of};
 
-use ix_cbor::{Major, push_head};
+use ix_cbor::{Major, push_head, push_link};
 use ix_cid::{Cid, push_varint};
 use std::alloc::{AllocError, Global};
 use std::io::Write;
 
-/// The header that names one root, with its length before it.
-pub fn header_of(alloc: Global, root: &Cid) -> Result<Vec<u8>, AllocError>
-    ensures { IfOk result (λ header. header.items ≡ header_of root.now) }
+/// The header that names these roots, with its length before it.
+pub fn header_of(alloc: Global, roots: &[Cid]) -> Result<Vec<u8>, AllocError>
+    ensures { IfOk result (λ header. header.items ≡ header_of roots.now) }
 {
-    let text = header_text(alloc, root)?;
+    let text = header_text(alloc, roots)?;
     let mut header = Vec::new(alloc);
     push_varint(&mut header, text.len() as u64)?;
     header.extend_from_slice(text.as_slice())?;
     Ok(header)
 }
 
-// The DAG-CBOR of a header: `roots` with one link, and the `version` 1.
-fn header_text(alloc: Global, root: &Cid) -> Result<Vec<u8>, AllocError>
-    ensures { IfOk result (λ text. text.items ≡ spelling_of (header_data root.now)) }
+// The DAG-CBOR of a header: `roots` with a link to each, and the `version` 1.
+fn header_text(alloc: Global, roots: &[Cid]) -> Result<Vec<u8>, AllocError>
+    ensures { IfOk result (λ text. text.items ≡ spelling_of (header_data roots.now)) }
 {
-    let cid = root.as_bytes();
     let mut text = Vec::new(alloc);
-    text.extend_from_slice(b"\xa2\x65roots\x81\xd8\x2a")?;
-    push_head(&mut text, Major::Bytes, cid.len() as u64 + 1)?;
-    text.push(0)?;
-    text.extend_from_slice(cid)?;
+    text.extend_from_slice(b"\xa2\x65roots")?;
+    push_links(&mut text, roots)?;
     text.extend_from_slice(b"\x67version\x01")?;
     Ok(text)
+}
+
+// The spelling of a list of links.
+fn push_links(out: &mut Vec<u8>, cids: &[Cid]) -> Result<(), AllocError>
+    ensures { OnOk result (out.new.items ≡ out.old.items ++ spelling_of (list (links_to cids.now))) }
+{
+    push_head(out, Major::List, cids.len() as u64)?;
+    for cid in cids {
+        push_link(out, cid.as_bytes())?;
+    }
+    Ok(())
 }
 
 /// Puts what stands before a section's block in place of what the text had: the length of CID and

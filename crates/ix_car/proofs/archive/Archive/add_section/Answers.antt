@@ -1,4 +1,4 @@
-use Rattle.std.proofs.Common.{◌≡◌, ◌≤◌, ◌<◌, ◌-◌, ◌^◌, [], ◌++◌, length, false, sym, subst, ◌∙◌, refl, arith}
+use Rattle.std.proofs.Common.{◌≡◌, ◌≤◌, ◌<◌, ◌-◌, ◌^◌, [], ◌∷◌, ◌++◌, length, false, sym, subst, ◌∙◌, refl, arith}
 use Rattle.std.specs.Prelude.{option_to_list, Some}
 use Rattle.std.proofs.lemmas.List.{length-append}
 use Rattle.ix_car.specs.Kept.{is_below, kept}
@@ -37,7 +37,7 @@ returns-then-taken-length g c =
     (subst (λ v. place_due v.store (kept v.deliveries) d.visit.cid ≡ Some c.args.place) (sym c.self.view_is) c.requires.due) c.bytes-block.ensures
     (c.as_slice-head.ensures.value ∙ at-ok c.set_section_head.result c.is_err.result c.set_section_head.ensures c.is_err.ensures.value c.if-is_err.false) in
     let short : c.write_section-taken.result < length (head ++ block) = omega (arith, length-append head block, c.if-taken-length.true) in
-    rw (← c.self.view_is) (fails-section g.W.Write.contents d a.store.now a.root a.deliveries a.deliveries (option_to_list a.failed) (option_to_list a.closed) a.counts.bytes c.saturating_add-self-inside.result c.write_section-taken.result a.writer c.write_section-taken.new.writer (head ++ block) (text_due a.store.now a.deliveries d) refl text short c.write_section-taken.ensures.grown c.saturating_add-self-inside.ensures)
+    rw (← c.self.view_is) (fails-section g.W.Write.contents d a.store.now a.job.value.roots a.deliveries a.deliveries (option_to_list a.failed) (option_to_list a.closed) a.counts.bytes c.saturating_add-self-inside.result c.write_section-taken.result a.writer c.write_section-taken.new.writer (head ++ block) (text_due a.store.now a.deliveries d) refl text short c.write_section-taken.ensures.grown c.saturating_add-self-inside.ensures)
 
 pub invariant_of-self-2 : goal.invariant_of-self-2
 invariant_of-self-2 g c =
@@ -62,5 +62,5 @@ returns g c =
     (c.as_slice-head.ensures.value ∙ at-ok c.set_section_head.result c.is_err.result c.set_section_head.ensures c.is_err.ensures.value c.if-is_err.false) in
     let within : c.write_section-taken.result ≤ length (head ++ block) = omega (arith, length-append head block, c.write_section-taken.ensures.within) in
     let whole : length (head ++ block) ≤ c.write_section-taken.result = omega (arith, length-append head block, c.if-taken-length.false) in
-    rw (← c.self.view_is) (adds-section g.W.Write.contents d a.store.now a.root a.deliveries c.note.new.self (option_to_list a.failed) (option_to_list a.closed) a.counts.bytes c.saturating_add-self-inside.result c.write_section-taken.result a.writer c.write_section-taken.new.writer (head ++ block) (text_due a.store.now a.deliveries d)
+    rw (← c.self.view_is) (adds-section g.W.Write.contents d a.store.now a.job.value.roots a.deliveries c.note.new.self (option_to_list a.failed) (option_to_list a.closed) a.counts.bytes c.saturating_add-self-inside.result c.write_section-taken.result a.writer c.write_section-taken.new.writer (head ++ block) (text_due a.store.now a.deliveries d)
     (subst (λ v. v.failed ≡ []) (sym c.self.view_is) c.requires.unfailed) c.note.ensures text within whole c.write_section-taken.ensures.grown c.saturating_add-self-inside.ensures)

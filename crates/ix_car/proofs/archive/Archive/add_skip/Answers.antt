@@ -23,5 +23,5 @@ returns g c =
     let a = c.self.inside in
     let d = c.args.delivery in
     let within : a.counts.bytes ≤ 2 ^ 64 - 1 = omega arith in
-    rw (← c.self.view_is) (adds-nothing g.W.Write.contents d a.store.now a.root a.deliveries c.note.new.self (option_to_list a.failed) (option_to_list a.closed) a.counts.bytes a.writer
+    rw (← c.self.view_is) (adds-nothing g.W.Write.contents d a.store.now a.job.value.roots a.deliveries c.note.new.self (option_to_list a.failed) (option_to_list a.closed) a.counts.bytes a.writer
     (subst (λ v. v.failed ≡ []) (sym c.self.view_is) c.requires.unfailed) within c.note.ensures)
