@@ -11,7 +11,7 @@ import sys
 import tempfile
 
 TOP = pathlib.Path(__file__).resolve().parent.parent
-PROGRAM = TOP / "crates/ix_export/out/ix_export"
+PROGRAM = subprocess.run([TOP / "ix_export", "--where"], stdout=subprocess.PIPE, check=True, text=True).stdout.strip()
 
 
 def export(room, name, threads):
@@ -30,8 +30,6 @@ def main():
     parser.add_argument("--size", type=int, default=2_000, help="the blocks of the shared graph")
     parser.add_argument("--runs", type=int, default=10)
     words = parser.parse_args()
-    # Builds the program where it isn't built.
-    subprocess.run([TOP / "ix_export", "--help"], stdout=subprocess.DEVNULL, check=True)
     with tempfile.TemporaryDirectory(prefix="load-") as folder:
         room = pathlib.Path(folder)
         subprocess.run([sys.executable, TOP / "bench/generate.py", "shared", str(words.size), room], check=True)

@@ -15,7 +15,7 @@ import tempfile
 import time
 
 TOP = pathlib.Path(__file__).resolve().parent.parent
-PROGRAM = TOP / "crates/ix_export/out/ix_export"
+PROGRAM = subprocess.run([TOP / "ix_export", "--where"], stdout=subprocess.PIPE, check=True, text=True).stdout.strip()
 SIZES = {
     "leaves": 1_000,
     "small": 200_000,
@@ -138,8 +138,6 @@ def main():
     unknown = set(words.workloads) - set(SIZES)
     if unknown:
         parser.error(f"no workload: {' '.join(sorted(unknown))}")
-    # Builds the program where it isn't built.
-    subprocess.run([TOP / "ix_export", "--help"], stdout=subprocess.DEVNULL, check=True)
     times = [f"{threads}+{threads}" for threads in THREADS]
     gains = [f"x{threads}" for threads in THREADS]
     head = ("workload", "size", "MiB", "visits", "load", "one", *times, "crowd", *gains, "visits/s", "peak", "sha256sum", "factor")

@@ -1,6 +1,7 @@
 #!/usr/bin/env python3
 """What a visit costs in each part of the pipeline: microseconds of processor time for each visit of the
-workload `small`, by `perf record` over one run. It needs perf, and a machine that nothing else uses.
+workload `small`, by `perf record` over one run. It needs perf, a machine that nothing else uses, and the program with its
+symbols, as `./ix_export --prove` leaves it behind a build.
 """
 
 import argparse

@@ -1,0 +1,38 @@
+# Completions of ix_export for bash.
+_ix_export() {
+  local word=${COMP_WORDS[COMP_CWORD]} before=${COMP_WORDS[COMP_CWORD - 1]} command= it
+  COMPREPLY=()
+  for it in "${COMP_WORDS[@]:1:COMP_CWORD-1}"; do
+    case $it in
+      jobs | selector | root)
+        command=$it
+        break
+        ;;
+    esac
+  done
+  case $before in
+    --blocks | --jobs)
+      mapfile -t COMPREPLY < <(compgen -f -- "$word")
+      compopt -o filenames 2>/dev/null
+      return
+      ;;
+    --out)
+      mapfile -t COMPREPLY < <(compgen -d -- "$word")
+      compopt -o filenames 2>/dev/null
+      return
+      ;;
+    --walkers | --verifiers)
+      mapfile -t COMPREPLY < <(compgen -W '1 2 4 8 16 32 64' -- "$word")
+      return
+      ;;
+    --cid | --hex) return ;;
+  esac
+  case $command in
+    jobs) it='--blocks --jobs --out --walkers --verifiers --sync --progress --help' ;;
+    selector) it='--hex --help' ;;
+    root) it='--cid --help' ;;
+    *) it='jobs selector root --help --version' ;;
+  esac
+  mapfile -t COMPREPLY < <(compgen -W "$it" -- "$word")
+}
+complete -F _ix_export ix_export

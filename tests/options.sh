@@ -1,0 +1,94 @@
+#!/usr/bin/env bash
+# Compares the options of the help of each command with those of the man page and of the completions, both ways, and installs
+# them into an empty folder. Ends with status 1 where one has an option that another lacks, or a file isn't installed.
+set -Eeuo pipefail
+export LC_ALL=C
+cd "$(dirname "${BASH_SOURCE[0]}")/.."
+failed=0
+
+# same WHAT COMMAND WANTED CAME
+same() {
+  [ "$3" = "$4" ] && return
+  failed=1
+  printf 'tests/options.sh: FAILED: %s of `%s`: the help has %s, and it has %s\n' "$1" "$2" "$3" "${4:-none}" >&2
+}
+
+# The long options in a text, in order.
+sorted() {
+  { grep -oE -e '--[a-z][a-z-]*' || true; } | sort -u | tr '\n' ' '
+}
+
+of_help() {
+  ./ix_export $1 --help | grep -E '^ +(-[A-Za-z], )?--[a-z]' | sed 's/  *[A-Z].*//' | sorted
+}
+
+# Of the man page: the lines of options of the command's section, or those before the first.
+of_man() {
+  awk -v wanted="$1" '
+    /^\.SH OPTIONS/ { section = ""; inside = 1; next }
+    /^\.SH/ { inside = 0 }
+    /^\.SS/ { section = $2 }
+    inside && section == wanted && was == ".TP" { print }
+    { was = $0 }' install/ix_export.1 | sed 's/\\-/-/g; s/\\f[A-Z]/ /g' | sorted
+}
+
+# Of bash: what it completes behind the command.
+of_bash() {
+  bash -c '
+    source install/ix_export.bash
+    COMP_WORDS=(ix_export $1 --) COMP_CWORD=$((${#COMP_WORDS[@]} - 1))
+    _ix_export
+    printf "%s\n" "${COMPREPLY[@]}"' bash "$1" | sorted
+}
+
+# Of zsh: what stands in the command's case, or before it.
+of_zsh() {
+  awk -v wanted="$1" '
+    /^ *[a-z]+\)$/ { section = $1 }
+    section == (wanted == "" ? "" : wanted ")") { print }' install/_ix_export | sed "s/{-[a-zA-Z],\(--[a-z]*\)}/\1/; s/\[.*//" | sorted
+}
+
+# Of fish: the lines under the command's condition.
+of_fish() {
+  local condition=__fish_use_subcommand
+  [ -z "$1" ] || condition="'__fish_seen_subcommand_from $1'"
+  grep -F -e " -n $condition " install/ix_export.fish | sed -n 's/.* -l \([a-z-]*\) .*/--\1/p' | sorted
+}
+
+commands=$(./ix_export --help | sed -n '/^Commands:/,/^$/s/^  *\([a-z]*\) .*/\1/p' | grep -v '^help$' | sort)
+same 'commands of bash' '' "$commands" "$(bash -c '
+  source install/ix_export.bash
+  COMP_WORDS=(ix_export "") COMP_CWORD=1
+  _ix_export
+  printf "%s\n" "${COMPREPLY[@]}"' | grep -v '^-' | sort)"
+same 'commands of the man page' '' "$commands" "$(sed -n 's/^\.SS //p' install/ix_export.1 | sort)"
+same 'commands of zsh' '' "$commands" "$(sed -n 's/^    \([a-z]*\))$/\1/p' install/_ix_export | sort)"
+same 'commands of fish' '' "$commands" "$(sed -n 's/.* -a \([a-z]*\) .*/\1/p' install/ix_export.fish | sort)"
+for command in '' $commands; do
+  wanted=$(of_help "$command")
+  for it in man bash zsh fish; do
+    same "$it" "$command" "$wanted" "$("of_$it" "$command")"
+  done
+done
+
+# installed FILE..: what stands in the folder, each with its mode.
+installed() {
+  local came
+  came=$(cd "$room" && find . -type f -printf '%m %P\n' | sort)
+  [ "$came" = "$(printf '%s\n' "$@")" ] && return
+  failed=1
+  printf 'tests/options.sh: FAILED: installed are\n%s\n' "$came" >&2
+}
+
+if command -v make >/dev/null; then
+  room=$(mktemp -d)
+  trap 'rm -rf "$room"' EXIT
+  make --silent install DESTDIR="$room" PREFIX=/usr
+  installed '644 usr/share/bash-completion/completions/ix_export' '644 usr/share/fish/vendor_completions.d/ix_export.fish' \
+    '644 usr/share/man/man1/ix_export.1' '644 usr/share/zsh/site-functions/_ix_export' '755 usr/bin/ix_export'
+  cmp -s "$(./ix_export --where)" "$room/usr/bin/ix_export" || installed 'another program'
+  make --silent uninstall DESTDIR="$room" PREFIX=/usr
+  installed ''
+fi
+[ "$failed" -eq 0 ] || exit 1
+echo "tests/options.sh: the man page and the completions have the options of the help"
