@@ -1,5 +1,5 @@
 -- What a delivery does to an archive, and what a sink says of it.
-use Rattle.std.proofs.Common.{◌≡◌, ℕ, ◌≤◌, ◌<◌, ◌+◌, ◌-◌, ◌^◌, true, false, take, List, [], ◌∷◌, ◌++◌, length, map, refl, sym, ap, ◌∙◌, subst, arith}
+use Rattle.std.proofs.Common.{◌≡◌, ℕ, ◌≤◌, ◌<◌, ◌+◌, ◌-◌, ◌^◌, false, take, List, [], ◌∷◌, ◌++◌, length, map, refl, sym, ap, ◌∙◌, subst, arith}
 use Rattle.std.specs.Prelude.{Option, Some, Result, Ok, Err, OnOk, OnErr, IfErr, min, slice_get}
 use Rattle.std.specs.Io.KnownBytes.{Appends}
 use Rattle.std.proofs.lemmas.List.{append-nil, append_assoc, length-append, length-take-le, take_all}
@@ -13,7 +13,7 @@ use Rattle.ix_car.specs.declared.fault.SinkFault.{SinkFault}
 use Rattle.ix_car.specs.declared.fault.SinkFault.TheVariants.{Write, Memory}
 use Rattle.ix_car.specs.Events.{Event, delivery, close, IsOpen, IsRefusal}
 use Rattle.ix_car.specs.Kept.{is_below, kept}
-use Rattle.ix_car.specs.Archive.{is_sound, header_of, archive_with}
+use Rattle.ix_car.specs.Archive.{header_of, archive_with}
 use Rattle.ix_car.specs.Report.{at_most}
 use Rattle.ix_car.specs.ArchiveMeaning.{ArchiveMeaning, events_of, HasWritten, IsCountOf, HasArchived, IsProperPrefix, TookPartOfHeader}
 use Rattle.ix_car.specs.Archiving.{cut_behind, place_due, text_due, HasTaken, IsAdded, IsFailed, IsDelivered}
@@ -134,16 +134,16 @@ adds-nothing told d store roots ds es failed closed taken writer none within lon
     }
 
 -- a section is what is due
-pub section-text : (store : Blocks) (ds : List Delivery) (d : Delivery) (place : ℕ) (head block : List ℕ) → is_below (cut_behind ds) d.visit.depth ≡ false → is_sound d.verdict ≡ true → place_due store (kept ds) d.visit.cid ≡ Some place → slice_get (map (λ e. e.1) store) place ≡ Some block
+pub section-text : (store : Blocks) (ds : List Delivery) (d : Delivery) (place : ℕ) (head block : List ℕ) → is_below (cut_behind ds) d.visit.depth ≡ false → place_due store (kept ds) d ≡ Some place → slice_get (map (λ e. e.1) store) place ≡ Some block
     → head ≡ varint_of (length (d.visit.cid ++ block)) ++ d.visit.cid → head ++ block ≡ text_due store ds d
-section-text store ds d place head block uncut sound due at is =
-    let found : position_of store d.visit.cid ≡ Some place = (due-told store (kept ds) d.visit.cid place due).1 in
+section-text store ds d place head block uncut due at is =
+    let found : position_of store d.visit.cid ≡ Some place = (due-told store (kept ds) d place due).2 in
     ap (λ l. l ++ block) is ∙ append_assoc (varint_of (length (d.visit.cid ++ block))) d.visit.cid block
-    ∙ sym (due-section store ds d place block uncut sound due (block_at place store d.visit.cid block (sym found) at))
+    ∙ sym (due-section store ds d place block uncut due (block_at place store d.visit.cid block (sym found) at))
 
 -- where the block of a section that is due stands
-pub due-within : (store : Blocks) (ks : List Delivery) (c : List ℕ) (place : ℕ) → place_due store ks c ≡ Some place → place < length store
-due-within store ks c place due = place_within place store c (sym (due-told store ks c place due).1)
+pub due-within : (store : Blocks) (ks : List Delivery) (d : Delivery) (place : ℕ) → place_due store ks d ≡ Some place → place < length store
+due-within store ks d place due = place_within place store d.visit.cid (sym (due-told store ks d place due).2)
 
 -- a delivery whose section was written whole
 pub adds-section : {W : Type 0} (told : W → Option (List ℕ)) (d : Delivery) (store : Blocks) (roots : List (List ℕ)) (ds es failed : List Delivery) (closed : List End) (taken more n : ℕ) (writer later : W) (text due : List ℕ) → failed ≡ [] → es ≡ ds ++ d ∷ [] → text ≡ due → n ≤ length text → length text ≤ n

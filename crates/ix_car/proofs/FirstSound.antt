@@ -8,6 +8,8 @@ use Rattle.std.proofs.lemmas.List.Concat.{flat_map-append}
 use Rattle.std.proofs.lemmas.List.Elements.{filter-append}
 use Rattle.std.proofs.lemmas.List.Folds.{list_any-append}
 use Rattle.ix_check.specs.Verdict.{passes}
+use Rattle.ix_check.specs.declared.verdict.Verdict.{Verdict}
+use Rattle.ix_check.specs.declared.verdict.Verdict.TheVariants.{Codec, Hash, Missing, Damaged, Malformed, Sound, Inline}
 use Rattle.ix_walk.specs.Store.{Blocks, block_of, position_behind, position_of}
 use Rattle.ix_car.specs.declared.archive.Skip.{Skip}
 use Rattle.ix_car.specs.declared.sink.Delivery.{Delivery}
@@ -15,6 +17,26 @@ use Rattle.ix_car.specs.Kept.{is_below, kept}
 use Rattle.ix_car.specs.Archive.{is_sound, first_sound, header_of, section_with, section_of, sections_of, archive_with, with_length}
 use Rattle.ix_car.specs.Archiving.{cut_behind, is_told, place_due, text_behind, text_due}
 use Rattle.ix_car.proofs.Pruning.{kept-append, cut_after-append}
+
+-- what is sound passes
+pub sound_passes : (v : Verdict) → is_sound v ≡ true → passes v ≡ true
+sound_passes Codec sound = sound
+sound_passes Hash sound = sound
+sound_passes Missing sound = sound
+sound_passes Damaged sound = sound
+sound_passes Malformed sound = sound
+sound_passes Sound sound = refl
+sound_passes Inline sound = refl
+
+-- what doesn't pass isn't sound
+pub refused_unsound : (v : Verdict) → passes v ≡ false → is_sound v ≡ false
+refused_unsound Codec refused = refl
+refused_unsound Hash refused = refl
+refused_unsound Missing refused = refl
+refused_unsound Damaged refused = refl
+refused_unsound Malformed refused = refl
+refused_unsound Sound refused = refused
+refused_unsound Inline refused = refl
 
 bytes_eq-flips : (a b : List ℕ) → bytes_eq a b ≡ bytes_eq b a
 bytes_eq-flips a b =
@@ -85,22 +107,22 @@ archive-due store roots ds d =
 
 -- the skips of kept deliveries
 abbrev pub skips_in : List Delivery → List Skip
-skips_in ks = map (λ d. record { seq = d.visit.seq; cid = d.visit.cid; verdict = d.verdict }) (filter (λ d. not (is_sound d.verdict)) ks)
+skips_in ks = map (λ d. record { seq = d.visit.seq; cid = d.visit.cid; verdict = d.verdict }) (filter (λ d. not (passes d.verdict)) ks)
 
--- a sound one is no skip
-pub skips-sound : (ks : List Delivery) (d : Delivery) → is_sound d.verdict ≡ true → skips_in (ks ++ d ∷ []) ≡ skips_in ks
-skips-sound ks d sound =
+-- one that passes is no skip
+pub skips-passing : (ks : List Delivery) (d : Delivery) → passes d.verdict ≡ true → skips_in (ks ++ d ∷ []) ≡ skips_in ks
+skips-passing ks d passing =
     ap (λ l. map (λ e. record { seq = e.visit.seq; cid = e.visit.cid; verdict = e.verdict }) l)
-    (filter-append (λ e. not (is_sound e.verdict)) ks (d ∷ [])
-    ∙ ap (λ b. filter (λ e. not (is_sound e.verdict)) ks ++ (if not b then d ∷ [] else [])) sound
-    ∙ append-nil (filter (λ e. not (is_sound e.verdict)) ks))
+    (filter-append (λ e. not (passes e.verdict)) ks (d ∷ [])
+    ∙ ap (λ b. filter (λ e. not (passes e.verdict)) ks ++ (if not b then d ∷ [] else [])) passing
+    ∙ append-nil (filter (λ e. not (passes e.verdict)) ks))
 
--- one that isn't sound is the last skip
-pub skips-unsound : (ks : List Delivery) (d : Delivery) → is_sound d.verdict ≡ false → skips_in (ks ++ d ∷ []) ≡ skips_in ks ++ record { seq = d.visit.seq; cid = d.visit.cid; verdict = d.verdict } ∷ []
-skips-unsound ks d unsound =
+-- one that doesn't pass is the last skip
+pub skips-refused : (ks : List Delivery) (d : Delivery) → passes d.verdict ≡ false → skips_in (ks ++ d ∷ []) ≡ skips_in ks ++ record { seq = d.visit.seq; cid = d.visit.cid; verdict = d.verdict } ∷ []
+skips-refused ks d refused =
     ap (λ l. map (λ e. record { seq = e.visit.seq; cid = e.visit.cid; verdict = e.verdict }) l)
-    (filter-append (λ e. not (is_sound e.verdict)) ks (d ∷ []) ∙ ap (λ b. filter (λ e. not (is_sound e.verdict)) ks ++ (if not b then d ∷ [] else [])) unsound)
-    ∙ map-append (λ e. record { seq = e.visit.seq; cid = e.visit.cid; verdict = e.verdict }) (filter (λ e. not (is_sound e.verdict)) ks) (d ∷ [])
+    (filter-append (λ e. not (passes e.verdict)) ks (d ∷ []) ∙ ap (λ b. filter (λ e. not (passes e.verdict)) ks ++ (if not b then d ∷ [] else [])) refused)
+    ∙ map-append (λ e. record { seq = e.visit.seq; cid = e.visit.cid; verdict = e.verdict }) (filter (λ e. not (passes e.verdict)) ks) (d ∷ [])
 
 -- the sections with one more kept delivery
 sections-push : (store : Blocks) (ks : List Delivery) (d : Delivery) → sections_of store (ks ++ d ∷ []) ≡ sections_of store ks ++ filter (λ e. is_some (block_of store e.visit.cid)) (first_of ks d)
@@ -126,50 +148,61 @@ sections-unsound store ks d unsound =
     ∙ ap (λ b. sections_of store ks ++ filter (λ e. is_some (block_of store e.visit.cid)) (if b then (if is_told ks d.visit.cid then [] else d ∷ []) else [])) unsound
     ∙ append-nil (sections_of store ks)
 
--- nor has one whose CID was told or has no block
-no-place : (told : Bool) (place : Option ℕ) (d : Delivery) (p : Delivery → Bool) → (place ≡ None → p d ≡ false) → (if told then None else place) ≡ None → filter p (if told then [] else d ∷ []) ≡ []
-no-place true place d p h none = refl
-no-place false place d p h none = ap (λ b. if b then d ∷ [] else []) (h none)
+-- nor has one with no place that is due
+no-place : (sound told : Bool) (place : Option ℕ) (d : Delivery) (p : Delivery → Bool) → (place ≡ None → p d ≡ false) → (if sound then (if told then None else place) else None) ≡ None → filter p (if sound then (if told then [] else d ∷ []) else []) ≡ []
+no-place false told place d p h none = refl
+no-place true true place d p h none = refl
+no-place true false place d p h none = ap (λ b. if b then d ∷ [] else []) (h none)
 
-pub sections-repeat : (store : Blocks) (ks : List Delivery) (d : Delivery) → is_sound d.verdict ≡ true → place_due store ks d.visit.cid ≡ None → sections_of store (ks ++ d ∷ []) ≡ sections_of store ks
-sections-repeat store ks d sound none =
+pub sections-repeat : (store : Blocks) (ks : List Delivery) (d : Delivery) → place_due store ks d ≡ None → sections_of store (ks ++ d ∷ []) ≡ sections_of store ks
+sections-repeat store ks d none =
     sections-push store ks d
-    ∙ ap (λ b. sections_of store ks ++ filter (λ e. is_some (block_of store e.visit.cid)) (if b then (if is_told ks d.visit.cid then [] else d ∷ []) else [])) sound
     ∙ ap (λ l. sections_of store ks ++ l)
-    (no-place (is_told ks d.visit.cid) (position_of store d.visit.cid) d (λ e. is_some (block_of store e.visit.cid)) (λ h. ap is_some (block-none 0 store d.visit.cid h)) none)
+    (no-place (is_sound d.verdict) (is_told ks d.visit.cid) (position_of store d.visit.cid) d (λ e. is_some (block_of store e.visit.cid)) (λ h. ap is_some (block-none 0 store d.visit.cid h)) none)
     ∙ append-nil (sections_of store ks)
 
--- a place that is due belongs to a CID that wasn't told
-pub due-told : (store : Blocks) (ks : List Delivery) (c : List ℕ) (place : ℕ) → place_due store ks c ≡ Some place → (is_told ks c ≡ false) × (position_of store c ≡ Some place)
-due-told store ks c place due =
-    elim (is_told ks c) as (λ b. (if b then None else position_of store c) ≡ Some place → (b ≡ false) × (position_of store c ≡ Some place)) [ true ↦ (λ h. cc) | false ↦ (λ h. (refl, h)) ] due
+-- a place that is due belongs to a sound delivery of a CID that wasn't told
+pub due-told : (store : Blocks) (ks : List Delivery) (d : Delivery) (place : ℕ) → place_due store ks d ≡ Some place → (is_sound d.verdict ≡ true) × (is_told ks d.visit.cid ≡ false) × (position_of store d.visit.cid ≡ Some place)
+due-told store ks d place due =
+    elim (is_sound d.verdict) as (λ s. (if s then (if is_told ks d.visit.cid then None else position_of store d.visit.cid) else None) ≡ Some place → (s ≡ true) × (is_told ks d.visit.cid ≡ false) × (position_of store d.visit.cid ≡ Some place)) [
+      | true ↦ elim (is_told ks d.visit.cid) as (λ b. (if b then None else position_of store d.visit.cid) ≡ Some place → (true ≡ true) × (b ≡ false) × (position_of store d.visit.cid ≡ Some place)) [ true ↦ (λ h. cc) | false ↦ (λ h. (refl, refl, h)) ]
+      | false ↦ (λ h. cc)
+    ] due
 
-pub sections-due : (store : Blocks) (ks : List Delivery) (d : Delivery) (place : ℕ) → is_sound d.verdict ≡ true → place_due store ks d.visit.cid ≡ Some place → length (sections_of store (ks ++ d ∷ [])) ≡ length (sections_of store ks) + 1
-sections-due store ks d place sound due =
-    let found = due-told store ks d.visit.cid place due in
-    let has : is_some (block_of store d.visit.cid) ≡ true = block-some 0 place store d.visit.cid found.1 in
+pub sections-due : (store : Blocks) (ks : List Delivery) (d : Delivery) (place : ℕ) → place_due store ks d ≡ Some place → length (sections_of store (ks ++ d ∷ [])) ≡ length (sections_of store ks) + 1
+sections-due store ks d place due =
+    let found = due-told store ks d place due in
+    let has : is_some (block_of store d.visit.cid) ≡ true = block-some 0 place store d.visit.cid found.2 in
     ap length
     (sections-push store ks d
-    ∙ ap (λ b. sections_of store ks ++ filter (λ e. is_some (block_of store e.visit.cid)) (if b then (if is_told ks d.visit.cid then [] else d ∷ []) else [])) sound
-    ∙ ap (λ b. sections_of store ks ++ filter (λ e. is_some (block_of store e.visit.cid)) (if b then [] else d ∷ [])) found.0
+    ∙ ap (λ b. sections_of store ks ++ filter (λ e. is_some (block_of store e.visit.cid)) (if b then (if is_told ks d.visit.cid then [] else d ∷ []) else [])) found.0
+    ∙ ap (λ b. sections_of store ks ++ filter (λ e. is_some (block_of store e.visit.cid)) (if b then [] else d ∷ [])) found.1
     ∙ ap (λ b. sections_of store ks ++ (if b then d ∷ [] else [])) has)
     ∙ length-append (sections_of store ks) (d ∷ [])
 
 due-kept : (store : Blocks) (ds : List Delivery) (d : Delivery) → is_below (cut_behind ds) d.visit.depth ≡ false → text_due store ds d ≡ text_behind store (kept ds) d
 due-kept store ds d uncut = ap (λ b. if b then [] else text_behind store (kept ds) d) uncut
 
-no-text : (told : Bool) (place : Option ℕ) (text : List ℕ) → (place ≡ None → text ≡ []) → (if told then None else place) ≡ None → (if told then [] else text) ≡ []
-no-text true place text h none = refl
-no-text false place text h none = h none
+-- what doesn't pass writes nothing
+pub due-refused : (store : Blocks) (ds : List Delivery) (d : Delivery) → is_below (cut_behind ds) d.visit.depth ≡ false → passes d.verdict ≡ false → text_due store ds d ≡ []
+due-refused store ds d uncut refused =
+    due-kept store ds d uncut ∙ ap (λ b. if b then (if is_told (kept ds) d.visit.cid then [] else section_of store d) else []) (refused_unsound d.verdict refused)
 
-pub due-repeat : (store : Blocks) (ds : List Delivery) (d : Delivery) → is_below (cut_behind ds) d.visit.depth ≡ false → is_sound d.verdict ≡ true → place_due store (kept ds) d.visit.cid ≡ None → text_due store ds d ≡ []
-due-repeat store ds d uncut sound none =
-    due-kept store ds d uncut ∙ ap (λ b. if b then (if is_told (kept ds) d.visit.cid then [] else section_of store d) else []) sound
-    ∙ no-text (is_told (kept ds) d.visit.cid) (position_of store d.visit.cid) (section_of store d) (λ h. ap (λ o. section_with d.visit.cid o) (block-none 0 store d.visit.cid h)) none
+-- nor does what has no place that is due
+no-text : (sound told : Bool) (place : Option ℕ) (text : List ℕ) → (place ≡ None → text ≡ []) → (if sound then (if told then None else place) else None) ≡ None → (if sound then (if told then [] else text) else []) ≡ []
+no-text false told place text h none = refl
+no-text true true place text h none = refl
+no-text true false place text h none = h none
 
-pub due-section : (store : Blocks) (ds : List Delivery) (d : Delivery) (place : ℕ) (block : List ℕ) → is_below (cut_behind ds) d.visit.depth ≡ false → is_sound d.verdict ≡ true → place_due store (kept ds) d.visit.cid ≡ Some place → block_of store d.visit.cid ≡ Some block
+pub due-repeat : (store : Blocks) (ds : List Delivery) (d : Delivery) → is_below (cut_behind ds) d.visit.depth ≡ false → place_due store (kept ds) d ≡ None → text_due store ds d ≡ []
+due-repeat store ds d uncut none =
+    due-kept store ds d uncut
+    ∙ no-text (is_sound d.verdict) (is_told (kept ds) d.visit.cid) (position_of store d.visit.cid) (section_of store d) (λ h. ap (λ o. section_with d.visit.cid o) (block-none 0 store d.visit.cid h)) none
+
+pub due-section : (store : Blocks) (ds : List Delivery) (d : Delivery) (place : ℕ) (block : List ℕ) → is_below (cut_behind ds) d.visit.depth ≡ false → place_due store (kept ds) d ≡ Some place → block_of store d.visit.cid ≡ Some block
     → text_due store ds d ≡ with_length (d.visit.cid ++ block)
-due-section store ds d place block uncut sound due at =
-    due-kept store ds d uncut ∙ ap (λ b. if b then (if is_told (kept ds) d.visit.cid then [] else section_of store d) else []) sound
-    ∙ ap (λ b. if b then [] else section_of store d) (due-told store (kept ds) d.visit.cid place due).0
+due-section store ds d place block uncut due at =
+    let found = due-told store (kept ds) d place due in
+    due-kept store ds d uncut ∙ ap (λ b. if b then (if is_told (kept ds) d.visit.cid then [] else section_of store d) else []) found.0
+    ∙ ap (λ b. if b then [] else section_of store d) found.1
     ∙ ap (λ o. section_with d.visit.cid o) at

@@ -13,3 +13,4 @@ pub mod Archives
 pub mod HeaderLemmas
 pub mod HeaderLinks
 pub mod Sections
+pub mod SectionCids

@@ -13,7 +13,7 @@ use Rattle.ix_cbor.specs.Data as nodes
 use Rattle.ix_cbor.specs.Data.{Data, Items, Entries, no_items, item, no_entries, entry}
 use Rattle.ix_cbor.specs.Spelling.{key_cmp}
 use Rattle.ix_cbor.specs.Reading.{Fault, ◌>>=◌, Parse, fails, take_at, string_of_major, rises, key_at, float_at, simple_at, link_of, link_at, Own, leaf, list_of, map_of, own_with, own_behind, own_at, argument_at, items_at, entries_at, with_members, item_with, item_at, nothing_after, decoded, data_at}
-use Rattle.ix_walk.specs.Store.{Blocks, block_of, is_walkable, value_of}
+use Rattle.ix_walk.specs.Store.{Blocks, bytes_of, is_dag_cbor, value_of}
 
 -- ---- keys
 
@@ -225,14 +225,14 @@ some_rising_read (Err f) h = tt
 data_at-rising : (b : List ℕ) → IsRisingIfAny (data_at b)
 data_at-rising b = some_rising_read (decoded b) (block_rising 512 b)
 
-block_of-rising : (block : Option (List ℕ)) → IsRisingIfAny (option_and_then data_at block)
-block_of-rising None = tt
-block_of-rising (Some b) = data_at-rising b
+bytes-rising : (bytes : Option (List ℕ)) → IsRisingIfAny (option_and_then data_at bytes)
+bytes-rising None = tt
+bytes-rising (Some b) = data_at-rising b
 
-walkable-rising : (walkable : Bool) (o : Option Data) → IsRisingIfAny o → IsRisingIfAny (if walkable then o else None)
-walkable-rising true o h = h
-walkable-rising false o h = tt
+if-rising : (test : Bool) (o : Option Data) → IsRisingIfAny o → IsRisingIfAny (if test then o else None)
+if-rising true o h = h
+if-rising false o h = tt
 
 -- the data of a CID has rising keys
 pub value_of-rising : (store : Blocks) (c : List ℕ) → IsRisingIfAny (value_of store c)
-value_of-rising store c = walkable-rising (is_walkable c) (option_and_then data_at (block_of store c)) (block_of-rising (block_of store c))
+value_of-rising store c = if-rising (is_dag_cbor c) (option_and_then data_at (bytes_of store c)) (bytes-rising (bytes_of store c))

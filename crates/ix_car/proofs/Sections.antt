@@ -2,7 +2,7 @@
 use Rattle.std.proofs.Common.{◌≡◌, ℕ, zero, suc, ◌+◌, ◌-◌, ◌++◌, ◌<◌, ◌≤◌, Bool, true, false, cond, ltb, leb, eqb, ◌&&◌, List, [], ◌∷◌, length, drop, take, get_or, refl, sym, ◌∙◌, ap, subst, inl, inr, arith, length-drop}
 use Rattle.std.specs.Prelude.{Result, Ok, Err}
 use Rattle.std.proofs.lemmas.Bool.{cases_Bool, ltb-true, ltb-false}
-use Rattle.std.proofs.lemmas.List.{length-append, drop-drop, drop-append-le, take_all}
+use Rattle.std.proofs.lemmas.List.{length-append, drop-drop, drop-append-le}
 use Rattle.std.proofs.Math.ListN.{drop_of_length-le}
 use Rattle.std.proofs.Math.Seq.{drop-append_seam, take-append_seam}
 use Rattle.ix_cid.specs.declared.fault.VarintFault.{VarintFault}
@@ -130,10 +130,6 @@ end-cut k x y b h = elim (cases_Bool (ltb (length x) k)) [
   | inl past ↦ subst (λ (l : List ℕ). IsEnd (l ++ y) b) (sym (drop_of_length-le x (omega (arith, ltb-true (length x) k past)))) (end-behind x y b h)
   | inr within ↦ subst (λ (l : List ℕ). IsEnd l b) (drop-append-le k x y (ltb-false (length x) k within)) (end-of-end (drop k (x ++ y)) (x ++ y) b (k, refl) h)
 ]
-
--- the same as a part of it is read
-pub end-from : (k : ℕ) (x y b : List ℕ) → IsEnd (x ++ y) b → IsEnd (take (length x - k) (drop k x) ++ y) b
-end-from k x y b h = subst (λ (l : List ℕ). IsEnd (l ++ y) b) (sym (take_all (length x - k) (drop k x) (omega (arith, length-drop k x)))) (end-cut k x y b h)
 
 -- an end is no longer than what it ends
 pub end-within : (x y b : List ℕ) → IsEnd (x ++ y) b → length x + length y ≤ length b

@@ -6,8 +6,6 @@ use Rattle.std.proofs.lemmas.Bool.Decides.{nat_tests}
 use Rattle.std.proofs.lemmas.Slice.Eq.{bytes_eq-Decides}
 use Rattle.std.proofs.lemmas.List.{length_push}
 use Rattle.ix_check.specs.Verdict.{passes}
-use Rattle.ix_check.specs.declared.verdict.Verdict.{Verdict}
-use Rattle.ix_check.specs.declared.verdict.Verdict.TheVariants.{Codec, Hash, Missing, Damaged, Malformed, Sound}
 use Rattle.ix_walk.specs.Store.{Blocks, position_behind, position_of}
 use Rattle.ix_car.specs.declared.marks.Marks.{Marks}
 use Rattle.ix_car.specs.Marks.{is_marked}
@@ -19,16 +17,7 @@ use Rattle.ix_car.specs.Archive.{is_sound, sections_of}
 use Rattle.ix_car.specs.declared.archive.Counts.{Counts}
 use Rattle.ix_car.specs.Report.{at_most, counts_of}
 use Rattle.ix_car.specs.Archiving.{IsTally, cut_behind, is_told, place_due}
-use Rattle.ix_car.proofs.FirstSound.{kept-push, cut-push, told-push, skips_in, skips-sound, skips-unsound, sections-unsound, sections-repeat, sections-due, due-told}
-
--- what passes is what is sound
-pub passes-is_sound : (v : Verdict) → passes v ≡ is_sound v
-passes-is_sound Codec = refl
-passes-is_sound Hash = refl
-passes-is_sound Missing = refl
-passes-is_sound Damaged = refl
-passes-is_sound Malformed = refl
-passes-is_sound Sound = refl
+use Rattle.ix_car.proofs.FirstSound.{sound_passes, refused_unsound, kept-push, cut-push, told-push, skips_in, skips-passing, skips-refused, sections-unsound, sections-repeat, sections-due, due-told}
 
 -- a count that stops, one higher
 count-more : (most n m k : ℕ) → k ≡ min n most → m ≡ n + 1 → min (k + 1) most ≡ min m most
@@ -45,10 +34,10 @@ kept-uncut ds d uncut = kept-push ds d ∙ ap (λ b. if b then kept ds else kept
 cut-cut_off : (ds : List Delivery) (d : Delivery) → is_below (cut_behind ds) d.visit.depth ≡ true → cut_behind (ds ++ d ∷ []) ≡ cut_behind ds
 cut-cut_off ds d below = cut-push ds d ∙ ap (λ b. if b then cut_behind ds else (if passes d.verdict then None else Some d.visit.depth)) below
 
-cut-uncut : (ds : List Delivery) (d : Delivery) (sound : Bool) → is_below (cut_behind ds) d.visit.depth ≡ false → is_sound d.verdict ≡ sound → cut_behind (ds ++ d ∷ []) ≡ (if sound then None else Some d.visit.depth)
-cut-uncut ds d sound uncut is =
+cut-uncut : (ds : List Delivery) (d : Delivery) (passing : Bool) → is_below (cut_behind ds) d.visit.depth ≡ false → passes d.verdict ≡ passing → cut_behind (ds ++ d ∷ []) ≡ (if passing then None else Some d.visit.depth)
+cut-uncut ds d passing uncut is =
     cut-push ds d ∙ ap (λ b. if b then cut_behind ds else (if passes d.verdict then None else Some d.visit.depth)) uncut
-    ∙ ap (λ b. if b then None else Some d.visit.depth) (passes-is_sound d.verdict ∙ is)
+    ∙ ap (λ b. if b then None else Some d.visit.depth) is
 
 -- what a tally says of each count
 visits-of : (store : Blocks) (ds : List Delivery) (c : Counts) → c ≡ counts_of store ds c.bytes → c.visits ≡ at_most 32 (length ds)
@@ -120,24 +109,25 @@ or-nothing true b h = refl
 or-nothing false b h = h
 
 -- a skip
-pub tally-skip : (store : Blocks) (ds es failed : List Delivery) (closed : List End) (d : Delivery) (cut : Option ℕ) (c : Counts) (n k : ℕ) (w : Marks) (skips more : List Skip) → IsTally store ds failed closed cut c w skips → is_below (cut_behind ds) d.visit.depth ≡ false → is_sound d.verdict ≡ false → es ≡ ds ++ d ∷ []
+pub tally-skip : (store : Blocks) (ds es failed : List Delivery) (closed : List End) (d : Delivery) (cut : Option ℕ) (c : Counts) (n k : ℕ) (w : Marks) (skips more : List Skip) → IsTally store ds failed closed cut c w skips → is_below (cut_behind ds) d.visit.depth ≡ false → passes d.verdict ≡ false → es ≡ ds ++ d ∷ []
     → more ≡ skips ++ record { seq = d.visit.seq; cid = d.visit.cid; verdict = d.verdict } ∷ [] → n ≡ at_most 32 (c.visits + 1) → k ≡ at_most 32 (c.kept + 1)
     → IsTally store es failed closed (Some d.visit.depth) (record { visits = n; kept = k; sections = c.sections; bytes = c.bytes }) w more
-tally-skip store ds es failed closed d cut c n k w skips more h uncut unsound longer added visits keeps =
+tally-skip store ds es failed closed d cut c n k w skips more h uncut refused longer added visits keeps =
+    let unsound = refused_unsound d.verdict refused in
     let left : kept es ≡ kept ds ++ d ∷ [] = ap kept longer ∙ kept-uncut ds d uncut in
     let n_is = visits-more store ds es d c n h.counts_are longer visits in
     let k_is = kept-more store ds es d c k h.counts_are left keeps in
     let s_is : c.sections ≡ at_most 32 (length (sections_of store (kept es))) = sections-of store ds c h.counts_are ∙ sym (ap (λ l. at_most 32 (length (sections_of store l))) left ∙ ap (λ l. at_most 32 (length l)) (sections-unsound store (kept ds) d unsound)) in record {
-      cut_is = sym (ap cut_behind longer ∙ cut-uncut ds d false uncut unsound);
+      cut_is = sym (ap cut_behind longer ∙ cut-uncut ds d false uncut refused);
       counts_are = λ i. record { visits = n_is i; kept = k_is i; sections = s_is i; bytes = bytes-of store ds c h.counts_are i };
-      skips_is = added ∙ ap (λ l. l ++ record { seq = d.visit.seq; cid = d.visit.cid; verdict = d.verdict } ∷ []) h.skips_is ∙ sym (ap (λ l. skips_in l) left ∙ skips-unsound (kept ds) d unsound);
+      skips_is = added ∙ ap (λ l. l ++ record { seq = d.visit.seq; cid = d.visit.cid; verdict = d.verdict } ∷ []) h.skips_is ∙ sym (ap (λ l. skips_in l) left ∙ skips-refused (kept ds) d refused);
       written_is = λ none unclosed e place at. h.written_is none unclosed e place at
           ∙ sym (ap (λ l. is_told l e) left ∙ told-push (kept ds) d e ∙ or-nothing (is_told (kept ds) e) (is_sound d.verdict && bytes_eq d.visit.cid e) (ap (λ b. b && bytes_eq d.visit.cid e) unsound));
     }
 
--- a CID whose place is known isn't told anew by one that has its section or no block
-repeat-told : (store : Blocks) (ks : List Delivery) (d : Delivery) (c : List ℕ) (place : ℕ) → place_due store ks d.visit.cid ≡ None → position_of store c ≡ Some place → (is_told ks c || bytes_eq d.visit.cid c) ≡ is_told ks c
-repeat-told store ks d c place none at =
+-- a CID whose place is known isn't told anew by one of a CID that was told or has no block
+told-again : (store : Blocks) (ks : List Delivery) (d : Delivery) (c : List ℕ) (place : ℕ) → (if is_told ks d.visit.cid then None else position_of store d.visit.cid) ≡ None → position_of store c ≡ Some place → (is_told ks c || bytes_eq d.visit.cid c) ≡ is_told ks c
+told-again store ks d c place none at =
     let by : (same told : Bool) → bytes_eq d.visit.cid c ≡ same → is_told ks d.visit.cid ≡ told → (is_told ks c || same) ≡ is_told ks c = λ same told. elim same as (λ b. bytes_eq d.visit.cid c ≡ b → is_told ks d.visit.cid ≡ told → (is_told ks c || b) ≡ is_told ks c) [
       | false ↦ (λ _ _. or-nothing (is_told ks c) false refl)
       | true ↦ elim told as (λ t. bytes_eq d.visit.cid c ≡ true → is_told ks d.visit.cid ≡ t → (is_told ks c || true) ≡ is_told ks c) [
@@ -148,19 +138,25 @@ repeat-told store ks d c place none at =
     ] in
     by (bytes_eq d.visit.cid c) (is_told ks d.visit.cid) refl refl
 
--- a sound one that has its section, or no block
-pub tally-repeat : (store : Blocks) (ds es failed : List Delivery) (closed : List End) (d : Delivery) (cut : Option ℕ) (c : Counts) (n k : ℕ) (w : Marks) (skips : List Skip) → IsTally store ds failed closed cut c w skips → is_below (cut_behind ds) d.visit.depth ≡ false → is_sound d.verdict ≡ true → place_due store (kept ds) d.visit.cid ≡ None
+-- nor by any that has no place that is due
+repeat-told : (store : Blocks) (ks : List Delivery) (d : Delivery) (c : List ℕ) (place : ℕ) → place_due store ks d ≡ None → position_of store c ≡ Some place → (is_told ks c || (is_sound d.verdict && bytes_eq d.visit.cid c)) ≡ is_told ks c
+repeat-told store ks d c place none at =
+    elim (is_sound d.verdict) as (λ s. (if s then (if is_told ks d.visit.cid then None else position_of store d.visit.cid) else None) ≡ None → (is_told ks c || (s && bytes_eq d.visit.cid c)) ≡ is_told ks c)
+    [ true ↦ (λ h. told-again store ks d c place h at) | false ↦ (λ h. or-nothing (is_told ks c) false refl) ] none
+
+-- one that passes and has no place that is due
+pub tally-repeat : (store : Blocks) (ds es failed : List Delivery) (closed : List End) (d : Delivery) (cut : Option ℕ) (c : Counts) (n k : ℕ) (w : Marks) (skips : List Skip) → IsTally store ds failed closed cut c w skips → is_below (cut_behind ds) d.visit.depth ≡ false → passes d.verdict ≡ true → place_due store (kept ds) d ≡ None
     → es ≡ ds ++ d ∷ [] → n ≡ at_most 32 (c.visits + 1) → k ≡ at_most 32 (c.kept + 1) → IsTally store es failed closed None (record { visits = n; kept = k; sections = c.sections; bytes = c.bytes }) w skips
-tally-repeat store ds es failed closed d cut c n k w skips h uncut sound none longer visits keeps =
+tally-repeat store ds es failed closed d cut c n k w skips h uncut passing none longer visits keeps =
     let left : kept es ≡ kept ds ++ d ∷ [] = ap kept longer ∙ kept-uncut ds d uncut in
     let n_is = visits-more store ds es d c n h.counts_are longer visits in
     let k_is = kept-more store ds es d c k h.counts_are left keeps in
-    let s_is : c.sections ≡ at_most 32 (length (sections_of store (kept es))) = sections-of store ds c h.counts_are ∙ sym (ap (λ l. at_most 32 (length (sections_of store l))) left ∙ ap (λ l. at_most 32 (length l)) (sections-repeat store (kept ds) d sound none)) in record {
-      cut_is = sym (ap cut_behind longer ∙ cut-uncut ds d true uncut sound);
+    let s_is : c.sections ≡ at_most 32 (length (sections_of store (kept es))) = sections-of store ds c h.counts_are ∙ sym (ap (λ l. at_most 32 (length (sections_of store l))) left ∙ ap (λ l. at_most 32 (length l)) (sections-repeat store (kept ds) d none)) in record {
+      cut_is = sym (ap cut_behind longer ∙ cut-uncut ds d true uncut passing);
       counts_are = λ i. record { visits = n_is i; kept = k_is i; sections = s_is i; bytes = bytes-of store ds c h.counts_are i };
-      skips_is = h.skips_is ∙ sym (ap (λ l. skips_in l) left ∙ skips-sound (kept ds) d sound);
+      skips_is = h.skips_is ∙ sym (ap (λ l. skips_in l) left ∙ skips-passing (kept ds) d passing);
       written_is = λ fine unclosed e place at. h.written_is fine unclosed e place at
-          ∙ sym (ap (λ l. is_told l e) left ∙ told-push (kept ds) d e ∙ ap (λ b. is_told (kept ds) e || (b && bytes_eq d.visit.cid e)) sound ∙ repeat-told store (kept ds) d e place none at);
+          ∙ sym (ap (λ l. is_told l e) left ∙ told-push (kept ds) d e ∙ repeat-told store (kept ds) d e place none at);
     }
 
 -- places rise
@@ -213,19 +209,20 @@ put-place store ks w v d c here place updates at there was =
     updates place ∙ by (bytes_eq d c) refl
 
 -- a section
-pub tally-section : (store : Blocks) (ds es failed : List Delivery) (closed : List End) (d : Delivery) (cut : Option ℕ) (c : Counts) (n k s t here : ℕ) (w v : Marks) (skips : List Skip) → IsTally store ds failed closed cut c w skips → is_below (cut_behind ds) d.visit.depth ≡ false → is_sound d.verdict ≡ true
-    → place_due store (kept ds) d.visit.cid ≡ Some here → ((n : ℕ) → is_marked v n ≡ ((here == n) || is_marked w n)) → es ≡ ds ++ d ∷ [] → n ≡ at_most 32 (c.visits + 1) → k ≡ at_most 32 (c.kept + 1) → s ≡ at_most 32 (c.sections + 1) → t ≤ 2 ^ 64 - 1
+pub tally-section : (store : Blocks) (ds es failed : List Delivery) (closed : List End) (d : Delivery) (cut : Option ℕ) (c : Counts) (n k s t here : ℕ) (w v : Marks) (skips : List Skip) → IsTally store ds failed closed cut c w skips → is_below (cut_behind ds) d.visit.depth ≡ false
+    → place_due store (kept ds) d ≡ Some here → ((n : ℕ) → is_marked v n ≡ ((here == n) || is_marked w n)) → es ≡ ds ++ d ∷ [] → n ≡ at_most 32 (c.visits + 1) → k ≡ at_most 32 (c.kept + 1) → s ≡ at_most 32 (c.sections + 1) → t ≤ 2 ^ 64 - 1
     → IsTally store es failed closed None (record { visits = n; kept = k; sections = s; bytes = t }) v skips
-tally-section store ds es failed closed d cut c n k s t here w v skips h uncut sound due updates longer visits keeps sections within =
+tally-section store ds es failed closed d cut c n k s t here w v skips h uncut due updates longer visits keeps sections within =
     let left : kept es ≡ kept ds ++ d ∷ [] = ap kept longer ∙ kept-uncut ds d uncut in
-    let at = (due-told store (kept ds) d.visit.cid here due).1 in
+    let found = due-told store (kept ds) d here due in
+    let passing = sound_passes d.verdict found.0 in
     let n_is = visits-more store ds es d c n h.counts_are longer visits in
     let k_is = kept-more store ds es d c k h.counts_are left keeps in
-    let s_is : s ≡ at_most 32 (length (sections_of store (kept es))) = sections ∙ count-more (2 ^ 32 - 1) (length (sections_of store (kept ds))) (length (sections_of store (kept es))) c.sections (sections-of store ds c h.counts_are) (ap (λ l. length (sections_of store l)) left ∙ sections-due store (kept ds) d here sound due) in record {
-      cut_is = sym (ap cut_behind longer ∙ cut-uncut ds d true uncut sound);
+    let s_is : s ≡ at_most 32 (length (sections_of store (kept es))) = sections ∙ count-more (2 ^ 32 - 1) (length (sections_of store (kept ds))) (length (sections_of store (kept es))) c.sections (sections-of store ds c h.counts_are) (ap (λ l. length (sections_of store l)) left ∙ sections-due store (kept ds) d here due) in record {
+      cut_is = sym (ap cut_behind longer ∙ cut-uncut ds d true uncut passing);
       counts_are = λ i. record { visits = n_is i; kept = k_is i; sections = s_is i; bytes = bytes-fit t within i };
-      skips_is = h.skips_is ∙ sym (ap (λ l. skips_in l) left ∙ skips-sound (kept ds) d sound);
+      skips_is = h.skips_is ∙ sym (ap (λ l. skips_in l) left ∙ skips-passing (kept ds) d passing);
       written_is = λ fine unclosed e place there.
-          put-place store (kept ds) w v d.visit.cid e here place updates at there (h.written_is fine unclosed e place there)
-          ∙ sym (ap (λ l. is_told l e) left ∙ told-push (kept ds) d e ∙ ap (λ b. is_told (kept ds) e || (b && bytes_eq d.visit.cid e)) sound);
+          put-place store (kept ds) w v d.visit.cid e here place updates found.2 there (h.written_is fine unclosed e place there)
+          ∙ sym (ap (λ l. is_told l e) left ∙ told-push (kept ds) d e ∙ ap (λ b. is_told (kept ds) e || (b && bytes_eq d.visit.cid e)) found.0);
     }

@@ -1,5 +1,5 @@
 -- What the archive of a job is, in the end.
-use Rattle.std.specs.Prelude.{◌≡◌, List, [], ◌∷◌, ◌++◌, Option, Some, ℕ}
+use Rattle.std.specs.Prelude.{◌≡◌, List, ◌++◌, Option, Some, ℕ}
 use Rattle.ix_walk.specs.Store.{Blocks}
 use Rattle.ix_walk.specs.JobMeaning.{JobMeaning}
 use Rattle.ix_car.specs.declared.sink.Delivery.{Delivery}

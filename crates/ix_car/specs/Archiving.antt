@@ -25,9 +25,9 @@ cut_behind = cut_after (λ d. d.visit.depth) (λ d. passes d.verdict) None
 abbrev pub is_told : List Delivery → List ℕ → Bool
 is_told ds c = list_any (λ d. is_sound d.verdict && bytes_eq d.visit.cid c) ds
 
--- where the block stands of the section that a sound delivery of this CID writes behind these kept ones
-abbrev pub place_due : Blocks → List Delivery → List ℕ → Option ℕ
-place_due store ks c = if is_told ks c then None else position_of store c
+-- where the block stands of the section that a kept delivery writes behind these kept ones
+abbrev pub place_due : Blocks → List Delivery → Delivery → Option ℕ
+place_due store ks d = if is_sound d.verdict then (if is_told ks d.visit.cid then None else position_of store d.visit.cid) else None
 
 -- what a kept delivery writes behind these kept ones
 abbrev pub text_behind : Blocks → List Delivery → Delivery → List ℕ

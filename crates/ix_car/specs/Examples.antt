@@ -1,7 +1,7 @@
 -- Examples, computed.
 use Rattle.std.specs.Prelude.{◌≡◌, ℕ, false, List, [], ◌∷◌, ◌++◌, refl, None, Ok, Err, map, length, pos, replicate, codes}
 use Rattle.ix_check.specs.declared.verdict.Verdict.{Verdict}
-use Rattle.ix_check.specs.declared.verdict.Verdict.TheVariants.{Damaged, Sound}
+use Rattle.ix_check.specs.declared.verdict.Verdict.TheVariants.{Damaged, Sound, Inline}
 use Rattle.ix_car.specs.declared.sink.Delivery.{Delivery}
 use Rattle.ix_car.specs.declared.fault.CarKind.TheVariants.{Truncated, Header, Version, SectionCid}
 use Rattle.ix_car.specs.Kept.{kept}
@@ -29,6 +29,19 @@ next_root = refl
 -- a damaged cycle: everything behind the first is cut off
 pub cycle : kept (at 0 0 1 Damaged ∷ at 1 1 1 Damaged ∷ at 2 2 1 Damaged ∷ []) ≡ at 0 0 1 Damaged ∷ []
 cycle = refl
+
+-- CIDs that hold their bytes: one is kept with what is below it, and has no section; below a damaged block it is cut off; beside one it ends the cut-off
+pub inline : kept (at 0 0 70 Inline ∷ at 1 1 97 Sound ∷ []) ≡ at 0 0 70 Inline ∷ at 1 1 97 Sound ∷ []
+inline = refl
+
+pub inline_has_no_section : map (λ d. d.visit.seq) (first_sound (at 0 0 70 Inline ∷ at 1 1 97 Sound ∷ [])) ≡ 1 ∷ []
+inline_has_no_section = refl
+
+pub inline_below_damaged : kept (at 0 0 88 Damaged ∷ at 1 1 70 Inline ∷ at 2 2 97 Sound ∷ []) ≡ at 0 0 88 Damaged ∷ []
+inline_below_damaged = refl
+
+pub inline_beside_damaged : kept (at 0 1 88 Damaged ∷ at 1 1 70 Inline ∷ at 2 2 97 Sound ∷ []) ≡ at 0 1 88 Damaged ∷ at 1 1 70 Inline ∷ at 2 2 97 Sound ∷ []
+inline_beside_damaged = refl
 
 -- a root's header is 59 bytes with its length, that of one named twice 100, and 24 roots take a head of two bytes
 abbrev pub root : List ℕ

@@ -1,8 +1,8 @@
 //! Archives (CARv1): a header with the roots of a job, and a section for each sound block at its first
 //! visit.
 
-ghost use Rattle.std.specs.Prelude.{◌≡◌, ◌+◌, true, false, None, Some, [], ◌∷◌, IfOk, IfErr};
-ghost use Rattle.ix_walk.specs.Store.{position_of};
+ghost use Rattle.std.specs.Prelude.{◌≡◌, ◌+◌, true, false, None, Some, [], IfOk, IfErr};
+ghost use Rattle.ix_check.specs.Verdict.{passes};
 ghost use Rattle.ix_car.specs.Kept.{is_below, kept};
 ghost use Rattle.ix_car.specs.Archive.{is_sound};
 ghost use Rattle.ix_car.specs.ArchiveMeaning.{HasArchived, IsBegun};
@@ -25,7 +25,10 @@ use std::snapshot::Snapshot;
 
 mod output;
 
-/// A visit that was kept and isn't sound.
+// How many bytes of room an archive keeps of its header at most.
+const MOST_SCRATCH: usize = 4096;
+
+/// A visit that was kept and doesn't pass.
 #[derive(Debug, Drop)]
 pub struct Skip {
     pub seq: u32,
@@ -50,10 +53,11 @@ pub struct Counts {
 ///
 /// Of the deliveries, those that follow one that doesn't pass at a greater depth, up to the next at
 /// that depth or less, are cut off: nothing is written or reported of them. The others are kept. A
-/// kept delivery that isn't sound is a skip, each time that it comes. A kept sound one whose CID has
+/// kept delivery that doesn't pass is a skip, each time that it comes. A kept sound one whose CID has
 /// no section yet writes one: the length of CID and block together as a varint, the CID, and the
 /// block as the archive's own store has it. Where the store has none, nothing is written, and that is
-/// no section.
+/// no section. A CID that holds its bytes itself passes and has no section, also where the store has
+/// a block under it.
 #[derive(Drop)]
 pub struct Archive<'a, W: Write> {
     store: &'a Store,
@@ -74,7 +78,7 @@ pub struct Archive<'a, W: Write> {
 }
 
 impl<'a, W: Write> Model for Archive<'a, W> {
-    ghost use Rattle.std.specs.Prelude.{[], ◌∷◌, option_to_list};
+    ghost use Rattle.std.specs.Prelude.{option_to_list};
     ghost use Rattle.ix_car.specs.ArchiveMeaning.{ArchiveMeaning};
     ghost use Rattle.ix_car.specs.Archiving.{IsTally};
 
@@ -121,12 +125,12 @@ impl<'a, W: Write> Archive<'a, W> {
             },
             written: Marks::new(alloc),
             skips: Vec::new(alloc),
-            scratch: header,
+            scratch: scratch_of(alloc, header),
             writer,
         })
     }
 
-    /// The visits that were kept and aren't sound, in order.
+    /// The visits that were kept and don't pass, in order.
     pub fn skips(&self) -> &[Skip]
         ensures { result.now ≡ skips_of self.now.deliveries }
     {
@@ -159,13 +163,13 @@ impl<'a, W: Write> Archive<'a, W> {
             self.add_cut_off(&delivery);
             return Ok(());
         }
-        if !is_sound(delivery.verdict) {
+        if !delivery.verdict.passes() {
             return self.add_skip(delivery);
         }
-        match self.place_due(&delivery.visit) {
+        match self.place_due(&delivery) {
             Some(place) => self.add_section(delivery, place),
             None => {
-                self.add_repeat(&delivery);
+                self.add_without_section(&delivery);
                 Ok(())
             }
         }
@@ -181,12 +185,17 @@ impl<'a, W: Write> Archive<'a, W> {
         }
     }
 
-    // Where the block stands of the section that a kept sound delivery of this visit writes.
-    fn place_due(&self, visit: &Visit) -> Option<usize>
+    // Where the block stands of the section that a kept delivery writes: none for a CID that has its
+    // section, has no block, or holds its bytes itself.
+    fn place_due(&self, delivery: &Delivery) -> Option<usize>
         requires unfailed { self.now.failed ≡ [] }
         requires unclosed { self.now.closed ≡ [] }
-        ensures { result ≡ place_due self.now.store (kept self.now.deliveries) visit.now.cid }
+        ensures { result ≡ place_due self.now.store (kept self.now.deliveries) delivery.now }
     {
+        if !is_sound(delivery.verdict) {
+            return None;
+        }
+        let visit = &delivery.visit;
         match self.store.find_near(visit.block, &visit.cid) {
             Some(place) if !self.written.contains(place) => Some(place),
             _ => None,
@@ -203,11 +212,11 @@ impl<'a, W: Write> Archive<'a, W> {
         self.counts.visits = one_more(self.counts.visits);
     }
 
-    // Adds a kept delivery that isn't sound.
+    // Adds a kept delivery that doesn't pass.
     fn add_skip(&mut self, delivery: Delivery) -> Result<(), SinkFault>
         requires unfailed { self.old.failed ≡ [] }
         requires uncut { is_below (cut_behind self.old.deliveries) delivery.visit.depth ≡ false }
-        requires unsound { is_sound delivery.verdict ≡ false }
+        requires refused { passes delivery.verdict ≡ false }
         ensures { IsDelivered W.contents delivery [] self.old result self.new }
     {
         if self.skips.reserve(1).is_err() {
@@ -225,12 +234,12 @@ impl<'a, W: Write> Archive<'a, W> {
         Ok(())
     }
 
-    // Adds a kept sound delivery that has its section, or no block.
-    fn add_repeat(&mut self, delivery: &Delivery)
+    // Adds a kept delivery that passes and writes no section.
+    fn add_without_section(&mut self, delivery: &Delivery)
         requires unfailed { self.old.failed ≡ [] }
         requires uncut { is_below (cut_behind self.old.deliveries) delivery.now.visit.depth ≡ false }
-        requires sound { is_sound delivery.now.verdict ≡ true }
-        requires none_due { place_due self.old.store (kept self.old.deliveries) delivery.now.visit.cid ≡ None }
+        requires passing { passes delivery.now.verdict ≡ true }
+        requires none_due { place_due self.old.store (kept self.old.deliveries) delivery.now ≡ None }
         ensures { IsAdded W.contents delivery.now [] self.old self.new }
     {
         self.deliveries.note(delivery);
@@ -239,12 +248,11 @@ impl<'a, W: Write> Archive<'a, W> {
         self.counts.kept = one_more(self.counts.kept);
     }
 
-    // Adds a kept sound delivery with its section, whose block stands at this place.
+    // Adds a kept delivery with its section, whose block stands at this place.
     fn add_section(&mut self, delivery: Delivery, place: usize) -> Result<(), SinkFault>
         requires unfailed { self.old.failed ≡ [] }
         requires uncut { is_below (cut_behind self.old.deliveries) delivery.visit.depth ≡ false }
-        requires sound { is_sound delivery.verdict ≡ true }
-        requires due { place_due self.old.store (kept self.old.deliveries) delivery.visit.cid ≡ Some place }
+        requires due { place_due self.old.store (kept self.old.deliveries) delivery ≡ Some place }
         ensures { IsDelivered W.contents delivery (text_due self.old.store self.old.deliveries delivery) self.old result self.new }
     {
         let store = self.store;
@@ -288,6 +296,15 @@ impl<'a, W: Write> Sink for Archive<'a, W> {
     fn close(&mut self, end: End) {
         self.closed = Some(end);
         self.written.clear();
+    }
+}
+
+// The scratch of an archive whose header was written: the header's room, unless its roots made it long.
+fn scratch_of(alloc: Global, header: Vec<u8>) -> Vec<u8> {
+    if header.capacity() > MOST_SCRATCH {
+        Vec::new(alloc)
+    } else {
+        header
     }
 }
 

@@ -2,8 +2,8 @@
 //!
 //! A CARv1 file is read as its blocks, or refused with the first fault and its place. An archive is
 //! the sink of one job: it writes the header at once, then each sound block that it is told of,
-//! once, and leaves out what lies below a block that isn't sound. What it wrote, counted and
-//! skipped is what its deliveries call for.
+//! once, and leaves out what lies below a CID that doesn't pass. What it wrote, counted and skipped
+//! is what its deliveries call for.
 //!
 //! ```rust
 //! let store = read_car(alloc, file)?;

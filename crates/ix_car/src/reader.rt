@@ -21,8 +21,8 @@ use std::sync::Arc;
 /// order of the sections, or the file's first fault.
 ///
 /// The header is read first, and then each section in turn. The place of a fault is that of the
-/// length of the header or section in question, also for `Truncated` and `Memory`. In this order a
-/// header or section is refused:
+/// length of the header or section in question, also for `Truncated` and `Memory`, or the end of the file where
+/// `Memory` is met behind all sections. In this order a header or section is refused:
 /// - its length ends early: `Truncated`; is no varint: `Varint`; is above what is left: `Truncated`;
 /// - a header is no DAG-CBOR map, or has no integer `version`: `Header`; the version is not 1:
 ///   `Version`; `roots` is absent or no list of links: `Header`;
@@ -30,7 +30,8 @@ use std::sync::Arc;
 ///
 /// Any number of roots is read, none included, and other keys of the header are ignored. Of
 /// sections with one CID the first counts, whatever the bytes: the later ones are read to their end
-/// and left out. The file is copied once and read once.
+/// and left out. The file is copied once and read once. The store is settled: what is found of a block is kept
+/// with it.
 pub fn read_car(alloc: Global, bytes: &[u8]) -> Result<Store, CarFault>
     ensures { Gives (λ store. store) bytes.now result (blocks_of bytes.now) }
 {
@@ -64,12 +65,20 @@ pub fn load_car(alloc: Global, bytes: Vec<u8>) -> Result<Store, CarFault>
     }
 }
 
+// The blocks of a file, of which what is found will be kept.
 fn store_of_file(alloc: Global, file: &Arc<Vec<u8>>) -> Result<Store, Stop>
     ensures reads { ReadsOrRunsOut (λ store. store) result (blocks_of (arc_value file.now).items) }
     ensures within { IfErr result (λ stop. stop.left ≤ length (arc_value file.now).items) }
 {
     let sections = header_at(alloc, file.as_slice())?;
-    store_of_sections(alloc, file, sections)
+    let mut store = store_of_sections(alloc, file, sections)?;
+    if store.settle().is_err() {
+        return Err(Stop {
+            kind: CarKind::Memory,
+            left: 0,
+        });
+    }
+    Ok(store)
 }
 
 // The blocks of the sections at the end of a file.
@@ -81,7 +90,7 @@ fn store_of_sections(alloc: Global, file: &Arc<Vec<u8>>, sections: &[u8]) -> Res
     let mut rest = sections;
     let mut store = Store::new(alloc);
     while !rest.is_empty() {
-        let (cid, block, after) = section_at(alloc, rest)?;
+        let (cid, block, after) = section_at(alloc, file, rest)?;
         let start = file.len() - after.len() - block.len();
         if store.add_within(cid, file, start, block.len()).is_err() {
             return Err(Stop::at(CarKind::Memory, rest));

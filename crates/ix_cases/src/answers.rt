@@ -55,6 +55,8 @@ fn answer_of_store(
         "find" => stores::find(alloc, &example.store, input),
         "bytes" => stores::bytes(alloc, &example.store, input),
         "blocks" => stores::blocks(alloc, &example.store),
+        "settle" => stores::settle(alloc, &mut example.store),
+        "found" => stores::found_of_block(alloc, &example.store, input),
         "walk" => walks::walk(alloc, &example.store, input),
         "visits" => walks::visits(alloc, &example.store, input),
         "verdict" => walks::verdict(alloc, &example.store, input),

@@ -186,6 +186,7 @@ fn verdict_of(word: &str) -> Result<Verdict> {
         "missing" => Ok(Verdict::Missing),
         "damaged" => Ok(Verdict::Damaged),
         "malformed" => Ok(Verdict::Malformed),
+        "inline" => Ok(Verdict::Inline),
         _ => bail!("no verdict of a skip: {word}"),
     }
 }

@@ -59,6 +59,23 @@ pub fn blocks(alloc: Global, store: &Store) -> Result<String> {
     Ok(store.len().to_string(alloc)?)
 }
 
+/// `settle = COUNT` of blocks of which what is found is kept from here on
+pub fn settle(alloc: Global, store: &mut Store) -> Result<String> {
+    store.settle()?;
+    Ok(store.len().to_string(alloc)?)
+}
+
+/// `found PLACE = AGREES FAULTY`: whether the block has its CID's digest, and whether it spells no data; or `none`
+pub fn found_of_block(alloc: Global, store: &Store, input: &str) -> Result<String> {
+    let place = input.parse::<usize>()?;
+    if place >= store.len() {
+        return Ok(String::from_str(alloc, "none")?);
+    }
+    let agrees = store.agrees(place);
+    let is_faulty = store.is_faulty(place);
+    Ok(format!(in alloc; "{agrees} {is_faulty}")?)
+}
+
 /// `car HEX = COUNT` of blocks, which are the store behind it, or `KIND at PLACE`; `car = ..` reads
 /// the example's own file
 pub fn car(alloc: Global, example: &mut Example, input: &str) -> Result<String> {

@@ -1,13 +1,16 @@
 -- The verdict on a CID in a store, test by test.
-use Rattle.std.proofs.Common.{◌≡◌, ℕ, ◌+◌, Bool, true, false, ◌&&◌, List, [], ◌∷◌, refl, sym, ◌∙◌, ap}
-use Rattle.std.specs.Prelude.{Option, Some, None, is_none, bytes_eq, if◌then◌else◌, ◌==◌}
+use Rattle.std.proofs.Common.{◌≡◌, ◌⊎◌, inl, inr, ℕ, ◌+◌, Bool, true, false, List, [], ◌∷◌, refl, sym, ◌∙◌, ap}
+use Rattle.std.specs.Prelude.{Option, Some, None, bytes_eq, if◌then◌else◌}
 use Rattle.sha2.specs.Sha256.{sha256}
-use Rattle.ix_cid.specs.Cid.{codec_of, digest_of}
-use Rattle.ix_cbor.specs.Reading.{data_at}
-use Rattle.ix_walk.specs.Store.{Blocks, block_of, position_behind, position_of, is_sha256}
+use Rattle.sha2.specs.Sha512.{sha512}
+use Rattle.ix_cid.specs.Cid.{parts_of, digest_of, hash_function_of}
+use Rattle.ix_cid.specs.declared.hash_function.HashFunction.{HashFunction}
+use Rattle.ix_cid.specs.declared.hash_function.HashFunction.TheVariants.{Sha2_256, Sha2_512}
+use Rattle.ix_walk.specs.Mark.{agrees_by, agrees}
+use Rattle.ix_walk.specs.Store.{Blocks, block_of, position_behind, position_of, bytes_by, bytes_of}
 use Rattle.ix_walk.specs.Visits.{is_malformed}
-use Rattle.ix_check.specs.declared.verdict.Verdict.TheVariants.{Codec, Hash, Missing, Damaged, Malformed, Sound}
-use Rattle.ix_check.specs.Verdict.{has_codec, verdict_by, verdict_of}
+use Rattle.ix_check.specs.declared.verdict.Verdict.TheVariants.{Codec, Missing, Damaged, Malformed, Sound}
+use Rattle.ix_check.specs.Verdict.{is_no_data, verdict_under, verdict_by, has_codec, verdict_of}
 
 -- a CID without a place has no block
 none_behind : (n : ℕ) (store : Blocks) (c : List ℕ) → None ≡ position_behind n store c → block_of store c ≡ None
@@ -16,41 +19,40 @@ none_behind n (x ∷ xs) c e =
     elim (bytes_eq x.0 c) as (λ b. None ≡ (if b then Some n else position_behind (n + 1) xs c) → (if b then Some x.1 else block_of xs c) ≡ None)
     [ true ↦ (λ h. cc) | false ↦ (λ h. none_behind (n + 1) xs c h) ] e
 
--- what of the verdict is left once codec and hash are good
-verdict_hashed : (store : Blocks) (c : List ℕ) (o : Option (List ℕ)) → has_codec c ≡ true → is_sha256 c ≡ true → block_of store c ≡ o → verdict_by c o ≡ verdict_of store c
-verdict_hashed store c o codec hash block =
-    ap (λ p. verdict_by c p) (sym block)
-    ∙ ap (λ b. if b then verdict_by c (block_of store c) else Hash) (sym hash)
-    ∙ ap (λ b. if b then (if is_sha256 c then verdict_by c (block_of store c) else Hash) else Codec) (sym codec)
+module _ (store : Blocks) (c : List ℕ) (codec : has_codec c ≡ true) where
+  -- what of the verdict is left once the codec is good and the hash function known
+  verdict_known : (f : Option HashFunction) → hash_function_of (parts_of c) ≡ f → verdict_by f c (block_of store c) ≡ verdict_of store c
+  verdict_known f known =
+      ap (λ g. verdict_by g c (block_of store c)) (sym known)
+      ∙ ap (λ b. if b then verdict_by (hash_function_of (parts_of c)) c (block_of store c) else Codec) (sym codec)
 
--- no block
-pub verdict_missing : (store : Blocks) (c : List ℕ) → has_codec c ≡ true → is_sha256 c ≡ true → None ≡ position_of store c → Missing ≡ verdict_of store c
-verdict_missing store c codec hash place = verdict_hashed store c None codec hash (none_behind 0 store c place)
+  -- a hash function whose blocks lie in the store
+  module _ (f : HashFunction) (hash : List ℕ → List ℕ) (by : (block : Option (List ℕ)) → verdict_by (Some f) c block ≡ verdict_under hash c block) (in_store : (block : Option (List ℕ)) → bytes_by (Some f) (digest_of c) block ≡ block) (known : hash_function_of (parts_of c) ≡ Some f) where
+    verdict_hashed : (o : Option (List ℕ)) → block_of store c ≡ o → verdict_under hash c o ≡ verdict_of store c
+    verdict_hashed o block = ap (λ p. verdict_under hash c p) (sym block) ∙ sym (by (block_of store c)) ∙ verdict_known (Some f) known
 
--- a block with another digest
-pub verdict_damaged : (store : Blocks) (c b : List ℕ) → has_codec c ≡ true → is_sha256 c ≡ true → block_of store c ≡ Some b → bytes_eq (sha256 b) (digest_of c) ≡ false → Damaged ≡ verdict_of store c
-verdict_damaged store c b codec hash block digest =
-    sym (ap (λ t. if t then (if (codec_of c == 0x71) && is_none (data_at b) then Malformed else Sound) else Damaged) digest)
-    ∙ verdict_hashed store c (Some b) codec hash block
+    -- no block
+    pub verdict_missing : None ≡ position_of store c → Missing ≡ verdict_of store c
+    verdict_missing place = verdict_hashed None (none_behind 0 store c place)
 
-and_true : (b d : Bool) → ((b && true) && d) ≡ (b && d)
-and_true true d = refl
-and_true false d = refl
+    -- a block, by whether it has the digest, and whether it spells no data
+    pub verdict_read : (b : List ℕ) (agreed m : Bool) → block_of store c ≡ Some b → agreed ≡ bytes_eq (hash b) (digest_of c) → is_malformed store c ≡ m → (if agreed then (if m then Malformed else Sound) else Damaged) ≡ verdict_of store c
+    verdict_read b agreed m block digest malformed =
+        let named : bytes_of store c ≡ Some b = ap (λ g. bytes_by g (digest_of c) (block_of store c)) known ∙ in_store (block_of store c) ∙ block in
+        let spelled : is_malformed store c ≡ is_no_data c b = rw named refl in
+        ap (λ a. if a then (if m then Malformed else Sound) else Damaged) digest
+        ∙ ap (λ d. if bytes_eq (hash b) (digest_of c) then (if d then Malformed else Sound) else Damaged) (sym malformed ∙ spelled)
+        ∙ verdict_hashed (Some b) block
 
--- whether the block of a CID with a good hash is malformed
-malformed_at : (store : Blocks) (c b : List ℕ) → is_sha256 c ≡ true → block_of store c ≡ Some b → is_malformed store c ≡ ((codec_of c == 0x71) && is_none (data_at b))
-malformed_at store c b hash block = rw (hash, block) (and_true (codec_of c == 0x71) (is_none (data_at b)))
+  -- no block under one of them
+  pub verdict_absent : (f : HashFunction) → (f ≡ Sha2_256) ⊎ (f ≡ Sha2_512) → hash_function_of (parts_of c) ≡ Some f → None ≡ position_of store c → Missing ≡ verdict_of store c
+  verdict_absent f (inl is) known place = verdict_missing Sha2_256 sha256 (λ block. refl) (λ block. refl) (known ∙ ap Some is) place
+  verdict_absent f (inr is) known place = verdict_missing Sha2_512 sha512 (λ block. refl) (λ block. refl) (known ∙ ap Some is) place
 
-verdict_decoded : (store : Blocks) (c b : List ℕ) (m : Bool) → has_codec c ≡ true → is_sha256 c ≡ true → block_of store c ≡ Some b → bytes_eq (sha256 b) (digest_of c) ≡ true → is_malformed store c ≡ m → (if m then Malformed else Sound) ≡ verdict_of store c
-verdict_decoded store c b m codec hash block digest malformed =
-    ap (λ t. if t then Malformed else Sound) (sym malformed ∙ malformed_at store c b hash block)
-    ∙ sym (ap (λ t. if t then (if (codec_of c == 0x71) && is_none (data_at b) then Malformed else Sound) else Damaged) digest)
-    ∙ verdict_hashed store c (Some b) codec hash block
-
--- a block that spells no data
-pub verdict_malformed : (store : Blocks) (c b : List ℕ) → has_codec c ≡ true → is_sha256 c ≡ true → block_of store c ≡ Some b → bytes_eq (sha256 b) (digest_of c) ≡ true → is_malformed store c ≡ true → Malformed ≡ verdict_of store c
-verdict_malformed store c b = verdict_decoded store c b true
-
--- a block as it should be
-pub verdict_sound : (store : Blocks) (c b : List ℕ) → has_codec c ≡ true → is_sha256 c ≡ true → block_of store c ≡ Some b → bytes_eq (sha256 b) (digest_of c) ≡ true → is_malformed store c ≡ false → Sound ≡ verdict_of store c
-verdict_sound store c b = verdict_decoded store c b false
+  -- a block under one of them, by what the store says of it
+  pub verdict_there : (f : HashFunction) → (f ≡ Sha2_256) ⊎ (f ≡ Sha2_512) → hash_function_of (parts_of c) ≡ Some f → (b : List ℕ) (agreed m : Bool) → block_of store c ≡ Some b → agreed ≡ agrees (c, b) → is_malformed store c ≡ m
+      → (if agreed then (if m then Malformed else Sound) else Damaged) ≡ verdict_of store c
+  verdict_there f (inl is) known b agreed m block told =
+      verdict_read Sha2_256 sha256 (λ block. refl) (λ block. refl) (known ∙ ap Some is) b agreed m block (told ∙ ap (λ g. agrees_by g (digest_of c) b) (known ∙ ap Some is))
+  verdict_there f (inr is) known b agreed m block told =
+      verdict_read Sha2_512 sha512 (λ block. refl) (λ block. refl) (known ∙ ap Some is) b agreed m block (told ∙ ap (λ g. agrees_by g (digest_of c) b) (known ∙ ap Some is))

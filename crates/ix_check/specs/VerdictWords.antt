@@ -1,7 +1,7 @@
 -- The words for verdicts.
 use Rattle.std.specs.Prelude.{ℕ, List, codes}
 use Rattle.ix_check.specs.declared.verdict.Verdict.{Verdict}
-use Rattle.ix_check.specs.declared.verdict.Verdict.TheVariants.{Codec, Hash, Missing, Damaged, Malformed, Sound}
+use Rattle.ix_check.specs.declared.verdict.Verdict.TheVariants.{Codec, Hash, Missing, Damaged, Malformed, Sound, Inline}
 
 abbrev pub verdict_word : Verdict → List ℕ
 verdict_word Codec = codes "codec"
@@ -10,3 +10,4 @@ verdict_word Missing = codes "missing"
 verdict_word Damaged = codes "damaged"
 verdict_word Malformed = codes "malformed"
 verdict_word Sound = codes "sound"
+verdict_word Inline = codes "inline"

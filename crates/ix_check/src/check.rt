@@ -1,14 +1,14 @@
 //! What checks visits.
 
-ghost use Rattle.std.specs.Prelude.{◌≡◌, [], bytes_eq};
-ghost use Rattle.sha2.specs.Sha256.{sha256};
+ghost use Rattle.std.specs.Prelude.{◌≡◌, [], if◌then◌else◌};
+ghost use Rattle.ix_check.specs.declared.verdict.Verdict.TheVariants.{Damaged, Malformed, Sound, Inline};
 ghost use Rattle.ix_check.specs.Verdict.{is_codec, verdict_of};
 ghost use Rattle.ix_check.specs.Visits.{IsVisitOf};
 
 use crate::verdict::Verdict;
+use ix_cid::HashFunction;
 use ix_cid::code::{DAG_CBOR, RAW};
 use ix_walk::{Store, Visit};
-use sha2::{Digest, Sha256};
 use std::alloc::{AllocError, Global};
 use std::marker::Model;
 
@@ -29,7 +29,7 @@ pub trait Check {
         ensures err { OnErr result (checked self.new ≡ checked self.old) };
 }
 
-/// Checks by SHA-256 (FIPS 180-4), and keeps a receipt of each visit that it checked.
+/// Checks by SHA-256 and SHA-512 (FIPS 180-4), and keeps a receipt of each visit that it checked.
 #[derive(Drop)]
 pub struct ShaCheck {
     receipts: Vec<(u32, u32)>,
@@ -77,8 +77,9 @@ impl Check for ShaCheck {
     }
 }
 
-// The first verdict that holds of a visit's CID. Whether the block spells a tree is the visit's
-// own word, so the block is hashed and not decoded again.
+// The first verdict that holds of a visit's CID. Whether its bytes spell a tree is the visit's own word, and whether
+// a block has the digest is the store's, which hashes it at its first visit: so a block is neither decoded nor hashed
+// again, and a CID that holds its bytes is neither.
 fn verdict_of(store: &Store, visit: &Visit) -> Verdict
     requires { IsVisitOf store.now visit.now }
     ensures { result ≡ verdict_of store.now visit.now.cid }
@@ -87,19 +88,16 @@ fn verdict_of(store: &Store, visit: &Visit) -> Verdict
     if !is_codec(parts.codec) {
         return Verdict::Codec;
     }
-    if !parts.has_sha2_256() {
+    let Some(function) = parts.hash_function() else {
         return Verdict::Hash;
-    }
-    let Some(place) = visit.block else {
-        return Verdict::Missing;
     };
-    if !is_digest(parts.digest, store.bytes(place)) {
-        return Verdict::Damaged;
+    match function {
+        HashFunction::Identity => inline_verdict(visit.malformed),
+        HashFunction::Sha2_256 | HashFunction::Sha2_512 => match visit.block {
+            None => Verdict::Missing,
+            Some(place) => block_verdict(store.agrees(place), visit.malformed),
+        },
     }
-    if visit.malformed {
-        return Verdict::Malformed;
-    }
-    Verdict::Sound
 }
 
 // Raw or DAG-CBOR.
@@ -109,9 +107,26 @@ fn is_codec(codec: u64) -> bool
     matches!(codec, RAW | DAG_CBOR)
 }
 
-// Whether the SHA-256 of a block is this digest.
-fn is_digest(digest: &[u8], block: &[u8]) -> bool
-    ensures { result ≡ bytes_eq (sha256 block.now) digest.now }
+// The verdict on a CID that holds its bytes.
+fn inline_verdict(malformed: bool) -> Verdict
+    ensures { result ≡ (if malformed then Malformed else Inline) }
 {
-    Sha256::digest(block).as_slice() == digest
+    if malformed {
+        Verdict::Malformed
+    } else {
+        Verdict::Inline
+    }
+}
+
+// The verdict on a block that is there, by whether its hash is the CID's digest.
+fn block_verdict(agrees: bool, malformed: bool) -> Verdict
+    ensures { result ≡ (if agrees then (if malformed then Malformed else Sound) else Damaged) }
+{
+    if !agrees {
+        Verdict::Damaged
+    } else if malformed {
+        Verdict::Malformed
+    } else {
+        Verdict::Sound
+    }
 }

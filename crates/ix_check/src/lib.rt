@@ -1,8 +1,8 @@
 //! Verdicts on blocks, and what checks visits.
 //!
 //! A check answers the verdict on a visit's CID over a store: whether the codec and the hash are
-//! known, and the block is there and has the digest. It notes each visit that it checked; for want
-//! of memory it answers an error and notes nothing.
+//! known, and the block is there and has the digest, or the CID holds its bytes itself. It notes each
+//! visit that it checked; for want of memory it answers an error and notes nothing.
 //!
 //! ```rust
 //! let mut check = ShaCheck::new(alloc);

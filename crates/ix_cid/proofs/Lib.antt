@@ -14,3 +14,4 @@ pub mod HexText
 pub mod Texts
 pub mod Usual
 pub mod Words
+pub mod Helds

@@ -1,10 +1,11 @@
 -- Examples, computed.
-use Rattle.std.specs.Prelude.{◌≡◌, ℕ, ◌-◌, ◌^◌, List, [], ◌∷◌, ◌++◌, Ok, Err, refl, codes, replicate}
+use Rattle.std.specs.Prelude.{◌≡◌, ℕ, ◌-◌, ◌^◌, List, [], ◌∷◌, ◌++◌, Some, None, Ok, Err, refl, codes, replicate}
 use Rattle.ix_cid.specs.Varint.{varint_at, varint_of}
-use Rattle.ix_cid.specs.Cid.{cid_at, version_of, codec_of, hash_code_of, digest_of}
+use Rattle.ix_cid.specs.Cid.{Parts, cid_at, parts_of, version_of, codec_of, hash_code_of, digest_of, hash_function_of}
 use Rattle.ix_cid.specs.CidText.{base32_of, text_of, cid_of_text}
 use Rattle.ix_cid.specs.declared.fault.VarintFault.TheVariants as varints
 use Rattle.ix_cid.specs.declared.fault.CidFault.TheVariants.{Truncated, Varint, Version, Multibase, Base32, Rest}
+use Rattle.ix_cid.specs.declared.hash_function.HashFunction.TheVariants.{Identity, Sha2_256, Sha2_512}
 
 pub not_minimal : varint_at (129 ∷ 0 ∷ []) ≡ Err varints.NotMinimal
 not_minimal = refl
@@ -105,6 +106,37 @@ pub parts_of_version_1 :
     let c : List ℕ = 1 ∷ 0x71 ∷ 0x12 ∷ 2 ∷ 7 ∷ 8 ∷ [] in
     (version_of c ≡ 1) × (codec_of c ≡ 0x71) × (hash_code_of c ≡ 0x12) × (digest_of c ≡ 7 ∷ 8 ∷ [])
 parts_of_version_1 = (refl, refl, refl, refl)
+
+-- a digest of so many bytes under a hash code
+abbrev under : ℕ → ℕ → Parts
+under hash_code size = record { version = 1; codec = 0x71; hash_code = hash_code; digest = replicate size 7 }
+
+pub sha2_256_of_32_bytes : hash_function_of (under 0x12 32) ≡ Some Sha2_256
+sha2_256_of_32_bytes = refl
+
+pub sha2_256_of_31_bytes : hash_function_of (under 0x12 31) ≡ None
+sha2_256_of_31_bytes = refl
+
+pub sha2_512_of_64_bytes : hash_function_of (under 0x13 64) ≡ Some Sha2_512
+sha2_512_of_64_bytes = refl
+
+pub sha2_512_of_32_bytes : hash_function_of (under 0x13 32) ≡ None
+sha2_512_of_32_bytes = refl
+
+pub identity_of_no_bytes : hash_function_of (under 0x00 0) ≡ Some Identity
+identity_of_no_bytes = refl
+
+pub identity_of_40_bytes : hash_function_of (under 0x00 40) ≡ Some Identity
+identity_of_40_bytes = refl
+
+pub blake2b_256 : hash_function_of (under 0xb220 32) ≡ None
+blake2b_256 = refl
+
+pub hash_function_of_version_0 : hash_function_of (parts_of (0x12 ∷ 0x20 ∷ replicate 32 7)) ≡ Some Sha2_256
+hash_function_of_version_0 = refl
+
+pub hash_function_of_a_raw_identity : hash_function_of (parts_of (1 ∷ 0x55 ∷ 0 ∷ 2 ∷ 7 ∷ 8 ∷ [])) ≡ Some Identity
+hash_function_of_a_raw_identity = refl
 
 -- the CID of the empty block, raw under sha2-256
 abbrev empty_block : List ℕ

@@ -5,5 +5,6 @@ pub mod CidForm
 pub mod CidText
 pub mod FaultWords
 pub mod Gives
+pub mod Held
 pub mod Parts
 pub mod Examples

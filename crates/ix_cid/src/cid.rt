@@ -1,35 +1,40 @@
 //! CIDs, seen as their bytes.
 
-ghost use Rattle.std.specs.Prelude.{◌≡◌, ◌<◌, ◌^◌, Ok, Err, Some, length, IfOk, IfSome, string_bytes};
+ghost use Rattle.std.specs.Prelude.{◌≡◌, drop, Ok, IfOk, string_bytes};
+ghost use Rattle.std.specs.Arc.{arc_value};
 ghost use Rattle.std.specs.Cmp.Lexicographic.{slice_cmp};
 ghost use Rattle.std.specs.Ordering.{nat_cmp};
 
+use crate::cid_ref::CidRef;
 use crate::fault::CidFault;
-use crate::parts::{Parts, numbered_length, split_parts};
+use crate::held::{Held, behind};
+use crate::parts::{Parts, numbered_length, split_cid, whole_parts};
 use crate::{base32, hexadecimal};
-use smallvec::SmallVec;
 use std::alloc::{AllocError, Global};
 use std::cmp::Ordering;
+use std::fmt;
 use std::hash::{Hash, Hasher};
 use std::marker::Model;
+use std::sync::Arc;
 
 /// A CID (multiformats CID), of any version, codec and hash. Contracts see its bytes; equality, order
-/// and hashing are those of the bytes.
-#[derive(Debug, Drop)]
+/// and hashing are those of the bytes. One of at most 36 bytes holds them itself, and a longer one is a share
+/// of bytes in which it stands.
+#[derive(Drop)]
 pub struct Cid {
-    // Those of a CIDv1 under SHA-256 stand in the value itself, without an allocation.
-    bytes: SmallVec<u8, 36>,
+    pub(crate) held: Held,
 }
 
 impl Model for Cid {
     ghost use Rattle.std.specs.Prelude.{List, ℕ};
     ghost use Rattle.ix_cid.specs.Cid.{IsCid};
+    ghost use Rattle.ix_cid.specs.Held.{content};
 
     ghost Value = { List ℕ };
 
-    ghost view = { λ c. c.bytes.items };
+    ghost view = { λ c. content c.held };
 
-    ghost invariant = { λ c. IsCid c.bytes.items };
+    ghost invariant = { λ c. IsCid (content c.held) };
 }
 
 impl Cid {
@@ -39,20 +44,30 @@ impl Cid {
     ghost use Rattle.ix_cid.specs.Parts.{Reads, parts_view};
 
     /// The bytes.
+    #[inline]
     pub fn as_bytes(&self) -> &[u8]
         ensures bytes { result.now ≡ self.now }
         ensures cid { IsCid result.now }
     {
-        self.bytes.as_slice()
+        self.held.bytes()
     }
 
-    /// The same CID once more.
+    /// The same CID where it stands.
+    pub fn by_ref(&self) -> CidRef<'_>
+        ensures same { result ≡ self.now }
+    {
+        let cid = self.as_bytes();
+        match &self.held {
+            Held::Own { .. } => CidRef::of(cid),
+            Held::Within { bytes, start, .. } => CidRef::within(cid, bytes, *start),
+        }
+    }
+
+    /// The same CID once more. One of more than 36 bytes is shared and not copied.
     pub fn try_clone(&self, alloc: Global) -> Result<Cid, AllocError>
         ensures same { IfOk result (λ c. c ≡ self.now) }
     {
-        Ok(Cid {
-            bytes: SmallVec::from_slice(alloc, self.bytes.as_slice())?,
-        })
+        self.by_ref().to_cid(alloc)
     }
 
     /// The CID at the front, and its length. What follows it isn't looked at. The fault
@@ -60,12 +75,23 @@ impl Cid {
     pub fn read(alloc: Global, bytes: &[u8]) -> Result<(Cid, usize), CidFault>
         ensures exact { Gives (λ r. (r.0, r.1)) result (cid_at bytes.now) }
     {
-        let (_, rest) = split_parts(bytes)?;
-        let length = bytes.len() - rest.len();
-        match SmallVec::from_slice(alloc, &bytes[..length]) {
-            Ok(bytes) => Ok((Cid { bytes }, length)),
-            Err(_) => Err(CidFault::Memory),
-        }
+        let cid = split_cid(bytes)?;
+        let held = Held::copy(alloc, cid)?;
+        Ok((Cid { held }, cid.len()))
+    }
+
+    /// The CID that stands in shared bytes from a place on, and its length, as `read` has them of the bytes from
+    /// there on. One of more than 36 bytes is shared and not copied.
+    pub fn read_within(
+        alloc: Global,
+        bytes: &Arc<Vec<u8>>,
+        start: usize,
+    ) -> Result<(Cid, usize), CidFault>
+        ensures exact { Gives (λ r. (r.0, r.1)) result (cid_at (drop start (arc_value bytes.now).items)) }
+    {
+        let cid = split_cid(behind(bytes.as_slice(), start))?;
+        let held = Held::within(alloc, cid, bytes, start)?;
+        Ok((Cid { held }, cid.len()))
     }
 
     /// The length of the CID at the front, which is not copied. The faults are those of `read` but for
@@ -73,18 +99,14 @@ impl Cid {
     pub fn length_at(bytes: &[u8]) -> Result<usize, CidFault>
         ensures exact { Reads (λ n. n) result (cid_at bytes.now and_then (λ r. Ok r.1)) }
     {
-        let (_, rest) = split_parts(bytes)?;
-        Ok(bytes.len() - rest.len())
+        Ok(split_cid(bytes)?.len())
     }
 
     /// All parts, from one reading of the bytes.
     pub fn parts(&self) -> Parts<'_>
         ensures { parts_view result ≡ parts_of self.now }
     {
-        match split_parts(self.bytes.as_slice()) {
-            Ok((parts, _)) => parts,
-            Err(_) => unreachable!(),
-        }
+        whole_parts(self.as_bytes())
     }
 
     /// The version, 0 or 1.
@@ -122,10 +144,10 @@ impl Cid {
         let mut text = String::new(alloc);
         if self.version() == 0 {
             text.push_str("v0-")?;
-            hexadecimal::append(alloc, &mut text, self.bytes.as_slice())?;
+            hexadecimal::append(alloc, &mut text, self.as_bytes())?;
         } else {
             text.push('b')?;
-            base32::append(&mut text, self.bytes.as_slice())?;
+            base32::append(&mut text, self.as_bytes())?;
         }
         Ok(text)
     }
@@ -141,10 +163,14 @@ impl Cid {
         if numbered_length(bytes.as_slice())? < bytes.len() {
             return Err(CidFault::Rest);
         }
-        match SmallVec::from_slice(alloc, bytes.as_slice()) {
-            Ok(bytes) => Ok(Cid { bytes }),
-            Err(_) => Err(CidFault::Memory),
-        }
+        let held = Held::keep(alloc, bytes)?;
+        Ok(Cid { held })
+    }
+}
+
+impl fmt::Debug for Cid {
+    fn fmt<W: fmt::Write>(&self, f: &mut fmt::Formatter<W>) -> fmt::Result {
+        self.as_bytes().fmt(f)
     }
 }
 
@@ -158,7 +184,7 @@ impl PartialEq for Cid {
     ghost laws = { Prim.search (comparing, rules) };
 
     fn eq(&self, other: &Cid) -> bool {
-        self.bytes.as_slice() == other.bytes.as_slice()
+        self.as_bytes() == other.as_bytes()
     }
 }
 
@@ -210,7 +236,7 @@ impl Ord for Cid {
     ghost matches_eq = { Prim.search (comparing, rules) };
 
     fn cmp(&self, other: &Cid) -> Ordering {
-        order_of_bytes(self.bytes.as_slice(), other.bytes.as_slice())
+        order_of_bytes(self.as_bytes(), other.as_bytes())
     }
 }
 
@@ -240,6 +266,6 @@ impl Hash for Cid {
     ghost respects_eq = { Prim.search (hashing, rules) };
 
     fn hash<H: Hasher>(&self, state: &mut H) {
-        self.bytes.as_slice().hash(state);
+        self.as_bytes().hash(state);
     }
 }

@@ -2,7 +2,8 @@
 //!
 //! A CID is read exactly where the front of the bytes is one, and a refusal is the first fault; no
 //! CID is the beginning of another. A CIDv1 and its text in base32 give one another. Appending
-//! leaves everything as it was where memory runs out.
+//! leaves everything as it was where memory runs out. A long CID is a share of bytes in which it
+//! stands, and so is each copy of it.
 //!
 //! ```rust
 //! let text = "bafkreif2pall7dybz7vecqka3zo24irdwabwdi4wc55jznaq75q7eaavvu";
@@ -14,8 +15,11 @@
 
 mod base32;
 mod cid;
+mod cid_ref;
 pub mod code;
 mod fault;
+mod hash_function;
+mod held;
 mod hexadecimal;
 pub mod law;
 mod parts;
@@ -23,6 +27,8 @@ pub mod text_law;
 mod varint;
 
 pub use cid::Cid;
+pub use cid_ref::CidRef;
 pub use fault::{CidFault, VarintFault};
+pub use hash_function::HashFunction;
 pub use parts::Parts;
 pub use varint::{push_varint, read_varint};

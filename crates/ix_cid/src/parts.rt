@@ -1,11 +1,14 @@
 //! The parts of the CID at the front of some bytes, read in place.
 
-ghost use Rattle.std.specs.Prelude.{◌≡◌, ◌-◌, Ok, Some, length, IfSome};
-ghost use Rattle.ix_cid.specs.Cid.{◌>>=◌ as ◌and_then◌, number_at, bytes_at, version_0_at, version_1_at, numbered_at, parts_at, has_sha2_256};
+ghost use Rattle.std.specs.Prelude.{◌≡◌, ◌-◌, Ok, length, IfOk, IfSome};
+ghost use Rattle.ix_cid.specs.Cid.{◌>>=◌ as ◌and_then◌, number_at, bytes_at, version_0_at, version_1_at, numbered_at, parts_at, cid_at, parts_of, hash_function_of, IsCid};
 ghost use Rattle.ix_cid.specs.Parts.{Reads, parts_view};
 
-use crate::code::{DAG_CBOR, DAG_PB, RAW, SHA2_256, SHA2_256_LENGTH};
+use crate::code::{
+    DAG_CBOR, DAG_PB, IDENTITY, RAW, SHA2_256, SHA2_256_LENGTH, SHA2_512, SHA2_512_LENGTH,
+};
 use crate::fault::{CidFault, VarintFault};
+use crate::hash_function::HashFunction;
 use crate::varint::read_varint;
 
 // The bytes that a CIDv0 begins with: sha2-256, and 32 digest bytes.
@@ -33,11 +36,19 @@ pub struct Parts<'a> {
 }
 
 impl Parts<'_> {
-    /// Whether the digest is one of SHA-256 (FIPS 180-4): its code, and 32 bytes.
-    pub fn has_sha2_256(&self) -> bool
-        ensures { result ≡ has_sha2_256 (parts_view self.now) }
+    /// In which way the CID names its bytes, where that is one of three.
+    pub fn hash_function(&self) -> Option<HashFunction>
+        ensures { result ≡ hash_function_of (parts_view self.now) }
     {
-        self.hash_code == SHA2_256 && self.digest.len() == SHA2_256_LENGTH
+        if self.hash_code == IDENTITY {
+            Some(HashFunction::Identity)
+        } else if self.hash_code == SHA2_256 && self.digest.len() == SHA2_256_LENGTH {
+            Some(HashFunction::Sha2_256)
+        } else if self.hash_code == SHA2_512 && self.digest.len() == SHA2_512_LENGTH {
+            Some(HashFunction::Sha2_512)
+        } else {
+            None
+        }
     }
 }
 
@@ -140,6 +151,26 @@ pub fn split_parts(bytes: &[u8]) -> Result<(Parts<'_>, &[u8]), CidFault>
         split_version_0(bytes)
     } else {
         split_numbered(bytes)
+    }
+}
+
+/// The bytes of the CID at the front.
+pub fn split_cid(bytes: &[u8]) -> Result<&[u8], CidFault>
+    ensures exact { Reads (λ c. (c.now, length c.now)) result (cid_at bytes.now) }
+    ensures cid { IfOk result (λ c. IsCid c.now) }
+{
+    let (_, rest) = split_parts(bytes)?;
+    Ok(&bytes[..bytes.len() - rest.len()])
+}
+
+/// The parts of a CID.
+pub fn whole_parts(cid: &[u8]) -> Parts<'_>
+    requires cid { IsCid cid.now }
+    ensures { parts_view result ≡ parts_of cid.now }
+{
+    match split_parts(cid) {
+        Ok((parts, _)) => parts,
+        Err(_) => unreachable!(),
     }
 }
 

@@ -25,6 +25,7 @@ use ix_run::{RunFault, RunOut, load, printed_root, root_of_text, run, run_watche
 use ix_walk::{Job, Store};
 use std::fs::File;
 use std::io::{BufWriter, Write};
+use std::mem::ManuallyDrop;
 use std::process::ExitCode;
 use std::rt::{Env, Files};
 use std::sync::{Arc, Wait};
@@ -110,8 +111,15 @@ fn export_jobs<'a, R: AllocGlobal + Eprint + Files<File = File> + Print + Thread
     let inputs = ["blocks", "jobs"].map(|name| words.get_str(name).unwrap_or(""));
     let (store, jobs) = load_files(rt, inputs)?;
     let status = export_loaded(rt, words, inputs, &store, &jobs)?;
+    leave_to_the_system(store);
     drop(standing);
     Ok(status)
+}
+
+// Doesn't free the blocks, since nothing but the status is left to do: the system takes all memory back at the end of the
+// process, in less time than a million blocks take to be freed.
+fn leave_to_the_system(store: Arc<Store>) {
+    let _left = unsafe { ManuallyDrop::new_unchecked(store) };
 }
 
 // What the file of blocks and the job file hold.

@@ -10,8 +10,9 @@ const VERSION: &str = "1.0.0, proved in Rattle's logic dac8208d650f15bf";
 const ABOUT: &str = "Cuts subgraphs out of CARv1 files";
 
 const HELP: &str =
-    "Exported are blocks of raw and DAG-CBOR under SHA-256; links of other codecs and hashes are\n\
-told as skipped. UnixFS (codec dag-pb) isn't read.";
+    "Exported are blocks of the codecs raw and DAG-CBOR under SHA-256 and SHA-512. Links inside an\n\
+identity CID, which holds its bytes itself, are followed. A link of another codec or hash is\n\
+reported as skipped. UnixFS (codec dag-pb) isn't read.";
 
 const ROOT_ABOUT: &str =
     "Writes the archive of one root: a CAR file on standard input, the archive on standard output, both in hexadecimal";
@@ -41,8 +42,9 @@ DIR/NAME.car, in place of a file that is there, where its job ended with done or
 DIR/NAME.car stays as it was. DIR must be there. As many files are open at once as there are jobs.\n\
 The report on standard output has a line for each job, how it ended (done, limit, memory, write,\n\
 start) and what was counted, then a line for each link that was skipped (codec, hash, missing,\n\
-damaged, malformed), and at last the totals. Codecs other than raw and DAG-CBOR, and hashes other\n\
-than SHA-256, are skipped; UnixFS isn't read.\n\
+damaged, malformed), and at last the totals. Skipped are links of other codecs than raw and DAG-CBOR\n\
+and of other hashes than SHA-256, SHA-512 and identity; UnixFS isn't read. An identity CID holds its\n\
+bytes itself: links inside it are followed, and it has no block in the archive.\n\
 \n\
 With --progress a line goes to standard error when the archive of a job is closed and after each\n\
 100000 visits: how many jobs of all are closed, how many visits were delivered, and how many bytes\n\

@@ -103,12 +103,13 @@ pub fn cid_of(alloc: Global, text: &str) -> Result<Cid, Fail> {
     Ok(cid)
 }
 
-/// The store of blocks under their CIDs.
+/// The store of blocks under their CIDs, which keeps what is found of them.
 pub fn store_of(alloc: Global, blocks: &[(&str, &str)]) -> Result<Store, Fail> {
     let mut store = Store::new(alloc);
     for (cid, block) in blocks {
         store.add(cid_of(alloc, cid)?, hex::decode(alloc, *block)?)?;
     }
+    store.settle()?;
     Ok(store)
 }
 

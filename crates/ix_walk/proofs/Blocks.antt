@@ -1,11 +1,19 @@
 -- Blocks by their places, and what they spell.
-use Rattle.std.proofs.Common.{◌≡◌, ℕ, suc, ◌+◌, ◌-◌, ◌<◌, ◌≤◌, Bool, true, false, ◌&&◌, List, [], ◌∷◌, length, map, refl, sym, ◌∙◌, ap, arith}
-use Rattle.std.specs.Prelude.{Option, Some, None, Result, Ok, Err, bytes_eq, slice_get, if◌then◌else◌}
+use Rattle.std.proofs.Common.{◌≡◌, ◌⊎◌, inl, inr, ⊎_elim, ℕ, suc, ◌+◌, ◌-◌, ◌<◌, ◌≤◌, Bool, true, false, List, [], ◌∷◌, length, map, get_or, option_map, refl, sym, ◌∙◌, ap, arith}
+use Rattle.std.specs.Prelude.{Option, Some, None, Result, Ok, Err, ◌==◌, bytes_eq, slice_get, is_none, if◌then◌else◌}
+use Rattle.std.specs.Result.{is_err}
+use Rattle.std.proofs.lemmas.Bool.{false≢true}
+use Rattle.std.proofs.lemmas.Option.{same_Some, slice_get-map, slice_get-get_or}
+use Rattle.ix_cid.specs.Cid.{parts_of, codec_of, digest_of, hash_function_of}
+use Rattle.ix_cid.specs.declared.hash_function.HashFunction.{HashFunction}
+use Rattle.ix_cid.specs.declared.hash_function.HashFunction.TheVariants.{Sha2_256, Sha2_512}
+use Rattle.ix_cbor.specs.declared.fault.CborFault.{CborFault}
 use Rattle.ix_cbor.specs.Data.{Data}
-use Rattle.ix_cbor.specs.Reading.{Fault, ◌>>=◌, item_at, nothing_after, decoded}
-use Rattle.ix_cbor.specs.Fronts.{judged}
+use Rattle.ix_cbor.specs.Reading.{Fault, ◌>>=◌, item_at, nothing_after, decoded, data_at}
+use Rattle.ix_cbor.specs.Fronts.{judged, Answers}
 use Rattle.ix_cbor.proofs.Steps.{bind_ok, ok_same, ok_data}
-use Rattle.ix_walk.specs.Store.{Blocks, block_of, position_behind, position_of, is_walkable, value_of}
+use Rattle.ix_walk.specs.Store.{Blocks, block_of, position_behind, position_of, bytes_by, bytes_of, is_dag_cbor, value_of}
+use Rattle.ix_walk.specs.Mark.{is_faulty}
 use Rattle.ix_walk.specs.Visits.{is_malformed}
 use Rattle.ix_walk.specs.Descent.{IsItem}
 use Rattle.ix_walk.specs.Arriving.{IsReading}
@@ -38,37 +46,68 @@ block_at place store c b e g =
     let z : place - 0 ≡ place = omega arith in
     h.2 ∙ ap (λ (k : ℕ). slice_get (map (λ x. x.1) store) k) z ∙ g
 
-abbrev nothing : Option Data
-nothing = None
+-- the bytes of a CID, by its hash function
+bytes_under : (store : Blocks) (c : List ℕ) (h : Option HashFunction) → h ≡ hash_function_of (parts_of c) → bytes_by h (digest_of c) (block_of store c) ≡ bytes_of store c
+bytes_under store c h e = ap (λ f. bytes_by f (digest_of c) (block_of store c)) e
 
-no_data : (w : Bool) → ((if w then nothing else None) ≡ None) × (false ≡ (w && false))
-no_data true = (refl, refl)
-no_data false = (refl, refl)
+-- those of a block
+bytes_stored : (store : Blocks) (c : List ℕ) (h : HashFunction) → (h ≡ Sha2_256) ⊎ (h ≡ Sha2_512) → Some h ≡ hash_function_of (parts_of c) → block_of store c ≡ bytes_of store c
+bytes_stored store c h (inl is) e = bytes_under store c (Some Sha2_256) (ap (λ g. Some g) (sym is) ∙ e)
+bytes_stored store c h (inr is) e = bytes_under store c (Some Sha2_512) (ap (λ g. Some g) (sym is) ∙ e)
 
 -- no block
-pub read_absent : (store : Blocks) (c : List ℕ) → None ≡ position_of store c → IsReading store c None false
-read_absent store c e = let k : block_of store c ≡ None = none_behind 0 store c e in rw k (no_data (is_walkable c))
+pub bytes_absent : (store : Blocks) (c : List ℕ) (h : HashFunction) → (h ≡ Sha2_256) ⊎ (h ≡ Sha2_512) → Some h ≡ hash_function_of (parts_of c) → None ≡ position_of store c → None ≡ bytes_of store c
+bytes_absent store c h stored e absent = sym (none_behind 0 store c absent) ∙ bytes_stored store c h stored e
 
--- a block that spells data
-spelled : (store : Blocks) (c b : List ℕ) (d : Data) → is_walkable c ≡ true → block_of store c ≡ Some b → decoded b ≡ Ok d → (value_of store c ≡ Some d) × (false ≡ is_malformed store c)
-spelled store c b d w k g = rw (w, k, g) (refl, refl)
+-- a block
+pub bytes_at : (store : Blocks) (c : List ℕ) (h : HashFunction) (place : ℕ) (b : List ℕ) → (h ≡ Sha2_256) ⊎ (h ≡ Sha2_512) → Some h ≡ hash_function_of (parts_of c) → Some place ≡ position_of store c
+    → slice_get (map (λ e. e.1) store) place ≡ Some b → Some b ≡ bytes_of store c
+bytes_at store c h place b stored e there g = sym (block_at place store c b there g) ∙ bytes_stored store c h stored e
 
-pub read_value : (store : Blocks) (c b : List ℕ) → is_walkable c ≡ true → block_of store c ≡ Some b → judged b ≡ Ok tt → IsReading store c (Some b) false
-read_value store c b w k e =
-    let d = bind_ok (decoded b) (λ d. Ok tt) tt e in
-    let v = spelled store c b d.0 w k d.1 in
-    ((d.0, v.0, d.1), v.1)
+-- the codec
+pub dag_cbor_is : (c : List ℕ) (codec : ℕ) → codec ≡ codec_of c → codec ≡ 0x71 → is_dag_cbor c ≡ true
+dag_cbor_is c codec is e = ap (λ (n : ℕ). n == 0x71) (sym is ∙ e)
 
--- a block that spells none
-faulty : (store : Blocks) (c b : List ℕ) (f : Fault) → is_walkable c ≡ true → block_of store c ≡ Some b → decoded b ≡ Err f → (value_of store c ≡ None) × (true ≡ is_malformed store c)
-faulty store c b f w k g = rw (w, k, g) (refl, refl)
+-- bytes are faulty where they don't decode
+faulty_not : (b : List ℕ) (d : Data) → decoded b ≡ Ok d → is_none (data_at b) ≡ false
+faulty_not b d g = rw g refl
+
+faulty_yes : (b : List ℕ) (f : Fault) → decoded b ≡ Err f → is_none (data_at b) ≡ true
+faulty_yes b f g = rw g refl
+
+either_way : {X Y : Type 0} (r : Result X Y) → ((x : X) × (r ≡ Ok x)) ⊎ ((y : Y) × (r ≡ Err y))
+either_way (Ok x) = inl (x, refl)
+either_way (Err y) = inr (y, refl)
+
+decodes : (b : List ℕ) → is_none (data_at b) ≡ false → (d : Data) × (decoded b ≡ Ok d)
+decodes b e = ⊎_elim (λ h. h) (λ h. absurd (false≢true (sym e ∙ faulty_yes b h.0 h.1))) (either_way (decoded b))
 
 unspelled : (r : Result Data Fault) (f : Fault) → ◌>>=◌ {B = Unit {0}} r (λ d. Ok tt) ≡ Err f → (g : Fault) × (r ≡ Err g)
 unspelled (Ok d) f e = absurd cc
 unspelled (Err g) f e = (g, refl)
 
-pub read_fault : (store : Blocks) (c b : List ℕ) (f : Fault) → is_walkable c ≡ true → block_of store c ≡ Some b → judged b ≡ Err f → IsReading store c None true
-read_fault store c b f w k e = let g = unspelled (decoded b) f e in faulty store c b g.0 w k g.1
+-- what the check of bytes says
+pub fault_is : (b : List ℕ) (r : Result (Unit {0}) CborFault) → Answers (λ _. tt) b r (judged b) → is_err r ≡ is_none (data_at b)
+fault_is b (Ok t) h = let d = bind_ok (decoded b) (λ d. Ok tt) tt h in sym (faulty_not b d.0 d.1)
+fault_is b (Err e) h = let g = unspelled (decoded b) _ h.1 in sym (faulty_yes b g.0 g.1)
+
+-- whether the block at a place is faulty
+pub fault_of : (store : Blocks) (place : ℕ) (b : List ℕ) (r : Bool) → place < length store → slice_get (map (λ e. e.1) store) place ≡ Some b → slice_get (map is_faulty store) place ≡ Some r → r ≡ is_none (data_at b)
+fault_of store place b r within at asked =
+    let p : List ℕ × List ℕ = get_or store place ([], []) in
+    let there : slice_get store place ≡ Some p = slice_get-get_or store place ([], []) within in
+    let same : p.1 ≡ b = same_Some p.1 b (ap (option_map (λ (e : List ℕ × List ℕ). e.1)) (sym there) ∙ sym (slice_get-map (λ (e : List ℕ × List ℕ). e.1) store place) ∙ at) in
+    same_Some r (is_faulty p) (sym asked ∙ slice_get-map is_faulty store place ∙ ap (option_map is_faulty) there) ∙ ap (λ (l : List ℕ). is_none (data_at l)) same
+
+-- bytes that spell data
+spelled : (store : Blocks) (c b : List ℕ) (d : Data) → is_dag_cbor c ≡ true → bytes_of store c ≡ Some b → decoded b ≡ Ok d → (value_of store c ≡ Some d) × (false ≡ is_malformed store c)
+spelled store c b d w k g = rw (w, k, g) (refl, refl)
+
+pub read_value : (store : Blocks) (c b : List ℕ) → is_dag_cbor c ≡ true → bytes_of store c ≡ Some b → is_none (data_at b) ≡ false → IsReading store c (Some b) false
+read_value store c b w k e =
+    let d = decodes b e in
+    let v = spelled store c b d.0 w k d.1 in
+    ((d.0, v.0, d.1), v.1)
 
 -- ---- a block's root
 
@@ -80,5 +119,5 @@ item_of_block b d e = let x = bind_ok (item_at 512 b) nothing_after d e in x.1 �
   all (y, (l ∷ ls)) d e = absurd cc
 
 -- a block that decodes is an item
-pub checked_item : (b : List ℕ) → judged b ≡ Ok tt → IsItem b
-checked_item b e = let d = bind_ok (decoded b) (λ d. Ok tt) tt e in ((d.0, []), item_of_block b d.0 d.1)
+pub checked_item : (b : List ℕ) → is_none (data_at b) ≡ false → IsItem b
+checked_item b e = let d = decodes b e in ((d.0, []), item_of_block b d.0 d.1)

@@ -1,10 +1,11 @@
 -- Slots with one more taken, look-ups through them, and an index of one pair more.
-use Rattle.std.proofs.Common.{◌≡◌, ◌⊎◌, ℕ, zero, suc, ◌+◌, ◌-◌, ◌<◌, ◌≤◌, ◌%◌, true, false, cond, ltb, List, [], ◌∷◌, ◌++◌, length, take, drop, get_or, Some, None, refl, sym, ap, subst, ◌∙◌, zero-add, inl, inr, ⊎_elim, arith, length-drop, length-take, length-set}
+use Rattle.std.proofs.Common.{◌≡◌, ◌⊎◌, ℕ, zero, suc, ◌+◌, ◌-◌, ◌<◌, ◌≤◌, ◌^◌, true, false, cond, ltb, List, [], ◌∷◌, ◌++◌, length, take, drop, get_or, Some, None, refl, sym, ap, subst, ◌∙◌, zero-add, inl, inr, ⊎_elim, arith, length-drop, length-take, length-set}
 use Rattle.std.specs.Prelude.{Option, bytes_eq, not}
 use Rattle.std.proofs.Math.Dec.{eqb}
 use Rattle.std.specs.Option.{is_some, unwrap_or}
 use Rattle.std.specs.BTreeMap.{BTreeMap, get}
 use Rattle.std.specs.Cmp.Lexicographic.{slice_cmp}
+use Rattle.std.specs.Int.Bits.{bit_and}
 use Rattle.std.specs.Ordering.{nat_cmp}
 use Rattle.std.proofs.lemmas.Bool.{cases_Bool, ltb-true, ltb-false, false≢true, eq-eqb, ne_eqb}
 use Rattle.std.proofs.lemmas.Slice.Eq.{bytes_eq-Decides}
@@ -12,17 +13,29 @@ use Rattle.std.proofs.Math.ListN.{set, drop_of_length-le}
 use Rattle.std.proofs.lemmas.Option.{none-some}
 use Rattle.std.proofs.lemmas.List.{drop-set-lt, drop-set-add, get_or-take, get_or-drop, drop_more, take_all}
 use Rattle.ix_walk.specs.Store.{Blocks, has_cid, position_of}
-use Rattle.ix_walk.specs.Index.{tail_of, first_of, window_of, Leads, AreTaken, IsFirstFree, place_behind, AreLedTo, IsFreeSlot, IsIndexed}
+use Rattle.ix_walk.specs.Index.{tail_of, mark_of, first_of, window_of, IsFree, IsTaken, Has, HasPlace, IsLarge, Leads, Comes, AreTaken, IsFirstFree, place_behind, AreLedTo, IsFreeSlot, GoesBehind, IsIndexed}
 use Rattle.ix_walk.specs.declared.index.Slot.{Slot}
-use Rattle.ix_walk.specs.declared.index.Slot.TheVariants.{Free, Taken}
 use Rattle.ix_walk.specs.declared.index.Index.{Index}
 use Rattle.ix_walk.proofs.Blocks.{place_within}
 use Rattle.ix_walk.proofs.Stores.{is_some-position, distinct-push, position-push}
 
+-- a free slot
+abbrev pub free : Slot
+free = record { mark = 0; end = 0 }
+
+-- a slot without a place is free, and one with a place is taken
+pub free-by : (x : Slot) (o : Option ℕ) → HasPlace x o → is_some o ≡ false → IsFree x
+free-by x None h none = h
+free-by x (Some p) h none = absurd (false≢true (sym none))
+
+pub taken-by : (x : Slot) (o : Option ℕ) → HasPlace x o → is_some o ≡ true → IsTaken x
+taken-by x None h some = absurd (false≢true some)
+taken-by x (Some p) h some = omega (arith, h)
+
 -- what a look-up through slots has passed: n of them, all taken, none of them what it looks for
-pub record Passed (slots : List Slot) (n : ℕ) (behind : Option ℕ) (tail : ℕ) (position : Option ℕ) : Type 0 where
+pub record Passed (slots : List Slot) (n : ℕ) (behind : Option ℕ) (mark : ℕ) (position : Option ℕ) : Type 0 where
   pub taken : AreTaken (take n slots)
-  pub on : (place : ℕ) → position ≡ Some place → Leads (drop n slots) behind tail place
+  pub on : (place : ℕ) → position ≡ Some place → (IsLarge place × (behind ≡ Some place)) ⊎ Leads (drop n slots) behind mark place
 
 -- a front of slots with one written is the front with that one written
 take-set : (n : ℕ) (l : List Slot) (i : ℕ) (x : Slot) → take n (set l i x) ≡ set (take n l) i x
@@ -32,111 +45,102 @@ take-set (suc n) (y ∷ l) zero x = refl
 take-set (suc n) (y ∷ l) (suc i) x = ap (λ (r : List Slot). y ∷ r) (take-set n l i x)
 
 -- what is free is free in a front, or behind it
-free-front : (n : ℕ) (l : List Slot) (i : ℕ) → get_or l i Free ≡ Free → get_or (take n l) i Free ≡ Free
+free-front : (n : ℕ) (l : List Slot) (i : ℕ) → IsFree (get_or l i free) → IsFree (get_or (take n l) i free)
 free-front zero l i h = refl
 free-front (suc n) [] i h = refl
 free-front (suc n) (y ∷ l) zero h = h
 free-front (suc n) (y ∷ l) (suc i) h = free-front n l i h
 
 -- a look-up passes no free slot, so a write to one keeps where it comes
-leads-set : (l : List Slot) (i : ℕ) (x : Slot) (b : Option ℕ) (t p : ℕ) → get_or l i Free ≡ Free → Leads l b t p → Leads (set l i x) b t p
-leads-set [] i x b t p free h = h
-leads-set (Free ∷ l) i x b t p free h = absurd h
-leads-set (Taken a q ∷ l) zero x b t p free h = absurd (let clash : ⊥ = cc in clash)
-leads-set (Taken a q ∷ l) (suc i) x b t p free h = ⊎_elim (λ here. inl here) (λ later. inr (leads-set l i x b t p free later)) h
+leads-set : (l : List Slot) (i : ℕ) (x : Slot) (b : Option ℕ) (m p : ℕ) → IsFree (get_or l i free) → Leads l b m p → Leads (set l i x) b m p
+leads-set [] i x b m p vacant h = h
+leads-set (y ∷ l) zero x b m p vacant h = absurd (omega (arith, vacant, h.0))
+leads-set (y ∷ l) (suc i) x b m p vacant h = (h.0, ⊎_elim (λ here. inl here) (λ later. inr (leads-set l i x b m p vacant later)) h.1)
 
 -- a look-up comes to what was written to the first free slot
-leads-first : (l : List Slot) (n : ℕ) (b : Option ℕ) (t p : ℕ) → IsFirstFree l n → Leads (set l n (Taken t p)) b t p
-leads-first [] n b t p h = absurd h
-leads-first (Free ∷ l) zero b t p h = inl (refl, refl)
-leads-first (Free ∷ l) (suc n) b t p h = absurd h
-leads-first (Taken a q ∷ l) zero b t p h = absurd h
-leads-first (Taken a q ∷ l) (suc n) b t p h = inr (leads-first l n b t p h)
+leads-first : (l : List Slot) (n : ℕ) (x : Slot) (b : Option ℕ) (m p : ℕ) → Has x m p → IsFirstFree l n → Leads (set l n x) b m p
+leads-first [] n x b m p is h = absurd h
+leads-first (y ∷ l) zero x b m p is h = (omega (arith, is.1), inl is)
+leads-first (y ∷ l) (suc n) x b m p is h = (h.0, inr (leads-first l n x b m p is h.1))
 
 -- where no slot is free it comes to the tree
-leads-past : (l : List Slot) (t p : ℕ) → AreTaken l → Leads l (Some p) t p
-leads-past [] t p h = refl
-leads-past (Free ∷ l) t p h = absurd h
-leads-past (Taken a q ∷ l) t p h = inr (leads-past l t p h)
+leads-past : (l : List Slot) (m p : ℕ) → AreTaken l → Leads l (Some p) m p
+leads-past [] m p h = refl
+leads-past (y ∷ l) m p h = (h.0, inr (leads-past l m p h.1))
 
 -- the first free slot is one of them
 first-within : (l : List Slot) (n : ℕ) → IsFirstFree l n → n < length l
 first-within [] n h = absurd h
-first-within (Free ∷ l) zero h = omega arith
-first-within (Free ∷ l) (suc n) h = absurd h
-first-within (Taken a q ∷ l) zero h = absurd h
-first-within (Taken a q ∷ l) (suc n) h = omega (arith, first-within l n h)
+first-within (y ∷ l) zero h = omega arith
+first-within (y ∷ l) (suc n) h = omega (arith, first-within l n h.1)
 
 -- and it is free
-first-free : (l : List Slot) (n : ℕ) → IsFirstFree l n → get_or l n Free ≡ Free
+first-free : (l : List Slot) (n : ℕ) → IsFirstFree l n → IsFree (get_or l n free)
 first-free [] n h = absurd h
-first-free (Free ∷ l) zero h = refl
-first-free (Free ∷ l) (suc n) h = absurd h
-first-free (Taken a q ∷ l) zero h = absurd h
-first-free (Taken a q ∷ l) (suc n) h = first-free l n h
+first-free (y ∷ l) zero h = h
+first-free (y ∷ l) (suc n) h = first-free l n h.1
 
 -- behind slots that are taken a free one is the first
-pub first-from : (l : List Slot) (n : ℕ) → AreTaken (take n l) → n < length l → get_or l n Free ≡ Free → IsFirstFree l n
-first-from [] n taken within free = absurd (omega arith)
-first-from (Free ∷ l) zero taken within free = tt
-first-from (Free ∷ l) (suc n) taken within free = absurd taken
-first-from (Taken a q ∷ l) zero taken within free = absurd (let clash : ⊥ = cc in clash)
-first-from (Taken a q ∷ l) (suc n) taken within free = first-from l n taken (omega arith) free
+pub first-from : (l : List Slot) (n : ℕ) → AreTaken (take n l) → n < length l → IsFree (get_or l n free) → IsFirstFree l n
+first-from [] n taken within vacant = absurd (omega arith)
+first-from (y ∷ l) zero taken within vacant = vacant
+first-from (y ∷ l) (suc n) taken within vacant = (taken.0, first-from l n taken.1 (omega arith) vacant)
 
 -- one slot more that is taken
-pub taken-more : (l : List Slot) (n t p : ℕ) → AreTaken (take n l) → n < length l → get_or l n Free ≡ Taken t p → AreTaken (take (suc n) l)
-taken-more [] n t p taken within at = tt
-taken-more (Free ∷ l) zero t p taken within at = absurd (let clash : ⊥ = cc in clash)
-taken-more (Free ∷ l) (suc n) t p taken within at = absurd taken
-taken-more (Taken a q ∷ l) zero t p taken within at = tt
-taken-more (Taken a q ∷ l) (suc n) t p taken within at = taken-more l n t p taken (omega arith) at
+pub taken-more : (l : List Slot) (n : ℕ) → AreTaken (take n l) → n < length l → IsTaken (get_or l n free) → AreTaken (take (suc n) l)
+taken-more [] n taken within at = tt
+taken-more (y ∷ l) zero taken within at = (at, tt)
+taken-more (y ∷ l) (suc n) taken within at = (taken.0, taken-more l n taken.1 (omega arith) at)
 
 -- a write to a free slot keeps where look-ups through a stretch come
-stretch-set : (n f : ℕ) (l : List Slot) (at : ℕ) (x : Slot) (b : Option ℕ) (t p : ℕ) → get_or l at Free ≡ Free → Leads (take n (drop f l)) b t p → Leads (take n (drop f (set l at x))) b t p
-stretch-set n f l at x b t p free h =
+stretch-set : (n f : ℕ) (l : List Slot) (at : ℕ) (x : Slot) (b : Option ℕ) (m p : ℕ) → IsFree (get_or l at free) → Leads (take n (drop f l)) b m p → Leads (take n (drop f (set l at x))) b m p
+stretch-set n f l at x b m p vacant h =
     ⊎_elim
-    (λ before. subst (λ (r : List Slot). Leads (take n r) b t p) (sym (drop-set-lt f l at x (ltb-true at f before))) h)
+    (λ before. subst (λ (r : List Slot). Leads (take n r) b m p) (sym (drop-set-lt f l at x (ltb-true at f before))) h)
     (λ from.
     let le : f ≤ at = ltb-false at f from in
     let is : f + (at - f) ≡ at = omega arith in
     let same : drop f (set l at x) ≡ set (drop f l) (at - f) x = ap (λ (k : ℕ). drop f (set l k x)) (sym is) ∙ drop-set-add f l (at - f) x in
-    let there : get_or (drop f l) (at - f) Free ≡ Free = get_or-drop f l (at - f) Free ∙ ap (λ (k : ℕ). get_or l k Free) is ∙ free in
-    subst (λ (r : List Slot). Leads r b t p) (sym (ap (λ (r : List Slot). take n r) same ∙ take-set n (drop f l) (at - f) x)) (leads-set (take n (drop f l)) (at - f) x b t p (free-front n (drop f l) (at - f) there) h))
+    let there : IsFree (get_or (drop f l) (at - f) free) = subst (λ (y : Slot). IsFree y) (sym (get_or-drop f l (at - f) free ∙ ap (λ (k : ℕ). get_or l k free) is)) vacant in
+    subst (λ (r : List Slot). Leads r b m p) (sym (ap (λ (r : List Slot). take n r) same ∙ take-set n (drop f l) (at - f) x)) (leads-set (take n (drop f l)) (at - f) x b m p (free-front n (drop f l) (at - f) there) h))
     (cases_Bool (ltb at f))
 
 -- the window of a table of so many slots
 abbrev window_in : ℕ → List Slot → ℕ → List Slot
-window_in n l t = cond (ltb n 8) [] (take 8 (drop (t % (n - 7)) l))
+window_in n l u = cond (ltb n 8) [] (take 8 (drop (bit_and u (n - 8)) l))
 
-window-set-in : (n : ℕ) (l : List Slot) (at : ℕ) (x : Slot) (b : Option ℕ) (u t p : ℕ) → get_or l at Free ≡ Free → Leads (window_in n l u) b t p → Leads (window_in n (set l at x) u) b t p
-window-set-in n l at x b u t p free =
-    elim (ltb n 8) as (λ v. Leads (cond v [] (take 8 (drop (u % (n - 7)) l))) b t p → Leads (cond v [] (take 8 (drop (u % (n - 7)) (set l at x)))) b t p)
-    [ true ↦ λ h. h | false ↦ λ h. stretch-set 8 (u % (n - 7)) l at x b t p free h ]
+window-set-in : (n : ℕ) (l : List Slot) (at : ℕ) (x : Slot) (b : Option ℕ) (u m p : ℕ) → IsFree (get_or l at free) → Leads (window_in n l u) b m p → Leads (window_in n (set l at x) u) b m p
+window-set-in n l at x b u m p vacant =
+    elim (ltb n 8) as (λ v. Leads (cond v [] (take 8 (drop (bit_and u (n - 8)) l))) b m p → Leads (cond v [] (take 8 (drop (bit_and u (n - 8)) (set l at x)))) b m p)
+    [ true ↦ λ h. h | false ↦ λ h. stretch-set 8 (bit_and u (n - 8)) l at x b m p vacant h ]
 
 -- a write to a free slot keeps where look-ups come
-window-set : (l : List Slot) (at : ℕ) (x : Slot) (b : Option ℕ) (u t p : ℕ) → get_or l at Free ≡ Free → Leads (window_of l u) b t p → Leads (window_of (set l at x) u) b t p
-window-set l at x b u t p free h =
-    subst (λ (n : ℕ). Leads (window_in n (set l at x) u) b t p) (sym (length-set l at x)) (window-set-in (length l) l at x b u t p free h)
+window-set : (l : List Slot) (at : ℕ) (x : Slot) (b : Option ℕ) (u m p : ℕ) → IsFree (get_or l at free) → Leads (window_of l u) b m p → Leads (window_of (set l at x) u) b m p
+window-set l at x b u m p vacant h =
+    subst (λ (n : ℕ). Leads (window_in n (set l at x) u) b m p) (sym (length-set l at x)) (window-set-in (length l) l at x b u m p vacant h)
+
+comes-set : (l : List Slot) (at : ℕ) (x : Slot) (b : Option ℕ) (u p : ℕ) → IsFree (get_or l at free) → Comes l b u p → Comes (set l at x) b u p
+comes-set l at x b u p vacant h = ⊎_elim (λ large. inl large) (λ leads. inr (window-set l at x b u (mark_of u) p vacant leads)) h
 
 -- the first free slot of a window
 pub record AtFirst (l : List Slot) (u at : ℕ) : Type 0 where
   pub within : at < length l
-  pub free : get_or l at Free ≡ Free
-  pub comes : (b : Option ℕ) (p : ℕ) → Leads (window_of (set l at (Taken u p)) u) b u p
+  pub vacant : IsFree (get_or l at free)
+  pub comes : (x : Slot) (b : Option ℕ) (m p : ℕ) → Has x m p → Leads (window_of (set l at x) u) b m p
 
-stretch-first : (f : ℕ) (l : List Slot) (n : ℕ) → IsFirstFree (take 8 (drop f l)) n → (f + n < length l) × (get_or l (f + n) Free ≡ Free) × ((b : Option ℕ) (t p : ℕ) → Leads (take 8 (drop f (set l (f + n) (Taken t p)))) b t p)
+stretch-first : (f : ℕ) (l : List Slot) (n : ℕ) → IsFirstFree (take 8 (drop f l)) n → (f + n < length l) × IsFree (get_or l (f + n) free) × ((x : Slot) (b : Option ℕ) (m p : ℕ) → Has x m p → Leads (take 8 (drop f (set l (f + n) x))) b m p)
 stretch-first f l n h =
     let short : n < length (take 8 (drop f l)) = first-within (take 8 (drop f l)) n h in
     let few : n < 8 = omega (arith, short, length-take 8 (drop f l)) in (
       omega (arith, short, length-take 8 (drop f l), length-drop f l),
-      sym (get_or-drop f l n Free) ∙ sym (get_or-take 8 (drop f l) n Free few) ∙ first-free (take 8 (drop f l)) n h,
-      λ b t p. subst (λ (r : List Slot). Leads r b t p) (sym (ap (λ (r : List Slot). take 8 r) (drop-set-add f l n (Taken t p)) ∙ take-set 8 (drop f l) n (Taken t p))) (leads-first (take 8 (drop f l)) n b t p h),
+      subst (λ (y : Slot). IsFree y) (get_or-take 8 (drop f l) n free few ∙ get_or-drop f l n free) (first-free (take 8 (drop f l)) n h),
+      λ x b m p is. subst (λ (r : List Slot). Leads r b m p) (sym (ap (λ (r : List Slot). take 8 r) (drop-set-add f l n x) ∙ take-set 8 (drop f l) n x)) (leads-first (take 8 (drop f l)) n x b m p is h),
     )
 
-window-first-in : (m : ℕ) (l : List Slot) (u n : ℕ) → IsFirstFree (window_in m l u) n → ((u % (m - 7)) + n < length l) × (get_or l ((u % (m - 7)) + n) Free ≡ Free) × ((b : Option ℕ) (p : ℕ) → Leads (window_in m (set l ((u % (m - 7)) + n) (Taken u p)) u) b u p)
-window-first-in m l u n =
-    elim (ltb m 8) as (λ v. IsFirstFree (cond v [] (take 8 (drop (u % (m - 7)) l))) n → ((u % (m - 7)) + n < length l) × (get_or l ((u % (m - 7)) + n) Free ≡ Free) × ((b : Option ℕ) (p : ℕ) → Leads (cond v [] (take 8 (drop (u % (m - 7)) (set l ((u % (m - 7)) + n) (Taken u p))))) b u p))
-    [ true ↦ λ h. absurd h | false ↦ λ h. let s = stretch-first (u % (m - 7)) l n h in (s.0, s.1, λ b p. s.2 b u p) ]
+window-first-in : (k : ℕ) (l : List Slot) (u n : ℕ) → IsFirstFree (window_in k l u) n → (bit_and u (k - 8) + n < length l) × IsFree (get_or l (bit_and u (k - 8) + n) free) × ((x : Slot) (b : Option ℕ) (m p : ℕ) → Has x m p → Leads (window_in k (set l (bit_and u (k - 8) + n) x) u) b m p)
+window-first-in k l u n =
+    elim (ltb k 8) as (λ v. IsFirstFree (cond v [] (take 8 (drop (bit_and u (k - 8)) l))) n → (bit_and u (k - 8) + n < length l) × IsFree (get_or l (bit_and u (k - 8) + n) free) × ((x : Slot) (b : Option ℕ) (m p : ℕ) → Has x m p → Leads (cond v [] (take 8 (drop (bit_and u (k - 8)) (set l (bit_and u (k - 8) + n) x)))) b m p))
+    [ true ↦ λ h. absurd h | false ↦ λ h. stretch-first (bit_and u (k - 8)) l n h ]
 
 -- a place that goes to a slot goes to the first free one of its window
 pub at-first : (l : List Slot) (u at n : ℕ) → at ≡ first_of l u + n → IsFirstFree (window_of l u) n → AtFirst l u at
@@ -145,34 +149,44 @@ at-first l u at n is h =
     subst (λ (k : ℕ). AtFirst l u k) (sym is)
     (record {
       within = s.0;
-      free = s.1;
-      comes = λ b p. subst (λ (m : ℕ). Leads (window_in m (set l (first_of l u + n) (Taken u p)) u) b u p) (sym (length-set l (first_of l u + n) (Taken u p))) (s.2 b p);
+      vacant = s.1;
+      comes = λ x b m p has. subst (λ (k : ℕ). Leads (window_in k (set l (first_of l u + n) x) u) b m p) (sym (length-set l (first_of l u + n) x)) (s.2 x b m p has);
     })
 
 none-from : (o : Option ℕ) → ((p : ℕ) → o ≡ Some p → ⊥) → o ≡ None
 none-from None h = refl
 none-from (Some p) h = absurd (h p refl)
 
--- at a free slot nothing is found, and it is the first
-pub passed-free : (l : List Slot) (n : ℕ) (b : Option ℕ) (t : ℕ) (o : Option ℕ) → Passed l n b t o → n < length l → get_or l n Free ≡ Free → (o ≡ None) × IsFirstFree l n
-passed-free l n b t o h within free =
-    let next : drop n l ≡ Free ∷ drop (n + 1) l = drop_more l n Free within ∙ ap (λ (s : Slot). s ∷ drop (n + 1) l) free in
-    (none-from o (λ p is. subst (λ (r : List Slot). Leads r b t p) next (h.on p is)), first-from l n h.taken within free)
+-- at a free slot a look-up has come to no place that a slot can have
+pub passed-free : (l : List Slot) (n : ℕ) (b : Option ℕ) (m : ℕ) (o : Option ℕ) → Passed l n b m o → n < length l → IsFree (get_or l n free) → (p : ℕ) → o ≡ Some p → IsLarge p × (b ≡ Some p)
+passed-free l n b m o h within vacant p is =
+    let next : drop n l ≡ get_or l n free ∷ drop (n + 1) l = drop_more l n free within in
+    ⊎_elim (λ large. large) (λ leads. absurd (let on : Leads (get_or l n free ∷ drop (n + 1) l) b m p = subst (λ (r : List Slot). Leads r b m p) next leads in omega (arith, vacant, on.0))) (h.on p is)
+
+-- where no place is large, nothing is found there
+pub none-small : (o b : Option ℕ) (n : ℕ) → ((p : ℕ) → o ≡ Some p → p < n) → n < 2 ^ 32 - 1 → ((p : ℕ) → o ≡ Some p → IsLarge p × (b ≡ Some p)) → o ≡ None
+none-small o b n within small h = none-from o (λ p is. omega (arith, within p is, small, (h p is).0))
 
 -- a slot of another CID is passed
-pub passed-more : (l : List Slot) (n : ℕ) (b : Option ℕ) (t : ℕ) (o : Option ℕ) (a q : ℕ) → Passed l n b t o → n < length l → get_or l n Free ≡ Taken a q → (a ≡ t → o ≡ Some q → ⊥) → Passed l (n + 1) b t o
-passed-more l n b t o a q h within at other =
-    let next : drop n l ≡ Taken a q ∷ drop (n + 1) l = drop_more l n Free within ∙ ap (λ (s : Slot). s ∷ drop (n + 1) l) at in
+pub passed-more : (l : List Slot) (n : ℕ) (b : Option ℕ) (m : ℕ) (o : Option ℕ) (q : ℕ) → Passed l n b m o → n < length l → (get_or l n free).end ≡ q + 1 → ((get_or l n free).mark ≡ m → o ≡ Some q → ⊥) → Passed l (n + 1) b m o
+passed-more l n b m o q h within at other =
+    let next : drop n l ≡ get_or l n free ∷ drop (n + 1) l = drop_more l n free within in
+    let one : suc n ≡ n + 1 = omega arith in
     record {
-      taken = let one : suc n ≡ n + 1 = omega arith in subst (λ (k : ℕ). AreTaken (take k l)) one (taken-more l n a q h.taken within at);
-      on = λ p is. ⊎_elim (λ here. absurd (other here.0 (is ∙ ap Some (sym here.1)))) (λ later. later) (subst (λ (r : List Slot). Leads r b t p) next (h.on p is));
+      taken = subst (λ (k : ℕ). AreTaken (take k l)) one (taken-more l n h.taken within (omega (arith, at)));
+      on = λ p is.
+          ⊎_elim (λ large. inl large) (λ leads.
+          let on : Leads (get_or l n free ∷ drop (n + 1) l) b m p = subst (λ (r : List Slot). Leads r b m p) next leads in
+          ⊎_elim (λ here. let same : p ≡ q = omega (arith, at, here.1) in absurd (other here.0 (is ∙ ap Some same))) (λ later. inr later) on.1) (h.on p is);
     }
 
 -- behind the last slot the tree has what is there
-pub passed-all : (l : List Slot) (n : ℕ) (b : Option ℕ) (t : ℕ) (o : Option ℕ) → Passed l n b t o → length l ≤ n → AreTaken l × ((p : ℕ) → o ≡ Some p → b ≡ Some p)
-passed-all l n b t o h past =
-    let end : drop n l ≡ [] = drop_of_length-le l past in
-    (subst (λ (r : List Slot). AreTaken r) (take_all n l past) h.taken, λ p is. subst (λ (r : List Slot). Leads r b t p) end (h.on p is))
+pub passed-all : (l : List Slot) (n : ℕ) (b : Option ℕ) (m : ℕ) (o : Option ℕ) → Passed l n b m o → length l ≤ n → AreTaken l × ((p : ℕ) → o ≡ Some p → b ≡ Some p)
+passed-all l n b m o h past =
+    let end : drop n l ≡ [] = drop_of_length-le l past in (
+      subst (λ (r : List Slot). AreTaken r) (take_all n l past) h.taken,
+      λ p is. ⊎_elim (λ large. large.1) (λ leads. subst (λ (r : List Slot). Leads r b m p) end leads) (h.on p is),
+    )
 
 -- a CID without a place isn't there
 absent : (es : Blocks) (k : List ℕ) → position_of es k ≡ None → has_cid es k ≡ false
@@ -199,29 +213,36 @@ position-stays es k b c p h is =
     (cases_Bool (bytes_eq k c))
 
 -- a look-up comes where it came if the tree has what it came to
-leads-with : (l : List Slot) (b d : Option ℕ) (t p : ℕ) → (b ≡ Some p → d ≡ Some p) → Leads l b t p → Leads l d t p
-leads-with [] b d t p on h = on h
-leads-with (Free ∷ l) b d t p on h = absurd h
-leads-with (Taken a q ∷ l) b d t p on h = ⊎_elim (λ here. inl here) (λ later. inr (leads-with l b d t p on later)) h
+leads-with : (l : List Slot) (b d : Option ℕ) (m p : ℕ) → (b ≡ Some p → d ≡ Some p) → Leads l b m p → Leads l d m p
+leads-with [] b d m p on h = on h
+leads-with (y ∷ l) b d m p on h = (h.0, ⊎_elim (λ here. inl here) (λ later. inr (leads-with l b d m p on later)) h.1)
+
+comes-with : (l : List Slot) (b d : Option ℕ) (u p : ℕ) → (b ≡ Some p → d ≡ Some p) → Comes l b u p → Comes l d u p
+comes-with l b d u p on h = ⊎_elim (λ large. inl (large.0, on large.1)) (λ leads. inr (leads-with (window_of l u) b d (mark_of u) p on leads)) h
+
+-- a place that goes to the tree is found in it
+comes-behind : (l : List Slot) (u p : ℕ) → GoesBehind l u p → Comes l (Some p) u p
+comes-behind l u p h = ⊎_elim (λ large. inl (large, refl)) (λ full. inr (leads-past (window_of l u) (mark_of u) p full)) h
 
 -- a table with the new place in a slot
-pub led-slot : (slots : List Slot) (index : Index) (es : Blocks) (k b : List ℕ) (at : ℕ) → AreLedTo slots index es → position_of es k ≡ None → AtFirst slots (tail_of k) at → AreLedTo (set slots at (Taken (tail_of k) (length es))) index (es ++ (k, b) ∷ [])
-led-slot slots index es k b at h new first c p is =
-    let later = set slots at (Taken (tail_of k) (length es)) in
+pub led-slot : (slots : List Slot) (index : Index) (es : Blocks) (k b : List ℕ) (at : ℕ) (x : Slot) → AreLedTo slots index es → position_of es k ≡ None → AtFirst slots (tail_of k) at → Has x (mark_of (tail_of k)) (length es) → AreLedTo (set slots at x) index (es ++ (k, b) ∷ [])
+led-slot slots index es k b at x h new first has c p is =
+    let later = set slots at x in
     ⊎_elim
     (λ here.
-    subst (λ (d : List ℕ). Leads (window_of later (tail_of d)) (place_behind index d) (tail_of d) p) here.0
-    (subst (λ (q : ℕ). Leads (window_of later (tail_of k)) (place_behind index k) (tail_of k) q) (sym here.1) (first.comes (place_behind index k) (length es))))
-    (λ other. window-set slots at (Taken (tail_of k) (length es)) (place_behind index c) (tail_of c) (tail_of c) p first.free (h c p other.1))
+    subst (λ (d : List ℕ). Comes later (place_behind index d) (tail_of d) p) here.0
+    (subst (λ (q : ℕ). Comes later (place_behind index k) (tail_of k) q) (sym here.1) (inr (first.comes x (place_behind index k) (mark_of (tail_of k)) (length es) has))))
+    (λ other. comes-set slots at x (place_behind index c) (tail_of c) p first.vacant (h c p other.1))
     (position-split es k b c p new is)
 
 -- a table with the new place in the tree
-pub led-behind : (slots : List Slot) (index : Index) (es : Blocks) (k b : List ℕ) → AreLedTo slots index es → position_of es k ≡ None → AreTaken (window_of slots (tail_of k)) → place_behind index k ≡ Some (length es) → AreLedTo slots index (es ++ (k, b) ∷ [])
+pub led-behind : (slots : List Slot) (index : Index) (es : Blocks) (k b : List ℕ) → AreLedTo slots index es → position_of es k ≡ None → GoesBehind slots (tail_of k) (length es) → place_behind index k ≡ Some (length es) → AreLedTo slots index (es ++ (k, b) ∷ [])
 led-behind slots index es k b h new full there c p is =
     ⊎_elim
     (λ here.
-    subst (λ (d : List ℕ). Leads (window_of slots (tail_of d)) (place_behind index d) (tail_of d) p) here.0
-    (subst (λ (o : Option ℕ). Leads (window_of slots (tail_of k)) o (tail_of k) p) (sym (there ∙ ap Some (sym here.1))) (leads-past (window_of slots (tail_of k)) (tail_of k) p full)))
+    subst (λ (d : List ℕ). Comes slots (place_behind index d) (tail_of d) p) here.0
+    (subst (λ (q : ℕ). Comes slots (place_behind index k) (tail_of k) q) (sym here.1)
+    (subst (λ (o : Option ℕ). Comes slots o (tail_of k) (length es)) (sym there) (comes-behind slots (tail_of k) (length es) full))))
     (λ other. h c p other.1)
     (position-split es k b c p new is)
 
@@ -243,7 +264,7 @@ put-keeps index later k c s p q puts stood is =
 -- a table stays one
 pub led-put : (slots : List Slot) (index later : Index) (es : Blocks) (k : List ℕ) (s p : ℕ) → AreLedTo slots index es → Puts index later k s → s ≡ unwrap_or (place_behind index k) p → AreLedTo slots later es
 led-put slots index later es k s p h puts stood c q is =
-    leads-with (window_of slots (tail_of c)) (place_behind index c) (place_behind later c) (tail_of c) q (put-keeps index later k c s p q puts stood) (h c q is)
+    comes-with slots (place_behind index c) (place_behind later c) (tail_of c) q (put-keeps index later k c s p q puts stood) (h c q is)
 
 -- what is there if it is anything
 unwrap-true : (o : Option ℕ) (p : ℕ) → ((q : ℕ) → o ≡ Some q → q ≡ p) → unwrap_or o p ≡ p
@@ -272,20 +293,20 @@ indexed-put index later es k s p h at slots puts stood =
     }
 
 -- the index with the new place in a slot
-pub indexed-slot : (index later : Index) (es : Blocks) (k b : List ℕ) (at : ℕ) → IsIndexed index es → position_of es k ≡ None → AtFirst index.slots.items (tail_of k) at → later.slots.items ≡ set index.slots.items at (Taken (tail_of k) (length es)) → later.behind ≡ index.behind → IsIndexed later (es ++ (k, b) ∷ [])
-indexed-slot index later es k b at h new first slots behind =
+pub indexed-slot : (index later : Index) (es : Blocks) (k b : List ℕ) (at : ℕ) (x : Slot) → IsIndexed index es → position_of es k ≡ None → AtFirst index.slots.items (tail_of k) at → Has x (mark_of (tail_of k)) (length es) → later.slots.items ≡ set index.slots.items at x → later.behind ≡ index.behind → IsIndexed later (es ++ (k, b) ∷ [])
+indexed-slot index later es k b at x h new first has slots behind =
     let same : (c : List ℕ) → place_behind later c ≡ place_behind index c = λ c. ap (λ (m : BTreeMap (List ℕ) ℕ). get (slice_cmp nat_cmp) m c) behind in
     record {
       distinct = distinct-push es k b h.distinct (absent es k new);
       leads = λ c p is.
-          subst (λ (l : List Slot). Leads (window_of l (tail_of c)) (place_behind later c) (tail_of c) p) (sym slots)
-          (subst (λ (o : Option ℕ). Leads (window_of (set index.slots.items at (Taken (tail_of k) (length es))) (tail_of c)) o (tail_of c) p) (sym (same c))
-          (led-slot index.slots.items index es k b at h.leads new first c p is));
+          subst (λ (l : List Slot). Comes l (place_behind later c) (tail_of c) p) (sym slots)
+          (subst (λ (o : Option ℕ). Comes (set index.slots.items at x) o (tail_of c) p) (sym (same c))
+          (led-slot index.slots.items index es k b at x h.leads new first has c p is));
       true_behind = λ c p is. position-stays es k b c p new (h.true_behind c p (sym (same c) ∙ is));
     }
 
 -- the index with the new place in the tree
-pub indexed-behind : (index later : Index) (es : Blocks) (k b : List ℕ) (s : ℕ) → IsIndexed index es → position_of es k ≡ None → AreTaken (window_of index.slots.items (tail_of k)) → later.slots.items ≡ index.slots.items → Puts index later k s → s ≡ unwrap_or (place_behind index k) (length es) → IsIndexed later (es ++ (k, b) ∷ [])
+pub indexed-behind : (index later : Index) (es : Blocks) (k b : List ℕ) (s : ℕ) → IsIndexed index es → position_of es k ≡ None → GoesBehind index.slots.items (tail_of k) (length es) → later.slots.items ≡ index.slots.items → Puts index later k s → s ≡ unwrap_or (place_behind index k) (length es) → IsIndexed later (es ++ (k, b) ∷ [])
 indexed-behind index later es k b s h new full slots puts stood =
     let sn : s ≡ length es = stood ∙ unwrap-true (place_behind index k) (length es) (λ q is. absurd (none-some q (sym new ∙ h.true_behind k q is))) in
     let at_k : place_behind later k ≡ Some (length es) = puts k ∙ ap (λ v. cond v (Some s) (place_behind index k)) ((bytes_eq-Decides k k).1 refl) ∙ ap Some sn in
@@ -344,8 +365,8 @@ pub indexed-same : (index later : Index) (es : Blocks) → IsIndexed index es �
 indexed-same index later es h slots same = record {
   distinct = h.distinct;
   leads = λ c p is.
-      subst (λ (l : List Slot). Leads (window_of l (tail_of c)) (place_behind later c) (tail_of c) p) (sym slots)
-      (subst (λ (o : Option ℕ). Leads (window_of index.slots.items (tail_of c)) o (tail_of c) p) (sym (same c)) (h.leads c p is));
+      subst (λ (l : List Slot). Comes l (place_behind later c) (tail_of c) p) (sym slots)
+      (subst (λ (o : Option ℕ). Comes index.slots.items o (tail_of c) p) (sym (same c)) (h.leads c p is));
   true_behind = λ c p is. h.true_behind c p (sym (same c) ∙ is);
 }
 
@@ -358,20 +379,20 @@ pub taken-all : (l : List Slot) (n : ℕ) → AreTaken (take n l) → length l �
 taken-all l n h past = subst (λ (r : List Slot). AreTaken r) (take_all n l past) h
 
 -- a look-up for another place goes on behind a taken slot
-pub leads-on : (l : List Slot) (n : ℕ) (b : Option ℕ) (t p a q : ℕ) → get_or l n Free ≡ Taken a q → n < length l → (q ≡ p → ⊥) → Leads (drop n l) b t p → Leads (drop (n + 1) l) b t p
-leads-on l n b t p a q at within other h =
-    let next : drop n l ≡ Taken a q ∷ drop (n + 1) l = drop_more l n Free within ∙ ap (λ (s : Slot). s ∷ drop (n + 1) l) at in
-    ⊎_elim (λ here. absurd (other here.1)) (λ later. later) (subst (λ (r : List Slot). Leads r b t p) next h)
+pub leads-on : (l : List Slot) (n : ℕ) (b : Option ℕ) (m p q : ℕ) → (get_or l n free).end ≡ q + 1 → n < length l → (q ≡ p → ⊥) → Leads (drop n l) b m p → Leads (drop (n + 1) l) b m p
+leads-on l n b m p q at within other h =
+    let on : Leads (get_or l n free ∷ drop (n + 1) l) b m p = subst (λ (r : List Slot). Leads r b m p) (drop_more l n free within) h in
+    ⊎_elim (λ here. absurd (other (omega (arith, at, here.1)))) (λ later. later) on.1
 
 -- a look-up comes to no place at a free slot
-pub leads-free : (l : List Slot) (n : ℕ) (b : Option ℕ) (t p : ℕ) → get_or l n Free ≡ Free → n < length l → Leads (drop n l) b t p → ⊥
-leads-free l n b t p at within h =
-    let next : drop n l ≡ Free ∷ drop (n + 1) l = drop_more l n Free within ∙ ap (λ (s : Slot). s ∷ drop (n + 1) l) at in
-    subst (λ (r : List Slot). Leads r b t p) next h
+pub leads-free : (l : List Slot) (n : ℕ) (b : Option ℕ) (m p : ℕ) → IsFree (get_or l n free) → n < length l → Leads (drop n l) b m p → ⊥
+leads-free l n b m p vacant within h =
+    let on : Leads (get_or l n free ∷ drop (n + 1) l) b m p = subst (λ (r : List Slot). Leads r b m p) (drop_more l n free within) h in
+    omega (arith, vacant, on.0)
 
 -- behind the last slot it comes to what the tree has
-pub leads-end : (l : List Slot) (n : ℕ) (b : Option ℕ) (t p : ℕ) → length l ≤ n → Leads (drop n l) b t p → b ≡ Some p
-leads-end l n b t p past h = subst (λ (r : List Slot). Leads r b t p) (drop_of_length-le l past) h
+pub leads-end : (l : List Slot) (n : ℕ) (b : Option ℕ) (m p : ℕ) → length l ≤ n → Leads (drop n l) b m p → b ≡ Some p
+leads-end l n b m p past h = subst (λ (r : List Slot). Leads r b m p) (drop_of_length-le l past) h
 
 -- what the tree has for the CID that was put
 pub behind-put : (index later : Index) (es : Blocks) (k : List ℕ) (s p : ℕ) → IsIndexed index es → position_of es k ≡ Some p → Puts index later k s → s ≡ unwrap_or (place_behind index k) p → place_behind later k ≡ Some p

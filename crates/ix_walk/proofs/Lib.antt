@@ -2,6 +2,7 @@ pub mod Names
 pub mod Stores
 pub mod Indexes
 pub mod Reached
+pub mod Ends
 pub mod Stands
 pub mod Parts
 pub mod Openings
@@ -11,3 +12,4 @@ pub mod Roots
 pub mod Nexts
 pub mod Takes
 pub mod Starts
+pub mod Marking

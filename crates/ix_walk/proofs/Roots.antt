@@ -33,13 +33,13 @@ roots_flat places b at depth old new node same = λ value is ss e.
     )
 
 -- a root that is a link
-pub roots_link : (places : List Place) (b at : List ℕ) (depth : ℕ) (f : Found) (old new : Trail) → IsNode places b depth (Some (Link f)) at → old.next ≡ None → new.at.now ≡ old.at.now → new.stack.items ≡ old.stack.items → new.next ≡ Some f
+pub roots_link : (places : List Place) (b at : List ℕ) (depth : ℕ) (f : Found) (old new : Trail) → IsNode places b depth (Some (Link f)) at → old.next ≡ None → new.at ≡ old.at → new.stack.items ≡ old.stack.items → new.next ≡ Some f
     → Roots places (Some b) depth old new
 roots_link places b at depth f old new node none at_is stack_is next_is = λ value is ss e.
     let n = node is.0 [] (item_of_block b is.0 is.2) in
-    let below : stands new.at.now (reverse new.stack.items) ≡ Some ss = ap (λ l. stands l (reverse new.stack.items)) at_is ∙ ap (λ os. stands old.at.now (reverse os)) stack_is ∙ sym (trail_without old none) ∙ e in (
+    let below : stands new.at (reverse new.stack.items) ≡ Some ss = ap (λ l. stands l (reverse new.stack.items)) at_is ∙ ap (λ os. stands old.at (reverse os)) stack_is ∙ sym (trail_without old none) ∙ e in (
       found f ∷ ss,
-      ap (λ o. option_map (with_next o) (stands new.at.now (reverse new.stack.items))) next_is ∙ ap (option_map (with_next (Some f))) below,
+      ap (λ o. option_map (with_next o) (stands new.at (reverse new.stack.items))) next_is ∙ ap (option_map (with_next (Some f))) below,
       record {
         arrivals = λ inside limit. rooted places depth value is.0 (all_arrivals inside limit ss) (all_arrivals inside limit (found f ∷ ss)) inside limit is.1 (ap (λ z. z ++ all_arrivals inside limit ss) (n.1.reaches inside limit));
         deep = λ bound h m. (let k = n.1.deep in omega (arith, h, k), m);
@@ -47,13 +47,13 @@ roots_link places b at depth f old new node none at_is stack_is next_is = λ val
     )
 
 -- a root that is a list or map, behind which the walk goes back to where it stood
-pub roots_open : (places : List Place) (b at : List ℕ) (depth : ℕ) (o root : Opened) (old new : Trail) → IsNode places b depth (Some (Open o)) at → old.next ≡ None → new.next ≡ None → new.at.now ≡ at
+pub roots_open : (places : List Place) (b at : List ℕ) (depth : ℕ) (o root : Opened) (old new : Trail) → IsNode places b depth (Some (Open o)) at → old.next ≡ None → new.next ≡ None → new.at ≡ at
     → new.stack.items ≡ old.stack.items ++ root ∷ [] → root ≡ record { residual = o.residual; children = o.children; depth = o.depth; back = Some old.at }
     → Roots places (Some b) depth old new
 roots_open places b at depth o root old new node none next_is at_is pushed root_is = λ value is ss e.
     let n = node is.0 [] (item_of_block b is.0 is.2) in
     let r : Opened = record { residual = o.residual; children = o.children; depth = o.depth; back = Some old.at } in
-    let below : stands old.at.now (reverse old.stack.items) ≡ Some ss = sym (trail_without old none) ∙ e in
+    let below : stands old.at (reverse old.stack.items) ≡ Some ss = sym (trail_without old none) ∙ e in
     let on : stands at (r ∷ reverse old.stack.items) ≡ Some (opened r n.1 ∷ ss) = open_on at r (reverse old.stack.items) n.1 [] ss n.2 below in
     let stack_is : reverse new.stack.items ≡ r ∷ reverse old.stack.items = reversed_push new.stack.items old.stack.items root pushed ∙ ap (λ x. x ∷ reverse old.stack.items) root_is in (
       opened r n.1 ∷ ss,
@@ -69,16 +69,17 @@ deep_more bound [] n = tt
 deep_more bound (s ∷ ss) n = (let h = n.0 in omega arith, deep_more bound ss n.1)
 
 -- a visit, and the root behind it
-pub arrives : (store : Blocks) (number seq : ℕ) (places : List Place) (depth : ℕ) (c : List ℕ) (block : Option ℕ) (bytes : Option (List ℕ)) (malformed : Bool) (old new : Trail)
-    → block ≡ position_of store c → IsReading store c bytes malformed → Roots places bytes (depth + 1) old new
-    → Arrives store number seq (record { residual = places; cid = c; depth = depth }) old (record { job = number; seq = seq; depth = depth; cid = c; block = block; malformed = malformed }) new
-arrives store number seq places depth c block bytes malformed old new found reading roots = λ ss e.
+pub arrives : (store : Blocks) (number seq : ℕ) (places : List Place) (depth : ℕ) (c d : List ℕ) (block : Option ℕ) (bytes : Option (List ℕ)) (malformed : Bool) (old new : Trail)
+    → d ≡ c → block ≡ position_of store d → IsReading store c bytes malformed → Roots places bytes (depth + 1) old new
+    → Arrives store number seq (record { residual = places; cid = c; depth = depth }) old (record { job = number; seq = seq; depth = depth; cid = d; block = block; malformed = malformed }) new
+arrives store number seq places depth c d block bytes malformed old new same found reading roots = λ ss e.
     let r = roots (value_of store c) reading.0 ss e in (
       r.0,
       r.1,
       record {
         visit =
-            ap (λ (b : Option ℕ). record { job = number; seq = seq; depth = depth; cid = c; block = b; malformed = malformed }) found
+            ap (λ (b : Option ℕ). record { job = number; seq = seq; depth = depth; cid = d; block = b; malformed = malformed }) found
+            ∙ ap (λ (e : List ℕ). record { job = number; seq = seq; depth = depth; cid = e; block = position_of store e; malformed = malformed }) same
             ∙ ap (λ (m : Bool). record { job = number; seq = seq; depth = depth; cid = c; block = position_of store c; malformed = m }) reading.1;
         arrivals = λ limit lt.
             let k : limit - depth ≡ suc (limit - (depth + 1)) = omega arith in

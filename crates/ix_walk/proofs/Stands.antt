@@ -51,8 +51,8 @@ pub reversed_push : {A : Type 0} (xs ys : List A) (x : A) → xs ≡ ys ++ x ∷
 reversed_push xs ys x e = ap reverse e ∙ reverse-append ys (x ∷ [])
 
 -- where no link comes first
-pub trail_without : (t : Trail) → t.next ≡ None → trail_stands t ≡ stands t.at.now (reverse t.stack.items)
-trail_without t e = ap (λ o. option_map (with_next o) (stands t.at.now (reverse t.stack.items))) e ∙ mapped (stands t.at.now (reverse t.stack.items)) where
+pub trail_without : (t : Trail) → t.next ≡ None → trail_stands t ≡ stands t.at (reverse t.stack.items)
+trail_without t e = ap (λ o. option_map (with_next o) (stands t.at (reverse t.stack.items))) e ∙ mapped (stands t.at (reverse t.stack.items)) where
   mapped : (o : Option (List Subtree)) → option_map (with_next None) o ≡ o
   mapped None = refl
   mapped (Some ss) = refl

@@ -28,8 +28,8 @@ left visits more limited over e f =
 -- nothing is left on an empty trail
 pub begins : (t : Trail) → t.next ≡ None → t.stack.items ≡ [] → trail_stands t ≡ Some []
 begins t next empty =
-    ap (λ o. option_map (with_next o) (stands t.at.now (reverse t.stack.items))) next
-    ∙ ap (λ (os : List Opened). option_map (with_next None) (stands t.at.now (reverse os))) empty
+    ap (λ o. option_map (with_next o) (stands t.at (reverse t.stack.items))) next
+    ∙ ap (λ (os : List Opened). option_map (with_next None) (stands t.at (reverse os))) empty
 
 -- what is left is all that the job arrives at
 arrives_all : (store : Blocks) (number : ℕ) (job : JobMeaning) (arrivals : List Arrival) → arrivals ≡ map forget (believed store job)

@@ -6,12 +6,12 @@ use Rattle.std.specs.Option.{is_some}
 use Rattle.std.proofs.lemmas.Bool.{false≢true, cases_Bool, false_from_ne_true}
 use Rattle.std.proofs.lemmas.Slice.Eq.{bytes_eq-Decides}
 use Rattle.std.proofs.lemmas.List.{length-map, map-append, take_more, drop_more, take-append-drop}
-use Rattle.std.proofs.lemmas.Option.{none-some, get_or_from_slice_get, slice_get-map, slice_get_read}
+use Rattle.std.proofs.lemmas.Option.{none-some, same_Some, get_or_from_slice_get, slice_get-map, slice_get-get_or, slice_get_read}
 use Rattle.std.proofs.Math.Bool.{or-true}
 use Rattle.ix_walk.specs.Entry.{content}
-use Rattle.ix_walk.proofs.Blocks.{some_behind}
+use Rattle.ix_walk.proofs.Blocks.{some_behind, place_within, block_at}
 use Rattle.ix_walk.specs.declared.entry.Entry.{Entry}
-use Rattle.ix_walk.specs.Store.{Blocks, has_cid, with_block, HasDistinctCids, position_behind, position_of}
+use Rattle.ix_walk.specs.Store.{Blocks, has_cid, with_block, HasDistinctCids, block_of, position_behind, position_of}
 
 -- of two tests that fail together the first fails
 or-left : (x y : Bool) → (x || y) ≡ false → x ≡ false
@@ -101,6 +101,18 @@ pairs-push xs ys e is = ap (λ (l : List Entry). map pair l) is ∙ map-append p
 abbrev pub block : List ℕ × List ℕ → List ℕ
 block p = p.1
 
+-- the pair of the entry at a place
+pub pair-at : (entries : List Entry) (now : Blocks) (place : ℕ) (e : Entry) → map pair entries ≡ now → place < length now → e ≡ get_or entries place e → slice_get now place ≡ Some (e.cid, content e.block)
+pair-at entries now place e is within at =
+    let lt : place < length entries = omega (arith, ap length is, length-map entries pair) in
+    ap (λ (l : Blocks). slice_get l place) (sym is)
+    ∙ slice_get-map pair entries place
+    ∙ ap (λ o. option_map pair o) (slice_get_read entries (length entries) place e refl lt at)
+
+-- and what is asked of it
+pub asked-at : {X : Type 0} (f : List ℕ × List ℕ → X) (entries : List Entry) (now : Blocks) (place : ℕ) (e : Entry) (r : X) → map pair entries ≡ now → place < length now → e ≡ get_or entries place e → r ≡ f (e.cid, content e.block) → slice_get (map f now) place ≡ Some r
+asked-at f entries now place e r is within at same = slice_get-map f now place ∙ ap (λ o. option_map f o) (pair-at entries now place e is within at) ∙ ap Some (sym same)
+
 -- the block of the entry at a place
 pub block-at : (entries : List Entry) (now : Blocks) (place : ℕ) (e : Entry) (r : List ℕ) → map pair entries ≡ now → place < length now → e ≡ get_or entries place e → r ≡ content e.block → slice_get (map block now) place ≡ Some r
 block-at entries now place e r is within at same =
@@ -137,6 +149,21 @@ cid-at n (suc i) (x ∷ es) e c at is =
 -- the CID of the entry at the place of a CID
 pub same-there : (entries : List Entry) (place : ℕ) (e : Entry) (c : List ℕ) → slice_get entries place ≡ Some e → position_of (map pair entries) c ≡ Some place → bytes_eq e.cid c ≡ true
 same-there entries place e c at is = cid-at 0 place (map pair entries) (pair e) c (slice_get-map pair entries place ∙ ap (λ o. option_map pair o) at) (is ∙ ap Some (sym (zero-add place)))
+
+-- the pair at the place of a CID: this CID, and its block
+pub pair-there : (store : Blocks) (place : ℕ) (c : List ℕ) → Some place ≡ position_of store c → (b : List ℕ) × (slice_get store place ≡ Some (c, b)) × (block_of store c ≡ Some b)
+pair-there store place c e =
+    let p : List ℕ × List ℕ = get_or store place ([], []) in
+    let at : slice_get store place ≡ Some p = slice_get-get_or store place ([], []) (place_within place store c e) in
+    let same : p.0 ≡ c = (bytes_eq-Decides p.0 c).0 (cid-at 0 place store p c at (sym e ∙ ap Some (sym (zero-add place)))) in
+    (p.1, at ∙ ap (λ (k : List ℕ). Some (k, p.1)) same, block_at place store c p.1 e (slice_get-map block store place ∙ ap (λ o. option_map block o) at))
+
+-- what is asked of it
+pub asked-there : {X : Type 0} (f : List ℕ × List ℕ → X) (store : Blocks) (place : ℕ) (c : List ℕ) (r : X) → Some place ≡ position_of store c → slice_get (map f store) place ≡ Some r
+    → (b : List ℕ) × (block_of store c ≡ Some b) × (r ≡ f (c, b))
+asked-there f store place c r e asked =
+    let found = pair-there store place c e in
+    (found.0, found.2, same_Some r (f (c, found.0)) (sym asked ∙ slice_get-map f store place ∙ ap (λ o. option_map f o) found.1))
 
 -- a CID in the midst differs from the others
 has_cid-midst : (xs ys : Blocks) (k b c : List ℕ) → has_cid (xs ++ (k, b) ∷ ys) c ≡ false → bytes_eq k c ≡ false

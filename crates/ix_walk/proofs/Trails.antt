@@ -1,8 +1,6 @@
 -- A stack of open lists and maps, gone on with.
 use Rattle.std.proofs.Common.{◌≡◌, ℕ, ◌+◌, ◌-◌, ◌<◌, true, List, [], ◌∷◌, ◌++◌, length, take, get_or, reverse, refl, sym, ◌∙◌, ap, subst, append_assoc, arith}
-use Rattle.std.specs.Borrow.{Bor}
-use Rattle.std.specs.Option.{unwrap_or}
-use Rattle.std.specs.Prelude.{Option, Some, None, option_map, nat_lt}
+use Rattle.std.specs.Prelude.{Some, None, option_map, nat_lt}
 use Rattle.std.proofs.lemmas.Bool.Decides.{nat_tests}
 use Rattle.std.proofs.lemmas.List.{take_more, take_all}
 use Rattle.ix_walk.specs.declared.subtree.Children.{Children}
@@ -102,10 +100,6 @@ spent_gone o at os ss spent e =
 
 -- ---- trails
 
-pub goes_to : (b : Option (Bor (List ℕ))) (at : Bor (List ℕ)) → (unwrap_or b at).now ≡ goes_on b at.now
-goes_to None at = refl
-goes_to (Some b) at = refl
-
 -- no link comes first, and what was left is left still
 pub record IsKept (old new : Trail) : Type 0 where
   pub next : new.next ≡ None
@@ -133,51 +127,51 @@ steps_lighter first loop new is kept steps =
     let l = s.3 in omega (arith, w, v, l)
 
 -- the next item of a stack, above the others
-above : (t : Trail) (o : Opened) (rest : List Opened) (ss : List Subtree) → t.next ≡ None → t.stack.items ≡ rest ++ o ∷ [] → trail_stands t ≡ Some ss → stands t.at.now (o ∷ reverse rest) ≡ Some ss
-above t o rest ss next items e = ap (stands t.at.now) (sym (reversed_push t.stack.items rest o items)) ∙ sym (trail_without t next) ∙ e
+above : (t : Trail) (o : Opened) (rest : List Opened) (ss : List Subtree) → t.next ≡ None → t.stack.items ≡ rest ++ o ∷ [] → trail_stands t ≡ Some ss → stands t.at (o ∷ reverse rest) ≡ Some ss
+above t o rest ss next items e = ap (stands t.at) (sym (reversed_push t.stack.items rest o items)) ∙ sym (trail_without t next) ∙ e
 
 -- others, wherever the walk stands
-below : (t : Trail) (rest : List Opened) (at : List ℕ) (ss : List Subtree) → t.next ≡ None → t.stack.items ≡ rest → t.at.now ≡ at → stands at (reverse rest) ≡ Some ss → trail_stands t ≡ Some ss
+below : (t : Trail) (rest : List Opened) (at : List ℕ) (ss : List Subtree) → t.next ≡ None → t.stack.items ≡ rest → t.at ≡ at → stands at (reverse rest) ≡ Some ss → trail_stands t ≡ Some ss
 below t rest at ss next items at_is e = trail_without t next ∙ ap (λ l. stands l (reverse t.stack.items)) at_is ∙ ap (λ os. stands at (reverse os)) items ∙ e
 
 -- an item that has no child left is let go
-pub step_spent : (old new : Trail) (o : Opened) (rest : List Opened) → old.next ≡ None → new.next ≡ None → old.stack.items ≡ rest ++ o ∷ [] → new.stack.items ≡ rest → is_spent o.children ≡ true → new.at.now ≡ goes_on o.back old.at.now
+pub step_spent : (old new : Trail) (o : Opened) (rest : List Opened) → old.next ≡ None → new.next ≡ None → old.stack.items ≡ rest ++ o ∷ [] → new.stack.items ≡ rest → is_spent o.children ≡ true → new.at ≡ goes_on o.back old.at
     → Steps old new
 step_spent old new o rest next then items left spent at_is = record {
   next = then;
   on = λ ss e.
-      let g = spent_gone o old.at.now (reverse rest) ss spent (above old o rest ss next items e) in (g.0, below new rest (goes_on o.back old.at.now) g.0 then left at_is g.1, g.2, g.3);
+      let g = spent_gone o old.at (reverse rest) ss spent (above old o rest ss next items e) in (g.0, below new rest (goes_on o.back old.at) g.0 then left at_is g.1, g.2, g.3);
 }
 
 -- one of which nothing more comes
 pub step_none : (old new : Trail) (o : Opened) (c : Children) (now : List ℕ) (rest : List Opened) → old.next ≡ None → new.next ≡ None → old.stack.items ≡ rest ++ o ∷ [] → new.stack.items ≡ rest
-    → IsNext o.residual o.depth o.children old.at.now None c now → new.at.now ≡ goes_on o.back now → Steps old new
+    → IsNext o.residual o.depth o.children old.at None c now → new.at ≡ goes_on o.back now → Steps old new
 step_none old new o c now rest next then items left is at_is = record {
   next = then;
   on = λ ss e.
-      let g = gone_none o c old.at.now now (reverse rest) ss is (above old o rest ss next items e) in (g.0, below new rest (goes_on o.back now) g.0 then left at_is g.1, g.2, g.3);
+      let g = gone_none o c old.at now (reverse rest) ss is (above old o rest ss next items e) in (g.0, below new rest (goes_on o.back now) g.0 then left at_is g.1, g.2, g.3);
 }
 
 -- one in which another was entered
 pub step_open : (old new : Trail) (o n p : Opened) (rest : List Opened) → old.next ≡ None → new.next ≡ None → old.stack.items ≡ rest ++ o ∷ [] → new.stack.items ≡ (rest ++ n ∷ []) ++ p ∷ []
-    → IsNext o.residual o.depth o.children old.at.now (Some (Open p)) n.children new.at.now → n ≡ with_children o n.children → Steps old new
+    → IsNext o.residual o.depth o.children old.at (Some (Open p)) n.children new.at → n ≡ with_children o n.children → Steps old new
 step_open old new o n p rest next then items pushed is same = record {
   next = then;
   on = λ ss e.
-      let g = gone_open o p n.children old.at.now new.at.now (reverse rest) ss is (above old o rest ss next items e) in
+      let g = gone_open o p n.children old.at new.at (reverse rest) ss is (above old o rest ss next items e) in
       let stack : reverse new.stack.items ≡ p ∷ with_children o n.children ∷ reverse rest =
       reversed_push new.stack.items (rest ++ n ∷ []) p pushed ∙ ap (λ os. p ∷ os) (reversed_push (rest ++ n ∷ []) rest n refl ∙ ap (λ x. x ∷ reverse rest) same) in
-      (g.0, trail_without new then ∙ ap (stands new.at.now) stack ∙ g.1, g.2, g.3);
+      (g.0, trail_without new then ∙ ap (stands new.at) stack ∙ g.1, g.2, g.3);
 }
 
 -- a link was found, and what has no child left is let go
 pub link_found : (first loop mid new : Trail) (o n : Opened) (f : Found) (rest : List Opened) → IsKept first loop → mid.next ≡ None → loop.stack.items ≡ rest ++ o ∷ [] → mid.stack.items ≡ rest ++ n ∷ []
-    → IsNext o.residual o.depth o.children loop.at.now (Some (Link f)) n.children mid.at.now → n ≡ with_children o n.children → Leaves mid new → Finds first (Some f) new
+    → IsNext o.residual o.depth o.children loop.at (Some (Link f)) n.children mid.at → n ≡ with_children o n.children → Leaves mid new → Finds first (Some f) new
 link_found first loop mid new o n f rest kept then items pushed is same leaves = λ ss e.
     let k = kept.keeps ss e in
-    let g = gone_link o f n.children loop.at.now mid.at.now (reverse rest) k.0 is (above loop o rest k.0 kept.next items k.1) in
+    let g = gone_link o f n.children loop.at mid.at (reverse rest) k.0 is (above loop o rest k.0 kept.next items k.1) in
     let stack : reverse mid.stack.items ≡ with_children o n.children ∷ reverse rest = reversed_push mid.stack.items rest n pushed ∙ ap (λ x. x ∷ reverse rest) same in
-    let l = leaves g.0 (trail_without mid then ∙ ap (stands mid.at.now) stack ∙ g.1) in (
+    let l = leaves g.0 (trail_without mid then ∙ ap (stands mid.at) stack ∙ g.1) in (
       l.0,
       l.1,
       record {
@@ -188,11 +182,11 @@ link_found first loop mid new o n f rest kept then items pushed is same leaves =
     )
 
 -- the link that comes first is taken
-pub next_taken : (old new : Trail) (f : Found) → old.next ≡ Some f → new.next ≡ None → new.at.now ≡ old.at.now → new.stack.items ≡ old.stack.items → Finds old (Some f) new
+pub next_taken : (old new : Trail) (f : Found) → old.next ≡ Some f → new.next ≡ None → new.at ≡ old.at → new.stack.items ≡ old.stack.items → Finds old (Some f) new
 next_taken old new f next then at_is stack_is = λ ss e.
-    let m = some_mapped (with_next (Some f)) (stands old.at.now (reverse old.stack.items)) ss (ap (λ o. option_map (with_next o) (stands old.at.now (reverse old.stack.items))) (sym next) ∙ e) in (
+    let m = some_mapped (with_next (Some f)) (stands old.at (reverse old.stack.items)) ss (ap (λ o. option_map (with_next o) (stands old.at (reverse old.stack.items))) (sym next) ∙ e) in (
       m.0,
-      below new old.stack.items old.at.now m.0 then stack_is at_is m.1,
+      below new old.stack.items old.at m.0 then stack_is at_is m.1,
       record {
         arrivals = λ inside limit. ap (all_arrivals inside limit) (sym m.2);
         deep = λ bound n. let k : NoDeeper bound (found f ∷ m.0) = subst (NoDeeper bound) (sym m.2) n in (k.0, k.1);

@@ -15,12 +15,12 @@ use Rattle.ix_walk.specs.Walking.{arrival, Subtree, all_arrivals, found_arrivals
 use Rattle.ix_walk.specs.Descent.{node_arrivals}
 use Rattle.ix_walk.specs.WalkLeft.{WalkLeft, GivesNext, nothing_left}
 
--- the bytes spell the data of a CID's block, or there are none
+-- the bytes spell the data of a CID, or there are none
 abbrev pub IsValue : Option Data → Option (List ℕ) → Type 0
 IsValue value None = value ≡ None
 IsValue value (Some b) = (d : Data) × (value ≡ Some d) × (decoded b ≡ Ok d)
 
--- the bytes of a CID's block into which a walk goes, and whether it is malformed
+-- the bytes of a CID into which a walk goes, and whether it is malformed
 abbrev pub IsReading : Blocks → List ℕ → Option (List ℕ) → Bool → Type 0
 IsReading store c block malformed = IsValue (value_of store c) block × (malformed ≡ is_malformed store c)
 

@@ -1,6 +1,7 @@
 -- What the entry of a store holds.
 use Rattle.std.specs.Prelude.{ℕ, List, take, drop}
 use Rattle.std.specs.Arc.{arc_value}
+use Rattle.ix_walk.specs.declared.entry.Entry.{Entry}
 use Rattle.ix_walk.specs.declared.entry.Block.{Block}
 use Rattle.ix_walk.specs.declared.entry.Block.TheVariants.{Own, Within}
 
@@ -8,3 +9,7 @@ use Rattle.ix_walk.specs.declared.entry.Block.TheVariants.{Own, Within}
 abbrev pub content : Block → List ℕ
 content (Own block) = block.items
 content (Within bytes start size) = take size (drop start (arc_value bytes).items)
+
+-- a CID and the bytes of its block
+abbrev pub pair_of : Entry → List ℕ × List ℕ
+pair_of e = (e.cid, content e.block)

@@ -1,12 +1,12 @@
 -- What the index of a store says: a table of slots, and a tree behind it.
-use Rattle.std.specs.Prelude.{◌≡◌, ◌⊎◌, ℕ, zero, suc, ◌+◌, ◌-◌, ◌%◌, List, [], ◌∷◌, length, take, drop, nat_lt, if◌then◌else◌, Option, Some, None}
+use Rattle.std.specs.Prelude.{◌≡◌, ◌⊎◌, ℕ, zero, suc, ◌+◌, ◌-◌, ◌/◌, ◌^◌, ◌<◌, ◌≤◌, List, [], ◌∷◌, length, take, drop, nat_lt, if◌then◌else◌, Option, Some, None}
 use Rattle.std.specs.BTreeMap.{get}
 use Rattle.std.specs.Cmp.Lexicographic.{slice_cmp}
 use Rattle.std.specs.Ordering.{nat_cmp}
 use Rattle.std.specs.Int.{w64, from_le_bytes}
+use Rattle.std.specs.Int.Bits.{bit_and}
 use Rattle.ix_walk.specs.Store.{Blocks, HasDistinctCids, position_of}
 use Rattle.ix_walk.specs.declared.index.Slot.{Slot}
-use Rattle.ix_walk.specs.declared.index.Slot.TheVariants.{Free, Taken}
 use Rattle.ix_walk.specs.declared.index.Seat.{Seat}
 use Rattle.ix_walk.specs.declared.index.Seat.TheVariants.{Held, Open, Behind}
 use Rattle.ix_walk.specs.declared.index.Index.{Index}
@@ -15,33 +15,56 @@ use Rattle.ix_walk.specs.declared.index.Index.{Index}
 abbrev pub tail_of : List ℕ → ℕ
 tail_of c = if nat_lt (length c) 8 then 0 else from_le_bytes w64 (drop (length c - 8) c)
 
--- the slot at which the look-up of a number begins
+-- the mark of a number: its upper half
+abbrev pub mark_of : ℕ → ℕ
+mark_of tail = tail / 2 ^ 32
+
+-- the slot at which the look-up of a number begins: its bits, masked by the last slot at which one may
 abbrev pub first_of : List Slot → ℕ → ℕ
-first_of slots tail = tail % (length slots - 7)
+first_of slots tail = bit_and tail (length slots - 8)
 
 -- the slots through which the look-up of a number goes
 abbrev pub window_of : List Slot → ℕ → List Slot
 window_of slots tail = if nat_lt (length slots) 8 then [] else take 8 (drop (first_of slots tail) slots)
 
--- A look-up of a number through these slots, up to the first free one, and then in the tree, comes to this place.
+abbrev pub IsFree : Slot → Type 0
+IsFree slot = slot.end ≡ 0
+
+abbrev pub IsTaken : Slot → Type 0
+IsTaken slot = 0 < slot.end
+
+-- a slot has this mark and this place
+abbrev pub Has : Slot → ℕ → ℕ → Type 0
+Has slot mark place = (slot.mark ≡ mark) × (slot.end ≡ place + 1)
+
+-- what a slot answers for its place
+abbrev pub HasPlace : Slot → Option ℕ → Type 0
+HasPlace slot (Some place) = slot.end ≡ place + 1
+HasPlace slot None = IsFree slot
+
+-- no slot can have this place
+abbrev pub IsLarge : ℕ → Type 0
+IsLarge place = 2 ^ 32 - 1 ≤ place
+
+-- A look-up of a mark through these slots, up to the first free one, and then in the tree, comes to this place.
 abbrev pub Leads : List Slot → Option ℕ → ℕ → ℕ → Type 0
-Leads [] behind tail place = behind ≡ Some place
-Leads (Free ∷ slots) behind tail place = ⊥
-Leads (Taken t p ∷ slots) behind tail place = ((t ≡ tail) × (p ≡ place)) ⊎ Leads slots behind tail place
+Leads [] behind mark place = behind ≡ Some place
+Leads (slot ∷ slots) behind mark place = IsTaken slot × (Has slot mark place ⊎ Leads slots behind mark place)
+
+-- the look-up of a number comes to this place, or no slot can have it and the tree has
+abbrev pub Comes : List Slot → Option ℕ → ℕ → ℕ → Type 0
+Comes slots behind tail place = (IsLarge place × (behind ≡ Some place)) ⊎ Leads (window_of slots tail) behind (mark_of tail) place
 
 -- none of the slots is free
 abbrev pub AreTaken : List Slot → Type 0
 AreTaken [] = Unit {0}
-AreTaken (Free ∷ slots) = ⊥
-AreTaken (Taken t p ∷ slots) = AreTaken slots
+AreTaken (slot ∷ slots) = IsTaken slot × AreTaken slots
 
 -- the first free slot is the one at n
 abbrev pub IsFirstFree : List Slot → ℕ → Type 0
 IsFirstFree [] n = ⊥
-IsFirstFree (Free ∷ slots) zero = Unit {0}
-IsFirstFree (Free ∷ slots) (suc n) = ⊥
-IsFirstFree (Taken t p ∷ slots) zero = ⊥
-IsFirstFree (Taken t p ∷ slots) (suc n) = IsFirstFree slots n
+IsFirstFree (slot ∷ slots) zero = IsFree slot
+IsFirstFree (slot ∷ slots) (suc n) = IsTaken slot × IsFirstFree slots n
 
 -- the place that the tree has for a CID
 abbrev pub place_behind : Index → List ℕ → Option ℕ
@@ -49,7 +72,7 @@ place_behind index c = get (slice_cmp nat_cmp) index.behind c
 
 -- a look-up through these slots, and behind them in the tree of the index, comes to the place of each CID
 abbrev pub AreLedTo : List Slot → Index → Blocks → Type 0
-AreLedTo slots index blocks = (c : List ℕ) (place : ℕ) → position_of blocks c ≡ Some place → Leads (window_of slots (tail_of c)) (place_behind index c) (tail_of c) place
+AreLedTo slots index blocks = (c : List ℕ) (place : ℕ) → position_of blocks c ≡ Some place → Comes slots (place_behind index c) (tail_of c) place
 
 -- an index of pairs with distinct CIDs: the look-up of each comes to its place, and the tree has no wrong one
 pub record IsIndexed (index : Index) (blocks : Blocks) : Type 0 where
@@ -61,13 +84,17 @@ pub record IsIndexed (index : Index) (blocks : Blocks) : Type 0 where
 abbrev pub IsFreeSlot : List Slot → ℕ → ℕ → Type 0
 IsFreeSlot slots tail slot = (n : ℕ) × (slot ≡ first_of slots tail + n) × IsFirstFree (window_of slots tail) n
 
--- what a search for it answers
-abbrev pub FindsFree : List Slot → ℕ → Option ℕ → Type 0
-FindsFree slots tail (Some slot) = IsFreeSlot slots tail slot
-FindsFree slots tail None = AreTaken (window_of slots tail)
+-- the place of a number goes to the tree
+abbrev pub GoesBehind : List Slot → ℕ → ℕ → Type 0
+GoesBehind slots tail place = IsLarge place ⊎ AreTaken (window_of slots tail)
 
--- where the table has a CID, or where its place goes; where that is the tree, the tree has what is there
+-- what a search for a slot for it answers
+abbrev pub FindsFree : List Slot → ℕ → ℕ → Option ℕ → Type 0
+FindsFree slots tail place (Some slot) = (place < 2 ^ 32 - 1) × IsFreeSlot slots tail slot
+FindsFree slots tail place None = GoesBehind slots tail place
+
+-- where the table has a CID, or where the place behind the blocks goes; where that is the tree, the tree has what is there
 abbrev pub IsSeat : Index → Blocks → List ℕ → Seat → Type 0
 IsSeat index blocks c (Held place) = position_of blocks c ≡ Some place
-IsSeat index blocks c (Open slot) = (position_of blocks c ≡ None) × IsFreeSlot index.slots.items (tail_of c) slot
-IsSeat index blocks c Behind = AreTaken (window_of index.slots.items (tail_of c)) × ((place : ℕ) → position_of blocks c ≡ Some place → place_behind index c ≡ Some place)
+IsSeat index blocks c (Open slot) = (position_of blocks c ≡ None) × FindsFree index.slots.items (tail_of c) (length blocks) (Some slot)
+IsSeat index blocks c Behind = GoesBehind index.slots.items (tail_of c) (length blocks) × ((place : ℕ) → position_of blocks c ≡ Some place → place_behind index c ≡ Some place)

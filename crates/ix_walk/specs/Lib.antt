@@ -19,4 +19,6 @@ pub mod Walking
 pub mod Descent
 pub mod Arriving
 pub mod Entry
+pub mod Mark
+pub mod Ahead
 pub mod Examples

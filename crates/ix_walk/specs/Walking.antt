@@ -1,6 +1,5 @@
 -- What a walk is about to give, from what it keeps.
 use Rattle.std.specs.Prelude.{◌≡◌, ℕ, zero, suc, ◌+◌, ◌-◌, ◌≤◌, Bool, true, false, List, [], ◌∷◌, ◌++◌, length, flat_map, reverse, take, Option, Some, None, option_map, option_and_then, Result, Ok, Err, nat_lt, ◌==◌, if◌then◌else◌}
-use Rattle.std.specs.Borrow.{Bor}
 use Rattle.ix_cbor.specs.Data as nodes
 use Rattle.ix_cbor.specs.Data.{Data, Items, Entries, null, boolean, integer, float, bytes, text, list, link, no_items, item, no_entries, entry}
 use Rattle.ix_cbor.specs.Reading.{Fault, ◌>>=◌, item_at, items_at, entries_at}
@@ -165,9 +164,9 @@ abbrev pub found : Found → Subtree
 found f = record { places = f.residual; part = to_cid f.cid; depth = f.depth }
 
 -- where the walk goes on behind an open list or map, which ends before these bytes
-abbrev pub goes_on : Option (Bor (List ℕ)) → List ℕ → List ℕ
+abbrev pub goes_on : Option (List ℕ) → List ℕ → List ℕ
 goes_on None rest = rest
-goes_on (Some b) rest = b.now
+goes_on (Some b) rest = b
 
 -- the subtrees of a stack, the next one first, where the walk stands at the front of these bytes: an open list or map goes
 -- on where the one inside it ends, and where that is behind all of its block, in the block that the walk came from
@@ -181,7 +180,7 @@ with_next None ss = ss
 with_next (Some f) ss = found f ∷ ss
 
 abbrev pub trail_stands : Trail → Option (List Subtree)
-trail_stands t = option_map (with_next t.next) (stands t.at.now (reverse t.stack.items))
+trail_stands t = option_map (with_next t.next) (stands t.at (reverse t.stack.items))
 
 abbrev pub or_nil : Option (List Subtree) → List Subtree
 or_nil None = []

@@ -1,47 +1,65 @@
 //! Arriving at a link.
 
-ghost use Rattle.std.specs.Prelude.{◌≡◌, ◌+◌, ◌<◌, ◌^◌, IfOk, IfSome, OnOk, None, option_map};
-ghost use Rattle.ix_walk.specs.Store.{is_walkable, position_of};
+ghost use Rattle.std.specs.Prelude.{◌≡◌, ◌+◌, ◌<◌, ◌^◌, IfOk, IfSome, OnOk, None, option_map, is_none};
+ghost use Rattle.ix_cbor.specs.Reading.{data_at};
+ghost use Rattle.ix_walk.specs.Store.{position_of, bytes_of};
 ghost use Rattle.ix_walk.specs.Descent.{IsItem};
 ghost use Rattle.ix_walk.specs.Arriving.{IsReading, Roots, Arrives, FindsNext, Takes};
 ghost use Rattle.ix_walk.specs.Walking.{IsStanding, IsWalk};
 
+use crate::ahead::Ahead;
 use crate::descent::{next_found, node_at};
+use crate::entry::has_fault;
 use crate::fault::WalkStop;
 use crate::job::Job;
 use crate::store::Store;
 use crate::subtree::{Entered, Found, Trail};
 use crate::visit::Visit;
-use ix_cbor::check;
-use ix_cid::Cid;
 use ix_cid::code::DAG_CBOR;
+use ix_cid::{Cid, CidRef, HashFunction};
 use ix_selector::Residual;
 use std::alloc::{AllocError, Global};
 
-// Whether a walk may go into a CID: DAG-CBOR under SHA-256 of 32 bytes.
-fn may_enter(cid: &Cid) -> bool
-    ensures { result ≡ is_walkable cid.now }
+// The bytes that a CID names, where they are there, and whether they spell no data.
+fn bytes_of<'a>(
+    store: &'a Store,
+    cid: &CidRef<'a>,
+    block: Option<usize>,
+) -> Option<(Ahead<'a>, bool)>
+    requires { block ≡ position_of store.now cid.now }
+    ensures bytes { option_map (λ b. b.0) result ≡ bytes_of store.now cid.now }
+    ensures fault { IfSome result (λ b. b.1 ≡ is_none (data_at b.0)) }
 {
     let parts = cid.parts();
-    parts.codec == DAG_CBOR && parts.has_sha2_256()
+    match parts.hash_function()? {
+        HashFunction::Identity => {
+            let digest = Ahead::of_digest(cid.as_bytes(), cid.shared(), parts.digest);
+            Some((digest, has_fault(parts.digest)))
+        }
+        HashFunction::Sha2_256 | HashFunction::Sha2_512 => {
+            let place = block?;
+            Some((store.ahead(place), store.is_faulty(place)))
+        }
+    }
 }
 
-// The bytes of a CID's block, if the walk goes into it, and whether it should be DAG-CBOR and is none.
-fn read_block<'a>(store: &'a Store, cid: &Cid, block: Option<usize>) -> (Option<&'a [u8]>, bool)
+// The bytes into which a walk goes, if there are any, and whether they should be DAG-CBOR and are none.
+fn read_block<'a>(
+    store: &'a Store,
+    cid: &CidRef<'a>,
+    block: Option<usize>,
+) -> (Option<Ahead<'a>>, bool)
     requires { block ≡ position_of store.now cid.now }
-    ensures reading { IsReading store.now cid.now (option_map (λ b. b.now) result.0) result.1 }
-    ensures item { IfSome result.0 (λ b. IsItem b.now) }
+    ensures reading { IsReading store.now cid.now result.0 result.1 }
+    ensures item { IfSome result.0 (λ b. IsItem b) }
 {
-    let Some(place) = block else {
-        return (None, false);
-    };
-    if !may_enter(cid) {
+    if cid.parts().codec != DAG_CBOR {
         return (None, false);
     }
-    let bytes = store.bytes(place);
-    match check(bytes) {
-        Ok(()) => (Some(bytes), false),
-        Err(_) => (None, true),
+    match bytes_of(store, cid, block) {
+        None => (None, false),
+        Some((_, true)) => (None, true),
+        Some((bytes, false)) => (Some(bytes), false),
     }
 }
 
@@ -50,21 +68,20 @@ fn enter_block<'a>(
     alloc: Global,
     trail: &mut Trail<'a>,
     residual: Residual<'a>,
-    block: Option<&'a [u8]>,
+    block: Option<Ahead<'a>>,
     depth: u32,
 ) -> Result<(), AllocError>
     requires next { trail.old.next ≡ None }
-    requires block { IfSome block (λ b. IsItem b.now) }
-    ensures { OnOk result (Roots residual.entry (option_map (λ b. b.now) block.entry) depth trail.old trail.new) }
+    requires block { IfSome block (λ b. IsItem b) }
+    ensures { OnOk result (Roots residual.entry block.entry depth trail.old trail.new) }
 {
-    let Some(bytes) = block else {
+    let Some(mut at) = block else {
         return Ok(());
     };
-    let (entered, at) = node_at(alloc, residual, bytes, depth)?;
-    match entered {
+    match node_at(residual, &mut at, depth) {
         Some(Entered::Link(found)) => trail.next = Some(found),
         Some(Entered::Open(mut root)) => {
-            root.back = Some(trail.at);
+            root.back = Some(trail.at.again());
             trail.stack.push(root)?;
             trail.at = at;
         }
@@ -88,11 +105,12 @@ fn arrive<'a>(
 {
     let Found {
         residual,
-        cid,
+        cid: at,
         depth,
     } = found;
+    let cid = at.to_cid(alloc)?;
     let block = store.find(&cid);
-    let (bytes, malformed) = read_block(store, &cid, block);
+    let (bytes, malformed) = read_block(store, &at, block);
     enter_block(alloc, trail, residual, bytes, depth + 1)?;
     Ok(Visit {
         job: number,
@@ -122,11 +140,10 @@ fn next_arrival<'a>(
         return Ok(None);
     };
     let residual = Residual::start(alloc, job.selector())?;
-    let cid = root.try_clone(alloc)?;
     *roots = rest;
     Ok(Some(Found {
         residual,
-        cid,
+        cid: root.by_ref(),
         depth: 0,
     }))
 }

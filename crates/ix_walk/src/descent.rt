@@ -1,7 +1,6 @@
 //! Going through the bytes of a block, down to the next link.
 
 ghost use Rattle.std.specs.Prelude.{◌≡◌, IfOk, OnOk, Ok, None, List, ℕ};
-ghost use Rattle.ix_cid.specs.Cid.{IsCid};
 ghost use Rattle.ix_cbor.specs.Data.{Data};
 ghost use Rattle.ix_cbor.specs.Reading.{own_at, item_at, key_at};
 ghost use Rattle.ix_cbor.specs.Fronts.{own_of_front, HasCid};
@@ -9,10 +8,11 @@ ghost use Rattle.ix_selector.specs.Residual.{step_of};
 ghost use Rattle.ix_walk.specs.declared.subtree.Children.TheVariants as children;
 ghost use Rattle.ix_walk.specs.Walking.{with_children, IsStanding};
 ghost use Rattle.ix_walk.specs.Descent.{IsItem, IsKey, IsPart, may_hold_links, entered_by, IsNode, IsChild, IsNext, Finds, Leaves};
+ghost use Rattle.ix_walk.specs.Ahead.{EndsWith, LinkBefore};
 
+use crate::ahead::Ahead;
 use crate::subtree::{Children, Entered, Found, Opened, Trail};
 use ix_cbor::{Front, read_front, read_key, skip_item};
-use ix_cid::Cid;
 use ix_selector::{Residual, Step};
 use std::alloc::{AllocError, Global};
 
@@ -21,9 +21,23 @@ fn front_at(at: &[u8]) -> (Front<'_>, &[u8])
     requires { IsItem at.now }
     ensures exact { own_at at.now ≡ Ok (own_of_front result.0, result.1.now) }
     ensures cid { HasCid result.0 }
+    ensures end { EndsWith at.now result.1.now }
+    ensures link { LinkBefore at.now result.0 result.1.now }
 {
     match read_front(at) {
         Ok(read) => read,
+        Err(_) => unreachable!(),
+    }
+}
+
+// The bytes behind the item that stands here.
+fn skipped(at: &[u8]) -> &[u8]
+    requires { IsItem at.now }
+    ensures exact { (d : Data) (rest : List ℕ) → item_at 512 at.now ≡ Ok (d, rest) → result.now ≡ rest }
+    ensures end { EndsWith at.now result.now }
+{
+    match skip_item(at) {
+        Ok(rest) => rest,
         Err(_) => unreachable!(),
     }
 }
@@ -32,45 +46,35 @@ fn front_at(at: &[u8]) -> (Front<'_>, &[u8])
 fn end_of<'a>(at: &'a [u8], front: Front<'_>, behind: &'a [u8]) -> &'a [u8]
     requires item { IsItem at.now }
     requires front { own_at at.now ≡ Ok (own_of_front front, behind.now) }
-    ensures { (d : Data) (rest : List ℕ) → item_at 512 at.now ≡ Ok (d, rest) → result.now ≡ rest }
+    requires end { EndsWith at.now behind.now }
+    ensures exact { (d : Data) (rest : List ℕ) → item_at 512 at.now ≡ Ok (d, rest) → result.now ≡ rest }
+    ensures end { EndsWith at.now result.now }
 {
     match front {
-        Front::List(_) | Front::Map(_) => match skip_item(at) {
-            Ok(rest) => rest,
-            Err(_) => unreachable!(),
-        },
+        Front::List(_) | Front::Map(_) => skipped(at),
         _ => behind,
-    }
-}
-
-// The CID of a link.
-fn cid_of(alloc: Global, bytes: &[u8]) -> Result<Cid, AllocError>
-    requires { IsCid bytes.now }
-    ensures { IfOk result (λ c. c ≡ bytes.now) }
-{
-    match Cid::read(alloc, bytes) {
-        Ok((cid, _)) => Ok(cid),
-        Err(_) => Err(AllocError),
     }
 }
 
 // What an item with this front is for the walk, which enters it, if a link can be there.
 fn entered_by<'a>(
-    alloc: Global,
-    front: Front<'_>,
+    at: &Ahead<'a>,
+    front: Front<'a>,
+    behind: &'a [u8],
     residual: Residual<'a>,
     depth: u32,
-) -> Result<Option<Entered<'a>>, AllocError>
-    requires { HasCid front }
-    ensures { IfOk result (λ o. o ≡ entered_by residual.entry front.entry depth) }
+) -> Option<Entered<'a>>
+    requires cid { HasCid front }
+    requires link { LinkBefore at.now front behind.now }
+    ensures { result ≡ entered_by residual.entry front.entry depth }
 {
     let children = match front {
         Front::Link(cid) => {
-            return Ok(Some(Entered::Link(Found {
+            return Some(Entered::Link(Found {
                 residual,
-                cid: cid_of(alloc, cid)?,
+                cid: at.cid_before(cid, behind),
                 depth,
-            })));
+            }));
         }
         Front::List(count) => Children::Members { count, left: count },
         Front::Map(left) => Children::Values { left },
@@ -79,14 +83,14 @@ fn entered_by<'a>(
         | Front::Int(_)
         | Front::Bits64(_)
         | Front::Bytes(_)
-        | Front::Text(_) => return Ok(None),
+        | Front::Text(_) => return None,
     };
-    Ok(Some(Entered::Open(Opened {
+    Some(Entered::Open(Opened {
         residual,
         children,
         depth,
         back: None,
-    })))
+    }))
 }
 
 // Whether a link can be in an item with this front.
@@ -96,61 +100,73 @@ fn may_hold_links(front: Front<'_>) -> bool
     matches!(front, Front::Link(_) | Front::List(_) | Front::Map(_))
 }
 
-// What the item is that stands here, which is entered, and where the walk then stands.
+// What the item is that stands here, which is entered; the walk then stands behind its front.
 pub(crate) fn node_at<'a>(
-    alloc: Global,
     residual: Residual<'a>,
-    at: &'a [u8],
+    at: &mut Ahead<'a>,
     depth: u32,
-) -> Result<(Option<Entered<'a>>, &'a [u8]), AllocError>
-    requires { IsItem at.now }
-    ensures { IfOk result (λ r. IsNode residual.entry at.now depth r.0 r.1.now) }
+) -> Option<Entered<'a>>
+    requires { IsItem at.old }
+    ensures { IsNode residual.entry at.old depth result at.new }
 {
-    let (front, behind) = front_at(at);
-    Ok((entered_by(alloc, front, residual, depth)?, behind))
+    let (front, behind) = front_at(at.bytes());
+    let entered = entered_by(at, front, behind, residual, depth);
+    at.go_to(behind);
+    entered
 }
 
-// What the child is that stands here, with this front and these bytes behind it, where the selector enters it; and where
-// the walk then stands. It isn't inlined, so that children without links don't pay for its locals.
+// What the child is that stands here, with this front and these bytes behind it, where the selector enters it; the walk
+// then stands behind its front, or behind all of it where it isn't entered. It isn't inlined, so that children without
+// links don't pay for its locals.
 #[inline(never)]
 fn step_into<'a>(
     alloc: Global,
     residual: &Residual<'a>,
     step: &Step,
-    at: &'a [u8],
-    front: Front<'_>,
+    at: &mut Ahead<'a>,
+    front: Front<'a>,
     behind: &'a [u8],
     depth: u32,
-) -> Result<(Option<Entered<'a>>, &'a [u8]), AllocError>
-    requires item { IsItem at.now }
-    requires front { own_at at.now ≡ Ok (own_of_front front, behind.now) }
+) -> Result<Option<Entered<'a>>, AllocError>
+    requires item { IsItem at.old }
+    requires front { own_at at.old ≡ Ok (own_of_front front, behind.now) }
     requires cid { HasCid front }
-    ensures { IfOk result (λ r. IsChild residual.now (step_of step.now) at.now depth r.0 r.1.now) }
+    requires end { EndsWith at.old behind.now }
+    requires link { LinkBefore at.old front behind.now }
+    ensures { IfOk result (λ o. IsChild residual.now (step_of step.now) at.old depth o at.new) }
 {
     match residual.step(alloc, step)? {
-        Some(residual) => Ok((entered_by(alloc, front, residual, depth)?, behind)),
-        None => Ok((None, end_of(at, front, behind))),
+        Some(residual) => {
+            let entered = entered_by(at, front, behind, residual, depth);
+            at.go_to(behind);
+            Ok(entered)
+        }
+        None => {
+            let end = end_of(at.bytes(), front, behind);
+            at.go_to(end);
+            Ok(None)
+        }
     }
 }
 
-// What the child is that stands here, where the selector enters it and a link can be in it, and where the walk then
-// stands.
+// What the child is that stands here, where the selector enters it and a link can be in it. The walk then stands behind
+// its front, or behind all of it where it isn't entered.
 fn child_at<'a>(
     alloc: Global,
     residual: &Residual<'a>,
     step: &Step,
-    at: &'a [u8],
+    at: &mut Ahead<'a>,
     depth: u32,
-) -> Result<(Option<Entered<'a>>, &'a [u8]), AllocError>
-    requires { IsItem at.now }
-    ensures { IfOk result (λ r. IsChild residual.now (step_of step.now) at.now depth r.0 r.1.now) }
+) -> Result<Option<Entered<'a>>, AllocError>
+    requires { IsItem at.old }
+    ensures { IfOk result (λ o. IsChild residual.now (step_of step.now) at.old depth o at.new) }
 {
-    let (front, behind) = front_at(at);
+    let (front, behind) = front_at(at.bytes());
     if may_hold_links(front) {
-        step_into(alloc, residual, step, at, front, behind, depth)
-    } else {
-        Ok((None, behind))
+        return step_into(alloc, residual, step, at, front, behind, depth);
     }
+    at.go_to(behind);
+    Ok(None)
 }
 
 // The next member of a list that is entered and may hold a link; how many are then left, and where the walk stands.
@@ -160,16 +176,15 @@ fn next_member<'a>(
     depth: u32,
     count: u64,
     left: &mut u64,
-    at: &mut &'a [u8],
+    at: &mut Ahead<'a>,
 ) -> Result<Option<Entered<'a>>, AllocError>
-    requires { IsPart (children.Members count left.old) at.old.now }
-    ensures { IfOk result (λ o. IsNext residual.now depth (children.Members count left.old) at.old.now o (children.Members count left.new) at.new.now) }
+    requires { IsPart (children.Members count left.old) at.old }
+    ensures { IfOk result (λ o. IsNext residual.now depth (children.Members count left.old) at.old o (children.Members count left.new) at.new) }
 {
     while *left > 0 {
         let place = Step::Pos(count - *left);
-        let (child, behind) = child_at(alloc, residual, &place, at, depth)?;
+        let child = child_at(alloc, residual, &place, at, depth)?;
         *left -= 1;
-        *at = behind;
         if child.is_some() {
             return Ok(child);
         }
@@ -180,7 +195,8 @@ fn next_member<'a>(
 // The key that stands here, and the bytes behind it.
 fn key_at(at: &[u8]) -> (&[u8], &[u8])
     requires { IsKey at.now }
-    ensures { key_at None at.now ≡ Ok (result.0.now, result.1.now) }
+    ensures exact { key_at None at.now ≡ Ok (result.0.now, result.1.now) }
+    ensures end { EndsWith at.now result.1.now }
 {
     match read_key(None, at) {
         Ok(read) => read,
@@ -194,16 +210,16 @@ fn next_value<'a>(
     residual: &Residual<'a>,
     depth: u32,
     left: &mut u64,
-    at: &mut &'a [u8],
+    at: &mut Ahead<'a>,
 ) -> Result<Option<Entered<'a>>, AllocError>
-    requires { IsPart (children.Values left.old) at.old.now }
-    ensures { IfOk result (λ o. IsNext residual.now depth (children.Values left.old) at.old.now o (children.Values left.new) at.new.now) }
+    requires { IsPart (children.Values left.old) at.old }
+    ensures { IfOk result (λ o. IsNext residual.now depth (children.Values left.old) at.old o (children.Values left.new) at.new) }
 {
     while *left > 0 {
-        let (key, value) = key_at(at);
-        let (child, behind) = child_at(alloc, residual, &Step::Key(key), value, depth)?;
+        let (key, value) = key_at(at.bytes());
+        at.go_to(value);
+        let child = child_at(alloc, residual, &Step::Key(key), at, depth)?;
         *left -= 1;
-        *at = behind;
         if child.is_some() {
             return Ok(child);
         }
@@ -215,10 +231,10 @@ fn next_value<'a>(
 fn next_child<'a>(
     alloc: Global,
     opened: &mut Opened<'a>,
-    at: &mut &'a [u8],
+    at: &mut Ahead<'a>,
 ) -> Result<Option<Entered<'a>>, AllocError>
-    requires { IsPart opened.old.children at.old.now }
-    ensures next { IfOk result (λ o. IsNext opened.old.residual opened.old.depth opened.old.children at.old.now o opened.new.children at.new.now) }
+    requires { IsPart opened.old.children at.old }
+    ensures next { IfOk result (λ o. IsNext opened.old.residual opened.old.depth opened.old.children at.old o opened.new.children at.new) }
     ensures same { IfOk result (λ _. opened.new ≡ with_children opened.old opened.new.children) }
 {
     let Opened {
@@ -246,7 +262,7 @@ fn leave_spent(trail: &mut Trail<'_>)
         if !opened.children.is_spent() {
             return;
         }
-        trail.at = opened.back.unwrap_or(trail.at);
+        trail.at.go_on(&opened.back);
         trail.stack.pop();
     }
 }
@@ -269,7 +285,7 @@ fn next_below<'a>(alloc: Global, trail: &mut Trail<'a>) -> Result<Option<Found<'
                 trail.stack.push(opened)?;
                 trail.stack.push(inner)?;
             }
-            None => trail.at = opened.back.unwrap_or(trail.at),
+            None => trail.at.go_on(&opened.back),
         }
     }
     Ok(None)

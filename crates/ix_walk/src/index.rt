@@ -1,15 +1,17 @@
 //! Where the entry of each CID stands in a store.
 //!
 //! A CID has a number, which its last eight bytes spell: in an honest file these are bytes of a digest, so
-//! that each number has a slot of its own in a table, or one a few slots on. Strangers can choose CIDs with
-//! one number, or with numbers that come to one slot. So a look-up goes through a bounded number of slots, and
-//! what finds none of them free goes to a tree over whole CIDs.
+//! that each number has a slot of its own in a table, or one a few slots on. The lower half of the number says at
+//! which slot its look-up begins, and the upper half is the mark by which CIDs of one slot are told apart: only
+//! where it agrees is the CID itself compared. Strangers can choose CIDs with one number, or with numbers that come
+//! to one slot. So a look-up goes through a bounded number of slots, and what finds none of them free goes to a tree
+//! over whole CIDs.
 
-ghost use Rattle.std.specs.Prelude.{◌≡◌, ◌↔◌, ◌++◌, List, [], ◌∷◌, map, Option, Some, true, false, not, IsTrue, IfOk, OnErr, ℕ, bytes_eq, if◌then◌else◌};
+ghost use Rattle.std.specs.Prelude.{◌≡◌, ◌↔◌, ◌++◌, List, [], ◌∷◌, map, ◌-◌, ◌^◌, ◌<◌, Option, Some, true, false, not, IsTrue, IfOk, OnErr, ℕ, bytes_eq, if◌then◌else◌};
 ghost use Rattle.std.specs.Option.{unwrap_or};
 ghost use Rattle.ix_walk.specs.Entry.{content};
 ghost use Rattle.ix_walk.specs.Store.{has_cid, position_of, HasDistinctCids};
-ghost use Rattle.ix_walk.specs.Index.{tail_of, first_of, window_of, place_behind, Leads, AreLedTo, IsIndexed, FindsFree, IsSeat};
+ghost use Rattle.ix_walk.specs.Index.{tail_of, mark_of, first_of, window_of, Has, HasPlace, place_behind, Comes, AreLedTo, IsIndexed, FindsFree, IsSeat};
 
 use crate::entry::Entry;
 use ix_cid::Cid;
@@ -19,14 +21,44 @@ use std::collections::BTreeMap;
 // How many slots a look-up goes through at most.
 const PROBES: usize = 8;
 
-// At how many slots a look-up may begin in the smallest table.
+// At how many slots a look-up may begin in the smallest table: a power of two, as in each larger one, so that a mask
+// of a number comes to each of them.
 const LEAST_STARTS: usize = 64;
 
-// A slot of the table: free, or the number of a CID and the place of its entry.
+// How many places slots can have. Those behind them go to the tree.
+const MOST_PLACES: usize = 0xffff_ffff;
+
+// A slot of the table, in eight bytes: free, or the mark of a CID and the place of its entry.
 #[derive(Clone, Copy)]
-pub(crate) enum Slot {
-    Free,
-    Taken { tail: u64, place: usize },
+pub(crate) struct Slot {
+    mark: u32,
+    // How many entries there are up to the place, with the one there: 0 where the slot is free.
+    end: u32,
+}
+
+impl Slot {
+    const FREE: Slot = Slot { mark: 0, end: 0 };
+
+    // The slot of a place under a number.
+    fn taken(tail: u64, place: usize) -> Slot
+        requires { place < 2 ^ 32 - 1 }
+        ensures { Has result (mark_of tail) place }
+    {
+        Slot {
+            mark: mark_of(tail),
+            end: place as u32 + 1,
+        }
+    }
+
+    // The place in a slot, unless it is free.
+    fn place(self) -> Option<usize>
+        ensures { HasPlace self result }
+    {
+        match self.end {
+            0 => None,
+            end => Some(end as usize - 1),
+        }
+    }
 }
 
 // Where the table has the entry of a CID, or the free slot where its place goes, or that it goes to the tree.
@@ -37,8 +69,8 @@ pub(crate) enum Seat {
     Behind,
 }
 
-// A table of slots, and a tree behind it for the CIDs that found no free slot. What once stood in the tree
-// stays there.
+// A table of slots, and a tree behind it for the CIDs that found no free slot, or whose place no slot can have. What
+// once stood in the tree stays there.
 #[derive(Drop)]
 pub(crate) struct Index {
     slots: Vec<Slot>,
@@ -81,11 +113,11 @@ impl Index {
         ensures same { IsIndexed self.new (map (λ e. (e.cid, content e.block)) entries.now) }
         ensures table { IfOk result (λ slots. AreLedTo slots.items self.new (map (λ e. (e.cid, content e.block)) entries.now)) }
     {
-        let mut slots = vec![in alloc; Slot::Free; starts.saturating_add(PROBES - 1)]?;
+        let mut slots = vec![in alloc; Slot::FREE; starts.saturating_add(PROBES - 1)]?;
         for (place, entry) in entries.iter().enumerate() {
             let tail = tail_of(&entry.cid);
-            match free_slot(slots.as_slice(), tail) {
-                Some(slot) => slots[slot] = Slot::Taken { tail, place },
+            match free_slot(slots.as_slice(), tail, place) {
+                Some(slot) => slots[slot] = Slot::taken(tail, place),
                 None if self.has_place(tail, place) => {
                     self.put_behind(alloc, &entry.cid, place)?;
                 }
@@ -98,11 +130,11 @@ impl Index {
     // Whether the look-up of a number goes through a slot with this place. Where it doesn't, only the tree can
     // lead to it.
     fn has_place(&self, tail: u64, place: usize) -> bool
-        ensures { result ≡ false → (behind : Option ℕ) → Leads (window_of self.now.slots.items tail) behind tail place → behind ≡ Some place }
+        ensures { result ≡ false → (behind : Option ℕ) → Comes self.now.slots.items behind tail place → behind ≡ Some place }
     {
         let (_, window) = window(self.slots.as_slice(), tail);
         for slot in window {
-            if let Slot::Taken { place: other, .. } = *slot {
+            if let Some(other) = slot.place() {
                 if other == place {
                     return true;
                 }
@@ -131,12 +163,16 @@ impl Index {
         ensures { IsSeat self.now (map (λ e. (e.cid, content e.block)) entries.now) cid.now result }
     {
         let tail = tail_of(cid);
+        let mark = mark_of(tail);
         let (first, window) = window(self.slots.as_slice(), tail);
         for (step, slot) in window.iter().enumerate() {
-            let Slot::Taken { tail: other, place } = *slot else {
-                return Seat::Open(first + step);
+            let Some(place) = slot.place() else {
+                if entries.len() < MOST_PLACES {
+                    return Seat::Open(first + step);
+                }
+                return Seat::Behind;
             };
-            if other == tail && holds(entries, place, cid) {
+            if slot.mark == mark && holds(entries, place, cid) {
                 return Seat::Held(place);
             }
         }
@@ -172,8 +208,7 @@ impl Index {
         match self.seat(entries, cid) {
             Seat::Held(_) => Ok(false),
             Seat::Open(slot) => {
-                let tail = tail_of(cid);
-                self.slots[slot] = Slot::Taken { tail, place };
+                self.slots[slot] = Slot::taken(tail_of(cid), place);
                 Ok(true)
             }
             Seat::Behind => {
@@ -189,25 +224,35 @@ fn window(slots: &[Slot], tail: u64) -> (usize, &[Slot])
     ensures first { result.0 ≡ first_of slots.now tail }
     ensures slots { result.1.now ≡ window_of slots.now tail }
 {
-    let starts = slots.len().saturating_sub(PROBES - 1);
-    if starts == 0 {
-        return (tail as usize, &[]);
+    if slots.len() < PROBES {
+        return (0, &[]);
     }
-    let first = (tail % starts as u64) as usize;
+    let first = tail as usize & (slots.len() - PROBES);
     (first, &slots[first..first + PROBES])
 }
 
-// The first free slot of the look-up of a number.
-fn free_slot(slots: &[Slot], tail: u64) -> Option<usize>
-    ensures { FindsFree slots.now tail result }
+// The slot to which the place of a number goes: the first free one of its look-up. The place goes to the tree where
+// none of them is free, or where no slot can have it.
+fn free_slot(slots: &[Slot], tail: u64, place: usize) -> Option<usize>
+    ensures { FindsFree slots.now tail place result }
 {
+    if place >= MOST_PLACES {
+        return None;
+    }
     let (first, window) = window(slots, tail);
     for (step, slot) in window.iter().enumerate() {
-        let Slot::Taken { .. } = *slot else {
+        if slot.place().is_none() {
             return Some(first + step);
-        };
+        }
     }
     None
+}
+
+// The mark of a number: its upper half.
+fn mark_of(tail: u64) -> u32
+    ensures { result ≡ mark_of tail }
+{
+    (tail >> 32) as u32
 }
 
 // The number of a CID.

@@ -1,8 +1,10 @@
 //! The store of blocks, jobs, and the walk.
 //!
-//! A store is a list of blocks under distinct CIDs. A job is a root, a selector and a limit; its
-//! walk gives the job's visits in their order, one for each arrival at a link, and behind them
-//! Limit exactly where there are more than the limit. Before Memory it gives the first of them.
+//! A store is a list of blocks under distinct CIDs. Once it is settled it keeps what is found of a
+//! block, whether it has its CID's digest and whether it decodes, so that each is computed once for
+//! all threads. A job is a list of roots, a selector and a limit; its walk gives the job's visits in
+//! their order, root after root, one for each arrival at a CID, and behind them Limit exactly where
+//! there are more than the limit. Before Memory it gives the first of them.
 //!
 //! ```rust
 //! let mut store = Store::new(alloc);
@@ -16,12 +18,16 @@
 //! ```
 #![tactic(auto)]
 
+mod ahead;
 mod arriving;
 mod descent;
+mod digest;
 mod entry;
 mod fault;
 mod index;
 mod job;
+mod mark_rule;
+mod marks;
 mod store;
 mod subtree;
 mod visit;

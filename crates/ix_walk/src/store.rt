@@ -3,10 +3,13 @@
 ghost use Rattle.std.specs.Prelude.{◌≡◌, ◌<◌, [], ◌∷◌, ◌++◌, length, map, take, drop, slice_get, Some, true, false, IfOk, OnOk, OnErr, not, ◌==◌};
 ghost use Rattle.std.specs.Arc.{arc_value};
 ghost use Rattle.ix_walk.specs.Entry.{content};
+ghost use Rattle.ix_walk.specs.Mark.{agrees, is_faulty};
 ghost use Rattle.ix_walk.specs.Store.{has_cid, with_block, position_of};
 
+use crate::ahead::Ahead;
 use crate::entry::{Block, Entry};
 use crate::index::{Index, holds};
+use crate::marks::Marks;
 use ix_cid::Cid;
 use std::alloc::{AllocError, Global};
 use std::marker::Model;
@@ -19,10 +22,12 @@ pub struct Store {
     entries: Vec<Entry>,
     // Where the entry of each CID stands.
     index: Index,
+    // What is known of the blocks, once the store was settled and as long as none is added.
+    marks: Option<Marks>,
 }
 
 impl Model for Store {
-    ghost use Rattle.std.specs.Prelude.{List, ℕ, map};
+    ghost use Rattle.std.specs.Prelude.{◌≡◌, List, ℕ, map, IfSome};
     ghost use Rattle.ix_walk.specs.Entry.{content};
     ghost use Rattle.ix_walk.specs.Index.{IsIndexed};
 
@@ -30,7 +35,7 @@ impl Model for Store {
 
     ghost view = { λ s. map (λ e. (e.cid, content e.block)) s.entries.items };
 
-    ghost invariant = { λ s. IsIndexed s.index (map (λ e. (e.cid, content e.block)) s.entries.items) };
+    ghost invariant = { λ s. IsIndexed s.index (map (λ e. (e.cid, content e.block)) s.entries.items) × IfSome s.marks (λ m. m ≡ map (λ e. (e.cid, content e.block)) s.entries.items) };
 }
 
 impl Store {
@@ -42,6 +47,7 @@ impl Store {
             alloc,
             entries: Vec::new(alloc),
             index: Index::new(alloc),
+            marks: None,
         }
     }
 
@@ -83,6 +89,7 @@ impl Store {
         if !entered {
             return Ok(false);
         }
+        self.marks = None;
         self.entries.push_reserved(Entry { cid, block });
         Ok(true)
     }
@@ -98,6 +105,16 @@ impl Store {
         }
         let copy = Vec::from_slice(self.alloc, block)?;
         self.add(cid, copy)
+    }
+
+    /// Makes room to keep what is found of the blocks, eight bytes for each, until one is added. The store holds the
+    /// same, whether there is memory for that or not.
+    pub fn settle(&mut self) -> Result<(), AllocError>
+        ensures { self.new ≡ self.old }
+    {
+        let marks = Marks::new(self.alloc, &self.entries)?;
+        self.marks = Some(marks);
+        Ok(())
     }
 
     /// Where the block of a CID stands.
@@ -124,6 +141,41 @@ impl Store {
         ensures { slice_get (map (λ e. e.1) self.now) place ≡ Some result.now }
     {
         self.entries[place].block.bytes()
+    }
+
+    // The block at a place, and where it ends in shared bytes.
+    pub(crate) fn ahead(&self, place: usize) -> Ahead<'_>
+        requires { place < length self.now }
+        ensures { slice_get (map (λ e. e.1) self.now) place ≡ Some result }
+    {
+        self.entries[place].block.ahead()
+    }
+
+    /// Whether the digest of the CID at a place is that of the block there, by the CID's hash function: SHA-256 or
+    /// SHA-512 (FIPS 180-4), or the block itself under identity, and never under another function. A settled store
+    /// computes it once for all threads.
+    pub fn agrees(&self, place: usize) -> bool
+        requires { place < length self.now }
+        ensures { slice_get (map agrees self.now) place ≡ Some result }
+    {
+        let entry = &self.entries[place];
+        match &self.marks {
+            Some(marks) => marks.agrees(place, entry),
+            None => entry.agrees(),
+        }
+    }
+
+    /// Whether the block at a place spells no data (DAG-CBOR, RFC 8949). A settled store computes it once for
+    /// all threads.
+    pub fn is_faulty(&self, place: usize) -> bool
+        requires { place < length self.now }
+        ensures { slice_get (map is_faulty self.now) place ≡ Some result }
+    {
+        let entry = &self.entries[place];
+        match &self.marks {
+            Some(marks) => marks.is_faulty(place, entry),
+            None => entry.is_faulty(),
+        }
     }
 
     /// How many blocks there are.

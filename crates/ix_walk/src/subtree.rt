@@ -3,7 +3,8 @@
 ghost use Rattle.std.specs.Prelude.{◌≡◌, None, []};
 ghost use Rattle.ix_walk.specs.Walking.{is_spent};
 
-use ix_cid::Cid;
+use crate::ahead::Ahead;
+use ix_cid::CidRef;
 use ix_selector::Residual;
 use std::alloc::Global;
 
@@ -23,14 +24,14 @@ pub(crate) struct Opened<'a> {
     pub children: Children,
     pub depth: u32,
     // Where the walk goes on behind it, where that isn't behind its last child: in the block that the walk came from.
-    pub back: Option<&'a [u8]>,
+    pub back: Option<Ahead<'a>>,
 }
 
 // A link that is arrived at.
 #[derive(Drop)]
 pub(crate) struct Found<'a> {
     pub residual: Residual<'a>,
-    pub cid: Cid,
+    pub cid: CidRef<'a>,
     pub depth: u32,
 }
 
@@ -45,7 +46,7 @@ pub(crate) enum Entered<'a> {
 // lists and maps that are open, the next at the end.
 #[derive(Drop)]
 pub(crate) struct Trail<'a> {
-    pub at: &'a [u8],
+    pub at: Ahead<'a>,
     pub next: Option<Found<'a>>,
     pub stack: Vec<Opened<'a>>,
 }
@@ -68,7 +69,7 @@ impl<'a> Trail<'a> {
         ensures stack { result.stack.items ≡ [] }
     {
         Trail {
-            at: &[],
+            at: Ahead::of(&[]),
             next: None,
             stack: Vec::new(alloc),
         }

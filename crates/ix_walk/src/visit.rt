@@ -12,6 +12,6 @@ pub struct Visit {
     pub cid: Cid,
     /// Where the store has the block.
     pub block: Option<usize>,
-    /// The block is there, should be DAG-CBOR, and is none.
+    /// The CID is DAG-CBOR, and its bytes are there and spell none.
     pub malformed: bool,
 }

@@ -1,12 +1,14 @@
 //! Reading the parts of a CARv1 file: a text behind its length, and a section.
 
 ghost use Rattle.std.specs.Prelude.{◌≡◌, ◌<◌, ◌≤◌, ◌++◌, length, IfOk, IfErr};
+ghost use Rattle.std.specs.Arc.{arc_value};
 ghost use Rattle.ix_car.specs.Reading.{text_at, section_at};
 ghost use Rattle.ix_car.specs.Reads.{Reads, ReadsOrRunsOut, IsEnd};
 
 use crate::fault::CarKind;
-use ix_cid::{Cid, CidFault, VarintFault, read_varint};
+use ix_cid::{Cid, CidRef, VarintFault, read_varint};
 use std::alloc::Global;
+use std::sync::Arc;
 
 // What is wrong, and how many bytes there are from its place to the end.
 #[derive(Drop)]
@@ -48,17 +50,27 @@ pub(super) fn text_at(bytes: &[u8]) -> Result<(&[u8], &[u8]), Stop>
     Ok(rest.split_at(length as usize))
 }
 
-// The CID and the block of the section at the front, and the bytes after it.
-pub(super) fn section_at(alloc: Global, bytes: &[u8]) -> Result<(Cid, &[u8], &[u8]), Stop>
+// The CID and the block of the section at the front of a file's end, and the bytes after it. A long CID is a
+// share of the file.
+pub(super) fn section_at<'a>(
+    alloc: Global,
+    file: &Arc<Vec<u8>>,
+    bytes: &'a [u8],
+) -> Result<(Cid, &'a [u8], &'a [u8]), Stop>
+    requires { IsEnd bytes.now (arc_value file.now).items }
     ensures reads { ReadsOrRunsOut (λ r. ((r.0, r.1.now), r.2.now)) result (section_at bytes.now) }
     ensures shorter { IfOk result (λ r. length r.2.now < length bytes.now) }
     ensures end { IfOk result (λ r. IsEnd (r.1.now ++ r.2.now) bytes.now) }
     ensures within { IfErr result (λ stop. stop.left ≤ length bytes.now) }
 {
     let (section, rest) = text_at(bytes)?;
-    match Cid::read(alloc, section) {
-        Ok((cid, length)) => Ok((cid, &section[length..], rest)),
-        Err(CidFault::Memory) => Err(Stop::at(CarKind::Memory, bytes)),
-        Err(_) => Err(Stop::at(CarKind::SectionCid, bytes)),
+    let Ok(length) = Cid::length_at(section) else {
+        return Err(Stop::at(CarKind::SectionCid, bytes));
+    };
+    let (cid, block) = section.split_at(length);
+    let start = file.len() - rest.len() - section.len();
+    match CidRef::within(cid, file, start).to_cid(alloc) {
+        Ok(cid) => Ok((cid, block, rest)),
+        Err(_) => Err(Stop::at(CarKind::Memory, bytes)),
     }
 }

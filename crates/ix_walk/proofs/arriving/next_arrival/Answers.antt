@@ -14,6 +14,6 @@ returns-in-Some-clause-found c =
 
 pub returns-clause-found : goal.returns-clause-found
 returns-clause-found c =
-    next_root c.args.job.now.selector c.args.trail.now c.next_found.new.trail c.args.roots.now.now c.in-Some-split_first.rest.now c.in_ok-residual.residual c.in-Some-split_first.root.now c.in_ok-cid.cid
+    next_root c.args.job.now.selector c.args.trail.now c.next_found.new.trail c.args.roots.now.now c.in-Some-split_first.rest.now c.in_ok-residual.residual c.in-Some-split_first.root.now c.by_ref.result
     (subst (λ (o : Option Found). Finds c.args.trail.now o c.next_found.new.trail) c.in_default.is c.in_ok-found.ensures.found) c.in-Some-split_first.ensures.cases.0
-    (λ p. c.in_ok-residual.ensures.tested p ∙ ap (λ (s : Pattern). is_entered s p) c.selector.ensures) c.in_ok-cid.ensures.same
+    (λ p. c.in_ok-residual.ensures.tested p ∙ ap (λ (s : Pattern). is_entered s p) c.selector.ensures) c.by_ref.ensures.same

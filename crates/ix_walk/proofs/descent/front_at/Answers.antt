@@ -1,8 +1,15 @@
-use Rattle.std.proofs.Common.{sym, ◌∙◌}
+use Rattle.std.proofs.Common.{sym, ◌∙◌, arith}
 use Rattle.ix_cbor.proofs.Steps.{no_ok}
+use Rattle.ix_walk.proofs.Ends.{front_end, link_end}
 use Rattle.ix_walk.proofs.Parts.{item_has_front}
 use Rattle.ix_walk.proofs.descent.front_at.Goals as goal
 
 pub unreachable-requires : goal.unreachable-requires
 unreachable-requires c =
     let own = item_has_front c.args.at.now c.requires.0 c.requires.1 in no_ok _ own.0 (sym c.in-Err.ensures.exact.1 ∙ own.1)
+
+pub returns-clause-end : goal.returns-clause-end
+returns-clause-end c = front_end c.in-Ok.read.0 c.args.at.now c.in-Ok.read.1.now (λ i. omega (arith, c.type_inv.at i)) c.in-Ok.ensures.exact
+
+pub returns-clause-link : goal.returns-clause-link
+returns-clause-link c = link_end c.in-Ok.read.0 c.args.at.now c.in-Ok.read.1.now (λ i. omega (arith, c.type_inv.at i)) c.in-Ok.ensures.exact

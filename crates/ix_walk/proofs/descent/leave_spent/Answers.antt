@@ -1,7 +1,7 @@
-use Rattle.std.proofs.Common.{◌∷◌, [], ◌++◌, ◌≡◌, List, refl, sym, ◌∙◌, ap}
+use Rattle.std.proofs.Common.{◌∷◌, [], ◌++◌, ◌≡◌, List, refl, sym, ◌∙◌}
 use Rattle.ix_walk.specs.declared.subtree.Opened.{Opened}
 use Rattle.ix_walk.specs.declared.subtree.Trail.{Trail}
-use Rattle.ix_walk.proofs.Trails.{goes_to, steps_kept, step_spent, last_popped}
+use Rattle.ix_walk.proofs.Trails.{steps_kept, step_spent, last_popped}
 use Rattle.ix_walk.proofs.descent.leave_spent.Goals as goal
 
 pub loop-opened-preserved-else-not-is_spent : goal.loop-opened-preserved-else-not-is_spent
@@ -9,17 +9,17 @@ loop-opened-preserved-else-not-is_spent c =
     let loop = c.loop-opened.trail in
     let last = c.in-Some.opened.now in
     let rest : List Opened = c.pop.new.self.items in
-    let new : Trail = record { at = c.unwrap_or-trail.result; next = loop.next; stack = c.pop.new.self } in
+    let new : Trail = record { at = c.go_on.new.self; next = loop.next; stack = c.pop.new.self } in
     let items : loop.stack.items ≡ rest ++ last ∷ [] = last_popped loop.stack.items rest c.deref.result.now last _ c.deref.ensures.value c.deref.ensures.len c.pop.ensures.rest c.in-Some.ensures.item.0 c.in-Some.ensures.item.1 in
     steps_kept c.args.trail.now loop new c.loop-opened.invariant
-    (step_spent loop new last rest c.loop-opened.invariant.next c.loop-opened.invariant.next items refl (sym c.is_spent.ensures ∙ c.if-not-is_spent.false) (ap (λ b. b.now) c.unwrap_or-trail.ensures ∙ goes_to last.back loop.at))
+    (step_spent loop new last rest c.loop-opened.invariant.next c.loop-opened.invariant.next items refl (sym c.is_spent.ensures ∙ c.if-not-is_spent.false) c.go_on.ensures)
 
 pub loop-opened-preserved-else-not-is_spent-2 : goal.loop-opened-preserved-else-not-is_spent-2
 loop-opened-preserved-else-not-is_spent-2 c =
     let loop = c.loop-opened.trail in
     let last = c.in-Some.opened.now in
     let rest : List Opened = c.pop.new.self.items in
-    let new : Trail = record { at = c.unwrap_or-trail.result; next = loop.next; stack = c.pop.new.self } in
+    let new : Trail = record { at = c.go_on.new.self; next = loop.next; stack = c.pop.new.self } in
     let items : loop.stack.items ≡ rest ++ last ∷ [] = last_popped loop.stack.items rest c.deref.result.now last _ c.deref.ensures.value c.deref.ensures.len c.pop.ensures.rest c.in-Some.ensures.item.0 c.in-Some.ensures.item.1 in
     steps_kept c.args.trail.now loop new c.loop-opened.invariant
-    (step_spent loop new last rest c.loop-opened.invariant.next c.loop-opened.invariant.next items refl (sym c.is_spent.ensures ∙ c.if-not-is_spent.false) (ap (λ b. b.now) c.unwrap_or-trail.ensures ∙ goes_to last.back loop.at))
+    (step_spent loop new last rest c.loop-opened.invariant.next c.loop-opened.invariant.next items refl (sym c.is_spent.ensures ∙ c.if-not-is_spent.false) c.go_on.ensures)

@@ -5,7 +5,7 @@ use Rattle.ix_walk.specs.declared.subtree.Opened.{Opened}
 use Rattle.ix_walk.specs.declared.subtree.Trail.{Trail}
 use Rattle.ix_walk.specs.Walking.{goes_on}
 use Rattle.ix_walk.specs.Descent.{IsNext}
-use Rattle.ix_walk.proofs.Trails.{goes_to, steps_kept, steps_lighter, step_none, step_open, link_found}
+use Rattle.ix_walk.proofs.Trails.{steps_kept, steps_lighter, step_none, step_open, link_found}
 use Rattle.ix_walk.proofs.descent.next_below.Goals as goal
 
 pub returns-in-Some-Link-clause-found : goal.returns-in-Some-Link-clause-found
@@ -13,8 +13,8 @@ returns-in-Some-Link-clause-found c =
     let o = c.in-Some.opened in
     let n = c.next_child.new.opened in
     let mid : Trail = record { at = c.next_child.new.at; next = c.loop-opened.trail.next; stack = c.push.new.self } in
-    let is : IsNext o.residual o.depth o.children c.loop-opened.trail.at.now (Some (Link c.in-Some-Link.found)) n.children c.next_child.new.at.now =
-    subst (λ e. IsNext o.residual o.depth o.children c.loop-opened.trail.at.now e n.children c.next_child.new.at.now) (c.in-Some-Link.is ∙ ap (λ x. Some x) c.in-Some-Link.field-0-is) c.in_ok-found.ensures.next in
+    let is : IsNext o.residual o.depth o.children c.loop-opened.trail.at (Some (Link c.in-Some-Link.found)) n.children c.next_child.new.at =
+    subst (λ e. IsNext o.residual o.depth o.children c.loop-opened.trail.at e n.children c.next_child.new.at) (c.in-Some-Link.is ∙ ap (λ x. Some x) c.in-Some-Link.field-0-is) c.in_ok-found.ensures.next in
     link_found c.args.trail.now c.loop-opened.trail mid c.leave_spent.new.trail o n c.in-Some-Link.found c.pop.new.self.items c.loop-opened.invariant c.loop-opened.invariant.next c.in-Some.ensures.items c.in_ok-push-in-Some-Link.ensures.items
     is c.in_ok-found.ensures.same c.leave_spent.ensures.left
 
@@ -23,8 +23,8 @@ loop-opened-preserved-in-Continue-branch-6 c =
     let o = c.in-Some.opened in
     let n = c.next_child.new.opened in
     let new : Trail = record { at = c.next_child.new.at; next = c.loop-opened.trail.next; stack = c.push-in-Some-Open-2.new.self } in
-    let is : IsNext o.residual o.depth o.children c.loop-opened.trail.at.now (Some (Open c.in-Some-Open.inner)) n.children c.next_child.new.at.now =
-    subst (λ e. IsNext o.residual o.depth o.children c.loop-opened.trail.at.now e n.children c.next_child.new.at.now) (c.in-Some-Open.is ∙ ap (λ x. Some x) c.in-Some-Open.field-0-is) c.in_ok-found.ensures.next in
+    let is : IsNext o.residual o.depth o.children c.loop-opened.trail.at (Some (Open c.in-Some-Open.inner)) n.children c.next_child.new.at =
+    subst (λ e. IsNext o.residual o.depth o.children c.loop-opened.trail.at e n.children c.next_child.new.at) (c.in-Some-Open.is ∙ ap (λ x. Some x) c.in-Some-Open.field-0-is) c.in_ok-found.ensures.next in
     let next = c.loop-opened.invariant.next in
     steps_kept c.args.trail.now c.loop-opened.trail new c.loop-opened.invariant
     (step_open c.loop-opened.trail new o n c.in-Some-Open.inner c.pop.new.self.items next next c.in-Some.ensures.items
@@ -35,8 +35,8 @@ loop-opened-smaller-in-Continue-branch-6 c =
     let o = c.in-Some.opened in
     let n = c.next_child.new.opened in
     let new : Trail = record { at = c.next_child.new.at; next = c.loop-opened.trail.next; stack = c.push-in-Some-Open-2.new.self } in
-    let is : IsNext o.residual o.depth o.children c.loop-opened.trail.at.now (Some (Open c.in-Some-Open.inner)) n.children c.next_child.new.at.now =
-    subst (λ e. IsNext o.residual o.depth o.children c.loop-opened.trail.at.now e n.children c.next_child.new.at.now) (c.in-Some-Open.is ∙ ap (λ x. Some x) c.in-Some-Open.field-0-is) c.in_ok-found.ensures.next in
+    let is : IsNext o.residual o.depth o.children c.loop-opened.trail.at (Some (Open c.in-Some-Open.inner)) n.children c.next_child.new.at =
+    subst (λ e. IsNext o.residual o.depth o.children c.loop-opened.trail.at e n.children c.next_child.new.at) (c.in-Some-Open.is ∙ ap (λ x. Some x) c.in-Some-Open.field-0-is) c.in_ok-found.ensures.next in
     let next = c.loop-opened.invariant.next in
     steps_lighter c.args.trail.now c.loop-opened.trail new c.requires.standing c.loop-opened.invariant
     (step_open c.loop-opened.trail new o n c.in-Some-Open.inner c.pop.new.self.items next next c.in-Some.ensures.items
@@ -46,46 +46,46 @@ pub loop-opened-preserved-in-None : goal.loop-opened-preserved-in-None
 loop-opened-preserved-in-None c =
     let o = c.in-Some.opened in
     let n = c.next_child.new.opened in
-    let new : Trail = record { at = c.unwrap_or-trail.result; next = c.loop-opened.trail.next; stack = c.pop.new.self } in
-    let is : IsNext o.residual o.depth o.children c.loop-opened.trail.at.now None n.children c.next_child.new.at.now =
-    subst (λ e. IsNext o.residual o.depth o.children c.loop-opened.trail.at.now e n.children c.next_child.new.at.now) c.in-None.is c.in_ok-found.ensures.next in
+    let new : Trail = record { at = c.go_on.new.self; next = c.loop-opened.trail.next; stack = c.pop.new.self } in
+    let is : IsNext o.residual o.depth o.children c.loop-opened.trail.at None n.children c.next_child.new.at =
+    subst (λ e. IsNext o.residual o.depth o.children c.loop-opened.trail.at e n.children c.next_child.new.at) c.in-None.is c.in_ok-found.ensures.next in
     let next = c.loop-opened.invariant.next in
     steps_kept c.args.trail.now c.loop-opened.trail new c.loop-opened.invariant
-    (step_none c.loop-opened.trail new o n.children c.next_child.new.at.now c.pop.new.self.items next next c.in-Some.ensures.items refl is
-    (ap (λ b. b.now) c.unwrap_or-trail.ensures ∙ goes_to n.back c.next_child.new.at ∙ ap (λ (m : Opened). goes_on m.back c.next_child.new.at.now) c.in_ok-found.ensures.same))
+    (step_none c.loop-opened.trail new o n.children c.next_child.new.at c.pop.new.self.items next next c.in-Some.ensures.items refl is
+    (c.go_on.ensures ∙ ap (λ (m : Opened). goes_on m.back c.next_child.new.at) c.in_ok-found.ensures.same))
 
 pub loop-opened-smaller-in-None : goal.loop-opened-smaller-in-None
 loop-opened-smaller-in-None c =
     let o = c.in-Some.opened in
     let n = c.next_child.new.opened in
-    let new : Trail = record { at = c.unwrap_or-trail.result; next = c.loop-opened.trail.next; stack = c.pop.new.self } in
-    let is : IsNext o.residual o.depth o.children c.loop-opened.trail.at.now None n.children c.next_child.new.at.now =
-    subst (λ e. IsNext o.residual o.depth o.children c.loop-opened.trail.at.now e n.children c.next_child.new.at.now) c.in-None.is c.in_ok-found.ensures.next in
+    let new : Trail = record { at = c.go_on.new.self; next = c.loop-opened.trail.next; stack = c.pop.new.self } in
+    let is : IsNext o.residual o.depth o.children c.loop-opened.trail.at None n.children c.next_child.new.at =
+    subst (λ e. IsNext o.residual o.depth o.children c.loop-opened.trail.at e n.children c.next_child.new.at) c.in-None.is c.in_ok-found.ensures.next in
     let next = c.loop-opened.invariant.next in
     steps_lighter c.args.trail.now c.loop-opened.trail new c.requires.standing c.loop-opened.invariant
-    (step_none c.loop-opened.trail new o n.children c.next_child.new.at.now c.pop.new.self.items next next c.in-Some.ensures.items refl is
-    (ap (λ b. b.now) c.unwrap_or-trail.ensures ∙ goes_to n.back c.next_child.new.at ∙ ap (λ (m : Opened). goes_on m.back c.next_child.new.at.now) c.in_ok-found.ensures.same))
+    (step_none c.loop-opened.trail new o n.children c.next_child.new.at c.pop.new.self.items next next c.in-Some.ensures.items refl is
+    (c.go_on.ensures ∙ ap (λ (m : Opened). goes_on m.back c.next_child.new.at) c.in_ok-found.ensures.same))
 
 pub loop-opened-preserved : goal.loop-opened-preserved
 loop-opened-preserved c =
     let o = c.in-Some.opened in
     let n = c.next_child.new.opened in
-    let new : Trail = record { at = c.unwrap_or-trail.result; next = c.loop-opened.trail.next; stack = c.pop.new.self } in
-    let is : IsNext o.residual o.depth o.children c.loop-opened.trail.at.now None n.children c.next_child.new.at.now =
-    subst (λ e. IsNext o.residual o.depth o.children c.loop-opened.trail.at.now e n.children c.next_child.new.at.now) c.in-None.is c.in_ok-found.ensures.next in
+    let new : Trail = record { at = c.go_on.new.self; next = c.loop-opened.trail.next; stack = c.pop.new.self } in
+    let is : IsNext o.residual o.depth o.children c.loop-opened.trail.at None n.children c.next_child.new.at =
+    subst (λ e. IsNext o.residual o.depth o.children c.loop-opened.trail.at e n.children c.next_child.new.at) c.in-None.is c.in_ok-found.ensures.next in
     let next = c.loop-opened.invariant.next in
     steps_kept c.args.trail.now c.loop-opened.trail new c.loop-opened.invariant
-    (step_none c.loop-opened.trail new o n.children c.next_child.new.at.now c.pop.new.self.items next next c.in-Some.ensures.items refl is
-    (ap (λ b. b.now) c.unwrap_or-trail.ensures ∙ goes_to n.back c.next_child.new.at ∙ ap (λ (m : Opened). goes_on m.back c.next_child.new.at.now) c.in_ok-found.ensures.same))
+    (step_none c.loop-opened.trail new o n.children c.next_child.new.at c.pop.new.self.items next next c.in-Some.ensures.items refl is
+    (c.go_on.ensures ∙ ap (λ (m : Opened). goes_on m.back c.next_child.new.at) c.in_ok-found.ensures.same))
 
 pub loop-opened-smaller : goal.loop-opened-smaller
 loop-opened-smaller c =
     let o = c.in-Some.opened in
     let n = c.next_child.new.opened in
-    let new : Trail = record { at = c.unwrap_or-trail.result; next = c.loop-opened.trail.next; stack = c.pop.new.self } in
-    let is : IsNext o.residual o.depth o.children c.loop-opened.trail.at.now None n.children c.next_child.new.at.now =
-    subst (λ e. IsNext o.residual o.depth o.children c.loop-opened.trail.at.now e n.children c.next_child.new.at.now) c.in-None.is c.in_ok-found.ensures.next in
+    let new : Trail = record { at = c.go_on.new.self; next = c.loop-opened.trail.next; stack = c.pop.new.self } in
+    let is : IsNext o.residual o.depth o.children c.loop-opened.trail.at None n.children c.next_child.new.at =
+    subst (λ e. IsNext o.residual o.depth o.children c.loop-opened.trail.at e n.children c.next_child.new.at) c.in-None.is c.in_ok-found.ensures.next in
     let next = c.loop-opened.invariant.next in
     steps_lighter c.args.trail.now c.loop-opened.trail new c.requires.standing c.loop-opened.invariant
-    (step_none c.loop-opened.trail new o n.children c.next_child.new.at.now c.pop.new.self.items next next c.in-Some.ensures.items refl is
-    (ap (λ b. b.now) c.unwrap_or-trail.ensures ∙ goes_to n.back c.next_child.new.at ∙ ap (λ (m : Opened). goes_on m.back c.next_child.new.at.now) c.in_ok-found.ensures.same))
+    (step_none c.loop-opened.trail new o n.children c.next_child.new.at c.pop.new.self.items next next c.in-Some.ensures.items refl is
+    (c.go_on.ensures ∙ ap (λ (m : Opened). goes_on m.back c.next_child.new.at) c.in_ok-found.ensures.same))

@@ -1,19 +1,27 @@
-use Rattle.std.proofs.Common.{subst, sym}
+use Rattle.std.proofs.Common.{◌≡◌, ℕ, List, subst, sym}
+use Rattle.std.specs.Prelude.{None, Ok}
+use Rattle.ix_cbor.specs.Data.{Data}
+use Rattle.ix_cbor.specs.Reading.{item_at}
 use Rattle.ix_selector.specs.Residual.{step_of, IsBehind}
 use Rattle.ix_walk.specs.Descent.{IsChild}
 use Rattle.ix_walk.proofs.Parts.{child_entered, child_apart}
 use Rattle.ix_walk.proofs.descent.step_into.Goals as goal
 
-pub returns-in_ok-entered_by-in-Some : goal.returns-in_ok-entered_by-in-Some
-returns-in_ok-entered_by-in-Some c =
+pub returns-in-Some : goal.returns-in-Some
+returns-in-Some c =
     let places = c.args.residual.now in
     let step = step_of c.args.step.now in
+    let at = c.args.at.now in
     let behind = c.args.behind.now in
-    subst (λ o. IsChild places step c.args.at.now c.args.depth o behind) (sym c.in_ok-entered_by-in-Some.ensures)
-    (child_entered c.args.front places c.in-Some.residual step c.args.depth c.args.at.now behind c.requires.front (subst (IsBehind places step) c.in-Some.is c.in_ok-residual.ensures.tested))
+    subst (λ (l : List ℕ). IsChild places step at c.args.depth c.entered_by-entered.result l) (sym c.go_to.ensures)
+    (subst (λ o. IsChild places step at c.args.depth o behind) (sym c.entered_by-entered.ensures)
+    (child_entered c.args.front places c.in-Some.residual step c.args.depth at behind c.requires.front (subst (IsBehind places step) c.in-Some.is c.in_ok-residual.ensures.tested)))
 
 pub returns-in-None : goal.returns-in-None
 returns-in-None c =
     let places = c.args.residual.now in
     let step = step_of c.args.step.now in
-    child_apart places step c.args.depth c.args.at.now c.end_of.result.now c.end_of.ensures (subst (IsBehind places step) c.in-None.is c.in_ok-residual.ensures.tested)
+    let at = c.args.at.now in
+    let end = c.end_of-end.result.now in
+    let ends : (d : Data) (rest : List ℕ) → item_at 512 at ≡ Ok (d, rest) → end ≡ rest = subst (λ (l : List ℕ). (d : Data) (rest : List ℕ) → item_at 512 l ≡ Ok (d, rest) → end ≡ rest) c.bytes.ensures c.end_of-end.ensures.exact in
+    subst (λ (l : List ℕ). IsChild places step at c.args.depth None l) (sym c.go_to-in-None.ensures) (child_apart places step c.args.depth at end ends (subst (IsBehind places step) c.in-None.is c.in_ok-residual.ensures.tested))

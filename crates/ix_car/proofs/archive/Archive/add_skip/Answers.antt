@@ -15,7 +15,7 @@ invariant_of-self-2 g c =
     let skipped : c.push_reserved.new.self.items ≡ a.skips.items ++ skip ∷ [] = ◌∙◌ {A = List Skip} c.push_reserved.ensures.items (ap (λ (l : List Skip). l ++ skip ∷ []) c.reserve.ensures.items) in
     tally-skip a.store.now a.deliveries c.note.new.self (option_to_list a.failed) (option_to_list a.closed) d a.cut a.counts c.one_more-self-inside.result c.one_more-self-inside-2.result a.written a.skips.items c.push_reserved.new.self.items c.self.invariant
     (subst (λ v. is_below (cut_behind v.deliveries) d.visit.depth ≡ false) (sym c.self.view_is) c.requires.uncut)
-    c.requires.unsound
+    c.requires.refused
     c.note.ensures skipped c.one_more-self-inside.ensures c.one_more-self-inside-2.ensures
 
 pub returns : goal.returns

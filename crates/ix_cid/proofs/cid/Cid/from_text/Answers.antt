@@ -2,9 +2,10 @@ use Rattle.std.proofs.Common.{◌≡◌, ◌∷◌, ℕ, Ok, Err, sym, ap, subst
 use Rattle.std.proofs.lemmas.Result.{err_from_is_err_and}
 use Rattle.ix_cid.specs.Cid.{IsCid}
 use Rattle.ix_cid.specs.CidText.{cid_of_text}
+use Rattle.ix_cid.specs.Held.{content}
 use Rattle.ix_cid.proofs.Texts.{length_at, text-fails, text-rest, text-whole}
 use Rattle.ix_cid.proofs.cid.Cid.from_text.Goals as goal
-use Rattle.ix_cid.proofs.cid.Cid.from_text.Goals.{In-Some-eq98-default, In-Ok}
+use Rattle.ix_cid.proofs.cid.Cid.from_text.Goals.{In-Some-eq98-default, In_ok-held}
 
 -- the text begins with its multibase
 text_begins : (c : In-Some-eq98-default) → c.args.text.now ≡ 98 ∷ c.in-Some-eq98-default.letters.now
@@ -32,16 +33,16 @@ returns-then-branch-len c =
     }
 
 -- where the parts are as long as the bytes, these are the CID
-whole : (c : In-Ok) → IsCid c.in-Ok.bytes.items × (cid_of_text c.args.text.now ≡ Ok c.in-Ok.bytes.items)
+whole : (c : In_ok-held) → IsCid (content c.in_ok-held.held) × (cid_of_text c.args.text.now ≡ Ok (content c.in_ok-held.held))
 whole c =
     let bytes = c.in_ok-bytes.bytes.items in
     let n = c.in_ok-numbered_length.field-0 in
     let size : length_at bytes ≡ Ok n = ap length_at (sym c.as_slice.ensures.value) ∙ c.in_ok-numbered_length.ensures.exact in
     let found = text-whole c.args.text.now c.in-Some-eq98-default.letters.now bytes (text_begins (goal.at.invariant_of-result c).In-Some-eq98-default) c.in_ok-bytes.ensures n size (omega (arith, c.in_ok-bytes.bytes.ok)) in
-    subst (λ b. IsCid b × (cid_of_text c.args.text.now ≡ Ok b)) (sym (c.in-Ok.ensures.ok ∙ c.as_slice-2.ensures.value)) found
+    subst (λ b. IsCid b × (cid_of_text c.args.text.now ≡ Ok b)) (sym c.in_ok-held.ensures) found
 
 pub invariant_of-result : goal.invariant_of-result
 invariant_of-result c = (whole c).0
 
-pub returns-in-Ok : goal.returns-in-Ok
-returns-in-Ok c = record { exact = (whole (goal.at.returns-in-Ok c).In-Ok).1 }
+pub returns : goal.returns
+returns c = record { exact = (whole (goal.at.returns c).In_ok-held).1 }

@@ -1,21 +1,19 @@
-use Rattle.std.proofs.Common.{◌≡◌, ◌∙◌, refl, sym, ap, arith, length, map, ℕ, true, false, Some, None}
+use Rattle.std.proofs.Common.{◌≡◌, ◌∙◌, refl, sym, ap, subst, arith, length, map, ℕ, true, false, Some, None}
 use Rattle.std.specs.Prelude.{not}
 use Rattle.std.specs.Option.{unwrap_or}
 use Rattle.std.proofs.lemmas.List.{length-map}
 use Rattle.std.proofs.lemmas.Bool.{not-true, not-false}
 use Rattle.std.proofs.lemmas.Result.{err_from_is_err_and}
-use Rattle.std.proofs.Math.ListN.{set}
 use Rattle.std.proofs.Math.Dec.{eqb}
-use Rattle.ix_walk.specs.Index.{tail_of, place_behind}
+use Rattle.ix_walk.specs.Index.{tail_of, mark_of, Has, place_behind}
 use Rattle.ix_walk.specs.Store.{has_cid}
-use Rattle.ix_walk.specs.declared.index.Slot.TheVariants.{Taken}
 use Rattle.ix_walk.proofs.Stores.{pair, position-none}
 use Rattle.ix_walk.proofs.Indexes.{free-at, indexed-slot, indexed-behind, indexed-same, has-by, stood-answer, put-same}
 use Rattle.ix_walk.proofs.index.Index.enter.Goals as goal
 
 pub index_mut-requires : goal.index_mut-requires
 index_mut-requires c =
-    let first = free-at c.args.self.now.slots.items (tail_of c.args.cid.now) c.in-Open.slot c.in-Open.ensures.1 in
+    let first = free-at c.args.self.now.slots.items (tail_of c.args.cid.now) c.in-Open.slot c.in-Open.ensures.1.1 in
     omega (arith, first.within, c.args.self.now.slots.ok.0)
 
 pub returns-in_err-stood-in-Behind-clause-err : goal.returns-in_err-stood-in-Behind-clause-err
@@ -32,11 +30,11 @@ returns-in-Open-clause-answer c = ap not (sym (has-by _ c.args.cid.now None c.in
 pub returns-in-Open-clause-entered : goal.returns-in-Open-clause-entered
 returns-in-Open-clause-entered c _ b =
     let entries = c.args.entries.now in
-    let items = c.args.self.now.slots.items in
-    let first = free-at items (tail_of c.args.cid.now) c.in-Open.slot c.in-Open.ensures.1 in
-    indexed-slot c.args.self.now _ _ c.args.cid.now b c.in-Open.slot c.requires c.in-Open.ensures.0 first
-    (ap (λ (t : ℕ). set items c.in-Open.slot (Taken t (length entries))) c.tail_of-tail.ensures ∙ ap (λ (n : ℕ). set items c.in-Open.slot (Taken (tail_of c.args.cid.now) n)) (sym (length-map entries pair)))
-    refl
+    let k = c.args.cid.now in
+    let first = free-at c.args.self.now.slots.items (tail_of k) c.in-Open.slot c.in-Open.ensures.1.1 in
+    let x = c.taken.result in
+    let has : Has x (mark_of (tail_of k)) (length (map pair entries)) = subst (λ (n : ℕ). Has x (mark_of (tail_of k)) n) (sym (length-map entries pair)) (subst (λ (t : ℕ). Has x (mark_of t) (length entries)) c.tail_of.ensures c.taken.ensures) in
+    indexed-slot c.args.self.now _ _ k b c.in-Open.slot x c.requires c.in-Open.ensures.0 first has refl refl
 
 pub returns-in_ok-stood-in-Behind-clause-answer : goal.returns-in_ok-stood-in-Behind-clause-answer
 returns-in_ok-stood-in-Behind-clause-answer c =

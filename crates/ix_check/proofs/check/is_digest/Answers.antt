@@ -1,5 +1,0 @@
-use Rattle.std.proofs.Common.{rules}
-use Rattle.ix_check.proofs.check.is_digest.Goals as goal
-
-pub returns : goal.returns
-returns c = search rules
