@@ -14,6 +14,7 @@ import random
 MOST_VISITS = 1_000_000
 MOST_BYTES = 1 << 30
 RAW, DAG_CBOR = 0x55, 0x71
+IDENTITY, SHA2_256, SHA2_512 = 0x00, 0x12, 0x13
 
 
 # DAG-CBOR, of what the workloads need.
@@ -98,11 +99,15 @@ class Car:
 
     def add(self, codec, block):
         """Writes the section of a block, and answers the block's CID."""
-        return self.add_under(codec, hashlib.sha256(block).digest(), block)
+        return self.add_under(codec, SHA2_256, hashlib.sha256(block).digest(), block)
 
-    def add_under(self, codec, digest, block):
+    def add_512(self, codec, block):
+        """The same under SHA-512."""
+        return self.add_under(codec, SHA2_512, hashlib.sha512(block).digest(), block)
+
+    def add_under(self, codec, hash_code, digest, block):
         """Writes the section of a block under a digest that needn't be its own, and answers the CID."""
-        cid = bytes([1, codec, 0x12, 32]) + digest
+        cid = bytes([1, codec, hash_code, len(digest)]) + digest
         self.size += self.file.write(varint(len(cid) + len(block)) + cid)
         self.size += self.file.write(block)
         if self.size > MOST_BYTES:
@@ -118,14 +123,24 @@ def job(name, root, selector, limit=MOST_VISITS):
 # Workloads: each writes its blocks and answers its jobs.
 
 
-def leaves(car, size, chance):
-    """Raw leaves of 256 KiB under lists of at most 500: one job over all."""
+def lists_of_leaves(add, size, chance):
+    """The CID of a list of lists of at most 500 raw leaves of 256 KiB, all written by `add`."""
     lists = []
     for first in range(0, size, 500):
         members = range(first, min(first + 500, size))
-        links = [link(car.add(RAW, chance.randbytes(1 << 18))) for _ in members]
-        lists.append(link(car.add(DAG_CBOR, list_of(links))))
-    return [job("leaves", car.add(DAG_CBOR, list_of(lists)), ALL)]
+        links = [link(add(RAW, chance.randbytes(1 << 18))) for _ in members]
+        lists.append(link(add(DAG_CBOR, list_of(links))))
+    return add(DAG_CBOR, list_of(lists))
+
+
+def leaves(car, size, chance):
+    """Raw leaves of 256 KiB under lists of at most 500: one job over all."""
+    return [job("leaves", lists_of_leaves(car.add, size, chance), ALL)]
+
+
+def sha512(car, size, chance):
+    """The leaves and lists of `leaves`, all under SHA-512: one job over all."""
+    return [job("sha512", lists_of_leaves(car.add_512, size, chance), ALL)]
 
 
 def tree(car, size, node):
@@ -171,6 +186,19 @@ def deep(car, size, chance):
     for _ in range(size - 1):
         cid = car.add(DAG_CBOR, list_of([link(cid)]))
     return [job("deep", cid, ALL)]
+
+
+def inline(car, size, chance):
+    """The chain of `deep` in one block: each list stands in an identity CID, to which the one round it links."""
+    innermost = list_of([integer(chance.getrandbits(40))])
+    fronts, length = [], len(innermost)
+    for _ in range(size - 1):
+        fronts.append(bytes([1, DAG_CBOR, IDENTITY]) + varint(length))
+        length += len(fronts[-1])
+        fronts.append(head(4, 1) + b"\xd8\x2a" + head(2, length + 1) + b"\x00")
+        length += len(fronts[-1])
+    block = b"".join(reversed(fronts)) + innermost
+    return [job("inline", car.add(DAG_CBOR, block), ALL)]
 
 
 def shared(car, size, chance):
@@ -240,7 +268,7 @@ def hostile(car, size, chance):
 def under_digests(car, size, digest):
     """Small raw blocks under these digests, and a job over one more block: nearly all is loading."""
     for place in range(size - 1):
-        car.add_under(RAW, digest(), place.to_bytes(8, "big"))
+        car.add_under(RAW, SHA2_256, digest(), place.to_bytes(8, "big"))
     return [job("last", car.add(RAW, b"last"), MATCHER)]
 
 
@@ -263,14 +291,14 @@ def bucket_cids(car, size, chance):
     return under_digests(car, size, lambda: chance.randbytes(24) + middle + chance.randbytes(4))
 
 
-MAKERS = (leaves, small, parts, deep, shared, nested, hostile, random_cids, prefix_cids, bucket_cids)
+MAKERS = (leaves, sha512, small, parts, deep, inline, shared, nested, hostile, random_cids, prefix_cids, bucket_cids)
 WORKLOADS = {make.__name__.replace("_", "-"): make for make in MAKERS}
 
 
 def main():
     parser = argparse.ArgumentParser(description=__doc__)
     parser.add_argument("workload", choices=WORKLOADS)
-    parser.add_argument("size", type=int, help="the number of leaves, or of blocks")
+    parser.add_argument("size", type=int, help="the number of leaves, of blocks, or of lists")
     parser.add_argument("folder", type=pathlib.Path, help="where the two files go; it is made where it isn't there")
     parser.add_argument("--seed", type=int, default=1)
     words = parser.parse_args()

@@ -18,9 +18,11 @@ TOP = pathlib.Path(__file__).resolve().parent.parent
 PROGRAM = subprocess.run([TOP / "ix_export", "--where"], stdout=subprocess.PIPE, check=True, text=True).stdout.strip()
 SIZES = {
     "leaves": 1_000,
+    "sha512": 1_000,
     "small": 200_000,
     "parts": 200_000,
     "deep": 200_000,
+    "inline": 200_000,
     "shared": 10_000,
     "nested": 220_000,
     "hostile": 16_000,

@@ -1,17 +1,18 @@
 #!/usr/bin/env python3
 """Runs the built program on input that is made to hurt it: files cut at each byte, with each byte changed, selectors
 and job files cut at each byte, roots of a job cut and changed, blocks with many links, CIDs chosen for one place of the
-index, long ones that are alike, and mutations by chance.
+index, long ones that are alike or are visited often, identity CIDs inside one another, and mutations by chance.
 Ends with status 1 at the first run that is wrong.
 
 No run may end by a signal or take a minute. Where a file is refused, it is one line of the known ones. Where the run
-ends with status 0 or 3, each archive is its job's header and sections that agree with their hashes, no CID twice; at
-any other status what there is of an archive begins so.
+ends with status 0 or 3, each archive is its job's header and sections that agree with their hashes, no CID twice and none
+that holds its block; at any other status what there is of an archive begins so.
 """
 
 import argparse
 import base64
 import hashlib
+import json
 import os
 import pathlib
 import random
@@ -25,6 +26,13 @@ TOP = pathlib.Path(__file__).resolve().parent.parent
 PROGRAM = subprocess.run([TOP / "ix_export", "--where"], stdout=subprocess.PIPE, check=True, text=True).stdout.strip()
 NO_ROOTS = bytes.fromhex("11a265726f6f7473806776657273696f6e01")
 RAW, DAG_CBOR = 0x55, 0x71
+IDENTITY, SHA2_256, SHA2_512, BLAKE3 = 0x00, 0x12, 0x13, 0x1E
+# What stands in a CID for its block, by the hash functions that are exported.
+DIGESTS = {
+    IDENTITY: bytes,
+    SHA2_256: lambda block: hashlib.sha256(block).digest(),
+    SHA2_512: lambda block: hashlib.sha512(block).digest(),
+}
 MATCHER = "a1612ea0"
 ALL = "a16152a2616ca1646e6f6e65a0623a3ea16161a1613ea16140a0"
 TO_DEPTH_2 = "a16152a2616ca165646570746802623a3ea16161a1613ea16140a0"
@@ -44,7 +52,11 @@ REFUSALS = re.compile(
 )
 JOB = re.compile(r"^(\S+) (done|limit|memory|write|start) visits=\d+ kept=\d+ sections=(\d+) bytes=(\d+)$")
 SECONDS_A_RUN = 60
-# About three is usual; a busy machine may double what it measures.
+MIB = 1 << 20
+# Of address space: more than any run takes, and so few that some runs find no memory, or none for their threads.
+KIB_A_RUN = 4_000_000
+FEW_KIB = (20_000, 40_000, 300_000)
+# Three to four is usual; a busy machine may add half of that to what it measures.
 MOST_TIMES_HONEST = 6
 
 
@@ -57,17 +69,34 @@ def varint(number):
     return out + bytes([number])
 
 
-def cid(codec, block):
-    return bytes([1, codec, 0x12, 0x20]) + hashlib.sha256(block).digest()
+def cid_of(codec, hash_code, digest):
+    """The CIDv1 with these parts, each code below 128."""
+    return bytes([1, codec, hash_code]) + varint(len(digest)) + digest
+
+
+def cid(codec, block, hash_code=SHA2_256):
+    """The CID of a block; by the identity function it holds the block itself."""
+    return cid_of(codec, hash_code, DIGESTS[hash_code](block))
 
 
 def text(key):
     return "b" + base64.b32encode(key).decode().lower().rstrip("=")
 
 
+def head(major, number):
+    """The head of an item of DAG-CBOR, in its shortest form; the number is below 2^32."""
+    if number < 24:
+        return bytes([major << 5 | number])
+    size = 0 if number < 1 << 8 else 1 if number < 1 << 16 else 2
+    return bytes([major << 5 | 24 + size]) + number.to_bytes(1 << size, "big")
+
+
+def list_of(members):
+    return head(4, len(members)) + b"".join(members)
+
+
 def link(key):
-    """A link to a CID of 36 bytes, in DAG-CBOR."""
-    return bytes.fromhex("d82a582500") + key
+    return b"\xd8\x2a" + head(2, len(key) + 1) + b"\0" + key
 
 
 def section(key, block):
@@ -75,9 +104,8 @@ def section(key, block):
 
 
 def header(keys):
-    """The header of the archive with these roots, below 24, whose CIDs have 36 bytes."""
-    links = b"".join(link(key) for key in keys)
-    body = bytes.fromhex("a265726f6f7473") + bytes([0x80 + len(keys)]) + links + bytes.fromhex("6776657273696f6e01")
+    """The header of the archive with these roots."""
+    body = bytes.fromhex("a265726f6f7473") + list_of([link(key) for key in keys]) + bytes.fromhex("6776657273696f6e01")
     return varint(len(body)) + body
 
 
@@ -93,6 +121,18 @@ def damaged_list():
     return root, [section(key, block) for key, block in parts]
 
 
+def inline_list():
+    """The sections of a list under SHA-512 of two links, one to an identity CID of a list with a link to `abc`, the other to
+    `abc` under SHA-512, and one under the identity CID, which has other bytes."""
+    abc = b"abc"
+    held = cid(DAG_CBOR, list_of([link(cid(RAW, abc)), b"\0"]), IDENTITY)
+    long = cid(RAW, abc, SHA2_512)
+    block = list_of([link(held), link(long)])
+    root = cid(DAG_CBOR, block, SHA2_512)
+    parts = [(root, block), (held, b"\x80"), (long, abc), (cid(RAW, abc), abc)]
+    return root, [section(key, part) for key, part in parts]
+
+
 class Wrong(Exception):
     """A run that is wrong."""
 
@@ -103,16 +143,23 @@ class Runner:
     def __init__(self, room):
         self.room, self.runs = room, 0
 
-    def run(self, car, jobs, threads=1):
-        """Runs the jobs over the blocks; answers status, report and line of refusal."""
+    def begin(self, threads):
+        """Begins a run with an empty output folder; answers its command."""
         self.runs += 1
-        out = self.room / "out"
-        shutil.rmtree(out, ignore_errors=True)
-        out.mkdir()
+        shutil.rmtree(self.room / "out", ignore_errors=True)
+        (self.room / "out").mkdir()
+        words = [PROGRAM, "jobs", "--blocks", "blocks.car", "--jobs", "jobs.txt", "--out", "out"]
+        return words + ["--walkers", str(threads), "--verifiers", str(threads)]
+
+    def put(self, car, jobs):
+        """Writes the two files of the runs that follow."""
         (self.room / "blocks.car").write_bytes(car)
         (self.room / "jobs.txt").write_bytes(jobs)
-        words = [PROGRAM, "jobs", "--blocks", "blocks.car", "--jobs", "jobs.txt", "--out", "out"]
-        words += ["--walkers", str(threads), "--verifiers", str(threads)]
+
+    def run(self, car, jobs, threads=1):
+        """Runs the jobs over the blocks; answers status, report and line of refusal."""
+        self.put(car, jobs)
+        words = self.begin(threads)
         try:
             done = subprocess.run(words, cwd=self.room, capture_output=True, timeout=SECONDS_A_RUN)
         except subprocess.TimeoutExpired:
@@ -126,8 +173,21 @@ class Runner:
         else:
             if error:
                 raise Wrong(f"standard error has {error!r}")
-            self.judge(report, out)
+            self.judge(report, self.room / "out")
         return done.returncode, report, error
+
+    def measure(self, threads=1, kib=KIB_A_RUN):
+        """Runs the jobs that were put last, in so much address space; answers how it ended, what it took and its line of
+        refusal. Its report is in the file `report`."""
+        words = [sys.executable, TOP / "tests/hostile/measure.py", "measured", str(kib), str(SECONDS_A_RUN)]
+        words += self.begin(threads)
+        with open(self.room / "report", "wb") as report, open(self.room / "error", "wb") as error:
+            subprocess.run(words, cwd=self.room, stdout=report, stderr=error, check=True)
+        told = json.loads((self.room / "measured").read_text())
+        told["error"] = (self.room / "error").read_text()
+        if told["status"] not in (0, 2, 3, 4):
+            raise Wrong(f"status {told['status']}, {told['error'][:200]!r}")
+        return told
 
     def judge(self, report, out):
         """Looks at the archives that the report tells of."""
@@ -150,17 +210,27 @@ def read_varint(data, at):
     return number | data[at] << shift, at + 1
 
 
+def read_cid(data, at):
+    """The hash code and the digest of the CIDv1 at a place, and the place behind it."""
+    _, at = read_varint(data, at)
+    _, at = read_varint(data, at)
+    hash_code, at = read_varint(data, at)
+    length, at = read_varint(data, at)
+    return hash_code, data[at : at + length], at + length
+
+
 def count_sections(archive):
-    """How many sections there are, each with a CIDv1 of SHA-256 that agrees with its block, and no CID twice."""
+    """How many sections there are, each with a CIDv1 under SHA-256 or SHA-512 that agrees with its block, and no CID twice."""
     length, at = read_varint(archive, 0)
     at += length
     seen = set()
     while at < len(archive):
         length, begin = read_varint(archive, at)
         at = begin + length
-        key, block = archive[begin : begin + 36], archive[begin + 36 : at]
-        if at > len(archive) or key in seen or key != cid(key[1], block):
-            raise Wrong(f"the section {key.hex()} is wrong")
+        hash_code, digest, middle = read_cid(archive, begin)
+        key, block = archive[begin:middle], archive[middle:at]
+        if at > len(archive) or key in seen or hash_code not in (SHA2_256, SHA2_512) or digest != DIGESTS[hash_code](block):
+            raise Wrong(f"the section {key[:100].hex()} is wrong")
         seen.add(key)
     return len(seen)
 
@@ -186,12 +256,12 @@ def cut_blocks(runner):
 
 
 def changed_blocks(runner):
-    """The file of blocks with the lowest bit of each byte changed."""
-    root, sections = damaged_list()
-    whole = NO_ROOTS + b"".join(sections)
-    job = f"a {text(root)} 100 {ALL}\n".encode()
-    for place in range(len(whole)):
-        runner.run(whole[:place] + bytes([whole[place] ^ 1]) + whole[place + 1 :], job, 2)
+    """Two files of blocks with the lowest bit of each byte changed."""
+    for root, sections in (damaged_list(), inline_list()):
+        whole = NO_ROOTS + b"".join(sections)
+        job = f"a {text(root)} 100 {ALL}\n".encode()
+        for place in range(len(whole)):
+            runner.run(whole[:place] + bytes([whole[place] ^ 1]) + whole[place + 1 :], job, 2)
 
 
 def cut_selectors(runner):
@@ -237,29 +307,21 @@ def several_roots(runner):
         raise Wrong("the header has other roots")
 
 
-def peak(runner):
-    """The memory in bytes that the program takes at most for the input of the last run."""
-    words = [PROGRAM, "jobs", "--blocks", "blocks.car", "--jobs", "jobs.txt", "--out", "out", "--walkers", "1", "--verifiers", "1"]
-    child = subprocess.Popen(words, cwd=runner.room, stdout=subprocess.DEVNULL)
-    _, status, used = os.wait4(child.pid, 0)
-    child.returncode = os.waitstatus_to_exitcode(status)
-    return used.ru_maxrss * 1024
-
-
 def wide_blocks(runner):
-    """Blocks with many links: a damaged one with 20,000 to itself, which takes no memory for a visit that is open, and
-    a map of 100,000."""
+    """Blocks with many links: a damaged one with 20,000 to itself, which takes some hundred bytes for a visit that is
+    open, and is hashed and read once for all of 100,000 visits; and a map of 100,000."""
     itself = cid(DAG_CBOR, b"")
-    block = b"\x99" + (20_000).to_bytes(2, "big") + link(itself) * 20_000
+    block = list_of([link(itself)] * 20_000)
     blocks = NO_ROOTS + section(itself, block)
-    came = runner.run(blocks, f"a {text(itself)} 300 {ALL}\n".encode())
-    if came[0] != 4 or not came[1].startswith("a limit visits=300 kept=1 sections=0 "):
-        raise Wrong(f"300 visits were wanted: {came[1][:80]!r}")
-    if (most := peak(runner)) > len(blocks) + (64 << 20):
+    for threads in (4, 1):
+        came = runner.run(blocks, f"a {text(itself)} 100000 {ALL}\n".encode(), threads)
+        if came[0] != 4 or not came[1].startswith("a limit visits=100000 kept=1 sections=0 "):
+            raise Wrong(f"100,000 visits were wanted: {came[1][:80]!r}")
+    if (most := runner.measure()["peak"]) > len(blocks) + 64 * MIB:
         raise Wrong(f"a walk through {len(blocks)} bytes took {most}")
     leaf = cid(RAW, b"abc")
     keys = [b"\x65" + f"{number:05}".encode() for number in range(100_000)]
-    block = b"\xba" + len(keys).to_bytes(4, "big") + b"".join(key + link(leaf) for key in keys)
+    block = head(5, len(keys)) + b"".join(key + link(leaf) for key in keys)
     root = cid(DAG_CBOR, block)
     came = runner.run(NO_ROOTS + section(root, block) + section(leaf, b"abc"), f"a {text(root)} 1000000 {ALL}\n".encode(), 2)
     if came[0] != 0 or not came[1].startswith("a done visits=100001 kept=100001 sections=2 "):
@@ -301,12 +363,134 @@ def long_cids(runner):
     16 MB that agree up to their last bytes: these are told apart without a stack that is as deep as they are long."""
     leaf = cid(RAW, b"abc")
     tail = leaf[-8:]
-    others = [bytes([1, RAW, 0x12, 0x20]) + bytes(23) + bytes([number]) + tail for number in range(7)]
-    long = [bytes([1, RAW, 0x12]) + varint(16_000_000) + bytes(15_999_991) + bytes([last]) + tail for last in (0, 1)]
+    others = [cid_of(RAW, SHA2_256, bytes(23) + bytes([number]) + tail) for number in range(7)]
+    long = [cid_of(RAW, SHA2_256, bytes(15_999_991) + bytes([last]) + tail) for last in (0, 1)]
     blocks = NO_ROOTS + section(leaf, b"abc") + b"".join(section(key, b"") for key in others + long)
     came = runner.run(blocks, f"a {text(leaf)} 1 {MATCHER}\n".encode())
     if came[0] != 0 or not came[1].startswith("a done visits=1 kept=1 sections=1 "):
         raise Wrong(f"one sound visit was wanted: {came[1][:80]!r}")
+
+
+def nested_cids(levels, front=b"", behind=b""):
+    """The outermost of so many identity CIDs inside one another: the innermost holds an empty list, each other one its link to
+    the next between these bytes."""
+    fronts, size = [], 1
+    for level in range(levels):
+        if level > 0:
+            size += len(fronts[-1])
+            fronts.append(front + b"\xd8\x2a" + head(2, size + 1) + b"\0")
+            size += len(fronts[-1]) + len(behind)
+        fronts.append(bytes([1, DAG_CBOR, IDENTITY]) + varint(size))
+    return b"".join(reversed(fronts)) + b"\x80" + behind * (levels - 1)
+
+
+def ends_well(runner, blocks, jobs, line):
+    """Runs jobs with identity CIDs, which take less than a second and little memory, and again in few KiB."""
+    came = runner.run(blocks, jobs)
+    if came[0] != 0 or not came[1].startswith(line):
+        raise Wrong(f"{line!r} was wanted: status {came[0]}, {came[1][:80]!r}")
+    told = runner.measure()
+    if told["seconds"] > 1:
+        raise Wrong(f"{len(blocks)} bytes of blocks took {told['seconds']:.2f} seconds")
+    if told["peak"] > len(blocks) + len(jobs) + 64 * MIB:
+        raise Wrong(f"{len(blocks)} bytes of blocks took {told['peak']} of memory")
+    in_few_kib(runner, (0, 2, 4))
+
+
+def in_few_kib(runner, statuses, threads=1):
+    """Runs the jobs of the last run again in few KiB: each run ends with one of these statuses, tells want of memory or of
+    threads where it isn't as before, and the archive of `a` is the same, or else a beginning of it."""
+    whole = (runner.room / "out/a.car").read_bytes()
+    for kib in FEW_KIB:
+        told = runner.measure(threads, kib)
+        with open(runner.room / "report", "rb") as report:
+            line = report.readline(100).decode()
+        is_refused = told["status"] == 2 and not line and told["error"] == "memory\n"
+        is_told = told["status"] != 2 and not told["error"] and re.match("a (done|limit|memory|start) ", line)
+        if told["status"] not in statuses or not (is_refused or is_told):
+            raise Wrong(f"in {kib} KiB: status {told['status']}, {line!r} and {told['error'][:200]!r}")
+        for archive in (runner.room / "out").iterdir():
+            came = archive.read_bytes()
+            if not whole.startswith(came) or archive.name == "a.car" and came != whole:
+                raise Wrong(f"in {kib} KiB: {archive.name} is another archive")
+
+
+def inline_chains(runner):
+    """100,000 identity CIDs inside one another: each one link, in a block and as the root; and each a list with a link behind,
+    to which the walk goes back."""
+    chain = nested_cids(100_000)
+    block = link(chain)
+    root = cid(DAG_CBOR, block)
+    jobs = f"a {text(root)} 1000000 {MATCHER}\n".encode()
+    ends_well(runner, NO_ROOTS + section(root, block), jobs, "a done visits=100001 kept=100001 sections=1 ")
+    jobs = f"a {text(chain)} 1000000 {MATCHER}\n".encode()
+    ends_well(runner, NO_ROOTS, jobs, "a done visits=100000 kept=100000 sections=0 ")
+    if (runner.room / "out/a.car").read_bytes() != header([chain]):
+        raise Wrong("the archive isn't the header with the chain")
+    block = link(nested_cids(100_000, b"\x82", link(cid(RAW, b"", IDENTITY))))
+    root = cid(DAG_CBOR, block)
+    jobs = f"a {text(root)} 1000000 {ALL}\n".encode()
+    ends_well(runner, NO_ROOTS + section(root, block), jobs, "a done visits=200000 kept=200000 sections=1 ")
+
+
+def inline_links(runner):
+    """A block with links to 10,000 identity CIDs of up to 60 bytes, under its hash and in an identity CID of its own."""
+    keys = [cid(RAW, bytes(number % 61), IDENTITY) for number in range(5_000)]
+    keys += [cid(DAG_CBOR, list_of([b"\0"] * (number % 59)), IDENTITY) for number in range(5_000)]
+    block = list_of([link(key) for key in keys])
+    root = cid(DAG_CBOR, block)
+    jobs = f"a {text(root)} 1000000 {ALL}\n".encode()
+    ends_well(runner, NO_ROOTS + section(root, block), jobs, "a done visits=10001 kept=10001 sections=1 ")
+    jobs = f"a {text(cid(DAG_CBOR, block, IDENTITY))} 1000000 {ALL}\n".encode()
+    ends_well(runner, NO_ROOTS, jobs, "a done visits=10001 kept=10001 sections=0 ")
+
+
+def linked_often(key, times, hash_code=SHA2_256):
+    """The file of a list that links so often to a block with a link to this CID, and the text of the list's CID."""
+    block = list_of([link(key)])
+    holder = cid(DAG_CBOR, block, hash_code)
+    many = list_of([link(holder)] * times)
+    root = cid(DAG_CBOR, many)
+    return NO_ROOTS + section(root, many) + section(holder, block), text(root)
+
+
+def long_skips(runner):
+    """A link to a CID of 10 MB under a hash function that isn't exported, visited 20 times: what is taken is the file, the
+    report's text of 320 MB and little else; and where the report finds no room, that is told."""
+    key = cid_of(RAW, BLAKE3, bytes(range(250)) * 40_000)
+    long = text(key).encode()
+    blocks, root = linked_often(key, 20)
+    runner.put(blocks, f"a {root} 100 {ALL}\n".encode())
+    told = runner.measure()
+    if told["status"] != 3:
+        raise Wrong(f"status 3 was wanted, {told['status']} with {told['error'][:200]!r} came")
+    with open(runner.room / "report", "rb") as report:
+        lines = [report.readline().startswith(b"a done visits=41 kept=41 sections=2 ")]
+        lines += [report.readline() == b"  %d hash %s\n" % (number, long) for number in range(2, 41, 2)]
+        if not all(lines) or report.read() != b"total jobs=1 done=1 skips=20\n":
+            raise Wrong("the report is another")
+        size = report.tell()
+    if told["peak"] > len(blocks) + size + 64 * MIB:
+        raise Wrong(f"{len(blocks)} bytes of blocks and {size} of the report took {told['peak']} of memory")
+    in_few_kib(runner, (2, 4))
+
+
+def long_inline(runner):
+    """A link to a raw identity CID of 10 MB, visited 1,000 times: the block that holds it is hashed as often, and little
+    memory is taken beside the file. In few KiB, 50 times."""
+    key = cid(RAW, bytes(range(250)) * 40_000, IDENTITY)
+    blocks, root = linked_often(key, 1_000, SHA2_512)
+    runner.put(blocks, f"a {root} 2001 {ALL}\n".encode())
+    told = runner.measure(4)
+    line = (runner.room / "report").read_bytes()[:100]
+    if told["status"] != 0 or not line.startswith(b"a done visits=2001 kept=2001 sections=2 "):
+        raise Wrong(f"2,001 visits were wanted: status {told['status']}, {line!r}")
+    if told["peak"] > len(blocks) + 64 * MIB:
+        raise Wrong(f"{len(blocks)} bytes of blocks took {told['peak']} of memory")
+    runner.put(blocks, f"a {root} 101 {ALL}\n".encode())
+    if (status := runner.measure(4)["status"]) != 4:
+        raise Wrong(f"a job at its limit ended with status {status}")
+    in_few_kib(runner, (2, 4), 4)
 
 
 def mutated(chance, data, words):
@@ -340,10 +524,11 @@ def graph(chance):
         if not keys or chance.random() < 0.3:
             codec, block = RAW, chance.randbytes(chance.randrange(40))
         else:
-            links = [link(chance.choice(keys)) for _ in range(chance.randrange(1, 5))]
-            codec, block = DAG_CBOR, bytes([0x80 + len(links)]) + b"".join(links)
-        keys.append(cid(codec, block))
-        sections.append(section(keys[-1], block))
+            codec, block = DAG_CBOR, list_of([link(chance.choice(keys)) for _ in range(chance.randrange(1, 5))])
+        hash_code = chance.choice((SHA2_256, SHA2_256, SHA2_512, IDENTITY)) if len(block) < 400 else SHA2_256
+        keys.append(cid(codec, block, hash_code))
+        if keys[-1][2] != IDENTITY or chance.random() < 0.2:
+            sections.append(section(keys[-1], block))
     lines = []
     for number in range(chance.randrange(1, 6)):
         roots = ",".join(text(chance.choice(keys)) for _ in range(chance.choice((1, 1, 2, 3))))
@@ -369,6 +554,22 @@ def fuzz(runner, seed, runs):
             raise Wrong(f"seed {seed}-{number}: {wrong}") from None
 
 
+PARTS = (
+    wide_blocks,
+    chosen_cids,
+    long_cids,
+    inline_chains,
+    inline_links,
+    long_skips,
+    long_inline,
+    cut_blocks,
+    changed_blocks,
+    cut_selectors,
+    cut_jobs,
+    several_roots,
+)
+
+
 def main():
     parser = argparse.ArgumentParser(description=__doc__)
     parser.add_argument("--seed", type=int, default=1)
@@ -376,7 +577,7 @@ def main():
     words = parser.parse_args()
     with tempfile.TemporaryDirectory(prefix="hostile-") as room:
         runner = Runner(pathlib.Path(room))
-        for part in (wide_blocks, chosen_cids, long_cids, cut_blocks, changed_blocks, cut_selectors, cut_jobs, several_roots):
+        for part in PARTS:
             try:
                 part(runner)
             except Wrong as wrong:

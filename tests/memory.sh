@@ -155,6 +155,20 @@ each_of blocks.car jobs.txt damaged a
 write_jobs {a,b,c}" $(text "$fork_cid") 100 $all"
 each_of blocks.car jobs.txt damaged a b c
 
+# Links to CIDs of more than 36 bytes: one that holds a list of a link and a number, one under SHA-512, and one that is skipped;
+# and such a CID as a root.
+held_cid=$(cbor_inline "$with_zero")
+skipped_cid=01551e40$(digest_512 "$abc")
+long=83$(link "$held_cid")$(link "$abc_512_cid")$(link "$skipped_cid")
+long_cid=$(cbor "$long")
+long_blocks=$(section "$long_cid" "$long")$(section "$abc_cid" "$abc")$(section "$abc_512_cid" "$abc")
+write_blocks "$long_blocks"
+mkdir long
+bytes "$(header "$long_cid")" "$long_blocks" | tee long/a.car >long/b.car
+bytes "$(header "$held_cid")" "$(section "$abc_cid" "$abc")" >long/held.car
+write_jobs {a,b}" $(text "$long_cid") 100 $all" "held $(text "$held_cid") 100 $all"
+each_of blocks.car jobs.txt long a b held
+
 # A check that finds no memory for the third visit of a job: the job ends with memory, and the next is done.
 # One verifier checks all visits in order, and its receipts are what it asks memory for, so some request of
 # its thread, the first that is started, is for that visit's.

@@ -1,7 +1,7 @@
 #!/usr/bin/env bash
 # Runs the built program on files as a user would, and compares each answer whole: exit status,
 # standard output, standard error and files. Ends with status 1 at the first that is wrong.
-# What is wanted is made here from the formats, with sha256sum and base32; nothing is taken from the program.
+# What is wanted is made here from the formats, with sha256sum, sha512sum and base32; nothing is taken from the program.
 set -Eeuo pipefail
 export LC_ALL=C
 
@@ -17,7 +17,7 @@ trap 'echo "tests/program.sh: $title: the command failed: $BASH_COMMAND" >&2' ER
 
 source "$top/tests/program/cases.sh"
 source "$top/tests/program/blocks.sh"
-for part in examples root jobs faults words streams two_runs selectors progress; do
+for part in examples root jobs hashes faults words streams two_runs selectors progress; do
   source "$top/tests/program/$part.sh"
 done
 

@@ -23,7 +23,11 @@ digest() {
   bytes "$1" | sha256sum | cut -c 1-64
 }
 
-# The CID of a block, raw or DAG-CBOR.
+digest_512() {
+  bytes "$1" | sha512sum | cut -c 1-128
+}
+
+# The CID of a block, raw or DAG-CBOR: under SHA-256, under SHA-512, and the one that holds the block itself.
 raw() {
   echo "01551220$(digest "$1")"
 }
@@ -32,19 +36,43 @@ cbor() {
   echo "01711220$(digest "$1")"
 }
 
+raw_512() {
+  echo "01551340$(digest_512 "$1")"
+}
+
+cbor_512() {
+  echo "01711340$(digest_512 "$1")"
+}
+
+raw_inline() {
+  echo "015500$(with_length "$1")"
+}
+
+cbor_inline() {
+  echo "017100$(with_length "$1")"
+}
+
 # The text of a CID.
 text() {
   echo "b$(bytes "$1" | base32 -w 0 | tr A-Z a-z | tr -d =)"
 }
 
+# item_head MAJOR NUMBER: the head of an item of DAG-CBOR, in its shortest form; the number is below 2^32.
+item_head() {
+  if (($2 < 24)); then
+    printf '%02x' $(($1 << 5 | $2))
+  elif (($2 < 1 << 8)); then
+    printf '%02x%02x' $(($1 << 5 | 24)) "$2"
+  elif (($2 < 1 << 16)); then
+    printf '%02x%04x' $(($1 << 5 | 25)) "$2"
+  else
+    printf '%02x%08x' $(($1 << 5 | 26)) "$2"
+  fi
+}
+
 # A link to a CID, in DAG-CBOR.
 link() {
-  local length=$((${#1} / 2 + 1))
-  if ((length < 24)); then
-    printf 'd82a%02x00%s' $((0x40 + length)) "$1"
-  else
-    printf 'd82a58%02x00%s' "$length" "$1"
-  fi
+  printf 'd82a%s00%s' "$(item_head 2 $((${#1} / 2 + 1)))" "$1"
 }
 
 # with_length HEX..: bytes behind their length.
@@ -60,7 +88,7 @@ header() {
   for cid in "$@"; do
     links+=$(link "$cid")
   done
-  with_length "a265726f6f7473$(printf '%02x' $((0x80 + $#)))" "$links" 6776657273696f6e01
+  with_length a265726f6f7473 "$(item_head 4 $#)" "$links" 6776657273696f6e01
 }
 
 section() {
@@ -75,9 +103,12 @@ abc=616263
 abc_cid=01551220ba7816bf8f01cfea414140de5dae2223b00361a396177a9cb410ff61f20015ad
 abc_text=bafkreif2pall7dybz7vecqka3zo24irdwabwdi4wc55jznaq75q7eaavvu
 empty_cid=01551220e3b0c44298fc1c149afbf4c8996fb92427ae41e4649b934ca495991b7852b855
+abc_512_cid=01551340ddaf35a193617abacc417349ae20413112e6fa4e89a97ea20a9eeee64b55d39a2192992a274fc1a836ba3c23a3feebbd454d4423643ce80e2a9ac94fa54ca49f
 title='the CIDs of two known blocks'
 expect_text 'text of a CID' "$abc_text" "$(text "$(raw "$abc")")"
 expect_text 'CID of the empty block' "$empty_cid" "$(raw '')"
+expect_text 'CID under SHA-512' "$abc_512_cid" "$(raw_512 "$abc")"
+expect_text 'CID that holds its block' bafkqaa3bmjrq "$(text "$(raw_inline "$abc")")"
 
 # A list of one link to `abc`, two lists of a link and a number, and a list of links to the first two.
 one=81$(link "$abc_cid")

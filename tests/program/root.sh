@@ -31,8 +31,19 @@ root_gives 'a root that does not decode' "$(text "$(cbor 1805)")" \
   "$no_roots$(section "$(cbor 1805)" 1805)" "$(header "$(cbor 1805)")"
 foreign=01701220$(digest "$abc")
 root_gives 'a root of another codec' "$(text "$foreign")" "$no_roots$(section "$foreign" "$abc")" "$(header "$foreign")"
-root_gives 'a root with a CID of four bytes' bafkqaaa "$no_roots" \
+root_gives 'a root with a CID of four bytes, which holds an empty block: the header alone' bafkqaaa "$no_roots" \
   19a265726f6f747381d82a4500015500006776657273696f6e01
+root_gives 'a root that holds a list with a link' "$(text "$(cbor_inline "$one")")" \
+  "$no_roots$one_blocks" "$(header "$(cbor_inline "$one")")"
+root_gives 'a root that holds bytes that do not decode' bafyqaap7 "$no_roots" "$(header 01710001ff)"
+root_gives 'a root that holds its block, where the file has a section under it' "$(text "$(raw_inline "$abc")")" \
+  "$no_roots$(section "$(raw_inline "$abc")" "$abc")" "$(header "$(raw_inline "$abc")")"
+root_gives 'a root under SHA-512' "$(text "$abc_512_cid")" \
+  "$no_roots$(section "$abc_512_cid" "$abc")" "$(header "$abc_512_cid")$(section "$abc_512_cid" "$abc")"
+root_gives 'a damaged root under SHA-512' "$(text "$abc_512_cid")" \
+  "$no_roots$(section "$abc_512_cid" 616264)" "$(header "$abc_512_cid")"
+root_gives 'a root under SHA-512 that does not decode' "$(text "$(cbor_512 1805)")" \
+  "$no_roots$(section "$(cbor_512 1805)" 1805)" "$(header "$(cbor_512 1805)")"
 
 # root_refuses LINE TEXT INPUT
 root_refuses() {

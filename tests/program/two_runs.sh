@@ -7,14 +7,15 @@ long_report="long limit visits=1000000 kept=1 sections=0 bytes=59
   0 damaged $(text "$self_cid")
 total jobs=1 done=0 skips=1"
 
-# begin_long TITLE: begins a case in which a run of the job `long` was stopped while it writes.
+# begin_long TITLE: begins a case in which a run of the job `long` was stopped while it writes, which it does once it has
+# threads: its outputs were made and locked before.
 begin_long() {
   begin "$1"
   write_blocks "$(section "$self_cid" "$around")" "$one_blocks"
   write_jobs "long $long_job"
   "$top/ix_export" jobs --blocks blocks.car --jobs jobs.txt --out out --walkers 1 --verifiers 1 >first.out 2>first.err &
   first=$!
-  until [ -e out/long.car.part ] || ! kill -0 "$first" 2>/dev/null; do :; done
+  until [ "$(ls "/proc/$first/task" 2>/dev/null | wc -l)" -gt 1 ] || ! kill -0 "$first" 2>/dev/null; do :; done
   kill -STOP "$first"
   expect_folder out long.car.part
 }

@@ -58,12 +58,12 @@ helps() {
   done
 }
 
-helps --help -- root jobs selector CARv1 UnixFS --version 'Usage: ix_export <COMMAND>'
+helps --help -- root jobs selector CARv1 SHA-256 SHA-512 identity UnixFS --version 'Usage: ix_export <COMMAND>'
 helps -h -- root jobs selector
 helps root --help -- '--cid <TEXT>' hexadecimal 'standard input' 'Status: 0'
 helps jobs --help -- 'NAME ROOTS LIMIT SELECTOR' '--blocks <FILE>' '--jobs <FILE>' '--out <DIR>' '--walkers <N>' \
   '--verifiers <N>' '1 to 64' 'default: 4' "$abc_text 1000 $matcher" 1000000 DIR/NAME.car damaged 'Status: 0' 1073741824 \
-  DIR/NAME.car.part --sync --progress 'counts twice' SHA-256 'the command `selector`'
+  DIR/NAME.car.part --sync --progress 'counts twice' SHA-256 SHA-512 identity 'the command `selector`'
 helps selector --help -- '--hex <TEXT>' '[JSON]' '{"R":{"l":{"none":{}},":>":{"a":{">":{"@":{}}}}}}' docs/SELECTORS.md
 
 # The version names the logic of the kit that made the program; behind it stands where the program is from.
