@@ -25,10 +25,10 @@ _ix_export() {
       mapfile -t COMPREPLY < <(compgen -W '1 2 4 8 16 32 64' -- "$word")
       return
       ;;
-    --cid | --hex) return ;;
+    --cid | --hex | --part) return ;;
   esac
   case $command in
-    jobs) it='--blocks --jobs --out --walkers --verifiers --sync --progress --help' ;;
+    jobs) it='--blocks --jobs --out --part --walkers --verifiers --sync --progress --help' ;;
     selector) it='--hex --help' ;;
     root) it='--cid --help' ;;
     *) it='jobs selector root --help --version' ;;

@@ -10,6 +10,7 @@ complete -c ix_export -n '__fish_seen_subcommand_from jobs' -s h -l help -d 'Pri
 complete -c ix_export -n '__fish_seen_subcommand_from jobs' -l blocks -r -F -d 'The blocks: a CARv1 file'
 complete -c ix_export -n '__fish_seen_subcommand_from jobs' -l jobs -r -F -d 'The job file'
 complete -c ix_export -n '__fish_seen_subcommand_from jobs' -l out -x -a '(__fish_complete_directories)' -d 'Where the archives go'
+complete -c ix_export -n '__fish_seen_subcommand_from jobs' -l part -x -d 'The K-th of N parts of the jobs, as K/N'
 complete -c ix_export -n '__fish_seen_subcommand_from jobs' -l walkers -x -d 'How many threads walk, 1 to 64'
 complete -c ix_export -n '__fish_seen_subcommand_from jobs' -l verifiers -x -d 'How many threads hash, 1 to 64'
 complete -c ix_export -n '__fish_seen_subcommand_from jobs' -l sync -d 'Each archive is on the disk before it gets its name'

@@ -19,9 +19,10 @@ use clap::ArgMatches;
 use ix_files::{
     Failure, Progress, make_outputs, name_outputs, read_all, read_file, remove_outputs, stand_in,
 };
+use ix_jobs::Part;
 use ix_notation::{hex_of_json, json_of_hex};
 use ix_pipeline::Plan;
-use ix_run::{RunFault, RunOut, load, printed_root, root_of_text, run, run_watched};
+use ix_run::{RunFault, RunOut, load, load_part, printed_root, root_of_text, run, run_watched};
 use ix_walk::{Job, Store};
 use std::fs::File;
 use std::io::{BufWriter, Write};
@@ -31,7 +32,7 @@ use std::rt::{Env, Files};
 use std::sync::{Arc, Wait};
 use std::thread::Threads;
 use std::{env, io};
-use words::command_line;
+use words::{command_line, part_of};
 
 // How many visits wait between the walkers and the verifiers, and how many verdicts behind each
 // verifier.
@@ -107,9 +108,10 @@ fn export_jobs<'a, R: AllocGlobal + Eprint + Files<File = File> + Print + Thread
     rt: &R,
     words: &ArgMatches<'a>,
 ) -> Result<u8, Failure> {
+    let part = part_of(rt.alloc(), words)?;
     let standing = stand_in(rt);
     let inputs = ["blocks", "jobs"].map(|name| words.get_str(name).unwrap_or(""));
-    let (store, jobs) = load_files(rt, inputs)?;
+    let (store, jobs) = load_files(rt, inputs, part)?;
     let status = export_loaded(rt, words, inputs, &store, &jobs)?;
     leave_to_the_system(store);
     drop(standing);
@@ -122,16 +124,20 @@ fn leave_to_the_system(store: Arc<Store>) {
     let _left = unsafe { ManuallyDrop::new_unchecked(store) };
 }
 
-// What the file of blocks and the job file hold.
+// What the file of blocks and the job file, or a part of it, hold.
 fn load_files<R: AllocGlobal + Files>(
     rt: &R,
     inputs: [&str; 2],
+    part: Option<Part>,
 ) -> Result<(Arc<Store>, Arc<Vec<Job>>), Failure>
     ensures { IfOk result (λ loaded. length (arc_value loaded.1).items ≤ 1000) }
 {
     let car = read_file(rt, inputs[0])?;
     let file = read_file(rt, inputs[1])?;
-    Ok(load(rt.alloc(), car, file.as_slice())?)
+    match part {
+        Some(part) => Ok(load_part(rt.alloc(), car, file.as_slice(), part)?),
+        None => Ok(load(rt.alloc(), car, file.as_slice())?),
+    }
 }
 
 // Runs the jobs of these files, and makes and names their outputs, or removes them where the run is

@@ -1,6 +1,8 @@
 //! The words of the command line.
 
-use clap::{Arg, ArgAction, Command, value_parser};
+use clap::error::ErrorKind;
+use clap::{Arg, ArgAction, ArgMatches, Command, value_parser};
+use ix_jobs::Part;
 use std::alloc::{AllocError, Global};
 
 // The program's version, and the logic of the toolchain in which it is proved.
@@ -34,6 +36,10 @@ one comma between, LIMIT is how many arrivals at blocks there may be from all ro
 1000000, and SELECTOR is an IPLD selector as DAG-CBOR in hexadecimal, which the command `selector`\n\
 makes of JSON. A block that is linked twice is arrived at twice: it counts twice, and is checked\n\
 twice. Empty lines and lines that begin with # are ignored. There are at most 1000 jobs.\n\
+\n\
+With --part K/N the K-th of N parts of the jobs is run: of J jobs, numbered from 0, those from\n\
+(K-1)*J/N up to, and not including, K*J/N, both rounded down. So the parts 1 to N are all jobs. The\n\
+whole file is read and judged, whatever the part; it may have 1000000 jobs, and a part 1000.\n\
 \n\
 A job has one archive, whose header names its roots in their order, and which has each block once.\n\
 \n\
@@ -97,6 +103,7 @@ fn jobs_command<'a>(alloc: Global) -> Result<Command<'a>, AllocError> {
         text_argument(alloc, "blocks", "FILE", "The blocks: a CARv1 file"),
         text_argument(alloc, "jobs", "FILE", "The job file"),
         text_argument(alloc, "out", "DIR", "Where the archives go"),
+        part_argument(alloc),
         number_argument(alloc, "walkers", "How many threads walk, 1 to 64"),
         number_argument(alloc, "verifiers", "How many threads hash, 1 to 64"),
         flag_argument(
@@ -140,6 +147,41 @@ fn text_argument<'a>(alloc: Global, name: &'a str, value: &'a str, help: &'a str
         .help(help)
         .required(true)
         .action(ArgAction::Set)
+}
+
+// The part of the job file, which is all of it where the option is left out.
+fn part_argument<'a>(alloc: Global) -> Arg<'a> {
+    Arg::new(alloc, "part")
+        .long("part")
+        .value_name("K/N")
+        .help("The K-th of N parts of the jobs, N up to 1000000")
+        .action(ArgAction::Set)
+}
+
+/// The part of the job file that the words of the command `jobs` ask for, or the whole.
+pub fn part_of<'a>(alloc: Global, words: &ArgMatches<'a>) -> Result<Option<Part>, clap::Error> {
+    let Some(text) = words.get_str("part") else {
+        return Ok(None);
+    };
+    match part_in(text) {
+        Some(part) => Ok(Some(part)),
+        None => Err(refused_part(alloc, text)?),
+    }
+}
+
+// The part that a text names.
+fn part_in(text: &str) -> Option<Part> {
+    let (number, of) = text.split_once('/')?;
+    Part::new(number.parse().ok()?, of.parse().ok()?)
+}
+
+// What is told of a text that names none.
+fn refused_part<'a>(alloc: Global, text: &str) -> Result<clap::Error, AllocError> {
+    let message = format!(in alloc;
+        "invalid value '{text}' for '--part <K/N>': K is from 1 to N, and N from 1 to 1000000"
+    )?;
+    let mut command = jobs_command(alloc)?.bin_name("ix_export jobs")?;
+    command.error(ErrorKind::ValueValidation, message.as_str())
 }
 
 // An option with a number from 1 to 64, which is 4 where it is left out.

@@ -5,3 +5,8 @@ pub mod Texts
 pub mod Limits
 pub mod Named
 mod Lines
+mod PartLaws
+mod ReportLaws
+mod PartLists
+mod JobLines
+mod PartJobs

@@ -92,14 +92,14 @@ fields_in text = four_fields (slice_split (λ b. b == 32) text)
 abbrev pub line_job : List ℕ → Result JobMeaning JobsKind
 line_job line = text_in line >>= (λ text. fields_in text >>= (λ f. job_of_fields f.0 f.1 f.2 f.3))
 
--- the jobs with one that may join them
-abbrev pub joined : List JobMeaning → JobMeaning → Result (List JobMeaning) JobsKind
-joined before job =
-    if list_any (λ j. bytes_eq j.name job.name) before then Err Repeated else (if nat_le 1000 (length before) then Err TooMany else Ok (before ++ job ∷ []))
+-- the jobs, of which there may be so many, with one that may join them
+abbrev pub joined : ℕ → List JobMeaning → JobMeaning → Result (List JobMeaning) JobsKind
+joined most before job =
+    if list_any (λ j. bytes_eq j.name job.name) before then Err Repeated else (if nat_le most (length before) then Err TooMany else Ok (before ++ job ∷ []))
 
 -- the jobs with that of a line, if it isn't ignored
-abbrev pub with_line : List JobMeaning → List ℕ → Result (List JobMeaning) JobsKind
-with_line before line = if is_ignored line then Ok before else line_job line >>= joined before
+abbrev pub with_line : ℕ → List JobMeaning → List ℕ → Result (List JobMeaning) JobsKind
+with_line most before line = if is_ignored line then Ok before else line_job line >>= joined most before
 
 -- a fault and its line
 abbrev pub at_line : {A : Type 0} → ℕ → Result A JobsKind → Result A (JobsKind × ℕ)
@@ -107,10 +107,14 @@ at_line line (Ok x) = Ok x
 at_line line (Err kind) = Err (kind, line)
 
 -- the jobs of the lines from a number on, behind those before
-abbrev pub jobs_from : ℕ → List JobMeaning → List (List ℕ) → Result (List JobMeaning) (JobsKind × ℕ)
-jobs_from line before [] = Ok before
-jobs_from line before (l ∷ ls) = at_line line (with_line before (strip_carriage_return l)) >>= (λ jobs. jobs_from (line + 1) jobs ls)
+abbrev pub jobs_from : ℕ → ℕ → List JobMeaning → List (List ℕ) → Result (List JobMeaning) (JobsKind × ℕ)
+jobs_from most line before [] = Ok before
+jobs_from most line before (l ∷ ls) = at_line line (with_line most before (strip_carriage_return l)) >>= (λ jobs. jobs_from most (line + 1) jobs ls)
+
+-- the jobs of a file that may have so many, or the first faulty line
+abbrev pub jobs_up_to : ℕ → List ℕ → Result (List JobMeaning) (JobsKind × ℕ)
+jobs_up_to most b = jobs_from most 1 [] (slice_split (λ b. b == 10) b)
 
 -- the jobs of a job file, or the first faulty line
 abbrev pub jobs_of : List ℕ → Result (List JobMeaning) (JobsKind × ℕ)
-jobs_of b = jobs_from 1 [] (slice_split (λ b. b == 10) b)
+jobs_of b = jobs_up_to 1000 b

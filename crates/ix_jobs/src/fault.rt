@@ -23,7 +23,8 @@ pub enum JobsKind {
     Selector,
     /// An earlier line has the name.
     Repeated,
-    /// There are 1,000 jobs before this one.
+    /// There are 1,000 jobs before this one, in the file or in the part of it that is run; or 1,000,000
+    /// in a file that is run by parts.
     TooMany,
     /// No memory was left.
     Memory,

@@ -50,7 +50,7 @@ impl JobList {
 
     /// Adds a job, unless its name is taken or there are too many before it.
     pub(crate) fn add(&mut self, alloc: Global, job: Job) -> Result<(), JobsKind>
-        ensures added { Gives (λ _. self.new) result (joined self.old job) }
+        ensures added { Gives (λ _. self.new) result (joined 1000 self.old job) }
         ensures err { OnErr result (self.new ≡ self.old) }
     {
         self.may_join(&job)?;
@@ -64,7 +64,7 @@ impl JobList {
 
     // Whether a job may join those before it, or why not.
     fn may_join(&self, job: &Job) -> Result<(), JobsKind>
-        ensures { Reads (λ _. self.now ++ job.now ∷ []) result (joined self.now job.now) }
+        ensures { Reads (λ _. self.now ++ job.now ∷ []) result (joined 1000 self.now job.now) }
     {
         if self.is_taken(job.name()) {
             return Err(JobsKind::Repeated);

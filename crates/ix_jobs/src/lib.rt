@@ -1,6 +1,7 @@
 //! The job file and the report.
 //!
 //! A job file is read as its jobs, or refused with its first fault and the number of its line.
+//! A file with more jobs than one run takes is read by parts, of which each is told the faults of all.
 //! `report` and `status` are what the definitions have for the jobs and what was told of each.
 //!
 //! ```rust
@@ -11,13 +12,20 @@
 //! ```
 #![tactic(auto)]
 
+mod cut;
 mod fault;
 mod field;
 mod job_list;
 mod jobs;
+pub mod law;
 mod line;
 mod outcome;
+mod part;
+mod part_jobs;
+mod part_list;
 
 pub use fault::{JobsFault, JobsKind};
 pub use jobs::read_jobs;
 pub use outcome::{JobResult, report, status};
+pub use part::Part;
+pub use part_jobs::read_jobs_part;

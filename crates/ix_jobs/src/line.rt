@@ -17,7 +17,7 @@ use std::str;
 /// Adds the job of a line, unless the line is ignored.
 pub(crate) fn add_line(alloc: Global, jobs: &mut JobList, line: &[u8]) -> Result<(), JobsKind>
     ensures { Gives (λ _. jobs.new) result
-        (with_line jobs.old (strip_carriage_return line.now)) }
+        (with_line 1000 jobs.old (strip_carriage_return line.now)) }
 {
     let line = without_return(line);
     if is_ignored(line) {
@@ -27,8 +27,8 @@ pub(crate) fn add_line(alloc: Global, jobs: &mut JobList, line: &[u8]) -> Result
     jobs.add(alloc, job)
 }
 
-// A line without one carriage return at its end.
-fn without_return(line: &[u8]) -> &[u8]
+/// A line without one carriage return at its end.
+pub(crate) fn without_return(line: &[u8]) -> &[u8]
     ensures { result.now ≡ strip_carriage_return line.now }
 {
     match line.split_last() {
@@ -37,15 +37,15 @@ fn without_return(line: &[u8]) -> &[u8]
     }
 }
 
-// Whether a line, without its carriage return, is empty or a comment.
-fn is_ignored(line: &[u8]) -> bool
+/// Whether a line, without its carriage return, is empty or a comment.
+pub(crate) fn is_ignored(line: &[u8]) -> bool
     ensures { result ≡ is_ignored line.now }
 {
     matches!(line.first(), None | Some(b'#'))
 }
 
-// The job of a line that isn't ignored.
-fn line_job(alloc: Global, line: &[u8]) -> Result<Job, JobsKind>
+/// The job of a line that isn't ignored.
+pub(crate) fn line_job(alloc: Global, line: &[u8]) -> Result<Job, JobsKind>
     ensures { Gives (λ job. job) result (line_job line.now) }
 {
     let text = text_in(line)?;

@@ -23,23 +23,23 @@ module _ (before jobs : List JobMeaning) (few : length before ≤ 1000) where
   joined-few job true h = absurd cc
   joined-few job false h = one_more job (leb 1000 (length before)) refl h
 
-  read-few : (read : Result JobMeaning JobsKind) → (read >>= joined before) ≡ Ok jobs → length jobs ≤ 1000
+  read-few : (read : Result JobMeaning JobsKind) → (read >>= joined 1000 before) ≡ Ok jobs → length jobs ≤ 1000
   read-few (Ok job) h = joined-few job (list_any (λ j. bytes_eq j.name job.name) before) h
   read-few (Err kind) h = absurd cc
 
-  line-few : (ignored : Bool) (read : Result JobMeaning JobsKind) → cond ignored (Ok before) (read >>= joined before) ≡ Ok jobs → length jobs ≤ 1000
+  line-few : (ignored : Bool) (read : Result JobMeaning JobsKind) → cond ignored (Ok before) (read >>= joined 1000 before) ≡ Ok jobs → length jobs ≤ 1000
   line-few true read h = subst (λ l. length l ≤ 1000) (ok_same before jobs h) few
   line-few false read h = read-few read h
 
-behind-few : (line : ℕ) (jobs : List JobMeaning) (ls : List (List ℕ)) (read : Result (List JobMeaning) JobsKind) → ((more : List JobMeaning) → length more ≤ 1000 → jobs_from (line + 1) more ls ≡ Ok jobs → length jobs ≤ 1000)
-    → ((more : List JobMeaning) → read ≡ Ok more → length more ≤ 1000) → (at_line line read >>= (λ more. jobs_from (line + 1) more ls)) ≡ Ok jobs → length jobs ≤ 1000
+behind-few : (line : ℕ) (jobs : List JobMeaning) (ls : List (List ℕ)) (read : Result (List JobMeaning) JobsKind) → ((more : List JobMeaning) → length more ≤ 1000 → jobs_from 1000 (line + 1) more ls ≡ Ok jobs → length jobs ≤ 1000)
+    → ((more : List JobMeaning) → read ≡ Ok more → length more ≤ 1000) → (at_line line read >>= (λ more. jobs_from 1000 (line + 1) more ls)) ≡ Ok jobs → length jobs ≤ 1000
 behind-few line jobs ls (Ok more) rest few h = rest more (few more refl) h
 behind-few line jobs ls (Err kind) rest few h = absurd cc
 
-from-few : (line : ℕ) (before jobs : List JobMeaning) (lines : List (List ℕ)) → length before ≤ 1000 → jobs_from line before lines ≡ Ok jobs → length jobs ≤ 1000
+from-few : (line : ℕ) (before jobs : List JobMeaning) (lines : List (List ℕ)) → length before ≤ 1000 → jobs_from 1000 line before lines ≡ Ok jobs → length jobs ≤ 1000
 from-few line before jobs [] few h = subst (λ l. length l ≤ 1000) (ok_same before jobs h) few
 from-few line before jobs (l ∷ ls) few h =
-    behind-few line jobs ls (with_line before (strip_carriage_return l)) (λ more f e. from-few (line + 1) more jobs ls f e)
+    behind-few line jobs ls (with_line 1000 before (strip_carriage_return l)) (λ more f e. from-few (line + 1) more jobs ls f e)
     (λ more e. line-few before more few (is_ignored (strip_carriage_return l)) (line_job (strip_carriage_return l)) e) h
 
 pub few_jobs : (b : List ℕ) (jobs : List JobMeaning) → jobs_of b ≡ Ok jobs → length jobs ≤ 1000

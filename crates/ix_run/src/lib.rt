@@ -1,6 +1,6 @@
 //! A run over a file of blocks and a job file, the archive of one root, and the lines of refusals.
 //!
-//! `prepare` reads both files, or tells the first fault. `run` walks each job and writes its
+//! `prepare` reads both files, or tells the first fault; `load_part` takes a part of the jobs. `run` walks each job and writes its
 //! archive. In every schedule: the report and the status are those of what was told of the jobs,
 //! and each archive, over a writer that had no bytes, is that of its job at Done and else a
 //! beginning of it.
@@ -28,6 +28,6 @@ mod watch;
 pub use command::{printed_root, root_of_text};
 pub use execution::{RunOut, run, run_jobs, run_watched};
 pub use fault::{RunFault, fault_line};
-pub use preparation::{load, prepare};
+pub use preparation::{load, load_part, prepare};
 pub use root::export_root;
 pub use watch::{Watch, Watched};

@@ -4,11 +4,12 @@ ghost use Rattle.std.specs.Prelude.{◌≡◌, ◌≤◌, length, IfOk, IfErr, O
 ghost use Rattle.std.specs.Arc.{arc_value};
 ghost use Rattle.ix_car.specs.Reading.{blocks_of};
 ghost use Rattle.ix_jobs.specs.Jobs.{jobs_of};
-ghost use Rattle.ix_run.specs.Prepare.{IsPrepareRefusal};
+ghost use Rattle.ix_jobs.specs.Parts.{part_jobs_of};
+ghost use Rattle.ix_run.specs.Prepare.{IsPrepareRefusal, IsPartRefusal};
 
 use crate::fault::RunFault;
 use ix_car::{load_car, read_car};
-use ix_jobs::read_jobs;
+use ix_jobs::{Part, read_jobs, read_jobs_part};
 use ix_walk::{Job, Store};
 use std::alloc::Global;
 use std::sync::Arc;
@@ -44,4 +45,21 @@ pub fn load(
     let store = load_car(alloc, car)?;
     let jobs = read_jobs(alloc, job_file)?;
     Ok((Arc::new(alloc, store)?, Arc::new(alloc, jobs)?))
+}
+
+/// The same of a part of the job file's jobs. The job file is judged as a whole, whatever the part.
+pub fn load_part(
+    alloc: Global,
+    car: Vec<u8>,
+    job_file: &[u8],
+    part: Part,
+) -> Result<(Arc<Store>, Arc<Vec<Job>>), RunFault>
+    ensures blocks { IfOk result (λ p. blocks_of car.items ≡ Ok (arc_value p.0)) }
+    ensures jobs { IfOk result (λ p. part_jobs_of part.number part.of job_file.now ≡ Ok (arc_value p.1).items) }
+    ensures few { IfOk result (λ p. length (arc_value p.1).items ≤ 1000) }
+    ensures refused { IfErr result (λ fault. IsPartRefusal part.number part.of car.items job_file.now fault) }
+{
+    let blocks = load_car(alloc, car)?;
+    let jobs = read_jobs_part(alloc, job_file, part)?;
+    Ok((Arc::new(alloc, blocks)?, Arc::new(alloc, jobs)?))
 }

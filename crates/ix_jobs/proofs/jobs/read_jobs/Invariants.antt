@@ -6,7 +6,7 @@ use Rattle.ix_jobs.proofs.jobs.read_jobs.Given as goal
 abbrev pub invariant-loop-rest : goal.invariant-loop-rest
 invariant-loop-rest l = record {
   within : l.number + length l.rest ≤ length l.bytes;
-  goes_on : jobs_from (l.number + 1) l.jobs (slice_split (λ b. b == 10) l.rest) ≡ jobs_of l.bytes;
+  goes_on : jobs_from 1000 (l.number + 1) l.jobs (slice_split (λ b. b == 10) l.rest) ≡ jobs_of l.bytes;
 }
 
 abbrev pub decreases-loop-rest : goal.decreases-loop-rest

@@ -1,0 +1,20 @@
+-- The jobs so far, of which a window is kept.
+use Rattle.std.specs.Prelude.{◌≡◌, ℕ, List, length, slice_range, Result, Ok, Err}
+use Rattle.ix_walk.specs.JobMeaning.{JobMeaning}
+use Rattle.ix_jobs.specs.declared.fault.JobsKind.{JobsKind}
+use Rattle.ix_jobs.specs.declared.part_list.PartList.{PartList}
+use Rattle.ix_jobs.specs.Named.{HasNames}
+use Rattle.ix_jobs.specs.Gives.{FailsAs}
+
+-- what a list has after these jobs, where those from one on up to another are kept
+pub record Keeps (start end : ℕ) (jobs : List JobMeaning) (list : PartList) : Type 0 where
+  pub named : HasNames list.names jobs
+  pub counted : list.count ≡ length jobs
+  pub starts : list.start ≡ start
+  pub ends : list.end ≡ end
+  pub kept : list.jobs.items ≡ slice_range jobs start end
+
+-- what a call that adds to such a list answered, and the list after it, are what the definition gives, unless it ran out of memory
+abbrev pub KeepsMore : {X : Type 0} → ℕ → ℕ → PartList → Result X JobsKind → Result (List JobMeaning) JobsKind → Type 0
+KeepsMore start end after (Ok x) meant = (jobs : List JobMeaning) × (meant ≡ Ok jobs) × Keeps start end jobs after
+KeepsMore start end after (Err kind) meant = FailsAs kind kind meant

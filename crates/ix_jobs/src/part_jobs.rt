@@ -1,0 +1,98 @@
+//! A part of the jobs of a job file.
+//!
+//! The whole file is read and judged, whatever the part.
+
+ghost use Rattle.std.specs.Prelude.{◌≡◌, ◌==◌, ◌≤◌, List, length, get_or, slice_range, Ok, IfOk, IfErr};
+ghost use Rattle.ix_walk.specs.JobMeaning.{JobMeaning};
+ghost use Rattle.ix_jobs.specs.Jobs.{jobs_up_to};
+ghost use Rattle.ix_jobs.specs.Parts.{job_lines, part_jobs_of};
+ghost use Rattle.ix_jobs.specs.Gives.{IsFaultOf};
+
+use crate::fault::{JobsFault, JobsKind};
+use crate::jobs::split_line;
+use crate::line::{is_ignored, without_return};
+use crate::part::Part;
+use crate::part_list::PartList;
+use ix_walk::Job;
+use std::alloc::Global;
+
+// How many jobs a part may have.
+const MOST_JOBS: usize = 1_000;
+
+/// The jobs of a part of a job file that may have 1,000,000, in its order; or the first fault of the file; or, where it has none,
+/// that there are too many jobs in the part, with the line of the first of them for which there is no room.
+pub fn read_jobs_part(alloc: Global, bytes: &[u8], part: Part) -> Result<Vec<Job>, JobsFault>
+    ensures jobs { IfOk result (λ jobs. part_jobs_of part.number part.of bytes.now ≡ Ok jobs.items) }
+    ensures few { IfOk result (λ jobs. length jobs.items ≤ 1000) }
+    ensures fault { IfErr result (λ fault. IsFaultOf fault (part_jobs_of part.number part.of bytes.now)) }
+{
+    let count = job_count(bytes);
+    let start = part.start(count);
+    let end = part.end(count);
+    let jobs = read_window(alloc, bytes, start, end.min(start + MOST_JOBS))?;
+    if end - start > MOST_JOBS {
+        let line = line_of_job(bytes, start + MOST_JOBS);
+        return Err(JobsFault {
+            kind: JobsKind::TooMany,
+            line,
+        });
+    }
+    Ok(jobs)
+}
+
+// The jobs that are numbered from `start` up to, and not including, `end`, or the first fault of the file.
+fn read_window(alloc: Global, bytes: &[u8], start: usize, end: usize) -> Result<Vec<Job>, JobsFault>
+    ensures jobs { IfOk result (λ kept. (jobs : List JobMeaning) × (jobs_up_to 1000000 bytes.now ≡ Ok jobs) × (kept.items ≡ slice_range jobs start end)) }
+    ensures fault { IfErr result (λ fault. IsFaultOf fault (jobs_up_to 1000000 bytes.now)) }
+{
+    let mut jobs = PartList::new(alloc, start, end);
+    let mut rest = bytes;
+    let mut number = 0;
+    while !rest.is_empty() {
+        let (line, after) = split_line(rest);
+        number += 1;
+        if let Err(kind) = jobs.add_line(alloc, line) {
+            return Err(JobsFault { kind, line: number });
+        }
+        rest = after;
+    }
+    Ok(jobs.into_jobs())
+}
+
+// How many jobs a file has, if none of its lines is faulty.
+fn job_count(bytes: &[u8]) -> usize
+    ensures count { result ≡ length (job_lines bytes.now) }
+    ensures within { result ≤ length bytes.now }
+{
+    let mut count = 0;
+    let mut rest = bytes;
+    while !rest.is_empty() {
+        let (line, after) = split_line(rest);
+        if !is_ignored(without_return(line)) {
+            count += 1;
+        }
+        rest = after;
+    }
+    count
+}
+
+// The number of the line of a job, which is numbered from 0, or 0 where it has none.
+fn line_of_job(bytes: &[u8], job: usize) -> u64
+    ensures { result ≡ get_or (job_lines bytes.now) job 0 }
+{
+    let mut before = job;
+    let mut rest = bytes;
+    let mut number = 0;
+    while !rest.is_empty() {
+        let (line, after) = split_line(rest);
+        number += 1;
+        if !is_ignored(without_return(line)) {
+            if before == 0 {
+                return number;
+            }
+            before -= 1;
+        }
+        rest = after;
+    }
+    0
+}

@@ -1,0 +1,84 @@
+//! The jobs of the lines so far, of which those of a part are kept.
+
+ghost use Rattle.std.specs.Prelude.{◌≡◌, [], ℕ, List};
+ghost use Rattle.std.specs.Str.Lines.{strip_carriage_return};
+ghost use Rattle.ix_walk.specs.JobMeaning.{JobMeaning};
+ghost use Rattle.ix_jobs.specs.Jobs.{joined, with_line};
+ghost use Rattle.ix_jobs.specs.PartList.{Keeps, KeepsMore};
+
+use crate::fault::JobsKind;
+use crate::line::{is_ignored, line_job, without_return};
+use ix_walk::Job;
+use std::alloc::Global;
+use std::collections::BTreeSet;
+
+// How many jobs a file that is cut into parts may have.
+const MOST_JOBS: usize = 1_000_000;
+
+/// The jobs from one on up to another, and the names of all.
+#[derive(Drop)]
+pub(crate) struct PartList {
+    jobs: Vec<Job>,
+    names: BTreeSet<String>,
+    // How many jobs there are, kept or not.
+    count: usize,
+    start: usize,
+    end: usize,
+}
+
+impl PartList {
+    /// A list without jobs, which keeps those that are numbered from `start` up to, and not including, `end`.
+    pub(crate) fn new(alloc: Global, start: usize, end: usize) -> PartList
+        ensures { Keeps start end [] result }
+    {
+        PartList {
+            jobs: Vec::new(alloc),
+            names: BTreeSet::new(alloc),
+            count: 0,
+            start,
+            end,
+        }
+    }
+
+    /// Adds the job of a line, unless the line is ignored.
+    pub(crate) fn add_line(&mut self, alloc: Global, line: &[u8]) -> Result<(), JobsKind>
+        ensures { (start end : ℕ) (before : List JobMeaning) → Keeps start end before self.old
+            → KeepsMore start end self.new result (with_line 1000000 before (strip_carriage_return line.now)) }
+    {
+        let line = without_return(line);
+        if is_ignored(line) {
+            return Ok(());
+        }
+        let job = line_job(alloc, line)?;
+        self.add(alloc, job)
+    }
+
+    // Adds a job, unless its name is taken or there are too many before it.
+    fn add(&mut self, alloc: Global, job: Job) -> Result<(), JobsKind>
+        ensures { (start end : ℕ) (before : List JobMeaning) → Keeps start end before self.old
+            → KeepsMore start end self.new result (joined 1000000 before job) }
+    {
+        if self.names.contains(job.name()) {
+            return Err(JobsKind::Repeated);
+        }
+        if self.count >= MOST_JOBS {
+            return Err(JobsKind::TooMany);
+        }
+        let name = String::from_str(alloc, job.name())?;
+        self.names.insert(name)?;
+        let number = self.count;
+        self.count += 1;
+        if number < self.start || self.end <= number {
+            return Ok(());
+        }
+        self.jobs.push(job)?;
+        Ok(())
+    }
+
+    /// The jobs that were kept, in the order of adding.
+    pub(crate) fn into_jobs(self) -> Vec<Job>
+        ensures { result.items ≡ self.jobs.items }
+    {
+        self.jobs
+    }
+}
