@@ -50,8 +50,7 @@ end_long 4 ''
 expect_folder out a.car long.car
 
 begin_long 'a run behind one that was killed'
-kill -KILL "$first"
-wait "$first" 2>/dev/null || :
+{ kill -KILL "$first" && wait "$first"; } 2>/dev/null || :
 expect_folder out long.car.part
 write_jobs "long $one_job"
 run_jobs

@@ -6,6 +6,7 @@ use ix_cid::{Cid, push_varint, read_varint};
 use std::alloc::{AllocError, Global};
 use std::cmp::Ordering;
 use std::hash::{BuildHasher, BuildHasherDefault, FoldHasher};
+use std::sync::Arc;
 
 /// The CID that bytes in hexadecimal are.
 pub fn cid_of(alloc: Global, text: &str) -> Result<Cid> {
@@ -79,6 +80,20 @@ pub fn cid(alloc: Global, input: &str) -> Result<String> {
     let bytes = bytes_of_hex(alloc, input)?;
     match Cid::read(alloc, bytes.as_slice()) {
         Ok((cid, length)) => parts_of(alloc, bytes.as_slice(), &cid, length),
+        Err(fault) => Ok(fault.to_string(alloc)?),
+    }
+}
+
+/// `cid_within START HEX = VERSION CODEC HASH_CODE DIGEST LENGTH`
+pub fn cid_within(alloc: Global, input: &str) -> Result<String> {
+    let (start, text) = two_words(input)?;
+    let start = start.parse::<usize>()?;
+    let bytes = Arc::new(alloc, bytes_of_hex(alloc, text)?)?;
+    match Cid::read_within(alloc, &bytes, start) {
+        Ok((cid, length)) => {
+            let (_, behind) = bytes.split_at(start.min(bytes.len()));
+            parts_of(alloc, behind, &cid, length)
+        }
         Err(fault) => Ok(fault.to_string(alloc)?),
     }
 }

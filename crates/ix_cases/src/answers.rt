@@ -20,6 +20,7 @@ pub fn answer<R: Threads + Wait + Sync>(
         "varint" => cids::varint(alloc, input),
         "push_varint" => cids::pushed_varints(alloc, input),
         "cid" => cids::cid(alloc, input),
+        "cid_within" => cids::cid_within(alloc, input),
         "cids" => cids::compared_cids(alloc, input),
         "text" => cids::text(alloc, input),
         "from_text" => cids::cid_of_text(alloc, input),
