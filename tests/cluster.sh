@@ -2,7 +2,7 @@
 # Runs the scripts of examples/cluster over Slurm, by hand: four nodes on this host, over loopback alone, are started and
 # stopped here. 2,500 jobs by eight tasks, of which one is started again by Slurm while it runs and one is cancelled and then
 # submitted again, must give the archives and the report of single runs over pieces of a thousand jobs, and so must 3 and 7
-# parts without an engine. It takes two to four minutes. Ends with status 1 at the first that is wrong, and with 0 and a line
+# parts without an engine. It takes one to five minutes. Ends with status 1 at the first that is wrong, and with 0 and a line
 # that says so where Slurm isn't installed.
 #
 #   apt-get install --no-install-recommends slurmctld slurmd slurm-client munge
