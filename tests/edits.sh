@@ -1,5 +1,5 @@
 #!/usr/bin/env bash
-# Tries the wrong bodies of crates/NAME/edits/, which the gate leaves out, as it tries those of must-fail/: on a copy of the
+# Tries the wrong bodies of crates/NAME/edits.txt, which the gate leaves out, as it tries those of must-fail/: on a copy of the
 # repository, the prover must refuse each. It takes some minutes a crate.
 #
 # usage: tests/edits.sh [CRATE..]      all crates that have some, where none is named
@@ -8,7 +8,7 @@ set -euo pipefail
 top=$(cd "$(dirname "${BASH_SOURCE[0]}")/.." && pwd)
 cd "$top"
 if [ $# -eq 0 ]; then
-  set -- $(ls -d crates/*/edits | cut -d/ -f2)
+  set -- $(ls crates/*/edits.txt | cut -d/ -f2)
 fi
 copy=$(mktemp -d)
 trap 'rm -rf "$copy"' EXIT
@@ -17,6 +17,7 @@ tar -c --exclude=.git --exclude='out/incremental' . | tar -x -C "$copy"
 cd "$copy"
 for crate; do
   rm -rf "crates/$crate/must-fail"
-  mv "crates/$crate/edits" "crates/$crate/must-fail"
+  mkdir "crates/$crate/must-fail"
+  .ci/edits split "$crate" "crates/$crate/must-fail"
 done
 rt must-fail "$@"
