@@ -30,7 +30,7 @@ second_equal Greater q h = absurd cc
 same_key : (a b : List ℕ) → key_cmp a b ≡ Equal → a ≡ b
 same_key a b h = exact_bytes a b (second_equal (nat_cmp (length a) (length b)) (slice_cmp nat_cmp a b) h)
 
-not_before : (a b : List ℕ) → key_cmp a b ≡ Less → a ≡ b → ⊥
+pub not_before : (a b : List ℕ) → key_cmp a b ≡ Less → a ≡ b → ⊥
 not_before a b h same =
     let tied : key_cmp a b ≡ Equal = subst (λ c. key_cmp a c ≡ Equal) same (tied_itself key_order a) in
     less_equal (sym h ∙ tied) where
@@ -87,7 +87,7 @@ not_found names l i parted = unnamed_by names l (λ k d within same. by k d with
 -- ---- where fields lead
 
 -- a key that is before all has no number among them
-before_unnumbered : (names : List (Vec ℕ × ℕ)) (l : List ℕ) (k : ℕ) → IsBefore l names → IsNumbered names l k → ⊥
+pub before_unnumbered : (names : List (Vec ℕ × ℕ)) (l : List ℕ) (k : ℕ) → IsBefore l names → IsNumbered names l k → ⊥
 before_unnumbered [] l k before n = absurd n
 before_unnumbered (f ∷ fs) l k before n =
     ⊎_elim

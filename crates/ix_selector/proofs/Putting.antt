@@ -11,6 +11,9 @@ use Rattle.ix_selector.specs.Views.{seen_field}
 use Rattle.ix_selector.specs.Ordered.{IsBeforeAll, IsOrdered, AreOrdered, EachOrdered}
 use Rattle.ix_selector.specs.Places.{at, named_at, places_of, seen, IsBefore, AreRising, AreBelow, AreNamedBelow, IsSpot, Names, IsNumber, HasNumber, IsFreeFrom}
 use Rattle.ix_selector.specs.Grown.{Grows}
+use Rattle.ix_selector.specs.Behind.{inside_of}
+use Rattle.ix_selector.specs.Laid.{number_of, AreRow, AreLaidFrom}
+use Rattle.ix_selector.proofs.Laid.{row-push, row-kept, laid-twice}
 use Rattle.ix_selector.proofs.Spots.{at-last, grows-one, grows-twice, longer, map-kept, named-kept, below-more, named_below-more, below-push, named_below-push, numbers-free, names-free}
 
 -- so many fields were put
@@ -19,18 +22,22 @@ pub record FieldsPut (old new : List Spot) (names : List (Vec ℕ × ℕ)) (done
   pub below : AreNamedBelow (length new) names
   pub named : map (named_at (places_of new)) names ≡ map seen_field done
   pub free : (k : ℕ) → HasNumber names k → IsFreeFrom (length old) new k
+  pub row : AreRow (places_of new) (length old) (map number_of names) (length new)
+  pub laid : AreLaidFrom (length old) new
 
 pub record MembersPut (old new : List Spot) (numbers : List ℕ) (done : List Sel) : Type 0 where
   pub grows : Grows old new
   pub below : AreBelow (length new) numbers
   pub members : map (at (places_of new)) numbers ≡ map pattern_of done
   pub free : (k : ℕ) → IsNumber numbers k → IsFreeFrom (length old) new k
+  pub row : AreRow (places_of new) (length old) numbers (length new)
+  pub laid : AreLaidFrom (length old) new
 
 -- one more
 pub fields-more : (old mid new : List Spot) (names : List (Vec ℕ × ℕ)) (fs : List (Vec ℕ × Sel)) (i : ℕ) (f : Vec ℕ × Sel) (name : Vec ℕ) (n : ℕ)
-    → i < length fs → f ≡ get_or fs i f → name.items ≡ f.0.items → FieldsPut old mid names (take i fs) → Grows mid new → n < length new → length mid ≤ n → n + 1 ≡ length new → at (places_of new) n ≡ pattern_of f.1
+    → i < length fs → f ≡ get_or fs i f → name.items ≡ f.0.items → FieldsPut old mid names (take i fs) → Grows mid new → n < length new → length mid ≤ n → n + 1 ≡ length new → at (places_of new) n ≡ pattern_of f.1 → n ≡ length mid + inside_of (pattern_of f.1) → AreLaidFrom (length mid) new
     → FieldsPut old new (names ++ (name, n) ∷ []) (take (i + 1) fs)
-fields-more old mid new names fs i f name n within is same put grows below behind last there = record {
+fields-more old mid new names fs i f name n within is same put grows below behind last there number laid = record {
   grows = grows-twice old mid new put.grows grows;
   below = named_below-push (length new) names (name, n) (named_below-more (length mid) (length new) names (longer mid new grows) put.below) below;
   named =
@@ -39,12 +46,16 @@ fields-more old mid new names fs i f name n within is same put grows below behin
       ∙ sym (map_push seen_field (take i fs) f)
       ∙ ap (map seen_field) (sym (take_more fs i f within ∙ ap (λ x. take i fs ++ x ∷ []) (sym is)));
   free = names-free old mid new names (name, n) (longer old mid put.grows) grows put.below put.free behind last;
+  row =
+      subst (λ l. AreRow (places_of new) (length old) l (length new)) (sym (map_push number_of names (name, n)))
+      (row-push (places_of new) (length old) (map number_of names) (length mid) n (length new) (pattern_of f.1) (row-kept mid new (length old) (map number_of names) (length mid) grows (omega arith) put.row) there number last);
+  laid = laid-twice (length old) mid new grows put.laid laid;
 }
 
 pub members-more : (old mid new : List Spot) (numbers : List ℕ) (ss : List Sel) (i : ℕ) (s : Sel) (n : ℕ)
-    → i < length ss → s ≡ get_or ss i s → MembersPut old mid numbers (take i ss) → Grows mid new → n < length new → length mid ≤ n → n + 1 ≡ length new → at (places_of new) n ≡ pattern_of s
+    → i < length ss → s ≡ get_or ss i s → MembersPut old mid numbers (take i ss) → Grows mid new → n < length new → length mid ≤ n → n + 1 ≡ length new → at (places_of new) n ≡ pattern_of s → n ≡ length mid + inside_of (pattern_of s) → AreLaidFrom (length mid) new
     → MembersPut old new (numbers ++ n ∷ []) (take (i + 1) ss)
-members-more old mid new numbers ss i s n within is put grows below behind last there = record {
+members-more old mid new numbers ss i s n within is put grows below behind last there number laid = record {
   grows = grows-twice old mid new put.grows grows;
   below = below-push (length new) numbers n (below-more (length mid) (length new) numbers (longer mid new grows) put.below) below;
   members =
@@ -53,6 +64,8 @@ members-more old mid new numbers ss i s n within is put grows below behind last 
       ∙ sym (map_push pattern_of (take i ss) s)
       ∙ ap (map pattern_of) (sym (take_more ss i s within ∙ ap (λ x. take i ss ++ x ∷ []) (sym is)));
   free = numbers-free old mid new numbers n (longer old mid put.grows) grows put.below put.free behind last;
+  row = row-push (places_of new) (length old) numbers (length mid) n (length new) (pattern_of s) (row-kept mid new (length old) numbers (length mid) grows (omega arith) put.row) there number last;
+  laid = laid-twice (length old) mid new grows put.laid laid;
 }
 
 -- each of ordered fields is ordered, and each member

@@ -37,7 +37,7 @@ pub residual_complete : (places : List Place) (p : Path) → ArePlaces places �
 residual_complete places p g h = among_entered p h.among g h.enters
 
 -- two tests with one meaning are equal
-same_tests : (a b : Bool) → (a ≡ true → b ≡ true) → (b ≡ true → a ≡ true) → a ≡ b
+pub same_tests : (a b : Bool) → (a ≡ true → b ≡ true) → (b ≡ true → a ≡ true) → a ≡ b
 same_tests true b f g = sym (f refl)
 same_tests false true f g = g refl
 same_tests false false f g = refl

@@ -21,3 +21,7 @@ pub mod Standing
 pub mod Named
 pub mod Pairs
 pub mod Reaching
+pub mod Behind
+pub mod Merging
+pub mod Laid
+pub mod Compared

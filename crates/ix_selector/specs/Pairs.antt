@@ -1,5 +1,5 @@
 -- Places of a selector, each in the innermost recursion round it, and what they enter.
-use Rattle.std.specs.Prelude.{◌≡◌, ◌⊎◌, ℕ, ◌+◌, ◌-◌, ◌<◌, ◌≤◌, max, nat_le, if◌then◌else◌, List, [], ◌∷◌, length, Option, Some, None}
+use Rattle.std.specs.Prelude.{◌≡◌, ◌⊎◌, ℕ, ◌+◌, ◌-◌, ◌<◌, ◌≤◌, max, nat_le, if◌then◌else◌, List, [], ◌∷◌, map, length, Option, Some, None}
 use Rattle.std.specs.List.{All, Contains}
 use Rattle.ix_selector.specs.declared.spot.Spot.{Spot}
 use Rattle.ix_selector.specs.declared.pair.Pair.{Pair}
@@ -38,10 +38,6 @@ abbrev pub frames : List Pattern → Option Recursion → List Frame
 frames places None = []
 frames places (Some r) = record { sequence = at places r.sequence; depth = r.depth } ∷ []
 
--- the selector of a pair, inside its recursion
-abbrev pub place_of : List Spot → Pair → Place
-place_of spots x = record { selector = at (places_of spots) x.place; around = frames (places_of spots) x.recursion }
-
 -- the selector of the pair
 abbrev pub selector_at : List Spot → Pair → Pattern
 selector_at spots x = at (places_of spots) x.place
@@ -69,6 +65,14 @@ IsSequence spots (Some r) = (r.sequence < length spots) × IsGuarded unguarded (
 abbrev pub sequence_of : Option Recursion → Option ℕ
 sequence_of None = None
 sequence_of (Some r) = Some r.sequence
+
+-- the selector of a pair, inside its recursion
+abbrev pub place_of : List Spot → Pair → Place
+place_of spots x = record { selector = at (places_of spots) x.place; around = frames (places_of spots) x.recursion; number = x.place; sequence = sequence_of x.recursion }
+
+-- pairs as places
+abbrev pub seen_pairs : List Spot → List Pair → List Place
+seen_pairs spots xs = map (place_of spots) xs
 
 -- a place of these, in the innermost recursion round it
 pub record IsPair (spots : List Spot) (x : Pair) : Type 0 where

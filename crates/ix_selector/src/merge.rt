@@ -3,6 +3,7 @@
 ghost use Rattle.std.specs.Prelude.{◌∷◌, [], ◌++◌, IfOk, OnOk};
 ghost use Rattle.std.specs.List.{All};
 ghost use Rattle.ix_selector.specs.Pairs.{Agree, ArePlacesRising, IsUpTo, IsOf, EnterSame, EnterMore};
+ghost use Rattle.ix_selector.specs.Merging.{AreMerged, ArePut};
 
 use crate::pair::{Pair, Pairs};
 use smallvec::SmallVec;
@@ -14,6 +15,7 @@ pub(crate) fn merged(alloc: Global, pairs: Pairs) -> Result<Pairs, AllocError>
     ensures enters { IfOk result (λ r. EnterSame r.items pairs.items) }
     ensures among { IfOk result (λ r. All (IsOf pairs.items) r.items) }
     ensures rising { IfOk result (λ r. ArePlacesRising r.items) }
+    ensures exact { IfOk result (λ r. AreMerged r.items pairs.items) }
 {
     if pairs.len() < 2 {
         Ok(pairs)
@@ -28,6 +30,7 @@ fn joined_by_place(alloc: Global, mut pairs: Pairs) -> Result<Pairs, AllocError>
     ensures enters { IfOk result (λ r. EnterSame r.items pairs.items) }
     ensures among { IfOk result (λ r. All (IsOf pairs.items) r.items) }
     ensures rising { IfOk result (λ r. ArePlacesRising r.items) }
+    ensures exact { IfOk result (λ r. AreMerged r.items pairs.items) }
 {
     pairs.as_mut_slice().sort_unstable_by_key(|pair| pair.place);
     let mut merged = SmallVec::new(alloc);
@@ -44,6 +47,7 @@ fn push_merged(merged: &mut Pairs, pair: Pair) -> Result<(), AllocError>
     ensures enters { OnOk result (EnterMore merged.new.items merged.old.items pair) }
     ensures among { OnOk result (All (IsOf (merged.old.items ++ pair ∷ [])) merged.new.items) }
     ensures rising { OnOk result (ArePlacesRising merged.new.items) }
+    ensures exact { OnOk result (ArePut merged.new.items merged.old.items pair) }
 {
     let Some(last) = merged.pop() else {
         return Ok(merged.push(pair)?);

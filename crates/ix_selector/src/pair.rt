@@ -7,7 +7,7 @@ use smallvec::SmallVec;
 
 /// The innermost recursion round a place: where its sequence stands, and the depth that is left of
 /// its limit, if it has one.
-#[derive(Clone, Copy, Default)]
+#[derive(Clone, Copy, Default, PartialEq, Eq, PartialOrd, Ord)]
 pub(crate) struct Recursion {
     pub sequence: usize,
     pub depth: Option<u32>,
@@ -15,7 +15,7 @@ pub(crate) struct Recursion {
 
 /// A place, and the innermost recursion round it. The outer ones can't matter any more: an edge
 /// belongs to the innermost one, and nothing leads back out of a sequence.
-#[derive(Clone, Copy, Default)]
+#[derive(Clone, Copy, Default, PartialEq, Eq, PartialOrd, Ord)]
 pub(crate) struct Pair {
     pub place: usize,
     pub recursion: Option<Recursion>,

@@ -3,7 +3,10 @@
 ghost use Rattle.std.specs.Prelude.{◌≡◌, [], ◌++◌, OnOk};
 ghost use Rattle.ix_selector.specs.Places.{AreSpots, AreBelow};
 ghost use Rattle.ix_selector.specs.Pairs.{IsPair, HasNoEdge, AreReached, ReachedEnters, EntersAt, SomeEnter, Joins};
-ghost use Rattle.ix_selector.specs.Reaching.{members_at, entered_again};
+ghost use Rattle.ix_selector.specs.Pairs.{place_of, seen_pairs};
+ghost use Rattle.ix_selector.specs.Reaching.{members_at, entered_again, Adds};
+ghost use Rattle.ix_selector.specs.Laid.{AreLaidFrom};
+ghost use Rattle.ix_selector.specs.Behind.{leads_from, all_lead};
 ghost use Rattle.std.specs.List.{All};
 
 use crate::pair::{Pair, Pairs, Recursion};
@@ -37,8 +40,10 @@ pub(crate) fn reach(spots: &[Spot], pair: Pair, reached: &mut Reached) -> Result
     requires spots { AreSpots 0 spots.now }
     requires pair { IsPair spots.now pair }
     requires reached { AreReached spots.now reached.old }
+    requires laid { AreLaidFrom 0 spots.now }
     ensures reached { OnOk result (AreReached spots.now reached.new) }
     ensures enters { OnOk result (Joins (ReachedEnters spots.now reached.new) (ReachedEnters spots.now reached.old) (EntersAt spots.now pair)) }
+    ensures exact { OnOk result (Adds spots.now reached.old reached.new (leads_from (place_of spots.now pair))) }
     ensures again { OnOk result (HasNoEdge spots.now pair → reached.new.again.items ≡ reached.old.again.items) }
 {
     match &spots[pair.place] {
@@ -68,8 +73,10 @@ fn reach_each(
     requires members { AreBelow pair.place members.now }
     requires pairs { All (IsPair spots.now) (members_at pair members.now) }
     requires reached { AreReached spots.now reached.old }
+    requires laid { AreLaidFrom 0 spots.now }
     ensures reached { OnOk result (AreReached spots.now reached.new) }
     ensures enters { OnOk result (Joins (ReachedEnters spots.now reached.new) (ReachedEnters spots.now reached.old) (SomeEnter spots.now (members_at pair members.now))) }
+    ensures exact { OnOk result (Adds spots.now reached.old reached.new (all_lead (seen_pairs spots.now (members_at pair members.now)))) }
     ensures again { OnOk result (All (HasNoEdge spots.now) (members_at pair members.now) → reached.new.again.items ≡ reached.old.again.items) }
 {
     for member in members {

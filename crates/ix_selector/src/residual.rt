@@ -4,6 +4,7 @@ ghost use Rattle.std.specs.Prelude.{◌≡◌, ◌↔◌, [], ◌∷◌, IfOk, I
 ghost use Rattle.ix_selector.specs.Enters.{Enters, Path};
 ghost use Rattle.ix_selector.specs.IsEntered.{is_entered};
 ghost use Rattle.ix_selector.specs.Residual.{ResidualEnters, residual_enters, step_of, IsBehind};
+ghost use Rattle.ix_selector.specs.Behind.{residual_of, residual_behind, same_residual, residual_order};
 
 use crate::merge::merged;
 use crate::pair::{Pair, Pairs};
@@ -12,7 +13,9 @@ use crate::selector::Selector;
 use crate::spot::Spot;
 use crate::step::Step;
 use crate::stepping::stepped;
+use smallvec::SmallVec;
 use std::alloc::{AllocError, Global};
+use std::cmp::Ordering;
 use std::marker::Model;
 
 /// What is left of a selector at a place, seen as a set of selectors inside recursions. No two of
@@ -29,6 +32,7 @@ impl<'s> Model for Residual<'s> {
     ghost use Rattle.ix_selector.specs.Places.{AreSpots, AreNamedOnce};
     ghost use Rattle.ix_selector.specs.Pairs.{place_of, IsPair, IsStanding};
     ghost use Rattle.ix_selector.specs.Residual.{Place, coded_places};
+    ghost use Rattle.ix_selector.specs.Laid.{AreLaidFrom};
 
     ghost Value = { List Place };
 
@@ -36,7 +40,7 @@ impl<'s> Model for Residual<'s> {
 
     ghost view = { λ r. map (place_of r.spots.now) r.pairs.items };
 
-    ghost invariant = { λ r. AreSpots 0 r.spots.now × All (IsPair r.spots.now) r.pairs.items × All (IsStanding r.spots.now) r.pairs.items × AreNamedOnce r.spots.now × (length r.pairs.items ≤ length r.spots.now) };
+    ghost invariant = { λ r. AreSpots 0 r.spots.now × All (IsPair r.spots.now) r.pairs.items × All (IsStanding r.spots.now) r.pairs.items × AreNamedOnce r.spots.now × (length r.pairs.items ≤ length r.spots.now) × AreLaidFrom 0 r.spots.now };
 }
 
 impl<'s> Residual<'s> {
@@ -44,6 +48,7 @@ impl<'s> Residual<'s> {
     pub fn start(alloc: Global, selector: &'s Selector) -> Result<Residual<'s>, AllocError>
         ensures entered { IfOk result (λ r. (p : Path) → (ResidualEnters r p ↔ Enters selector.now [] p)) }
         ensures tested { IfOk result (λ r. (p : Path) → residual_enters r p ≡ is_entered selector.now p) }
+        ensures exact { IfOk result (λ r. r ≡ residual_of selector.now) }
     {
         let (spots, place) = selector.places();
         let mut reached = Reached::new(alloc);
@@ -62,6 +67,8 @@ impl<'s> Residual<'s> {
         ensures below { IfOk result (λ o. IfSome o (λ r. (p : Path) → (ResidualEnters r p ↔ ResidualEnters self.now (step_of step.now ∷ p)))) }
         ensures none { IfOk result (λ o. IfNone o (¬ ResidualEnters self.now (step_of step.now ∷ []))) }
         ensures tested { IfOk result (IsBehind self.now (step_of step.now)) }
+        ensures exact { IfOk result (λ o. IfSome o (λ r. r ≡ residual_behind self.now (step_of step.now))) }
+        ensures stays_out { IfOk result (λ o. IfNone o (residual_behind self.now (step_of step.now) ≡ [])) }
     {
         let spots = self.spots;
         let pairs = stepped(alloc, spots, self.pairs.as_slice(), step)?;
@@ -69,5 +76,83 @@ impl<'s> Residual<'s> {
             return Ok(None);
         }
         Ok(Some(Residual { spots, pairs }))
+    }
+
+    /// The same once more.
+    pub fn try_clone(&self, alloc: Global) -> Result<Residual<'s>, AllocError>
+        ensures same { IfOk result (λ r. r ≡ self.now) }
+    {
+        let pairs = SmallVec::from_slice(alloc, self.pairs.as_slice())?;
+        Ok(Residual {
+            spots: self.spots,
+            pairs,
+        })
+    }
+
+    /// Whether the same is left at both places: the same places of the selector, in the same
+    /// recursions with the same depths.
+    pub fn is_same(&self, other: &Residual) -> bool
+        ensures { result ≡ same_residual self.now other.now }
+    {
+        self.pairs.as_slice() == other.pairs.as_slice()
+    }
+
+    /// The order of what is left: by places, then by their recursions and depths. It is `Equal`
+    /// exactly where the same is left.
+    pub fn compare(&self, other: &Residual) -> Ordering
+        ensures { result ≡ residual_order self.now other.now }
+    {
+        self.pairs.as_slice().cmp(other.pairs.as_slice())
+    }
+}
+
+impl PartialEq for Residual<'_> {
+    ghost use Rattle.ix_selector.specs.Behind.{same_residual};
+    ghost use Rattle.ix_selector.specs.Compared.{residual_partial};
+
+    ghost eq = { same_residual };
+
+    ghost laws = { residual_partial };
+
+    fn eq(&self, other: &Self) -> bool {
+        self.is_same(other)
+    }
+}
+
+impl Eq for Residual<'_> {
+    ghost use Rattle.ix_selector.specs.Compared.{residual_equivalence};
+
+    ghost laws = { residual_equivalence };
+}
+
+impl PartialOrd for Residual<'_> {
+    ghost use Rattle.std.specs.Ordering.{as_partial_cmp};
+    ghost use Rattle.ix_selector.specs.Behind.{residual_order};
+    ghost use Rattle.ix_selector.specs.Compared.{residual_partial_order};
+
+    ghost partial_cmp = { as_partial_cmp residual_order };
+
+    ghost laws = { residual_partial_order };
+
+    fn partial_cmp(&self, other: &Self) -> Option<Ordering> {
+        Some(self.compare(other))
+    }
+}
+
+impl Ord for Residual<'_> {
+    ghost use Rattle.std.specs.Prelude.{refl};
+    ghost use Rattle.ix_selector.specs.Behind.{residual_order};
+    ghost use Rattle.ix_selector.specs.Compared.{residual_total, residual_ties};
+
+    ghost cmp = { residual_order };
+
+    ghost total = { residual_total };
+
+    ghost matches_partial_cmp = { λ x y. refl };
+
+    ghost matches_eq = { residual_ties };
+
+    fn cmp(&self, other: &Self) -> Ordering {
+        self.compare(other)
     }
 }

@@ -4,6 +4,8 @@ ghost use Rattle.std.specs.Prelude.{◌≡◌, ◌+◌, length, IfOk};
 ghost use Rattle.ix_selector.specs.Pattern.{IsSelector};
 ghost use Rattle.ix_selector.specs.Places.{at, places_of, AreSpots, AreNamedOnce};
 ghost use Rattle.ix_selector.specs.Reading.{selector_of};
+ghost use Rattle.ix_selector.specs.Laid.{AreLaidFrom};
+ghost use Rattle.ix_selector.specs.Behind.{inside_of};
 ghost use Rattle.ix_selector.specs.Gives.{Gives};
 
 use crate::fault::SelFault;
@@ -26,6 +28,8 @@ impl Model for Selector {
     ghost use Rattle.ix_selector.specs.Pattern.{Pattern, IsSelector};
     ghost use Rattle.ix_selector.specs.PatternCode.{coded_pattern};
     ghost use Rattle.ix_selector.specs.Places.{at, places_of, AreSpots, AreNamedOnce};
+    ghost use Rattle.ix_selector.specs.Laid.{AreLaidFrom};
+    ghost use Rattle.ix_selector.specs.Behind.{inside_of};
 
     ghost Value = { Pattern };
 
@@ -33,7 +37,7 @@ impl Model for Selector {
 
     ghost view = { λ s. at (places_of s.spots.items) s.root };
 
-    ghost invariant = { λ s. IsSelector (at (places_of s.spots.items) s.root) × AreSpots 0 s.spots.items × AreNamedOnce s.spots.items × (s.root + 1 ≡ length s.spots.items) };
+    ghost invariant = { λ s. IsSelector (at (places_of s.spots.items) s.root) × AreSpots 0 s.spots.items × AreNamedOnce s.spots.items × (s.root + 1 ≡ length s.spots.items) × AreLaidFrom 0 s.spots.items × (s.root ≡ inside_of (at (places_of s.spots.items) s.root)) };
 }
 
 impl Selector {
@@ -52,6 +56,8 @@ impl Selector {
     pub(crate) fn places(&self) -> (&[Spot], usize)
         ensures spots { AreSpots 0 result.0.now }
         ensures once { AreNamedOnce result.0.now }
+        ensures laid { AreLaidFrom 0 result.0.now }
+        ensures whole { result.1 ≡ inside_of self.now }
         ensures root { (result.1 + 1 ≡ length result.0.now) × (at (places_of result.0.now) result.1 ≡ self.now) }
         ensures selector { IsSelector self.now }
     {

@@ -6,6 +6,8 @@ ghost use Rattle.ix_selector.specs.Ordered.{IsOrdered, AreOrdered, EachOrdered};
 ghost use Rattle.ix_selector.specs.Views.{seen_field};
 ghost use Rattle.ix_selector.specs.Places.{at, named_at, places_of, AreSpots, AreNamedOnce, IsSpot, seen, AreRising, AreNamedBelow, AreBelow, IsNumber, HasNumber, Names, IsFreeFrom};
 ghost use Rattle.ix_selector.specs.Grown.{Grows};
+ghost use Rattle.ix_selector.specs.Behind.{inside_of};
+ghost use Rattle.ix_selector.specs.Laid.{number_of, numbers_of, AreRow, AreLaidFrom};
 
 use crate::sel::Sel;
 use std::alloc::{AllocError, Global};
@@ -39,6 +41,8 @@ pub(crate) fn push_spots(
     ensures place { IfOk result (λ n. (n < length spots.new.items) × (at (places_of spots.new.items) n ≡ pattern_of sel.now)) }
     ensures last { IfOk result (λ n. n + 1 ≡ length spots.new.items) }
     ensures behind { IfOk result (λ n. length spots.old.items ≤ n) }
+    ensures number { IfOk result (λ n. n ≡ length spots.old.items + inside_of (pattern_of sel.now)) }
+    ensures laid { IfOk result (λ _. AreLaidFrom (length spots.old.items) spots.new.items) }
 {
     let spot = spot_of(alloc, sel, spots)?;
     let number = spots.len();
@@ -55,6 +59,8 @@ fn spot_of(alloc: Global, sel: &Sel, spots: &mut Vec<Spot>) -> Result<Spot, Allo
     ensures grows { IfOk result (λ _. Grows spots.old.items spots.new.items) }
     ensures spot { IfOk result (λ x. IsSpot (length spots.new.items) x × (seen (places_of spots.new.items) x ≡ pattern_of sel.now)) }
     ensures free { IfOk result (λ x. (k : ℕ) → Names x k → IsFreeFrom (length spots.old.items) spots.new.items k) }
+    ensures row { IfOk result (λ x. AreRow (places_of spots.new.items) (length spots.old.items) (numbers_of x) (length spots.new.items)) }
+    ensures laid { IfOk result (λ _. AreLaidFrom (length spots.old.items) spots.new.items) }
 {
     match sel {
         Sel::Matcher => Ok(Spot::Matcher),
@@ -85,6 +91,8 @@ fn push_fields(
     ensures grows { IfOk result (λ _. Grows spots.old.items spots.new.items) }
     ensures named { IfOk result (λ names. AreNamedBelow (length spots.new.items) names.items × AreRising names.items × (map (named_at (places_of spots.new.items)) names.items ≡ map seen_field fields.now)) }
     ensures free { IfOk result (λ names. (k : ℕ) → HasNumber names.items k → IsFreeFrom (length spots.old.items) spots.new.items k) }
+    ensures row { IfOk result (λ names. AreRow (places_of spots.new.items) (length spots.old.items) (map number_of names.items) (length spots.new.items)) }
+    ensures laid { IfOk result (λ _. AreLaidFrom (length spots.old.items) spots.new.items) }
 {
     let mut names = Vec::new(alloc);
     for (name, sel) in fields {
@@ -107,6 +115,8 @@ fn push_members(
     ensures grows { IfOk result (λ _. Grows spots.old.items spots.new.items) }
     ensures members { IfOk result (λ numbers. AreBelow (length spots.new.items) numbers.items × (map (at (places_of spots.new.items)) numbers.items ≡ map pattern_of members.now)) }
     ensures free { IfOk result (λ numbers. (k : ℕ) → IsNumber numbers.items k → IsFreeFrom (length spots.old.items) spots.new.items k) }
+    ensures row { IfOk result (λ numbers. AreRow (places_of spots.new.items) (length spots.old.items) numbers.items (length spots.new.items)) }
+    ensures laid { IfOk result (λ _. AreLaidFrom (length spots.old.items) spots.new.items) }
 {
     let mut numbers = Vec::new(alloc);
     for sel in members {

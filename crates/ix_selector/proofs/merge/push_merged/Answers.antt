@@ -2,6 +2,8 @@ use Rattle.std.proofs.Common.{◌≡◌, ◌++◌, ◌∷◌, [], sym, ◌∙◌
 use Rattle.std.specs.List.{All}
 use Rattle.ix_selector.specs.Pairs.{IsJoined, IsOf, EnterMore, ArePlacesRising, IsUpTo}
 use Rattle.ix_selector.proofs.Merging.{joined-last, pushed, joined-rising, pushed-rising}
+use Rattle.ix_selector.specs.Merging.{ArePut}
+use Rattle.ix_selector.proofs.PairsMerged.{put-joined, put-behind}
 use Rattle.ix_selector.proofs.merge.push_merged.Goals as goal
 
 pub returns-in_ok-push-in-Some-joined-clause-enters : goal.returns-in_ok-push-in-Some-joined-clause-enters
@@ -43,3 +45,22 @@ returns-in_ok-push-in-None-2-clause-rising c =
     let now : c.push-in-None-2.new.self.items ≡ (front ++ c.in-Some.last ∷ []) ++ c.args.pair ∷ [] = c.in_ok-push-in-None-2.ensures.ok ∙ ap (λ l. l ++ c.args.pair ∷ []) c.in_ok-push-in-None.ensures.ok in
     subst ArePlacesRising (sym now)
     (pushed-rising front c.in-Some.last c.args.pair (subst (All (IsUpTo c.args.pair)) was c.requires.up_to) c.in-None.ensures.none (subst ArePlacesRising was c.requires.rising))
+
+pub returns-in_ok-push-in-Some-joined-clause-exact : goal.returns-in_ok-push-in-Some-joined-clause-exact
+returns-in_ok-push-in-Some-joined-clause-exact c =
+    let front = c.pop.new.self.items in
+    let is : IsJoined c.in-Some.last c.args.pair c.in-Some-joined.both = c.in-Some-joined.ensures.some in
+    let was : c.args.merged.now.items ≡ front ++ c.in-Some.last ∷ [] = c.in-Some.ensures.items in
+    let now : c.push-in-Some-joined.new.self.items ≡ front ++ c.in-Some-joined.both ∷ [] = c.in_ok-push-in-Some-joined.ensures.ok in
+    subst (λ l. ArePut l c.args.merged.now.items c.args.pair) (sym now)
+    (subst (λ l. ArePut (front ++ c.in-Some-joined.both ∷ []) l c.args.pair) (sym was)
+    (put-joined front c.in-Some.last c.args.pair c.in-Some-joined.both is (subst ArePlacesRising was c.requires.rising)))
+
+pub returns-in_ok-push-in-None-2-clause-exact : goal.returns-in_ok-push-in-None-2-clause-exact
+returns-in_ok-push-in-None-2-clause-exact c =
+    let front = c.pop.new.self.items in
+    let was : c.args.merged.now.items ≡ front ++ c.in-Some.last ∷ [] = c.in-Some.ensures.items in
+    let now : c.push-in-None-2.new.self.items ≡ (front ++ c.in-Some.last ∷ []) ++ c.args.pair ∷ [] = c.in_ok-push-in-None-2.ensures.ok ∙ ap (λ l. l ++ c.args.pair ∷ []) c.in_ok-push-in-None.ensures.ok in
+    subst (λ l. ArePut l c.args.merged.now.items c.args.pair) (sym now)
+    (subst (λ l. ArePut ((front ++ c.in-Some.last ∷ []) ++ c.args.pair ∷ []) l c.args.pair) (sym was)
+    (put-behind front c.in-Some.last c.args.pair (subst (All (IsUpTo c.args.pair)) was c.requires.up_to) c.in-None.ensures.none (subst ArePlacesRising was c.requires.rising)))

@@ -9,6 +9,9 @@ use Rattle.ix_selector.specs.Grown.{Grows}
 use Rattle.ix_selector.proofs.Views.{pattern_of-fields}
 use Rattle.ix_selector.proofs.Spots.{longer, one-free}
 use Rattle.ix_selector.proofs.Putting.{FieldsPut, MembersPut, fields-more, members-more, field-ordered, member-ordered, rising-put, last-put}
+use Rattle.ix_selector.specs.Behind.{inside_of}
+use Rattle.ix_selector.specs.Laid.{AreLaidFrom}
+use Rattle.ix_selector.proofs.Laid.{row-inside, laid-last}
 use Rattle.ix_selector.proofs.spot.+spots.Goals as goal
 
 pub push_fields-push_spots-requires : goal.push_fields-push_spots-requires
@@ -21,7 +24,7 @@ push_fields-loop-name-preserved t c =
     let there : at (places_of c.push_spots.new.spots.items) c.in_ok-number.number ≡ pattern_of c.loop-name-item.result.1 = search rules in
     subst (λ l. FieldsPut c.args.spots.now.items c.push_spots.new.spots.items l (take (c.loop-name.name-index + 1) c.args.fields.now)) (sym c.in_ok-push.ensures.items)
     (fields-more c.args.spots.now.items c.loop-name.spots.items c.push_spots.new.spots.items c.loop-name.names.items c.args.fields.now c.loop-name.name-index c.loop-name-item.result c.in_ok-from_slice.field-0 c.in_ok-number.number
-    c.loop-name-test.true c.loop-name-item.is same c.loop-name.invariant c.in_ok-number.ensures.grows c.in_ok-number.ensures.place.0 c.in_ok-number.ensures.behind c.in_ok-number.ensures.last there)
+    c.loop-name-test.true c.loop-name-item.is same c.loop-name.invariant c.in_ok-number.ensures.grows c.in_ok-number.ensures.place.0 c.in_ok-number.ensures.behind c.in_ok-number.ensures.last there c.in_ok-number.ensures.number c.in_ok-number.ensures.laid)
 
 pub push_fields-returns-clause-named : goal.push_fields-returns-clause-named
 push_fields-returns-clause-named t c =
@@ -36,7 +39,7 @@ pub push_members-loop-sel-preserved : goal.push_members-loop-sel-preserved
 push_members-loop-sel-preserved t c =
     subst (λ l. MembersPut c.args.spots.now.items c.push_spots.new.spots.items l (take (c.loop-sel.sel-index + 1) c.args.members.now)) (sym c.in_ok-push.ensures.items)
     (members-more c.args.spots.now.items c.loop-sel.spots.items c.push_spots.new.spots.items c.loop-sel.numbers.items c.args.members.now c.loop-sel.sel-index c.sel-item.result c.in_ok-push_spots.field-0
-    c.loop-sel-test.true c.sel-item.is c.loop-sel.invariant c.in_ok-push_spots.ensures.grows c.in_ok-push_spots.ensures.place.0 c.in_ok-push_spots.ensures.behind c.in_ok-push_spots.ensures.last c.in_ok-push_spots.ensures.place.1)
+    c.loop-sel-test.true c.sel-item.is c.loop-sel.invariant c.in_ok-push_spots.ensures.grows c.in_ok-push_spots.ensures.place.0 c.in_ok-push_spots.ensures.behind c.in_ok-push_spots.ensures.last c.in_ok-push_spots.ensures.place.1 c.in_ok-push_spots.ensures.number c.in_ok-push_spots.ensures.laid)
 
 pub push_spots-returns-clause-grows : goal.push_spots-returns-clause-grows
 push_spots-returns-clause-grows t c =
@@ -121,3 +124,15 @@ spot_of-returns-in_ok-push_members-in-Union-clause-spot t c = search (rules, the
 
 pub spot_of-returns-in-Edge-clause-spot : goal.spot_of-returns-in-Edge-clause-spot
 spot_of-returns-in-Edge-clause-spot t c = search (rules, the_lemmas)
+
+pub push_spots-returns-clause-number : goal.push_spots-returns-clause-number
+push_spots-returns-clause-number t c =
+    let number : c.len-number.result ≡ length c.spot_of.new.spots.items = search rules in
+    number
+    ∙ sym (row-inside (places_of c.spot_of.new.spots.items) (length c.args.spots.now.items) c.in_ok-spot.spot (length c.spot_of.new.spots.items) c.in_ok-spot.ensures.row)
+    ∙ ap (λ s. length c.args.spots.now.items + inside_of s) c.in_ok-spot.ensures.spot.1
+
+pub push_spots-returns-clause-laid : goal.push_spots-returns-clause-laid
+push_spots-returns-clause-laid t c =
+    subst (AreLaidFrom (length c.args.spots.now.items)) (sym c.in_ok-push.ensures.items)
+    (laid-last (length c.args.spots.now.items) c.spot_of.new.spots.items c.in_ok-spot.spot c.in_ok-spot.ensures.laid c.in_ok-spot.ensures.row)

@@ -12,6 +12,8 @@ use Rattle.ix_selector.specs.Standing.{IsBeside}
 use Rattle.ix_selector.proofs.Inside.{place-is, spot-is}
 use Rattle.ix_selector.proofs.Named.{fields_lead, fields_nowhere}
 use Rattle.ix_selector.proofs.Leading.{all_leads, index_leads, index_nowhere, range_leads, range_nowhere, chosen-some, chosen-none, if-none, default-nowhere, name-below, name-number}
+use Rattle.ix_selector.specs.Reaching.{LeadsAs, LeadsToNone}
+use Rattle.ix_selector.proofs.Adding.{all-as, fields-as, fields-none, index-as, index-none, range-as, range-none, default-none}
 use Rattle.ix_selector.proofs.stepping.behind.Goals as goal
 
 pub named-requires : goal.named-requires
@@ -146,3 +148,52 @@ returns-in-Range-clause-beside c =
     let is = subst (λ y. y ≡ get_or c.args.spots.now c.args.place y) c.in-Range.is c.index-spots-place.is in
     chosen-some (IsBeside c.args.spots.now c.args.place) c.is_within.result c.in-Range.next c.then_some-in-Range.result c.then_some-in-Range.ensures
     (λ e. record { spot = Range c.in-Range.start c.in-Range.end c.in-Range.next; within = c.requires.place; is = is; names = refl })
+
+pub returns-in-All-clause-leads : goal.returns-in-All-clause-leads
+returns-in-All-clause-leads c =
+    let is = subst (λ y. y ≡ get_or c.args.spots.now c.args.place y) c.in-All.is c.index-spots-place.is in
+    all-as c.args.spots.now c.requires.spots c.requires.laid c.args.place c.requires.place (step_of c.args.step.now) c.in-All.next is
+
+pub returns-in-Fields-clause-leads : goal.returns-in-Fields-clause-leads
+returns-in-Fields-clause-leads c =
+    let is = subst (λ y. y ≡ get_or c.args.spots.now c.args.place y) c.in-Fields.is c.index-spots-place.is in
+    let rising = (spot-is c.args.spots.now c.args.place (Fields c.in-Fields.names) c.requires.spots c.requires.place is).1 in
+    IfSome_then c.named.result c.named.ensures.some
+    (λ k has. fields-as c.args.spots.now c.requires.spots c.requires.laid c.args.place c.requires.place (step_of c.args.step.now) c.in-Fields.names is rising k (subst (λ l. HasName l (step_of c.args.step.now) k) c.deref.ensures.value has))
+
+pub returns-in-Fields-clause-nowhere : goal.returns-in-Fields-clause-nowhere
+returns-in-Fields-clause-nowhere c =
+    let is = subst (λ y. y ≡ get_or c.args.spots.now c.args.place y) c.in-Fields.is c.index-spots-place.is in
+    if-none _ _ c.named.result (λ none. fields-none c.args.spots.now c.requires.spots c.requires.laid c.args.place c.requires.place (step_of c.args.step.now) c.in-Fields.names is (subst (λ l. HasNoName l (step_of c.args.step.now)) c.deref.ensures.value none)) c.named.ensures.none
+
+pub returns-in-Index-clause-leads : goal.returns-in-Index-clause-leads
+returns-in-Index-clause-leads c =
+    let is = subst (λ y. y ≡ get_or c.args.spots.now c.args.place y) c.in-Index.is c.index-spots-place.is in
+    chosen-some (LeadsAs (places_of c.args.spots.now) c.args.place (step_of c.args.step.now)) c.is_at.result c.in-Index.next c.then_some.result c.then_some.ensures
+    (λ e. index-as c.args.spots.now c.requires.spots c.requires.laid c.args.place c.requires.place (step_of c.args.step.now) c.in-Index.position c.in-Index.next is (subst (λ i. is_at i (step_of c.args.step.now) ≡ true) (to_z-of_z w128 c.in-Index.position (search rules)) (sym c.is_at.ensures ∙ e)))
+
+pub returns-in-Index-clause-nowhere : goal.returns-in-Index-clause-nowhere
+returns-in-Index-clause-nowhere c =
+    let is = subst (λ y. y ≡ get_or c.args.spots.now c.args.place y) c.in-Index.is c.index-spots-place.is in
+    chosen-none (LeadsToNone (places_of c.args.spots.now) c.args.place (step_of c.args.step.now)) c.is_at.result c.in-Index.next c.then_some.result c.then_some.ensures
+    (λ e. index-none c.args.spots.now c.requires.spots c.requires.laid c.args.place c.requires.place (step_of c.args.step.now) c.in-Index.position c.in-Index.next is (subst (λ i. is_at i (step_of c.args.step.now) ≡ false) (to_z-of_z w128 c.in-Index.position (search rules)) (sym c.is_at.ensures ∙ e)))
+
+pub returns-in-Range-clause-leads : goal.returns-in-Range-clause-leads
+returns-in-Range-clause-leads c =
+    let is = subst (λ y. y ≡ get_or c.args.spots.now c.args.place y) c.in-Range.is c.index-spots-place.is in
+    chosen-some (LeadsAs (places_of c.args.spots.now) c.args.place (step_of c.args.step.now)) c.is_within.result c.in-Range.next c.then_some-in-Range.result c.then_some-in-Range.ensures
+    (λ e. range-as c.args.spots.now c.requires.spots c.requires.laid c.args.place c.requires.place (step_of c.args.step.now) c.in-Range.start c.in-Range.end c.in-Range.next is
+    (subst (λ i. is_within i c.in-Range.end (step_of c.args.step.now) ≡ true) (to_z-of_z w128 c.in-Range.start (search rules))
+    (subst (λ j. is_within (to_z w128 (of_z w128 c.in-Range.start)) j (step_of c.args.step.now) ≡ true) (to_z-of_z w128 c.in-Range.end (search rules)) (sym c.is_within.ensures ∙ e))))
+
+pub returns-in-Range-clause-nowhere : goal.returns-in-Range-clause-nowhere
+returns-in-Range-clause-nowhere c =
+    let is = subst (λ y. y ≡ get_or c.args.spots.now c.args.place y) c.in-Range.is c.index-spots-place.is in
+    chosen-none (LeadsToNone (places_of c.args.spots.now) c.args.place (step_of c.args.step.now)) c.is_within.result c.in-Range.next c.then_some-in-Range.result c.then_some-in-Range.ensures
+    (λ e. range-none c.args.spots.now c.requires.spots c.requires.laid c.args.place c.requires.place (step_of c.args.step.now) c.in-Range.start c.in-Range.end c.in-Range.next is
+    (subst (λ i. is_within i c.in-Range.end (step_of c.args.step.now) ≡ false) (to_z-of_z w128 c.in-Range.start (search rules))
+    (subst (λ j. is_within (to_z w128 (of_z w128 c.in-Range.start)) j (step_of c.args.step.now) ≡ false) (to_z-of_z w128 c.in-Range.end (search rules)) (sym c.is_within.ensures ∙ e))))
+
+pub returns-in_default-clause-nowhere : goal.returns-in_default-clause-nowhere
+returns-in_default-clause-nowhere c =
+    default-none c.args.spots.now c.requires.spots c.requires.laid c.args.place c.requires.place (step_of c.args.step.now) c.index-spots-place.result c.index-spots-place.is c.in_default.not-All c.in_default.not-Fields c.in_default.not-Index c.in_default.not-Range

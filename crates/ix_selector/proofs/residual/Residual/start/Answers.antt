@@ -1,5 +1,6 @@
 use Rattle.ix_selector.proofs.Residues.{root-pair, start-entered, start-tested}
 use Rattle.ix_selector.proofs.Merging.{pairs-agree, pairs-of, standing-of, few-pairs}
+use Rattle.ix_selector.proofs.Adding.{start-exact}
 use Rattle.ix_selector.proofs.residual.Residual.start.Goals as goal
 
 pub reach-requires-clause-pair : goal.reach-requires-clause-pair
@@ -14,7 +15,7 @@ invariant_of-result c =
     let reached = c.in_ok-reach.ensures.reached in
     let among = c.in_ok-pairs.ensures.among in
     let pairs = pairs-of spots c.reach.new.reached.standing.items c.in_ok-pairs.pairs.items among reached.pairs in
-    (c.places-place.ensures.spots, pairs, standing-of spots c.reach.new.reached.standing.items c.in_ok-pairs.pairs.items among reached.standing, c.places-place.ensures.once, few-pairs spots c.in_ok-pairs.pairs.items c.in_ok-pairs.ensures.rising pairs)
+    (c.places-place.ensures.spots, pairs, standing-of spots c.reach.new.reached.standing.items c.in_ok-pairs.pairs.items among reached.standing, c.places-place.ensures.once, few-pairs spots c.in_ok-pairs.pairs.items c.in_ok-pairs.ensures.rising pairs, c.places-place.ensures.laid)
 
 pub returns-clause-entered : goal.returns-clause-entered
 returns-clause-entered c =
@@ -25,3 +26,8 @@ pub returns-clause-tested : goal.returns-clause-tested
 returns-clause-tested c =
     start-tested c.places-place.result.0.now c.places-place.result.1 c.args.selector.now c.places-place.ensures.root.1 c.places-place.ensures.selector c.new-reached.result c.reach.new.reached c.new-reached.ensures.0 c.new-reached.ensures.1
     c.in_ok-reach.ensures.reached c.in_ok-reach.ensures.enters c.in_ok-reach.ensures.again c.in_ok-pairs.pairs.items c.in_ok-pairs.ensures.enters c.in_ok-pairs.ensures.among
+
+pub returns-clause-exact : goal.returns-clause-exact
+returns-clause-exact c =
+    start-exact c.places-place.result.0.now c.places-place.result.1 c.args.selector.now c.places-place.ensures.root.1 c.places-place.ensures.whole c.new-reached.result c.reach.new.reached c.in_ok-pairs.pairs.items c.new-reached.ensures.0
+    c.in_ok-reach.ensures.exact c.in_ok-pairs.ensures.exact

@@ -1,7 +1,10 @@
-use Rattle.std.proofs.Common.{subst, sym}
+use Rattle.std.proofs.Common.{rules, arith, ◌≡◌, ◌+◌, ◌∙◌, length, subst, sym}
 use Rattle.ix_cbor.specs.Data.{data_of}
 use Rattle.ix_cbor.specs.Spelling.{IsCanonical}
 use Rattle.ix_selector.specs.Pattern.{pattern_of, IsSelector}
+use Rattle.ix_selector.specs.Places.{at, places_of}
+use Rattle.ix_selector.specs.Laid.{AreLaidFrom}
+use Rattle.ix_selector.specs.Behind.{inside_of}
 use Rattle.ix_selector.proofs.Guarded.{reads_selector}
 use Rattle.ix_selector.proofs.Ordered.{reads_ordered}
 use Rattle.ix_selector.proofs.selector.Selector.read.Goals as goal
@@ -12,8 +15,9 @@ push_spots-requires-clause-ordered c =
 
 pub invariant_of-result : goal.invariant_of-result
 invariant_of-result c =
+    let none : length c.new-spots.result.items ≡ 0 = search rules in
     let is = reads_selector (data_of c.root.result.now) (pattern_of c.in_ok-sel.sel) c.in_ok-sel.ensures in
-    (subst IsSelector (sym c.in_ok-root.ensures.place.1) is, c.in_ok-root.ensures.grows.spots, c.in_ok-root.ensures.grows.once, c.in_ok-root.ensures.last)
+    (subst IsSelector (sym c.in_ok-root.ensures.place.1) is, c.in_ok-root.ensures.grows.spots, c.in_ok-root.ensures.grows.once, c.in_ok-root.ensures.last, subst (λ m. AreLaidFrom m c.push_spots.new.spots.items) none c.in_ok-root.ensures.laid, c.in_ok-root.ensures.number ∙ (λ i. none i + inside_of (sym c.in_ok-root.ensures.place.1 i)) ∙ (let whole : 0 + inside_of (at (places_of c.push_spots.new.spots.items) c.in_ok-root.root) ≡ inside_of (at (places_of c.push_spots.new.spots.items) c.in_ok-root.root) = omega arith in whole))
 
 pub returns-clause-selector : goal.returns-clause-selector
 returns-clause-selector c =

@@ -1,0 +1,217 @@
+-- Places that are put in the order of their numbers: in which order they are put doesn't matter.
+use Rattle.std.proofs.Common.{◌≡◌, ℕ, zero, suc, ◌<◌, ◌⊎◌, inl, inr, ⊎_elim, Bool, true, false, nat_lt, if◌then◌else◌, List, [], ◌∷◌, ◌++◌, length, get_or, set, swap, Contains, refl, sym, ◌∙◌, ap, arith}
+use Rattle.std.specs.Prelude.{Option, Some, None}
+use Rattle.std.specs.List.Sorted.{IsPermutation}
+use Rattle.std.proofs.lemmas.Bool.{ltb-true, ltb-false, lt-ltb, le-ltb}
+use Rattle.std.proofs.lemmas.List.{get_or_default, set-get_or}
+use Rattle.std.proofs.lemmas.List.Sorted.{Contains-permutation, IsPermutation-sym, IsPermutation-refl, IsPermutation-trans, IsPermutation-swap, IsPermutation-keeps}
+use Rattle.ix_selector.specs.Enters.{Frame}
+use Rattle.ix_selector.specs.Residual.{Place}
+use Rattle.ix_selector.specs.Pairs.{deeper}
+use Rattle.ix_selector.specs.Behind.{deeper_around, both, put, merged}
+
+-- ---- the greater depth
+
+pub deeper-swap : (a b c : Option ℕ) → deeper (deeper a b) c ≡ deeper (deeper a c) b
+deeper-swap None b c = refl
+deeper-swap (Some a) None None = refl
+deeper-swap (Some a) None (Some c) = refl
+deeper-swap (Some a) (Some b) None = refl
+deeper-swap (Some a) (Some b) (Some c) = ap Some (omega arith)
+
+pub deeper-flip : (a b : Option ℕ) → deeper a b ≡ deeper b a
+deeper-flip None None = refl
+deeper-flip None (Some b) = refl
+deeper-flip (Some a) None = refl
+deeper-flip (Some a) (Some b) = ap Some (omega arith)
+
+around_swap : (e d c : List Frame) → deeper_around (deeper_around e d) c ≡ deeper_around (deeper_around e c) d
+around_swap [] d c = refl
+around_swap (f ∷ e) [] [] = refl
+around_swap (f ∷ e) [] (h ∷ c) = refl
+around_swap (f ∷ e) (g ∷ d) [] = refl
+around_swap (f ∷ e) (g ∷ d) (h ∷ c) = ap (λ n. record { sequence = f.sequence; depth = n } ∷ e) (deeper-swap f.depth g.depth h.depth)
+
+-- of three ways to a place the last two may be joined in either order
+both-swap : (x y z : Place) → both (both x y) z ≡ both (both x z) y
+both-swap x y z = ap (λ e. record { selector = x.selector; around = e; number = x.number; sequence = x.sequence }) (around_swap x.around y.around z.around)
+
+-- ---- a place put among others
+
+pub below : (x y : Place) (ys : List Place) → x.number < y.number → put x (y ∷ ys) ≡ x ∷ y ∷ ys
+below x y ys h = ap (λ b. if b then x ∷ y ∷ ys else (if nat_lt y.number x.number then y ∷ put x ys else both y x ∷ ys)) (lt-ltb x.number y.number h)
+
+pub above : (x y : Place) (ys : List Place) → y.number < x.number → put x (y ∷ ys) ≡ y ∷ put x ys
+above x y ys h =
+    ap (λ b. if b then x ∷ y ∷ ys else (if nat_lt y.number x.number then y ∷ put x ys else both y x ∷ ys)) (le-ltb x.number y.number (omega arith))
+    ∙ ap (λ b. if b then y ∷ put x ys else both y x ∷ ys) (lt-ltb y.number x.number h)
+
+pub beside : (x y : Place) (ys : List Place) → x.number ≡ y.number → put x (y ∷ ys) ≡ both y x ∷ ys
+beside x y ys h =
+    ap (λ b. if b then x ∷ y ∷ ys else (if nat_lt y.number x.number then y ∷ put x ys else both y x ∷ ys)) (le-ltb x.number y.number (omega arith))
+    ∙ ap (λ b. if b then y ∷ put x ys else both y x ∷ ys) (le-ltb y.number x.number (omega arith))
+
+pub three : (a b : ℕ) → (a < b) ⊎ ((a ≡ b) ⊎ (b < a))
+three a b = by (nat_lt a b) refl (nat_lt b a) refl where
+  by : (s : Bool) → nat_lt a b ≡ s → (t : Bool) → nat_lt b a ≡ t → (a < b) ⊎ ((a ≡ b) ⊎ (b < a))
+  by true e t g = inl (ltb-true a b e)
+  by false e true g = inr (inr (ltb-true b a g))
+  by false e false g = inr (inl (let one = ltb-false a b e in let other = ltb-false b a g in omega arith))
+
+-- at one place it doesn't matter which of the two joins the other
+abbrev pub Alike : Place → Place → Type 0
+Alike x y = x.number ≡ y.number → both x y ≡ both y x
+
+pub put-swap : (x y : Place) (zs : List Place) → Alike x y → put x (put y zs) ≡ put y (put x zs)
+put-swap x y [] alike =
+    ⊎_elim
+    (λ (l : x.number < y.number). below x y [] l ∙ sym (above y x [] l))
+    (λ (r : (x.number ≡ y.number) ⊎ (y.number < x.number)).
+    ⊎_elim
+    (λ (e : x.number ≡ y.number). beside x y [] e ∙ ap (λ z. z ∷ []) (sym (alike e)) ∙ sym (beside y x [] (sym e)))
+    (λ (g : y.number < x.number). above x y [] g ∙ sym (below y x [] g))
+    r)
+    (three x.number y.number)
+put-swap x y (z ∷ zs) alike =
+    ⊎_elim
+    (λ (xl : x.number < z.number).
+    ⊎_elim
+    (λ (yl : y.number < z.number). both_below xl yl)
+    (λ (r : (y.number ≡ z.number) ⊎ (z.number < y.number)).
+    ⊎_elim
+    (λ (ye : y.number ≡ z.number). low_beside x y xl ye)
+    (λ (yg : z.number < y.number). low_above x y xl yg)
+    r)
+    (three y.number z.number))
+    (λ (r : (x.number ≡ z.number) ⊎ (z.number < x.number)).
+    ⊎_elim
+    (λ (xe : x.number ≡ z.number).
+    ⊎_elim
+    (λ (yl : y.number < z.number). sym (low_beside y x yl xe))
+    (λ (s : (y.number ≡ z.number) ⊎ (z.number < y.number)).
+    ⊎_elim
+    (λ (ye : y.number ≡ z.number). both_beside xe ye)
+    (λ (yg : z.number < y.number). beside_above x y xe yg)
+    s)
+    (three y.number z.number))
+    (λ (xg : z.number < x.number).
+    ⊎_elim
+    (λ (yl : y.number < z.number). sym (low_above y x yl xg))
+    (λ (s : (y.number ≡ z.number) ⊎ (z.number < y.number)).
+    ⊎_elim
+    (λ (ye : y.number ≡ z.number). sym (beside_above y x ye xg))
+    (λ (yg : z.number < y.number). both_above (put-swap x y zs alike) xg yg)
+    s)
+    (three y.number z.number))
+    r)
+    (three x.number z.number) where
+      both_below : x.number < z.number → y.number < z.number → put x (put y (z ∷ zs)) ≡ put y (put x (z ∷ zs))
+      both_below xl yl =
+          ap (put x) (below y z zs yl)
+          ∙ ⊎_elim
+          (λ (l : x.number < y.number). below x y (z ∷ zs) l ∙ sym (above y x (z ∷ zs) l ∙ ap (λ l. x ∷ l) (below y z zs yl)))
+          (λ (r : (x.number ≡ y.number) ⊎ (y.number < x.number)).
+          ⊎_elim
+          (λ (e : x.number ≡ y.number). beside x y (z ∷ zs) e ∙ ap (λ w. w ∷ z ∷ zs) (sym (alike e)) ∙ sym (beside y x (z ∷ zs) (sym e)))
+          (λ (g : y.number < x.number). above x y (z ∷ zs) g ∙ ap (λ l. y ∷ l) (below x z zs xl) ∙ sym (below y x (z ∷ zs) g))
+          r)
+          (three x.number y.number)
+          ∙ sym (ap (put y) (below x z zs xl))
+
+      low_beside : (x y : Place) → x.number < z.number → y.number ≡ z.number → put x (put y (z ∷ zs)) ≡ put y (put x (z ∷ zs))
+      low_beside x y xl ye =
+          ap (put x) (beside y z zs ye)
+          ∙ below x (both z y) zs xl
+          ∙ sym (ap (put y) (below x z zs xl) ∙ above y x (z ∷ zs) (omega arith) ∙ ap (λ l. x ∷ l) (beside y z zs ye))
+
+      low_above : (x y : Place) → x.number < z.number → z.number < y.number → put x (put y (z ∷ zs)) ≡ put y (put x (z ∷ zs))
+      low_above x y xl yg =
+          ap (put x) (above y z zs yg)
+          ∙ below x z (put y zs) xl
+          ∙ sym (ap (put y) (below x z zs xl) ∙ above y x (z ∷ zs) (omega arith) ∙ ap (λ l. x ∷ l) (above y z zs yg))
+
+      both_beside : x.number ≡ z.number → y.number ≡ z.number → put x (put y (z ∷ zs)) ≡ put y (put x (z ∷ zs))
+      both_beside xe ye =
+          ap (put x) (beside y z zs ye)
+          ∙ beside x (both z y) zs xe
+          ∙ ap (λ w. w ∷ zs) (both-swap z y x)
+          ∙ sym (ap (put y) (beside x z zs xe) ∙ beside y (both z x) zs ye)
+
+      beside_above : (x y : Place) → x.number ≡ z.number → z.number < y.number → put x (put y (z ∷ zs)) ≡ put y (put x (z ∷ zs))
+      beside_above x y xe yg =
+          ap (put x) (above y z zs yg)
+          ∙ beside x z (put y zs) xe
+          ∙ sym (ap (put y) (beside x z zs xe) ∙ above y (both z x) zs yg)
+
+      both_above : put x (put y zs) ≡ put y (put x zs) → z.number < x.number → z.number < y.number → put x (put y (z ∷ zs)) ≡ put y (put x (z ∷ zs))
+      both_above inner xg yg =
+          ap (put x) (above y z zs yg)
+          ∙ above x z (put y zs) xg
+          ∙ ap (λ l. z ∷ l) inner
+          ∙ sym (ap (put y) (above x z zs xg) ∙ above y z (put x zs) yg)
+
+-- ---- many places
+
+-- it is alike with each of these
+abbrev pub AlikeAll : Place → List Place → Type 0
+AlikeAll x [] = Unit {0}
+AlikeAll x (y ∷ ys) = Alike x y × AlikeAll x ys
+
+-- one in the midst may be put last
+pub merged-front : (xs : List Place) (x : Place) (ys : List Place) → AlikeAll x xs → merged (xs ++ x ∷ ys) ≡ put x (merged (xs ++ ys))
+merged-front [] x ys alike = refl
+merged-front (y ∷ xs) x ys alike = ap (put y) (merged-front xs x ys alike.1) ∙ sym (put-swap x y (merged (xs ++ ys)) alike.0)
+
+-- the list without what stands at an index
+abbrev dropped : List Place → ℕ → List Place
+dropped [] i = []
+dropped (z ∷ zs) zero = zs
+dropped (z ∷ zs) (suc i) = z ∷ dropped zs i
+
+put_set : (zs : List Place) (i : ℕ) (x : Place) → i < length zs → AlikeAll x zs → merged (set zs i x) ≡ put x (merged (dropped zs i))
+put_set [] i x h alike = absurd (omega arith)
+put_set (z ∷ zs) zero x h alike = refl
+put_set (z ∷ zs) (suc i) x h alike = ap (put z) (put_set zs i x (omega arith) alike.1) ∙ sym (put-swap x z (merged (dropped zs i)) alike.0)
+
+-- two that change places
+exchanged : (zs : List Place) (i j : ℕ) (x y : Place) → i < length zs → j < length zs → (i ≡ j → x ≡ y) → Alike x y → AlikeAll x zs → AlikeAll y zs → merged (set (set zs i y) j x) ≡ merged (set (set zs i x) j y)
+exchanged [] i j x y a b same alike ax ay = absurd (omega arith)
+exchanged (z ∷ zs) zero zero x y a b same alike ax ay = let is : x ≡ y = same refl in ap (λ w. put w (merged zs)) is
+exchanged (z ∷ zs) zero (suc j) x y a b same alike ax ay =
+    ap (put y) (put_set zs j x (omega arith) ax.1) ∙ sym (put-swap x y (merged (dropped zs j)) alike) ∙ ap (put x) (sym (put_set zs j y (omega arith) ay.1))
+exchanged (z ∷ zs) (suc i) zero x y a b same alike ax ay =
+    ap (put x) (put_set zs i y (omega arith) ay.1) ∙ put-swap x y (merged (dropped zs i)) alike ∙ ap (put y) (sym (put_set zs i x (omega arith) ax.1))
+exchanged (z ∷ zs) (suc i) (suc j) x y a b same alike ax ay = ap (put z) (exchanged zs i j x y (omega arith) (omega arith) (λ e. same (ap suc e)) alike ax.1 ay.1)
+
+-- any two of these are alike
+pub record AreAlike (xs : List Place) : Type 0 where
+  pub at : (x y : Place) → Contains xs x → Contains xs y → Alike x y
+
+alike_each : (x : Place) (xs ys : List Place) → AreAlike xs → Contains xs x → ((y : Place) → Contains ys y → Contains xs y) → AlikeAll x ys
+alike_each x xs [] alike here all = tt
+alike_each x xs (y ∷ ys) alike here all = (alike.at x y here (all y (0, omega arith, refl)), alike_each x xs ys alike here (λ z h. all z (suc h.0, let within = h.1 in omega arith, h.2)))
+
+pub alike-all : (x : Place) (xs : List Place) → AreAlike xs → Contains xs x → AlikeAll x xs
+alike-all x xs alike here = alike_each x xs xs alike here (λ y h. h)
+
+alike_permuted : (xs ys : List Place) → IsPermutation xs ys → AreAlike xs → AreAlike ys
+alike_permuted xs ys moved alike = record {
+  at = λ x y a b. alike.at x y (Contains-permutation ys xs x (IsPermutation-sym xs ys moved) a) (Contains-permutation ys xs y (IsPermutation-sym xs ys moved) b);
+}
+
+once : (l : List Place) (i j : ℕ) → i < length l → j < length l → AreAlike l → merged (swap l i j) ≡ merged l
+once [] i j a b alike = refl
+once (d ∷ ds) i j a b alike =
+    let l = d ∷ ds in
+    let x = get_or l i d in
+    let y = get_or l j d in
+    let has_x : Contains l x = (i, a, get_or_default l i x d a) in
+    let has_y : Contains l y = (j, b, get_or_default l j y d b) in
+    let kept : set (set l i x) j y ≡ l = ap (λ k. set k j y) (set-get_or l i d) ∙ set-get_or l j d in
+    exchanged l i j x y a b (λ e. ap (λ k. get_or l k d) e) (alike.at x y has_x has_y) (alike-all x l alike has_x) (alike-all y l alike has_y) ∙ ap merged kept
+
+-- in another order the same is put
+pub merged-permutation : (xs ys : List Place) → IsPermutation xs ys → AreAlike xs → merged ys ≡ merged xs
+merged-permutation xs ys moved alike =
+    (IsPermutation-keeps xs (λ l. IsPermutation xs l × (merged l ≡ merged xs)) (IsPermutation-refl xs, refl)
+    (λ l i j p q h. (IsPermutation-trans xs l (swap l i j) h.0 (IsPermutation-swap l (swap l i j) i j p q refl), once l i j p q (alike_permuted xs l h.0 alike) ∙ h.1)) ys moved).1

@@ -1,0 +1,36 @@
+-- How the places of a selector are numbered: those inside a selector one after another, and itself behind them.
+use Rattle.std.specs.Prelude.{◌≡◌, ℕ, ◌+◌, ◌<◌, ◌≤◌, List, [], ◌∷◌, map, get_or, length}
+use Rattle.std.specs.Global.{Vec}
+use Rattle.ix_selector.specs.declared.spot.Spot.{Spot}
+use Rattle.ix_selector.specs.declared.spot.Spot.TheVariants.{Matcher, All, Fields, Index, Range, Recursive, Union, Edge}
+use Rattle.ix_selector.specs.Pattern.{Pattern}
+use Rattle.ix_selector.specs.Places.{at, places_of}
+use Rattle.ix_selector.specs.Behind.{inside_of}
+
+abbrev pub number_of : Vec ℕ × ℕ → ℕ
+number_of f = f.1
+
+-- the places that a spot names
+abbrev pub numbers_of : Spot → List ℕ
+numbers_of Matcher = []
+numbers_of (All k) = k ∷ []
+numbers_of (Fields names) = map number_of names.items
+numbers_of (Index i k) = k ∷ []
+numbers_of (Range i j k) = k ∷ []
+numbers_of (Recursive limit k) = k ∷ []
+numbers_of (Union ks) = ks.items
+numbers_of Edge = []
+
+-- the selectors at these places, and all that is inside them, are the places from m, included, to n, excluded, in order
+abbrev pub AreRow : List Pattern → ℕ → List ℕ → ℕ → Type 0
+AreRow places m [] n = m ≡ n
+AreRow places m (k ∷ ks) n = (k ≡ m + inside_of (at places k)) × AreRow places (k + 1) ks n
+
+-- what is inside the spot at place n stands right before it
+pub record IsLaid (places : List Pattern) (n : ℕ) (x : Spot) : Type 0 where
+  pub first : ℕ
+  pub row : AreRow places first (numbers_of x) n
+
+-- so it is at each place from m on
+pub record AreLaidFrom (m : ℕ) (spots : List Spot) : Type 0 where
+  pub laid : (n : ℕ) (x : Spot) → m ≤ n → n < length spots → x ≡ get_or spots n x → IsLaid (places_of spots) n x
