@@ -8,9 +8,13 @@ pub mod Delivered
 pub mod Steps
 pub mod RisingKeys
 pub mod Distinct
+pub mod SoundValues
+pub mod KeptOnce
 pub mod Numbers
 pub mod Archives
 pub mod HeaderLemmas
 pub mod HeaderLinks
 pub mod Sections
 pub mod SectionCids
+pub mod GoingOnce
+pub mod SectionLists

@@ -1,5 +1,5 @@
 -- The number of an arrival is its place, so the verified traversal is what is kept of the visits.
-use Rattle.std.proofs.Common.{◌≡◌, ℕ, zero, suc, ◌+◌, true, false, List, [], ◌∷◌, ◌++◌, take, drop, map, refl, sym, ◌∙◌, ap, eq-eqb, take-append-drop, ltb-false, length}
+use Rattle.std.proofs.Common.{◌≡◌, ℕ, zero, suc, ◌+◌, true, false, List, [], ◌∷◌, ◌++◌, take, drop, map, refl, sym, ◌∙◌, ap, eq-eqb, take-append-drop, ltb-false, length, Bool}
 use Rattle.std.specs.Prelude.{Option, Some, None, if◌then◌else◌, ◌&&◌, ◌==◌}
 use Rattle.std.proofs.lemmas.Bool.{and_from}
 use Rattle.std.proofs.lemmas.List.{take_all, take-map}
@@ -9,13 +9,16 @@ use Rattle.ix_selector.specs.IsEntered.{is_entered}
 use Rattle.ix_walk.specs.Store.{Blocks, value_of}
 use Rattle.ix_walk.specs.JobMeaning.{JobMeaning}
 use Rattle.ix_walk.specs.Arrivals.{Arrival}
-use Rattle.ix_walk.specs.Visits.{believed, visit_of, visits_from, is_over_limit}
+use Rattle.ix_walk.specs.Visits.{believed, arrivals_of, visit_of, visits_from, is_over_limit}
 use Rattle.ix_check.specs.Verdict.{passes}
 use Rattle.ix_car.specs.declared.sink.Delivery.{Delivery}
 use Rattle.ix_car.specs.Kept.{is_below, kept_behind, kept}
-use Rattle.ix_car.specs.Verified.{is_good, judged, judged_visits, verified, verified_arrivals, same_step, same_path, number_among}
+use Rattle.ix_car.specs.Verified.{is_good, judged, judged_visits, all_judged, verified, verified_arrivals, same_step, same_path, number_among}
 use Rattle.ix_car.proofs.Pruning.{kept_arrivals, pruning, kept-take}
 use Rattle.ix_car.proofs.RisingKeys.{value_of-rising}
+use Rattle.ix_selector.specs.Behind.{residual_at, same_residual}
+use Rattle.ix_walk.specs.Once.{once_arrivals}
+use Rattle.ix_car.proofs.KeptOnce.{once-all_kept}
 use Rattle.ix_car.proofs.Distinct.{agree, DiffersFromAll, AreDistinct, from_distinct}
 
 -- ---- numbers
@@ -58,10 +61,6 @@ believed-distinct store job = from_distinct (is_entered job.selector) (value_of 
 
 -- ---- the visits of a job
 
--- all visits of a job with their verdicts, where it had no limit
-abbrev all_judged : Blocks → ℕ → JobMeaning → List Delivery
-all_judged store number job = map (judged store) (visits_from store number 0 (believed store job))
-
 visits_from-take : (store : Blocks) (number n m : ℕ) (xs : List Arrival) → visits_from store number n (take m xs) ≡ take m (visits_from store number n xs)
 visits_from-take store number n zero xs = refl
 visits_from-take store number n (suc m) [] = refl
@@ -69,12 +68,12 @@ visits_from-take store number n (suc m) (a ∷ xs) = ap (λ l. visit_of store nu
 
 judged_visits-take : (store : Blocks) (number : ℕ) (job : JobMeaning) → judged_visits store number job ≡ take job.limit (all_judged store number job)
 judged_visits-take store number job =
-    ap (map (judged store)) (visits_from-take store number 0 job.limit (believed store job))
-    ∙ sym (take-map (judged store) job.limit (visits_from store number 0 (believed store job)))
+    ap (map (judged store)) (visits_from-take store number 0 job.limit (arrivals_of store job))
+    ∙ sym (take-map (judged store) job.limit (visits_from store number 0 (arrivals_of store job)))
 
 judged_visits-all : (store : Blocks) (number : ℕ) (job : JobMeaning) → is_over_limit store job ≡ false → judged_visits store number job ≡ all_judged store number job
 judged_visits-all store number job within =
-    ap (λ l. map (judged store) (visits_from store number 0 l)) (take_all job.limit (believed store job) (ltb-false job.limit (length (believed store job)) within))
+    ap (λ l. map (judged store) (visits_from store number 0 l)) (take_all job.limit (arrivals_of store job) (ltb-false job.limit (length (arrivals_of store job)) within))
 
 -- what is kept of the visits is a beginning of what is kept of all
 kept-visits : (store : Blocks) (number : ℕ) (job : JobMeaning) → (m : ℕ) × (kept (judged_visits store number job) ≡ take m (kept (all_judged store number job)))
@@ -98,12 +97,27 @@ kept-numbered store number number_of cut (a ∷ xs) =
     elim (is_below cut a.depth) as (λ b. (if b then behind cut else judged_at store number (number_of a) a ∷ behind next) ≡ numbered store number number_of (if b then kept_arrivals (is_good store) cut xs else a ∷ kept_arrivals (is_good store) next xs))
     [ true ↦ kept-numbered store number number_of cut xs | false ↦ ap (λ l. judged_at store number (number_of a) a ∷ l) (kept-numbered store number number_of next xs) ]
 
-kept-all : (store : Blocks) (number : ℕ) (job : JobMeaning) → kept (all_judged store number job) ≡ verified store number job
-kept-all store number job =
+-- the arrivals of a job that goes in at every one, and of one that goes in once
+arrivals-by : (store : Blocks) (job : JobMeaning) (once : Bool) → job.once ≡ once → arrivals_of store job ≡ (if once then once_arrivals store job (residual_at job.selector) same_residual else believed store job)
+arrivals-by store job once e = ap (λ (b : Bool). if b then once_arrivals store job (residual_at job.selector) same_residual else believed store job) e
+
+-- at every arrival
+kept-every : (store : Blocks) (number : ℕ) (job : JobMeaning) → kept (map (judged store) (visits_from store number 0 (believed store job))) ≡ numbered store number (number_among 0 (believed store job)) (verified_arrivals store job)
+kept-every store number job =
     let number_of : Arrival → ℕ = number_among 0 (believed store job) in
     ap kept (numbered-all store number 0 (believed store job) (believed-distinct store job))
     ∙ kept-numbered store number number_of None (believed store job)
     ∙ ap (numbered store number number_of) (kept-believed store job)
+
+kept-all : (store : Blocks) (number : ℕ) (job : JobMeaning) → kept (all_judged store number job) ≡ verified store number job
+kept-all store number job =
+    let each : List Delivery = numbered store number (number_among 0 (believed store job)) (verified_arrivals store job) in
+    (elim job.once as (λ b. job.once ≡ b → kept (all_judged store number job) ≡ (if b then all_judged store number job else each)) [
+      | true ↦ λ e.
+          let same = arrivals-by store job true e in
+          ap (λ l. kept (map (judged store) (visits_from store number 0 l))) same ∙ once-all_kept (residual_at job.selector) same_residual store number job ∙ ap (λ l. map (judged store) (visits_from store number 0 l)) (sym same)
+      | false ↦ λ e. ap (λ l. kept (map (judged store) (visits_from store number 0 l))) (arrivals-by store job false e) ∙ kept-every store number job
+    ]) refl
 
 -- what is kept of the visits is the verified traversal, where the limit cut nothing
 pub kept-verified : (store : Blocks) (number : ℕ) (job : JobMeaning) → is_over_limit store job ≡ false → kept (judged_visits store number job) ≡ verified store number job

@@ -14,6 +14,8 @@ pub mod EndWords
 pub mod Reading
 pub mod Gives
 pub mod Reads
+pub mod Sections
+pub mod SectionView
 pub mod FaultWords
 pub mod Examples
 pub mod Headline

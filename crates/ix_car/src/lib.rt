@@ -29,5 +29,5 @@ mod sink;
 
 pub use archive::{Archive, Counts, Skip};
 pub use fault::{ArchiveNew, CarFault, CarKind, SinkFault};
-pub use reader::{load_car, read_car};
+pub use reader::{CarFile, Section, load_car, load_car_by, read_car, read_sections};
 pub use sink::{Delivery, End, Sink};

@@ -7,13 +7,17 @@ ghost use Rattle.ix_car.specs.Reading.{sections_at, blocks_of};
 ghost use Rattle.ix_car.specs.Gives.{Gives};
 ghost use Rattle.ix_car.specs.Reads.{ReadsOrRunsOut, IsEnd};
 
+mod by_threads;
 mod header;
 mod section;
+mod sections;
 
 use crate::fault::{CarFault, CarKind};
 use crate::reader::header::header_at;
 use crate::reader::section::{Stop, section_at};
+pub use by_threads::load_car_by;
 use ix_walk::Store;
+pub use sections::{CarFile, Section, read_sections};
 use std::alloc::Global;
 use std::sync::Arc;
 

@@ -4,7 +4,7 @@ use Rattle.ix_walk.specs.declared.visit.Visit.{Visit}
 use Rattle.ix_walk.specs.Store.{Blocks}
 use Rattle.ix_walk.specs.JobMeaning.{JobMeaning}
 use Rattle.ix_walk.specs.Arrivals.{Arrival}
-use Rattle.ix_walk.specs.Visits.{believed, visit_of, visits_from, visits_of}
+use Rattle.ix_walk.specs.Visits.{arrivals_of, visit_of, visits_from, visits_of}
 use Rattle.ix_check.specs.Visits.{IsVisitOf}
 
 -- a visit of the store, with a job's number and its own
@@ -33,4 +33,4 @@ visit_behind store number start (suc k) (a ∷ found) v more e =
 pub visit_next : (store : Blocks) (number k : ℕ) (job : JobMeaning) (v : Visit) (more : List Visit) → drop k (visits_of store number job) ≡ v ∷ more → IsVisitAt store number k v
 visit_next store number k job v more e =
     let at : 0 + k ≡ k = omega arith in
-    subst (λ n. IsVisitAt store number n v) at (visit_behind store number 0 k (take job.limit (believed store job)) v more e)
+    subst (λ n. IsVisitAt store number n v) at (visit_behind store number 0 k (take job.limit (arrivals_of store job)) v more e)

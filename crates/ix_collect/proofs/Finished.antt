@@ -9,7 +9,7 @@ use Rattle.std.proofs.lemmas.Option.{slice_get_past}
 use Rattle.ix_walk.specs.Store.{Blocks}
 use Rattle.ix_walk.specs.JobMeaning.{JobMeaning}
 use Rattle.ix_walk.specs.Arrivals.{Arrival}
-use Rattle.ix_walk.specs.Visits.{believed, visit_of, visits_from, visits_of, is_over_limit}
+use Rattle.ix_walk.specs.Visits.{arrivals_of, visit_of, visits_from, visits_of, is_over_limit}
 use Rattle.ix_car.specs.declared.sink.Delivery.{Delivery}
 use Rattle.ix_car.specs.declared.sink.End.{End}
 use Rattle.ix_car.specs.declared.sink.End.TheVariants.{Memory, Start}
@@ -164,7 +164,7 @@ module _ (store : Blocks) (jobs : List JobMeaning) where
       let there : Contains (first ++ close end ∷ []) (delivery d) = subst (λ (l : List Event). Contains l (delivery d)) is c in
       elim (Contains-push_cases first (close end) (delivery d) there) [
         | inl l ↦
-            (let r = delivered_at n 0 w.count (take j.limit (believed store j)) d l in
+            (let r = delivered_at n 0 w.count (take j.limit (arrivals_of store j)) d l in
             let lt : d.visit.seq < 0 + w.count = r.2 in
             let counts : 0 < weigh (is_checked n d.visit.seq) got = w.checked d.visit.seq (omega arith) in
             subst (λ (k : ℕ). Contains (pairs_of got) (k, d.visit.seq)) (sym r.0) (has_pair n d.visit.seq got counts))

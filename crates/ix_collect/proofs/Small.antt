@@ -5,7 +5,7 @@ use Rattle.std.proofs.lemmas.List.Elements.{All-head, All-tail}
 use Rattle.ix_walk.specs.Store.{Blocks}
 use Rattle.ix_walk.specs.JobMeaning.{JobMeaning}
 use Rattle.ix_walk.specs.Arrivals.{Arrival}
-use Rattle.ix_walk.specs.Visits.{believed, visits_from, visits_of}
+use Rattle.ix_walk.specs.Visits.{arrivals_of, visits_from, visits_of}
 use Rattle.ix_car.specs.Verified.{judged}
 use Rattle.ix_stages.specs.Good.{judged_at}
 
@@ -15,7 +15,7 @@ from_length store number seq (a ∷ found) = let rest : length (visits_from stor
 
 visits_small : (store : Blocks) (number : ℕ) (job : JobMeaning) → length (visits_of store number job) ≤ job.limit
 visits_small store number job =
-    let size : length (visits_of store number job) ≡ length (take job.limit (believed store job)) = from_length store number 0 (take job.limit (believed store job)) in omega (arith, length-take job.limit (believed store job))
+    let size : length (visits_of store number job) ≡ length (take job.limit (arrivals_of store job)) = from_length store number 0 (take job.limit (arrivals_of store job)) in omega (arith, length-take job.limit (arrivals_of store job))
 
 limit_at : (jobs : List JobMeaning) (n : ℕ) (j : JobMeaning) → All (λ x. x.limit ≤ 1000000) jobs → slice_get jobs n ≡ Some j → j.limit ≤ 1000000
 limit_at [] n j h e = cc

@@ -5,7 +5,7 @@ use Rattle.std.proofs.lemmas.List.Elements.{Contains-append_left, Contains-appen
 use Rattle.ix_walk.specs.Store.{Blocks}
 use Rattle.ix_walk.specs.JobMeaning.{JobMeaning}
 use Rattle.ix_walk.specs.Arrivals.{Arrival}
-use Rattle.ix_walk.specs.Visits.{believed, visit_of, visits_from, visits_of}
+use Rattle.ix_walk.specs.Visits.{arrivals_of, visit_of, visits_from, visits_of}
 use Rattle.ix_car.specs.declared.sink.Delivery.{Delivery}
 use Rattle.ix_car.specs.declared.sink.End.{End}
 use Rattle.ix_car.specs.declared.sink.End.TheVariants.{Memory, Start}
@@ -115,7 +115,7 @@ module _ {S : Type 0} (events : S → List Event) (failed : S → List Delivery)
       let there : Contains (first ++ close e ∷ []) (delivery d) = subst (λ (l : List Event). Contains l (delivery d)) f.told c in
       elim (Contains-push_cases first (close e) (delivery d) there) [
         | inl l ↦
-            (let r = delivered_at store n 0 f.count (take j.limit (believed store j)) d l in
+            (let r = delivered_at store n 0 f.count (take j.limit (arrivals_of store j)) d l in
             let lt : d.visit.seq < 0 + f.count = r.1 in
             let le : f.count ≤ k = x.delivered in
             subst (λ (m : ℕ). Contains (pairs_of n k) (m, d.visit.seq)) (sym r.0) (has_pair n k d.visit.seq (omega arith)))

@@ -7,7 +7,7 @@ use Rattle.ix_walk.specs.declared.visit.Visit.{Visit}
 use Rattle.ix_walk.specs.Store.{Blocks}
 use Rattle.ix_walk.specs.JobMeaning.{JobMeaning}
 use Rattle.ix_walk.specs.Arrivals.{Arrival}
-use Rattle.ix_walk.specs.Visits.{believed, is_over_limit, visit_of, visits_from, visits_of}
+use Rattle.ix_walk.specs.Visits.{arrivals_of, is_over_limit, visit_of, visits_from, visits_of}
 use Rattle.ix_check.specs.Visits.{IsVisitOf}
 use Rattle.ix_car.specs.declared.sink.End.{End}
 use Rattle.ix_car.specs.declared.sink.End.TheVariants.{Done, Limit, Memory, Write, Start}
@@ -29,7 +29,7 @@ from_store store number seq (a ∷ found) =
 course_from_store : (store : Blocks) (n : ℕ) (jobs : List JobMeaning) → IsCourseOf store (course_from store n jobs)
 course_from_store store n [] = All-nil (λ p. All (IsVisitOf store) p.visits)
 course_from_store store n (job ∷ jobs) =
-    All-cons (λ p. All (IsVisitOf store) p.visits) (record { visits = visits_of store n job; over = is_over_limit store job }) (course_from store (n + 1) jobs) (from_store store n 0 (take job.limit (believed store job)))
+    All-cons (λ p. All (IsVisitOf store) p.visits) (record { visits = visits_of store n job; over = is_over_limit store job }) (course_from store (n + 1) jobs) (from_store store n 0 (take job.limit (arrivals_of store job)))
     (course_from_store store (n + 1) jobs)
 
 pub of_store : (store : Blocks) (jobs : List JobMeaning) → IsCourseOf store (course_of store jobs)
@@ -43,7 +43,7 @@ from_length store number seq (a ∷ found) = let rest : length (visits_from stor
 
 visits_small : (store : Blocks) (number : ℕ) (job : JobMeaning) → length (visits_of store number job) ≤ job.limit
 visits_small store number job =
-    let size : length (visits_of store number job) ≡ length (take job.limit (believed store job)) = from_length store number 0 (take job.limit (believed store job)) in omega (arith, length-take job.limit (believed store job))
+    let size : length (visits_of store number job) ≡ length (take job.limit (arrivals_of store job)) = from_length store number 0 (take job.limit (arrivals_of store job)) in omega (arith, length-take job.limit (arrivals_of store job))
 
 course_small : (store : Blocks) (n : ℕ) (jobs : List JobMeaning) → All (λ job. job.limit ≤ 1000000) jobs → IsCourse (course_from store n jobs)
 course_small store n [] h = All-nil (λ p. length p.visits ≤ 1000000)
@@ -167,7 +167,7 @@ module _ (store : Blocks) (jobs : List JobMeaning) where
 
 pub visit_allowed : (store : Blocks) (jobs : List JobMeaning) (n k : ℕ) (job : JobMeaning) (v : Visit) → slice_get jobs n ≡ Some job → slice_get (visits_of store n job) k ≡ Some v → (v.job ≡ n) × (v.seq ≡ k) × Allowed (course_of store jobs) (item.Visit v)
 visit_allowed store jobs n k job v at is =
-    let named = numbered_from store n 0 (take job.limit (believed store job)) k v is in
+    let named = numbered_from store n 0 (take job.limit (arrivals_of store job)) k v is in
     let seq : v.seq ≡ k = (let there = named.1 in omega (arith, there)) in
     let there : slice_get (course_visits (course_of store jobs) n) k ≡ Some v = ap (λ (l : List Visit). slice_get l k) (visits_there store jobs n job at) ∙ is in
     (named.0, seq, subst (λ (y : ℕ × ℕ). slice_get (course_visits (course_of store jobs) y.0) y.1 ≡ Some v) (λ i. (sym named.0 i, sym seq i)) there)

@@ -6,8 +6,9 @@ use std::thread;
 use std::thread::Parker;
 use std::time::Duration;
 
-// How often a thread gives its processor away before it sleeps.
-const YIELDS: u32 = 16;
+// How often a thread gives its processor away before it sleeps. Each time it comes back it looks at what
+// the threads that work are writing, which slows them down; so it soon sleeps.
+const YIELDS: u32 = 2;
 
 // The first sleep, in microseconds.
 const SHORTEST_NAP: u64 = 32;

@@ -18,7 +18,7 @@ use Rattle.ix_walk.specs.Visits.{is_malformed}
 use Rattle.ix_walk.specs.Descent.{IsItem}
 use Rattle.ix_walk.specs.Arriving.{IsReading}
 
-none_behind : (n : ℕ) (store : Blocks) (c : List ℕ) → None ≡ position_behind n store c → block_of store c ≡ None
+pub none_behind : (n : ℕ) (store : Blocks) (c : List ℕ) → None ≡ position_behind n store c → block_of store c ≡ None
 none_behind n [] c e = refl
 none_behind n (x ∷ xs) c e =
     elim (bytes_eq x.0 c) as (λ b. None ≡ (if b then Some n else position_behind (n + 1) xs c) → (if b then Some x.1 else block_of xs c) ≡ None)

@@ -64,7 +64,7 @@ leads-first (y ∷ l) zero x b m p is h = (omega (arith, is.1), inl is)
 leads-first (y ∷ l) (suc n) x b m p is h = (h.0, inr (leads-first l n x b m p is h.1))
 
 -- where no slot is free it comes to the tree
-leads-past : (l : List Slot) (m p : ℕ) → AreTaken l → Leads l (Some p) m p
+pub leads-past : (l : List Slot) (m p : ℕ) → AreTaken l → Leads l (Some p) m p
 leads-past [] m p h = refl
 leads-past (y ∷ l) m p h = (h.0, inr (leads-past l m p h.1))
 
@@ -251,7 +251,7 @@ abbrev pub Puts : Index → Index → List ℕ → ℕ → Type 0
 Puts index later k s = (c : List ℕ) → place_behind later c ≡ cond (bytes_eq k c) (Some s) (place_behind index c)
 
 -- the tree then has what it had
-put-keeps : (index later : Index) (k c : List ℕ) (s p q : ℕ) → Puts index later k s → s ≡ unwrap_or (place_behind index k) p → place_behind index c ≡ Some q → place_behind later c ≡ Some q
+pub put-keeps : (index later : Index) (k c : List ℕ) (s p q : ℕ) → Puts index later k s → s ≡ unwrap_or (place_behind index k) p → place_behind index c ≡ Some q → place_behind later c ≡ Some q
 put-keeps index later k c s p q puts stood is =
     ⊎_elim
     (λ same.

@@ -1,6 +1,8 @@
 pub mod Names
 pub mod Stores
 pub mod Indexes
+pub mod Found
+pub mod Gathered
 pub mod Reached
 pub mod Ends
 pub mod Stands
@@ -13,3 +15,9 @@ pub mod Nexts
 pub mod Takes
 pub mod Starts
 pub mod Marking
+pub mod Going
+pub mod Goes
+pub mod Firsts
+pub mod Links
+pub mod GoingOnce
+pub mod Reaches

@@ -7,13 +7,12 @@ use Rattle.ix_cbor.specs.Reading.{Fault, ◌>>=◌, item_at, items_at, entries_a
 use Rattle.ix_cbor.proofs.Deeper.{entries_first}
 use Rattle.ix_cbor.proofs.Steps.{bind_ok, ok_same, with_item, items_behind, with_entry, entries_behind, value_behind}
 use Rattle.ix_selector.specs.Enters.{Step, key, nth}
-use Rattle.ix_selector.specs.Residual.{Place, residual_enters}
+use Rattle.ix_selector.specs.Residual.{Place}
 use Rattle.ix_walk.specs.declared.subtree.Children.{Children}
 use Rattle.ix_walk.specs.declared.subtree.Children.TheVariants.{Members, Values}
 use Rattle.ix_walk.specs.declared.subtree.Entered.{Entered}
-use Rattle.ix_walk.specs.Arrivals.{Inside}
-use Rattle.ix_walk.specs.Walking.{is_spent, reached_in_items, reach_from, Part, members, values, weight_of, part_weight, or_none, part_at}
-use Rattle.ix_walk.specs.Descent.{IsItem, IsKey, IsPart, child_arrivals, part_arrivals, IsChild, IsNext}
+use Rattle.ix_walk.specs.Walking.{is_spent, links_in_items, Part, part_links, members, values, weight_of, part_weight, or_none, part_at}
+use Rattle.ix_walk.specs.Descent.{IsItem, IsKey, IsPart, child_links, IsChild, IsNext}
 use Rattle.ix_walk.proofs.Stands.{some_same}
 use Rattle.ix_walk.proofs.Parts.{members_here, values_here}
 
@@ -104,8 +103,7 @@ pub record IsSplit (new : Children) (t : Step) (value : List ℕ) (x : Part × L
   pub others : Part
   pub here : item_at 512 value ≡ Ok (head, middle)
   pub behind : part_at new middle ≡ Some (others, x.1)
-  pub arrivals : (places : List Place) (depth : ℕ) (inside : Inside) (limit : ℕ)
-      → part_arrivals places x.0 depth inside limit ≡ child_arrivals places t head depth inside limit ++ part_arrivals places others depth inside limit
+  pub links : (places : List Place) (depth : ℕ) → part_links places depth x.0 ≡ child_links places t depth head ++ part_links places depth others
   pub lighter : weight_of head + part_weight others < part_weight x.0
 
 pub member_split : (count left : ℕ) (b : List ℕ) (x : Part × List ℕ) → part_at (Members count (suc left)) b ≡ Some x → IsSplit (Members count left) (nth (count - suc left)) b x
@@ -121,8 +119,7 @@ member_split count left b x e =
       others = members (count - left) f.tail;
       here = f.here;
       behind = members_here count left f.middle i.0.1 f.tail (omega (arith, h)) f.others;
-      arrivals = λ places depth inside limit.
-          ap (λ n. child_arrivals places (nth (count - suc left)) f.head depth inside limit ++ reached_in_items (reach_from inside limit depth) (residual_enters places) n f.tail) next;
+      links = λ places depth. ap (λ n. child_links places (nth (count - suc left)) depth f.head ++ links_in_items places depth n f.tail) next;
       lighter = omega arith;
     })
 
@@ -137,42 +134,42 @@ value_split left b k v x named e =
       others = values f.tail;
       here = f.here;
       behind = values_here left f.middle i.0.1 f.tail f.others;
-      arrivals = λ places depth inside limit. refl;
+      links = λ places depth. refl;
       lighter = omega arith;
     }))
 
 -- nothing is left where no child is
 pub spent_part : (c : Children) (b : List ℕ) (x : Part × List ℕ) → is_spent c ≡ true → part_at c b ≡ Some x
-    → (b ≡ x.1) × ((places : List Place) (depth : ℕ) (inside : Inside) (limit : ℕ) → part_arrivals places x.0 depth inside limit ≡ [])
+    → (b ≡ x.1) × ((places : List Place) (depth : ℕ) → part_links places depth x.0 ≡ [])
 spent_part (Members count zero) b x spent e =
     let i = members_read count 0 b x e in
     let is : (members (count - 0) no_items, b) ≡ x = ap (λ (ds : Items × List ℕ). (members (count - 0) ds.0, ds.1)) (ok_same (no_items, b) i.0 i.1) ∙ i.2 in
-    (ap (λ (y : Part × List ℕ). y.1) is, λ places depth inside limit. ap (λ (y : Part × List ℕ). part_arrivals places y.0 depth inside limit) (sym is))
+    (ap (λ (y : Part × List ℕ). y.1) is, λ places depth. ap (λ (y : Part × List ℕ). part_links places depth y.0) (sym is))
 spent_part (Members count (suc left)) b x spent e = absurd (no_more left spent) where
   no_more : (n : ℕ) → (suc n == 0) ≡ true → ⊥
   no_more n h = grind (arith, nat_tests)
 spent_part (Values zero) b x spent e =
     let i = values_read 0 b x e in
     let is : (values no_entries, b) ≡ x = ap (λ (es : Entries × List ℕ). (values es.0, es.1)) (ok_same (no_entries, b) i.0 i.1) ∙ i.2 in
-    (ap (λ (y : Part × List ℕ). y.1) is, λ places depth inside limit. ap (λ (y : Part × List ℕ). part_arrivals places y.0 depth inside limit) (sym is))
+    (ap (λ (y : Part × List ℕ). y.1) is, λ places depth. ap (λ (y : Part × List ℕ). part_links places depth y.0) (sym is))
 spent_part (Values (suc left)) b x spent e = absurd (no_more left spent) where
   no_more : (n : ℕ) → (suc n == 0) ≡ true → ⊥
   no_more n h = grind (arith, nat_tests)
 
 -- ---- children that nothing comes of are passed
 
--- what is left has the same arrivals
+-- what is left has the same links
 pub record IsPassed (places : List Place) (depth : ℕ) (x : Part × List ℕ) (new : Children) (now : List ℕ) : Type 0 where
   pub part : Part
   pub here : part_at new now ≡ Some (part, x.1)
-  pub arrivals : (inside : Inside) (limit : ℕ) → part_arrivals places x.0 depth inside limit ≡ part_arrivals places part depth inside limit
+  pub links : part_links places depth x.0 ≡ part_links places depth part
   pub light : part_weight part ≤ part_weight x.0
 
 pub record Passes (places : List Place) (depth : ℕ) (old : Children) (at : List ℕ) (new : Children) (now : List ℕ) : Type 0 where
   pub of : (x : Part × List ℕ) → part_at old at ≡ Some x → IsPassed places depth x new now
 
 pub passes_none : (places : List Place) (depth : ℕ) (c : Children) (at : List ℕ) → Passes places depth c at c at
-passes_none places depth c at = record { of = λ x e. record { part = x.0; here = e; arrivals = λ inside limit. refl; light = omega arith } }
+passes_none places depth c at = record { of = λ x e. record { part = x.0; here = e; links = refl; light = omega arith } }
 
 -- a child from a part
 abbrev pub Splits : Children → List ℕ → Children → Step → List ℕ → Type 0
@@ -189,7 +186,7 @@ passes_child places depth old mid new at now value rest t passes splits child = 
       let k = s.lighter in record {
         part = s.others;
         here = ap (part_at new) c.0 ∙ s.behind;
-        arrivals = λ inside limit. p.arrivals inside limit ∙ s.arrivals places depth inside limit ∙ ap (λ z. z ++ part_arrivals places s.others depth inside limit) (c.1 inside limit);
+        links = p.links ∙ s.links places depth ∙ ap (λ z. z ++ part_links places depth s.others) c.1;
         light = omega (arith, l, k);
       };
 }
@@ -201,13 +198,13 @@ gives_child places depth old mid new at now value rest t e passes splits child =
     let s = splits (p.part, x.1) p.here in
     let l = p.light in
     let k = s.lighter in record {
-      first = child_arrivals places t s.head depth;
+      first = child_links places t depth s.head;
       weight = weight_of s.head;
       middle = s.middle;
       others = s.others;
       entered = child s.head s.middle s.here;
       behind = s.behind;
-      arrivals = λ inside limit. p.arrivals inside limit ∙ s.arrivals places depth inside limit;
+      links = p.links ∙ s.links places depth;
       lighter = omega (arith, l, k);
     }
 
@@ -215,7 +212,7 @@ pub gives_none : (places : List Place) (depth : ℕ) (old new : Children) (at no
 gives_none places depth old new at now spent passes = λ x e.
     let p = passes.of x e in
     let s = spent_part new now (p.part, x.1) spent p.here in
-    (s.0, λ inside limit. p.arrivals inside limit ∙ s.1 places depth inside limit)
+    (s.0, p.links ∙ s.1 places depth)
 
 -- ---- what stands where
 

@@ -1,81 +1,255 @@
--- The arrivals by paths from a root and by paths relative to each place are the same, but for the root and the path.
-use Rattle.std.proofs.Common.{◌≡◌, ℕ, zero, suc, ◌+◌, Bool, true, false, List, [], ◌∷◌, ◌++◌, map, flat_map, refl, ◌∙◌, ap, append_assoc}
-use Rattle.std.specs.Prelude.{Option, Some, None, if◌then◌else◌}
-use Rattle.std.proofs.Math.Path.{fun_ext}
+-- The arrivals of a job are those where its roots wait, but for the root and the path, which a walk doesn't keep.
+use Rattle.std.proofs.Common.{◌≡◌, ℕ, zero, suc, ◌+◌, ◌-◌, ◌≤◌, Bool, true, false, List, [], ◌∷◌, ◌++◌, map, flat_map, take, refl, sym, ◌∙◌, ap, subst, append-nil, arith}
+use Rattle.std.specs.Prelude.{Option, Some, None, ◌&&◌, bytes_eq, if◌then◌else◌}
+use Rattle.std.specs.List.{list_any}
 use Rattle.std.proofs.lemmas.List.{map-append}
+use Rattle.std.proofs.lemmas.Grind.{flat_map-append}
 use Rattle.ix_cbor.specs.Data as nodes
 use Rattle.ix_cbor.specs.Data.{Data, Items, Entries, null, boolean, integer, float, bytes, text, list, link, no_items, item, no_entries, entry}
 use Rattle.ix_selector.specs.Enters.{Step, key, nth, Path}
+use Rattle.ix_selector.specs.Residual.{Place}
+use Rattle.ix_walk.specs.declared.subtree.Found.{Found}
 use Rattle.ix_walk.specs.Arrivals.{Arrival, Crossing, behind, arrivals_below, arrivals_in_items, arrivals_in_entries, Inside, when_some, arrivals_at, arrivals_from}
-use Rattle.ix_walk.specs.Store.{Blocks}
+use Rattle.ix_walk.specs.Store.{Blocks, value_of}
+use Rattle.ix_walk.specs.Once.{roots_from, gone_into_at, sound_value, once, once_from}
+use Rattle.ix_walk.specs.Once as going
 use Rattle.ix_walk.specs.Visits.{visits_from, visit_of}
-use Rattle.ix_walk.specs.Walking.{Test, test_behind, arrival, Reach, reached_below, reached_in_items, reached_in_entries, reached_at}
+use Rattle.ix_selector.specs.Behind.{residual_behind, same_residual}
+use Rattle.ix_walk.specs.Walking.{arrival, waiting, when_entered, links_below, links_in_items, links_in_entries, links_inside, Going, nothing_gone, gone_behind, first_arrivals, HaveDepths}
 
 -- an arrival without its root and its path
 abbrev pub forget : Arrival → Arrival
 forget a = arrival a.depth a.cid
 
--- the test from a place on
-abbrev pub test_from : Test → Path → Test
-test_from enters p q = enters (p ++ q)
+-- the arrival at a link alone
+abbrev one : ℕ → ℕ → Crossing
+one root depth c p = record { root = root; path = p; depth = depth; cid = c } ∷ []
 
--- behind a step from a place is from the place behind that step
-from_behind : (enters : Test) (p : Path) (t : Step) → test_from enters (behind p t) ≡ test_behind (test_from enters p) t
-from_behind enters p t = fun_ext (λ q. ap enters (append_assoc p (t ∷ []) q))
+-- something is left of a selector
+abbrev pub is_left : List Place → Bool
+is_left [] = false
+is_left (x ∷ xs) = true
 
--- arrivals without roots and paths, if a child is entered
-when_entered : (b : Bool) (xs ys : List Arrival) → map forget xs ≡ ys → map forget (if b then xs else []) ≡ (if b then ys else [])
-when_entered true xs ys e = e
-when_entered false xs ys e = refl
+-- ---- how deep the links below a node are
 
-joined : (xs ys : List Arrival) (us vs : List Arrival) → map forget xs ≡ us → map forget ys ≡ vs → map forget (xs ++ ys) ≡ us ++ vs
-joined xs ys us vs e f = map-append forget xs ys ∙ ap (λ z. z ++ map forget ys) e ∙ ap (λ z. us ++ z) f
+pub all_append : (P : ℕ → Type 0) (xs ys : List Found) → HaveDepths P xs → HaveDepths P ys → HaveDepths P (xs ++ ys)
+all_append P [] ys h k = k
+all_append P (x ∷ xs) ys h k = (h.0, all_append P xs ys h.1 k)
 
-module _ (enters : Test) (cross : Crossing) (reach : Reach) (crosses : (c : List ℕ) (p : Path) → map forget (cross c p) ≡ reach (test_from enters p) c) where
+module _ (P : ℕ → Type 0) (depth : ℕ) (holds : P depth) where
+  all_entered : (r : List Place) (links : List Found) → HaveDepths P links → HaveDepths P (when_entered r links)
+  all_entered [] links h = tt
+  all_entered (x ∷ xs) links h = h
+
   mutual
-    pub below : (d : Data) (p : Path) → map forget (arrivals_below enters cross d p) ≡ reached_below reach (test_from enters p) d
-    below null p = refl
-    below (boolean b) p = refl
-    below (integer n) p = refl
-    below (float bits) p = refl
-    below (bytes b) p = refl
-    below (text t) p = refl
-    below (list ds) p = in_items 0 ds p
-    below (nodes.map es) p = in_entries es p
-    below (link c) p = crosses c p
+    pub all_below : (r : List Place) (d : Data) → HaveDepths P (links_below r depth d)
+    all_below r null = tt
+    all_below r (boolean b) = tt
+    all_below r (integer n) = tt
+    all_below r (float bits) = tt
+    all_below r (bytes b) = tt
+    all_below r (text t) = tt
+    all_below r (list ds) = all_in_items r 0 ds
+    all_below r (nodes.map es) = all_in_entries r es
+    all_below r (link c) = (holds, tt)
 
-    pub in_items : (n : ℕ) (ds : Items) (p : Path) → map forget (arrivals_in_items enters cross n ds p) ≡ reached_in_items reach (test_from enters p) n ds
-    in_items n no_items p = refl
-    in_items n (item d ds) p =
-        joined (if enters (behind p (nth n)) then arrivals_below enters cross d (behind p (nth n)) else []) (arrivals_in_items enters cross (n + 1) ds p) _ _
-        (when_entered (enters (behind p (nth n))) (arrivals_below enters cross d (behind p (nth n))) _
-        (below d (behind p (nth n)) ∙ ap (λ (f : Test). reached_below reach f d) (from_behind enters p (nth n))))
-        (in_items (n + 1) ds p)
+    all_in_items : (r : List Place) (n : ℕ) (ds : Items) → HaveDepths P (links_in_items r depth n ds)
+    all_in_items r n no_items = tt
+    all_in_items r n (item d ds) =
+        all_append P (when_entered (residual_behind r (nth n)) (links_below (residual_behind r (nth n)) depth d)) (links_in_items r depth (n + 1) ds)
+        (all_entered (residual_behind r (nth n)) (links_below (residual_behind r (nth n)) depth d) (all_below (residual_behind r (nth n)) d))
+        (all_in_items r (n + 1) ds)
 
-    pub in_entries : (es : Entries) (p : Path) → map forget (arrivals_in_entries enters cross es p) ≡ reached_in_entries reach (test_from enters p) es
-    in_entries no_entries p = refl
-    in_entries (entry k d es) p =
-        joined (if enters (behind p (key k)) then arrivals_below enters cross d (behind p (key k)) else []) (arrivals_in_entries enters cross es p) _ _
-        (when_entered (enters (behind p (key k))) (arrivals_below enters cross d (behind p (key k))) _
-        (below d (behind p (key k)) ∙ ap (λ (f : Test). reached_below reach f d) (from_behind enters p (key k))))
-        (in_entries es p)
+    all_in_entries : (r : List Place) (es : Entries) → HaveDepths P (links_in_entries r depth es)
+    all_in_entries r no_entries = tt
+    all_in_entries r (entry k d es) =
+        all_append P (when_entered (residual_behind r (key k)) (links_below (residual_behind r (key k)) depth d)) (links_in_entries r depth es)
+        (all_entered (residual_behind r (key k)) (links_below (residual_behind r (key k)) depth d) (all_below (residual_behind r (key k)) d))
+        (all_in_entries r es)
 
-when_both : (o : Option Data) (f g : Data → List Arrival) → ((d : Data) → map forget (f d) ≡ g d) → map forget (when_some o f) ≡ when_some o g
-when_both None f g e = refl
-when_both (Some d) f g e = e d
+  pub all_inside : (r : List Place) (value : Option Data) → HaveDepths P (links_inside r depth value)
+  all_inside r None = tt
+  all_inside r (Some d) = all_below r d
 
--- at a CID, whatever path leads to it
-pub at : (enters : Test) (inside : Inside) (root links depth : ℕ) (c : List ℕ) (p : Path) → map forget (arrivals_at enters inside root links depth c p) ≡ reached_at inside links depth (test_from enters p) c
-at enters inside root zero depth c p = refl
-at enters inside root (suc links) depth c p =
-    ap (λ (xs : List Arrival). arrival depth c ∷ xs)
-    (when_both (inside c) (λ d. arrivals_below enters (arrivals_at enters inside root links (depth + 1)) d p) (λ d. reached_below (reached_at inside links (depth + 1)) (test_from enters p) d)
-    (λ d. below enters (arrivals_at enters inside root links (depth + 1)) (reached_at inside links (depth + 1)) (λ e q. at enters inside root links (depth + 1) e q) d p))
+-- ---- the links below a node, each crossed
 
--- from one root after the other
-pub from_roots : (enters : Test) (inside : Inside) (links root : ℕ) (cs : List (List ℕ)) → map forget (arrivals_from enters inside links root cs) ≡ flat_map (reached_at inside links 0 enters) cs
-from_roots enters inside links root [] = refl
-from_roots enters inside links root (c ∷ cs) = joined (arrivals_at enters inside root links 0 c []) (arrivals_from enters inside links (root + 1) cs) _ _ (at enters inside root links 0 c []) (from_roots enters inside links (root + 1) cs)
+module _ (enters : Path → Bool) (root depth : ℕ) (each : Arrival → List Arrival) (cross : Crossing) (crosses : (c : List ℕ) (p : Path) → each (record { root = root; path = p; depth = depth; cid = c }) ≡ cross c p) where
+  each_entered : (b : Bool) (xs ys : List Arrival) → flat_map each xs ≡ ys → flat_map each (if b then xs else []) ≡ (if b then ys else [])
+  each_entered true xs ys e = e
+  each_entered false xs ys e = refl
+
+  each_joined : (xs ys us vs : List Arrival) → flat_map each xs ≡ us → flat_map each ys ≡ vs → flat_map each (xs ++ ys) ≡ us ++ vs
+  each_joined xs ys us vs e f = flat_map-append each xs ys ∙ ap (λ z. z ++ flat_map each ys) e ∙ ap (λ z. us ++ z) f
+
+  mutual
+    each_below : (d : Data) (p : Path) → flat_map each (arrivals_below enters (one root depth) d p) ≡ arrivals_below enters cross d p
+    each_below null p = refl
+    each_below (boolean b) p = refl
+    each_below (integer n) p = refl
+    each_below (float bits) p = refl
+    each_below (bytes b) p = refl
+    each_below (text t) p = refl
+    each_below (list ds) p = each_in_items 0 ds p
+    each_below (nodes.map es) p = each_in_entries es p
+    each_below (link c) p = append-nil (each (record { root = root; path = p; depth = depth; cid = c })) ∙ crosses c p
+
+    each_in_items : (n : ℕ) (ds : Items) (p : Path) → flat_map each (arrivals_in_items enters (one root depth) n ds p) ≡ arrivals_in_items enters cross n ds p
+    each_in_items n no_items p = refl
+    each_in_items n (item d ds) p =
+        each_joined (if enters (behind p (nth n)) then arrivals_below enters (one root depth) d (behind p (nth n)) else []) (arrivals_in_items enters (one root depth) (n + 1) ds p) _ _
+        (each_entered (enters (behind p (nth n))) (arrivals_below enters (one root depth) d (behind p (nth n))) _ (each_below d (behind p (nth n)))) (each_in_items (n + 1) ds p)
+
+    each_in_entries : (es : Entries) (p : Path) → flat_map each (arrivals_in_entries enters (one root depth) es p) ≡ arrivals_in_entries enters cross es p
+    each_in_entries no_entries p = refl
+    each_in_entries (entry k d es) p =
+        each_joined (if enters (behind p (key k)) then arrivals_below enters (one root depth) d (behind p (key k)) else []) (arrivals_in_entries enters (one root depth) es p) _ _
+        (each_entered (enters (behind p (key k))) (arrivals_below enters (one root depth) d (behind p (key k))) _ (each_below d (behind p (key k)))) (each_in_entries es p)
+
+  each_inside : (value : Option Data) (p : Path) → flat_map each (when_some value (λ d. arrivals_below enters (one root depth) d p)) ≡ when_some value (λ d. arrivals_below enters cross d p)
+  each_inside None p = refl
+  each_inside (Some d) p = each_below d p
+
+-- ---- arrivals as links that wait
+
+-- what is left of the selector at each path, and how that goes on
+module _ (enters : Path → Bool) (left : Path → List Place) (stays : (p : Path) (t : Step) → enters (behind p t) ≡ is_left (left (behind p t))) (goes : (p : Path) (t : Step) → left (behind p t) ≡ residual_behind (left p) t) where
+  abbrev pub link_of : Arrival → Found
+  link_of a = waiting (left a.path) a.depth a.cid
+
+  links_entered : (b : Bool) (r : List Place) (xs : List Arrival) (links : List Found) → b ≡ is_left r → map link_of xs ≡ links → map link_of (if b then xs else []) ≡ when_entered r links
+  links_entered true [] xs links same e = absurd cc
+  links_entered true (x ∷ r) xs links same e = e
+  links_entered false [] xs links same e = refl
+  links_entered false (x ∷ r) xs links same e = absurd cc
+
+  links_child : (p : Path) (t : Step) (xs : List Arrival) (links : List Place → List Found) → map link_of xs ≡ links (left (behind p t))
+      → map link_of (if enters (behind p t) then xs else []) ≡ when_entered (residual_behind (left p) t) (links (residual_behind (left p) t))
+  links_child p t xs links e = links_entered (enters (behind p t)) (left (behind p t)) xs (links (left (behind p t))) (stays p t) e ∙ ap (λ r. when_entered r (links r)) (goes p t)
+
+  links_joined : (xs ys : List Arrival) (us vs : List Found) → map link_of xs ≡ us → map link_of ys ≡ vs → map link_of (xs ++ ys) ≡ us ++ vs
+  links_joined xs ys us vs e f = map-append link_of xs ys ∙ ap (λ z. z ++ map link_of ys) e ∙ ap (λ z. us ++ z) f
+
+  module _ (root depth : ℕ) where
+    mutual
+      links_are : (d : Data) (p : Path) → map link_of (arrivals_below enters (one root depth) d p) ≡ links_below (left p) depth d
+      links_are null p = refl
+      links_are (boolean b) p = refl
+      links_are (integer n) p = refl
+      links_are (float bits) p = refl
+      links_are (bytes b) p = refl
+      links_are (text t) p = refl
+      links_are (list ds) p = links_of_items 0 ds p
+      links_are (nodes.map es) p = links_of_entries es p
+      links_are (link c) p = refl
+
+      links_of_items : (n : ℕ) (ds : Items) (p : Path) → map link_of (arrivals_in_items enters (one root depth) n ds p) ≡ links_in_items (left p) depth n ds
+      links_of_items n no_items p = refl
+      links_of_items n (item d ds) p =
+          links_joined (if enters (behind p (nth n)) then arrivals_below enters (one root depth) d (behind p (nth n)) else []) (arrivals_in_items enters (one root depth) (n + 1) ds p) _ _
+          (links_child p (nth n) (arrivals_below enters (one root depth) d (behind p (nth n))) (λ r. links_below r depth d) (links_are d (behind p (nth n)))) (links_of_items (n + 1) ds p)
+
+      links_of_entries : (es : Entries) (p : Path) → map link_of (arrivals_in_entries enters (one root depth) es p) ≡ links_in_entries (left p) depth es
+      links_of_entries no_entries p = refl
+      links_of_entries (entry k d es) p =
+          links_joined (if enters (behind p (key k)) then arrivals_below enters (one root depth) d (behind p (key k)) else []) (arrivals_in_entries enters (one root depth) es p) _ _
+          (links_child p (key k) (arrivals_below enters (one root depth) d (behind p (key k))) (λ r. links_below r depth d) (links_are d (behind p (key k)))) (links_of_entries es p)
+
+    links_of : (value : Option Data) (p : Path) → map link_of (when_some value (λ d. arrivals_below enters (one root depth) d p)) ≡ links_inside (left p) depth value
+    links_of None p = refl
+    links_of (Some d) p = links_are d p
+
+  -- ---- from the roots
+
+  wait_from : (root : ℕ) (cs : List (List ℕ)) → map link_of (roots_from root cs) ≡ map (waiting (left []) 0) cs
+  wait_from root [] = refl
+  wait_from root (c ∷ cs) = ap (λ z. waiting (left []) 0 c ∷ z) (wait_from (root + 1) cs)
+
+  -- ---- as many arrivals as are asked for
+
+  module _ (store : Blocks) (limit : ℕ) where
+    abbrev inside : Inside
+    inside = value_of store
+
+    -- those at and below one, where at most so many links are crossed from the root
+    abbrev each : Arrival → List Arrival
+    each a = arrivals_at enters inside a.root (limit - a.depth) a.depth a.cid a.path
+
+    -- the first is the arrival itself
+    begins : (links : ℕ) (a : Arrival) → (rest : List Arrival) × (arrivals_at enters inside a.root links a.depth a.cid a.path ≡ a ∷ rest)
+    begins zero a = ([], refl)
+    begins (suc n) a = (_, refl)
+
+    pub first_are : (n : ℕ) (waits : List Arrival) → HaveDepths (λ k. k + n ≤ limit + 1) (map link_of waits) → first_arrivals store None n (map link_of waits) ≡ map forget (take n (flat_map each waits))
+    first_are zero waits deep = refl
+    first_are (suc n) [] deep = refl
+    first_are (suc zero) (a ∷ more) deep =
+        let b = begins (limit - a.depth) a in ap (λ (z : List Arrival). map forget (take (suc zero) (z ++ flat_map each more))) (sym b.1)
+    first_are (suc (suc n)) (a ∷ more) deep =
+        let h = deep.0 in
+        let links = limit - (a.depth + 1) in
+        let below = when_some (inside a.cid) (λ d. arrivals_below enters (one a.root (a.depth + 1)) d a.path) in
+        let crossed : limit - a.depth ≡ suc links = omega (arith, h) in
+        let all : each a ≡ a ∷ flat_map each below =
+        ap (λ (k : ℕ). arrivals_at enters inside a.root k a.depth a.cid a.path) crossed
+        ∙ ap (λ (z : List Arrival). a ∷ z) (sym (each_inside enters a.root (a.depth + 1) each (arrivals_at enters inside a.root links (a.depth + 1)) (λ c p. refl) (inside a.cid) a.path)) in
+        let wait : map link_of (below ++ more) ≡ links_inside (left a.path) (a.depth + 1) (inside a.cid) ++ map link_of more =
+        map-append link_of below more ∙ ap (λ z. z ++ map link_of more) (links_of a.root (a.depth + 1) (inside a.cid) a.path) in
+        let low : HaveDepths (λ k. k + suc n ≤ limit + 1) (map link_of (below ++ more)) =
+        subst (HaveDepths (λ k. k + suc n ≤ limit + 1)) (sym wait)
+        (all_append (λ k. k + suc n ≤ limit + 1) (links_inside (left a.path) (a.depth + 1) (inside a.cid)) (map link_of more)
+        (all_inside (λ k. k + suc n ≤ limit + 1) (a.depth + 1) (omega (arith, h)) (left a.path) (inside a.cid)) (lower n (map link_of more) deep.1)) in
+        ap (λ z. forget a ∷ first_arrivals store None (suc n) z) (sym wait)
+        ∙ ap (λ z. forget a ∷ z) (first_are (suc n) (below ++ more) low)
+        ∙ ap (λ z. forget a ∷ map forget (take (suc n) z)) (flat_map-append each below more)
+        ∙ ap (λ z. map forget (take (suc (suc n)) (z ++ flat_map each more))) (sym all) where
+          lower : (n : ℕ) (links : List Found) → HaveDepths (λ k. k + suc (suc n) ≤ limit + 1) links → HaveDepths (λ k. k + suc n ≤ limit + 1) links
+          lower n [] h = tt
+          lower n (f ∷ links) h = (let k = h.0 in omega (arith, k), lower n links h.1)
+
+    all_from : (root : ℕ) (cs : List (List ℕ)) → flat_map each (roots_from root cs) ≡ arrivals_from enters inside limit root cs
+    all_from root [] = refl
+    all_from root (c ∷ cs) =
+        let z : limit - 0 ≡ limit = omega arith in
+        ap (λ (k : ℕ). arrivals_at enters inside root k 0 c [] ++ flat_map each (roots_from (root + 1) cs)) z
+        ∙ ap (λ (z : List Arrival). arrivals_at enters inside root limit 0 c [] ++ z) (all_from (root + 1) cs)
+
+    low_from : (root : ℕ) (cs : List (List ℕ)) → HaveDepths (λ k. k + suc limit ≤ limit + 1) (map link_of (roots_from root cs))
+    low_from root [] = tt
+    low_from root (c ∷ cs) = (omega arith, low_from (root + 1) cs)
+
+    -- one arrival more than the limit
+    pub first_from : (cs : List (List ℕ)) → first_arrivals store None (suc limit) (map (waiting (left []) 0) cs) ≡ map forget (take (suc limit) (arrivals_from enters inside limit 0 cs))
+    first_from cs =
+        ap (first_arrivals store None (suc limit)) (sym (wait_from 0 cs)) ∙ first_are (suc limit) (roots_from 0 cs) (low_from 0 cs)
+        ∙ ap (λ z. map forget (take (suc limit) z)) (all_from 0 cs)
+
+  -- ---- where a CID is gone into once
+
+  -- what was gone into, as a test
+  abbrev test_of : List (List ℕ × List Place) → Going
+  test_of gone c places = list_any (λ g. bytes_eq g.0 c && same_residual g.1 places) gone
+
+  module _ (store : Blocks) where
+    gone_same : (value : Option Data) (a : Arrival) (gone : List (List ℕ × List Place)) → gone_behind value (link_of a) (Some (test_of gone)) ≡ Some (test_of (going.gone_behind enters left same_residual (sound_value store) value a gone))
+    gone_same None a gone = refl
+    gone_same (Some d) a gone = refl
+
+    once_are : (n : ℕ) (gone : List (List ℕ × List Place)) (waits : List Arrival)
+        → first_arrivals store (Some (test_of gone)) n (map link_of waits) ≡ map forget (once enters left same_residual (sound_value store) n gone waits)
+    once_are zero gone waits = refl
+    once_are (suc n) gone [] = refl
+    once_are (suc n) gone (a ∷ more) =
+        let value = gone_into_at enters left same_residual (sound_value store) gone a in
+        let below = when_some value (λ d. going.links_below enters d a) in
+        let wait : map link_of (below ++ more) ≡ links_inside (left a.path) (a.depth + 1) value ++ map link_of more =
+        map-append link_of below more ∙ ap (λ z. z ++ map link_of more) (links_of a.root (a.depth + 1) value a.path) in
+        ap (λ z. forget a ∷ first_arrivals store (gone_behind value (link_of a) (Some (test_of gone))) n z) (sym wait)
+        ∙ ap (λ g. forget a ∷ first_arrivals store g n (map link_of (below ++ more))) (gone_same value a gone)
+        ∙ ap (λ z. forget a ∷ z) (once_are n (going.gone_behind enters left same_residual (sound_value store) value a gone) (below ++ more))
+
+    -- the first arrivals where the roots wait and nothing was gone into
+    pub once_first : (n : ℕ) (cs : List (List ℕ)) → first_arrivals store (Some nothing_gone) n (map (waiting (left []) 0) cs) ≡ map forget (once_from enters left same_residual (sound_value store) n cs)
+    once_first n cs = ap (first_arrivals store (Some nothing_gone) n) (sym (wait_from 0 cs)) ∙ once_are n [] (roots_from 0 cs)
 
 -- visits show neither a root nor a path
 pub visits_forget : (store : Blocks) (number seq : ℕ) (xs : List Arrival) → visits_from store number seq (map forget xs) ≡ visits_from store number seq xs

@@ -1,24 +1,22 @@
 -- Arriving at a link: its visit, and the root behind it.
-use Rattle.std.proofs.Common.{◌≡◌, ℕ, suc, ◌+◌, ◌-◌, Bool, List, [], ◌∷◌, ◌++◌, reverse, sym, ◌∙◌, ap, arith}
+use Rattle.std.proofs.Common.{◌≡◌, ℕ, ◌+◌, Bool, List, [], ◌∷◌, ◌++◌, reverse, sym, ◌∙◌, ap}
 use Rattle.std.specs.Prelude.{Option, Some, None, option_map}
 use Rattle.ix_cbor.specs.Data.{Data}
-use Rattle.ix_selector.specs.Residual.{Place, residual_enters}
+use Rattle.ix_selector.specs.Residual.{Place}
 use Rattle.ix_walk.specs.declared.subtree.Entered.TheVariants.{Link, Open}
 use Rattle.ix_walk.specs.declared.subtree.Opened.{Opened}
 use Rattle.ix_walk.specs.declared.subtree.Found.{Found}
 use Rattle.ix_walk.specs.declared.subtree.Trail.{Trail}
-use Rattle.ix_walk.specs.Arrivals.{Arrival, Inside, when_some}
-use Rattle.ix_walk.specs.Store.{Blocks, position_of, value_of}
-use Rattle.ix_walk.specs.Walking.{arrival, reached_at, Subtree, all_arrivals, NoDeeper, opened, found, stands, with_next, trail_stands}
-use Rattle.ix_walk.specs.Descent.{node_arrivals, IsNode}
-use Rattle.ix_walk.specs.Arriving.{IsReading, Roots, Arrives}
+use Rattle.ix_walk.specs.Store.{Blocks, position_of}
+use Rattle.ix_walk.specs.Walking.{Going, data_inside, waiting, links_below, links_inside, all_links, opened, found, stands, with_next, trail_stands}
+use Rattle.ix_walk.specs.Descent.{IsNode}
+use Rattle.ix_walk.specs.Arriving.{IsReading, Goes, Roots, Arrives}
 use Rattle.ix_walk.proofs.Blocks.{item_of_block}
 use Rattle.ix_walk.proofs.Stands.{open_on, reversed_push, trail_without}
 
--- arrivals at a root that is there
-rooted : (places : List Place) (depth : ℕ) (value : Option Data) (d : Data) (xs ys : List Arrival) (inside : Inside) (limit : ℕ) → value ≡ Some d → ys ≡ node_arrivals places d depth inside limit ++ xs
-    → ys ≡ when_some value (λ d. node_arrivals places d depth inside limit) ++ xs
-rooted places depth value d xs ys inside limit is e = e ∙ sym (ap (λ v. when_some v (λ d. node_arrivals places d depth inside limit) ++ xs) is)
+-- links at a root that is there
+rooted : (places : List Place) (depth : ℕ) (value : Option Data) (d : Data) (xs ys : List Found) → value ≡ Some d → ys ≡ links_below places depth d ++ xs → ys ≡ links_inside places depth value ++ xs
+rooted places depth value d xs ys is e = e ∙ sym (ap (λ v. links_inside places depth v ++ xs) is)
 
 -- a root in which no link can be
 pub roots_flat : (places : List Place) (b at : List ℕ) (depth : ℕ) (old new : Trail) → IsNode places b depth None at → new ≡ old → Roots places (Some b) depth old new
@@ -26,10 +24,7 @@ roots_flat places b at depth old new node same = λ value is ss e.
     let n = node is.0 [] (item_of_block b is.0 is.2) in (
       ss,
       ap trail_stands same ∙ e,
-      record {
-        arrivals = λ inside limit. rooted places depth value is.0 (all_arrivals inside limit ss) (all_arrivals inside limit ss) inside limit is.1 (ap (λ z. z ++ all_arrivals inside limit ss) (sym (n.1 inside limit)));
-        deep = λ bound h n. n;
-      },
+      rooted places depth value is.0 (all_links ss) (all_links ss) is.1 (ap (λ z. z ++ all_links ss) (sym n.1)),
     )
 
 -- a root that is a link
@@ -40,10 +35,7 @@ roots_link places b at depth f old new node none at_is stack_is next_is = λ val
     let below : stands new.at (reverse new.stack.items) ≡ Some ss = ap (λ l. stands l (reverse new.stack.items)) at_is ∙ ap (λ os. stands old.at (reverse os)) stack_is ∙ sym (trail_without old none) ∙ e in (
       found f ∷ ss,
       ap (λ o. option_map (with_next o) (stands new.at (reverse new.stack.items))) next_is ∙ ap (option_map (with_next (Some f))) below,
-      record {
-        arrivals = λ inside limit. rooted places depth value is.0 (all_arrivals inside limit ss) (all_arrivals inside limit (found f ∷ ss)) inside limit is.1 (ap (λ z. z ++ all_arrivals inside limit ss) (n.1.reaches inside limit));
-        deep = λ bound h m. (let k = n.1.deep in omega (arith, h, k), m);
-      },
+      rooted places depth value is.0 (all_links ss) (all_links (found f ∷ ss)) is.1 (ap (λ z. z ++ all_links ss) (sym n.1)),
     )
 
 -- a root that is a list or map, behind which the walk goes back to where it stood
@@ -58,22 +50,15 @@ roots_open places b at depth o root old new node none next_is at_is pushed root_
     let stack_is : reverse new.stack.items ≡ r ∷ reverse old.stack.items = reversed_push new.stack.items old.stack.items root pushed ∙ ap (λ x. x ∷ reverse old.stack.items) root_is in (
       opened r n.1 ∷ ss,
       trail_without new next_is ∙ ap (λ l. stands l (reverse new.stack.items)) at_is ∙ ap (stands at) stack_is ∙ on,
-      record {
-        arrivals = λ inside limit. rooted places depth value is.0 (all_arrivals inside limit ss) (all_arrivals inside limit (opened r n.1 ∷ ss)) inside limit is.1 (ap (λ z. z ++ all_arrivals inside limit ss) (n.3.reaches inside limit));
-        deep = λ bound h m. (let k = n.3.deep in omega (arith, h, k), m);
-      },
+      rooted places depth value is.0 (all_links ss) (all_links (opened r n.1 ∷ ss)) is.1 (ap (λ z. z ++ all_links ss) n.3.reaches),
     )
 
-deep_more : (bound : ℕ) (ss : List Subtree) → NoDeeper bound ss → NoDeeper (bound + 1) ss
-deep_more bound [] n = tt
-deep_more bound (s ∷ ss) n = (let h = n.0 in omega arith, deep_more bound ss n.1)
-
 -- a visit, and the root behind it
-pub arrives : (store : Blocks) (number seq : ℕ) (places : List Place) (depth : ℕ) (c d : List ℕ) (block : Option ℕ) (bytes : Option (List ℕ)) (malformed : Bool) (old new : Trail)
-    → d ≡ c → block ≡ position_of store d → IsReading store c bytes malformed → Roots places bytes (depth + 1) old new
-    → Arrives store number seq (record { residual = places; cid = c; depth = depth }) old (record { job = number; seq = seq; depth = depth; cid = d; block = block; malformed = malformed }) new
-arrives store number seq places depth c d block bytes malformed old new same found reading roots = λ ss e.
-    let r = roots (value_of store c) reading.0 ss e in (
+pub arrives : (store : Blocks) (number seq : ℕ) (places : List Place) (depth : ℕ) (c d : List ℕ) (block : Option ℕ) (bytes entered : Option (List ℕ)) (malformed : Bool) (had has : Option Going) (old new : Trail)
+    → d ≡ c → block ≡ position_of store d → IsReading store c bytes malformed → Goes store (waiting places depth c) had entered has → Roots places entered (depth + 1) old new
+    → Arrives store number seq (waiting places depth c) had old (record { job = number; seq = seq; depth = depth; cid = d; block = block; malformed = malformed }) has new
+arrives store number seq places depth c d block bytes entered malformed had has old new same found reading goes roots = λ ss e.
+    let r = roots (data_inside store had (waiting places depth c)) goes.inside ss e in (
       r.0,
       r.1,
       record {
@@ -81,10 +66,7 @@ arrives store number seq places depth c d block bytes malformed old new same fou
             ap (λ (b : Option ℕ). record { job = number; seq = seq; depth = depth; cid = d; block = b; malformed = malformed }) found
             ∙ ap (λ (e : List ℕ). record { job = number; seq = seq; depth = depth; cid = e; block = position_of store e; malformed = malformed }) same
             ∙ ap (λ (m : Bool). record { job = number; seq = seq; depth = depth; cid = c; block = position_of store c; malformed = m }) reading.1;
-        arrivals = λ limit lt.
-            let k : limit - depth ≡ suc (limit - (depth + 1)) = omega arith in
-            ap (λ (n : ℕ). reached_at (value_of store) n depth (residual_enters places) c ++ all_arrivals (value_of store) limit ss) k
-            ∙ ap (λ (z : List Arrival). arrival depth c ∷ z) (sym (r.2.arrivals (value_of store) limit));
-        deep = λ bound h n. r.2.deep (bound + 1) (omega arith) (deep_more bound ss n);
+        gone = goes.gone;
+        links = r.2;
       },
     )

@@ -80,7 +80,7 @@ has_cid-at zero (x ∷ es) e c at same = ap (λ y. y || has_cid es c) (ap (λ (p
 has_cid-at (suc i) (x ∷ es) e c at same = ap (λ y. bytes_eq x.0 c || y) (has_cid-at i es e c at same) ∙ or-true (bytes_eq x.0 c)
 
 -- a pair of distinct CIDs stands where its CID does
-position-at : (n i : ℕ) (es : Blocks) (e : List ℕ × List ℕ) (c : List ℕ) → HasDistinctCids es → slice_get es i ≡ Some e → bytes_eq e.0 c ≡ true → position_behind n es c ≡ Some (n + i)
+pub position-at : (n i : ℕ) (es : Blocks) (e : List ℕ × List ℕ) (c : List ℕ) → HasDistinctCids es → slice_get es i ≡ Some e → bytes_eq e.0 c ≡ true → position_behind n es c ≡ Some (n + i)
 position-at n i [] e c h at same = absurd (none-some e at)
 position-at n zero (x ∷ es) e c h at same =
     let first : bytes_eq x.0 c ≡ true = ap (λ (p : List ℕ × List ℕ). bytes_eq p.0 c) (get_or_from_slice_get (x ∷ es) 0 e e at) ∙ same in

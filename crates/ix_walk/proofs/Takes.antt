@@ -1,100 +1,124 @@
 -- What a walk gives next.
-use Rattle.std.proofs.Common.{◌≡◌, ℕ, zero, suc, ◌+◌, ◌-◌, ◌<◌, ◌≤◌, true, false, List, [], ◌∷◌, ◌++◌, length, take, refl, sym, ◌∙◌, ap, subst, append_assoc, arith}
-use Rattle.std.specs.Prelude.{Some, Ok, Err, nat_lt}
+use Rattle.std.proofs.Common.{◌≡◌, ℕ, zero, suc, ◌+◌, ◌-◌, ◌<◌, ◌≤◌, false, List, [], ◌∷◌, ◌++◌, length, map, take, refl, sym, ◌∙◌, ap, subst, append_assoc, arith}
+use Rattle.std.specs.Prelude.{Option, Some, None, Ok, Err, nat_lt}
 use Rattle.std.proofs.lemmas.Bool.Decides.{nat_tests}
 use Rattle.ix_walk.specs.declared.subtree.Found.{Found}
 use Rattle.ix_walk.specs.declared.subtree.Trail.{Trail}
 use Rattle.ix_walk.specs.declared.visit.Visit.{Visit}
 use Rattle.ix_walk.specs.declared.fault.WalkStop.TheVariants.{Limit}
 use Rattle.ix_selector.specs.Pattern.{Pattern}
-use Rattle.ix_selector.specs.Residual.{residual_enters}
-use Rattle.ix_walk.specs.Arrivals.{Arrival, Inside}
-use Rattle.ix_walk.specs.Store.{Blocks, value_of}
+use Rattle.ix_walk.specs.Arrivals.{Arrival}
+use Rattle.ix_walk.specs.Store.{Blocks}
 use Rattle.ix_walk.specs.Visits.{visits_from, visit_of}
 use Rattle.ix_walk.specs.WalkLeft.{GivesNext, nothing_left}
-use Rattle.ix_walk.specs.Walking.{arrival, Subtree, all_arrivals, root_arrivals, arrivals_left, trail_stands, walk_left, IsWalk, reached_at}
-use Rattle.ix_walk.specs.Arriving.{IsNextArrival, FindsNext, IsArrived, Arrives, trail_left}
+use Rattle.ix_walk.specs.Walking.{arrival, Going, data_inside, gone_behind, links_inside, first_arrivals, Subtree, all_links, root_link, links_left, trail_stands, walk_left, NoDeeper, IsWalk}
+use Rattle.ix_walk.specs.Arriving.{FindsNext, IsArrived, Arrives, trail_left}
 use Rattle.ix_walk.proofs.Stands.{subtrees_are}
-
-zero_lt : (n : ℕ) → nat_lt 0 (suc n) ≡ true
-zero_lt n = grind (arith, nat_tests)
+use Rattle.ix_walk.proofs.Reached.{all_append, all_inside}
 
 lt_suc : (m l : ℕ) → nat_lt m l ≡ nat_lt (suc m) (suc l)
 lt_suc m l = grind (arith, nat_tests)
 
--- an arrival is left, and no visit
-limit_with : (store : Blocks) (number limit given : ℕ) (old : List Arrival) (a : Arrival) (rest : List Arrival) → given ≡ limit → old ≡ a ∷ rest
-    → GivesNext (walk_left store number limit given old false) (Some (Err Limit)) nothing_left
-limit_with store number limit given old a rest is e =
+-- a link waits, and no visit is left
+limit_with : (store : Blocks) (number limit given : ℕ) (had : Option Going) (old : List Found) (f : Found) (rest : List Found) → given ≡ limit → old ≡ f ∷ rest
+    → GivesNext (walk_left store number limit given had old false) (Some (Err Limit)) nothing_left
+limit_with store number limit given had old f rest is e =
     let k : limit - given ≡ 0 = omega arith in (
       refl,
-      ap (λ (n : ℕ). visits_from store number given (take n old)) k,
-      ap (λ (n : ℕ). nat_lt n (length old)) k ∙ ap (λ (z : List Arrival). nat_lt 0 (length z)) e ∙ zero_lt (length rest),
+      ap (λ (n : ℕ). visits_from store number given (take n (first_arrivals store had (suc n) old))) k,
+      ap (λ (n : ℕ). nat_lt n (length (first_arrivals store had (suc n) old))) k ∙ ap (λ (z : List Found). nat_lt 0 (length (first_arrivals store had (suc zero) z))) e,
       refl,
     )
 
-visit_with : (store : Blocks) (number limit given : ℕ) (old new : List Arrival) (a : Arrival) (v : Visit) → given < limit → v ≡ visit_of store number given a → old ≡ a ∷ new
-    → GivesNext (walk_left store number limit given old false) (Some (Ok v)) (walk_left store number limit (given + 1) new false)
-visit_with store number limit given old new a v lt is e =
-    let k : limit - given ≡ suc (limit - (given + 1)) = omega arith in (
+-- nothing waits
+end_with : (store : Blocks) (number limit given : ℕ) (had : Option Going) (old : List Found) → old ≡ [] → GivesNext (walk_left store number limit given had old false) None nothing_left
+end_with store number limit given had old e = (
+  ap (λ (z : List Found). visits_from store number given (take (limit - given) (first_arrivals store had (suc (limit - given)) z))) e ∙ ap (visits_from store number given) (nothing (limit - given)),
+  ap (λ (z : List Found). nat_lt (limit - given) (length (first_arrivals store had (suc (limit - given)) z))) e ∙ not_below (limit - given),
+  refl,
+) where
+  nothing : (n : ℕ) → take {A = Arrival} n [] ≡ []
+  nothing zero = refl
+  nothing (suc n) = refl
+
+  not_below : (n : ℕ) → nat_lt n 0 ≡ false
+  not_below n = grind (arith, nat_tests)
+
+visit_with : (store : Blocks) (number limit given : ℕ) (had has : Option Going) (old links new : List Found) (f : Found) (v : Visit) → given < limit → v ≡ visit_of store number given (arrival f.depth f.cid) → old ≡ f ∷ links
+    → has ≡ gone_behind (data_inside store had f) f had → new ≡ links_inside f.residual (f.depth + 1) (data_inside store had f) ++ links
+    → GivesNext (walk_left store number limit given had old false) (Some (Ok v)) (walk_left store number limit (given + 1) has new false)
+visit_with store number limit given had has old links new f v lt is e gone below =
+    let m = limit - (given + 1) in
+    let k : limit - given ≡ suc m = omega arith in
+    let then : first_arrivals store (gone_behind (data_inside store had f) f had) (suc m) (links_inside f.residual (f.depth + 1) (data_inside store had f) ++ links) ≡ first_arrivals store has (suc m) new =
+    ap (λ (g : Option Going). first_arrivals store g (suc m) (links_inside f.residual (f.depth + 1) (data_inside store had f) ++ links)) (sym gone) ∙ ap (first_arrivals store has (suc m)) (sym below) in (
       refl,
-      ap (λ (z : List Arrival). visits_from store number given (take (limit - given) z)) e ∙ ap (λ (n : ℕ). visits_from store number given (take n (a ∷ new))) k
-          ∙ ap (λ (w : Visit). w ∷ visits_from store number (given + 1) (take (limit - (given + 1)) new)) (sym is),
-      lt_suc (limit - (given + 1)) (length new) ∙ sym (ap (λ (z : List Arrival). nat_lt (limit - given) (length z)) e ∙ ap (λ (n : ℕ). nat_lt n (length (a ∷ new))) k),
+      ap (λ (n : ℕ). visits_from store number given (take n (first_arrivals store had (suc n) old))) k
+          ∙ ap (λ (z : List Found). visits_from store number given (take (suc m) (first_arrivals store had (suc (suc m)) z))) e
+          ∙ ap (λ (z : List Arrival). visit_of store number given (arrival f.depth f.cid) ∷ visits_from store number (given + 1) (take m z)) then
+          ∙ ap (λ (w : Visit). w ∷ visits_from store number (given + 1) (take m (first_arrivals store has (suc m) new))) (sym is),
+      lt_suc m (length (first_arrivals store has (suc m) new))
+          ∙ ap (λ (z : List Arrival). nat_lt (suc m) (suc (length z))) (sym then)
+          ∙ ap (λ (z : List Found). nat_lt (suc m) (length (first_arrivals store had (suc (suc m)) z))) (sym e)
+          ∙ ap (λ (n : ℕ). nat_lt n (length (first_arrivals store had (suc n) old))) (sym k),
       refl,
     )
 
--- at a link there is an arrival, whatever the budget
-starts : (inside : Inside) (links : ℕ) (f : Found) → (rest : List Arrival) × (reached_at inside links f.depth (residual_enters f.residual) f.cid ≡ arrival f.depth f.cid ∷ rest)
-starts inside zero f = ([], refl)
-starts inside (suc n) f = (_, refl)
+-- behind what was found, what is left then waits behind the links below it
+visited : (selector : Pattern) (store : Blocks) (number seq : ℕ) (had has : Option Going) (mid new : List Subtree) (rest : List (List ℕ)) (f : Found) (v : Visit) → IsArrived store number seq f had mid v has new
+    → links_left selector new rest ≡ links_inside f.residual (f.depth + 1) (data_inside store had f) ++ links_left selector mid rest
+visited selector store number seq had has mid new rest f v arrived =
+    let others = map (root_link selector) rest in
+    ap (λ (z : List Found). z ++ others) arrived.links ∙ append_assoc (links_inside f.residual (f.depth + 1) (data_inside store had f)) (all_links mid) others
 
--- what is left begins with what was found
-found_first : (selector : Pattern) (inside : Inside) (limit : ℕ) (old new : List Subtree) (roots rest : List (List ℕ)) (f : Found) → IsNextArrival selector old roots (Some f) new rest
-    → (more : List Arrival) × (arrivals_left selector inside limit old roots ≡ arrival f.depth f.cid ∷ more)
-found_first selector inside limit old new roots rest f next =
-    let s = starts inside (limit - f.depth) f in
-    let others = arrivals_left selector inside limit new rest in (s.0 ++ others, next.arrivals inside limit ∙ ap (λ (z : List Arrival). z ++ others) s.1)
+-- no link below a visit lies deeper than there are visits given then
+deeper : (given : ℕ) (links : List Found) → NoDeeper given links → NoDeeper (given + 1) links
+deeper given [] n = tt
+deeper given (f ∷ links) n = (let h = n.0 in omega (arith, h), deeper given links n.1)
 
--- what is left begins with what was found, and behind that is what is left then
-visited : (selector : Pattern) (store : Blocks) (number seq limit : ℕ) (old mid new : List Subtree) (roots rest : List (List ℕ)) (f : Found) (v : Visit) → f.depth < limit → IsNextArrival selector old roots (Some f) mid rest
-    → IsArrived store number seq f mid v new → arrivals_left selector (value_of store) limit old roots ≡ arrival f.depth f.cid ∷ arrivals_left selector (value_of store) limit new rest
-visited selector store number seq limit old mid new roots rest f v low next arrived =
-    let others = root_arrivals selector (value_of store) limit rest in
-    next.arrivals (value_of store) limit
-    ∙ sym (append_assoc (reached_at (value_of store) (limit - f.depth) f.depth (residual_enters f.residual) f.cid) (all_arrivals (value_of store) limit mid) others)
-    ∙ ap (λ (z : List Arrival). z ++ others) (arrived.arrivals limit low)
+visited_deep : (store : Blocks) (number seq given : ℕ) (had has : Option Going) (mid new : List Subtree) (f : Found) (v : Visit) → f.depth ≤ given → NoDeeper given (all_links mid) → IsArrived store number seq f had mid v has new
+    → NoDeeper (given + 1) (all_links new)
+visited_deep store number seq given had has mid new f v low n arrived =
+    subst (NoDeeper (given + 1)) (sym arrived.links)
+    (all_append (λ k. k ≤ given + 1) (links_inside f.residual (f.depth + 1) (data_inside store had f)) (all_links mid)
+    (all_inside (λ k. k ≤ given + 1) (f.depth + 1) (omega (arith, low)) f.residual (data_inside store had f)) (deeper given (all_links mid) n))
 
 -- ---- the same of a trail
 
 -- what is left of it, where its subtrees are known
-left_is : (store : Blocks) (number limit given : ℕ) (selector : Pattern) (t : Trail) (roots : List (List ℕ)) (ss : List Subtree) → trail_stands t ≡ Some ss
-    → walk_left store number limit given (arrivals_left selector (value_of store) limit ss roots) false ≡ trail_left store number limit given selector t roots
-left_is store number limit given selector t roots ss e =
-    ap (λ (z : List Subtree). walk_left store number limit given (arrivals_left selector (value_of store) limit z roots) false) (sym (subtrees_are t ss e))
+left_is : (store : Blocks) (number limit given : ℕ) (gone : Option Going) (selector : Pattern) (t : Trail) (roots : List (List ℕ)) (ss : List Subtree) → trail_stands t ≡ Some ss
+    → walk_left store number limit given gone (links_left selector ss roots) false ≡ trail_left store number limit given gone selector t roots
+left_is store number limit given gone selector t roots ss e =
+    ap (λ (z : List Subtree). walk_left store number limit given gone (links_left selector z roots) false) (sym (subtrees_are t ss e))
 
-pub trail_limit : (store : Blocks) (number limit given : ℕ) (selector : Pattern) (old new : Trail) (roots rest : List (List ℕ)) (f : Found) → given ≡ limit → IsWalk limit given old → FindsNext selector old roots (Some f) new rest
-    → GivesNext (trail_left store number limit given selector old roots) (Some (Err Limit)) nothing_left
-trail_limit store number limit given selector old new roots rest f here is finds =
+pub trail_limit : (store : Blocks) (number limit given : ℕ) (had : Option Going) (selector : Pattern) (old new : Trail) (roots rest : List (List ℕ)) (f : Found) → given ≡ limit → IsWalk limit given old → FindsNext selector old roots (Some f) new rest
+    → GivesNext (trail_left store number limit given had selector old roots) (Some (Err Limit)) nothing_left
+trail_limit store number limit given had selector old new roots rest f here is finds =
     let g = finds is.1 is.2 in
-    let a = found_first selector (value_of store) limit is.1 g.0 roots rest f g.2 in
-    subst (λ z. GivesNext z (Some (Err Limit)) nothing_left) (left_is store number limit given selector old roots is.1 is.2)
-    (limit_with store number limit given (arrivals_left selector (value_of store) limit is.1 roots) (arrival f.depth f.cid) a.0 here a.1)
+    subst (λ z. GivesNext z (Some (Err Limit)) nothing_left) (left_is store number limit given had selector old roots is.1 is.2)
+    (limit_with store number limit given had (links_left selector is.1 roots) f (links_left selector g.0 rest) here g.2.links)
 
-pub trail_visit : (store : Blocks) (number limit given : ℕ) (selector : Pattern) (old mid new : Trail) (roots rest : List (List ℕ)) (f : Found) (v : Visit) → (given ≡ limit → ⊥) → IsWalk limit given old
-    → FindsNext selector old roots (Some f) mid rest → Arrives store number given f mid v new
-    → GivesNext (trail_left store number limit given selector old roots) (Some (Ok v)) (trail_left store number limit (given + 1) selector new rest) × IsWalk limit (given + 1) new
-trail_visit store number limit given selector old mid new roots rest f v not is finds arrives =
+pub trail_end : (store : Blocks) (number limit given : ℕ) (had : Option Going) (selector : Pattern) (old new : Trail) (roots rest : List (List ℕ)) → IsWalk limit given old → FindsNext selector old roots None new rest
+    → GivesNext (trail_left store number limit given had selector old roots) None nothing_left
+trail_end store number limit given had selector old new roots rest is finds =
+    let g = finds is.1 is.2 in
+    subst (λ z. GivesNext z None nothing_left) (left_is store number limit given had selector old roots is.1 is.2)
+    (end_with store number limit given had (links_left selector is.1 roots)
+    (g.2.links ∙ ap (λ (ss : List Subtree). links_left selector ss rest) g.2.ends.0 ∙ ap (map (root_link selector)) g.2.ends.1))
+
+pub trail_visit : (store : Blocks) (number limit given : ℕ) (had has : Option Going) (selector : Pattern) (old mid new : Trail) (roots rest : List (List ℕ)) (f : Found) (v : Visit) → (given ≡ limit → ⊥) → IsWalk limit given old
+    → FindsNext selector old roots (Some f) mid rest → Arrives store number given f had mid v has new
+    → GivesNext (trail_left store number limit given had selector old roots) (Some (Ok v)) (trail_left store number limit (given + 1) has selector new rest) × IsWalk limit (given + 1) new
+trail_visit store number limit given had has selector old mid new roots rest f v not is finds arrives =
     let g = finds is.1 is.2 in
     let a = arrives g.0 g.1 in
     let lt : given < limit = let h = is.0 in omega arith in
     let within = g.2.deep given is.3 in
-    let low : f.depth < limit = let h : f.depth ≤ given = within.0 in omega arith in
-    let next = visit_with store number limit given (arrivals_left selector (value_of store) limit is.1 roots) (arrivals_left selector (value_of store) limit a.0 rest) (arrival f.depth f.cid) v lt a.2.visit
-    (visited selector store number given limit is.1 g.0 a.0 roots rest f v low g.2 a.2) in (
-      subst (λ z. GivesNext z (Some (Ok v)) (trail_left store number limit (given + 1) selector new rest)) (left_is store number limit given selector old roots is.1 is.2)
-          (subst (λ z. GivesNext (walk_left store number limit given (arrivals_left selector (value_of store) limit is.1 roots) false) (Some (Ok v)) z) (left_is store number limit (given + 1) selector new rest a.0 a.1) next),
-      (omega (arith, lt), a.0, a.1, a.2.deep given within.0 within.1),
+    let next = visit_with store number limit given had has (links_left selector is.1 roots) (links_left selector g.0 rest) (links_left selector a.0 rest) f v lt a.2.visit g.2.links a.2.gone
+    (visited selector store number given had has g.0 a.0 rest f v a.2) in (
+      subst (λ z. GivesNext z (Some (Ok v)) (trail_left store number limit (given + 1) has selector new rest)) (left_is store number limit given had selector old roots is.1 is.2)
+          (subst (λ z. GivesNext (walk_left store number limit given had (links_left selector is.1 roots) false) (Some (Ok v)) z) (left_is store number limit (given + 1) has selector new rest a.0 a.1) next),
+      (omega (arith, lt), a.0, a.1, visited_deep store number given given had has g.0 a.0 f v within.0 within.1 a.2),
     )
 
 -- what is found within the limit may be crossed

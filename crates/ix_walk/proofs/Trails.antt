@@ -8,22 +8,15 @@ use Rattle.ix_walk.specs.declared.subtree.Entered.TheVariants.{Link, Open}
 use Rattle.ix_walk.specs.declared.subtree.Opened.{Opened}
 use Rattle.ix_walk.specs.declared.subtree.Trail.{Trail}
 use Rattle.ix_walk.specs.declared.subtree.Found.{Found}
-use Rattle.ix_walk.specs.Arrivals.{Arrival, Inside}
-use Rattle.ix_walk.specs.Walking.{is_spent, with_children, Part, to_cid, members, values, part_weight, Subtree, opened, found, all_arrivals, found_arrivals, NoDeeper, all_weight, part_at, goes_on, stands, with_next, trail_stands, subtrees, IsStanding}
-use Rattle.ix_walk.specs.Descent.{part_arrivals, IsNext, Keeps, IsFound, Leaves, Finds, trail_weight}
+use Rattle.ix_walk.specs.Walking.{is_spent, with_children, Part, to_cid, members, values, part_links, part_weight, Subtree, opened, all_links, all_weight, part_at, goes_on, stands, with_next, trail_stands, subtrees, IsStanding}
+use Rattle.ix_walk.specs.Descent.{IsNext, IsFound, Leaves, Finds, trail_weight}
 use Rattle.ix_walk.proofs.Openings.{spent_part}
 use Rattle.ix_walk.proofs.Stands.{some_mapped, open_apart, open_on, reversed_push, subtrees_are, trail_without}
 
-pub keeps_on : (a b c : List Subtree) → Keeps a b → Keeps b c → Keeps a c
-keeps_on a b c k l = record { arrivals = λ inside limit. k.arrivals inside limit ∙ l.arrivals inside limit; deep = λ bound n. l.deep bound (k.deep bound n) }
-
 -- what an open item had
-had : (o : Opened) (part : Part) (others ss : List Subtree) (first : Inside → ℕ → List Arrival) (left : Part) → opened o part ∷ others ≡ ss
-    → ((inside : Inside) (limit : ℕ) → part_arrivals o.residual part o.depth inside limit ≡ first inside limit ++ part_arrivals o.residual left o.depth inside limit)
-    → (inside : Inside) (limit : ℕ) → all_arrivals inside limit ss ≡ first inside limit ++ (part_arrivals o.residual left o.depth inside limit ++ all_arrivals inside limit others)
-had o part others ss first left all is inside limit =
-    ap (all_arrivals inside limit) (sym all) ∙ ap (λ z. z ++ all_arrivals inside limit others) (is inside limit)
-    ∙ append_assoc (first inside limit) (part_arrivals o.residual left o.depth inside limit) (all_arrivals inside limit others)
+had : (o : Opened) (part : Part) (others ss : List Subtree) (first : List Found) (left : Part) → opened o part ∷ others ≡ ss → part_links o.residual o.depth part ≡ first ++ part_links o.residual o.depth left
+    → all_links ss ≡ first ++ (part_links o.residual o.depth left ++ all_links others)
+had o part others ss first left all is = ap all_links (sym all) ∙ ap (λ z. z ++ all_links others) is ∙ append_assoc first (part_links o.residual o.depth left) (all_links others)
 
 -- a link was entered
 pub gone_link : (o : Opened) (f : Found) (c : Children) (at now : List ℕ) (os : List Opened) (ss : List Subtree) → IsNext o.residual o.depth o.children at (Some (Link f)) c now → stands at (o ∷ os) ≡ Some ss
@@ -35,18 +28,14 @@ gone_link o f c at now os ss next e =
       opened o g.others ∷ a.others,
       open_on now (with_children o c) os g.others a.rest a.others (ap (part_at c) s.0 ∙ g.behind) a.behind,
       record {
-        arrivals = λ inside limit. had o a.part a.others ss g.first g.others a.all g.arrivals inside limit
-            ∙ ap (λ z. z ++ (part_arrivals o.residual g.others o.depth inside limit ++ all_arrivals inside limit a.others)) (sym (s.1.reaches inside limit));
-        deep = λ bound n.
-            let m : NoDeeper bound (opened o a.part ∷ a.others) = subst (NoDeeper bound) (sym a.all) n in
-            (let d = s.1.deep in let h = m.0 in omega (arith, d, h), (m.0, m.1));
+        links = had o a.part a.others ss g.first g.others a.all g.links ∙ ap (λ z. z ++ (part_links o.residual o.depth g.others ++ all_links a.others)) s.1;
         ends = tt;
       },
     )
 
 -- a list or map was
 pub gone_open : (o p : Opened) (c : Children) (at now : List ℕ) (os : List Opened) (ss : List Subtree) → IsNext o.residual o.depth o.children at (Some (Open p)) c now → stands at (o ∷ os) ≡ Some ss
-    → (new : List Subtree) × (stands now (p ∷ with_children o c ∷ os) ≡ Some new) × Keeps ss new × (all_weight new < all_weight ss)
+    → (new : List Subtree) × (stands now (p ∷ with_children o c ∷ os) ≡ Some new) × (all_links ss ≡ all_links new) × (all_weight new < all_weight ss)
 gone_open o p c at now os ss next e =
     let a = open_apart at o os ss e in
     let g = next (a.part, a.rest) a.here in
@@ -54,27 +43,17 @@ gone_open o p c at now os ss next e =
     let others : stands g.middle (with_children o c ∷ os) ≡ Some (opened o g.others ∷ a.others) = open_on g.middle (with_children o c) os g.others a.rest a.others g.behind a.behind in (
       opened p s.1 ∷ opened o g.others ∷ a.others,
       open_on now p (with_children o c ∷ os) s.1 g.middle (opened o g.others ∷ a.others) s.2 (ap (λ b. stands (goes_on b g.middle) (with_children o c ∷ os)) s.0 ∙ others),
-      record {
-        arrivals = λ inside limit. had o a.part a.others ss g.first g.others a.all g.arrivals inside limit
-            ∙ ap (λ z. z ++ (part_arrivals o.residual g.others o.depth inside limit ++ all_arrivals inside limit a.others)) (sym (s.3.reaches inside limit));
-        deep = λ bound n.
-            let m : NoDeeper bound (opened o a.part ∷ a.others) = subst (NoDeeper bound) (sym a.all) n in
-            (let d = s.3.deep in let h = m.0 in omega (arith, d, h), (m.0, m.1));
-      },
+      had o a.part a.others ss g.first g.others a.all g.links ∙ ap (λ z. z ++ (part_links o.residual o.depth g.others ++ all_links a.others)) (sym s.3.reaches),
       (let t : all_weight ss ≡ part_weight a.part + all_weight a.others = ap all_weight (sym a.all) in let l = s.3.light in let k = g.lighter in omega (arith, t, l, k)),
     )
 
--- an open item without arrivals is let go
-let_go : (o : Opened) (part : Part) (at rest : List ℕ) (os : List Opened) (others ss : List Subtree) → stands (goes_on o.back rest) os ≡ Some others → opened o part ∷ others ≡ ss → at ≡ rest
-    → ((inside : Inside) (limit : ℕ) → part_arrivals o.residual part o.depth inside limit ≡ [])
-    → (new : List Subtree) × (stands (goes_on o.back at) os ≡ Some new) × Keeps ss new × (all_weight new < all_weight ss)
+-- an open item without links is let go
+let_go : (o : Opened) (part : Part) (at rest : List ℕ) (os : List Opened) (others ss : List Subtree) → stands (goes_on o.back rest) os ≡ Some others → opened o part ∷ others ≡ ss → at ≡ rest → part_links o.residual o.depth part ≡ []
+    → (new : List Subtree) × (stands (goes_on o.back at) os ≡ Some new) × (all_links ss ≡ all_links new) × (all_weight new < all_weight ss)
 let_go o part at rest os others ss behind all is nothing = (
   others,
   ap (λ l. stands (goes_on o.back l) os) is ∙ behind,
-  record {
-    arrivals = λ inside limit. ap (all_arrivals inside limit) (sym all) ∙ ap (λ z. z ++ all_arrivals inside limit others) (nothing inside limit);
-    deep = λ bound n. let m : NoDeeper bound (opened o part ∷ others) = subst (NoDeeper bound) (sym all) n in m.1;
-  },
+  ap all_links (sym all) ∙ ap (λ z. z ++ all_links others) nothing,
   (let t : all_weight ss ≡ part_weight part + all_weight others = ap all_weight (sym all) in let s = some_weight part in omega (arith, t, s)),
 ) where
   some_weight : (p : Part) → 0 < part_weight p
@@ -84,7 +63,7 @@ let_go o part at rest os others ss behind all is nothing = (
 
 -- nothing more was entered
 pub gone_none : (o : Opened) (c : Children) (at now : List ℕ) (os : List Opened) (ss : List Subtree) → IsNext o.residual o.depth o.children at None c now → stands at (o ∷ os) ≡ Some ss
-    → (new : List Subtree) × (stands (goes_on o.back now) os ≡ Some new) × Keeps ss new × (all_weight new < all_weight ss)
+    → (new : List Subtree) × (stands (goes_on o.back now) os ≡ Some new) × (all_links ss ≡ all_links new) × (all_weight new < all_weight ss)
 gone_none o c at now os ss next e =
     let a = open_apart at o os ss e in
     let g = next (a.part, a.rest) a.here in
@@ -92,7 +71,7 @@ gone_none o c at now os ss next e =
 
 -- no child is left
 pub spent_gone : (o : Opened) (at : List ℕ) (os : List Opened) (ss : List Subtree) → is_spent o.children ≡ true → stands at (o ∷ os) ≡ Some ss
-    → (new : List Subtree) × (stands (goes_on o.back at) os ≡ Some new) × Keeps ss new × (all_weight new < all_weight ss)
+    → (new : List Subtree) × (stands (goes_on o.back at) os ≡ Some new) × (all_links ss ≡ all_links new) × (all_weight new < all_weight ss)
 spent_gone o at os ss spent e =
     let a = open_apart at o os ss e in
     let s = spent_part o.children at (a.part, a.rest) spent a.here in
@@ -103,19 +82,19 @@ spent_gone o at os ss spent e =
 -- no link comes first, and what was left is left still
 pub record IsKept (old new : Trail) : Type 0 where
   pub next : new.next ≡ None
-  pub keeps : (ss : List Subtree) → trail_stands old ≡ Some ss → (more : List Subtree) × (trail_stands new ≡ Some more) × Keeps ss more
+  pub keeps : (ss : List Subtree) → trail_stands old ≡ Some ss → (more : List Subtree) × (trail_stands new ≡ Some more) × (all_links ss ≡ all_links more)
 
 -- and it is less
 pub record Steps (old new : Trail) : Type 0 where
   pub next : new.next ≡ None
-  pub on : (ss : List Subtree) → trail_stands old ≡ Some ss → (more : List Subtree) × (trail_stands new ≡ Some more) × Keeps ss more × (all_weight more < all_weight ss)
+  pub on : (ss : List Subtree) → trail_stands old ≡ Some ss → (more : List Subtree) × (trail_stands new ≡ Some more) × (all_links ss ≡ all_links more) × (all_weight more < all_weight ss)
 
 pub steps_kept : (first loop new : Trail) → IsKept first loop → Steps loop new → IsKept first new
 steps_kept first loop new kept steps = record {
   next = steps.next;
   keeps = λ ss e.
       let k = kept.keeps ss e in
-      let s = steps.on k.0 k.1 in (s.0, s.1, keeps_on ss k.0 s.0 k.2 s.2);
+      let s = steps.on k.0 k.1 in (s.0, s.1, k.2 ∙ s.2);
 }
 
 pub steps_lighter : (first loop new : Trail) → IsStanding first → IsKept first loop → Steps loop new → trail_weight new < trail_weight loop
@@ -175,8 +154,7 @@ link_found first loop mid new o n f rest kept then items pushed is same leaves =
       l.0,
       l.1,
       record {
-        arrivals = λ inside limit. k.2.arrivals inside limit ∙ g.2.arrivals inside limit ∙ ap (λ z. found_arrivals inside limit (Some f) ++ z) (l.2.arrivals inside limit);
-        deep = λ bound n. let m = g.2.deep bound (k.2.deep bound n) in (m.0, l.2.deep bound m.1);
+        links = k.2 ∙ g.2.links ∙ ap (λ z. f ∷ z) l.2;
         ends = tt;
       },
     )
@@ -188,8 +166,7 @@ next_taken old new f next then at_is stack_is = λ ss e.
       m.0,
       below new old.stack.items old.at m.0 then stack_is at_is m.1,
       record {
-        arrivals = λ inside limit. ap (all_arrivals inside limit) (sym m.2);
-        deep = λ bound n. let k : NoDeeper bound (found f ∷ m.0) = subst (NoDeeper bound) (sym m.2) n in (k.0, k.1);
+        links = ap all_links (sym m.2);
         ends = tt;
       },
     )

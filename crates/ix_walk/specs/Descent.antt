@@ -1,19 +1,19 @@
 -- What going into a block does.
-use Rattle.std.specs.Prelude.{◌≡◌, ℕ, ◌+◌, ◌<◌, ◌≤◌, Bool, true, false, List, [], ◌∷◌, ◌++◌, Option, Some, None, IfNone, Ok, if◌then◌else◌}
+use Rattle.std.specs.Prelude.{◌≡◌, ℕ, ◌+◌, ◌<◌, ◌≤◌, Bool, true, false, List, [], ◌∷◌, ◌++◌, Option, Some, None, IfNone, Ok}
 use Rattle.ix_cbor.specs.declared.front.Front.{Front}
 use Rattle.ix_cbor.specs.declared.front.Front.TheVariants as fronts
 use Rattle.ix_cbor.specs.Data.{Data}
 use Rattle.ix_cbor.specs.Reading.{item_at, key_at}
 use Rattle.ix_selector.specs.Enters.{Step}
-use Rattle.ix_selector.specs.Residual.{Place, residual_enters}
+use Rattle.ix_selector.specs.Residual.{Place}
 use Rattle.ix_walk.specs.declared.subtree.Children.{Children}
 use Rattle.ix_walk.specs.declared.subtree.Children.TheVariants.{Members, Values}
 use Rattle.ix_walk.specs.declared.subtree.Entered.{Entered}
 use Rattle.ix_walk.specs.declared.subtree.Entered.TheVariants.{Link, Open}
 use Rattle.ix_walk.specs.declared.subtree.Trail.{Trail}
 use Rattle.ix_walk.specs.declared.subtree.Found.{Found}
-use Rattle.ix_walk.specs.Arrivals.{Arrival, Inside}
-use Rattle.ix_walk.specs.Walking.{test_behind, reached_below, reached_part, reach_from, Part, part_weight, Subtree, subtree_arrivals, all_arrivals, found_arrivals, NoDeeper, FoundWithin, weight_of, all_weight, part_at, opened, found, trail_stands, subtrees}
+use Rattle.ix_selector.specs.Behind.{residual_behind}
+use Rattle.ix_walk.specs.Walking.{when_entered, links_below, Part, part_links, part_weight, Subtree, subtree_links, all_links, found_links, weight_of, all_weight, part_at, opened, trail_stands, subtrees}
 
 -- an item can be read here
 abbrev pub IsItem : List ℕ → Type 0
@@ -51,67 +51,53 @@ entered_by places (fronts.Bits64 bits) depth = None
 entered_by places (fronts.Bytes b) depth = None
 entered_by places (fronts.Text t) depth = None
 
--- at this depth a subtree has these arrivals, and isn't heavier than that
-pub record IsSubtree (arrivals : Inside → ℕ → List Arrival) (weight depth : ℕ) (s : Subtree) : Type 0 where
-  pub reaches : (inside : Inside) (limit : ℕ) → subtree_arrivals inside limit s ≡ arrivals inside limit
-  pub deep : s.depth ≡ depth
+-- a subtree has these links, and isn't heavier than that
+pub record IsSubtree (links : List Found) (weight : ℕ) (s : Subtree) : Type 0 where
+  pub reaches : subtree_links s ≡ links
   pub light : part_weight s.part ≤ weight
 
--- What was entered has these arrivals, and ends before the rest, where the walk now stands at these bytes. Where nothing
+-- What was entered has these links, and ends before the rest, where the walk now stands at these bytes. Where nothing
 -- was, there are none.
-abbrev pub Enters : (Inside → ℕ → List Arrival) → ℕ → ℕ → List ℕ → Option Entered → List ℕ → Type 0
-Enters arrivals weight depth rest None at = (at ≡ rest) × ((inside : Inside) (limit : ℕ) → arrivals inside limit ≡ [])
-Enters arrivals weight depth rest (Some (Link f)) at = (at ≡ rest) × IsSubtree arrivals weight depth (found f)
-Enters arrivals weight depth rest (Some (Open o)) at =
-    (o.back ≡ None) × (part : Part) × (part_at o.children at ≡ Some (part, rest)) × IsSubtree arrivals weight depth (opened o part)
+abbrev pub Enters : List Found → ℕ → List ℕ → Option Entered → List ℕ → Type 0
+Enters links weight rest None at = (at ≡ rest) × (links ≡ [])
+Enters links weight rest (Some (Link f)) at = (at ≡ rest) × (links ≡ f ∷ [])
+Enters links weight rest (Some (Open o)) at = (o.back ≡ None) × (part : Part) × (part_at o.children at ≡ Some (part, rest)) × IsSubtree links weight (opened o part)
 
--- the arrivals in a node, and in a child, if it is entered
-abbrev pub node_arrivals : List Place → Data → ℕ → Inside → ℕ → List Arrival
-node_arrivals places d depth inside limit = reached_below (reach_from inside limit depth) (residual_enters places) d
-
-abbrev pub child_arrivals : List Place → Step → Data → ℕ → Inside → ℕ → List Arrival
-child_arrivals places t d depth inside limit = if residual_enters places (t ∷ []) then reached_below (reach_from inside limit depth) (test_behind (residual_enters places) t) d else []
-
-abbrev pub part_arrivals : List Place → Part → ℕ → Inside → ℕ → List Arrival
-part_arrivals places part depth inside limit = reached_part (reach_from inside limit depth) (residual_enters places) part
+-- the links in a child behind a step, if it is entered
+abbrev pub child_links : List Place → Step → ℕ → Data → List Found
+child_links places t depth d = when_entered (residual_behind places t) (links_below (residual_behind places t) depth d)
 
 -- this was entered of the item that stands at some bytes
 abbrev pub IsNode : List Place → List ℕ → ℕ → Option Entered → List ℕ → Type 0
-IsNode places at depth o now = (d : Data) (rest : List ℕ) → item_at 512 at ≡ Ok (d, rest) → Enters (node_arrivals places d depth) (weight_of d) depth rest o now
+IsNode places at depth o now = (d : Data) (rest : List ℕ) → item_at 512 at ≡ Ok (d, rest) → Enters (links_below places depth d) (weight_of d) rest o now
 
 -- the same of a child behind a step
 abbrev pub IsChild : List Place → Step → List ℕ → ℕ → Option Entered → List ℕ → Type 0
-IsChild places t at depth o now = (d : Data) (rest : List ℕ) → item_at 512 at ≡ Ok (d, rest) → Enters (child_arrivals places t d depth) (weight_of d) depth rest o now
+IsChild places t at depth o now = (d : Data) (rest : List ℕ) → item_at 512 at ≡ Ok (d, rest) → Enters (child_links places t depth d) (weight_of d) rest o now
 
 -- A part is gone through to a child that was entered: what is behind that child, whose bytes end before the others.
 pub record IsGone (places : List Place) (depth : ℕ) (part : Part) (rest : List ℕ) (e : Entered) (children : Children) (now : List ℕ) : Type 0 where
-  pub first : Inside → ℕ → List Arrival
+  pub first : List Found
   pub weight : ℕ
   pub middle : List ℕ
   pub others : Part
-  pub entered : Enters first weight depth middle (Some e) now
+  pub entered : Enters first weight middle (Some e) now
   pub behind : part_at children middle ≡ Some (others, rest)
-  pub arrivals : (inside : Inside) (limit : ℕ) → part_arrivals places part depth inside limit ≡ first inside limit ++ part_arrivals places others depth inside limit
+  pub links : part_links places depth part ≡ first ++ part_links places depth others
   pub lighter : weight + part_weight others < part_weight part
 
 -- An open list or map is gone through to its next child that is entered, or to its end.
 abbrev pub IsNext : List Place → ℕ → Children → List ℕ → Option Entered → Children → List ℕ → Type 0
-IsNext places depth old at None new now = (x : Part × List ℕ) → part_at old at ≡ Some x → (now ≡ x.1) × ((inside : Inside) (limit : ℕ) → part_arrivals places x.0 depth inside limit ≡ [])
+IsNext places depth old at None new now = (x : Part × List ℕ) → part_at old at ≡ Some x → (now ≡ x.1) × (part_links places depth x.0 ≡ [])
 IsNext places depth old at (Some e) new now = (x : Part × List ℕ) → part_at old at ≡ Some x → IsGone places depth x.0 x.1 e new now
 
--- the same arrivals are left
-pub record Keeps (old new : List Subtree) : Type 0 where
-  pub arrivals : (inside : Inside) (limit : ℕ) → all_arrivals inside limit old ≡ all_arrivals inside limit new
-  pub deep : (bound : ℕ) → NoDeeper bound old → NoDeeper bound new
-
--- what has no arrival is let go
+-- what has no link is let go
 abbrev pub Leaves : Trail → Trail → Type 0
-Leaves old new = (ss : List Subtree) → trail_stands old ≡ Some ss → (more : List Subtree) × (trail_stands new ≡ Some more) × Keeps ss more
+Leaves old new = (ss : List Subtree) → trail_stands old ≡ Some ss → (more : List Subtree) × (trail_stands new ≡ Some more) × (all_links ss ≡ all_links more)
 
 -- the first link of what is left, or there is none
 pub record IsFound (old : List Subtree) (o : Option Found) (new : List Subtree) : Type 0 where
-  pub arrivals : (inside : Inside) (limit : ℕ) → all_arrivals inside limit old ≡ found_arrivals inside limit o ++ all_arrivals inside limit new
-  pub deep : (bound : ℕ) → NoDeeper bound old → FoundWithin bound o × NoDeeper bound new
+  pub links : all_links old ≡ found_links o ++ all_links new
   pub ends : IfNone o (new ≡ [])
 
 abbrev pub Finds : Trail → Option Found → Trail → Type 0

@@ -1,5 +1,5 @@
 -- What the index of a store says: a table of slots, and a tree behind it.
-use Rattle.std.specs.Prelude.{◌≡◌, ◌⊎◌, ℕ, zero, suc, ◌+◌, ◌-◌, ◌/◌, ◌^◌, ◌<◌, ◌≤◌, List, [], ◌∷◌, length, take, drop, nat_lt, if◌then◌else◌, Option, Some, None}
+use Rattle.std.specs.Prelude.{◌≡◌, ◌⊎◌, ℕ, zero, suc, ◌+◌, ◌-◌, ◌/◌, ◌^◌, ◌<◌, ◌≤◌, List, [], ◌∷◌, length, take, drop, nat_lt, if◌then◌else◌, Bool, false, ◌&&◌, ◌==◌, bytes_eq, slice_get, Option, Some, None}
 use Rattle.std.specs.BTreeMap.{get}
 use Rattle.std.specs.Cmp.Lexicographic.{slice_cmp}
 use Rattle.std.specs.Ordering.{nat_cmp}
@@ -9,6 +9,8 @@ use Rattle.ix_walk.specs.Store.{Blocks, HasDistinctCids, position_of}
 use Rattle.ix_walk.specs.declared.index.Slot.{Slot}
 use Rattle.ix_walk.specs.declared.index.Seat.{Seat}
 use Rattle.ix_walk.specs.declared.index.Seat.TheVariants.{Held, Open, Behind}
+use Rattle.ix_walk.specs.declared.index.Sight.{Sight}
+use Rattle.ix_walk.specs.declared.index.Sight.TheVariants.{At, Free, Full}
 use Rattle.ix_walk.specs.declared.index.Index.{Index}
 
 -- the number of a CID: its last eight bytes, the first the lowest; 0 for a shorter one
@@ -98,3 +100,18 @@ abbrev pub IsSeat : Index → Blocks → List ℕ → Seat → Type 0
 IsSeat index blocks c (Held place) = position_of blocks c ≡ Some place
 IsSeat index blocks c (Open slot) = (position_of blocks c ≡ None) × FindsFree index.slots.items (tail_of c) (length blocks) (Some slot)
 IsSeat index blocks c Behind = GoesBehind index.slots.items (tail_of c) (length blocks) × ((place : ℕ) → position_of blocks c ≡ Some place → place_behind index c ≡ Some place)
+
+-- a pair, if there is one, has this CID
+abbrev pub is_cid_of : Option (List ℕ × List ℕ) → List ℕ → Bool
+is_cid_of None c = false
+is_cid_of (Some e) c = bytes_eq e.0 c
+
+-- the pair at a place has this CID
+abbrev pub is_cid_at : Blocks → ℕ → List ℕ → Bool
+is_cid_at blocks place c = is_cid_of (slice_get blocks place) c
+
+-- what a look-up of a CID and its mark sees in these slots: the first place in them whose pair has the CID, if no free slot is before it
+abbrev pub sight_of : Blocks → List Slot → ℕ → List ℕ → Sight
+sight_of blocks [] mark c = Full
+sight_of blocks (slot ∷ slots) mark c =
+    if slot.end == 0 then Free else (if slot.mark == mark && is_cid_at blocks (slot.end - 1) c then At (slot.end - 1) else sight_of blocks slots mark c)

@@ -8,14 +8,17 @@ pub use Rattle.ix_selector.specs.PatternCode
 pub use Rattle.ix_selector.specs.Enters
 pub use Rattle.ix_selector.specs.IsEntered
 pub use Rattle.ix_selector.specs.Residual
+pub use Rattle.ix_selector.specs.Behind
 pub mod Store
 pub mod Index
 pub mod JobMeaning
 pub mod Job
 pub mod Arrivals
+pub mod Once
 pub mod Visits
 pub mod WalkLeft
 pub mod Walking
+pub mod Gone
 pub mod Descent
 pub mod Arriving
 pub mod Entry

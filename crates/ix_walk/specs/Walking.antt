@@ -1,67 +1,93 @@
 -- What a walk is about to give, from what it keeps.
-use Rattle.std.specs.Prelude.{◌≡◌, ℕ, zero, suc, ◌+◌, ◌-◌, ◌≤◌, Bool, true, false, List, [], ◌∷◌, ◌++◌, length, flat_map, reverse, take, Option, Some, None, option_map, option_and_then, Result, Ok, Err, nat_lt, ◌==◌, if◌then◌else◌}
+use Rattle.std.specs.Prelude.{◌≡◌, ℕ, zero, suc, ◌+◌, ◌-◌, ◌≤◌, Bool, true, false, List, [], ◌∷◌, ◌++◌, length, map, reverse, take, Option, Some, None, option_map, option_and_then, Result, Ok, Err, nat_lt, ◌==◌, ◌&&◌, ◌||◌, bytes_eq, if◌then◌else◌}
 use Rattle.ix_cbor.specs.Data as nodes
 use Rattle.ix_cbor.specs.Data.{Data, Items, Entries, null, boolean, integer, float, bytes, text, list, link, no_items, item, no_entries, entry}
 use Rattle.ix_cbor.specs.Reading.{Fault, ◌>>=◌, item_at, items_at, entries_at}
-use Rattle.ix_selector.specs.Enters.{Step, key, nth, Path}
+use Rattle.ix_selector.specs.Enters.{key, nth}
 use Rattle.ix_selector.specs.Pattern.{Pattern}
-use Rattle.ix_selector.specs.IsEntered.{is_entered}
-use Rattle.ix_selector.specs.Residual.{Place, residual_enters}
+use Rattle.ix_selector.specs.Residual.{Place}
+use Rattle.ix_selector.specs.Behind.{residual_of, residual_behind, same_residual}
 use Rattle.ix_walk.specs.declared.subtree.Children.{Children}
 use Rattle.ix_walk.specs.declared.subtree.Children.TheVariants.{Members, Values}
 use Rattle.ix_walk.specs.declared.subtree.Opened.{Opened}
 use Rattle.ix_walk.specs.declared.subtree.Trail.{Trail}
 use Rattle.ix_walk.specs.declared.subtree.Found.{Found}
-use Rattle.ix_walk.specs.Store.{Blocks}
-use Rattle.ix_walk.specs.Arrivals.{Arrival, Inside, when_some}
+use Rattle.ix_walk.specs.Store.{Blocks, value_of}
+use Rattle.ix_walk.specs.Arrivals.{Arrival}
+use Rattle.ix_walk.specs.Once.{sound_value}
 use Rattle.ix_walk.specs.Visits.{visits_from}
 use Rattle.ix_walk.specs.WalkLeft.{WalkLeft, nothing_left}
 
--- which paths are entered, each counted from the place where one stands
-abbrev pub Test : Type 0
-Test = Path → Bool
-
--- the same behind a step
-abbrev pub test_behind : Test → Step → Test
-test_behind enters t q = enters (t ∷ q)
-
--- an arrival with no root and no path, since a visit has neither
+-- An arrival with no root and no path, since a visit has neither.
 abbrev pub arrival : ℕ → List ℕ → Arrival
 arrival depth c = record { root = 0; path = []; depth = depth; cid = c }
 
--- what is arrived at through a link to a CID
-abbrev pub Reach : Type 0
-Reach = Test → List ℕ → List Arrival
+-- a link that waits to be arrived at: what is left of the selector there, its CID, and how many links were crossed
+abbrev pub waiting : List Place → ℕ → List ℕ → Found
+waiting places depth c = record { residual = places; cid = c; depth = depth }
 
-module _ (cross : Reach) where
-  abbrev mutual
-    -- the arrivals below a node, by paths relative to it
-    pub reached_below : Test → Data → List Arrival
-    reached_below enters null = []
-    reached_below enters (boolean b) = []
-    reached_below enters (integer n) = []
-    reached_below enters (float bits) = []
-    reached_below enters (bytes b) = []
-    reached_below enters (text t) = []
-    reached_below enters (list ds) = reached_in_items enters 0 ds
-    reached_below enters (nodes.map es) = reached_in_entries enters es
-    reached_below enters (link c) = cross enters c
+-- where nothing is left of a selector, nothing is entered
+abbrev pub when_entered : List Place → List Found → List Found
+when_entered [] links = []
+when_entered (x ∷ xs) links = links
 
-    pub reached_in_items : Test → ℕ → Items → List Arrival
-    reached_in_items enters n no_items = []
-    reached_in_items enters n (item d ds) =
-        (if enters (nth n ∷ []) then reached_below (test_behind enters (nth n)) d else []) ++ reached_in_items enters (n + 1) ds
+-- the links below a node at this depth, in preorder, where these places are left of the selector
+abbrev mutual
+  pub links_below : List Place → ℕ → Data → List Found
+  links_below places depth null = []
+  links_below places depth (boolean b) = []
+  links_below places depth (integer n) = []
+  links_below places depth (float bits) = []
+  links_below places depth (bytes b) = []
+  links_below places depth (text t) = []
+  links_below places depth (list ds) = links_in_items places depth 0 ds
+  links_below places depth (nodes.map es) = links_in_entries places depth es
+  links_below places depth (link c) = waiting places depth c ∷ []
 
-    pub reached_in_entries : Test → Entries → List Arrival
-    reached_in_entries enters no_entries = []
-    reached_in_entries enters (entry k d es) =
-        (if enters (key k ∷ []) then reached_below (test_behind enters (key k)) d else []) ++ reached_in_entries enters es
+  pub links_in_items : List Place → ℕ → ℕ → Items → List Found
+  links_in_items places depth n no_items = []
+  links_in_items places depth n (item d ds) =
+      when_entered (residual_behind places (nth n)) (links_below (residual_behind places (nth n)) depth d) ++ links_in_items places depth (n + 1) ds
 
--- the arrivals at and below a CID, where at most so many links are crossed
-abbrev pub reached_at : Inside → ℕ → ℕ → Reach
-reached_at inside zero depth enters c = arrival depth c ∷ []
-reached_at inside (suc links) depth enters c =
-    arrival depth c ∷ when_some (inside c) (λ d. reached_below (reached_at inside links (depth + 1)) enters d)
+  pub links_in_entries : List Place → ℕ → Entries → List Found
+  links_in_entries places depth no_entries = []
+  links_in_entries places depth (entry k d es) =
+      when_entered (residual_behind places (key k)) (links_below (residual_behind places (key k)) depth d) ++ links_in_entries places depth es
+
+-- those in the data of a CID, if there are any
+abbrev pub links_inside : List Place → ℕ → Option Data → List Found
+links_inside places depth None = []
+links_inside places depth (Some d) = links_below places depth d
+
+-- what was gone into: CIDs, each with what was left of the selector there
+abbrev pub Going : Type 0
+Going = List ℕ → List Place → Bool
+
+abbrev pub nothing_gone : Going
+nothing_gone c places = false
+
+-- this, and what was gone into before
+abbrev pub gone_also : List ℕ → List Place → Going → Going
+gone_also c places gone d others = (bytes_eq c d && same_residual places others) || gone d others
+
+-- The data that are gone into at a link, if any: at every link those of its CID, or where it is kept what was gone into,
+-- those of a sound block into which the walk has not gone with what is left of the selector there.
+abbrev pub data_inside : Blocks → Option Going → Found → Option Data
+data_inside store None f = value_of store f.cid
+data_inside store (Some gone) f = if gone f.cid f.residual then None else sound_value store f.cid
+
+-- what was gone into behind a link
+abbrev pub gone_behind : Option Data → Found → Option Going → Option Going
+gone_behind inside f None = None
+gone_behind None f (Some gone) = Some gone
+gone_behind (Some d) f (Some gone) = Some (gone_also f.cid f.residual gone)
+
+-- The first so many arrivals where these links wait: one is arrived at, and then the links below it wait before the others.
+abbrev pub first_arrivals : Blocks → Option Going → ℕ → List Found → List Arrival
+first_arrivals store had zero links = []
+first_arrivals store had (suc n) [] = []
+first_arrivals store had (suc n) (f ∷ links) =
+    arrival f.depth f.cid ∷ first_arrivals store (gone_behind (data_inside store had f) f had) n (links_inside f.residual (f.depth + 1) (data_inside store had f) ++ links)
 
 -- what is left of a subtree: a link, the members of a list from a place on, or the values of a map
 pub data Part : Type 0 where
@@ -69,14 +95,10 @@ pub data Part : Type 0 where
   members : ℕ → Items → Part
   values : Entries → Part
 
-abbrev pub reached_part : Reach → Test → Part → List Arrival
-reached_part cross enters (to_cid c) = cross enters c
-reached_part cross enters (members n ds) = reached_in_items cross enters n ds
-reached_part cross enters (values es) = reached_in_entries cross enters es
-
--- through a link, where one stands at this depth
-abbrev pub reach_from : Inside → ℕ → ℕ → Reach
-reach_from inside limit depth = reached_at inside (limit - depth) depth
+abbrev pub part_links : List Place → ℕ → Part → List Found
+part_links places depth (to_cid c) = waiting places depth c ∷ []
+part_links places depth (members n ds) = links_in_items places depth n ds
+part_links places depth (values es) = links_in_entries places depth es
 
 -- a subtree of which something is left: what the selector enters there, and how many links were crossed
 pub record Subtree : Type 0 where
@@ -84,27 +106,18 @@ pub record Subtree : Type 0 where
   pub part : Part
   pub depth : ℕ
 
--- the arrivals in it
-abbrev pub subtree_arrivals : Inside → ℕ → Subtree → List Arrival
-subtree_arrivals inside limit s = reached_part (reach_from inside limit s.depth) (residual_enters s.places) s.part
+-- the links in it
+abbrev pub subtree_links : Subtree → List Found
+subtree_links s = part_links s.places s.depth s.part
 
 -- those of many, one after the other
-abbrev pub all_arrivals : Inside → ℕ → List Subtree → List Arrival
-all_arrivals inside limit [] = []
-all_arrivals inside limit (s ∷ ss) = subtree_arrivals inside limit s ++ all_arrivals inside limit ss
+abbrev pub all_links : List Subtree → List Found
+all_links [] = []
+all_links (s ∷ ss) = subtree_links s ++ all_links ss
 
-abbrev pub found_arrivals : Inside → ℕ → Option Found → List Arrival
-found_arrivals inside limit None = []
-found_arrivals inside limit (Some f) = reach_from inside limit f.depth (residual_enters f.residual) f.cid
-
--- nothing that is left lies deeper
-abbrev pub NoDeeper : ℕ → List Subtree → Type 0
-NoDeeper depth [] = Unit {0}
-NoDeeper depth (s ∷ ss) = (s.depth ≤ depth) × NoDeeper depth ss
-
-abbrev pub FoundWithin : ℕ → Option Found → Type 0
-FoundWithin depth None = Unit {0}
-FoundWithin depth (Some f) = f.depth ≤ depth
+abbrev pub found_links : Option Found → List Found
+found_links None = []
+found_links (Some f) = f ∷ []
 
 abbrev mutual
   -- how often a node can be taken apart
@@ -190,23 +203,35 @@ or_nil (Some ss) = ss
 abbrev pub subtrees : Trail → List Subtree
 subtrees t = or_nil (trail_stands t)
 
--- the arrivals from roots at which the walk has not arrived
-abbrev pub root_arrivals : Pattern → Inside → ℕ → List (List ℕ) → List Arrival
-root_arrivals selector inside limit roots = flat_map (reached_at inside limit 0 (is_entered selector)) roots
+-- a root at which the walk has not arrived
+abbrev pub root_link : Pattern → List ℕ → Found
+root_link selector c = waiting (residual_of selector) 0 c
 
--- what a walk has still to arrive at: what its trail has left, and behind it the other roots
-abbrev pub arrivals_left : Pattern → Inside → ℕ → List Subtree → List (List ℕ) → List Arrival
-arrivals_left selector inside limit ss roots = all_arrivals inside limit ss ++ root_arrivals selector inside limit roots
+-- the links that wait: those of the trail, and behind them the other roots
+abbrev pub links_left : Pattern → List Subtree → List (List ℕ) → List Found
+links_left selector ss roots = all_links ss ++ map (root_link selector) roots
 
-abbrev pub walk_left : Blocks → ℕ → ℕ → ℕ → List Arrival → Bool → WalkLeft
-walk_left store number limit given arrivals true = nothing_left
-walk_left store number limit given arrivals false =
+-- what a walk that has given so many visits has still to give, where these links wait: as many arrivals as the limit
+-- leaves it, and whether there is one more
+abbrev pub walk_left : Blocks → ℕ → ℕ → ℕ → Option Going → List Found → Bool → WalkLeft
+walk_left store number limit given had links true = nothing_left
+walk_left store number limit given had links false =
+    let arrivals = first_arrivals store had (suc (limit - given)) links in
     record { visits = visits_from store number given (take (limit - given) arrivals); limited = nat_lt (limit - given) (length arrivals); ended = false }
 
 -- what is left can be gone through
 abbrev pub IsStanding : Trail → Type 0
 IsStanding t = (ss : List Subtree) × (trail_stands t ≡ Some ss)
 
--- what a walk keeps: nothing is left deeper than there are visits given, and these are within the limit
+-- the depth of each link is such
+abbrev pub HaveDepths : (ℕ → Type 0) → List Found → Type 0
+HaveDepths P [] = Unit {0}
+HaveDepths P (f ∷ links) = P f.depth × HaveDepths P links
+
+-- no link lies deeper
+abbrev pub NoDeeper : ℕ → List Found → Type 0
+NoDeeper depth links = HaveDepths (λ d. d ≤ depth) links
+
+-- what a walk keeps: no link that waits lies deeper than there are visits given, and these are within the limit
 abbrev pub IsWalk : ℕ → ℕ → Trail → Type 0
-IsWalk limit given t = (given ≤ limit) × (ss : List Subtree) × (trail_stands t ≡ Some ss) × NoDeeper given ss
+IsWalk limit given t = (given ≤ limit) × (ss : List Subtree) × (trail_stands t ≡ Some ss) × NoDeeper given (all_links ss)

@@ -1,16 +1,20 @@
 //! Arriving at a link.
 
-ghost use Rattle.std.specs.Prelude.{◌≡◌, ◌+◌, ◌<◌, ◌^◌, IfOk, IfSome, OnOk, None, option_map, is_none};
+ghost use Rattle.std.specs.Prelude.{◌≡◌, ℕ, ◌+◌, ◌<◌, ◌^◌, IfOk, IfSome, OnOk, None, option_map, is_none};
 ghost use Rattle.ix_cbor.specs.Reading.{data_at};
-ghost use Rattle.ix_walk.specs.Store.{position_of, bytes_of};
+ghost use Rattle.ix_cid.specs.Cid.{parts_of, digest_of, hash_function_of};
+ghost use Rattle.ix_walk.specs.Store.{position_of, bytes_of, block_of, value_of};
+ghost use Rattle.ix_walk.specs.Once.{is_sound_by};
+ghost use Rattle.ix_walk.specs.Gone.{going_of};
 ghost use Rattle.ix_walk.specs.Descent.{IsItem};
-ghost use Rattle.ix_walk.specs.Arriving.{IsReading, Roots, Arrives, FindsNext, Takes};
-ghost use Rattle.ix_walk.specs.Walking.{IsStanding, IsWalk};
+ghost use Rattle.ix_walk.specs.Arriving.{IsValue, IsReading, Goes, Roots, Arrives, FindsNext, Takes};
+ghost use Rattle.ix_walk.specs.Walking.{waiting, IsStanding, IsWalk};
 
 use crate::ahead::Ahead;
 use crate::descent::{next_found, node_at};
 use crate::entry::has_fault;
 use crate::fault::WalkStop;
+use crate::gone::Gone;
 use crate::job::Job;
 use crate::store::Store;
 use crate::subtree::{Entered, Found, Trail};
@@ -63,6 +67,54 @@ fn read_block<'a>(
     }
 }
 
+// Whether the bytes that a CID names are true to it: those that it holds itself, and those of a block that has its digest.
+fn is_sound(store: &Store, cid: &Cid, block: Option<usize>) -> bool
+    requires { block ≡ position_of store.now cid.now }
+    ensures { result ≡ is_sound_by (hash_function_of (parts_of cid.now)) (digest_of cid.now) (block_of store.now cid.now) }
+{
+    let parts = cid.parts();
+    let Some(function) = parts.hash_function() else {
+        return false;
+    };
+    match function {
+        HashFunction::Identity => true,
+        HashFunction::Sha2_256 | HashFunction::Sha2_512 => match block {
+            None => false,
+            Some(place) => store.agrees(place),
+        },
+    }
+}
+
+// The bytes into which a walk goes of those that a CID names: all of them, or those that are sound where it keeps what it
+// has gone into and has not gone into this with what is left of the selector. That it now has is then kept.
+fn goes_into<'a>(
+    alloc: Global,
+    store: &'a Store,
+    gone: &mut Option<Gone<'a>>,
+    cid: &Cid,
+    block: Option<usize>,
+    residual: &Residual<'a>,
+    bytes: Option<Ahead<'a>>,
+) -> Result<Option<Ahead<'a>>, AllocError>
+    requires block { block ≡ position_of store.now cid.now }
+    requires value { IsValue (value_of store.now cid.now) bytes }
+    requires item { IfSome bytes (λ b. IsItem b) }
+    ensures goes { (depth : ℕ) → IfOk result (λ b. Goes store.now (waiting residual.now depth cid.now) (going_of store.now gone.old) b (going_of store.now gone.new)) }
+    ensures item { IfOk result (λ o. IfSome o (λ b. IsItem b)) }
+{
+    let Some(gone) = gone else {
+        return Ok(bytes);
+    };
+    let Some(bytes) = bytes else {
+        return Ok(None);
+    };
+    if !is_sound(store, cid, block) {
+        return Ok(None);
+    }
+    let is_first = gone.note(alloc, cid, block, residual)?;
+    if is_first { Ok(Some(bytes)) } else { Ok(None) }
+}
+
 // Goes into a block, if there is one: to its first child, or to the link that it is.
 fn enter_block<'a>(
     alloc: Global,
@@ -97,11 +149,12 @@ fn arrive<'a>(
     number: u32,
     seq: u32,
     found: Found<'a>,
+    gone: &mut Option<Gone<'a>>,
     trail: &mut Trail<'a>,
 ) -> Result<Visit, AllocError>
     requires depth { found.depth + 1 < 2 ^ 32 }
     requires next { trail.old.next ≡ None }
-    ensures { IfOk result (λ v. Arrives store.now number seq found.entry trail.old v trail.new) }
+    ensures { IfOk result (λ v. Arrives store.now number seq found.entry (going_of store.now gone.old) trail.old v (going_of store.now gone.new) trail.new) }
 {
     let Found {
         residual,
@@ -111,6 +164,7 @@ fn arrive<'a>(
     let cid = at.to_cid(alloc)?;
     let block = store.find(&cid);
     let (bytes, malformed) = read_block(store, &at, block);
+    let bytes = goes_into(alloc, store, gone, &cid, block, &residual, bytes)?;
     enter_block(alloc, trail, residual, bytes, depth + 1)?;
     Ok(Visit {
         job: number,
@@ -155,11 +209,12 @@ pub(crate) fn take_next<'a>(
     job: &'a Job,
     number: u32,
     given: u32,
+    gone: &mut Option<Gone<'a>>,
     trail: &mut Trail<'a>,
     roots: &mut &'a [Cid],
 ) -> Result<Option<Visit>, WalkStop>
     requires { IsWalk job.now.limit given trail.old }
-    ensures takes { Takes store.now number job.now.limit given job.now.selector trail.old roots.old.now result trail.new roots.new.now }
+    ensures takes { Takes store.now number job.now.limit given job.now.selector (going_of store.now gone.old) trail.old roots.old.now result (going_of store.now gone.new) trail.new roots.new.now }
     ensures within { IfOk result (λ o. IfSome o (λ _. given < 1000000)) }
 {
     let Some(found) = next_arrival(alloc, job, trail, roots)? else {
@@ -168,6 +223,6 @@ pub(crate) fn take_next<'a>(
     if given == job.limit() {
         return Err(WalkStop::Limit);
     }
-    let visit = arrive(alloc, store, number, given, found, trail)?;
+    let visit = arrive(alloc, store, number, given, found, gone, trail)?;
     Ok(Some(visit))
 }

@@ -7,26 +7,32 @@
 //! to one slot. So a look-up goes through a bounded number of slots, and what finds none of them free goes to a tree
 //! over whole CIDs.
 
-ghost use Rattle.std.specs.Prelude.{◌≡◌, ◌↔◌, ◌++◌, List, [], ◌∷◌, map, ◌-◌, ◌^◌, ◌<◌, Option, Some, true, false, not, IsTrue, IfOk, OnErr, ℕ, bytes_eq, if◌then◌else◌};
+ghost use Rattle.std.specs.Prelude.{◌≡◌, ◌↔◌, ◌++◌, List, [], ◌∷◌, map, ◌-◌, ◌^◌, ◌<◌, Option, Some, true, false, not, IsTrue, IfOk, IfSome, OnErr, ℕ, bytes_eq, if◌then◌else◌, ◌≤◌};
 ghost use Rattle.std.specs.Option.{unwrap_or};
 ghost use Rattle.ix_walk.specs.Entry.{content};
 ghost use Rattle.ix_walk.specs.Store.{has_cid, position_of, HasDistinctCids};
-ghost use Rattle.ix_walk.specs.Index.{tail_of, mark_of, first_of, window_of, Has, HasPlace, place_behind, Comes, AreLedTo, IsIndexed, FindsFree, IsSeat};
+ghost use Rattle.ix_walk.specs.Index.{tail_of, mark_of, first_of, window_of, Has, HasPlace, place_behind, Comes, AreLedTo, IsIndexed, FindsFree, IsSeat, is_cid_at, sight_of};
 
 use crate::entry::Entry;
+use crate::filling::filled;
 use ix_cid::Cid;
 use std::alloc::{AllocError, Global};
 use std::collections::BTreeMap;
+use std::thread::Threads;
 
 // How many slots a look-up goes through at most.
-const PROBES: usize = 8;
+pub(crate) const PROBES: usize = 8;
 
 // At how many slots a look-up may begin in the smallest table: a power of two, as in each larger one, so that a mask
 // of a number comes to each of them.
 const LEAST_STARTS: usize = 64;
 
 // How many places slots can have. Those behind them go to the tree.
-const MOST_PLACES: usize = 0xffff_ffff;
+pub(crate) const MOST_PLACES: usize = 0xffff_ffff;
+
+// Of how many entries one may go to the tree of an index that threads make. Of two hundred one does, where CIDs are honest
+// and half of the slots are taken.
+const FEW_BEHIND: usize = 64;
 
 // A slot of the table, in eight bytes: free, or the mark of a CID and the place of its entry.
 #[derive(Clone, Copy)]
@@ -37,10 +43,10 @@ pub(crate) struct Slot {
 }
 
 impl Slot {
-    const FREE: Slot = Slot { mark: 0, end: 0 };
+    pub(crate) const FREE: Slot = Slot { mark: 0, end: 0 };
 
     // The slot of a place under a number.
-    fn taken(tail: u64, place: usize) -> Slot
+    pub(crate) fn taken(tail: u64, place: usize) -> Slot
         requires { place < 2 ^ 32 - 1 }
         ensures { Has result (mark_of tail) place }
     {
@@ -51,7 +57,7 @@ impl Slot {
     }
 
     // The place in a slot, unless it is free.
-    fn place(self) -> Option<usize>
+    pub(crate) fn place(self) -> Option<usize>
         ensures { HasPlace self result }
     {
         match self.end {
@@ -67,6 +73,15 @@ pub(crate) enum Seat {
     Held(usize),
     Open(usize),
     Behind,
+}
+
+// What a look-up of a CID sees in the slots through which it goes: the place of an entry with this CID, a free slot before
+// one, or neither.
+#[derive(Clone, Copy)]
+pub(crate) enum Sight {
+    At(usize),
+    Free,
+    Full,
 }
 
 // A table of slots, and a tree behind it for the CIDs that found no free slot, or whose place no slot can have. What
@@ -86,6 +101,47 @@ impl Index {
             slots: Vec::new(alloc),
             behind: BTreeMap::new(alloc),
         }
+    }
+
+    // The index of these entries, whose slots several threads fill. There is none where two entries have one CID, or
+    // where more than a few find no free slot: no thread serves the tree.
+    pub(crate) fn by_threads<R: Threads + Sync>(
+        rt: &R,
+        alloc: Global,
+        entries: &[Entry],
+        threads: usize,
+    ) -> Result<Option<Index>, AllocError>
+        ensures { IfOk result (λ found. IfSome found (λ index. IsIndexed index (map (λ e. (e.cid, content e.block)) entries.now))) }
+    {
+        let slots = filled(rt, alloc, entries, threads)?;
+        let index = Index {
+            slots,
+            behind: BTreeMap::new(alloc),
+        };
+        index.covering(alloc, entries)
+    }
+
+    // The same index, once the look-up of each entry was seen to come to its place. What finds none of its slots free
+    // goes to the tree.
+    fn covering(mut self, alloc: Global, entries: &[Entry]) -> Result<Option<Index>, AllocError>
+        requires { (c : List ℕ) → place_behind self c ≡ None }
+        ensures { IfOk result (λ found. IfSome found (λ index. IsIndexed index (map (λ e. (e.cid, content e.block)) entries.now))) }
+    {
+        let mut left = entries.len() / FEW_BEHIND;
+        for (place, entry) in entries.iter().enumerate() {
+            match look(self.slots.as_slice(), entries, &entry.cid) {
+                Sight::At(other) if other == place => {}
+                Sight::Full if left > 0 => {
+                    left -= 1;
+                    let stood = self.put_behind(alloc, &entry.cid, place)?;
+                    if stood != place {
+                        return Ok(None);
+                    }
+                }
+                _ => return Ok(None),
+            }
+        }
+        Ok(Some(self))
     }
 
     // The index with room for one entry more: its table is doubled where half of its slots may be taken.
@@ -248,6 +304,45 @@ fn free_slot(slots: &[Slot], tail: u64, place: usize) -> Option<usize>
     None
 }
 
+// What the look-up of a CID sees in a table.
+fn look(slots: &[Slot], entries: &[Entry], cid: &Cid) -> Sight
+    ensures { result ≡ sight_of (map (λ e. (e.cid, content e.block)) entries.now) (window_of slots.now (tail_of cid.now)) (mark_of (tail_of cid.now)) cid.now }
+{
+    let tail = tail_of(cid);
+    let mark = mark_of(tail);
+    let (_, window) = window(slots, tail);
+    for slot in window {
+        let Some(place) = slot.place() else {
+            return Sight::Free;
+        };
+        if slot.mark == mark && is_cid_at(entries, place, cid) {
+            return Sight::At(place);
+        }
+    }
+    Sight::Full
+}
+
+// Whether an entry at a place has this CID.
+fn is_cid_at(entries: &[Entry], place: usize, cid: &Cid) -> bool
+    ensures { result ≡ is_cid_at (map (λ e. (e.cid, content e.block)) entries.now) place cid.now }
+{
+    match entries.get(place) {
+        Some(Entry { cid: other, .. }) => *other == *cid,
+        None => false,
+    }
+}
+
+// At how many slots a look-up may begin in a table for so many entries: at twice as many, or more.
+pub(crate) fn starts_for(count: usize) -> usize
+    ensures { 64 ≤ result }
+{
+    count
+        .saturating_mul(2)
+        .max(LEAST_STARTS)
+        .checked_next_power_of_two()
+        .unwrap_or(LEAST_STARTS)
+}
+
 // The mark of a number: its upper half.
 fn mark_of(tail: u64) -> u32
     ensures { result ≡ mark_of tail }
@@ -256,7 +351,7 @@ fn mark_of(tail: u64) -> u32
 }
 
 // The number of a CID.
-fn tail_of(cid: &Cid) -> u64
+pub(crate) fn tail_of(cid: &Cid) -> u64
     ensures { result ≡ tail_of cid.now }
 {
     match cid.as_bytes().split_last_chunk() {

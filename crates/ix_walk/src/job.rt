@@ -1,8 +1,8 @@
 //! Jobs.
 
-ghost use Rattle.std.specs.Prelude.{◌≡◌, ◌≤◌, Some, None, IfOk, IfErr, OnOk, string_bytes};
+ghost use Rattle.std.specs.Prelude.{◌≡◌, ◌≤◌, true, false, Some, None, IfOk, IfErr, OnOk, string_bytes};
 ghost use Rattle.ix_walk.specs.Job.{JobMeaning, job_fault};
-ghost use Rattle.ix_walk.specs.JobMeaning.{is_name, is_name_byte};
+ghost use Rattle.ix_walk.specs.JobMeaning.{going_in, is_name, is_name_byte};
 
 use crate::fault::JobFault;
 use ix_cid::Cid;
@@ -25,6 +25,7 @@ pub struct Job {
     roots: Vec<Cid>,
     selector: Selector,
     limit: u32,
+    once: bool,
 }
 
 impl Model for Job {
@@ -35,9 +36,9 @@ impl Model for Job {
 
     ghost coded = { coded_job };
 
-    ghost view = { λ j. record { name = string_bytes j.name; roots = j.roots.items; selector = j.selector; limit = j.limit } };
+    ghost view = { λ j. record { name = string_bytes j.name; roots = j.roots.items; selector = j.selector; limit = j.limit; once = j.once } };
 
-    ghost invariant = { λ j. IsJob (record { name = string_bytes j.name; roots = j.roots.items; selector = j.selector; limit = j.limit }) };
+    ghost invariant = { λ j. IsJob (record { name = string_bytes j.name; roots = j.roots.items; selector = j.selector; limit = j.limit; once = j.once }) };
 }
 
 impl Job {
@@ -48,7 +49,7 @@ impl Job {
         selector: Selector,
         limit: u32,
     ) -> Result<Job, JobFault>
-        ensures ok { IfOk result (λ j. j ≡ record { name = string_bytes name; roots = roots.items; selector = selector; limit = limit }) }
+        ensures ok { IfOk result (λ j. j ≡ record { name = string_bytes name; roots = roots.items; selector = selector; limit = limit; once = false }) }
         ensures fits { OnOk result (job_fault (string_bytes name) roots.items limit ≡ None) }
         ensures fault { IfErr result (λ e. job_fault (string_bytes name) roots.items limit ≡ Some e) }
     {
@@ -72,7 +73,17 @@ impl Job {
             roots,
             selector,
             limit,
+            once: false,
         })
+    }
+
+    /// The same job, whose walk goes into a CID the first time that it is arrived at with what is
+    /// then left of the selector, and only where its block is sound. A later arrival is a visit like
+    /// any other, with nothing below it.
+    pub fn once(self) -> Job
+        ensures { result ≡ going_in true self }
+    {
+        Job { once: true, ..self }
     }
 
     /// The name.
@@ -94,6 +105,13 @@ impl Job {
         ensures { result.now ≡ self.now.selector }
     {
         &self.selector
+    }
+
+    /// Whether its walk goes into a CID once, and not at every arrival.
+    pub fn goes_once(&self) -> bool
+        ensures { result ≡ self.now.once }
+    {
+        self.once
     }
 
     /// How many visits a walk gives at most.

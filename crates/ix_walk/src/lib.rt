@@ -20,12 +20,16 @@
 
 mod ahead;
 mod arriving;
+mod builder;
 mod descent;
 mod digest;
 mod entry;
 mod fault;
+mod filling;
+mod gone;
 mod index;
 mod job;
+pub mod law;
 mod mark_rule;
 mod marks;
 mod store;
@@ -33,6 +37,7 @@ mod subtree;
 mod visit;
 mod walk;
 
+pub use builder::StoreBuilder;
 pub use fault::{JobFault, WalkStop};
 pub use job::{GREATEST_LIMIT, Job, MOST_ROOTS, is_name};
 pub use store::Store;

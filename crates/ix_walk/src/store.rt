@@ -3,6 +3,7 @@
 ghost use Rattle.std.specs.Prelude.{◌≡◌, ◌<◌, [], ◌∷◌, ◌++◌, length, map, take, drop, slice_get, Some, true, false, IfOk, OnOk, OnErr, not, ◌==◌};
 ghost use Rattle.std.specs.Arc.{arc_value};
 ghost use Rattle.ix_walk.specs.Entry.{content};
+ghost use Rattle.ix_walk.specs.Index.{IsIndexed};
 ghost use Rattle.ix_walk.specs.Mark.{agrees, is_faulty};
 ghost use Rattle.ix_walk.specs.Store.{has_cid, with_block, position_of};
 
@@ -47,6 +48,19 @@ impl Store {
             alloc,
             entries: Vec::new(alloc),
             index: Index::new(alloc),
+            marks: None,
+        }
+    }
+
+    // The store of these entries, of which this is the index.
+    pub(crate) fn of_entries(alloc: Global, entries: Vec<Entry>, index: Index) -> Store
+        requires { IsIndexed index (map (λ e. (e.cid, content e.block)) entries.items) }
+        ensures { result ≡ map (λ e. (e.cid, content e.block)) entries.items }
+    {
+        Store {
+            alloc,
+            entries,
+            index,
             marks: None,
         }
     }

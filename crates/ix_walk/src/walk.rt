@@ -5,11 +5,13 @@ ghost use Rattle.ix_walk.specs.Visits.{visits_of, is_over_limit};
 
 use crate::arriving::take_next;
 use crate::fault::WalkStop;
+use crate::gone::Gone;
 use crate::job::Job;
 use crate::store::Store;
 use crate::subtree::Trail;
 use crate::visit::Visit;
 use ix_cid::Cid;
+use ix_selector::law::{residual_is_the_rest, selector_is_one};
 use std::alloc::{AllocError, Global};
 use std::marker::Model;
 
@@ -21,6 +23,8 @@ pub struct Walk<'a> {
     job: &'a Job,
     number: u32,
     given: u32,
+    // What it has gone into, where it goes into a CID once.
+    gone: Option<Gone<'a>>,
     trail: Trail<'a>,
     // The roots at which the walk has not arrived.
     roots: &'a [Cid],
@@ -32,10 +36,10 @@ impl<'a> Model for Walk<'a> {
 
     ghost Value = { WalkLeft };
 
-    ghost use Rattle.ix_walk.specs.Store.{value_of};
-    ghost use Rattle.ix_walk.specs.Walking.{walk_left, arrivals_left, subtrees, IsWalk};
+    ghost use Rattle.ix_walk.specs.Gone.{going_of};
+    ghost use Rattle.ix_walk.specs.Walking.{walk_left, links_left, subtrees, IsWalk};
 
-    ghost view = { λ w. walk_left w.store.now w.number w.job.now.limit w.given (arrivals_left w.job.now.selector (value_of w.store.now) w.job.now.limit (subtrees w.trail) w.roots.now) w.ended };
+    ghost view = { λ w. walk_left w.store.now w.number w.job.now.limit w.given (going_of w.store.now w.gone) (links_left w.job.now.selector (subtrees w.trail) w.roots.now) w.ended };
 
     ghost invariant = { λ w. IsWalk w.job.now.limit w.given w.trail };
 }
@@ -53,12 +57,20 @@ impl<'a> Walk<'a> {
     ) -> Result<Walk<'a>, AllocError>
         ensures { IfOk result (λ w. w ≡ record { visits = visits_of store.now number job.now; limited = is_over_limit store.now job.now; ended = false }) }
     {
+        let gone = if job.goes_once() {
+            Some(Gone::new(alloc))
+        } else {
+            None
+        };
+        residual_is_the_rest();
+        selector_is_one(job.selector());
         Ok(Walk {
             alloc,
             store,
             job,
             number,
             given: 0,
+            gone,
             trail: Trail::new(alloc),
             roots: job.roots(),
             ended: false,
@@ -86,6 +98,7 @@ impl<'a> Iterator for Walk<'a> {
             self.job,
             self.number,
             self.given,
+            &mut self.gone,
             &mut self.trail,
             &mut self.roots,
         ) {

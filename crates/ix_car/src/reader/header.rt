@@ -3,12 +3,15 @@
 ghost use Rattle.std.specs.Prelude.{◌≡◌, ◌<◌, ◌≤◌, map, length, option_map, IfOk, IfErr, Some};
 ghost use Rattle.ix_cbor.specs.Data.{data_of, items_of, entry_of, entries_of};
 ghost use Rattle.ix_cbor.specs.Reading.{data_at};
+ghost use Rattle.ix_car.specs.declared.fault.CarKind.TheVariants.{Memory};
 ghost use Rattle.ix_car.specs.Reading.{value_at, are_links, has_roots, version_fault, header_fault, header_at};
 ghost use Rattle.ix_car.specs.Reads.{ReadsOrRunsOut, IsEnd};
+ghost use Rattle.ix_car.specs.Sections.{links_in, links_of, roots_in, roots_of};
 
 use crate::fault::CarKind;
 use crate::reader::section::{Stop, text_at};
 use ix_cbor::{CborKind, Node, Tree, decode};
+use ix_cid::Cid;
 use std::alloc::{AllocError, Global};
 
 // The bytes behind the header.
@@ -111,4 +114,59 @@ fn tree_of(alloc: Global, block: &[u8]) -> Result<Option<Tree>, AllocError>
             _ => Ok(None),
         },
     }
+}
+
+// The roots of a file whose header is good.
+pub(super) fn roots_at(alloc: Global, bytes: &[u8]) -> Result<Vec<Cid>, Stop>
+    ensures roots { IfOk result (λ roots. roots.items ≡ roots_of bytes.now) }
+    ensures memory { IfErr result (λ stop. (stop.kind ≡ Memory) × (stop.left ≤ length bytes.now)) }
+{
+    let Ok((text, _)) = text_at(bytes) else {
+        return Ok(Vec::new(alloc));
+    };
+    match roots_of_header(alloc, text) {
+        Ok(roots) => Ok(roots),
+        Err(_) => Err(Stop::at(CarKind::Memory, bytes)),
+    }
+}
+
+// The roots that a header names.
+fn roots_of_header(alloc: Global, text: &[u8]) -> Result<Vec<Cid>, AllocError>
+    ensures { IfOk result (λ roots. roots.items ≡ roots_in (data_at text.now)) }
+{
+    match tree_of(alloc, text)? {
+        Some(tree) => roots_of_root(alloc, tree.root()),
+        None => Ok(Vec::new(alloc)),
+    }
+}
+
+fn roots_of_root(alloc: Global, root: &Node) -> Result<Vec<Cid>, AllocError>
+    ensures { IfOk result (λ roots. roots.items ≡ roots_in (Some (data_of root.now))) }
+{
+    match root {
+        Node::Map(entries) => links_of(alloc, value_at(entries.as_slice(), b"roots")),
+        _ => Ok(Vec::new(alloc)),
+    }
+}
+
+// The CIDs of the links in a value that is a list.
+fn links_of(alloc: Global, value: Option<&Node>) -> Result<Vec<Cid>, AllocError>
+    ensures { IfOk result (λ links. links.items ≡ links_of (option_map (λ node. data_of node.now) value.entry)) }
+{
+    match value {
+        Some(Node::List(nodes)) => links_in(alloc, nodes.as_slice()),
+        _ => Ok(Vec::new(alloc)),
+    }
+}
+
+fn links_in(alloc: Global, nodes: &[Node]) -> Result<Vec<Cid>, AllocError>
+    ensures { IfOk result (λ links. links.items ≡ links_in (items_of (map data_of nodes.now))) }
+{
+    let mut links = Vec::new(alloc);
+    for node in nodes {
+        if let Node::Link(cid) = node {
+            links.push(cid.try_clone(alloc)?)?;
+        }
+    }
+    Ok(links)
 }

@@ -1,7 +1,16 @@
+use Rattle.std.proofs.Common.{List, ℕ, subst}
+use Rattle.ix_walk.specs.Arriving.{Goes}
+use Rattle.ix_walk.specs.Walking.{waiting}
+use Rattle.ix_walk.specs.Gone.{going_of}
 use Rattle.ix_walk.proofs.Roots.{arrives}
 use Rattle.ix_walk.proofs.arriving.arrive.Goals as goal
 
 pub returns : goal.returns
 returns c =
-    arrives c.args.store.now c.args.number c.args.seq c.args.found.residual c.args.found.depth c.args.found.cid c.in_ok-cid.cid c.find-block.result c.read_block-bytes.result.0 c.read_block-bytes.result.1 c.args.trail.now
-    c.enter_block.new.trail c.in_ok-cid.ensures.same c.find-block.ensures c.read_block-bytes.ensures.reading c.in_ok-enter_block.ensures
+    let store = c.args.store.now in
+    let f = c.args.found in
+    let had = going_of store c.args.gone.now in
+    let has = going_of store c.goes_into.new.gone in
+    arrives store c.args.number c.args.seq f.residual f.depth f.cid c.in_ok-cid.cid c.find-block.result c.read_block-bytes.result.0 c.in_ok-bytes.bytes c.read_block-bytes.result.1 had has c.args.trail.now c.enter_block.new.trail
+    c.in_ok-cid.ensures.same c.find-block.ensures c.read_block-bytes.ensures.reading
+    (subst (λ (d : List ℕ). Goes store (waiting f.residual f.depth d) had c.in_ok-bytes.bytes has) c.in_ok-cid.ensures.same (c.in_ok-bytes.ensures.goes f.depth)) c.in_ok-enter_block.ensures

@@ -1,7 +1,6 @@
 use Rattle.std.proofs.Common.{◌∙◌, ap, subst}
 use Rattle.std.specs.Prelude.{Option}
-use Rattle.ix_selector.specs.Pattern.{Pattern}
-use Rattle.ix_selector.specs.IsEntered.{is_entered}
+use Rattle.ix_selector.specs.Behind.{residual_of}
 use Rattle.ix_walk.specs.declared.subtree.Found.{Found}
 use Rattle.ix_walk.specs.Descent.{Finds}
 use Rattle.ix_walk.proofs.Nexts.{next_link, next_root}
@@ -16,4 +15,4 @@ pub returns-clause-found : goal.returns-clause-found
 returns-clause-found c =
     next_root c.args.job.now.selector c.args.trail.now c.next_found.new.trail c.args.roots.now.now c.in-Some-split_first.rest.now c.in_ok-residual.residual c.in-Some-split_first.root.now c.by_ref.result
     (subst (λ (o : Option Found). Finds c.args.trail.now o c.next_found.new.trail) c.in_default.is c.in_ok-found.ensures.found) c.in-Some-split_first.ensures.cases.0
-    (λ p. c.in_ok-residual.ensures.tested p ∙ ap (λ (s : Pattern). is_entered s p) c.selector.ensures) c.by_ref.ensures.same
+    (c.in_ok-residual.ensures.exact ∙ ap residual_of c.selector.ensures) c.by_ref.ensures.same

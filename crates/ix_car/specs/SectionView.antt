@@ -1,0 +1,7 @@
+-- A section of the program.
+use Rattle.ix_car.specs.declared.reader.sections.Section.{Section}
+use Rattle.ix_car.specs.Sections.{SectionMeaning}
+
+-- what a section is, apart from where its bytes are kept
+abbrev pub section_of : Section → SectionMeaning
+section_of s = record { place = s.place; cid = s.cid; block = s.block.now }

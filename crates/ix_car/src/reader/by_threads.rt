@@ -1,0 +1,95 @@
+//! Reading a CARv1 file whose blocks several threads index.
+
+ghost use Rattle.std.specs.Prelude.{◌≡◌, ◌≤◌, [], length, IfErr};
+ghost use Rattle.std.specs.Arc.{arc_value};
+ghost use Rattle.ix_car.specs.Reading.{sections_at, blocks_of};
+ghost use Rattle.ix_car.specs.Gives.{Gives};
+ghost use Rattle.ix_car.specs.Reads.{ReadsOrRunsOut, IsEnd};
+
+use crate::fault::{CarFault, CarKind};
+use crate::reader::header::header_at;
+use crate::reader::section::{Stop, section_at};
+use ix_walk::{Store, StoreBuilder};
+use std::alloc::Global;
+use std::sync::Arc;
+use std::thread::Threads;
+
+/// The blocks of a CARv1 file as `load_car` reads them, where so many threads index them if they are many.
+pub fn load_car_by<R: Threads + Sync>(
+    rt: &R,
+    alloc: Global,
+    bytes: Vec<u8>,
+    threads: usize,
+) -> Result<Store, CarFault>
+    ensures { Gives (λ store. store) bytes.items result (blocks_of bytes.items) }
+{
+    let length = bytes.len();
+    let Ok(file) = Arc::new(alloc, bytes) else {
+        return Err(CarFault {
+            kind: CarKind::Memory,
+            place: 0,
+        });
+    };
+    match store_by_threads(rt, alloc, &file, threads) {
+        Ok(store) => Ok(store),
+        Err(stop) => Err(CarFault {
+            kind: stop.kind,
+            place: length - stop.left,
+        }),
+    }
+}
+
+// The blocks of a file, of which what is found will be kept, indexed by so many threads.
+fn store_by_threads<R: Threads + Sync>(
+    rt: &R,
+    alloc: Global,
+    file: &Arc<Vec<u8>>,
+    threads: usize,
+) -> Result<Store, Stop>
+    ensures reads { ReadsOrRunsOut (λ store. store) result (blocks_of (arc_value file.now).items) }
+    ensures within { IfErr result (λ stop. stop.left ≤ length (arc_value file.now).items) }
+{
+    let sections = header_at(alloc, file.as_slice())?;
+    let builder = blocks_of_sections(rt, alloc, file, sections, threads)?;
+    let Ok(mut store) = builder.build(rt, threads) else {
+        return Err(Stop {
+            kind: CarKind::Memory,
+            left: 0,
+        });
+    };
+    if store.settle().is_err() {
+        return Err(Stop {
+            kind: CarKind::Memory,
+            left: 0,
+        });
+    }
+    Ok(store)
+}
+
+// The blocks of the sections at the end of a file, of which so many threads index those that are due.
+fn blocks_of_sections<R: Threads + Sync>(
+    rt: &R,
+    alloc: Global,
+    file: &Arc<Vec<u8>>,
+    sections: &[u8],
+    threads: usize,
+) -> Result<StoreBuilder, Stop>
+    requires { IsEnd sections.now (arc_value file.now).items }
+    ensures reads { ReadsOrRunsOut (λ builder. builder) result (sections_at (length sections.now) [] sections.now) }
+    ensures within { IfErr result (λ stop. stop.left ≤ length sections.now) }
+{
+    let mut rest = sections;
+    let mut builder = StoreBuilder::new(alloc);
+    while !rest.is_empty() {
+        let (cid, block, after) = section_at(alloc, file, rest)?;
+        let start = file.len() - after.len() - block.len();
+        if builder.add_within(cid, file, start, block.len()).is_err() {
+            return Err(Stop::at(CarKind::Memory, rest));
+        }
+        if builder.index_due(rt, threads).is_err() {
+            return Err(Stop::at(CarKind::Memory, rest));
+        }
+        rest = after;
+    }
+    Ok(builder)
+}

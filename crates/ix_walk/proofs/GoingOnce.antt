@@ -1,0 +1,228 @@
+-- Passing over what was gone into already meets nothing new later.
+use Rattle.std.proofs.Common.{◌≡◌, ◌⊎◌, inl, inr, ℕ, zero, suc, ◌+◌, ◌≤◌, ◌<◌, Bool, true, false, ◌&&◌, ◌||◌, List, [], ◌∷◌, ◌++◌, length, map, flat_map, refl, sym, ap, ◌∙◌, subst, length-append, arith}
+use Rattle.std.specs.Prelude.{Option, Some, None, if◌then◌else◌, bytes_eq}
+use Rattle.std.specs.List.{AllByRecursion, list_any}
+use Rattle.std.proofs.lemmas.Bool.{and_parts}
+use Rattle.std.proofs.lemmas.List.{length-map}
+use Rattle.std.proofs.lemmas.List.Concat.{flat_map-append}
+use Rattle.std.proofs.lemmas.Slice.Eq.{bytes_eq-Decides}
+use Rattle.ix_cbor.specs.Data.{Data}
+use Rattle.ix_selector.specs.Enters.{Path}
+use Rattle.ix_walk.specs.Arrivals.{Arrival, Inside, when_some, arrivals_from}
+use Rattle.ix_walk.specs.Once.{roots_from, links_below, was_gone_into, gone_into_at, gone_behind, once, once_from, TellsRests, first_ones}
+use Rattle.ix_walk.proofs.Firsts.{In, in-append, unseen, and_this, this_seen, still_seen, unseen-behind, unseen-seen, unseen-none}
+use Rattle.ix_walk.proofs.Links.{all-append, all-weaker, cid_of, links_at, tree_cids, tree-alike, Ends, ends-links, cids-opened, links-shorter, from-cids, roots-by_depth}
+
+-- the one that passes a test, with what holds of it
+pub found : {E : Type 0} (test : E → Bool) (P : E → Type 0) (gs : List E) → list_any test gs ≡ true → AllByRecursion P gs → (g : E) × P g × (test g ≡ true)
+found test P [] h all = absurd cc
+found test P (g ∷ gs) h all =
+    (elim (test g) as (λ b. test g ≡ b → (b || list_any test gs) ≡ true → (g : _) × P g × (test g ≡ true)) [
+      | true ↦ λ is _. (g, all.0, is)
+      | false ↦ λ _ e. found test P gs e all.1
+    ])
+    refl h
+
+-- ---- going in once takes no more arrivals
+
+module _ {R : Type 0} (enters : Path → Bool) (rest : Path → R) (same : R → R → Bool) (inside : Inside) (bound : ℕ) where
+  abbrev IsFewer : ℕ → Type 0
+  IsFewer n =
+      (gone : List (List ℕ × R)) (waiting : List Arrival) → AllByRecursion (Ends enters inside bound) waiting
+      → length (once enters rest same inside n gone waiting) ≤ length (flat_map (tree_cids enters inside bound) waiting)
+
+  fewer_behind : (n : ℕ) → IsFewer n → (gone : List (List ℕ × R)) (a : Arrival) (more : List Arrival) → AllByRecursion (Ends enters inside bound) (a ∷ more) → (was : Bool)
+      → length (once enters rest same inside n (gone_behind enters rest same inside (if was then None else inside a.cid) a gone) (when_some (if was then None else inside a.cid) (λ d. links_below enters d a) ++ more))
+      ≤ length (flat_map (tree_cids enters inside bound) (links_at enters inside a)) + length (flat_map (tree_cids enters inside bound) more)
+  fewer_behind n fewer gone a more fit true = let least = fewer gone more fit.1 in omega (arith, least)
+  fewer_behind n fewer gone a more fit false =
+      let below = links_at enters inside a in
+      let all = fewer (gone_behind enters rest same inside (inside a.cid) a gone) (below ++ more) (all-append (Ends enters inside bound) below more (ends-links enters inside bound a fit.0) fit.1) in
+      let joined : length (flat_map (tree_cids enters inside bound) (below ++ more)) ≡ length (flat_map (tree_cids enters inside bound) below) + length (flat_map (tree_cids enters inside bound) more) =
+      ap length (flat_map-append (tree_cids enters inside bound) below more) ∙ length-append (flat_map (tree_cids enters inside bound) below) (flat_map (tree_cids enters inside bound) more) in
+      omega (arith, all, joined)
+
+  once-fewer : (n : ℕ) → IsFewer n
+  once-fewer zero gone waiting fit = omega arith
+  once-fewer (suc n) gone [] fit = omega arith
+  once-fewer (suc n) gone (a ∷ more) fit =
+      let behind = fewer_behind n (once-fewer n) gone a more fit (was_gone_into enters rest same inside gone a) in
+      let size : length (tree_cids enters inside bound a ++ flat_map (tree_cids enters inside bound) more) ≡ suc (length (flat_map (tree_cids enters inside bound) (links_at enters inside a))) + length (flat_map (tree_cids enters inside bound) more) =
+      length-append (tree_cids enters inside bound a) (flat_map (tree_cids enters inside bound) more) ∙ ap (λ l. length l + length (flat_map (tree_cids enters inside bound) more)) (cids-opened enters inside bound a fit.0) in
+      omega (arith, behind, size)
+
+  pub once-fewer_from : (n : ℕ) (roots : List (List ℕ)) → AllByRecursion (Ends enters inside bound) (roots_from 0 roots) → length (once_from enters rest same inside n roots) ≤ length (arrivals_from enters inside bound 0 roots)
+  once-fewer_from n roots fit =
+      let fewer = once-fewer n [] (roots_from 0 roots) fit in
+      let size : length (arrivals_from enters inside bound 0 roots) ≡ length (flat_map (tree_cids enters inside bound) (roots_from 0 roots)) =
+      sym (length-map (arrivals_from enters inside bound 0 roots) cid_of) ∙ ap length (from-cids enters inside bound 0 roots) in
+      omega (arith, fewer, size)
+
+-- ---- with a greater bound it only goes on
+
+module _ {R : Type 0} (enters : Path → Bool) (rest : Path → R) (same : R → R → Bool) (inside : Inside) where
+  pub once-goes_on : (n m : ℕ) → n ≤ m → (gone : List (List ℕ × R)) (waiting : List Arrival)
+      → (more : List Arrival) × (once enters rest same inside n gone waiting ++ more ≡ once enters rest same inside m gone waiting)
+  once-goes_on zero m h gone waiting = (once enters rest same inside m gone waiting, refl)
+  once-goes_on (suc n) zero h gone waiting = absurd (omega (arith, h))
+  once-goes_on (suc n) (suc m) h gone [] = ([], refl)
+  once-goes_on (suc n) (suc m) h gone (a ∷ more) =
+      let o : Option Data = gone_into_at enters rest same inside gone a in
+      let r = once-goes_on n m (omega (arith, h)) (gone_behind enters rest same inside o a gone) (when_some o (λ d. links_below enters d a) ++ more) in
+      (r.0, ap (λ l. a ∷ l) r.1)
+
+-- ---- it meets the same
+
+module _ {R : Type 0} (enters : Path → Bool) (rest : Path → R) (same : R → R → Bool) (inside : Inside) (tells : TellsRests enters rest same) (bound : ℕ) where
+  abbrev whole : Arrival → List (List ℕ)
+  whole = tree_cids enters inside bound
+
+  abbrev links : Arrival → List Arrival
+  links = links_at enters inside
+
+  abbrev Fits : Arrival → Type 0
+  Fits = Ends enters inside bound
+
+  -- a CID is met below one of these, before any that isn't smaller than this size
+  abbrev Soon : ℕ → List ℕ → List Arrival → Type 0
+  Soon size c [] = ⊥
+  Soon size c (a ∷ more) = (length (whole a) < size) × (In c (whole a) ⊎ Soon size c more)
+
+  -- What was gone into: all below it was seen, or is met before anything that isn't smaller.
+  record Entered (seen : List ℕ → Bool) (waiting : List Arrival) (g : List ℕ × R) : Type 0 where
+    at : Arrival
+    of_cid : at.cid ≡ g.0
+    of_rest : rest at.path ≡ g.1
+    met : (c : List ℕ) → In c (whole at) → (seen c ≡ true) ⊎ Soon (length (whole at)) c waiting
+
+  abbrev AllEntered : (List ℕ → Bool) → List Arrival → List (List ℕ × R) → Type 0
+  AllEntered seen waiting = AllByRecursion (Entered seen waiting)
+
+  abbrev Smaller : ℕ → List Arrival → Type 0
+  Smaller size = AllByRecursion (λ a. length (whole a) < size)
+
+  soon-front : (size : ℕ) (c : List ℕ) (xs more : List Arrival) → Smaller size xs → In c (flat_map whole xs) → Soon size c (xs ++ more)
+  soon-front size c [] more small h = absurd h
+  soon-front size c (x ∷ xs) more small h =
+      (small.0, elim (in-append c (whole x) (flat_map whole xs) h) [ inl i ↦ inl i | inr i ↦ inr (soon-front size c xs more small.1 i) ])
+
+  soon-behind : (size : ℕ) (c : List ℕ) (xs more : List Arrival) → Smaller size xs → Soon size c more → Soon size c (xs ++ more)
+  soon-behind size c [] more small h = h
+  soon-behind size c (x ∷ xs) more small h = (small.0, inr (soon-behind size c xs more small.1 h))
+
+  -- what is below a link is smaller
+  links-smaller : (a : Arrival) → Fits a → Smaller (length (whole a)) (links a)
+  links-smaller = links-shorter enters inside bound
+
+  module _ (seen : List ℕ → Bool) (a : Arrival) (more : List Arrival) (fits : Fits a) where
+    abbrev now : List ℕ → Bool
+    now = and_this a.cid seen
+
+    -- a CID at or below the arrival is its own or below a link
+    at_or_below : (c : List ℕ) → In c (whole a) → (now c ≡ true) ⊎ In c (flat_map whole (links a))
+    at_or_below c h = here (subst (In c) (cids-opened enters inside bound a fits) h) where
+      here : In c (a.cid ∷ flat_map whole (links a)) → (now c ≡ true) ⊎ In c (flat_map whole (links a))
+      here (inl is) = inl (this_seen a.cid seen c is)
+      here (inr i) = inr i
+
+    -- what was gone into earlier, where the arrival is gone into
+    older : (g : List ℕ × R) → Entered seen (a ∷ more) g → Entered now (links a ++ more) g
+    older g e = record { at = e.at; of_cid = e.of_cid; of_rest = e.of_rest; met = λ c i. on c (e.met c i) } where
+      small : length (whole a) < length (whole e.at) → Smaller (length (whole e.at)) (links a)
+      small lt = all-weaker (λ b. length (whole b) < length (whole a)) (λ b. length (whole b) < length (whole e.at)) (λ b h. omega (arith, lt, h)) (links a) (links-smaller a fits)
+
+      below : (c : List ℕ) → length (whole a) < length (whole e.at) → (now c ≡ true) ⊎ In c (flat_map whole (links a)) → (now c ≡ true) ⊎ Soon (length (whole e.at)) c (links a ++ more)
+      below c lt (inl h) = inl h
+      below c lt (inr i) = inr (soon-front (length (whole e.at)) c (links a) more (small lt) i)
+
+      next : (c : List ℕ) → length (whole a) < length (whole e.at) → In c (whole a) ⊎ Soon (length (whole e.at)) c more → (now c ≡ true) ⊎ Soon (length (whole e.at)) c (links a ++ more)
+      next c lt (inl i) = below c lt (at_or_below c i)
+      next c lt (inr s) = inr (soon-behind (length (whole e.at)) c (links a) more (small lt) s)
+
+      on : (c : List ℕ) → (seen c ≡ true) ⊎ Soon (length (whole e.at)) c (a ∷ more) → (now c ≡ true) ⊎ Soon (length (whole e.at)) c (links a ++ more)
+      on c (inl h) = inl (still_seen a.cid seen c h)
+      on c (inr s) = next c s.0 s.1
+
+    -- and the arrival itself
+    newest : Entered now (links a ++ more) (a.cid, rest a.path)
+    newest = record { at = a; of_cid = refl; of_rest = refl; met = λ c i. on c (at_or_below c i) } where
+      on : (c : List ℕ) → (now c ≡ true) ⊎ In c (flat_map whole (links a)) → (now c ≡ true) ⊎ Soon (length (whole a)) c (links a ++ more)
+      on c (inl h) = inl h
+      on c (inr i) = inr (soon-front (length (whole a)) c (links a) more (links-smaller a fits) i)
+
+    all_older : (gone : List (List ℕ × R)) → AllEntered seen (a ∷ more) gone → AllEntered now (links a ++ more) gone
+    all_older gone h = all-weaker (Entered seen (a ∷ more)) (Entered now (links a ++ more)) older gone h
+
+    entered_behind : (o : Option Data) (gone : List (List ℕ × R)) → AllEntered seen (a ∷ more) gone → AllEntered now (links a ++ more) (gone_behind enters rest same inside o a gone)
+    entered_behind None gone h = all_older gone h
+    entered_behind (Some d) gone h = (newest, all_older gone h)
+
+    -- all below an arrival was seen where its CID was gone into with the same rest
+    gone-seen : (g : List ℕ × R) → Entered seen (a ∷ more) g → (bytes_eq g.0 a.cid && same g.1 (rest a.path)) ≡ true → (c : List ℕ) → In c (whole a) → seen c ≡ true
+    gone-seen g e is c i =
+        let both = and_parts (bytes_eq g.0 a.cid) (same g.1 (rest a.path)) is in
+        let cid : e.at.cid ≡ a.cid = e.of_cid ∙ (bytes_eq-Decides g.0 a.cid).0 both.0 in
+        let rests : same (rest e.at.path) (rest a.path) ≡ true = ap (λ r. same r (rest a.path)) e.of_rest ∙ both.1 in
+        let all : whole e.at ≡ whole a = tree-alike enters inside bound e.at a cid (tells e.at.path a.path rests) in
+        first c (ap length all) (e.met c (subst (In c) (sym all) i)) where
+          first : (c : List ℕ) → length (whole e.at) ≡ length (whole a) → (seen c ≡ true) ⊎ Soon (length (whole e.at)) c (a ∷ more) → seen c ≡ true
+          first c size (inl h) = h
+          first c size (inr s) = let lt = s.0 in absurd (omega (arith, size, lt))
+
+    -- what was gone into stays so behind an arrival that is passed over
+    passed : ((c : List ℕ) → In c (whole a) → seen c ≡ true) → (g : List ℕ × R) → Entered seen (a ∷ more) g → Entered now more g
+    passed all g e = record { at = e.at; of_cid = e.of_cid; of_rest = e.of_rest; met = λ c i. on c (e.met c i) } where
+      next : (c : List ℕ) → In c (whole a) ⊎ Soon (length (whole e.at)) c more → (now c ≡ true) ⊎ Soon (length (whole e.at)) c more
+      next c (inl i) = inl (still_seen a.cid seen c (all c i))
+      next c (inr s) = inr s
+
+      on : (c : List ℕ) → (seen c ≡ true) ⊎ Soon (length (whole e.at)) c (a ∷ more) → (now c ≡ true) ⊎ Soon (length (whole e.at)) c more
+      on c (inl h) = inl (still_seen a.cid seen c h)
+      on c (inr s) = next c s.1
+
+  -- what n arrivals of the traversal meet anew is what is met anew at every arrival
+  abbrev Meets : ℕ → Type 0
+  Meets n =
+      (gone : List (List ℕ × R)) (waiting : List Arrival) (seen : List ℕ → Bool) → AllByRecursion Fits waiting → AllEntered seen waiting gone
+      → length (once enters rest same inside n gone waiting) < n → unseen seen (map cid_of (once enters rest same inside n gone waiting)) ≡ unseen seen (flat_map whole waiting)
+
+  module _ (n : ℕ) (meets : Meets n) (gone : List (List ℕ × R)) (a : Arrival) (more : List Arrival) (seen : List ℕ → Bool) (fits : Fits a) (all_fit : AllByRecursion Fits more) (entered : AllEntered seen (a ∷ more) gone) where
+    abbrev data_at : Bool → Option Data
+    data_at was = if was then None else inside a.cid
+
+    abbrev left : Bool → List Arrival
+    left was = once enters rest same inside n (gone_behind enters rest same inside (data_at was) a gone) (when_some (data_at was) (λ d. links_below enters d a) ++ more)
+
+    meets_behind : (was : Bool) → was_gone_into enters rest same inside gone a ≡ was → length (left was) < n
+        → unseen (and_this a.cid seen) (map cid_of (left was)) ≡ unseen (and_this a.cid seen) (flat_map whole (links a) ++ flat_map whole more)
+    meets_behind false is short =
+        meets (gone_behind enters rest same inside (inside a.cid) a gone) (links a ++ more) (and_this a.cid seen) (all-append Fits (links a) more (ends-links enters inside bound a fits) all_fit) (entered_behind seen a more fits (inside a.cid) gone entered) short
+        ∙ ap (unseen (and_this a.cid seen)) (flat_map-append whole (links a) more)
+    meets_behind true is short =
+        let was = found (λ g. bytes_eq g.0 a.cid && same g.1 (rest a.path)) (Entered seen (a ∷ more)) gone is entered in
+        let all : (c : List ℕ) → In c (whole a) → seen c ≡ true = gone-seen seen a more fits was.0 was.1 was.2 in
+        meets gone more (and_this a.cid seen) all_fit (all-weaker (Entered seen (a ∷ more)) (Entered (and_this a.cid seen) more) (passed seen a more fits all) gone entered) short
+        ∙ sym (unseen-seen (and_this a.cid seen) (flat_map whole (links a)) (flat_map whole more)
+        (λ c i. still_seen a.cid seen c (all c (subst (In c) (sym (cids-opened enters inside bound a fits)) (inr i)))))
+
+  once-meets : (n : ℕ) → Meets n
+  once-meets zero gone waiting seen fit entered short = absurd (omega (arith, short))
+  once-meets (suc n) gone [] seen fit entered short = refl
+  once-meets (suc n) gone (a ∷ more) seen fit entered short =
+      let was = was_gone_into enters rest same inside gone a in
+      unseen-behind seen a.cid (map cid_of (left n (once-meets n) gone a more seen fit.0 fit.1 entered was)) (flat_map whole (links a) ++ flat_map whole more)
+      (meets_behind n (once-meets n) gone a more seen fit.0 fit.1 entered was refl (omega (arith, short)))
+      ∙ ap (λ l. unseen seen (l ++ flat_map whole more)) (sym (cids-opened enters inside bound a fit.0))
+
+  -- from roots
+  pub once-same : (limit : ℕ) (roots : List (List ℕ)) → AllByRecursion Fits (roots_from 0 roots) → length (once_from enters rest same inside (suc limit) roots) ≤ limit
+      → first_ones (map cid_of (once_from enters rest same inside (suc limit) roots)) ≡ first_ones (map cid_of (arrivals_from enters inside bound 0 roots))
+  once-same limit roots fit short =
+      sym (unseen-none (map cid_of (once_from enters rest same inside (suc limit) roots)))
+      ∙ once-meets (suc limit) [] (roots_from 0 roots) (λ (e : List ℕ). false) fit tt (omega (arith, short))
+      ∙ unseen-none (flat_map whole (roots_from 0 roots))
+      ∙ ap first_ones (sym (from-cids enters inside bound 0 roots))
+
+  pub once-by_depth : (limit : ℕ) (roots : List (List ℕ)) → AllByRecursion (λ a. a.depth < bound) (arrivals_from enters inside bound 0 roots) → length (once_from enters rest same inside (suc limit) roots) ≤ limit
+      → first_ones (map cid_of (once_from enters rest same inside (suc limit) roots)) ≡ first_ones (map cid_of (arrivals_from enters inside bound 0 roots))
+  once-by_depth limit roots shallow short = once-same limit roots (roots-by_depth enters inside bound roots shallow) short

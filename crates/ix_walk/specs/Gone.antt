@@ -1,0 +1,48 @@
+-- What a walk has gone into: places of blocks and CIDs without one, each with what was left of the selector there.
+use Rattle.std.specs.Prelude.{◌≡◌, ℕ, Bool, true, false, ◌||◌, ◌&&◌, List, Option, Some, None, nat_eq, bytes_eq}
+use Rattle.std.specs.declared.cmp.Ordering.{Ordering}
+use Rattle.std.specs.Ordering.{nat_cmp, ordering_then}
+use Rattle.std.specs.Cmp.Lexicographic.{slice_cmp}
+use Rattle.std.specs.BTreeMap.{get}
+use Rattle.std.specs.BTreeSet.{BTreeSet, contains}
+use Rattle.ix_selector.specs.Residual.{Place}
+use Rattle.ix_selector.specs.Behind.{same_residual, residual_order}
+use Rattle.ix_walk.specs.declared.gone.Gone.{Gone}
+use Rattle.ix_walk.specs.Store.{Blocks, position_of}
+use Rattle.ix_walk.specs.Walking.{Going}
+
+-- a place is among these, if there are any
+abbrev pub is_in : ℕ → Option (BTreeSet ℕ) → Bool
+is_in n None = false
+is_in n (Some places) = contains nat_cmp places n
+
+-- the order of CIDs with what was left
+abbrev pub cid_order : List ℕ × List Place → List ℕ × List Place → Ordering
+cid_order x y = ordering_then (slice_cmp nat_cmp x.0 y.0) (residual_order x.1 y.1)
+
+-- a CID, whose block has this place if it has one, was gone into where this was left
+abbrev pub has_gone : Gone → Option ℕ → List ℕ → List Place → Bool
+has_gone g None c places = contains cid_order g.others (c, places)
+has_gone g (Some n) c places = is_in n (get residual_order g.blocks places)
+
+-- the same CID where the same is left
+abbrev pub is_same_going : Option ℕ → List ℕ → List Place → Option ℕ → List ℕ → List Place → Bool
+is_same_going None c places None d others = bytes_eq c d && same_residual places others
+is_same_going None c places (Some m) d others = false
+is_same_going (Some n) c places None d others = false
+is_same_going (Some n) c places (Some m) d others = nat_eq n m && same_residual places others
+
+-- it was gone into for the first time, and is then kept; or it was gone into before, and the same is kept
+abbrev pub IsNoted : Gone → Gone → Option ℕ → List ℕ → List Place → Bool → Type 0
+IsNoted old new block c places true =
+    (has_gone old block c places ≡ false) × ((b : Option ℕ) (d : List ℕ) (others : List Place) → has_gone new b d others ≡ (is_same_going block c places b d others || has_gone old b d others))
+IsNoted old new block c places false = (has_gone old block c places ≡ true) × ((b : Option ℕ) (d : List ℕ) (others : List Place) → has_gone new b d others ≡ has_gone old b d others)
+
+-- in a store: whether a CID was gone into with what is left of the selector
+abbrev pub gone_of : Blocks → Gone → Going
+gone_of store g c places = has_gone g (position_of store c) c places
+
+-- what a walk keeps of it, if it goes into CIDs once
+abbrev pub going_of : Blocks → Option Gone → Option Going
+going_of store None = None
+going_of store (Some g) = Some (gone_of store g)

@@ -1,0 +1,106 @@
+//! The slots of a table for many entries at once, which several threads fill.
+//!
+//! Each thread has a part of the table, and goes through the numbers of all entries for those whose look-up begins in it. The
+//! place of an entry goes to the first free slot of its look-up, and nowhere where none is free. A look-up that goes through
+//! the end of a part comes last, when the threads have ended. Nothing is promised here of what a slot has: `Index` has each
+//! entry looked up before anything rests on it.
+
+use crate::entry::Entry;
+use crate::index::{MOST_PLACES, PROBES, Slot, starts_for, tail_of};
+use std::alloc::{AllocError, Global};
+use std::thread::{Threads, for_each_chunk_mut, map_chunks};
+
+// The numbers of a share of the entries.
+type Share = Result<Vec<u64>, AllocError>;
+
+// The slots of a table for these entries, which so many threads fill.
+pub(crate) fn filled<R: Threads + Sync>(
+    rt: &R,
+    alloc: Global,
+    entries: &[Entry],
+    threads: usize,
+) -> Result<Vec<Slot>, AllocError> {
+    let threads = threads.max(1);
+    let share = entries.len().div_ceil(threads).max(1);
+    let tails = map_chunks(rt, alloc, entries, share, &|_, part| tails_of(alloc, part))?;
+    let tails = tails.as_slice();
+    let starts = starts_for(entries.len());
+    let last = starts - 1;
+    let length = last.saturating_add(PROBES);
+    let mut slots = vec![in alloc; Slot::FREE; length]?;
+    let part = starts
+        .div_ceil(threads)
+        .checked_next_power_of_two()
+        .unwrap_or(starts);
+    let (parts, _) = slots.as_mut_slice().split_at_mut(starts.min(length));
+    for_each_chunk_mut(
+        rt,
+        parts,
+        part,
+        &|from, slots| {
+            fill_part(slots, from, last, tails);
+        },
+    );
+    fill_seams(slots.as_mut_slice(), part, last, tails);
+    Ok(slots)
+}
+
+fn tails_of(alloc: Global, entries: &[Entry]) -> Share {
+    entries
+        .iter()
+        .map(|entry| tail_of(&entry.cid))
+        .collect(alloc)
+}
+
+// Fills the part of a table that begins at a slot. Of the numbers, those count whose look-up lies in it, and the last slot is
+// told at which one may begin.
+fn fill_part(slots: &mut [Slot], from: usize, last: usize, tails: &[Share]) {
+    let mut place = 0;
+    for share in tails {
+        let Ok(share) = share else {
+            return;
+        };
+        for tail in share {
+            let first = *tail as usize & last;
+            if first >= from && first - from < slots.len() {
+                put(slots, first - from, *tail, place);
+            }
+            place = place.saturating_add(1);
+        }
+    }
+}
+
+// Fills in what is left behind parts of this size, a power of two: the numbers whose look-up goes through the end of one.
+fn fill_seams(slots: &mut [Slot], part: usize, last: usize, tails: &[Share]) {
+    let mut place = 0;
+    for share in tails {
+        let Ok(share) = share else {
+            return;
+        };
+        for tail in share {
+            let first = *tail as usize & last;
+            if (first & part.saturating_sub(1)).saturating_add(PROBES) > part {
+                put(slots, first, *tail, place);
+            }
+            place = place.saturating_add(1);
+        }
+    }
+}
+
+// Puts the place of a number into the first of these slots that is free, from the one at which its look-up begins, unless one
+// before has it.
+fn put(slots: &mut [Slot], first: usize, tail: u64, place: usize) {
+    if place >= MOST_PLACES {
+        return;
+    }
+    for slot in slots.iter_mut().skip(first).take(PROBES) {
+        match slot.place() {
+            Some(other) if other == place => return,
+            Some(_) => {}
+            None => {
+                *slot = Slot::taken(tail, place);
+                return;
+            }
+        }
+    }
+}
