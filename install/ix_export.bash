@@ -4,7 +4,7 @@ _ix_export() {
   COMPREPLY=()
   for it in "${COMP_WORDS[@]:1:COMP_CWORD-1}"; do
     case $it in
-      jobs | selector | root)
+      jobs | job | check-jobs | selector | root | inspect | verify)
         command=$it
         break
         ;;
@@ -28,10 +28,23 @@ _ix_export() {
     --cid | --hex | --part) return ;;
   esac
   case $command in
-    jobs) it='--blocks --jobs --out --part --walkers --verifiers --sync --progress --help' ;;
+    jobs) it='--blocks --jobs --out --part --walkers --verifiers --once --sync --complete --progress --quiet --help' ;;
+    job) it='--help' ;;
+    check-jobs) it='--help' ;;
     selector) it='--hex --help' ;;
     root) it='--cid --help' ;;
-    *) it='jobs selector root --help --version' ;;
+    inspect) it='--list --help' ;;
+    verify) it='--blocks-only --verifiers --help' ;;
+    *) it='jobs job check-jobs selector root inspect verify --help --version' ;;
+  esac
+  case $command in
+    check-jobs | inspect | verify)
+      if [[ $word != -* ]]; then
+        mapfile -t COMPREPLY < <(compgen -f -- "$word")
+        compopt -o filenames 2>/dev/null
+        return
+      fi
+      ;;
   esac
   mapfile -t COMPREPLY < <(compgen -W "$it" -- "$word")
 }

@@ -27,7 +27,7 @@ of_man() {
   awk -v wanted="$1" '
     /^\.SH OPTIONS/ { section = ""; inside = 1; next }
     /^\.SH/ { inside = 0 }
-    /^\.SS/ { section = $2 }
+    /^\.SS/ { section = $2; gsub(/\\/, "", section) }
     inside && section == wanted && was == ".TP" { print }
     { was = $0 }' install/ix_export.1 | sed 's/\\-/-/g; s/\\f[A-Z]/ /g' | sorted
 }
@@ -44,7 +44,7 @@ of_bash() {
 # Of zsh: what stands in the command's case, or before it.
 of_zsh() {
   awk -v wanted="$1" '
-    /^ *[a-z]+\)$/ { section = $1 }
+    /^ *[a-z-]+\)$/ { section = $1 }
     section == (wanted == "" ? "" : wanted ")") { print }' install/_ix_export | sed "s/{-[a-zA-Z],\(--[a-z]*\)}/\1/; s/\[.*//" | sorted
 }
 
@@ -55,15 +55,15 @@ of_fish() {
   grep -F -e " -n $condition " install/ix_export.fish | sed -n 's/.* -l \([a-z-]*\) .*/--\1/p' | sorted
 }
 
-commands=$(./ix_export --help | sed -n '/^Commands:/,/^$/s/^  *\([a-z]*\) .*/\1/p' | grep -v '^help$' | sort)
+commands=$(./ix_export --help | sed -n '/^Commands:/,/^$/s/^  *\([a-z-]*\) .*/\1/p' | grep -v '^help$' | sort)
 same 'commands of bash' '' "$commands" "$(bash -c '
   source install/ix_export.bash
   COMP_WORDS=(ix_export "") COMP_CWORD=1
   _ix_export
   printf "%s\n" "${COMPREPLY[@]}"' | grep -v '^-' | sort)"
-same 'commands of the man page' '' "$commands" "$(sed -n 's/^\.SS //p' install/ix_export.1 | sort)"
-same 'commands of zsh' '' "$commands" "$(sed -n 's/^    \([a-z]*\))$/\1/p' install/_ix_export | sort)"
-same 'commands of fish' '' "$commands" "$(sed -n 's/.* -a \([a-z]*\) .*/\1/p' install/ix_export.fish | sort)"
+same 'commands of the man page' '' "$commands" "$(sed -n 's/^\.SS //p' install/ix_export.1 | tr -d '\\' | sort)"
+same 'commands of zsh' '' "$commands" "$(sed -n 's/^    \([a-z-]*\))$/\1/p' install/_ix_export | sort)"
+same 'commands of fish' '' "$commands" "$(sed -n 's/.* -a \([a-z-]*\) .*/\1/p' install/ix_export.fish | sort)"
 for command in '' $commands; do
   wanted=$(of_help "$command")
   for it in man bash zsh fish; do

@@ -1,6 +1,6 @@
-# The option --progress: the lines on standard error, and that nothing else of a run changes.
+# The options --progress and --quiet: what stands on standard error, and that nothing else of a run changes.
 
-begin 'progress: a line at each close'
+begin 'progress: a line at the first close and at the last'
 write_blocks "$one_blocks"
 write_jobs "a $one_job" "short $(text "$one_cid") 1 $all"
 run jobs "${inputs[@]}" --out out --walkers 1 --verifiers 1 --progress
@@ -21,7 +21,7 @@ for _ in $(seq 16); do
   lists+=$(section "$top_cid" "$list")
 done
 
-begin 'progress: a line after each 100,000 visits'
+begin 'progress: a line after each 100,000 visits, one a second at most, and one at the end'
 write_blocks "$lists" "$(section "$abc_cid" "$abc")"
 write_jobs "a $(text "$top_cid") 1000000 $all"
 run jobs "${inputs[@]}" --out out --progress
@@ -31,11 +31,62 @@ expect 0 "a done visits=131071 kept=131071 sections=17 bytes=$whole
 total jobs=1 done=1 skips=0" "progress: 0 of 1 jobs closed, 100000 visits delivered, $whole bytes written
 progress: 1 of 1 jobs closed, 131071 visits delivered, $whole bytes written"
 
+begin 'progress: many closes in a moment'
+write_blocks "$one_blocks"
+seq -f "j%g $one_job" 300 >jobs.txt
+run jobs "${inputs[@]}" --out out --progress
+expect_text 'lines, one a second' few "$([ "$(wc -l <"$scratch/stderr")" -le $((SECONDS + 3)) ] && echo few || echo many)"
+expect_text 'the last line' 'progress: 300 of 300 jobs closed, 600 visits delivered, 53400 bytes written' "$(tail -n 1 "$scratch/stderr")"
+
+begin 'quiet: nothing is told'
+write_blocks "$one_blocks"
+write_jobs "a $one_job"
+run jobs "${inputs[@]}" --out out --progress --quiet
+expect 0 "a $one_line
+total jobs=1 done=1 skips=0" ''
+
+# on_terminal WORD..: what the command `jobs` writes to a terminal that is both its outputs, a state of the line a line.
+on_terminal() {
+  status=0
+  script -qec "$(printf '%q ' "$top/ix_export" jobs "${inputs[@]}" --out out "$@")" /dev/null </dev/null >"$scratch/terminal" || status=$?
+  tr '\r' '\n' <"$scratch/terminal" | sed $'s/\x1b\\[K$//' | grep -v '^$' >"$scratch/stdout" || true
+}
+
+if command -v script >/dev/null; then
+  begin 'progress: a terminal has one line that is rewritten, and ends before the report'
+  write_blocks "$one_blocks"
+  write_jobs "a $one_job"
+  on_terminal --progress
+  expect_text 'exit status' 0 "$status"
+  sed -i 's/, [0-9]* a second$/, R a second/' "$scratch/stdout"
+  expect_lines 'the terminal' "loading 0 of 0 MiB
+1 of 1 jobs closed, 0 MiB, 2 visits, R a second
+a $one_line
+total jobs=1 done=1 skips=0" "$scratch/stdout"
+  expect_text 'line ends' 3 "$(tr -cd '\n' <"$scratch/terminal" | wc -c)"
+  title='progress: a terminal of a short run has no such line'
+  on_terminal
+  expect_lines 'the terminal' "a $one_line
+total jobs=1 done=1 skips=0" "$scratch/stdout"
+  title='progress: nor has one that is to be quiet'
+  on_terminal --progress --quiet
+  expect_lines 'the terminal' "a $one_line
+total jobs=1 done=1 skips=0" "$scratch/stdout"
+  title='progress: a refused run on a terminal'
+  printf x >jobs.txt
+  on_terminal --progress
+  expect_text 'exit status' 2 "$status"
+  expect_lines 'the terminal' 'loading 0 of 0 MiB
+jobs: fields at line 1' "$scratch/stdout"
+else
+  echo 'tests/program.sh: no script here, so what a terminal is told is not tested' >&2
+fi
+
 begin 'progress: the examples by many threads'
 run jobs --blocks "$top/examples/library.car" --jobs "$top/examples/library.jobs" --out out --progress
 expect_text 'exit status' 4 "$status"
 expect_lines 'standard output' "$(cat "$top/examples/expected/report.txt")" "$scratch/stdout"
-expect_text 'jobs closed' "$(seq -f 'progress: %g of 5 jobs closed' 5)" "$(cut -d, -f1 "$scratch/stderr")"
+expect_text 'the first line' 'progress: 1 of 5 jobs closed' "$(head -n 1 "$scratch/stderr" | cut -d, -f1)"
 expect_text 'the last line' 'progress: 5 of 5 jobs closed, 35 visits delivered, 3161 bytes written' \
   "$(tail -n 1 "$scratch/stderr")"
 for name in album first-three front parts whole; do

@@ -26,13 +26,18 @@ words_refused jobs "${inputs[@]}"
 words_refused jobs --jobs jobs.txt --out out
 words_refused jobs --blocks blocks.car --out out
 words_refused jobs "${inputs[@]}" --out
-words_refused jobs "${inputs[@]}" --out out --quiet
+words_refused jobs "${inputs[@]}" --out out --loud
 words_refused jobs "${inputs[@]}" --out out more
 words_refused jobs "${inputs[@]}" --out out --sync --sync
 words_refused jobs "${inputs[@]}" --out out --progress --progress
 words_refused selector '{".":{}}' more
 words_refused selector '{".":{}}' --hex a1612ea0
 words_refused selector --hex
+words_refused job
+words_refused job a "$abc_text" 1
+words_refused job a "$abc_text" 1 '{".":{}}' more
+words_refused check-jobs
+words_refused check-jobs jobs.txt more
 for option in --walkers --verifiers; do
   for number in 0 65 x -1 '' 4294967297; do
     words_refused jobs "${inputs[@]}" --out out "$option" "$number"
@@ -60,9 +65,9 @@ helps() {
 
 helps --help -- root jobs selector CARv1 SHA-256 SHA-512 identity UnixFS --version 'Usage: ix_export <COMMAND>'
 helps -h -- root jobs selector
-helps root --help -- '--cid <TEXT>' hexadecimal 'standard input' 'Status: 0'
+helps root --help -- '--cid <TEXT>' hexadecimal 'Standard input' 'Status: 0'
 helps jobs --help -- 'NAME ROOTS LIMIT SELECTOR' '--blocks <FILE>' '--jobs <FILE>' '--out <DIR>' '--walkers <N>' \
-  '--verifiers <N>' '1 to 64' 'default: 4' "$abc_text 1000 $matcher" 1000000 DIR/NAME.car damaged 'Status: 0' 1073741824 \
+  '--verifiers <N>' '1 to 64' 'default: 4' "$abc_text 9 $matcher" 1000000 DIR/NAME.car damaged 'Status: 0' 1073741824 \
   DIR/NAME.car.part --sync --progress 'counts twice' SHA-256 SHA-512 identity 'the command `selector`'
 helps selector --help -- '--hex <TEXT>' '[JSON]' '{"R":{"l":{"none":{}},":>":{"a":{">":{"@":{}}}}}}' docs/SELECTORS.md
 

@@ -10,50 +10,71 @@
 //! ```
 #![tactic(auto)]
 
+mod inspect;
+mod job_file;
+mod job_words;
+mod verify;
 mod words;
 
 ghost use Rattle.std.specs.Prelude.{◌≡◌, ◌≤◌, length, IfOk};
 ghost use Rattle.std.specs.Arc.{arc_value};
 
+use crate::job_file::{check_jobs, print_job};
 use clap::ArgMatches;
 use ix_files::{
-    Failure, Progress, make_outputs, name_outputs, read_all, read_file, remove_outputs, stand_in,
+    Failure, Progress, STANDARD_INPUT, Telling, load_input, make_outputs, name_complete_outputs,
+    name_outputs, read_all, read_input, remove_outputs, stand_in,
 };
-use ix_jobs::Part;
 use ix_notation::{hex_of_json, json_of_hex};
 use ix_pipeline::Plan;
-use ix_run::{RunFault, RunOut, load, load_part, printed_root, root_of_text, run, run_watched};
+use ix_run::{Choice, RunFault, RunOut, load_by, printed_root, root_of_text, run, run_watched};
 use ix_walk::{Job, Store};
 use std::fs::File;
-use std::io::{BufWriter, Write};
+use std::io::{BufWriter, IsTerminal, Write};
 use std::mem::ManuallyDrop;
 use std::process::ExitCode;
-use std::rt::{Env, Files};
+use std::rt::{Clock, Env, Files};
 use std::sync::{Arc, Wait};
 use std::thread::Threads;
-use std::{env, io};
-use words::{command_line, part_of};
+use std::{env, io, thread};
+use words::{command_line, judge_inputs, part_of};
 
 // How many visits wait between the walkers and the verifiers, and how many verdicts behind each
-// verifier.
-const QUEUE: u32 = 256;
+// verifier: about as many as come while a thread that waits sleeps a few times.
+const QUEUE: u32 = 1024;
 
-const LANE: u32 = 64;
+const LANE: u32 = 256;
+
+// After so many milliseconds a terminal is told how a run goes on, whether that was asked for or not.
+const SHORT_RUN: u64 = 2_000;
+
+// Where standard input stands among the files.
+const STANDARD_INPUT_FILE: &str = "/dev/stdin";
 
 fn main(rt: HostRuntime) -> ExitCode {
-    match obey(&rt) {
+    let is_terminal = rt.stderr().is_terminal();
+    match obey(&rt, is_terminal) {
         Ok(status) => ExitCode::from(status),
         Err(failure) => ExitCode::from(failure.report(&rt)),
     }
 }
 
-// Does what the words say, and answers the status.
-fn obey<R: AllocGlobal + Env + Eprint + Files<File = File> + Input + Print + Threads + Wait + Sync>(
-    rt: &R,
-) -> Result<u8, Failure> {
+// Does what the words say, and answers the status. Told is whether standard error is a terminal.
+fn obey<
+    R: AllocGlobal
+        + Clock
+        + Env
+        + Eprint
+        + Files<File = File>
+        + Input
+        + Print
+        + Threads
+        + Wait
+        + Sync,
+>(rt: &R, is_terminal: bool) -> Result<u8, Failure> {
     let words = words_of(rt)?;
     let matches = command_line(rt.alloc())?.try_get_matches_from(words.as_slice())?;
-    obey_command(rt, &matches)
+    obey_command(rt, &matches, is_terminal)
 }
 
 // The words that the program was started with.
@@ -65,13 +86,25 @@ fn words_of<R: AllocGlobal + Env>(rt: &R) -> Result<Vec<String>, Failure> {
 // Does what the command says that the words name.
 fn obey_command<
     'a,
-    R: AllocGlobal + Eprint + Files<File = File> + Input + Print + Threads + Wait + Sync,
->(rt: &R, matches: &ArgMatches<'a>) -> Result<u8, Failure> {
+    R: AllocGlobal + Clock + Eprint + Files<File = File> + Input + Print + Threads + Wait + Sync,
+>(rt: &R, matches: &ArgMatches<'a>, is_terminal: bool) -> Result<u8, Failure> {
     if let Some(words) = matches.subcommand_matches("jobs") {
-        return export_jobs(rt, words);
+        return export_jobs(rt, words, is_terminal);
     }
     if let Some(words) = matches.subcommand_matches("selector") {
         return convert_selector(rt, words);
+    }
+    if let Some(words) = matches.subcommand_matches("job") {
+        return print_job(rt, words);
+    }
+    if let Some(words) = matches.subcommand_matches("check-jobs") {
+        return check_jobs(rt, words);
+    }
+    if let Some(words) = matches.subcommand_matches("inspect") {
+        return inspect::inspect(rt, words);
+    }
+    if let Some(words) = matches.subcommand_matches("verify") {
+        return verify::verify_files(rt, words);
     }
     let root = matches.subcommand_matches("root");
     export_one(rt, root.and_then(|root| root.get_str("cid")).unwrap_or(""))
@@ -85,8 +118,11 @@ fn convert_selector<'a, R: AllocGlobal + Input + Print>(
     let alloc = rt.alloc();
     let line = match (words.get_str("hex"), words.get_str("json")) {
         (Some(text), _) => json_of_hex(alloc, text)?,
-        (None, Some(text)) => hex_of_json(alloc, text.as_bytes())?,
-        (None, None) => hex_of_json(alloc, read_all(alloc, rt.reader(), 0, "-")?.as_slice())?,
+        (None, Some(text)) if text != STANDARD_INPUT => hex_of_json(alloc, text.as_bytes())?,
+        _ => hex_of_json(
+            alloc,
+            read_all(alloc, rt.reader(), 0, STANDARD_INPUT)?.as_slice(),
+        )?,
     };
     print_all(rt, line.as_bytes())?;
     Ok(0)
@@ -104,15 +140,45 @@ fn export_one<R: AllocGlobal + Input + Print>(rt: &R, text: &str) -> Result<u8, 
 
 // The command `jobs`: its faults come in the order blocks, job file, what they hold, outputs. A run
 // that is refused leaves no output.
-fn export_jobs<'a, R: AllocGlobal + Eprint + Files<File = File> + Print + Threads + Wait + Sync>(
-    rt: &R,
-    words: &ArgMatches<'a>,
-) -> Result<u8, Failure> {
-    let part = part_of(rt.alloc(), words)?;
-    let standing = stand_in(rt);
+fn export_jobs<
+    'a,
+    R: AllocGlobal + Clock + Eprint + Files<File = File> + Input + Print + Threads + Wait + Sync,
+>(rt: &R, words: &ArgMatches<'a>, is_terminal: bool) -> Result<u8, Failure> {
+    let progress = Progress::new(rt, telling(words, is_terminal));
+    let status = export_told(rt, words, &progress);
+    progress.end();
+    status
+}
+
+// How it is told how the run goes on.
+fn telling<'a>(words: &ArgMatches<'a>, is_terminal: bool) -> Telling {
+    let is_asked = words.get_flag("progress");
+    if words.get_flag("quiet") {
+        Telling::Nothing
+    } else if is_terminal {
+        Telling::OneLine(if is_asked { 0 } else { SHORT_RUN })
+    } else if is_asked {
+        Telling::Lines
+    } else {
+        Telling::Nothing
+    }
+}
+
+// The same, which tells how it goes on. What stands in for closed streams comes behind the inputs, so
+// that standard input that is closed can't be read as one without bytes.
+fn export_told<
+    'a,
+    R: AllocGlobal + Clock + Eprint + Files<File = File> + Input + Print + Threads + Wait + Sync,
+>(rt: &R, words: &ArgMatches<'a>, progress: &Progress<R>) -> Result<u8, Failure> {
+    let choice = Choice {
+        part: part_of(rt.alloc(), words)?,
+        once: words.get_flag("once"),
+    };
     let inputs = ["blocks", "jobs"].map(|name| words.get_str(name).unwrap_or(""));
-    let (store, jobs) = load_files(rt, inputs, part)?;
-    let status = export_loaded(rt, words, inputs, &store, &jobs)?;
+    judge_inputs(rt.alloc(), inputs)?;
+    let (store, jobs) = load_files(rt, inputs, choice, loaders(rt, words), progress)?;
+    let standing = stand_in(rt);
+    let status = export_loaded(rt, words, inputs, &store, &jobs, progress)?;
     leave_to_the_system(store);
     drop(standing);
     Ok(status)
@@ -124,36 +190,46 @@ fn leave_to_the_system(store: Arc<Store>) {
     let _left = unsafe { ManuallyDrop::new_unchecked(store) };
 }
 
-// What the file of blocks and the job file, or a part of it, hold.
-fn load_files<R: AllocGlobal + Files>(
+// What the file of blocks and the job file hold, of which these jobs are chosen. So many threads index the blocks.
+fn load_files<R: AllocGlobal + Clock + Eprint + Files + Input + Threads + Sync>(
     rt: &R,
     inputs: [&str; 2],
-    part: Option<Part>,
+    choice: Choice,
+    loaders: usize,
+    progress: &Progress<R>,
 ) -> Result<(Arc<Store>, Arc<Vec<Job>>), Failure>
     ensures { IfOk result (λ loaded. length (arc_value loaded.1).items ≤ 1000) }
 {
-    let car = read_file(rt, inputs[0])?;
-    let file = read_file(rt, inputs[1])?;
-    match part {
-        Some(part) => Ok(load_part(rt.alloc(), car, file.as_slice(), part)?),
-        None => Ok(load(rt.alloc(), car, file.as_slice())?),
-    }
+    let car = load_input(rt, inputs[0], progress)?;
+    let file = read_input(rt, inputs[1])?;
+    Ok(load_by(rt, rt.alloc(), car, file.as_slice(), choice, loaders)?)
 }
 
 // Runs the jobs of these files, and makes and names their outputs, or removes them where the run is
 // refused.
-fn export_loaded<'a, R: AllocGlobal + Eprint + Files<File = File> + Print + Threads + Wait + Sync>(
+fn export_loaded<
+    'a,
+    R: AllocGlobal + Clock + Eprint + Files<File = File> + Print + Threads + Wait + Sync,
+>(
     rt: &R,
     words: &ArgMatches<'a>,
     inputs: [&str; 2],
     store: &Arc<Store>,
     jobs: &Arc<Vec<Job>>,
+    progress: &Progress<R>,
 ) -> Result<u8, Failure>
     requires { length (arc_value jobs.now).items ≤ 1000 }
 {
     let folder = words.get_str("out").unwrap_or("");
-    let writers = make_outputs(rt, folder, jobs.as_slice(), inputs)?;
-    match run_by_words(rt, words, store, jobs, writers) {
+    let files = inputs.map(|path| if path == STANDARD_INPUT {
+        STANDARD_INPUT_FILE
+    } else {
+        path
+    });
+    let writers = make_outputs(rt, folder, jobs.as_slice(), files)?;
+    let ran = run_by_words(rt, words, store, jobs, writers, progress);
+    progress.end();
+    match ran {
         Ok(out) => tell(rt, words, folder, jobs.as_slice(), &out),
         Err(fault) => {
             remove_outputs(rt, folder, jobs.as_slice(), jobs.len());
@@ -163,7 +239,7 @@ fn export_loaded<'a, R: AllocGlobal + Eprint + Files<File = File> + Print + Thre
 }
 
 // Names the outputs of a run, and prints its report.
-fn tell<'a, R: AllocGlobal + Files<File = File> + Print>(
+fn tell<'a, R: AllocGlobal + Eprint + Files<File = File> + Print>(
     rt: &R,
     words: &ArgMatches<'a>,
     folder: &str,
@@ -172,19 +248,24 @@ fn tell<'a, R: AllocGlobal + Files<File = File> + Print>(
 ) -> Result<u8, Failure> {
     let sync = words.get_flag("sync");
     let outputs = out.writers.as_slice();
-    let named = name_outputs(rt, folder, jobs, out.ends.as_slice(), outputs, sync);
+    let named = if words.get_flag("complete") {
+        name_complete_outputs(rt, folder, jobs, out.results.as_slice(), outputs, sync)
+    } else {
+        name_outputs(rt, folder, jobs, out.ends.as_slice(), outputs, sync)
+    };
     print_all(rt, out.report.as_slice())?;
     named?;
     Ok(out.status)
 }
 
 // Runs the jobs by as many threads as the words say, and tells how it goes on where they ask for that.
-fn run_by_words<'a, R: AllocGlobal + Eprint + Threads + Wait + Sync, W: Write + Drop>(
+fn run_by_words<'a, R: AllocGlobal + Clock + Eprint + Threads + Wait + Sync, W: Write + Drop>(
     rt: &R,
     words: &ArgMatches<'a>,
     store: &Arc<Store>,
     jobs: &Arc<Vec<Job>>,
     writers: Vec<W>,
+    progress: &Progress<R>,
 ) -> Result<RunOut<W>, RunFault>
     requires writers { length writers.items ≡ length (arc_value jobs.now).items }
     requires jobs { length (arc_value jobs.now).items ≤ 1000 }
@@ -196,11 +277,20 @@ fn run_by_words<'a, R: AllocGlobal + Eprint + Threads + Wait + Sync, W: Write + 
         queue: QUEUE,
         lane: LANE,
     };
-    if !words.get_flag("progress") {
+    if !progress.is_told() {
         return run(rt, alloc, store, jobs, writers, verifiers, plan);
     }
-    let progress = Progress::new(rt, jobs.len());
-    run_watched(rt, alloc, store, jobs, writers, verifiers, plan, &progress)
+    progress.begin(jobs.len());
+    run_watched(rt, alloc, store, jobs, writers, verifiers, plan, progress)
+}
+
+// How many threads index the blocks: as many as walk and hash, where there are processors for them.
+fn loaders<'a, R: Threads>(rt: &R, words: &ArgMatches<'a>) -> usize {
+    let asked = threads(words, "walkers") as usize + threads(words, "verifiers") as usize;
+    match thread::available_parallelism(rt) {
+        Ok(processors) => asked.min(processors.get()),
+        Err(_) => asked,
+    }
 }
 
 // How many threads the option with this name asks for. The command line has let no number through
@@ -212,7 +302,7 @@ fn threads<'a>(words: &ArgMatches<'a>, name: &str) -> u32
 }
 
 // Writes to standard output.
-fn print_all<R: AllocGlobal + Print>(rt: &R, text: &[u8]) -> Result<(), Failure> {
+pub(crate) fn print_all<R: AllocGlobal + Print>(rt: &R, text: &[u8]) -> Result<(), Failure> {
     io::writer(rt)
         .write_all(text)
         .map_err(|error| Failure::cannot_write(rt.alloc(), "-", &error))

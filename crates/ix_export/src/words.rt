@@ -1,7 +1,11 @@
 //! The words of the command line.
 
+use crate::inspect::inspect_command;
+use crate::job_words::{check_jobs_command, job_command};
+use crate::verify::verify_command;
 use clap::error::ErrorKind;
 use clap::{Arg, ArgAction, ArgMatches, Command, value_parser};
+use ix_files::STANDARD_INPUT;
 use ix_jobs::Part;
 use std::alloc::{AllocError, Global};
 
@@ -11,65 +15,84 @@ const VERSION: &str = "1.0.0, proved in Rattle's logic dac8208d650f15bf";
 // The texts of the help.
 const ABOUT: &str = "Cuts subgraphs out of CARv1 files";
 
-const HELP: &str =
-    "Exported are blocks of the codecs raw and DAG-CBOR under SHA-256 and SHA-512. Links inside an\n\
-identity CID, which holds its bytes itself, are followed. A link of another codec or hash is\n\
-reported as skipped. UnixFS (codec dag-pb) isn't read.";
+const HELP: &str = "Exported are blocks of the codecs raw and DAG-CBOR under SHA-256 and SHA-512.\n\
+Links inside an identity CID, which holds its bytes itself, are followed. A\n\
+link of another codec or hash is reported as skipped. UnixFS (codec dag-pb)\n\
+isn't read.";
 
-const ROOT_ABOUT: &str =
-    "Writes the archive of one root: a CAR file on standard input, the archive on standard output, both in hexadecimal";
+const ROOT_ABOUT: &str = "Writes the archive of one root, out of hexadecimal and in it";
 
 const ROOT_HELP: &str = "The archive has the root's block alone, where it is there and sound.\n\
 \n\
-Standard input is a CARv1 file in hexadecimal; spaces, tabs and line ends are skipped.\n\
-Status: 0 where an archive was printed, 2 where the words or the input are refused.";
+Standard input is a CARv1 file in hexadecimal; spaces, tabs and line ends are\n\
+skipped. Status: 0 where an archive was printed, 2 where the words or the input\n\
+are refused.";
 
 const JOBS_ABOUT: &str = "Writes an archive for each job of a job file, and a report";
 
 const JOBS_HELP: &str =
-    "Each line of the job file is a job, NAME ROOTS LIMIT SELECTOR with one space between:\n\
+    "Each line of the job file is a job, NAME ROOTS LIMIT SELECTOR with one space\n\
+between:\n\
 \n\
-  photos bafkreif2pall7dybz7vecqka3zo24irdwabwdi4wc55jznaq75q7eaavvu 1000 a1612ea0\n\
+  photos bafkreif2pall7dybz7vecqka3zo24irdwabwdi4wc55jznaq75q7eaavvu 9 a1612ea0\n\
 \n\
-NAME is 1 to 64 of a to z, 0 to 9, - and _, ROOTS are the texts of 1 to 64 CIDv1s (base32) with\n\
-one comma between, LIMIT is how many arrivals at blocks there may be from all roots together, 1 to\n\
-1000000, and SELECTOR is an IPLD selector as DAG-CBOR in hexadecimal, which the command `selector`\n\
-makes of JSON. A block that is linked twice is arrived at twice: it counts twice, and is checked\n\
-twice. Empty lines and lines that begin with # are ignored. There are at most 1000 jobs.\n\
+NAME is 1 to 64 of a to z, 0 to 9, - and _, ROOTS are the texts of 1 to 64\n\
+CIDv1s (base32) with one comma between, LIMIT is how many arrivals at blocks\n\
+there may be from all roots together, 1 to 1000000, and SELECTOR is an IPLD\n\
+selector as DAG-CBOR in hexadecimal, which the command `selector` makes of\n\
+JSON. A block that is linked twice is arrived at twice: it counts twice, and is\n\
+checked twice. Empty lines and lines that begin with # are ignored. There are\n\
+at most 1000 jobs.\n\
 \n\
-With --part K/N the K-th of N parts of the jobs is run: of J jobs, numbered from 0, those from\n\
-(K-1)*J/N up to, and not including, K*J/N, both rounded down. So the parts 1 to N are all jobs. The\n\
-whole file is read and judged, whatever the part; it may have 1000000 jobs, and a part 1000.\n\
+With --part K/N the K-th of N parts of the jobs is run: of J jobs, numbered\n\
+from 0, those from (K-1)*J/N up to, and not including, K*J/N, both rounded\n\
+down. So the parts 1 to N are all jobs. The whole file is read and judged,\n\
+whatever the part; it may have 1000000 jobs, and a part 1000.\n\
 \n\
-A job has one archive, whose header names its roots in their order, and which has each block once.\n\
+A job has one archive, whose header names its roots in their order, and which\n\
+has each block once.\n\
 \n\
-The archive of a job is written to DIR/NAME.car.part. When the run has ended it is named\n\
-DIR/NAME.car, in place of a file that is there, where its job ended with done or limit; otherwise\n\
-DIR/NAME.car stays as it was. DIR must be there. As many files are open at once as there are jobs.\n\
-The report on standard output has a line for each job, how it ended (done, limit, memory, write,\n\
-start) and what was counted, then a line for each link that was skipped (codec, hash, missing,\n\
-damaged, malformed), and at last the totals. Skipped are links of other codecs than raw and DAG-CBOR\n\
-and of other hashes than SHA-256, SHA-512 and identity; UnixFS isn't read. An identity CID holds its\n\
-bytes itself: links inside it are followed, and it has no block in the archive.\n\
+The archive of a job is written to DIR/NAME.car.part. When the run has ended it\n\
+is named DIR/NAME.car, in place of a file that is there, where its job ended\n\
+with done or limit; otherwise DIR/NAME.car stays as it was. DIR must be there.\n\
+As many files are open at once as there are jobs. The report on standard output\n\
+has a line for each job, how it ended (done, limit, memory, write, start) and\n\
+what was counted, then a line for each link that was skipped (codec, hash,\n\
+missing, damaged, malformed), and at last the totals. Skipped are links of\n\
+other codecs than raw and DAG-CBOR and of other hashes than SHA-256, SHA-512\n\
+and identity; UnixFS isn't read. An identity CID holds its bytes itself: links\n\
+inside it are followed, and it has no block in the archive.\n\
 \n\
-With --progress a line goes to standard error when the archive of a job is closed and after each\n\
-100000 visits: how many jobs of all are closed, how many visits were delivered, and how many bytes\n\
-of archives were written.\n\
+With --once a job goes into a CID the first time that it arrives there with the\n\
+same rest of its selector, and only where the block is sound. Later arrivals\n\
+count as visits, with nothing below them. So a graph has about as many visits\n\
+as links, and the archive is the same where both ways are within the limit.\n\
 \n\
-Status: 0 where every job is done and nothing was skipped, 3 where every job is done and something\n\
-was skipped, 4 where a job ended otherwise, 2 where the words or a file are refused, with a line\n\
-on standard error. A file has at most 1073741824 bytes.";
+With --complete only the archives of jobs that are done, with all their roots\n\
+written, get their names; the others stay as .part, and a line on standard\n\
+error says why.\n\
+\n\
+With --progress standard error is told how many jobs of all are closed, how\n\
+many visits were delivered and how much of archives was written: a terminal in\n\
+one line that is rewritten, also without the option where a run takes more than\n\
+two seconds, and a file in lines, one a second at most.\n\
+\n\
+Status: 0 where every job is done and nothing was skipped, 3 where every job is\n\
+done and something was skipped, 4 where a job ended otherwise, 2 where the\n\
+words or a file are refused, with a line on standard error. A file has at most\n\
+1073741824 bytes.";
 
 const SELECTOR_ABOUT: &str =
     "Turns a selector from JSON into the hexadecimal of a job file, or back";
 
 const SELECTOR_HELP: &str =
-    "JSON has the keys of the IPLD Selectors specification. Everything below a root is\n\
+    "JSON has the keys of the IPLD Selectors specification. All below a root is\n\
 \n\
   {\"R\":{\"l\":{\"none\":{}},\":>\":{\"a\":{\">\":{\"@\":{}}}}}}\n\
 \n\
-Without JSON and --hex, JSON is read from standard input. docs/SELECTORS.md has the forms and\n\
-recipes. Status: 0 where a line was printed, 2 where it is no selector, with a line that says why.";
+Without JSON and --hex, or where JSON is -, it is read from standard input.\n\
+docs/SELECTORS.md has the forms and recipes. Status: 0 where a line was\n\
+printed, 2 where it is no selector, with a line that says why.";
 
 /// The command line, of which the help is made.
 pub fn command_line<'a>(alloc: Global) -> Result<Command<'a>, AllocError> {
@@ -85,8 +108,12 @@ pub fn command_line<'a>(alloc: Global) -> Result<Command<'a>, AllocError> {
 fn commands<'a>(alloc: Global) -> Result<Vec<Command<'a>>, AllocError> {
     let mut commands = Vec::new(alloc);
     commands.push(jobs_command(alloc)?)?;
+    commands.push(job_command(alloc)?)?;
+    commands.push(check_jobs_command(alloc)?)?;
     commands.push(selector_command(alloc)?)?;
     commands.push(root_command(alloc)?)?;
+    commands.push(inspect_command(alloc)?)?;
+    commands.push(verify_command(alloc)?)?;
     Ok(commands)
 }
 
@@ -100,12 +127,27 @@ fn root_command<'a>(alloc: Global) -> Result<Command<'a>, AllocError> {
 
 fn jobs_command<'a>(alloc: Global) -> Result<Command<'a>, AllocError> {
     let options = vec![in alloc;
-        text_argument(alloc, "blocks", "FILE", "The blocks: a CARv1 file"),
-        text_argument(alloc, "jobs", "FILE", "The job file"),
+        text_argument(
+            alloc,
+            "blocks",
+            "FILE",
+            "The blocks: a CARv1 file, or - for standard input"
+        ),
+        text_argument(
+            alloc,
+            "jobs",
+            "FILE",
+            "The job file, or - for standard input"
+        ),
         text_argument(alloc, "out", "DIR", "Where the archives go"),
         part_argument(alloc),
         number_argument(alloc, "walkers", "How many threads walk, 1 to 64"),
         number_argument(alloc, "verifiers", "How many threads hash, 1 to 64"),
+        flag_argument(
+            alloc,
+            "once",
+            "Goes into what is shared once, not at every arrival",
+        ),
         flag_argument(
             alloc,
             "sync",
@@ -113,8 +155,18 @@ fn jobs_command<'a>(alloc: Global) -> Result<Command<'a>, AllocError> {
         ),
         flag_argument(
             alloc,
+            "complete",
+            "Names only archives of done jobs with all their roots",
+        ),
+        flag_argument(
+            alloc,
             "progress",
             "Tells on standard error how the run goes on",
+        ),
+        flag_argument(
+            alloc,
+            "quiet",
+            "Tells nothing of that, on a terminal either"
         ),
     ]?;
     Command::new(alloc, "jobs")
@@ -158,6 +210,16 @@ fn part_argument<'a>(alloc: Global) -> Arg<'a> {
         .action(ArgAction::Set)
 }
 
+/// Refuses standard input for both the blocks and the job file.
+pub fn judge_inputs(alloc: Global, inputs: [&str; 2]) -> Result<(), clap::Error> {
+    if inputs[0] == STANDARD_INPUT && inputs[1] == STANDARD_INPUT {
+        let mut command = jobs_command(alloc)?.bin_name("ix_export jobs")?;
+        let message = "standard input is given for '--blocks <FILE>' and for '--jobs <FILE>'";
+        return Err(command.error(ErrorKind::ArgumentConflict, message)?);
+    }
+    Ok(())
+}
+
 /// The part of the job file that the words of the command `jobs` ask for, or the whole.
 pub fn part_of<'a>(alloc: Global, words: &ArgMatches<'a>) -> Result<Option<Part>, clap::Error> {
     let Some(text) = words.get_str("part") else {
@@ -184,8 +246,8 @@ fn refused_part<'a>(alloc: Global, text: &str) -> Result<clap::Error, AllocError
     command.error(ErrorKind::ValueValidation, message.as_str())
 }
 
-// An option with a number from 1 to 64, which is 4 where it is left out.
-fn number_argument<'a>(alloc: Global, name: &'a str, help: &'a str) -> Arg<'a> {
+/// An option with a number from 1 to 64, which is 4 where it is left out.
+pub fn number_argument<'a>(alloc: Global, name: &'a str, help: &'a str) -> Arg<'a> {
     Arg::new(alloc, name)
         .long(name)
         .value_name("N")
@@ -195,8 +257,8 @@ fn number_argument<'a>(alloc: Global, name: &'a str, help: &'a str) -> Arg<'a> {
         .action(ArgAction::Set)
 }
 
-// An option without a value.
-fn flag_argument<'a>(alloc: Global, name: &'a str, help: &'a str) -> Arg<'a> {
+/// An option without a value.
+pub fn flag_argument<'a>(alloc: Global, name: &'a str, help: &'a str) -> Arg<'a> {
     Arg::new(alloc, name)
         .long(name)
         .help(help)

@@ -4,16 +4,20 @@ ghost use Rattle.std.specs.Prelude.{◌≡◌, ◌≤◌, length, IfOk, IfErr, I
 ghost use Rattle.ix_files.specs.Failure.{IsInputFailure};
 
 use crate::fault::Failure;
+use crate::progress::{Loading, Progress};
 use std::alloc::Global;
 use std::fs::{self, OpenFile};
 use std::io::Read;
-use std::rt::Files;
+use std::rt::{Clock, Files};
 
 // The greatest input, in bytes.
 const LARGEST_INPUT: u64 = 1 << 30;
 
 // A file that is always there, and has no bytes.
 const NOTHING: &str = "/dev/null";
+
+/// The path that names standard input.
+pub const STANDARD_INPUT: &str = "-";
 
 /// What stands in for the standard streams that are closed.
 #[derive(Drop)]
@@ -34,9 +38,46 @@ pub fn stand_in<R: Files>(rt: &R) -> StandIns<R::File> {
     }
 }
 
+/// The bytes of a file, or of standard input where the path is `-`.
+pub fn read_input<R: AllocGlobal + Files + Input>(rt: &R, path: &str) -> Result<Vec<u8>, Failure>
+    ensures size { IfOk result (λ input. length input.items ≤ 1073741824) }
+    ensures refused { IfErr result (λ failure. IsInputFailure path.now failure) }
+{
+    if path == STANDARD_INPUT {
+        read_all(rt.alloc(), rt.reader(), 0, path)
+    } else {
+        read_file(rt, path)
+    }
+}
+
+/// The same, of which it is told how it goes on.
+pub fn load_input<R: AllocGlobal + Clock + Eprint + Files + Input>(
+    rt: &R,
+    path: &str,
+    progress: &Progress<R>,
+) -> Result<Vec<u8>, Failure>
+    ensures size { IfOk result (λ input. length input.items ≤ 1073741824) }
+    ensures refused { IfErr result (λ failure. IsInputFailure path.now failure) }
+{
+    if path == STANDARD_INPUT {
+        return read_all(rt.alloc(), Loading::new(rt.reader(), progress), 0, path);
+    }
+    let (file, size) = open_file(rt, path)?;
+    progress.expect(size as u64);
+    read_all(rt.alloc(), Loading::new(file, progress), size, path)
+}
+
 /// The bytes of a file, whose size is judged before it is read.
 pub fn read_file<R: Files + AllocGlobal>(rt: &R, path: &str) -> Result<Vec<u8>, Failure>
     ensures size { IfOk result (λ input. length input.items ≤ 1073741824) }
+    ensures refused { IfErr result (λ failure. IsInputFailure path.now failure) }
+{
+    let (file, size) = open_file(rt, path)?;
+    read_all(rt.alloc(), file, size, path)
+}
+
+// A file and its size, which isn't too large.
+fn open_file<R: Files + AllocGlobal>(rt: &R, path: &str) -> Result<(R::File, usize), Failure>
     ensures refused { IfErr result (λ failure. IsInputFailure path.now failure) }
 {
     let alloc = rt.alloc();
@@ -51,7 +92,7 @@ pub fn read_file<R: Files + AllocGlobal>(rt: &R, path: &str) -> Result<Vec<u8>, 
     if size > LARGEST_INPUT {
         return Err(Failure::too_large(alloc, path));
     }
-    read_all(alloc, file, size as usize, path)
+    Ok((file, size as usize))
 }
 
 /// All that a reader gives, up to the greatest size. Room is made at first for as many bytes as

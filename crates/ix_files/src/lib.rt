@@ -16,12 +16,14 @@
 //! ```
 #![tactic(auto)]
 
+mod complete;
 mod fault;
 mod files;
 mod outputs;
 mod progress;
 
+pub use complete::name_complete_outputs;
 pub use fault::Failure;
-pub use files::{StandIns, read_all, read_file, stand_in};
+pub use files::{STANDARD_INPUT, StandIns, load_input, read_all, read_file, read_input, stand_in};
 pub use outputs::{make_outputs, name_outputs, remove_outputs};
-pub use progress::Progress;
+pub use progress::{Progress, Telling};

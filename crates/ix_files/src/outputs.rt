@@ -130,8 +130,8 @@ pub fn name_outputs<R: Files + AllocGlobal>(
     told
 }
 
-// Gives an archive its name.
-fn name_output<R: Files + AllocGlobal>(
+/// Gives an archive its name.
+pub(crate) fn name_output<R: Files + AllocGlobal>(
     rt: &R,
     folder: &str,
     job: &Job,

@@ -2,59 +2,246 @@
 
 use ix_run::Watch;
 use std::cell::Cell;
+use std::io::{self, Read};
+use std::rt::Clock;
 
-// After so many visits a line is told.
+// After so many visits a line is told, where lines are.
 const VISITS_A_LINE: u64 = 100_000;
 
-/// Tells on standard error how many jobs of all are closed, how many visits were delivered, and how
-/// many bytes of archives were written: at each close, and after each 100,000 visits. It is told by
-/// one thread.
+// How many milliseconds lie between two lines at least, and between two states of the one that is
+// rewritten.
+const BETWEEN_LINES: u64 = 1_000;
+
+const BETWEEN_STATES: u64 = 500;
+
+// After so many visits, or KiB written, the clock is looked at.
+const WORK_A_LOOK: u64 = 256;
+
+// How many bytes are read at once where it is told.
+const PIECE: usize = 4 * 1024 * 1024;
+
+/// How it is told how a run goes on.
+#[derive(Debug, Drop, Clone, Copy, PartialEq, Eq)]
+pub enum Telling {
+    /// Not at all.
+    Nothing,
+    /// In lines, at most one a second: at a close, and after each 100,000 visits.
+    Lines,
+    /// In one line of a terminal, which is rewritten at most twice a second, from so many
+    /// milliseconds on.
+    OneLine(u64),
+}
+
+/// Tells on standard error how many bytes of blocks were read, and then how many jobs of all are closed, how many visits
+/// were delivered, and how many bytes of archives were written. It is told by one thread.
 #[derive(Drop)]
 pub struct Progress<'a, R> {
     rt: &'a R,
-    jobs: usize,
+    telling: Telling,
+    // When it began, and when the run did, in milliseconds of the clock.
+    start: u64,
+    run_start: Cell<u64>,
+    jobs: Cell<usize>,
     closed: Cell<usize>,
     visits: Cell<u64>,
     bytes: Cell<u64>,
+    // How many bytes of blocks were read, and how many there are, where that is known.
+    loaded: Cell<u64>,
+    size: Cell<u64>,
+    // When something was told last.
+    told: Cell<Option<u64>>,
+    // What was done since the clock was looked at.
+    work: Cell<u64>,
+    // Whether the line that is rewritten stands there.
+    stands: Cell<bool>,
 }
 
-impl<'a, R: AllocGlobal + Eprint> Progress<'a, R> {
-    /// The progress of so many jobs, of which nothing was told so far.
-    pub fn new(rt: &'a R, jobs: usize) -> Progress<'a, R> {
+impl<'a, R: AllocGlobal + Clock + Eprint> Progress<'a, R> {
+    /// The progress of a run of which nothing was told so far.
+    pub fn new(rt: &'a R, telling: Telling) -> Progress<'a, R> {
         Progress {
             rt,
-            jobs,
+            telling,
+            start: now(rt),
+            run_start: Cell::new(0),
+            jobs: Cell::new(0),
             closed: Cell::new(0),
             visits: Cell::new(0),
             bytes: Cell::new(0),
+            loaded: Cell::new(0),
+            size: Cell::new(0),
+            told: Cell::new(None),
+            work: Cell::new(0),
+            stands: Cell::new(false),
         }
     }
 
-    // Prints a line. Where standard error can't be written there is nobody to tell.
-    fn print(&self) {
-        let (jobs, closed) = (self.jobs, self.closed.get());
+    /// Whether anything is told.
+    pub fn is_told(&self) -> bool {
+        self.telling != Telling::Nothing
+    }
+
+    /// So many bytes of blocks are there to be read.
+    pub(crate) fn expect(&self, size: u64) {
+        self.size.set(size);
+    }
+
+    // So many more bytes of blocks were read.
+    fn add_loaded(&self, bytes: u64) {
+        self.loaded.set(self.loaded.get().saturating_add(bytes));
+        if self.is_due(false) {
+            let (loaded, size) = (mebibytes(self.loaded.get()), mebibytes(self.size.get()));
+            let _ = if self.size.get() == 0 {
+                eprint!(self.rt; "\rloading {loaded} MiB\u{1b}[K")
+            } else {
+                eprint!(self.rt; "\rloading {loaded} of {size} MiB\u{1b}[K")
+            };
+        }
+    }
+
+    /// The run of so many jobs begins.
+    pub fn begin(&self, jobs: usize) {
+        self.jobs.set(jobs);
+        self.run_start.set(now(self.rt));
+    }
+
+    /// Nothing more is told: the line that is rewritten ends.
+    pub fn end(&self) {
+        if self.stands.replace(false) {
+            let _ = eprint!(self.rt; "\n");
+        }
+    }
+
+    // Whether the line of a terminal is to be rewritten now, which is noted; the last state is.
+    fn is_due(&self, is_last: bool) -> bool {
+        let Telling::OneLine(after) = self.telling else {
+            return false;
+        };
+        let now = now(self.rt);
+        if now.saturating_sub(self.start) < after {
+            return false;
+        }
+        if !is_last && !is_past(self.told.get(), now, BETWEEN_STATES) {
+            return false;
+        }
+        self.told.set(Some(now));
+        self.stands.set(true);
+        true
+    }
+
+    // Rewrites the line of a terminal, where it is due.
+    fn rewrite(&self, is_last: bool) {
+        if !self.is_due(is_last) {
+            return;
+        }
+        let (jobs, closed) = (self.jobs.get(), self.closed.get());
+        let (visits, written) = (self.visits.get(), mebibytes(self.bytes.get()));
+        let rate = a_second(visits, now(self.rt).saturating_sub(self.run_start.get()));
+        // Where standard error can't be written there is nobody to tell.
+        let _ = eprint!(self.rt;
+            "\r{closed} of {jobs} jobs closed, {written} MiB, {visits} visits, {rate} a second\u{1b}[K"
+        );
+    }
+
+    // Prints a line, unless one was told a moment ago; the last one is printed.
+    fn print(&self, is_last: bool) {
+        let now = now(self.rt);
+        if !is_last && !is_past(self.told.get(), now, BETWEEN_LINES) {
+            return;
+        }
+        self.told.set(Some(now));
+        let (jobs, closed) = (self.jobs.get(), self.closed.get());
         let (visits, bytes) = (self.visits.get(), self.bytes.get());
         let _ = eprintln!(self.rt;
             "progress: {closed} of {jobs} jobs closed, {visits} visits delivered, {bytes} bytes written"
         );
     }
+
+    // Looks at the clock where enough was done since.
+    fn add_work(&self, work: u64) {
+        let work = self.work.get().saturating_add(work);
+        if work < WORK_A_LOOK {
+            self.work.set(work);
+        } else {
+            self.work.set(0);
+            self.rewrite(false);
+        }
+    }
 }
 
-impl<'a, R: AllocGlobal + Eprint> Watch for Progress<'a, R> {
+impl<'a, R: AllocGlobal + Clock + Eprint> Watch for Progress<'a, R> {
     fn written(&self, bytes: u64) {
         self.bytes.set(self.bytes.get().saturating_add(bytes));
+        self.add_work(bytes / 1024);
     }
 
     fn delivered(&self) {
         let visits = self.visits.get().saturating_add(1);
         self.visits.set(visits);
-        if visits % VISITS_A_LINE == 0 {
-            self.print();
+        match self.telling {
+            Telling::Lines if visits % VISITS_A_LINE == 0 => self.print(false),
+            Telling::OneLine(_) => self.add_work(1),
+            _ => {}
         }
     }
 
     fn closed(&self) {
-        self.closed.set(self.closed.get().saturating_add(1));
-        self.print();
+        let closed = self.closed.get().saturating_add(1);
+        self.closed.set(closed);
+        let is_last = closed == self.jobs.get();
+        match self.telling {
+            Telling::Nothing => {}
+            Telling::Lines => self.print(is_last),
+            Telling::OneLine(_) => self.rewrite(is_last),
+        }
     }
+}
+
+/// A reader of blocks of which it is told how many bytes were read.
+#[derive(Drop)]
+pub(crate) struct Loading<'a, F, R> {
+    file: F,
+    progress: &'a Progress<'a, R>,
+}
+
+impl<'a, F, R> Loading<'a, F, R> {
+    /// The reader, of which nothing was read so far.
+    pub(crate) fn new(file: F, progress: &'a Progress<'a, R>) -> Loading<'a, F, R> {
+        Loading { file, progress }
+    }
+}
+
+impl<'a, F: Read, R: AllocGlobal + Clock + Eprint> Read for Loading<'a, F, R> {
+    fn read(&mut self, buf: &mut [u8]) -> io::Result<usize> {
+        let most = buf.len().min(PIECE);
+        let count = self.file.read(&mut buf[..most])?;
+        self.progress.add_loaded(count as u64);
+        Ok(count)
+    }
+}
+
+// The time of the clock in milliseconds, 0 where it has none.
+fn now<R: Clock>(rt: &R) -> u64 {
+    match rt.monotonic() {
+        Ok(time) => u64::try_from(time.as_millis()).unwrap_or(u64::MAX),
+        Err(_) => 0,
+    }
+}
+
+// Whether so many milliseconds passed since something was told, or nothing was.
+fn is_past(told: Option<u64>, now: u64, pause: u64) -> bool {
+    match told {
+        Some(told) => now.saturating_sub(told) >= pause,
+        None => true,
+    }
+}
+
+// How many whole MiB there are.
+fn mebibytes(bytes: u64) -> u64 {
+    bytes / (1024 * 1024)
+}
+
+// How many there are a second, of so many in so many milliseconds.
+fn a_second(count: u64, milliseconds: u64) -> u64 {
+    count.saturating_mul(1_000) / milliseconds.max(1)
 }

@@ -1,5 +1,5 @@
 -- Examples, computed.
-use Rattle.std.specs.Prelude.{◌≡◌, [], ◌∷◌, ◌++◌, Ok, Err, refl, codes}
+use Rattle.std.specs.Prelude.{◌≡◌, [], ◌∷◌, ◌++◌, Ok, Err, refl, codes, false}
 use Rattle.hex.specs.Hex.{decode_pairs}
 use Rattle.ix_cbor.specs.Reading.{item_at}
 use Rattle.ix_selector.specs.Pattern.{matcher}
@@ -11,12 +11,12 @@ use Rattle.ix_check.specs.declared.verdict.Verdict.TheVariants.{Missing}
 use Rattle.ix_car.specs.declared.sink.End.TheVariants.{Done}
 use Rattle.std.specs.Fmt.{digits}
 
-pub one_job : jobs_of (codes "# x" ++ 10 ∷ codes "a bafkqaaa 10 a1612ea0" ++ 13 ∷ 10 ∷ []) ≡ Ok (record { name = codes "a"; roots = (1 ∷ 0x55 ∷ 0 ∷ 0 ∷ []) ∷ []; selector = matcher; limit = 10 } ∷ [])
+pub one_job : jobs_of (codes "# x" ++ 10 ∷ codes "a bafkqaaa 10 a1612ea0" ++ 13 ∷ 10 ∷ []) ≡ Ok (record { name = codes "a"; roots = (1 ∷ 0x55 ∷ 0 ∷ 0 ∷ []) ∷ []; selector = matcher; limit = 10; once = false } ∷ [])
 unfolding item_at selector_at decode_pairs
 one_job = refl
 
 -- the second is that of DAG-CBOR with no bytes
-pub two_roots : jobs_of (codes "a bafkqaaa,bafyqaaa 10 a1612ea0") ≡ Ok (record { name = codes "a"; roots = (1 ∷ 0x55 ∷ 0 ∷ 0 ∷ []) ∷ (1 ∷ 0x71 ∷ 0 ∷ 0 ∷ []) ∷ []; selector = matcher; limit = 10 } ∷ [])
+pub two_roots : jobs_of (codes "a bafkqaaa,bafyqaaa 10 a1612ea0") ≡ Ok (record { name = codes "a"; roots = (1 ∷ 0x55 ∷ 0 ∷ 0 ∷ []) ∷ (1 ∷ 0x71 ∷ 0 ∷ 0 ∷ []) ∷ []; selector = matcher; limit = 10; once = false } ∷ [])
 unfolding item_at selector_at decode_pairs
 two_roots = refl
 

@@ -1,5 +1,5 @@
 -- The job file: its jobs, or the first faulty line with the first test that fails.
-use Rattle.std.specs.Prelude.{ℕ, ◌+◌, Bool, true, not, ◌&&◌, List, [], ◌∷◌, ◌++◌, length, nat_le, nat_lt, ◌==◌, if◌then◌else◌, bytes_eq, Result, Ok, Err}
+use Rattle.std.specs.Prelude.{ℕ, ◌+◌, Bool, true, not, ◌&&◌, List, [], ◌∷◌, ◌++◌, length, nat_le, nat_lt, ◌==◌, if◌then◌else◌, bytes_eq, Result, Ok, Err, false}
 use Rattle.std.specs.List.{list_all, list_any, slice_split}
 use Rattle.std.specs.Str.{all_ascii_digits}
 use Rattle.std.specs.Str.Lines.{strip_carriage_return}
@@ -75,7 +75,7 @@ selector_in digits = bytes_in digits >>= (λ bytes. data_in bytes >>= (λ d. or_
 abbrev pub job_of_fields : List ℕ → List ℕ → List ℕ → List ℕ → Result JobMeaning JobsKind
 job_of_fields name roots limit selector =
     name_in name >>= (λ n. roots_in roots >>= (λ r. limit_in limit >>= (λ l. selector_in selector >>= (λ s.
-    Ok (record { name = n; roots = r; selector = s; limit = l })))))
+    Ok (record { name = n; roots = r; selector = s; limit = l; once = false })))))
 
 abbrev pub is_empty : List ℕ → Bool
 is_empty field = length field == 0

@@ -35,8 +35,8 @@ pub fn read_jobs(alloc: Global, bytes: &[u8]) -> Result<Vec<Job>, JobsFault>
     Ok(jobs.into_jobs())
 }
 
-/// The first line, and what follows its end.
-pub(crate) fn split_line(bytes: &[u8]) -> (&[u8], &[u8])
+/// The first line, without its `0a`, and what follows that; nothing follows where there is none.
+pub fn split_line(bytes: &[u8]) -> (&[u8], &[u8])
     ensures line { result.0.now ≡ before_first (λ b. b == 10) bytes.now }
     ensures rest { result.1.now ≡ after_first (λ b. b == 10) bytes.now }
 {

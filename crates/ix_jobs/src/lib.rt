@@ -25,7 +25,7 @@ mod part_jobs;
 mod part_list;
 
 pub use fault::{JobsFault, JobsKind};
-pub use jobs::read_jobs;
+pub use jobs::{read_jobs, split_line};
 pub use outcome::{JobResult, report, status};
 pub use part::Part;
 pub use part_jobs::read_jobs_part;

@@ -1,12 +1,16 @@
 -- A job file has no more than 1,000 jobs.
-use Rattle.std.proofs.Common.{◌≡◌, ℕ, ◌+◌, ◌≤◌, List, [], ◌∷◌, ◌++◌, length, refl, ap, subst, Bool, true, false, cond, arith, length-append, leb, eqb}
-use Rattle.std.specs.Prelude.{Result, Ok, Err, bytes_eq}
+use Rattle.std.proofs.Common.{◌≡◌, ℕ, ◌+◌, ◌≤◌, List, [], ◌∷◌, ◌++◌, length, refl, sym, ap, subst, Bool, true, false, cond, arith, length-append, leb, eqb}
+use Rattle.std.specs.Prelude.{Result, Ok, Err, IfOk, map, if◌then◌else◌, bytes_eq}
+use Rattle.std.specs.Global.{Vec}
 use Rattle.std.specs.List.{list_any, slice_split}
 use Rattle.std.specs.Str.Lines.{strip_carriage_return}
 use Rattle.std.proofs.lemmas.Bool.{leb-false}
-use Rattle.ix_walk.specs.JobMeaning.{JobMeaning}
+use Rattle.ix_walk.specs.JobMeaning.{JobMeaning, going_in}
 use Rattle.ix_jobs.specs.declared.fault.JobsKind.{JobsKind}
+use Rattle.ix_jobs.specs.declared.fault.JobsFault.{JobsFault}
 use Rattle.ix_jobs.specs.declared.fault.JobsKind.TheVariants.{Repeated, TooMany}
+use Rattle.ix_run.specs.Choosing.{walked}
+use Rattle.std.proofs.lemmas.List.{length-map}
 use Rattle.ix_jobs.specs.Jobs.{◌>>=◌, is_ignored, line_job, joined, with_line, at_line, jobs_from, jobs_of}
 
 ok_same : {A E : Type 0} (x y : A) → ◌≡◌ {A = Result A E} (Ok x) (Ok y) → x ≡ y
@@ -44,3 +48,12 @@ from-few line before jobs (l ∷ ls) few h =
 
 pub few_jobs : (b : List ℕ) (jobs : List JobMeaning) → jobs_of b ≡ Ok jobs → length jobs ≤ 1000
 few_jobs b jobs h = from-few 1 [] jobs (slice_split (λ x. eqb x 10) b) (omega arith) h
+
+-- the same of what was read
+pub few_read : (b : List ℕ) (r : Result (Vec JobMeaning) JobsFault) → IfOk r (λ jobs. jobs_of b ≡ Ok jobs.items) → IfOk r (λ jobs. length jobs.items ≤ 1000)
+few_read b (Ok jobs) h = few_jobs b jobs.items h
+few_read b (Err e) h = tt
+
+-- there are as many jobs, however they are walked
+pub walked-few : (once : Bool) (jobs more : List JobMeaning) → more ≡ walked once jobs → length jobs ≤ 1000 → length more ≤ 1000
+walked-few once jobs more is few = subst (λ l. length l ≤ 1000) (sym is) (elim once as (λ b. length (walked b jobs) ≤ 1000) [ true ↦ subst (λ n. n ≤ 1000) (sym (length-map jobs (going_in true))) few | false ↦ few ])

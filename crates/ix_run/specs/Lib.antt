@@ -3,4 +3,6 @@ pub mod FaultLine
 pub mod Input
 pub mod Command
 pub mod Prepare
+pub mod Choosing
 pub mod Run
+pub mod Complete

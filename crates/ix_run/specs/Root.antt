@@ -18,7 +18,7 @@ use Rattle.ix_run.specs.declared.fault.RunFault.TheVariants as faults
 
 -- the job of a root: the matcher, and one visit
 abbrev pub root_job : List ℕ → JobMeaning
-root_job root = record { name = codes "root"; roots = root ∷ []; selector = matcher; limit = 1 }
+root_job root = record { name = codes "root"; roots = root ∷ []; selector = matcher; limit = 1; once = false }
 
 -- the archive of what is kept of the visits of that job
 abbrev pub exported : Blocks → List ℕ → List ℕ

@@ -77,6 +77,8 @@ pub record HasRun {W : Type 0} (told : W → Option (List ℕ)) (store : Blocks)
   pub status : out.status ≡ status_of results
   -- the ends are those that the report tells
   pub ends : out.ends.items ≡ map (λ r. r.end) results
+  -- and so is what is handed out of each
+  pub told_of : out.results.items ≡ results
 
 -- the header of one of the jobs can't be written, or memory ran out
 abbrev pub IsRunRefusal : List JobMeaning → RunFault → Type 0

@@ -21,12 +21,13 @@ use std::sync::{Arc, Wait};
 use std::thread::Threads;
 
 /// What a run leaves: the report, the exit status, and, in the order of the jobs, the ends that the
-/// report tells and the writers.
+/// report tells, all that it tells of each, and the writers.
 #[derive(Drop)]
 pub struct RunOut<W> {
     pub report: Vec<u8>,
     pub status: u8,
     pub ends: Vec<End>,
+    pub results: Vec<JobResult>,
     pub writers: Vec<W>,
 }
 
@@ -80,6 +81,7 @@ pub fn run_watched<R: Threads + Wait + Sync, W: Write + Drop, V: Watch>(
         report,
         status,
         ends,
+        results,
         writers,
     })
 }

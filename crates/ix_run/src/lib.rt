@@ -18,16 +18,20 @@
 #![tactic(auto)]
 
 mod command;
+mod complete;
 mod execution;
 mod fault;
 mod input;
+mod loading;
 mod preparation;
 mod root;
 mod watch;
 
 pub use command::{printed_root, root_of_text};
+pub use complete::{is_complete, is_root};
 pub use execution::{RunOut, run, run_jobs, run_watched};
 pub use fault::{RunFault, fault_line};
+pub use loading::{Choice, load_by};
 pub use preparation::{load, load_part, prepare};
 pub use root::export_root;
 pub use watch::{Watch, Watched};

@@ -1,4 +1,4 @@
-use Rattle.std.proofs.Common.{◌≡◌, sym, ◌∙◌, ap, length, map}
+use Rattle.std.proofs.Common.{◌≡◌, refl, sym, ◌∙◌, ap, length, map}
 use Rattle.std.specs.Arc.{arc_value}
 use Rattle.ix_jobs.specs.Report.{report_of, status_of}
 use Rattle.ix_run.proofs.Runs.{run-length}
@@ -21,5 +21,6 @@ returns-clause-ran g c =
       ran = c.in_ok-results.ensures.ran;
       report = c.in_ok-report.ensures ∙ ap (λ l. report_of l c.as_slice-2.result.now) same ∙ ap (report_of jobs) c.as_slice-2.ensures.value;
       status = c.status-status.ensures ∙ ap status_of c.as_slice-3.ensures.value;
+      told_of = refl;
       ends = c.in_ok-ends.ensures ∙ ap (map (λ r. r.end)) c.as_slice-4.ensures.value;
     }

@@ -1,0 +1,2 @@
+pub use Rattle.ix_car.specs.Sections
+pub mod Kinds

@@ -1,0 +1,19 @@
+//! What a file of blocks is, and what stands in it, without hashing.
+//!
+//! ```rust
+//! match read_sections(alloc, bytes) {
+//!     Ok(file) => println!(rt; "{} sections", summary_of(alloc, file.sections.as_slice())?.sections)?,
+//!     Err(_) => println!(rt; "{:?}", kind_of(bytes))?,
+//! }
+//! ```
+#![tactic(auto)]
+
+mod kind;
+mod names;
+mod summary;
+mod tally;
+
+pub use kind::{Kind, kind_of};
+pub use names::{codec_name, hash_name};
+pub use summary::{Summary, summary_of};
+pub use tally::Tally;

@@ -1,0 +1,87 @@
+//! What stands in a file, counted.
+
+ghost use Rattle.std.specs.Prelude.{◌≡◌, length, map, IfOk, IsSorted, IsPermutation};
+ghost use Rattle.std.specs.Ordering.{nat_cmp};
+ghost use Rattle.ix_cid.specs.Cid.{codec_of, hash_code_of};
+ghost use Rattle.ix_car.specs.declared.reader.sections.Section.{Section};
+
+use crate::tally::{Tally, tally_of};
+use ix_car::Section;
+use ix_walk::Store;
+use std::alloc::{AllocError, Global};
+
+/// What is counted of sections.
+#[derive(Drop)]
+pub struct Summary {
+    pub sections: usize,
+    /// How many of them have a CID that has stood before.
+    pub repeated: usize,
+    /// How many there are of each codec, and of each hash function, by their codes.
+    pub codecs: Tally,
+    pub hashes: Tally,
+    /// The sizes of the blocks, from the smallest to the greatest.
+    pub sizes: Vec<usize>,
+}
+
+/// What is counted of sections. Nothing is hashed.
+pub fn summary_of(alloc: Global, sections: &[Section<'_>]) -> Result<Summary, AllocError>
+    ensures sections { IfOk result (λ s. s.sections ≡ length sections.now) }
+    ensures sizes { IfOk result (λ s. IsPermutation (map (λ (x : Section). length x.block.now) sections.now) s.sizes.items) }
+    ensures sorted { IfOk result (λ s. IsSorted nat_cmp s.sizes.items) }
+{
+    let codecs = codecs_of(alloc, sections)?;
+    let hashes = hashes_of(alloc, sections)?;
+    Ok(Summary {
+        sections: sections.len(),
+        repeated: repeats_of(alloc, sections)?,
+        codecs: tally_of(alloc, codecs.as_slice())?,
+        hashes: tally_of(alloc, hashes.as_slice())?,
+        sizes: sizes_of(alloc, sections)?,
+    })
+}
+
+// The codec of each.
+fn codecs_of(alloc: Global, sections: &[Section<'_>]) -> Result<Vec<u64>, AllocError>
+    ensures { IfOk result (λ v. v.items ≡ map (λ (x : Section). codec_of x.cid) sections.now) }
+{
+    sections
+        .iter()
+        .map(|section| section.cid.parts().codec)
+        .collect(alloc)
+}
+
+// The code of the hash function of each.
+fn hashes_of(alloc: Global, sections: &[Section<'_>]) -> Result<Vec<u64>, AllocError>
+    ensures { IfOk result (λ v. v.items ≡ map (λ (x : Section). hash_code_of x.cid) sections.now) }
+{
+    sections
+        .iter()
+        .map(|section| section.cid.parts().hash_code)
+        .collect(alloc)
+}
+
+// The size of each block, from the smallest to the greatest.
+fn sizes_of(alloc: Global, sections: &[Section<'_>]) -> Result<Vec<usize>, AllocError>
+    ensures sizes { IfOk result (λ v. IsPermutation (map (λ (x : Section). length x.block.now) sections.now) v.items) }
+    ensures sorted { IfOk result (λ v. IsSorted nat_cmp v.items) }
+{
+    let mut sizes: Vec<usize> = sections
+        .iter()
+        .map(|section| section.block.len())
+        .collect(alloc)?;
+    sizes.sort()?;
+    Ok(sizes)
+}
+
+// How many have a CID that has stood before.
+fn repeats_of(alloc: Global, sections: &[Section<'_>]) -> Result<usize, AllocError> {
+    let mut seen = Store::new(alloc);
+    let mut repeats = 0usize;
+    for section in sections {
+        let is_new = seen.add(section.cid.to_cid(alloc)?, Vec::new(alloc))?;
+        if !is_new {
+            repeats = repeats.saturating_add(1);
+        }
+    }
+    Ok(repeats)
+}

@@ -1,0 +1,43 @@
+-- The faults of a job file, of each faulty line its first.
+use Rattle.std.specs.Prelude.{◌≡◌, ℕ, ◌+◌, Bool, ◌==◌, List, [], ◌∷◌, ◌++◌, filter, nat_lt, if◌then◌else◌, bytes_eq, Option, Some, None, Result, Ok, Err}
+use Rattle.std.specs.List.{list_any, slice_split}
+use Rattle.ix_walk.specs.JobMeaning.{JobMeaning}
+use Rattle.ix_jobs.specs.declared.fault.JobsKind.{JobsKind}
+use Rattle.ix_jobs.specs.declared.fault.JobsKind.TheVariants.{Repeated}
+use Rattle.ix_jobs.specs.declared.fault.JobsFault.{JobsFault}
+use Rattle.ix_jobs.specs.Jobs.{jobs_of}
+
+-- whether one of the jobs has the name
+abbrev pub is_taken : List JobMeaning → List ℕ → Bool
+is_taken jobs name = list_any (λ j. bytes_eq j.name name) jobs
+
+-- why a line is faulty behind lines with these jobs: for what a file of this line alone has, or for its name
+abbrev pub fault_behind : List JobMeaning → Result (List JobMeaning) (JobsKind × ℕ) → Option JobsKind
+fault_behind before (Err fault) = Some fault.0
+fault_behind before (Ok []) = None
+fault_behind before (Ok (job ∷ more)) = if is_taken before job.name then Some Repeated else None
+
+-- the jobs with that of the line, if its name isn't taken
+abbrev pub jobs_behind : List JobMeaning → Result (List JobMeaning) (JobsKind × ℕ) → List JobMeaning
+jobs_behind before (Err fault) = before
+jobs_behind before (Ok []) = before
+jobs_behind before (Ok (job ∷ more)) = if is_taken before job.name then before else before ++ job ∷ []
+
+-- what is told of the line with this number
+abbrev pub told : ℕ → Option JobsKind → List JobsFault
+told line None = []
+told line (Some kind) = record { kind = kind; line = line } ∷ []
+
+-- the faults of the lines from a number on, behind those with these jobs
+abbrev pub faults_from : ℕ → List JobMeaning → List (List ℕ) → List JobsFault
+faults_from line before [] = []
+faults_from line before (l ∷ ls) = told line (fault_behind before (jobs_of l)) ++ faults_from (line + 1) (jobs_behind before (jobs_of l)) ls
+
+-- the faults of the lines behind one
+abbrev pub faults_after : ℕ → List ℕ → List JobsFault
+faults_after first b = filter (λ f. nat_lt first f.line) (faults_from 1 [] (slice_split (λ b. b == 10) b))
+
+-- none where the file has jobs; else the one for which it is refused, and those of the lines behind
+abbrev pub AreFaultsOf : List ℕ → List JobsFault → Type 0
+AreFaultsOf b [] = (jobs : List JobMeaning) × (jobs_of b ≡ Ok jobs)
+AreFaultsOf b (f ∷ fs) = (jobs_of b ≡ Err (f.kind, f.line)) × (fs ≡ faults_after f.line b)

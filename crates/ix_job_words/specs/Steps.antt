@@ -1,0 +1,13 @@
+-- What a call answers of one line.
+use Rattle.std.specs.Prelude.{◌≡◌, ℕ, List, Option, String}
+use Rattle.std.specs.BTreeSet.{BTreeSet}
+use Rattle.ix_walk.specs.JobMeaning.{JobMeaning}
+use Rattle.ix_jobs.specs.declared.fault.JobsKind.{JobsKind}
+use Rattle.ix_jobs.specs.Jobs.{jobs_of}
+use Rattle.ix_jobs.specs.Named.{HasNames}
+use Rattle.ix_job_words.specs.Faults.{fault_behind, jobs_behind}
+
+-- the fault of a line behind lines with these jobs, and the names with that of its own job
+pub record IsBehind {Y : Type 0} (before : List JobMeaning) (line : List ℕ) (names : BTreeSet (String Y)) (fault : Option JobsKind) : Type 0 where
+  pub is : fault ≡ fault_behind before (jobs_of line)
+  pub named : HasNames names (jobs_behind before (jobs_of line))

@@ -1,0 +1,126 @@
+//! The line of a job out of its words.
+
+ghost use Rattle.std.specs.Prelude.{◌≡◌, ◌<◌, ◌-◌, length, take, IfOk, IfErr, string_bytes};
+ghost use Rattle.std.specs.List.{list_all};
+ghost use Rattle.ix_job_words.specs.Line.{is_visible, is_word, IsLineOf, IsLineRefused};
+
+use crate::words::{limit_fault, name_fault, roots_fault};
+use ix_jobs::{JobsKind, read_jobs};
+use ix_notation::{NotationFault, fault_line, hex_of_json};
+use ix_walk::is_name;
+use std::alloc::{AllocError, Global};
+
+/// Why words are those of no job.
+#[derive(Debug, Drop)]
+pub enum LineFault {
+    /// The name, the roots or the limit, as a job file would be refused for it; or `Memory`.
+    Field(JobsKind),
+    /// The text that is no selector.
+    Selector(NotationFault),
+}
+
+/// The line of a job file for the job of a name, the texts of its roots with one comma between, its
+/// limit in decimal digits, and its selector as JSON. A job file of this line alone has that job and
+/// no other. The name is judged first, then whether the roots and the limit are single words, then
+/// the selector, and then the roots and the limit as such.
+pub fn job_line(
+    alloc: Global,
+    name: &str,
+    roots: &str,
+    limit: &str,
+    json: &[u8],
+) -> Result<String, LineFault>
+    ensures line { IfOk result (λ line. IsLineOf name.now roots.now limit.now json.now (string_bytes line)) }
+    ensures refused { IfErr result (IsLineRefused name.now roots.now limit.now json.now) }
+{
+    if !is_name(name) {
+        return Err(LineFault::Field(JobsKind::Name));
+    }
+    if !is_word(roots.as_bytes()) {
+        return Err(LineFault::Field(JobsKind::Root));
+    }
+    if !is_word(limit.as_bytes()) {
+        return Err(LineFault::Field(JobsKind::Limit));
+    }
+    let selector = hex_of_json(alloc, json)?;
+    if !is_word(without_end(selector.as_bytes())) {
+        return Err(LineFault::Field(JobsKind::Hex));
+    }
+    let line = format!(in alloc; "{name} {roots} {limit} {selector}")?;
+    match read_jobs(alloc, line.as_bytes()) {
+        Ok(_) => Ok(line),
+        Err(fault) => Err(LineFault::Field(fault.kind)),
+    }
+}
+
+// Whether a text is a single word: one visible ASCII character at least, and no other byte.
+fn is_word(text: &[u8]) -> bool
+    ensures { result ≡ is_word text.now }
+{
+    !text.is_empty() && is_visible(text)
+}
+
+// Whether each byte is a visible ASCII character.
+fn is_visible(text: &[u8]) -> bool
+    ensures { result ≡ list_all is_visible text.now }
+{
+    text.iter().all(|byte| matches!(*byte, b'!'..=b'~'))
+}
+
+// A line without its last byte.
+fn without_end(line: &[u8]) -> &[u8]
+    requires { 0 < length line.now }
+    ensures { result.now ≡ take (length line.now - 1) line.now }
+{
+    &line[..line.len() - 1]
+}
+
+/// Tells why words are those of no job: `NAME: what is wrong, and what would be right`, and of a
+/// selector the line of the command `selector`.
+pub fn line_fault_words(
+    alloc: Global,
+    fault: &LineFault,
+    name: &str,
+    roots: &str,
+    limit: &str,
+) -> Result<String, AllocError> {
+    match fault {
+        LineFault::Field(JobsKind::Name) => {
+            let words = name_fault(name).unwrap_or("no name");
+            format!(in alloc; "NAME: {words}")
+        }
+        LineFault::Field(JobsKind::Root) => match roots_fault(alloc, roots)? {
+            Some(words) => format!(in alloc; "ROOT: {words}"),
+            None => String::from_str(alloc, "ROOT: no CID"),
+        },
+        LineFault::Field(JobsKind::Limit) => {
+            let words = limit_fault(limit).unwrap_or("no limit");
+            format!(in alloc; "LIMIT: {words}")
+        }
+        LineFault::Field(kind) => format!(in alloc; "{kind}"),
+        LineFault::Selector(fault) => fault_line(alloc, fault),
+    }
+}
+
+impl From<AllocError> for LineFault {
+    ghost use Rattle.std.specs.Prelude.{◌≡◌};
+    ghost use Rattle.ix_jobs.specs.declared.fault.JobsKind.TheVariants.{Memory};
+    ghost use Rattle.ix_job_words.specs.declared.line.LineFault.TheVariants.{Field};
+
+    ghost from_gives = { λ _ fault. fault ≡ Field Memory };
+
+    fn from(_error: AllocError) -> LineFault {
+        LineFault::Field(JobsKind::Memory)
+    }
+}
+
+impl From<NotationFault> for LineFault {
+    ghost use Rattle.std.specs.Prelude.{◌≡◌};
+    ghost use Rattle.ix_job_words.specs.declared.line.LineFault.TheVariants.{Selector};
+
+    ghost from_gives = { λ fault told. told ≡ Selector fault };
+
+    fn from(fault: NotationFault) -> LineFault {
+        LineFault::Selector(fault)
+    }
+}

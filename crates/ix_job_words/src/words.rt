@@ -1,0 +1,177 @@
+//! What is wrong with a field of a job's line, in words, and what would be right.
+
+use ix_cid::{Cid, CidFault};
+use ix_notation::{NotationFault, fault_line, json_of_hex};
+use ix_walk::{GREATEST_LIMIT, MOST_ROOTS, is_name};
+use std::alloc::{AllocError, Global};
+
+// How many bytes a name may have.
+const LONGEST_NAME: usize = 64;
+
+/// What is wrong with a name, if anything.
+pub(crate) fn name_fault(name: &str) -> Option<&'static str> {
+    if is_name(name) {
+        return None;
+    }
+    let bytes = name.as_bytes();
+    if bytes.is_empty() {
+        Some("empty, and 1 to 64 of a to z, 0 to 9, - and _ are wanted")
+    } else if bytes.len() > LONGEST_NAME {
+        Some("longer than 64 bytes, and 1 to 64 are wanted")
+    } else if bytes.iter().any(|byte| byte.is_ascii_uppercase()) {
+        Some("upper case, and a to z, 0 to 9, - and _ are wanted")
+    } else {
+        Some("another byte than a to z, 0 to 9, - and _")
+    }
+}
+
+/// What is wrong with the texts of roots, if anything: the first that is no CIDv1 in base32.
+pub(crate) fn roots_fault(alloc: Global, roots: &str) -> Result<Option<String>, AllocError> {
+    let count = roots.split(',').count();
+    if count > MOST_ROOTS {
+        let words = format!(in alloc; "{count} texts, and 1 to 64 are wanted")?;
+        return Ok(Some(words));
+    }
+    for root in roots.split(',') {
+        if let Err(fault) = Cid::from_text(alloc, root) {
+            return root_words(alloc, root, fault, count).map(|words| Some(words));
+        }
+    }
+    Ok(None)
+}
+
+// What is wrong with one of so many roots.
+fn root_words(
+    alloc: Global,
+    root: &str,
+    fault: CidFault,
+    count: usize,
+) -> Result<String, AllocError> {
+    if fault == CidFault::Memory {
+        return Err(AllocError);
+    }
+    let words = form_words(root).unwrap_or(cid_words(fault));
+    if root.is_empty() {
+        let words = "no text beside a comma, and CIDs with one comma between are wanted";
+        String::from_str(alloc, words)
+    } else if count == 1 {
+        String::from_str(alloc, words)
+    } else {
+        format!(in alloc; "{root} is {words}")
+    }
+}
+
+// The form that a text has in place of base32, where it shows.
+fn form_words(root: &str) -> Option<&'static str> {
+    if root.starts_with("ipfs://") {
+        return Some("an ipfs:// address, and the CID alone is wanted");
+    }
+    if root.starts_with("/ipfs/") {
+        return Some("a path of /ipfs/, and the CID alone is wanted");
+    }
+    if root.starts_with("http://") || root.starts_with("https://") {
+        return Some("a URL, and the CID alone is wanted");
+    }
+    if root.starts_with("Qm") {
+        return Some(
+            "base58 of a CIDv0, which names UnixFS, and a CIDv1 in base32 beginning with b is wanted",
+        );
+    }
+    match root.as_bytes().split_first()? {
+        (b'f' | b'F', digits) if !digits.iter().all(|digit| digit.is_ascii_hexdigit()) => None,
+        (first, _) => base_words(*first),
+    }
+}
+
+// The base of a text that begins with this byte, as the multibase table has it, where it is another
+// than base32 in lower case.
+fn base_words(first: u8) -> Option<&'static str> {
+    match first {
+        b'z' | b'Z' => Some(
+            "base58, and base32 beginning with b is wanted: ipfs cid base32 converts it",
+        ),
+        b'f' | b'F' => Some(
+            "hexadecimal, and base32 beginning with b is wanted: ipfs cid base32 converts it",
+        ),
+        b'k' | b'K' => Some(
+            "base36, and base32 beginning with b is wanted: ipfs cid base32 converts it",
+        ),
+        b'm' | b'M' | b'u' | b'U' => Some(
+            "base64, and base32 beginning with b is wanted: ipfs cid base32 converts it",
+        ),
+        b'v' | b'V' | b't' | b'T' => Some(
+            "base32hex, and base32 beginning with b is wanted: ipfs cid base32 converts it",
+        ),
+        b'B' | b'C' => Some("base32 in upper case, and lower case is wanted, beginning with b"),
+        _ => None,
+    }
+}
+
+// What is wrong with a text that shows no other form.
+fn cid_words(fault: CidFault) -> &'static str {
+    match fault {
+        CidFault::Multibase => "no CID: a CIDv1 in base32, beginning with b, is wanted",
+        CidFault::Base32 => "no base32: behind b stand a to z and 2 to 7, in lower case",
+        CidFault::Truncated => "a CID that ends early",
+        CidFault::Varint => "a CID with a number that isn't in its shortest form",
+        CidFault::Version(_) => "a CID of another version than 1",
+        CidFault::Rest => "a CID with more behind it",
+        CidFault::Memory => "no memory",
+    }
+}
+
+/// What is wrong with a limit, if anything.
+pub(crate) fn limit_fault(limit: &str) -> Option<&'static str> {
+    let digits = limit.as_bytes();
+    if digits.is_empty() || !digits.iter().all(|digit| digit.is_ascii_digit()) {
+        return Some("no number in decimal digits alone, and 1 to 1000000 is wanted");
+    }
+    if limit == "0" {
+        return Some("0, and 1 to 1000000 is wanted");
+    }
+    if let Some(b'0') = digits.first() {
+        return Some("a leading zero, and 1 to 1000000 is wanted without one");
+    }
+    match limit.parse::<u32>() {
+        Ok(number) if number <= GREATEST_LIMIT => None,
+        _ => Some("greater than 1000000, and 1 to 1000000 is wanted"),
+    }
+}
+
+/// What is wrong with a selector in hexadecimal, if anything.
+pub(crate) fn selector_fault(alloc: Global, text: &str) -> Result<Option<String>, AllocError> {
+    if text.starts_with('{') {
+        return String::from_str(alloc, JSON_WORDS).map(|words| Some(words));
+    }
+    match json_of_hex(alloc, text) {
+        // A name that is no UTF-8 is no fault of a selector.
+        Ok(_) | Err(NotationFault::Name) => Ok(None),
+        Err(NotationFault::Memory) => Err(AllocError),
+        Err(NotationFault::Hex) => {
+            String::from_str(alloc, hex_words(text)).map(|words| Some(words))
+        }
+        Err(fault) => {
+            let line = fault_line(alloc, &fault)?;
+            let reason = line.as_str().strip_prefix("selector: ").unwrap_or("");
+            format!(in alloc; "no selector: {reason}").map(|words| Some(words))
+        }
+    }
+}
+
+/// Said where JSON stands in place of hexadecimal.
+pub(crate) const JSON_WORDS: &str = "JSON, made hexadecimal by ix_export selector";
+
+// What is wrong with a text that is no hexadecimal.
+fn hex_words(text: &str) -> &'static str {
+    if text.starts_with("0x") {
+        "0x, and hexadecimal digits alone are wanted"
+    } else if text
+        .as_bytes()
+        .iter()
+        .all(|digit| digit.is_ascii_hexdigit())
+    {
+        "an odd number of hexadecimal digits, and two for each byte are wanted"
+    } else {
+        "no hexadecimal: the line of ix_export selector is wanted"
+    }
+}

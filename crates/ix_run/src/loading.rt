@@ -1,0 +1,70 @@
+//! What a run needs, where its jobs are chosen and several threads index the blocks.
+
+ghost use Rattle.std.specs.Prelude.{◌≡◌, ◌≤◌, length, IfOk, IfErr, Ok};
+ghost use Rattle.std.specs.Arc.{arc_value};
+ghost use Rattle.ix_car.specs.Reading.{blocks_of};
+ghost use Rattle.ix_jobs.specs.Gives.{IsFaultOf};
+ghost use Rattle.ix_run.specs.Choosing.{jobs_in, walked, AreChosen};
+ghost use Rattle.ix_run.specs.Prepare.{IsFilesRefusal};
+
+use crate::fault::RunFault;
+use ix_car::load_car_by;
+use ix_jobs::{JobsFault, Part, read_jobs, read_jobs_part};
+use ix_walk::{Job, Store};
+use std::alloc::{AllocError, Global};
+use std::sync::Arc;
+use std::thread::Threads;
+
+/// Which jobs of a job file are run, and how they are walked.
+#[derive(Debug, Drop, Clone, Copy)]
+pub struct Choice {
+    /// The part of its jobs, or all.
+    pub part: Option<Part>,
+    /// Whether each goes into a CID once, and not at every arrival.
+    pub once: bool,
+}
+
+/// The blocks of a CARv1 file, whose bytes the store takes over, and the chosen jobs of a job file,
+/// which is judged as a whole. So many threads index the blocks if they are many. Where both files
+/// are refused, the fault is that of the CARv1 file.
+pub fn load_by<R: Threads + Sync>(
+    rt: &R,
+    alloc: Global,
+    car: Vec<u8>,
+    job_file: &[u8],
+    choice: Choice,
+    threads: usize,
+) -> Result<(Arc<Store>, Arc<Vec<Job>>), RunFault>
+    ensures blocks { IfOk result (λ p. blocks_of car.items ≡ Ok (arc_value p.0)) }
+    ensures jobs { IfOk result (λ p. AreChosen choice.part choice.once job_file.now (arc_value p.1).items) }
+    ensures few { IfOk result (λ p. length (arc_value p.1).items ≤ 1000) }
+    ensures refused { IfErr result (λ fault. IsFilesRefusal car.items (jobs_in choice.part job_file.now) fault) }
+{
+    let store = load_car_by(rt, alloc, car, threads)?;
+    let jobs = read_chosen(alloc, job_file, choice.part)?;
+    let jobs = walked(alloc, jobs, choice.once)?;
+    Ok((Arc::new(alloc, store)?, Arc::new(alloc, jobs)?))
+}
+
+// The jobs of a file, or of a part of it.
+fn read_chosen(alloc: Global, job_file: &[u8], part: Option<Part>) -> Result<Vec<Job>, JobsFault>
+    ensures jobs { IfOk result (λ jobs. jobs_in part job_file.now ≡ Ok jobs.items) }
+    ensures few { IfOk result (λ jobs. length jobs.items ≤ 1000) }
+    ensures fault { IfErr result (λ fault. IsFaultOf fault (jobs_in part job_file.now)) }
+{
+    match part {
+        Some(part) => read_jobs_part(alloc, job_file, part),
+        None => read_jobs(alloc, job_file),
+    }
+}
+
+// The same jobs, each of which goes into a CID once, or as they are.
+fn walked(alloc: Global, jobs: Vec<Job>, once: bool) -> Result<Vec<Job>, AllocError>
+    ensures { IfOk result (λ walked_jobs. walked_jobs.items ≡ walked once jobs.items) }
+{
+    if once {
+        jobs.into_iter().map(|job| job.once()).collect(alloc)
+    } else {
+        Ok(jobs)
+    }
+}

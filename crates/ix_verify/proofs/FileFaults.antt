@@ -1,0 +1,32 @@
+-- The faults of a file's sections and of its blocks, and the blocks of its sections.
+use Rattle.std.proofs.Common.{◌≡◌, ℕ, List, [], ◌∙◌, sym, ap, subst, refl}
+use Rattle.std.specs.Prelude.{Result, Ok, Err}
+use Rattle.ix_walk.specs.Store.{Blocks}
+use Rattle.ix_car.specs.declared.fault.CarFault.{CarFault}
+use Rattle.ix_car.specs.Reading.{Fault, blocks_of}
+use Rattle.ix_car.specs.Gives.{IsFaultOf}
+use Rattle.ix_car.specs.Sections.{SectionMeaning, section_list, with_sections, first_of_each}
+use Rattle.ix_car.specs.declared.archive.Skip.{Skip}
+use Rattle.std.specs.Prelude.{Bool}
+use Rattle.ix_car.proofs.Sections.{FailsAs-along}
+use Rattle.ix_car.proofs.SectionLists.{blocks-of_sections}
+use Rattle.ix_verify.specs.Found.{IsReached}
+
+same_fault : (r : Result (List SectionMeaning) Fault) (f : Fault) → first_of_each r ≡ Err f → r ≡ Err f
+same_fault (Ok sections) f h = absurd cc
+same_fault (Err e) f h = cc
+
+-- a fault of the blocks is one of the sections
+pub fault-along : (b : List ℕ) (e : CarFault) → IsFaultOf b e (blocks_of b) → IsFaultOf b e (section_list b)
+fault-along b e h = (h.0, FailsAs-along e.kind _ (blocks_of b) (section_list b) (λ f is. same_fault (section_list b) f (sym (blocks-of_sections b) ∙ is)) h.1)
+
+-- the store of a file's blocks is that of its sections
+pub store-of_sections : (b : List ℕ) (sections : List SectionMeaning) → section_list b ≡ Ok sections → blocks_of b ≡ Ok (with_sections [] sections)
+store-of_sections b sections read = blocks-of_sections b ∙ ap first_of_each read
+
+one_store : (store other : Blocks) → ◌≡◌ {A = Result Blocks Fault} (Ok store) (Ok other) → store ≡ other
+one_store store other h = cc
+
+-- what is met in one reading of the blocks is met in each
+pub reaches-each : (b : List ℕ) (roots : List (List ℕ)) (store other : Blocks) (skips : List Skip) (over : Bool) → blocks_of b ≡ Ok store → IsReached store roots skips over → blocks_of b ≡ Ok other → IsReached other roots skips over
+reaches-each b roots store other skips over read reached again = subst (λ (s : Blocks). IsReached s roots skips over) (one_store store other (sym read ∙ again)) reached

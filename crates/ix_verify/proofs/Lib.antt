@@ -1,0 +1,6 @@
+pub mod SelectorOfAll
+pub mod Walked
+pub mod SoundSections
+pub mod ToldSections
+pub mod FileFaults
+pub mod RootsLeft

@@ -1,0 +1,34 @@
+-- What is told of sections, one by one.
+use Rattle.std.specs.Prelude.{◌≡◌, ℕ, Bool, List, [], ◌∷◌, ◌++◌, length, if◌then◌else◌, Result, Ok}
+use Rattle.ix_walk.specs.Store.{Blocks}
+use Rattle.ix_check.specs.declared.verdict.Verdict.{Verdict}
+use Rattle.ix_car.specs.declared.archive.Skip.{Skip}
+use Rattle.ix_car.specs.declared.reader.sections.Section.{Section}
+use Rattle.ix_car.specs.Archive.{is_sound}
+use Rattle.ix_car.specs.Sections.{SectionMeaning, section_list, roots_of}
+use Rattle.ix_car.specs.Reading.{blocks_of}
+use Rattle.ix_verify.specs.Found.{unsound_of, IsReached}
+use Rattle.ix_verify.specs.declared.found.Unsound.{Unsound}
+use Rattle.ix_verify.specs.declared.file.Judged.{Judged}
+
+-- a section with its verdict, unless it is sound
+abbrev pub told_if : Section → Verdict → List Unsound
+told_if s verdict = if is_sound verdict then [] else record { place = s.place; cid = s.cid; verdict = verdict } ∷ []
+
+-- the same of each section with its verdict
+abbrev pub told_among : List Section → List Verdict → List Unsound
+told_among [] vs = []
+told_among (s ∷ ss) [] = []
+told_among (s ∷ ss) (v ∷ vs) = told_if s v ++ told_among ss vs
+
+-- what is found of the sections of a file, and its roots
+pub record IsJudgedOf (b : List ℕ) (j : Judged) : Type 0 where
+  pub sections : List SectionMeaning
+  pub read : section_list b ≡ Ok sections
+  pub count : j.sections ≡ length sections
+  pub unsound : j.unsound.items ≡ unsound_of sections
+  pub roots : j.roots.items ≡ roots_of b
+
+-- what is met from roots on in the blocks of a file
+abbrev pub ReachesFrom : List ℕ → List (List ℕ) → List Skip → Bool → Type 0
+ReachesFrom b roots skips over = (store : Blocks) → blocks_of b ≡ Ok store → IsReached store roots skips over

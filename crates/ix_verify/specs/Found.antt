@@ -1,0 +1,63 @@
+-- What is found of a file, as a function of its bytes.
+use Rattle.std.specs.Prelude.{◌≡◌, ℕ, Bool, true, false, not, ◌&&◌, ◌==◌, List, [], ◌∷◌, ◌++◌, length, map, filter, codes, None, Result, Ok}
+use Rattle.std.specs.List.{list_any, flat_map}
+use Rattle.ix_selector.specs.Pattern.{Pattern, recursive, all, edge}
+use Rattle.ix_walk.specs.JobMeaning.{JobMeaning}
+use Rattle.ix_walk.specs.Store.{Blocks}
+use Rattle.ix_walk.specs.Visits.{is_over_limit}
+use Rattle.ix_car.specs.declared.archive.Skip.{Skip}
+use Rattle.ix_car.specs.Archive.{is_sound}
+use Rattle.ix_car.specs.Verified.{judged_visits}
+use Rattle.ix_car.specs.Report.{skips_of}
+use Rattle.ix_car.specs.Sections.{SectionMeaning, section_list, roots_of, with_sections}
+use Rattle.ix_verify.specs.Judged.{section_verdict}
+use Rattle.ix_verify.specs.declared.found.Reach.{Reach}
+use Rattle.ix_verify.specs.declared.found.Reach.TheVariants.{Blocks as OfBlocks, Roots as OfRoots}
+use Rattle.ix_verify.specs.declared.found.Unsound.{Unsound}
+use Rattle.ix_verify.specs.declared.found.Findings.{Findings}
+
+-- what is told of a section: its place, its CID and the verdict on its own block
+abbrev pub told_of : SectionMeaning → Unsound
+told_of s = record { place = s.place; cid = s.cid; verdict = section_verdict s.cid s.block }
+
+-- the sections that aren't sound
+abbrev pub unsound_of : List SectionMeaning → List Unsound
+unsound_of sections = filter (λ u. not (is_sound u.verdict)) (map told_of sections)
+
+-- every link, at any depth
+abbrev pub everything : Pattern
+everything = recursive None (all edge)
+
+-- the job of a root: everything below it, each CID gone into once, and no more than 1000000 visits
+abbrev pub root_job : List ℕ → JobMeaning
+root_job root = record { name = codes "verify"; roots = root ∷ []; selector = everything; limit = 1000000; once = true }
+
+-- what is skipped below a root
+abbrev pub skips_below : Blocks → List ℕ → List Skip
+skips_below store root = skips_of (judged_visits store 0 (root_job root))
+
+-- the walk from a root ends at its limit
+abbrev pub is_unfinished : Blocks → List ℕ → Bool
+is_unfinished store root = is_over_limit store (root_job root)
+
+-- the roots from which a walk goes
+abbrev pub roots_to_walk : Reach → List (List ℕ) → List (List ℕ)
+roots_to_walk OfBlocks roots = []
+roots_to_walk OfRoots roots = roots
+
+-- what is skipped below roots, and whether more is below one of them than its walk arrives at
+pub record IsReached (store : Blocks) (roots : List (List ℕ)) (skips : List Skip) (over : Bool) : Type 0 where
+  pub skipped : skips ≡ flat_map (skips_below store) roots
+  pub unfinished : over ≡ list_any (is_unfinished store) roots
+
+-- what is found of a file: of each section by its own bytes, and from its roots on in the store of its first sections
+pub record IsFoundOf (b : List ℕ) (reach : Reach) (f : Findings) : Type 0 where
+  pub sections : List SectionMeaning
+  pub read : section_list b ≡ Ok sections
+  pub count : f.sections ≡ length sections
+  pub unsound : f.unsound.items ≡ unsound_of sections
+  pub reached : IsReached (with_sections [] sections) (roots_to_walk reach (roots_of b)) f.skips.items f.is_over_limit
+
+-- no section is unsound, nothing is skipped, and no walk ends at its limit
+abbrev pub is_sound_file : Findings → Bool
+is_sound_file f = (length f.unsound.items == 0) && ((length f.skips.items == 0) && not f.is_over_limit)

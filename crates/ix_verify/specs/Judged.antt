@@ -1,0 +1,35 @@
+-- What is found of a section by its own bytes.
+use Rattle.std.specs.Prelude.{◌≡◌, ℕ, List, Option, Some, None, if◌then◌else◌}
+use Rattle.sha2.specs.Sha256.{sha256}
+use Rattle.sha2.specs.Sha512.{sha512}
+use Rattle.ix_cid.specs.Cid.{parts_of, hash_function_of}
+use Rattle.ix_cid.specs.declared.hash_function.HashFunction.{HashFunction}
+use Rattle.ix_cid.specs.declared.hash_function.HashFunction.TheVariants.{Identity, Sha2_256, Sha2_512}
+use Rattle.ix_check.specs.Verdict.{has_codec, verdict_on}
+use Rattle.ix_check.specs.declared.verdict.Verdict.{Verdict}
+use Rattle.ix_check.specs.declared.verdict.Verdict.TheVariants.{Codec, Hash, Sound}
+use Rattle.ix_walk.specs.Store.{Blocks, block_of}
+use Rattle.ix_car.specs.declared.sink.Delivery.{Delivery}
+use Rattle.ix_car.specs.declared.reader.sections.Section.{Section}
+
+-- the digest of a block by a hash function
+abbrev pub digest_by : HashFunction → List ℕ → List ℕ
+digest_by Identity block = block
+digest_by Sha2_256 block = sha256 block
+digest_by Sha2_512 block = sha512 block
+
+-- the verdict on a block that stands with its CID, by the hash function that the CID names
+abbrev pub verdict_by_hash : Option HashFunction → List ℕ → List ℕ → Verdict
+verdict_by_hash None c block = Hash
+verdict_by_hash (Some function) c block = verdict_on (digest_by function) c block
+
+-- the verdict on a CID and the block that stands with it
+abbrev pub section_verdict : List ℕ → List ℕ → Verdict
+section_verdict c block = if has_codec c then verdict_by_hash (hash_function_of (parts_of c)) c block else Codec
+
+abbrev pub verdict_in : Section → Verdict
+verdict_in s = section_verdict s.cid s.block.now
+
+-- the section of a delivery, a CID and the store's block, is sound
+abbrev pub IsSoundSection : Blocks → Delivery → Type 0
+IsSoundSection store d = (block : List ℕ) → block_of store d.visit.cid ≡ Some block → section_verdict d.visit.cid block ≡ Sound

@@ -1,0 +1,5 @@
+pub use Rattle.ix_car.specs.Sections
+pub mod Judged
+pub mod Found
+pub mod Told
+pub mod Counted

@@ -1,0 +1,49 @@
+//! What is found of a file.
+
+ghost use Rattle.std.specs.Prelude.{◌≡◌};
+ghost use Rattle.ix_verify.specs.Found.{is_sound_file};
+
+use ix_car::Skip;
+use ix_check::Verdict;
+use ix_cid::Cid;
+
+/// How far a file is verified.
+#[derive(Debug, Drop, Clone, Copy, PartialEq, Eq)]
+pub enum Reach {
+    /// Each section by its own bytes.
+    Blocks,
+    /// The same, and everything below the roots.
+    Roots,
+}
+
+/// A section that isn't sound.
+#[derive(Drop)]
+pub struct Unsound {
+    /// Where its length stands, in bytes from the front of the file.
+    pub place: usize,
+    pub cid: Cid,
+    pub verdict: Verdict,
+}
+
+/// What is found of a CARv1 file.
+#[derive(Drop)]
+pub struct Findings {
+    /// How many sections it has.
+    pub sections: usize,
+    /// Those that aren't sound, in their order.
+    pub unsound: Vec<Unsound>,
+    /// The links from the roots on behind which nothing sound stands, root after root; none where no
+    /// root was to be walked from.
+    pub skips: Vec<Skip>,
+    /// More is below some root than a walk arrives at, which is 1,000,000 times.
+    pub is_over_limit: bool,
+}
+
+impl Findings {
+    /// Whether each section is sound and nothing is missing below the roots, as far as the file was to be verified.
+    pub fn is_sound(&self) -> bool
+        ensures { result ≡ is_sound_file self.now }
+    {
+        self.unsound.is_empty() && self.skips.is_empty() && !self.is_over_limit
+    }
+}

@@ -1,0 +1,137 @@
+//! Sections, judged by their own bytes.
+
+ghost use Rattle.std.specs.Prelude.{◌≡◌, ℕ, ◌<◌, length, slice_index_or, bytes_eq, is_none, map, slice_get, Some, IfOk};
+ghost use Rattle.sha2.specs.Sha256.{sha256};
+ghost use Rattle.sha2.specs.Sha512.{sha512};
+ghost use Rattle.ix_cbor.specs.Reading.{data_at};
+ghost use Rattle.ix_check.specs.Verdict.{is_codec};
+ghost use Rattle.ix_verify.specs.Judged.{digest_by, verdict_in};
+
+use ix_car::Section;
+use ix_cbor::check;
+use ix_check::Verdict;
+use ix_cid::HashFunction;
+use ix_cid::code::{DAG_CBOR, RAW};
+use sha2::{Digest, Sha256, Sha512};
+use std::alloc::{AllocError, Global};
+use std::thread;
+use std::thread::Threads;
+
+/// The verdict on a section: whether its own block, and no other with its CID, is what the CID names. Under
+/// identity that is the CID's digest. It is none of `Missing` and `Inline`.
+pub fn judge(section: &Section<'_>) -> Verdict
+    ensures { result ≡ verdict_in section.now }
+{
+    let parts = section.cid.parts();
+    let codec = parts.codec;
+    if !is_codec(codec) {
+        return Verdict::Codec;
+    }
+    let Some(function) = parts.hash_function() else {
+        return Verdict::Hash;
+    };
+    if !has_digest(function, section.block, parts.digest) {
+        return Verdict::Damaged;
+    }
+    if codec == DAG_CBOR && is_faulty(section.block) {
+        Verdict::Malformed
+    } else {
+        Verdict::Sound
+    }
+}
+
+/// The verdicts on sections, in their order, by at most so many threads.
+pub fn judge_all<R: Threads + Sync>(
+    rt: &R,
+    alloc: Global,
+    sections: &[Section<'_>],
+    threads: usize,
+) -> Result<Vec<Verdict>, AllocError>
+    requires { 0 < threads }
+    ensures { IfOk result (λ verdicts. verdicts.items ≡ map verdict_in sections.now) }
+{
+    let mut verdicts = vec![in alloc; Verdict::Sound; sections.len()]?;
+    judge_into(rt, sections, threads, verdicts.as_mut_slice());
+    Ok(verdicts)
+}
+
+// Writes the verdict on each section to its place.
+fn judge_into<R: Threads + Sync>(
+    rt: &R,
+    sections: &[Section<'_>],
+    threads: usize,
+    verdicts: &mut [Verdict],
+)
+    requires threads { 0 < threads }
+    requires each { length verdicts.old ≡ length sections.now }
+    ensures { verdicts.new ≡ map verdict_in sections.now }
+{
+    judge_each(rt, sections, threads, verdicts);
+}
+
+fn judge_each<R: Threads + Sync>(
+    rt: &R,
+    sections: &[Section<'_>],
+    threads: usize,
+    verdicts: &mut [Verdict],
+)
+    requires threads { 0 < threads }
+    requires each { length verdicts.old ≡ length sections.now }
+    ensures len { length verdicts.new ≡ length sections.now }
+    ensures each { (i : ℕ) (d : _) → i < length sections.now → slice_get (map verdict_in sections.now) i ≡ Some (slice_index_or verdicts.new i d) }
+{
+    thread::for_each_mut(
+        rt,
+        verdicts,
+        threads,
+        &|place, verdict| *verdict = judge_at(sections, place),
+    );
+}
+
+// The verdict on the section at a place.
+fn judge_at(sections: &[Section<'_>], place: usize) -> Verdict
+    requires { place < length sections.now }
+    ensures { slice_get (map verdict_in sections.now) place ≡ Some result }
+{
+    judge(&sections[place])
+}
+
+// Raw or DAG-CBOR.
+fn is_codec(codec: u64) -> bool
+    ensures { result ≡ is_codec codec }
+{
+    matches!(codec, RAW | DAG_CBOR)
+}
+
+// Whether a block spells no data.
+fn is_faulty(block: &[u8]) -> bool
+    ensures { result ≡ is_none (data_at block.now) }
+{
+    check(block).is_err()
+}
+
+// Whether a digest is that of a block by this hash function.
+fn has_digest(function: HashFunction, block: &[u8], digest: &[u8]) -> bool
+    ensures { result ≡ bytes_eq (digest_by function block.now) digest.now }
+{
+    match function {
+        HashFunction::Identity => block == digest,
+        HashFunction::Sha2_256 => is_sha2_256(block, digest),
+        HashFunction::Sha2_512 => is_sha2_512(block, digest),
+    }
+}
+
+// The hashers stand in functions of their own, so that a block pays for the room of the one that it needs.
+#[inline(never)]
+fn is_sha2_256(block: &[u8], digest: &[u8]) -> bool
+    ensures { result ≡ bytes_eq (sha256 block.now) digest.now }
+{
+    Sha256::digest(block).as_slice() == digest
+}
+
+#[inline(never)]
+fn is_sha2_512(block: &[u8], digest: &[u8]) -> bool
+    ensures { result ≡ bytes_eq (sha512 block.now) digest.now }
+{
+    Sha512::digest(block).as_slice() == digest
+}

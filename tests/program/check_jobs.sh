@@ -1,0 +1,125 @@
+# The commands `check-jobs` and `job`: what is wrong with a job file, line by line, and the line of a job out of its words.
+
+json='{"R":{"l":{"none":{}},":>":{"a":{">":{"@":{}}}}}}'
+json_hex=$(run_bare selector "$json")
+
+# checked FILE LINE..: the answer of `check-jobs` for the file: its first line is that of the command `jobs`.
+checked() {
+  run check-jobs "$1"
+  expect 2 "$(printf '%s\n' "${@:2}")" ''
+  run jobs --blocks blocks.car --jobs "$1" --out out
+  refused "$2"
+}
+
+begin 'check-jobs: a good file, with comments and empty lines'
+printf '# photos\r\n\r\na %s\r\n\nb %s' "$one_job" "$one_job" >jobs.txt
+run check-jobs jobs.txt
+expect 0 '' ''
+run check-jobs - <jobs.txt
+expect 0 '' ''
+title='check-jobs: a file without lines'
+run check-jobs /dev/null
+expect 0 '' ''
+
+begin 'check-jobs: each faulty line, its field, what is wrong and what is right'
+write_blocks
+write_jobs "a $one_job" "b zQ3sh 1 $matcher" "c $abc_text 1 $json" "d $abc_text 1 ${matcher}0" "a $one_job" "B $abc_text 1 $matcher" \
+  "e $abc_text 01 $matcher" "f $abc_text 1 a1612e80" "# c" "g  $abc_text 1 $matcher" "h $abc_text 1 $matcher " "i $abc_text 1" \
+  "j $abc_text, $abc_text 1 $matcher" "k $abc_text 1 {\".\": {}}" $'l\t'"$one_job" "m $abc_text 1 0xa1612ea0" "n $abc_text x $matcher"
+checked jobs.txt 'jobs: root at line 2' \
+  'line 2, ROOT: base58, and base32 beginning with b is wanted: ipfs cid base32 converts it' \
+  'line 3, SELECTOR: JSON, made hexadecimal by ix_export selector' \
+  'line 4, SELECTOR: an odd number of hexadecimal digits, and two for each byte are wanted' \
+  'line 5, NAME: stands in line 1 too' \
+  'line 6, NAME: upper case, and a to z, 0 to 9, - and _ are wanted' \
+  'line 7, LIMIT: a leading zero, and 1 to 1000000 is wanted without one' \
+  'line 8, SELECTOR: no selector: a value of another kind' \
+  'line 10: two spaces behind NAME, and one is wanted' \
+  'line 11: trailing space' \
+  'line 12: 3 fields, and the four NAME ROOTS LIMIT SELECTOR are wanted' \
+  'line 13, ROOT: a space behind a comma, and none is wanted' \
+  'line 14, SELECTOR: JSON, made hexadecimal by ix_export selector' \
+  'line 15: a tab and not a space behind NAME' \
+  'line 16, SELECTOR: 0x, and hexadecimal digits alone are wanted' \
+  'line 17, LIMIT: no number in decimal digits alone, and 1 to 1000000 is wanted'
+
+# Texts of the raw block `abc` in the bases of the multibase table, and a CIDv0 and addresses.
+begin 'check-jobs: roots in other forms'
+write_blocks
+upper=B$(tr a-z A-Z <<<"${abc_text#b}")
+write_jobs "a QmYwAPJzv5CZsnA625s3Xf2nemtYgPpHdWEz79ojWKPbdG 1 $matcher" "b F$abc_cid 1 $matcher" "c $upper 1 $matcher" \
+  "d ipfs://$abc_text 1 $matcher" "e /ipfs/$abc_text/x 1 $matcher" "f $abc_text,f$abc_cid 1 $matcher" "g ${abc_text%?} 1 $matcher" \
+  "h $abc_text,$abc_text, 1 $matcher" "i $(repeated 65 "$abc_text,")$abc_text 1 $matcher" "j k2jmtxw8 1 $matcher" "k mAVUSILp4 1 $matcher" \
+  "l hello 1 $matcher" "m https://ipfs.io/ipfs/$abc_text 1 $matcher"
+checked jobs.txt 'jobs: root at line 1' \
+  'line 1, ROOT: base58 of a CIDv0, which names UnixFS, and a CIDv1 in base32 beginning with b is wanted' \
+  'line 2, ROOT: hexadecimal, and base32 beginning with b is wanted: ipfs cid base32 converts it' \
+  'line 3, ROOT: base32 in upper case, and lower case is wanted, beginning with b' \
+  'line 4, ROOT: an ipfs:// address, and the CID alone is wanted' \
+  'line 5, ROOT: a path of /ipfs/, and the CID alone is wanted' \
+  "line 6, ROOT: f$abc_cid is hexadecimal, and base32 beginning with b is wanted: ipfs cid base32 converts it" \
+  'line 7, ROOT: no base32: behind b stand a to z and 2 to 7, in lower case' \
+  'line 8, ROOT: no text beside a comma, and CIDs with one comma between are wanted' \
+  'line 9, ROOT: 66 texts, and 1 to 64 are wanted' \
+  'line 10, ROOT: base36, and base32 beginning with b is wanted: ipfs cid base32 converts it' \
+  'line 11, ROOT: base64, and base32 beginning with b is wanted: ipfs cid base32 converts it' \
+  'line 12, ROOT: no CID: a CIDv1 in base32, beginning with b, is wanted' \
+  'line 13, ROOT: a URL, and the CID alone is wanted'
+
+begin 'check-jobs: all faulty fields of a line, and bytes that are no text'
+write_blocks
+printf '%s\n' "A zabc 0 x" $'\xef\xbb\xbf'"a $one_job" $'a\xc2\xa0'"$one_job" "a $abc_text 1 $matcher"$'\t' >jobs.txt
+checked jobs.txt 'jobs: name at line 1' \
+  'line 1, NAME: upper case, and a to z, 0 to 9, - and _ are wanted' \
+  'line 1, ROOT: base58, and base32 beginning with b is wanted: ipfs cid base32 converts it' \
+  'line 1, LIMIT: 0, and 1 to 1000000 is wanted' \
+  'line 1, SELECTOR: no hexadecimal: the line of ix_export selector is wanted' \
+  'line 2: a byte order mark, and none is wanted' \
+  'line 3: a no-break space, and a space is wanted' \
+  'line 4: a trailing tab'
+
+begin 'check-jobs: a job too many, and a faulty line behind it'
+write_blocks
+seq -f "j%g $one_job" 1002 >jobs.txt
+echo 'x' >>jobs.txt
+checked jobs.txt 'jobs: too many at line 1001' \
+  'line 1001: behind 1000 jobs, which is all that a run takes; jobs --part runs a part of more' \
+  'line 1003: 1 field, and the four NAME ROOTS LIMIT SELECTOR are wanted'
+
+begin 'check-jobs: a file that is not there, and none'
+run check-jobs none
+refused 'cannot read none'
+run check-jobs
+expect_text 'exit status' 2 "$status"
+
+begin 'job: the line, from words and from standard input; jobs takes it'
+write_blocks "$one_blocks"
+run job a "$(text "$one_cid")" 100 "$json"
+expect 0 "a $(text "$one_cid") 100 $json_hex" ''
+cp "$scratch/stdout" jobs.txt
+run job -- -_ "$abc_text,$(text "$one_cid")" 1000000 - <<<" $json "
+expect 0 "-_ $abc_text,$(text "$one_cid") 1000000 $json_hex" ''
+cat "$scratch/stdout" >>jobs.txt
+run check-jobs jobs.txt
+expect 0 '' ''
+run_jobs
+expect_text 'exit status' 0 "$status"
+expect_folder out -_.car a.car
+
+# job_refused LINE WORD..
+job_refused() {
+  local line=$1
+  shift
+  begin "$line, for the job of '$*'"
+  run job "$@"
+  refused "$line"
+}
+
+job_refused 'NAME: upper case, and a to z, 0 to 9, - and _ are wanted' A "$abc_text" 1 '{".":{}}'
+job_refused 'NAME: empty, and 1 to 64 of a to z, 0 to 9, - and _ are wanted' '' "$abc_text" 1 '{".":{}}'
+job_refused 'NAME: longer than 64 bytes, and 1 to 64 are wanted' "$(repeated 65 a)" "$abc_text" 1 '{".":{}}'
+job_refused 'ROOT: base58, and base32 beginning with b is wanted: ipfs cid base32 converts it' a zabc 1 '{".":{}}'
+job_refused 'ROOT: no CID: a CIDv1 in base32, beginning with b, is wanted' a ' ' 1 '{".":{}}'
+job_refused 'LIMIT: greater than 1000000, and 1 to 1000000 is wanted' a "$abc_text" 1000001 '{".":{}}'
+job_refused 'LIMIT: no number in decimal digits alone, and 1 to 1000000 is wanted' a "$abc_text" '1 1' '{".":{}}'
+job_refused 'selector: unknown key' a "$abc_text" 1 '{"x":{}}'

@@ -1,0 +1,92 @@
+# The command `inspect`: what stands in a file, the list of its sections, and what a file is that is none.
+
+# Three sections: `abc`, the list of one link, and `abc` once more. The header has 59 bytes, and the sections stand at
+# 59, 99 and 178.
+listed=$(header "$one_cid")$(section "$abc_cid" "$abc")$(section "$one_cid" "$one")$(section "$abc_cid" "$abc")
+
+begin 'inspect: what is counted'
+bytes "$listed" >blocks.car
+run inspect blocks.car
+expect 0 "$(printf '%s\n' 'version 1' 'roots 1' "root $(text "$one_cid")" "bytes $((${#listed} / 2))" 'sections 3' 'repeated 1' \
+  'codec raw 2' 'codec dag-cbor 1' 'hash sha2-256 3' 'smallest 3' 'median 3' "greatest $((${#one} / 2))")" ''
+
+begin 'inspect --list: a line for each section, from standard input'
+run inspect --list - < <(bytes "$listed")
+expect 0 "$(printf '%s\n' "59 3 $abc_text" "99 $((${#one} / 2)) $(text "$one_cid")" \
+  "$((99 + 1 + (${#one_cid} + ${#one}) / 2)) 3 $abc_text")" ''
+
+begin 'inspect: each place that is told is that of a section whose whole sections are kept so'
+bytes "$listed" >blocks.car
+"$top/ix_export" inspect --list blocks.car | while read -r place _ _; do
+  head -c "$place" blocks.car >front.car
+  run inspect --list front.car
+  expect_text 'exit status' 0 "$status"
+done
+
+begin 'inspect: no sections and no roots'
+write_blocks
+run inspect blocks.car
+expect 0 "$(printf '%s\n' 'version 1' 'roots 0' 'bytes 18' 'sections 0' 'repeated 0')" ''
+run inspect --list blocks.car
+expect 0 '' ''
+
+# A CIDv0 is printed as the program prints it, and codes without a name as numbers.
+begin 'inspect: a CIDv0, dag-pb, and codes that are not named'
+cid_0=1220$(digest "$abc")
+cid_other=0181029a0101ff
+write_blocks "$(section "$cid_0" "$abc")" "$(section "$cid_other" '')"
+run inspect blocks.car
+expect 0 "$(printf '%s\n' 'version 1' 'roots 0' "bytes $(wc -c <blocks.car)" 'sections 2' 'repeated 0' \
+  'codec dag-pb 1' 'codec 0x101 1' 'hash sha2-256 1' 'hash 0x9a 1' 'smallest 0' 'median 0' 'greatest 3')" ''
+run inspect --list blocks.car
+expect 0 "18 3 v0-$cid_0
+$((18 + 1 + 34 + 3)) 0 $(text "$cid_other")" ''
+
+# is_told HEX LINE: what a file is.
+is_told() {
+  begin "inspect: $2"
+  bytes "$1" >file
+  run inspect file
+  refused "file: $2"
+}
+is_told 0aa16776657273696f6e02 \
+  'version 2 at 0: a CARv2 file; its data can be taken out by car extract, or by the offset in its header'
+is_told 1f8b0800 'truncated at 0: packed by gzip'
+is_told 28b52ffd 'truncated at 0: packed by zstd'
+is_told 425a6839 'truncated at 0: packed by bzip2'
+is_told "$(repeated 257 61)7573746172" 'header at 0: a tar archive'
+is_told 207b7d 'truncated at 0: JSON'
+is_told 6162630a 'truncated at 0: a text'
+is_told '' 'truncated at 0: an empty file'
+is_told 00ff 'header at 0: no CARv1 file'
+
+begin 'inspect: a file that ends early, with the place where its whole sections end'
+bytes "${listed%??}" >blocks.car
+place=$((99 + 1 + (${#one_cid} + ${#one}) / 2))
+run inspect blocks.car
+refused "blocks.car: truncated at $place: its whole sections are its first $place bytes (head -c $place)"
+head -c "$place" blocks.car >front.car
+run inspect front.car
+expect_text 'exit status' 0 "$status"
+
+begin 'inspect: a section without a CID'
+write_blocks "$one_blocks" 00
+place=$((18 + ${#one_blocks} / 2))
+run inspect blocks.car
+refused "blocks.car: cid at $place: the sections before are its first $place bytes (head -c $place)"
+
+begin 'inspect: a file that is not there'
+run inspect none
+refused 'cannot read none'
+
+begin 'inspect: standard output is full'
+bytes "$listed" >blocks.car
+run_bare inspect blocks.car >/dev/full 2>"$scratch/stderr"
+refused 'cannot write -'
+
+begin 'inspect --list: a pipe that closes early'
+for _ in $(seq 1500); do printf '%s' "$one_blocks"; done >sections
+write_blocks "$(cat sections)"
+{ run_bare inspect --list blocks.car 2>"$scratch/stderr"; echo "$status" >ended; } | head -n 1 >"$scratch/stdout"
+status=$(cat ended)
+expect 0 "18 $((${#one} / 2)) $(text "$one_cid")" ''

@@ -1,0 +1,120 @@
+# The command `verify`: sections by their own bytes, and what the roots call for.
+
+# The list of one link, its header, and its blocks.
+begin 'verify: a sound file'
+bytes "$one_archive" >blocks.car
+run verify blocks.car
+expect 0 "blocks.car sound sections=2 bytes=178" ''
+run verify --blocks-only --verifiers 64 - <blocks.car
+expect 0 "- sound sections=2 bytes=178" ''
+
+begin 'verify: several files, of which the worst tells the status'
+bytes "$one_archive" >a.car
+bytes "$(header "$one_cid")$(section "$one_cid" "$one")" >b.car
+bytes 00 >c.car
+run verify b.car a.car
+expect 3 "b.car broken sections=1 bytes=138 unsound=0 skips=1
+  link missing $abc_text
+a.car sound sections=2 bytes=178" ''
+run verify c.car none a.car b.car --blocks-only
+expect 2 "a.car sound sections=2 bytes=178
+b.car sound sections=1 bytes=138" "c.car: header at 0
+cannot read none"
+
+begin 'verify: a section that stands twice, the second damaged'
+bytes "$one_archive$(section "$abc_cid" 616264)" >blocks.car
+run verify blocks.car
+expect 3 "blocks.car broken sections=3 bytes=218 unsound=1 skips=0
+  section 178 damaged $abc_text" ''
+
+begin 'verify: a section that stands twice, the first damaged'
+bytes "$(header "$one_cid")$(section "$abc_cid" 616264)$one_blocks" >blocks.car
+run verify blocks.car
+expect 3 "blocks.car broken sections=3 bytes=218 unsound=1 skips=1
+  section 59 damaged $abc_text
+  link damaged $abc_text" ''
+
+begin 'verify: malformed DAG-CBOR, other codecs and hashes, and a CID that holds other bytes'
+foreign=01701220$(digest "$abc")
+inline=$(raw_inline "$abc")
+short=01551202ba78
+write_blocks "$(section "$(cbor 1805)" 1805)$(section "$foreign" "$abc")$(section "$short" "$abc")$(section "$inline" "$abc")$(section "$inline" 616264)"
+run verify blocks.car
+expect 3 "blocks.car broken sections=5 bytes=$(wc -c <blocks.car) unsound=4 skips=0
+  section 18 malformed $(text "$(cbor 1805)")
+  section 57 codec $(text "$foreign")
+  section 97 hash $(text "$short")
+  section 118 damaged $(text "$inline")" ''
+
+begin 'verify: under SHA-512'
+bytes "$(header "$(cbor_512 "$one")")$(section "$(cbor_512 "$one")" "$one")$(section "$abc_cid" "$abc")" >blocks.car
+run verify blocks.car
+expect 0 "blocks.car sound sections=2 bytes=$(wc -c <blocks.car)" ''
+
+begin 'verify: no roots call for nothing'
+write_blocks "$(section "$one_cid" "$one")"
+run verify blocks.car
+expect 0 "blocks.car sound sections=1 bytes=$(wc -c <blocks.car)" ''
+
+begin 'verify: each root is walked, more than a job may have'
+roots=()
+for _ in $(seq 70); do roots+=("$abc_cid"); done
+bytes "$(header "${roots[@]}" "$one_cid")$(section "$abc_cid" "$abc")" >blocks.car
+run verify blocks.car
+expect 3 "blocks.car broken sections=1 bytes=$(wc -c <blocks.car) unsound=0 skips=1
+  link missing $(text "$one_cid")" ''
+
+# A chain of lists, each with two links to the one before: 21 of them have 2^22 - 1 ways down, and each is gone into once.
+begin 'verify: many ways to one block'
+cid=$abc_cid
+sections=$(section "$abc_cid" "$abc")
+for _ in $(seq 21); do
+  block=82$(link "$cid")$(link "$cid")
+  cid=$(cbor "$block")
+  sections+=$(section "$cid" "$block")
+done
+bytes "$(header "$cid")$sections" >blocks.car
+run verify blocks.car
+expect 0 "blocks.car sound sections=22 bytes=$(wc -c <blocks.car)" ''
+
+# A list of 2^20 links, which is put together in files.
+begin 'verify: more than a walk arrives at'
+bytes "$(link "$(raw_inline '')")" >links
+for _ in $(seq 20); do
+  cat links links >twice
+  mv twice links
+done
+cat <(bytes "$(item_head 4 1048576)") links >block
+cid=01711220$(sha256sum block | cut -c 1-64)
+length=$(varint $((${#cid} / 2 + $(wc -c <block))))
+cat <(bytes "$(header "$cid")" "$length" "$cid") block >blocks.car
+run verify blocks.car
+expect 3 "blocks.car broken sections=1 bytes=$(wc -c <blocks.car) unsound=0 skips=0
+  limit" ''
+run verify --blocks-only blocks.car
+expect 0 "blocks.car sound sections=1 bytes=$(wc -c <blocks.car)" ''
+
+begin 'verify: every archive of the examples, and what jobs writes'
+run verify "$top"/examples/expected/*.car
+expect_lines 'standard error' '' "$scratch/stderr"
+! grep -q 'unsound=[1-9]' "$scratch/stdout" || fail 'section of an archive' /dev/null "$scratch/stdout"
+run jobs --blocks "$top/examples/library.car" --jobs "$top/examples/library.jobs" --out out
+run verify --blocks-only out/*.car
+expect_text 'exit status' 0 "$status"
+
+# Whatever bit of the file is turned and wherever it is cut, it isn't called sound, unless it is cut between sections.
+begin 'verify: a small file with the lowest bit of a byte turned, or cut'
+size=$((${#one_archive} / 2))
+for ((place = 0; place < size; place++)); do
+  byte=$((16#${one_archive:place * 2:2} ^ 1))
+  bytes "${one_archive:0:place * 2}$(printf '%02x' "$byte")${one_archive:place * 2 + 2}" >"turned-$place.car"
+  head -c "$place" <(bytes "$one_archive") >"cut-$place.car"
+done
+run verify turned-*.car cut-*.car
+expect_text 'exit status' 2 "$status"
+! grep -q ' sound ' "$scratch/stdout" || fail 'sound' /dev/null "$scratch/stdout"
+
+begin 'verify: standard output is full'
+bytes "$one_archive" >blocks.car
+run_bare verify blocks.car >/dev/full 2>"$scratch/stderr"
+refused 'cannot write -'
