@@ -1,0 +1,8 @@
+use Rattle.std.proofs.Common.{◌≡◌, ◌∙◌, refl, sym, ap, subst}
+use Rattle.std.specs.Prelude.{Some}
+use Rattle.ix_c.proofs.Made.{shares_none}
+use Rattle.ix_c.proofs.stores.share.Goals as goal
+
+pub returns-in-None-clause-shared : goal.returns-in-None-clause-shared
+returns-in-None-clause-shared c =
+    shares_none c.args.store.now.pointed.value c.deref.result.now c.args.other.now.pointed.value c.args.other.now.pointed.value (c.in-Some.ensures.some ∙ ap (λ h. Some h) (sym c.deref.ensures)) c.in-None.ensures refl

@@ -1,0 +1,3 @@
+pub mod Holding
+pub mod Answers
+pub mod Results

@@ -1,0 +1,51 @@
+//! An export.
+
+ghost use Rattle.std.specs.Prelude.{◌≡◌};
+ghost use Rattle.ix_c.specs.Answers.{IsExported, IsExportedOf};
+
+use crate::filling::fill;
+use crate::handle::Handle;
+use crate::status::Status;
+use ix_embedding::{Exported, Held, export};
+use std::alloc::{AllocError, Global};
+
+/// Fills a handle with what an export of a job over a frozen store leaves.
+pub(crate) fn export_into(
+    alloc: Global,
+    store: &mut Handle,
+    job: &mut Handle,
+    out: &mut Handle,
+) -> Status
+    ensures exported { IsExported store.old.pointed.value job.old.pointed.value out.old.pointed.value out.new.pointed.value result }
+    ensures store { store.new.pointed.value ≡ store.old.pointed.value }
+    ensures job { job.new.pointed.value ≡ job.old.pointed.value }
+{
+    let Some(blocks) = store.take(alloc) else {
+        return Status::Handle;
+    };
+    let Some(wanted) = job.take(alloc) else {
+        store.put(alloc, blocks);
+        return Status::Handle;
+    };
+    let made = exported(alloc, &blocks, &wanted);
+    store.put(alloc, blocks);
+    job.put(alloc, wanted);
+    match made {
+        Some(Ok(made)) => match fill(alloc, out, Held::Exported(made)) {
+            Ok(()) => Status::Done,
+            Err(_) => Status::Memory,
+        },
+        Some(Err(_)) => Status::Memory,
+        None => Status::Handle,
+    }
+}
+
+// What an export leaves, if these are a frozen store and a job.
+fn exported(alloc: Global, store: &Held, job: &Held) -> Option<Result<Exported, AllocError>>
+    ensures { IsExportedOf store.now job.now result }
+{
+    match (store, job) {
+        (Held::Frozen(store), Held::Job(job)) => Some(export(alloc, store, job)),
+        _ => None,
+    }
+}

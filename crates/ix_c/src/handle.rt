@@ -1,0 +1,73 @@
+//! Handles.
+
+ghost use Rattle.std.specs.Prelude.{◌≡◌, None, Some, IfSome, IfNone};
+ghost use Rattle.ix_c.specs.Holding.{is_some};
+
+use crate::loose::Loose;
+use crate::pointed::Pointed;
+use ix_embedding::Held;
+use std::alloc::Global;
+use std::mem;
+
+/// A handle as C has it: whether it holds something, and a pointer to that.
+#[repr(C)]
+pub struct Handle {
+    is_held: bool,
+    pointed: Pointed,
+    ghost told: { is_held ≡ is_some pointed.value },
+}
+
+// Whatever a handle holds may go to another thread.
+fn sent<T: Send>(value: T) -> T
+    ensures { result ≡ value }
+{
+    value
+}
+
+impl Handle {
+    fn empty() -> Handle
+        ensures { result.pointed.value ≡ None }
+    {
+        Handle {
+            is_held: false,
+            pointed: Pointed::empty(),
+        }
+    }
+
+    fn of(held: Box<Held>) -> Handle
+        ensures { result.pointed.value ≡ Some held.value }
+    {
+        Handle {
+            is_held: true,
+            pointed: Pointed::of(Loose::of(sent(held))),
+        }
+    }
+
+    fn into_box(self, alloc: Global) -> Option<Box<Held>>
+        ensures some { IfSome result (λ held. self.pointed.value ≡ Some held.value) }
+        ensures none { IfNone result (self.pointed.value ≡ None) }
+    {
+        let Handle { is_held, pointed } = self;
+        if is_held {
+            Some(pointed.into_loose(alloc).into_box())
+        } else {
+            None
+        }
+    }
+
+    /// Takes out what the handle holds, which leaves it empty.
+    pub(crate) fn take(&mut self, alloc: Global) -> Option<Box<Held>>
+        ensures some { IfSome result (λ held. self.old.pointed.value ≡ Some held.value) }
+        ensures none { IfNone result (self.old.pointed.value ≡ None) }
+        ensures empty { self.new.pointed.value ≡ None }
+    {
+        mem::replace(self, Handle::empty()).into_box(alloc)
+    }
+
+    /// Has the handle hold this, in place of what it held, which is let go of.
+    pub(crate) fn put(&mut self, alloc: Global, held: Box<Held>)
+        ensures { self.new.pointed.value ≡ Some held.value }
+    {
+        mem::replace(self, Handle::of(held)).into_box(alloc);
+    }
+}

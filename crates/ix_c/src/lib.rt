@@ -1,0 +1,182 @@
+//! The exporter for C: a static library, whose header is `include/ix_export.h`.
+//!
+//! Each call answers the number of a `Status`. It works on handles that C keeps, each a struct of two
+//! fields, and starts no thread, waits for nothing and ends no process. A frozen store is shared by as
+//! many handles as there are threads.
+#![tactic(auto)]
+
+ghost use Rattle.std.specs.Prelude.{◌≡◌, [], None};
+ghost use Rattle.ix_embedding.specs.Failures.{IsStoreFailure, IsJobFailure, IsSelectorFailure};
+ghost use Rattle.ix_c.specs.Answers.{
+  Told,
+  IsMade,
+  IsOpen,
+  IsStoreOf,
+  IsJobOf,
+  IsSelectorTextOf,
+  IsNoFailure,
+  HasAddedTo,
+  HasFrozen,
+  HasShared,
+  IsExported,
+};
+ghost use Rattle.ix_c.specs.Results.{part_numbered, HasBytes, HasCopied, HasCounts, HasSkip};
+
+mod exporting;
+mod filling;
+mod handle;
+mod inputs;
+mod loose;
+mod pointed;
+mod results;
+mod start;
+mod status;
+mod stores;
+
+use crate::handle::Handle;
+use crate::results::{Counts, SkipTold};
+use std::alloc::Global;
+
+/// The version of this interface: a number that grows where a call is added.
+#[unsafe(no_mangle)]
+pub extern "C" fn ix_version() -> u32
+    ensures { result ≡ 1 }
+{
+    1
+}
+
+/// Lets go of what a handle holds, which leaves it empty.
+#[unsafe(no_mangle)]
+pub extern "C" fn ix_free(alloc: Global, handle: &mut Handle)
+    ensures { handle.new.pointed.value ≡ None }
+{
+    handle.take(alloc);
+}
+
+/// Fills a handle with an open store without blocks.
+#[unsafe(no_mangle)]
+pub extern "C" fn ix_store_new(alloc: Global, store: &mut Handle) -> u32
+    ensures { Told (IsMade (IsOpen []) IsNoFailure store.old.pointed.value store.new.pointed.value) result }
+{
+    inputs::new_store(alloc, store).code()
+}
+
+/// Fills a handle with an open store of the blocks of a CARv1 file, which is copied.
+#[unsafe(no_mangle)]
+pub extern "C" fn ix_store_read_car(alloc: Global, store: &mut Handle, car: &[u8]) -> u32
+    ensures { Told (IsMade (IsStoreOf car.now) (IsStoreFailure car.now) store.old.pointed.value store.new.pointed.value) result }
+{
+    inputs::store_of_car(alloc, store, car).code()
+}
+
+/// Adds a copy of a block to an open store under its CID, unless there is one.
+#[unsafe(no_mangle)]
+pub extern "C" fn ix_store_add(alloc: Global, store: &mut Handle, cid: &[u8], block: &[u8]) -> u32
+    ensures { Told (HasAddedTo cid.now block.now store.old.pointed.value store.new.pointed.value) result }
+{
+    stores::add(alloc, store, cid, block).code()
+}
+
+/// Freezes an open store: from then on it is shared and doesn't change.
+#[unsafe(no_mangle)]
+pub extern "C" fn ix_store_freeze(alloc: Global, store: &mut Handle) -> u32
+    ensures { Told (HasFrozen store.old.pointed.value store.new.pointed.value) result }
+{
+    stores::freeze(alloc, store).code()
+}
+
+/// Fills another handle with the same frozen store, for another thread.
+#[unsafe(no_mangle)]
+pub extern "C" fn ix_store_share(alloc: Global, store: &mut Handle, other: &mut Handle) -> u32
+    ensures shared { Told (HasShared store.old.pointed.value other.old.pointed.value other.new.pointed.value) result }
+    ensures kept { store.new.pointed.value ≡ store.old.pointed.value }
+{
+    stores::share(alloc, store, other).code()
+}
+
+/// Fills a handle with the job of a line of a job file.
+#[unsafe(no_mangle)]
+pub extern "C" fn ix_job_from_line(alloc: Global, job: &mut Handle, line: &[u8]) -> u32
+    ensures { Told (IsMade (IsJobOf line.now) (IsJobFailure line.now) job.old.pointed.value job.new.pointed.value) result }
+{
+    inputs::job_from_line(alloc, job, line).code()
+}
+
+/// Fills a handle with the hexadecimal of the selector of a JSON text, which is the last field of a job's line.
+#[unsafe(no_mangle)]
+pub extern "C" fn ix_selector_from_json(alloc: Global, text: &mut Handle, json: &[u8]) -> u32
+    ensures { Told (IsMade (IsSelectorTextOf json.now) (IsSelectorFailure json.now) text.old.pointed.value text.new.pointed.value) result }
+{
+    inputs::selector_from_json(alloc, text, json).code()
+}
+
+/// Exports a job over a frozen store on the caller's thread, and fills a handle with what it leaves.
+#[unsafe(no_mangle)]
+pub extern "C" fn ix_export(
+    alloc: Global,
+    store: &mut Handle,
+    job: &mut Handle,
+    out: &mut Handle,
+) -> u32
+    ensures exported { Told (IsExported store.old.pointed.value job.old.pointed.value out.old.pointed.value out.new.pointed.value) result }
+    ensures store { store.new.pointed.value ≡ store.old.pointed.value }
+    ensures job { job.new.pointed.value ≡ job.old.pointed.value }
+{
+    exporting::export_into(alloc, store, job, out).code()
+}
+
+/// How a job ended, and what was counted.
+#[unsafe(no_mangle)]
+pub extern "C" fn ix_result_counts(alloc: Global, handle: &mut Handle, counts: &mut Counts) -> u32
+    ensures counts { Told (HasCounts handle.old.pointed.value counts.old counts.new) result }
+    ensures kept { handle.new.pointed.value ≡ handle.old.pointed.value }
+{
+    results::result_counts(alloc, handle, counts).code()
+}
+
+/// A skip of a result by its number, from 0, and where its CID begins and how long it is.
+#[unsafe(no_mangle)]
+pub extern "C" fn ix_result_skip(
+    alloc: Global,
+    handle: &mut Handle,
+    number: usize,
+    skip: &mut SkipTold,
+    cid: &mut *const u8,
+    length: &mut usize,
+) -> u32
+    ensures skip { Told (HasSkip number handle.old.pointed.value skip.old length.old skip.new length.new) result }
+    ensures kept { handle.new.pointed.value ≡ handle.old.pointed.value }
+{
+    results::result_skip(alloc, handle, number, skip, cid, length).code()
+}
+
+/// Where a part of what a handle holds begins and how long it is: the archive, the report, or a text.
+#[unsafe(no_mangle)]
+pub extern "C" fn ix_bytes(
+    alloc: Global,
+    handle: &mut Handle,
+    part: u32,
+    start: &mut *const u8,
+    length: &mut usize,
+) -> u32
+    ensures bytes { Told (HasBytes (part_numbered part) handle.old.pointed.value length.old length.new) result }
+    ensures kept { handle.new.pointed.value ≡ handle.old.pointed.value }
+{
+    results::bytes(alloc, handle, part, start, length).code()
+}
+
+/// Copies a part of what a handle holds into a buffer, from a place on and as far as there is room.
+#[unsafe(no_mangle)]
+pub extern "C" fn ix_copy(
+    alloc: Global,
+    handle: &mut Handle,
+    part: u32,
+    from: usize,
+    buffer: &mut [u8],
+    count: &mut usize,
+) -> u32
+    ensures copied { Told (HasCopied (part_numbered part) from handle.old.pointed.value buffer.old count.old buffer.new count.new) result }
+    ensures kept { handle.new.pointed.value ≡ handle.old.pointed.value }
+{
+    results::copy(alloc, handle, part, from, buffer, count).code()
+}

@@ -1,0 +1,96 @@
+//! What is done with a store.
+
+ghost use Rattle.std.specs.Prelude.{◌≡◌, Some};
+ghost use Rattle.ix_c.specs.Answers.{HasAddedTo, HasFrozen, HasShared, IsOwnerOf};
+
+use crate::filling::fill;
+use crate::handle::Handle;
+use crate::status::Status;
+use ix_embedding::{Added, Held, add_block, freeze as frozen, share as shared};
+use ix_walk::Store;
+use std::alloc::{AllocError, Global};
+use std::sync::Arc;
+
+/// Adds a block to an open store.
+pub(crate) fn add(alloc: Global, store: &mut Handle, cid: &[u8], block: &[u8]) -> Status
+    ensures { HasAddedTo cid.now block.now store.old.pointed.value store.new.pointed.value result }
+{
+    let Some(mut held) = store.take(alloc) else {
+        return Status::Handle;
+    };
+    let status = add_to(alloc, &mut held, cid, block);
+    store.put(alloc, held);
+    status
+}
+
+// Adds a block, if this is an open store.
+fn add_to(alloc: Global, held: &mut Held, cid: &[u8], block: &[u8]) -> Status
+    ensures { HasAddedTo cid.now block.now (Some held.old) (Some held.new) result }
+{
+    let Held::Open(store) = held else {
+        return Status::Handle;
+    };
+    match add_block(alloc, store, cid, block) {
+        Added::New => Status::Done,
+        Added::Known => Status::Known,
+        Added::NoCid => Status::NoCid,
+        Added::Memory => Status::Memory,
+    }
+}
+
+/// Freezes an open store.
+pub(crate) fn freeze(alloc: Global, store: &mut Handle) -> Status
+    ensures { HasFrozen store.old.pointed.value store.new.pointed.value result }
+{
+    let Some(mut held) = store.take(alloc) else {
+        return Status::Handle;
+    };
+    let content = Box::replace(&mut held, Held::Text(Vec::new(alloc)));
+    let (content, status) = frozen_of(alloc, content);
+    Box::replace(&mut held, content);
+    store.put(alloc, held);
+    status
+}
+
+// The same, frozen if it is an open store.
+fn frozen_of(alloc: Global, held: Held) -> (Held, Status)
+    ensures { HasFrozen (Some held) (Some result.0) result.1 }
+{
+    match held {
+        Held::Open(open) => match frozen(alloc, open) {
+            Ok(frozen) => (Held::Frozen(frozen), Status::Done),
+            Err(open) => (Held::Open(open), Status::Memory),
+        },
+        other => (other, Status::Handle),
+    }
+}
+
+/// Fills a handle with one more owner of a frozen store.
+pub(crate) fn share(alloc: Global, store: &mut Handle, other: &mut Handle) -> Status
+    ensures shared { HasShared store.old.pointed.value other.old.pointed.value other.new.pointed.value result }
+    ensures kept { store.new.pointed.value ≡ store.old.pointed.value }
+{
+    let Some(held) = store.take(alloc) else {
+        return Status::Handle;
+    };
+    let owner = owner_of(&held);
+    store.put(alloc, held);
+    match owner {
+        Some(Ok(owner)) => match fill(alloc, other, Held::Frozen(owner)) {
+            Ok(()) => Status::Done,
+            Err(_) => Status::Memory,
+        },
+        Some(Err(_)) => Status::Memory,
+        None => Status::Handle,
+    }
+}
+
+// One more owner, if this is a frozen store.
+fn owner_of(held: &Held) -> Option<Result<Arc<Store>, AllocError>>
+    ensures { IsOwnerOf held.now result }
+{
+    match held {
+        Held::Frozen(frozen) => Some(shared(frozen)),
+        _ => None,
+    }
+}

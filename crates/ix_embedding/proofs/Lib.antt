@@ -1,0 +1,2 @@
+pub mod OneCid
+pub mod Runs

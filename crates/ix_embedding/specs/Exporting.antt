@@ -1,0 +1,17 @@
+-- What an export of one job leaves.
+use Rattle.std.specs.Prelude.{◌≡◌, ℕ, List, [], ◌∷◌, Some}
+use Rattle.std.specs.Global.{Vec}
+use Rattle.ix_walk.specs.Store.{Blocks}
+use Rattle.ix_walk.specs.JobMeaning.{JobMeaning}
+use Rattle.ix_jobs.specs.declared.outcome.JobResult.{JobResult}
+use Rattle.ix_jobs.specs.Report.{report_of}
+use Rattle.ix_run.specs.Run.{IsRun}
+use Rattle.ix_embedding.specs.declared.exported.Exported.{Exported}
+
+-- what is told of a job that runs alone, and what was written to memory, from nothing on
+abbrev pub IsRunOfOne : Blocks → JobMeaning → JobResult → Vec ℕ → Type 0
+IsRunOfOne store job result archive = (empty : Vec ℕ) × (empty.items ≡ []) × IsRun (λ v. Some v.items) store 0 job empty result archive
+
+-- the same with the report of a run of the job alone
+abbrev pub HasExported : Blocks → JobMeaning → Exported → Type 0
+HasExported store job out = IsRunOfOne store job out.result out.archive × (out.report.items ≡ report_of (job ∷ []) (out.result ∷ []))

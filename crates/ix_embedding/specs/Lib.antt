@@ -1,0 +1,4 @@
+pub mod Adding
+pub mod Exporting
+pub mod Failures
+pub mod Parts

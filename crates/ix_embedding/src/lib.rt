@@ -1,0 +1,23 @@
+//! What who embeds the exporter calls, over memory alone and on the caller's thread.
+//!
+//! Blocks come one by one or as a CARv1 file; a job comes as a line of a job file. An export leaves the
+//! archive, what was counted and skipped, and the report. No call starts a thread or waits. What is
+//! refused is told in the program's words.
+//!
+//! ```rust
+//! let store = read_store(alloc, car)?;
+//! let job = job_of_line(alloc, b"a bafkreif2pall7dybz7vecqka3zo24irdwabwdi4wc55jznaq75q7eaavvu 1 a1612ea0")?;
+//! let out = export(alloc, &store, &job)?;
+//! assert!(rt; out.result.end == End::Done);
+//! ```
+#![tactic(auto)]
+
+mod exported;
+mod failure;
+mod held;
+mod input;
+
+pub use exported::{Exported, export};
+pub use failure::Failure;
+pub use held::{Held, Part, freeze, share};
+pub use input::{Added, add_block, job_of_line, read_store, selector_of_json};

@@ -1,0 +1,132 @@
+/* ix_export.h: the exporter of content graphs, for C. docs/EMBEDDING.md tells how to use it.
+ *
+ * WHAT EACH CALL OWES ITS CALLER. A call that returns uint32_t answers a status (below). It starts no thread,
+ * waits for nothing and ends no process; want of memory is the status IX_MEMORY, and then each handle holds
+ * what it held.
+ *
+ * WHAT THE CALLER OWES EACH CALL; nothing of it can be checked:
+ *  - A handle begins as IX_EMPTY, and is written by nobody but the calls below. It isn't copied: a copy
+ *    that is used beside it would free twice. Freeing an empty handle does nothing.
+ *  - A handle is given to one call at a time, and no call is given one handle twice. It may be used in another
+ *    thread than it was made in, if the two are ordered by a lock, the start or the join of a thread, or a
+ *    sequentially consistent atomic.
+ *  - A pointer and the length behind it lead to so many bytes that may be read (const) or written, and that
+ *    nobody changes meanwhile. No pointer is NULL, also where the length is 0. Every other pointer leads to a
+ *    whole object of its type that may be written.
+ *  - malloc, realloc and free are those of one allocator, which aligns a block to each power of two up to 16
+ *    that divides its size. No call comes from a signal handler, nor from a forked child of a process with
+ *    threads.
+ *  - A thread that exports has a stack of 1 MiB. */
+#ifndef IX_EXPORT_H
+#define IX_EXPORT_H
+
+#include <stdbool.h>
+#include <stddef.h>
+#include <stdint.h>
+
+#ifdef __cplusplus
+extern "C" {
+#endif
+
+/* A handle. What it holds is made by the calls: a store, a job, a result, a text or a refusal. */
+typedef struct ix_handle {
+  bool is_held;
+  void *held;
+} ix_handle;
+
+#define IX_EMPTY {false, NULL}
+
+/* Statuses. */
+enum {
+  IX_DONE = 0,    /* the call did what it is for */
+  IX_MEMORY = 1,  /* no memory was left; nothing is changed */
+  IX_REFUSED = 2, /* the input is refused; the handle that was to be filled holds the line that says why (IX_TEXT) */
+  IX_HANDLE = 3,  /* a handle is empty or holds something else than the call is for; nothing is changed */
+  IX_KNOWN = 4,   /* there is a block under the CID, which stays */
+  IX_NO_CID = 5,  /* the bytes are not one CID; nothing is changed */
+  IX_RANGE = 6    /* there is no part or skip with the number; nothing is changed */
+};
+
+/* Parts of what a handle holds. */
+enum {
+  IX_ARCHIVE = 0, /* of a result: the CARv1 archive */
+  IX_REPORT = 1,  /* of a result: the report, as the program prints it */
+  IX_TEXT = 2     /* the text of a selector, or the line of a refusal */
+};
+
+/* How a job ended. IX_END_WRITE is want of memory for the archive; IX_END_START doesn't come here. */
+enum { IX_END_DONE = 0, IX_END_LIMIT = 1, IX_END_MEMORY = 2, IX_END_WRITE = 3, IX_END_START = 4 };
+
+/* Why a visit was skipped. */
+enum { IX_WHY_CODEC = 0, IX_WHY_HASH = 1, IX_WHY_MISSING = 2, IX_WHY_DAMAGED = 3, IX_WHY_MALFORMED = 4 };
+
+/* What is told of a job. */
+typedef struct ix_counts {
+  uint32_t end;      /* how it ended */
+  uint32_t visits;   /* arrivals at links, the roots included */
+  uint32_t kept;     /* those that don't lie below what is damaged or skipped */
+  uint32_t sections; /* blocks in the archive */
+  uint64_t bytes;    /* length of the archive */
+  uint64_t skips;    /* how many visits were skipped */
+} ix_counts;
+
+/* A visit that was skipped: its number, from 0, and why. */
+typedef struct ix_skip {
+  uint32_t visit;
+  uint32_t why;
+} ix_skip;
+
+/* The version of this interface, which grows where a call is added. */
+uint32_t ix_version(void);
+
+/* Lets go of what a handle holds, which leaves it empty. */
+void ix_free(ix_handle *handle);
+
+/* Fills a handle, in place of what it held, with an open store without blocks. IX_DONE, IX_MEMORY. */
+uint32_t ix_store_new(ix_handle *store);
+
+/* Fills a handle with an open store of the blocks of a CARv1 file, which is copied. IX_DONE, IX_MEMORY, IX_REFUSED. */
+uint32_t ix_store_read_car(ix_handle *store, const uint8_t *car, size_t car_length);
+
+/* Adds a copy of a block to an open store under its CID, given in binary. Whether the block has the CID's digest is
+ * looked at where it is exported. IX_DONE, IX_KNOWN, IX_NO_CID, IX_MEMORY, IX_HANDLE. */
+uint32_t ix_store_add(ix_handle *store, const uint8_t *cid, size_t cid_length, const uint8_t *block, size_t block_length);
+
+/* Freezes an open store: from then on it doesn't change and can be shared. IX_DONE, IX_MEMORY, IX_HANDLE. */
+uint32_t ix_store_freeze(ix_handle *store);
+
+/* Fills another handle with the same frozen store, for another thread. The store goes when its last handle is freed.
+ * IX_DONE, IX_MEMORY, IX_HANDLE. */
+uint32_t ix_store_share(ix_handle *store, ix_handle *other);
+
+/* Fills a handle with the job of a line of a job file: NAME ROOTS LIMIT SELECTOR. IX_DONE, IX_MEMORY, IX_REFUSED. */
+uint32_t ix_job_from_line(ix_handle *job, const uint8_t *line, size_t line_length);
+
+/* Fills a handle with a text: the hexadecimal of the selector of a JSON text, which is the last field of a job's line.
+ * IX_DONE, IX_MEMORY, IX_REFUSED. */
+uint32_t ix_selector_from_json(ix_handle *text, const uint8_t *json, size_t json_length);
+
+/* Exports a job over a frozen store on the caller's thread, and fills a handle with the result. How the job ended is in
+ * the result: IX_DONE says that there is one. IX_DONE, IX_MEMORY, IX_HANDLE. */
+uint32_t ix_export(ix_handle *store, ix_handle *job, ix_handle *out);
+
+/* How the job of a result ended, and what was counted. IX_DONE, IX_HANDLE. */
+uint32_t ix_result_counts(ix_handle *handle, ix_counts *counts);
+
+/* A skip of a result by its number, from 0, and its CID in binary, which stays there until the handle is filled or freed.
+ * IX_DONE, IX_RANGE, IX_HANDLE. */
+uint32_t ix_result_skip(ix_handle *handle, size_t number, ix_skip *skip, const uint8_t **cid, size_t *length);
+
+/* Where a part of what a handle holds begins and how long it is. The bytes may be read, and stay there until the handle
+ * is filled or freed. IX_DONE, IX_RANGE, IX_HANDLE. */
+uint32_t ix_bytes(ix_handle *handle, uint32_t part, const uint8_t **start, size_t *length);
+
+/* Copies a part of what a handle holds to the front of a buffer, from a place on and as far as there is room, and says
+ * how many bytes. IX_DONE, IX_RANGE, IX_HANDLE. */
+uint32_t ix_copy(ix_handle *handle, uint32_t part, size_t from, uint8_t *buffer, size_t buffer_length, size_t *count);
+
+#ifdef __cplusplus
+}
+#endif
+
+#endif
