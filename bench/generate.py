@@ -213,6 +213,18 @@ def shared(car, size, chance):
     return [job(f"shared-{number}", cids[root], ALL) for number, root in enumerate(roots)]
 
 
+def ways(car, size, chance):
+    """Layers of fifty lists, each linking to all of the next layer: one job that is to go in once, with some fifty times as
+    many arrivals as there are blocks."""
+    salt = integer(chance.getrandbits(40))
+    layer = []
+    for _ in range(max(1, size // 50)):
+        below = [link(cid) for cid in layer]
+        layer = [car.add(DAG_CBOR, list_of([salt, integer(place), *below])) for place in range(50)]
+    root = car.add(DAG_CBOR, list_of([link(cid) for cid in layer]))
+    return [job("ways", root, ALL)]
+
+
 def nested(car, size, chance):
     """A chain of maps, each with a body of 21 blocks, and selectors of recursions inside recursions,
     unions and fields."""
@@ -291,7 +303,7 @@ def bucket_cids(car, size, chance):
     return under_digests(car, size, lambda: chance.randbytes(24) + middle + chance.randbytes(4))
 
 
-MAKERS = (leaves, sha512, small, parts, deep, inline, shared, nested, hostile, random_cids, prefix_cids, bucket_cids)
+MAKERS = (leaves, sha512, small, parts, deep, inline, shared, ways, nested, hostile, random_cids, prefix_cids, bucket_cids)
 WORKLOADS = {make.__name__.replace("_", "-"): make for make in MAKERS}
 
 

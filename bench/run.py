@@ -24,12 +24,15 @@ SIZES = {
     "deep": 200_000,
     "inline": 200_000,
     "shared": 10_000,
+    "ways": 10_000,
     "nested": 220_000,
     "hostile": 16_000,
     "random-cids": 200_000,
     "prefix-cids": 200_000,
     "bucket-cids": 200_000,
 }
+# Those whose jobs go into a CID once.
+ONCE = {"ways"}
 MIB = 1 << 20
 THREADS = (1, 2, 4)
 ROW = "| {:11} | {:>7} | {:>7} | {:>7} |" + 9 * " {:>5} |" + " {:>8} | {:>6} | {:>9} | {:>6} |"
@@ -54,13 +57,13 @@ def run_once(words, answer, alone=False):
     return seconds, used.ru_maxrss * 1024
 
 
-def export(room, jobs, threads, alone=False):
+def export(room, jobs, threads, once, alone=False):
     """One run of the program into a fresh output folder, with so many walkers and verifiers; where it is
     alone, on one processor."""
     out = room / "out"
     out.mkdir()
     words = [PROGRAM, "jobs", "--blocks", room / "blocks.car", "--jobs", room / jobs, "--out", out]
-    words += ["--walkers", str(threads), "--verifiers", str(threads)]
+    words += ["--walkers", str(threads), "--verifiers", str(threads)] + ["--once"] * once
     measured = run_once(words, room / "report.txt", alone)
     shutil.rmtree(out)
     return measured
@@ -81,16 +84,17 @@ class Bench:
 
     def run(self):
         """Runs the program without a job and with each number of threads, and sha256sum over the same blocks."""
-        loading, _ = export(self.room, "none.txt", 1)
+        once = self.workload in ONCE
+        loading, _ = export(self.room, "none.txt", 1, once)
         self.loading = min(self.loading, loading)
         hashing, _ = run_once(["sha256sum", self.room / "blocks.car"], self.room / "digest.txt")
         self.hashing = min(self.hashing, hashing)
         for threads in THREADS:
-            seconds, memory = export(self.room, "jobs.txt", threads)
+            seconds, memory = export(self.room, "jobs.txt", threads, once)
             self.seconds[threads] = min(self.seconds[threads], seconds)
             self.memory = max(self.memory, memory)
         for threads in (THREADS[0], THREADS[-1]):
-            seconds, _ = export(self.room, "jobs.txt", threads, alone=True)
+            seconds, _ = export(self.room, "jobs.txt", threads, once, alone=True)
             self.alone[threads] = min(self.alone[threads], seconds)
 
     def gain(self, threads):
