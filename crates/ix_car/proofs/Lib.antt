@@ -1,4 +1,3 @@
-pub mod Bits
 pub mod Open
 pub mod Pruning
 pub mod Growth

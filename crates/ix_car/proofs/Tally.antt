@@ -7,8 +7,8 @@ use Rattle.std.proofs.lemmas.Slice.Eq.{bytes_eq-Decides}
 use Rattle.std.proofs.lemmas.List.{length_push}
 use Rattle.ix_check.specs.Verdict.{passes}
 use Rattle.ix_walk.specs.Store.{Blocks, position_behind, position_of}
-use Rattle.ix_car.specs.declared.marks.Marks.{Marks}
-use Rattle.ix_car.specs.Marks.{is_marked}
+use Rattle.ix_walk.specs.declared.places.PlaceSet.{PlaceSet}
+use Rattle.ix_walk.specs.PlaceSet.{contains_place}
 use Rattle.ix_car.specs.declared.archive.Skip.{Skip}
 use Rattle.ix_car.specs.declared.sink.Delivery.{Delivery}
 use Rattle.ix_car.specs.declared.sink.End.{End}
@@ -57,7 +57,7 @@ bytes-fit : (t : ℕ) → t ≤ 2 ^ 64 - 1 → t ≡ at_most 64 t
 bytes-fit t within = omega arith
 
 -- the same tally with a set of the same places
-pub tally-same : (store : Blocks) (ds failed : List Delivery) (closed : List End) (cut : Option ℕ) (c : Counts) (w v : Marks) (skips : List Skip) → IsTally store ds failed closed cut c w skips → ((n : ℕ) → is_marked v n ≡ is_marked w n) → IsTally store ds failed closed cut c v skips
+pub tally-same : (store : Blocks) (ds failed : List Delivery) (closed : List End) (cut : Option ℕ) (c : Counts) (w v : PlaceSet) (skips : List Skip) → IsTally store ds failed closed cut c w skips → ((n : ℕ) → contains_place v n ≡ contains_place w n) → IsTally store ds failed closed cut c v skips
 tally-same store ds failed closed cut c w v skips h same = record {
   cut_is = h.cut_is;
   counts_are = h.counts_are;
@@ -66,7 +66,7 @@ tally-same store ds failed closed cut c w v skips h same = record {
 }
 
 -- a failure leaves no promise of what was written
-pub tally-failed : (store : Blocks) (ds failed : List Delivery) (closed : List End) (d : Delivery) (cut : Option ℕ) (c : Counts) (t : ℕ) (w v : Marks) (skips : List Skip) → IsTally store ds failed closed cut c w skips → t ≤ 2 ^ 64 - 1 → IsTally store ds (d ∷ []) closed cut (record { visits = c.visits; kept = c.kept; sections = c.sections; bytes = t }) v skips
+pub tally-failed : (store : Blocks) (ds failed : List Delivery) (closed : List End) (d : Delivery) (cut : Option ℕ) (c : Counts) (t : ℕ) (w v : PlaceSet) (skips : List Skip) → IsTally store ds failed closed cut c w skips → t ≤ 2 ^ 64 - 1 → IsTally store ds (d ∷ []) closed cut (record { visits = c.visits; kept = c.kept; sections = c.sections; bytes = t }) v skips
 tally-failed store ds failed closed d cut c t w v skips h within = record {
   cut_is = h.cut_is;
   counts_are = λ i. record { visits = visits-of store ds c h.counts_are i; kept = kept-of store ds c h.counts_are i; sections = sections-of store ds c h.counts_are i; bytes = bytes-fit t within i };
@@ -75,7 +75,7 @@ tally-failed store ds failed closed d cut c t w v skips h within = record {
 }
 
 -- a close leaves no promise of what was written
-pub tally-closed : (store : Blocks) (ds failed : List Delivery) (closed : List End) (end : End) (cut : Option ℕ) (c : Counts) (w v : Marks) (skips : List Skip) → IsTally store ds failed closed cut c w skips → IsTally store ds failed (end ∷ []) cut c v skips
+pub tally-closed : (store : Blocks) (ds failed : List Delivery) (closed : List End) (end : End) (cut : Option ℕ) (c : Counts) (w v : PlaceSet) (skips : List Skip) → IsTally store ds failed closed cut c w skips → IsTally store ds failed (end ∷ []) cut c v skips
 tally-closed store ds failed closed end cut c w v skips h =
     record { cut_is = h.cut_is; counts_are = h.counts_are; skips_is = h.skips_is; written_is = λ none unclosed e place at. absurd cc }
 
@@ -85,7 +85,7 @@ visits-more store ds es d c n h longer is =
     is ∙ count-more (2 ^ 32 - 1) (length ds) (length es) c.visits (visits-of store ds c h) (ap length longer ∙ length_push ds d)
 
 -- a delivery that is cut off
-pub tally-cut_off : (store : Blocks) (ds es failed : List Delivery) (closed : List End) (d : Delivery) (cut : Option ℕ) (c : Counts) (n : ℕ) (w : Marks) (skips : List Skip) → IsTally store ds failed closed cut c w skips → is_below (cut_behind ds) d.visit.depth ≡ true → es ≡ ds ++ d ∷ [] → n ≡ at_most 32 (c.visits + 1)
+pub tally-cut_off : (store : Blocks) (ds es failed : List Delivery) (closed : List End) (d : Delivery) (cut : Option ℕ) (c : Counts) (n : ℕ) (w : PlaceSet) (skips : List Skip) → IsTally store ds failed closed cut c w skips → is_below (cut_behind ds) d.visit.depth ≡ true → es ≡ ds ++ d ∷ [] → n ≡ at_most 32 (c.visits + 1)
     → IsTally store es failed closed cut (record { visits = n; kept = c.kept; sections = c.sections; bytes = c.bytes }) w skips
 tally-cut_off store ds es failed closed d cut c n w skips h below longer visits =
     let same : kept es ≡ kept ds = ap kept longer ∙ kept-cut_off ds d below in
@@ -109,7 +109,7 @@ or-nothing true b h = refl
 or-nothing false b h = h
 
 -- a skip
-pub tally-skip : (store : Blocks) (ds es failed : List Delivery) (closed : List End) (d : Delivery) (cut : Option ℕ) (c : Counts) (n k : ℕ) (w : Marks) (skips more : List Skip) → IsTally store ds failed closed cut c w skips → is_below (cut_behind ds) d.visit.depth ≡ false → passes d.verdict ≡ false → es ≡ ds ++ d ∷ []
+pub tally-skip : (store : Blocks) (ds es failed : List Delivery) (closed : List End) (d : Delivery) (cut : Option ℕ) (c : Counts) (n k : ℕ) (w : PlaceSet) (skips more : List Skip) → IsTally store ds failed closed cut c w skips → is_below (cut_behind ds) d.visit.depth ≡ false → passes d.verdict ≡ false → es ≡ ds ++ d ∷ []
     → more ≡ skips ++ record { seq = d.visit.seq; cid = d.visit.cid; verdict = d.verdict } ∷ [] → n ≡ at_most 32 (c.visits + 1) → k ≡ at_most 32 (c.kept + 1)
     → IsTally store es failed closed (Some d.visit.depth) (record { visits = n; kept = k; sections = c.sections; bytes = c.bytes }) w more
 tally-skip store ds es failed closed d cut c n k w skips more h uncut refused longer added visits keeps =
@@ -145,7 +145,7 @@ repeat-told store ks d c place none at =
     [ true ↦ (λ h. told-again store ks d c place h at) | false ↦ (λ h. or-nothing (is_told ks c) false refl) ] none
 
 -- one that passes and has no place that is due
-pub tally-repeat : (store : Blocks) (ds es failed : List Delivery) (closed : List End) (d : Delivery) (cut : Option ℕ) (c : Counts) (n k : ℕ) (w : Marks) (skips : List Skip) → IsTally store ds failed closed cut c w skips → is_below (cut_behind ds) d.visit.depth ≡ false → passes d.verdict ≡ true → place_due store (kept ds) d ≡ None
+pub tally-repeat : (store : Blocks) (ds es failed : List Delivery) (closed : List End) (d : Delivery) (cut : Option ℕ) (c : Counts) (n k : ℕ) (w : PlaceSet) (skips : List Skip) → IsTally store ds failed closed cut c w skips → is_below (cut_behind ds) d.visit.depth ≡ false → passes d.verdict ≡ true → place_due store (kept ds) d ≡ None
     → es ≡ ds ++ d ∷ [] → n ≡ at_most 32 (c.visits + 1) → k ≡ at_most 32 (c.kept + 1) → IsTally store es failed closed None (record { visits = n; kept = k; sections = c.sections; bytes = c.bytes }) w skips
 tally-repeat store ds es failed closed d cut c n k w skips h uncut passing none longer visits keeps =
     let left : kept es ≡ kept ds ++ d ∷ [] = ap kept longer ∙ kept-uncut ds d uncut in
@@ -197,20 +197,20 @@ apart-place : (here place : ℕ) → (here ≡ place → ⊥) → (here == place
 apart-place here place apart = grind (arith, nat_tests)
 
 -- which places the set has, once one is put in
-put-place : (store : Blocks) (ks : List Delivery) (w v : Marks) (d c : List ℕ) (here place : ℕ) → ((n : ℕ) → is_marked v n ≡ ((here == n) || is_marked w n)) → position_of store d ≡ Some here → position_of store c ≡ Some place → is_marked w place ≡ is_told ks c → is_marked v place ≡ (is_told ks c || bytes_eq d c)
+put-place : (store : Blocks) (ks : List Delivery) (w v : PlaceSet) (d c : List ℕ) (here place : ℕ) → ((n : ℕ) → contains_place v n ≡ ((here == n) || contains_place w n)) → position_of store d ≡ Some here → position_of store c ≡ Some place → contains_place w place ≡ is_told ks c → contains_place v place ≡ (is_told ks c || bytes_eq d c)
 put-place store ks w v d c here place updates at there was =
-    let by : (same : Bool) → bytes_eq d c ≡ same → ((here == place) || is_marked w place) ≡ (is_told ks c || same) = λ same. elim same as (λ b. bytes_eq d c ≡ b → ((here == place) || is_marked w place) ≡ (is_told ks c || b)) [
+    let by : (same : Bool) → bytes_eq d c ≡ same → ((here == place) || contains_place w place) ≡ (is_told ks c || same) = λ same. elim same as (λ b. bytes_eq d c ≡ b → ((here == place) || contains_place w place) ≡ (is_told ks c || b)) [
       | true ↦ (λ e. let one : position_of store c ≡ Some here = ap (λ x. position_of store x) (sym ((bytes_eq-Decides d c).0 e)) ∙ at in
           let same_place : here ≡ place = some-same here place (sym one ∙ there) in
-          ap (λ b. b || is_marked w place) (at-place here place same_place) ∙ sym (or-true (is_told ks c)))
+          ap (λ b. b || contains_place w place) (at-place here place same_place) ∙ sym (or-true (is_told ks c)))
       | false ↦ (λ e. let apart : here ≡ place → ⊥ = λ p. false≢true (sym e ∙ (bytes_eq-Decides d c).1 (one-place 0 place store d c (at ∙ ap Some p) there)) in
-          ap (λ b. b || is_marked w place) (apart-place here place apart) ∙ was ∙ sym (or-nothing (is_told ks c) false refl))
+          ap (λ b. b || contains_place w place) (apart-place here place apart) ∙ was ∙ sym (or-nothing (is_told ks c) false refl))
     ] in
     updates place ∙ by (bytes_eq d c) refl
 
 -- a section
-pub tally-section : (store : Blocks) (ds es failed : List Delivery) (closed : List End) (d : Delivery) (cut : Option ℕ) (c : Counts) (n k s t here : ℕ) (w v : Marks) (skips : List Skip) → IsTally store ds failed closed cut c w skips → is_below (cut_behind ds) d.visit.depth ≡ false
-    → place_due store (kept ds) d ≡ Some here → ((n : ℕ) → is_marked v n ≡ ((here == n) || is_marked w n)) → es ≡ ds ++ d ∷ [] → n ≡ at_most 32 (c.visits + 1) → k ≡ at_most 32 (c.kept + 1) → s ≡ at_most 32 (c.sections + 1) → t ≤ 2 ^ 64 - 1
+pub tally-section : (store : Blocks) (ds es failed : List Delivery) (closed : List End) (d : Delivery) (cut : Option ℕ) (c : Counts) (n k s t here : ℕ) (w v : PlaceSet) (skips : List Skip) → IsTally store ds failed closed cut c w skips → is_below (cut_behind ds) d.visit.depth ≡ false
+    → place_due store (kept ds) d ≡ Some here → ((n : ℕ) → contains_place v n ≡ ((here == n) || contains_place w n)) → es ≡ ds ++ d ∷ [] → n ≡ at_most 32 (c.visits + 1) → k ≡ at_most 32 (c.kept + 1) → s ≡ at_most 32 (c.sections + 1) → t ≤ 2 ^ 64 - 1
     → IsTally store es failed closed None (record { visits = n; kept = k; sections = s; bytes = t }) v skips
 tally-section store ds es failed closed d cut c n k s t here w v skips h uncut due updates longer visits keeps sections within =
     let left : kept es ≡ kept ds ++ d ∷ [] = ap kept longer ∙ kept-uncut ds d uncut in

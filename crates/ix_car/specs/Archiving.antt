@@ -4,8 +4,8 @@ use Rattle.std.specs.List.{list_any}
 use Rattle.std.specs.Io.KnownBytes.{Appends}
 use Rattle.ix_check.specs.Verdict.{passes}
 use Rattle.ix_walk.specs.Store.{Blocks, position_of}
-use Rattle.ix_car.specs.declared.marks.Marks.{Marks}
-use Rattle.ix_car.specs.Marks.{is_marked}
+use Rattle.ix_walk.specs.declared.places.PlaceSet.{PlaceSet}
+use Rattle.ix_walk.specs.PlaceSet.{contains_place}
 use Rattle.ix_car.specs.declared.sink.Delivery.{Delivery}
 use Rattle.ix_car.specs.declared.sink.End.{End}
 use Rattle.ix_car.specs.declared.fault.SinkFault.{SinkFault}
@@ -38,12 +38,12 @@ abbrev pub text_due : Blocks → List Delivery → Delivery → List ℕ
 text_due store ds d = if is_below (cut_behind ds) d.visit.depth then [] else text_behind store (kept ds) d
 
 -- what an archive keeps, beside these deliveries, those at which a write failed, and the close
-pub record IsTally (store : Blocks) (ds failed : List Delivery) (closed : List End) (cut : Option ℕ) (counts : Counts) (written : Marks) (skips : List Skip) : Type 0 where
+pub record IsTally (store : Blocks) (ds failed : List Delivery) (closed : List End) (cut : Option ℕ) (counts : Counts) (written : PlaceSet) (skips : List Skip) : Type 0 where
   pub cut_is : cut ≡ cut_behind ds
   pub counts_are : counts ≡ counts_of store ds counts.bytes
   pub skips_is : skips ≡ skips_of ds
   -- while nothing failed and nothing was closed, the place of a CID is in the set where a kept sound delivery has that CID
-  pub written_is : failed ≡ [] → closed ≡ [] → (c : List ℕ) (place : ℕ) → position_of store c ≡ Some place → is_marked written place ≡ is_told (kept ds) c
+  pub written_is : failed ≡ [] → closed ≡ [] → (c : List ℕ) (place : ℕ) → position_of store c ≡ Some place → contains_place written place ≡ is_told (kept ds) c
 
 -- the writer took this text, its bytes were counted, and store, roots and close are as they were
 pub record HasTaken {W : Type 0} (told : W → Option (List ℕ)) (before after : ArchiveMeaning W) (text : List ℕ) : Type 0 where

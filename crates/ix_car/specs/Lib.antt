@@ -4,7 +4,6 @@ pub mod Verified
 pub mod Archive
 pub mod ArchiveMeaning
 pub mod History
-pub mod Marks
 pub mod Archiving
 pub mod ArchiveNew
 pub mod Report

@@ -13,11 +13,10 @@ ghost use Rattle.ix_car.specs.ArchiveNew.{IsNoArchive};
 use crate::archive::output::{header_of, set_section_head, write_section, write_text};
 use crate::fault::{ArchiveNew, SinkFault};
 use crate::history::History;
-use crate::marks::Marks;
 use crate::sink::{Delivery, End, Sink};
 use ix_check::Verdict;
 use ix_cid::Cid;
-use ix_walk::{Job, Store, Visit};
+use ix_walk::{Job, PlaceSet, Store, Visit};
 use std::alloc::Global;
 use std::io::Write;
 use std::marker::Model;
@@ -70,7 +69,7 @@ pub struct Archive<'a, W: Write> {
     cut: Option<u32>,
     counts: Counts,
     // Where the blocks that were written stand in the store; none any more once it is closed.
-    written: Marks,
+    written: PlaceSet,
     skips: Vec<Skip>,
     // What stands before a section's block. Its room is kept from one section to the next.
     scratch: Vec<u8>,
@@ -123,7 +122,7 @@ impl<'a, W: Write> Archive<'a, W> {
                 sections: 0,
                 bytes: taken as u64,
             },
-            written: Marks::new(alloc),
+            written: PlaceSet::new(alloc),
             skips: Vec::new(alloc),
             scratch: scratch_of(alloc, header),
             writer,

@@ -23,7 +23,6 @@ mod archive;
 mod fault;
 mod history;
 pub mod law;
-mod marks;
 mod reader;
 mod sink;
 

@@ -1,5 +1,5 @@
 -- An index in which the look-up of each entry comes to its place.
-use Rattle.std.proofs.Common.{◌≡◌, ◌⊎◌, ℕ, zero, suc, ◌+◌, ◌-◌, ◌<◌, ◌≤◌, Bool, true, false, ◌&&◌, cond, eqb, List, [], ◌∷◌, length, drop, get_or, slice_get, Some, None, refl, sym, ap, subst, ◌∙◌, inl, inr, ⊎_elim, arith}
+use Rattle.std.proofs.Common.{◌≡◌, ◌⊎◌, ℕ, suc, ◌+◌, ◌-◌, ◌<◌, ◌≤◌, Bool, true, false, ◌&&◌, cond, eqb, List, [], ◌∷◌, length, drop, get_or, slice_get, Some, None, refl, sym, ap, subst, ◌∙◌, inl, inr, ⊎_elim, arith}
 use Rattle.std.specs.Prelude.{Option, bytes_eq}
 use Rattle.std.specs.Option.{is_some, unwrap_or}
 use Rattle.std.proofs.lemmas.Bool.{cases_Bool, false≢true, false_from_ne_true, eq-eqb, ne_eqb}
@@ -7,8 +7,8 @@ use Rattle.std.proofs.lemmas.List.{drop_more}
 use Rattle.std.proofs.Math.ListN.{drop_of_length-le}
 use Rattle.std.proofs.lemmas.Option.{none-some, slice_get_within}
 use Rattle.std.proofs.lemmas.Slice.Eq.{bytes_eq-Decides}
-use Rattle.ix_walk.specs.Store.{Blocks, has_cid, HasDistinctCids, position_of, position_behind}
-use Rattle.ix_walk.specs.Index.{tail_of, mark_of, window_of, Has, IsFree, IsTaken, Leads, Comes, AreTaken, place_behind, IsIndexed, is_cid_of, is_cid_at, sight_of}
+use Rattle.ix_walk.specs.Store.{Blocks, has_cid, HasDistinctCids, position_of}
+use Rattle.ix_walk.specs.Index.{tail_of, mark_of, window_of, Has, IsFree, IsTaken, Leads, AreTaken, place_behind, IsIndexed, IsTrueBehind, is_cid_of, is_cid_at, sight_of}
 use Rattle.ix_walk.specs.declared.index.Slot.{Slot}
 use Rattle.ix_walk.specs.declared.index.Sight.{Sight}
 use Rattle.ix_walk.specs.declared.index.Sight.TheVariants.{At, Free, Full}
@@ -29,10 +29,6 @@ found_by index blocks c = place_by (sight_of blocks (window_of index.slots.items
 -- the look-up of each of the first pairs comes to its place
 abbrev pub AreFound : Index → Blocks → ℕ → Type 0
 AreFound index blocks n = (k : ℕ) (e : List ℕ × List ℕ) → k < n → slice_get blocks k ≡ Some e → found_by index blocks e.0 ≡ Some k
-
--- what the tree has for a CID is a place at which it stands
-abbrev pub IsTrueBehind : Index → Blocks → Type 0
-IsTrueBehind index blocks = (c : List ℕ) (p : ℕ) → place_behind index c ≡ Some p → is_cid_at blocks p c ≡ true
 
 -- the slots before a place in which no slot is free lead there
 sight-leads : (blocks : Blocks) (l : List Slot) (b : Option ℕ) (m : ℕ) (c : List ℕ) (p : ℕ) → sight_of blocks l m c ≡ At p → Leads l b m p
@@ -166,7 +162,7 @@ found-more index es n x found at here k e less is =
       less-or-same k n h = grind arith
 
 -- a place that is found stays found if the tree keeps it
-place-keeps : (s : Sight) (b d : Option ℕ) (p : ℕ) → (b ≡ Some p → d ≡ Some p) → place_by s b ≡ Some p → place_by s d ≡ Some p
+pub place-keeps : (s : Sight) (b d : Option ℕ) (p : ℕ) → (b ≡ Some p → d ≡ Some p) → place_by s b ≡ Some p → place_by s d ≡ Some p
 place-keeps (At q) b d p keeps h = h
 place-keeps Free b d p keeps h = absurd (none-some p h)
 place-keeps Full b d p keeps h = keeps h

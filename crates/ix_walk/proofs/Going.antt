@@ -1,6 +1,6 @@
 -- What a walk has gone into, with one CID more.
 use Rattle.std.proofs.Common.{◌≡◌, ℕ, [], Bool, true, false, cond, List, refl, sym, ◌∙◌, ap, arith}
-use Rattle.std.specs.Prelude.{Option, Some, None, not, nat_eq, nat_lt, ◌==◌, ◌&&◌, ◌||◌, bytes_eq}
+use Rattle.std.specs.Prelude.{Option, Some, None, if◌then◌else◌, not, nat_eq, nat_lt, ◌==◌, ◌&&◌, ◌||◌, bytes_eq}
 use Rattle.std.specs.Bool.{OnFalse}
 use Rattle.std.specs.List.{list_any}
 use Rattle.std.specs.declared.cmp.Ordering.{Ordering}
@@ -15,8 +15,10 @@ use Rattle.std.proofs.lemmas.Bool.Decides.{nat_tests}
 use Rattle.std.proofs.lemmas.Map.Text.{is_eq-slice_cmp}
 use Rattle.ix_selector.specs.Residual.{Place}
 use Rattle.ix_selector.specs.Behind.{same_residual, residual_order}
-use Rattle.ix_selector.specs.Compared.{residual_total, residual_ties}
+use Rattle.ix_selector.specs.Compared.{residual_equivalence, residual_total, residual_ties}
 use Rattle.ix_walk.specs.declared.gone.Gone.{Gone}
+use Rattle.ix_walk.specs.declared.places.PlaceSet.{PlaceSet}
+use Rattle.ix_walk.specs.PlaceSet.{contains_place}
 use Rattle.ix_walk.specs.Gone.{is_in, cid_order, has_gone, is_same_going, IsNoted}
 
 then_is : (o p : Ordering) → is_eq (ordering_then o p) ≡ (is_eq o && is_eq p)
@@ -52,7 +54,42 @@ was : (b : Bool) → false ≡ not b → b ≡ true
 was true e = refl
 was false e = absurd cc
 
--- ---- by the place of its block
+and_false : (b : Bool) → (b && false) ≡ false
+and_false true = refl
+and_false false = refl
+
+and_true : (b : Bool) → (b && true) ≡ b
+and_true true = refl
+and_true false = refl
+
+-- ---- by the place of its block, where as much was left as at a root
+
+-- these places in place of those
+abbrev pub with_places : Gone → PlaceSet → Gone
+with_places g set = record { whole = g.whole; places = set; blocks = g.blocks; others = g.others }
+
+-- a place more
+pub noted_whole : (old : Gone) (set : PlaceSet) (n : ℕ) (c : List ℕ) (places : List Place) → same_residual old.whole places ≡ true → contains_place old.places n ≡ false
+    → ((m : ℕ) → contains_place set m ≡ ((n == m) || contains_place old.places m)) → IsNoted old (with_places old set) (Some n) c places true
+noted_whole old set n c places all first more = (ap (λ (b : Bool). if b then contains_place old.places n else is_in n (get residual_order old.blocks places)) all ∙ first, here) where
+  by : (m : ℕ) (others : List Place) (b : Bool) → same_residual places others ≡ b
+      → (if b then contains_place set m else is_in m (get residual_order old.blocks others)) ≡ ((nat_eq n m && b) || (if b then contains_place old.places m else is_in m (get residual_order old.blocks others)))
+  by m others true e = more m ∙ ap (λ (b : Bool). b || contains_place old.places m) (sym (and_true (nat_eq n m)))
+  by m others false e = ap (λ (b : Bool). b || is_in m (get residual_order old.blocks others)) (sym (and_false (nat_eq n m)))
+
+  here : (b : Option ℕ) (d : List ℕ) (others : List Place) → has_gone (with_places old set) b d others ≡ (is_same_going (Some n) c places b d others || has_gone old b d others)
+  here None d others = refl
+  here (Some m) d others =
+      let same : same_residual old.whole others ≡ same_residual places others = residual_equivalence.congr old.whole places others all in
+      ap (λ (b : Bool). if b then contains_place set m else is_in m (get residual_order old.blocks others)) same
+      ∙ by m others (same_residual places others) refl
+      ∙ ap (λ (b : Bool). (nat_eq n m && same_residual places others) || (if b then contains_place old.places m else is_in m (get residual_order old.blocks others))) (sym same)
+
+-- the same places
+pub noted_whole_again : (old : Gone) (n : ℕ) (c : List ℕ) (places : List Place) → same_residual old.whole places ≡ true → contains_place old.places n ≡ true → IsNoted old old (Some n) c places false
+noted_whole_again old n c places all again = (ap (λ (b : Bool). if b then contains_place old.places n else is_in n (get residual_order old.blocks places)) all ∙ again, λ b d others. refl)
+
+-- ---- by the place of its block, where something else was left
 
 equal : (o : Ordering) → is_eq o ≡ true → o ≡ Equal
 equal Less e = absurd cc
@@ -64,71 +101,81 @@ found_same : (m : BTreeMap (List Place) (BTreeSet ℕ)) (places others : List Pl
 found_same m places others e =
     ap (λ (test : List Place → Bool). lookup test m.entries) (fun_ext (λ k. ap is_eq (sym (residual_total.congr places others k (equal (residual_order places others) e)))))
 
-and_false : (b : Bool) → (b && false) ≡ false
-and_false true = refl
-and_false false = refl
-
-and_true : (b : Bool) → (b && true) ≡ b
-and_true true = refl
-and_true false = refl
-
 -- these places are then kept where that was left
 abbrev pub Keeps : BTreeMap (List Place) (BTreeSet ℕ) → BTreeMap (List Place) (BTreeSet ℕ) → List Place → BTreeSet ℕ → Type 0
 Keeps m n places t = UpdatesBy residual_order (residual_order places) m n (Some t)
 
+-- these in place of those
+abbrev pub with_blocks : Gone → BTreeMap (List Place) (BTreeSet ℕ) → Gone
+with_blocks g m = record { whole = g.whole; places = g.places; blocks = m; others = g.others }
+
+-- what is the same as at a root is not the same as what isn't
+apart : (whole places others : List Place) → same_residual whole places ≡ false → same_residual whole others ≡ true → same_residual places others ≡ false
+apart whole places others other e = residual_equivalence.symm places others ∙ sym (residual_equivalence.congr whole others places e) ∙ other
+
 -- a place more
-pub noted_place : (old new : Gone) (n : ℕ) (c : List ℕ) (places : List Place) (t : BTreeSet ℕ) → new.others ≡ old.others → Keeps old.blocks new.blocks places t → is_in n (get residual_order old.blocks places) ≡ false
-    → ((m : ℕ) → contains nat_cmp t m ≡ (nat_eq n m || is_in m (get residual_order old.blocks places))) → IsNoted old new (Some n) c places true
-noted_place old new n c places t kept keeps first more = (first, here) where
+pub noted_place : (old : Gone) (blocks : BTreeMap (List Place) (BTreeSet ℕ)) (n : ℕ) (c : List ℕ) (places : List Place) (t : BTreeSet ℕ) → same_residual old.whole places ≡ false → Keeps old.blocks blocks places t
+    → is_in n (get residual_order old.blocks places) ≡ false → ((m : ℕ) → contains nat_cmp t m ≡ (nat_eq n m || is_in m (get residual_order old.blocks places))) → IsNoted old (with_blocks old blocks) (Some n) c places true
+noted_place old blocks n c places t other keeps first more = (ap (λ (b : Bool). if b then contains_place old.places n else is_in n (get residual_order old.blocks places)) other ∙ first, here) where
   by : (m : ℕ) (others : List Place) (b : Bool) → is_eq (residual_order places others) ≡ b → is_in m (cond b (Some t) (get residual_order old.blocks others)) ≡ ((nat_eq n m && b) || is_in m (get residual_order old.blocks others))
   by m others true e =
       more m ∙ ap (λ (o : Option (BTreeSet ℕ)). nat_eq n m || is_in m o) (sym (found_same old.blocks places others e)) ∙ ap (λ (b : Bool). b || is_in m (get residual_order old.blocks others)) (sym (and_true (nat_eq n m)))
   by m others false e = ap (λ (b : Bool). b || is_in m (get residual_order old.blocks others)) (sym (and_false (nat_eq n m)))
 
-  here : (b : Option ℕ) (d : List ℕ) (others : List Place) → has_gone new b d others ≡ (is_same_going (Some n) c places b d others || has_gone old b d others)
-  here None d others = ap (λ (s : BTreeSet (List ℕ × List Place)). contains cid_order s (d, others)) kept
-  here (Some m) d others =
+  at : (m : ℕ) (others : List Place) (b : Bool) → same_residual old.whole others ≡ b
+      → (if b then contains_place old.places m else is_in m (get residual_order blocks others)) ≡ ((nat_eq n m && same_residual places others) || (if b then contains_place old.places m else is_in m (get residual_order old.blocks others)))
+  at m others true e = ap (λ (b : Bool). b || contains_place old.places m) (sym (and_false (nat_eq n m)) ∙ ap (λ (b : Bool). nat_eq n m && b) (sym (apart old.whole places others other e)))
+  at m others false e =
       ap (is_in m) (keeps.0 others) ∙ by m others (is_eq (residual_order places others)) refl
       ∙ ap (λ (b : Bool). (nat_eq n m && b) || is_in m (get residual_order old.blocks others)) (sym (residual_ties places others))
 
+  here : (b : Option ℕ) (d : List ℕ) (others : List Place) → has_gone (with_blocks old blocks) b d others ≡ (is_same_going (Some n) c places b d others || has_gone old b d others)
+  here None d others = refl
+  here (Some m) d others = at m others (same_residual old.whole others) refl
+
 -- the same places
-pub noted_no_place : (old new : Gone) (n : ℕ) (c : List ℕ) (places : List Place) (t : BTreeSet ℕ) → new.others ≡ old.others → Keeps old.blocks new.blocks places t → is_in n (get residual_order old.blocks places) ≡ true
-    → ((m : ℕ) → contains nat_cmp t m ≡ is_in m (get residual_order old.blocks places)) → IsNoted old new (Some n) c places false
-noted_no_place old new n c places t kept keeps again same = (again, here) where
+pub noted_no_place : (old : Gone) (blocks : BTreeMap (List Place) (BTreeSet ℕ)) (n : ℕ) (c : List ℕ) (places : List Place) (t : BTreeSet ℕ) → same_residual old.whole places ≡ false → Keeps old.blocks blocks places t
+    → is_in n (get residual_order old.blocks places) ≡ true → ((m : ℕ) → contains nat_cmp t m ≡ is_in m (get residual_order old.blocks places)) → IsNoted old (with_blocks old blocks) (Some n) c places false
+noted_no_place old blocks n c places t other keeps again same = (ap (λ (b : Bool). if b then contains_place old.places n else is_in n (get residual_order old.blocks places)) other ∙ again, here) where
   by : (m : ℕ) (others : List Place) (b : Bool) → is_eq (residual_order places others) ≡ b → is_in m (cond b (Some t) (get residual_order old.blocks others)) ≡ is_in m (get residual_order old.blocks others)
   by m others true e = same m ∙ ap (is_in m) (sym (found_same old.blocks places others e))
   by m others false e = refl
 
-  here : (b : Option ℕ) (d : List ℕ) (others : List Place) → has_gone new b d others ≡ has_gone old b d others
-  here None d others = ap (λ (s : BTreeSet (List ℕ × List Place)). contains cid_order s (d, others)) kept
-  here (Some m) d others = ap (is_in m) (keeps.0 others) ∙ by m others (is_eq (residual_order places others)) refl
+  here : (b : Option ℕ) (d : List ℕ) (others : List Place) → has_gone (with_blocks old blocks) b d others ≡ has_gone old b d others
+  here None d others = refl
+  here (Some m) d others =
+      ap (λ (b : Bool). if same_residual old.whole others then contains_place old.places m else b) (ap (is_in m) (keeps.0 others) ∙ by m others (is_eq (residual_order places others)) refl)
 
 -- among those that were there
-pub noted_among : (old new : Gone) (n : ℕ) (c : List ℕ) (places : List Place) (s t : BTreeSet ℕ) (added : Bool) → new.others ≡ old.others → get residual_order old.blocks places ≡ Some s → Keeps old.blocks new.blocks places t
-    → added ≡ not (contains nat_cmp s n) → Updates nat_cmp s t n true → OnFalse added (IsUnchanged s t) → IsNoted old new (Some n) c places added
-noted_among old new n c places s t true kept had keeps first updates same =
-    noted_place old new n c places t kept keeps (ap (is_in n) had ∙ was_not (contains nat_cmp s n) first)
+pub noted_among : (old : Gone) (blocks : BTreeMap (List Place) (BTreeSet ℕ)) (n : ℕ) (c : List ℕ) (places : List Place) (s t : BTreeSet ℕ) (added : Bool) → same_residual old.whole places ≡ false → get residual_order old.blocks places ≡ Some s
+    → Keeps old.blocks blocks places t → added ≡ not (contains nat_cmp s n) → Updates nat_cmp s t n true → OnFalse added (IsUnchanged s t) → IsNoted old (with_blocks old blocks) (Some n) c places added
+noted_among old blocks n c places s t true other had keeps first updates same =
+    noted_place old blocks n c places t other keeps (ap (is_in n) had ∙ was_not (contains nat_cmp s n) first)
     (λ m. updates.0 m ∙ or_is (is_eq (nat_cmp n m)) (nat_eq n m) (contains nat_cmp s m) (number_is n m) ∙ ap (λ (o : Option (BTreeSet ℕ)). nat_eq n m || is_in m o) (sym had))
-noted_among old new n c places s t false kept had keeps first updates same =
-    noted_no_place old new n c places t kept keeps (ap (is_in n) had ∙ was (contains nat_cmp s n) first)
+noted_among old blocks n c places s t false other had keeps first updates same =
+    noted_no_place old blocks n c places t other keeps (ap (is_in n) had ∙ was (contains nat_cmp s n) first)
     (λ m. ap (λ (ks : List ℕ). list_any (is_at (nat_cmp m)) ks) same ∙ ap (is_in m) (sym had))
 
 -- where none were there
-pub noted_alone : (old new : Gone) (n : ℕ) (c : List ℕ) (places : List Place) (s t : BTreeSet ℕ) → new.others ≡ old.others → get residual_order old.blocks places ≡ None → Keeps old.blocks new.blocks places t → s.keys ≡ []
-    → Updates nat_cmp s t n true → IsNoted old new (Some n) c places true
-noted_alone old new n c places s t kept had keeps none updates =
-    noted_place old new n c places t kept keeps (ap (is_in n) had)
+pub noted_alone : (old : Gone) (blocks : BTreeMap (List Place) (BTreeSet ℕ)) (n : ℕ) (c : List ℕ) (places : List Place) (s t : BTreeSet ℕ) → same_residual old.whole places ≡ false → get residual_order old.blocks places ≡ None
+    → Keeps old.blocks blocks places t → s.keys ≡ [] → Updates nat_cmp s t n true → IsNoted old (with_blocks old blocks) (Some n) c places true
+noted_alone old blocks n c places s t other had keeps none updates =
+    noted_place old blocks n c places t other keeps (ap (is_in n) had)
     (λ m. updates.0 m ∙ or_is (is_eq (nat_cmp n m)) (nat_eq n m) (contains nat_cmp s m) (number_is n m) ∙ ap (λ (ks : List ℕ). nat_eq n m || list_any (is_at (nat_cmp m)) ks) none
     ∙ ap (λ (o : Option (BTreeSet ℕ)). nat_eq n m || is_in m o) (sym had))
 
--- by the CID
-pub noted_other : (old new : Gone) (c : List ℕ) (places : List Place) (added : Bool) → new.blocks ≡ old.blocks → added ≡ not (contains cid_order old.others (c, places)) → Updates cid_order old.others new.others (c, places) true
-    → OnFalse added (IsUnchanged old.others new.others) → IsNoted old new None c places added
-noted_other old new c places true blocks first updates same = (was_not (contains cid_order old.others (c, places)) first, here) where
-  here : (b : Option ℕ) (d : List ℕ) (others : List Place) → has_gone new b d others ≡ (is_same_going None c places b d others || has_gone old b d others)
-  here (Some m) d others = ap (λ (s : BTreeMap (List Place) (BTreeSet ℕ)). is_in m (get residual_order s others)) blocks
+-- ---- by the CID
+
+abbrev pub with_others : Gone → BTreeSet (List ℕ × List Place) → Gone
+with_others g others = record { whole = g.whole; places = g.places; blocks = g.blocks; others = others }
+
+pub noted_other : (old : Gone) (set : BTreeSet (List ℕ × List Place)) (c : List ℕ) (places : List Place) (added : Bool) → added ≡ not (contains cid_order old.others (c, places)) → Updates cid_order old.others set (c, places) true
+    → OnFalse added (IsUnchanged old.others set) → IsNoted old (with_others old set) None c places added
+noted_other old set c places true first updates same = (was_not (contains cid_order old.others (c, places)) first, here) where
+  here : (b : Option ℕ) (d : List ℕ) (others : List Place) → has_gone (with_others old set) b d others ≡ (is_same_going None c places b d others || has_gone old b d others)
+  here (Some m) d others = refl
   here None d others = updates.0 (d, others) ∙ or_is (is_eq (cid_order (c, places) (d, others))) (bytes_eq c d && same_residual places others) (contains cid_order old.others (d, others)) (cid_is c d places others)
-noted_other old new c places false blocks first updates same = (was (contains cid_order old.others (c, places)) first, here) where
-  here : (b : Option ℕ) (d : List ℕ) (others : List Place) → has_gone new b d others ≡ has_gone old b d others
-  here (Some m) d others = ap (λ (s : BTreeMap (List Place) (BTreeSet ℕ)). is_in m (get residual_order s others)) blocks
+noted_other old set c places false first updates same = (was (contains cid_order old.others (c, places)) first, here) where
+  here : (b : Option ℕ) (d : List ℕ) (others : List Place) → has_gone (with_others old set) b d others ≡ has_gone old b d others
+  here (Some m) d others = refl
   here None d others = ap (λ (ks : List (List ℕ × List Place)). list_any (is_at (cid_order (d, others))) ks) same

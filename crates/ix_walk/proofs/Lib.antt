@@ -2,6 +2,7 @@ pub mod Names
 pub mod Stores
 pub mod Indexes
 pub mod Found
+pub mod Seen
 pub mod Gathered
 pub mod Reached
 pub mod Ends
@@ -15,6 +16,7 @@ pub mod Nexts
 pub mod Takes
 pub mod Starts
 pub mod Marking
+pub mod Bits
 pub mod Going
 pub mod Goes
 pub mod Firsts

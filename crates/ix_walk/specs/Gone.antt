@@ -1,5 +1,5 @@
 -- What a walk has gone into: places of blocks and CIDs without one, each with what was left of the selector there.
-use Rattle.std.specs.Prelude.{◌≡◌, ℕ, Bool, true, false, ◌||◌, ◌&&◌, List, Option, Some, None, nat_eq, bytes_eq}
+use Rattle.std.specs.Prelude.{◌≡◌, ℕ, Bool, true, false, ◌||◌, ◌&&◌, List, Option, Some, None, if◌then◌else◌, nat_eq, bytes_eq}
 use Rattle.std.specs.declared.cmp.Ordering.{Ordering}
 use Rattle.std.specs.Ordering.{nat_cmp, ordering_then}
 use Rattle.std.specs.Cmp.Lexicographic.{slice_cmp}
@@ -8,6 +8,7 @@ use Rattle.std.specs.BTreeSet.{BTreeSet, contains}
 use Rattle.ix_selector.specs.Residual.{Place}
 use Rattle.ix_selector.specs.Behind.{same_residual, residual_order}
 use Rattle.ix_walk.specs.declared.gone.Gone.{Gone}
+use Rattle.ix_walk.specs.PlaceSet.{contains_place}
 use Rattle.ix_walk.specs.Store.{Blocks, position_of}
 use Rattle.ix_walk.specs.Walking.{Going}
 
@@ -23,7 +24,7 @@ cid_order x y = ordering_then (slice_cmp nat_cmp x.0 y.0) (residual_order x.1 y.
 -- a CID, whose block has this place if it has one, was gone into where this was left
 abbrev pub has_gone : Gone → Option ℕ → List ℕ → List Place → Bool
 has_gone g None c places = contains cid_order g.others (c, places)
-has_gone g (Some n) c places = is_in n (get residual_order g.blocks places)
+has_gone g (Some n) c places = if same_residual g.whole places then contains_place g.places n else is_in n (get residual_order g.blocks places)
 
 -- the same CID where the same is left
 abbrev pub is_same_going : Option ℕ → List ℕ → List Place → Option ℕ → List ℕ → List Place → Bool

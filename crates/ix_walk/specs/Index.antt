@@ -1,5 +1,7 @@
 -- What the index of a store says: a table of slots, and a tree behind it.
-use Rattle.std.specs.Prelude.{◌≡◌, ◌⊎◌, ℕ, zero, suc, ◌+◌, ◌-◌, ◌/◌, ◌^◌, ◌<◌, ◌≤◌, List, [], ◌∷◌, length, take, drop, nat_lt, if◌then◌else◌, Bool, false, ◌&&◌, ◌==◌, bytes_eq, slice_get, Option, Some, None}
+use Rattle.std.specs.Prelude.{◌≡◌, ◌⊎◌, ℕ, zero, suc, ◌+◌, ◌-◌, ◌*◌, ◌/◌, ◌^◌, ◌<◌, ◌≤◌, List, [], ◌∷◌, length, take, drop, Contains, nat_lt, if◌then◌else◌, Bool, true, false, ◌&&◌, ◌==◌, bytes_eq, slice_get, slice_index_or, Option, Some, None, Result, IfOk, IfSome}
+use Rattle.std.specs.Global.{Vec}
+use Rattle.std.specs.declared.alloc.AllocError.{AllocError}
 use Rattle.std.specs.BTreeMap.{get}
 use Rattle.std.specs.Cmp.Lexicographic.{slice_cmp}
 use Rattle.std.specs.Ordering.{nat_cmp}
@@ -115,3 +117,27 @@ abbrev pub sight_of : Blocks → List Slot → ℕ → List ℕ → Sight
 sight_of blocks [] mark c = Full
 sight_of blocks (slot ∷ slots) mark c =
     if slot.end == 0 then Free else (if slot.mark == mark && is_cid_at blocks (slot.end - 1) c then At (slot.end - 1) else sight_of blocks slots mark c)
+
+-- what the look-up of a CID sees in the slots of a table
+abbrev pub sight_in : List Slot → Blocks → List ℕ → Sight
+sight_in slots blocks c = sight_of blocks (window_of slots (tail_of c)) (mark_of (tail_of c)) c
+
+-- the look-up of each pair from one place up to another comes to its place, or finds no slot free, and these have its place
+abbrev pub AreSeen : List Slot → Blocks → ℕ → ℕ → List ℕ → Type 0
+AreSeen slots blocks from to places = (k : ℕ) (e : List ℕ × List ℕ) → from ≤ k → k < to → slice_get blocks k ≡ Some e → (sight_in slots blocks e.0 ≡ At k) ⊎ ((sight_in slots blocks e.0 ≡ Full) × Contains places k)
+
+-- what the tree has for a CID is a place at which it stands
+abbrev pub IsTrueBehind : Index → Blocks → Type 0
+IsTrueBehind index blocks = (c : List ℕ) (p : ℕ) → place_behind index c ≡ Some p → is_cid_at blocks p c ≡ true
+
+-- the tree has the place of the pair there
+abbrev pub IsBehind : Index → Blocks → ℕ → Type 0
+IsBehind index blocks p = (e : List ℕ × List ℕ) → slice_get blocks p ≡ Some e → place_behind index e.0 ≡ Some p
+
+-- the tree of an index has whatever that of another has
+abbrev pub HasAllOf : Index → Index → Type 0
+HasAllOf later index = (c : List ℕ) (p : ℕ) → place_behind index c ≡ Some p → place_behind later c ≡ Some p
+
+-- what was seen of the shares of the pairs, each of so many
+abbrev pub AllSeen : List Slot → Blocks → ℕ → List (Result (Option (Vec ℕ)) AllocError) → Type 0
+AllSeen slots blocks share shares = (n : ℕ) (d : Result (Option (Vec ℕ)) AllocError) → n < length shares → IfOk (slice_index_or shares n d) (λ found. IfSome found (λ places. AreSeen slots blocks (n * share) (n * share + share) places.items))

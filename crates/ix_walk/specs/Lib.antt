@@ -18,6 +18,7 @@ pub mod Once
 pub mod Visits
 pub mod WalkLeft
 pub mod Walking
+pub mod PlaceSet
 pub mod Gone
 pub mod Descent
 pub mod Arriving

@@ -3,7 +3,7 @@
 //! Each thread has a part of the table, and goes through the numbers of all entries for those whose look-up begins in it. The
 //! place of an entry goes to the first free slot of its look-up, and nowhere where none is free. A look-up that goes through
 //! the end of a part comes last, when the threads have ended. Nothing is promised here of what a slot has: `Index` has each
-//! entry looked up before anything rests on it.
+//! entry looked up before anything rests on it (`seeing.rt`).
 
 use crate::entry::Entry;
 use crate::index::{MOST_PLACES, PROBES, Slot, starts_for, tail_of};

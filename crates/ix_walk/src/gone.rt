@@ -1,32 +1,40 @@
 //! What a walk has gone into.
 
-ghost use Rattle.std.specs.Prelude.{IfOk, List, ℕ, Option, Some, ◌≡◌, false};
+ghost use Rattle.std.specs.Prelude.{IfOk, List, ℕ, Option, Some, ◌≡◌, true, false};
 ghost use Rattle.ix_selector.specs.Residual.{Place};
+ghost use Rattle.ix_selector.specs.Behind.{same_residual};
 ghost use Rattle.ix_walk.specs.Gone.{has_gone, IsNoted};
 
+use crate::places::PlaceSet;
 use ix_cid::Cid;
-use ix_selector::Residual;
+use ix_selector::{Residual, Selector};
 use std::alloc::{AllocError, Global};
 use std::collections::{BTreeMap, BTreeSet};
 
 // The CIDs into which a walk has gone, each with what was left of the selector there.
 #[derive(Drop)]
 pub(crate) struct Gone<'a> {
-    // The places of those that have a block in the store, by what was left: mostly that is one for very many.
+    // What is left of the selector at a root. A selector of everything leaves as much at every block.
+    whole: Residual<'a>,
+    // The places of those that have a block in the store, where that was left.
+    places: PlaceSet,
+    // The places of those that have one where something else was left, by what was left.
     blocks: BTreeMap<Residual<'a>, BTreeSet<usize>>,
     // Those that hold their bytes themselves.
     others: BTreeSet<(Cid, Residual<'a>)>,
 }
 
 impl<'a> Gone<'a> {
-    // Nothing.
-    pub(crate) fn new(alloc: Global) -> Gone<'a>
-        ensures { (b : Option ℕ) (c : List ℕ) (places : List Place) → has_gone result b c places ≡ false }
+    // Nothing, for a walk by this selector.
+    pub(crate) fn new(alloc: Global, selector: &'a Selector) -> Result<Gone<'a>, AllocError>
+        ensures { IfOk result (λ g. (b : Option ℕ) (c : List ℕ) (places : List Place) → has_gone g b c places ≡ false) }
     {
-        Gone {
+        Ok(Gone {
+            whole: Residual::start(alloc, selector)?,
+            places: PlaceSet::new(alloc),
             blocks: BTreeMap::new(alloc),
             others: BTreeSet::new(alloc),
-        }
+        })
     }
 
     // Notes that the walk goes into a CID, whose block has this place, and tells whether it never did with that rest.
@@ -40,6 +48,7 @@ impl<'a> Gone<'a> {
         ensures { IfOk result (IsNoted self.old self.new block cid.now residual.now) }
     {
         match block {
+            Some(place) if self.whole.is_same(residual) => self.note_place(place),
             Some(place) => self.note_block(alloc, place, residual),
             None => {
                 let cid = cid.try_clone(alloc)?;
@@ -49,13 +58,25 @@ impl<'a> Gone<'a> {
         }
     }
 
-    // The same of a block at a place.
+    // The same of a block at a place, where as much was left as at a root.
+    fn note_place(&mut self, place: usize) -> Result<bool, AllocError>
+        ensures { (c : List ℕ) (places : List Place) → same_residual self.old.whole places ≡ true → IfOk result (IsNoted self.old self.new (Some place) c places) }
+    {
+        if self.places.contains(place) {
+            return Ok(false);
+        }
+        self.places.insert(place)?;
+        Ok(true)
+    }
+
+    // The same of a block at a place, where something else was left.
     fn note_block(
         &mut self,
         alloc: Global,
         place: usize,
         residual: &Residual<'a>,
     ) -> Result<bool, AllocError>
+        requires { same_residual self.old.whole residual.now ≡ false }
         ensures { (c : List ℕ) → IfOk result (IsNoted self.old self.new (Some place) c residual.now) }
     {
         if let Some(places) = self.blocks.get_mut(residual) {

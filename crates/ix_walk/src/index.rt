@@ -7,14 +7,15 @@
 //! to one slot. So a look-up goes through a bounded number of slots, and what finds none of them free goes to a tree
 //! over whole CIDs.
 
-ghost use Rattle.std.specs.Prelude.{◌≡◌, ◌↔◌, ◌++◌, List, [], ◌∷◌, map, ◌-◌, ◌^◌, ◌<◌, Option, Some, true, false, not, IsTrue, IfOk, IfSome, OnErr, ℕ, bytes_eq, if◌then◌else◌, ◌≤◌};
+ghost use Rattle.std.specs.Prelude.{◌≡◌, ◌↔◌, ◌++◌, List, [], ◌∷◌, map, ◌-◌, ◌*◌, ◌^◌, ◌<◌, Option, length, Some, true, false, not, IsTrue, IfOk, IfSome, OnErr, All, ℕ, bytes_eq, if◌then◌else◌, ◌≤◌};
 ghost use Rattle.std.specs.Option.{unwrap_or};
 ghost use Rattle.ix_walk.specs.Entry.{content};
 ghost use Rattle.ix_walk.specs.Store.{has_cid, position_of, HasDistinctCids};
-ghost use Rattle.ix_walk.specs.Index.{tail_of, mark_of, first_of, window_of, Has, HasPlace, place_behind, Comes, AreLedTo, IsIndexed, FindsFree, IsSeat, is_cid_at, sight_of};
+ghost use Rattle.ix_walk.specs.Index.{tail_of, mark_of, first_of, window_of, Has, HasPlace, place_behind, Comes, AreLedTo, IsIndexed, IsTrueBehind, AllSeen, HasAllOf, IsBehind, FindsFree, IsSeat, is_cid_at, sight_of};
 
 use crate::entry::Entry;
 use crate::filling::filled;
+use crate::seeing::{Seen, see_shares};
 use ix_cid::Cid;
 use std::alloc::{AllocError, Global};
 use std::collections::BTreeMap;
@@ -29,10 +30,6 @@ const LEAST_STARTS: usize = 64;
 
 // How many places slots can have. Those behind them go to the tree.
 pub(crate) const MOST_PLACES: usize = 0xffff_ffff;
-
-// Of how many entries one may go to the tree of an index that threads make. Of two hundred one does, where CIDs are honest
-// and half of the slots are taken.
-const FEW_BEHIND: usize = 64;
 
 // A slot of the table, in eight bytes: free, or the mark of a CID and the place of its entry.
 #[derive(Clone, Copy)]
@@ -118,30 +115,77 @@ impl Index {
             slots,
             behind: BTreeMap::new(alloc),
         };
-        index.covering(alloc, entries)
+        index.covering(rt, alloc, entries, threads)
     }
 
-    // The same index, once the look-up of each entry was seen to come to its place. What finds none of its slots free
-    // goes to the tree.
-    fn covering(mut self, alloc: Global, entries: &[Entry]) -> Result<Option<Index>, AllocError>
+    // The same index, once threads saw that the look-up of each entry comes to its place. What finds none of its slots
+    // free goes to the tree.
+    fn covering<R: Threads + Sync>(
+        mut self,
+        rt: &R,
+        alloc: Global,
+        entries: &[Entry],
+        threads: usize,
+    ) -> Result<Option<Index>, AllocError>
         requires { (c : List ℕ) → place_behind self c ≡ None }
         ensures { IfOk result (λ found. IfSome found (λ index. IsIndexed index (map (λ e. (e.cid, content e.block)) entries.now))) }
     {
-        let mut left = entries.len() / FEW_BEHIND;
-        for (place, entry) in entries.iter().enumerate() {
-            match look(self.slots.as_slice(), entries, &entry.cid) {
-                Sight::At(other) if other == place => {}
-                Sight::Full if left > 0 => {
-                    left -= 1;
-                    let stood = self.put_behind(alloc, &entry.cid, place)?;
-                    if stood != place {
+        let threads = threads.max(1);
+        let share = entries.len().div_ceil(threads);
+        let shares = see_shares(rt, alloc, self.slots.as_slice(), entries, share, threads)?;
+        self.cover(alloc, entries, share, shares.as_slice())
+    }
+
+    // The same index, once threads saw the shares of the entries.
+    fn cover(
+        mut self,
+        alloc: Global,
+        entries: &[Entry],
+        share: usize,
+        shares: &[Seen],
+    ) -> Result<Option<Index>, AllocError>
+        requires empty { (c : List ℕ) → place_behind self c ≡ None }
+        requires seen { AllSeen self.slots.items (map (λ e. (e.cid, content e.block)) entries.now) share shares.now }
+        requires whole { length entries.now ≤ length shares.now * share }
+        ensures { IfOk result (λ found. IfSome found (λ index. IsIndexed index (map (λ e. (e.cid, content e.block)) entries.now))) }
+    {
+        for places in shares.iter() {
+            match places {
+                Err(_) => return Err(AllocError),
+                Ok(None) => return Ok(None),
+                Ok(Some(places)) => {
+                    if !self.put_each_behind(alloc, entries, places.as_slice())? {
                         return Ok(None);
                     }
                 }
-                _ => return Ok(None),
             }
         }
         Ok(Some(self))
+    }
+
+    // Gives the tree these places, each for the CID of its entry, and tells whether it has each of them.
+    fn put_each_behind(
+        &mut self,
+        alloc: Global,
+        entries: &[Entry],
+        places: &[usize],
+    ) -> Result<bool, AllocError>
+        ensures slots { self.new.slots ≡ self.old.slots }
+        ensures kept { HasAllOf self.new self.old }
+        ensures behind { IsTrueBehind self.old (map (λ e. (e.cid, content e.block)) entries.now) → IsTrueBehind self.new (map (λ e. (e.cid, content e.block)) entries.now) }
+        ensures put { IfOk result (λ all. IsTrue all → All (λ p. IsBehind self.new (map (λ e. (e.cid, content e.block)) entries.now) p) places.now) }
+    {
+        for place in places.iter() {
+            let place = *place;
+            let Some(entry) = entries.get(place) else {
+                return Ok(false);
+            };
+            let stood = self.put_behind(alloc, &entry.cid, place)?;
+            if stood != place {
+                return Ok(false);
+            }
+        }
+        Ok(true)
     }
 
     // The index with room for one entry more: its table is doubled where half of its slots may be taken.
@@ -305,7 +349,7 @@ fn free_slot(slots: &[Slot], tail: u64, place: usize) -> Option<usize>
 }
 
 // What the look-up of a CID sees in a table.
-fn look(slots: &[Slot], entries: &[Entry], cid: &Cid) -> Sight
+pub(crate) fn look(slots: &[Slot], entries: &[Entry], cid: &Cid) -> Sight
     ensures { result ≡ sight_of (map (λ e. (e.cid, content e.block)) entries.now) (window_of slots.now (tail_of cid.now)) (mark_of (tail_of cid.now)) cid.now }
 {
     let tail = tail_of(cid);

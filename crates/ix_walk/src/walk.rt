@@ -58,7 +58,7 @@ impl<'a> Walk<'a> {
         ensures { IfOk result (λ w. w ≡ record { visits = visits_of store.now number job.now; limited = is_over_limit store.now job.now; ended = false }) }
     {
         let gone = if job.goes_once() {
-            Some(Gone::new(alloc))
+            Some(Gone::new(alloc, job.selector())?)
         } else {
             None
         };

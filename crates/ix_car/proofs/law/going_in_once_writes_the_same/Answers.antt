@@ -1,7 +1,5 @@
-use Rattle.std.proofs.Common.{sym, ◌∙◌, ap, map, length, ltb-false}
+use Rattle.std.proofs.Common.{sym, ◌∙◌, ap}
 use Rattle.ix_selector.specs.Behind.{residual_at, same_residual}
-use Rattle.ix_walk.specs.Visits.{visits_from}
-use Rattle.ix_walk.specs.Once.{once_arrivals}
 use Rattle.ix_car.specs.Archive.{archive_with}
 use Rattle.ix_car.proofs.SoundValues.{passing-sound}
 use Rattle.ix_car.proofs.KeptOnce.{once-kept}

@@ -1,4 +1,4 @@
-use Rattle.std.proofs.Common.{◌≤◌, ◌+◌, length, map, sym, arith, rules}
+use Rattle.std.proofs.Common.{length, map, sym, arith, rules}
 use Rattle.ix_walk.specs.Index.{IsIndexed}
 use Rattle.ix_walk.proofs.Stores.{pair}
 use Rattle.ix_walk.proofs.Gathered.{made-all}

@@ -1,4 +1,4 @@
-use Rattle.std.proofs.Common.{◌≡◌, ◌∙◌, ◌<◌, ◌≤◌, ◌+◌, List, length, map, get_or, drop, sym, ap, subst, inl, inr}
+use Rattle.std.proofs.Common.{◌≡◌, ◌∙◌, ◌<◌, ◌≤◌, ◌+◌, List, length, map, get_or, sym, ap, subst, inl, inr}
 use Rattle.ix_walk.specs.Index.{window_of, tail_of, mark_of, IsFree}
 use Rattle.ix_walk.specs.declared.index.Slot.{Slot}
 use Rattle.ix_walk.proofs.Stores.{pair}

@@ -1,4 +1,4 @@
-use Rattle.std.proofs.Common.{◌≡◌, ◌∙◌, ap, rules, take, drop, List, ℕ}
+use Rattle.std.proofs.Common.{◌≡◌, ◌∙◌, ap, rules, take, drop}
 use Rattle.std.specs.Arc.{arc_value}
 use Rattle.ix_walk.specs.Store.{Blocks, with_block}
 use Rattle.ix_walk.proofs.Gathered.{made-push}
