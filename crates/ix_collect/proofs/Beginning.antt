@@ -6,22 +6,22 @@ use Rattle.ix_car.specs.declared.sink.Delivery.{Delivery}
 use Rattle.ix_car.specs.declared.sink.End.{End}
 use Rattle.ix_car.specs.Events.{Event, IsOpen}
 use Rattle.ix_car.specs.Headline.{EachFresh}
-use Rattle.ix_collect.specs.declared.progress.Progress.{Progress}
-use Rattle.ix_collect.specs.declared.progress.Stage.{Stage}
-use Rattle.ix_collect.specs.declared.progress.WalkEnd.{WalkEnd}
+use Rattle.ix_collect.specs.declared.job_progress.JobProgress.{JobProgress}
+use Rattle.ix_collect.specs.declared.job_progress.Stage.{Stage}
+use Rattle.ix_collect.specs.declared.job_progress.WalkEnd.{WalkEnd}
 use Rattle.ix_ring.specs.Numbered.{Numbered, found}
 use Rattle.ix_stages.specs.Received.{tally}
 use Rattle.ix_stages.specs.Good.{judged_at, over_at}
-use Rattle.ix_collect.specs.Progress.{IsNew, IsSafe, IsSafeAt, IsUnderWay, IsCalm, IsCome, IsComeTo, IsOn, IsCloseKnown}
+use Rattle.ix_collect.specs.JobProgress.{IsNew, IsSafe, IsSafeAt, IsUnderWay, IsCalm, IsCome, IsComeTo, IsOn, IsCloseKnown}
 use Rattle.ix_collect.specs.Collected.{AllNew, EachSafe, EachCome}
 
 module _ {S : Type 0} (events : S → List Event) (failed : S → List Delivery) where
-  safe_none : (p : Progress) (s : S) → IsNew p → (events s ≡ []) × (failed s ≡ []) → IsSafe p (events s) (failed s)
+  safe_none : (p : JobProgress) (s : S) → IsNew p → (events s ≡ []) × (failed s ≡ []) → IsSafe p (events s) (failed s)
   safe_none p s new fresh =
       subst (λ (e : Option End). IsSafeAt e p.stage (events s) (failed s)) (sym new.end)
       (subst (λ (x : Stage). IsSafeAt None x (events s) (failed s)) (sym new.stage) (subst (λ (l : List Event). IsOpen l) (sym fresh.0) tt, fresh.1))
 
-  pub safe_new : (ps : List Progress) (ss : List S) → length ss ≡ length ps → AllNew ps → EachFresh events failed ss → EachSafe events failed ps ss
+  pub safe_new : (ps : List JobProgress) (ss : List S) → length ss ≡ length ps → AllNew ps → EachFresh events failed ss → EachSafe events failed ps ss
   safe_new [] [] e new fresh = tt
   safe_new [] (s ∷ ss) e new fresh = absurd (omega arith)
   safe_new (p ∷ ps) [] e new fresh = absurd (omega arith)
@@ -31,17 +31,17 @@ module _ {S : Type 0} (events : S → List Event) (failed : S → List Delivery)
     nothing_found : (ring : Numbered (Option Delivery)) (k : ℕ) → ring ≡ record { next = 0; entries = [] } → found ring k ≡ None
     nothing_found ring k e = ap (λ (r : Numbered (Option Delivery)). found r k) e
 
-    come_none : (n : ℕ) (p : Progress) (s : S) → IsNew p → (events s ≡ []) × (failed s ≡ []) → IsCome (judged_at store jobs n) (over_at store jobs n) (tally n []) p (events s) (failed s)
+    come_none : (n : ℕ) (p : JobProgress) (s : S) → IsNew p → (events s ≡ []) × (failed s ≡ []) → IsCome (judged_at store jobs n) (over_at store jobs n) (tally n []) p (events s) (failed s)
     come_none n p s new fresh =
         let under : IsUnderWay (judged_at store jobs n) (over_at store jobs n) (tally n []) p (events s) (failed s) = record {
           arrived = new.arrived;
-          closing = subst (λ (w : Option WalkEnd). IsCloseKnown (judged_at store jobs n) (over_at store jobs n) (tally n []) p.short w) (sym new.close) (λ k. refl);
+          closing = subst (λ (w : Option WalkEnd). IsCloseKnown (judged_at store jobs n) (over_at store jobs n) (tally n []) p.out_of_memory w) (sym new.close) (λ k. refl);
           unchecked = λ e k. refl;
           count = 0;
           within = omega arith;
           told = fresh.0;
           checked = λ k lt. absurd (omega arith);
-          on = subst (λ (x : Stage). IsOn (judged_at store jobs n) (tally n []) 0 p.short p.ring (failed s) x) (sym new.stage) (
+          on = subst (λ (x : Stage). IsOn (judged_at store jobs n) (tally n []) 0 p.out_of_memory p.ring (failed s) x) (sym new.stage) (
             sym (ap (λ (r : Numbered (Option Delivery)). r.next) new.ring),
             fresh.1,
             record {
@@ -53,7 +53,7 @@ module _ {S : Type 0} (events : S → List Event) (failed : S → List Delivery)
         let calm : IsCalm p = λ at. nothing_found p.ring p.ring.next new.ring in
         subst (λ (e : Option End). IsComeTo (judged_at store jobs n) (over_at store jobs n) (tally n []) p (events s) (failed s) e) (sym new.end) (under, calm)
 
-    pub come_new : (n : ℕ) (ps : List Progress) (ss : List S) → length ss ≡ length ps → AllNew ps → EachFresh events failed ss → EachCome events failed store jobs [] n ps ss
+    pub come_new : (n : ℕ) (ps : List JobProgress) (ss : List S) → length ss ≡ length ps → AllNew ps → EachFresh events failed ss → EachCome events failed store jobs [] n ps ss
     come_new n [] [] e new fresh = tt
     come_new n [] (s ∷ ss) e new fresh = absurd (omega arith)
     come_new n (p ∷ ps) [] e new fresh = absurd (omega arith)

@@ -6,12 +6,12 @@ use Rattle.ix_car.specs.declared.sink.Delivery.{Delivery}
 use Rattle.ix_car.specs.Events.{Event}
 use Rattle.ix_stages.specs.declared.verdicted.Verdicted.{Verdicted}
 use Rattle.ix_stages.specs.declared.verdicted.Verdicted.TheVariants.{Checked, Unchecked, Close, Last}
-use Rattle.ix_collect.specs.declared.progress.Progress.{Progress}
+use Rattle.ix_collect.specs.declared.job_progress.JobProgress.{JobProgress}
 use Rattle.ix_collect.specs.declared.collector.Collector.{Collector}
 use Rattle.ix_stages.specs.Received.{Tally, tally, Inserts, job_of}
 use Rattle.ix_stages.specs.Good.{judged_at, over_at, IsAllowed, IsGood}
 use Rattle.std.specs.Prelude.{not, ◌||◌}
-use Rattle.ix_collect.specs.Progress.{IsNew, IsFine, IsItem, IsSafe, IsCome, IsEnded, IsMisplaced}
+use Rattle.ix_collect.specs.JobProgress.{IsNew, IsFine, IsItem, IsSafe, IsCome, IsEnded, IsMisplaced}
 use Rattle.std.proofs.lemmas.List.{take_more}
 use Rattle.ix_collect.specs.Collected.{AllNew, EachSafe, EachCome, IsCollected, AllEnded, IsClosedAt, IsMisplacedAt}
 use Rattle.ix_collect.proofs.Goodness.{tally_same, fine_of, item_of, good_before}
@@ -27,31 +27,31 @@ job_known store jobs Last j a e = cc
 pub collected_unknown : (store : Blocks) (jobs : List JobMeaning) (x : Verdicted) (got more : List Verdicted) (j size : ℕ) → Inserts x got more → job_of x ≡ Some j → size ≤ j → size ≡ length jobs → IsGood store jobs more → ⊥
 collected_unknown store jobs x got more j size i of past len good = let lt : j < length jobs = job_known store jobs x j ((good_before store jobs x got more i good).1) of in absurd (omega arith)
 
-pub new_push : (ps : List Progress) (p : Progress) → AllNew ps → IsNew p → AllNew (ps ++ p ∷ [])
+pub new_push : (ps : List JobProgress) (p : JobProgress) → AllNew ps → IsNew p → AllNew (ps ++ p ∷ [])
 new_push [] p h n = (n, tt)
 new_push (x ∷ ps) p h n = (h.0, new_push ps p h.1 n)
 
-ended_push : (ps : List Progress) (p : Progress) → AllEnded ps → IsEnded p → AllEnded (ps ++ p ∷ [])
+ended_push : (ps : List JobProgress) (p : JobProgress) → AllEnded ps → IsEnded p → AllEnded (ps ++ p ∷ [])
 ended_push [] p h e = (e, tt)
 ended_push (x ∷ ps) p h e = (h.0, ended_push ps p h.1 e)
 
-pub ended_more : (ps : List Progress) (i : ℕ) (p : Progress) → p ≡ get_or ps i p → i < length ps → AllEnded (take i ps) → IsEnded p → AllEnded (take (i + 1) ps)
+pub ended_more : (ps : List JobProgress) (i : ℕ) (p : JobProgress) → p ≡ get_or ps i p → i < length ps → AllEnded (take i ps) → IsEnded p → AllEnded (take (i + 1) ps)
 ended_more ps i p at lt h e =
-    subst AllEnded (sym (take_more ps i p lt ∙ ap (λ (x : Progress). take i ps ++ x ∷ []) (sym at))) (ended_push (take i ps) p h e)
+    subst AllEnded (sym (take_more ps i p lt ∙ ap (λ (x : JobProgress). take i ps ++ x ∷ []) (sym at))) (ended_push (take i ps) p h e)
 
-pub ended_at : (ps : List Progress) (i : ℕ) (p : Progress) → p ≡ get_or ps i p → i < length ps → AllEnded ps → IsEnded p
+pub ended_at : (ps : List JobProgress) (i : ℕ) (p : JobProgress) → p ≡ get_or ps i p → i < length ps → AllEnded ps → IsEnded p
 ended_at [] i p at lt h = absurd (omega arith)
 ended_at (x ∷ ps) zero p at lt h = subst IsEnded (sym at) h.0
 ended_at (x ∷ ps) (suc i) p at lt h = ended_at ps i p at (omega arith) h.1
 
-pub closed_at : (ps : List Progress) (i : ℕ) (p : Progress) → p ≡ get_or ps i p → IsClosedAt ps i → IsEnded p
+pub closed_at : (ps : List JobProgress) (i : ℕ) (p : JobProgress) → p ≡ get_or ps i p → IsClosedAt ps i → IsEnded p
 closed_at [] i p at h = absurd h
 closed_at (x ∷ ps) zero p at h = subst IsEnded (sym at) h
 closed_at (x ∷ ps) (suc i) p at h = closed_at ps i p at h
 
-pub misplaced_at : (ps : List Progress) (x : Verdicted) (i : ℕ) (p : Progress) → p ≡ get_or ps i p → IsMisplacedAt ps x i → IsMisplaced p x
+pub misplaced_at : (ps : List JobProgress) (x : Verdicted) (i : ℕ) (p : JobProgress) → p ≡ get_or ps i p → IsMisplacedAt ps x i → IsMisplaced p x
 misplaced_at [] x i p at h = absurd h
-misplaced_at (q ∷ ps) x zero p at h = subst (λ (r : Progress). IsMisplaced r x) (sym at) h
+misplaced_at (q ∷ ps) x zero p at h = subst (λ (r : JobProgress). IsMisplaced r x) (sym at) h
 misplaced_at (q ∷ ps) x (suc i) p at h = misplaced_at ps x i p at h
 
 -- what was noted stays noted, and an item that can't come is
@@ -69,19 +69,19 @@ not_fine true fine e f = cc
 not_fine false true e f = cc
 not_fine false false e f = refl
 
-pub ended_set : (ps : List Progress) (i : ℕ) (p q : Progress) → p ≡ get_or ps i p → i < length ps → (IsEnded p → IsEnded q) → AllEnded ps → AllEnded (set ps i q)
+pub ended_set : (ps : List JobProgress) (i : ℕ) (p q : JobProgress) → p ≡ get_or ps i p → i < length ps → (IsEnded p → IsEnded q) → AllEnded ps → AllEnded (set ps i q)
 ended_set [] i p q at lt keeps h = tt
 ended_set (x ∷ ps) zero p q at lt keeps h = (keeps (subst IsEnded (sym at) h.0), h.1)
 ended_set (x ∷ ps) (suc i) p q at lt keeps h = (h.0, ended_set ps i p q at (omega arith) keeps h.1)
 
 module _ {S : Type 0} (events : S → List Event) (failed : S → List Delivery) where
-  pub safe_at : (ps : List Progress) (ss : List S) (i : ℕ) (p : Progress) (s : S) → p ≡ get_or ps i p → s ≡ get_or ss i s → i < length ps → EachSafe events failed ps ss → IsSafe p (events s) (failed s)
+  pub safe_at : (ps : List JobProgress) (ss : List S) (i : ℕ) (p : JobProgress) (s : S) → p ≡ get_or ps i p → s ≡ get_or ss i s → i < length ps → EachSafe events failed ps ss → IsSafe p (events s) (failed s)
   safe_at [] ss i p s pe se lt h = absurd (omega arith)
   safe_at (x ∷ ps) [] i p s pe se lt h = absurd h
-  safe_at (x ∷ ps) (y ∷ ss) zero p s pe se lt h = subst (λ (z : S). IsSafe p (events z) (failed z)) (sym se) (subst (λ (z : Progress). IsSafe z (events y) (failed y)) (sym pe) h.0)
+  safe_at (x ∷ ps) (y ∷ ss) zero p s pe se lt h = subst (λ (z : S). IsSafe p (events z) (failed z)) (sym se) (subst (λ (z : JobProgress). IsSafe z (events y) (failed y)) (sym pe) h.0)
   safe_at (x ∷ ps) (y ∷ ss) (suc i) p s pe se lt h = safe_at ps ss i p s pe se (omega arith) h.1
 
-  pub safe_set : (ps : List Progress) (ss : List S) (i : ℕ) (p : Progress) (s : S) → IsSafe p (events s) (failed s) → EachSafe events failed ps ss → EachSafe events failed (set ps i p) (set ss i s)
+  pub safe_set : (ps : List JobProgress) (ss : List S) (i : ℕ) (p : JobProgress) (s : S) → IsSafe p (events s) (failed s) → EachSafe events failed ps ss → EachSafe events failed (set ps i p) (set ss i s)
   safe_set [] [] i p s new h = tt
   safe_set [] (y ∷ ss) i p s new h = absurd h
   safe_set (x ∷ ps) [] i p s new h = absurd h
@@ -90,7 +90,7 @@ module _ {S : Type 0} (events : S → List Event) (failed : S → List Delivery)
 
   module _ (store : Blocks) (jobs : List JobMeaning) where
     -- nothing changes for jobs of which the item isn't
-    come_same : (x : Verdicted) (got more : List Verdicted) (n : ℕ) (ps : List Progress) (ss : List S)
+    come_same : (x : Verdicted) (got more : List Verdicted) (n : ℕ) (ps : List JobProgress) (ss : List S)
         → Inserts x got more → ((j : ℕ) → n ≤ j → job_of x ≡ Some j → ⊥) → EachCome events failed store jobs got n ps ss → EachCome events failed store jobs more n ps ss
     come_same x got more n [] [] i ne h = tt
     come_same x got more n [] (s ∷ ss) i ne h = absurd h
@@ -100,7 +100,7 @@ module _ {S : Type 0} (events : S → List Event) (failed : S → List Delivery)
       come_same x got more (n + 1) ps ss i (λ j le e. ne j (omega arith) e) h.1,
     )
 
-    pub come_at : (got : List Verdicted) (n j : ℕ) (ps : List Progress) (ss : List S) (i : ℕ) (p : Progress) (s : S)
+    pub come_at : (got : List Verdicted) (n j : ℕ) (ps : List JobProgress) (ss : List S) (i : ℕ) (p : JobProgress) (s : S)
         → j ≡ n + i → p ≡ get_or ps i p → s ≡ get_or ss i s → i < length ps → EachCome events failed store jobs got n ps ss → IsCome (judged_at store jobs j) (over_at store jobs j) (tally j got) p (events s) (failed s)
     come_at got n j [] ss i p s je pe se lt h = absurd (omega arith)
     come_at got n j (x ∷ ps) [] i p s je pe se lt h = absurd h
@@ -108,10 +108,10 @@ module _ {S : Type 0} (events : S → List Event) (failed : S → List Delivery)
         let same : n ≡ j = omega arith in
         subst (λ (k : ℕ). IsCome (judged_at store jobs k) (over_at store jobs k) (tally k got) p (events s) (failed s)) same
         (subst (λ (z : S). IsCome (judged_at store jobs n) (over_at store jobs n) (tally n got) p (events z) (failed z)) (sym se)
-        (subst (λ (z : Progress). IsCome (judged_at store jobs n) (over_at store jobs n) (tally n got) z (events y) (failed y)) (sym pe) h.0))
+        (subst (λ (z : JobProgress). IsCome (judged_at store jobs n) (over_at store jobs n) (tally n got) z (events y) (failed y)) (sym pe) h.0))
     come_at got n j (x ∷ ps) (y ∷ ss) (suc i) p s je pe se lt h = come_at got (n + 1) j ps ss i p s (omega arith) pe se (omega arith) h.1
 
-    come_set : (x : Verdicted) (got more : List Verdicted) (n j : ℕ) (ps : List Progress) (ss : List S) (i : ℕ) (p : Progress) (s : S)
+    come_set : (x : Verdicted) (got more : List Verdicted) (n j : ℕ) (ps : List JobProgress) (ss : List S) (i : ℕ) (p : JobProgress) (s : S)
         → Inserts x got more → job_of x ≡ Some j → j ≡ n + i → IsCome (judged_at store jobs j) (over_at store jobs j) (tally j more) p (events s) (failed s)
         → EachCome events failed store jobs got n ps ss → EachCome events failed store jobs more n (set ps i p) (set ss i s)
     come_set x got more n j [] [] i p s ins of je new h = tt
@@ -133,7 +133,7 @@ module _ {S : Type 0} (events : S → List Event) (failed : S → List Delivery)
         let before = h ((good_before store jobs x got more i good).0) len in (before.0, come_same x got more 0 c.jobs.items ss i (λ j le e. let both : None ≡ Some j = sym none ∙ e in cc) before.1)
 
     -- an item of a job
-    pub collected_one : (x : Verdicted) (got more : List Verdicted) (j : ℕ) (noted fine : Bool) (ps qs : List Progress) (ss ts : List S) (p q : Progress) (s t : S)
+    pub collected_one : (x : Verdicted) (got more : List Verdicted) (j : ℕ) (noted fine : Bool) (ps qs : List JobProgress) (ss ts : List S) (p q : JobProgress) (s t : S)
         → Inserts x got more → job_of x ≡ Some j → p ≡ get_or ps j p → s ≡ get_or ss j s → j < length ps → qs ≡ set ps j q → ts ≡ set ss j t
         → ((all : List Delivery) (over : Bool) (a b : Tally) → IsFine all b → IsItem all over x a b → IsCome all over a p (events s) (failed s) → (fine ≡ true) × IsCome all over b q (events t) (failed t))
         → (IsGood store jobs got → length ps ≡ length jobs → (noted ≡ false) × EachCome events failed store jobs got 0 ps ss) → IsGood store jobs more → length ps ≡ length jobs
@@ -144,7 +144,7 @@ module _ {S : Type 0} (events : S → List Event) (failed : S → List Delivery)
         let was = come_at got 0 j ps ss j p s (omega arith) pe se lt before.1 in
         let now = step (judged_at store jobs j) (over_at store jobs j) (tally j got) (tally j more) (fine_of store jobs j more good) (item_of store jobs j x got more ins parts.1 of) was in (
           none_noted noted fine before.0 now.0,
-          subst (λ (l : List Progress). EachCome events failed store jobs more 0 l ts) (sym qe)
+          subst (λ (l : List JobProgress). EachCome events failed store jobs more 0 l ts) (sym qe)
               (subst (λ (l : List S). EachCome events failed store jobs more 0 (set ps j q) l) (sym te) (come_set x got more 0 j ps ss j q t ins of (omega arith) now.1 before.1)),
         )
       where

@@ -5,7 +5,7 @@ use Rattle.std.proofs.lemmas.Bool.{cases_lt}
 use Rattle.std.proofs.lemmas.Bool.Decides.{nat_tests}
 use Rattle.ix_car.specs.declared.sink.Delivery.{Delivery}
 use Rattle.ix_stages.specs.Received.{Tally, seen, point}
-use Rattle.ix_collect.specs.Progress.{below, IsFine}
+use Rattle.ix_collect.specs.JobProgress.{below, IsFine}
 
 pub point_here : (k : ℕ) → point k k ≡ 1
 point_here k = (let t : (k == k) ≡ true = grind (arith, nat_tests) in rw t refl)

@@ -20,23 +20,23 @@ use Rattle.ix_car.specs.Headline.{EachDelivered, IsCheckedOnce, IsEachOnce, None
 use Rattle.ix_collect.proofs.Members.{cases_cons, none_in, has_first, has_rest, has_got}
 use Rattle.ix_stages.specs.declared.verdicted.Verdicted.{Verdicted}
 use Rattle.ix_stages.specs.declared.verdicted.Verdicted.TheVariants.{Checked, Unchecked, Close, Last}
-use Rattle.ix_collect.specs.declared.progress.Progress.{Progress}
+use Rattle.ix_collect.specs.declared.job_progress.JobProgress.{JobProgress}
 use Rattle.ix_stages.specs.Received.{weigh, point, is_checked, is_unchecked, is_close, Tally, tally, pairs_of}
 use Rattle.ix_stages.specs.Good.{judged_at, over_at, IsAllowed, IsGood}
-use Rattle.ix_collect.specs.Progress.{IsOver, IsCome, IsComeTo}
+use Rattle.ix_collect.specs.JobProgress.{IsOver, IsCome, IsComeTo}
 use Rattle.ix_collect.specs.Collected.{EachCome, AllEnded, EachEnded}
 use Rattle.ix_collect.proofs.Counting.{point_here}
 use Rattle.ix_collect.proofs.Stepping.{less_at}
 use Rattle.ix_collect.proofs.Goodness.{same_tests}
 
-abbrev pub end_or : Progress → End
+abbrev pub end_or : JobProgress → End
 end_or p = unwrap_or p.end Memory
 
 end_known : (o : Option End) (e : End) → o ≡ Some e → o ≡ Some (unwrap_or o Memory)
 end_known None e h = cc
 end_known (Some f) e h = refl
 
-pub ends_known : (ps : List Progress) → AllEnded ps → EachEnded ps (map end_or ps)
+pub ends_known : (ps : List JobProgress) → AllEnded ps → EachEnded ps (map end_or ps)
 ends_known [] h = tt
 ends_known (p ∷ ps) h = (let e = h.0 in end_known p.end e.0 e.1, ends_known ps h.1)
 
@@ -173,7 +173,7 @@ module _ (store : Blocks) (jobs : List JobMeaning) where
 
 module _ {S : Type 0} (events : S → List Event) (failed : S → List Delivery) (store : Blocks) (jobs : List JobMeaning) (got : List Verdicted) where
   -- a job whose sink was closed
-  over_of : (n : ℕ) (p : Progress) (s : S) (e : End)
+  over_of : (n : ℕ) (p : JobProgress) (s : S) (e : End)
       → p.end ≡ Some e → IsCome (judged_at store jobs n) (over_at store jobs n) (tally n got) p (events s) (failed s) → IsOver (judged_at store jobs n) (over_at store jobs n) (tally n got) e (events s) (failed s)
   over_of n p s e at w = subst (λ (o : Option End). IsComeTo (judged_at store jobs n) (over_at store jobs n) (tally n got) p (events s) (failed s) o) at w
 
@@ -190,7 +190,7 @@ module _ {S : Type 0} (events : S → List Event) (failed : S → List Delivery)
   from_here : (n : ℕ) (j : JobMeaning) (rest : List JobMeaning) → AreFrom n (j ∷ rest) → slice_get jobs n ≡ Some j
   from_here n j rest h = let at : n + 0 ≡ n = omega arith in sym (h 0 ∙ ap (λ (k : ℕ). slice_get jobs k) at)
 
-  pub delivered_from : (n : ℕ) (rest : List JobMeaning) (ps : List Progress) (ss : List S) (es : List End)
+  pub delivered_from : (n : ℕ) (rest : List JobMeaning) (ps : List JobProgress) (ss : List S) (es : List End)
       → AreFrom n rest → length ps ≡ length rest → EachCome events failed store jobs got n ps ss → EachEnded ps es → EachDelivered events failed store n rest es ss
   delivered_from n [] [] [] [] from len come ended = tt
   delivered_from n [] [] [] (e ∷ es) from len come ended = absurd ended
@@ -204,7 +204,7 @@ module _ {S : Type 0} (events : S → List Event) (failed : S → List Delivery)
     delivered_from (n + 1) rest ps ss es (from_next n j rest from) (omega arith) come.1 ended.1,
   )
 
-  pub started_from : (n : ℕ) (ps : List Progress) (ss : List S) (es : List End) → EachCome events failed store jobs got n ps ss → EachEnded ps es → NoneIsStart es
+  pub started_from : (n : ℕ) (ps : List JobProgress) (ss : List S) (es : List End) → EachCome events failed store jobs got n ps ss → EachEnded ps es → NoneIsStart es
   started_from n [] ss [] come ended = λ (c : Contains [] Start). none_in Start c
   started_from n [] ss (e ∷ es) come ended = absurd ended
   started_from n (p ∷ ps) [] es come ended = absurd come
@@ -212,7 +212,7 @@ module _ {S : Type 0} (events : S → List Event) (failed : S → List Delivery)
   started_from n (p ∷ ps) (s ∷ ss) (e ∷ es) come ended =
       let w = over_of n p s e ended.0 come.0 in λ (c : Contains (e ∷ es) Start). elim (cases_cons e es Start c) [ inl at ↦ w.started at | inr r ↦ started_from (n + 1) ps ss es come.1 ended.1 r ]
 
-  told_from : (n : ℕ) (rest : List JobMeaning) (ps : List Progress) (ss : List S) (es : List End) (s : S) (d : Delivery)
+  told_from : (n : ℕ) (rest : List JobMeaning) (ps : List JobProgress) (ss : List S) (es : List End) (s : S) (d : Delivery)
       → AreFrom n rest → length ps ≡ length rest → EachCome events failed store jobs got n ps ss → EachEnded ps es → Contains ss s → Contains (events s) (delivery d) → Contains (pairs_of got) (d.visit.job, d.visit.seq)
   told_from n rest [] [] es s d from len come ended among c = absurd (none_in s among)
   told_from n rest [] (x ∷ ss) es s d from len come ended among c = absurd come
@@ -228,7 +228,7 @@ module _ {S : Type 0} (events : S → List Event) (failed : S → List Delivery)
       ]
 
   -- each visit of a job that was walked was checked
-  every_from : (n i job seq : ℕ) (ps : List Progress) (ss : List S) (es : List End)
+  every_from : (n i job seq : ℕ) (ps : List JobProgress) (ss : List S) (es : List End)
       → job ≡ n + i → i < length ps → EachCome events failed store jobs got n ps ss → EachEnded ps es → (slice_get es i ≡ Some Memory → ⊥) → seq < length (judged_at store jobs job) → Contains (pairs_of got) (job, seq)
   every_from n i job seq [] ss es at lt come ended walked within = absurd (omega arith)
   every_from n i job seq (p ∷ ps) [] es at lt come ended walked within = absurd come
@@ -254,14 +254,14 @@ module _ {S : Type 0} (events : S → List Event) (failed : S → List Delivery)
       ]
 
   -- the same by the end of the job alone
-  every_at : (job seq : ℕ) (ps : List Progress) (ss : List S) (es : List End)
+  every_at : (job seq : ℕ) (ps : List JobProgress) (ss : List S) (es : List End)
       → length ps ≡ length jobs → EachCome events failed store jobs got 0 ps ss → EachEnded ps es → (slice_get es job ≡ Some Memory → ⊥) → seq < visit_count store jobs job → Contains (pairs_of got) (job, seq)
   every_at job seq ps ss es len come ended walked lt =
       let within : seq < length (judged_at store jobs job) = subst (λ (k : ℕ). seq < k) (count_is store jobs job) lt in
       let there : job < length jobs = job_below job seq within in
       every_from 0 job job seq ps ss es (omega arith) (omega arith) come ended walked within
 
-  pub checked_from : (ps : List Progress) (ss : List S) (es : List End)
+  pub checked_from : (ps : List JobProgress) (ss : List S) (es : List End)
       → IsGood store jobs got → length ps ≡ length jobs → EachCome events failed store jobs got 0 ps ss → EachEnded ps es → IsCheckedOnce events store jobs es ss (pairs_of got)
   checked_from ps ss es good len come ended = record {
     once = pairs_once got

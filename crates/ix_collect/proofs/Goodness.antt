@@ -13,7 +13,7 @@ use Rattle.ix_stages.specs.declared.verdicted.Verdicted.{Verdicted}
 use Rattle.ix_stages.specs.declared.verdicted.Verdicted.TheVariants.{Checked, Unchecked, Close, Last}
 use Rattle.ix_stages.specs.Received.{weigh, point, is_checked, is_unchecked, is_close, is_of, tally, seen, Inserts, job_of}
 use Rattle.ix_stages.specs.Good.{judged_at, over_at, IsCloseOf, IsAllowed, IsGood}
-use Rattle.ix_collect.specs.Progress.{below, IsFine, IsItem}
+use Rattle.ix_collect.specs.JobProgress.{below, IsFine, IsItem}
 use Rattle.ix_collect.proofs.Counting.{point_here, point_else}
 use Rattle.ix_collect.proofs.Stepping.{less_at}
 

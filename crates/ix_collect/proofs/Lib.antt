@@ -8,4 +8,3 @@ pub mod Beginning
 pub mod Finished
 pub mod Gathering
 pub mod Sending
-pub mod Small

@@ -12,19 +12,19 @@ use Rattle.ix_stages.specs.declared.verdicted.Verdicted.{Verdicted}
 use Rattle.ix_stages.specs.declared.verdicted.Verdicted.TheVariants as items
 use Rattle.ix_ring.specs.declared.fault.RingFault.{RingFault}
 use Rattle.ix_ring.specs.declared.fault.RingFault.TheVariants as faults
-use Rattle.ix_collect.specs.declared.progress.Progress.{Progress}
-use Rattle.ix_collect.specs.declared.progress.Stage.{Stage}
-use Rattle.ix_collect.specs.declared.progress.Stage.TheVariants.{Delivering, Failed, Stopped}
-use Rattle.ix_collect.specs.declared.progress.WalkEnd.{WalkEnd}
+use Rattle.ix_collect.specs.declared.job_progress.JobProgress.{JobProgress}
+use Rattle.ix_collect.specs.declared.job_progress.Stage.{Stage}
+use Rattle.ix_collect.specs.declared.job_progress.Stage.TheVariants.{Delivering, Failed, Stopped}
+use Rattle.ix_collect.specs.declared.job_progress.WalkEnd.{WalkEnd}
 use Rattle.ix_ring.specs.Numbered.{Numbered, found, IsPlaced, IsRefused, IsMemory, IsPopped}
 use Rattle.ix_stages.specs.Received.{Tally, seen, point}
 use Rattle.ix_stages.specs.Good.{IsCloseOf}
-use Rattle.ix_collect.specs.Progress.{IsItem, IsComeTo, IsCome, IsSafe, IsSafeAt, MayDeliver, IsFine, Adds, none_of, IsArrival, IsCloseArrival, IsHeld, IsWaiting, IsOn, IsCloseKnown, IsUnderWay, IsPoppedUnderWay, IsOver, IsCalm, end_of}
+use Rattle.ix_collect.specs.JobProgress.{IsItem, IsComeTo, IsCome, IsSafe, IsSafeAt, MayDeliver, IsFine, Adds, none_of, IsArrival, IsCloseArrival, IsHeld, IsWaiting, IsOn, IsCloseKnown, IsUnderWay, IsPoppedUnderWay, IsOver, IsCalm, end_of}
 use Rattle.ix_collect.proofs.Counting.{point_here, point_else, full, no_more, few_items}
 
 -- want of memory that was met stays met
 abbrev pub Stays : Bool → Bool → Type 0
-Stays short more = short ≡ true → more ≡ true
+Stays out_of_memory more = out_of_memory ≡ true → more ≡ true
 
 -- a visit without a verdict is want of memory
 abbrev pub IsShortBy : Option Delivery → Bool → Type 0
@@ -52,31 +52,31 @@ less_at (y ∷ ys) zero x e = omega arith
 less_at (y ∷ ys) (suc k) x e = let h : k < length ys = less_at ys k x e in omega arith
 
 module _ (all : List Delivery) (over : Bool) where
-  pub held_adds : (t u : Tally) (c n z : ℕ → ℕ) (short more : Bool) (k : ℕ) (o : Option Delivery) → Adds t u c n z → Stays short more → IsHeld all t short k o → IsHeld all u more k o
-  held_adds t u c n z short more k (Some d) a s h = (h.0, (let e : u.checked k ≡ c k + t.checked k = a.checked_is k in let l : 0 < t.checked k = h.1 in omega arith))
-  held_adds t u c n z short more k None a s h = (s h.0, (let e : u.unchecked k ≡ n k + t.unchecked k = a.unchecked_is k in let l : 0 < t.unchecked k = h.1 in omega arith))
+  pub held_adds : (t u : Tally) (c n z : ℕ → ℕ) (out_of_memory more : Bool) (k : ℕ) (o : Option Delivery) → Adds t u c n z → Stays out_of_memory more → IsHeld all t out_of_memory k o → IsHeld all u more k o
+  held_adds t u c n z out_of_memory more k (Some d) a s h = (h.0, (let e : u.checked k ≡ c k + t.checked k = a.checked_is k in let l : 0 < t.checked k = h.1 in omega arith))
+  held_adds t u c n z out_of_memory more k None a s h = (s h.0, (let e : u.unchecked k ≡ n k + t.unchecked k = a.unchecked_is k in let l : 0 < t.unchecked k = h.1 in omega arith))
 
-  close_adds : (t u : Tally) (c n : ℕ → ℕ) (short more : Bool) (w : Option WalkEnd) → Adds t u c n none_of → Stays short more → IsCloseKnown all over t short w → IsCloseKnown all over u more w
-  close_adds t u c n short more None a s h = λ k. let e : u.closes k ≡ 0 + t.closes k = a.closes_is k in let z : t.closes k ≡ 0 = h k in omega arith
-  close_adds t u c n short more (Some w) a s h = ((let e : u.closes w.seq ≡ 0 + t.closes w.seq = a.closes_is w.seq in let l : 0 < t.closes w.seq = h.0 in omega arith), h.1, λ m. s (h.2 m))
+  close_adds : (t u : Tally) (c n : ℕ → ℕ) (out_of_memory more : Bool) (w : Option WalkEnd) → Adds t u c n none_of → Stays out_of_memory more → IsCloseKnown all over t out_of_memory w → IsCloseKnown all over u more w
+  close_adds t u c n out_of_memory more None a s h = λ k. let e : u.closes k ≡ 0 + t.closes k = a.closes_is k in let z : t.closes k ≡ 0 = h k in omega arith
+  close_adds t u c n out_of_memory more (Some w) a s h = ((let e : u.closes w.seq ≡ 0 + t.closes w.seq = a.closes_is w.seq in let l : 0 < t.closes w.seq = h.0 in omega arith), h.1, λ m. s (h.2 m))
 
-  close_short : (t : Tally) (short more : Bool) (w : Option WalkEnd) → Stays short more → IsCloseKnown all over t short w → IsCloseKnown all over t more w
-  close_short t short more None s h = h
-  close_short t short more (Some w) s h = (h.0, h.1, λ m. s (h.2 m))
+  close_short : (t : Tally) (out_of_memory more : Bool) (w : Option WalkEnd) → Stays out_of_memory more → IsCloseKnown all over t out_of_memory w → IsCloseKnown all over t more w
+  close_short t out_of_memory more None s h = h
+  close_short t out_of_memory more (Some w) s h = (h.0, h.1, λ m. s (h.2 m))
 
   checked_adds : (t u : Tally) (c n z : ℕ → ℕ) (count : ℕ) → Adds t u c n z → ((k : ℕ) → k < count → 0 < t.checked k) → (k : ℕ) → k < count → 0 < u.checked k
   checked_adds t u c n z count a h k lt = let e : u.checked k ≡ c k + t.checked k = a.checked_is k in let l : 0 < t.checked k = h k lt in omega arith
 
   -- a place fills
-  waiting_placed : (t u : Tally) (c n : ℕ → ℕ) (short more : Bool) (ring new : Numbered (Option Delivery)) (k : ℕ) (o : Option Delivery)
-      → Adds t u c n none_of → ((j : ℕ) → (j ≡ k → ⊥) → c j + n j ≡ 0) → Stays short more → IsHeld all u more k o → IsPlaced ring k o new → IsWaiting all t short ring → IsWaiting all u more new
-  waiting_placed t u c n short more ring new k o a besides s held p w = record {
+  waiting_placed : (t u : Tally) (c n : ℕ → ℕ) (out_of_memory more : Bool) (ring new : Numbered (Option Delivery)) (k : ℕ) (o : Option Delivery)
+      → Adds t u c n none_of → ((j : ℕ) → (j ≡ k → ⊥) → c j + n j ≡ 0) → Stays out_of_memory more → IsHeld all u more k o → IsPlaced ring k o new → IsWaiting all t out_of_memory ring → IsWaiting all u more new
+  waiting_placed t u c n out_of_memory more ring new k o a besides s held p w = record {
     held = λ j x e.
         elim (cases_lt j k) [
-          | inl less ↦ held_adds t u c n none_of short more j x a s (w.held j x (sym (p.3 j (λ (h : j ≡ k). absurd (omega arith))) ∙ e))
+          | inl less ↦ held_adds t u c n none_of out_of_memory more j x a s (w.held j x (sym (p.3 j (λ (h : j ≡ k). absurd (omega arith))) ∙ e))
           | inr le ↦
               elim (cases_lt k j) [
-                | inl greater ↦ held_adds t u c n none_of short more j x a s (w.held j x (sym (p.3 j (λ (h : j ≡ k). absurd (omega arith))) ∙ e))
+                | inl greater ↦ held_adds t u c n none_of out_of_memory more j x a s (w.held j x (sym (p.3 j (λ (h : j ≡ k). absurd (omega arith))) ∙ e))
                 | inr ge ↦
                     (let same : j ≡ k = omega arith in
                     let here : found new k ≡ Some x = subst (λ (i : ℕ). found new i ≡ Some x) same e in
@@ -113,9 +113,9 @@ module _ (all : List Delivery) (over : Bool) where
       let most : seen u seq ≤ 1 = fine.once seq in
       absurd (omega arith)
 
-  seen_held : (t : Tally) (short : Bool) (k : ℕ) (o : Option Delivery) → IsHeld all t short k o → 0 < seen t k
-  seen_held t short k (Some d) h = let l : 0 < t.checked k = h.1 in omega arith
-  seen_held t short k None h = let l : 0 < t.unchecked k = h.1 in omega arith
+  seen_held : (t : Tally) (out_of_memory : Bool) (k : ℕ) (o : Option Delivery) → IsHeld all t out_of_memory k o → 0 < seen t k
+  seen_held t out_of_memory k (Some d) h = let l : 0 < t.checked k = h.1 in omega arith
+  seen_held t out_of_memory k None h = let l : 0 < t.unchecked k = h.1 in omega arith
 
   few_before : (t u : Tally) (seq : ℕ) (o : Option Delivery) → IsFine all u → IsArrival all seq o t u → t.count < 1000001
   few_before t u seq (Some d) fine a = let e : u.count ≡ 1 + t.count = (let r = a.1 in r.count_is) in let l : u.count ≤ 1000001 = few_items all u fine in omega arith
@@ -129,23 +129,23 @@ module _ (all : List Delivery) (over : Bool) where
   arrival_below t u seq (Some d) a = less_at all seq d a.0
   arrival_below t u seq None a = a.0
 
-  arrival_close : (t u : Tally) (seq : ℕ) (o : Option Delivery) (short more : Bool) (w : Option WalkEnd) → IsArrival all seq o t u → Stays short more → IsCloseKnown all over t short w → IsCloseKnown all over u more w
-  arrival_close t u seq (Some d) short more w a s h = close_adds t u (point seq) none_of short more w a.1 s h
-  arrival_close t u seq None short more w a s h = close_adds t u none_of (point seq) short more w a.1 s h
+  arrival_close : (t u : Tally) (seq : ℕ) (o : Option Delivery) (out_of_memory more : Bool) (w : Option WalkEnd) → IsArrival all seq o t u → Stays out_of_memory more → IsCloseKnown all over t out_of_memory w → IsCloseKnown all over u more w
+  arrival_close t u seq (Some d) out_of_memory more w a s h = close_adds t u (point seq) none_of out_of_memory more w a.1 s h
+  arrival_close t u seq None out_of_memory more w a s h = close_adds t u none_of (point seq) out_of_memory more w a.1 s h
 
   arrival_checked : (t u : Tally) (seq : ℕ) (o : Option Delivery) (count : ℕ) → IsArrival all seq o t u → ((k : ℕ) → k < count → 0 < t.checked k) → (k : ℕ) → k < count → 0 < u.checked k
   arrival_checked t u seq (Some d) count a h = checked_adds t u (point seq) none_of none_of count a.1 h
   arrival_checked t u seq None count a h = checked_adds t u none_of (point seq) none_of count a.1 h
 
-  arrival_unchecked : (t u : Tally) (seq : ℕ) (o : Option Delivery) (short more : Bool)
-      → IsArrival all seq o t u → Stays short more → IsShortBy o more → (short ≡ false → (k : ℕ) → t.unchecked k ≡ 0) → more ≡ false → (k : ℕ) → u.unchecked k ≡ 0
-  arrival_unchecked t u seq (Some d) short more a s b h e k =
-      let was : short ≡ false = elim (true_or_false short) [ inl up ↦ (let m : more ≡ true = s up in cc) | inr down ↦ down ] in
+  arrival_unchecked : (t u : Tally) (seq : ℕ) (o : Option Delivery) (out_of_memory more : Bool)
+      → IsArrival all seq o t u → Stays out_of_memory more → IsShortBy o more → (out_of_memory ≡ false → (k : ℕ) → t.unchecked k ≡ 0) → more ≡ false → (k : ℕ) → u.unchecked k ≡ 0
+  arrival_unchecked t u seq (Some d) out_of_memory more a s b h e k =
+      let was : out_of_memory ≡ false = elim (true_or_false out_of_memory) [ inl up ↦ (let m : more ≡ true = s up in cc) | inr down ↦ down ] in
       let r = a.1 in
       let f : u.unchecked k ≡ 0 + t.unchecked k = r.unchecked_is k in
       let z : t.unchecked k ≡ 0 = h was k in
       omega arith
-  arrival_unchecked t u seq None short more a s b h e k = let m : more ≡ true = b in cc
+  arrival_unchecked t u seq None out_of_memory more a s b h e k = let m : more ≡ true = b in cc
 
   arrival_held : (t u : Tally) (seq : ℕ) (o : Option Delivery) (more : Bool) → IsArrival all seq o t u → IsShortBy o more → IsHeld all u more seq o
   arrival_held t u seq (Some d) more a b =
@@ -153,26 +153,26 @@ module _ (all : List Delivery) (over : Bool) where
   arrival_held t u seq None more a b =
       let r = a.1 in let e : u.unchecked seq ≡ point seq seq + t.unchecked seq = r.unchecked_is seq in let one : point seq seq ≡ 1 = point_here seq in (b, omega arith)
 
-  arrival_waiting : (t u : Tally) (seq : ℕ) (o : Option Delivery) (short more : Bool) (ring new : Numbered (Option Delivery))
-      → IsArrival all seq o t u → Stays short more → IsShortBy o more → IsPlaced ring seq o new → IsWaiting all t short ring → IsWaiting all u more new
-  arrival_waiting t u seq (Some d) short more ring new a s b p w =
-      waiting_placed t u (point seq) none_of short more ring new seq (Some d) a.1 (λ j ne. let z : point seq j ≡ 0 = point_else seq j ne in omega arith) s (arrival_held t u seq (Some d) more a b) p w
-  arrival_waiting t u seq None short more ring new a s b p w =
-      waiting_placed t u none_of (point seq) short more ring new seq None a.1 (λ j ne. let z : point seq j ≡ 0 = point_else seq j ne in omega arith) s (arrival_held t u seq None more a b) p w
+  arrival_waiting : (t u : Tally) (seq : ℕ) (o : Option Delivery) (out_of_memory more : Bool) (ring new : Numbered (Option Delivery))
+      → IsArrival all seq o t u → Stays out_of_memory more → IsShortBy o more → IsPlaced ring seq o new → IsWaiting all t out_of_memory ring → IsWaiting all u more new
+  arrival_waiting t u seq (Some d) out_of_memory more ring new a s b p w =
+      waiting_placed t u (point seq) none_of out_of_memory more ring new seq (Some d) a.1 (λ j ne. let z : point seq j ≡ 0 = point_else seq j ne in omega arith) s (arrival_held t u seq (Some d) more a b) p w
+  arrival_waiting t u seq None out_of_memory more ring new a s b p w =
+      waiting_placed t u none_of (point seq) out_of_memory more ring new seq None a.1 (λ j ne. let z : point seq j ≡ 0 = point_else seq j ne in omega arith) s (arrival_held t u seq None more a b) p w
 
   -- a visit came, and what becomes of it is known
-  arrives : (t u : Tally) (seq : ℕ) (o : Option Delivery) (p q : Progress) (events : List Event) (failed : List Delivery)
-      → IsFine all u → IsArrival all seq o t u → (w : IsUnderWay all over t p events failed) → (p.arrived < 1000001 → q.arrived ≡ 1 + p.arrived) → q.close ≡ p.close → Stays p.short q.short → IsShortBy o q.short
-      → IsOn all u w.count q.short q.ring failed q.stage → IsUnderWay all over u q events failed
-  arrives t u seq o p q events failed fine a w counts closes stays short on =
+  arrives : (t u : Tally) (seq : ℕ) (o : Option Delivery) (p q : JobProgress) (events : List Event) (failed : List Delivery)
+      → IsFine all u → IsArrival all seq o t u → (w : IsUnderWay all over t p events failed) → (p.arrived < 1000001 → q.arrived ≡ 1 + p.arrived) → q.close ≡ p.close → Stays p.out_of_memory q.out_of_memory → IsShortBy o q.out_of_memory
+      → IsOn all u w.count q.out_of_memory q.ring failed q.stage → IsUnderWay all over u q events failed
+  arrives t u seq o p q events failed fine a w counts closes stays out_of_memory on =
       let few : t.count < 1000001 = few_before t u seq o fine a in
       let was : p.arrived ≡ t.count = w.arrived in
       let is : q.arrived ≡ 1 + p.arrived = counts (omega arith) in
       let more : u.count ≡ 1 + t.count = arrival_count t u seq o a in
       record {
         arrived = omega arith;
-        closing = subst (λ (x : Option WalkEnd). IsCloseKnown all over u q.short x) (sym closes) (arrival_close t u seq o p.short q.short p.close a stays w.closing);
-        unchecked = arrival_unchecked t u seq o p.short q.short a stays short w.unchecked;
+        closing = subst (λ (x : Option WalkEnd). IsCloseKnown all over u q.out_of_memory x) (sym closes) (arrival_close t u seq o p.out_of_memory q.out_of_memory p.close a stays w.closing);
+        unchecked = arrival_unchecked t u seq o p.out_of_memory q.out_of_memory a stays out_of_memory w.unchecked;
         count = w.count;
         within = w.within;
         told = w.told;
@@ -180,50 +180,50 @@ module _ (all : List Delivery) (over : Bool) where
         on = on;
       }
 
-  other_on : (t u : Tally) (count : ℕ) (short more : Bool) (ring new : Numbered (Option Delivery)) (failed : List Delivery) (stage : Stage)
-      → (stage ≡ Delivering → ⊥) → Stays short more → IsOn all t count short ring failed stage → IsOn all u count more new failed stage
-  other_on t u count short more ring new failed Delivering ne s on = absurd (ne refl)
-  other_on t u count short more ring new failed Failed ne s on = on
-  other_on t u count short more ring new failed Stopped ne s on = (s on.0, on.1)
+  other_on : (t u : Tally) (count : ℕ) (out_of_memory more : Bool) (ring new : Numbered (Option Delivery)) (failed : List Delivery) (stage : Stage)
+      → (stage ≡ Delivering → ⊥) → Stays out_of_memory more → IsOn all t count out_of_memory ring failed stage → IsOn all u count more new failed stage
+  other_on t u count out_of_memory more ring new failed Delivering ne s on = absurd (ne refl)
+  other_on t u count out_of_memory more ring new failed Failed ne s on = on
+  other_on t u count out_of_memory more ring new failed Stopped ne s on = (s on.0, on.1)
 
   -- what holds of visits being delivered
-  on_delivering : (t : Tally) (count : ℕ) (short : Bool) (ring : Numbered (Option Delivery)) (failed : List Delivery) (stage : Stage) → stage ≡ Delivering → IsOn all t count short ring failed stage → IsOn all t count short ring failed Delivering
-  on_delivering t count short ring failed stage e on = subst (λ (x : Stage). IsOn all t count short ring failed x) e on
+  on_delivering : (t : Tally) (count : ℕ) (out_of_memory : Bool) (ring : Numbered (Option Delivery)) (failed : List Delivery) (stage : Stage) → stage ≡ Delivering → IsOn all t count out_of_memory ring failed stage → IsOn all t count out_of_memory ring failed Delivering
+  on_delivering t count out_of_memory ring failed stage e on = subst (λ (x : Stage). IsOn all t count out_of_memory ring failed x) e on
 
   -- a visit came after the last that is delivered
-  pub arrives_late : (t u : Tally) (seq : ℕ) (o : Option Delivery) (p q : Progress) (events : List Event) (failed : List Delivery)
-      → IsFine all u → IsArrival all seq o t u → IsUnderWay all over t p events failed → (p.arrived < 1000001 → q.arrived ≡ 1 + p.arrived) → q.close ≡ p.close → Stays p.short q.short → IsShortBy o q.short
+  pub arrives_late : (t u : Tally) (seq : ℕ) (o : Option Delivery) (p q : JobProgress) (events : List Event) (failed : List Delivery)
+      → IsFine all u → IsArrival all seq o t u → IsUnderWay all over t p events failed → (p.arrived < 1000001 → q.arrived ≡ 1 + p.arrived) → q.close ≡ p.close → Stays p.out_of_memory q.out_of_memory → IsShortBy o q.out_of_memory
       → (p.stage ≡ Delivering → ⊥) → q.stage ≡ p.stage → IsUnderWay all over u q events failed
-  arrives_late t u seq o p q events failed fine a w counts closes stays short ne stage =
-      arrives t u seq o p q events failed fine a w counts closes stays short
-      (subst (λ (x : Stage). IsOn all u w.count q.short q.ring failed x) (sym stage) (other_on t u w.count p.short q.short p.ring q.ring failed p.stage ne stays w.on))
+  arrives_late t u seq o p q events failed fine a w counts closes stays out_of_memory ne stage =
+      arrives t u seq o p q events failed fine a w counts closes stays out_of_memory
+      (subst (λ (x : Stage). IsOn all u w.count q.out_of_memory q.ring failed x) (sym stage) (other_on t u w.count p.out_of_memory q.out_of_memory p.ring q.ring failed p.stage ne stays w.on))
 
   -- a visit was placed
-  pub arrives_placed : (t u : Tally) (seq : ℕ) (o : Option Delivery) (p q : Progress) (events : List Event) (failed : List Delivery)
-      → IsFine all u → IsArrival all seq o t u → IsUnderWay all over t p events failed → (p.arrived < 1000001 → q.arrived ≡ 1 + p.arrived) → q.close ≡ p.close → Stays p.short q.short → IsShortBy o q.short
+  pub arrives_placed : (t u : Tally) (seq : ℕ) (o : Option Delivery) (p q : JobProgress) (events : List Event) (failed : List Delivery)
+      → IsFine all u → IsArrival all seq o t u → IsUnderWay all over t p events failed → (p.arrived < 1000001 → q.arrived ≡ 1 + p.arrived) → q.close ≡ p.close → Stays p.out_of_memory q.out_of_memory → IsShortBy o q.out_of_memory
       → p.stage ≡ Delivering → q.stage ≡ p.stage → IsPlaced p.ring seq o q.ring → IsUnderWay all over u q events failed
-  arrives_placed t u seq o p q events failed fine a w counts closes stays short at stage placed =
-      let on = on_delivering t w.count p.short p.ring failed p.stage at w.on in
-      arrives t u seq o p q events failed fine a w counts closes stays short
-      (subst (λ (x : Stage). IsOn all u w.count q.short q.ring failed x) (sym (stage ∙ at)) (on.0 ∙ sym placed.1, on.1, arrival_waiting t u seq o p.short q.short p.ring q.ring a stays short placed on.2))
+  arrives_placed t u seq o p q events failed fine a w counts closes stays out_of_memory at stage placed =
+      let on = on_delivering t w.count p.out_of_memory p.ring failed p.stage at w.on in
+      arrives t u seq o p q events failed fine a w counts closes stays out_of_memory
+      (subst (λ (x : Stage). IsOn all u w.count q.out_of_memory q.ring failed x) (sym (stage ∙ at)) (on.0 ∙ sym placed.1, on.1, arrival_waiting t u seq o p.out_of_memory q.out_of_memory p.ring q.ring a stays out_of_memory placed on.2))
 
   -- a visit found no place for want of memory
-  pub arrives_short : (t u : Tally) (seq : ℕ) (o : Option Delivery) (p q : Progress) (events : List Event) (failed : List Delivery)
-      → IsFine all u → IsArrival all seq o t u → IsUnderWay all over t p events failed → (p.arrived < 1000001 → q.arrived ≡ 1 + p.arrived) → q.close ≡ p.close → q.short ≡ true
+  pub arrives_short : (t u : Tally) (seq : ℕ) (o : Option Delivery) (p q : JobProgress) (events : List Event) (failed : List Delivery)
+      → IsFine all u → IsArrival all seq o t u → IsUnderWay all over t p events failed → (p.arrived < 1000001 → q.arrived ≡ 1 + p.arrived) → q.close ≡ p.close → q.out_of_memory ≡ true
       → p.stage ≡ Delivering → q.stage ≡ Stopped → IsUnderWay all over u q events failed
-  arrives_short t u seq o p q events failed fine a w counts closes short at stage =
-      let on = on_delivering t w.count p.short p.ring failed p.stage at w.on in
-      arrives t u seq o p q events failed fine a w counts closes (λ e. short) (short_by o q.short short) (subst (λ (x : Stage). IsOn all u w.count q.short q.ring failed x) (sym stage) (short, on.1))
+  arrives_short t u seq o p q events failed fine a w counts closes out_of_memory at stage =
+      let on = on_delivering t w.count p.out_of_memory p.ring failed p.stage at w.on in
+      arrives t u seq o p q events failed fine a w counts closes (λ e. out_of_memory) (short_by o q.out_of_memory out_of_memory) (subst (λ (x : Stage). IsOn all u w.count q.out_of_memory q.ring failed x) (sym stage) (out_of_memory, on.1))
     where
       short_by : (o : Option Delivery) (more : Bool) → more ≡ true → IsShortBy o more
       short_by (Some d) more e = tt
       short_by None more e = e
 
   -- it finds no place for no other reason
-  pub refused_for_memory : (t u : Tally) (seq : ℕ) (o : Option Delivery) (p : Progress) (events : List Event) (failed : List Delivery) (fault : RingFault (Option Delivery))
+  pub refused_for_memory : (t u : Tally) (seq : ℕ) (o : Option Delivery) (p : JobProgress) (events : List Event) (failed : List Delivery) (fault : RingFault (Option Delivery))
       → IsFine all u → IsArrival all seq o t u → IsUnderWay all over t p events failed → p.stage ≡ Delivering → IsRefused p.ring seq o fault → IsMemory fault
   refused_for_memory t u seq o p events failed (faults.Passed x) fine a w at r =
-      let on = on_delivering t w.count p.short p.ring failed p.stage at w.on in
+      let on = on_delivering t w.count p.out_of_memory p.ring failed p.stage at w.on in
       let next : w.count ≡ p.ring.next = on.0 in
       let lt : seq < p.ring.next = r.1 in
       let some : 0 < t.checked seq = w.checked seq (omega arith) in
@@ -231,10 +231,10 @@ module _ (all : List Delivery) (over : Bool) where
   refused_for_memory t u seq o p events failed (faults.Far x) fine a w at r =
       let far : p.ring.next + 1048576 ≤ seq = r.1 in let lt : seq < length all = arrival_below t u seq o a in let small : length all ≤ 1000000 = fine.small in absurd (omega arith)
   refused_for_memory t u seq o p events failed (faults.Taken x) fine a w at r =
-      let on = on_delivering t w.count p.short p.ring failed p.stage at w.on in
+      let on = on_delivering t w.count p.out_of_memory p.ring failed p.stage at w.on in
       let there = r.3 in
       let waiting = on.2 in
-      twice t u seq o fine a (seen_held t p.short seq there.0 (waiting.held seq there.0 there.1))
+      twice t u seq o fine a (seen_held t p.out_of_memory seq there.0 (waiting.held seq there.0 there.1))
   refused_for_memory t u seq o p events failed (faults.Memory x) fine a w at r = tt
 
 pub stays_or : (a b : Bool) → Stays a (a || b)
@@ -252,9 +252,9 @@ counts_up a r e lt = omega arith
 
 module _ (all : List Delivery) (over : Bool) where
   -- a close changes nothing of what waits
-  waiting_close : (t u : Tally) (z : ℕ → ℕ) (short more : Bool) (ring : Numbered (Option Delivery)) → Adds t u none_of none_of z → Stays short more → IsWaiting all t short ring → IsWaiting all u more ring
-  waiting_close t u z short more ring a s w = record {
-    held = λ k o e. held_adds all over t u none_of none_of z short more k o a s (w.held k o e);
+  waiting_close : (t u : Tally) (z : ℕ → ℕ) (out_of_memory more : Bool) (ring : Numbered (Option Delivery)) → Adds t u none_of none_of z → Stays out_of_memory more → IsWaiting all t out_of_memory ring → IsWaiting all u more ring
+  waiting_close t u z out_of_memory more ring a s w = record {
+    held = λ k o e. held_adds all over t u none_of none_of z out_of_memory more k o a s (w.held k o e);
     missing = λ k low none.
         let e : u.checked k ≡ 0 + t.checked k = a.checked_is k in
         let f : u.unchecked k ≡ 0 + t.unchecked k = a.unchecked_is k in
@@ -262,24 +262,24 @@ module _ (all : List Delivery) (over : Bool) where
         omega arith;
   }
 
-  on_close : (t u : Tally) (z : ℕ → ℕ) (count : ℕ) (short more : Bool) (ring : Numbered (Option Delivery)) (failed : List Delivery) (stage : Stage)
-      → Adds t u none_of none_of z → Stays short more → IsOn all t count short ring failed stage → IsOn all u count more ring failed stage
-  on_close t u z count short more ring failed Delivering a s on = (on.0, on.1, waiting_close t u z short more ring a s on.2)
-  on_close t u z count short more ring failed Failed a s on = on
-  on_close t u z count short more ring failed Stopped a s on = (s on.0, on.1)
+  on_close : (t u : Tally) (z : ℕ → ℕ) (count : ℕ) (out_of_memory more : Bool) (ring : Numbered (Option Delivery)) (failed : List Delivery) (stage : Stage)
+      → Adds t u none_of none_of z → Stays out_of_memory more → IsOn all t count out_of_memory ring failed stage → IsOn all u count more ring failed stage
+  on_close t u z count out_of_memory more ring failed Delivering a s on = (on.0, on.1, waiting_close t u z out_of_memory more ring a s on.2)
+  on_close t u z count out_of_memory more ring failed Failed a s on = on
+  on_close t u z count out_of_memory more ring failed Stopped a s on = (s on.0, on.1)
 
-  close_unchecked : (t u : Tally) (z : ℕ → ℕ) (short more : Bool) → Adds t u none_of none_of z → Stays short more → (short ≡ false → (k : ℕ) → t.unchecked k ≡ 0) → more ≡ false → (k : ℕ) → u.unchecked k ≡ 0
-  close_unchecked t u z short more a s h e k =
-      let was : short ≡ false = elim (true_or_false short) [ inl up ↦ (let m : more ≡ true = s up in cc) | inr down ↦ down ] in
+  close_unchecked : (t u : Tally) (z : ℕ → ℕ) (out_of_memory more : Bool) → Adds t u none_of none_of z → Stays out_of_memory more → (out_of_memory ≡ false → (k : ℕ) → t.unchecked k ≡ 0) → more ≡ false → (k : ℕ) → u.unchecked k ≡ 0
+  close_unchecked t u z out_of_memory more a s h e k =
+      let was : out_of_memory ≡ false = elim (true_or_false out_of_memory) [ inl up ↦ (let m : more ≡ true = s up in cc) | inr down ↦ down ] in
       let f : u.unchecked k ≡ 0 + t.unchecked k = a.unchecked_is k in
       let none : t.unchecked k ≡ 0 = h was k in
       omega arith
 
   -- the close came
-  pub close_arrives : (t u : Tally) (seq : ℕ) (end : End) (p : Progress) (arrived : ℕ) (short : Bool) (events : List Event) (failed : List Delivery)
-      → IsFine all u → IsCloseArrival all over seq end t u → IsUnderWay all over t p events failed → (p.arrived < 1000001 → arrived ≡ 1 + p.arrived) → Stays p.short short → (end ≡ Memory → short ≡ true)
-      → IsUnderWay all over u (record p { arrived = arrived; close = Some (record { seq = seq; end = end }); short = short }) events failed
-  close_arrives t u seq end p arrived short events failed fine a w counts stays memory =
+  pub close_arrives : (t u : Tally) (seq : ℕ) (end : End) (p : JobProgress) (arrived : ℕ) (out_of_memory : Bool) (events : List Event) (failed : List Delivery)
+      → IsFine all u → IsCloseArrival all over seq end t u → IsUnderWay all over t p events failed → (p.arrived < 1000001 → arrived ≡ 1 + p.arrived) → Stays p.out_of_memory out_of_memory → (end ≡ Memory → out_of_memory ≡ true)
+      → IsUnderWay all over u (record p { arrived = arrived; close = Some (record { seq = seq; end = end }); out_of_memory = out_of_memory }) events failed
+  close_arrives t u seq end p arrived out_of_memory events failed fine a w counts stays memory =
       let adds = a.1 in
       let more : u.count ≡ 1 + t.count = adds.count_is in
       let few : u.count ≤ 1000001 = few_items all u fine in
@@ -290,17 +290,17 @@ module _ (all : List Delivery) (over : Bool) where
       record {
         arrived = omega arith;
         closing = (omega arith, a.0, memory);
-        unchecked = close_unchecked t u (point seq) p.short short adds stays w.unchecked;
+        unchecked = close_unchecked t u (point seq) p.out_of_memory out_of_memory adds stays w.unchecked;
         count = w.count;
         within = w.within;
         told = w.told;
         checked = checked_adds all over t u none_of none_of (point seq) w.count adds w.checked;
-        on = on_close t u (point seq) w.count p.short short p.ring failed p.stage adds stays w.on;
+        on = on_close t u (point seq) w.count p.out_of_memory out_of_memory p.ring failed p.stage adds stays w.on;
       }
 
-  two_closes : (t u : Tally) (seq : ℕ) (z : Option WalkEnd) (short : Bool) → IsFine all u → Adds t u none_of none_of (point seq) → IsCloseKnown all over t short z → is_some z ≡ true → ⊥
-  two_closes t u seq None short fine adds h e = cc
-  two_closes t u seq (Some w) short fine adds h e =
+  two_closes : (t u : Tally) (seq : ℕ) (z : Option WalkEnd) (out_of_memory : Bool) → IsFine all u → Adds t u none_of none_of (point seq) → IsCloseKnown all over t out_of_memory z → is_some z ≡ true → ⊥
+  two_closes t u seq None out_of_memory fine adds h e = cc
+  two_closes t u seq (Some w) out_of_memory fine adds h e =
       let old : 0 < t.closes w.seq = h.0 in
       let one : point seq seq ≡ 1 = point_here seq in
       let a : u.closes seq ≡ point seq seq + t.closes seq = adds.closes_is seq in
@@ -316,15 +316,15 @@ module _ (all : List Delivery) (over : Bool) where
       ]
 
   -- a second close doesn't come
-  pub no_second_close : (t u : Tally) (seq : ℕ) (end : End) (p : Progress) (events : List Event) (failed : List Delivery)
+  pub no_second_close : (t u : Tally) (seq : ℕ) (end : End) (p : JobProgress) (events : List Event) (failed : List Delivery)
       → IsFine all u → IsCloseArrival all over seq end t u → IsUnderWay all over t p events failed → is_some p.close ≡ true → ⊥
-  no_second_close t u seq end p events failed fine a w e = two_closes t u seq p.close p.short fine a.1 w.closing e
+  no_second_close t u seq end p events failed fine a w e = two_closes t u seq p.close p.out_of_memory fine a.1 w.closing e
 
   -- the next visit came out of the ring
-  pub pops : (t : Tally) (p : Progress) (new : Numbered (Option Delivery)) (o : Option Delivery) (events : List Event) (failed : List Delivery)
+  pub pops : (t : Tally) (p : JobProgress) (new : Numbered (Option Delivery)) (o : Option Delivery) (events : List Event) (failed : List Delivery)
       → IsUnderWay all over t p events failed → p.stage ≡ Delivering → IsPopped p.ring o new → IsPoppedUnderWay all over t o (record p { ring = new }) events failed
   pops t p new o events failed w at popped =
-      let on = on_delivering all over t w.count p.short p.ring failed p.stage at w.on in
+      let on = on_delivering all over t w.count p.out_of_memory p.ring failed p.stage at w.on in
       let next : w.count ≡ p.ring.next = on.0 in
       let waiting = on.2 in
       let rises : new.next ≡ p.ring.next + 1 = popped.1 in
@@ -337,7 +337,7 @@ module _ (all : List Delivery) (over : Bool) where
         told = w.told;
         checked = w.checked;
         next = omega arith;
-        popped = subst (λ (k : ℕ). IsHeld all t p.short k o) (sym next) (waiting.held p.ring.next o popped.0);
+        popped = subst (λ (k : ℕ). IsHeld all t p.out_of_memory k o) (sym next) (waiting.held p.ring.next o popped.0);
         failed_none = on.1;
         waiting = record {
           held = λ k x e.
@@ -351,7 +351,7 @@ module _ (all : List Delivery) (over : Bool) where
       }
 
   -- one without a verdict stops the deliveries
-  pub handed_none : (t : Tally) (p : Progress) (events : List Event) (failed : List Delivery) → IsPoppedUnderWay all over t None p events failed → IsUnderWay all over t (record p { stage = Stopped }) events failed
+  pub handed_none : (t : Tally) (p : JobProgress) (events : List Event) (failed : List Delivery) → IsPoppedUnderWay all over t None p events failed → IsUnderWay all over t (record p { stage = Stopped }) events failed
   handed_none t p events failed w = record {
     arrived = w.arrived;
     closing = w.closing;
@@ -364,7 +364,7 @@ module _ (all : List Delivery) (over : Bool) where
   }
 
   -- it was delivered
-  pub handed_on : (t : Tally) (p : Progress) (d : Delivery) (events new : List Event) (failed refused : List Delivery)
+  pub handed_on : (t : Tally) (p : JobProgress) (d : Delivery) (events new : List Event) (failed refused : List Delivery)
       → IsPoppedUnderWay all over t (Some d) p events failed → p.stage ≡ Delivering → new ≡ events ++ delivery d ∷ [] → refused ≡ [] → IsUnderWay all over t p new refused
   handed_on t p d events new failed refused w at told none =
       let held = w.popped in
@@ -376,11 +376,11 @@ module _ (all : List Delivery) (over : Bool) where
         within = (let lt : w.count < length all = less_at all w.count d held.0 in omega arith);
         told = told ∙ ap (λ (l : List Event). l ++ delivery d ∷ []) w.told ∙ sym (map-append delivery (take w.count all) (d ∷ [])) ∙ sym (ap (λ (l : List Delivery). map delivery l) (take_at all w.count d held.0));
         checked = λ k lt. elim (cases_lt k w.count) [ inl less ↦ w.checked k less | inr more ↦ (let same : w.count ≡ k = omega arith in subst (λ (i : ℕ). 0 < t.checked i) same held.1) ];
-        on = subst (λ (x : Stage). IsOn all t (suc w.count) p.short p.ring refused x) (sym at) (sym w.next, none, w.waiting);
+        on = subst (λ (x : Stage). IsOn all t (suc w.count) p.out_of_memory p.ring refused x) (sym at) (sym w.next, none, w.waiting);
       }
 
   -- its write failed
-  pub handed_failed : (t : Tally) (p : Progress) (d : Delivery) (events new : List Event) (failed refused : List Delivery)
+  pub handed_failed : (t : Tally) (p : JobProgress) (d : Delivery) (events new : List Event) (failed refused : List Delivery)
       → IsPoppedUnderWay all over t (Some d) p events failed → new ≡ events → refused ≡ d ∷ [] → IsUnderWay all over t (record p { stage = Failed }) new refused
   handed_failed t p d events new failed refused w told is =
       let held = w.popped in
@@ -396,11 +396,11 @@ module _ (all : List Delivery) (over : Bool) where
       }
 
   -- the sink found no memory for it
-  pub handed_short : (t : Tally) (p : Progress) (d : Delivery) (events new : List Event) (failed refused : List Delivery)
-      → IsPoppedUnderWay all over t (Some d) p events failed → new ≡ events → refused ≡ [] → IsUnderWay all over t (record p { short = true; stage = Stopped }) new refused
+  pub handed_short : (t : Tally) (p : JobProgress) (d : Delivery) (events new : List Event) (failed refused : List Delivery)
+      → IsPoppedUnderWay all over t (Some d) p events failed → new ≡ events → refused ≡ [] → IsUnderWay all over t (record p { out_of_memory = true; stage = Stopped }) new refused
   handed_short t p d events new failed refused w told none = record {
     arrived = w.arrived;
-    closing = close_short all over t p.short true p.close (λ e. refl) w.closing;
+    closing = close_short all over t p.out_of_memory true p.close (λ e. refl) w.closing;
     unchecked = λ e. cc;
     count = w.count;
     within = w.within;
@@ -415,10 +415,10 @@ or_stays false b e = e
 
 module _ (all : List Delivery) (over : Bool) (t : Tally) (fine : IsFine all t) where
   -- while visits are delivered and none is next, all that came were delivered
-  all_delivered : (p : Progress) (events : List Event) (failed : List Delivery) (w : IsUnderWay all over t p events failed) (k : ℕ)
+  all_delivered : (p : JobProgress) (events : List Event) (failed : List Delivery) (w : IsUnderWay all over t p events failed) (k : ℕ)
       → 0 < t.closes k → t.count ≡ suc k → p.stage ≡ Delivering → found p.ring p.ring.next ≡ None → k ≤ w.count
   all_delivered p events failed w k closed count at calm =
-      let on = on_delivering all over t w.count p.short p.ring failed p.stage at w.on in
+      let on = on_delivering all over t w.count p.out_of_memory p.ring failed p.stage at w.on in
       let next : w.count ≡ p.ring.next = on.0 in
       let waiting = on.2 in
       let none : t.checked p.ring.next + t.unchecked p.ring.next ≡ 0 = waiting.missing p.ring.next (omega arith) calm in
@@ -431,38 +431,38 @@ module _ (all : List Delivery) (over : Bool) (t : Tally) (fine : IsFine all t) w
   every_checked : (k : ℕ) → 0 < t.closes k → t.count ≡ suc k → ((n : ℕ) → t.unchecked n ≡ 0) → k ≡ length all → (n : ℕ) → n < length all → 0 < t.checked n
   every_checked k closed count none is n lt = let one : t.checked n + t.unchecked n ≡ 1 = full all t fine k n closed count (omega arith) in let z : t.unchecked n ≡ 0 = none n in omega arith
 
-  close_length : (short : Bool) (end : End) (k : ℕ) → short ≡ false → (end ≡ Memory → short ≡ true) → IsCloseOf end k all over → k ≡ length all
-  close_length short Done k s m c = c.0
-  close_length short Limit k s m c = c.0
-  close_length short Memory k s m c = let is : short ≡ true = m refl in cc
-  close_length short Write k s m c = absurd c
-  close_length short Start k s m c = absurd c
+  close_length : (out_of_memory : Bool) (end : End) (k : ℕ) → out_of_memory ≡ false → (end ≡ Memory → out_of_memory ≡ true) → IsCloseOf end k all over → k ≡ length all
+  close_length out_of_memory Done k s m c = c.0
+  close_length out_of_memory Limit k s m c = c.0
+  close_length out_of_memory Memory k s m c = let is : out_of_memory ≡ true = m refl in cc
+  close_length out_of_memory Write k s m c = absurd c
+  close_length out_of_memory Start k s m c = absurd c
 
-  fits_walk : (short : Bool) (end : End) (k count : ℕ) (failed : List Delivery) → short ≡ false → (end ≡ Memory → short ≡ true) → IsCloseOf end k all over → count ≡ length all → failed ≡ [] → EndFits end count all over failed
-  fits_walk short Done k count failed s m c e none = (e, c.1, none)
-  fits_walk short Limit k count failed s m c e none = (e, c.1, none)
-  fits_walk short Memory k count failed s m c e none = let is : short ≡ true = m refl in cc
-  fits_walk short Write k count failed s m c e none = absurd c
-  fits_walk short Start k count failed s m c e none = absurd c
+  fits_walk : (out_of_memory : Bool) (end : End) (k count : ℕ) (failed : List Delivery) → out_of_memory ≡ false → (end ≡ Memory → out_of_memory ≡ true) → IsCloseOf end k all over → count ≡ length all → failed ≡ [] → EndFits end count all over failed
+  fits_walk out_of_memory Done k count failed s m c e none = (e, c.1, none)
+  fits_walk out_of_memory Limit k count failed s m c e none = (e, c.1, none)
+  fits_walk out_of_memory Memory k count failed s m c e none = let is : out_of_memory ≡ true = m refl in cc
+  fits_walk out_of_memory Write k count failed s m c e none = absurd c
+  fits_walk out_of_memory Start k count failed s m c e none = absurd c
 
-  fits_memory : (count : ℕ) (short : Bool) (ring : Numbered (Option Delivery)) (failed : List Delivery) (stage : Stage) → IsOn all t count short ring failed stage → EndFits Memory count all over failed
-  fits_memory count short ring failed Delivering on = inl on.1
-  fits_memory count short ring failed Failed on = inr on.1
-  fits_memory count short ring failed Stopped on = inl on.1
+  fits_memory : (count : ℕ) (out_of_memory : Bool) (ring : Numbered (Option Delivery)) (failed : List Delivery) (stage : Stage) → IsOn all t count out_of_memory ring failed stage → EndFits Memory count all over failed
+  fits_memory count out_of_memory ring failed Delivering on = inl on.1
+  fits_memory count out_of_memory ring failed Failed on = inr on.1
+  fits_memory count out_of_memory ring failed Stopped on = inl on.1
 
   -- the sink's end fits what was delivered
-  fits_end : (short : Bool) (stage : Stage) (end : End) (k count : ℕ) (ring : Numbered (Option Delivery)) (failed : List Delivery)
-      → IsOn all t count short ring failed stage → (end ≡ Memory → short ≡ true) → IsCloseOf end k all over → (stage ≡ Delivering → short ≡ false → count ≡ length all) → EndFits (end_of short stage end) count all over failed
+  fits_end : (out_of_memory : Bool) (stage : Stage) (end : End) (k count : ℕ) (ring : Numbered (Option Delivery)) (failed : List Delivery)
+      → IsOn all t count out_of_memory ring failed stage → (end ≡ Memory → out_of_memory ≡ true) → IsCloseOf end k all over → (stage ≡ Delivering → out_of_memory ≡ false → count ≡ length all) → EndFits (end_of out_of_memory stage end) count all over failed
   fits_end true stage end k count ring failed on m c whole = fits_memory count true ring failed stage on
   fits_end false Delivering end k count ring failed on m c whole = fits_walk false end k count failed refl m c (whole refl refl) on.1
   fits_end false Failed end k count ring failed on m c whole = on
   fits_end false Stopped end k count ring failed on m c whole = let s : false ≡ true = on.0 in cc
 
-  no_memory : (short : Bool) (stage : Stage) (end : End) → (end_of short stage end ≡ Memory → ⊥) → short ≡ false
+  no_memory : (out_of_memory : Bool) (stage : Stage) (end : End) → (end_of out_of_memory stage end ≡ Memory → ⊥) → out_of_memory ≡ false
   no_memory true stage end ne = absurd (ne refl)
   no_memory false stage end ne = refl
 
-  never_start : (short : Bool) (stage : Stage) (end : End) (k : ℕ) → IsCloseOf end k all over → end_of short stage end ≡ Start → ⊥
+  never_start : (out_of_memory : Bool) (stage : Stage) (end : End) (k : ℕ) → IsCloseOf end k all over → end_of out_of_memory stage end ≡ Start → ⊥
   never_start true stage end k c e = cc
   never_start false Delivering Done k c e = cc
   never_start false Delivering Limit k c e = cc
@@ -477,14 +477,14 @@ module _ (all : List Delivery) (over : Bool) (t : Tally) (fine : IsFine all t) w
   never_start false Stopped Start k c e = absurd c
 
   -- all has arrived, and the sink is closed
-  pub finishes : (p : Progress) (z : WalkEnd) (events new : List Event) (failed refused : List Delivery) (end : End)
-      → IsUnderWay all over t p events failed → IsCalm p → p.close ≡ Some z → p.arrived ≡ z.seq + 1 → end ≡ end_of p.short p.stage z.end → new ≡ events ++ close end ∷ [] → refused ≡ failed → IsOver all over t end new refused
+  pub finishes : (p : JobProgress) (z : WalkEnd) (events new : List Event) (failed refused : List Delivery) (end : End)
+      → IsUnderWay all over t p events failed → IsCalm p → p.close ≡ Some z → p.arrived ≡ z.seq + 1 → end ≡ end_of p.out_of_memory p.stage z.end → new ≡ events ++ close end ∷ [] → refused ≡ failed → IsOver all over t end new refused
   finishes p z events new failed refused end w calm is arrived ends told same =
-      let known : IsCloseKnown all over t p.short (Some z) = subst (λ (x : Option WalkEnd). IsCloseKnown all over t p.short x) is w.closing in
+      let known : IsCloseKnown all over t p.out_of_memory (Some z) = subst (λ (x : Option WalkEnd). IsCloseKnown all over t p.out_of_memory x) is w.closing in
       let came : p.arrived ≡ t.count = w.arrived in
       let count : t.count ≡ suc z.seq = omega arith in
-      let whole : p.stage ≡ Delivering → p.short ≡ false → w.count ≡ length all = λ at s.
-      let size : z.seq ≡ length all = close_length p.short z.end z.seq s known.2 known.1 in
+      let whole : p.stage ≡ Delivering → p.out_of_memory ≡ false → w.count ≡ length all = λ at s.
+      let size : z.seq ≡ length all = close_length p.out_of_memory z.end z.seq s known.2 known.1 in
       let le : z.seq ≤ w.count = all_delivered p events failed w z.seq known.0 count at (calm at) in
       let most : w.count ≤ length all = w.within in
       omega arith
@@ -493,15 +493,15 @@ module _ (all : List Delivery) (over : Bool) (t : Tally) (fine : IsFine all t) w
         count = w.count;
         within = w.within;
         told = told ∙ ap (λ (l : List Event). l ++ close end ∷ []) w.told;
-        fits = subst (λ (f : List Delivery). EndFits end w.count all over f) (sym same) (subst (λ (x : End). EndFits x w.count all over failed) (sym ends) (fits_end p.short p.stage z.end z.seq w.count p.ring failed w.on known.2 known.1 whole));
+        fits = subst (λ (f : List Delivery). EndFits end w.count all over f) (sym same) (subst (λ (x : End). EndFits x w.count all over failed) (sym ends) (fits_end p.out_of_memory p.stage z.end z.seq w.count p.ring failed w.on known.2 known.1 whole));
         checked = w.checked;
         last = z.seq;
         closed = known.0;
         full = count;
         every = λ ne n lt.
-            let s : p.short ≡ false = no_memory p.short p.stage z.end (λ (e : end_of p.short p.stage z.end ≡ Memory). ne (ends ∙ e)) in
-            every_checked z.seq known.0 count (w.unchecked s) (close_length p.short z.end z.seq s known.2 known.1) n lt;
-        started = λ (e : end ≡ Start). never_start p.short p.stage z.end z.seq known.1 (sym ends ∙ e);
+            let s : p.out_of_memory ≡ false = no_memory p.out_of_memory p.stage z.end (λ (e : end_of p.out_of_memory p.stage z.end ≡ Memory). ne (ends ∙ e)) in
+            every_checked z.seq known.0 count (w.unchecked s) (close_length p.out_of_memory z.end z.seq s known.2 known.1) n lt;
+        started = λ (e : end ≡ Start). never_start p.out_of_memory p.stage z.end z.seq known.1 (sym ends ∙ e);
       }
 
 pub open_more : (events : List Event) (d : Delivery) → IsOpen events → IsOpen (events ++ delivery d ∷ [])
@@ -510,7 +510,7 @@ open_more (delivery e ∷ events) d h = open_more events d h
 open_more (close e ∷ events) d h = absurd h
 
 -- a sink that took a delivery takes the next
-pub safe_on : (p : Progress) (events new : List Event) (failed refused : List Delivery) (d : Delivery) → p.end ≡ None → IsSafe p events failed → new ≡ events ++ delivery d ∷ [] → refused ≡ [] → IsSafe p new refused
+pub safe_on : (p : JobProgress) (events new : List Event) (failed refused : List Delivery) (d : Delivery) → p.end ≡ None → IsSafe p events failed → new ≡ events ++ delivery d ∷ [] → refused ≡ [] → IsSafe p new refused
 safe_on p events new failed refused d unclosed safe told none =
     let was : IsSafeAt None p.stage events failed = subst (λ (x : Option End). IsSafeAt x p.stage events failed) unclosed safe in
     subst (λ (x : Option End). IsSafeAt x p.stage new refused) (sym unclosed) (subst (λ (l : List Event). IsOpen l) (sym told) (open_more events d was.0), may p.stage none)
@@ -538,15 +538,15 @@ module _ (all : List Delivery) (over : Bool) where
       let most : u.count ≤ suc w.last = no_more all u fine w.last (omega arith) in
       absurd (omega arith)
 
-  none_after : (item : Verdicted) (t u : Tally) (p : Progress) (events : List Event) (failed : List Delivery) (o : Option End)
+  none_after : (item : Verdicted) (t u : Tally) (p : JobProgress) (events : List Event) (failed : List Delivery) (o : Option End)
       → IsFine all u → IsItem all over item t u → IsComeTo all over t p events failed o → is_some o ≡ true → ⊥
   none_after item t u p events failed None fine i w e = cc
   none_after item t u p events failed (Some end) fine i w e = over_alone item t u end events failed fine i w
 
   -- nothing comes once the sink is closed
-  pub no_item_after : (item : Verdicted) (t u : Tally) (p : Progress) (events : List Event) (failed : List Delivery)
+  pub no_item_after : (item : Verdicted) (t u : Tally) (p : JobProgress) (events : List Event) (failed : List Delivery)
       → IsFine all u → IsItem all over item t u → IsCome all over t p events failed → is_some p.end ≡ true → ⊥
   no_item_after item t u p events failed fine i w e = none_after item t u p events failed p.end fine i w e
 
-  pub under_way : (t : Tally) (p : Progress) (events : List Event) (failed : List Delivery) → p.end ≡ None → IsCome all over t p events failed → IsUnderWay all over t p events failed
+  pub under_way : (t : Tally) (p : JobProgress) (events : List Event) (failed : List Delivery) → p.end ≡ None → IsCome all over t p events failed → IsUnderWay all over t p events failed
   under_way t p events failed e w = let now : IsComeTo all over t p events failed None = subst (λ (o : Option End). IsComeTo all over t p events failed o) e w in now.0

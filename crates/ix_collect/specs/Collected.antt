@@ -6,34 +6,34 @@ use Rattle.ix_car.specs.declared.sink.Delivery.{Delivery}
 use Rattle.ix_car.specs.declared.sink.End.{End}
 use Rattle.ix_car.specs.Events.{Event}
 use Rattle.ix_stages.specs.declared.verdicted.Verdicted.{Verdicted}
-use Rattle.ix_collect.specs.declared.progress.Progress.{Progress}
+use Rattle.ix_collect.specs.declared.job_progress.JobProgress.{JobProgress}
 use Rattle.ix_collect.specs.declared.collector.Collector.{Collector}
 use Rattle.ix_stages.specs.declared.verdicted.Verdicted.TheVariants.{Checked, Unchecked, Close, Last}
 use Rattle.ix_stages.specs.Received.{weigh, tally}
 use Rattle.ix_stages.specs.Good.{IsGood, judged_at, over_at}
-use Rattle.ix_collect.specs.Progress.{IsNew, IsSafe, IsCome, IsEnded, IsMisplaced}
+use Rattle.ix_collect.specs.JobProgress.{IsNew, IsSafe, IsCome, IsEnded, IsMisplaced}
 
-abbrev pub AllNew : List Progress → Type 0
+abbrev pub AllNew : List JobProgress → Type 0
 AllNew [] = Unit {0}
 AllNew (p ∷ ps) = IsNew p × AllNew ps
 
-abbrev pub AllEnded : List Progress → Type 0
+abbrev pub AllEnded : List JobProgress → Type 0
 AllEnded [] = Unit {0}
 AllEnded (p ∷ ps) = IsEnded p × AllEnded ps
 
 -- the sink of the job with this number was closed
-abbrev pub IsClosedAt : List Progress → ℕ → Type 0
+abbrev pub IsClosedAt : List JobProgress → ℕ → Type 0
 IsClosedAt [] job = ⊥
 IsClosedAt (p ∷ ps) zero = IsEnded p
 IsClosedAt (p ∷ ps) (suc job) = IsClosedAt ps job
 
 -- the job with this number has no place for the item
-abbrev pub IsMisplacedAt : List Progress → Verdicted → ℕ → Type 0
+abbrev pub IsMisplacedAt : List JobProgress → Verdicted → ℕ → Type 0
 IsMisplacedAt [] item job = ⊥
 IsMisplacedAt (p ∷ ps) item zero = IsMisplaced p item
 IsMisplacedAt (p ∷ ps) item (suc job) = IsMisplacedAt ps item job
 
-abbrev pub EachEnded : List Progress → List End → Type 0
+abbrev pub EachEnded : List JobProgress → List End → Type 0
 EachEnded [] [] = Unit {0}
 EachEnded (p ∷ ps) (e ∷ es) = (p.end ≡ Some e) × EachEnded ps es
 EachEnded ps es = ⊥
@@ -54,12 +54,12 @@ abbrev pub job_count : Collector → ℕ
 job_count c = length c.jobs.items
 
 -- an item came that can't come
-abbrev pub is_noted : Collector → Bool
-is_noted c = c.noted
+abbrev pub has_stray : Collector → Bool
+has_stray c = c.stray
 
 -- nothing was received
 abbrev pub IsUnused : Collector → Type 0
-IsUnused c = AllNew c.jobs.items × (c.noted ≡ false)
+IsUnused c = AllNew c.jobs.items × (c.stray ≡ false)
 
 -- every sink was closed
 abbrev pub IsDone : Collector → Type 0
@@ -75,7 +75,7 @@ HasEnds c ends = EachEnded c.jobs.items ends
 
 module _ {S : Type 0} (events : S → List Event) (failed : S → List Delivery) where
   -- each sink may be told what comes next
-  abbrev pub EachSafe : List Progress → List S → Type 0
+  abbrev pub EachSafe : List JobProgress → List S → Type 0
   EachSafe [] [] = Unit {0}
   EachSafe (p ∷ ps) (s ∷ ss) = IsSafe p (events s) (failed s) × EachSafe ps ss
   EachSafe ps ss = ⊥
@@ -85,14 +85,14 @@ module _ {S : Type 0} (events : S → List Event) (failed : S → List Delivery)
   MayTell c sinks = EachSafe c.jobs.items sinks
 
   -- job by job, from a number on: how far it has come
-  abbrev pub EachCome : Blocks → List JobMeaning → List Verdicted → ℕ → List Progress → List S → Type 0
+  abbrev pub EachCome : Blocks → List JobMeaning → List Verdicted → ℕ → List JobProgress → List S → Type 0
   EachCome store jobs got n [] [] = Unit {0}
   EachCome store jobs got n (p ∷ ps) (s ∷ ss) = IsCome (judged_at store jobs n) (over_at store jobs n) (tally n got) p (events s) (failed s) × EachCome store jobs got (n + 1) ps ss
   EachCome store jobs got n ps ss = ⊥
 
   -- If these items are good, none was noted, and each sink was told what they say. Where an item stands among them makes no difference.
   abbrev pub IsCollected : Blocks → List JobMeaning → List Verdicted → Collector → List S → Type 0
-  IsCollected store jobs got c sinks = IsGood store jobs got → job_count c ≡ length jobs → (is_noted c ≡ false) × EachCome store jobs got 0 c.jobs.items sinks
+  IsCollected store jobs got c sinks = IsGood store jobs got → job_count c ≡ length jobs → (has_stray c ≡ false) × EachCome store jobs got 0 c.jobs.items sinks
 
   -- the items were good, of these jobs, and the collector received them
   pub record IsCollectedFrom (store : Blocks) (jobs : List JobMeaning) (got : List Verdicted) (c : Collector) (sinks : List S) : Type 0 where

@@ -1,2 +1,5 @@
-pub mod Progress
+pub mod JobProgress
+pub mod Steps
 pub mod Collected
+pub mod Collecting
+pub mod Laws

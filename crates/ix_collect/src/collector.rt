@@ -1,14 +1,12 @@
 //! Receives what the verifiers send, and tells each job's sink.
 
-ghost use Rattle.std.specs.Prelude.{◌≡◌, ◌≤◌, ℕ, [], length, List, IfOk, IsTrue, ◌↔◌, vec_capacity, true, false};
-ghost use Rattle.ix_walk.specs.Store.{Blocks};
-ghost use Rattle.ix_walk.specs.JobMeaning.{JobMeaning};
-ghost use Rattle.ix_car.specs.Headline.{EachKept, EachFresh, EachDelivered, IsCheckedOnce, NoneIsStart};
-ghost use Rattle.ix_stages.specs.declared.verdicted.Verdicted.{Verdicted};
-ghost use Rattle.ix_stages.specs.Received.{Inserts, job_of, pairs_of};
-ghost use Rattle.ix_collect.specs.Collected.{job_count, is_noted, IsUnused, IsDone, IsStray, MayTell, IsCollected, IsCollectedFrom, HasEnds};
+ghost use Rattle.std.specs.Prelude.{◌≡◌, ◌≤◌, [], length, IfOk, IsTrue, ◌↔◌, vec_capacity, true, false};
+ghost use Rattle.ix_car.specs.Headline.{EachKept, EachFresh};
+ghost use Rattle.ix_stages.specs.Received.{job_of};
+ghost use Rattle.ix_collect.specs.Collected.{job_count, has_stray, IsUnused, IsDone, MayTell, HasEnds};
+ghost use Rattle.ix_collect.specs.Collecting.{CollectsItem, HasCollected, IfCollected, IfStray};
 
-use crate::progress::Progress;
+use crate::job_progress::JobProgress;
 use ix_car::{End, Sink};
 use ix_stages::Verdicted;
 use std::alloc::{AllocError, Global};
@@ -20,9 +18,9 @@ use std::alloc::{AllocError, Global};
 /// where the items that were received are good.
 #[derive(Drop)]
 pub struct Collector {
-    jobs: Vec<Progress>,
+    jobs: Vec<JobProgress>,
     // An item came that can't come.
-    noted: bool,
+    stray: bool,
 }
 
 // The number of the item's job.
@@ -45,11 +43,11 @@ impl Collector {
     {
         let mut all = Vec::with_capacity(alloc, jobs as usize)?;
         for _ in 0..jobs {
-            all.push_reserved(Progress::new(alloc)?);
+            all.push_reserved(JobProgress::new(alloc)?);
         }
         Ok(Collector {
             jobs: all,
-            noted: false,
+            stray: false,
         })
     }
 
@@ -66,28 +64,28 @@ impl Collector {
         ensures kept { EachKept S.fact sinks.old sinks.new }
         ensures done { IsDone self.old → IsDone self.new }
         ensures last { job_of item ≡ None → (self.new ≡ self.old) × (sinks.new ≡ sinks.old) }
-        ensures stray { (job : ℕ) → job_of item ≡ Some job → IsStray self.old item job → (is_noted self.new ≡ true) × (sinks.new ≡ sinks.old) }
-        ensures noted { is_noted self.old ≡ true → is_noted self.new ≡ true }
-        ensures guarded { is_noted self.old ≡ false → is_noted self.new ≡ true → sinks.new ≡ sinks.old }
-        ensures collected { (store : Blocks) (jobs : List JobMeaning) (got more : List Verdicted) → Inserts item got more → IsCollected S.events S.failed store jobs got self.old sinks.old → IsCollected S.events S.failed store jobs more self.new sinks.new }
+        ensures stray { IfStray self.old item ((has_stray self.new ≡ true) × (sinks.new ≡ sinks.old)) }
+        ensures stays { has_stray self.old ≡ true → has_stray self.new ≡ true }
+        ensures guarded { has_stray self.old ≡ false → has_stray self.new ≡ true → sinks.new ≡ sinks.old }
+        ensures collected { CollectsItem S.events S.failed item self.old self.new sinks.old sinks.new }
     {
         let Some(job) = job_of(&item) else {
             return;
         };
         let job = job as usize;
         if job >= self.jobs.len() {
-            self.noted = true;
+            self.stray = true;
             return;
         }
         let fine = self.jobs[job].receive(alloc, item, &mut sinks[job]);
-        self.noted |= !fine;
+        self.stray |= !fine;
     }
 
     /// Whether an item came that can't come.
-    pub fn is_noted(&self) -> bool
-        ensures { result ≡ is_noted self.now }
+    pub fn has_stray(&self) -> bool
+        ensures { result ≡ has_stray self.now }
     {
-        self.noted
+        self.stray
     }
 
     /// Whether every sink was closed.
@@ -109,10 +107,7 @@ impl Collector {
         requires room { (ends.items ≡ []) × (job_count self.now ≤ vec_capacity ends) }
         requires done { IsDone self.now }
         ensures ends { HasEnds self.now result.items }
-        ensures noted { (store : Blocks) (jobs : List JobMeaning) (got : List Verdicted) → IsCollectedFrom S.events S.failed store jobs got self.now _sinks.now → is_noted self.now ≡ false }
-        ensures delivered { (store : Blocks) (jobs : List JobMeaning) (got : List Verdicted) → IsCollectedFrom S.events S.failed store jobs got self.now _sinks.now → EachDelivered S.events S.failed store 0 jobs result.items _sinks.now }
-        ensures checked { (store : Blocks) (jobs : List JobMeaning) (got : List Verdicted) → IsCollectedFrom S.events S.failed store jobs got self.now _sinks.now → IsCheckedOnce S.events store jobs result.items _sinks.now (pairs_of got) }
-        ensures started { (store : Blocks) (jobs : List JobMeaning) (got : List Verdicted) → IsCollectedFrom S.events S.failed store jobs got self.now _sinks.now → NoneIsStart result.items }
+        ensures exported { IfCollected S.events S.failed self.now _sinks.now result.items }
     {
         let mut ends = ends;
         for job in self.jobs.iter() {
@@ -128,6 +123,6 @@ impl Collector {
         requires unused { IsUnused self.now }
         requires fresh { EachFresh S.events S.failed _sinks.now }
         ensures may { MayTell S.events S.failed self.now _sinks.now }
-        ensures collected { (store : Blocks) (jobs : List JobMeaning) → IsCollected S.events S.failed store jobs [] self.now _sinks.now }
+        ensures collected { HasCollected S.events S.failed [] self.now _sinks.now }
     {}
 }

@@ -1,12 +1,9 @@
 //! The collector takes from all lanes.
 
-ghost use Rattle.std.specs.Prelude.{◌≡◌, ◌≤◌, ◌+◌, ◌++◌, length, List, cond};
-ghost use Rattle.ix_walk.specs.Store.{Blocks};
-ghost use Rattle.ix_walk.specs.JobMeaning.{JobMeaning};
-ghost use Rattle.ix_car.specs.Headline.{EachKept};
-ghost use Rattle.ix_stages.specs.declared.verdicted.Verdicted.{Verdicted};
-ghost use Rattle.ix_stages.specs.Lanes.{sent_by, received_by, IsLane, SameIn, SameOut, EachSameOut, EachLane, all_received, all_sent};
-ghost use Rattle.ix_collect.specs.Collected.{job_count, is_last, last_count, IsDone, MayTell, IsCollected};
+ghost use Rattle.std.specs.Prelude.{◌≡◌, ◌≤◌, ◌+◌, length, cond};
+ghost use Rattle.ix_stages.specs.Lanes.{sent_by, received_by, IsLane, IsSameLane, SameOut, EachSameOut, EachLane, all_received, all_sent};
+ghost use Rattle.ix_collect.specs.Collected.{is_last, last_count};
+ghost use Rattle.ix_collect.specs.Collecting.{CanCollect, CollectsAmong, CollectsBehind, GoesOn};
 
 use crate::collector::Collector;
 use ix_car::Sink;
@@ -37,18 +34,14 @@ fn receive_one<S: Sink>(
     lane: &mut LaneOut,
     sinks: &mut [S],
 ) -> Received
-    requires sinks { length sinks.old ≡ job_count collector.old }
-    requires may { MayTell S.events S.failed collector.old sinks.old }
+    requires { CanCollect S.events S.failed collector.old sinks.old }
     ensures lane { SameOut lane.old lane.new }
     ensures one { (result.items ≤ 1) × (result.lasts ≤ 1) }
     ensures items { length (received_by lane.new) ≡ result.items + length (received_by lane.old) }
     ensures last { last_count (received_by lane.new) ≡ result.lasts + last_count (received_by lane.old) }
-    ensures sinks { length sinks.new ≡ job_count collector.new }
-    ensures jobs { job_count collector.new ≡ job_count collector.old }
-    ensures may { MayTell S.events S.failed collector.new sinks.new }
-    ensures kept { EachKept S.fact sinks.old sinks.new }
-    ensures done { IsDone collector.old → IsDone collector.new }
-    ensures collected { (store : Blocks) (jobs : List JobMeaning) (before after : List Verdicted) → IsCollected S.events S.failed store jobs (before ++ received_by lane.old ++ after) collector.old sinks.old → IsCollected S.events S.failed store jobs (before ++ received_by lane.new ++ after) collector.new sinks.new }
+    ensures on { GoesOn S.events S.failed S.fact collector.old collector.new sinks.old sinks.new }
+    ensures collected { CollectsAmong S.events S.failed (received_by lane.old) (received_by lane.new)
+        collector.old collector.new sinks.old sinks.new }
 {
     let Some(item) = lane.try_recv() else {
         return Received { items: 0, lasts: 0 };
@@ -67,17 +60,13 @@ pub fn round<S: Sink>(
     lanes: &mut [LaneOut],
     sinks: &mut [S],
 ) -> Received
-    requires sinks { length sinks.old ≡ job_count collector.old }
-    requires may { MayTell S.events S.failed collector.old sinks.old }
-    ensures sinks { length sinks.new ≡ job_count collector.new }
-    ensures jobs { job_count collector.new ≡ job_count collector.old }
-    ensures may { MayTell S.events S.failed collector.new sinks.new }
+    requires { CanCollect S.events S.failed collector.old sinks.old }
+    ensures on { GoesOn S.events S.failed S.fact collector.old collector.new sinks.old sinks.new }
     ensures lanes { EachSameOut lanes.old lanes.new }
     ensures items { length (all_received lanes.new) ≡ result.items + length (all_received lanes.old) }
     ensures lasts { last_count (all_received lanes.new) ≡ result.lasts + last_count (all_received lanes.old) }
-    ensures kept { EachKept S.fact sinks.old sinks.new }
-    ensures done { IsDone collector.old → IsDone collector.new }
-    ensures collected { (store : Blocks) (jobs : List JobMeaning) (before : List Verdicted) → IsCollected S.events S.failed store jobs (before ++ all_received lanes.old) collector.old sinks.old → IsCollected S.events S.failed store jobs (before ++ all_received lanes.new) collector.new sinks.new }
+    ensures collected { CollectsBehind S.events S.failed (all_received lanes.old) (all_received lanes.new)
+        collector.old collector.new sinks.old sinks.new }
 {
     let mut items = 0;
     let mut lasts = 0;
@@ -100,15 +89,11 @@ pub fn drain<R: Wait, S: Sink>(
     sinks: &mut [S],
 )
     requires lane { IsLane sender.old receiver.old }
-    requires sinks { length sinks.old ≡ job_count collector.old }
-    requires may { MayTell S.events S.failed collector.old sinks.old }
-    ensures lane { SameIn sender.old sender.new × SameOut receiver.old receiver.new × (sent_by sender.new ≡ sent_by sender.old) }
-    ensures sinks { length sinks.new ≡ job_count collector.new }
-    ensures jobs { job_count collector.new ≡ job_count collector.old }
-    ensures may { MayTell S.events S.failed collector.new sinks.new }
-    ensures kept { EachKept S.fact sinks.old sinks.new }
-    ensures done { IsDone collector.old → IsDone collector.new }
-    ensures collected { (store : Blocks) (jobs : List JobMeaning) (before after : List Verdicted) → IsCollected S.events S.failed store jobs (before ++ received_by receiver.old ++ after) collector.old sinks.old → IsCollected S.events S.failed store jobs (before ++ sent_by sender.old ++ after) collector.new sinks.new }
+    requires collector { CanCollect S.events S.failed collector.old sinks.old }
+    ensures lane { IsSameLane sender.old sender.new receiver.old receiver.new }
+    ensures on { GoesOn S.events S.failed S.fact collector.old collector.new sinks.old sinks.new }
+    ensures collected { CollectsAmong S.events S.failed (received_by receiver.old) (sent_by sender.old)
+        collector.old collector.new sinks.old sinks.new }
 {
     for _ in rt.forever() {
         match lane_rest(sender, receiver) {
@@ -131,15 +116,11 @@ pub fn finish<R: Wait, S: Sink>(
 )
     requires size { length receivers.old ≡ length senders.old }
     requires lanes { EachLane senders.old receivers.old }
-    requires sinks { length sinks.old ≡ job_count collector.old }
-    requires may { MayTell S.events S.failed collector.old sinks.old }
+    requires collector { CanCollect S.events S.failed collector.old sinks.old }
     ensures sent { all_sent senders.new ≡ all_sent senders.old }
-    ensures sinks { length sinks.new ≡ job_count collector.new }
-    ensures jobs { job_count collector.new ≡ job_count collector.old }
-    ensures may { MayTell S.events S.failed collector.new sinks.new }
-    ensures kept { EachKept S.fact sinks.old sinks.new }
-    ensures done { IsDone collector.old → IsDone collector.new }
-    ensures collected { (store : Blocks) (jobs : List JobMeaning) (before : List Verdicted) → IsCollected S.events S.failed store jobs (before ++ all_received receivers.old) collector.old sinks.old → IsCollected S.events S.failed store jobs (before ++ all_sent senders.new) collector.new sinks.new }
+    ensures on { GoesOn S.events S.failed S.fact collector.old collector.new sinks.old sinks.new }
+    ensures collected { CollectsBehind S.events S.failed (all_received receivers.old) (all_sent senders.new)
+        collector.old collector.new sinks.old sinks.new }
 {
     for i in 0..senders.len() {
         drain(

@@ -19,8 +19,8 @@
 
 mod collector;
 mod gather;
+mod job_progress;
 pub mod law;
-mod progress;
 
 pub use collector::Collector;
 pub use gather::{Received, drain, finish, round};

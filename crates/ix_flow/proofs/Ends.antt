@@ -4,18 +4,10 @@ use Rattle.std.specs.declared.thread.PromisedHandle.{PromisedHandle}
 use Rattle.ix_stages.specs.declared.lanes.LaneIn.{LaneIn}
 use Rattle.ix_stages.specs.declared.lanes.LaneOut.{LaneOut}
 use Rattle.ix_stages.specs.Lanes.{IsLane, SameIn, EachSameOut, EachLane}
-use Rattle.ix_collect.proofs.Gathering.{same_trans, lane_same}
+use Rattle.ix_collect.proofs.Gathering.{lane_same}
 use Rattle.ix_flow.specs.declared.verifying.Verifier.{Verifier}
 use Rattle.ix_flow.specs.declared.verifying.Began.{Began}
-use Rattle.ix_flow.specs.Stations.{EachOut, EachBack}
-
-pub each_same : (xs ys zs : List LaneOut) → EachSameOut xs ys → EachSameOut ys zs → EachSameOut xs zs
-each_same [] [] [] h k = tt
-each_same [] [] (z ∷ zs) h k = absurd k
-each_same [] (y ∷ ys) zs h k = absurd h
-each_same (x ∷ xs) [] zs h k = absurd h
-each_same (x ∷ xs) (y ∷ ys) [] h k = absurd k
-each_same (x ∷ xs) (y ∷ ys) (z ∷ zs) h k = (same_trans x y z h.0 k.0, each_same xs ys zs h.1 k.1)
+use Rattle.ix_flow.specs.Verifiers.{EachOut, EachBack}
 
 module _ {C : Type 0} where
   -- the ends that came back, and the caller's ends, are of the same lanes
@@ -27,15 +19,15 @@ module _ {C : Type 0} where
   lanes_back (x ∷ hs) [] os ps h b s = absurd b
   lanes_back (x ∷ hs) (i ∷ is) [] ps h b s = absurd h
   lanes_back (x ∷ hs) (i ∷ is) (o ∷ os) [] h b s = absurd s
-  lanes_back (x ∷ hs) (i ∷ is) (o ∷ os) (p ∷ ps) h b s = (lane_same x.promise.lane.value i o p b.0 s.0 h.0, lanes_back hs is os ps h.1 b.1 s.1)
+  lanes_back (x ∷ hs) (i ∷ is) (o ∷ os) (p ∷ ps) h b s = (lane_same x.promise.verifier.value.lane i o p b.0 s.0 h.0, lanes_back hs is os ps h.1 b.1 s.1)
 
-  pub out_push : (hs : List (PromisedHandle (Verifier C) (Began C))) (os : List LaneOut) (x : PromisedHandle (Verifier C) (Began C)) (o : LaneOut) → EachOut hs os → IsLane x.promise.lane.value o → EachOut (hs ++ x ∷ []) (os ++ o ∷ [])
+  pub out_push : (hs : List (PromisedHandle (Verifier C) (Began C))) (os : List LaneOut) (x : PromisedHandle (Verifier C) (Began C)) (o : LaneOut) → EachOut hs os → IsLane x.promise.verifier.value.lane o → EachOut (hs ++ x ∷ []) (os ++ o ∷ [])
   out_push [] [] x o h l = (l, tt)
   out_push [] (p ∷ os) x o h l = absurd h
   out_push (y ∷ hs) [] x o h l = absurd h
   out_push (y ∷ hs) (p ∷ os) x o h l = (h.0, out_push hs os x o h.1 l)
 
-  pub back_push : (hs : List (PromisedHandle (Verifier C) (Began C))) (is : List LaneIn) (x : PromisedHandle (Verifier C) (Began C)) (i : LaneIn) → EachBack hs is → SameIn x.promise.lane.value i → EachBack (hs ++ x ∷ []) (is ++ i ∷ [])
+  pub back_push : (hs : List (PromisedHandle (Verifier C) (Began C))) (is : List LaneIn) (x : PromisedHandle (Verifier C) (Began C)) (i : LaneIn) → EachBack hs is → SameIn x.promise.verifier.value.lane i → EachBack (hs ++ x ∷ []) (is ++ i ∷ [])
   back_push [] [] x i h l = (l, tt)
   back_push [] (j ∷ is) x i h l = absurd h
   back_push (y ∷ hs) [] x i h l = absurd h

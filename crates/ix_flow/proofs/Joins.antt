@@ -4,7 +4,7 @@ use Rattle.ix_walk.specs.Store.{Blocks}
 use Rattle.ix_car.specs.Headline.{checked_by}
 use Rattle.ix_stages.specs.declared.item.Item.{Item}
 use Rattle.ix_stages.specs.declared.verdicted.Verdicted.{Verdicted}
-use Rattle.ix_stages.specs.declared.hand.Hand.{Hand}
+use Rattle.ix_stages.specs.declared.pass_view.PassView.{PassView}
 use Rattle.ix_stages.specs.Received.{pairs_of}
 use Rattle.ix_stages.specs.Seats.{SeatView}
 use Rattle.ix_stages.specs.Sent.{SentFor}
@@ -12,20 +12,20 @@ use Rattle.ix_stages.specs.Settled.{taken_by}
 use Rattle.ix_stages.specs.Verified.{IsVerified}
 use Rattle.ix_collect.proofs.Sending.{sent_append, pairs_append}
 
-pub taken_push : (ss : List SeatView) (s : SeatView) → taken_by (ss ++ s ∷ []) ≡ taken_by ss ++ s.hand.taken
-taken_push [] s = append-nil s.hand.taken
-taken_push (t ∷ ss) s = ap (λ (l : List Item). t.hand.taken ++ l) (taken_push ss s) ∙ sym (append_assoc t.hand.taken (taken_by ss) s.hand.taken)
+pub taken_push : (ss : List SeatView) (s : SeatView) → taken_by (ss ++ s ∷ []) ≡ taken_by ss ++ s.pass.taken
+taken_push [] s = append-nil s.pass.taken
+taken_push (t ∷ ss) s = ap (λ (l : List Item). t.pass.taken ++ l) (taken_push ss s) ∙ sym (append_assoc t.pass.taken (taken_by ss) s.pass.taken)
 
 pub checked_push : {C : Type 0} (checked : C → List (ℕ × ℕ)) (cs : List C) (c : C) → checked_by checked (cs ++ c ∷ []) ≡ checked_by checked cs ++ checked c
 checked_push checked [] c = append-nil (checked c)
 checked_push checked (d ∷ cs) c = ap (λ (l : List (ℕ × ℕ)). checked d ++ l) (checked_push checked cs c) ∙ sym (append_assoc (checked d) (checked_by checked cs) (checked c))
 
-module _ (store : Blocks) (v w : Hand) (sent sent' : List Verdicted) (checked checked' : List (ℕ × ℕ)) (r : IsVerified store v w sent sent' checked checked') where
+module _ (store : Blocks) (v w : PassView) (sent sent' : List Verdicted) (checked checked' : List (ℕ × ℕ)) (r : IsVerified store v w sent sent' checked checked') where
   -- a verifier that began with nothing has sent what answers all that it took
   pub sent_all : v.taken ≡ [] → sent ≡ [] → SentFor store w.taken sent'
   sent_all none first =
       let d = r.did in
-      let a : w.taken ≡ d.taken = ap (λ (h : Hand). h.taken) d.took_is ∙ ap (λ (l : List Item). l ++ d.taken) none in
+      let a : w.taken ≡ d.taken = ap (λ (h : PassView). h.taken) d.took_is ∙ ap (λ (l : List Item). l ++ d.taken) none in
       let b : sent' ≡ d.passed = d.sent_is ∙ ap (λ (l : List Verdicted). l ++ d.passed) first in
       subst (λ (l : List Item). SentFor store l sent') (sym a) (subst (λ (l : List Verdicted). SentFor store d.taken l) (sym b) d.answers)
 

@@ -1,4 +1,5 @@
 pub mod Ends
+pub mod Gathering
 pub mod Lists
 pub mod Puts
 pub mod Starts

@@ -24,7 +24,7 @@ module _ (store : Blocks) (jobs : List JobMeaning) (t : TableId) (course : List 
   pub seats_each : (n : ℕ) (seats : List JobView) → n ≡ length jobs → seats ≡ map (new_job t course all) (count_up 0 n) → map (λ s. s.job) seats ≡ count_up 0 (length jobs)
   seats_each n seats many is = ap (λ (l : List JobView). map (λ s. s.job) l) is ∙ (jobs_counted 0 n ∙ ap (count_up 0) many)
 
-  pub takers_ready : (n : ℕ) (takers : List SeatView) → IsCourseOf store (course_of store jobs) → takers ≡ replicate n (new_taker t course all) → All (λ s. (s.table ≡ t) × IsCourseOf store s.hand.course × (s.hand.taken ≡ [])) takers
+  pub takers_ready : (n : ℕ) (takers : List SeatView) → IsCourseOf store (course_of store jobs) → takers ≡ replicate n (new_taker t course all) → All (λ s. (s.table ≡ t) × IsCourseOf store s.pass.course × (s.pass.taken ≡ [])) takers
   takers_ready n takers of is =
-      let P : SeatView → Type 0 = λ s. (s.table ≡ t) × IsCourseOf store s.hand.course × (s.hand.taken ≡ []) in
+      let P : SeatView → Type 0 = λ s. (s.table ≡ t) × IsCourseOf store s.pass.course × (s.pass.taken ≡ []) in
       subst (All P) (sym is) (all_same P (new_taker t course all) n (refl, subst (λ (k : List JobVisits). IsCourseOf store k) (sym same) of, refl))

@@ -10,25 +10,19 @@ use Rattle.ix_car.specs.declared.sink.End.{End}
 use Rattle.ix_stages.specs.declared.course.JobVisits.{JobVisits}
 use Rattle.ix_stages.specs.declared.item.Item.TheVariants as item
 use Rattle.ix_stages.specs.Course.{Allowed, course_of}
+use Rattle.ix_stages.specs.CourseLaws.{AllowsVisits, AllowsCloses}
 use Rattle.ix_stages.specs.Good.{IsCloseOf}
 use Rattle.ix_stages.specs.Seats.{IsNext, JobView}
 use Rattle.ix_flow.proofs.Lists.{next_at}
 
--- the law of courses: what they allow
-abbrev pub AllowsVisits : Type 0
-AllowsVisits = (store : Blocks) (jobs : List JobMeaning) (n k : ℕ) (job : JobMeaning) (v : Visit) → slice_get jobs n ≡ Some job → slice_get (visits_of store n job) k ≡ Some v → (v.job ≡ n) × (v.seq ≡ k) × Allowed (course_of store jobs) (item.Visit v)
-
-abbrev pub AllowsCloses : Type 0
-AllowsCloses = (store : Blocks) (jobs : List JobMeaning) (n k : ℕ) (job : JobMeaning) (end : End) → slice_get jobs n ≡ Some job → IsCloseOf end k (visits_of store n job) (is_over_limit store job) → Allowed (course_of store jobs) (item.Close n k end)
-
 pub visit_is_next : AllowsVisits → (store : Blocks) (jobs : List JobMeaning) (n : ℕ) (job : JobMeaning) (v : Visit) (rest : List Visit) (s : JobView)
-    → slice_get jobs n ≡ Some job → s.job ≡ n → s.hand.course ≡ course_of store jobs → drop s.next (visits_of store n job) ≡ v ∷ rest → IsNext s (item.Visit v)
+    → slice_get jobs n ≡ Some job → s.job ≡ n → s.pass.course ≡ course_of store jobs → drop s.next (visits_of store n job) ≡ v ∷ rest → IsNext s (item.Visit v)
 visit_is_next law store jobs n job v rest s at number course left =
     let a = law store jobs n s.next job v at (next_at (visits_of store n job) rest s.next v left).0 in
     (eq-eqb v.job s.job (a.0 ∙ sym number), a.1, subst (λ (k : List JobVisits). Allowed k (item.Visit v)) (sym course) a.2)
 
 pub close_is_allowed : AllowsCloses → (store : Blocks) (jobs : List JobMeaning) (n : ℕ) (job : JobMeaning) (end : End) (s : JobView)
-    → slice_get jobs n ≡ Some job → s.job ≡ n → s.hand.course ≡ course_of store jobs → IsCloseOf end s.next (visits_of store n job) (is_over_limit store job) → Allowed s.hand.course (item.Close s.job s.next end)
+    → slice_get jobs n ≡ Some job → s.job ≡ n → s.pass.course ≡ course_of store jobs → IsCloseOf end s.next (visits_of store n job) (is_over_limit store job) → Allowed s.pass.course (item.Close s.job s.next end)
 close_is_allowed law store jobs n job end s at number course fits =
     subst (λ (k : List JobVisits). Allowed k (item.Close s.job s.next end)) (sym course) (subst (λ (m : ℕ). Allowed (course_of store jobs) (item.Close m s.next end)) (sym number) (law store jobs n s.next job end at fits))
 

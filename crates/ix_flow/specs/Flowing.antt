@@ -1,53 +1,91 @@
 -- What a flow is given, and what it leaves.
-use Rattle.std.specs.Prelude.{◌≡◌, ℕ, ◌≤◌, List, [], length, All, Some, vec_len, vec_capacity}
+use Rattle.std.specs.Prelude.{◌≡◌, ℕ, ◌≤◌, ◌<◌, List, [], length, All, Contains, Some, vec_len, vec_capacity}
+use Rattle.std.specs.declared.thread.PromisedHandle.{PromisedHandle}
 use Rattle.atomic_table.specs.Seated.{TableId}
 use Rattle.ix_walk.specs.Store.{Blocks}
 use Rattle.ix_walk.specs.JobMeaning.{JobMeaning}
 use Rattle.ix_car.specs.declared.sink.Delivery.{Delivery}
 use Rattle.ix_car.specs.Events.{Event}
-use Rattle.ix_car.specs.Headline.{EachDelivered, EachFresh, EachKept, Fact, IsCheckedOnce, NoneOrAllStart, checked_by}
-use Rattle.ix_stages.specs.Claims.{ClaimsMeaning}
+use Rattle.ix_car.specs.Headline.{EachDelivered, EachFresh, EachKept, Fact, IsCheckedOnce, NoneOrAllStart, checked_by, visit_count}
+use Rattle.ix_stages.specs.Claims.{SeatMeaning}
 use Rattle.ix_stages.specs.Course.{course_of}
 use Rattle.ix_stages.specs.Seats.{JobView}
 use Rattle.ix_collect.specs.Collected.{job_count, IsUnused}
-use Rattle.ix_flow.specs.declared.flowing.Flown.{Flown}
-use Rattle.ix_flow.specs.declared.flowing.Desk.{Desk}
-use Rattle.ix_flow.specs.declared.flowing.Work.{Work}
-use Rattle.ix_flow.specs.declared.flowing.Back.{Back}
+use Rattle.ix_flow.specs.declared.flowing.Outcome.{Outcome}
+use Rattle.ix_flow.specs.declared.flowing.CallerState.{CallerState}
+use Rattle.ix_flow.specs.declared.flowing.Inputs.{Inputs}
+use Rattle.ix_flow.specs.declared.flowing.FlowResult.{FlowResult}
+use Rattle.ix_flow.specs.declared.shared.Shared.{Shared}
+use Rattle.ix_flow.specs.declared.shared.Task.{Task}
+use Rattle.ix_flow.specs.declared.verifying.Began.{Began}
+use Rattle.ix_flow.specs.declared.verifying.UnstartedVerifier.{UnstartedVerifier}
+use Rattle.ix_flow.specs.declared.verifying.Verifier.{Verifier}
 use Rattle.ix_flow.specs.Ready.{IsReady}
-use Rattle.ix_flow.specs.Stations.{IsPost, HasStationRoom, HasJoinRoom}
+use Rattle.ix_flow.specs.Shared.{store_of, jobs_of, queue_of}
+use Rattle.ix_flow.specs.Verifiers.{IsUnstarted, IsBegan, HasRunningRoom, HasJoinRoom}
 
--- each sink was told what its job calls for and keeps what it promised, each visit was checked as often as it is to be, and threads were wanting for no job or for all
-pub record IsFlown {S C : Type 0} (events : S → List Event) (failed : S → List Delivery) (fact : Fact S) (checked : C → List (ℕ × ℕ)) (store : Blocks) (jobs : List JobMeaning) (first sinks : List S) (f : Flown C) : Type 0 where
-  pub delivered : EachDelivered events failed store 0 jobs f.ends.items sinks
-  pub kept : EachKept fact first sinks
-  pub checks : IsCheckedOnce events store jobs f.ends.items sinks (checked_by checked f.checks.items)
-  pub started : NoneOrAllStart f.ends.items
+module _ {S C G : Type 0} (events : S → List Event) (failed : S → List Delivery) (fact : Fact S) (checked : C → List (ℕ × ℕ)) (x : Task G) (first sinks : List S) where
+  -- each sink was told what its job calls for and keeps what it promised, each visit was checked as often as it is to be, and threads were wanting for no job or for all
+  pub record IsFlown (out : Outcome C) : Type 0 where
+    pub delivered : EachDelivered events failed x.store.now 0 x.jobs.now out.ends.items sinks
+    pub kept : EachKept fact first sinks
+    pub checks : IsCheckedOnce events x.store.now x.jobs.now out.ends.items sinks (checked_by checked out.checks.items)
+    pub started : NoneOrAllStart out.ends.items
 
--- the flow has ended
-pub record IsFlownTo {S C : Type 0} (events : S → List Event) (failed : S → List Delivery) (fact : Fact S) (checked : C → List (ℕ × ℕ)) (store : Blocks) (jobs : List JobMeaning) (first sinks : List S) (b : Back C) : Type 0 where
-  pub flown : Flown C
-  pub back : b.flown ≡ Some flown
-  pub is : IsFlown events failed fact checked store jobs first sinks flown
+  -- the flow has ended
+  pub record IsFlownTo (r : FlowResult C) : Type 0 where
+    pub outcome : Outcome C
+    pub slot : r.outcome ≡ Some outcome
+    pub is : IsFlown outcome
+
+-- each pair that was checked is that of a visit
+abbrev pub AreOfVisits : {C G : Type 0} → (C → List (ℕ × ℕ)) → Task G → List C → Type 0
+AreOfVisits checked x checks = (job seq : ℕ) → Contains (checked_by checked checks) (job, seq) → seq < visit_count x.store.now x.jobs.now job
 
 -- what the caller keeps, for so many verifiers
-pub record IsDesk {C : Type 0} (store : Blocks) (jobs : List JobMeaning) (t : TableId) (verifiers : ℕ) (d : Desk C) : Type 0 where
+pub record IsCaller {C : Type 0} (store : Blocks) (jobs : List JobMeaning) (t : TableId) (verifiers : ℕ) (d : CallerState C) : Type 0 where
   pub limits : All (λ job. job.limit ≤ 1000000) jobs
-  pub stop : (d.stop.table ≡ t) × (d.stop.hand.course ≡ course_of store jobs)
+  pub stop : (d.stop.table ≡ t) × (d.stop.pass.course ≡ course_of store jobs)
   pub join : HasJoinRoom verifiers d.joined
   pub ends : (d.ends.items ≡ []) × (length jobs ≤ vec_capacity d.ends)
   pub collector : IsUnused d.collector × (job_count d.collector ≡ length jobs)
 
+module _ {C G : Type 0} (checked : C → List (ℕ × ℕ)) (x : Shared G) where
+  -- each verifier wasn't started yet, and has done nothing
+  abbrev pub AllUnstarted : List (UnstartedVerifier C) → Type 0
+  AllUnstarted unstarted = All (IsUnstarted checked (store_of x) (queue_of x)) unstarted
+
+  -- each was started when it had done nothing
+  abbrev pub AllBegan : List (PromisedHandle (Verifier C) (Began C)) → Type 0
+  AllBegan handles = All (IsBegan checked (store_of x) (queue_of x)) handles
+
+module _ {G : Type 0} (x : Shared G) where
+  abbrev pub IsCallerIn : {C : Type 0} → ℕ → CallerState C → Type 0
+  IsCallerIn verifiers d = IsCaller (store_of x) (jobs_of x) (queue_of x) verifiers d
+
+  -- a seat of one of the jobs
+  abbrev pub IsReadyIn : JobView → Type 0
+  IsReadyIn s = IsReady (store_of x) (jobs_of x) (queue_of x) s
+
+  -- what is claimed are such seats
+  abbrev pub AreReady : Type 0
+  AreReady = All IsReadyIn x.claims.now.values
+
+  -- the seat claims them
+  pub record CanClaim (s : SeatMeaning JobView) : Type 0 where
+    pub seats : AreReady
+    pub claimer : s.of ≡ x.claims.now
+
 -- what the threads are handed, and what the caller keeps
-pub record CanFlow {C : Type 0} (checked : C → List (ℕ × ℕ)) (store : Blocks) (jobs : List JobMeaning) (t : TableId) (claims : ClaimsMeaning JobView) (w : Work C) : Type 0 where
-  pub posts : All (IsPost checked store t) w.posts.items
-  pub stations : HasStationRoom (vec_len w.posts) w.stations
-  pub seats : All (IsReady store jobs t) claims.values
-  pub claimers : All (λ s. s.of ≡ claims) w.claimers.items
-  pub desk : IsDesk store jobs t (vec_len w.posts) w.desk
+pub record CanFlow {C G : Type 0} (checked : C → List (ℕ × ℕ)) (x : Shared G) (w : Inputs C) : Type 0 where
+  pub unstarted : AllUnstarted checked x w.unstarted.items
+  pub running : HasRunningRoom (vec_len w.unstarted) w.running
+  pub seats : AreReady x
+  pub claimers : All (λ s. s.of ≡ x.claims.now) w.claimers.items
+  pub caller : IsCallerIn x (vec_len w.unstarted) w.caller
 
 -- the same, with sinks that were told nothing
-pub record CanFlowTo {S C : Type 0} (events : S → List Event) (failed : S → List Delivery) (checked : C → List (ℕ × ℕ)) (store : Blocks) (jobs : List JobMeaning) (t : TableId) (claims : ClaimsMeaning JobView) (sinks : List S) (w : Work C) : Type 0 where
-  pub can : CanFlow checked store jobs t claims w
-  pub sized : length sinks ≡ length jobs
+pub record CanFlowTo {S C G : Type 0} (events : S → List Event) (failed : S → List Delivery) (checked : C → List (ℕ × ℕ)) (x : Shared G) (sinks : List S) (w : Inputs C) : Type 0 where
+  pub can : CanFlow checked x w
+  pub sized : length sinks ≡ length (jobs_of x)
   pub fresh : EachFresh events failed sinks

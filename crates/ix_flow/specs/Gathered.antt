@@ -1,15 +1,22 @@
 -- What the collector has received while the threads run.
-use Rattle.std.specs.Prelude.{◌≡◌, List, length}
-use Rattle.ix_walk.specs.Store.{Blocks}
-use Rattle.ix_walk.specs.JobMeaning.{JobMeaning}
+use Rattle.std.specs.Prelude.{List}
 use Rattle.ix_car.specs.declared.sink.Delivery.{Delivery}
 use Rattle.ix_car.specs.Events.{Event}
+use Rattle.ix_car.specs.Headline.{Fact}
+use Rattle.ix_stages.specs.declared.lanes.LaneOut.{LaneOut}
 use Rattle.ix_stages.specs.declared.verdicted.Verdicted.{Verdicted}
+use Rattle.ix_stages.specs.Lanes.{EachSameOut, all_received}
 use Rattle.ix_collect.specs.declared.collector.Collector.{Collector}
-use Rattle.ix_collect.specs.Collected.{job_count, MayTell, IsCollected}
+use Rattle.ix_collect.specs.Collecting.{CanCollect, GoesOn, HasCollected}
 
--- each sink was told what these items say, if they are good, and may be told what comes next
-pub record IsTold {S : Type 0} (events : S → List Event) (failed : S → List Delivery) (got : List Verdicted) (c : Collector) (sinks : List S) : Type 0 where
-  pub sized : length sinks ≡ job_count c
-  pub may : MayTell events failed c sinks
-  pub collected : (store : Blocks) (jobs : List JobMeaning) → IsCollected events failed store jobs got c sinks
+module _ {S : Type 0} (events : S → List Event) (failed : S → List Delivery) where
+  -- each sink was told what these items say, if they are good, and may be told what comes next
+  pub record IsTold (got : List Verdicted) (c : Collector) (sinks : List S) : Type 0 where
+    pub can : CanCollect events failed c sinks
+    pub collected : HasCollected events failed got c sinks
+
+  -- the collector went on from c to d, and has received what the lanes gave by now
+  pub record Gathers (fact : Fact S) (c d : Collector) (outs next : List LaneOut) (first sinks : List S) : Type 0 where
+    pub collector : GoesOn events failed fact c d first sinks
+    pub collected : HasCollected events failed (all_received next) d sinks
+    pub lanes : EachSameOut outs next

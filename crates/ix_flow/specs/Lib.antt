@@ -1,5 +1,8 @@
 pub mod Ready
-pub mod Stations
+pub mod Working
+pub mod Verifiers
+pub mod Stopping
+pub mod Shared
 pub mod Gathered
 pub mod Closed
 pub mod Flowing

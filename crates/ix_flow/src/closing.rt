@@ -1,15 +1,15 @@
 //! Exports of which nothing is delivered, since no thread could be started.
 
-ghost use Rattle.std.specs.Prelude.{◌≡◌, ◌≤◌, ◌<◌, ℕ, [], length, vec_capacity, Contains};
+ghost use Rattle.std.specs.Prelude.{◌≡◌, ◌≤◌, [], length, vec_capacity};
 ghost use Rattle.ix_car.specs.declared.sink.End.TheVariants.{Start};
-ghost use Rattle.ix_car.specs.Headline.{EachFresh, EachKept, IsEachOnce, checked_by, visit_count};
+ghost use Rattle.ix_car.specs.Headline.{EachFresh, EachKept, IsEachOnce, checked_by};
 ghost use Rattle.ix_flow.specs.Closed.{EachClosed};
-ghost use Rattle.ix_flow.specs.Flowing.{IsFlown};
+ghost use Rattle.ix_flow.specs.Flowing.{AreOfVisits, IsFlown};
 
-use crate::flowing::Flown;
+use crate::flowing::Outcome;
+use crate::shared::Task;
 use ix_car::{End, Sink};
 use ix_check::Check;
-use ix_walk::{Job, Store};
 
 // Closes every sink with one end.
 fn close_all<S: Sink>(sinks: &mut [S], end: End, ends: Vec<End>) -> Vec<End>
@@ -27,20 +27,19 @@ fn close_all<S: Sink>(sinks: &mut [S], end: End, ends: Vec<End>) -> Vec<End>
 }
 
 /// Closes every sink with Start.
-pub(crate) fn unexported<S: Sink, C: Check>(
-    _store: &Store,
-    _jobs: &[Job],
+pub(crate) fn unexported<S: Sink, C: Check, G>(
+    _task: &Task<'_, G>,
     sinks: &mut [S],
     checks: Vec<C>,
     ends: Vec<End>,
-) -> Flown<C>
+) -> Outcome<C>
     requires room { (ends.items ≡ []) × (length sinks.old ≤ vec_capacity ends) }
-    requires sinks { length sinks.old ≡ length _jobs.now }
+    requires sinks { length sinks.old ≡ length _task.now.jobs.now }
     requires fresh { EachFresh S.events S.failed sinks.old }
     requires once { IsEachOnce (checked_by C.checked checks.items) }
-    requires within { (job seq : ℕ) → Contains (checked_by C.checked checks.items) (job, seq) → seq < visit_count _store.now _jobs.now job }
-    ensures { IsFlown S.events S.failed S.fact C.checked _store.now _jobs.now sinks.old sinks.new result }
+    requires within { AreOfVisits C.checked _task.now checks.items }
+    ensures { IsFlown S.events S.failed S.fact C.checked _task.now sinks.old sinks.new result }
 {
     let ends = close_all(sinks, End::Start, ends);
-    Flown { checks, ends }
+    Outcome { checks, ends }
 }

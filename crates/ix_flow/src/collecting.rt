@@ -2,11 +2,13 @@
 //! left.
 
 ghost use Rattle.std.specs.Prelude.{◌≡◌, [], length};
-ghost use Rattle.ix_car.specs.Headline.{EachFresh, EachKept};
-ghost use Rattle.ix_stages.specs.Lanes.{EachLane, EachSameOut, all_received, all_sent};
+ghost use Rattle.ix_car.specs.Headline.{EachFresh};
+ghost use Rattle.ix_stages.specs.Lanes.{EachLane, all_received, all_sent};
 ghost use Rattle.ix_stages.specs.Queue.{table_of};
 ghost use Rattle.ix_collect.specs.Collected.{job_count, IsDone, IsUnused};
-ghost use Rattle.ix_flow.specs.Gathered.{IsTold};
+ghost use Rattle.ix_collect.specs.Collecting.{GoesOn, HasCollected};
+ghost use Rattle.ix_flow.specs.Gathered.{Gathers, IsTold};
+ghost use Rattle.ix_flow.specs.Stopping.{CanStop, IsSeatOf};
 
 use ix_car::Sink;
 use ix_collect::{Collector, finish, round};
@@ -32,10 +34,7 @@ fn collect<R: Wait, S: Sink>(
     sinks: &mut [S],
 )
     requires { IsTold S.events S.failed (all_received outs.old) collector.old sinks.old }
-    ensures told { IsTold S.events S.failed (all_received outs.new) collector.new sinks.new }
-    ensures jobs { job_count collector.new ≡ job_count collector.old }
-    ensures kept { EachKept S.fact sinks.old sinks.new }
-    ensures lanes { EachSameOut outs.old outs.new }
+    ensures on { Gathers S.events S.failed S.fact collector.old collector.new outs.old outs.new sinks.old sinks.new }
     ensures done { IsDone collector.new }
 {
     let mut waiting = Waiting::new();
@@ -51,55 +50,62 @@ fn collect<R: Wait, S: Sink>(
     unreachable!()
 }
 
+/// What stops so many verifiers: a seat that puts a Stop for each into their queue.
+#[derive(Drop)]
+pub(crate) struct Stopper<'q> {
+    pub queue: &'q VisitQueue,
+    pub seat: StopSeat,
+    pub verifiers: usize,
+}
+
 // Puts Stops while the queue has room and fewer were put than there are verifiers. Says how many were
 // put by then.
 fn put_stops<R: Wait>(
     rt: &R,
     queue: &VisitQueue,
-    stop: &mut StopSeat,
+    seat: &mut StopSeat,
     stops: usize,
     verifiers: usize,
 ) -> usize
-    requires { stop.old.table ≡ table_of queue.now }
-    ensures { (stop.new.table ≡ stop.old.table) × (stop.new.hand.course ≡ stop.old.hand.course) }
+    requires { seat.old.table ≡ table_of queue.now }
+    ensures { IsSeatOf seat.old seat.new }
 {
     for put in stops..verifiers {
-        if !queue.try_stop(rt, stop) {
+        if !queue.try_stop(rt, seat) {
             return put;
         }
     }
     verifiers
 }
 
-// Puts a Stop for each of so many verifiers, and receives on, so that nobody waits for ever at a
-// full queue or lane, until each has sent its last item.
+// Puts a Stop for each verifier, and receives on, so that nobody waits for ever at a full queue or
+// lane, until each has sent its last item. Gives the seat back.
 fn stop_verifiers<R: Wait, S: Sink>(
     rt: &R,
     alloc: Global,
-    queue: &VisitQueue,
-    stop: &mut StopSeat,
-    verifiers: usize,
+    stopper: Stopper<'_>,
     collector: &mut Collector,
     outs: &mut [LaneOut],
     sinks: &mut [S],
-)
-    requires stop { stop.old.table ≡ table_of queue.now }
+) -> StopSeat
+    requires stop { CanStop stopper }
     requires told { IsTold S.events S.failed (all_received outs.old) collector.old sinks.old }
-    ensures stop { (stop.new.table ≡ stop.old.table) × (stop.new.hand.course ≡ stop.old.hand.course) }
-    ensures told { IsTold S.events S.failed (all_received outs.new) collector.new sinks.new }
-    ensures jobs { job_count collector.new ≡ job_count collector.old }
-    ensures kept { EachKept S.fact sinks.old sinks.new }
-    ensures lanes { EachSameOut outs.old outs.new }
-    ensures done { IsDone collector.old → IsDone collector.new }
+    ensures stop { IsSeatOf stopper.entry.seat result }
+    ensures on { Gathers S.events S.failed S.fact collector.old collector.new outs.old outs.new sinks.old sinks.new }
 {
+    let Stopper {
+        queue,
+        mut seat,
+        verifiers,
+    } = stopper;
     let mut waiting = Waiting::new();
     let mut stops = 0usize;
     let mut lasts = 0usize;
     for _ in rt.forever() {
         if lasts >= verifiers {
-            return;
+            return seat;
         }
-        stops = put_stops(rt, queue, stop, stops, verifiers);
+        stops = put_stops(rt, queue, &mut seat, stops, verifiers);
         let received = round(alloc, collector, outs, sinks);
         lasts = lasts.saturating_add(received.lasts);
         wait_on(rt, &mut waiting, received.items > 0);
@@ -107,47 +113,47 @@ fn stop_verifiers<R: Wait, S: Sink>(
     unreachable!()
 }
 
-/// Collects from the first item to the verifiers' last: until every sink was closed, and so many
-/// verifiers were stopped.
+/// Collects from the first item to the verifiers' last: until every sink was closed, and the verifiers
+/// were stopped. Gives the seat that stops them back.
 pub(crate) fn gather<R: Wait, S: Sink>(
     rt: &R,
     alloc: Global,
-    queue: &VisitQueue,
-    stop: &mut StopSeat,
-    verifiers: usize,
+    stopper: Stopper<'_>,
     collector: &mut Collector,
     outs: &mut [LaneOut],
     sinks: &mut [S],
-)
-    requires stop { stop.old.table ≡ table_of queue.now }
+) -> StopSeat
+    requires stop { CanStop stopper }
     requires jobs { length sinks.old ≡ job_count collector.old }
     requires unused { IsUnused collector.old × (all_received outs.old ≡ []) }
     requires fresh { EachFresh S.events S.failed sinks.old }
-    ensures stop { (stop.new.table ≡ stop.old.table) × (stop.new.hand.course ≡ stop.old.hand.course) }
-    ensures told { IsTold S.events S.failed (all_received outs.new) collector.new sinks.new }
-    ensures jobs { job_count collector.new ≡ job_count collector.old }
-    ensures kept { EachKept S.fact sinks.old sinks.new }
-    ensures lanes { EachSameOut outs.old outs.new }
+    ensures stop { IsSeatOf stopper.entry.seat result }
+    ensures on { Gathers S.events S.failed S.fact collector.old collector.new outs.old outs.new sinks.old sinks.new }
     ensures done { IsDone collector.new }
 {
     collector.begins(sinks);
     collect(rt, alloc, collector, outs, sinks);
-    stop_verifiers(rt, alloc, queue, stop, verifiers, collector, outs, sinks);
+    stop_verifiers(rt, alloc, stopper, collector, outs, sinks)
 }
 
-/// Puts a Stop for each of so many verifiers, where no walker has put anything: each takes one, and
-/// its lane has room for what it sends then.
-pub(crate) fn stop_idle<R: Wait>(rt: &R, queue: &VisitQueue, stop: &mut StopSeat, verifiers: usize)
-    requires { stop.old.table ≡ table_of queue.now }
-    ensures { (stop.new.table ≡ stop.old.table) × (stop.new.hand.course ≡ stop.old.hand.course) }
+/// Puts a Stop for each verifier, where no walker has put anything: each takes one, and its lane has
+/// room for what it sends then. Gives the seat back.
+pub(crate) fn stop_idle<R: Wait>(rt: &R, stopper: Stopper<'_>) -> StopSeat
+    requires { CanStop stopper }
+    ensures { IsSeatOf stopper.entry.seat result }
 {
+    let Stopper {
+        queue,
+        mut seat,
+        verifiers,
+    } = stopper;
     let mut waiting = Waiting::new();
     let mut stops = 0usize;
     for _ in rt.forever() {
         if stops >= verifiers {
-            return;
+            return seat;
         }
-        stops = put_stops(rt, queue, stop, stops, verifiers);
+        stops = put_stops(rt, queue, &mut seat, stops, verifiers);
         waiting.pause(rt);
     }
     unreachable!()
@@ -164,10 +170,8 @@ pub(crate) fn receive_rest<R: Wait, S: Sink>(
 )
     requires lanes { EachLane senders.items outs.old }
     requires told { IsTold S.events S.failed (all_received outs.old) collector.old sinks.old }
-    ensures told { IsTold S.events S.failed (all_sent senders.items) collector.new sinks.new }
-    ensures jobs { job_count collector.new ≡ job_count collector.old }
-    ensures kept { EachKept S.fact sinks.old sinks.new }
-    ensures done { IsDone collector.old → IsDone collector.new }
+    ensures on { GoesOn S.events S.failed S.fact collector.old collector.new sinks.old sinks.new }
+    ensures collected { HasCollected S.events S.failed (all_sent senders.items) collector.new sinks.new }
 {
     let mut senders = senders;
     finish(rt, alloc, collector, senders.as_mut_slice(), outs, sinks);

@@ -3,19 +3,20 @@
 ghost use Rattle.std.specs.Prelude.{◌≡◌, ◌≤◌, [], All, vec_len, vec_capacity};
 ghost use Rattle.ix_car.specs.Headline.{checked_by};
 ghost use Rattle.ix_stages.specs.Course.{course_of};
-ghost use Rattle.ix_stages.specs.Good.{IsGood};
 ghost use Rattle.ix_stages.specs.Lanes.{all_sent};
 ghost use Rattle.ix_stages.specs.Queue.{table_of};
 ghost use Rattle.ix_stages.specs.Received.{pairs_of};
 ghost use Rattle.ix_stages.specs.Sent.{SentFor};
 ghost use Rattle.ix_stages.specs.Settled.{taken_by};
-ghost use Rattle.ix_flow.specs.Stations.{IsBegan, EachBack, HasJoinRoom};
+ghost use Rattle.ix_flow.specs.Shared.{store_of, jobs_of, queue_of, IsAnsweredWell};
+ghost use Rattle.ix_flow.specs.Verifiers.{IsBegan, EachBack, HasJoinRoom};
 
+use crate::shared::Shared;
 use crate::verifying::{Began, Verifier};
 use ix_check::Check;
-use ix_collect::law::sent_for_good;
+use ix_collect::law;
 use ix_stages::{LaneIn, StopSeat, TakeSeat, VisitQueue, well_taken_is_good};
-use ix_walk::{Job, Store};
+use ix_walk::Store;
 use std::alloc::Global;
 use std::thread::{PromisedHandle, Threads};
 
@@ -60,23 +61,20 @@ pub(crate) fn join_verifiers<R: Threads, C: Check + Drop>(
     }
 }
 
-/// Joins the seats of the queue. What the verifiers sent is then known to be good.
-pub(crate) fn settle(
+/// Joins the seats of the queue. What was sent for what they took is then known to be good.
+pub(crate) fn settle<G>(
     alloc: Global,
-    _store: &Store,
-    _jobs: &[Job],
-    queue: &VisitQueue,
+    shared: &Shared<'_, G>,
     stop: StopSeat,
     takers: Vec<TakeSeat>,
-    _senders: &[LaneIn],
 )
-    requires limits { All (λ job. job.limit ≤ 1000000) _jobs.now }
-    requires stop { (stop.table ≡ table_of queue.now) × (stop.hand.course ≡ course_of _store.now _jobs.now) }
-    requires takers { All (λ s. s.table ≡ table_of queue.now) takers.items }
-    requires sent { SentFor _store.now (taken_by takers.items) (all_sent _senders.now) }
-    ensures { IsGood _store.now _jobs.now (all_sent _senders.now) }
+    requires limits { All (λ job. job.limit ≤ 1000000) (jobs_of shared.now) }
+    requires stop { stop.table ≡ queue_of shared.now }
+    requires course { stop.pass.course ≡ course_of (store_of shared.now) (jobs_of shared.now) }
+    requires takers { All (λ s. s.table ≡ queue_of shared.now) takers.items }
+    ensures { IsAnsweredWell shared.now (taken_by takers.items) }
 {
-    drop(queue.settle(Vec::new(alloc), stop, takers));
+    drop(shared.queue.settle(Vec::new(alloc), stop, takers));
     well_taken_is_good();
-    sent_for_good();
+    law::sent_for_good();
 }

@@ -7,9 +7,10 @@
 //! Memory.
 //!
 //! ```rust
-//! let sizes = Sizes { walkers: 4, queue: 256, lane: 64 };
-//! let prepared = Prepared::new(alloc, &store, &jobs, sizes, checks.len())?;
-//! let flown = flow(rt, alloc, &store, jobs.as_slice(), &mut sinks, checks, &Open, prepared);
+//! let plan = Plan { walkers: 4, queue: 256, lane: 64 };
+//! let prepared = Prepared::new(alloc, &store, &jobs, plan, checks.len())?;
+//! let task = Task { store: &store, jobs: jobs.as_slice(), gate: &Open };
+//! let outcome = flow(rt, alloc, &task, &mut sinks, checks, prepared);
 //! ```
 #![tactic(auto)]
 
@@ -18,10 +19,14 @@ mod collecting;
 mod flowing;
 mod gate;
 mod joining;
+mod plan;
 mod preparing;
+mod shared;
 mod verifying;
 mod walking;
 
-pub use flowing::{Flown, flow};
+pub use flowing::{Outcome, flow};
 pub use gate::{Gate, Open};
-pub use preparing::{Prepared, Sizes};
+pub use plan::Plan;
+pub use preparing::Prepared;
+pub use shared::Task;

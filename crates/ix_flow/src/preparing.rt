@@ -3,14 +3,15 @@
 ghost use Rattle.std.specs.Prelude.{◌≡◌, ◌<◌, ◌≤◌, [], length, All, vec_len, vec_capacity, IfOk};
 ghost use Rattle.ix_walk.specs.JobMeaning.{JobMeaning};
 ghost use Rattle.ix_car.specs.Headline.{EachUnused};
-ghost use Rattle.ix_stages.specs.Course.{IsCourseOf};
 ghost use Rattle.ix_stages.specs.Queue.{table_of};
-ghost use Rattle.ix_flow.specs.Prepared.{IsPlace, IsPrepared, walker_count};
-ghost use Rattle.ix_flow.specs.Stations.{HasJoinRoom, HasStationRoom, IsPost};
+ghost use Rattle.ix_flow.specs.Prepared.{IsSlot, IsPrepared, walker_count};
+ghost use Rattle.ix_flow.specs.Ready.{IsIdle};
+ghost use Rattle.ix_flow.specs.Verifiers.{HasJoinRoom, HasRunningRoom, IsUnstarted};
 
-use crate::flowing::Desk;
+use crate::flowing::CallerState;
 use crate::joining::Joined;
-use crate::verifying::{Post, Stations, Verifier};
+use crate::plan::Plan;
+use crate::verifying::{RunningVerifiers, UnstartedVerifier, Verifier};
 use ix_car::End;
 use ix_check::Check;
 use ix_collect::Collector;
@@ -37,18 +38,10 @@ impl Course for JobCourse {
 
 /// A verifier's seat, and both ends of its lane.
 #[derive(Drop)]
-pub(crate) struct Place {
+pub(crate) struct VerifierSlot {
     pub seat: TakeSeat,
     pub lane: LaneIn,
     pub out: LaneOut,
-}
-
-/// How much room the queue and each lane have, and how many walkers there are.
-#[derive(Debug, Drop, Clone, Copy)]
-pub struct Sizes {
-    pub walkers: u32,
-    pub queue: u32,
-    pub lane: u32,
 }
 
 /// A queue, claims, lanes, and room for all that a flow keeps, whose amount is known before.
@@ -57,10 +50,10 @@ pub struct Prepared<C: Check + Drop> {
     pub(crate) queue: VisitQueue,
     pub(crate) claims: Claims<JobSeat>,
     pub(crate) claimers: Vec<ClaimSeat<JobSeat>>,
-    pub(crate) places: Vec<Place>,
-    pub(crate) posts: Vec<Post<C>>,
-    pub(crate) stations: Stations<C>,
-    pub(crate) desk: Desk<C>,
+    pub(crate) slots: Vec<VerifierSlot>,
+    pub(crate) unstarted: Vec<UnstartedVerifier<C>>,
+    pub(crate) running: RunningVerifiers<C>,
+    pub(crate) caller: CallerState<C>,
 }
 
 // Learns that no job has too great a limit.
@@ -73,37 +66,37 @@ fn see_limits(jobs: &[Job])
 }
 
 // A lane for each seat.
-fn make_places(
+fn make_slots(
     alloc: Global,
     _store: &Store,
     _queue: &VisitQueue,
     takers: Vec<TakeSeat>,
     capacity: u32,
-) -> Result<Vec<Place>, AllocError>
-    requires { All (λ s. (s.table ≡ table_of _queue.now) × IsCourseOf _store.now s.hand.course × (s.hand.taken ≡ [])) takers.items }
-    ensures places { IfOk result (λ places. All (IsPlace _store.now (table_of _queue.now)) places.items) }
-    ensures count { IfOk result (λ places. vec_len places ≡ vec_len takers) }
+) -> Result<Vec<VerifierSlot>, AllocError>
+    requires { All (IsIdle _store.now (table_of _queue.now)) takers.items }
+    ensures slots { IfOk result (λ slots. All (IsSlot _store.now (table_of _queue.now)) slots.items) }
+    ensures count { IfOk result (λ slots. vec_len slots ≡ vec_len takers) }
 {
-    let mut places = Vec::with_capacity(alloc, takers.len())?;
+    let mut slots = Vec::with_capacity(alloc, takers.len())?;
     for seat in takers {
         let (sender, out) = lane(alloc, capacity)?;
-        places.push_reserved(Place {
+        slots.push_reserved(VerifierSlot {
             seat,
             lane: sender,
             out,
         });
     }
-    Ok(places)
+    Ok(slots)
 }
 
 // Room for so many verifiers that run.
-fn make_stations<C: Check + Drop>(
+fn make_running<C: Check + Drop>(
     alloc: Global,
     verifiers: usize,
-) -> Result<Stations<C>, AllocError>
-    ensures { IfOk result (λ stations. HasStationRoom verifiers stations) }
+) -> Result<RunningVerifiers<C>, AllocError>
+    ensures { IfOk result (λ running. HasRunningRoom verifiers running) }
 {
-    Ok(Stations {
+    Ok(RunningVerifiers {
         handles: Vec::with_capacity(alloc, verifiers)?,
         outs: Vec::with_capacity(alloc, verifiers)?,
     })
@@ -120,32 +113,32 @@ fn make_joined<C: Drop>(alloc: Global, verifiers: usize) -> Result<Joined<C>, Al
     })
 }
 
-/// Gives each check a place.
-pub(crate) fn man_posts<C: Check + Drop>(
+/// Gives each check a slot.
+pub(crate) fn assign_checks<C: Check + Drop>(
     _store: &Store,
     _queue: &VisitQueue,
     checks: Vec<C>,
-    places: Vec<Place>,
-    posts: Vec<Post<C>>,
-) -> Vec<Post<C>>
-    requires places { All (IsPlace _store.now (table_of _queue.now)) places.items }
-    requires count { vec_len places ≡ vec_len checks }
+    slots: Vec<VerifierSlot>,
+    unstarted: Vec<UnstartedVerifier<C>>,
+) -> Vec<UnstartedVerifier<C>>
+    requires slots { All (IsSlot _store.now (table_of _queue.now)) slots.items }
+    requires count { vec_len slots ≡ vec_len checks }
     requires unused { EachUnused C.checked checks.items }
-    requires room { (posts.items ≡ []) × (vec_len checks ≤ vec_capacity posts) }
-    ensures posts { All (IsPost C.checked _store.now (table_of _queue.now)) result.items }
+    requires room { (unstarted.items ≡ []) × (vec_len checks ≤ vec_capacity unstarted) }
+    ensures unstarted { All (IsUnstarted C.checked _store.now (table_of _queue.now)) result.items }
     ensures count { vec_len result ≡ vec_len checks }
 {
-    let mut places = places;
-    let mut posts = posts;
+    let mut slots = slots;
+    let mut unstarted = unstarted;
     for check in checks {
-        let Some(place) = places.pop() else {
+        let Some(slot) = slots.pop() else {
             unreachable!()
         };
-        let Place { seat, lane, out } = place;
+        let VerifierSlot { seat, lane, out } = slot;
         let verifier = Verifier { seat, lane, check };
-        posts.push_reserved(Post { verifier, out });
+        unstarted.push_reserved(UnstartedVerifier { verifier, out });
     }
-    posts
+    unstarted
 }
 
 impl<C: Check + Drop> Prepared<C> {
@@ -154,16 +147,16 @@ impl<C: Check + Drop> Prepared<C> {
         alloc: Global,
         store: &Store,
         jobs: &Vec<Job>,
-        sizes: Sizes,
+        plan: Plan,
         verifiers: usize,
     ) -> Result<Prepared<C>, AllocError>
         requires jobs { length jobs.now.items ≤ 1000 }
-        requires walkers { (1 ≤ sizes.walkers) × (sizes.walkers ≤ 64) }
-        requires queue { 0 < sizes.queue }
-        requires lane { 0 < sizes.lane }
+        requires walkers { (1 ≤ plan.walkers) × (plan.walkers ≤ 64) }
+        requires queue { 0 < plan.queue }
+        requires lane { 0 < plan.lane }
         requires verifiers { verifiers ≤ 64 }
         ensures prepared { IfOk result (λ p. IsPrepared store.now jobs.now.items verifiers p) }
-        ensures walkers { IfOk result (λ p. walker_count p ≡ sizes.walkers) }
+        ensures walkers { IfOk result (λ p. walker_count p ≡ plan.walkers) }
     {
         course_of_jobs();
         see_limits(jobs);
@@ -172,32 +165,32 @@ impl<C: Check + Drop> Prepared<C> {
             jobs: Snapshot::of(jobs),
         };
         let count = jobs.len();
-        let parts = VisitQueue::new(alloc, &course, sizes.queue, count as u32, verifiers as u32)?;
+        let parts = VisitQueue::new(alloc, &course, plan.queue, count as u32, verifiers as u32)?;
         let QueueParts {
             queue,
             jobs: seats,
             takers,
             stop,
         } = parts;
-        let places = make_places(alloc, store, &queue, takers, sizes.lane)?;
-        let stations = make_stations(alloc, verifiers)?;
+        let slots = make_slots(alloc, store, &queue, takers, plan.lane)?;
+        let running = make_running(alloc, verifiers)?;
         let joined = make_joined(alloc, verifiers)?;
-        let desk = Desk {
+        let caller = CallerState {
             collector: Collector::new(alloc, count as u32)?,
             stop,
             joined,
             ends: Vec::with_capacity(alloc, count)?,
         };
-        let posts = Vec::with_capacity(alloc, verifiers)?;
-        let (claims, claimers) = Claims::new(alloc, seats, sizes.walkers)?;
+        let unstarted = Vec::with_capacity(alloc, verifiers)?;
+        let (claims, claimers) = Claims::new(alloc, seats, plan.walkers)?;
         Ok(Prepared {
             queue,
             claims,
             claimers,
-            places,
-            posts,
-            stations,
-            desk,
+            slots,
+            unstarted,
+            running,
+            caller,
         })
     }
 }

@@ -1,12 +1,13 @@
 //! The verifiers' threads, and what they promise.
 
-ghost use Rattle.std.specs.Prelude.{◌≡◌, ◌≤◌, [], All, vec_len, vec_capacity, IfSome};
-ghost use Rattle.ix_stages.specs.Course.{IsCourseOf};
-ghost use Rattle.ix_stages.specs.Lanes.{sent_by, all_received, SameIn};
+ghost use Rattle.std.specs.Prelude.{◌≡◌, ◌≤◌, [], vec_len, IfSome};
+ghost use Rattle.ix_stages.specs.Lanes.{all_received};
 ghost use Rattle.ix_stages.specs.Queue.{table_of};
-ghost use Rattle.ix_stages.specs.Verified.{IsVerified};
-ghost use Rattle.ix_flow.specs.Stations.{IsPost, IsBegan, EachOut, HasStationRoom};
+ghost use Rattle.ix_flow.specs.Flowing.{AllBegan, AllUnstarted};
+ghost use Rattle.ix_flow.specs.Verifiers.{EachOut, HasRunningRoom, IsStartOf};
+ghost use Rattle.ix_flow.specs.Working.{CanWork, HasWorked};
 
+use crate::shared::Shared;
 use ix_check::Check;
 use ix_stages::{LaneIn, LaneOut, TakeSeat, VisitQueue, verify};
 use ix_walk::Store;
@@ -26,26 +27,26 @@ pub(crate) struct Verifier<C> {
 /// What a verifier began with, for the fact about what it gives back.
 #[derive(Drop)]
 pub(crate) struct Began<C> {
-    pub seat: Snapshot<TakeSeat>,
-    pub lane: Snapshot<LaneIn>,
-    pub check: Snapshot<C>,
+    pub verifier: Snapshot<Verifier<C>>,
     pub store: Snapshot<Store>,
 }
 
 impl<C: Check> Promise<Verifier<C>> for Began<C> {
-    ghost kept_by = { λ p r. (r.seat.table ≡ p.seat.value.table) × SameIn p.lane.value r.lane × IsVerified p.store.value p.seat.value.hand r.seat.hand (sent_by p.lane.value) (sent_by r.lane) (C.checked p.check.value) (C.checked r.check) };
+    ghost use Rattle.ix_flow.specs.Working.{HasWorked};
+
+    ghost kept_by = { λ p r. HasWorked C.checked p.store.value p.verifier.value r };
 }
 
 /// A verifier that wasn't started yet, with the caller's end of its lane.
 #[derive(Drop)]
-pub(crate) struct Post<C> {
+pub(crate) struct UnstartedVerifier<C> {
     pub verifier: Verifier<C>,
     pub out: LaneOut,
 }
 
 /// The verifiers that run, and the caller's ends of their lanes.
 #[derive(Drop)]
-pub(crate) struct Stations<C: Check + Drop> {
+pub(crate) struct RunningVerifiers<C: Check + Drop> {
     pub handles: Vec<PromisedHandle<Verifier<C>, Began<C>>>,
     pub outs: Vec<LaneOut>,
 }
@@ -58,10 +59,8 @@ fn run_verifier<R: Wait, C: Check>(
     queue: &VisitQueue,
     verifier: Verifier<C>,
 ) -> Verifier<C>
-    requires queue { verifier.seat.table ≡ table_of queue.now }
-    requires course { IsCourseOf store.now verifier.seat.hand.course }
-    ensures same { (result.seat.table ≡ verifier.seat.table) × SameIn verifier.lane result.lane }
-    ensures verified { IsVerified store.now verifier.seat.hand result.seat.hand (sent_by verifier.lane) (sent_by result.lane) (C.checked verifier.check) (C.checked result.check) }
+    requires { CanWork store.now (table_of queue.now) verifier }
+    ensures { HasWorked C.checked store.now verifier result }
 {
     let Verifier {
         mut seat,
@@ -81,53 +80,54 @@ fn start_verifier<'s, 'e, R: Threads + Wait + Sync + 'e, C: Check + Send + Drop 
     queue: &'e VisitQueue,
     verifier: Verifier<C>,
 ) -> Option<PromisedHandle<Verifier<C>, Began<C>>>
-    requires { (verifier.seat.table ≡ table_of queue.now) × IsCourseOf store.now verifier.seat.hand.course }
-    ensures { IfSome result (λ h. (h.promise.seat.value ≡ verifier.seat) × (h.promise.lane.value ≡ verifier.lane) × (h.promise.check.value ≡ verifier.check) × (h.promise.store.value ≡ store.now)) }
+    requires { CanWork store.now (table_of queue.now) verifier }
+    ensures { IfSome result (IsStartOf store.now verifier) }
 {
     let promise = Began {
-        seat: Snapshot::of(&verifier.seat),
-        lane: Snapshot::of(&verifier.lane),
-        check: Snapshot::of(&verifier.check),
+        verifier: Snapshot::of(&verifier),
         store: Snapshot::of(store),
     };
     scope
         .spawn_with(
             promise,
             move || -> Verifier<C>
-                requires { (verifier.seat.table ≡ table_of queue.now) × IsCourseOf store.now verifier.seat.hand.course }
-                ensures { (result.seat.table ≡ verifier.seat.table) × SameIn verifier.lane result.lane × IsVerified store.entry.now verifier.seat.hand result.seat.hand (sent_by verifier.lane) (sent_by result.lane) (C.checked verifier.check) (C.checked result.check) }
+                requires { CanWork store.now (table_of queue.now) verifier }
+                ensures { HasWorked C.checked store.entry.now verifier result }
             { run_verifier(rt, alloc, store, queue, verifier) },
         )
         .ok()
 }
 
 /// Starts the verifiers. What those are handed whose start is refused is lost.
-pub(crate) fn start_verifiers<'s, 'e, R: Threads + Wait + Sync + 'e, C: Check + Send + Drop + 'e>(
+pub(crate) fn start_verifiers<'s, 'e, R, C, G>(
     scope: &'s Scope<'s, &'e ()>,
     rt: &'e R,
     alloc: Global,
-    store: &'e Store,
-    queue: &'e VisitQueue,
-    posts: Vec<Post<C>>,
-    stations: Stations<C>,
-) -> Stations<C>
-    requires room { HasStationRoom (vec_len posts) stations }
-    requires posts { All (IsPost C.checked store.now (table_of queue.now)) posts.items }
-    ensures began { All (IsBegan C.checked store.now (table_of queue.now)) result.handles.items }
+    shared: &'e Shared<'e, G>,
+    unstarted: Vec<UnstartedVerifier<C>>,
+    running: RunningVerifiers<C>,
+) -> RunningVerifiers<C>
+where
+    R: Threads + Wait + Sync + 'e,
+    C: Check + Send + Drop + 'e,
+    requires room { HasRunningRoom (vec_len unstarted) running }
+    requires unstarted { AllUnstarted C.checked shared.now unstarted.items }
+    ensures began { AllBegan C.checked shared.now result.handles.items }
     ensures lanes { EachOut result.handles.items result.outs.items }
     ensures none { all_received result.outs.items ≡ [] }
-    ensures few { vec_len result.handles ≤ vec_len posts }
+    ensures few { vec_len result.handles ≤ vec_len unstarted }
 {
-    let Stations {
+    let RunningVerifiers {
         mut handles,
         mut outs,
-    } = stations;
-    for post in posts {
-        let Post { verifier, out } = post;
-        if let Some(handle) = start_verifier(scope, rt, alloc, store, queue, verifier) {
+    } = running;
+    for idle in unstarted {
+        let UnstartedVerifier { verifier, out } = idle;
+        let store = shared.task.store;
+        if let Some(handle) = start_verifier(scope, rt, alloc, store, shared.queue, verifier) {
             handles.push_reserved(handle);
             outs.push_reserved(out);
         }
     }
-    Stations { handles, outs }
+    RunningVerifiers { handles, outs }
 }

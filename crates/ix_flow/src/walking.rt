@@ -3,13 +3,13 @@
 ghost use Rattle.std.specs.Prelude.{◌≡◌, false, All, Some, slice_get};
 ghost use Rattle.ix_stages.specs.declared.item.Item.{Item};
 ghost use Rattle.ix_stages.specs.Course.{Allowed};
-ghost use Rattle.ix_stages.specs.Queue.{table_of};
-ghost use Rattle.ix_flow.specs.Ready.{IsReady};
+ghost use Rattle.ix_flow.specs.Flowing.{IsReadyIn, AreReady, CanClaim};
 
 use crate::gate::Gate;
+use crate::shared::Shared;
 use ix_car::End;
-use ix_stages::{ClaimSeat, Claims, Item, JobSeat, VisitQueue, course_of_jobs};
-use ix_walk::{Job, Store, Walk, WalkStop};
+use ix_stages::{ClaimSeat, Item, JobSeat, course_of_jobs};
+use ix_walk::{Job, Walk, WalkStop};
 use std::alloc::Global;
 use std::sync::Wait;
 use std::thread::{Scope, Threads};
@@ -18,28 +18,25 @@ use std::thread::{Scope, Threads};
 fn put_visits<R: Wait, G: Gate>(
     rt: &R,
     alloc: Global,
-    store: &Store,
-    _jobs: &[Job],
+    shared: &Shared<'_, G>,
     job: &Job,
-    gate: &G,
-    queue: &VisitQueue,
     seat: &mut JobSeat,
 ) -> End
-    requires ready { IsReady store.now _jobs.now (table_of queue.now) seat.old }
-    requires job { slice_get _jobs.now seat.old.job ≡ Some job.now }
+    requires ready { IsReadyIn shared.now seat.old }
+    requires job { slice_get shared.now.task.now.jobs.now seat.old.job ≡ Some job.now }
     ensures same { (seat.new.table ≡ seat.old.table) × (seat.new.closed ≡ false) }
-    ensures close { Allowed seat.new.hand.course (Item.Close seat.new.job seat.new.next result) }
+    ensures close { Allowed seat.new.pass.course (Item.Close seat.new.job seat.new.next result) }
 {
     course_of_jobs();
     let number = seat.job();
-    let Ok(walk) = Walk::new(alloc, store, job, number) else {
+    let Ok(walk) = Walk::new(alloc, shared.task.store, job, number) else {
         return End::Memory;
     };
     for item in walk {
         match item {
             Ok(visit) => {
-                gate.pass(number, visit.seq);
-                queue.put(rt, seat, Item::Visit(visit));
+                shared.task.gate.pass(number, visit.seq);
+                shared.queue.put(rt, seat, Item::Visit(visit));
             }
             Err(WalkStop::Limit) => return End::Limit,
             Err(WalkStop::Memory) => return End::Memory,
@@ -49,49 +46,36 @@ fn put_visits<R: Wait, G: Gate>(
 }
 
 // Walks the seat's job: puts its visits, and then the close.
-fn walk_job<R: Wait, G: Gate>(
-    rt: &R,
-    alloc: Global,
-    store: &Store,
-    jobs: &[Job],
-    gate: &G,
-    queue: &VisitQueue,
-    seat: JobSeat,
-)
-    requires { IsReady store.now jobs.now (table_of queue.now) seat }
+fn walk_job<R: Wait, G: Gate>(rt: &R, alloc: Global, shared: &Shared<'_, G>, seat: JobSeat)
+    requires { IsReadyIn shared.now seat }
 {
     let mut seat = seat;
     let number = seat.job() as usize;
-    let job = &jobs[number];
-    let end = put_visits(rt, alloc, store, jobs, job, gate, queue, &mut seat);
+    let job = &shared.task.jobs[number];
+    let end = put_visits(rt, alloc, shared, job, &mut seat);
     let close = Item::Close {
         job: seat.job(),
         seq: seat.next(),
         end,
     };
-    queue.put(rt, &mut seat, close);
+    shared.queue.put(rt, &mut seat, close);
 }
 
 // Claims jobs and walks them, until all are claimed.
 fn walk_claimed<R: Wait, G: Gate>(
     rt: &R,
     alloc: Global,
-    store: &Store,
-    jobs: &[Job],
-    gate: &G,
-    queue: &VisitQueue,
-    claims: &Claims<JobSeat>,
+    shared: &Shared<'_, G>,
     claimer: ClaimSeat<JobSeat>,
 )
-    requires seats { All (IsReady store.now jobs.now (table_of queue.now)) claims.now.values }
-    requires claimer { claimer.of ≡ claims.now }
+    requires { CanClaim shared.now claimer }
 {
     let mut claimer = claimer;
     for _ in rt.forever() {
-        let Some((_, seat)) = claims.claim(&mut claimer) else {
+        let Some((_, seat)) = shared.claims.claim(&mut claimer) else {
             return;
         };
-        walk_job(rt, alloc, store, jobs, gate, queue, seat);
+        walk_job(rt, alloc, shared, seat);
     }
     unreachable!()
 }
@@ -101,21 +85,16 @@ fn start_walker<'s, 'e, R: Threads + Wait + Sync + 'e, G: Gate + Sync + 'e>(
     scope: &'s Scope<'s, &'e ()>,
     rt: &'e R,
     alloc: Global,
-    store: &'e Store,
-    jobs: &'e [Job],
-    gate: &'e G,
-    queue: &'e VisitQueue,
-    claims: &'e Claims<JobSeat>,
+    shared: &'e Shared<'e, G>,
     claimer: ClaimSeat<JobSeat>,
 ) -> bool
-    requires seats { All (IsReady store.now jobs.now (table_of queue.now)) claims.now.values }
-    requires claimer { claimer.of ≡ claims.now }
+    requires { CanClaim shared.now claimer }
 {
     scope
         .spawn(
             move ||
-                requires { All (IsReady store.now jobs.now (table_of queue.now)) claims.now.values × (claimer.of ≡ claims.now) }
-            { walk_claimed(rt, alloc, store, jobs, gate, queue, claims, claimer) },
+                requires { CanClaim shared.now claimer }
+            { walk_claimed(rt, alloc, shared, claimer) },
         )
         .is_ok()
 }
@@ -125,19 +104,15 @@ pub(crate) fn start_walkers<'s, 'e, R: Threads + Wait + Sync + 'e, G: Gate + Syn
     scope: &'s Scope<'s, &'e ()>,
     rt: &'e R,
     alloc: Global,
-    store: &'e Store,
-    jobs: &'e [Job],
-    gate: &'e G,
-    queue: &'e VisitQueue,
-    claims: &'e Claims<JobSeat>,
+    shared: &'e Shared<'e, G>,
     claimers: Vec<ClaimSeat<JobSeat>>,
 ) -> bool
-    requires seats { All (IsReady store.now jobs.now (table_of queue.now)) claims.now.values }
-    requires claimers { All (λ s. s.of ≡ claims.now) claimers.items }
+    requires seats { AreReady shared.now }
+    requires claimers { All (λ s. s.of ≡ shared.now.claims.now) claimers.items }
 {
     let mut started = false;
     for claimer in claimers {
-        started |= start_walker(scope, rt, alloc, store, jobs, gate, queue, claims, claimer);
+        started |= start_walker(scope, rt, alloc, shared, claimer);
     }
     started
 }

@@ -30,6 +30,10 @@ pub record Told : Type 0 where
   pub failed : List Delivery
   pub pairs : List (ℕ × ℕ)
 
+-- what this sink was told, and the pairs that this check has checked
+abbrev pub told_by : {S C : Type 0} → (S → List Event) → (S → List Delivery) → (C → List (ℕ × ℕ)) → S → C → Told
+told_by events failed checked sink check = record { events = events sink; failed = failed sink; pairs = checked check }
+
 -- a sink takes a delivery as long as no write failed
 abbrev pub CanHand : SinkState → List Event → List Delivery → Type 0
 CanHand Taking events failed = IsOpen events × (failed ≡ [])

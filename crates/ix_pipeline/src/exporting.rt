@@ -5,24 +5,13 @@ ghost use Rattle.std.specs.Arc.{arc_value};
 ghost use Rattle.ix_pipeline.specs.Headline.{EachDelivered, EachArchived, EachFresh, EachKept, EachUnused, IsCheckedOnce, NoneOrAllStart, checked_by};
 ghost use Rattle.ix_pipeline.specs.Planned.{IsPlan};
 
-use crate::plan::Plan;
-use ix_car::law::faithful_is_archived;
-use ix_car::{End, Sink};
+use ix_car::{Sink, law};
 use ix_check::Check;
-use ix_flow::{Flown, Gate, Prepared, Sizes, flow};
+use ix_flow::{Gate, Outcome, Plan, Prepared, Task, flow};
 use ix_walk::{Job, Store};
 use std::alloc::Global;
 use std::sync::{Arc, Wait};
 use std::thread::Threads;
-
-/// What an export leaves.
-#[derive(Drop)]
-pub struct Outcome<C> {
-    /// The checks of the verifiers that were started, in the order in which they were handed in.
-    pub checks: Vec<C>,
-    /// How each job ended, in the order of the jobs.
-    pub ends: Vec<End>,
-}
 
 /// An export that wasn't begun, for want of memory before any thread was started.
 #[derive(Drop)]
@@ -59,31 +48,25 @@ where
     requires unused { EachUnused C.checked checks.items }
     requires jobs { length (arc_value jobs.now).items ≤ 1000 }
     requires plan { IsPlan plan (vec_len checks) }
-    ensures delivered { IfOk result (λ out. EachDelivered S.events S.failed (arc_value store.now) 0 (arc_value jobs.now).items out.ends.items sinks.new) }
-    ensures archived { IfOk result (λ out. EachArchived S.events S.failed (arc_value store.now) 0 (arc_value jobs.now).items out.ends.items sinks.new) }
+    ensures delivered { IfOk result (λ out. EachDelivered S.events S.failed
+        (arc_value store.now) 0 (arc_value jobs.now).items out.ends.items sinks.new) }
+    ensures archived { IfOk result (λ out. EachArchived S.events S.failed
+        (arc_value store.now) 0 (arc_value jobs.now).items out.ends.items sinks.new) }
     ensures started { IfOk result (λ out. NoneOrAllStart out.ends.items) }
     ensures facts { EachKept S.fact sinks.old sinks.new }
-    ensures checked { IfOk result (λ out. IsCheckedOnce S.events (arc_value store.now) (arc_value jobs.now).items out.ends.items sinks.new (checked_by C.checked out.checks.items)) }
+    ensures checked { IfOk result (λ out. IsCheckedOnce S.events (arc_value store.now)
+        (arc_value jobs.now).items out.ends.items sinks.new (checked_by C.checked out.checks.items)) }
     ensures not_started { IfErr result (λ none. (sinks.new ≡ sinks.old) × (none.checks.items ≡ checks.items)) }
 {
-    let sizes = Sizes {
-        walkers: plan.walkers,
-        queue: plan.queue,
-        lane: plan.lane,
-    };
-    let Ok(prepared) = Prepared::new(alloc, store, jobs, sizes, checks.len()) else {
+    let Ok(prepared) = Prepared::new(alloc, store, jobs, plan, checks.len()) else {
         return Err(NotStarted { checks });
     };
-    let Flown { checks, ends } = flow(
-        rt,
-        alloc,
+    let task = Task {
         store,
-        jobs.as_slice(),
-        sinks,
-        checks,
+        jobs: jobs.as_slice(),
         gate,
-        prepared,
-    );
-    faithful_is_archived();
-    Ok(Outcome { checks, ends })
+    };
+    let outcome = flow(rt, alloc, &task, sinks, checks, prepared);
+    law::faithful_is_archived();
+    Ok(outcome)
 }

@@ -16,10 +16,8 @@
 
 mod exporting;
 mod plain;
-mod plan;
 mod sink_state;
 
-pub use exporting::{NotStarted, Outcome, export};
-pub use ix_flow::{Gate, Open};
+pub use exporting::{NotStarted, export};
+pub use ix_flow::{Gate, Open, Outcome, Plan};
 pub use plain::export_plain;
-pub use plan::Plan;

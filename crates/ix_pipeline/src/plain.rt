@@ -2,12 +2,11 @@
 
 ghost use Rattle.std.specs.Prelude.{◌≡◌, ◌≤◌, [], length, IfOk, OnErr};
 ghost use Rattle.ix_check.specs.Visits.{IsVisitOf};
-ghost use Rattle.ix_pipeline.specs.Progress.{Told, CanHand, HandsOn, Delivers, IsWalked, Exports, end_of};
+ghost use Rattle.ix_pipeline.specs.Progress.{told_by, CanHand, HandsOn, Delivers, IsWalked, Exports, end_of};
 ghost use Rattle.ix_pipeline.specs.Headline.{EachDelivered, EachArchived, Keeps, EachKept, EachFresh, IsCheckedOnce, NoneIsStart};
 
 use crate::sink_state::SinkState;
-use ix_car::law::faithful_is_archived;
-use ix_car::{End, Sink, SinkFault};
+use ix_car::{End, Sink, SinkFault, law};
 use ix_check::{Check, Verdict};
 use ix_walk::{Job, Store, Visit, Walk, WalkStop};
 use std::alloc::{AllocError, Global};
@@ -26,11 +25,14 @@ pub fn export_plain<S: Sink, C: Check>(
     requires fresh { EachFresh S.events S.failed sinks.old }
     requires unused { C.checked check.old ≡ [] }
     requires jobs { length jobs.now ≤ 1000 }
-    ensures delivered { IfOk result (λ ends. EachDelivered S.events S.failed store.now 0 jobs.now ends.items sinks.new) }
-    ensures archived { IfOk result (λ ends. EachArchived S.events S.failed store.now 0 jobs.now ends.items sinks.new) }
+    ensures delivered { IfOk result (λ ends.
+        EachDelivered S.events S.failed store.now 0 jobs.now ends.items sinks.new) }
+    ensures archived { IfOk result (λ ends.
+        EachArchived S.events S.failed store.now 0 jobs.now ends.items sinks.new) }
     ensures started { IfOk result (λ ends. NoneIsStart ends.items) }
     ensures facts { EachKept S.fact sinks.old sinks.new }
-    ensures checked { IfOk result (λ ends. IsCheckedOnce S.events store.now jobs.now ends.items sinks.new (C.checked check.new)) }
+    ensures checked { IfOk result (λ ends.
+        IsCheckedOnce S.events store.now jobs.now ends.items sinks.new (C.checked check.new)) }
     ensures untouched { OnErr result ((sinks.new ≡ sinks.old) × (C.checked check.new ≡ [])) }
 {
     let mut ends = Vec::with_capacity(alloc, jobs.len())?;
@@ -38,7 +40,7 @@ pub fn export_plain<S: Sink, C: Check>(
         let end = export_job(alloc, store, &jobs[number], number as u32, sink, check);
         ends.push_reserved(end);
     }
-    faithful_is_archived();
+    law::faithful_is_archived();
     Ok(ends)
 }
 
@@ -53,7 +55,8 @@ fn export_job<S: Sink, C: Check>(
 ) -> End
     requires events { S.events sink.old ≡ [] }
     requires failed { S.failed sink.old ≡ [] }
-    ensures exported { Exports store.now number job.now result (S.events sink.new) (S.failed sink.new) (C.checked check.old) (C.checked check.new) }
+    ensures exported { Exports store.now number job.now result
+        (S.events sink.new) (S.failed sink.new) (C.checked check.old) (C.checked check.new) }
     ensures kept { Keeps S.fact sink.old sink.new }
 {
     let end = walk_job(alloc, store, job, number, sink, check).unwrap_or(End::Memory);
@@ -73,7 +76,8 @@ fn walk_job<S: Sink, C: Check>(
 ) -> Result<End, AllocError>
     requires events { S.events sink.old ≡ [] }
     requires failed { S.failed sink.old ≡ [] }
-    ensures walked { IsWalked store.now number job.now (end_of result) (C.checked check.old) (record { events = S.events sink.new; failed = S.failed sink.new; pairs = C.checked check.new }) }
+    ensures walked { IsWalked store.now number job.now (end_of result) (C.checked check.old)
+        (told_by S.events S.failed C.checked sink.new check.new) }
     ensures kept { Keeps S.fact sink.old sink.new }
 {
     let mut state = SinkState::Taking;
@@ -99,7 +103,9 @@ fn hand_on<S: Sink, C: Check>(
 ) -> Result<SinkState, AllocError>
     requires visit { IsVisitOf store.now visit }
     requires can { CanHand state (S.events sink.old) (S.failed sink.old) }
-    ensures handed { HandsOn store.now visit state (record { events = S.events sink.old; failed = S.failed sink.old; pairs = C.checked check.old }) result (record { events = S.events sink.new; failed = S.failed sink.new; pairs = C.checked check.new }) }
+    ensures handed { HandsOn store.now visit state
+        (told_by S.events S.failed C.checked sink.old check.old) result
+        (told_by S.events S.failed C.checked sink.new check.new) }
     ensures kept { Keeps S.fact sink.old sink.new }
 {
     let verdict = check.check(alloc, store, &visit)?;
@@ -116,7 +122,8 @@ fn deliver_one<S: Sink>(
     sink: &mut S,
 ) -> Result<SinkState, AllocError>
     requires can { CanHand state (S.events sink.old) (S.failed sink.old) }
-    ensures delivered { Delivers (record { visit = visit; verdict = verdict }) state (S.events sink.old) (S.failed sink.old) result (S.events sink.new) (S.failed sink.new) }
+    ensures delivered { Delivers (record { visit = visit; verdict = verdict }) state
+        (S.events sink.old) (S.failed sink.old) result (S.events sink.new) (S.failed sink.new) }
     ensures kept { Keeps S.fact sink.old sink.new }
 {
     if state == SinkState::Failed {

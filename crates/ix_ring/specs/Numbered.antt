@@ -63,6 +63,10 @@ module _ {T : Type 0} where
   IsMemory (Taken x) = ⊥
   IsMemory (Memory x) = Unit {0}
 
+  -- the next item isn't there, and nothing changed
+  abbrev pub HasNoNext : Numbered T → Numbered T → Type 0
+  HasNoNext old new = (new ≡ old) × (found old old.next ≡ None)
+
   -- the next item came out
   abbrev pub IsPopped : Numbered T → T → Numbered T → Type 0
   IsPopped old x new = (found old old.next ≡ Some x) × (new.next ≡ old.next + 1) × (found new old.next ≡ None) × IsSameBeside old.next old new

@@ -1,7 +1,7 @@
 //! Items by number, in a window that moves on.
 
 ghost use Rattle.std.specs.Prelude.{◌≡◌, ◌<◌, ◌≤◌, ◌+◌, ◌-◌, ℕ, [], length, slice_set, drop, IfOk, OnOk, OnErr, IfErr, MatchOption, MatchBool, None, Some};
-ghost use Rattle.ix_ring.specs.Numbered.{slot, found, IsHeldWithin, IsPlaced, IsRefused, IsPopped};
+ghost use Rattle.ix_ring.specs.Numbered.{slot, HasNoNext, IsHeldWithin, IsPlaced, IsRefused, IsPopped};
 
 use crate::fault::RingFault;
 use circular_buffer::HeapCircularBuffer;
@@ -124,7 +124,7 @@ impl<T: Drop> Ring<T> {
 
     /// Gives the item numbered `next`, and the number behind it is then the next.
     pub fn pop(&mut self) -> Option<T>
-        ensures popped { MatchOption result ((self.new ≡ self.old) × (found self.old self.old.next ≡ None)) (λ item. IsPopped self.old item self.new) }
+        ensures popped { MatchOption result (HasNoNext self.old self.new) (λ item. IsPopped self.old item self.new) }
         ensures within { self.new.next ≤ 4294967296 }
     {
         if !is_taken(&self.window, 0) {

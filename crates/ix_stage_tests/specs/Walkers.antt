@@ -7,7 +7,7 @@ use Rattle.ix_stages.specs.Seats.{JobView, SeatView}
 
 -- a seat of the queue, of which nothing was put so far
 abbrev pub CanWalk : VisitQueue → List JobVisits → JobView → Type 0
-CanWalk queue course s = (s.table ≡ table_of queue) × (s.hand.course ≡ course) × (s.next ≡ 0) × (s.closed ≡ false)
+CanWalk queue course s = (s.table ≡ table_of queue) × (s.pass.course ≡ course) × (s.next ≡ 0) × (s.closed ≡ false)
 
 -- a seat of the queue that puts, and one that takes
 abbrev pub IsWalker : VisitQueue → JobView → Type 0

@@ -170,11 +170,11 @@ fn notes_the_last(rt: &impl Abort, alloc: Global, items: &[Sent]) -> Result<(), 
         return Err("an item was wanted".into());
     };
     receive_all(alloc, &mut collector, &mut logs, before)?;
-    assert!(rt; !collector.is_noted());
+    assert!(rt; !collector.has_stray());
     let told = (logs[0].deliveries.len(), logs[0].closed);
     let item = item_of(alloc, last)?;
     collector.receive(alloc, item, &mut logs);
-    assert!(rt; collector.is_noted());
+    assert!(rt; collector.has_stray());
     assert!(rt; (logs[0].deliveries.len(), logs[0].closed) == told);
     Ok(())
 }

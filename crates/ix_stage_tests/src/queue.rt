@@ -72,10 +72,10 @@ fn put_visits<R: Wait>(
     seat: &mut JobSeat,
 ) -> Result<End, AllocError>
     requires queue { seat.old.table ≡ table_of queue.now }
-    requires course { seat.old.hand.course ≡ course_of store.now _jobs.now }
+    requires course { seat.old.pass.course ≡ course_of store.now _jobs.now }
     requires fresh { (seat.old.next ≡ 0) × (seat.old.closed ≡ false) }
     requires job { slice_get _jobs.now seat.old.job ≡ Some job.now }
-    ensures same { (seat.new.table ≡ seat.old.table) × (seat.new.job ≡ seat.old.job) × (seat.new.closed ≡ false) × (seat.new.hand.course ≡ seat.old.hand.course) }
+    ensures same { (seat.new.table ≡ seat.old.table) × (seat.new.job ≡ seat.old.job) × (seat.new.closed ≡ false) × (seat.new.pass.course ≡ seat.old.pass.course) }
     ensures end { IfOk result (λ end. IsCloseOf end seat.new.next (visits_of store.now seat.old.job job.now) (is_over_limit store.now job.now)) }
 {
     course_of_jobs();
@@ -106,7 +106,7 @@ fn put_job<R: Wait>(
     seat: &mut JobSeat,
 ) -> Result<Item, AllocError>
     requires queue { seat.old.table ≡ table_of queue.now }
-    requires course { seat.old.hand.course ≡ course_of store.now jobs.now }
+    requires course { seat.old.pass.course ≡ course_of store.now jobs.now }
     requires fresh { (seat.old.next ≡ 0) × (seat.old.closed ≡ false) }
     ensures table { seat.new.table ≡ seat.old.table }
     ensures next { IfOk result (λ close. (seat.new.closed ≡ false) × IsNext seat.new close) }
@@ -133,7 +133,7 @@ fn put_walk<R: Wait>(
     seat: &mut JobSeat,
 ) -> Result<(), AllocError>
     requires queue { seat.old.table ≡ table_of queue.now }
-    requires course { seat.old.hand.course ≡ course_of store.now jobs.now }
+    requires course { seat.old.pass.course ≡ course_of store.now jobs.now }
     requires fresh { (seat.old.next ≡ 0) × (seat.old.closed ≡ false) }
     ensures { seat.new.table ≡ seat.old.table }
 {

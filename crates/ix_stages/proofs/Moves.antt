@@ -14,22 +14,22 @@ use Rattle.ix_stages.specs.declared.item.Item.{Item}
 use Rattle.ix_stages.specs.declared.item.Item.TheVariants as item
 use Rattle.ix_walk.specs.declared.visit.Visit.{Visit}
 use Rattle.ix_stages.specs.declared.course.JobVisits.{JobVisits}
-use Rattle.ix_stages.specs.declared.hand.Hand.{Hand}
+use Rattle.ix_stages.specs.declared.pass_view.PassView.{PassView}
 use Rattle.ix_stages.specs.Items.{is_of, seq_of, numbers, count_up, Rises, concat}
 use Rattle.ix_stages.specs.Received.{weigh}
 use Rattle.ix_stages.specs.Sent.{is_item, is_end}
 use Rattle.ix_stages.specs.Course.{Allowed, IsPut, times, ends, opened, course_visits, IsWellTaken}
 use Rattle.ix_stages.specs.Seats.{IsTake}
-use Rattle.ix_stages.specs.Hands.{blank, spent, root, after_seat, job_hand, take_hand, after_put, after_take, after_join, all_put, all_taken}
+use Rattle.ix_stages.specs.PassViews.{blank, spent, root, after_seat, job_pass, take_pass, after_put, after_take, after_join, all_put, all_taken}
 use Rattle.ix_stages.specs.QueueState.{total, Fits, Running, IsQueueState}
 use Rattle.ix_stages.proofs.Totals.{total_set, total_snoc, part_le, only, at_below, each_set, each_snoc}
 use Rattle.ix_stages.proofs.Numbers.{held, numbers-append, count_up-snoc, Rises-more, Rises-snoc, weigh-append, concat-snoc}
 
 -- a pass that isn't blank shows that the queue runs
-pub runs : (items : List Item) (views : List Hand) (port : ℕ) (v : Hand) → IsQueueState items views → get_elem? views port ≡ some v → v.blank ≡ false → Running items views
+pub runs : (items : List Item) (views : List PassView) (port : ℕ) (v : PassView) → IsQueueState items views → get_elem? views port ≡ some v → v.blank ≡ false → Running items views
 runs items views port v (inr r) at live = r
-runs items views zero v (inl b) at live = absurd (true≢false (ap (λ (u : Hand). u.blank) (some-injective blank v (ap (λ (l : List Hand). get_elem? l 0) (sym b.1) ∙ at)) ∙ live))
-runs items views (suc p) v (inl b) at live = absurd (some-ne-none v (sym (ap (λ (l : List Hand). get_elem? l (suc p)) (sym b.1) ∙ at)))
+runs items views zero v (inl b) at live = absurd (true≢false (ap (λ (u : PassView). u.blank) (some-injective blank v (ap (λ (l : List PassView). get_elem? l 0) (sym b.1) ∙ at)) ∙ live))
+runs items views (suc p) v (inl b) at live = absurd (some-ne-none v (sym (ap (λ (l : List PassView). get_elem? l (suc p)) (sym b.1) ∙ at)))
 
 -- one more that is taken
 pub All-mid : {X : Type 0} (P : X → Type 0) (xs ys : List X) (x : X) → All P (xs ++ ys) → P x → All P ((xs ++ x ∷ []) ++ ys)
@@ -46,7 +46,7 @@ mark_go k n t top e unput le = elim (ℕ_discrete k n) [
 ]
 
 -- the item of a seat is of the seat's job and has the next number; an item of no job is for the pass that has no job
-pub record MayPut (v : Hand) (x : Item) : Type 0 where
+pub record MayPut (v : PassView) (x : Item) : Type 0 where
   pub live : v.blank ≡ false
   pub part : 0 < v.parts
   pub allowed : Allowed v.course x
@@ -107,7 +107,7 @@ no_put_behind c j k put x (n, le, inr w) there =
     let z : ends j k put ≡ 0 = ap (ends j k) same ∙ opened_ends (take n (course_visits c j)) j k in
     absurd (omega arith)
 
-module _ (port : ℕ) (v : Hand) (x : Item) (may : MayPut v x) (items : List Item) (views : List Hand) (r : Running items views) (at : get_elem? views port ≡ some v) where
+module _ (port : ℕ) (v : PassView) (x : Item) (may : MayPut v x) (items : List Item) (views : List PassView) (r : Running items views) (at : get_elem? views port ≡ some v) where
   abbrev put_left : ℕ → ℕ
   put_left j = r.left j + held j x
 
@@ -121,7 +121,7 @@ module _ (port : ℕ) (v : Hand) (x : Item) (may : MayPut v x) (items : List Ite
       let z : r.left j ≡ r.left j + 0 = omega arith in
       numbers-append j items (x ∷ []) ∙ (ap (λ (b : Bool). numbers j items ++ cond b (seq_of x ∷ []) []) e ∙ (append-nil (numbers j items) ∙ (r.ordered j ∙ ap (count_up (r.head j)) z)))
 
-  held_none : (p : ℕ) (u : Hand) → get_elem? views p ≡ some u → u.maker ≡ true → (j : ℕ) → u.made ≤ j → (b : Bool) → is_of j x ≡ b → one_if b ≡ 0
+  held_none : (p : ℕ) (u : PassView) → get_elem? views p ≡ some u → u.maker ≡ true → (j : ℕ) → u.made ≤ j → (b : Bool) → is_of j x ≡ b → one_if b ≡ 0
   held_none p u e m j le false is = refl
   held_none p u e m j le true is =
       let s = ((r.fits port v at).seat j (may.own j is).0).0 in
@@ -129,7 +129,7 @@ module _ (port : ℕ) (v : Hand) (x : Item) (may : MayPut v x) (items : List Ite
       let below = at_below views port v at in
       absurd (omega arith)
 
-  put_maker : (p : ℕ) (u : Hand) → get_elem? views p ≡ some u → u.maker ≡ true → (p ≡ 0) × (length views ≡ u.made + 2) × ((j : ℕ) → u.made ≤ j → r.head j + put_left j ≡ 0)
+  put_maker : (p : ℕ) (u : PassView) → get_elem? views p ≡ some u → u.maker ≡ true → (p ≡ 0) × (length views ≡ u.made + 2) × ((j : ℕ) → u.made ≤ j → r.head j + put_left j ≡ 0)
   put_maker p u e m = let k = (r.fits p u e).maker m in (k.0, k.1, λ j le. let z = k.2 j le in let h : held j x ≡ 0 = held_none p u e m j le (is_of j x) refl in omega (arith, z, h))
 
   put_mine : Fits r.course r.all r.head put_left (length views) port (after_put v x)
@@ -149,14 +149,14 @@ module _ (port : ℕ) (v : Hand) (x : Item) (may : MayPut v x) (items : List Ite
       }
 
   -- another seat is of another job
-  put_apart : (p : ℕ) (u : Hand) → p ≢ port → get_elem? views p ≡ some u → (j : ℕ) → u.job ≡ Some j → (b : Bool) → is_of j x ≡ b → one_if b ≡ 0
+  put_apart : (p : ℕ) (u : PassView) → p ≢ port → get_elem? views p ≡ some u → (j : ℕ) → u.job ≡ Some j → (b : Bool) → is_of j x ≡ b → one_if b ≡ 0
   put_apart p u apart e j is false b = refl
   put_apart p u apart e j is true b =
       let mine = ((r.fits port v at).seat j (may.own j b).0).0 in
       let theirs = ((r.fits p u e).seat j is).0 in
       absurd (apart (theirs ∙ sym mine))
 
-  put_other : (p : ℕ) (u : Hand) → p ≢ port → get_elem? views p ≡ some u → Fits r.course r.all r.head put_left (length views) p u
+  put_other : (p : ℕ) (u : PassView) → p ≢ port → get_elem? views p ≡ some u → Fits r.course r.all r.head put_left (length views) p u
   put_other p u apart e =
       let f = r.fits p u e in
       record {
@@ -207,8 +207,8 @@ module _ (port : ℕ) (v : Hand) (x : Item) (may : MayPut v x) (items : List Ite
       let a3 = weigh-append h v.put (concat v.puts) in
       omega arith
 
-  abbrev IsShut : (ℕ → ℕ) → ℕ → ℕ → List Hand → Type 0
-  IsShut left j k hands = (r.head j + left j ≡ k + 1) × ((p : ℕ) (u : Hand) → get_elem? hands p ≡ some u → u.job ≡ Some j → 0 < ends j k u.put)
+  abbrev IsShut : (ℕ → ℕ) → ℕ → ℕ → List PassView → Type 0
+  IsShut left j k passes = (r.head j + left j ≡ k + 1) × ((p : ℕ) (u : PassView) → get_elem? passes p ≡ some u → u.job ≡ Some j → 0 < ends j k u.put)
 
   put_shut_at : (j k : ℕ) (b : Bool) → is_of j x ≡ b → 0 < total (λ u. ends j k (all_put u)) views + is_end j k x → IsShut put_left j k (set views port (after_put v x))
   put_shut_at j k false is lt =
@@ -267,7 +267,7 @@ module _ (port : ℕ) (v : Hand) (x : Item) (may : MayPut v x) (items : List Ite
         fits = λ p u e. subst (λ (n : ℕ). Fits r.course r.all r.head put_left n p u) (sym length-set_at) (each_set (λ p u. Fits r.course r.all r.head put_left (length views) p u) views port w put_mine (λ p u apart e. put_other p u apart e) p u e);
       }
 
-pub puts : (n port : ℕ) (v : Hand) (x : Item) → MayPut v x → Pushes IsQueueState n port v x (λ w. w ≡ after_put v x)
+pub puts : (n port : ℕ) (v : PassView) (x : Item) → MayPut v x → Pushes IsQueueState n port v x (λ w. w ≡ after_put v x)
 puts n port v x may items views room h at = (after_put v x, inr (put_runs port v x may items views (runs items views port v h at may.live) at), refl)
 
 -- what leaves at the front is the next of its job
@@ -291,7 +291,7 @@ rises_at true n m taken is r =
     Rises-more 0 (suc n) (m + 1) (taken ++ n ∷ []) (omega arith) s
 rises_at false n m taken is r = subst (λ (l : List ℕ). Rises 0 (m + 0) l) (sym (append-nil taken)) (Rises-more 0 m (m + 0) taken (omega arith) r)
 
-module _ (port : ℕ) (v : Hand) (x : Item) (live : v.blank ≡ false) (part : 0 < v.parts) (items : List Item) (views : List Hand) (r : Running (x ∷ items) views) (at : get_elem? views port ≡ some v) where
+module _ (port : ℕ) (v : PassView) (x : Item) (live : v.blank ≡ false) (part : 0 < v.parts) (items : List Item) (views : List PassView) (r : Running (x ∷ items) views) (at : get_elem? views port ≡ some v) where
   abbrev head_after : ℕ → ℕ
   head_after j = r.head j + held j x
 
@@ -301,7 +301,7 @@ module _ (port : ℕ) (v : Hand) (x : Item) (live : v.blank ≡ false) (part : 0
   popped : (j : ℕ) → (numbers j items ≡ count_up (head_after j) (left_after j)) × (head_after j + left_after j ≡ r.head j + r.left j) × (is_of j x ≡ true → seq_of x ≡ r.head j)
   popped j = pop_at (is_of j x) (seq_of x) (r.head j) (r.left j) (numbers j items) (r.ordered j)
 
-  take_other : (p : ℕ) (u : Hand) → get_elem? views p ≡ some u → Fits r.course r.all head_after left_after (length views) p u
+  take_other : (p : ℕ) (u : PassView) → get_elem? views p ≡ some u → Fits r.course r.all head_after left_after (length views) p u
   take_other p u e =
       let f = r.fits p u e in
       record {
@@ -362,9 +362,9 @@ module _ (port : ℕ) (v : Hand) (x : Item) (live : v.blank ≡ false) (part : 0
   take_tells : IsTake v x (after_take v x)
   take_tells =
       let f = r.fits port v at in
-      record { hand = refl; allowed = subst (λ (c : List JobVisits). Allowed c x) (sym (f.course_is part).0) (All-head (Allowed r.course) x items r.allowed); above = λ j is. subst (λ (n : ℕ). Rises 0 n (numbers j v.taken)) (sym ((popped j).2 is)) (f.rises j) }
+      record { pass = refl; allowed = subst (λ (c : List JobVisits). Allowed c x) (sym (f.course_is part).0) (All-head (Allowed r.course) x items r.allowed); above = λ j is. subst (λ (n : ℕ). Rises 0 n (numbers j v.taken)) (sym ((popped j).2 is)) (f.rises j) }
 
-pub takes : (port : ℕ) (v : Hand) → v.blank ≡ false → 0 < v.parts → Pops IsQueueState port v (IsTake v)
+pub takes : (port : ℕ) (v : PassView) → v.blank ≡ false → 0 < v.parts → Pops IsQueueState port v (IsTake v)
 takes port v live part x items views h at =
     let r = runs (x ∷ items) views port v h at live in
     (after_take v x, inr (take_runs port v x live part items views r at), take_tells port v x live part items views r at)
@@ -400,9 +400,9 @@ root_fits c n = record {
   took = All-nil (Allowed c);
 }
 
-named_at : (c : List JobVisits) (n : ℕ) (p : ℕ) (u : Hand) → get_elem? (root c n ∷ spent ∷ []) p ≡ some u → Fits c n (λ _. 0) (λ _. 0) 2 p u
-named_at c n zero u e = subst (λ (w : Hand). Fits c n (λ _. 0) (λ _. 0) 2 0 w) (some-injective (root c n) u e) (root_fits c n)
-named_at c n (suc zero) u e = subst (λ (w : Hand). Fits c n (λ _. 0) (λ _. 0) 2 1 w) (some-injective spent u e) (quiet c n 2)
+named_at : (c : List JobVisits) (n : ℕ) (p : ℕ) (u : PassView) → get_elem? (root c n ∷ spent ∷ []) p ≡ some u → Fits c n (λ _. 0) (λ _. 0) 2 p u
+named_at c n zero u e = subst (λ (w : PassView). Fits c n (λ _. 0) (λ _. 0) 2 0 w) (some-injective (root c n) u e) (root_fits c n)
+named_at c n (suc zero) u e = subst (λ (w : PassView). Fits c n (λ _. 0) (λ _. 0) 2 1 w) (some-injective spent u e) (quiet c n 2)
 named_at c n (suc (suc p)) u e = absurd (some-ne-none u (sym e))
 
 named_runs : (c : List JobVisits) (n : ℕ) → Running [] (root c n ∷ spent ∷ [])
@@ -428,12 +428,12 @@ names_go c n (suc p) at = absurd (some-ne-none blank (sym at))
 -- the course gets its name
 pub names : (c : List JobVisits) (n : ℕ) (port : ℕ) → Forks IsQueueState port blank (root c n) spent
 names c n port items views (inl b) at =
-    let at' : get_elem? (blank ∷ []) port ≡ some blank = ap (λ (l : List Hand). get_elem? l port) (sym b.1) ∙ at in
-    inr (subst (λ (y : List Item × List Hand). Running y.0 (set y.1 port (root c n) ++ spent ∷ [])) (λ i. (sym b.0 i, sym b.1 i)) (names_go c n port at'))
+    let at' : get_elem? (blank ∷ []) port ≡ some blank = ap (λ (l : List PassView). get_elem? l port) (sym b.1) ∙ at in
+    inr (subst (λ (y : List Item × List PassView). Running y.0 (set y.1 port (root c n) ++ spent ∷ [])) (λ i. (sym b.0 i, sym b.1 i)) (names_go c n port at'))
 names c n port items views (inr r) at = absurd (true≢false ((r.fits port blank at).named))
 
 -- a new seat: it has nothing, and a job's seat is that of the next number
-pub record IsNewSeat (v w : Hand) : Type 0 where
+pub record IsNewSeat (v w : PassView) : Type 0 where
   pub live : w.blank ≡ false
   pub parts : w.parts ≡ 1
   pub course : (w.course ≡ v.course) × (w.all ≡ v.all)
@@ -441,7 +441,7 @@ pub record IsNewSeat (v w : Hand) : Type 0 where
   pub job : (j : ℕ) → w.job ≡ Some j → j ≡ v.made
   pub lists : (w.put ≡ []) × (w.taken ≡ []) × (w.puts ≡ []) × (w.takens ≡ [])
 
-module _ (port : ℕ) (v w : Hand) (live : v.blank ≡ false) (makes : v.maker ≡ true) (part : 1 < v.parts) (new : IsNewSeat v w) (items : List Item) (views : List Hand) (r : Running items views) (at : get_elem? views port ≡ some v) where
+module _ (port : ℕ) (v w : PassView) (live : v.blank ≡ false) (makes : v.maker ≡ true) (part : 1 < v.parts) (new : IsNewSeat v w) (items : List Item) (views : List PassView) (r : Running items views) (at : get_elem? views port ≡ some v) where
   fork_mine : Fits r.course r.all r.head r.left (length views + 1) port (after_seat v)
   fork_mine =
       let f = r.fits port v at in
@@ -457,7 +457,7 @@ module _ (port : ℕ) (v w : Hand) (live : v.blank ≡ false) (makes : v.maker �
         took = f.took;
       }
 
-  fork_other : (p : ℕ) (u : Hand) → p ≢ port → get_elem? views p ≡ some u → Fits r.course r.all r.head r.left (length views + 1) p u
+  fork_other : (p : ℕ) (u : PassView) → p ≢ port → get_elem? views p ≡ some u → Fits r.course r.all r.head r.left (length views + 1) p u
   fork_other p u apart e =
       let f = r.fits p u e in
       record {
@@ -544,17 +544,17 @@ module _ (port : ℕ) (v w : Hand) (live : v.blank ≡ false) (makes : v.maker �
             (subst (λ (n : ℕ). Fits r.course r.all r.head r.left (length views + 1) n w) (sym m) fork_new) p u e);
       }
 
-pub forks : (port : ℕ) (v w : Hand) → v.blank ≡ false → v.maker ≡ true → 1 < v.parts → IsNewSeat v w → Forks IsQueueState port v (after_seat v) w
+pub forks : (port : ℕ) (v w : PassView) → v.blank ≡ false → v.maker ≡ true → 1 < v.parts → IsNewSeat v w → Forks IsQueueState port v (after_seat v) w
 forks port v w live makes part new items views h at = inr (fork_runs port v w live makes part new items views (runs items views port v h at live) at)
 
-pub job_seat_is_new : (v : Hand) → IsNewSeat v (job_hand v)
+pub job_seat_is_new : (v : PassView) → IsNewSeat v (job_pass v)
 job_seat_is_new v = record { live = refl; parts = refl; course = (refl, refl); maker = refl; job = λ j e. (let is : v.made ≡ j = cc in sym is); lists = (refl, refl, refl, refl) }
 
-pub take_seat_is_new : (v : Hand) → IsNewSeat v (take_hand v)
+pub take_seat_is_new : (v : PassView) → IsNewSeat v (take_pass v)
 take_seat_is_new v = record { live = refl; parts = refl; course = (refl, refl); maker = refl; job = λ j e. absurd (none_some j e); lists = (refl, refl, refl, refl) }
 
 -- a seat that may be joined: it took in no other
-pub record IsPlain (u : Hand) : Type 0 where
+pub record IsPlain (u : PassView) : Type 0 where
   pub live : u.blank ≡ false
   pub lists : (u.puts ≡ []) × (u.takens ≡ [])
 
@@ -570,7 +570,7 @@ spent_fits c n head left count port = record {
   took = All-nil (Allowed c);
 }
 
-module _ (port : ℕ) (v : Hand) (other : ℕ) (u : Hand) (live : v.blank ≡ false) (part : 0 < v.parts) (plain : IsPlain u) (items : List Item) (views : List Hand) (r : Running items views) (at : get_elem? views port ≡ some v) (apart : ¬ (other ≡ port)) (at' : get_elem? (set views port (after_join v u)) other ≡ some u) where
+module _ (port : ℕ) (v : PassView) (other : ℕ) (u : PassView) (live : v.blank ≡ false) (part : 0 < v.parts) (plain : IsPlain u) (items : List Item) (views : List PassView) (r : Running items views) (at : get_elem? views port ≡ some v) (apart : ¬ (other ≡ port)) (at' : get_elem? (set views port (after_join v u)) other ≡ some u) where
   join_was : get_elem? views other ≡ some u
   join_was = ⊎_elim (λ (t : (other ≡ port) × (after_join v u ≡ u)). absurd (apart t.0)) (λ (t : (other ≢ port) × (get_elem? views other ≡ some u)). t.1) (at_set views port other (after_join v u) u at')
 
@@ -598,7 +598,7 @@ module _ (port : ℕ) (v : Hand) (other : ℕ) (u : Hand) (live : v.blank ≡ fa
   join_total : (h : Item → ℕ) → total (λ u. weigh h (all_put u)) (set (set views port (after_join v u)) other spent) ≡ total (λ u. weigh h (all_put u)) views
   join_total h =
       let b = after_join v u in
-      let one : List Hand = set views port b in
+      let one : List PassView = set views port b in
       let s = total_set (λ u. weigh h (all_put u)) views port v b at in
       let s2 = total_set (λ u. weigh h (all_put u)) one other u spent at' in
       let a = weigh-append h v.put (concat (v.puts ++ u.put ∷ [])) in
@@ -611,7 +611,7 @@ module _ (port : ℕ) (v : Hand) (other : ℕ) (u : Hand) (live : v.blank ≡ fa
   join_runs : Running items (set (set views port (after_join v u)) other spent)
   join_runs =
       let b = after_join v u in
-      let one : List Hand = set views port b in
+      let one : List PassView = set views port b in
       let n : length views ≡ length (set one other spent) = simp length-set in
       record {
         course = r.course;
@@ -652,11 +652,11 @@ module _ (port : ℕ) (v : Hand) (other : ℕ) (u : Hand) (live : v.blank ≡ fa
             (λ p w _ e. each_set (λ p w. Fits r.course r.all r.head r.left (length views) p w) views port b join_mine (λ p w _ e. r.fits p w e) p w e) p w e);
       }
 
-pub merges : (port : ℕ) (v : Hand) (other : ℕ) (u : Hand) → v.blank ≡ false → 0 < v.parts → IsPlain u → Merges IsQueueState port v other u (after_join v u) spent
+pub merges : (port : ℕ) (v : PassView) (other : ℕ) (u : PassView) → v.blank ≡ false → 0 < v.parts → IsPlain u → Merges IsQueueState port v other u (after_join v u) spent
 merges port v other u live part plain items views h at apart at' = inr (join_runs port v other u live part plain items views (runs items views port v h at live) at apart at')
 
 -- whoever has all parts knows what the queue holds
-pub learns : (port : ℕ) (v : Hand) → v.blank ≡ false → 0 < v.parts → Learns IsQueueState port v (λ items. v.parts ≡ v.all → (h : Item → ℕ) → weigh h (all_put v) ≡ weigh h (all_taken v) + weigh h items)
+pub learns : (port : ℕ) (v : PassView) → v.blank ≡ false → 0 < v.parts → Learns IsQueueState port v (λ items. v.parts ≡ v.all → (h : Item → ℕ) → weigh h (all_put v) ≡ weigh h (all_taken v) + weigh h items)
 learns port v live part items views q at whole h =
     let r = runs items views port v q at live in
     let f = r.fits port v at in
@@ -667,7 +667,7 @@ learns port v live part items views q at whole h =
     omega (arith, p, t, b)
 
 -- whatever a pass has taken, with the seats that were joined into it, it took each number of a job at most once
-pub shares : (port : ℕ) (v : Hand) → v.blank ≡ false → Learns IsQueueState port v (λ items. (j n : ℕ) → times j n (all_taken v) ≤ 1)
+pub shares : (port : ℕ) (v : PassView) → v.blank ≡ false → Learns IsQueueState port v (λ items. (j n : ℕ) → times j n (all_taken v) ≤ 1)
 shares port v live items views q at j n =
     let r = runs items views port v q at live in
     let b = r.balanced (is_item j n) in
@@ -676,7 +676,7 @@ shares port v live items views q at j n =
     omega (arith, b, o, p)
 
 -- of a job whose close a pass has taken, with the seats that were joined into it, it took nothing behind that close
-pub lasts : (port : ℕ) (v : Hand) → v.blank ≡ false → Learns IsQueueState port v (λ items. (j k n : ℕ) → 0 < ends j k (all_taken v) → k < n → times j n (all_taken v) ≡ 0)
+pub lasts : (port : ℕ) (v : PassView) → v.blank ≡ false → Learns IsQueueState port v (λ items. (j k n : ℕ) → 0 < ends j k (all_taken v) → k < n → times j n (all_taken v) ≡ 0)
 lasts port v live items views q at j k n closed lt =
     let r = runs items views port v q at live in
     let e = r.balanced (is_end j k) in
@@ -688,7 +688,7 @@ lasts port v live items views q at j k n closed lt =
     omega (arith, b, p, none)
 
 -- whatever a pass has taken, with the seats that were joined into it, fits the course
-pub well_taken : (port : ℕ) (v : Hand) → v.blank ≡ false → 0 < v.parts → Learns IsQueueState port v (λ items. IsWellTaken v.course (all_taken v))
+pub well_taken : (port : ℕ) (v : PassView) → v.blank ≡ false → 0 < v.parts → Learns IsQueueState port v (λ items. IsWellTaken v.course (all_taken v))
 well_taken port v live part items views q at =
     let r = runs items views port v q at live in
     let f = r.fits port v at in

@@ -10,8 +10,8 @@ use Rattle.ix_stages.specs.declared.item.Item.{Item}
 use Rattle.ix_stages.specs.declared.item.Item.TheVariants as item
 use Rattle.ix_stages.specs.declared.verdicted.Verdicted.{Verdicted}
 use Rattle.ix_stages.specs.declared.verdicted.Verdicted.TheVariants.{Checked, Unchecked, Close, Last}
-use Rattle.ix_stages.specs.declared.hand.Hand.{Hand}
-use Rattle.ix_stages.specs.Hands.{after_take}
+use Rattle.ix_stages.specs.declared.pass_view.PassView.{PassView}
+use Rattle.ix_stages.specs.PassViews.{after_take}
 use Rattle.ix_stages.specs.Course.{Allowed, IsCourseOf, course_visits}
 use Rattle.ix_stages.specs.declared.lanes.LaneIn.{LaneIn}
 use Rattle.ix_stages.specs.Lanes.{SameIn}
@@ -52,14 +52,14 @@ pairs-push (Unchecked j n ∷ zs) y = pairs-push zs y
 pairs-push (Close j n end ∷ zs) y = pairs-push zs y
 pairs-push (Last ∷ zs) y = pairs-push zs y
 
-unfoldable pub put_taken : Hand → List Item → Hand
+unfoldable pub put_taken : PassView → List Item → PassView
 put_taken v t = record { blank = v.blank; parts = v.parts; course = v.course; all = v.all; maker = v.maker; made = v.made; job = v.job; put = v.put; taken = t; puts = v.puts; takens = v.takens }
 
-pub took_none : (v : Hand) → v ≡ took v []
+pub took_none : (v : PassView) → v ≡ took v []
 unfolding put_taken
 took_none v = ap (put_taken v) (sym (append-nil v.taken))
 
-pub took_more : (v : Hand) (t : List Item) (x : Item) → after_take (took v t) x ≡ took v (t ++ x ∷ [])
+pub took_more : (v : PassView) (t : List Item) (x : Item) → after_take (took v t) x ≡ took v (t ++ x ∷ [])
 unfolding put_taken
 took_more v t x = ap (put_taken v) (append_assoc v.taken t (x ∷ []))
 
@@ -68,7 +68,7 @@ same_again a b c l s = ((s.0.0 ∙ l.0.0, s.0.1 ∙ l.0.1, s.0.2 ∙ l.0.2, s.0.
 
 -- ---- what a verifier has done, and one item more
 
-abbrev pub begun : (store : Blocks) (v : Hand) (sent : List Verdicted) (checked : List (ℕ × ℕ)) → Passed store v v sent sent checked checked
+abbrev pub begun : (store : Blocks) (v : PassView) (sent : List Verdicted) (checked : List (ℕ × ℕ)) → Passed store v v sent sent checked checked
 begun store v sent checked = record {
   taken = [];
   passed = [];
@@ -80,22 +80,22 @@ begun store v sent checked = record {
 }
 
 -- the course stays
-pub same_course : (store : Blocks) (v w : Hand) (sent sent' : List Verdicted) (checked checked' : List (ℕ × ℕ)) → Passed store v w sent sent' checked checked' → w.course ≡ v.course
-same_course store v w sent sent' checked checked' did = ap (λ (h : Hand). h.course) did.took_is
+pub same_course : (store : Blocks) (v w : PassView) (sent sent' : List Verdicted) (checked checked' : List (ℕ × ℕ)) → Passed store v w sent sent' checked checked' → w.course ≡ v.course
+same_course store v w sent sent' checked checked' did = ap (λ (h : PassView). h.course) did.took_is
 
 -- what was taken next, was sent for it and was checked
-pub record Nexts (store : Blocks) (w u : Hand) (sent' sent'' : List Verdicted) (checked' checked'' : List (ℕ × ℕ)) (x : Item) (y : Verdicted) : Type 0 where
+pub record Nexts (store : Blocks) (w u : PassView) (sent' sent'' : List Verdicted) (checked' checked'' : List (ℕ × ℕ)) (x : Item) (y : Verdicted) : Type 0 where
   pub taken : IsTake w x u
   pub answers : Answers store x y
   pub sent : sent'' ≡ sent' ++ y ∷ []
   pub checked : checked'' ≡ checked' ++ pairs_of (y ∷ [])
 
-abbrev pub more : (store : Blocks) (v w u : Hand) (sent sent' sent'' : List Verdicted) (checked checked' checked'' : List (ℕ × ℕ)) (x : Item) (y : Verdicted) (did : Passed store v w sent sent' checked checked')
+abbrev pub more : (store : Blocks) (v w u : PassView) (sent sent' sent'' : List Verdicted) (checked checked' checked'' : List (ℕ × ℕ)) (x : Item) (y : Verdicted) (did : Passed store v w sent sent' checked checked')
     → Nexts store w u sent' sent'' checked' checked'' x y → Passed store v u sent sent'' checked checked''
 more store v w u sent sent' sent'' checked checked' checked'' x y did next = record {
   taken = did.taken ++ x ∷ [];
   passed = did.passed ++ y ∷ [];
-  took_is = next.taken.hand ∙ (ap (λ (h : Hand). after_take h x) did.took_is ∙ took_more v did.taken x);
+  took_is = next.taken.pass ∙ (ap (λ (h : PassView). after_take h x) did.took_is ∙ took_more v did.taken x);
   allowed = All-push (Allowed v.course) did.taken x did.allowed (subst (λ (c : List JobVisits). Allowed c x) (same_course store v w sent sent' checked checked' did) next.taken.allowed);
   answers = SentFor-push store did.taken did.passed x y did.answers next.answers;
   sent_is = next.sent ∙ (ap (λ l. l ++ y ∷ []) did.sent_is ∙ append_assoc sent did.passed (y ∷ []));
@@ -108,7 +108,7 @@ the_stop (item.Visit v) h = absurd h
 the_stop (item.Close j n end) h = absurd h
 the_stop item.Stop h = refl
 
-pub verified : (store : Blocks) (v w u : Hand) (sent sent' sent'' : List Verdicted) (checked checked' checked'' : List (ℕ × ℕ)) (x : Item) (y : Verdicted) (did : Passed store v w sent sent' checked checked')
+pub verified : (store : Blocks) (v w u : PassView) (sent sent' sent'' : List Verdicted) (checked checked' checked'' : List (ℕ × ℕ)) (x : Item) (y : Verdicted) (did : Passed store v w sent sent' checked checked')
     → All (λ x. IsStop x → ⊥) did.taken → Nexts store w u sent' sent'' checked' checked'' x y → IsStop x → IsVerified store v u sent sent'' checked checked''
 verified store v w u sent sent' sent'' checked checked' checked'' x y did none next stop = record {
   did = more store v w u sent sent' sent'' checked checked' checked'' x y did next;

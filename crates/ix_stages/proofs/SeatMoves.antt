@@ -8,11 +8,11 @@ use Rattle.ix_walk.specs.declared.visit.Visit.{Visit}
 use Rattle.ix_stages.specs.declared.item.Item.{Item}
 use Rattle.ix_stages.specs.declared.item.Item.TheVariants as item
 use Rattle.ix_stages.specs.declared.course.JobVisits.{JobVisits}
-use Rattle.ix_stages.specs.declared.hand.Hand.{Hand}
+use Rattle.ix_stages.specs.declared.pass_view.PassView.{PassView}
 use Rattle.ix_stages.specs.Items.{is_of, seq_of, count_up}
 use Rattle.ix_stages.specs.Course.{course_visits, Allowed, IsPut, opened, IsCourse}
-use Rattle.ix_stages.specs.Hands.{after_put}
-use Rattle.ix_stages.specs.Seats.{IsJobHand, next_after, closed_after}
+use Rattle.ix_stages.specs.PassViews.{after_put}
+use Rattle.ix_stages.specs.Seats.{IsJobPass, next_after, closed_after}
 use Rattle.ix_stages.proofs.Moves.{MayPut}
 use Rattle.ix_stages.proofs.Numbers.{count_up-snoc}
 
@@ -44,7 +44,7 @@ put_is c j n (item.Close k m e) le is seq may =
     (n, le, inr (e, (λ t. opened c j n ++ item.Close (i t) (seq t) e ∷ []), rw (i, seq) at may))
 put_is c j n item.Stop le is seq may = absurd (true≢false (sym is))
 
-pub may_put : (v : Hand) (j n : ℕ) (x : Item) → IsJobHand v j n false → is_of j x ≡ true → seq_of x ≡ n → Allowed v.course x → MayPut v x
+pub may_put : (v : PassView) (j n : ℕ) (x : Item) → IsJobPass v j n false → is_of j x ≡ true → seq_of x ≡ n → Allowed v.course x → MayPut v x
 may_put v j n x h is seq may =
     let put = h.while_open refl in
     let len : length v.put ≡ n = ap length put ∙ length-opened v.course j n h.small.0 in
@@ -59,8 +59,8 @@ may_put v j n x h is seq may =
       ));
     }
 
-pub next_hand : (v : Hand) (j n : ℕ) (x : Item) → IsJobHand v j n false → is_of j x ≡ true → seq_of x ≡ n → Allowed v.course x → IsJobHand (after_put v x) j (next_after n x) (closed_after x)
-next_hand v j n (item.Visit w) h is seq may =
+pub next_pass : (v : PassView) (j n : ℕ) (x : Item) → IsJobPass v j n false → is_of j x ≡ true → seq_of x ≡ n → Allowed v.course x → IsJobPass (after_put v x) j (next_after n x) (closed_after x)
+next_pass v j n (item.Visit w) h is seq may =
     let k : w.job ≡ j = grind (arith, nat_tests) in
     let at : slice_get (course_visits v.course j) n ≡ Some w = subst (λ (y : ℕ × ℕ). slice_get (course_visits v.course y.0) y.1 ≡ Some w) (λ t. (k t, seq t)) may in
     let t = take_next (course_visits v.course j) n w at in
@@ -74,7 +74,7 @@ next_hand v j n (item.Visit w) h is seq may =
       while_open = λ _. ap (λ (l : List Item). l ++ item.Visit w ∷ []) (h.while_open refl) ∙ sym (ap (map item.Visit) t.0 ∙ map-append item.Visit (take n (course_visits v.course j)) (w ∷ []));
       once_closed = λ f. absurd (true≢false (sym f));
     }
-next_hand v j n (item.Close k m e) h is seq may =
+next_pass v j n (item.Close k m e) h is seq may =
     let i : k ≡ j = grind (arith, nat_tests) in
     record {
       alone = record { live = h.alone.live; lists = h.alone.lists };
@@ -86,10 +86,10 @@ next_hand v j n (item.Close k m e) h is seq may =
       while_open = λ f. absurd (true≢false f);
       once_closed = λ _. (e, (λ t. h.while_open refl t ++ item.Close (i t) (seq t) e ∷ []), rw (i, seq) at may);
     }
-next_hand v j n item.Stop h is seq may = absurd (true≢false (sym is))
+next_pass v j n item.Stop h is seq may = absurd (true≢false (sym is))
 
 -- a Stop is of no job
-pub may_stop : (v : Hand) → v.blank ≡ false → 0 < v.parts → v.job ≡ None → MayPut v item.Stop
+pub may_stop : (v : PassView) → v.blank ≡ false → 0 < v.parts → v.job ≡ None → MayPut v item.Stop
 may_stop v live part none = record { live = live; part = part; allowed = tt; own = λ j e. absurd (true≢false (sym e)); mine = λ j e. (let q : ⊥ = cc (none, e) in absurd q) }
 
 pub next_one : (j n : ℕ) (x : Item) → is_of j x ≡ true → closed_after x ≡ false → next_after n x ≡ n + 1

@@ -3,32 +3,32 @@ use Rattle.std.proofs.Common.{◌≡◌, ◌≢◌, ℕ, zero, suc, ◌+◌, ◌
 use mathlib.Core.Option.{some, some-injective, some-ne-none}
 use lib.ListN.{get_elem?}
 use Rattle.crossbeam_queue.proofs.Lists.{at_set}
-use Rattle.ix_stages.specs.declared.hand.Hand.{Hand}
+use Rattle.ix_stages.specs.declared.pass_view.PassView.{PassView}
 use Rattle.ix_stages.specs.QueueState.{total}
 
-pub total_set : (f : Hand → ℕ) (views : List Hand) (port : ℕ) (v w : Hand) → get_elem? views port ≡ some v → total f (set views port w) + f v ≡ total f views + f w
+pub total_set : (f : PassView → ℕ) (views : List PassView) (port : ℕ) (v w : PassView) → get_elem? views port ≡ some v → total f (set views port w) + f v ≡ total f views + f w
 total_set f [] port v w e = absurd (some-ne-none v (sym e))
 total_set f (x ∷ xs) zero v w e = let p : f x ≡ f v = ap f (some-injective x v e) in omega arith
 total_set f (x ∷ xs) (suc i) v w e = let ih = total_set f xs i v w e in omega arith
 
-pub total_snoc : (f : Hand → ℕ) (views : List Hand) (w : Hand) → total f (views ++ w ∷ []) ≡ total f views + f w
+pub total_snoc : (f : PassView → ℕ) (views : List PassView) (w : PassView) → total f (views ++ w ∷ []) ≡ total f views + f w
 total_snoc f [] w = omega arith
 total_snoc f (x ∷ xs) w = let ih = total_snoc f xs w in omega arith
 
-pub part_le : (f : Hand → ℕ) (views : List Hand) (port : ℕ) (v : Hand) → get_elem? views port ≡ some v → f v ≤ total f views
+pub part_le : (f : PassView → ℕ) (views : List PassView) (port : ℕ) (v : PassView) → get_elem? views port ≡ some v → f v ≤ total f views
 part_le f [] port v e = absurd (some-ne-none v (sym e))
 part_le f (x ∷ xs) zero v e = let p : f x ≡ f v = ap f (some-injective x v e) in omega arith
 part_le f (x ∷ xs) (suc i) v e = let ih = part_le f xs i v e in omega arith
 
-pub at_below : (views : List Hand) (port : ℕ) (v : Hand) → get_elem? views port ≡ some v → port < length views
+pub at_below : (views : List PassView) (port : ℕ) (v : PassView) → get_elem? views port ≡ some v → port < length views
 at_below [] port v e = absurd (some-ne-none v (sym e))
 at_below (x ∷ xs) zero v e = omega arith
 at_below (x ∷ xs) (suc i) v e = let ih = at_below xs i v e in omega arith
 
-abbrev pub Each : (ℕ → Hand → Type 0) → List Hand → Type 0
-Each F views = (port : ℕ) (v : Hand) → get_elem? views port ≡ some v → F port v
+abbrev pub Each : (ℕ → PassView → Type 0) → List PassView → Type 0
+Each F views = (port : ℕ) (v : PassView) → get_elem? views port ≡ some v → F port v
 
-pub none_left : (f g : Hand → ℕ) (views : List Hand) → total g views ≡ 0 → Each (λ p u. g u ≡ 0 → f u ≡ 0) views → total f views ≡ 0
+pub none_left : (f g : PassView → ℕ) (views : List PassView) → total g views ≡ 0 → Each (λ p u. g u ≡ 0 → f u ≡ 0) views → total f views ≡ 0
 none_left f g [] none idle = refl
 none_left f g (x ∷ xs) none idle =
     let here : g x ≡ 0 = omega arith in
@@ -37,7 +37,7 @@ none_left f g (x ∷ xs) none idle =
     omega arith
 
 -- where one view has all of g, it has all of f
-pub only : (f g : Hand → ℕ) (views : List Hand) (port : ℕ) (v : Hand) → get_elem? views port ≡ some v → total g views ≡ g v → Each (λ p u. g u ≡ 0 → f u ≡ 0) views → total f views ≡ f v
+pub only : (f g : PassView → ℕ) (views : List PassView) (port : ℕ) (v : PassView) → get_elem? views port ≡ some v → total g views ≡ g v → Each (λ p u. g u ≡ 0 → f u ≡ 0) views → total f views ≡ f v
 only f g [] port v e all idle = absurd (some-ne-none v (sym e))
 only f g (x ∷ xs) zero v e all idle =
     let p : g x ≡ g v = ap g (some-injective x v e) in
@@ -51,16 +51,16 @@ only f g (x ∷ xs) (suc i) v e all idle =
     let ih = only f g xs i v e (omega arith) (λ p u e. idle (suc p) u e) in
     omega arith
 
-pub each_set : (F : ℕ → Hand → Type 0) (views : List Hand) (port : ℕ) (w : Hand) → F port w → ((j : ℕ) (u : Hand) → j ≢ port → get_elem? views j ≡ some u → F j u) → Each F (set views port w)
-each_set F views port w mine others j u e = ⊎_elim (λ (x : (j ≡ port) × (w ≡ u)). subst (λ (y : ℕ × Hand). F y.0 y.1) (λ i. (sym x.0 i, x.1 i)) mine)
+pub each_set : (F : ℕ → PassView → Type 0) (views : List PassView) (port : ℕ) (w : PassView) → F port w → ((j : ℕ) (u : PassView) → j ≢ port → get_elem? views j ≡ some u → F j u) → Each F (set views port w)
+each_set F views port w mine others j u e = ⊎_elim (λ (x : (j ≡ port) × (w ≡ u)). subst (λ (y : ℕ × PassView). F y.0 y.1) (λ i. (sym x.0 i, x.1 i)) mine)
     (λ (x : (j ≢ port) × (get_elem? views j ≡ some u)). others j u x.0 x.1) (at_set views port j w u e)
 
-pub at_end : (l : List Hand) (a b : Hand) (j : ℕ) → get_elem? (l ++ a ∷ []) j ≡ some b → (get_elem? l j ≡ some b) ⊎ ((j ≡ length l) × (a ≡ b))
+pub at_end : (l : List PassView) (a b : PassView) (j : ℕ) → get_elem? (l ++ a ∷ []) j ≡ some b → (get_elem? l j ≡ some b) ⊎ ((j ≡ length l) × (a ≡ b))
 at_end [] a b zero e = inr (refl, some-injective a b e)
 at_end [] a b (suc j) e = absurd (some-ne-none b (sym e))
 at_end (x ∷ xs) a b zero e = inl e
 at_end (x ∷ xs) a b (suc j) e = ⊎_elim (λ (t : get_elem? xs j ≡ some b). inl t) (λ (t : (j ≡ length xs) × (a ≡ b)). inr (ap suc t.0, t.1)) (at_end xs a b j e)
 
-pub each_snoc : (F : ℕ → Hand → Type 0) (views : List Hand) (w : Hand) → Each F views → F (length views) w → Each F (views ++ w ∷ [])
+pub each_snoc : (F : ℕ → PassView → Type 0) (views : List PassView) (w : PassView) → Each F views → F (length views) w → Each F (views ++ w ∷ [])
 each_snoc F views w old mine j u e = ⊎_elim (λ (x : get_elem? views j ≡ some u). old j u x)
-    (λ (x : (j ≡ length views) × (w ≡ u)). subst (λ (y : ℕ × Hand). F y.0 y.1) (λ i. (sym x.0 i, x.1 i)) mine) (at_end views w u j e)
+    (λ (x : (j ≡ length views) × (w ≡ u)). subst (λ (y : ℕ × PassView). F y.0 y.1) (λ i. (sym x.0 i, x.1 i)) mine) (at_end views w u j e)

@@ -3,13 +3,15 @@ pub mod Received
 pub mod Good
 pub mod Sent
 pub mod Course
-pub mod Hands
+pub mod PassViews
 pub mod QueueState
 pub mod Seats
 pub mod Queue
+pub mod Making
 pub mod Settled
 pub mod Verified
 pub mod Lanes
 pub mod Claims
 pub mod ClaimRule
 pub mod ClaimsJoined
+pub mod CourseLaws

@@ -4,18 +4,18 @@ use mathlib.Core.Option.{some}
 use lib.ListN.{get_elem?}
 use Rattle.ix_stages.specs.declared.item.Item.{Item}
 use Rattle.ix_stages.specs.declared.course.JobVisits.{JobVisits}
-use Rattle.ix_stages.specs.declared.hand.Hand.{Hand}
+use Rattle.ix_stages.specs.declared.pass_view.PassView.{PassView}
 use Rattle.ix_stages.specs.Items.{numbers, count_up, Rises}
 use Rattle.ix_stages.specs.Received.{weigh}
 use Rattle.ix_stages.specs.Course.{Allowed, IsPut, times, ends}
-use Rattle.ix_stages.specs.Hands.{blank, all_put, all_taken}
+use Rattle.ix_stages.specs.PassViews.{blank, all_put, all_taken}
 
-abbrev pub total : (Hand → ℕ) → List Hand → ℕ
+abbrev pub total : (PassView → ℕ) → List PassView → ℕ
 total f [] = 0
 total f (v ∷ vs) = f v + total f vs
 
 -- a pass among the views. For each job, head is the number that is taken next, and left how many of its items the queue holds
-pub record Fits (course : List JobVisits) (all : ℕ) (head left : ℕ → ℕ) (count port : ℕ) (v : Hand) : Type 0 where
+pub record Fits (course : List JobVisits) (all : ℕ) (head left : ℕ → ℕ) (count port : ℕ) (v : PassView) : Type 0 where
   pub named : v.blank ≡ false
   pub course_is : 0 < v.parts → (v.course ≡ course) × (v.all ≡ all)
   pub idle : v.parts ≡ 0 → (all_put v ≡ []) × (all_taken v ≡ [])
@@ -29,7 +29,7 @@ pub record Fits (course : List JobVisits) (all : ℕ) (head left : ℕ → ℕ) 
   -- whatever it has taken was allowed
   pub took : All (Allowed course) (all_taken v)
 
-pub record Running (items : List Item) (views : List Hand) : Type 0 where
+pub record Running (items : List Item) (views : List PassView) : Type 0 where
   pub course : List JobVisits
   pub all : ℕ
   pub head : ℕ → ℕ
@@ -44,9 +44,9 @@ pub record Running (items : List Item) (views : List Hand) : Type 0 where
   pub once : (j n : ℕ) → total (λ v. times j n (all_put v)) views ≤ 1
   pub fresh : (j n : ℕ) → head j + left j ≤ n → total (λ v. times j n (all_put v)) views ≡ 0
   -- nothing of a job is put behind its close
-  pub shut : (j k : ℕ) → 0 < total (λ v. ends j k (all_put v)) views → (head j + left j ≡ k + 1) × ((port : ℕ) (v : Hand) → get_elem? views port ≡ some v → v.job ≡ Some j → 0 < ends j k v.put)
-  pub fits : (port : ℕ) (v : Hand) → get_elem? views port ≡ some v → Fits course all head left (length views) port v
+  pub shut : (j k : ℕ) → 0 < total (λ v. ends j k (all_put v)) views → (head j + left j ≡ k + 1) × ((port : ℕ) (v : PassView) → get_elem? views port ≡ some v → v.job ≡ Some j → 0 < ends j k v.put)
+  pub fits : (port : ℕ) (v : PassView) → get_elem? views port ≡ some v → Fits course all head left (length views) port v
 
 -- before the course is named there is one pass and nothing else
-abbrev pub IsQueueState : List Item → List Hand → Type 0
+abbrev pub IsQueueState : List Item → List PassView → Type 0
 IsQueueState items views = ((items ≡ []) × (views ≡ blank ∷ [])) ⊎ Running items views

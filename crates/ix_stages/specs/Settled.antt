@@ -1,23 +1,33 @@
 -- What is known once seats are joined.
-use Rattle.std.specs.Prelude.{◌≡◌, ◌+◌, List, ◌++◌, length, map}
+use Rattle.std.specs.Prelude.{◌≡◌, ◌+◌, ℕ, List, ◌++◌, length, map}
 use Rattle.ix_stages.specs.declared.item.Item.{Item}
-use Rattle.ix_stages.specs.declared.hand.Hand.{Hand}
+use Rattle.ix_stages.specs.declared.pass_view.PassView.{PassView}
+use Rattle.ix_stages.specs.PassViews.{all_put, all_taken}
 use Rattle.ix_stages.specs.Items.{concat}
+use Rattle.ix_stages.specs.Received.{weigh}
 use Rattle.ix_stages.specs.Seats.{JobView, SeatView}
 
--- v took in these hands, in this order: their lists are kept apart
-pub record Settles (v : Hand) (hands : List Hand) (w : Hand) : Type 0 where
+-- v took in these passes, in this order: their lists are kept apart
+pub record Settles (v : PassView) (passes : List PassView) (w : PassView) : Type 0 where
   pub live : w.blank ≡ v.blank
-  pub parts : w.parts ≡ v.parts + length hands
+  pub parts : w.parts ≡ v.parts + length passes
   pub course : (w.course ≡ v.course) × (w.all ≡ v.all)
   pub own : (w.put ≡ v.put) × (w.taken ≡ v.taken)
-  pub puts : w.puts ≡ v.puts ++ map (λ u. u.put) hands
-  pub takens : w.takens ≡ v.takens ++ map (λ u. u.taken) hands
+  pub puts : w.puts ≡ v.puts ++ map (λ u. u.put) passes
+  pub takens : w.takens ≡ v.takens ++ map (λ u. u.taken) passes
+
+-- what the passes of these seats know
+abbrev pub passes_of : List JobView → List SeatView → List PassView
+passes_of jobs takers = map (λ s. s.pass) jobs ++ map (λ s. s.pass) takers
+
+-- where all seats were joined, whatever was put was taken, as often as it was put
+abbrev pub IsAllTaken : PassView → Type 0
+IsAllTaken v = v.parts ≡ v.all → (h : Item → ℕ) → weigh h (all_put v) ≡ weigh h (all_taken v)
 
 -- what these seats have put, seat by seat
 abbrev pub put_by : List JobView → List Item
-put_by seats = concat (map (λ s. s.hand.put) seats)
+put_by seats = concat (map (λ s. s.pass.put) seats)
 
 -- what these seats have taken, seat by seat
 abbrev pub taken_by : List SeatView → List Item
-taken_by seats = concat (map (λ s. s.hand.taken) seats)
+taken_by seats = concat (map (λ s. s.pass.taken) seats)

@@ -1,9 +1,9 @@
 //! Values that are claimed, each once, by any of several threads.
 
-ghost use Rattle.std.specs.Prelude.{◌≡◌, ◌<◌, ◌≤◌, [], ℕ, All, length, map, replicate, slice_get, true, false, IfOk, MatchOption};
+ghost use Rattle.std.specs.Prelude.{◌≡◌, ◌<◌, ◌≤◌, All, length, map, replicate, true, IfOk, MatchOption};
 ghost use Rattle.ix_stages.specs.ClaimRule.{spent, Draws, Tells};
-ghost use Rattle.ix_stages.specs.ClaimsJoined.{with_seat, HasJoined};
-ghost use Rattle.ix_stages.specs.Claims.{new_seat, with_place, at_end, all_places, some_ended, times, once_below};
+ghost use Rattle.ix_stages.specs.ClaimsJoined.{with_seat, HasJoined, IsMakerOf, IsRowOf, seat_dealt};
+ghost use Rattle.ix_stages.specs.Claims.{new_seat, HasClaimed, at_end, all_places, some_ended, EachAtMostOnceBelow, EachOnceBelow};
 
 use crate::claim_rule::{Begin, Both, ClaimView, Draw, Key, Look, OneSeat, Row, Whole};
 use atomic_table::{Seat, Table};
@@ -66,9 +66,9 @@ fn deal<T: Drop>(
     maker: &mut Seat<Option<T>, ClaimView<T>>,
     seats: u32,
 ) -> Result<Vec<ClaimSeat<T>>, AllocError>
-    requires table { (maker.old.table_id ≡ row.now.shared.table_id) × (row.now.shared.table_id.words ≡ 1) }
-    requires view { (maker.old.me.0.parts ≡ seats) × (maker.old.me.0.places ≡ []) × (maker.old.me.0.refusals ≡ 0) }
-    ensures { IfOk result (λ all. all.items ≡ replicate seats (new_seat (record { table = row.now.shared.table_id; values = maker.old.me.0.values; seats = maker.old.me.0.seats }))) }
+    requires table { IsRowOf maker.old.table_id row.now.shared.table_id }
+    requires view { IsMakerOf seats maker.old.me.0 }
+    ensures { IfOk result (λ all. all.items ≡ replicate seats (seat_dealt row.now.shared.table_id maker.old.me.0)) }
 {
     let mut all = Vec::with_capacity(alloc, seats as usize)?;
     for _ in 0..seats {
@@ -80,7 +80,7 @@ fn deal<T: Drop>(
 
 // Draws the next number.
 fn draw<T: Drop>(row: &Row<T>, seat: &mut Seat<Option<T>, ClaimView<T>>) -> u64
-    requires seat { (seat.old.table_id ≡ row.now.shared.table_id) × (row.now.shared.table_id.words ≡ 1) }
+    requires seat { IsRowOf seat.old.table_id row.now.shared.table_id }
     requires view { (0 < seat.old.me.0.parts) × (seat.old.me.0.refusals ≡ 0) }
     ensures same { (seat.new.table_id ≡ seat.old.table_id) × (seat.new.id ≡ seat.old.id) }
     ensures draws { Draws seat.old.me result seat.new.me }
@@ -90,7 +90,7 @@ fn draw<T: Drop>(row: &Row<T>, seat: &mut Seat<Option<T>, ClaimView<T>>) -> u64
 
 // Looks how many numbers were drawn.
 fn look<T: Drop>(row: &Row<T>, seat: &mut Seat<Option<T>, ClaimView<T>>) -> u64
-    requires seat { (seat.old.table_id ≡ row.now.shared.table_id) × (row.now.shared.table_id.words ≡ 1) }
+    requires seat { IsRowOf seat.old.table_id row.now.shared.table_id }
     ensures { 0 < seat.old.me.0.parts → Tells seat.old.me.0 result }
 {
     row.shared.load::<Look>(seat, 0)
@@ -125,7 +125,7 @@ impl<T: Drop> Claims<T> {
     /// was answered none is answered none for ever, with no further step. It waits for nobody.
     pub fn claim(&self, seat: &mut ClaimSeat<T>) -> Option<(u32, T)>
         requires { seat.old.of ≡ self.now }
-        ensures { MatchOption result (seat.new ≡ at_end seat.old) (λ p. (slice_get self.now.values p.0 ≡ Some p.1) × (seat.old.ended ≡ false) × (seat.new ≡ with_place seat.old p.0)) }
+        ensures { MatchOption result (seat.new ≡ at_end seat.old) (λ p. HasClaimed self.now seat.old p.0 p.1 seat.new) }
     {
         if seat.ended {
             return None;
@@ -150,8 +150,8 @@ impl<T: Drop> Claims<T> {
     pub fn settle(&self, seats: Vec<ClaimSeat<T>>) -> u32
         requires { All (λ s. s.of ≡ self.now) seats.items }
         ensures within { result ≤ length self.now.values }
-        ensures once { (place : ℕ) → times place (all_places seats.items) ≤ once_below place result }
-        ensures all { length seats.items ≡ self.now.seats → (place : ℕ) → times place (all_places seats.items) ≡ once_below place result }
+        ensures once { EachAtMostOnceBelow result (all_places seats.items) }
+        ensures all { length seats.items ≡ self.now.seats → EachOnceBelow result (all_places seats.items) }
         ensures ended { some_ended seats.items ≡ true → result ≡ length self.now.values }
     {
         let (_, mut joined) = self.row.shared.load_new_seat::<Begin>(0);

@@ -1,8 +1,8 @@
 //! A lane: a bounded queue from one verifier to the collector, with one end for each.
 
-ghost use Rattle.std.specs.Prelude.{◌≡◌, ◌<◌, ◌≤◌, ◌+◌, [], ◌∷◌, ◌++◌, IfOk, IfSome, IfNone, MatchResult, MatchOption};
+ghost use Rattle.std.specs.Prelude.{◌≡◌, ◌≤◌, ◌+◌, [], IfOk, IfErr, IfSome, IfNone, OnOk, OnErr};
 ghost use mathlib.Core.List.{IsPrefix};
-ghost use Rattle.ix_stages.specs.Lanes.{sent_by, received_by, room_in, seen_in, IsLane, SameIn, SameOut};
+ghost use Rattle.ix_stages.specs.Lanes.{sent_by, received_by, room_in, seen_in, IsLane, IsNewLane, IsSameLane, HasSent, HasReceived, IsSeen, IsEmptied, SameIn, SameOut};
 
 use crate::verdicted::Verdicted;
 use rtrb::{Consumer, PopError, Producer, PushError, RingBuffer};
@@ -22,7 +22,7 @@ pub struct LaneOut {
 
 /// The two ends of a lane with room for so many items.
 pub fn lane(alloc: Global, capacity: u32) -> Result<(LaneIn, LaneOut), AllocError>
-    ensures { IfOk result (λ l. IsLane l.0 l.1 × (sent_by l.0 ≡ []) × (received_by l.1 ≡ []) × (room_in l.0 ≡ capacity) × (seen_in l.1 ≡ [])) }
+    ensures { IfOk result (λ l. IsNewLane capacity l.0 l.1) }
 {
     let (producer, consumer) = RingBuffer::new(alloc, capacity as usize)?;
     Ok((LaneIn { producer }, LaneOut { consumer }))
@@ -32,8 +32,10 @@ impl LaneIn {
     /// Sends an item. It comes back where the lane is full.
     pub fn try_send(&mut self, item: Verdicted) -> Result<(), Verdicted>
         ensures same { SameIn self.old self.new }
-        ensures sent { MatchResult result (λ _. sent_by self.new ≡ sent_by self.old ++ item ∷ []) (λ back. (back ≡ item) × (sent_by self.new ≡ sent_by self.old)) }
-        ensures room { MatchResult result (λ _. room_in self.old ≤ room_in self.new + 1) (λ _. (room_in self.old ≡ 0) × (room_in self.new ≡ 0)) }
+        ensures sent { OnOk result (HasSent self.old item self.new) }
+        ensures room { OnOk result (room_in self.old ≤ room_in self.new + 1) }
+        ensures back { IfErr result (λ back. (back ≡ item) × (sent_by self.new ≡ sent_by self.old)) }
+        ensures full { OnErr result ((room_in self.old ≡ 0) × (room_in self.new ≡ 0)) }
     {
         match self.producer.push(item) {
             Ok(()) => Ok(()),
@@ -46,8 +48,10 @@ impl LaneOut {
     /// Receives the next item, or none where the lane is empty.
     pub fn try_recv(&mut self) -> Option<Verdicted>
         ensures same { SameOut self.old self.new }
-        ensures received { MatchOption result (received_by self.new ≡ received_by self.old) (λ item. received_by self.new ≡ received_by self.old ++ item ∷ []) }
-        ensures seen { MatchOption result (seen_in self.old ≡ []) (λ item. IsPrefix (seen_in self.old) (item ∷ seen_in self.new)) }
+        ensures received { IfSome result (λ item. HasReceived self.old item self.new) }
+        ensures seen { IfSome result (λ item. IsSeen self.old item self.new) }
+        ensures none { IfNone result (received_by self.new ≡ received_by self.old) }
+        ensures empty { IfNone result (seen_in self.old ≡ []) }
     {
         match self.consumer.pop() {
             Ok(item) => Some(item),
@@ -60,10 +64,10 @@ impl LaneOut {
 /// sent was received.
 pub fn lane_rest(sender: &mut LaneIn, receiver: &mut LaneOut) -> Option<Verdicted>
     requires { IsLane sender.old receiver.old }
-    ensures same { SameIn sender.old sender.new × SameOut receiver.old receiver.new × (sent_by sender.new ≡ sent_by sender.old) }
+    ensures same { IsSameLane sender.old sender.new receiver.old receiver.new }
     ensures order { IsPrefix (received_by receiver.new) (sent_by sender.new) }
-    ensures some { IfSome result (λ item. received_by receiver.new ≡ received_by receiver.old ++ item ∷ []) }
-    ensures none { IfNone result ((received_by receiver.new ≡ received_by receiver.old) × (received_by receiver.new ≡ sent_by sender.new)) }
+    ensures some { IfSome result (λ item. HasReceived receiver.old item receiver.new) }
+    ensures none { IfNone result (IsEmptied sender.new receiver.old receiver.new) }
 {
     if receiver.consumer.slots_beside(&mut sender.producer) == 0 {
         None

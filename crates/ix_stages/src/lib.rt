@@ -19,10 +19,10 @@
 mod claim_rule;
 mod claims;
 mod course;
-mod hand;
 mod item;
 mod lanes;
 mod parts;
+mod pass_view;
 mod queue;
 mod rule;
 mod seats;

@@ -4,13 +4,13 @@ ghost use Rattle.std.specs.Prelude.{◌≡◌, ◌<◌, ◌≤◌, ◌+◌, ◌^
 ghost use Rattle.crossbeam_queue.specs.Passes.{view, IsPassOf, IsSamePass};
 ghost use Rattle.ix_stages.specs.Items.{count_up};
 ghost use Rattle.ix_stages.specs.Course.{IsCourse, course_visits};
-ghost use Rattle.ix_stages.specs.Hands.{blank};
-ghost use Rattle.ix_stages.specs.Seats.{maker_hand, new_job, new_taker, new_stop, seat_count};
-ghost use Rattle.ix_stages.specs.Queue.{table_of};
+ghost use Rattle.ix_stages.specs.PassViews.{blank};
+ghost use Rattle.ix_stages.specs.Making.{IsMaker, HasMade, IsNewQueue, job_made, taker_made};
+ghost use Rattle.ix_stages.specs.Seats.{maker_pass};
 
 use crate::course::Course;
-use crate::hand::Hand;
 use crate::item::Item;
+use crate::pass_view::PassView;
 use crate::queue::{Line, VisitQueue};
 use crate::rule::{ForJob, ForTaker, Names, Naming};
 use crate::seats::{JobSeat, StopSeat, TakeSeat};
@@ -30,26 +30,26 @@ pub struct QueueParts {
 // Gives the course its name: from here on each view carries it.
 fn name_course<N: Naming, K: Course>(
     line: &Line,
-    pass: &mut Pass<Item, Hand>,
+    pass: &mut Pass<Item, PassView>,
     _course: &K,
     _seats: u64,
 )
     requires pass { IsPassOf line.now pass.old × (view pass.old ≡ blank) }
     requires name { (N.course ≡ K.plan _course.now) × (N.seats ≡ _seats) }
     ensures same { IsSamePass pass.old pass.new }
-    ensures named { view pass.new ≡ maker_hand (K.plan _course.now) _seats 0 }
+    ensures named { view pass.new ≡ maker_pass (K.plan _course.now) _seats 0 }
 {
     line.another::<Names<N>>(pass);
 }
 
 // The seat of the next job.
-fn job_seat(line: &Line, pass: &mut Pass<Item, Hand>, job: u32) -> JobSeat
-    requires pass { IsPassOf line.now pass.old × (view pass.old ≡ maker_hand (view pass.old).course (view pass.old).all job) }
+fn job_seat(line: &Line, pass: &mut Pass<Item, PassView>, job: u32) -> JobSeat
+    requires pass { IsMaker line.now pass.old job }
     requires parts { job + 1 < (view pass.old).all }
     requires course { length (course_visits (view pass.old).course job) ≤ 1000000 }
     ensures same { IsSamePass pass.old pass.new }
-    ensures made { view pass.new ≡ maker_hand (view pass.old).course (view pass.old).all (job + 1) }
-    ensures seat { result ≡ new_job line.now.table.shared.table_id (view pass.old).course (view pass.old).all job }
+    ensures made { HasMade pass.old pass.new (job + 1) }
+    ensures seat { result ≡ job_made line.now pass.old job }
 {
     JobSeat {
         pass: line.another::<ForJob>(pass),
@@ -60,12 +60,12 @@ fn job_seat(line: &Line, pass: &mut Pass<Item, Hand>, job: u32) -> JobSeat
 }
 
 // One seat that takes.
-fn take_seat(line: &Line, pass: &mut Pass<Item, Hand>, _made: u32) -> TakeSeat
-    requires pass { IsPassOf line.now pass.old × (view pass.old ≡ maker_hand (view pass.old).course (view pass.old).all _made) }
+fn take_seat(line: &Line, pass: &mut Pass<Item, PassView>, _made: u32) -> TakeSeat
+    requires pass { IsMaker line.now pass.old _made }
     requires parts { _made + 1 < (view pass.old).all }
     ensures same { IsSamePass pass.old pass.new }
-    ensures made { view pass.new ≡ maker_hand (view pass.old).course (view pass.old).all (_made + 1) }
-    ensures seat { result ≡ new_taker line.now.table.shared.table_id (view pass.old).course (view pass.old).all }
+    ensures made { HasMade pass.old pass.new (_made + 1) }
+    ensures seat { result ≡ taker_made line.now pass.old }
 {
     TakeSeat {
         pass: line.another::<ForTaker>(pass),
@@ -75,15 +75,15 @@ fn take_seat(line: &Line, pass: &mut Pass<Item, Hand>, _made: u32) -> TakeSeat
 // One seat for each job.
 fn job_seats(
     line: &Line,
-    pass: &mut Pass<Item, Hand>,
+    pass: &mut Pass<Item, PassView>,
     alloc: Global,
     jobs: u32,
 ) -> Result<Vec<JobSeat>, AllocError>
-    requires pass { IsPassOf line.now pass.old × (view pass.old ≡ maker_hand (view pass.old).course (view pass.old).all 0) }
+    requires pass { IsMaker line.now pass.old 0 }
     requires parts { jobs < (view pass.old).all }
     requires course { IsCourse (view pass.old).course }
-    ensures same { OnOk result (IsSamePass pass.old pass.new × (view pass.new ≡ maker_hand (view pass.old).course (view pass.old).all jobs)) }
-    ensures seats { IfOk result (λ seats. seats.items ≡ map (new_job line.now.table.shared.table_id (view pass.old).course (view pass.old).all) (count_up 0 jobs)) }
+    ensures same { OnOk result (IsSamePass pass.old pass.new × HasMade pass.old pass.new jobs) }
+    ensures seats { IfOk result (λ s. s.items ≡ map (job_made line.now pass.old) (count_up 0 jobs)) }
 {
     let mut seats = Vec::new(alloc);
     for job in 0..jobs {
@@ -95,15 +95,15 @@ fn job_seats(
 // So many seats that take.
 fn take_seats(
     line: &Line,
-    pass: &mut Pass<Item, Hand>,
+    pass: &mut Pass<Item, PassView>,
     alloc: Global,
     jobs: u32,
     takers: u32,
 ) -> Result<Vec<TakeSeat>, AllocError>
-    requires pass { IsPassOf line.now pass.old × (view pass.old ≡ maker_hand (view pass.old).course (view pass.old).all jobs) }
+    requires pass { IsMaker line.now pass.old jobs }
     requires parts { (jobs + takers < (view pass.old).all) × (jobs + takers < 2 ^ 32) }
-    ensures same { OnOk result (IsSamePass pass.old pass.new × (view pass.new ≡ maker_hand (view pass.old).course (view pass.old).all (jobs + takers))) }
-    ensures seats { IfOk result (λ seats. seats.items ≡ replicate takers (new_taker line.now.table.shared.table_id (view pass.old).course (view pass.old).all)) }
+    ensures same { OnOk result (IsSamePass pass.old pass.new × HasMade pass.old pass.new (jobs + takers)) }
+    ensures seats { IfOk result (λ s. s.items ≡ replicate takers (taker_made line.now pass.old)) }
 {
     let mut seats = Vec::new(alloc);
     for made in 0..takers {
@@ -125,9 +125,7 @@ impl VisitQueue {
         requires capacity { 0 < capacity }
         requires course { IsCourse (K.plan course.now) × (length (K.plan course.now) ≡ jobs) }
         requires seats { jobs + takers < 2 ^ 32 }
-        ensures jobs { IfOk result (λ q. q.jobs.items ≡ map (new_job (table_of q.queue) (K.plan course.now) (seat_count jobs takers)) (count_up 0 jobs)) }
-        ensures takers { IfOk result (λ q. q.takers.items ≡ replicate takers (new_taker (table_of q.queue) (K.plan course.now) (seat_count jobs takers))) }
-        ensures stop { IfOk result (λ q. q.stop ≡ new_stop (table_of q.queue) (K.plan course.now) (seat_count jobs takers)) }
+        ensures { IfOk result (IsNewQueue (K.plan course.now) jobs takers) }
     {
         let (line, mut pass) = Line::ruled(alloc, capacity as usize)?;
         let seats = u64::from(jobs) + u64::from(takers) + 1;

@@ -1,20 +1,21 @@
 //! The queue: bounded, shared by all walkers and verifiers, under the rule of `specs/QueueState.antt`.
 
-ghost use Rattle.std.specs.Prelude.{◌≡◌, false, MatchResult, MatchOption, MatchBool};
+ghost use Rattle.std.specs.Prelude.{◌≡◌, false, OnOk, IfErr, IfSome, IfNone};
+ghost use Rattle.std.specs.Bool.{OnTrue, OnFalse};
 ghost use Rattle.ix_stages.specs.declared.item.Item.{Item};
-ghost use Rattle.ix_stages.specs.Hands.{after_put};
-ghost use Rattle.ix_stages.specs.Seats.{IsNext, IsTake, next_after, closed_after};
+ghost use Rattle.ix_stages.specs.PassViews.{after_put};
+ghost use Rattle.ix_stages.specs.Seats.{IsNext, IsSameSeat, HasPut, IsTake, closed_after};
 ghost use Rattle.ix_stages.specs.Queue.{table_of};
 
-use crate::hand::Hand;
 use crate::item::Item;
+use crate::pass_view::PassView;
 use crate::rule::{Puts, Takes, VisitRule};
 use crate::seats::{JobSeat, StopSeat, TakeSeat};
 use crate::waiting::Waiting;
 use crossbeam_queue::RuledArrayQueue;
 use std::sync::Wait;
 
-pub(crate) type Line = RuledArrayQueue<Item, Hand, VisitRule>;
+pub(crate) type Line = RuledArrayQueue<Item, PassView, VisitRule>;
 
 /// A queue of visits, closes and Stops.
 #[derive(Drop)]
@@ -37,8 +38,9 @@ impl VisitQueue {
     pub fn try_put<R: Wait>(&self, rt: &R, seat: &mut JobSeat, item: Item) -> Result<(), Item>
         requires queue { seat.old.table ≡ table_of self.now }
         requires next { (seat.old.closed ≡ false) × IsNext seat.old item }
-        ensures same { (seat.new.table ≡ seat.old.table) × (seat.new.job ≡ seat.old.job) }
-        ensures put { MatchResult result (λ _. (seat.new.hand ≡ after_put seat.old.hand item) × (seat.new.next ≡ next_after seat.old.next item) × (seat.new.closed ≡ closed_after item)) (λ x. (x ≡ item) × (seat.new ≡ seat.old)) }
+        ensures same { IsSameSeat seat.old seat.new }
+        ensures put { OnOk result (HasPut seat.old item seat.new) }
+        ensures full { IfErr result (λ back. (back ≡ item) × (seat.new ≡ seat.old)) }
     {
         let closes = is_close(&item);
         match self.line.push_as::<Puts, R>(rt, &mut seat.pass, item) {
@@ -58,7 +60,8 @@ impl VisitQueue {
     pub fn try_take<R: Wait>(&self, rt: &R, seat: &mut TakeSeat) -> Option<Item>
         requires { seat.old.table ≡ table_of self.now }
         ensures same { seat.new.table ≡ seat.old.table }
-        ensures taken { MatchOption result (seat.new.hand ≡ seat.old.hand) (λ x. IsTake seat.old.hand x seat.new.hand) }
+        ensures taken { IfSome result (λ x. IsTake seat.old.pass x seat.new.pass) }
+        ensures none { IfNone result (seat.new.pass ≡ seat.old.pass) }
     {
         self.line.pop_as::<Takes, R>(rt, &mut seat.pass)
     }
@@ -69,8 +72,8 @@ impl VisitQueue {
     pub fn put<R: Wait>(&self, rt: &R, seat: &mut JobSeat, item: Item)
         requires queue { seat.old.table ≡ table_of self.now }
         requires next { (seat.old.closed ≡ false) × IsNext seat.old item }
-        ensures same { (seat.new.table ≡ seat.old.table) × (seat.new.job ≡ seat.old.job) }
-        ensures put { (seat.new.hand ≡ after_put seat.old.hand item) × (seat.new.next ≡ next_after seat.old.next item) × (seat.new.closed ≡ closed_after item) }
+        ensures same { IsSameSeat seat.old seat.new }
+        ensures put { HasPut seat.old item seat.new }
     {
         let mut item = item;
         let mut waiting = Waiting::new();
@@ -88,7 +91,7 @@ impl VisitQueue {
     pub fn take<R: Wait>(&self, rt: &R, seat: &mut TakeSeat) -> Item
         requires { seat.old.table ≡ table_of self.now }
         ensures same { seat.new.table ≡ seat.old.table }
-        ensures taken { IsTake seat.old.hand result seat.new.hand }
+        ensures taken { IsTake seat.old.pass result seat.new.pass }
     {
         let mut waiting = Waiting::new();
         for _ in rt.forever() {
@@ -104,7 +107,8 @@ impl VisitQueue {
     pub fn try_stop<R: Wait>(&self, rt: &R, seat: &mut StopSeat) -> bool
         requires { seat.old.table ≡ table_of self.now }
         ensures same { seat.new.table ≡ seat.old.table }
-        ensures put { MatchBool result (seat.new.hand ≡ after_put seat.old.hand Item.Stop) (seat.new.hand ≡ seat.old.hand) }
+        ensures put { OnTrue result (seat.new.pass ≡ after_put seat.old.pass Item.Stop) }
+        ensures full { OnFalse result (seat.new.pass ≡ seat.old.pass) }
     {
         self.line
             .push_as::<Puts, R>(rt, &mut seat.pass, Item::Stop)

@@ -3,21 +3,21 @@
 ghost use Rattle.std.specs.Prelude.{◌≡◌, ◌+◌, ℕ, List, []};
 ghost use Rattle.ix_stages.specs.Received.{weigh};
 ghost use Rattle.ix_stages.specs.Course.{IsWellTaken};
-ghost use Rattle.ix_stages.specs.Hands.{blank, spent, root, after_seat, job_hand, take_hand, after_put, after_join, all_put, all_taken};
+ghost use Rattle.ix_stages.specs.PassViews.{blank, spent, root, after_seat, job_pass, take_pass, after_put, after_join, all_put, all_taken};
 ghost use Rattle.ix_stages.specs.QueueState.{IsQueueState};
 ghost use Rattle.ix_stages.specs.Seats.{IsTake};
 ghost use Rattle.ix_stages.specs.declared.course.JobVisits.{JobVisits};
 ghost use Rattle.ix_stages.specs.declared.item.Item.{Item};
 
-use crate::hand::Hand;
 use crate::item::Item;
+use crate::pass_view::PassView;
 use crossbeam_queue::protocol::{Join, Lesson, Outcome, Protocol, Split};
 use std::marker::{Brand, PhantomData};
 
 /// The rule of a visit queue, for any number of seats.
 pub struct VisitRule;
 
-impl Protocol<Item, Hand> for VisitRule {
+impl Protocol<Item, PassView> for VisitRule {
     ghost holds = { IsQueueState };
 
     ghost first = { blank };
@@ -41,7 +41,7 @@ pub struct Names<N> {
     of: PhantomData<N>,
 }
 
-impl<N: Naming> Split<Hand> for Names<N> {
+impl<N: Naming> Split<PassView> for Names<N> {
     ghost left = { λ v. root N.course N.seats };
 
     ghost right = { λ v. spent };
@@ -50,25 +50,25 @@ impl<N: Naming> Split<Hand> for Names<N> {
 /// The seat of the next job is made.
 pub struct ForJob;
 
-impl Split<Hand> for ForJob {
+impl Split<PassView> for ForJob {
     ghost left = { after_seat };
 
-    ghost right = { job_hand };
+    ghost right = { job_pass };
 }
 
 /// A seat that takes is made.
 pub struct ForTaker;
 
-impl Split<Hand> for ForTaker {
+impl Split<PassView> for ForTaker {
     ghost left = { after_seat };
 
-    ghost right = { take_hand };
+    ghost right = { take_pass };
 }
 
 /// A seat is joined, and its lists are kept apart.
 pub struct Joins;
 
-impl Join<Hand> for Joins {
+impl Join<PassView> for Joins {
     ghost both = { after_join };
 
     ghost spent = { spent };
@@ -77,28 +77,28 @@ impl Join<Hand> for Joins {
 /// An item is put.
 pub struct Puts;
 
-impl Outcome<Item, Hand> for Puts {
+impl Outcome<Item, PassView> for Puts {
     ghost then = { λ v x w. w ≡ after_put v x };
 }
 
-impl Lesson<Item, Hand> for Puts {
+impl Lesson<Item, PassView> for Puts {
     ghost fact = { λ v items. Unit {0} };
 }
 
 /// An item is taken. Whoever has all parts knows what the queue holds.
 pub struct Takes;
 
-impl Outcome<Item, Hand> for Takes {
+impl Outcome<Item, PassView> for Takes {
     ghost then = { IsTake };
 }
 
-impl Lesson<Item, Hand> for Takes {
+impl Lesson<Item, PassView> for Takes {
     ghost fact = { λ v items. v.parts ≡ v.all → (h : Item → ℕ) → weigh h (all_put v) ≡ weigh h (all_taken v) + weigh h items };
 }
 
 /// What was taken, with the seats that were joined, fits the course and holds nothing twice.
 pub struct Learns;
 
-impl Lesson<Item, Hand> for Learns {
+impl Lesson<Item, PassView> for Learns {
     ghost fact = { λ v items. IsWellTaken v.course (all_taken v) };
 }

@@ -1,17 +1,16 @@
 //! How the seats are joined, and what is left is taken.
 
-ghost use Rattle.std.specs.Prelude.{◌≡◌, ◌<◌, ◌++◌, ℕ, false, [], All, map, IfSome, IfNone};
-ghost use Rattle.crossbeam_queue.specs.Passes.{view, IsPassOf, IsSamePass};
-ghost use Rattle.ix_stages.specs.declared.item.Item.{Item};
-ghost use Rattle.ix_stages.specs.Received.{weigh};
+ghost use Rattle.std.specs.Prelude.{◌≡◌, ◌++◌, [], All, map, IfSome, IfNone};
+ghost use Rattle.crossbeam_queue.specs.Passes.{view, IsSamePass};
 ghost use Rattle.ix_stages.specs.Course.{IsWellTaken};
-ghost use Rattle.ix_stages.specs.Hands.{after_join, all_put, all_taken};
+ghost use Rattle.ix_stages.specs.PassViews.{after_join, all_put, all_taken};
 ghost use Rattle.ix_stages.specs.Seats.{IsTake};
-ghost use Rattle.ix_stages.specs.Settled.{Settles, put_by, taken_by};
+ghost use Rattle.ix_stages.specs.Making.{IsLivePass};
+ghost use Rattle.ix_stages.specs.Settled.{Settles, IsAllTaken, passes_of, put_by, taken_by};
 ghost use Rattle.ix_stages.specs.Queue.{table_of};
 
-use crate::hand::Hand;
 use crate::item::Item;
+use crate::pass_view::PassView;
 use crate::queue::{Line, VisitQueue};
 use crate::rule::{Joins, Learns, Takes};
 use crate::seats::{JobSeat, Rest, StopSeat, TakeSeat};
@@ -19,13 +18,13 @@ use crossbeam_queue::Pass;
 use std::sync::Wait;
 
 // Joins the seat of a job, which has taken nothing.
-fn join_job(line: &Line, pass: &mut Pass<Item, Hand>, seat: JobSeat)
-    requires pass { IsPassOf line.now pass.old × ((view pass.old).blank ≡ false) × (0 < (view pass.old).parts) }
+fn join_job(line: &Line, pass: &mut Pass<Item, PassView>, seat: JobSeat)
+    requires pass { IsLivePass line.now pass.old }
     requires seat { seat.table ≡ line.now.table.shared.table_id }
     ensures same { IsSamePass pass.old pass.new }
-    ensures joined { view pass.new ≡ after_join (view pass.old) seat.hand }
-    ensures part { seat.hand.parts ≡ 1 }
-    ensures taken { seat.hand.taken ≡ [] }
+    ensures joined { view pass.new ≡ after_join (view pass.old) seat.pass }
+    ensures part { seat.pass.parts ≡ 1 }
+    ensures taken { seat.pass.taken ≡ [] }
 {
     // Each field is named, with its type: a seat has no lock.
     let JobSeat {
@@ -35,31 +34,31 @@ fn join_job(line: &Line, pass: &mut Pass<Item, Hand>, seat: JobSeat)
         closed,
     } = seat;
     let (_, _, _): (u32, u32, bool) = (job, next, closed);
-    let other: Pass<Item, Hand> = other;
+    let other: Pass<Item, PassView> = other;
     line.absorb::<Joins>(pass, other);
 }
 
 // Joins a seat that takes, which has put nothing.
-fn join_taker(line: &Line, pass: &mut Pass<Item, Hand>, seat: TakeSeat)
-    requires pass { IsPassOf line.now pass.old × ((view pass.old).blank ≡ false) × (0 < (view pass.old).parts) }
+fn join_taker(line: &Line, pass: &mut Pass<Item, PassView>, seat: TakeSeat)
+    requires pass { IsLivePass line.now pass.old }
     requires seat { seat.table ≡ line.now.table.shared.table_id }
     ensures same { IsSamePass pass.old pass.new }
-    ensures joined { view pass.new ≡ after_join (view pass.old) seat.hand }
-    ensures part { seat.hand.parts ≡ 1 }
-    ensures put { seat.hand.put ≡ [] }
+    ensures joined { view pass.new ≡ after_join (view pass.old) seat.pass }
+    ensures part { seat.pass.parts ≡ 1 }
+    ensures put { seat.pass.put ≡ [] }
 {
     let TakeSeat { pass: other } = seat;
-    let other: Pass<Item, Hand> = other;
+    let other: Pass<Item, PassView> = other;
     line.absorb::<Joins>(pass, other);
 }
 
 // Joins the seats of jobs.
-fn join_jobs(line: &Line, pass: &mut Pass<Item, Hand>, seats: Vec<JobSeat>)
-    requires pass { IsPassOf line.now pass.old × ((view pass.old).blank ≡ false) × (0 < (view pass.old).parts) }
+fn join_jobs(line: &Line, pass: &mut Pass<Item, PassView>, seats: Vec<JobSeat>)
+    requires pass { IsLivePass line.now pass.old }
     requires seats { All (λ s. s.table ≡ line.now.table.shared.table_id) seats.items }
     ensures same { IsSamePass pass.old pass.new }
-    ensures joined { Settles (view pass.old) (map (λ s. s.hand) seats.items) (view pass.new) }
-    ensures taken { All (λ s. s.hand.taken ≡ []) seats.items }
+    ensures joined { Settles (view pass.old) (map (λ s. s.pass) seats.items) (view pass.new) }
+    ensures taken { All (λ s. s.pass.taken ≡ []) seats.items }
 {
     for seat in seats {
         join_job(line, pass, seat);
@@ -67,12 +66,12 @@ fn join_jobs(line: &Line, pass: &mut Pass<Item, Hand>, seats: Vec<JobSeat>)
 }
 
 // Joins the seats that take.
-fn join_takers(line: &Line, pass: &mut Pass<Item, Hand>, seats: Vec<TakeSeat>)
-    requires pass { IsPassOf line.now pass.old × ((view pass.old).blank ≡ false) × (0 < (view pass.old).parts) }
+fn join_takers(line: &Line, pass: &mut Pass<Item, PassView>, seats: Vec<TakeSeat>)
+    requires pass { IsLivePass line.now pass.old }
     requires seats { All (λ s. s.table ≡ line.now.table.shared.table_id) seats.items }
     ensures same { IsSamePass pass.old pass.new }
-    ensures joined { Settles (view pass.old) (map (λ s. s.hand) seats.items) (view pass.new) }
-    ensures put { All (λ s. s.hand.put ≡ []) seats.items }
+    ensures joined { Settles (view pass.old) (map (λ s. s.pass) seats.items) (view pass.new) }
+    ensures put { All (λ s. s.pass.put ≡ []) seats.items }
 {
     for seat in seats {
         join_taker(line, pass, seat);
@@ -88,14 +87,14 @@ impl VisitQueue {
         requires jobs { All (λ s. s.table ≡ table_of self.now) jobs.items }
         requires takers { All (λ s. s.table ≡ table_of self.now) takers.items }
         ensures table { result.table ≡ table_of self.now }
-        ensures joined { Settles stop.hand (map (λ s. s.hand) jobs.items ++ map (λ s. s.hand) takers.items) result.hand }
-        ensures put { all_put result.hand ≡ stop.hand.put ++ put_by jobs.items }
-        ensures taken { all_taken result.hand ≡ taken_by takers.items }
-        ensures own { result.hand.taken ≡ [] }
-        ensures good { IsWellTaken stop.hand.course (taken_by takers.items) }
+        ensures joined { Settles stop.pass (passes_of jobs.items takers.items) result.pass }
+        ensures put { all_put result.pass ≡ stop.pass.put ++ put_by jobs.items }
+        ensures taken { all_taken result.pass ≡ taken_by takers.items }
+        ensures own { result.pass.taken ≡ [] }
+        ensures good { IsWellTaken stop.pass.course (taken_by takers.items) }
     {
         let StopSeat { pass } = stop;
-        let mut pass: Pass<Item, Hand> = pass;
+        let mut pass: Pass<Item, PassView> = pass;
         join_jobs(&self.line, &mut pass, jobs);
         join_takers(&self.line, &mut pass, takers);
         self.line.learn_as::<Learns>(&mut pass);
@@ -107,14 +106,14 @@ impl VisitQueue {
     pub fn take_rest<R: Wait>(&self, rt: &R, rest: &mut Rest) -> Option<Item>
         requires { rest.old.table ≡ table_of self.now }
         ensures table { rest.new.table ≡ rest.old.table }
-        ensures some { IfSome result (λ x. IsTake rest.old.hand x rest.new.hand) }
-        ensures none { IfNone result ((rest.new.hand ≡ rest.old.hand) × (rest.old.hand.parts ≡ rest.old.hand.all → (h : Item → ℕ) → weigh h (all_put rest.old.hand) ≡ weigh h (all_taken rest.old.hand))) }
+        ensures some { IfSome result (λ x. IsTake rest.old.pass x rest.new.pass) }
+        ensures none { IfNone result ((rest.new.pass ≡ rest.old.pass) × IsAllTaken rest.old.pass) }
     {
         // A queue is one ruled queue and nothing else, and what is left of its seats one pass.
         let VisitQueue { line } = self;
         let line: &Line = line;
         let Rest { pass } = rest;
-        let pass: &mut Pass<Item, Hand> = pass;
+        let pass: &mut Pass<Item, PassView> = pass;
         line.pop_as::<Takes, R>(rt, pass)
     }
 }

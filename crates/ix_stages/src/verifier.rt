@@ -6,7 +6,7 @@ ghost use Rattle.ix_stages.specs.Lanes.{sent_by, SameIn};
 ghost use Rattle.ix_stages.specs.Queue.{table_of};
 ghost use Rattle.ix_stages.specs.Received.{pairs_of};
 ghost use Rattle.ix_stages.specs.Sent.{Answers};
-ghost use Rattle.ix_stages.specs.Verified.{IsItemOf, IsStop, IsVerified};
+ghost use Rattle.ix_stages.specs.Verified.{IsItemOf, IsStop, HasVerified};
 
 use crate::item::Item;
 use crate::lanes::LaneIn;
@@ -74,9 +74,9 @@ pub fn verify<R: Wait, C: Check>(
     check: &mut C,
 )
     requires queue { seat.old.table ≡ table_of queue.now }
-    requires course { IsCourseOf store.now seat.old.hand.course }
+    requires course { IsCourseOf store.now seat.old.pass.course }
     ensures same { (seat.new.table ≡ seat.old.table) × SameIn lane.old lane.new }
-    ensures verified { IsVerified store.now seat.old.hand seat.new.hand (sent_by lane.old) (sent_by lane.new) (C.checked check.old) (C.checked check.new) }
+    ensures verified { HasVerified C.checked store.now seat.old seat.new lane.old lane.new check.old check.new }
 {
     for _ in rt.forever() {
         let item = queue.take(rt, seat);

@@ -1,18 +1,13 @@
 use Rattle.std.proofs.Common.{refl, ◌++◌, sym, ◌∙◌}
-use Rattle.ix_collect.proofs.Kept.{kept_same, kept_trans}
 use Rattle.ix_stages.specs.Lanes.{received_by}
-use Rattle.ix_collect.proofs.Gathering.{inserts_mid, lane_same, in_trans, same_trans}
+use Rattle.ix_collect.proofs.Gathering.{inserts_mid, on_same, on_trans, lane_same, in_trans, same_trans}
 use Rattle.ix_collect.proofs.gather.drain.Goals as goal
 
 pub loop-init : goal.loop-init
 loop-init g c = record {
   lane = c.requires.lane;
   same = (((refl, refl, refl, refl), refl), ((refl, refl, refl, refl), refl), refl);
-  sinks = c.requires.sinks;
-  jobs = refl;
-  may = c.requires.may;
-  kept = kept_same g.S.Sink.fact c.args.sinks.now;
-  done = λ h. h;
+  on = on_same g.S.Sink.events g.S.Sink.failed g.S.Sink.fact c.args.collector.now c.args.sinks.now c.requires.collector;
   collected = λ store jobs before after h. h;
 }
 
@@ -27,11 +22,9 @@ loop-preserved g c =
         same_trans c.args.receiver.now c.loop.receiver c.lane_rest.new.receiver h.same.1 same.1,
         same.2 ∙ h.same.2,
       );
-      sinks = c.receive.ensures.sinks ∙ h.sinks ∙ sym c.receive.ensures.jobs;
-      jobs = c.receive.ensures.jobs ∙ h.jobs;
-      may = c.receive.ensures.may;
-      kept = kept_trans g.S.Sink.fact c.args.sinks.now c.loop.sinks c.receive.new.sinks h.kept c.receive.ensures.kept;
-      done = λ e. c.receive.ensures.done (h.done e);
+      on = (let e = c.receive.ensures in
+          on_trans g.S.Sink.events g.S.Sink.failed g.S.Sink.fact c.args.collector.now c.loop.collector c.receive.new.self c.args.sinks.now c.loop.sinks c.receive.new.sinks h.on
+          (record { sinks = e.sinks ∙ h.on.sinks ∙ sym e.jobs; jobs = e.jobs; may = e.may; kept = e.kept; done = e.done }));
       collected = λ store jobs before after begun.
           c.receive.ensures.collected store jobs (before ++ received_by c.loop.receiver ++ after) (before ++ received_by c.lane_rest.new.receiver ++ after)
           (inserts_mid before (received_by c.loop.receiver) (received_by c.lane_rest.new.receiver) after c.in-Some-lane_rest.item c.in-Some-lane_rest.ensures.some) (h.collected store jobs before after begun);

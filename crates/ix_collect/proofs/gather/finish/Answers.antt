@@ -1,11 +1,10 @@
 use Rattle.std.proofs.Common.{◌++◌, rules, refl, ◌≡◌, ◌+◌, ◌<◌, ◌≤◌, List, length, get_or, take, drop, set, ap, sym, ◌∙◌, subst, length-set, drop-set-lt, arith}
-use Rattle.ix_collect.proofs.Kept.{kept_same, kept_trans}
 use Rattle.ix_stages.specs.declared.verdicted.Verdicted.{Verdicted}
 use Rattle.ix_stages.specs.declared.lanes.LaneIn.{LaneIn}
 use Rattle.ix_stages.specs.declared.lanes.LaneOut.{LaneOut}
 use Rattle.ix_stages.specs.Lanes.{EachLane, sent_by, received_by, all_sent, all_received}
 use Rattle.ix_collect.specs.Collected.{IsCollected}
-use Rattle.ix_collect.proofs.Gathering.{front_mid, sent_set, lanes_from, before_drain, after_drain, all_drained}
+use Rattle.ix_collect.proofs.Gathering.{front_mid, on_same, on_trans, sent_set, lanes_from, before_drain, after_drain, all_drained}
 use Rattle.ix_collect.proofs.gather.finish.Goals as goal
 
 pub loop-i-init : goal.loop-i-init
@@ -14,11 +13,7 @@ loop-i-init g c = record {
   other = c.requires.size;
   lanes = c.requires.lanes;
   sent = refl;
-  sinks = c.requires.sinks;
-  jobs = refl;
-  may = c.requires.may;
-  kept = kept_same g.S.Sink.fact c.args.sinks.now;
-  done = λ h. h;
+  on = on_same g.S.Sink.events g.S.Sink.failed g.S.Sink.fact c.args.collector.now c.args.sinks.now c.requires.collector;
   collected = λ store jobs before h. h;
 }
 
@@ -41,11 +36,7 @@ loop-i-preserved g c =
       lanes = subst (λ (l : List LaneIn). EachLane l (drop (k + 1) (set c.loop-i.receivers k c.drain.new.receiver))) (sym (drop-set-lt (k + 1) c.loop-i.senders k c.drain.new.sender past))
           (subst (λ (l : List LaneOut). EachLane (drop (k + 1) c.loop-i.senders) l) (sym (drop-set-lt (k + 1) c.loop-i.receivers k c.drain.new.receiver past)) behind.1);
       sent = sent_set c.loop-i.senders k sender c.drain.new.sender at same.2 ∙ h.sent;
-      sinks = c.drain.ensures.sinks;
-      jobs = c.drain.ensures.jobs ∙ h.jobs;
-      may = c.drain.ensures.may;
-      kept = kept_trans g.S.Sink.fact c.args.sinks.now c.loop-i.sinks c.drain.new.sinks h.kept c.drain.ensures.kept;
-      done = λ e. c.drain.ensures.done (h.done e);
+      on = on_trans g.S.Sink.events g.S.Sink.failed g.S.Sink.fact c.args.collector.now c.loop-i.collector c.drain.new.collector c.args.sinks.now c.loop-i.sinks c.drain.new.sinks h.on c.drain.ensures.on;
       collected = λ store jobs front begun.
           let sent = all_sent (take k c.loop-i.senders) in
           let rest = all_received (drop (k + 1) c.loop-i.receivers) in

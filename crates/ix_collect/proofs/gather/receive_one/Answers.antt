@@ -1,15 +1,19 @@
 use Rattle.std.proofs.Common.{rules, ◌≡◌, ◌∙◌, ◌+◌, [], ◌∷◌, ◌++◌, List, ap, arith, subst, sym, length, length-append}
 use Rattle.std.specs.Prelude.{cond}
-use Rattle.ix_collect.proofs.Kept.{kept_same}
 use Rattle.ix_stages.specs.declared.verdicted.Verdicted.{Verdicted}
 use Rattle.ix_stages.specs.Lanes.{received_by}
 use Rattle.ix_collect.specs.Collected.{IsCollected, is_last, last_count}
 use Rattle.ix_collect.proofs.Goodness.{weigh_append}
-use Rattle.ix_collect.proofs.Gathering.{inserts_mid, bool_one, one_at_most}
+use Rattle.ix_collect.proofs.Gathering.{inserts_mid, on_same, bool_one, one_at_most}
 use Rattle.ix_collect.proofs.gather.receive_one.Goals as goal
 
-pub returns-in_default-clause-kept : goal.returns-in_default-clause-kept
-returns-in_default-clause-kept g c = kept_same g.S.Sink.fact c.args.sinks.now
+pub returns-in_default-clause-on : goal.returns-in_default-clause-on
+returns-in_default-clause-on g c = on_same g.S.Sink.events g.S.Sink.failed g.S.Sink.fact c.args.collector.now c.args.sinks.now c.requires
+
+pub returns-clause-on : goal.returns-clause-on
+returns-clause-on g c =
+    let e = c.receive.ensures in
+    record { sinks = e.sinks ∙ c.requires.sinks ∙ sym e.jobs; jobs = e.jobs; may = e.may; kept = e.kept; done = e.done }
 
 pub returns-in_default-clause-collected : goal.returns-in_default-clause-collected
 returns-in_default-clause-collected g c = λ store jobs before after h.

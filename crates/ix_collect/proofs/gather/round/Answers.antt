@@ -1,24 +1,19 @@
 use Rattle.std.proofs.Common.{◌++◌, ◌+◌, arith, set, rules, refl, ◌≡◌, ◌<◌, List, length, get_or, ap, sym, ◌∙◌, subst, length-set}
-use Rattle.ix_collect.proofs.Kept.{kept_same, kept_trans}
 use Rattle.ix_stages.specs.declared.verdicted.Verdicted.{Verdicted}
 use Rattle.ix_stages.specs.declared.lanes.LaneOut.{LaneOut}
 use Rattle.ix_stages.specs.Lanes.{received_by, all_received}
 use Rattle.ix_collect.specs.Collected.{IsCollected, last_count}
-use Rattle.ix_collect.proofs.Gathering.{front_mid, lasts_set, length_set, among, same_self, same_set}
+use Rattle.ix_collect.proofs.Gathering.{front_mid, on_same, on_trans, lasts_set, length_set, among, same_self, same_set}
 use Rattle.ix_collect.proofs.gather.round.Goals as goal
 
 pub loop-i-init : goal.loop-i-init
 loop-i-init g c = record {
   size = refl;
-  sinks = c.requires.sinks;
-  jobs = refl;
-  may = c.requires.may;
+  on = on_same g.S.Sink.events g.S.Sink.failed g.S.Sink.fact c.args.collector.now c.args.sinks.now c.requires;
   few = (omega arith, omega arith);
   lasts = omega arith;
   items = omega arith;
   same = same_self c.args.lanes.now;
-  kept = kept_same g.S.Sink.fact c.args.sinks.now;
-  done = λ h. h;
   collected = λ store jobs before h. h;
 }
 
@@ -42,12 +37,8 @@ loop-i-preserved g c =
           let set_is = lasts_set there.before (received_by lane) (received_by c.receive_one-received.new.lane) there.after c.receive_one-received.result.lasts c.receive_one-received.ensures.last in
           omega arith);
       size = length-set c.loop-i.lanes c.loop-i.i c.receive_one-received.new.lane ∙ h.size;
-      sinks = c.receive_one-received.ensures.sinks;
-      jobs = c.receive_one-received.ensures.jobs ∙ h.jobs;
-      may = c.receive_one-received.ensures.may;
+      on = on_trans g.S.Sink.events g.S.Sink.failed g.S.Sink.fact c.args.collector.now c.loop-i.collector c.receive_one-received.new.collector c.args.sinks.now c.loop-i.sinks c.receive_one-received.new.sinks h.on c.receive_one-received.ensures.on;
       same = same_set c.args.lanes.now c.loop-i.lanes c.loop-i.i lane c.receive_one-received.new.lane h.same at c.receive_one-received.ensures.lane;
-      kept = kept_trans g.S.Sink.fact c.args.sinks.now c.loop-i.sinks c.receive_one-received.new.sinks h.kept c.receive_one-received.ensures.kept;
-      done = λ e. c.receive_one-received.ensures.done (h.done e);
       collected = λ store jobs front begun.
           let old : front ++ all_received c.loop-i.lanes ≡ (front ++ there.before) ++ received_by lane ++ there.after = ap (λ (l : List Verdicted). front ++ l) there.old_is ∙ front_mid front there.before (received_by lane) there.after in
           let new : front ++ all_received (set c.loop-i.lanes c.loop-i.i c.receive_one-received.new.lane) ≡ (front ++ there.before) ++ received_by c.receive_one-received.new.lane ++ there.after =

@@ -21,7 +21,7 @@ close-requires g c =
 
 pub push_reserved-requires : goal.push_reserved-requires
 push_reserved-requires g c =
-    let place = c.loop-sink.invariant.counted in
+    let slot = c.loop-sink.invariant.counted in
     let size = c.loop-sink.invariant.room in
     let enough = c.requires.room.1 in
     omega arith

@@ -8,14 +8,9 @@ use Rattle.ix_flow.proofs.collecting.receive_rest.Goals as goal
 pub finish-requires-clause-size : goal.finish-requires-clause-size
 finish-requires-clause-size g c = lanes_long c.args.senders.items c.args.outs.now c.requires.lanes ∙ sym (ap length c.as_mut_slice.ensures.value)
 
-pub returns-clause-told : goal.returns-clause-told
-returns-clause-told g c =
+pub returns-clause-collected : goal.returns-clause-collected
+returns-clause-collected g c =
     let e = c.finish.ensures in
-    let told = c.requires.told in
-    record {
-      sized = e.sinks;
-      may = e.may;
-      collected = λ store jobs.
-          subst (λ (l : List Verdicted). IsCollected g.S.Sink.events g.S.Sink.failed store jobs l c.finish.new.collector c.finish.new.sinks) (e.sent ∙ ap all_sent c.as_mut_slice.ensures.value)
-          (e.collected store jobs [] (told.collected store jobs));
-    }
+    λ store jobs.
+    subst (λ (l : List Verdicted). IsCollected g.S.Sink.events g.S.Sink.failed store jobs l c.finish.new.collector c.finish.new.sinks) (e.sent ∙ ap all_sent c.as_mut_slice.ensures.value)
+    (e.collected store jobs [] (c.requires.told.collected store jobs))

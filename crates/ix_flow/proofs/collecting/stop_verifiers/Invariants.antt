@@ -1,16 +1,9 @@
-use Rattle.std.proofs.Common.{◌≡◌}
-use Rattle.ix_car.specs.Headline.{EachKept}
-use Rattle.ix_stages.specs.Lanes.{EachSameOut, all_received}
-use Rattle.ix_collect.specs.Collected.{job_count, IsDone}
-use Rattle.ix_flow.specs.Gathered.{IsTold}
+use Rattle.ix_flow.specs.Gathered.{Gathers}
+use Rattle.ix_flow.specs.Stopping.{IsSeatOf}
 use Rattle.ix_flow.proofs.collecting.stop_verifiers.Given as goal
 
 abbrev pub invariant-loop : goal.invariant-loop
 invariant-loop g l = record {
-  stop : (l.stop.table ≡ l.fn.stop.table) × (l.stop.hand.course ≡ l.fn.stop.hand.course);
-  told : IsTold g.S.Sink.events g.S.Sink.failed (all_received l.outs) l.collector l.sinks;
-  jobs : job_count l.collector ≡ job_count l.fn.collector;
-  kept : EachKept g.S.Sink.fact l.initial.sinks l.sinks;
-  lanes : EachSameOut l.initial.outs l.outs;
-  done : IsDone l.fn.collector → IsDone l.collector;
+  stop : IsSeatOf l.fn.stopper.seat l.seat;
+  gathered : Gathers g.S.Sink.events g.S.Sink.failed g.S.Sink.fact l.fn.collector l.collector l.initial.outs l.outs l.initial.sinks l.sinks;
 }

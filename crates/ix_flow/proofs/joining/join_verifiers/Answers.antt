@@ -12,7 +12,7 @@ use Rattle.ix_stages.specs.Verified.{IsVerified}
 use Rattle.ix_car.specs.Headline.{checked_by}
 use Rattle.ix_flow.specs.declared.verifying.Verifier.{Verifier}
 use Rattle.ix_flow.specs.declared.verifying.Began.{Began}
-use Rattle.ix_flow.specs.Stations.{IsBegan, EachBack}
+use Rattle.ix_flow.specs.Verifiers.{IsBegan, EachBack}
 use Rattle.ix_flow.proofs.Ends.{back_push}
 use Rattle.ix_flow.proofs.Lists.{sent_push}
 use Rattle.ix_flow.proofs.Joins.{taken_push, checked_push, sent_all, checked_all, sent_more, checked_more}
@@ -33,7 +33,7 @@ loop-handle-preserved g c =
     let lane = c.join-seat.result.lane in
     let check = c.join-seat.result.check in
     let kept = c.join-seat.ensures in
-    let did = subst (λ (s : Blocks). IsVerified s handle.promise.seat.value.hand seat.hand (sent_by handle.promise.lane.value) (sent_by lane) (checked handle.promise.check.value) (checked check)) began.store_is kept.2 in
+    let did = subst (λ (s : Blocks). IsVerified s handle.promise.verifier.value.seat.pass seat.pass (sent_by handle.promise.verifier.value.lane) (sent_by lane) (checked handle.promise.verifier.value.check) (checked check)) began.store_is kept.2 in
     let takers = c.push_reserved.ensures in
     let senders = c.push_reserved-in-loop-handle.ensures in
     let checks = c.push_reserved-in-loop-handle-2.ensures in
@@ -45,7 +45,7 @@ loop-handle-preserved g c =
       split = h.split ∙ (ap (λ (l : List (PromisedHandle (Verifier g.row.C.Denot) (Began g.row.C.Denot))). c.loop-handle.yielded ++ l) steps ∙ sym (append_assoc c.loop-handle.yielded (handle ∷ []) rest));
       began = All-tail (IsBegan checked store t) handle rest all;
       tables = subst (λ (l : List SeatView). All (λ s. s.table ≡ t) l) (sym takers.items) (All-push (λ (s : SeatView). s.table ≡ t) c.loop-handle.takers.items seat h.tables (kept.0 ∙ began.table));
-      sent = sent_more store (taken_by c.loop-handle.takers.items) _ seat.hand.taken (all_sent c.loop-handle.senders.items) _ (sent_by lane) taken_is sent_is h.sent (sent_all _ _ _ _ _ _ _ did began.taken began.sent);
+      sent = sent_more store (taken_by c.loop-handle.takers.items) _ seat.pass.taken (all_sent c.loop-handle.senders.items) _ (sent_by lane) taken_is sent_is h.sent (sent_all _ _ _ _ _ _ _ did began.taken began.sent);
       checked = checked_more (checked_by checked c.loop-handle.checks.items) _ (checked check) (all_sent c.loop-handle.senders.items) _ (sent_by lane) (ap (checked_by checked) checks.items ∙ checked_push checked c.loop-handle.checks.items check) sent_is h.checked (checked_all _ _ _ _ _ _ _ did began.sent began.unused);
       lanes = subst (λ (l : List LaneIn). EachBack (c.loop-handle.yielded ++ handle ∷ []) l) (sym senders.items) (back_push c.loop-handle.yielded c.loop-handle.senders.items handle lane h.lanes kept.1);
       takers_fit = ((let step = ap length steps in let more = takers.len in let old = h.takers_fit.0 in omega arith), takers.capacity ∙ h.takers_fit.1);

@@ -6,7 +6,7 @@ use Rattle.ix_stages.specs.Queue.{table_of}
 use Rattle.ix_stages.specs.Received.{pairs_of}
 use Rattle.ix_stages.specs.Sent.{SentFor}
 use Rattle.ix_stages.specs.Settled.{taken_by}
-use Rattle.ix_flow.specs.Stations.{IsBegan, EachBack}
+use Rattle.ix_flow.specs.Verifiers.{IsBegan, EachBack}
 use Rattle.ix_flow.proofs.joining.join_verifiers.Given as goal
 
 abbrev pub invariant-loop-handle : goal.invariant-loop-handle

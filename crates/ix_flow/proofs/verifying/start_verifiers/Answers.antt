@@ -5,11 +5,11 @@ use Rattle.std.specs.declared.thread.PromisedHandle.{PromisedHandle}
 use Rattle.ix_stages.specs.declared.lanes.LaneOut.{LaneOut}
 use Rattle.ix_stages.specs.declared.verdicted.Verdicted.{Verdicted}
 use Rattle.ix_stages.specs.Lanes.{received_by, all_received}
-use Rattle.ix_stages.specs.Queue.{table_of}
 use Rattle.ix_flow.specs.declared.verifying.Verifier.{Verifier}
 use Rattle.ix_flow.specs.declared.verifying.Began.{Began}
-use Rattle.ix_flow.specs.declared.verifying.Post.{Post}
-use Rattle.ix_flow.specs.Stations.{IsPost, IsBegan, EachOut}
+use Rattle.ix_flow.specs.declared.verifying.UnstartedVerifier.{UnstartedVerifier}
+use Rattle.ix_flow.specs.Shared.{store_of, queue_of}
+use Rattle.ix_flow.specs.Verifiers.{IsUnstarted, IsBegan, EachOut}
 use Rattle.ix_flow.proofs.Ends.{out_push}
 use Rattle.ix_flow.proofs.Lists.{received_push}
 use Rattle.ix_flow.proofs.Starts.{began_with, lane_of}
@@ -17,23 +17,23 @@ use Rattle.ix_flow.proofs.verifying.start_verifiers.Goals as goal
 
 pub start_verifier-requires-after_bounds : goal.start_verifier-requires-after_bounds
 start_verifier-requires-after_bounds g c = λ κs lives.
-    let h = c.loop-post.invariant in
-    let P = IsPost g.C.Check.checked c.args.store.now (table_of c.args.queue.now) in
-    let all = subst (λ (l : List (Post g.row.C.Denot)). All P l) c.in-Some.ensures.steps.0 h.posts in
-    let is : P c.in-Some.post = All-head P c.in-Some.post (into_iter_items c.next.new.self) all in
+    let h = c.loop-idle.invariant in
+    let P = IsUnstarted g.C.Check.checked (store_of c.args.shared.now) (queue_of c.args.shared.now) in
+    let all = subst (λ (l : List (UnstartedVerifier g.row.C.Denot)). All P l) c.in-Some.ensures.steps.0 h.unstarted in
+    let is : P c.in-Some.idle = All-head P c.in-Some.idle (into_iter_items c.next.new.self) all in
     (is.table, is.course)
 
-pub loop-post-preserved : goal.loop-post-preserved
-loop-post-preserved g c =
-    let h = c.loop-post.invariant in
-    let P = IsPost g.C.Check.checked c.args.store.now (table_of c.args.queue.now) in
+pub loop-idle-preserved : goal.loop-idle-preserved
+loop-idle-preserved g c =
+    let h = c.loop-idle.invariant in
+    let P = IsUnstarted g.C.Check.checked (store_of c.args.shared.now) (queue_of c.args.shared.now) in
     let rest = into_iter_items c.next.new.self in
     let steps = c.in-Some.ensures.steps.0 in
-    let all = subst (λ (l : List (Post g.row.C.Denot)). All P l) steps h.posts in
+    let all = subst (λ (l : List (UnstartedVerifier g.row.C.Denot)). All P l) steps h.unstarted in
     record {
       can_next = tt;
       finite = tt;
-      posts = All-tail P c.in-Some.post rest all;
+      unstarted = All-tail P c.in-Some.idle rest all;
       began = h.began;
       lanes = h.lanes;
       none = h.none;
@@ -43,18 +43,18 @@ loop-post-preserved g c =
       outs_room = h.outs_room;
     }
 
-pub loop-post-preserved-in-Some-start_verifier : goal.loop-post-preserved-in-Some-start_verifier
-loop-post-preserved-in-Some-start_verifier g c =
-    let h = c.loop-post.invariant in
+pub loop-idle-preserved-in-Some-start_verifier : goal.loop-idle-preserved-in-Some-start_verifier
+loop-idle-preserved-in-Some-start_verifier g c =
+    let h = c.loop-idle.invariant in
     let checked = g.C.Check.checked in
-    let store = c.args.store.now in
-    let t = table_of c.args.queue.now in
-    let P = IsPost checked store t in
-    let post = c.in-Some.post in
+    let store = store_of c.args.shared.now in
+    let t = queue_of c.args.shared.now in
+    let P = IsUnstarted checked store t in
+    let idle = c.in-Some.idle in
     let rest = into_iter_items c.next.new.self in
     let steps = c.in-Some.ensures.steps.0 in
-    let all = subst (λ (l : List (Post g.row.C.Denot)). All P l) steps h.posts in
-    let is : P post = All-head P post rest all in
+    let all = subst (λ (l : List (UnstartedVerifier g.row.C.Denot)). All P l) steps h.unstarted in
+    let is : P idle = All-head P idle rest all in
     let handle = c.in-Some-start_verifier.handle in
     let e = c.in-Some-start_verifier.ensures in
     let handles = c.push_reserved.ensures in
@@ -62,13 +62,13 @@ loop-post-preserved-in-Some-start_verifier g c =
     record {
       can_next = tt;
       finite = tt;
-      posts = All-tail P post rest all;
+      unstarted = All-tail P idle rest all;
       began = subst (λ (l : List (PromisedHandle (Verifier g.row.C.Denot) (Began g.row.C.Denot))). All (IsBegan checked store t) l) (sym handles.items)
-          (All-push (IsBegan checked store t) c.loop-post.handles.items handle h.began (began_with checked store t post handle is e));
+          (All-push (IsBegan checked store t) c.loop-idle.handles.items handle h.began (began_with checked store t idle handle is e));
       lanes = subst (λ (l : List LaneOut). EachOut c.push_reserved.new.self.items l) (sym outs.items)
-          (subst (λ (l : List (PromisedHandle (Verifier g.row.C.Denot) (Began g.row.C.Denot))). EachOut l (c.loop-post.outs.items ++ post.out ∷ [])) (sym handles.items)
-          (out_push c.loop-post.handles.items c.loop-post.outs.items handle post.out h.lanes (lane_of checked store t post handle is e)));
-      none = ap all_received outs.items ∙ received_push c.loop-post.outs.items post.out ∙ ap (λ (l : List Verdicted). l ++ received_by post.out) h.none ∙ is.received;
+          (subst (λ (l : List (PromisedHandle (Verifier g.row.C.Denot) (Began g.row.C.Denot))). EachOut l (c.loop-idle.outs.items ++ idle.out ∷ [])) (sym handles.items)
+          (out_push c.loop-idle.handles.items c.loop-idle.outs.items handle idle.out h.lanes (lane_of checked store t idle handle is e)));
+      none = ap all_received outs.items ∙ received_push c.loop-idle.outs.items idle.out ∙ ap (λ (l : List Verdicted). l ++ received_by idle.out) h.none ∙ is.received;
       handles = (let step = ap length steps in let more = handles.len in let old = h.handles in omega arith);
       outs = (let step = ap length steps in let more = outs.len in let old = h.outs in omega arith);
       handles_room = handles.capacity ∙ h.handles_room;

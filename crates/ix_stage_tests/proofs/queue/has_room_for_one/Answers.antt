@@ -4,7 +4,7 @@ use Rattle.ix_walk.specs.declared.fault.WalkStop.{WalkStop}
 use Rattle.ix_walk.specs.Visits.{visits_of}
 use Rattle.ix_walk.specs.WalkLeft.{WalkLeft, GivesNext}
 use Rattle.ix_stages.specs.declared.course.JobVisits.{JobVisits}
-use Rattle.ix_stages.specs.declared.hand.Hand.{Hand}
+use Rattle.ix_stages.specs.declared.pass_view.PassView.{PassView}
 use Rattle.ix_stages.specs.declared.item.Item.TheVariants as item
 use Rattle.ix_stages.specs.Course.{Allowed}
 use Rattle.ix_stage_tests.proofs.Walks.{next_of}
@@ -34,4 +34,4 @@ try_put-requires-2-clause-next g c =
     let first = next_of all seat.next c.in-Some-Ok.first c.next.new.self.visits (ap (λ (n : ℕ). drop n all) c.requires.seat.2 ∙ sym begun ∙ one.1) in
     let next = next_of all (seat.next + 1) w c.next-2.new.self.visits (first.1 ∙ two.1) in
     let may = c.course_of_jobs.ensures.visit c.args.store.now c.args.jobs.now seat.job (seat.next + 1) c.in-Some.job.now w c.in-Some.ensures next.0 in
-    (put.2, (eq-eqb w.job c.try_put.new.seat.job (may.0 ∙ sym same.1), may.1 ∙ sym put.1, subst (λ (k : List JobVisits). Allowed k (item.Visit w)) (sym (ap (λ (h : Hand). h.course) put.0 ∙ c.requires.seat.1)) may.2))
+    (put.closed, (eq-eqb w.job c.try_put.new.seat.job (may.0 ∙ sym same.1), may.1 ∙ sym put.next, subst (λ (k : List JobVisits). Allowed k (item.Visit w)) (sym (ap (λ (h : PassView). h.course) put.pass ∙ c.requires.seat.1)) may.2))

@@ -4,7 +4,7 @@ use Rattle.ix_walk.specs.declared.fault.WalkStop.{WalkStop}
 use Rattle.ix_walk.specs.Visits.{visits_of, is_over_limit}
 use Rattle.ix_walk.specs.WalkLeft.{GivesNext}
 use Rattle.ix_stages.specs.declared.course.JobVisits.{JobVisits}
-use Rattle.ix_stages.specs.declared.hand.Hand.{Hand}
+use Rattle.ix_stages.specs.declared.pass_view.PassView.{PassView}
 use Rattle.ix_stages.specs.declared.item.Item.TheVariants as item
 use Rattle.ix_stages.specs.Course.{Allowed}
 use Rattle.ix_stage_tests.proofs.Walks.{next_of, all_given}
@@ -28,9 +28,9 @@ loop-item-preserved g c =
     let next = next_of all c.loop-item.seat.next v c.next.new.self.visits (h.left ∙ steps.1) in
     let e = c.put.ensures in
     record {
-      same = (e.same.0 ∙ h.same.0, e.same.1 ∙ h.same.1, e.put.2, ap (λ (h : Hand). h.course) e.put.0 ∙ h.same.3);
-      within = subst (λ (n : ℕ). n ≤ length all) (sym e.put.1) next.2;
-      left = ap (λ (n : ℕ). drop n all) e.put.1 ∙ next.1;
+      same = (e.same.0 ∙ h.same.0, e.same.1 ∙ h.same.1, e.put.closed, ap (λ (h : PassView). h.course) e.put.pass ∙ h.same.3);
+      within = subst (λ (n : ℕ). n ≤ length all) (sym e.put.next) next.2;
+      left = ap (λ (n : ℕ). drop n all) e.put.next ∙ next.1;
       limited = steps.2 ∙ h.limited;
     }
 

@@ -8,7 +8,7 @@ loop-seat-preserved c =
     let h = c.loop-seat.invariant in
     let e = c.join_taker.ensures in (
       (e.same.0 ∙ h.0.0, e.same.1 ∙ h.0.1, e.same.2 ∙ h.0.2),
-      settles_more (λ s. s.hand) _ _ _ _ _ e.part e.joined h.1,
+      settles_more (λ s. s.pass) _ _ _ _ _ e.part e.joined h.1,
       h.2 ∙ (ap (λ l. c.loop-seat.yielded ++ l) c.in-Some.ensures.steps.0 ∙ sym (append_assoc c.loop-seat.yielded (c.in-Some.seat ∷ []) _)),
-      All-push (λ s. s.hand.put ≡ []) _ _ h.3 e.put,
+      All-push (λ s. s.pass.put ≡ []) _ _ h.3 e.put,
     )

@@ -7,6 +7,6 @@ use Rattle.ix_stages.proofs.settle.join_takers.Given as goal
 abbrev pub invariant-loop-seat : goal.invariant-loop-seat
 invariant-loop-seat l =
     IsSamePass l.fn.pass l.pass
-    × Settles (view l.fn.pass) (map (λ s. s.hand) l.yielded) (view l.pass)
+    × Settles (view l.fn.pass) (map (λ s. s.pass) l.yielded) (view l.pass)
     × (l.fn.seats.items ≡ l.yielded ++ into_iter_items l.seat-iterator)
-    × All (λ s. s.hand.put ≡ []) l.yielded
+    × All (λ s. s.pass.put ≡ []) l.yielded

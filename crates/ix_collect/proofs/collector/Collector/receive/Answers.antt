@@ -1,6 +1,5 @@
 use Rattle.std.specs.Prelude.{false}
 use Rattle.std.proofs.lemmas.List.{set-get_or}
-use Rattle.ix_collect.specs.Progress.{IsEnded}
 use Rattle.ix_collect.specs.Collected.{IsStray}
 use Rattle.std.proofs.Common.{inl, inr, ℕ, arith, subst, set, rules, ◌≡◌, ◌<◌, ◌≤◌, refl, sym, ◌∙◌, Some, length, get_or, ap, length-set}
 use Rattle.ix_collect.proofs.Kept.{kept_set, kept_same}
@@ -43,7 +42,7 @@ returns-clause-collected g c =
     let sink = get_or c.args.sinks.now c.in-Some.job c.index-sinks-job.result in
     let of : job_of c.args.item ≡ Some c.in-Some.job = sym c.job_of.ensures ∙ c.in-Some.is in
     λ store jobs got more i h good len.
-    collected_one g.S.Sink.events g.S.Sink.failed store jobs c.args.item got more c.in-Some.job c.args.self.now.noted c.receive-fine.result c.args.self.now.jobs.items _ c.args.sinks.now _
+    collected_one g.S.Sink.events g.S.Sink.failed store jobs c.args.item got more c.in-Some.job c.args.self.now.stray c.receive-fine.result c.args.self.now.jobs.items _ c.args.sinks.now _
     c.index_mut.result.now c.receive-fine.new.self sink c.receive-fine.new.sink i of c.index_mut.ensures.value (ap (λ (s : g.row.S.Denot). get_or c.args.sinks.now c.in-Some.job s) c.index-sinks-job.is) lt refl refl c.receive-fine.ensures.received h good
     (sym (length-set c.args.self.now.jobs.items c.in-Some.job c.receive-fine.new.self) ∙ len)
 
@@ -55,14 +54,14 @@ returns-then-job-len-clause-collected g c =
     let past : length c.args.self.now.jobs.items ≤ c.in-Some.job = search rules in
     λ store jobs got more i h good len. absurd (collected_unknown store jobs c.args.item got more c.in-Some.job (length c.args.self.now.jobs.items) i (sym c.job_of.ensures ∙ c.in-Some.is) past len good)
 
-pub returns-clause-noted : goal.returns-clause-noted
-returns-clause-noted g c = λ e. stays_noted c.args.self.now.noted _ e
+pub returns-clause-stays : goal.returns-clause-stays
+returns-clause-stays g c = λ e. stays_noted c.args.self.now.stray _ e
 
 pub returns-clause-guarded : goal.returns-clause-guarded
 returns-clause-guarded g c =
     let sink = get_or c.args.sinks.now c.in-Some.job c.index-sinks-job.result in
     λ was now.
-    let bad : c.receive-fine.result ≡ false = not_fine c.args.self.now.noted c.receive-fine.result was now in
+    let bad : c.receive-fine.result ≡ false = not_fine c.args.self.now.stray c.receive-fine.result was now in
     ap (λ (s : g.row.S.Denot). set c.args.sinks.now c.in-Some.job s) (c.receive-fine.ensures.refused bad) ∙ set-get_or c.args.sinks.now c.in-Some.job c.index-sinks-job.result
 
 pub returns-clause-stray : goal.returns-clause-stray
@@ -81,6 +80,6 @@ returns-clause-stray g c = λ job of stray.
           ]
     ]
     in (
-      is_noted_then c.args.self.now.noted c.receive-fine.result bad,
+      is_noted_then c.args.self.now.stray c.receive-fine.result bad,
       ap (λ (s : g.row.S.Denot). set c.args.sinks.now c.in-Some.job s) (c.receive-fine.ensures.refused bad) ∙ set-get_or c.args.sinks.now c.in-Some.job c.index-sinks-job.result,
     )

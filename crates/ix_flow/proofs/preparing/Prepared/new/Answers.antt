@@ -16,8 +16,8 @@ new-requires-3-clause-values g c =
     let most = c.requires.jobs in
     omega (arith, len, many, ok, most)
 
-pub make_places-requires : goal.make_places-requires
-make_places-requires g c =
+pub make_slots-requires : goal.make_slots-requires
+make_slots-requires g c =
     let same : course_of c.of.result.value c.of-2.result.value.items ≡ course_of c.args.store.now c.args.jobs.now.items = λ i. course_of (c.of.ensures i) (c.of-2.ensures i).items in
     takers_ready c.args.store.now c.args.jobs.now.items (table_of c.in_ok-parts.parts.queue) _ _ same c.args.verifiers c.in_ok-parts.parts.takers.items (c.course_of_jobs.ensures.store c.args.store.now c.args.jobs.now.items) c.in_ok-parts.ensures.takers
 
@@ -34,14 +34,14 @@ returns-clause-prepared g c =
     let stop = c.in_ok-parts.ensures.stop in
     let claims = c.in_ok-claims.claims in
     record {
-      places = c.in_ok-places.ensures.places;
-      count = c.in_ok-places.ensures.count ∙ takers;
-      posts = (c.in_ok-posts.ensures.items, c.in_ok-posts.ensures.capacity);
-      stations = c.in_ok-stations.ensures;
+      slots = c.in_ok-slots.ensures.slots;
+      count = c.in_ok-slots.ensures.count ∙ takers;
+      unstarted = (c.in_ok-unstarted.ensures.items, c.in_ok-unstarted.ensures.capacity);
+      running = c.in_ok-running.ensures;
       seats = subst (λ (l : List JobView). All (IsReady store jobs t) l) (sym c.in_ok-claims.ensures.claims.0) seats;
       each = ap (λ (l : List JobView). map (λ s. s.job) l) c.in_ok-claims.ensures.claims.0 ∙ seats_each store jobs t _ _ same c.len-count.result c.in_ok-parts.parts.jobs.items many c.in_ok-parts.ensures.jobs;
-      claimers = subst (λ (l : List (SeatMeaning JobView)). All (λ s. s.of ≡ claims) l) (sym c.in_ok-claims.ensures.seats) (all_same (λ (s : SeatMeaning JobView). s.of ≡ claims) _ c.args.sizes.walkers refl);
-      desk = record {
+      claimers = subst (λ (l : List (SeatMeaning JobView)). All (λ s. s.of ≡ claims) l) (sym c.in_ok-claims.ensures.seats) (all_same (λ (s : SeatMeaning JobView). s.of ≡ claims) _ c.args.plan.walkers refl);
+      caller = record {
         limits = subst (λ l. All (λ job. job.limit ≤ 1000000) l) c.deref.ensures.value c.see_limits.ensures;
         stop = (search rules, search rules);
         join = c.in_ok-joined.ensures;
@@ -51,4 +51,4 @@ returns-clause-prepared g c =
     }
 
 pub returns-clause-walkers : goal.returns-clause-walkers
-returns-clause-walkers g c = c.in_ok-claims.claimers.ok.0 ∙ (ap length c.in_ok-claims.ensures.seats ∙ length_same _ c.args.sizes.walkers)
+returns-clause-walkers g c = c.in_ok-claims.claimers.ok.0 ∙ (ap length c.in_ok-claims.ensures.seats ∙ length_same _ c.args.plan.walkers)

@@ -2,4 +2,4 @@ use Rattle.std.proofs.Common.{◌≡◌}
 use Rattle.ix_stages.proofs.queue.VisitQueue.take.Given as goal
 
 abbrev pub invariant-loop : goal.invariant-loop
-invariant-loop g l = (l.seat.table ≡ l.fn.seat.table) × (l.seat.hand ≡ l.fn.seat.hand)
+invariant-loop g l = (l.seat.table ≡ l.fn.seat.table) × (l.seat.pass ≡ l.fn.seat.pass)

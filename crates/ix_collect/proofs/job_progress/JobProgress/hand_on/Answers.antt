@@ -1,0 +1,19 @@
+use Rattle.std.proofs.Common.{rules, Option, subst}
+use Rattle.ix_car.specs.declared.sink.Delivery.{Delivery}
+use Rattle.ix_collect.specs.JobProgress.{IsPoppedUnderWay}
+use Rattle.ix_collect.proofs.Stepping.{handed_on, handed_failed, safe_on}
+use Rattle.ix_collect.proofs.job_progress.JobProgress.hand_on.Goals as goal
+
+pub returns-in-Ok-clause-safe : goal.returns-in-Ok-clause-safe
+returns-in-Ok-clause-safe g c =
+    safe_on c.args.self.now (g.S.Sink.events c.args.sink.now) (g.S.Sink.events c.deliver.new.self) (g.S.Sink.failed c.args.sink.now) (g.S.Sink.failed c.deliver.new.self) c.in-Some.field-0 c.requires.open c.requires.safe c.in-Ok.ensures.ok c.in-Ok.ensures.ok_failed
+
+pub returns-in-Ok-clause-handed : goal.returns-in-Ok-clause-handed
+returns-in-Ok-clause-handed g c = λ all over t w.
+    handed_on all over t c.args.self.now c.in-Some.field-0 (g.S.Sink.events c.args.sink.now) (g.S.Sink.events c.deliver.new.self) (g.S.Sink.failed c.args.sink.now) (g.S.Sink.failed c.deliver.new.self)
+    (subst (λ (o : Option Delivery). IsPoppedUnderWay all over t o c.args.self.now (g.S.Sink.events c.args.sink.now) (g.S.Sink.failed c.args.sink.now)) c.in-Some.is w) c.requires.stage c.in-Ok.ensures.ok c.in-Ok.ensures.ok_failed
+
+pub returns-in-Err-Write-clause-handed : goal.returns-in-Err-Write-clause-handed
+returns-in-Err-Write-clause-handed g c = λ all over t w.
+    handed_failed all over t c.args.self.now c.in-Some.field-0 (g.S.Sink.events c.args.sink.now) (g.S.Sink.events c.deliver.new.self) (g.S.Sink.failed c.args.sink.now) (g.S.Sink.failed c.deliver.new.self)
+    (subst (λ (o : Option Delivery). IsPoppedUnderWay all over t o c.args.self.now (g.S.Sink.events c.args.sink.now) (g.S.Sink.failed c.args.sink.now)) c.in-Some.is w) c.in-Err-Write.ensures.err (search rules)

@@ -1,0 +1,57 @@
+-- What the collector does with what it receives.
+use Rattle.std.specs.Prelude.{◌≡◌, ℕ, false, List, ◌++◌, length, Some}
+use Rattle.ix_walk.specs.Store.{Blocks}
+use Rattle.ix_walk.specs.JobMeaning.{JobMeaning}
+use Rattle.ix_car.specs.declared.sink.Delivery.{Delivery}
+use Rattle.ix_car.specs.declared.sink.End.{End}
+use Rattle.ix_car.specs.Events.{Event}
+use Rattle.ix_car.specs.Headline.{EachDelivered, EachKept, Fact, IsCheckedOnce, NoneIsStart}
+use Rattle.ix_stages.specs.declared.verdicted.Verdicted.{Verdicted}
+use Rattle.ix_stages.specs.Received.{Inserts, job_of, pairs_of}
+use Rattle.ix_collect.specs.declared.collector.Collector.{Collector}
+use Rattle.ix_collect.specs.Collected.{job_count, has_stray, IsDone, IsStray, MayTell, IsCollected, IsCollectedFrom}
+
+-- what holds where the item can't come
+abbrev pub IfStray : Collector → Verdicted → Type 0 → Type 0
+IfStray c x P = (job : ℕ) → job_of x ≡ Some job → IsStray c x job → P
+
+module _ {S : Type 0} (events : S → List Event) (failed : S → List Delivery) where
+  -- as many sinks as jobs, and each may be told what comes next
+  pub record CanCollect (c : Collector) (ss : List S) : Type 0 where
+    pub sinks : length ss ≡ job_count c
+    pub may : MayTell events failed c ss
+
+  -- the collector went on from c to d: it can still collect for as many jobs, what the sinks promised is kept, and what was done is done
+  pub record GoesOn (fact : Fact S) (c d : Collector) (first last : List S) : Type 0 where
+    pub sinks : length last ≡ job_count d
+    pub jobs : job_count d ≡ job_count c
+    pub may : MayTell events failed d last
+    pub kept : EachKept fact first last
+    pub done : IsDone c → IsDone d
+
+  -- these items were collected, whatever the blocks and jobs are
+  abbrev pub HasCollected : List Verdicted → Collector → List S → Type 0
+  HasCollected got c sinks = (store : Blocks) (jobs : List JobMeaning) → IsCollected events failed store jobs got c sinks
+
+  -- the item was collected besides what was collected before
+  abbrev pub CollectsItem : Verdicted → Collector → Collector → List S → List S → Type 0
+  CollectsItem x c d first sinks = (store : Blocks) (jobs : List JobMeaning) (got more : List Verdicted) → Inserts x got more → IsCollected events failed store jobs got c first → IsCollected events failed store jobs more d sinks
+
+  -- of one lane all this was collected, where that was before; what other lanes gave stands before and behind it
+  abbrev pub CollectsAmong : List Verdicted → List Verdicted → Collector → Collector → List S → List S → Type 0
+  CollectsAmong old new c d first sinks = (store : Blocks) (jobs : List JobMeaning) (before after : List Verdicted) → IsCollected events failed store jobs (before ++ old ++ after) c first → IsCollected events failed store jobs (before ++ new ++ after) d sinks
+
+  -- the same of all lanes; what was received from elsewhere stands before it
+  abbrev pub CollectsBehind : List Verdicted → List Verdicted → Collector → Collector → List S → List S → Type 0
+  CollectsBehind old new c d first sinks = (store : Blocks) (jobs : List JobMeaning) (before : List Verdicted) → IsCollected events failed store jobs (before ++ old) c first → IsCollected events failed store jobs (before ++ new) d sinks
+
+  -- what follows of these items, of these jobs: none was noted, each sink was told what its job calls for, and each visit was checked as often as it is to be
+  pub record IsExported (store : Blocks) (jobs : List JobMeaning) (got : List Verdicted) (c : Collector) (sinks : List S) (ends : List End) : Type 0 where
+    pub none : has_stray c ≡ false
+    pub delivered : EachDelivered events failed store 0 jobs ends sinks
+    pub checked : IsCheckedOnce events store jobs ends sinks (pairs_of got)
+    pub started : NoneIsStart ends
+
+  -- it follows of any items that the collector received, if they were good
+  abbrev pub IfCollected : Collector → List S → List End → Type 0
+  IfCollected c sinks ends = (store : Blocks) (jobs : List JobMeaning) (got : List Verdicted) → IsCollectedFrom events failed store jobs got c sinks → IsExported store jobs got c sinks ends

@@ -1,0 +1,37 @@
+-- What each step does to the export of a job: how far it has come, if what came fits its visits.
+use Rattle.std.specs.Prelude.{◌≡◌, Bool, true, List, Option}
+use Rattle.ix_car.specs.declared.sink.Delivery.{Delivery}
+use Rattle.ix_car.specs.Events.{Event}
+use Rattle.ix_stages.specs.declared.verdicted.Verdicted.{Verdicted}
+use Rattle.ix_stages.specs.Received.{Tally}
+use Rattle.ix_collect.specs.declared.job_progress.JobProgress.{JobProgress}
+use Rattle.ix_collect.specs.JobProgress.{IsFine, IsItem, IsUnderWay, IsPoppedUnderWay, IsCalm, IsCome, IsSafe}
+
+-- a sink that was safe before is safe now
+abbrev pub StaysSafe : JobProgress → JobProgress → Type 0
+StaysSafe p q = (events : List Event) (failed : List Delivery) → IsSafe p events failed → IsSafe q events failed
+
+-- an arrival that fits is noted: the job is under way with it
+abbrev pub IsNoted : (List Delivery → Bool → Tally → Tally → Type 0) → JobProgress → Bool → JobProgress → Type 0
+IsNoted arrival p result q = (all : List Delivery) (over : Bool) (t u : Tally) (events : List Event) (failed : List Delivery) → IsFine all u → arrival all over t u → IsUnderWay all over t p events failed → (result ≡ true) × IsUnderWay all over u q events failed
+
+module _ {S : Type 0} (events : S → List Event) (failed : S → List Delivery) where
+  -- the sink may be told what comes next
+  abbrev pub IsSafeFor : JobProgress → S → Type 0
+  IsSafeFor p s = IsSafe p (events s) (failed s)
+
+  -- what came out of the ring was handed on
+  abbrev pub IsHandedOn : Option Delivery → JobProgress → S → JobProgress → S → Type 0
+  IsHandedOn o p s q r = (all : List Delivery) (over : Bool) (t : Tally) → IsPoppedUnderWay all over t o p (events s) (failed s) → IsUnderWay all over t q (events r) (failed r)
+
+  -- whatever was next was delivered
+  abbrev pub HasDelivered : JobProgress → S → JobProgress → S → Type 0
+  HasDelivered p s q r = (all : List Delivery) (over : Bool) (t : Tally) → IsUnderWay all over t p (events s) (failed s) → IsUnderWay all over t q (events r) (failed r) × IsCalm q
+
+  -- the sink was closed, where all has arrived
+  abbrev pub HasFinished : JobProgress → S → JobProgress → S → Type 0
+  HasFinished p s q r = (all : List Delivery) (over : Bool) (t : Tally) → IsFine all t → IsUnderWay all over t p (events s) (failed s) → IsCalm p → IsCome all over t q (events r) (failed r)
+
+  -- an item that fits is received: the job has come as far as it says
+  abbrev pub HasCome : Verdicted → JobProgress → S → Bool → JobProgress → S → Type 0
+  HasCome x p s result q r = (all : List Delivery) (over : Bool) (t u : Tally) → IsFine all u → IsItem all over x t u → IsCome all over t p (events s) (failed s) → (result ≡ true) × IsCome all over u q (events r) (failed r)

@@ -1,0 +1,240 @@
+//! What was received of one job, and how far its sink has come.
+
+ghost use Rattle.std.specs.Prelude.{◌≡◌, ◌+◌, Some, None, false, IfOk, IsTrue, ◌↔◌, unwrap_or};
+ghost use Rattle.ix_car.specs.declared.sink.End.TheVariants.{Memory};
+ghost use Rattle.ix_car.specs.Headline.{Keeps};
+ghost use Rattle.ix_collect.specs.declared.job_progress.Stage.TheVariants.{Delivering};
+ghost use Rattle.ix_collect.specs.declared.job_progress.WalkEnd.{WalkEnd};
+ghost use Rattle.ix_ring.specs.Numbered.{IsFree};
+ghost use Rattle.ix_collect.specs.JobProgress.{IsArrival, IsCloseArrival, IsItem, IsNew, IsEnded, IsMisplaced, end_of};
+ghost use Rattle.ix_collect.specs.Steps.{HasCome, HasDelivered, HasFinished, IsHandedOn, IsNoted, IsSafeFor, StaysSafe};
+
+use ix_car::{Delivery, End, Sink, SinkFault};
+use ix_ring::Ring;
+use ix_stages::Verdicted;
+use std::alloc::{AllocError, Global};
+
+/// What becomes of the visits of a job that are next.
+#[derive(Drop, Clone, Copy, PartialEq, Eq)]
+pub(crate) enum Stage {
+    /// They are delivered.
+    Delivering,
+    /// A write failed: nothing more is delivered.
+    Failed,
+    /// Memory was wanting: nothing more is delivered.
+    Stopped,
+}
+
+/// The close of a job's walk.
+#[derive(Drop, Clone, Copy)]
+pub(crate) struct WalkEnd {
+    pub(crate) seq: u32,
+    pub(crate) end: End,
+}
+
+/// What was received of one job, and how far its sink has come.
+#[derive(Drop)]
+pub(crate) struct JobProgress {
+    // Visits with their verdicts, and those that found no memory, until their turn comes.
+    ring: Ring<Option<Delivery>>,
+    // How many items came.
+    arrived: u64,
+    close: Option<WalkEnd>,
+    // Want of memory was met.
+    out_of_memory: bool,
+    stage: Stage,
+    // How the sink was closed.
+    end: Option<End>,
+}
+
+// Whether so many items are all of a job whose walk ended so.
+fn is_all(arrived: u64, close: WalkEnd) -> bool
+    ensures { IsTrue result ↔ (arrived ≡ close.seq + 1) }
+{
+    arrived == u64::from(close.seq) + 1
+}
+
+impl JobProgress {
+    // Nothing was received so far.
+    pub(crate) fn new(alloc: Global) -> Result<JobProgress, AllocError>
+        ensures { IfOk result IsNew }
+    {
+        let ring = Ring::new(alloc)?;
+        Ok(JobProgress {
+            ring,
+            arrived: 0,
+            close: None,
+            out_of_memory: false,
+            stage: Stage::Delivering,
+            end: None,
+        })
+    }
+
+    // A visit came: with its verdict, or without where the check found no memory. False is a number
+    // that can't be.
+    fn take(&mut self, seq: u32, judged: Option<Delivery>) -> bool
+        ensures end { self.new.end ≡ self.old.end }
+        ensures misplaced { self.old.stage ≡ Delivering → (IsFree self.old.ring seq → ⊥) → result ≡ false }
+        ensures safe { StaysSafe self.old self.new }
+        ensures taken { IsNoted (λ all over. IsArrival all seq judged) self.old result self.new }
+    {
+        self.arrived = self.arrived.saturating_add(1);
+        self.out_of_memory |= judged.is_none();
+        if self.stage != Stage::Delivering {
+            return true;
+        }
+        let Err(fault) = self.ring.place(seq, judged) else {
+            return true;
+        };
+        if !fault.is_memory() {
+            return false;
+        }
+        self.out_of_memory = true;
+        self.stage = Stage::Stopped;
+        true
+    }
+
+    // The close of the job's walk came. False is a second one.
+    fn note_close(&mut self, seq: u32, end: End) -> bool
+        ensures end { self.new.end ≡ self.old.end }
+        ensures second { (w : WalkEnd) → self.old.close ≡ Some w → result ≡ false }
+        ensures safe { StaysSafe self.old self.new }
+        ensures noted { IsNoted (λ all over. IsCloseArrival all over seq end) self.old result self.new }
+    {
+        self.arrived = self.arrived.saturating_add(1);
+        if self.close.is_some() {
+            return false;
+        }
+        self.out_of_memory |= end == End::Memory;
+        self.close = Some(WalkEnd { seq, end });
+        true
+    }
+
+    // Delivers the visit that came out of the ring, or stops at one without a verdict.
+    fn hand_on<S: Sink>(&mut self, alloc: Global, judged: Option<Delivery>, sink: &mut S)
+        requires open { self.old.end ≡ None }
+        requires stage { self.old.stage ≡ Delivering }
+        requires safe { IsSafeFor S.events S.failed self.old sink.old }
+        ensures end { self.new.end ≡ None }
+        ensures ring { self.new.ring ≡ self.old.ring }
+        ensures safe { IsSafeFor S.events S.failed self.new sink.new }
+        ensures kept { Keeps S.fact sink.old sink.new }
+        ensures handed { IsHandedOn S.events S.failed judged self.old sink.old self.new sink.new }
+    {
+        let Some(Delivery { visit, verdict }) = judged else {
+            self.stage = Stage::Stopped;
+            return;
+        };
+        match sink.deliver(alloc, visit, verdict) {
+            Ok(()) => {}
+            Err(SinkFault::Write) => self.stage = Stage::Failed,
+            Err(SinkFault::Memory) => {
+                self.out_of_memory = true;
+                self.stage = Stage::Stopped;
+            }
+        }
+    }
+
+    // Delivers what is next, as long as there is something.
+    fn deliver<S: Sink>(&mut self, alloc: Global, sink: &mut S)
+        requires open { self.old.end ≡ None }
+        requires safe { IsSafeFor S.events S.failed self.old sink.old }
+        ensures end { self.new.end ≡ None }
+        ensures safe { IsSafeFor S.events S.failed self.new sink.new }
+        ensures kept { Keeps S.fact sink.old sink.new }
+        ensures delivered { HasDelivered S.events S.failed self.old sink.old self.new sink.new }
+    {
+        while self.stage == Stage::Delivering {
+            let Some(judged) = self.ring.pop() else {
+                return;
+            };
+            self.hand_on(alloc, judged, sink);
+        }
+    }
+
+    // Closes the sink, where all has arrived.
+    fn finish<S: Sink>(&mut self, sink: &mut S)
+        requires open { self.old.end ≡ None }
+        requires safe { IsSafeFor S.events S.failed self.old sink.old }
+        ensures safe { IsSafeFor S.events S.failed self.new sink.new }
+        ensures kept { Keeps S.fact sink.old sink.new }
+        ensures finished { HasFinished S.events S.failed self.old sink.old self.new sink.new }
+    {
+        let Some(close) = self.close else {
+            return;
+        };
+        if !is_all(self.arrived, close) {
+            return;
+        }
+        let end = self.end_at(close.end);
+        sink.close(end);
+        self.end = Some(end);
+    }
+
+    // How a job ends whose walk ended so.
+    fn end_at(&self, end: End) -> End
+        ensures { result ≡ end_of self.now.out_of_memory self.now.stage end }
+    {
+        if self.out_of_memory {
+            return End::Memory;
+        }
+        match self.stage {
+            Stage::Failed => End::Write,
+            _ => end,
+        }
+    }
+
+    // Whether the sink was closed.
+    pub(crate) fn is_ended(&self) -> bool
+        ensures { IsTrue result ↔ IsEnded self.now }
+    {
+        self.end.is_some()
+    }
+
+    // How the sink was closed. One that wasn't answers Memory.
+    pub(crate) fn end(&self) -> End
+        ensures { result ≡ unwrap_or self.now.end Memory }
+    {
+        self.end.unwrap_or(End::Memory)
+    }
+
+    // An item of the job came. False is one that can't come.
+    pub(crate) fn receive<S: Sink>(&mut self, alloc: Global, item: Verdicted, sink: &mut S) -> bool
+        requires safe { IsSafeFor S.events S.failed self.old sink.old }
+        ensures safe { IsSafeFor S.events S.failed self.new sink.new }
+        ensures kept { Keeps S.fact sink.old sink.new }
+        ensures ended { IsEnded self.old → IsEnded self.new }
+        ensures late { IsEnded self.old → result ≡ false }
+        ensures misplaced { IsMisplaced self.old item → result ≡ false }
+        ensures refused { result ≡ false → sink.new ≡ sink.old }
+        ensures received { HasCome S.events S.failed item self.old sink.old result self.new sink.new }
+    {
+        if self.end.is_some() {
+            return false;
+        }
+        if !self.note(item) {
+            return false;
+        }
+        self.deliver(alloc, sink);
+        self.finish(sink);
+        true
+    }
+
+    // Notes an item, whether or not it is next.
+    fn note(&mut self, item: Verdicted) -> bool
+        ensures end { self.new.end ≡ self.old.end }
+        ensures misplaced { IsMisplaced self.old item → result ≡ false }
+        ensures safe { StaysSafe self.old self.new }
+        ensures noted { IsNoted (λ all over. IsItem all over item) self.old result self.new }
+    {
+        match item {
+            Verdicted::Checked { visit, verdict } => {
+                let seq = visit.seq;
+                self.take(seq, Some(Delivery { visit, verdict }))
+            }
+            Verdicted::Unchecked { seq, .. } => self.take(seq, None),
+            Verdicted::Close { seq, end, .. } => self.note_close(seq, end),
+            Verdicted::Last => false,
+        }
+    }
+}

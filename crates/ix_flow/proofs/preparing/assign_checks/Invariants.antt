@@ -1,0 +1,19 @@
+use Rattle.std.proofs.Common.{◌≡◌, ◌+◌, All, length, vec_len, vec_capacity}
+use Rattle.std.specs.Vec.Iter.{into_iter_items}
+use Rattle.ix_car.specs.Headline.{EachUnused}
+use Rattle.ix_stages.specs.Queue.{table_of}
+use Rattle.ix_flow.specs.Prepared.{IsSlot}
+use Rattle.ix_flow.specs.Verifiers.{IsUnstarted}
+use Rattle.ix_flow.proofs.preparing.assign_checks.Given as goal
+
+abbrev pub invariant-loop-check : goal.invariant-loop-check
+invariant-loop-check g l = record {
+  can_next : (goal.iterator-loop-check g).can_next l.check-iterator;
+  finite : (goal.iterator-loop-check g).is_finite l.check-iterator;
+  unused : EachUnused g.C.Check.checked (into_iter_items l.check-iterator);
+  slots : All (IsSlot l._store (table_of l._queue)) l.slots.items;
+  left : vec_len l.slots ≡ length (into_iter_items l.check-iterator);
+  unstarted : All (IsUnstarted g.C.Check.checked l._store (table_of l._queue)) l.unstarted.items;
+  count : vec_len l.unstarted + length (into_iter_items l.check-iterator) ≡ vec_len l.fn.checks;
+  room : vec_capacity l.unstarted ≡ vec_capacity l.fn.unstarted;
+}
