@@ -1,2 +1,3 @@
 pub use Rattle.ix_car.specs.Sections
 pub mod Kinds
+pub mod Counted

@@ -1,9 +1,10 @@
 //! What stands in a file, counted.
 
-ghost use Rattle.std.specs.Prelude.{◌≡◌, length, map, IfOk, IsSorted, IsPermutation};
+ghost use Rattle.std.specs.Prelude.{◌≡◌, ◌-◌, ◌/◌, length, map, slice_get, IfOk, IsSorted, IsPermutation};
 ghost use Rattle.std.specs.Ordering.{nat_cmp};
 ghost use Rattle.ix_cid.specs.Cid.{codec_of, hash_code_of};
 ghost use Rattle.ix_car.specs.declared.reader.sections.Section.{Section};
+ghost use Rattle.ix_inspect.specs.Counted.{IsTallyOf, repeats};
 
 use crate::tally::{Tally, tally_of};
 use ix_car::Section;
@@ -23,9 +24,36 @@ pub struct Summary {
     pub sizes: Vec<usize>,
 }
 
+impl Summary {
+    /// The size of the smallest block.
+    pub fn smallest(&self) -> Option<usize>
+        ensures { result ≡ slice_get self.now.sizes.items 0 }
+    {
+        self.sizes.first().copied()
+    }
+
+    /// The size in the middle: where there are two, the lesser.
+    pub fn median(&self) -> Option<usize>
+        ensures { result ≡ slice_get self.now.sizes.items ((length self.now.sizes.items - 1) / 2) }
+    {
+        let middle = self.sizes.len().saturating_sub(1) / 2;
+        self.sizes.get(middle).copied()
+    }
+
+    /// The size of the greatest block.
+    pub fn greatest(&self) -> Option<usize>
+        ensures { result ≡ slice_get self.now.sizes.items (length self.now.sizes.items - 1) }
+    {
+        self.sizes.last().copied()
+    }
+}
+
 /// What is counted of sections. Nothing is hashed.
 pub fn summary_of(alloc: Global, sections: &[Section<'_>]) -> Result<Summary, AllocError>
     ensures sections { IfOk result (λ s. s.sections ≡ length sections.now) }
+    ensures repeated { IfOk result (λ s. s.repeated ≡ repeats (map (λ (x : Section). x.cid) sections.now)) }
+    ensures codecs { IfOk result (λ s. IsTallyOf (map (λ (x : Section). codec_of x.cid) sections.now) s.codecs) }
+    ensures hashes { IfOk result (λ s. IsTallyOf (map (λ (x : Section). hash_code_of x.cid) sections.now) s.hashes) }
     ensures sizes { IfOk result (λ s. IsPermutation (map (λ (x : Section). length x.block.now) sections.now) s.sizes.items) }
     ensures sorted { IfOk result (λ s. IsSorted nat_cmp s.sizes.items) }
 {
@@ -74,13 +102,15 @@ fn sizes_of(alloc: Global, sections: &[Section<'_>]) -> Result<Vec<usize>, Alloc
 }
 
 // How many have a CID that has stood before.
-fn repeats_of(alloc: Global, sections: &[Section<'_>]) -> Result<usize, AllocError> {
+fn repeats_of(alloc: Global, sections: &[Section<'_>]) -> Result<usize, AllocError>
+    ensures { IfOk result (λ n. n ≡ repeats (map (λ (x : Section). x.cid) sections.now)) }
+{
     let mut seen = Store::new(alloc);
     let mut repeats = 0usize;
     for section in sections {
         let is_new = seen.add(section.cid.to_cid(alloc)?, Vec::new(alloc))?;
         if !is_new {
-            repeats = repeats.saturating_add(1);
+            repeats += 1;
         }
     }
     Ok(repeats)

@@ -1,5 +1,8 @@
 //! How often codes come.
 
+ghost use Rattle.std.specs.Prelude.{IfOk};
+ghost use Rattle.ix_inspect.specs.Counted.{IsTallyOf};
+
 use std::alloc::{AllocError, Global};
 use std::collections::BTreeMap;
 
@@ -7,11 +10,13 @@ use std::collections::BTreeMap;
 pub type Tally = BTreeMap<u64, usize>;
 
 // How often each of these codes comes.
-pub(crate) fn tally_of(alloc: Global, codes: &[u64]) -> Result<Tally, AllocError> {
+pub(crate) fn tally_of(alloc: Global, codes: &[u64]) -> Result<Tally, AllocError>
+    ensures { IfOk result (IsTallyOf codes.now) }
+{
     let mut tally = BTreeMap::new(alloc);
     for code in codes {
         let had = tally.get(code).copied().unwrap_or(0usize);
-        tally.insert(*code, had.saturating_add(1))?;
+        tally.insert(*code, had + 1)?;
     }
     Ok(tally)
 }

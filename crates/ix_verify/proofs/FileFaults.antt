@@ -1,5 +1,5 @@
 -- The faults of a file's sections and of its blocks, and the blocks of its sections.
-use Rattle.std.proofs.Common.{◌≡◌, ℕ, List, [], ◌∙◌, sym, ap, subst, refl}
+use Rattle.std.proofs.Common.{◌≡◌, ℕ, List, [], ◌∙◌, sym, ap, subst}
 use Rattle.std.specs.Prelude.{Result, Ok, Err}
 use Rattle.ix_walk.specs.Store.{Blocks}
 use Rattle.ix_car.specs.declared.fault.CarFault.{CarFault}

@@ -4,3 +4,8 @@ pub mod SoundSections
 pub mod ToldSections
 pub mod FileFaults
 pub mod RootsLeft
+pub mod TextsAgain
+pub mod HeaderAgain
+pub mod ArchivesAgain
+pub mod WholeAgain
+pub mod WholeFound

@@ -1,5 +1,5 @@
 -- A turn of the loop over roots.
-use Rattle.std.proofs.Common.{◌≡◌, ℕ, suc, ◌+◌, ◌<◌, Bool, true, false, List, [], ◌∷◌, ◌++◌, ◌||◌, length, drop, get_or, refl, sym, ◌∙◌, ap, add-one, drop-cons, append_assoc}
+use Rattle.std.proofs.Common.{◌≡◌, ℕ, suc, ◌+◌, ◌<◌, Bool, true, false, List, ◌∷◌, ◌++◌, ◌||◌, length, drop, get_or, refl, sym, ◌∙◌, ap, add-one, drop-cons, append_assoc}
 use Rattle.std.specs.List.{list_any, flat_map}
 use Rattle.ix_car.specs.declared.archive.Skip.{Skip}
 

@@ -1,5 +1,5 @@
 -- The selector of everything, as it is spelled.
-use Rattle.std.proofs.Common.{◌≡◌, List, [], ◌∷◌, ◌++◌, ℕ, refl, sym, ◌∙◌, ap}
+use Rattle.std.proofs.Common.{◌≡◌, List, [], ◌∷◌, ℕ, refl, sym, ◌∙◌, ap}
 use Rattle.std.specs.Prelude.{Result, Ok, codes}
 use Rattle.ix_cbor.specs.Data.{Data, map, no_entries, entry}
 use Rattle.ix_cbor.specs.Reading.{item_at, decoded}

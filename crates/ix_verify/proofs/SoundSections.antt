@@ -1,5 +1,5 @@
 -- Sections of archives are sound.
-use Rattle.std.proofs.Common.{◌≡◌, ℕ, Bool, true, false, cond, List, [], ◌∷◌, refl, sym, ◌∙◌, ap, subst}
+use Rattle.std.proofs.Common.{◌≡◌, ℕ, Bool, true, false, List, [], ◌∷◌, refl, sym, ◌∙◌, ap}
 use Rattle.std.specs.Prelude.{Option, Some, None, map, filter, not, is_some, All, if◌then◌else◌, bytes_eq}
 use Rattle.std.proofs.lemmas.List.Elements.{All-nil, All-cons, All-head, All-tail, All-filter}
 use Rattle.ix_cid.specs.Cid.{parts_of, hash_function_of}
@@ -10,13 +10,14 @@ use Rattle.ix_walk.specs.Store.{Blocks, block_of}
 use Rattle.ix_walk.specs.declared.visit.Visit.{Visit}
 use Rattle.ix_walk.specs.Visits.{believed, arrivals_of, visit_of, visits_from}
 use Rattle.ix_walk.specs.Arrivals.{Arrival}
-use Rattle.ix_check.specs.Verdict.{has_codec, is_no_data, verdict_by, verdict_with, verdict_of}
+use Rattle.ix_check.specs.Verdict.{has_codec, verdict_by, verdict_with, verdict_of}
 use Rattle.ix_check.specs.declared.verdict.Verdict.{Verdict}
 use Rattle.ix_check.specs.declared.verdict.Verdict.TheVariants.{Codec, Hash, Missing, Damaged, Malformed, Sound, Inline}
 use Rattle.ix_car.specs.declared.sink.Delivery.{Delivery}
 use Rattle.ix_car.specs.Archive.{is_sound, first_sound, sections_of}
 use Rattle.ix_car.specs.Verified.{judged, all_judged, number_among, verified, verified_arrivals}
 use Rattle.ix_verify.specs.Judged.{verdict_by_hash, section_verdict, IsSoundSection}
+use Rattle.ix_verify.specs.Written.{IsJudged}
 
 -- where the bytes that a CID holds have a verdict, it is not Sound
 not_inline : (bad : Bool) → (if bad then Malformed else Inline) ≡ Sound → ⊥
@@ -33,10 +34,6 @@ sound_by true (Some Sha2_512) c block h = h
 
 pub sound-section : (store : Blocks) (c block : List ℕ) → verdict_of store c ≡ Sound → block_of store c ≡ Some block → section_verdict c block ≡ Sound
 sound-section store c block sound there = sound_by (has_codec c) (hash_function_of (parts_of c)) c block (ap (verdict_with c) (sym there) ∙ sound)
-
--- the verdict of a delivery is the store's
-abbrev IsJudged : Blocks → Delivery → Type 0
-IsJudged store d = d.verdict ≡ verdict_of store d.visit.cid
 
 is_sound-Sound : (v : Verdict) → is_sound v ≡ true → v ≡ Sound
 is_sound-Sound Sound h = refl
@@ -58,13 +55,17 @@ All-judged_visits store (v ∷ visits) =
     All-cons (IsJudged store) (judged store v) (map (judged store) visits) refl (All-judged_visits store visits)
 
 -- whether the job goes into a CID once or not
-All-verified : (store : Blocks) (number : ℕ) (job : JobMeaning) (once : Bool)
+All-verified_if : (store : Blocks) (number : ℕ) (job : JobMeaning) (once : Bool)
     → All (IsJudged store) (if once then all_judged store number job else map (λ a. judged store (visit_of store number (number_among 0 (believed store job) a) a)) (verified_arrivals store job))
-All-verified store number job true = All-judged_visits store (visits_from store number 0 (arrivals_of store job))
-All-verified store number job false = All-judged store number (believed store job) (verified_arrivals store job)
+All-verified_if store number job true = All-judged_visits store (visits_from store number 0 (arrivals_of store job))
+All-verified_if store number job false = All-judged store number (believed store job) (verified_arrivals store job)
+
+-- the deliveries of the verified traversal have the store's verdicts
+pub All-verified : (store : Blocks) (number : ℕ) (job : JobMeaning) → All (IsJudged store) (verified store number job)
+All-verified store number job = All-verified_if store number job job.once
 
 -- the sound ones among judged deliveries have sound sections
-All-first_sound : (store : Blocks) (ds : List Delivery) → All (IsJudged store) ds → All (IsSoundSection store) (first_sound ds)
+pub All-first_sound : (store : Blocks) (ds : List Delivery) → All (IsJudged store) ds → All (IsSoundSection store) (first_sound ds)
 All-first_sound store [] h = All-nil (IsSoundSection store)
 All-first_sound store (d ∷ ds) h = on_verdict (is_sound d.verdict) refl (All-first_sound store ds (All-tail (IsJudged store) d ds h)) where
   on_verdict : (sound : Bool) → is_sound d.verdict ≡ sound → All (IsSoundSection store) (first_sound ds)
@@ -80,4 +81,4 @@ All-first_sound store (d ∷ ds) h = on_verdict (is_sound d.verdict) refl (All-f
 pub archive-sections_sound : (store : Blocks) (number : ℕ) (job : JobMeaning) → All (IsSoundSection store) (sections_of store (verified store number job))
 archive-sections_sound store number job =
     All-filter (λ d. is_some (block_of store d.visit.cid)) (IsSoundSection store) (first_sound (verified store number job))
-    (All-first_sound store (verified store number job) (All-verified store number job job.once))
+    (All-first_sound store (verified store number job) (All-verified store number job))

@@ -1,8 +1,8 @@
 -- The sections that aren't sound, one by one.
-use Rattle.std.proofs.Common.{◌≡◌, ◌⊎◌, inl, inr, ℕ, Bool, true, false, List, [], ◌∷◌, ◌++◌, refl, sym, ◌∙◌, ap, append_assoc}
+use Rattle.std.proofs.Common.{◌≡◌, ◌⊎◌, inl, inr, Bool, true, false, List, [], ◌∷◌, ◌++◌, refl, sym, ◌∙◌, ap, append_assoc}
 use Rattle.std.proofs.lemmas.List.{append-nil}
 use Rattle.ix_check.specs.declared.verdict.Verdict.{Verdict}
-use Rattle.std.specs.Prelude.{map, filter, not, if◌then◌else◌}
+use Rattle.std.specs.Prelude.{map, not, if◌then◌else◌}
 use Rattle.ix_car.specs.declared.reader.sections.Section.{Section}
 use Rattle.ix_car.specs.SectionView.{section_of}
 use Rattle.ix_car.specs.Archive.{is_sound}

@@ -1,6 +1,6 @@
 -- What is told of a job that ran alone.
-use Rattle.std.proofs.Common.{◌≡◌, ℕ, List, [], ◌∷◌, ◌++◌, refl, sym, ◌∙◌, ap, Bool, true, false, length, arith, subst, inl, inr}
-use Rattle.std.specs.Prelude.{Option, Some, None, take, map}
+use Rattle.std.proofs.Common.{◌≡◌, ℕ, List, [], ◌∷◌, ◌++◌, sym, ◌∙◌, ap, Bool, true, false, length, arith, subst, inl, inr}
+use Rattle.std.specs.Prelude.{Option, take, map}
 use Rattle.std.proofs.lemmas.List.{take_all}
 use Rattle.ix_walk.specs.Store.{Blocks}
 use Rattle.ix_walk.specs.JobMeaning.{JobMeaning}
@@ -8,8 +8,8 @@ use Rattle.ix_walk.specs.Visits.{is_over_limit}
 use Rattle.ix_car.specs.declared.sink.Delivery.{Delivery}
 use Rattle.ix_car.specs.declared.sink.End.{End}
 use Rattle.ix_car.specs.declared.sink.End.TheVariants.{Done, Limit, Memory, Write, Start}
-use Rattle.ix_car.specs.Events.{Event, delivery, close}
-use Rattle.ix_car.specs.Faithful.{EndFits, IsFaithful}
+use Rattle.ix_car.specs.Events.{delivery, close}
+use Rattle.ix_car.specs.Faithful.{IsFaithful}
 use Rattle.ix_car.specs.Report.{skips_of}
 use Rattle.ix_car.specs.Verified.{judged_visits}
 use Rattle.ix_jobs.specs.declared.outcome.JobResult.{JobResult}

@@ -1,5 +1,5 @@
 -- What is found of a file, as a function of its bytes.
-use Rattle.std.specs.Prelude.{◌≡◌, ℕ, Bool, true, false, not, ◌&&◌, ◌==◌, List, [], ◌∷◌, ◌++◌, length, map, filter, codes, None, Result, Ok}
+use Rattle.std.specs.Prelude.{◌≡◌, ℕ, Bool, true, not, ◌&&◌, ◌==◌, List, [], ◌∷◌, length, map, filter, codes, None, Ok}
 use Rattle.std.specs.List.{list_any, flat_map}
 use Rattle.ix_selector.specs.Pattern.{Pattern, recursive, all, edge}
 use Rattle.ix_walk.specs.JobMeaning.{JobMeaning}
@@ -28,9 +28,13 @@ unsound_of sections = filter (λ u. not (is_sound u.verdict)) (map told_of secti
 abbrev pub everything : Pattern
 everything = recursive None (all edge)
 
--- the job of a root: everything below it, each CID gone into once, and no more than 1000000 visits
+-- the job of everything below a root, each CID gone into once
+abbrev pub job_below : List ℕ → ℕ → List ℕ → JobMeaning
+job_below name limit root = record { name = name; roots = root ∷ []; selector = everything; limit = limit; once = true }
+
+-- the job of a root that is verified: no more than 1000000 visits
 abbrev pub root_job : List ℕ → JobMeaning
-root_job root = record { name = codes "verify"; roots = root ∷ []; selector = everything; limit = 1000000; once = true }
+root_job root = job_below (codes "verify") 1000000 root
 
 -- what is skipped below a root
 abbrev pub skips_below : Blocks → List ℕ → List Skip
@@ -61,3 +65,11 @@ pub record IsFoundOf (b : List ℕ) (reach : Reach) (f : Findings) : Type 0 wher
 -- no section is unsound, nothing is skipped, and no walk ends at its limit
 abbrev pub is_sound_file : Findings → Bool
 is_sound_file f = (length f.unsound.items == 0) && ((length f.skips.items == 0) && not f.is_over_limit)
+
+-- whatever is found of a file of which the sections alone are verified, it is sound
+abbrev pub HasSoundSections : List ℕ → Type 0
+HasSoundSections file = (found : Findings) → IsFoundOf file OfBlocks found → is_sound_file found ≡ true
+
+-- whatever is found of a file, with what its roots call for, it is sound
+abbrev pub IsSoundFile : List ℕ → Type 0
+IsSoundFile file = (found : Findings) → IsFoundOf file OfRoots found → is_sound_file found ≡ true

@@ -3,3 +3,4 @@ pub mod Judged
 pub mod Found
 pub mod Told
 pub mod Counted
+pub mod Written

@@ -10,7 +10,7 @@ ghost use Rattle.ix_verify.specs.Judged.{verdict_in};
 ghost use Rattle.ix_verify.specs.Counted.{told_if, told_among, IsJudgedOf, ReachesFrom};
 
 use crate::found::{Findings, Reach, Unsound};
-use crate::reach::{Reached, walk_roots};
+use crate::reach::{Reached, walk_by};
 use crate::section::judge_all;
 use ix_car::{CarFault, CarFile, CarKind, Section, load_car, read_sections};
 use ix_check::Verdict;
@@ -35,7 +35,7 @@ pub fn verify<R: Threads + Sync>(
     ensures refused { IfErr result (λ fault. IsFaultOf car.items fault (section_list car.items)) }
 {
     let judged = judge_file(rt, alloc, car.as_slice(), threads)?;
-    let reached = reach_from(alloc, car, judged.roots.as_slice(), reach)?;
+    let reached = reach_from(rt, alloc, car, judged.roots.as_slice(), threads, reach)?;
     Ok(Findings {
         sections: judged.sections,
         unsound: judged.unsound,
@@ -74,17 +74,32 @@ fn judge_file<R: Threads + Sync>(
 }
 
 // What is met from these roots on in a file that was read, where it is to be verified so far.
-fn reach_from(alloc: Global, car: Vec<u8>, roots: &[Cid], reach: Reach) -> Result<Reached, CarFault>
+fn reach_from<R: Threads + Sync>(
+    rt: &R,
+    alloc: Global,
+    car: Vec<u8>,
+    roots: &[Cid],
+    threads: usize,
+    reach: Reach,
+) -> Result<Reached, CarFault>
+    requires { 0 < threads }
     ensures reached { IfOk result (λ r. ReachesFrom car.items (roots_to_walk reach roots.now) r.skips.items r.is_over_limit) }
     ensures refused { IfErr result (λ fault. IsFaultOf car.items fault (section_list car.items)) }
 {
     match reach {
         Reach::Blocks => Ok(Reached::nothing(alloc)),
-        Reach::Roots => walk_file(alloc, car, roots),
+        Reach::Roots => walk_file(rt, alloc, car, roots, threads),
     }
 }
 
-fn walk_file(alloc: Global, car: Vec<u8>, roots: &[Cid]) -> Result<Reached, CarFault>
+fn walk_file<R: Threads + Sync>(
+    rt: &R,
+    alloc: Global,
+    car: Vec<u8>,
+    roots: &[Cid],
+    threads: usize,
+) -> Result<Reached, CarFault>
+    requires { 0 < threads }
     ensures reached { IfOk result (λ r. ReachesFrom car.items roots.now r.skips.items r.is_over_limit) }
     ensures refused { IfErr result (λ fault. IsFaultOf car.items fault (section_list car.items)) }
 {
@@ -92,7 +107,7 @@ fn walk_file(alloc: Global, car: Vec<u8>, roots: &[Cid]) -> Result<Reached, CarF
         Ok(store) => store,
         Err(fault) => return Err(fault),
     };
-    match walk_roots(alloc, &store, roots) {
+    match walk_by(rt, alloc, &store, roots, threads) {
         Ok(reached) => Ok(reached),
         Err(_) => Err(no_memory()),
     }

@@ -1,6 +1,6 @@
 //! What the roots of a file call for.
 
-ghost use Rattle.std.specs.Prelude.{◌≡◌, ◌++◌, ◌||◌, [], false, IfOk, OnOk};
+ghost use Rattle.std.specs.Prelude.{◌≡◌, ◌<◌, ◌++◌, ◌||◌, [], length, false, IfOk, OnOk};
 ghost use Rattle.ix_walk.specs.Visits.{is_over_limit};
 ghost use Rattle.ix_car.specs.Verified.{judged_visits};
 ghost use Rattle.ix_car.specs.Report.{skips_of};
@@ -15,7 +15,8 @@ use ix_jobs::JobResult;
 use ix_run::run_jobs;
 use ix_walk::{Job, Store};
 use std::alloc::{AllocError, Global};
-use std::{io, slice};
+use std::thread::Threads;
+use std::{io, slice, thread};
 
 // What was met on the way from roots.
 #[derive(Drop)]
@@ -47,8 +48,45 @@ impl Reached {
     }
 }
 
+// What is met from these roots on, where so many threads look at the blocks first: the walk finds with each what they found.
+pub(crate) fn walk_by<R: Threads + Sync>(
+    rt: &R,
+    alloc: Global,
+    store: &Store,
+    roots: &[Cid],
+    threads: usize,
+) -> Result<Reached, AllocError>
+    requires { 0 < threads }
+    ensures { IfOk result (λ r. IsReached store.now roots.now r.skips.items r.is_over_limit) }
+{
+    if !roots.is_empty() {
+        look_at_blocks(rt, alloc, store, threads)?;
+    }
+    walk_roots(alloc, store, roots)
+}
+
+// Whether each block has its digest, which a store that was read from a file keeps.
+fn look_at_blocks<R: Threads + Sync>(
+    rt: &R,
+    alloc: Global,
+    store: &Store,
+    threads: usize,
+) -> Result<Vec<bool>, AllocError>
+    requires { 0 < threads }
+    ensures { IfOk result (λ found. length found.items ≡ length store.now) }
+{
+    let mut found = vec![in alloc; false; store.len()]?;
+    thread::for_each_mut(
+        rt,
+        found.as_mut_slice(),
+        threads,
+        &|place, agrees| *agrees = store.agrees(place),
+    );
+    Ok(found)
+}
+
 // What is met from these roots on, root after root.
-pub(crate) fn walk_roots(alloc: Global, store: &Store, roots: &[Cid]) -> Result<Reached, AllocError>
+fn walk_roots(alloc: Global, store: &Store, roots: &[Cid]) -> Result<Reached, AllocError>
     ensures { IfOk result (λ r. IsReached store.now roots.now r.skips.items r.is_over_limit) }
 {
     let mut reached = Reached::nothing(alloc);

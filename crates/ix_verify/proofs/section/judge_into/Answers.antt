@@ -1,4 +1,4 @@
-use Rattle.std.proofs.Common.{map, length, sym, ◌∙◌, arith}
+use Rattle.std.proofs.Common.{map, sym, ◌∙◌, arith}
 use Rattle.std.proofs.lemmas.List.{ext_get_or, length-map}
 use Rattle.std.proofs.lemmas.Option.{get_or_from_slice_get}
 use Rattle.ix_check.specs.declared.verdict.Verdict.TheVariants.{Sound}
