@@ -76,11 +76,14 @@ typedef struct ix_skip {
   uint32_t why;
 } ix_skip;
 
-/* The version of this interface, which grows where a call is added. */
+/* The version of this interface, which grows where a call is added: 2. */
 uint32_t ix_version(void);
 
-/* Lets go of what a handle holds, which leaves it empty. */
+/* Lets go of what a handle holds, which leaves it empty. The three are the same call by the name of what is held. */
 void ix_free(ix_handle *handle);
+void ix_store_free(ix_handle *store);
+void ix_job_free(ix_handle *job);
+void ix_result_free(ix_handle *result);
 
 /* Fills a handle, in place of what it held, with an open store without blocks. IX_DONE, IX_MEMORY. */
 uint32_t ix_store_new(ix_handle *store);
@@ -88,8 +91,8 @@ uint32_t ix_store_new(ix_handle *store);
 /* Fills a handle with an open store of the blocks of a CARv1 file, which is copied. IX_DONE, IX_MEMORY, IX_REFUSED. */
 uint32_t ix_store_read_car(ix_handle *store, const uint8_t *car, size_t car_length);
 
-/* Adds a copy of a block to an open store under its CID, given in binary. Whether the block has the CID's digest is
- * looked at where it is exported. IX_DONE, IX_KNOWN, IX_NO_CID, IX_MEMORY, IX_HANDLE. */
+/* Adds a copy of a block to an open store under its CID, unless there is one. Whether the block has the CID's digest is
+ * found where it is exported. IX_DONE, IX_KNOWN, IX_NO_CID, IX_MEMORY, IX_HANDLE. */
 uint32_t ix_store_add(ix_handle *store, const uint8_t *cid, size_t cid_length, const uint8_t *block, size_t block_length);
 
 /* Freezes an open store: from then on it doesn't change and can be shared. IX_DONE, IX_MEMORY, IX_HANDLE. */
@@ -102,23 +105,44 @@ uint32_t ix_store_share(ix_handle *store, ix_handle *other);
 /* Fills a handle with the job of a line of a job file: NAME ROOTS LIMIT SELECTOR. IX_DONE, IX_MEMORY, IX_REFUSED. */
 uint32_t ix_job_from_line(ix_handle *job, const uint8_t *line, size_t line_length);
 
+/* Fills a handle with the job that has these parts: the CIDs of its roots in binary, 1 to 64 of them end to end, its
+ * selector as DAG-CBOR, and its limit of visits, from 1 to 1000000. Its name is "job". IX_DONE, IX_MEMORY, IX_REFUSED. */
+uint32_t ix_job_new(ix_handle *job, const uint8_t *roots, size_t roots_length, const uint8_t *selector,
+                    size_t selector_length, uint32_t limit);
+
+/* Has a job go into a block only the first time that it arrives there with the same rest of its selector, and not at every
+ * arrival: the archive is the same where both are within the limit, and the visits are fewer. IX_DONE, IX_HANDLE. */
+uint32_t ix_job_once(ix_handle *job);
+
 /* Fills a handle with a text: the hexadecimal of the selector of a JSON text, which is the last field of a job's line.
- * IX_DONE, IX_MEMORY, IX_REFUSED. */
+ * ix_bytes reads it (IX_TEXT). IX_DONE, IX_MEMORY, IX_REFUSED. */
 uint32_t ix_selector_from_json(ix_handle *text, const uint8_t *json, size_t json_length);
 
 /* Exports a job over a frozen store on the caller's thread, and fills a handle with the result. How the job ended is in
  * the result: IX_DONE says that there is one. IX_DONE, IX_MEMORY, IX_HANDLE. */
-uint32_t ix_export(ix_handle *store, ix_handle *job, ix_handle *out);
+uint32_t ix_export(ix_handle *store, ix_handle *job, ix_handle *result);
+
+/* How the job of a result ended (IX_END_DONE ..). IX_DONE, IX_HANDLE. */
+uint32_t ix_result_end(ix_handle *result, uint32_t *end);
 
 /* How the job of a result ended, and what was counted. IX_DONE, IX_HANDLE. */
-uint32_t ix_result_counts(ix_handle *handle, ix_counts *counts);
+uint32_t ix_result_counts(ix_handle *result, ix_counts *counts);
+
+/* Where the archive of a result begins and how long it is. It may be read, and stays there until the handle is filled or
+ * freed. IX_DONE, IX_HANDLE. */
+uint32_t ix_result_archive(ix_handle *result, const uint8_t **archive, size_t *length);
 
 /* A skip of a result by its number, from 0, and its CID in binary, which stays there until the handle is filled or freed.
  * IX_DONE, IX_RANGE, IX_HANDLE. */
-uint32_t ix_result_skip(ix_handle *handle, size_t number, ix_skip *skip, const uint8_t **cid, size_t *length);
+uint32_t ix_result_skip(ix_handle *result, size_t number, ix_skip *skip, const uint8_t **cid, size_t *length);
 
-/* Where a part of what a handle holds begins and how long it is. The bytes may be read, and stay there until the handle
- * is filled or freed. IX_DONE, IX_RANGE, IX_HANDLE. */
+/* The same of the report of a result, as the program prints it for the job alone. IX_DONE, IX_HANDLE. */
+uint32_t ix_result_report(ix_handle *result, const uint8_t **report, size_t *length);
+
+/* The same of the line of a refusal, in a handle for which a call answered IX_REFUSED. IX_DONE, IX_HANDLE. */
+uint32_t ix_fault_line(ix_handle *handle, const uint8_t **line, size_t *length);
+
+/* The same of a part by its number, of whatever a handle holds. IX_DONE, IX_RANGE, IX_HANDLE. */
 uint32_t ix_bytes(ix_handle *handle, uint32_t part, const uint8_t **start, size_t *length);
 
 /* Copies a part of what a handle holds to the front of a buffer, from a place on and as far as there is room, and says

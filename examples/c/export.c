@@ -37,12 +37,12 @@ static void *work(void *given) {
     it->status = ix_job_from_line(&wanted, (const uint8_t *)it->line, it->length);
     if (it->status == IX_DONE) {
       it->status = ix_export(&self->store, &wanted, &it->result);
-      ix_free(&wanted);
+      ix_job_free(&wanted);
     } else {
       it->result = wanted; /* the line of the refusal */
     }
   }
-  ix_free(&self->store);
+  ix_store_free(&self->store);
   return NULL;
 }
 
@@ -58,11 +58,14 @@ static char *whole_file(const char *path, size_t *length) {
   return bytes;
 }
 
-/* Prints a part of what a handle holds, without what stands from this word on. */
-static void print_part(ix_handle *handle, uint32_t part, FILE *out, const char *until) {
+/* A call that tells where the bytes of a handle begin. */
+typedef uint32_t reader(ix_handle *handle, const uint8_t **start, size_t *length);
+
+/* Prints what a call tells of, without what stands from this word on. */
+static void print_bytes(reader *read, ix_handle *handle, FILE *out, const char *until) {
   const uint8_t *start;
   size_t length;
-  if (ix_bytes(handle, part, &start, &length) != IX_DONE) return;
+  if (read(handle, &start, &length) != IX_DONE) return;
   size_t shown = length;
   for (size_t i = 0; until && i + strlen(until) <= length; i++)
     if (!memcmp(start + i, until, strlen(until))) shown = i;
@@ -74,7 +77,7 @@ static void write_archive(job *it, const char *folder) {
   snprintf(path, sizeof path, "%s/%.*s.car", folder, (int)strcspn(it->line, " "), it->line);
   FILE *file = fopen(path, "wb");
   if (!file) fail(path);
-  print_part(&it->result, IX_ARCHIVE, file, NULL);
+  print_bytes(ix_result_archive, &it->result, file, NULL);
   if (fclose(file)) fail(path);
 }
 
@@ -88,7 +91,7 @@ int main(int count, char **words) {
 
   ix_handle store = IX_EMPTY;
   if (ix_store_read_car(&store, (const uint8_t *)car, car_length) != IX_DONE) {
-    print_part(&store, IX_TEXT, stderr, NULL);
+    print_bytes(ix_fault_line, &store, stderr, NULL);
     fail(" no store");
   }
   free(car);
@@ -102,19 +105,19 @@ int main(int count, char **words) {
     if (pthread_create(&workers[i].thread, NULL, work, &workers[i])) fail("no thread");
   }
   for (size_t i = 0; i < THREADS; i++) pthread_join(workers[i].thread, NULL);
-  ix_free(&store);
+  ix_store_free(&store);
 
   int status = 0;
   for (size_t i = 0; i < job_count; i++) {
     if (jobs[i].status == IX_DONE) {
-      print_part(&jobs[i].result, IX_REPORT, stdout, "total ");
+      print_bytes(ix_result_report, &jobs[i].result, stdout, "total ");
       write_archive(&jobs[i], words[3]);
     } else {
-      print_part(&jobs[i].result, IX_TEXT, stdout, NULL);
+      print_bytes(ix_fault_line, &jobs[i].result, stdout, NULL);
       printf(" status %u\n", jobs[i].status);
       status = 2;
     }
-    ix_free(&jobs[i].result);
+    ix_result_free(&jobs[i].result);
   }
   free(list);
   return status;

@@ -8,7 +8,6 @@ import pathlib
 import sys
 
 DONE = 0
-ARCHIVE, REPORT, TEXT = range(3)
 
 
 class Handle(ctypes.Structure):
@@ -30,7 +29,7 @@ class Library:
         handle = Handle()
         status = call(*words, ctypes.byref(handle)) if call is self.calls.ix_export else call(ctypes.byref(handle), *words)
         if status != DONE:
-            line = self.part(handle, TEXT).decode()
+            line = self.bytes(self.calls.ix_fault_line, handle).decode()
             self.free(handle)
             raise Refused(line or f"status {status}")
         return handle
@@ -50,10 +49,16 @@ class Library:
     def export(self, store, job):
         return self.filled(self.calls.ix_export, ctypes.byref(store), ctypes.byref(job))
 
-    def part(self, handle, part):
-        """A copy of a part of what the handle holds; nothing where there is no such part."""
+    def archive(self, result):
+        return self.bytes(self.calls.ix_result_archive, result)
+
+    def report(self, result):
+        return self.bytes(self.calls.ix_result_report, result)
+
+    def bytes(self, call, handle):
+        """A copy of what a call tells of; nothing where the handle has no such bytes."""
         start, length = ctypes.c_void_p(), ctypes.c_size_t()
-        if self.calls.ix_bytes(ctypes.byref(handle), part, ctypes.byref(start), ctypes.byref(length)) != DONE:
+        if call(ctypes.byref(handle), ctypes.byref(start), ctypes.byref(length)) != DONE:
             return b""
         return ctypes.string_at(start, length.value)
 
@@ -70,8 +75,8 @@ def main(path, car, jobs):
             continue
         job = library.job(line)
         out = library.export(store, job)
-        print(library.part(out, REPORT).decode().split("total ")[0], end="")
-        print("  archive", hashlib.sha256(library.part(out, ARCHIVE)).hexdigest())
+        print(library.report(out).decode().split("total ")[0], end="")
+        print("  archive", hashlib.sha256(library.archive(out)).hexdigest())
         library.free(job, out)
     library.free(store)
 

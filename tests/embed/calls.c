@@ -1,10 +1,11 @@
-/* The calls of the library, with answers from the formats. With --steps each call once, of which any may find no memory. */
+/* The calls of the library, with answers from the formats; sixty-four threads over one store; and each request for memory
+ * refused in turn. The linker gives the library the allocator that is below (--wrap), which counts what is held. */
 #include <ix_export.h>
 #include <pthread.h>
+#include <stdatomic.h>
 #include <stdio.h>
 #include <stdlib.h>
 #include <string.h>
-#include <unistd.h>
 
 #define EXPECT(it) \
   do { \
@@ -20,13 +21,58 @@ _Static_assert(sizeof(ix_handle) == 16 && sizeof(ix_counts) == 32 && sizeof(ix_s
 #define ABC_CID \
   "\x01\x55\x12\x20\xba\x78\x16\xbf\x8f\x01\xcf\xea\x41\x41\x40\xde\x5d\xae\x22\x23\xb0\x03\x61\xa3\x96\x17\x7a\x9c\xb4\x10" \
   "\xff\x61\xf2\x00\x15\xad"
-#define HEADER "\x3a\xa2\x65roots\x81\xd8\x2a\x58\x25\x00" ABC_CID "\x67version\x01"
+#define HEADER_OF(cid) "\x3a\xa2\x65roots\x81\xd8\x2a\x58\x25\x00" cid "\x67version\x01"
+#define HEADER HEADER_OF(ABC_CID)
 #define ARCHIVE HEADER "\x27" ABC_CID "abc"
 #define LINE "a bafkreif2pall7dybz7vecqka3zo24irdwabwdi4wc55jznaq75q7eaavvu 1 a1612ea0"
-#define REPORT "a done visits=1 kept=1 sections=1 bytes=99\ntotal jobs=1 done=1 skips=0\n"
+#define REPORT_BEHIND " done visits=1 kept=1 sections=1 bytes=99\ntotal jobs=1 done=1 skips=0\n"
+#define REPORT "a" REPORT_BEHIND
 #define MISSING \
   "a done visits=1 kept=1 sections=0 bytes=59\n  0 missing bafkreif2pall7dybz7vecqka3zo24irdwabwdi4wc55jznaq75q7eaavvu\n" \
   "total jobs=1 done=1 skips=1\n"
+
+/* Selectors as DAG-CBOR: the matcher, and everything over however many links. */
+#define MATCHER "\xa1\x61.\xa0"
+#define ALL "\xa1\x61R\xa2\x61l\xa1\x64none\xa0\x62:>\xa1\x61" "a\xa1\x61>\xa1\x61@\xa0"
+
+/* A list of a link to abc, and a list of two links to that list, as DAG-CBOR, and their CIDs under SHA-256. */
+#define LINK_TO(cid) "\xd8\x2a\x58\x25\x00" cid
+#define INNER "\x81" LINK_TO(ABC_CID)
+#define INNER_CID \
+  "\x01\x71\x12\x20\x21\xe2\x88\xdd\x95\xd2\x0c\x03\x22\x7d\xc4\xc4\x49\xb3\xa8\x88\x5f\xcb\x42\x0f\x61\x41\x35\x14" \
+  "\x24\x35\xf3\xb3\x3b\x42\x88\x32"
+#define OUTER "\x82" LINK_TO(INNER_CID) LINK_TO(INNER_CID)
+#define OUTER_CID \
+  "\x01\x71\x12\x20\xcd\xa8\xfb\xc6\x6c\xb5\x95\xcf\x39\xe0\xd0\x82\xac\x70\x25\x97\xd7\x54\xbb\x15\x66\x1e\xde\x9c" \
+  "\xd7\x04\x55\xee\x41\x96\x72\xa7"
+#define OUTER_ARCHIVE HEADER_OF(OUTER_CID) "\x77" OUTER_CID OUTER "\x4e" INNER_CID INNER "\x27" ABC_CID "abc"
+
+void *__real_malloc(size_t size);
+void *__real_realloc(void *old, size_t size);
+void __real_free(void *old);
+
+/* Requests that were made, which of them is refused, from 1 on, and how many blocks are held. */
+static atomic_ulong requests, refused;
+static atomic_long blocks_held;
+
+static bool is_refused(void) { return ++requests == refused; }
+
+void *__wrap_malloc(size_t size) {
+  void *got = is_refused() ? NULL : __real_malloc(size);
+  if (got) blocks_held++;
+  return got;
+}
+
+void *__wrap_realloc(void *old, size_t size) {
+  void *got = is_refused() ? NULL : __real_realloc(old, size);
+  if (got && !old) blocks_held++;
+  return got;
+}
+
+void __wrap_free(void *old) {
+  if (old) blocks_held--;
+  __real_free(old);
+}
 
 static const uint8_t *bytes(const char *text) { return (const uint8_t *)text; }
 
@@ -43,6 +89,17 @@ static void expect_part(ix_handle *handle, uint32_t part, const char *wanted, si
   } while (count);
   EXPECT(from == length);
 }
+
+/* The same by the call that has the name of the part. */
+static void expect_named(uint32_t (*call)(ix_handle *, const uint8_t **, size_t *), ix_handle *handle, const char *wanted,
+                         size_t length) {
+  const uint8_t *start = NULL;
+  size_t had = 0;
+  EXPECT(call(handle, &start, &had) == IX_DONE && had == length && !memcmp(start, wanted, length));
+}
+
+#define EXPECT_NAMED(call, handle, wanted) expect_named(call, handle, wanted, sizeof(wanted) - 1)
+#define BYTES(text) bytes(text), sizeof(text) - 1
 
 #define EXPECT_PART(handle, part, wanted) expect_part(handle, part, wanted, sizeof(wanted) - 1)
 
@@ -73,8 +130,65 @@ static void exports_one_block(void) {
   size_t length;
   EXPECT(ix_result_skip(&out, 0, &skip, &cid, &length) == IX_RANGE);
   EXPECT(ix_bytes(&out, IX_TEXT, &cid, &length) == IX_HANDLE && ix_bytes(&out, 3, &cid, &length) == IX_RANGE);
-  EXPECT(ix_result_counts(&job, &counts) == IX_HANDLE);
-  ix_free(&store), ix_free(&job), ix_free(&out), ix_free(&out);
+  uint32_t end = 9;
+  EXPECT(ix_result_counts(&job, &counts) == IX_HANDLE && ix_result_end(&job, &end) == IX_HANDLE && end == 9);
+  EXPECT(ix_result_end(&out, &end) == IX_DONE && end == IX_END_DONE);
+  EXPECT_NAMED(ix_result_archive, &out, ARCHIVE);
+  EXPECT_NAMED(ix_result_report, &out, REPORT);
+  EXPECT(ix_result_archive(&job, &cid, &length) == IX_HANDLE && ix_result_report(&store, &cid, &length) == IX_HANDLE);
+  ix_store_free(&store), ix_job_free(&job), ix_result_free(&out), ix_result_free(&out);
+}
+
+/* A job of its parts is that of the line, but for its name; it has so many roots as stand end to end. */
+static void exports_a_job_of_parts(void) {
+  ix_handle store = store_of_abc(), job = IX_EMPTY, out = IX_EMPTY;
+  EXPECT(ix_store_freeze(&store) == IX_DONE);
+  EXPECT(ix_job_new(&job, BYTES(ABC_CID), BYTES(MATCHER), 1) == IX_DONE && ix_export(&store, &job, &out) == IX_DONE);
+  EXPECT_NAMED(ix_result_archive, &out, ARCHIVE);
+  EXPECT_NAMED(ix_result_report, &out, "job" REPORT_BEHIND);
+  ix_counts counts;
+  EXPECT(ix_job_new(&job, BYTES(ABC_CID ABC_CID INNER_CID), BYTES(ALL), 2) == IX_DONE);
+  EXPECT(ix_export(&store, &job, &out) == IX_DONE && ix_result_counts(&out, &counts) == IX_DONE);
+  EXPECT(counts.end == IX_END_LIMIT && counts.visits == 2 && counts.sections == 1);
+  ix_store_free(&store), ix_job_free(&job), ix_result_free(&out);
+}
+
+static void expect_no_job(ix_handle *job, const char *roots, size_t roots_length, const char *selector, size_t selector_length,
+                          uint32_t limit, const char *line) {
+  EXPECT(ix_job_new(job, bytes(roots), roots_length, bytes(selector), selector_length, limit) == IX_REFUSED);
+  expect_named(ix_fault_line, job, line, strlen(line));
+}
+
+static void refuses_parts(void) {
+  ix_handle job = IX_EMPTY;
+  char many[65 * 36];
+  for (int i = 0; i < 65; i++) memcpy(many + 36 * i, ABC_CID, 36);
+  EXPECT(ix_job_new(&job, bytes(many), 64 * 36, BYTES(MATCHER), 1000000) == IX_DONE);
+  expect_no_job(&job, many, 65 * 36, MATCHER, 4, 1, "job: too many roots");
+  expect_no_job(&job, "", 0, MATCHER, 4, 1, "job: no root");
+  expect_no_job(&job, ABC_CID, 35, MATCHER, 4, 1, "root: truncated");
+  expect_no_job(&job, ABC_CID "\x02", 37, MATCHER, 4, 1, "root: version 2");
+  expect_no_job(&job, ABC_CID, 36, MATCHER, 3, 1, "selector: truncated at 3");
+  expect_no_job(&job, ABC_CID, 36, "\xa0", 1, 1, "selector: wrong keys");
+  expect_no_job(&job, ABC_CID, 36, MATCHER, 4, 0, "job: limit");
+  expect_no_job(&job, ABC_CID, 36, MATCHER, 4, 1000001, "job: limit");
+  ix_free(&job);
+}
+
+/* The inner list is linked twice: the job goes into it at each of its arrivals, and once with the same archive. */
+static void goes_in_once(void) {
+  ix_handle store = store_of_abc(), job = IX_EMPTY, out = IX_EMPTY, text = IX_EMPTY;
+  ix_counts counts;
+  EXPECT(ix_store_add(&store, BYTES(INNER_CID), BYTES(INNER)) == IX_DONE);
+  EXPECT(ix_store_add(&store, BYTES(OUTER_CID), BYTES(OUTER)) == IX_DONE && ix_store_freeze(&store) == IX_DONE);
+  EXPECT(ix_job_new(&job, BYTES(OUTER_CID), BYTES(ALL), 100) == IX_DONE && ix_export(&store, &job, &out) == IX_DONE);
+  EXPECT_NAMED(ix_result_archive, &out, OUTER_ARCHIVE);
+  EXPECT(ix_result_counts(&out, &counts) == IX_DONE && counts.visits == 5 && counts.kept == 5 && counts.sections == 3);
+  EXPECT(ix_job_once(&job) == IX_DONE && ix_export(&store, &job, &out) == IX_DONE);
+  EXPECT_NAMED(ix_result_archive, &out, OUTER_ARCHIVE);
+  EXPECT(ix_result_counts(&out, &counts) == IX_DONE && counts.visits == 4 && counts.kept == 4 && counts.sections == 3);
+  EXPECT(ix_job_once(&store) == IX_HANDLE && ix_job_once(&text) == IX_HANDLE && !text.is_held && ix_job_once(&job) == IX_DONE);
+  ix_store_free(&store), ix_job_free(&job), ix_result_free(&out);
 }
 
 static void tells_a_skip(void) {
@@ -97,6 +211,7 @@ static void tells_refusals(void) {
   ix_handle handle = IX_EMPTY, other = IX_EMPTY;
   EXPECT(ix_store_read_car(&handle, bytes(""), 0) == IX_REFUSED);
   EXPECT_PART(&handle, IX_TEXT, "blocks: truncated at 0");
+  EXPECT_NAMED(ix_fault_line, &handle, "blocks: truncated at 0");
   EXPECT(ix_job_from_line(&handle, bytes("a"), 1) == IX_REFUSED);
   EXPECT_PART(&handle, IX_TEXT, "jobs: fields at line 1");
   EXPECT(ix_job_from_line(&handle, bytes(""), 0) == IX_REFUSED);
@@ -108,7 +223,7 @@ static void tells_refusals(void) {
   EXPECT(ix_store_share(&handle, &other) == IX_HANDLE && !other.is_held);
   EXPECT(ix_selector_from_json(&handle, bytes("{\".\":{}}"), 8) == IX_DONE);
   EXPECT_PART(&handle, IX_TEXT, "a1612ea0");
-  EXPECT(ix_store_read_car(&handle, bytes(ARCHIVE), sizeof ARCHIVE - 1) == IX_DONE && ix_version() == 1);
+  EXPECT(ix_store_read_car(&handle, bytes(ARCHIVE), sizeof ARCHIVE - 1) == IX_DONE && ix_version() == 2);
   ix_free(&handle);
 }
 
@@ -137,17 +252,17 @@ static void shares_a_store(void) {
   pthread_attr_destroy(&small);
 }
 
-/* Each call once, of which any may find no memory: it answers IX_MEMORY then, and its handles are as they were. */
-static int any_without_memory(void) {
-  ix_handle store = IX_EMPTY, other = IX_EMPTY, job = IX_EMPTY, out = IX_EMPTY, text = IX_EMPTY;
-  int without = 0;
+/* Each call that takes memory once, of which any may find none: it answers IX_MEMORY then, and its handles are as they were. */
+static bool any_without_memory(void) {
+  ix_handle store = IX_EMPTY, other = IX_EMPTY, job = IX_EMPTY, line = IX_EMPTY, out = IX_EMPTY, text = IX_EMPTY;
+  bool without = false;
 #define STEP(call, handle) \
   do { \
     ix_handle before = handle; \
     uint32_t status = call; \
-    EXPECT(status == IX_DONE || (status == IX_MEMORY && before.is_held == handle.is_held)); \
+    EXPECT(status == IX_DONE || (status == IX_MEMORY && before.is_held == handle.is_held && before.held == handle.held)); \
     if (status == IX_MEMORY) { \
-      without = 1; \
+      without = true; \
       goto end; \
     } \
   } while (0)
@@ -157,31 +272,51 @@ static int any_without_memory(void) {
   STEP(ix_store_freeze(&store), store);
   STEP(ix_store_share(&store, &other), other);
   STEP(ix_selector_from_json(&text, bytes("{\".\":{}}"), 8), text);
-  STEP(ix_job_from_line(&job, bytes(LINE), strlen(LINE)), job);
+  STEP(ix_job_from_line(&line, BYTES(LINE)), line);
+  STEP(ix_job_new(&job, BYTES(ABC_CID), BYTES(MATCHER), 1), job);
+  STEP(ix_job_once(&job), job);
+  STEP(ix_export(&other, &line, &out), out);
   STEP(ix_export(&other, &job, &out), out);
   ix_counts counts;
   EXPECT(ix_result_counts(&out, &counts) == IX_DONE);
   if (counts.end == IX_END_MEMORY || counts.end == IX_END_WRITE) {
-    without = 1;
+    without = true;
   } else {
     EXPECT(counts.end == IX_END_DONE);
     EXPECT_PART(&out, IX_ARCHIVE, ARCHIVE);
   }
 end:
-  ix_free(&store), ix_free(&other), ix_free(&job), ix_free(&out), ix_free(&text);
+  ix_free(&store), ix_free(&other), ix_free(&job), ix_free(&line), ix_free(&out), ix_free(&text);
   return without;
 }
 
-int main(int count, char **words) {
-  if (count == 2 && !strcmp(words[1], "--steps")) {
-    puts(any_without_memory() ? "memory" : "done");
-    fflush(stdout);
-    _exit(0); /* here the library that refuses tells what it counted */
-  }
+/* Each request of these refused in turn, up to the first number that isn't reached, and how many of them a status or an end
+ * told of: the others were made up for, as the archive was right. Nothing is held behind any of them. */
+static unsigned long refuses_each_request(void) {
+  unsigned long number = 0, told = 0;
+  do {
+    requests = 0;
+    refused = ++number;
+    bool without = any_without_memory();
+    EXPECT(blocks_held == 0 && (!without || requests >= number));
+    told += without;
+  } while (requests >= number);
+  refused = 0;
+  return told;
+}
+
+int main(void) {
   exports_one_block();
+  exports_a_job_of_parts();
+  refuses_parts();
+  goes_in_once();
   tells_a_skip();
   tells_refusals();
+  EXPECT(blocks_held == 0);
   shares_a_store();
-  EXPECT(!any_without_memory());
+  EXPECT(blocks_held == 0);
+  unsigned long told = refuses_each_request();
+  EXPECT(told > 50);
+  printf("%lu refused requests\n", told);
   return 0;
 }

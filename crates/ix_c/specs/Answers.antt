@@ -1,11 +1,11 @@
 -- What the calls of the C library answer, and what stands in their handles after.
-use Rattle.std.specs.Prelude.{◌≡◌, ◌≢◌, ℕ, List, [], ◌∷◌, ◌++◌, Option, Some, None, length, Result, Ok, Err}
+use Rattle.std.specs.Prelude.{◌≡◌, ◌≢◌, ℕ, true, List, [], ◌∷◌, ◌++◌, Option, Some, None, length, Result, Ok, Err}
 use Rattle.std.specs.Global.{Vec, Global}
 use Rattle.std_alloc.specs.declared.arc.Arc.{Arc}
 use Rattle.std.specs.Arc.{arc_value}
 use Rattle.std.specs.declared.alloc.AllocError.{AllocError}
 use Rattle.ix_walk.specs.Store.{Blocks}
-use Rattle.ix_walk.specs.JobMeaning.{JobMeaning}
+use Rattle.ix_walk.specs.JobMeaning.{JobMeaning, going_in}
 use Rattle.ix_car.specs.Reading.{blocks_of}
 use Rattle.ix_jobs.specs.Jobs.{jobs_of}
 use Rattle.ix_notation.specs.Notation.{IsSelectorHex}
@@ -20,6 +20,7 @@ use Rattle.ix_embedding.specs.declared.exported.Exported.{Exported}
 use Rattle.ix_embedding.specs.Adding.{HasAdded}
 use Rattle.ix_embedding.specs.Exporting.{HasExported}
 use Rattle.ix_embedding.specs.Failures.{IsStoreFailure, IsJobFailure, IsSelectorFailure}
+use Rattle.ix_embedding.specs.JobParts.{job_of_parts}
 use Rattle.ix_embedding.specs.Parts.{part_of}
 use Rattle.ix_c.specs.declared.status.Status.{Status}
 use Rattle.ix_c.specs.declared.status.Status.TheVariants.{Done, Memory, Refused, Handle, Known, NoCid, Range}
@@ -79,6 +80,15 @@ IsJobOf file (held.Exported out) = ⊥
 IsJobOf file (held.Text text) = ⊥
 IsJobOf file (held.Refusal line) = ⊥
 
+-- the job of these parts
+abbrev pub IsJobOfParts : List ℕ → List ℕ → ℕ → Held → Type 0
+IsJobOfParts roots selector limit (held.Job job) = job_of_parts roots selector limit ≡ Ok job
+IsJobOfParts roots selector limit (held.Open store) = ⊥
+IsJobOfParts roots selector limit (held.Frozen store) = ⊥
+IsJobOfParts roots selector limit (held.Exported out) = ⊥
+IsJobOfParts roots selector limit (held.Text text) = ⊥
+IsJobOfParts roots selector limit (held.Refusal line) = ⊥
+
 -- the hexadecimal of the selector of a JSON text
 abbrev pub IsSelectorTextOf : List ℕ → Held → Type 0
 IsSelectorTextOf json (held.Text hex) = IsSelectorHex json (hex.items ++ 10 ∷ [])
@@ -128,6 +138,20 @@ HasFrozen before after Refused = ⊥
 HasFrozen before after Known = ⊥
 HasFrozen before after NoCid = ⊥
 HasFrozen before after Range = ⊥
+
+-- the handle holds no job
+abbrev pub IsNoJob : Option Held → Type 0
+IsNoJob content = (job : JobMeaning) → content ≢ Some (held.Job job)
+
+-- what a call answers that has a job go into each CID once
+abbrev pub HasOnce : Option Held → Option Held → Status → Type 0
+HasOnce before after Done = (job : JobMeaning) × (before ≡ Some (held.Job job)) × (after ≡ Some (held.Job (going_in true job)))
+HasOnce before after Handle = (after ≡ before) × IsNoJob before
+HasOnce before after Memory = ⊥
+HasOnce before after Refused = ⊥
+HasOnce before after Known = ⊥
+HasOnce before after NoCid = ⊥
+HasOnce before after Range = ⊥
 
 -- a handle holds a frozen store of these blocks
 abbrev pub HoldsFrozen : Blocks → Option Held → Type 0

@@ -75,6 +75,12 @@ skip_told s = record { visit = s.seq; why = why_code s.verdict }
 abbrev pub IsNoResult : Option Held → Type 0
 IsNoResult content = (out : Exported) → content ≢ Some (held.Exported out)
 
+-- what a call answers that tells how a job ended, with what was told before and after
+abbrev pub HasEnd : Option Held → ℕ → ℕ → Status → Type 0
+HasEnd content before after Done = (out : Exported) × (content ≡ Some (held.Exported out)) × (after ≡ end_code out.result.end)
+HasEnd content before after Handle = IsNoResult content × (after ≡ before)
+HasEnd content before after other = ⊥
+
 -- what a call answers that tells of a job, with what was told before and after
 abbrev pub HasCounts : Option Held → Counts → Counts → Status → Type 0
 HasCounts content before after Done = (out : Exported) × (content ≡ Some (held.Exported out)) × (after ≡ counts_told out)

@@ -1,13 +1,13 @@
 //! What comes in: stores, jobs and selectors.
 
 ghost use Rattle.std.specs.Prelude.{[]};
-ghost use Rattle.ix_embedding.specs.Failures.{IsStoreFailure, IsJobFailure, IsSelectorFailure};
-ghost use Rattle.ix_c.specs.Answers.{IsMade, IsOpen, IsStoreOf, IsJobOf, IsSelectorTextOf, IsNoFailure};
+ghost use Rattle.ix_embedding.specs.Failures.{IsStoreFailure, IsJobFailure, IsPartsFailure, IsSelectorFailure};
+ghost use Rattle.ix_c.specs.Answers.{IsMade, IsOpen, IsStoreOf, IsJobOf, IsJobOfParts, IsSelectorTextOf, IsNoFailure};
 
 use crate::filling::fill;
 use crate::handle::Handle;
 use crate::status::Status;
-use ix_embedding::{Failure, Held, job_of_line, read_store, selector_of_json};
+use ix_embedding::{Failure, Held, job_of_line, job_of_parts, read_store, selector_of_json};
 use ix_walk::Store;
 use std::alloc::Global;
 
@@ -44,6 +44,29 @@ pub(crate) fn job_from_line(alloc: Global, job: &mut Handle, line: &[u8]) -> Sta
 {
     match job_of_line(alloc, line) {
         Ok(read) => match fill(alloc, job, Held::Job(read)) {
+            Ok(()) => Status::Done,
+            Err(_) => Status::Memory,
+        },
+        Err(Failure::Refused(line)) => match fill(alloc, job, Held::Refusal(line)) {
+            Ok(()) => Status::Refused,
+            Err(_) => Status::Memory,
+        },
+        Err(Failure::Memory) => Status::Memory,
+    }
+}
+
+/// Fills a handle with the job of these parts.
+pub(crate) fn job_new(
+    alloc: Global,
+    job: &mut Handle,
+    roots: &[u8],
+    selector: &[u8],
+    limit: u32,
+) -> Status
+    ensures { IsMade (IsJobOfParts roots.now selector.now limit) (IsPartsFailure roots.now selector.now limit) job.old.pointed.value job.new.pointed.value result }
+{
+    match job_of_parts(alloc, roots, selector, limit) {
+        Ok(made) => match fill(alloc, job, Held::Job(made)) {
             Ok(()) => Status::Done,
             Err(_) => Status::Memory,
         },

@@ -5,27 +5,31 @@
 //! many handles as there are threads.
 #![tactic(auto)]
 
-ghost use Rattle.std.specs.Prelude.{◌≡◌, [], None};
-ghost use Rattle.ix_embedding.specs.Failures.{IsStoreFailure, IsJobFailure, IsSelectorFailure};
+ghost use Rattle.std.specs.Prelude.{◌≡◌, [], None, Some};
+ghost use Rattle.ix_embedding.specs.Failures.{IsStoreFailure, IsJobFailure, IsPartsFailure, IsSelectorFailure};
+ghost use Rattle.ix_embedding.specs.declared.held.Part.TheVariants.{Archive, Report, Text};
 ghost use Rattle.ix_c.specs.Answers.{
   Told,
   IsMade,
   IsOpen,
   IsStoreOf,
   IsJobOf,
+  IsJobOfParts,
   IsSelectorTextOf,
   IsNoFailure,
   HasAddedTo,
   HasFrozen,
+  HasOnce,
   HasShared,
   IsExported,
 };
-ghost use Rattle.ix_c.specs.Results.{part_numbered, HasBytes, HasCopied, HasCounts, HasSkip};
+ghost use Rattle.ix_c.specs.Results.{part_numbered, HasBytes, HasCopied, HasEnd, HasCounts, HasSkip};
 
 mod exporting;
 mod filling;
 mod handle;
 mod inputs;
+mod jobs;
 mod loose;
 mod pointed;
 mod results;
@@ -35,14 +39,15 @@ mod stores;
 
 use crate::handle::Handle;
 use crate::results::{Counts, SkipTold};
+use ix_embedding::Part;
 use std::alloc::Global;
 
 /// The version of this interface: a number that grows where a call is added.
 #[unsafe(no_mangle)]
 pub extern "C" fn ix_version() -> u32
-    ensures { result ≡ 1 }
+    ensures { result ≡ 2 }
 {
-    1
+    2
 }
 
 /// Lets go of what a handle holds, which leaves it empty.
@@ -51,6 +56,30 @@ pub extern "C" fn ix_free(alloc: Global, handle: &mut Handle)
     ensures { handle.new.pointed.value ≡ None }
 {
     handle.take(alloc);
+}
+
+/// `ix_free`, of a store. The blocks go with the last of its handles.
+#[unsafe(no_mangle)]
+pub extern "C" fn ix_store_free(alloc: Global, store: &mut Handle)
+    ensures { store.new.pointed.value ≡ None }
+{
+    ix_free(alloc, store)
+}
+
+/// `ix_free`, of a job.
+#[unsafe(no_mangle)]
+pub extern "C" fn ix_job_free(alloc: Global, job: &mut Handle)
+    ensures { job.new.pointed.value ≡ None }
+{
+    ix_free(alloc, job)
+}
+
+/// `ix_free`, of a result.
+#[unsafe(no_mangle)]
+pub extern "C" fn ix_result_free(alloc: Global, exported: &mut Handle)
+    ensures { exported.new.pointed.value ≡ None }
+{
+    ix_free(alloc, exported)
 }
 
 /// Fills a handle with an open store without blocks.
@@ -102,6 +131,29 @@ pub extern "C" fn ix_job_from_line(alloc: Global, job: &mut Handle, line: &[u8])
     inputs::job_from_line(alloc, job, line).code()
 }
 
+/// Fills a handle with the job that has these parts: the CIDs of its roots in binary, end to end, its selector as DAG-CBOR,
+/// and its limit of visits. Its name is `job`.
+#[unsafe(no_mangle)]
+pub extern "C" fn ix_job_new(
+    alloc: Global,
+    job: &mut Handle,
+    roots: &[u8],
+    selector: &[u8],
+    limit: u32,
+) -> u32
+    ensures { Told (IsMade (IsJobOfParts roots.now selector.now limit) (IsPartsFailure roots.now selector.now limit) job.old.pointed.value job.new.pointed.value) result }
+{
+    inputs::job_new(alloc, job, roots, selector, limit).code()
+}
+
+/// Has a job go into each CID once, and not at every arrival.
+#[unsafe(no_mangle)]
+pub extern "C" fn ix_job_once(alloc: Global, job: &mut Handle) -> u32
+    ensures { Told (HasOnce job.old.pointed.value job.new.pointed.value) result }
+{
+    jobs::once(alloc, job).code()
+}
+
 /// Fills a handle with the hexadecimal of the selector of a JSON text, which is the last field of a job's line.
 #[unsafe(no_mangle)]
 pub extern "C" fn ix_selector_from_json(alloc: Global, text: &mut Handle, json: &[u8]) -> u32
@@ -125,6 +177,15 @@ pub extern "C" fn ix_export(
     exporting::export_into(alloc, store, job, out).code()
 }
 
+/// How the job of a result ended.
+#[unsafe(no_mangle)]
+pub extern "C" fn ix_result_end(alloc: Global, handle: &mut Handle, end: &mut u32) -> u32
+    ensures end { Told (HasEnd handle.old.pointed.value end.old end.new) result }
+    ensures kept { handle.new.pointed.value ≡ handle.old.pointed.value }
+{
+    results::result_end(alloc, handle, end).code()
+}
+
 /// How a job ended, and what was counted.
 #[unsafe(no_mangle)]
 pub extern "C" fn ix_result_counts(alloc: Global, handle: &mut Handle, counts: &mut Counts) -> u32
@@ -132,6 +193,20 @@ pub extern "C" fn ix_result_counts(alloc: Global, handle: &mut Handle, counts: &
     ensures kept { handle.new.pointed.value ≡ handle.old.pointed.value }
 {
     results::result_counts(alloc, handle, counts).code()
+}
+
+/// Where the archive of a result begins and how long it is.
+#[unsafe(no_mangle)]
+pub extern "C" fn ix_result_archive(
+    alloc: Global,
+    handle: &mut Handle,
+    archive: &mut *const u8,
+    length: &mut usize,
+) -> u32
+    ensures bytes { Told (HasBytes (Some Archive) handle.old.pointed.value length.old length.new) result }
+    ensures kept { handle.new.pointed.value ≡ handle.old.pointed.value }
+{
+    results::part_bytes(alloc, handle, Part::Archive, archive, length).code()
 }
 
 /// A skip of a result by its number, from 0, and where its CID begins and how long it is.
@@ -148,6 +223,34 @@ pub extern "C" fn ix_result_skip(
     ensures kept { handle.new.pointed.value ≡ handle.old.pointed.value }
 {
     results::result_skip(alloc, handle, number, skip, cid, length).code()
+}
+
+/// Where the report of a result begins and how long it is.
+#[unsafe(no_mangle)]
+pub extern "C" fn ix_result_report(
+    alloc: Global,
+    handle: &mut Handle,
+    report: &mut *const u8,
+    length: &mut usize,
+) -> u32
+    ensures bytes { Told (HasBytes (Some Report) handle.old.pointed.value length.old length.new) result }
+    ensures kept { handle.new.pointed.value ≡ handle.old.pointed.value }
+{
+    results::part_bytes(alloc, handle, Part::Report, report, length).code()
+}
+
+/// Where the line of a refusal begins and how long it is.
+#[unsafe(no_mangle)]
+pub extern "C" fn ix_fault_line(
+    alloc: Global,
+    handle: &mut Handle,
+    line: &mut *const u8,
+    length: &mut usize,
+) -> u32
+    ensures bytes { Told (HasBytes (Some Text) handle.old.pointed.value length.old length.new) result }
+    ensures kept { handle.new.pointed.value ≡ handle.old.pointed.value }
+{
+    results::part_bytes(alloc, handle, Part::Text, line, length).code()
 }
 
 /// Where a part of what a handle holds begins and how long it is: the archive, the report, or a text.

@@ -1,7 +1,7 @@
 //! What a handle holds, as C reads it.
 
 ghost use Rattle.std.specs.Prelude.{◌≡◌, Some};
-ghost use Rattle.ix_c.specs.Results.{end_code, why_code, part_numbered, counts_told, skip_told, HasBytes, HasCopied, IsCopied, HasCounts, HasSkip};
+ghost use Rattle.ix_c.specs.Results.{end_code, why_code, part_numbered, counts_told, skip_told, HasBytes, HasCopied, IsCopied, HasEnd, HasCounts, HasSkip};
 
 use crate::handle::Handle;
 use crate::start::start_of;
@@ -79,7 +79,8 @@ fn part_numbered(number: u32) -> Option<Part>
     }
 }
 
-/// Where the bytes of a part begin and how many they are. They stay there until the handle is filled or freed.
+/// Where the bytes of the part with a number begin and how many they are. They stay there until the handle is filled or
+/// freed.
 pub(crate) fn bytes(
     alloc: Global,
     handle: &mut Handle,
@@ -90,9 +91,23 @@ pub(crate) fn bytes(
     ensures bytes { HasBytes (part_numbered part) handle.old.pointed.value length.old length.new result }
     ensures kept { handle.new.pointed.value ≡ handle.old.pointed.value }
 {
-    let Some(part) = part_numbered(part) else {
-        return Status::Range;
-    };
+    match part_numbered(part) {
+        Some(part) => part_bytes(alloc, handle, part, start, length),
+        None => Status::Range,
+    }
+}
+
+/// The same of a part.
+pub(crate) fn part_bytes(
+    alloc: Global,
+    handle: &mut Handle,
+    part: Part,
+    start: &mut *const u8,
+    length: &mut usize,
+) -> Status
+    ensures bytes { HasBytes (Some part) handle.old.pointed.value length.old length.new result }
+    ensures kept { handle.new.pointed.value ≡ handle.old.pointed.value }
+{
     let Some(held) = handle.take(alloc) else {
         return Status::Handle;
     };
@@ -157,6 +172,30 @@ fn copy_from(bytes: &[u8], from: usize, buffer: &mut [u8]) -> usize
     let count = rest.len().min(buffer.len());
     buffer[..count].copy_from_slice(&rest[..count]);
     count
+}
+
+/// How a job that was exported ended.
+pub(crate) fn result_end(alloc: Global, handle: &mut Handle, end: &mut u32) -> Status
+    ensures end { HasEnd handle.old.pointed.value end.old end.new result }
+    ensures kept { handle.new.pointed.value ≡ handle.old.pointed.value }
+{
+    let Some(held) = handle.take(alloc) else {
+        return Status::Handle;
+    };
+    let status = end_of(&held, end);
+    handle.put(alloc, held);
+    status
+}
+
+// How a job ended, if this is what an export left.
+fn end_of(held: &Held, end: &mut u32) -> Status
+    ensures { HasEnd (Some held.now) end.old end.new result }
+{
+    let Held::Exported(out) = held else {
+        return Status::Handle;
+    };
+    *end = end_code(out.result.end);
+    Status::Done
 }
 
 /// What is told of a job that was exported.

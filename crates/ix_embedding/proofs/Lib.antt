@@ -1,2 +1,3 @@
+pub mod JobRoots
 pub mod OneCid
 pub mod Runs

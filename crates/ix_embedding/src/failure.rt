@@ -1,12 +1,14 @@
 //! Why a call of who embeds the exporter fails.
 
-ghost use Rattle.std.specs.Prelude.{codes};
+ghost use Rattle.std.specs.Prelude.{◌≡◌};
 ghost use Rattle.ix_run.specs.FaultLine.{line_of};
 ghost use Rattle.ix_notation.specs.FaultWords.{line_of as selector_line_of};
-ghost use Rattle.ix_embedding.specs.Failures.{IsFailureBy};
+ghost use Rattle.ix_embedding.specs.Failures.{IsFailureBy, parts_line, job_words};
 
+use crate::job_parts::PartsFault;
 use ix_notation::NotationFault;
 use ix_run::RunFault;
+use ix_walk::JobFault;
 use std::alloc::Global;
 
 /// Why a call fails.
@@ -29,11 +31,11 @@ impl Failure {
         }
     }
 
-    // The failure of a line that isn't one job.
-    pub(crate) fn not_one_job(alloc: Global) -> Failure
-        ensures { IsFailureBy (codes "jobs: not one job") result }
+    // The failure with these words.
+    pub(crate) fn of_words(alloc: Global, words: &str) -> Failure
+        ensures { IsFailureBy words.now result }
     {
-        match Vec::from_slice(alloc, b"jobs: not one job") {
+        match Vec::from_slice(alloc, words.as_bytes()) {
             Ok(line) => Failure::Refused(line),
             Err(_) => Failure::Memory,
         }
@@ -47,5 +49,33 @@ impl Failure {
             Ok(line) => Failure::Refused(line.into_bytes()),
             Err(_) => Failure::Memory,
         }
+    }
+
+    // The failure of parts that make no job.
+    pub(crate) fn of_parts(alloc: Global, fault: PartsFault) -> Failure
+        ensures { IsFailureBy (parts_line fault) result }
+    {
+        match fault {
+            PartsFault::Root(fault) => Failure::of_run(alloc, &RunFault::Root(fault)),
+            PartsFault::Block(fault) => Failure::of_notation(alloc, &NotationFault::Block(fault)),
+            PartsFault::Selector(fault) => Failure::of_notation(
+                alloc,
+                &NotationFault::Selector(fault),
+            ),
+            PartsFault::Job(fault) => Failure::of_words(alloc, job_words(fault)),
+            PartsFault::Memory => Failure::Memory,
+        }
+    }
+}
+
+// The words for a limit or a number of roots that no job has.
+fn job_words(fault: JobFault) -> &'static str
+    ensures { result.now ≡ job_words fault }
+{
+    match fault {
+        JobFault::Name => "job: name",
+        JobFault::LimitZero | JobFault::LimitTooLarge => "job: limit",
+        JobFault::NoRoot => "job: no root",
+        JobFault::TooManyRoots => "job: too many roots",
     }
 }

@@ -77,7 +77,7 @@ fn only_job(alloc: Global, jobs: Vec<Job>) -> Result<Job, Failure>
     let mut jobs = jobs;
     match (jobs.pop(), jobs.is_empty()) {
         (Some(job), true) => Ok(job),
-        _ => Err(Failure::not_one_job(alloc)),
+        _ => Err(Failure::of_words(alloc, "jobs: not one job")),
     }
 }
 

@@ -131,6 +131,18 @@ impl Job {
     pub fn from_line(line: &str) -> Result<Job, Error> {
         Handle::filled(|handle| raw::job_from_line(handle, line.as_bytes())).map(Job)
     }
+
+    /// The job with these roots, CIDs in binary, a selector as DAG-CBOR and a limit of visits.
+    pub fn new(roots: &[&[u8]], selector: &[u8], limit: u32) -> Result<Job, Error> {
+        let roots = roots.concat();
+        Handle::filled(|handle| raw::job_new(handle, &roots, selector, limit)).map(Job)
+    }
+
+    /// The same job, which goes into each CID once, and not at every arrival.
+    pub fn once(mut self) -> Job {
+        raw::job_once(&mut self.0);
+        self
+    }
 }
 
 /// The hexadecimal of the selector of a JSON text, the last field of a job's line.

@@ -45,6 +45,15 @@ extern "C" {
     fn ix_store_freeze(store: &mut Handle) -> u32;
     fn ix_store_share(store: &mut Handle, other: &mut Handle) -> u32;
     fn ix_job_from_line(job: &mut Handle, line: *const u8, line_length: usize) -> u32;
+    fn ix_job_new(
+        job: &mut Handle,
+        roots: *const u8,
+        roots_length: usize,
+        selector: *const u8,
+        selector_length: usize,
+        limit: u32,
+    ) -> u32;
+    fn ix_job_once(job: &mut Handle) -> u32;
     fn ix_selector_from_json(text: &mut Handle, json: *const u8, json_length: usize) -> u32;
     fn ix_export(store: &mut Handle, job: &mut Handle, out: &mut Handle) -> u32;
     fn ix_result_counts(handle: &mut Handle, counts: &mut Counts) -> u32;
@@ -87,6 +96,14 @@ pub(crate) fn store_share(store: &mut Handle, other: &mut Handle) -> u32 {
 
 pub(crate) fn job_from_line(job: &mut Handle, line: &[u8]) -> u32 {
     unsafe { ix_job_from_line(job, line.as_ptr(), line.len()) }
+}
+
+pub(crate) fn job_new(job: &mut Handle, roots: &[u8], selector: &[u8], limit: u32) -> u32 {
+    unsafe { ix_job_new(job, roots.as_ptr(), roots.len(), selector.as_ptr(), selector.len(), limit) }
+}
+
+pub(crate) fn job_once(job: &mut Handle) -> u32 {
+    unsafe { ix_job_once(job) }
 }
 
 pub(crate) fn selector_from_json(text: &mut Handle, json: &[u8]) -> u32 {

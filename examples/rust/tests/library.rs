@@ -48,4 +48,17 @@ fn what_is_refused_is_told_in_the_programs_words() {
     assert_eq!(selector_from_json(r#"{".":{}}"#).unwrap(), "a1612ea0");
     let mut store = Builder::new().unwrap();
     assert_eq!(store.add(b"abc", b"abc"), Err(Error::NoCid));
+    assert_eq!(Job::new(&[], MATCHER, 1).map(|_| ()).unwrap_err(), Error::Refused("job: no root".into()));
+}
+
+// The selector {".":{}} as DAG-CBOR.
+const MATCHER: &[u8] = b"\xa1\x61.\xa0";
+
+#[test]
+fn a_job_of_parts_has_these_roots() {
+    // Two raw blocks under identity CIDs, which need no section.
+    let roots: [&[u8]; 2] = [b"\x01\x55\x00\x01a", b"\x01\x55\x00\x01b"];
+    let store = Builder::new().unwrap().freeze().unwrap();
+    let mut out = store.export(&mut Job::new(&roots, MATCHER, 2).unwrap().once()).unwrap();
+    assert_eq!((out.end(), out.counts().visits, out.counts().sections), (End::Done, 2, 0));
 }

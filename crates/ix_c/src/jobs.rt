@@ -1,0 +1,33 @@
+//! What is done with a job.
+
+ghost use Rattle.std.specs.Prelude.{Some};
+ghost use Rattle.ix_c.specs.Answers.{HasOnce};
+
+use crate::handle::Handle;
+use crate::status::Status;
+use ix_embedding::Held;
+use std::alloc::Global;
+
+/// Has a job go into each CID once, and not at every arrival.
+pub(crate) fn once(alloc: Global, job: &mut Handle) -> Status
+    ensures { HasOnce job.old.pointed.value job.new.pointed.value result }
+{
+    let Some(mut held) = job.take(alloc) else {
+        return Status::Handle;
+    };
+    let content = Box::replace(&mut held, Held::Text(Vec::new(alloc)));
+    let (content, status) = once_of(content);
+    Box::replace(&mut held, content);
+    job.put(alloc, held);
+    status
+}
+
+// The same, which goes in once if it is a job.
+fn once_of(held: Held) -> (Held, Status)
+    ensures { HasOnce (Some held) (Some result.0) result.1 }
+{
+    match held {
+        Held::Job(job) => (Held::Job(job.once()), Status::Done),
+        other => (other, Status::Handle),
+    }
+}
