@@ -4,7 +4,7 @@ _ix_export() {
   COMPREPLY=()
   for it in "${COMP_WORDS[@]:1:COMP_CWORD-1}"; do
     case $it in
-      jobs | job | check-jobs | selector | root | inspect | verify)
+      get | jobs | job | check-jobs | selector | root | inspect | verify)
         command=$it
         break
         ;;
@@ -17,7 +17,9 @@ _ix_export() {
       return
       ;;
     --out)
-      mapfile -t COMPREPLY < <(compgen -d -- "$word")
+      it=-d
+      [ "$command" != get ] || it=-f
+      mapfile -t COMPREPLY < <(compgen "$it" -- "$word")
       compopt -o filenames 2>/dev/null
       return
       ;;
@@ -25,9 +27,10 @@ _ix_export() {
       mapfile -t COMPREPLY < <(compgen -W '1 2 4 8 16 32 64' -- "$word")
       return
       ;;
-    --cid | --hex | --part) return ;;
+    --root | --selector | --selector-hex | --limit | --cid | --hex | --part) return ;;
   esac
   case $command in
+    get) it='--blocks --root --selector --selector-hex --limit --every-arrival --out --walkers --verifiers --sync --progress --quiet --help' ;;
     jobs) it='--blocks --jobs --out --part --walkers --verifiers --once --sync --complete --progress --quiet --help' ;;
     job) it='--help' ;;
     check-jobs) it='--help' ;;
@@ -35,7 +38,7 @@ _ix_export() {
     root) it='--cid --help' ;;
     inspect) it='--list --help' ;;
     verify) it='--blocks-only --verifiers --help' ;;
-    *) it='jobs job check-jobs selector root inspect verify --help --version' ;;
+    *) it='get jobs job check-jobs selector root inspect verify --help --version' ;;
   esac
   case $command in
     check-jobs | inspect | verify)

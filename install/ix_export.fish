@@ -2,6 +2,7 @@
 complete -c ix_export -f
 complete -c ix_export -n __fish_use_subcommand -s h -l help -d 'Print the help'
 complete -c ix_export -n __fish_use_subcommand -s V -l version -d 'Print the version'
+complete -c ix_export -n __fish_use_subcommand -a get -d 'Write the archive of what is below a root'
 complete -c ix_export -n __fish_use_subcommand -a jobs -d 'Write an archive for each job of a job file, and a report'
 complete -c ix_export -n __fish_use_subcommand -a job -d 'Print the line of a job for a job file'
 complete -c ix_export -n __fish_use_subcommand -a check-jobs -d 'Say what is wrong with each line of a job file'
@@ -9,6 +10,20 @@ complete -c ix_export -n __fish_use_subcommand -a selector -d 'Turn a selector f
 complete -c ix_export -n __fish_use_subcommand -a root -d 'Write the archive of one root'
 complete -c ix_export -n __fish_use_subcommand -a inspect -d 'Tell what stands in a CARv1 file'
 complete -c ix_export -n __fish_use_subcommand -a verify -d 'Tell whether CARv1 files are sound'
+
+complete -c ix_export -n '__fish_seen_subcommand_from get' -s h -l help -d 'Print the help'
+complete -c ix_export -n '__fish_seen_subcommand_from get' -l blocks -r -F -d 'The blocks: a CARv1 file'
+complete -c ix_export -n '__fish_seen_subcommand_from get' -l root -x -d 'The roots, with one comma between'
+complete -c ix_export -n '__fish_seen_subcommand_from get' -l selector -x -d 'Which ways it goes, as JSON'
+complete -c ix_export -n '__fish_seen_subcommand_from get' -l selector-hex -x -d 'The same in hexadecimal'
+complete -c ix_export -n '__fish_seen_subcommand_from get' -l limit -x -d 'Most arrivals, 1 to 1000000'
+complete -c ix_export -n '__fish_seen_subcommand_from get' -l every-arrival -d 'Go into what is shared at every arrival, not once'
+complete -c ix_export -n '__fish_seen_subcommand_from get' -l out -r -F -d 'Where the archive goes'
+complete -c ix_export -n '__fish_seen_subcommand_from get' -l walkers -x -d 'How many threads walk, 1 to 64'
+complete -c ix_export -n '__fish_seen_subcommand_from get' -l verifiers -x -d 'How many threads hash, 1 to 64'
+complete -c ix_export -n '__fish_seen_subcommand_from get' -l sync -d 'The archive is on the disk before it gets its name'
+complete -c ix_export -n '__fish_seen_subcommand_from get' -l progress -d 'Tell on standard error how the run goes on'
+complete -c ix_export -n '__fish_seen_subcommand_from get' -l quiet -d 'Tell nothing of that'
 
 complete -c ix_export -n '__fish_seen_subcommand_from jobs' -s h -l help -d 'Print the help'
 complete -c ix_export -n '__fish_seen_subcommand_from jobs' -l blocks -r -F -d 'The blocks: a CARv1 file'

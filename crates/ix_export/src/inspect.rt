@@ -13,17 +13,18 @@ use std::rt::Files;
 
 const ABOUT: &str = "Tells what stands in a CARv1 file, without hashing";
 
-const HELP: &str =
-    "FILE is a CARv1 file; - is standard input. Told are its roots, its size, how many sections it has\n\
-and how many of them have a CID that has stood before, how many there are of each codec and of each\n\
-hash function (by the names of the multicodec table, or as numbers), and the smallest, the median\n\
-and the greatest size of a block.\n\
+const HELP: &str = "FILE is a CARv1 file; - is standard input. Told are its roots, its size, how\n\
+many sections it has and how many of them have a CID that has stood before, how\n\
+many there are of each codec and of each hash function (by the names of the\n\
+multicodec table, or as numbers), and the smallest, the median and the greatest\n\
+size of a block.\n\
 \n\
-With --list there is a line for each section in place of that, PLACE SIZE CID: where its length\n\
-stands, in bytes from the front of the file, the size of its block, and the CID as in a job file.\n\
+With --list there is a line for each section in place of that, PLACE SIZE CID:\n\
+where its length stands, in bytes from the front of the file, the size of its\n\
+block, and the CID as in a job file.\n\
 \n\
-Of a file that is no CARv1 file a line on standard error says what it is, and of one that ends\n\
-early, how its whole sections are kept.\n\
+Of a file that is no CARv1 file a line on standard error says what it is, and\n\
+of one that ends early, how its whole sections are kept.\n\
 \n\
 Status: 0, or 2 where the words or the file are refused.";
 
@@ -118,7 +119,7 @@ fn push_summary(text: &mut String, summary: &Summary, bytes: usize) -> Result<()
     for (code, count) in summary.hashes.iter() {
         push_count(text, "hash", hash_name(*code), *code, *count)?;
     }
-    push_sizes(text, summary.sizes.as_slice())
+    push_sizes(text, summary)
 }
 
 // A line for a code, by its name where it has one.
@@ -135,13 +136,12 @@ fn push_count(
     }
 }
 
-// The smallest, the median and the greatest of sizes in their order.
-fn push_sizes(text: &mut String, sizes: &[usize]) -> Result<(), AllocError> {
-    let middle = sizes.len().saturating_sub(1) / 2;
+// The smallest, the median and the greatest size, if there are sections.
+fn push_sizes(text: &mut String, summary: &Summary) -> Result<(), AllocError> {
     if let (Some(smallest), Some(median), Some(greatest)) = (
-        sizes.first(),
-        sizes.get(middle),
-        sizes.last(),
+        summary.smallest(),
+        summary.median(),
+        summary.greatest(),
     ) {
         writeln!(
             text,

@@ -10,6 +10,8 @@
 //! ```
 #![tactic(auto)]
 
+mod get;
+mod get_words;
 mod inspect;
 mod job_file;
 mod job_words;
@@ -51,15 +53,25 @@ const SHORT_RUN: u64 = 2_000;
 // Where standard input stands among the files.
 const STANDARD_INPUT_FILE: &str = "/dev/stdin";
 
+// Which of the standard streams that are written are terminals.
+#[derive(Clone, Copy)]
+struct Terminals {
+    output: bool,
+    errors: bool,
+}
+
 fn main(rt: HostRuntime) -> ExitCode {
-    let is_terminal = rt.stderr().is_terminal();
-    match obey(&rt, is_terminal) {
+    let terminals = Terminals {
+        output: rt.stdout().is_terminal(),
+        errors: rt.stderr().is_terminal(),
+    };
+    match obey(&rt, terminals) {
         Ok(status) => ExitCode::from(status),
         Err(failure) => ExitCode::from(failure.report(&rt)),
     }
 }
 
-// Does what the words say, and answers the status. Told is whether standard error is a terminal.
+// Does what the words say, and answers the status.
 fn obey<
     R: AllocGlobal
         + Clock
@@ -71,10 +83,10 @@ fn obey<
         + Threads
         + Wait
         + Sync,
->(rt: &R, is_terminal: bool) -> Result<u8, Failure> {
+>(rt: &R, terminals: Terminals) -> Result<u8, Failure> {
     let words = words_of(rt)?;
     let matches = command_line(rt.alloc())?.try_get_matches_from(words.as_slice())?;
-    obey_command(rt, &matches, is_terminal)
+    obey_command(rt, &matches, terminals)
 }
 
 // The words that the program was started with.
@@ -87,9 +99,12 @@ fn words_of<R: AllocGlobal + Env>(rt: &R) -> Result<Vec<String>, Failure> {
 fn obey_command<
     'a,
     R: AllocGlobal + Clock + Eprint + Files<File = File> + Input + Print + Threads + Wait + Sync,
->(rt: &R, matches: &ArgMatches<'a>, is_terminal: bool) -> Result<u8, Failure> {
+>(rt: &R, matches: &ArgMatches<'a>, terminals: Terminals) -> Result<u8, Failure> {
+    if let Some(words) = matches.subcommand_matches("get") {
+        return get::get(rt, words, terminals);
+    }
     if let Some(words) = matches.subcommand_matches("jobs") {
-        return export_jobs(rt, words, is_terminal);
+        return export_jobs(rt, words, terminals.errors);
     }
     if let Some(words) = matches.subcommand_matches("selector") {
         return convert_selector(rt, words);

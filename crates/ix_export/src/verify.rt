@@ -17,26 +17,28 @@ const BROKEN: u8 = 3;
 
 const REFUSED: u8 = 2;
 
-const ABOUT: &str = "Tells whether CARv1 files are sound: every section, and all below the roots";
+const ABOUT: &str = "Tells whether CARv1 files are sound: sections, and all below roots";
 
-const HELP: &str =
-    "Each FILE is a CARv1 file; - is standard input. Each section is judged by its own bytes: whether\n\
-the hash of its block is the digest of its CID, and whether DAG-CBOR is such. Then everything below\n\
-each root of the header is walked. With --blocks-only that is left out.\n\
+const HELP: &str = "Each FILE is a CARv1 file; - is standard input. Each section is judged by its\n\
+own bytes: whether the hash of its block is the digest of its CID, and whether\n\
+DAG-CBOR is such. Then everything below each root of the header is walked. With\n\
+--blocks-only that is left out.\n\
 \n\
 A line tells of each file\n\
 \n\
   FILE sound sections=N bytes=B\n\
   FILE broken sections=N bytes=B unsound=U skips=S\n\
 \n\
-Behind the second stand a line for each section that isn't sound, `section PLACE WORD CID` with the\n\
-byte at which its length stands, and one for each link that leads to nothing sound, `link WORD CID`.\n\
-The words are codec (neither raw nor DAG-CBOR), hash (neither SHA-256, SHA-512 nor identity),\n\
-missing, damaged and malformed. A walk from a root arrives at most 1000000 times; where more is\n\
-below, the file isn't called sound, and a line `limit` says so. A header without roots calls for\n\
-nothing.\n\
+Behind the second stand a line for each section that isn't sound, `section\n\
+PLACE WORD CID` with the byte at which its length stands, and one for each link\n\
+that leads to nothing sound, `link WORD CID`. The words are codec (neither raw\n\
+nor DAG-CBOR), hash (neither SHA-256, SHA-512 nor identity), missing, damaged\n\
+and malformed. A walk from a root arrives at most 1000000 times; where more is\n\
+below, the file isn't called sound, and a line `limit` says so. A header\n\
+without roots calls for nothing.\n\
 \n\
-Status: 0 where all is sound, 3 where something isn't, 2 where the words or a file are refused.";
+Status: 0 where all is sound, 3 where something isn't, 2 where the words or a\n\
+file are refused.";
 
 /// The command's words.
 pub fn verify_command<'a>(alloc: Global) -> Result<Command<'a>, AllocError> {

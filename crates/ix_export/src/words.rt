@@ -1,5 +1,6 @@
 //! The words of the command line.
 
+use crate::get_words::get_command;
 use crate::inspect::inspect_command;
 use crate::job_words::{check_jobs_command, job_command};
 use crate::verify::verify_command;
@@ -82,8 +83,7 @@ done and something was skipped, 4 where a job ended otherwise, 2 where the\n\
 words or a file are refused, with a line on standard error. A file has at most\n\
 1073741824 bytes.";
 
-const SELECTOR_ABOUT: &str =
-    "Turns a selector from JSON into the hexadecimal of a job file, or back";
+const SELECTOR_ABOUT: &str = "Turns a selector from JSON into hexadecimal, or back";
 
 const SELECTOR_HELP: &str =
     "JSON has the keys of the IPLD Selectors specification. All below a root is\n\
@@ -107,6 +107,7 @@ pub fn command_line<'a>(alloc: Global) -> Result<Command<'a>, AllocError> {
 // The commands that stand behind the program's name.
 fn commands<'a>(alloc: Global) -> Result<Vec<Command<'a>>, AllocError> {
     let mut commands = Vec::new(alloc);
+    commands.push(get_command(alloc)?)?;
     commands.push(jobs_command(alloc)?)?;
     commands.push(job_command(alloc)?)?;
     commands.push(check_jobs_command(alloc)?)?;
@@ -191,8 +192,8 @@ fn selector_command<'a>(alloc: Global) -> Result<Command<'a>, AllocError> {
         .args(vec![in alloc; json, hex]?)
 }
 
-// An option with a text that must be given.
-fn text_argument<'a>(alloc: Global, name: &'a str, value: &'a str, help: &'a str) -> Arg<'a> {
+/// An option with a text that must be given.
+pub fn text_argument<'a>(alloc: Global, name: &'a str, value: &'a str, help: &'a str) -> Arg<'a> {
     Arg::new(alloc, name)
         .long(name)
         .value_name(value)

@@ -48,9 +48,13 @@ pub record NamesOutput (folder : List ℕ) (jobs : List JobMeaning) (failure : F
   pub among : Contains jobs job
   pub names : Names CannotWrite (output_path folder job.name) failure
 
--- the failure names the output of this job, or memory ran out
+-- an output of this path can't be made, or memory ran out
+abbrev pub IsPathFailure : List ℕ → Failure → Type 0
+IsPathFailure path failure = Names CannotWrite path failure
+
+-- the same of the output of a job
 abbrev pub IsFailureOf : List ℕ → JobMeaning → Failure → Type 0
-IsFailureOf folder job failure = Names CannotWrite (output_path folder job.name) failure
+IsFailureOf folder job failure = IsPathFailure (output_path folder job.name) failure
 
 -- an output can't be made, or memory ran out
 abbrev pub IsOutputFailure : List ℕ → List JobMeaning → Failure → Type 0

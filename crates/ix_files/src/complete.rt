@@ -1,14 +1,17 @@
 //! Names for complete archives alone.
 
-ghost use Rattle.std.specs.Prelude.{IfErr};
-ghost use Rattle.ix_files.specs.Failure.{IsFailureOf, IsOutputFailure};
+ghost use Rattle.std.specs.Prelude.{◌≡◌, IfOk, IfErr};
+ghost use Rattle.ix_run.specs.Complete.{is_complete};
+ghost use Rattle.ix_files.specs.Complete.{met_roots_alone};
+ghost use Rattle.ix_files.specs.Failure.{IsFailureOf, IsOutputFailure, IsPathFailure};
 
 use crate::fault::Failure;
-use crate::outputs::name_output;
+use crate::outputs::{name_job, name_output, path_of};
 use ix_car::End;
 use ix_jobs::JobResult;
 use ix_run::{is_complete, is_root};
 use ix_walk::Job;
+use std::alloc::AllocError;
 use std::io::BufWriter;
 use std::rt::Files;
 
@@ -52,31 +55,57 @@ fn name_or_leave<R: AllocGlobal + Eprint + Files>(
     ensures refused { IfErr result (λ failure. IsFailureOf folder.now job.now failure) }
 {
     if is_complete(job, outcome) {
-        name_output(rt, folder, job, output, sync)
-    } else {
-        tell_left(rt, folder, job, outcome)
+        return name_job(rt, folder, job, output, sync);
     }
+    let path = path_of(rt.alloc(), folder, job)?;
+    Ok(tell_left(rt, path.as_str(), job, outcome)?)
 }
 
-// Tells why an archive got no name.
-fn tell_left<R: AllocGlobal + Eprint>(
+/// The same of the one archive that was written for a path: it gets its name where its job is done with
+/// all its roots written, which is answered, and else stays as it was written.
+pub fn name_complete_output<R: AllocGlobal + Eprint + Files>(
     rt: &R,
-    folder: &str,
+    path: &str,
     job: &Job,
     outcome: &JobResult,
-) -> Result<(), Failure>
-    ensures refused { IfErr result (λ failure. IsFailureOf folder.now job.now failure) }
+    output: &BufWriter<R::File>,
+    sync: bool,
+) -> Result<bool, Failure>
+    ensures named { IfOk result (λ named. named ≡ is_complete job.now outcome.now) }
+    ensures refused { IfErr result (λ failure. IsPathFailure path.now failure) }
 {
-    let name = job.name();
+    let named = is_complete(job, outcome);
+    if named {
+        name_output(rt, path, output, sync)?;
+    } else {
+        tell_left(rt, path, job, outcome)?;
+    }
+    Ok(named)
+}
+
+/// Whether a job has all that it asks for, and has met nothing but its roots.
+pub fn met_roots_alone(job: &Job, told: &JobResult) -> bool
+    ensures { result ≡ met_roots_alone job.now told.now }
+{
+    is_complete(job, told) && told.counts.visits as usize == job.roots().len()
+}
+
+// Tells why an archive didn't get its path.
+fn tell_left<R: AllocGlobal + Eprint>(
+    rt: &R,
+    path: &str,
+    job: &Job,
+    outcome: &JobResult,
+) -> Result<(), AllocError> {
     let mut skips = outcome.skips.iter();
     // Where standard error can't be written there is nobody to tell.
     let _ = match (outcome.end, skips.find(|skip| is_root(job, &skip.cid))) {
         (End::Done, Some(skip)) => {
             let root = skip.cid.text(rt.alloc())?;
             let verdict = skip.verdict;
-            eprintln!(rt; "left {folder}/{name}.car.part: its root {root} is {verdict}")
+            eprintln!(rt; "left {path}.part: its root {root} is {verdict}")
         }
-        (end, _) => eprintln!(rt; "left {folder}/{name}.car.part: its job ended with {end}"),
+        (end, _) => eprintln!(rt; "left {path}.part: its job ended with {end}"),
     };
     Ok(())
 }

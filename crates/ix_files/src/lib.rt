@@ -2,7 +2,8 @@
 //! ends early.
 //!
 //! An input has at most 1 GiB, and is all that its reader has where that is known. There is an
-//! output for each job, as `.part` until `name_outputs` gives it the final name. A refusal names
+//! output for each job, as `.part` until `name_outputs` gives it the final name; `make_output` and
+//! `name_complete_output` are the same for one path. A refusal names
 //! its path, or is want of memory, and its status is 2. No contract says what files hold.
 //!
 //! ```rust
@@ -21,9 +22,11 @@ mod fault;
 mod files;
 mod outputs;
 mod progress;
+mod report;
 
-pub use complete::name_complete_outputs;
+pub use complete::{met_roots_alone, name_complete_output, name_complete_outputs};
 pub use fault::Failure;
 pub use files::{STANDARD_INPUT, StandIns, load_input, read_all, read_file, read_input, stand_in};
-pub use outputs::{make_outputs, name_outputs, remove_outputs};
+pub use outputs::{make_output, make_outputs, name_outputs, remove_output, remove_outputs};
 pub use progress::{Progress, Telling};
+pub use report::tell_report;

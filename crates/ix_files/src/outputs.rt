@@ -1,12 +1,13 @@
 //! The outputs of a run: files that get their names once their archives are whole.
 //!
 //! The archive of a job is written to `DIR/NAME.car.part`, and renamed to `DIR/NAME.car` when the run
-//! has ended and the job is told as done or limit, before the report is printed. From when it is made
+//! has ended and the job is told as done or limit, before the report is printed. An output of one path
+//! goes the same way, from `PATH.part` to `PATH`. From when it is made
 //! until it has its name the file is locked, by the advisory lock of its system that goes with the
 //! process, so that no other run takes it for one that was left there.
 
 ghost use Rattle.std.specs.Prelude.{◌≡◌, length, IfOk, IfErr, string_bytes};
-ghost use Rattle.ix_files.specs.Failure.{output_path, IsFailureOf, IsOutputFailure};
+ghost use Rattle.ix_files.specs.Failure.{output_path, IsFailureOf, IsOutputFailure, IsPathFailure};
 
 use crate::fault::Failure;
 use ix_car::End;
@@ -21,21 +22,17 @@ use std::rt::Files;
 // How many bytes of an output wait in memory.
 const BUFFER: usize = 16 * 1024;
 
-// Where the archive of a job stands, and where it is written before.
-#[derive(Drop)]
-struct Places {
-    path: String,
-    part: String,
-}
-
-// The places of a job's archive.
-fn places_of(alloc: Global, folder: &str, job: &Job) -> Result<Places, AllocError>
-    ensures { IfOk result (λ places. string_bytes places.path ≡ output_path folder.now job.now.name) }
+/// The path of a job's archive.
+pub(crate) fn path_of(alloc: Global, folder: &str, job: &Job) -> Result<String, AllocError>
+    ensures { IfOk result (λ path. string_bytes path ≡ output_path folder.now job.now.name) }
 {
     let name = job.name();
-    let path = format!(in alloc; "{folder}/{name}.car")?;
-    let part = format!(in alloc; "{path}.part")?;
-    Ok(Places { path, part })
+    format!(in alloc; "{folder}/{name}.car")
+}
+
+// Where what gets this path in the end is written before.
+fn part_of(alloc: Global, path: &str) -> Result<String, AllocError> {
+    format!(in alloc; "{path}.part")
 }
 
 // A file apart from its names: its device, and its number there.
@@ -71,7 +68,7 @@ pub fn make_outputs<R: Files<File = File> + AllocGlobal>(
     judge_outputs(rt, folder, jobs, inputs)?;
     let mut outputs = Vec::with_capacity(alloc, jobs.len())?;
     for job in jobs {
-        match make_output(rt, folder, job) {
+        match make_job(rt, folder, job) {
             Ok(output) => outputs.push(output)?,
             Err(failure) => {
                 let made = outputs.len();
@@ -85,6 +82,33 @@ pub fn make_outputs<R: Files<File = File> + AllocGlobal>(
     Ok(outputs)
 }
 
+/// The file of an output of one path, locked until it is closed. Refused is one where something other
+/// than a file stands, as a folder or a device, one that is the file of the path `input` under whatever
+/// name, and one that another run writes.
+pub fn make_output<R: Files<File = File> + AllocGlobal>(
+    rt: &R,
+    path: &str,
+    input: &str,
+) -> Result<BufWriter<R::File>, Failure>
+    ensures refused { IfErr result (λ failure. IsPathFailure path.now failure) }
+{
+    if is_no_file(rt, path) {
+        let error = io::Error::from(ErrorKind::AlreadyExists);
+        return Err(Failure::cannot_write(rt.alloc(), path, &error));
+    }
+    let input = file_id(rt, input);
+    judge_output(rt, path, [input, input])?;
+    make_part(rt, path)
+}
+
+// Whether something other than a file stands at a path.
+fn is_no_file<R: Files>(rt: &R, path: &str) -> bool {
+    match fs::metadata(rt, path) {
+        Ok(metadata) => !metadata.is_file(),
+        Err(_) => false,
+    }
+}
+
 /// Removes what was written of the first jobs, so many, and has no final name. What can't be removed
 /// stays: there is nothing more to be done about it. So does what another run has made there since.
 pub fn remove_outputs<R: Files<File = File> + AllocGlobal>(
@@ -94,9 +118,16 @@ pub fn remove_outputs<R: Files<File = File> + AllocGlobal>(
     count: usize,
 ) {
     for job in jobs.iter().take(count) {
-        if let Ok(places) = places_of(rt.alloc(), folder, job) {
-            remove_left(rt, places.part.as_str());
+        if let Ok(path) = path_of(rt.alloc(), folder, job) {
+            remove_output(rt, path.as_str());
         }
+    }
+}
+
+/// The same of what is written for one path.
+pub fn remove_output<R: Files<File = File> + AllocGlobal>(rt: &R, path: &str) {
+    if let Ok(part) = part_of(rt.alloc(), path) {
+        remove_left(rt, part.as_str());
     }
 }
 
@@ -121,7 +152,7 @@ pub fn name_outputs<R: Files + AllocGlobal>(
         let end = ends.next();
         let output = outputs.next();
         if let (Some(End::Done | End::Limit), Some(output)) = (end, output) {
-            let named = name_output(rt, folder, job, output, sync);
+            let named = name_job(rt, folder, job, output, sync);
             if told.is_ok() {
                 told = named;
             }
@@ -130,8 +161,8 @@ pub fn name_outputs<R: Files + AllocGlobal>(
     told
 }
 
-/// Gives an archive its name.
-pub(crate) fn name_output<R: Files + AllocGlobal>(
+/// Gives the archive of a job its name.
+pub(crate) fn name_job<R: Files + AllocGlobal>(
     rt: &R,
     folder: &str,
     job: &Job,
@@ -140,20 +171,32 @@ pub(crate) fn name_output<R: Files + AllocGlobal>(
 ) -> Result<(), Failure>
     ensures refused { IfErr result (λ failure. IsFailureOf folder.now job.now failure) }
 {
+    let path = path_of(rt.alloc(), folder, job)?;
+    name_output(rt, path.as_str(), output, sync)
+}
+
+/// Gives what was written for one path its name; where `sync` is set, its bytes are on the disk before.
+/// Where its file no longer stands where it was made, it gets none.
+pub(crate) fn name_output<R: Files + AllocGlobal>(
+    rt: &R,
+    path: &str,
+    output: &BufWriter<R::File>,
+    sync: bool,
+) -> Result<(), Failure>
+    ensures refused { IfErr result (λ failure. IsPathFailure path.now failure) }
+{
     let alloc = rt.alloc();
-    let places = places_of(alloc, folder, job)?;
-    let path = places.path.as_str();
+    let part = part_of(alloc, path)?;
     if sync {
         if let Err(error) = output.get_ref().sync_all() {
             return Err(Failure::cannot_write(alloc, path, &error));
         }
     }
-    let part = places.part.as_str();
-    if !stands_under(rt, output.get_ref(), part) {
+    if !stands_under(rt, output.get_ref(), part.as_str()) {
         let error = io::Error::from(ErrorKind::NotFound);
         return Err(Failure::cannot_write(alloc, path, &error));
     }
-    match fs::rename(rt, part, path) {
+    match fs::rename(rt, part.as_str(), path) {
         Ok(()) => Ok(()),
         Err(error) => Err(Failure::cannot_write(alloc, path, &error)),
     }
@@ -170,13 +213,13 @@ fn judge_outputs<R: Files<File = File> + AllocGlobal>(
 {
     let inputs = [file_id(rt, inputs[0]), file_id(rt, inputs[1])];
     for job in jobs {
-        judge_output(rt, folder, job, inputs)?;
+        judge_job(rt, folder, job, inputs)?;
     }
     Ok(())
 }
 
-// The same of one output.
-fn judge_output<R: Files<File = File> + AllocGlobal>(
+// The same of the output of one job.
+fn judge_job<R: Files<File = File> + AllocGlobal>(
     rt: &R,
     folder: &str,
     job: &Job,
@@ -184,10 +227,21 @@ fn judge_output<R: Files<File = File> + AllocGlobal>(
 ) -> Result<(), Failure>
     ensures refused { IfErr result (λ failure. IsFailureOf folder.now job.now failure) }
 {
+    let path = path_of(rt.alloc(), folder, job)?;
+    judge_output(rt, path.as_str(), inputs)
+}
+
+// The same of the output of one path.
+fn judge_output<R: Files<File = File> + AllocGlobal>(
+    rt: &R,
+    path: &str,
+    inputs: [Option<FileId>; 2],
+) -> Result<(), Failure>
+    ensures refused { IfErr result (λ failure. IsPathFailure path.now failure) }
+{
     let alloc = rt.alloc();
-    let places = places_of(alloc, folder, job)?;
-    let path = places.path.as_str();
-    let part = places.part.as_str();
+    let part = part_of(alloc, path)?;
+    let part = part.as_str();
     let is_folder = match fs::metadata(rt, path) {
         Ok(metadata) => metadata.is_dir(),
         Err(_) => false,
@@ -230,28 +284,39 @@ fn remove_left<R: Files<File = File>>(rt: &R, part: &str) {
     }
 }
 
-// Makes the file to which the archive of a job is written, in place of one that was left there, and
-// locks it.
-fn make_output<R: Files<File = File> + AllocGlobal>(
+// Makes the file to which the archive of a job is written.
+fn make_job<R: Files<File = File> + AllocGlobal>(
     rt: &R,
     folder: &str,
     job: &Job,
 ) -> Result<BufWriter<R::File>, Failure>
     ensures refused { IfErr result (λ failure. IsFailureOf folder.now job.now failure) }
 {
+    let path = path_of(rt.alloc(), folder, job)?;
+    make_part(rt, path.as_str())
+}
+
+// Makes the file to which the output of one path is written, in place of one that was left there, and
+// locks it.
+fn make_part<R: Files<File = File> + AllocGlobal>(
+    rt: &R,
+    path: &str,
+) -> Result<BufWriter<R::File>, Failure>
+    ensures refused { IfErr result (λ failure. IsPathFailure path.now failure) }
+{
     let alloc = rt.alloc();
-    let places = places_of(alloc, folder, job)?;
-    let part = places.part.as_str();
+    let part = part_of(alloc, path)?;
+    let part = part.as_str();
     // What can't be removed can't be made.
     remove_left(rt, part);
     let file = match File::create_new(rt, part) {
         Ok(file) => file,
-        Err(error) => return Err(Failure::cannot_write(alloc, places.path.as_str(), &error)),
+        Err(error) => return Err(Failure::cannot_write(alloc, path, &error)),
     };
     // A run that begins at the same time may have locked it first, and taken it away.
     if file.try_lock().is_err() || !stands_under(rt, &file, part) {
         let error = io::Error::from(ErrorKind::WouldBlock);
-        return Err(Failure::cannot_write(alloc, places.path.as_str(), &error));
+        return Err(Failure::cannot_write(alloc, path, &error));
     }
     match BufWriter::with_capacity(alloc, BUFFER, file) {
         Ok(output) => Ok(output),

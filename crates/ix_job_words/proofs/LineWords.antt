@@ -10,13 +10,13 @@ use Rattle.std.proofs.lemmas.List.Folds.{list_all-append}
 use Rattle.std.proofs.lemmas.List.Splits.{slice_split_at, slice_split_none}
 use mathlib.Core.Logic.{inr}
 use Rattle.ix_walk.specs.JobMeaning.{JobMeaning, is_name, is_name_byte}
-use Rattle.ix_notation.specs.Notation.{IsSelectorHex}
+use Rattle.ix_notation.specs.declared.fault.NotationFault.{NotationFault}
 use Rattle.ix_jobs.specs.declared.fault.JobsKind.{JobsKind}
 use Rattle.ix_jobs.specs.declared.fault.JobsKind.TheVariants.{Text, Memory}
 use Rattle.ix_jobs.specs.Gives.{FailsAs}
 use Rattle.ix_jobs.specs.Jobs.{◌>>=◌, is_ignored, is_text, line_job, fields_in, four_fields, job_of_fields, joined, with_line, at_line, jobs_from, jobs_of}
 use Rattle.ix_job_words.specs.declared.line.LineFault.TheVariants.{Field}
-use Rattle.ix_job_words.specs.Line.{is_visible, is_word, line_of, IsLineRefused}
+use Rattle.ix_job_words.specs.Line.{is_visible, is_word, line_of, IsRefusedBy}
 
 both : (a b : Bool) → (a && b) ≡ true → (a ≡ true) × (b ≡ true)
 both true b h = (refl, h)
@@ -171,10 +171,10 @@ was_refused (Ok j) kind line h = absurd cc
 was_refused (Err other) kind line h = ap (λ (k : JobsKind). Err k) (ap (kind_in other) h)
 
 -- the fault of the line is that of the words
-pub refused : (name roots limit json hex line : List ℕ) (kind : JobsKind) (n : ℕ) → IsSelectorHex json (hex ++ 10 ∷ []) → jobs_of line ≡ (at_line 1 (job_of_fields name roots limit hex) >>= (λ j. Ok (j ∷ []))) → FailsAs kind (kind, n) (jobs_of line)
-    → IsLineRefused name roots limit json (Field kind)
-refused name roots limit json hex line Memory n made alone h = tt
-refused name roots limit json hex line kind n made alone h = inr (record { selector = hex; spelled = made; refused = was_refused (job_of_fields name roots limit hex) kind n (sym alone ∙ h) })
+pub refused : (IsSpelled : List ℕ → Type 0) (IsUnspelled : NotationFault → Type 0) (name roots limit hex line : List ℕ) (kind : JobsKind) (n : ℕ) → IsSpelled (hex ++ 10 ∷ []) → jobs_of line ≡ (at_line 1 (job_of_fields name roots limit hex) >>= (λ j. Ok (j ∷ []))) → FailsAs kind (kind, n) (jobs_of line)
+    → IsRefusedBy IsSpelled IsUnspelled name roots limit (Field kind)
+refused IsSpelled IsUnspelled name roots limit hex line Memory n made alone h = tt
+refused IsSpelled IsUnspelled name roots limit hex line kind n made alone h = inr (record { selector = hex; spelled = made; refused = was_refused (job_of_fields name roots limit hex) kind n (sym alone ∙ h) })
 
 -- the hexadecimal of a selector, and its line end
 pub without_end : (line hex : List ℕ) → line ≡ hex ++ 10 ∷ [] → take (length line - 1) line ++ 10 ∷ [] ≡ line

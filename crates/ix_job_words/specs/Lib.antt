@@ -1,3 +1,4 @@
 pub mod Faults
 pub mod Steps
 pub mod Line
+pub mod Words

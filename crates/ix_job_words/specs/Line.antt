@@ -2,6 +2,7 @@
 use Rattle.std.specs.Prelude.{◌≡◌, ◌⊎◌, ℕ, Bool, false, not, ◌&&◌, ◌==◌, List, [], ◌∷◌, ◌++◌, length, nat_lt, nat_le, Ok, Err}
 use Rattle.std.specs.List.{list_all}
 use Rattle.ix_walk.specs.JobMeaning.{JobMeaning, is_name}
+use Rattle.ix_notation.specs.declared.fault.NotationFault.{NotationFault}
 use Rattle.ix_notation.specs.Notation.{IsSelectorHex, IsJsonRefused}
 use Rattle.ix_jobs.specs.declared.fault.JobsKind.{JobsKind}
 use Rattle.ix_jobs.specs.declared.fault.JobsKind.TheVariants as kinds
@@ -21,43 +22,55 @@ is_word text = not (length text == 0) && list_all is_visible text
 abbrev pub line_of : List ℕ → List ℕ → List ℕ → List ℕ → List ℕ
 line_of name roots limit selector = name ++ (32 ∷ (roots ++ (32 ∷ (limit ++ (32 ∷ (selector ++ 10 ∷ []))))))
 
--- The line of the job of a name, roots, a limit and a selector in JSON: a job file of it has this job alone.
-pub record IsLineOf (name roots limit json line : List ℕ) : Type 0 where
+-- The line of the job of a name, roots, a limit and a selector, of whose hexadecimal with a line end this is known: a job file of it has this job alone.
+pub record IsLineBy (IsSpelled : List ℕ → Type 0) (name roots limit line : List ℕ) : Type 0 where
   -- the hexadecimal of the selector
   pub selector : List ℕ
   pub job : JobMeaning
-  pub spelled : IsSelectorHex json (selector ++ 10 ∷ [])
+  pub spelled : IsSpelled (selector ++ 10 ∷ [])
   pub meant : job_of_fields name roots limit selector ≡ Ok job
   pub printed : line ≡ line_of name roots limit selector
   pub read : jobs_of line ≡ Ok (job ∷ [])
 
+-- the line, and that its job is the only one of these
+pub record IsReadBy (IsSpelled : List ℕ → Type 0) (name roots limit line : List ℕ) (jobs : List JobMeaning) : Type 0 where
+  pub is : IsLineBy IsSpelled name roots limit line
+  pub alone : jobs ≡ is.job ∷ []
+
 -- the words are those of no job, for this reason
-pub record IsNoJob (name roots limit json : List ℕ) (kind : JobsKind) : Type 0 where
+pub record IsNoJob (IsSpelled : List ℕ → Type 0) (name roots limit : List ℕ) (kind : JobsKind) : Type 0 where
   pub selector : List ℕ
-  pub spelled : IsSelectorHex json (selector ++ 10 ∷ [])
+  pub spelled : IsSpelled (selector ++ 10 ∷ [])
   pub refused : job_of_fields name roots limit selector ≡ Err kind
 
 -- the hexadecimal of the selector is no single word
-pub record IsNoHex (json : List ℕ) : Type 0 where
+pub record IsNoHex (IsSpelled : List ℕ → Type 0) : Type 0 where
   pub selector : List ℕ
-  pub spelled : IsSelectorHex json (selector ++ 10 ∷ [])
+  pub spelled : IsSpelled (selector ++ 10 ∷ [])
   pub no_word : is_word selector ≡ false
 
 -- the name is none, or the text is no single word
-abbrev pub IsNoWord : List ℕ → List ℕ → List ℕ → List ℕ → JobsKind → Type 0
-IsNoWord name roots limit json kinds.Name = is_name name ≡ false
-IsNoWord name roots limit json kinds.Root = is_word roots ≡ false
-IsNoWord name roots limit json kinds.Limit = is_word limit ≡ false
-IsNoWord name roots limit json kinds.Hex = IsNoHex json
-IsNoWord name roots limit json kinds.Text = ⊥
-IsNoWord name roots limit json kinds.Fields = ⊥
-IsNoWord name roots limit json kinds.Selector = ⊥
-IsNoWord name roots limit json kinds.Repeated = ⊥
-IsNoWord name roots limit json kinds.TooMany = ⊥
-IsNoWord name roots limit json kinds.Memory = ⊥
+abbrev pub IsNoWord : (List ℕ → Type 0) → List ℕ → List ℕ → List ℕ → JobsKind → Type 0
+IsNoWord IsSpelled name roots limit kinds.Name = is_name name ≡ false
+IsNoWord IsSpelled name roots limit kinds.Root = is_word roots ≡ false
+IsNoWord IsSpelled name roots limit kinds.Limit = is_word limit ≡ false
+IsNoWord IsSpelled name roots limit kinds.Hex = IsNoHex IsSpelled
+IsNoWord IsSpelled name roots limit kinds.Text = ⊥
+IsNoWord IsSpelled name roots limit kinds.Fields = ⊥
+IsNoWord IsSpelled name roots limit kinds.Selector = ⊥
+IsNoWord IsSpelled name roots limit kinds.Repeated = ⊥
+IsNoWord IsSpelled name roots limit kinds.TooMany = ⊥
+IsNoWord IsSpelled name roots limit kinds.Memory = ⊥
 
--- why the words are those of no job, or memory ran out
+-- why the words are those of no job, where this is known of a selector that has no hexadecimal, or memory ran out
+abbrev pub IsRefusedBy : (List ℕ → Type 0) → (NotationFault → Type 0) → List ℕ → List ℕ → List ℕ → LineFault → Type 0
+IsRefusedBy IsSpelled IsUnspelled name roots limit (Selector fault) = IsUnspelled fault
+IsRefusedBy IsSpelled IsUnspelled name roots limit (Field kinds.Memory) = Unit {0}
+IsRefusedBy IsSpelled IsUnspelled name roots limit (Field kind) = IsNoWord IsSpelled name roots limit kind ⊎ IsNoJob IsSpelled name roots limit kind
+
+-- the line of a job with a selector in JSON, and why there is none
+abbrev pub IsLineOf : List ℕ → List ℕ → List ℕ → List ℕ → List ℕ → Type 0
+IsLineOf name roots limit json line = IsLineBy (IsSelectorHex json) name roots limit line
+
 abbrev pub IsLineRefused : List ℕ → List ℕ → List ℕ → List ℕ → LineFault → Type 0
-IsLineRefused name roots limit json (Selector fault) = IsJsonRefused json fault
-IsLineRefused name roots limit json (Field kinds.Memory) = Unit {0}
-IsLineRefused name roots limit json (Field kind) = IsNoWord name roots limit json kind ⊎ IsNoJob name roots limit json kind
+IsLineRefused name roots limit json fault = IsRefusedBy (IsSelectorHex json) (IsJsonRefused json) name roots limit fault

@@ -2,12 +2,14 @@
 
 ghost use Rattle.std.specs.Prelude.{◌≡◌, ◌<◌, ◌-◌, length, take, IfOk, IfErr, string_bytes};
 ghost use Rattle.std.specs.List.{list_all};
-ghost use Rattle.ix_job_words.specs.Line.{is_visible, is_word, IsLineOf, IsLineRefused};
+ghost use Rattle.ix_job_words.specs.Line.{is_visible, is_word, IsLineOf, IsLineRefused, IsReadBy, IsRefusedBy};
+ghost use Rattle.ix_job_words.specs.Words.{IsSpelledBy, IsNoSelector};
 
+use crate::selector::{SelectorWord, hex_line};
 use crate::words::{limit_fault, name_fault, roots_fault};
 use ix_jobs::{JobsKind, read_jobs};
-use ix_notation::{NotationFault, fault_line, hex_of_json};
-use ix_walk::is_name;
+use ix_notation::{NotationFault, fault_line};
+use ix_walk::{Job, is_name};
 use std::alloc::{AllocError, Global};
 
 /// Why words are those of no job.
@@ -33,6 +35,21 @@ pub fn job_line(
     ensures line { IfOk result (λ line. IsLineOf name.now roots.now limit.now json.now (string_bytes line)) }
     ensures refused { IfErr result (IsLineRefused name.now roots.now limit.now json.now) }
 {
+    let (line, _) = line_by(alloc, name, roots, limit, &SelectorWord::Json(json))?;
+    Ok(line)
+}
+
+/// The same of a selector of any kind, and the job of the line.
+pub(crate) fn line_by(
+    alloc: Global,
+    name: &str,
+    roots: &str,
+    limit: &str,
+    selector: &SelectorWord<'_>,
+) -> Result<(String, Vec<Job>), LineFault>
+    ensures read { IfOk result (λ made. IsReadBy (IsSpelledBy selector.now) name.now roots.now limit.now (string_bytes made.0) made.1.items) }
+    ensures refused { IfErr result (IsRefusedBy (IsSpelledBy selector.now) (IsNoSelector selector.now) name.now roots.now limit.now) }
+{
     if !is_name(name) {
         return Err(LineFault::Field(JobsKind::Name));
     }
@@ -42,13 +59,13 @@ pub fn job_line(
     if !is_word(limit.as_bytes()) {
         return Err(LineFault::Field(JobsKind::Limit));
     }
-    let selector = hex_of_json(alloc, json)?;
+    let selector = hex_line(alloc, selector)?;
     if !is_word(without_end(selector.as_bytes())) {
         return Err(LineFault::Field(JobsKind::Hex));
     }
     let line = format!(in alloc; "{name} {roots} {limit} {selector}")?;
     match read_jobs(alloc, line.as_bytes()) {
-        Ok(_) => Ok(line),
+        Ok(jobs) => Ok((line, jobs)),
         Err(fault) => Err(LineFault::Field(fault.kind)),
     }
 }

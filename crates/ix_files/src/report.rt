@@ -1,0 +1,11 @@
+//! The report on standard error.
+
+use std::str;
+
+/// Tells the report of a run on standard error. Where that can't be written there is nobody to tell.
+pub fn tell_report<R: Eprint>(rt: &R, report: &[u8]) {
+    // A report is ASCII text.
+    if let Ok(text) = str::from_utf8(report) {
+        let _ = rt.eprint(text);
+    }
+}

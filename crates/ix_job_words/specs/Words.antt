@@ -1,0 +1,48 @@
+-- The job of words, with a selector of any kind.
+use Rattle.std.specs.Prelude.{◌≡◌, ℕ, Bool, true, List, [], ◌∷◌, ◌++◌, map, codes, if◌then◌else◌}
+use Rattle.ix_walk.specs.JobMeaning.{JobMeaning, going_in}
+use Rattle.ix_notation.specs.declared.fault.NotationFault.{NotationFault}
+use Rattle.ix_notation.specs.Notation.{IsSelectorHex, IsJsonRefused}
+use Rattle.ix_jobs.specs.declared.fault.JobsKind.TheVariants as kinds
+use Rattle.ix_job_words.specs.declared.line.LineFault.{LineFault}
+use Rattle.ix_job_words.specs.declared.line.LineFault.TheVariants as faults
+use Rattle.ix_job_words.specs.declared.selector.SelectorWord.{SelectorWord}
+use Rattle.ix_job_words.specs.declared.selector.SelectorWord.TheVariants.{Everything, Json, Hex}
+use Rattle.ix_job_words.specs.declared.job.JobWords.{JobWords}
+use Rattle.ix_job_words.specs.Line.{IsLineBy, IsRefusedBy}
+
+-- the selector that goes into every child, as long as there are any, in hexadecimal
+abbrev pub everything_hex : List ℕ
+everything_hex = codes "a16152a2616ca1646e6f6e65a0623a3ea16161a1613ea16140a0"
+
+-- the hexadecimal of a selector, and a line end
+abbrev pub IsSpelledBy : SelectorWord → List ℕ → Type 0
+IsSpelledBy Everything line = line ≡ everything_hex ++ 10 ∷ []
+IsSpelledBy (Json text) line = IsSelectorHex text.now line
+IsSpelledBy (Hex text) line = line ≡ text.now ++ 10 ∷ []
+
+-- why a selector has none: its JSON is that of no selector
+abbrev pub IsNoSelector : SelectorWord → NotationFault → Type 0
+IsNoSelector Everything fault = ⊥
+IsNoSelector (Json text) fault = IsJsonRefused text.now fault
+IsNoSelector (Hex text) fault = ⊥
+
+-- the same, or memory ran out
+abbrev pub IsUnspelled : SelectorWord → LineFault → Type 0
+IsUnspelled selector (faults.Selector fault) = IsNoSelector selector fault
+IsUnspelled selector (faults.Field kinds.Memory) = Unit {0}
+IsUnspelled selector (faults.Field kind) = ⊥
+
+-- jobs as they are, or each so that it goes into a CID once
+abbrev pub walked : Bool → List JobMeaning → List JobMeaning
+walked once jobs = if once then map (going_in true) jobs else jobs
+
+-- the job of a line that is made of the words, alone
+pub record AreJobsOf (words : JobWords) (once : Bool) (jobs : List JobMeaning) : Type 0 where
+  pub line : List ℕ
+  pub is : IsLineBy (IsSpelledBy words.selector) words.name.now words.roots.now words.limit.now line
+  pub are : jobs ≡ walked once (is.job ∷ [])
+
+-- why the words are those of no job, or memory ran out
+abbrev pub AreWordsRefused : JobWords → LineFault → Type 0
+AreWordsRefused words fault = IsRefusedBy (IsSpelledBy words.selector) (IsNoSelector words.selector) words.name.now words.roots.now words.limit.now fault

@@ -1,0 +1,61 @@
+//! The job of words, without a job file.
+
+ghost use Rattle.std.specs.Prelude.{◌≡◌, length, map, IfOk, IfErr};
+ghost use Rattle.ix_job_words.specs.Words.{walked, AreJobsOf, AreWordsRefused};
+
+use crate::line::{LineFault, line_by, line_fault_words};
+use crate::selector::SelectorWord;
+use crate::words::selector_fault;
+use ix_jobs::JobsKind;
+use ix_walk::Job;
+use std::alloc::{AllocError, Global};
+
+/// The words of one job: its name, the texts of its roots with one comma between, its limit in decimal
+/// digits, and its selector.
+#[derive(Debug, Drop, Clone, Copy)]
+pub struct JobWords<'a> {
+    pub name: &'a str,
+    pub roots: &'a str,
+    pub limit: &'a str,
+    pub selector: SelectorWord<'a>,
+}
+
+/// The one job of words: that of a job file with the line that these words are. It goes into a CID once
+/// where that is asked for, and else at every arrival. The words are judged in the order of `job_line`.
+pub fn jobs_of_words(alloc: Global, words: &JobWords<'_>, once: bool) -> Result<Vec<Job>, LineFault>
+    ensures jobs { IfOk result (λ jobs. AreJobsOf words.now once jobs.items) }
+    ensures one { IfOk result (λ jobs. length jobs.items ≡ 1) }
+    ensures refused { IfErr result (AreWordsRefused words.now) }
+{
+    let (_, jobs) = line_by(alloc, words.name, words.roots, words.limit, &words.selector)?;
+    Ok(walked(alloc, jobs, once)?)
+}
+
+// The same jobs, each of which goes into a CID once, or as they are.
+fn walked(alloc: Global, jobs: Vec<Job>, once: bool) -> Result<Vec<Job>, AllocError>
+    ensures { IfOk result (λ walked_jobs. walked_jobs.items ≡ walked once jobs.items) }
+{
+    if once {
+        jobs.into_iter().map(|job| job.once()).collect(alloc)
+    } else {
+        Ok(jobs)
+    }
+}
+
+/// Tells why words are those of no job: `NAME: what is wrong, and what would be right`, and of a
+/// selector in JSON the line of the command `selector`.
+pub fn job_fault_words(
+    alloc: Global,
+    fault: &LineFault,
+    words: &JobWords<'_>,
+) -> Result<String, AllocError> {
+    match (fault, words.selector) {
+        (LineFault::Field(JobsKind::Hex | JobsKind::Selector), SelectorWord::Hex(text)) => {
+            match selector_fault(alloc, text)? {
+                Some(words) => format!(in alloc; "SELECTOR: {words}"),
+                None => String::from_str(alloc, "SELECTOR: no selector"),
+            }
+        }
+        _ => line_fault_words(alloc, fault, words.name, words.roots, words.limit),
+    }
+}
