@@ -6,7 +6,8 @@ Ends with status 1 at the first run that is wrong.
 
 No run may end by a signal or take a minute. Where a file is refused, it is one line of the known ones. Where the run
 ends with status 0 or 3, each archive is its job's header and sections that agree with their hashes, no CID twice and none
-that holds its block; at any other status what there is of an archive begins so.
+that holds its block; at any other status what there is of an archive begins so. In the end the command `verify` finds the
+sections of each of these archives sound, and tells one thing of each file of blocks that was mutated by chance.
 """
 
 import argparse
@@ -142,6 +143,8 @@ class Runner:
 
     def __init__(self, room):
         self.room, self.runs = room, 0
+        for name in ("archives", "inputs"):
+            (room / name).mkdir()
 
     def begin(self, threads):
         """Begins a run with an empty output folder; answers its command."""
@@ -200,6 +203,19 @@ class Runner:
             archive = (out / f"{name}.car").read_bytes()
             if len(archive) != int(size) or count_sections(archive) != int(sections):
                 raise Wrong(f"the archive of {name} has other bytes or sections than the report says")
+            os.link(out / f"{name}.car", self.room / f"archives/{self.runs}-{name}.car")
+
+    def verify(self, folder, statuses, *options):
+        """Verifies the files of a folder, of each of which one thing is told."""
+        names = sorted(os.listdir(self.room / folder))
+        for at in range(0, len(names), 1000):
+            some = names[at : at + 1000]
+            done = subprocess.run([PROGRAM, "verify", *options, *some], cwd=self.room / folder, capture_output=True, text=True)
+            lines = done.stdout.splitlines() + done.stderr.splitlines()
+            told = [line for line in lines if not line.startswith("  ")]
+            if done.returncode not in statuses or len(told) != len(some):
+                raise Wrong(f"verify tells of {len(told)} of {len(some)} files, status {done.returncode}: {told[-3:]!r}")
+        return len(names)
 
 
 def read_varint(data, at):
@@ -548,6 +564,7 @@ def fuzz(runner, seed, runs):
         if what != 0:
             words = [b" ", b",", b"\n", b"#", b"\xc3", jobs[:30], ALL.encode(), b"1000000", b"a1617c82"]
             jobs = mutated(chance, jobs, words)
+        (runner.room / f"inputs/{number}.car").write_bytes(blocks)
         try:
             runner.run(blocks, jobs, 4)
         except Wrong as wrong:
@@ -585,10 +602,12 @@ def main():
                 return 1
         try:
             fuzz(runner, words.seed, words.runs)
+            archives = runner.verify("archives", (0,), "--blocks-only")
+            inputs = runner.verify("inputs", (0, 2, 3))
         except Wrong as wrong:
             print(f"tests/hostile.py: FAILED: {wrong}", file=sys.stderr)
             return 1
-        print(f"tests/hostile.py: {runner.runs} runs passed")
+        print(f"tests/hostile.py: {runner.runs} runs passed, {archives} archives and {inputs} inputs verified")
     return 0
 
 

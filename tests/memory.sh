@@ -70,6 +70,27 @@ judge_root() {
   esac
 }
 
+# The command `get` to a file: its name is that of a whole archive alone.
+judge_get() {
+  case $status in
+    0 | 2 | 3 | 4) ;;
+    *) fail 'another status' ;;
+  esac
+  [ ! -e out/a.car ] || cmp -s out/a.car "$wanted" || fail 'an archive that is not whole has its name'
+  [ ! -e out/a.car.part ] || begins out/a.car.part "$wanted"
+  [ "$status" != 3 ] || cmp -s out/a.car "$wanted" || fail 'the archive has no name'
+}
+
+# The same to standard output.
+judge_stream() {
+  case $status in
+    0 | 2 | 3 | 4) ;;
+    *) fail 'another status' ;;
+  esac
+  begins stdout "$wanted"
+  [ "$status" != 3 ] || cmp -s stdout "$wanted" || fail 'the archive is not whole'
+}
+
 judge_jobs() {
   local name file
   case $status in
@@ -143,6 +164,17 @@ each_of() {
 
 : >input
 each_of "$top/examples/library.car" "$top/examples/library.jobs" "$top/examples/expected" album first-three front parts whole
+
+# The command `get` over the same blocks: what is skipped there is no root, so where it ends with 3 the archive is whole.
+wanted=$top/examples/expected/whole.car
+words=(get --blocks "$top/examples/library.car" --root bafyreigiavswv62tcfji62na4ecatawlzg33sy6uezl5lj3g56mxdhbnmq --walkers 1 --verifiers 1)
+for ((set = 0; set < 4; set++)); do
+  run 0 "$set" "${words[@]}" --out out/a.car
+  judge_get
+  [ "$status" = "$([ "$set" = 0 ] && echo 3 || echo 4)" ] || fail 'another status'
+done
+each_request judge_get "${words[@]}" --out out/a.car
+each_request judge_stream "${words[@]}"
 
 # A list of two links, of which the first is to a damaged block: one job over it, and three.
 write_blocks "$(section "$fork_cid" "$fork")" "$(section "$with_zero_cid" "$with_one")" "$one_blocks"

@@ -1,6 +1,7 @@
 #!/usr/bin/env bash
 # Compares the options of the help of each command with those of the man page and of the completions, both ways, and installs
-# them into an empty folder. Ends with status 1 where one has an option that another lacks, or a file isn't installed.
+# them into an empty folder. Ends with status 1 where one has an option that another lacks, where a line of a help has more
+# than 80 columns, or a file isn't installed.
 set -Eeuo pipefail
 export LC_ALL=C
 cd "$(dirname "${BASH_SOURCE[0]}")/.."
@@ -65,6 +66,11 @@ same 'commands of the man page' '' "$commands" "$(sed -n 's/^\.SS //p' install/i
 same 'commands of zsh' '' "$commands" "$(sed -n 's/^    \([a-z-]*\))$/\1/p' install/_ix_export | sort)"
 same 'commands of fish' '' "$commands" "$(sed -n 's/.* -a \([a-z-]*\) .*/\1/p' install/ix_export.fish | sort)"
 for command in '' $commands; do
+  wide=$(./ix_export $command --help | grep -E '.{81}' || true)
+  if [ -n "$wide" ]; then
+    failed=1
+    printf 'tests/options.sh: FAILED: lines of more than 80 columns in the help of `%s`:\n%s\n' "$command" "$wide" >&2
+  fi
   wanted=$(of_help "$command")
   for it in man bash zsh fish; do
     same "$it" "$command" "$wanted" "$("of_$it" "$command")"
@@ -83,10 +89,14 @@ installed() {
 if command -v make >/dev/null; then
   room=$(mktemp -d)
   trap 'rm -rf "$room"' EXIT
-  make --silent install DESTDIR="$room" PREFIX=/usr
+  make --silent install DESTDIR="$room" PREFIX=/usr LIBRARY=
   installed '644 usr/share/bash-completion/completions/ix_export' '644 usr/share/fish/vendor_completions.d/ix_export.fish' \
     '644 usr/share/man/man1/ix_export.1' '644 usr/share/zsh/site-functions/_ix_export' '755 usr/bin/ix_export'
   cmp -s "$(./ix_export --where)" "$room/usr/bin/ix_export" || installed 'another program'
+  # Any file serves as a library here.
+  make --silent uninstall DESTDIR="$room" PREFIX=/usr
+  make --silent install-lib DESTDIR="$room" PREFIX=/usr LIBRARY=README.md
+  installed '644 usr/include/ix_export.h' '644 usr/lib/libix_export.a' '644 usr/lib/pkgconfig/ix_export.pc'
   make --silent uninstall DESTDIR="$room" PREFIX=/usr
   installed ''
 fi

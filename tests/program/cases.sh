@@ -1,6 +1,7 @@
 # How a case is run and judged.
 
 cases=0
+verified=0
 
 # Begins a case in an empty folder with an empty folder `out` in it.
 begin() {
@@ -13,9 +14,23 @@ begin() {
   : >"$scratch/stderr"
 }
 
-# Runs the program; its answer is what `expect` looks at.
+# Runs the program; its answer is what `expect` looks at. Of `jobs`, each archive that was named is verified.
 run() {
+  : >"$scratch/began"
   run_bare "$@" >"$scratch/stdout" 2>"$scratch/stderr"
+  if [ "${1-}" = jobs ]; then verify_archives; fi
+}
+
+# The archives of which the report tells, and which this run wrote, are sound, section by section.
+verify_archives() {
+  local name end rest archives=()
+  while read -r name end rest; do
+    if [[ $end == @(done|limit) && -f out/$name.car && out/$name.car -nt $scratch/began ]]; then archives+=("out/$name.car"); fi
+  done <"$scratch/stdout"
+  if [ ${#archives[@]} -gt 0 ]; then
+    verified=$((verified + ${#archives[@]}))
+    "$top/ix_export" verify --blocks-only "${archives[@]}" >"$scratch/verified" 2>&1 || fail archives /dev/null "$scratch/verified"
+  fi
 }
 
 # The same with standard output and standard error as the caller has them.

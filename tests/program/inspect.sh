@@ -42,6 +42,28 @@ run inspect --list blocks.car
 expect 0 "18 3 v0-$cid_0
 $((18 + 1 + 34 + 3)) 0 $(text "$cid_other")" ''
 
+# A section for each code that has a name, by the multicodec table, in the order of the codes.
+begin 'inspect: the names of codes'
+codecs=(cbor=0x51 raw=0x55 dag-pb=0x70 dag-cbor=0x71 libp2p-key=0x72 git-raw=0x78 dag-jose=0x85 eth-block=0x90 bitcoin-block=0xb0
+  dag-json=0x0129 json=0x0200)
+hashes=(sha1=0x11 sha2-256=0x12 sha2-512=0x13 sha3-512=0x14 sha3-384=0x15 sha3-256=0x16 sha3-224=0x17 keccak-256=0x1b blake3=0x1e
+  sha2-384=0x20 dbl-sha2-256=0x56 md5=0xd5 blake2b-256=0xb220 blake2b-512=0xb240 blake2s-256=0xb260)
+sections=
+wanted=()
+for codec in "${codecs[@]}"; do
+  sections+=$(section "01$(varint $((${codec#*=})))0000" '')
+  wanted+=("codec ${codec%=*} $([ "${codec%=*}" = raw ] && echo $((1 + ${#hashes[@]})) || echo 1)")
+done
+wanted+=("hash identity ${#codecs[@]}")
+for hash in "${hashes[@]}"; do
+  sections+=$(section "0155$(varint $((${hash#*=})))00" '')
+  wanted+=("hash ${hash%=*} 1")
+done
+write_blocks "$sections"
+run inspect blocks.car
+expect 0 "$(printf '%s\n' 'version 1' 'roots 0' "bytes $(wc -c <blocks.car)" 'sections 26' 'repeated 0' "${wanted[@]}" \
+  'smallest 0' 'median 0' 'greatest 0')" ''
+
 # is_told HEX LINE: what a file is.
 is_told() {
   begin "inspect: $2"

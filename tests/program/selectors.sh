@@ -1,11 +1,13 @@
 # The command `selector`, and the recipes of docs/SELECTORS.md over the example directory: of each, the JSON gives the
-# hexadecimal, that gives the JSON, and a job with it is told as the document says.
+# hexadecimal, that gives the JSON, and a job with it is told as the document says. Each is a `get` command, of which the JSON
+# is taken here; get.sh has the commands.
 
 library_root=bafyreigiavswv62tcfji62na4ecatawlzg33sy6uezl5lj3g56mxdhbnmq
-mapfile -t recipes < <(sed -n '/^## Recipes/,$s/^    //p' "$top/docs/SELECTORS.md")
+recipe_words='./ix_export get --blocks examples/library.car --root $root --out out.car --selector '
+mapfile -t recipes < <(sed -n "/^### /,\$s/^    //p" "$top/docs/SELECTORS.md" | sed "s|^$recipe_words'\(.*\)'\$|\1|")
 
 begin 'the number of recipes'
-expect_text 'lines of recipes' 42 "${#recipes[@]}"
+expect_text 'lines of recipes' 45 "${#recipes[@]}"
 
 begin 'the recipes, one by one'
 : >jobs.txt

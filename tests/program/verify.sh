@@ -102,6 +102,16 @@ run jobs --blocks "$top/examples/library.car" --jobs "$top/examples/library.jobs
 run verify --blocks-only out/*.car
 expect_text 'exit status' 0 "$status"
 
+begin 'verify: what jobs writes of everything below its roots calls for nothing more'
+write_blocks "$one_blocks"
+write_jobs "one $(text "$one_cid") 100 $all" "two $abc_text,$(text "$one_cid") 100 $all"
+for once in '' --once; do
+  run jobs --blocks blocks.car --jobs jobs.txt --out out $once
+  run verify out/one.car out/two.car
+  expect 0 "out/one.car sound sections=2 bytes=178
+out/two.car sound sections=2 bytes=219" ''
+done
+
 # Whatever bit of the file is turned and wherever it is cut, it isn't called sound, unless it is cut between sections.
 begin 'verify: a small file with the lowest bit of a byte turned, or cut'
 size=$((${#one_archive} / 2))

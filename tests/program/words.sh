@@ -63,9 +63,11 @@ helps() {
   done
 }
 
-helps --help -- root jobs selector CARv1 SHA-256 SHA-512 identity UnixFS --version 'Usage: ix_export <COMMAND>'
-helps -h -- root jobs selector
+helps --help -- get root jobs selector CARv1 SHA-256 SHA-512 identity UnixFS --version 'Usage: ix_export <COMMAND>'
+helps -h -- get root jobs selector
 helps root --help -- '--cid <TEXT>' hexadecimal 'Standard input' 'Status: 0'
+helps get --help -- '--blocks <FILE>' '--root <CID[,CID..]>' '--selector <JSON>' '--selector-hex <HEX>' 'default: 1000000' \
+  FILE.part 'standard output' 'Status: 0' docs/SELECTORS.md
 helps jobs --help -- 'NAME ROOTS LIMIT SELECTOR' '--blocks <FILE>' '--jobs <FILE>' '--out <DIR>' '--walkers <N>' \
   '--verifiers <N>' '1 to 64' 'default: 4' "$abc_text 9 $matcher" 1000000 DIR/NAME.car damaged 'Status: 0' 1073741824 \
   DIR/NAME.car.part --sync --progress 'counts twice' SHA-256 SHA-512 identity 'the command `selector`'

@@ -1,0 +1,270 @@
+# The command `get`: the archive of one job without a job file. What is wanted comes from the formats and from the command
+# `jobs` over the same words.
+
+one_text=$(text "$one_cid")
+get_one=(get --blocks blocks.car --root "$one_text")
+get_report="get $one_line
+total jobs=1 done=1 skips=0"
+nothing_below='note: the selector entered nothing below the root'
+no_edge='note: a recursion of the selector has no edge {"@":{}}, so it never begins again'
+
+# got STATUS ERRORS HEX..: the archive is all of standard output.
+got() {
+  expect_text 'exit status' "$1" "$status"
+  expect_lines 'standard error' "$2" "$scratch/stderr"
+  bytes "${@:3}" >"$scratch/wanted"
+  expect_same 'standard output' "$scratch/wanted" "$scratch/stdout"
+}
+
+begin 'get: everything below a root, to a file and to standard output'
+write_blocks "$one_blocks"
+run "${get_one[@]}" --out out/a.car
+expect 0 '' "$get_report"
+expect_folder out a.car
+expect_bytes out/a.car "$one_archive"
+run "${get_one[@]}"
+got 0 "$get_report" "$one_archive"
+run "${get_one[@]}" --out -
+got 0 "$get_report" "$one_archive"
+run "${get_one[@]}" --out out/a.car --sync --walkers 1 --verifiers 1
+expect 0 '' "$get_report"
+expect_folder out a.car
+expect_bytes out/a.car "$one_archive"
+
+begin 'get: several roots, in their order'
+write_blocks "$one_blocks"
+run get --blocks blocks.car --root "$abc_text,$one_text" --out out/a.car
+expect 0 '' 'get done visits=3 kept=3 sections=2 bytes=219
+total jobs=1 done=1 skips=0'
+expect_bytes out/a.car "$(header "$abc_cid" "$one_cid")" "$(section "$abc_cid" "$abc")" "$(section "$one_cid" "$one")"
+
+begin 'get: the example, where what is shared is gone into once, and at every arrival'
+run get --blocks "$top/examples/library.car" --root $library_root --out out/once.car
+expect 3 '' "$(sed -n '/^    get done/,/^    total/s/^    //p' "$top/README.md")"
+expect_same 'out/once.car' "$top/examples/expected/whole.car" out/once.car
+run get --blocks "$top/examples/library.car" --root $library_root --out out/each.car --every-arrival
+expect_text 'exit status' 3 "$status"
+expect_lines 'standard error' "get $(sed -n '1s/^whole //p; 2,4p' "$top/examples/expected/report.txt")
+total jobs=1 done=1 skips=3" "$scratch/stderr"
+expect_same 'out/each.car' "$top/examples/expected/whole.car" out/each.car
+
+begin 'get: the recipes of docs/SELECTORS.md, in JSON and in hexadecimal, are those of jobs'
+for ((at = 0; at < ${#recipes[@]}; at += 3)); do
+  write_jobs "get $library_root 1000 ${recipes[at + 1]}"
+  run jobs --blocks "$top/examples/library.car" --jobs jobs.txt --out out
+  mv "$scratch/stdout" report
+  words=(get --blocks "$top/examples/library.car" --root $library_root --every-arrival --limit 1000)
+  run "${words[@]}" --selector "${recipes[at]}" --out json.car
+  grep -v '^note: ' "$scratch/stderr" >came
+  expect_same "report of ${recipes[at]}" report came
+  expect_same "archive of ${recipes[at]}" out/get.car json.car
+  run "${words[@]}" --selector-hex "${recipes[at + 1]}"
+  expect_same "archive of ${recipes[at + 1]}" out/get.car "$scratch/stdout"
+done
+
+begin 'get: a limit that is too low names nothing, and the archive that is there stays'
+write_blocks "$one_blocks"
+bytes ff >out/a.car
+run "${get_one[@]}" --out out/a.car --limit 1
+expect 4 '' 'left out/a.car.part: its job ended with limit
+get limit visits=1 kept=1 sections=1 bytes=138
+total jobs=1 done=0 skips=0'
+expect_folder out a.car a.car.part
+expect_bytes out/a.car ff
+expect_bytes out/a.car.part "$(header "$one_cid")" "$(section "$one_cid" "$one")"
+run "${get_one[@]}" --limit 1
+got 4 'get limit visits=1 kept=1 sections=1 bytes=138
+total jobs=1 done=0 skips=0' "$(header "$one_cid")" "$(section "$one_cid" "$one")"
+
+begin 'get: what is left is replaced, and the archive too, once it is whole'
+bytes ff >out/a.car
+bytes "$(repeated 1000 ff)" >out/a.car.part
+write_blocks "$one_blocks"
+run "${get_one[@]}" --out out/a.car
+expect 0 '' "$get_report"
+expect_folder out a.car
+expect_bytes out/a.car "$one_archive"
+
+begin 'get: a root that is missing, damaged, or of another codec names nothing'
+write_blocks "$(section "$with_zero_cid" "$with_one")" "$(section "$abc_cid" "$abc")"
+missing=$(text "$(raw 6d)")
+run get --blocks blocks.car --root "$abc_text,$missing" --out out/a.car
+expect 3 '' "left out/a.car.part: its root $missing is missing
+get done visits=2 kept=2 sections=1 bytes=$((1 + 58 + 41 + 40))
+  1 missing $missing
+total jobs=1 done=1 skips=1"
+expect_folder out a.car.part
+run get --blocks blocks.car --root "$(text "$with_zero_cid")" --out out/a.car
+expect_text 'the first line' "left out/a.car.part: its root $(text "$with_zero_cid") is damaged" "$(head -n 1 "$scratch/stderr")"
+expect_text 'exit status' 3 "$status"
+pb_text=$(text "01701220$(digest "$abc")")
+run get --blocks blocks.car --root "$pb_text" --out out/a.car
+expect_text 'the first line' "left out/a.car.part: its root $pb_text is codec" "$(head -n 1 "$scratch/stderr")"
+expect_folder out a.car.part
+
+begin 'get: what is skipped below a root leaves its archive whole'
+write_blocks "$(section "$fork_cid" "$fork")" "$(section "$with_zero_cid" "$with_one")" "$one_blocks"
+run get --blocks blocks.car --root "$(text "$fork_cid")" --out out/a.car
+expect_text 'exit status' 3 "$status"
+expect_folder out a.car
+expect_bytes out/a.car "$(header "$fork_cid")" "$(section "$fork_cid" "$fork")" "$one_blocks"
+
+begin 'get: notes'
+write_blocks "$one_blocks"
+run "${get_one[@]}" --selector '{"f":{"f>":{"a":{".":{}}}}}' --out out/a.car
+expect 0 '' "get done visits=1 kept=1 sections=1 bytes=138
+total jobs=1 done=1 skips=0
+$nothing_below"
+# The outer recursion has no edge; the names R and @ are none of a form.
+for selector in '{"R":{"l":{"none":{}},":>":{"a":{">":{".":{}}}}}}' \
+  '{"|":[{"R":{"l":{"depth":2},":>":{"a":{">":{"R":{"l":{"none":{}},":>":{"a":{">":{"@":{}}}}}}}}}},{"a":{">":{".":{}}}}]}'; do
+  run "${get_one[@]}" --selector "$selector"
+  got 0 "$get_report
+$no_edge" "$one_archive"
+done
+run "${get_one[@]}" --selector '{"|":[{"f":{"f>":{"R":{".":{}}}}},{"selector":{".":{}}}]}'
+refused 'selector: unknown key'
+run "${get_one[@]}" --selector '{"|":[{"f":{"f>":{"R":{".":{}},"@":{".":{}}}}},{"a":{">":{".":{}}}}]}'
+got 0 "$get_report" "$one_archive"
+run "${get_one[@]}" --selector '{"R":{"l":{"none":{}},":>":{"f":{"f>":{"@":{".":{}}}}}}}'
+got 0 "get done visits=1 kept=1 sections=1 bytes=138
+total jobs=1 done=1 skips=0
+$nothing_below
+$no_edge" "$(header "$one_cid")" "$(section "$one_cid" "$one")"
+
+# get_refused LINE WORD..
+get_refused() {
+  local line=$1
+  shift
+  title="get: $line"
+  run "$@"
+  refused "$line"
+  expect_folder out
+}
+
+begin 'get: words that are those of no job'
+write_blocks "$one_blocks"
+base58='base58 of a CIDv0, which names UnixFS, and a CIDv1 in base32 beginning with b is wanted'
+other=', and base32 beginning with b is wanted: ipfs cid base32 converts it'
+upper='base32 in upper case, and lower case is wanted, beginning with b'
+while read -r root line; do
+  get_refused "ROOT: $line" get --blocks none --root "$root" --out out/a.car
+done <<END
+QmdfTbBqBPQ7VNxZEYEj14VmRuZBkqFbiwReogJgS1zR1n $base58
+zb2rhe5P4gXftAwvA4eXQ5HJwsER2owDyS9sKaQRRVQPn93bA base58$other
+f01551220ba7816bf hexadecimal$other
+F01551220BA7816BF hexadecimal$other
+${abc_text^^} $upper
+ipfs://$abc_text an ipfs:// address, and the CID alone is wanted
+/ipfs/$abc_text a path of /ipfs/, and the CID alone is wanted
+$abc_text,f01 f01 is hexadecimal$other
+END
+get_refused 'LIMIT: 0, and 1 to 1000000 is wanted' "${get_one[@]}" --limit 0
+get_refused 'LIMIT: greater than 1000000, and 1 to 1000000 is wanted' "${get_one[@]}" --limit 1000001
+get_refused 'selector: unknown key' "${get_one[@]}" --selector '{"x":{}}'
+get_refused 'selector: no JSON at 0' "${get_one[@]}" --selector ''
+get_refused 'SELECTOR: no selector: unknown key' "${get_one[@]}" --selector-hex a16178a0
+get_refused 'SELECTOR: no hexadecimal: the line of ix_export selector is wanted' "${get_one[@]}" --selector-hex xy
+get_refused 'SELECTOR: JSON, made hexadecimal by ix_export selector' "${get_one[@]}" --selector-hex '{".":{}}'
+
+# get_usage WORD..: words that the command line itself refuses.
+get_usage() {
+  run "$@"
+  expect_text 'exit status' 2 "$status"
+  expect_lines 'standard output' '' "$scratch/stdout"
+  grep -q '^error: ' "$scratch/stderr" || fail 'standard error' /dev/null "$scratch/stderr"
+  expect_folder out
+}
+title='get: two selectors'
+get_usage "${get_one[@]}" --selector '{".":{}}' --selector-hex "$matcher"
+title='get: no root'
+get_usage get --blocks blocks.car
+title='get: no blocks'
+get_usage get --root "$one_text"
+
+begin 'get: blocks from standard input'
+write_blocks "$one_blocks"
+run get --blocks - --root "$one_text" <blocks.car
+got 0 "$get_report" "$one_archive"
+run get --blocks - --root "$one_text" <&-
+refused 'cannot read -'
+run get --blocks - --root "$one_text" --out blocks.car <blocks.car
+refused 'cannot write blocks.car'
+
+begin 'get: blocks that are refused'
+write_blocks "$one_blocks"
+run get --blocks none --root "$one_text" --out out/a.car
+refused 'cannot read none'
+bytes "$no_roots" 05 >blocks.car
+run "${get_one[@]}" --out out/a.car
+refused 'blocks: truncated at 18'
+expect_folder out
+
+begin 'get: an output that can not be made'
+write_blocks "$one_blocks"
+get_refused 'cannot write none/a.car' "${get_one[@]}" --out none/a.car
+get_refused 'cannot write out' "${get_one[@]}" --out out
+get_refused 'cannot write blocks.car' "${get_one[@]}" --out blocks.car
+ln -s /dev/null device
+get_refused 'cannot write device' "${get_one[@]}" --out device
+expect_folder . blocks.car device out
+title='get: another run writes it'
+exec {held}>out/a.car.part
+flock "$held"
+run "${get_one[@]}" --out out/a.car
+refused 'cannot write out/a.car'
+exec {held}>&-
+
+begin 'get: an archive that finds no room'
+long=$(repeated 100000 6c)
+long_cid=$(raw "$long")
+write_blocks "$(section "$long_cid" "$long")"
+bytes ff >out/a.car
+run_with_room 16 get --blocks blocks.car --root "$(text "$long_cid")" --out out/a.car
+expect 4 '' 'left out/a.car.part: its job ended with write
+get write visits=0 kept=0 sections=0 bytes=16384
+total jobs=1 done=0 skips=0'
+expect_folder out a.car a.car.part
+expect_bytes out/a.car ff
+title='get: standard output is full'
+run_bare get --blocks blocks.car --root "$(text "$long_cid")" >/dev/full 2>"$scratch/stderr"
+expect_text 'exit status' 4 "$status"
+expect_text 'the report' 'get write' "$(head -n 1 "$scratch/stderr" | cut -d' ' -f1,2)"
+title='get: standard output is closed'
+run_bare get --blocks blocks.car --root "$(text "$long_cid")" >&- 2>"$scratch/stderr"
+expect_text 'exit status' 4 "$status"
+expect_text 'the report' 'get write' "$(head -n 1 "$scratch/stderr" | cut -d' ' -f1,2)"
+
+begin 'get: a header that finds no room: nothing is left'
+long_cid=01551e$(varint 60000)$(repeated 60000 64)
+write_blocks "$one_blocks"
+bytes ff >out/a.car
+run_with_room 16 get --blocks blocks.car --root "$(text "$long_cid")" --out out/a.car
+refused 'cannot write out/a.car'
+expect_folder out a.car
+run_bare get --blocks blocks.car --root "$(text "$long_cid")" >/dev/full 2>"$scratch/stderr"
+: >"$scratch/stdout"
+refused 'cannot write -'
+
+begin 'get: how it goes on is told before the report'
+write_blocks "$one_blocks"
+run "${get_one[@]}" --out out/a.car --progress
+expect 0 '' "progress: 1 of 1 jobs closed, 2 visits delivered, 178 bytes written
+$get_report"
+run "${get_one[@]}" --out out/a.car --progress --quiet
+expect 0 '' "$get_report"
+
+if command -v script >/dev/null; then
+  begin 'get: an archive for a terminal is refused, and a file is not'
+  write_blocks "$one_blocks"
+  status=0
+  script -qec "$(printf '%q ' "$top/ix_export" "${get_one[@]}")" /dev/null </dev/null >"$scratch/terminal" || status=$?
+  expect_text 'exit status' 2 "$status"
+  expect_text 'the terminal' "error: the archive would go to a terminal: give '--out <FILE>', or send standard output elsewhere" \
+    "$(head -n 1 "$scratch/terminal" | tr -d '\r')"
+  status=0
+  script -qec "$(printf '%q ' "$top/ix_export" "${get_one[@]}" --out out/a.car)" /dev/null </dev/null >"$scratch/terminal" || status=$?
+  expect_text 'exit status' 0 "$status"
+  expect_text 'the terminal' "$get_report" "$(tr -d '\r' <"$scratch/terminal")"
+  expect_bytes out/a.car "$one_archive"
+fi
