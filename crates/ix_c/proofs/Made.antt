@@ -4,7 +4,7 @@ use Rattle.std.specs.Prelude.{Option, Some, None, Result, Ok, Err}
 use Rattle.std.specs.Arc.{arc_value}
 use Rattle.std.specs.Global.{Vec, Global}
 use Rattle.std_alloc.specs.declared.arc.Arc.{Arc}
-use Rattle.ix_walk.specs.Store.{Blocks}
+use Rattle.ix_store.specs.Store.{Blocks}
 use Rattle.ix_walk.specs.JobMeaning.{JobMeaning}
 use Rattle.ix_embedding.specs.declared.exported.Exported.{Exported}
 use Rattle.ix_embedding.specs.declared.failure.Failure.{Failure}

@@ -4,7 +4,7 @@ use Rattle.std.specs.Global.{Vec, Global}
 use Rattle.std_alloc.specs.declared.arc.Arc.{Arc}
 use Rattle.std.specs.Arc.{arc_value}
 use Rattle.std.specs.declared.alloc.AllocError.{AllocError}
-use Rattle.ix_walk.specs.Store.{Blocks}
+use Rattle.ix_store.specs.Store.{Blocks}
 use Rattle.ix_walk.specs.JobMeaning.{JobMeaning, going_in}
 use Rattle.ix_car.specs.Reading.{blocks_of}
 use Rattle.ix_jobs.specs.Jobs.{jobs_of}

@@ -1,8 +1,8 @@
 -- What the calls of the C library tell of what a handle holds.
 use Rattle.std.specs.Prelude.{◌≡◌, ◌≢◌, ◌==◌, if◌then◌else◌, ℕ, List, ◌++◌, Option, Some, None, length, take, drop, slice_get}
-use Rattle.ix_car.specs.declared.archive.Skip.{Skip}
-use Rattle.ix_car.specs.declared.sink.End.{End}
-use Rattle.ix_car.specs.declared.sink.End.TheVariants as ends
+use Rattle.ix_archive.specs.declared.archive.Skip.{Skip}
+use Rattle.ix_archive.specs.declared.sink.End.{End}
+use Rattle.ix_archive.specs.declared.sink.End.TheVariants as ends
 use Rattle.ix_check.specs.declared.verdict.Verdict.{Verdict}
 use Rattle.ix_check.specs.declared.verdict.Verdict.TheVariants as verdicts
 use Rattle.ix_embedding.specs.declared.exported.Exported.{Exported}

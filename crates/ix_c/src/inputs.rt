@@ -8,7 +8,7 @@ use crate::filling::fill;
 use crate::handle::Handle;
 use crate::status::Status;
 use ix_embedding::{Failure, Held, job_of_line, job_of_parts, read_store, selector_of_json};
-use ix_walk::Store;
+use ix_store::Store;
 use std::alloc::Global;
 
 /// Fills a handle with a store without blocks.

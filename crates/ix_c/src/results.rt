@@ -6,7 +6,7 @@ ghost use Rattle.ix_c.specs.Results.{end_code, why_code, part_numbered, counts_t
 use crate::handle::Handle;
 use crate::start::start_of;
 use crate::status::Status;
-use ix_car::{End, Skip};
+use ix_archive::{End, Skip};
 use ix_check::Verdict;
 use ix_embedding::{Exported, Held, Part};
 use std::alloc::Global;

@@ -7,7 +7,7 @@ use crate::filling::fill;
 use crate::handle::Handle;
 use crate::status::Status;
 use ix_embedding::{Added, Held, add_block, freeze as frozen, share as shared};
-use ix_walk::Store;
+use ix_store::Store;
 use std::alloc::{AllocError, Global};
 use std::sync::Arc;
 

@@ -1,9 +1,8 @@
 -- Known bytes that grow, and parts of texts.
-use Rattle.std.proofs.Common.{◌≡◌, ℕ, ◌+◌, ◌<◌, ◌≤◌, List, [], ◌++◌, length, take, drop, sym, ap, ◌∙◌, subst, arith}
+use Rattle.std.proofs.Common.{◌≡◌, ℕ, ◌+◌, ◌≤◌, List, [], ◌++◌, length, take, drop, sym, ap, ◌∙◌, subst, arith}
 use Rattle.std.specs.Prelude.{Option, Some, None}
 use Rattle.std.specs.Io.KnownBytes.{Appends}
-use Rattle.std.proofs.lemmas.List.{append-nil, append_assoc, take-take, drop-take, take-append-drop, take-append-le, drop_at, length-drop}
-use Rattle.ix_car.specs.ArchiveMeaning.{IsProperPrefix}
+use Rattle.std.proofs.lemmas.List.{append-nil, append_assoc, take-take, drop-take, take-append-drop, take-append-le, drop_at}
 
 -- bytes that stay grow by nothing
 pub appends-nothing : (known : Option (List ℕ)) → Appends known known []
@@ -40,15 +39,3 @@ appends-section a b c n m head block within whole h k =
     let same : length head ≡ n = omega arith in
     appends-turn a b c n m (head ++ block) (subst (λ l. Appends a b l) (sym (take-append-le n head block within)) h)
     (subst (λ l. Appends b c (take m l)) (sym (drop_at head block n same)) k)
-
--- fewer bytes than a text has are a proper part of it
-pub proper-take : (n : ℕ) (text : List ℕ) → n < length text → IsProperPrefix (take n text) text
-proper-take n text short = (
-  drop n text,
-  take-append-drop n text,
-  λ e. let none : length (drop n text) ≡ 0 = ap length e in absurd (omega (arith, none, length-drop n text)),
-)
-
--- a proper part behind other bytes
-pub proper-behind : (xs part text : List ℕ) → IsProperPrefix part text → IsProperPrefix (xs ++ part) (xs ++ text)
-proper-behind xs part text h = (h.0, append_assoc xs part h.0 ∙ ap (λ l. xs ++ l) h.1, h.2)

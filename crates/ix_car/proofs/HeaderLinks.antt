@@ -3,7 +3,7 @@ use Rattle.std.proofs.Common.{◌≡◌, ℕ, ◌+◌, ◌≤◌, List, [], ◌�
 use Rattle.std.proofs.lemmas.List.{drop_all}
 use Rattle.ix_cbor.specs.Data.{list}
 use Rattle.ix_cbor.specs.Spelling.{head_of, item_count, items_spelling, spelling_of}
-use Rattle.ix_car.specs.Archive.{links_to}
+use Rattle.ix_car.specs.Writing.{links_to}
 
 -- as many as there are roots
 item_count-links : (roots : List (List ℕ)) → item_count (links_to roots) ≡ length roots

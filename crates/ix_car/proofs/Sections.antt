@@ -9,7 +9,7 @@ use Rattle.ix_cid.specs.declared.fault.VarintFault.{VarintFault}
 use Rattle.ix_cid.specs.declared.fault.VarintFault.TheVariants as varints
 use Rattle.ix_cid.specs.Varint.{continued, number_of_groups, varint_at}
 use Rattle.ix_cid.specs.Cid.{cid_at}
-use Rattle.ix_walk.specs.Store.{Blocks, with_block}
+use Rattle.ix_store.specs.Store.{Blocks, with_block}
 use Rattle.ix_car.specs.declared.fault.CarKind.{CarKind}
 use Rattle.ix_car.specs.declared.fault.CarKind.TheVariants.{Memory}
 use Rattle.ix_car.specs.Gives.{FailsAs}

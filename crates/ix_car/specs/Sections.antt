@@ -2,7 +2,7 @@
 use Rattle.std.specs.Prelude.{ℕ, zero, suc, ◌-◌, List, [], ◌∷◌, ◌++◌, length, codes, Option, Some, None, Result, Ok, Err}
 use Rattle.ix_cbor.specs.Data.{Data, Items, list, map, link, no_items, item}
 use Rattle.ix_cbor.specs.Reading.{data_at}
-use Rattle.ix_walk.specs.Store.{Blocks, with_block}
+use Rattle.ix_store.specs.Store.{Blocks, with_block}
 use Rattle.ix_car.specs.Reading.{Fault, ◌>>=◌, text_at, value_at, section_at, header_at}
 
 -- a section: where its length stands, from the front of the file, its CID and its block

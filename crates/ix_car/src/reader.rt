@@ -2,7 +2,7 @@
 
 ghost use Rattle.std.specs.Prelude.{◌≡◌, ◌≤◌, [], length, IfErr};
 ghost use Rattle.std.specs.Arc.{arc_value};
-ghost use Rattle.ix_walk.specs.Store.{Blocks};
+ghost use Rattle.ix_store.specs.Store.{Blocks};
 ghost use Rattle.ix_car.specs.Reading.{sections_at, blocks_of};
 ghost use Rattle.ix_car.specs.Gives.{Gives};
 ghost use Rattle.ix_car.specs.Reads.{ReadsOrRunsOut, IsEnd};
@@ -16,7 +16,7 @@ use crate::fault::{CarFault, CarKind};
 use crate::reader::header::header_at;
 use crate::reader::section::{Stop, section_at};
 pub use by_threads::load_car_by;
-use ix_walk::Store;
+use ix_store::Store;
 pub use sections::{CarFile, Section, read_sections};
 use std::alloc::Global;
 use std::sync::Arc;

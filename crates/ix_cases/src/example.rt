@@ -2,12 +2,13 @@
 
 use crate::walks::{MATCHER, job_of};
 use anyhow::{Context, Result, bail};
-use ix_car::{Counts, End, Skip};
+use ix_archive::{Counts, End, Skip};
 use ix_case_words::cids::cid_of;
 use ix_case_words::texts::{bytes_of_hex, two_words};
 use ix_check::Verdict;
 use ix_jobs::JobResult;
-use ix_walk::{Job, Store};
+use ix_store::Store;
+use ix_walk::Job;
 use std::alloc::Global;
 
 // The header of a CARv1 file without roots, in hexadecimal.

@@ -5,7 +5,7 @@ use anyhow::{Result, bail};
 use ix_car::{CarFault, read_car};
 use ix_case_words::cids::cid_of;
 use ix_case_words::texts::{bytes_of_hex, hex_of, two_words};
-use ix_walk::Store;
+use ix_store::Store;
 use std::alloc::Global;
 
 /// `add CID HEX = true` or `false`

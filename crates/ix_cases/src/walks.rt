@@ -7,7 +7,8 @@ use ix_case_words::cids::{cids_of, hex_of_cids};
 use ix_case_words::selectors::selector_of;
 use ix_case_words::texts::two_words;
 use ix_check::{Check, ShaCheck, Verdict};
-use ix_walk::{Job, JobFault, Store, Visit, Walk, WalkStop};
+use ix_store::Store;
+use ix_walk::{Job, JobFault, Visit, Walk, WalkStop};
 use std::alloc::{AllocError, Global};
 
 /// The matcher.

@@ -6,8 +6,8 @@ use Rattle.sha2.specs.Sha512.{sha512}
 use Rattle.ix_cid.specs.Cid.{parts_of, digest_of, hash_function_of}
 use Rattle.ix_cid.specs.declared.hash_function.HashFunction.{HashFunction}
 use Rattle.ix_cid.specs.declared.hash_function.HashFunction.TheVariants.{Sha2_256, Sha2_512}
-use Rattle.ix_walk.specs.Mark.{agrees_by, agrees}
-use Rattle.ix_walk.specs.Store.{Blocks, block_of, position_behind, position_of, bytes_by, bytes_of}
+use Rattle.ix_store.specs.Mark.{agrees_by, agrees}
+use Rattle.ix_store.specs.Store.{Blocks, block_of, position_behind, position_of, bytes_by, bytes_of}
 use Rattle.ix_walk.specs.Visits.{is_malformed}
 use Rattle.ix_check.specs.declared.verdict.Verdict.TheVariants.{Codec, Missing, Damaged, Malformed, Sound}
 use Rattle.ix_check.specs.Verdict.{is_no_data, verdict_under, verdict_by, has_codec, verdict_of}

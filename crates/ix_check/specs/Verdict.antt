@@ -6,7 +6,7 @@ use Rattle.ix_cid.specs.Cid.{parts_of, codec_of, digest_of, hash_function_of}
 use Rattle.ix_cid.specs.declared.hash_function.HashFunction.{HashFunction}
 use Rattle.ix_cid.specs.declared.hash_function.HashFunction.TheVariants.{Identity, Sha2_256, Sha2_512}
 use Rattle.ix_cbor.specs.Reading.{data_at}
-use Rattle.ix_walk.specs.Store.{Blocks, block_of}
+use Rattle.ix_store.specs.Store.{Blocks, block_of}
 use Rattle.ix_check.specs.declared.verdict.Verdict.{Verdict}
 use Rattle.ix_check.specs.declared.verdict.Verdict.TheVariants.{Codec, Hash, Missing, Damaged, Malformed, Sound, Inline}
 

@@ -8,7 +8,8 @@ ghost use Rattle.ix_check.specs.Visits.{IsVisitOf};
 use crate::verdict::Verdict;
 use ix_cid::HashFunction;
 use ix_cid::code::{DAG_CBOR, RAW};
-use ix_walk::{Store, Visit};
+use ix_store::Store;
+use ix_walk::Visit;
 use std::alloc::{AllocError, Global};
 use std::marker::Model;
 

@@ -7,9 +7,9 @@ use Rattle.ix_stages.specs.declared.verdicted.Verdicted.{Verdicted}
 use Rattle.ix_stages.specs.declared.lanes.LaneOut.{LaneOut}
 use Rattle.ix_stages.specs.Received.{Inserts}
 use Rattle.ix_stages.specs.declared.lanes.LaneIn.{LaneIn}
-use Rattle.ix_car.specs.declared.sink.Delivery.{Delivery}
-use Rattle.ix_car.specs.Events.{Event}
-use Rattle.ix_car.specs.Headline.{Fact}
+use Rattle.ix_archive.specs.declared.sink.Delivery.{Delivery}
+use Rattle.ix_archive.specs.Events.{Event}
+use Rattle.ix_archive.specs.Headline.{Fact}
 use Rattle.ix_collect.specs.declared.collector.Collector.{Collector}
 use Rattle.ix_collect.specs.Collected.{is_last, last_count}
 use Rattle.ix_collect.specs.Collecting.{CanCollect, GoesOn}

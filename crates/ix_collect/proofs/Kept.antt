@@ -1,6 +1,6 @@
 -- What each sink promised is kept, and what stands in a list.
 use Rattle.std.proofs.Common.{◌≡◌, ℕ, zero, suc, List, [], ◌∷◌, get_or, set, sym, subst}
-use Rattle.ix_car.specs.Headline.{Fact, Keeps, EachKept}
+use Rattle.ix_archive.specs.Headline.{Fact, Keeps, EachKept}
 
 module _ {S : Type 0} (fact : Fact S) where
   pub kept_same : (ss : List S) → EachKept fact ss ss

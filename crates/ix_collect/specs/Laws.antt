@@ -1,8 +1,8 @@
 -- What the laws say of what is sent for what was taken.
 use Rattle.std.specs.Prelude.{◌<◌, ℕ, List, Contains}
-use Rattle.ix_walk.specs.Store.{Blocks}
+use Rattle.ix_store.specs.Store.{Blocks}
 use Rattle.ix_walk.specs.JobMeaning.{JobMeaning}
-use Rattle.ix_car.specs.Headline.{IsEachOnce, visit_count}
+use Rattle.ix_archive.specs.Headline.{IsEachOnce, visit_count}
 use Rattle.ix_stages.specs.declared.item.Item.{Item}
 use Rattle.ix_stages.specs.declared.verdicted.Verdicted.{Verdicted}
 use Rattle.ix_stages.specs.Good.{IsGood}

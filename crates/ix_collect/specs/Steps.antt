@@ -1,7 +1,7 @@
 -- What each step does to the export of a job: how far it has come, if what came fits its visits.
 use Rattle.std.specs.Prelude.{◌≡◌, Bool, true, List, Option}
-use Rattle.ix_car.specs.declared.sink.Delivery.{Delivery}
-use Rattle.ix_car.specs.Events.{Event}
+use Rattle.ix_archive.specs.declared.sink.Delivery.{Delivery}
+use Rattle.ix_archive.specs.Events.{Event}
 use Rattle.ix_stages.specs.declared.verdicted.Verdicted.{Verdicted}
 use Rattle.ix_stages.specs.Received.{Tally}
 use Rattle.ix_collect.specs.declared.job_progress.JobProgress.{JobProgress}

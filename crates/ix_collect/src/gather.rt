@@ -6,7 +6,7 @@ ghost use Rattle.ix_collect.specs.Collected.{is_last, last_count};
 ghost use Rattle.ix_collect.specs.Collecting.{CanCollect, CollectsAmong, CollectsBehind, GoesOn};
 
 use crate::collector::Collector;
-use ix_car::Sink;
+use ix_archive::Sink;
 use ix_stages::{LaneIn, LaneOut, Verdicted, lane_rest};
 use std::alloc::Global;
 use std::sync::Wait;

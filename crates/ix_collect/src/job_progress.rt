@@ -1,15 +1,15 @@
 //! What was received of one job, and how far its sink has come.
 
 ghost use Rattle.std.specs.Prelude.{◌≡◌, ◌+◌, Some, None, false, IfOk, IsTrue, ◌↔◌, unwrap_or};
-ghost use Rattle.ix_car.specs.declared.sink.End.TheVariants.{Memory};
-ghost use Rattle.ix_car.specs.Headline.{Keeps};
+ghost use Rattle.ix_archive.specs.declared.sink.End.TheVariants.{Memory};
+ghost use Rattle.ix_archive.specs.Headline.{Keeps};
 ghost use Rattle.ix_collect.specs.declared.job_progress.Stage.TheVariants.{Delivering};
 ghost use Rattle.ix_collect.specs.declared.job_progress.WalkEnd.{WalkEnd};
 ghost use Rattle.ix_ring.specs.Numbered.{IsFree};
 ghost use Rattle.ix_collect.specs.JobProgress.{IsArrival, IsCloseArrival, IsItem, IsNew, IsEnded, IsMisplaced, end_of};
 ghost use Rattle.ix_collect.specs.Steps.{HasCome, HasDelivered, HasFinished, IsHandedOn, IsNoted, IsSafeFor, StaysSafe};
 
-use ix_car::{Delivery, End, Sink, SinkFault};
+use ix_archive::{Delivery, End, Sink, SinkFault};
 use ix_ring::Ring;
 use ix_stages::Verdicted;
 use std::alloc::{AllocError, Global};

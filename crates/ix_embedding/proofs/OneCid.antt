@@ -3,7 +3,7 @@ use Rattle.std.proofs.Common.{◌≡◌, ℕ, ◌-◌, Bool, true, false, not, L
 use Rattle.std.proofs.lemmas.List.{take_all}
 use Rattle.ix_cid.specs.declared.fault.CidFault.{CidFault}
 use Rattle.ix_cid.specs.Cid.{◌>>=◌, Parts, parts_at, cid_at, IsCid}
-use Rattle.ix_walk.specs.Store.{Blocks, has_cid, with_block}
+use Rattle.ix_store.specs.Store.{Blocks, has_cid, with_block}
 
 ok_same : (x y : List ℕ × ℕ) → ◌≡◌ {A = Result (List ℕ × ℕ) CidFault} (Ok x) (Ok y) → x ≡ y
 ok_same x y e = cc

@@ -1,11 +1,11 @@
 -- What is told of one job that runs alone.
 use Rattle.std.proofs.Common.{◌≡◌, ℕ, List, [], ◌∷◌, ◌++◌, refl, ap, subst, Vec, Global}
 use Rattle.std.specs.Prelude.{Option, Some}
-use Rattle.ix_walk.specs.Store.{Blocks}
+use Rattle.ix_store.specs.Store.{Blocks}
 use Rattle.ix_walk.specs.JobMeaning.{JobMeaning}
-use Rattle.ix_car.specs.declared.sink.End.TheVariants.{Done}
-use Rattle.ix_car.specs.Archive.{archive_of}
-use Rattle.ix_car.specs.Archived.{IsBeginning}
+use Rattle.ix_archive.specs.declared.sink.End.TheVariants.{Done}
+use Rattle.ix_archive.specs.Archive.{archive_of}
+use Rattle.ix_archive.specs.Archived.{IsBeginning}
 use Rattle.ix_jobs.specs.declared.outcome.JobResult.{JobResult}
 use Rattle.ix_run.specs.Run.{IsRun, EachRun}
 use Rattle.ix_embedding.specs.Exporting.{IsRunOfOne}

@@ -1,7 +1,7 @@
 -- What becomes of a block that is to be added.
 use Rattle.std.specs.Prelude.{◌≡◌, ℕ, true, false, List, [], ◌∷◌, ◌++◌}
 use Rattle.ix_cid.specs.Cid.{IsCid}
-use Rattle.ix_walk.specs.Store.{Blocks, has_cid}
+use Rattle.ix_store.specs.Store.{Blocks, has_cid}
 use Rattle.ix_embedding.specs.declared.input.Added.{Added}
 use Rattle.ix_embedding.specs.declared.input.Added.TheVariants.{New, Known, NoCid, Memory}
 

@@ -1,15 +1,16 @@
 //! An export of one job on the caller's thread.
 
 ghost use Rattle.std.specs.Prelude.{◌≡◌, IfOk};
-ghost use Rattle.ix_car.specs.declared.sink.End.TheVariants.{Done};
-ghost use Rattle.ix_car.specs.Archive.{archive_of};
-ghost use Rattle.ix_car.specs.Archived.{IsBeginning};
+ghost use Rattle.ix_archive.specs.declared.sink.End.TheVariants.{Done};
+ghost use Rattle.ix_archive.specs.Archive.{archive_of};
+ghost use Rattle.ix_archive.specs.Archived.{IsBeginning};
 ghost use Rattle.ix_embedding.specs.Exporting.{HasExported, IsRunOfOne};
 
 use ix_check::ShaCheck;
 use ix_jobs::{JobResult, report};
 use ix_run::run_jobs;
-use ix_walk::{Job, Store};
+use ix_store::Store;
+use ix_walk::Job;
 use std::alloc::{AllocError, Global};
 use std::slice;
 

@@ -5,7 +5,8 @@ ghost use Rattle.std.specs.Arc.{arc_value};
 ghost use Rattle.ix_embedding.specs.Parts.{part_of};
 
 use crate::exported::Exported;
-use ix_walk::{Job, Store};
+use ix_store::Store;
+use ix_walk::Job;
 use std::alloc::{AllocError, Global};
 use std::sync::Arc;
 

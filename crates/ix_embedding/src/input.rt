@@ -13,7 +13,8 @@ use ix_cid::{Cid, CidFault};
 use ix_jobs::{JobsKind, read_jobs};
 use ix_notation::{NotationFault, hex_of_json};
 use ix_run::RunFault;
-use ix_walk::{Job, Store};
+use ix_store::Store;
+use ix_walk::Job;
 use std::alloc::Global;
 
 /// What became of a block that was to be added.

@@ -15,7 +15,8 @@ use ix_job_words::{
     JobWords, LineFault, SelectorWord, job_fault_words, jobs_of_words, lacks_an_edge,
 };
 use ix_run::{RunFault, RunOut};
-use ix_walk::{Job, Store};
+use ix_store::Store;
+use ix_walk::Job;
 use std::fs::File;
 use std::io::{self, BufWriter, ErrorKind};
 use std::rt::{Clock, Files};

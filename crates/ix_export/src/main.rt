@@ -30,7 +30,8 @@ use ix_files::{
 use ix_notation::{hex_of_json, json_of_hex};
 use ix_pipeline::Plan;
 use ix_run::{Choice, RunFault, RunOut, load_by, printed_root, root_of_text, run, run_watched};
-use ix_walk::{Job, Store};
+use ix_store::Store;
+use ix_walk::Job;
 use std::fs::File;
 use std::io::{BufWriter, IsTerminal, Write};
 use std::mem::ManuallyDrop;

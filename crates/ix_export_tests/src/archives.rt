@@ -3,16 +3,17 @@
 
 ghost use Rattle.std.specs.Prelude.{◌≡◌, ◌≤◌, [], length, vec_len, IfOk};
 ghost use Rattle.std.specs.Arc.{arc_value};
-ghost use Rattle.ix_car.specs.ArchiveMeaning.{events_of};
+ghost use Rattle.ix_archive.specs.ArchiveMeaning.{events_of};
 ghost use Rattle.ix_pipeline.specs.Headline.{EachFresh, EachUnused};
 ghost use Rattle.ix_pipeline.specs.Planned.{IsPlan};
 
 use crate::exporting::{chain, exported, list, plan_of};
-use ix_car::{Archive, Counts, End, Skip};
+use ix_archive::{Archive, Counts, End, Skip};
 use ix_check::{Check, ShaCheck, Verdict};
 use ix_fixtures::{CHAIN_ARCHIVE, LIST_ARCHIVE, Refusing, bytes_of};
 use ix_pipeline::{Gate, Open, Outcome, Plan};
-use ix_walk::{Job, Store, Visit};
+use ix_store::Store;
+use ix_walk::{Job, Visit};
 use std::alloc::{AllocError, Global};
 use std::process::Abort;
 use std::sync::atomic::{AtomicBool, Ordering};

@@ -5,11 +5,12 @@ ghost use Rattle.std.specs.Arc.{arc_value};
 ghost use Rattle.ix_pipeline.specs.Headline.{EachFresh, EachUnused};
 ghost use Rattle.ix_pipeline.specs.Planned.{IsPlan};
 
-use ix_car::Sink;
+use ix_archive::Sink;
 use ix_check::Check;
 use ix_fixtures::{LIST, OUTER, chain_of, jobs_of, list_of};
 use ix_pipeline::{Gate, Outcome, Plan, export};
-use ix_walk::{Job, Store};
+use ix_store::Store;
+use ix_walk::Job;
 use std::alloc::{AllocError, Global};
 use std::sync::{Arc, Wait};
 use std::test::Fail;

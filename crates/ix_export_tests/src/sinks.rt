@@ -5,11 +5,12 @@ ghost use Rattle.std.specs.Arc.{arc_value};
 ghost use Rattle.ix_pipeline.specs.Headline.{EachUnused};
 
 use crate::exporting::{exported, list, plan_of};
-use ix_car::End;
+use ix_archive::End;
 use ix_check::{ShaCheck, Verdict};
 use ix_fixtures::{ABC, ALL, Log, ONE_LINK, ONE_LINK_BLOCK, job_of, store_of};
 use ix_pipeline::{Open, export_plain};
-use ix_walk::{Job, Store};
+use ix_store::Store;
+use ix_walk::Job;
 use std::alloc::Global;
 use std::sync::{Arc, Wait};
 use std::test::Fail;

@@ -7,11 +7,12 @@
 ghost use Rattle.std.specs.Prelude.{◌≡◌, []};
 
 use crate::exporting::{exported, list, plan_of};
-use ix_car::End;
+use ix_archive::End;
 use ix_check::{Check, ShaCheck, Verdict};
 use ix_fixtures::Log;
 use ix_pipeline::Open;
-use ix_walk::{Store, Visit};
+use ix_store::Store;
+use ix_walk::Visit;
 use std::alloc::{AllocError, Global};
 use std::env;
 use std::rt::Env;

@@ -3,12 +3,13 @@
 
 use crate::archives::{Left, archived};
 use crate::exporting::{chain, exported, list, plan_of};
-use ix_car::{Counts, End, Sink, SinkFault};
+use ix_archive::{Counts, End, Sink, SinkFault};
 use ix_check::{Check, ShaCheck, Verdict};
 use ix_cid::Cid;
 use ix_fixtures::{ABC, ALL, Log, ROOTS, VERSION, bytes_of, job_at, store_of};
 use ix_pipeline::{Gate, Open};
-use ix_walk::{Store, Visit};
+use ix_store::Store;
+use ix_walk::Visit;
 use sha2::{Digest, Sha256};
 use std::alloc::{AllocError, Global};
 use std::sync::Arc;
@@ -85,7 +86,7 @@ struct Telling<'a> {
 
 impl Sink for Telling<'_> {
     ghost use Rattle.std.specs.Prelude.{◌++◌, map, option_to_list};
-    ghost use Rattle.ix_car.specs.Events.{delivery, close as closing};
+    ghost use Rattle.ix_archive.specs.Events.{delivery, close as closing};
 
     ghost events = { λ s. map delivery s.log.deliveries.items ++ map closing (option_to_list s.log.closed) };
 

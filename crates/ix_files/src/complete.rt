@@ -7,7 +7,7 @@ ghost use Rattle.ix_files.specs.Failure.{IsFailureOf, IsOutputFailure, IsPathFai
 
 use crate::fault::Failure;
 use crate::outputs::{name_job, name_output, path_of};
-use ix_car::End;
+use ix_archive::End;
 use ix_jobs::JobResult;
 use ix_run::{is_complete, is_root};
 use ix_walk::Job;

@@ -10,7 +10,7 @@ ghost use Rattle.std.specs.Prelude.{◌≡◌, length, IfOk, IfErr, string_bytes
 ghost use Rattle.ix_files.specs.Failure.{output_path, IsFailureOf, IsOutputFailure, IsPathFailure};
 
 use crate::fault::Failure;
-use ix_car::End;
+use ix_archive::End;
 use ix_run::RunFault;
 use ix_walk::Job;
 use std::alloc::{AllocError, Global};

@@ -1,7 +1,7 @@
 //! Blocks in hexadecimal, the stores of them, and the archives that jobs over these leave.
 
 use ix_cid::Cid;
-use ix_walk::Store;
+use ix_store::Store;
 use std::alloc::Global;
 use std::test::Fail;
 

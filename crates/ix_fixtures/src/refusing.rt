@@ -1,7 +1,8 @@
 //! A check that finds no memory for one visit.
 
 use ix_check::{Check, ShaCheck, Verdict};
-use ix_walk::{Store, Visit};
+use ix_store::Store;
+use ix_walk::Visit;
 use std::alloc::{AllocError, Global};
 
 // The third visit of the first job.

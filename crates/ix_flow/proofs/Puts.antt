@@ -1,12 +1,12 @@
 -- What a walker puts is next in its job's course.
 use Rattle.std.proofs.Common.{◌≡◌, ℕ, List, ◌∷◌, drop, slice_get, Some, Result, sym, subst, ◌∙◌, eq-eqb}
 use Rattle.ix_walk.specs.declared.visit.Visit.{Visit}
-use Rattle.ix_walk.specs.Store.{Blocks}
+use Rattle.ix_store.specs.Store.{Blocks}
 use Rattle.ix_walk.specs.JobMeaning.{JobMeaning}
 use Rattle.ix_walk.specs.declared.fault.WalkStop.{WalkStop}
 use Rattle.ix_walk.specs.WalkLeft.{WalkLeft, GivesNext}
 use Rattle.ix_walk.specs.Visits.{visits_of, is_over_limit}
-use Rattle.ix_car.specs.declared.sink.End.{End}
+use Rattle.ix_archive.specs.declared.sink.End.{End}
 use Rattle.ix_stages.specs.declared.course.JobVisits.{JobVisits}
 use Rattle.ix_stages.specs.declared.item.Item.TheVariants as item
 use Rattle.ix_stages.specs.Course.{Allowed, course_of}

@@ -1,8 +1,8 @@
 -- Sinks that were closed with one end.
 use Rattle.std.specs.Prelude.{◌≡◌, List, [], ◌∷◌}
-use Rattle.ix_car.specs.declared.sink.Delivery.{Delivery}
-use Rattle.ix_car.specs.declared.sink.End.{End}
-use Rattle.ix_car.specs.Events.{Event, close}
+use Rattle.ix_archive.specs.declared.sink.Delivery.{Delivery}
+use Rattle.ix_archive.specs.declared.sink.End.{End}
+use Rattle.ix_archive.specs.Events.{Event, close}
 
 module _ {S : Type 0} (events : S → List Event) (failed : S → List Delivery) (end : End) where
   -- each sink was closed with this end, and told nothing else

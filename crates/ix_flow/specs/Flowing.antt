@@ -2,11 +2,11 @@
 use Rattle.std.specs.Prelude.{◌≡◌, ℕ, ◌≤◌, ◌<◌, List, [], length, All, Contains, Some, vec_len, vec_capacity}
 use Rattle.std.specs.declared.thread.PromisedHandle.{PromisedHandle}
 use Rattle.atomic_table.specs.Seated.{TableId}
-use Rattle.ix_walk.specs.Store.{Blocks}
+use Rattle.ix_store.specs.Store.{Blocks}
 use Rattle.ix_walk.specs.JobMeaning.{JobMeaning}
-use Rattle.ix_car.specs.declared.sink.Delivery.{Delivery}
-use Rattle.ix_car.specs.Events.{Event}
-use Rattle.ix_car.specs.Headline.{EachDelivered, EachFresh, EachKept, Fact, IsCheckedOnce, NoneOrAllStart, checked_by, visit_count}
+use Rattle.ix_archive.specs.declared.sink.Delivery.{Delivery}
+use Rattle.ix_archive.specs.Events.{Event}
+use Rattle.ix_archive.specs.Headline.{EachDelivered, EachFresh, EachKept, Fact, IsCheckedOnce, NoneOrAllStart, checked_by, visit_count}
 use Rattle.ix_stages.specs.Claims.{SeatMeaning}
 use Rattle.ix_stages.specs.Course.{course_of}
 use Rattle.ix_stages.specs.Seats.{JobView}

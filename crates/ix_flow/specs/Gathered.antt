@@ -1,8 +1,8 @@
 -- What the collector has received while the threads run.
 use Rattle.std.specs.Prelude.{List}
-use Rattle.ix_car.specs.declared.sink.Delivery.{Delivery}
-use Rattle.ix_car.specs.Events.{Event}
-use Rattle.ix_car.specs.Headline.{Fact}
+use Rattle.ix_archive.specs.declared.sink.Delivery.{Delivery}
+use Rattle.ix_archive.specs.Events.{Event}
+use Rattle.ix_archive.specs.Headline.{Fact}
 use Rattle.ix_stages.specs.declared.lanes.LaneOut.{LaneOut}
 use Rattle.ix_stages.specs.declared.verdicted.Verdicted.{Verdicted}
 use Rattle.ix_stages.specs.Lanes.{EachSameOut, all_received}

@@ -1,7 +1,7 @@
 -- What is made before the first thread.
 use Rattle.std.specs.Prelude.{◌≡◌, ℕ, ◌≤◌, List, [], All, length, map, vec_len, vec_capacity}
 use Rattle.atomic_table.specs.Seated.{TableId}
-use Rattle.ix_walk.specs.Store.{Blocks}
+use Rattle.ix_store.specs.Store.{Blocks}
 use Rattle.ix_walk.specs.JobMeaning.{JobMeaning}
 use Rattle.ix_stages.specs.Course.{IsCourseOf}
 use Rattle.ix_stages.specs.Items.{count_up}

@@ -1,7 +1,7 @@
 -- The seats of walkers and verifiers.
 use Rattle.std.specs.Prelude.{◌≡◌, ◌<◌, false, List, [], length}
 use Rattle.atomic_table.specs.Seated.{TableId}
-use Rattle.ix_walk.specs.Store.{Blocks}
+use Rattle.ix_store.specs.Store.{Blocks}
 use Rattle.ix_walk.specs.JobMeaning.{JobMeaning}
 use Rattle.ix_stages.specs.Course.{IsCourseOf, course_of}
 use Rattle.ix_stages.specs.Seats.{JobView, SeatView}

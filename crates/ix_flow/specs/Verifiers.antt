@@ -2,7 +2,7 @@
 use Rattle.std.specs.Prelude.{◌≡◌, ℕ, ◌≤◌, List, [], ◌∷◌, vec_capacity}
 use Rattle.std.specs.declared.thread.PromisedHandle.{PromisedHandle}
 use Rattle.atomic_table.specs.Seated.{TableId}
-use Rattle.ix_walk.specs.Store.{Blocks}
+use Rattle.ix_store.specs.Store.{Blocks}
 use Rattle.ix_stages.specs.declared.lanes.LaneIn.{LaneIn}
 use Rattle.ix_stages.specs.declared.lanes.LaneOut.{LaneOut}
 use Rattle.ix_stages.specs.Course.{IsCourseOf}

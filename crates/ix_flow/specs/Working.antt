@@ -1,7 +1,7 @@
 -- What a verifier's thread does.
 use Rattle.std.specs.Prelude.{◌≡◌, ℕ, List}
 use Rattle.atomic_table.specs.Seated.{TableId}
-use Rattle.ix_walk.specs.Store.{Blocks}
+use Rattle.ix_store.specs.Store.{Blocks}
 use Rattle.ix_stages.specs.Course.{IsCourseOf}
 use Rattle.ix_stages.specs.Lanes.{SameIn}
 use Rattle.ix_stages.specs.Verified.{HasVerified}

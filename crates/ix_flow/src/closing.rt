@@ -1,14 +1,14 @@
 //! Exports of which nothing is delivered, since no thread could be started.
 
 ghost use Rattle.std.specs.Prelude.{◌≡◌, ◌≤◌, [], length, vec_capacity};
-ghost use Rattle.ix_car.specs.declared.sink.End.TheVariants.{Start};
-ghost use Rattle.ix_car.specs.Headline.{EachFresh, EachKept, IsEachOnce, checked_by};
+ghost use Rattle.ix_archive.specs.declared.sink.End.TheVariants.{Start};
+ghost use Rattle.ix_archive.specs.Headline.{EachFresh, EachKept, IsEachOnce, checked_by};
 ghost use Rattle.ix_flow.specs.Closed.{EachClosed};
 ghost use Rattle.ix_flow.specs.Flowing.{AreOfVisits, IsFlown};
 
 use crate::flowing::Outcome;
 use crate::shared::Task;
-use ix_car::{End, Sink};
+use ix_archive::{End, Sink};
 use ix_check::Check;
 
 // Closes every sink with one end.

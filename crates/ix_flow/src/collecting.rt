@@ -2,7 +2,7 @@
 //! left.
 
 ghost use Rattle.std.specs.Prelude.{◌≡◌, [], length};
-ghost use Rattle.ix_car.specs.Headline.{EachFresh};
+ghost use Rattle.ix_archive.specs.Headline.{EachFresh};
 ghost use Rattle.ix_stages.specs.Lanes.{EachLane, all_received, all_sent};
 ghost use Rattle.ix_stages.specs.Queue.{table_of};
 ghost use Rattle.ix_collect.specs.Collected.{job_count, IsDone, IsUnused};
@@ -10,7 +10,7 @@ ghost use Rattle.ix_collect.specs.Collecting.{GoesOn, HasCollected};
 ghost use Rattle.ix_flow.specs.Gathered.{Gathers, IsTold};
 ghost use Rattle.ix_flow.specs.Stopping.{CanStop, IsSeatOf};
 
-use ix_car::Sink;
+use ix_archive::Sink;
 use ix_collect::{Collector, finish, round};
 use ix_stages::{LaneIn, LaneOut, StopSeat, VisitQueue, Waiting};
 use std::alloc::Global;

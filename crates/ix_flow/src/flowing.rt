@@ -1,7 +1,7 @@
 //! The flow: threads in a scope, and the caller collects while they run.
 
 ghost use Rattle.std.specs.Prelude.{◌≡◌, [], length, vec_len};
-ghost use Rattle.ix_car.specs.Headline.{EachFresh, EachUnused};
+ghost use Rattle.ix_archive.specs.Headline.{EachFresh, EachUnused};
 ghost use Rattle.ix_stages.specs.Lanes.{all_received};
 ghost use Rattle.ix_flow.specs.Flowing.{AllBegan, IsFlown, IsFlownTo, CanFlowTo, IsCallerIn};
 ghost use Rattle.ix_flow.specs.Verifiers.{EachOut};
@@ -15,7 +15,7 @@ use crate::preparing::{Prepared, assign_checks};
 use crate::shared::{Shared, Task};
 use crate::verifying::{Began, RunningVerifiers, UnstartedVerifier, Verifier, start_verifiers};
 use crate::walking::start_walkers;
-use ix_car::{End, Sink};
+use ix_archive::{End, Sink};
 use ix_check::Check;
 use ix_collect::{Collector, law};
 use ix_stages::{ClaimSeat, JobSeat, StopSeat};

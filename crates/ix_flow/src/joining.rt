@@ -1,7 +1,7 @@
 //! The joins: what the verifiers took and sent is known.
 
 ghost use Rattle.std.specs.Prelude.{◌≡◌, ◌≤◌, [], All, vec_len, vec_capacity};
-ghost use Rattle.ix_car.specs.Headline.{checked_by};
+ghost use Rattle.ix_archive.specs.Headline.{checked_by};
 ghost use Rattle.ix_stages.specs.Course.{course_of};
 ghost use Rattle.ix_stages.specs.Lanes.{all_sent};
 ghost use Rattle.ix_stages.specs.Queue.{table_of};
@@ -16,7 +16,7 @@ use crate::verifying::{Began, Verifier};
 use ix_check::Check;
 use ix_collect::law;
 use ix_stages::{LaneIn, StopSeat, TakeSeat, VisitQueue, well_taken_is_good};
-use ix_walk::Store;
+use ix_store::Store;
 use std::alloc::Global;
 use std::thread::{PromisedHandle, Threads};
 

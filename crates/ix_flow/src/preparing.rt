@@ -2,7 +2,7 @@
 
 ghost use Rattle.std.specs.Prelude.{◌≡◌, ◌<◌, ◌≤◌, [], length, All, vec_len, vec_capacity, IfOk};
 ghost use Rattle.ix_walk.specs.JobMeaning.{JobMeaning};
-ghost use Rattle.ix_car.specs.Headline.{EachUnused};
+ghost use Rattle.ix_archive.specs.Headline.{EachUnused};
 ghost use Rattle.ix_stages.specs.Queue.{table_of};
 ghost use Rattle.ix_flow.specs.Prepared.{IsSlot, IsPrepared, walker_count};
 ghost use Rattle.ix_flow.specs.Ready.{IsIdle};
@@ -12,14 +12,15 @@ use crate::flowing::CallerState;
 use crate::joining::Joined;
 use crate::plan::Plan;
 use crate::verifying::{RunningVerifiers, UnstartedVerifier, Verifier};
-use ix_car::End;
+use ix_archive::End;
 use ix_check::Check;
 use ix_collect::Collector;
 use ix_stages::{
     ClaimSeat, Claims, Course, JobSeat, LaneIn, LaneOut, QueueParts, TakeSeat, VisitQueue,
     course_of_jobs, lane,
 };
-use ix_walk::{Job, Store};
+use ix_store::Store;
+use ix_walk::Job;
 use std::alloc::{AllocError, Global};
 use std::snapshot::Snapshot;
 

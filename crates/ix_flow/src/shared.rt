@@ -1,7 +1,8 @@
 //! What is exported, and what the threads of a flow share.
 
 use ix_stages::{Claims, JobSeat, VisitQueue};
-use ix_walk::{Job, Store};
+use ix_store::Store;
+use ix_walk::Job;
 
 /// What is to be exported, and the gate that walkers pass.
 #[derive(Drop)]

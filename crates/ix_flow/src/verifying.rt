@@ -10,7 +10,7 @@ ghost use Rattle.ix_flow.specs.Working.{CanWork, HasWorked};
 use crate::shared::Shared;
 use ix_check::Check;
 use ix_stages::{LaneIn, LaneOut, TakeSeat, VisitQueue, verify};
-use ix_walk::Store;
+use ix_store::Store;
 use std::alloc::Global;
 use std::snapshot::Snapshot;
 use std::sync::Wait;

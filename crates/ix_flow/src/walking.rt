@@ -7,7 +7,7 @@ ghost use Rattle.ix_flow.specs.Flowing.{IsReadyIn, AreReady, CanClaim};
 
 use crate::gate::Gate;
 use crate::shared::Shared;
-use ix_car::End;
+use ix_archive::End;
 use ix_stages::{ClaimSeat, Item, JobSeat, course_of_jobs};
 use ix_walk::{Job, Walk, WalkStop};
 use std::alloc::Global;

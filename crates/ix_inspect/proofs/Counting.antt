@@ -4,7 +4,7 @@ use Rattle.std.specs.Prelude.{Some, unwrap_or, bytes_eq, map, not, if◌then◌e
 use Rattle.std.specs.List.{list_any}
 use Rattle.std.proofs.lemmas.List.Folds.{list_any-append}
 use Rattle.std.proofs.lemmas.Slice.Eq.{bytes_eq-Decides}
-use Rattle.ix_walk.specs.Store.{Blocks, has_cid, with_block}
+use Rattle.ix_store.specs.Store.{Blocks, has_cid, with_block}
 use Rattle.ix_inspect.specs.Counted.{if_any, has_stood, repeats_behind}
 
 pub if_any-more : (n : ℕ) → if_any (n + 1) ≡ Some (n + 1)

@@ -8,7 +8,7 @@ ghost use Rattle.ix_inspect.specs.Counted.{IsTallyOf, repeats};
 
 use crate::tally::{Tally, tally_of};
 use ix_car::Section;
-use ix_walk::Store;
+use ix_store::Store;
 use std::alloc::{AllocError, Global};
 
 /// What is counted of sections.

@@ -13,7 +13,7 @@ ghost use Rattle.ix_jobs.specs.Report.{
   status_of,
 };
 
-use ix_car::{Counts, End, Skip};
+use ix_archive::{Counts, End, Skip};
 use ix_walk::Job;
 use std::alloc::{AllocError, Global};
 

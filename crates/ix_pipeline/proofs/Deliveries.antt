@@ -2,12 +2,12 @@
 use Rattle.std.proofs.Common.{◌≡◌, ℕ, List, [], ◌∷◌, ◌++◌, Result, Ok, Err, subst, inr}
 use Rattle.std.specs.declared.alloc.AllocError.{AllocError}
 use Rattle.ix_walk.specs.declared.visit.Visit.{Visit}
-use Rattle.ix_walk.specs.Store.{Blocks}
+use Rattle.ix_store.specs.Store.{Blocks}
 use Rattle.ix_check.specs.declared.verdict.Verdict.{Verdict}
 use Rattle.ix_check.specs.Verdict.{verdict_of}
-use Rattle.ix_car.specs.declared.sink.Delivery.{Delivery}
-use Rattle.ix_car.specs.Events.{Event}
-use Rattle.ix_car.specs.Verified.{judged}
+use Rattle.ix_archive.specs.declared.sink.Delivery.{Delivery}
+use Rattle.ix_archive.specs.Events.{Event}
+use Rattle.ix_archive.specs.Verified.{judged}
 use Rattle.ix_pipeline.specs.declared.sink_state.SinkState.{SinkState}
 use Rattle.ix_pipeline.specs.declared.sink_state.SinkState.TheVariants.{Taking, Failed}
 use Rattle.ix_pipeline.specs.Progress.{HandsOn, Delivers}

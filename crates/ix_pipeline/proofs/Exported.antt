@@ -2,17 +2,17 @@
 use Rattle.std.proofs.Common.{◌≡◌, ℕ, zero, suc, ◌+◌, ◌<◌, ◌≤◌, List, [], ◌∷◌, ◌++◌, length, get_or, set, take, drop, map, Option, Some, None, slice_get, Contains, refl, sym, ◌∙◌, ap, subst, inl, inr, arith, take_all, drop-set-lt, length-append, length-set}
 use Rattle.std.proofs.lemmas.List.{take_more, take_more_set, drop_more}
 use Rattle.std.proofs.lemmas.List.Elements.{Contains-append_left, Contains-append_right, Contains-append_cases, Contains-push_cases}
-use Rattle.ix_walk.specs.Store.{Blocks}
+use Rattle.ix_store.specs.Store.{Blocks}
 use Rattle.ix_walk.specs.JobMeaning.{JobMeaning}
 use Rattle.ix_walk.specs.Arrivals.{Arrival}
 use Rattle.ix_walk.specs.Visits.{arrivals_of, visit_of, visits_from, visits_of}
-use Rattle.ix_car.specs.declared.sink.Delivery.{Delivery}
-use Rattle.ix_car.specs.declared.sink.End.{End}
-use Rattle.ix_car.specs.declared.sink.End.TheVariants.{Memory, Start}
-use Rattle.ix_car.specs.Events.{Event, delivery, close}
-use Rattle.ix_car.specs.Verified.{judged, judged_visits}
-use Rattle.ix_car.specs.Faithful.{IsFaithful}
-use Rattle.ix_car.specs.Archived.{IsArchived}
+use Rattle.ix_archive.specs.declared.sink.Delivery.{Delivery}
+use Rattle.ix_archive.specs.declared.sink.End.{End}
+use Rattle.ix_archive.specs.declared.sink.End.TheVariants.{Memory, Start}
+use Rattle.ix_archive.specs.Events.{Event, delivery, close}
+use Rattle.ix_archive.specs.Verified.{judged, judged_visits}
+use Rattle.ix_archive.specs.Faithful.{IsFaithful}
+use Rattle.ix_archive.specs.Archived.{IsArchived}
 use Rattle.ix_pipeline.specs.Progress.{pairs_of, IsExported, Exports}
 use Rattle.ix_pipeline.specs.Headline.{EachDelivered, EachArchived, EachFresh, Fact, Keeps, EachKept, IsCheckedOnce, NoneIsStart, AllWalked, IsWalkedAt, visit_count}
 use Rattle.ix_pipeline.proofs.Pairs.{pairs_over, cases_cons, none_in, has_got, in_pairs, has_pair, once_over, over_push}

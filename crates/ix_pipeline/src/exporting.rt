@@ -5,10 +5,11 @@ ghost use Rattle.std.specs.Arc.{arc_value};
 ghost use Rattle.ix_pipeline.specs.Headline.{EachDelivered, EachArchived, EachFresh, EachKept, EachUnused, IsCheckedOnce, NoneOrAllStart, checked_by};
 ghost use Rattle.ix_pipeline.specs.Planned.{IsPlan};
 
-use ix_car::{Sink, law};
+use ix_archive::{Sink, law};
 use ix_check::Check;
 use ix_flow::{Gate, Outcome, Plan, Prepared, Task, flow};
-use ix_walk::{Job, Store};
+use ix_store::Store;
+use ix_walk::Job;
 use std::alloc::Global;
 use std::sync::{Arc, Wait};
 use std::thread::Threads;

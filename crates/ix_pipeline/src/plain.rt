@@ -6,9 +6,10 @@ ghost use Rattle.ix_pipeline.specs.Progress.{told_by, CanHand, HandsOn, Delivers
 ghost use Rattle.ix_pipeline.specs.Headline.{EachDelivered, EachArchived, Keeps, EachKept, EachFresh, IsCheckedOnce, NoneIsStart};
 
 use crate::sink_state::SinkState;
-use ix_car::{End, Sink, SinkFault, law};
+use ix_archive::{End, Sink, SinkFault, law};
 use ix_check::{Check, Verdict};
-use ix_walk::{Job, Store, Visit, Walk, WalkStop};
+use ix_store::Store;
+use ix_walk::{Job, Visit, Walk, WalkStop};
 use std::alloc::{AllocError, Global};
 
 /// Exports every job into its sink, on one thread, and says how each job ended. Each visit of a job

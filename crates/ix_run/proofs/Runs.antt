@@ -2,16 +2,16 @@
 use Rattle.std.proofs.Common.{◌≡◌, ℕ, suc, ◌+◌, take, drop, List, [], ◌∷◌, ◌++◌, refl, sym, ◌∙◌, ap, subst, map, length, inl, inr}
 use Rattle.std.specs.Prelude.{Option, Some, None}
 use Rattle.std.specs.Io.KnownBytes as known
-use Rattle.ix_walk.specs.Store.{Blocks}
+use Rattle.ix_store.specs.Store.{Blocks}
 use Rattle.ix_walk.specs.JobMeaning.{JobMeaning}
-use Rattle.ix_car.specs.declared.sink.Delivery.{Delivery}
-use Rattle.ix_car.specs.declared.sink.End.{End}
-use Rattle.ix_car.specs.declared.sink.End.TheVariants as ends
-use Rattle.ix_car.specs.Events.{delivery, close, deliveries_of}
-use Rattle.ix_car.specs.Faithful.{IsFaithful}
-use Rattle.ix_car.specs.ArchiveMeaning.{ArchiveMeaning, HasArchived, HasWritten, IsBegun, IsCountOf, events_of}
-use Rattle.ix_car.specs.Archived.{IsArchived}
-use Rattle.ix_car.specs.Report.{counts_of}
+use Rattle.ix_archive.specs.declared.sink.Delivery.{Delivery}
+use Rattle.ix_archive.specs.declared.sink.End.{End}
+use Rattle.ix_archive.specs.declared.sink.End.TheVariants as ends
+use Rattle.ix_archive.specs.Events.{delivery, close, deliveries_of}
+use Rattle.ix_archive.specs.Faithful.{IsFaithful}
+use Rattle.ix_archive.specs.ArchiveMeaning.{ArchiveMeaning, HasArchived, HasWritten, IsBegun, IsCountOf, events_of}
+use Rattle.ix_archive.specs.Archived.{IsArchived}
+use Rattle.ix_archive.specs.Report.{counts_of}
 use Rattle.ix_jobs.specs.declared.outcome.JobResult.{JobResult}
 use Rattle.ix_pipeline.specs.Headline.{EachDelivered, EachArchived, Keeps, EachKept, EachFresh, EachUnused}
 use Rattle.std.proofs.Math.Seq.{take-append_seam}

@@ -1,6 +1,6 @@
 -- Why the files of a run are refused.
 use Rattle.std.specs.Prelude.{◌≡◌, ℕ, List, Result, Ok}
-use Rattle.ix_walk.specs.Store.{Blocks}
+use Rattle.ix_store.specs.Store.{Blocks}
 use Rattle.ix_walk.specs.JobMeaning.{JobMeaning}
 use Rattle.ix_car.specs.Reading.{blocks_of}
 use Rattle.ix_car.specs.Gives as car

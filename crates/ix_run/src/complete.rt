@@ -5,7 +5,7 @@ ghost use Rattle.std.specs.List.{list_any};
 ghost use Rattle.ix_jobs.specs.Report.{is_done};
 ghost use Rattle.ix_run.specs.Complete.{is_root, is_complete};
 
-use ix_car::{End, Skip};
+use ix_archive::{End, Skip};
 use ix_cid::Cid;
 use ix_jobs::JobResult;
 use ix_walk::Job;

@@ -10,11 +10,12 @@ ghost use Rattle.ix_run.specs.Run.{HasRun, EachRun, IsRunRefusal, EachBegun, Eac
 
 use crate::fault::RunFault;
 use crate::watch::{Unwatched, Watch, Watched};
-use ix_car::{Archive, ArchiveNew, End};
+use ix_archive::{Archive, ArchiveNew, End};
 use ix_check::{Check, ShaCheck};
 use ix_jobs::{JobResult, report, status};
 use ix_pipeline::{Open, Plan, export, export_plain};
-use ix_walk::{Job, Store};
+use ix_store::Store;
+use ix_walk::Job;
 use std::alloc::{AllocError, Global};
 use std::io::Write;
 use std::sync::{Arc, Wait};

@@ -10,7 +10,8 @@ ghost use Rattle.ix_run.specs.Prepare.{IsPrepareRefusal, IsPartRefusal};
 use crate::fault::RunFault;
 use ix_car::{load_car, read_car};
 use ix_jobs::{Part, read_jobs, read_jobs_part};
-use ix_walk::{Job, Store};
+use ix_store::Store;
+use ix_walk::Job;
 use std::alloc::Global;
 use std::sync::Arc;
 

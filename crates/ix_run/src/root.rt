@@ -7,13 +7,15 @@ ghost use Rattle.ix_run.specs.Root.{root_job, exported_from, is_whole, IsRunAlon
 
 use crate::execution::run_jobs;
 use crate::fault::RunFault;
-use ix_car::{End, read_car};
+use ix_archive::End;
+use ix_car::read_car;
 use ix_cbor::decode;
 use ix_check::ShaCheck;
 use ix_cid::Cid;
 use ix_jobs::JobResult;
 use ix_selector::Selector;
-use ix_walk::{Job, Store};
+use ix_store::Store;
+use ix_walk::Job;
 use std::alloc::Global;
 use std::slice;
 

@@ -1,9 +1,9 @@
 //! What is told of a run while it goes on.
 
 ghost use Rattle.std.specs.Prelude.{◌≡◌};
-ghost use Rattle.ix_car.specs.Report.{skips_of, counts_of};
+ghost use Rattle.ix_archive.specs.Report.{skips_of, counts_of};
 
-use ix_car::{Archive, Counts, End, Sink, SinkFault, Skip};
+use ix_archive::{Archive, Counts, End, Sink, SinkFault, Skip};
 use ix_check::Verdict;
 use ix_walk::Visit;
 use std::alloc::Global;
@@ -44,7 +44,7 @@ pub struct Watched<'a, W: Write, V: Watch> {
 }
 
 impl<'a, W: Write, V: Watch> Model for Watched<'a, W, V> {
-    ghost use Rattle.ix_car.specs.ArchiveMeaning.{ArchiveMeaning};
+    ghost use Rattle.ix_archive.specs.ArchiveMeaning.{ArchiveMeaning};
 
     ghost Value = { ArchiveMeaning W };
 
@@ -71,7 +71,7 @@ impl<'a, W: Write, V: Watch> Watched<'a, W, V> {
 }
 
 impl<'a, W: Write, V: Watch> Sink for Watched<'a, W, V> {
-    ghost use Rattle.ix_car.specs.ArchiveMeaning.{events_of, HasArchived};
+    ghost use Rattle.ix_archive.specs.ArchiveMeaning.{events_of, HasArchived};
 
     ghost events = { events_of };
 

@@ -1,10 +1,10 @@
 //! Archives of deliveries that are given by hand, through writers that take little.
 
 ghost use Rattle.std.specs.Prelude.{◌≡◌, []};
-ghost use Rattle.ix_car.specs.Events.{IsOpen};
-ghost use Rattle.ix_car.specs.ArchiveMeaning.{events_of};
+ghost use Rattle.ix_archive.specs.Events.{IsOpen};
+ghost use Rattle.ix_archive.specs.ArchiveMeaning.{events_of};
 
-use ix_car::{Archive, ArchiveNew, Counts, Delivery, End, Sink, SinkFault, Skip};
+use ix_archive::{Archive, ArchiveNew, Counts, Delivery, End, Sink, SinkFault, Skip};
 use ix_check::Verdict;
 use ix_fixtures::{
     ABC, DAMAGED, DAMAGED_BLOCK, LIST, LIST_ARCHIVE, LIST_BLOCK, ONE_LINK, ONE_LINK_BLOCK, ROOTS,

@@ -4,7 +4,7 @@ ghost use Rattle.std.specs.Prelude.{◌≡◌, length, IfOk};
 ghost use Rattle.ix_stages.specs.Lanes.{IsLane};
 ghost use Rattle.ix_collect.specs.Collected.{job_count, MayTell};
 
-use ix_car::{End, Sink};
+use ix_archive::{End, Sink};
 use ix_check::Verdict;
 use ix_collect::{Collector, drain, finish, round};
 use ix_fixtures::{ABC, Log, cid_of};

@@ -10,14 +10,15 @@ ghost use Rattle.ix_stages.specs.Queue.{table_of};
 ghost use Rattle.ix_stage_tests.specs.Walkers.{CanWalk, IsWalker, IsTaker, CanRun, HasRun};
 ghost use Rattle.ix_stages.specs.Seats.{IsNext, new_job, new_taker, new_stop, seat_count};
 
-use ix_car::End;
+use ix_archive::End;
 use ix_check::{ShaCheck, Verdict};
 use ix_fixtures::{INNER_BLOCK, ONE_LINK, OUTER, chain_of, jobs_of, store_of};
 use ix_stages::{
     Course, Item, JobSeat, LaneOut, QueueParts, StopSeat, TakeSeat, Verdicted, VisitQueue,
     course_of_jobs, lane, verify,
 };
-use ix_walk::{Job, Store, Walk, WalkStop};
+use ix_store::Store;
+use ix_walk::{Job, Walk, WalkStop};
 use std::alloc::{AllocError, Global};
 use std::process::Abort;
 use std::sync::Wait;

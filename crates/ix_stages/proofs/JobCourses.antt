@@ -4,14 +4,14 @@ use Rattle.std.specs.Prelude.{slice_get}
 use Rattle.std.proofs.lemmas.List.{length-map, length-take}
 use Rattle.std.proofs.lemmas.List.Elements.{All-nil, All-cons, All-head, All-tail, All-weaker}
 use Rattle.ix_walk.specs.declared.visit.Visit.{Visit}
-use Rattle.ix_walk.specs.Store.{Blocks}
+use Rattle.ix_store.specs.Store.{Blocks}
 use Rattle.ix_walk.specs.JobMeaning.{JobMeaning}
 use Rattle.ix_walk.specs.Arrivals.{Arrival}
 use Rattle.ix_walk.specs.Visits.{arrivals_of, is_over_limit, visit_of, visits_from, visits_of}
 use Rattle.ix_check.specs.Visits.{IsVisitOf}
-use Rattle.ix_car.specs.declared.sink.End.{End}
-use Rattle.ix_car.specs.declared.sink.End.TheVariants.{Done, Limit, Memory, Write, Start}
-use Rattle.ix_car.specs.Verified.{judged}
+use Rattle.ix_archive.specs.declared.sink.End.{End}
+use Rattle.ix_archive.specs.declared.sink.End.TheVariants.{Done, Limit, Memory, Write, Start}
+use Rattle.ix_archive.specs.Verified.{judged}
 use Rattle.ix_stages.specs.declared.item.Item.{Item}
 use Rattle.ix_stages.specs.declared.item.Item.TheVariants as item
 use Rattle.ix_stages.specs.Good.{judged_at, over_at, IsCloseOf}

@@ -1,7 +1,7 @@
 -- What verifiers send for what they took.
 use Rattle.std.specs.Prelude.{◌≡◌, ◌≤◌, ◌<◌, ℕ, ◌==◌, cond, List, [], ◌∷◌, length, Option, Some, None, slice_get, All}
 use Rattle.ix_walk.specs.declared.visit.Visit.{Visit}
-use Rattle.ix_walk.specs.Store.{Blocks}
+use Rattle.ix_store.specs.Store.{Blocks}
 use Rattle.ix_walk.specs.JobMeaning.{JobMeaning}
 use Rattle.ix_walk.specs.Visits.{visits_of}
 use Rattle.ix_check.specs.Verdict.{verdict_of}

@@ -1,6 +1,6 @@
 //! What goes through the visit queue.
 
-use ix_car::End;
+use ix_archive::End;
 use ix_walk::Visit;
 
 /// What walkers put and verifiers take.

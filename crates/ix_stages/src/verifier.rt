@@ -15,7 +15,7 @@ use crate::seats::TakeSeat;
 use crate::verdicted::Verdicted;
 use crate::waiting::Waiting;
 use ix_check::Check;
-use ix_walk::Store;
+use ix_store::Store;
 use std::alloc::{AllocError, Global};
 use std::sync::Wait;
 

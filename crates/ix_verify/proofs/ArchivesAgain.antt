@@ -8,11 +8,12 @@ use Rattle.ix_cid.specs.Varint.{varint_of}
 use Rattle.ix_cid.proofs.VarintLaws.{spelled}
 use Rattle.ix_cid.proofs.GroupLaws.{some_group}
 use Rattle.ix_cbor.specs.Spelling.{spelling_of}
-use Rattle.ix_walk.specs.Store.{Blocks, block_of}
+use Rattle.ix_store.specs.Store.{Blocks, block_of}
 use Rattle.ix_check.specs.declared.verdict.Verdict.{Verdict}
-use Rattle.ix_car.specs.declared.archive.Skip.{Skip}
-use Rattle.ix_car.specs.declared.sink.Delivery.{Delivery}
-use Rattle.ix_car.specs.Archive.{is_sound, first_sound, with_length, header_data, header_of, section_with, section_of, archive_with}
+use Rattle.ix_archive.specs.declared.archive.Skip.{Skip}
+use Rattle.ix_archive.specs.declared.sink.Delivery.{Delivery}
+use Rattle.ix_car.specs.Writing.{with_length, header_data, header_of, section_with}
+use Rattle.ix_archive.specs.Archive.{is_sound, first_sound, section_of, archive_with}
 use Rattle.ix_car.specs.Reading.{Fault, ◌>>=◌}
 use Rattle.ix_car.specs.Sections.{SectionMeaning, placed, sections_behind, section_list, roots_of}
 use Rattle.ix_car.proofs.SectionLists.{with_next, ListGoesOn, ListGoesOn-first, ListGoesOn-more, ListGoesOn-last}

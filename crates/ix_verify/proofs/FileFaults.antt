@@ -1,12 +1,12 @@
 -- The faults of a file's sections and of its blocks, and the blocks of its sections.
 use Rattle.std.proofs.Common.{◌≡◌, ℕ, List, [], ◌∙◌, sym, ap, subst}
 use Rattle.std.specs.Prelude.{Result, Ok, Err}
-use Rattle.ix_walk.specs.Store.{Blocks}
+use Rattle.ix_store.specs.Store.{Blocks}
 use Rattle.ix_car.specs.declared.fault.CarFault.{CarFault}
 use Rattle.ix_car.specs.Reading.{Fault, blocks_of}
 use Rattle.ix_car.specs.Gives.{IsFaultOf}
 use Rattle.ix_car.specs.Sections.{SectionMeaning, section_list, with_sections, first_of_each}
-use Rattle.ix_car.specs.declared.archive.Skip.{Skip}
+use Rattle.ix_archive.specs.declared.archive.Skip.{Skip}
 use Rattle.std.specs.Prelude.{Bool}
 use Rattle.ix_car.proofs.Sections.{FailsAs-along}
 use Rattle.ix_car.proofs.SectionLists.{blocks-of_sections}

@@ -8,7 +8,7 @@ use Rattle.ix_cbor.specs.Spelling.{head_of, item_count, items_spelling, items_ne
 use Rattle.ix_cbor.specs.Reading.{decoded, data_at}
 use Rattle.ix_cbor.specs.Reading as readings
 use Rattle.ix_cbor.proofs.Laws.{decoded-complete}
-use Rattle.ix_car.specs.Archive.{links_to, header_data, header_of}
+use Rattle.ix_car.specs.Writing.{links_to, header_data, header_of}
 use Rattle.ix_car.specs.Reading.{Fault, ◌>>=◌, are_links, version_fault, header_fault, behind_header, header_at}
 use Rattle.ix_car.specs.Sections.{links_in, roots_in, roots_behind, roots_of}
 use Rattle.ix_verify.proofs.TextsAgain.{text_again}

@@ -1,7 +1,7 @@
 -- A turn of the loop over roots.
 use Rattle.std.proofs.Common.{◌≡◌, ℕ, suc, ◌+◌, ◌<◌, Bool, true, false, List, ◌∷◌, ◌++◌, ◌||◌, length, drop, get_or, refl, sym, ◌∙◌, ap, add-one, drop-cons, append_assoc}
 use Rattle.std.specs.List.{list_any, flat_map}
-use Rattle.ix_car.specs.declared.archive.Skip.{Skip}
+use Rattle.ix_archive.specs.declared.archive.Skip.{Skip}
 
 -- what is left from a root on is the root, and what is left behind it
 drop_root : (xs : List (List ℕ)) (i : ℕ) (x : List ℕ) → i < length xs → x ≡ get_or xs i x → drop i xs ≡ x ∷ drop (i + 1) xs

@@ -10,7 +10,7 @@ use Rattle.ix_cid.proofs.VarintLaws.{spelled, read}
 use Rattle.ix_cid.proofs.Results.{same_answer, bind_ok, bind_to}
 use Rattle.ix_cid.proofs.Cids.{parts_at-reads}
 use Rattle.ix_car.specs.declared.fault.CarKind.TheVariants.{Truncated}
-use Rattle.ix_car.specs.Archive.{with_length}
+use Rattle.ix_car.specs.Writing.{with_length}
 use Rattle.ix_car.specs.Reading.{Fault, ◌>>=◌, fails, text_at, text_behind, pair_of, section_at}
 
 -- a text that stands behind its length

@@ -5,7 +5,7 @@ use Rattle.ix_check.specs.declared.verdict.Verdict.{Verdict}
 use Rattle.std.specs.Prelude.{map, not, if◌then◌else◌}
 use Rattle.ix_car.specs.declared.reader.sections.Section.{Section}
 use Rattle.ix_car.specs.SectionView.{section_of}
-use Rattle.ix_car.specs.Archive.{is_sound}
+use Rattle.ix_archive.specs.Archive.{is_sound}
 use Rattle.ix_verify.specs.Judged.{verdict_in}
 use Rattle.ix_verify.specs.Found.{told_of, unsound_of}
 use Rattle.ix_verify.specs.Counted.{told_if, told_among}

@@ -2,16 +2,16 @@
 use Rattle.std.proofs.Common.{◌≡◌, ℕ, List, [], ◌∷◌, ◌++◌, sym, ◌∙◌, ap, Bool, true, false, length, arith, subst, inl, inr}
 use Rattle.std.specs.Prelude.{Option, take, map}
 use Rattle.std.proofs.lemmas.List.{take_all}
-use Rattle.ix_walk.specs.Store.{Blocks}
+use Rattle.ix_store.specs.Store.{Blocks}
 use Rattle.ix_walk.specs.JobMeaning.{JobMeaning}
 use Rattle.ix_walk.specs.Visits.{is_over_limit}
-use Rattle.ix_car.specs.declared.sink.Delivery.{Delivery}
-use Rattle.ix_car.specs.declared.sink.End.{End}
-use Rattle.ix_car.specs.declared.sink.End.TheVariants.{Done, Limit, Memory, Write, Start}
-use Rattle.ix_car.specs.Events.{delivery, close}
-use Rattle.ix_car.specs.Faithful.{IsFaithful}
-use Rattle.ix_car.specs.Report.{skips_of}
-use Rattle.ix_car.specs.Verified.{judged_visits}
+use Rattle.ix_archive.specs.declared.sink.Delivery.{Delivery}
+use Rattle.ix_archive.specs.declared.sink.End.{End}
+use Rattle.ix_archive.specs.declared.sink.End.TheVariants.{Done, Limit, Memory, Write, Start}
+use Rattle.ix_archive.specs.Events.{delivery, close}
+use Rattle.ix_archive.specs.Faithful.{IsFaithful}
+use Rattle.ix_archive.specs.Report.{skips_of}
+use Rattle.ix_archive.specs.Verified.{judged_visits}
 use Rattle.ix_jobs.specs.declared.outcome.JobResult.{JobResult}
 use Rattle.ix_run.specs.Run.{IsEndOf, IsRun, EachRun}
 use Rattle.ix_run.proofs.Told.{same_deliveries}

@@ -14,7 +14,7 @@ use Rattle.ix_cbor.specs.Reading.{data_at}
 use Rattle.ix_selector.specs.Enters.{Path}
 use Rattle.ix_selector.specs.IsEntered.{is_entered}
 use Rattle.ix_selector.specs.Behind.{residual_at, same_residual}
-use Rattle.ix_walk.specs.Store.{Blocks, has_cid, with_block, block_of, bytes_by, is_dag_cbor}
+use Rattle.ix_store.specs.Store.{Blocks, has_cid, with_block, block_of, bytes_by, is_dag_cbor}
 use Rattle.ix_walk.specs.Arrivals.{Arrival, Inside, when_some}
 use Rattle.ix_walk.specs.Visits.{arrivals_of, visit_of, visits_from, is_over_limit}
 use Rattle.ix_walk.specs.Once.{links_below, roots_from, was_gone_into, gone_into_at, gone_behind, once, is_sound_by, sound_value}
@@ -22,13 +22,14 @@ use Rattle.ix_walk.proofs.Links.{all-weaker, all-both}
 use Rattle.ix_check.specs.Verdict.{has_codec, is_no_data, verdict_under, verdict_by, verdict_of, passes}
 use Rattle.ix_check.specs.declared.verdict.Verdict.{Verdict}
 use Rattle.ix_check.specs.declared.verdict.Verdict.TheVariants.{Codec, Hash, Damaged, Malformed, Sound}
-use Rattle.ix_car.specs.declared.archive.Skip.{Skip}
-use Rattle.ix_car.specs.declared.sink.Delivery.{Delivery}
-use Rattle.ix_car.specs.Archive.{is_sound, first_sound, header_of, section_of}
-use Rattle.ix_car.specs.Report.{skips_of}
+use Rattle.ix_archive.specs.declared.archive.Skip.{Skip}
+use Rattle.ix_archive.specs.declared.sink.Delivery.{Delivery}
+use Rattle.ix_car.specs.Writing.{header_of}
+use Rattle.ix_archive.specs.Archive.{is_sound, first_sound, section_of}
+use Rattle.ix_archive.specs.Report.{skips_of}
 use Rattle.ix_car.specs.Sections.{SectionMeaning, with_sections}
-use Rattle.ix_car.specs.Verified.{judged, verified, judged_visits}
-use Rattle.ix_car.proofs.Numbers.{kept-verified}
+use Rattle.ix_archive.specs.Verified.{judged, verified, judged_visits}
+use Rattle.ix_archive.proofs.Numbers.{kept-verified}
 use Rattle.ix_verify.specs.Found.{everything, job_below, root_job, skips_below, is_unfinished}
 use Rattle.ix_verify.specs.Written.{section_where, sections_from, written_sections}
 

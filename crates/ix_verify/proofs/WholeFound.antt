@@ -2,12 +2,12 @@
 use Rattle.std.proofs.Common.{◌≡◌, ℕ, ◌≤◌, Bool, false, ◌||◌, List, [], ◌∷◌, ◌∙◌, ap, append-nil}
 use Rattle.std.specs.Prelude.{flat_map}
 use Rattle.std.specs.List.{list_any}
-use Rattle.ix_walk.specs.Store.{Blocks}
+use Rattle.ix_store.specs.Store.{Blocks}
 use Rattle.ix_walk.specs.Visits.{is_over_limit}
-use Rattle.ix_car.specs.Archive.{archive_of}
-use Rattle.ix_car.specs.Report.{skips_of}
+use Rattle.ix_archive.specs.Archive.{archive_of}
+use Rattle.ix_archive.specs.Report.{skips_of}
 use Rattle.ix_car.specs.Sections.{SectionMeaning, with_sections, roots_of}
-use Rattle.ix_car.specs.Verified.{verified, judged_visits}
+use Rattle.ix_archive.specs.Verified.{verified, judged_visits}
 use Rattle.ix_verify.specs.Found.{job_below, skips_below, is_unfinished, IsSoundFile}
 use Rattle.ix_verify.specs.Written.{written_sections, IsArchivable}
 use Rattle.ix_verify.proofs.SoundSections.{All-verified}

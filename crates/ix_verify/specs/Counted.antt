@@ -1,10 +1,10 @@
 -- What is told of sections, one by one.
 use Rattle.std.specs.Prelude.{◌≡◌, ℕ, Bool, List, [], ◌∷◌, ◌++◌, length, if◌then◌else◌, Ok}
-use Rattle.ix_walk.specs.Store.{Blocks}
+use Rattle.ix_store.specs.Store.{Blocks}
 use Rattle.ix_check.specs.declared.verdict.Verdict.{Verdict}
-use Rattle.ix_car.specs.declared.archive.Skip.{Skip}
+use Rattle.ix_archive.specs.declared.archive.Skip.{Skip}
 use Rattle.ix_car.specs.declared.reader.sections.Section.{Section}
-use Rattle.ix_car.specs.Archive.{is_sound}
+use Rattle.ix_archive.specs.Archive.{is_sound}
 use Rattle.ix_car.specs.Sections.{SectionMeaning, section_list, roots_of}
 use Rattle.ix_car.specs.Reading.{blocks_of}
 use Rattle.ix_verify.specs.Found.{unsound_of, IsReached}

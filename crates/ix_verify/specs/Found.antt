@@ -3,12 +3,12 @@ use Rattle.std.specs.Prelude.{◌≡◌, ℕ, Bool, true, not, ◌&&◌, ◌==�
 use Rattle.std.specs.List.{list_any, flat_map}
 use Rattle.ix_selector.specs.Pattern.{Pattern, recursive, all, edge}
 use Rattle.ix_walk.specs.JobMeaning.{JobMeaning}
-use Rattle.ix_walk.specs.Store.{Blocks}
+use Rattle.ix_store.specs.Store.{Blocks}
 use Rattle.ix_walk.specs.Visits.{is_over_limit}
-use Rattle.ix_car.specs.declared.archive.Skip.{Skip}
-use Rattle.ix_car.specs.Archive.{is_sound}
-use Rattle.ix_car.specs.Verified.{judged_visits}
-use Rattle.ix_car.specs.Report.{skips_of}
+use Rattle.ix_archive.specs.declared.archive.Skip.{Skip}
+use Rattle.ix_archive.specs.Archive.{is_sound}
+use Rattle.ix_archive.specs.Verified.{judged_visits}
+use Rattle.ix_archive.specs.Report.{skips_of}
 use Rattle.ix_car.specs.Sections.{SectionMeaning, section_list, roots_of, with_sections}
 use Rattle.ix_verify.specs.Judged.{section_verdict}
 use Rattle.ix_verify.specs.declared.found.Reach.{Reach}

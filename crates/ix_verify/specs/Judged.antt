@@ -8,8 +8,8 @@ use Rattle.ix_cid.specs.declared.hash_function.HashFunction.TheVariants.{Identit
 use Rattle.ix_check.specs.Verdict.{has_codec, verdict_on}
 use Rattle.ix_check.specs.declared.verdict.Verdict.{Verdict}
 use Rattle.ix_check.specs.declared.verdict.Verdict.TheVariants.{Codec, Hash, Sound}
-use Rattle.ix_walk.specs.Store.{Blocks, block_of}
-use Rattle.ix_car.specs.declared.sink.Delivery.{Delivery}
+use Rattle.ix_store.specs.Store.{Blocks, block_of}
+use Rattle.ix_archive.specs.declared.sink.Delivery.{Delivery}
 use Rattle.ix_car.specs.declared.reader.sections.Section.{Section}
 
 -- the digest of a block by a hash function

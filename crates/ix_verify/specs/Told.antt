@@ -1,12 +1,12 @@
 -- What is told of a job that ran alone.
 use Rattle.std.specs.Prelude.{◌≡◌, Bool, true, false}
 use Rattle.ix_walk.specs.JobMeaning.{JobMeaning}
-use Rattle.ix_walk.specs.Store.{Blocks}
+use Rattle.ix_store.specs.Store.{Blocks}
 use Rattle.ix_walk.specs.Visits.{is_over_limit}
-use Rattle.ix_car.specs.declared.sink.End.{End}
-use Rattle.ix_car.specs.declared.sink.End.TheVariants.{Done, Limit, Memory, Write, Start}
-use Rattle.ix_car.specs.Verified.{judged_visits}
-use Rattle.ix_car.specs.Report.{skips_of}
+use Rattle.ix_archive.specs.declared.sink.End.{End}
+use Rattle.ix_archive.specs.declared.sink.End.TheVariants.{Done, Limit, Memory, Write, Start}
+use Rattle.ix_archive.specs.Verified.{judged_visits}
+use Rattle.ix_archive.specs.Report.{skips_of}
 use Rattle.ix_jobs.specs.declared.outcome.JobResult.{JobResult}
 
 -- the job was walked to its end, or to its limit, and these are its skips

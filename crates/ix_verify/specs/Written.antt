@@ -1,11 +1,12 @@
 -- What an archive has that is read back.
 use Rattle.std.specs.Prelude.{◌≡◌, ℕ, ◌+◌, ◌^◌, ◌<◌, List, [], ◌∷◌, ◌++◌, length, Option, Some, None, All}
 use Rattle.ix_cid.specs.Cid.{IsCid}
-use Rattle.ix_walk.specs.Store.{Blocks, block_of}
+use Rattle.ix_store.specs.Store.{Blocks, block_of}
 use Rattle.ix_check.specs.Verdict.{verdict_of}
 use Rattle.ix_check.specs.declared.verdict.Verdict.TheVariants.{Sound}
-use Rattle.ix_car.specs.declared.sink.Delivery.{Delivery}
-use Rattle.ix_car.specs.Archive.{first_sound, header_of, section_of, archive_with}
+use Rattle.ix_archive.specs.declared.sink.Delivery.{Delivery}
+use Rattle.ix_car.specs.Writing.{header_of}
+use Rattle.ix_archive.specs.Archive.{first_sound, section_of, archive_with}
 use Rattle.ix_car.specs.Sections.{SectionMeaning}
 use Rattle.ix_verify.specs.Judged.{section_verdict}
 

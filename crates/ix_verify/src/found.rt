@@ -3,7 +3,7 @@
 ghost use Rattle.std.specs.Prelude.{◌≡◌};
 ghost use Rattle.ix_verify.specs.Found.{is_sound_file};
 
-use ix_car::Skip;
+use ix_archive::Skip;
 use ix_check::Verdict;
 use ix_cid::Cid;
 

@@ -2,15 +2,15 @@
 
 ghost use Rattle.std.specs.Prelude.{◌≡◌, ℕ, ◌≤◌, false, List, [], ◌∷◌, Some, Ok, All};
 ghost use Rattle.ix_walk.specs.JobMeaning.{JobMeaning};
-ghost use Rattle.ix_walk.specs.Store.{Blocks, block_of};
+ghost use Rattle.ix_store.specs.Store.{Blocks, block_of};
 ghost use Rattle.ix_walk.specs.Visits.{is_over_limit};
 ghost use Rattle.ix_check.specs.Verdict.{verdict_of};
 ghost use Rattle.ix_check.specs.declared.verdict.Verdict.TheVariants.{Sound};
-ghost use Rattle.ix_car.specs.declared.sink.Delivery.{Delivery};
-ghost use Rattle.ix_car.specs.Archive.{sections_of, archive_with, archive_of};
-ghost use Rattle.ix_car.specs.Report.{skips_of};
+ghost use Rattle.ix_archive.specs.declared.sink.Delivery.{Delivery};
+ghost use Rattle.ix_archive.specs.Archive.{sections_of, archive_with, archive_of};
+ghost use Rattle.ix_archive.specs.Report.{skips_of};
 ghost use Rattle.ix_car.specs.Sections.{section_list, roots_of};
-ghost use Rattle.ix_car.specs.Verified.{verified, judged_visits};
+ghost use Rattle.ix_archive.specs.Verified.{verified, judged_visits};
 ghost use Rattle.ix_verify.specs.Judged.{section_verdict, IsSoundSection};
 ghost use Rattle.ix_verify.specs.Found.{job_below, HasSoundSections, IsSoundFile};
 ghost use Rattle.ix_verify.specs.Written.{written_sections, IsArchivable, IsJudged, IsSoundByItself};

@@ -2,18 +2,19 @@
 
 ghost use Rattle.std.specs.Prelude.{◌≡◌, ◌<◌, ◌++◌, ◌||◌, [], length, false, IfOk, OnOk};
 ghost use Rattle.ix_walk.specs.Visits.{is_over_limit};
-ghost use Rattle.ix_car.specs.Verified.{judged_visits};
-ghost use Rattle.ix_car.specs.Report.{skips_of};
+ghost use Rattle.ix_archive.specs.Verified.{judged_visits};
+ghost use Rattle.ix_archive.specs.Report.{skips_of};
 ghost use Rattle.ix_verify.specs.Found.{skips_below, is_unfinished, IsReached};
 ghost use Rattle.ix_verify.specs.Told.{IsToldOf};
 
 use crate::everything::root_job;
-use ix_car::{End, Skip};
+use ix_archive::{End, Skip};
 use ix_check::ShaCheck;
 use ix_cid::Cid;
 use ix_jobs::JobResult;
 use ix_run::run_jobs;
-use ix_walk::{Job, Store};
+use ix_store::Store;
+use ix_walk::Job;
 use std::alloc::{AllocError, Global};
 use std::thread::Threads;
 use std::{io, slice, thread};

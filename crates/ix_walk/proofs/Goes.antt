@@ -12,13 +12,13 @@ use Rattle.ix_cbor.specs.Data.{Data}
 use Rattle.ix_selector.specs.Residual.{Place}
 use Rattle.ix_selector.specs.Behind.{same_residual}
 use Rattle.ix_walk.specs.declared.gone.Gone.{Gone}
-use Rattle.ix_walk.specs.Store.{Blocks, block_of, position_behind, position_of, value_of}
-use Rattle.ix_walk.specs.Mark.{agrees, agrees_by}
+use Rattle.ix_store.specs.Store.{Blocks, block_of, position_behind, position_of, value_of}
+use Rattle.ix_store.specs.Mark.{agrees, agrees_by}
 use Rattle.ix_walk.specs.Once.{is_sound_by, sound_value}
 use Rattle.ix_walk.specs.Walking.{Going, nothing_gone, gone_also, data_inside, gone_behind, waiting}
 use Rattle.ix_walk.specs.Gone.{has_gone, is_same_going, IsNoted, gone_of}
 use Rattle.ix_walk.specs.Arriving.{IsValue, Goes}
-use Rattle.ix_walk.proofs.Blocks.{none_behind, some_behind, block_at, place_within}
+use Rattle.ix_store.proofs.Blocks.{none_behind, some_behind, block_at, place_within}
 
 -- two tests that hold of the same are one
 same_test : (a b : Bool) → (a ≡ true → b ≡ true) → (b ≡ true → a ≡ true) → a ≡ b

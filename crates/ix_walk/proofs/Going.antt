@@ -17,8 +17,8 @@ use Rattle.ix_selector.specs.Residual.{Place}
 use Rattle.ix_selector.specs.Behind.{same_residual, residual_order}
 use Rattle.ix_selector.specs.Compared.{residual_equivalence, residual_total, residual_ties}
 use Rattle.ix_walk.specs.declared.gone.Gone.{Gone}
-use Rattle.ix_walk.specs.declared.places.PlaceSet.{PlaceSet}
-use Rattle.ix_walk.specs.PlaceSet.{contains_place}
+use Rattle.ix_store.specs.declared.places.PlaceSet.{PlaceSet}
+use Rattle.ix_store.specs.PlaceSet.{contains_place}
 use Rattle.ix_walk.specs.Gone.{is_in, cid_order, has_gone, is_same_going, IsNoted}
 
 then_is : (o p : Ordering) → is_eq (ordering_then o p) ≡ (is_eq o && is_eq p)

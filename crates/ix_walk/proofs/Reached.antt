@@ -10,7 +10,7 @@ use Rattle.ix_selector.specs.Enters.{Step, key, nth, Path}
 use Rattle.ix_selector.specs.Residual.{Place}
 use Rattle.ix_walk.specs.declared.subtree.Found.{Found}
 use Rattle.ix_walk.specs.Arrivals.{Arrival, Crossing, behind, arrivals_below, arrivals_in_items, arrivals_in_entries, Inside, when_some, arrivals_at, arrivals_from}
-use Rattle.ix_walk.specs.Store.{Blocks, value_of}
+use Rattle.ix_store.specs.Store.{Blocks, value_of}
 use Rattle.ix_walk.specs.Once.{roots_from, gone_into_at, sound_value, once, once_from}
 use Rattle.ix_walk.specs.Once as going
 use Rattle.ix_walk.specs.Visits.{visits_from, visit_of}

@@ -7,11 +7,11 @@ use Rattle.ix_walk.specs.declared.subtree.Entered.TheVariants.{Link, Open}
 use Rattle.ix_walk.specs.declared.subtree.Opened.{Opened}
 use Rattle.ix_walk.specs.declared.subtree.Found.{Found}
 use Rattle.ix_walk.specs.declared.subtree.Trail.{Trail}
-use Rattle.ix_walk.specs.Store.{Blocks, position_of}
+use Rattle.ix_store.specs.Store.{Blocks, position_of}
 use Rattle.ix_walk.specs.Walking.{Going, data_inside, waiting, links_below, links_inside, all_links, opened, found, stands, with_next, trail_stands}
 use Rattle.ix_walk.specs.Descent.{IsNode}
 use Rattle.ix_walk.specs.Arriving.{IsReading, Goes, Roots, Arrives}
-use Rattle.ix_walk.proofs.Blocks.{item_of_block}
+use Rattle.ix_walk.proofs.Readings.{item_of_block}
 use Rattle.ix_walk.proofs.Stands.{open_on, reversed_push, trail_without}
 
 -- links at a root that is there

@@ -4,7 +4,8 @@ use Rattle.std.specs.Prelude.{Option, Some, None, option_map, option_and_then}
 use Rattle.std.proofs.lemmas.List.{reverse-append}
 use Rattle.ix_walk.specs.declared.subtree.Opened.{Opened}
 use Rattle.ix_walk.specs.declared.subtree.Trail.{Trail}
-use Rattle.ix_walk.specs.Walking.{Part, Subtree, opened, part_at, goes_on, stands, with_next, trail_stands, subtrees, or_nil}
+use Rattle.ix_store.specs.Ahead.{goes_on}
+use Rattle.ix_walk.specs.Walking.{Part, Subtree, opened, part_at, stands, with_next, trail_stands, subtrees, or_nil}
 
 abbrev pub given : {A : Type 0} → A → Option A
 given x = Some x

@@ -13,7 +13,7 @@ use Rattle.ix_walk.specs.declared.subtree.Trail.{Trail}
 use Rattle.ix_walk.specs.declared.visit.Visit.{Visit}
 use Rattle.ix_walk.specs.JobMeaning.{JobMeaning}
 use Rattle.ix_walk.specs.Arrivals.{Arrival, behind}
-use Rattle.ix_walk.specs.Store.{Blocks}
+use Rattle.ix_store.specs.Store.{Blocks}
 use Rattle.ix_selector.specs.Behind.{residual_of, residual_behind, residual_along, residual_at, same_residual}
 use Rattle.ix_walk.specs.Once.{once_arrivals}
 use Rattle.ix_walk.specs.Visits.{believed, is_over_limit, visits_of, visits_from}

@@ -8,7 +8,7 @@ use Rattle.ix_walk.specs.declared.visit.Visit.{Visit}
 use Rattle.ix_walk.specs.declared.fault.WalkStop.TheVariants.{Limit}
 use Rattle.ix_selector.specs.Pattern.{Pattern}
 use Rattle.ix_walk.specs.Arrivals.{Arrival}
-use Rattle.ix_walk.specs.Store.{Blocks}
+use Rattle.ix_store.specs.Store.{Blocks}
 use Rattle.ix_walk.specs.Visits.{visits_from, visit_of}
 use Rattle.ix_walk.specs.WalkLeft.{GivesNext, nothing_left}
 use Rattle.ix_walk.specs.Walking.{arrival, Going, data_inside, gone_behind, links_inside, first_arrivals, Subtree, all_links, root_link, links_left, trail_stands, walk_left, NoDeeper, IsWalk}

@@ -8,7 +8,8 @@ use Rattle.ix_walk.specs.declared.subtree.Entered.TheVariants.{Link, Open}
 use Rattle.ix_walk.specs.declared.subtree.Opened.{Opened}
 use Rattle.ix_walk.specs.declared.subtree.Trail.{Trail}
 use Rattle.ix_walk.specs.declared.subtree.Found.{Found}
-use Rattle.ix_walk.specs.Walking.{is_spent, with_children, Part, to_cid, members, values, part_links, part_weight, Subtree, opened, all_links, all_weight, part_at, goes_on, stands, with_next, trail_stands, subtrees, IsStanding}
+use Rattle.ix_store.specs.Ahead.{goes_on}
+use Rattle.ix_walk.specs.Walking.{is_spent, with_children, Part, to_cid, members, values, part_links, part_weight, Subtree, opened, all_links, all_weight, part_at, stands, with_next, trail_stands, subtrees, IsStanding}
 use Rattle.ix_walk.specs.Descent.{IsNext, IsFound, Leaves, Finds, trail_weight}
 use Rattle.ix_walk.proofs.Openings.{spent_part}
 use Rattle.ix_walk.proofs.Stands.{some_mapped, open_apart, open_on, reversed_push, subtrees_are, trail_without}

@@ -8,7 +8,7 @@ use Rattle.ix_walk.specs.declared.subtree.Found.{Found}
 use Rattle.ix_walk.specs.declared.subtree.Trail.{Trail}
 use Rattle.ix_walk.specs.declared.visit.Visit.{Visit}
 use Rattle.ix_walk.specs.declared.fault.WalkStop.{WalkStop}
-use Rattle.ix_walk.specs.Store.{Blocks, value_of}
+use Rattle.ix_store.specs.Store.{Blocks, value_of}
 use Rattle.ix_walk.specs.Visits.{is_malformed, visit_of}
 use Rattle.ix_walk.specs.Walking.{arrival, Going, data_inside, gone_behind, links_inside, Subtree, all_links, found_links, trail_stands, subtrees, links_left, walk_left, NoDeeper, IsWalk}
 use Rattle.ix_walk.specs.WalkLeft.{WalkLeft, GivesNext, nothing_left}

@@ -8,8 +8,8 @@ use Rattle.std.specs.BTreeSet.{BTreeSet, contains}
 use Rattle.ix_selector.specs.Residual.{Place}
 use Rattle.ix_selector.specs.Behind.{same_residual, residual_order}
 use Rattle.ix_walk.specs.declared.gone.Gone.{Gone}
-use Rattle.ix_walk.specs.PlaceSet.{contains_place}
-use Rattle.ix_walk.specs.Store.{Blocks, position_of}
+use Rattle.ix_store.specs.PlaceSet.{contains_place}
+use Rattle.ix_store.specs.Store.{Blocks, position_of}
 use Rattle.ix_walk.specs.Walking.{Going}
 
 -- a place is among these, if there are any

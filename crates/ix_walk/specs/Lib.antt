@@ -9,8 +9,12 @@ pub use Rattle.ix_selector.specs.Enters
 pub use Rattle.ix_selector.specs.IsEntered
 pub use Rattle.ix_selector.specs.Residual
 pub use Rattle.ix_selector.specs.Behind
-pub mod Store
-pub mod Index
+pub use Rattle.ix_store.specs.Ahead
+pub use Rattle.ix_store.specs.Entry
+pub use Rattle.ix_store.specs.Index
+pub use Rattle.ix_store.specs.Mark
+pub use Rattle.ix_store.specs.PlaceSet
+pub use Rattle.ix_store.specs.Store
 pub mod JobMeaning
 pub mod Job
 pub mod Arrivals
@@ -18,11 +22,7 @@ pub mod Once
 pub mod Visits
 pub mod WalkLeft
 pub mod Walking
-pub mod PlaceSet
 pub mod Gone
 pub mod Descent
 pub mod Arriving
-pub mod Entry
-pub mod Mark
-pub mod Ahead
 pub mod Examples

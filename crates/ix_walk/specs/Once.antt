@@ -8,8 +8,8 @@ use Rattle.ix_cbor.specs.Data.{Data}
 use Rattle.ix_selector.specs.Enters.{Path}
 use Rattle.ix_selector.specs.IsEntered.{is_entered}
 use Rattle.ix_walk.specs.JobMeaning.{JobMeaning}
-use Rattle.ix_walk.specs.Store.{Blocks, block_of, value_of}
-use Rattle.ix_walk.specs.Mark.{agrees_by}
+use Rattle.ix_store.specs.Store.{Blocks, block_of, value_of}
+use Rattle.ix_store.specs.Mark.{agrees_by}
 use Rattle.ix_walk.specs.Arrivals.{Arrival, Inside, when_some, arrivals_below, arrivals_from}
 
 -- one arrival at each root, the first of which has this number

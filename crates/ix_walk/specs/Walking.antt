@@ -7,12 +7,13 @@ use Rattle.ix_selector.specs.Enters.{key, nth}
 use Rattle.ix_selector.specs.Pattern.{Pattern}
 use Rattle.ix_selector.specs.Residual.{Place}
 use Rattle.ix_selector.specs.Behind.{residual_of, residual_behind, same_residual}
+use Rattle.ix_store.specs.Ahead.{goes_on}
 use Rattle.ix_walk.specs.declared.subtree.Children.{Children}
 use Rattle.ix_walk.specs.declared.subtree.Children.TheVariants.{Members, Values}
 use Rattle.ix_walk.specs.declared.subtree.Opened.{Opened}
 use Rattle.ix_walk.specs.declared.subtree.Trail.{Trail}
 use Rattle.ix_walk.specs.declared.subtree.Found.{Found}
-use Rattle.ix_walk.specs.Store.{Blocks, value_of}
+use Rattle.ix_store.specs.Store.{Blocks, value_of}
 use Rattle.ix_walk.specs.Arrivals.{Arrival}
 use Rattle.ix_walk.specs.Once.{sound_value}
 use Rattle.ix_walk.specs.Visits.{visits_from}
@@ -175,11 +176,6 @@ with_children o children = record { residual = o.residual; children = children; 
 
 abbrev pub found : Found → Subtree
 found f = record { places = f.residual; part = to_cid f.cid; depth = f.depth }
-
--- where the walk goes on behind an open list or map, which ends before these bytes
-abbrev pub goes_on : Option (List ℕ) → List ℕ → List ℕ
-goes_on None rest = rest
-goes_on (Some b) rest = b
 
 -- the subtrees of a stack, the next one first, where the walk stands at the front of these bytes: an open list or map goes
 -- on where the one inside it ends, and where that is behind all of its block, in the block that the walk came from

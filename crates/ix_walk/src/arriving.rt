@@ -3,25 +3,23 @@
 ghost use Rattle.std.specs.Prelude.{◌≡◌, ℕ, ◌+◌, ◌<◌, ◌^◌, IfOk, IfSome, OnOk, None, option_map, is_none};
 ghost use Rattle.ix_cbor.specs.Reading.{data_at};
 ghost use Rattle.ix_cid.specs.Cid.{parts_of, digest_of, hash_function_of};
-ghost use Rattle.ix_walk.specs.Store.{position_of, bytes_of, block_of, value_of};
+ghost use Rattle.ix_store.specs.Store.{position_of, bytes_of, block_of, value_of};
 ghost use Rattle.ix_walk.specs.Once.{is_sound_by};
 ghost use Rattle.ix_walk.specs.Gone.{going_of};
 ghost use Rattle.ix_walk.specs.Descent.{IsItem};
 ghost use Rattle.ix_walk.specs.Arriving.{IsValue, IsReading, Goes, Roots, Arrives, FindsNext, Takes};
 ghost use Rattle.ix_walk.specs.Walking.{waiting, IsStanding, IsWalk};
 
-use crate::ahead::Ahead;
 use crate::descent::{next_found, node_at};
-use crate::entry::has_fault;
 use crate::fault::WalkStop;
 use crate::gone::Gone;
 use crate::job::Job;
-use crate::store::Store;
 use crate::subtree::{Entered, Found, Trail};
 use crate::visit::Visit;
 use ix_cid::code::DAG_CBOR;
 use ix_cid::{Cid, CidRef, HashFunction};
 use ix_selector::Residual;
+use ix_store::{Ahead, Store, has_fault};
 use std::alloc::{AllocError, Global};
 
 // The bytes that a CID names, where they are there, and whether they spell no data.

@@ -8,12 +8,12 @@ ghost use Rattle.ix_selector.specs.Residual.{step_of};
 ghost use Rattle.ix_walk.specs.declared.subtree.Children.TheVariants as children;
 ghost use Rattle.ix_walk.specs.Walking.{with_children, IsStanding};
 ghost use Rattle.ix_walk.specs.Descent.{IsItem, IsKey, IsPart, may_hold_links, entered_by, IsNode, IsChild, IsNext, Finds, Leaves};
-ghost use Rattle.ix_walk.specs.Ahead.{EndsWith, LinkBefore};
+ghost use Rattle.ix_store.specs.Ahead.{EndsWith, LinkBefore};
 
-use crate::ahead::Ahead;
 use crate::subtree::{Children, Entered, Found, Opened, Trail};
 use ix_cbor::{Front, read_front, read_key, skip_item};
 use ix_selector::{Residual, Step};
+use ix_store::Ahead;
 use std::alloc::{AllocError, Global};
 
 // The front of the item that stands here, and the bytes behind it.

@@ -5,9 +5,9 @@ ghost use Rattle.ix_selector.specs.Residual.{Place};
 ghost use Rattle.ix_selector.specs.Behind.{same_residual};
 ghost use Rattle.ix_walk.specs.Gone.{has_gone, IsNoted};
 
-use crate::places::PlaceSet;
 use ix_cid::Cid;
 use ix_selector::{Residual, Selector};
+use ix_store::PlaceSet;
 use std::alloc::{AllocError, Global};
 use std::collections::{BTreeMap, BTreeSet};
 

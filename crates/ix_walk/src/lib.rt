@@ -1,8 +1,6 @@
-//! The store of blocks, jobs, and the walk.
+//! Jobs, and the walk.
 //!
-//! A store is a list of blocks under distinct CIDs. Once it is settled it keeps what is found of a
-//! block, whether it has its CID's digest and whether it decodes, so that each is computed once for
-//! all threads. A job is a list of roots, a selector and a limit; its walk gives the job's visits in
+//! A job is a list of roots, a selector and a limit; its walk over a store gives the job's visits in
 //! their order, root after root, one for each arrival at a CID, and behind them Limit exactly where
 //! there are more than the limit. Before Memory it gives the first of them.
 //!
@@ -18,31 +16,17 @@
 //! ```
 #![tactic(auto)]
 
-mod ahead;
 mod arriving;
-mod builder;
 mod descent;
-mod digest;
-mod entry;
 mod fault;
-mod filling;
 mod gone;
-mod index;
 mod job;
 pub mod law;
-mod mark_rule;
-mod marks;
-mod places;
-mod seeing;
-mod store;
 mod subtree;
 mod visit;
 mod walk;
 
-pub use builder::StoreBuilder;
 pub use fault::{JobFault, WalkStop};
 pub use job::{GREATEST_LIMIT, Job, MOST_ROOTS, is_name};
-pub use places::PlaceSet;
-pub use store::Store;
 pub use visit::Visit;
 pub use walk::Walk;

@@ -3,9 +3,9 @@
 ghost use Rattle.std.specs.Prelude.{◌≡◌, None, []};
 ghost use Rattle.ix_walk.specs.Walking.{is_spent};
 
-use crate::ahead::Ahead;
 use ix_cid::CidRef;
 use ix_selector::Residual;
+use ix_store::Ahead;
 use std::alloc::Global;
 
 // The children that are left of a list or map.

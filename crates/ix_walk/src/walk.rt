@@ -7,11 +7,11 @@ use crate::arriving::take_next;
 use crate::fault::WalkStop;
 use crate::gone::Gone;
 use crate::job::Job;
-use crate::store::Store;
 use crate::subtree::Trail;
 use crate::visit::Visit;
 use ix_cid::Cid;
 use ix_selector::law::{residual_is_the_rest, selector_is_one};
+use ix_store::Store;
 use std::alloc::{AllocError, Global};
 use std::marker::Model;
 

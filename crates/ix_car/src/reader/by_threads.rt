@@ -9,7 +9,7 @@ ghost use Rattle.ix_car.specs.Reads.{ReadsOrRunsOut, IsEnd};
 use crate::fault::{CarFault, CarKind};
 use crate::reader::header::header_at;
 use crate::reader::section::{Stop, section_at};
-use ix_walk::{Store, StoreBuilder};
+use ix_store::{Store, StoreBuilder};
 use std::alloc::Global;
 use std::sync::Arc;
 use std::thread::Threads;

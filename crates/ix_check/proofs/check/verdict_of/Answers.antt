@@ -4,9 +4,9 @@ use Rattle.ix_cid.specs.declared.hash_function.HashFunction.{HashFunction}
 use Rattle.ix_cid.specs.declared.parts.Parts.{Parts as PartsRead}
 use Rattle.ix_cid.specs.Parts.{parts_view}
 use Rattle.ix_cid.specs.Cid.{parts_of, hash_function_of}
-use Rattle.ix_walk.specs.Mark.{agrees}
-use Rattle.ix_walk.proofs.Blocks.{place_within}
-use Rattle.ix_walk.proofs.Stores.{asked-there}
+use Rattle.ix_store.specs.Mark.{agrees}
+use Rattle.ix_store.proofs.Blocks.{place_within}
+use Rattle.ix_store.proofs.Stores.{asked-there}
 use Rattle.ix_check.specs.Verdict.{is_codec, has_codec}
 use Rattle.ix_check.proofs.Verdicts.{verdict_absent, verdict_there}
 use Rattle.ix_check.proofs.check.verdict_of.Goals as goal

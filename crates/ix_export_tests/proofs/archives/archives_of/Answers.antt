@@ -1,8 +1,8 @@
 use Rattle.std.proofs.Common.{◌≡◌, List, [], ◌∷◌, ◌++◌, arith}
 use Rattle.std.proofs.lemmas.List.{length-append}
-use Rattle.ix_car.specs.declared.sink.Delivery.{Delivery}
-use Rattle.ix_car.specs.Events.{Event}
-use Rattle.ix_car.specs.ArchiveMeaning.{events_of}
+use Rattle.ix_archive.specs.declared.sink.Delivery.{Delivery}
+use Rattle.ix_archive.specs.Events.{Event}
+use Rattle.ix_archive.specs.ArchiveMeaning.{events_of}
 use Rattle.ix_pipeline.specs.Headline.{EachFresh}
 use Rattle.ix_export_tests.proofs.archives.archives_of.Goals as goal
 

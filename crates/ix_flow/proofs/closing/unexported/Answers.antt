@@ -1,6 +1,6 @@
 use Rattle.std.proofs.Common.{refl, sym, ◌∙◌, inl, inr}
 use Rattle.ix_flow.proofs.Closings.{kept_length, delivered_of_closed, closed_checked, all_ended}
-use Rattle.ix_car.specs.declared.sink.End.TheVariants.{Start}
+use Rattle.ix_archive.specs.declared.sink.End.TheVariants.{Start}
 use Rattle.ix_flow.proofs.closing.unexported.Goals as goal
 
 pub returns : goal.returns

@@ -2,14 +2,14 @@ use Rattle.std.proofs.Common.{◌≡◌, ◌++◌, ◌∷◌, [], List, All, len
 use Rattle.std.proofs.lemmas.List.Elements.{All-head, All-tail, All-push}
 use Rattle.std.specs.Vec.Iter.{into_iter_items}
 use Rattle.std.specs.declared.thread.PromisedHandle.{PromisedHandle}
-use Rattle.ix_walk.specs.Store.{Blocks}
+use Rattle.ix_store.specs.Store.{Blocks}
 use Rattle.ix_stages.specs.declared.lanes.LaneIn.{LaneIn}
 use Rattle.ix_stages.specs.Queue.{table_of}
 use Rattle.ix_stages.specs.Lanes.{sent_by, all_sent}
 use Rattle.ix_stages.specs.Seats.{SeatView}
 use Rattle.ix_stages.specs.Settled.{taken_by}
 use Rattle.ix_stages.specs.Verified.{IsVerified}
-use Rattle.ix_car.specs.Headline.{checked_by}
+use Rattle.ix_archive.specs.Headline.{checked_by}
 use Rattle.ix_flow.specs.declared.verifying.Verifier.{Verifier}
 use Rattle.ix_flow.specs.declared.verifying.Began.{Began}
 use Rattle.ix_flow.specs.Verifiers.{IsBegan, EachBack}

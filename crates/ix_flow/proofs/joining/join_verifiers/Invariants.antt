@@ -1,6 +1,6 @@
 use Rattle.std.proofs.Common.{◌≡◌, ◌+◌, ◌++◌, All, length, vec_len, vec_capacity}
 use Rattle.std.specs.Vec.Iter.{into_iter_items}
-use Rattle.ix_car.specs.Headline.{checked_by}
+use Rattle.ix_archive.specs.Headline.{checked_by}
 use Rattle.ix_stages.specs.Lanes.{all_sent}
 use Rattle.ix_stages.specs.Queue.{table_of}
 use Rattle.ix_stages.specs.Received.{pairs_of}

@@ -1,7 +1,7 @@
 use Rattle.std.proofs.Common.{◌≡◌, [], ◌∷◌, ◌++◌, List, All, length, ap, sym, subst, ◌∙◌, arith}
 use Rattle.std.proofs.lemmas.List.Elements.{All-push}
 use Rattle.std.specs.Vec.Iter.{into_iter_items}
-use Rattle.ix_car.specs.Headline.{EachUnused}
+use Rattle.ix_archive.specs.Headline.{EachUnused}
 use Rattle.ix_stages.specs.Queue.{table_of}
 use Rattle.ix_flow.specs.declared.preparing.VerifierSlot.{VerifierSlot}
 use Rattle.ix_flow.specs.declared.verifying.UnstartedVerifier.{UnstartedVerifier}

@@ -1,7 +1,7 @@
 use Rattle.std.proofs.Common.{◌≡◌, ◌<◌, ◌∙◌, ap, arith, length, take, get_or, inl, inr}
 use Rattle.std.specs.Prelude.{not}
 use Rattle.std.proofs.lemmas.List.{length-map}
-use Rattle.ix_walk.specs.Store.{has_cid, with_block}
+use Rattle.ix_store.specs.Store.{has_cid, with_block}
 use Rattle.ix_car.specs.declared.reader.sections.Section.{Section}
 use Rattle.ix_inspect.specs.Counted.{has_stood}
 use Rattle.ix_inspect.proofs.Counting.{seen-more, repeats-more, get_or-mapped, Grows, grown, grown-within}

@@ -1,5 +1,5 @@
 use Rattle.std.proofs.Common.{◌≡◌, ℕ, ◌+◌, ◌≤◌, List, map, take, drop}
-use Rattle.ix_walk.specs.Store.{has_cid}
+use Rattle.ix_store.specs.Store.{has_cid}
 use Rattle.ix_car.specs.declared.reader.sections.Section.{Section}
 use Rattle.ix_inspect.specs.Counted.{has_stood, repeats_behind, repeats}
 use Rattle.ix_inspect.proofs.summary.repeats_of.Given as goal

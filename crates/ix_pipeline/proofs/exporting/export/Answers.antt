@@ -1,7 +1,7 @@
 use Rattle.std.proofs.Common.{rules, List, subst}
 use Rattle.std.specs.Arc.{arc_value}
 use Rattle.std.specs.Global.{Vec}
-use Rattle.ix_walk.specs.Store.{Blocks}
+use Rattle.ix_store.specs.Store.{Blocks}
 use Rattle.ix_walk.specs.JobMeaning.{JobMeaning}
 use Rattle.ix_walk.specs.declared.job.Job.{Job}
 use Rattle.ix_pipeline.specs.Headline.{EachDelivered}

@@ -1,8 +1,8 @@
 use Rattle.std.proofs.Common.{◌≡◌, List, sym, ◌∙◌, ap, subst, length}
 use Rattle.std.specs.Arc.{arc_value}
-use Rattle.ix_walk.specs.Store.{Blocks}
+use Rattle.ix_store.specs.Store.{Blocks}
 use Rattle.ix_walk.specs.JobMeaning.{JobMeaning}
-use Rattle.ix_car.specs.ArchiveMeaning.{HasArchived, events_of}
+use Rattle.ix_archive.specs.ArchiveMeaning.{HasArchived, events_of}
 use Rattle.ix_pipeline.specs.Headline.{EachFresh, EachKept}
 use Rattle.ix_run.specs.Run.{EachBegun, EachEnded}
 use Rattle.ix_run.proofs.Turns.{if_ok}

@@ -1,5 +1,5 @@
 use Rattle.std.proofs.Common.{sym, ◌∙◌, ap, subst, length}
-use Rattle.ix_car.specs.ArchiveMeaning.{HasArchived, events_of}
+use Rattle.ix_archive.specs.ArchiveMeaning.{HasArchived, events_of}
 use Rattle.ix_pipeline.specs.Headline.{EachFresh, EachKept}
 use Rattle.ix_run.specs.Run.{EachEnded}
 use Rattle.ix_run.proofs.Turns.{if_ok}

@@ -2,8 +2,8 @@ use Rattle.std.proofs.Common.{◌≡◌, ◌∙◌, ap, subst}
 use Rattle.std.specs.Prelude.{IfOk}
 use Rattle.ix_walk.specs.JobMeaning.{JobMeaning}
 use Rattle.ix_walk.specs.Visits.{is_over_limit}
-use Rattle.ix_car.specs.Report.{skips_of}
-use Rattle.ix_car.specs.Verified.{judged_visits}
+use Rattle.ix_archive.specs.Report.{skips_of}
+use Rattle.ix_archive.specs.Verified.{judged_visits}
 use Rattle.ix_verify.specs.Found.{root_job}
 use Rattle.ix_verify.proofs.reach.walk_root.Goals as goal
 

@@ -1,6 +1,7 @@
 use Rattle.std.proofs.Common.{sym, ◌∙◌, ap}
 use Rattle.ix_cid.specs.Cid.{hash_function_of}
-use Rattle.ix_walk.proofs.Blocks.{bytes_absent, bytes_at, place_within, fault_of}
+use Rattle.ix_store.proofs.Blocks.{place_within, fault_of}
+use Rattle.ix_walk.proofs.Readings.{bytes_absent, bytes_at}
 use Rattle.ix_walk.proofs.arriving.bytes_of.Goals as goal
 
 pub returns-in_err-place-in-Sha2_256 : goal.returns-in_err-place-in-Sha2_256

@@ -1,7 +1,7 @@
 use Rattle.std.proofs.Common.{ℕ, true, false, sym, ◌∙◌, subst}
 use Rattle.std.specs.Prelude.{Option, Some, None}
 use Rattle.ix_walk.specs.declared.gone.Gone.{Gone}
-use Rattle.ix_walk.specs.Store.{position_of, value_of}
+use Rattle.ix_store.specs.Store.{position_of, value_of}
 use Rattle.ix_walk.specs.Gone.{IsNoted, gone_of, going_of}
 use Rattle.ix_walk.specs.Arriving.{IsValue, Goes}
 use Rattle.ix_walk.specs.Walking.{waiting}

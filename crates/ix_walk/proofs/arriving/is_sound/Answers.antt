@@ -1,6 +1,6 @@
 use Rattle.std.proofs.Common.{sym, ◌∙◌, ap}
 use Rattle.ix_cid.specs.Cid.{hash_function_of}
-use Rattle.ix_walk.proofs.Blocks.{place_within}
+use Rattle.ix_store.proofs.Blocks.{place_within}
 use Rattle.ix_walk.proofs.Goes.{sound_absent, sound_stored}
 use Rattle.ix_walk.proofs.arriving.is_sound.Goals as goal
 

@@ -1,6 +1,6 @@
 use Rattle.std.proofs.Common.{sym, ◌∙◌, ap}
 use Rattle.ix_cid.specs.Cid.{Parts}
-use Rattle.ix_walk.proofs.Blocks.{dag_cbor_is, read_value, checked_item}
+use Rattle.ix_walk.proofs.Readings.{dag_cbor_is, read_value, checked_item}
 use Rattle.ix_walk.proofs.arriving.read_block.Goals as goal
 
 pub returns-in-Some-default-false-clause-reading : goal.returns-in-Some-default-false-clause-reading

@@ -1,6 +1,6 @@
 use Rattle.std.proofs.Common.{sym, ◌∙◌, arith}
 use Rattle.ix_cbor.proofs.Steps.{no_ok}
-use Rattle.ix_walk.proofs.Ends.{front_end, link_end}
+use Rattle.ix_store.proofs.Ends.{front_end, link_end}
 use Rattle.ix_walk.proofs.Parts.{item_has_front}
 use Rattle.ix_walk.proofs.descent.front_at.Goals as goal
 

@@ -1,5 +1,5 @@
 use Rattle.std.proofs.Common.{arith}
-use Rattle.ix_walk.proofs.Ends.{key_end}
+use Rattle.ix_store.proofs.Ends.{key_end}
 use Rattle.ix_walk.proofs.descent.key_at.Goals as goal
 
 pub returns-clause-end : goal.returns-clause-end

@@ -3,7 +3,7 @@ use Rattle.std.specs.Prelude.{Some, None}
 use Rattle.ix_walk.specs.declared.subtree.Entered.TheVariants.{Link, Open}
 use Rattle.ix_walk.specs.declared.subtree.Opened.{Opened}
 use Rattle.ix_walk.specs.declared.subtree.Trail.{Trail}
-use Rattle.ix_walk.specs.Walking.{goes_on}
+use Rattle.ix_store.specs.Ahead.{goes_on}
 use Rattle.ix_walk.specs.Descent.{IsNext}
 use Rattle.ix_walk.proofs.Trails.{steps_kept, steps_lighter, step_none, step_open, link_found}
 use Rattle.ix_walk.proofs.descent.next_below.Goals as goal

@@ -1,5 +1,5 @@
 use Rattle.std.proofs.Common.{arith}
-use Rattle.ix_walk.proofs.Ends.{skip_end}
+use Rattle.ix_store.proofs.Ends.{skip_end}
 use Rattle.ix_walk.proofs.descent.skipped.Goals as goal
 
 pub returns-clause-end : goal.returns-clause-end

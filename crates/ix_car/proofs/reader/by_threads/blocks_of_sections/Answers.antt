@@ -1,7 +1,7 @@
 use Rattle.std.proofs.Common.{◌≡◌, ◌<◌, List, [], ℕ, length, take, drop, ◌++◌, ◌-◌, arith, rules, sym, ap, ◌∙◌}
 use Rattle.std.proofs.lemmas.Result.{err_from_is_err_and}
-use Rattle.ix_walk.proofs.Stores.{holds-at_ok}
-use Rattle.ix_walk.specs.Store.{with_block}
+use Rattle.ix_store.proofs.Stores.{holds-at_ok}
+use Rattle.ix_store.specs.Store.{with_block}
 use Rattle.std.specs.Arc.{arc_value}
 use Rattle.ix_car.specs.Reads.{IsEnd}
 use Rattle.ix_car.specs.Reading.{sections_at, section_at}

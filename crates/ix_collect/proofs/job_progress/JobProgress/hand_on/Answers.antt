@@ -1,5 +1,5 @@
 use Rattle.std.proofs.Common.{rules, Option, subst}
-use Rattle.ix_car.specs.declared.sink.Delivery.{Delivery}
+use Rattle.ix_archive.specs.declared.sink.Delivery.{Delivery}
 use Rattle.ix_collect.specs.JobProgress.{IsPoppedUnderWay}
 use Rattle.ix_collect.proofs.Stepping.{handed_on, handed_failed, safe_on}
 use Rattle.ix_collect.proofs.job_progress.JobProgress.hand_on.Goals as goal

@@ -1,5 +1,5 @@
 use Rattle.std.proofs.Common.{rules, ◌≡◌, refl, true}
-use Rattle.ix_car.specs.declared.sink.End.TheVariants.{Memory}
+use Rattle.ix_archive.specs.declared.sink.End.TheVariants.{Memory}
 use Rattle.ix_collect.proofs.Stepping.{close_arrives, no_second_close, stays_or, or_stays, counts_up}
 use Rattle.ix_collect.proofs.job_progress.JobProgress.note_close.Goals as goal
 

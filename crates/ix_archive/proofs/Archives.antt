@@ -1,0 +1,142 @@
+-- The archive of the beginning of a list is a beginning of its archive, so a faithful sink's archive is that of its job, or a beginning of it.
+use Rattle.std.proofs.Common.{◌≡◌, ◌⊎◌, inl, inr, ℕ, zero, suc, Bool, true, false, not, List, [], ◌∷◌, ◌++◌, take, drop, map, filter, flat_map, refl, sym, ◌∙◌, ap, subst, append_assoc, take-append-drop, le_of_eq}
+use Rattle.std.specs.Prelude.{Option, Some, None, if◌then◌else◌, bytes_eq}
+use Rattle.std.proofs.lemmas.List.{take_all}
+use Rattle.std.proofs.lemmas.List.Elements.{filter-append}
+use Rattle.std.proofs.lemmas.List.Concat.{flat_map-append}
+use Rattle.ix_store.specs.Store.{Blocks}
+use Rattle.ix_walk.specs.JobMeaning.{JobMeaning}
+use Rattle.ix_walk.specs.Visits.{is_over_limit}
+use Rattle.ix_check.specs.Verdict.{passes}
+use Rattle.ix_archive.specs.declared.sink.Delivery.{Delivery}
+use Rattle.ix_archive.specs.declared.sink.End.{End}
+use Rattle.ix_archive.specs.declared.sink.End.TheVariants.{Done, Limit, Memory, Write, Start}
+use Rattle.ix_archive.specs.Events.{Event, delivery, close, deliveries_of}
+use Rattle.ix_archive.specs.Kept.{kept}
+use Rattle.ix_archive.specs.Verified.{judged_visits, verified}
+use Rattle.ix_car.specs.Writing.{header_of}
+use Rattle.ix_archive.specs.Archive.{is_sound, first_sound, section_of, archive_with, archive_of}
+use Rattle.ix_archive.specs.ArchiveMeaning.{ArchiveMeaning, events_of, HasWritten, HasArchived}
+use Rattle.ix_archive.specs.Archived.{IsBeginning, TellsBeginning, IsArchived}
+use Rattle.ix_archive.specs.Faithful.{EndFits, IsFaithful}
+use Rattle.ix_archive.proofs.Pruning.{kept-take}
+use Rattle.ix_archive.proofs.Numbers.{kept-verified, kept-beginning}
+
+-- ---- beginnings
+
+-- what the second of two lists adds to the first sound deliveries of the first
+abbrev first_behind : List Delivery → List Delivery → List Delivery
+first_behind [] ys = first_sound ys
+first_behind (d ∷ ds) ys = if is_sound d.verdict then filter (λ e. not (bytes_eq e.visit.cid d.visit.cid)) (first_behind ds ys) else first_behind ds ys
+
+first_sound-append : (xs ys : List Delivery) → first_sound (xs ++ ys) ≡ first_sound xs ++ first_behind xs ys
+first_sound-append [] ys = refl
+first_sound-append (d ∷ ds) ys =
+    let other : Delivery → Bool = λ e. not (bytes_eq e.visit.cid d.visit.cid) in
+    elim (is_sound d.verdict) as (λ b. (if b then d ∷ filter other (first_sound (ds ++ ys)) else first_sound (ds ++ ys)) ≡ (if b then d ∷ filter other (first_sound ds) else first_sound ds) ++ (if b then filter other (first_behind ds ys) else first_behind ds ys))
+    [ true ↦ ap (λ l. d ∷ filter other l) (first_sound-append ds ys) ∙ ap (λ l. d ∷ l) (filter-append other (first_sound ds) (first_behind ds ys)) | false ↦ first_sound-append ds ys ]
+
+archive-append : (store : Blocks) (roots : List (List ℕ)) (xs ys : List Delivery) → archive_with store roots (xs ++ ys) ≡ archive_with store roots xs ++ flat_map (section_of store) (first_behind xs ys)
+archive-append store roots xs ys =
+    ap (λ l. header_of roots ++ flat_map (section_of store) l) (first_sound-append xs ys)
+    ∙ ap (λ l. header_of roots ++ l) (flat_map-append (section_of store) (first_sound xs) (first_behind xs ys))
+    ∙ sym (append_assoc (header_of roots) (flat_map (section_of store) (first_sound xs)) (flat_map (section_of store) (first_behind xs ys)))
+
+-- the archive of the beginning of a list is a beginning of its archive
+pub archive-beginning : (store : Blocks) (roots : List (List ℕ)) (xs ys all : List Delivery) → xs ++ ys ≡ all → IsBeginning (archive_with store roots xs) (archive_with store roots all)
+archive-beginning store roots xs ys all e = (flat_map (section_of store) (first_behind xs ys), sym (archive-append store roots xs ys) ∙ ap (archive_with store roots) e)
+
+-- what is kept of the first visits is a beginning of the verified traversal
+kept-first_visits : (store : Blocks) (number : ℕ) (job : JobMeaning) (m : ℕ) → (more : List Delivery) × (kept (take m (judged_visits store number job)) ++ more ≡ verified store number job)
+kept-first_visits store number job m =
+    let all = kept (judged_visits store number job) in
+    let few = kept-take (λ d. d.visit.depth) (λ d. passes d.verdict) None m (judged_visits store number job) in
+    let rest = kept-beginning store number job in
+    (drop few.0 all ++ rest.0, ap (λ l. l ++ (drop few.0 all ++ rest.0)) few.1 ∙ sym (append_assoc (take few.0 all) (drop few.0 all) rest.0) ∙ ap (λ l. l ++ rest.0) (take-append-drop few.0 all) ∙ rest.1)
+
+-- so its archive is a beginning of the job's
+archive-first_visits : (store : Blocks) (number : ℕ) (job : JobMeaning) (m : ℕ) → IsBeginning (archive_with store job.roots (kept (take m (judged_visits store number job)))) (archive_of store number job)
+archive-first_visits store number job m =
+    let first = kept-first_visits store number job m in
+    archive-beginning store job.roots (kept (take m (judged_visits store number job))) first.0 (verified store number job) first.1
+
+-- ---- a faithful sink
+
+told-deliveries : (ds : List Delivery) (end : End) → deliveries_of (map delivery ds ++ close end ∷ []) ≡ ds
+told-deliveries [] end = refl
+told-deliveries (d ∷ ds) end = ap (λ l. d ∷ l) (told-deliveries ds end)
+
+-- nothing failed, or the delivery behind those that were taken
+failed-next : (end : End) (m : ℕ) (all : List Delivery) (over : Bool) (failed : List Delivery) → EndFits end m all over failed → (failed ≡ []) ⊎ (failed ≡ take 1 (drop m all))
+failed-next Done m all over failed fits = inl fits.2
+failed-next Limit m all over failed fits = inl fits.2
+failed-next Start m all over failed fits = inl fits.1
+failed-next Write m all over failed fits = inr fits.1
+failed-next Memory m all over failed fits = fits
+
+-- the first ones with the one behind them
+take-next : (m : ℕ) (all more : List Delivery) (d : Delivery) → d ∷ more ≡ take 1 (drop m all) → take m all ++ d ∷ [] ≡ take (suc m) all
+take-next zero [] more d e = absurd cc
+take-next zero (x ∷ all) more d e = ap (take 1) e
+take-next (suc m) [] more d e = absurd cc
+take-next (suc m) (x ∷ all) more d e = ap (λ l. x ∷ l) (take-next m all more d e)
+
+bytes_same : (a b : List ℕ) → Some a ≡ Some b → a ≡ b
+bytes_same a b e = cc
+
+-- where a delivery failed, a proper part of the archive with it is written
+written-beginning : (store : Blocks) (number : ℕ) (job : JobMeaning) (m : ℕ) (failed : List Delivery) → (failed ≡ []) ⊎ (failed ≡ take 1 (drop m (judged_visits store number job)))
+    → (bytes : List ℕ) → HasWritten (Some bytes) store job.roots (take m (judged_visits store number job)) failed → IsBeginning bytes (archive_of store number job)
+written-beginning store number job m [] next bytes written =
+    subst (λ l. IsBeginning l (archive_of store number job)) (sym (bytes_same bytes (archive_with store job.roots (kept (take m (judged_visits store number job)))) written)) (archive-first_visits store number job m)
+written-beginning store number job m (d ∷ more) (inl e) bytes written = absurd cc
+written-beginning store number job m (d ∷ more) (inr e) bytes written =
+    let visits = judged_visits store number job in
+    let part = written.2 in
+    let rest : IsBeginning (archive_with store job.roots (kept (take m visits ++ d ∷ []))) (archive_of store number job) = subst (λ l. IsBeginning (archive_with store job.roots (kept l)) (archive_of store number job)) (sym (take-next m visits more d e)) (archive-first_visits store number job (suc m)) in
+    (part.0 ++ rest.0, sym (append_assoc bytes part.0 rest.0) ∙ ap (λ l. l ++ rest.0) (ap (λ l. l ++ part.0) (bytes_same bytes written.0 written.1) ∙ part.1) ∙ rest.1)
+
+-- where all visits were told, and the limit cut nothing, the whole archive is written
+written-whole : (store : Blocks) (number : ℕ) (job : JobMeaning) (m : ℕ) (failed : List Delivery) → EndFits Done m (judged_visits store number job) (is_over_limit store job) failed
+    → (told : Option (List ℕ)) → HasWritten told store job.roots (take m (judged_visits store number job)) failed → told ≡ Some (archive_of store number job)
+written-whole store number job m [] fits told written =
+    written ∙ ap (λ l. Some (archive_with store job.roots l)) (ap kept (take_all m (judged_visits store number job) (le_of_eq (sym fits.0))) ∙ kept-verified store number job fits.1)
+written-whole store number job m (d ∷ more) fits told written = let none = fits.2 in absurd cc
+
+pub faithful-archived : (store : Blocks) (number : ℕ) (job : JobMeaning) (end : End) (events : List Event) (failed : List Delivery) → IsFaithful store number job end events failed → IsArchived store number job end events failed
+faithful-archived store number job end events failed f =
+    let visits = judged_visits store number job in
+    let deliveries : deliveries_of events ≡ take f.count visits = ap deliveries_of f.told ∙ told-deliveries (take f.count visits) end in
+    record {
+      whole = λ done told written.
+          written-whole store number job f.count failed (subst (λ e. EndFits e f.count visits (is_over_limit store job) failed) done f.fits) told (subst (λ l. HasWritten told store job.roots l failed) deliveries written);
+      beginning = λ bytes written.
+          written-beginning store number job f.count failed (failed-next end f.count visits (is_over_limit store job) failed f.fits) bytes (subst (λ l. HasWritten (Some bytes) store job.roots l failed) deliveries written);
+    }
+
+-- ---- an archive
+
+closed-deliveries : (ends : List End) → deliveries_of (map close ends) ≡ []
+closed-deliveries [] = refl
+closed-deliveries (e ∷ es) = closed-deliveries es
+
+told-back : (ds : List Delivery) (ends : List End) → deliveries_of (map delivery ds ++ map close ends) ≡ ds
+told-back [] ends = closed-deliveries ends
+told-back (d ∷ ds) ends = ap (λ l. d ∷ l) (told-back ds ends)
+
+-- what has written tells its bytes
+written-tells : (told : Option (List ℕ)) (store : Blocks) (roots : List (List ℕ)) (ds failed : List Delivery) → HasWritten told store roots ds failed → (bytes : List ℕ) × (told ≡ Some bytes)
+written-tells told store roots ds [] written = (archive_with store roots (kept ds), written)
+written-tells told store roots ds (d ∷ more) written = (written.0, written.1)
+
+module _ {W : Type 0} (told : W → Option (List ℕ)) (a : ArchiveMeaning W) (store : Blocks) (number : ℕ) (job : JobMeaning) (fact : HasArchived told a store job (Some [])) where
+  written-back : HasWritten (told a.writer) store job.roots (deliveries_of (events_of a)) a.failed
+  written-back = subst (λ l. HasWritten (told a.writer) store job.roots l a.failed) (sym (told-back a.deliveries a.closed)) (fact.written refl)
+
+  pub archive-whole : IsFaithful store number job Done (events_of a) a.failed → told a.writer ≡ Some (archive_of store number job)
+  archive-whole faithful = (faithful-archived store number job Done (events_of a) a.failed faithful).whole refl (told a.writer) written-back
+
+  pub archive-begun : (end : End) → IsFaithful store number job end (events_of a) a.failed → TellsBeginning (told a.writer) (archive_of store number job)
+  archive-begun end faithful =
+      let tells = written-tells (told a.writer) store job.roots (deliveries_of (events_of a)) a.failed written-back in
+      (tells.0, tells.1, (faithful-archived store number job end (events_of a) a.failed faithful).beginning tells.0 (subst (λ o. HasWritten o store job.roots (deliveries_of (events_of a)) a.failed) tells.1 written-back))

@@ -1,0 +1,216 @@
+-- What a delivery does to an archive, and what a sink says of it.
+use Rattle.std.proofs.Common.{◌≡◌, ℕ, ◌≤◌, ◌<◌, ◌+◌, ◌-◌, ◌^◌, false, take, List, [], ◌∷◌, ◌++◌, length, map, refl, sym, ap, ◌∙◌, subst, arith}
+use Rattle.std.specs.Prelude.{Option, Some, Result, Ok, Err, OnOk, OnErr, IfErr, min, slice_get}
+use Rattle.std.specs.Io.KnownBytes.{Appends}
+use Rattle.std.proofs.lemmas.List.{append-nil, append_assoc, length-append, length-take-le, take_all}
+use Rattle.ix_cid.specs.Varint.{varint_of}
+use Rattle.ix_store.specs.Store.{Blocks, position_of}
+use Rattle.ix_walk.specs.JobMeaning.{JobMeaning}
+use Rattle.ix_store.proofs.Blocks.{block_at, place_within}
+use Rattle.ix_archive.specs.declared.sink.Delivery.{Delivery}
+use Rattle.ix_archive.specs.declared.sink.End.{End}
+use Rattle.ix_archive.specs.declared.fault.SinkFault.{SinkFault}
+use Rattle.ix_archive.specs.declared.fault.SinkFault.TheVariants.{Write, Memory}
+use Rattle.ix_archive.specs.Events.{Event, delivery, close, IsOpen, IsRefusal}
+use Rattle.ix_archive.specs.Kept.{is_below, kept}
+use Rattle.ix_car.specs.Writing.{header_of}
+use Rattle.ix_archive.specs.Archive.{archive_with}
+use Rattle.ix_archive.specs.Report.{at_most}
+use Rattle.ix_archive.specs.ArchiveMeaning.{ArchiveMeaning, events_of, HasWritten, IsCountOf, HasArchived, IsProperPrefix, TookPartOfHeader}
+use Rattle.ix_archive.specs.Archiving.{cut_behind, place_due, text_due, HasTaken, IsAdded, IsFailed, IsDelivered}
+use Rattle.ix_car.proofs.Growth.{appended, appends-nothing}
+use Rattle.ix_archive.proofs.Prefixes.{proper-behind, proper-take}
+use Rattle.ix_archive.proofs.FirstSound.{archive-due, due-section, due-told}
+
+-- one more delivery is the last event of an archive that is open
+events-push : (ds : List Delivery) (d : Delivery) (ends : List End) → IsOpen (map delivery ds ++ map close ends) → map delivery (ds ++ d ∷ []) ++ map close ends ≡ (map delivery ds ++ map close ends) ++ delivery d ∷ []
+events-push [] d [] h = refl
+events-push [] d (e ∷ es) h = absurd h
+events-push (x ∷ ds) d ends h = ap (λ l. delivery x ∷ l) (events-push ds d ends h)
+
+-- a count that stops, with what is added
+count-add : (most n m k : ℕ) → k ≡ min n most → min (k + m) most ≡ min (n + m) most
+count-add most n m k h = omega arith
+
+some-text : (xs ys : List ℕ) → ◌≡◌ {A = Option (List ℕ)} (Some xs) (Some ys) → xs ≡ ys
+some-text xs ys h = cc
+
+module _ {W : Type 0} (told : W → Option (List ℕ)) (d : Delivery) (before : ArchiveMeaning W) where
+  pub delivers-ok : {T : Type 0} (text : List ℕ) (r : Result T SinkFault) (after : ArchiveMeaning W) → IsDelivered told d text before r after → IsOpen (events_of before) → OnOk r (events_of after ≡ events_of before ++ delivery d ∷ [])
+  delivers-ok text (Ok u) after h unclosed =
+      ap (λ l. map delivery l ++ map close after.closed) h.deliveries ∙ ap (λ l. map delivery (before.deliveries ++ d ∷ []) ++ map close l) h.wrote.same_close
+      ∙ events-push before.deliveries d before.closed unclosed
+  delivers-ok text (Err f) after h unclosed = tt
+
+  pub delivers-unfailed : {T : Type 0} (text : List ℕ) (r : Result T SinkFault) (after : ArchiveMeaning W) → IsDelivered told d text before r after → OnOk r (after.failed ≡ [])
+  delivers-unfailed text (Ok u) after h = h.failed
+  delivers-unfailed text (Err f) after h = tt
+
+  pub delivers-err : {T : Type 0} (text : List ℕ) (r : Result T SinkFault) (after : ArchiveMeaning W) → IsDelivered told d text before r after → OnErr r (events_of after ≡ events_of before)
+  delivers-err text (Ok u) after h = tt
+  delivers-err text (Err Write) after h =
+      ap (λ l. map delivery l ++ map close after.closed) h.deliveries ∙ ap (λ l. map delivery before.deliveries ++ map close l) h.wrote.same_close
+  delivers-err text (Err Memory) after h = ap events_of h
+
+  pub delivers-refused : {T : Type 0} (text : List ℕ) (r : Result T SinkFault) (after : ArchiveMeaning W) → IsDelivered told d text before r after → before.failed ≡ [] → IfErr r (λ e. IsRefusal e d after.failed)
+  delivers-refused text (Ok u) after h none = tt
+  delivers-refused text (Err Write) after h none = h.failed
+  delivers-refused text (Err Memory) after h none = ap (λ a. a.failed) h ∙ none
+
+  -- the bytes before, where the archive has written what it should
+  bytes-before : (store : Blocks) (job : JobMeaning) → HasWritten (told before.writer) store job.roots before.deliveries before.failed → before.failed ≡ [] → told before.writer ≡ Some (archive_with store job.roots (kept before.deliveries))
+  bytes-before store job h none = subst (λ f. HasWritten (told before.writer) store job.roots before.deliveries f) none h
+
+  -- the bytes after
+  bytes-after : (text : List ℕ) (after : ArchiveMeaning W) (store : Blocks) (job : JobMeaning) → HasWritten (told before.writer) store job.roots before.deliveries before.failed → before.failed ≡ [] → HasTaken told before after text → told after.writer ≡ Some (archive_with store job.roots (kept before.deliveries) ++ text)
+  bytes-after text after store job h none took =
+      appended (archive_with store job.roots (kept before.deliveries)) text (told after.writer) (subst (λ o. Appends o (told after.writer) text) (bytes-before store job h none) took.grown)
+
+  -- their number
+  counted-after : (text : List ℕ) (after : ArchiveMeaning W) (store : Blocks) (job : JobMeaning) → HasWritten (told before.writer) store job.roots before.deliveries before.failed → IsCountOf before.taken (told before.writer) → before.failed ≡ [] → HasTaken told before after text → IsCountOf after.taken (told after.writer)
+  counted-after text after store job h count none took bytes is =
+      let whole = archive_with store job.roots (kept before.deliveries) in
+      let same : bytes ≡ whole ++ text = some-text bytes (whole ++ text) (sym is ∙ bytes-after text after store job h none took) in
+      took.counted
+      ∙ count-add (2 ^ 64 - 1) (length whole) (length text) before.taken (count whole (bytes-before store job h none))
+      ∙ ap (at_most 64) (sym (length-append whole text))
+      ∙ ap (λ l. at_most 64 (length l)) (sym same)
+
+  -- what is due is the same over a store that is the archive's
+  due-there : (store : Blocks) (job : JobMeaning) → before.store ≡ store → archive_with store job.roots (kept (before.deliveries ++ d ∷ [])) ≡ archive_with store job.roots (kept before.deliveries) ++ text_due before.store before.deliveries d
+  due-there store job same =
+      archive-due store job.roots before.deliveries d ∙ ap (λ s. archive_with store job.roots (kept before.deliveries) ++ text_due s before.deliveries d) (sym same)
+
+  added-written : (after : ArchiveMeaning W) (store : Blocks) (job : JobMeaning) → IsAdded told d (text_due before.store before.deliveries d) before after → before.failed ≡ [] → before.store ≡ store
+      → HasWritten (told before.writer) store job.roots before.deliveries before.failed → HasWritten (told after.writer) store job.roots after.deliveries after.failed
+  added-written after store job added none same h =
+      let is : told after.writer ≡ Some (archive_with store job.roots (kept (before.deliveries ++ d ∷ []))) = bytes-after (text_due before.store before.deliveries d) after store job h none added.wrote ∙ ap Some (sym (due-there store job same)) in
+      let by_none : HasWritten (told after.writer) store job.roots after.deliveries [] = is ∙ ap (λ l. Some (archive_with store job.roots (kept l))) (sym added.deliveries) in
+      subst (λ f. HasWritten (told after.writer) store job.roots after.deliveries f) (sym added.failed) by_none
+
+  added-archived : (after : ArchiveMeaning W) (store : Blocks) (job : JobMeaning) (first : Option (List ℕ)) → IsAdded told d (text_due before.store before.deliveries d) before after → before.failed ≡ [] → HasArchived told before store job first → HasArchived told after store job first
+  added-archived after store job first added none h = record {
+    same_store = added.wrote.same_store ∙ h.same_store;
+    same_roots = added.wrote.same_roots ∙ h.same_roots;
+    written = λ fresh. added-written after store job added none h.same_store (h.written fresh);
+    counted = λ fresh. counted-after (text_due before.store before.deliveries d) after store job (h.written fresh) (h.counted fresh) none added.wrote;
+  }
+
+  failed-written : (after : ArchiveMeaning W) (store : Blocks) (job : JobMeaning) → IsFailed told d (text_due before.store before.deliveries d) before after → before.failed ≡ [] → before.store ≡ store
+      → HasWritten (told before.writer) store job.roots before.deliveries before.failed → HasWritten (told after.writer) store job.roots after.deliveries after.failed
+  failed-written after store job refused none same h =
+      let whole = archive_with store job.roots (kept before.deliveries) in
+      let proper : IsProperPrefix (whole ++ refused.part) (archive_with store job.roots (kept (before.deliveries ++ d ∷ []))) = subst (λ l. IsProperPrefix (whole ++ refused.part) l) (sym (due-there store job same)) (proper-behind whole refused.part (text_due before.store before.deliveries d) refused.proper) in
+      let by_one : HasWritten (told after.writer) store job.roots before.deliveries (d ∷ []) = (whole ++ refused.part, bytes-after refused.part after store job h none refused.wrote, proper) in
+      let by_deliveries : HasWritten (told after.writer) store job.roots after.deliveries (d ∷ []) = subst (λ l. HasWritten (told after.writer) store job.roots l (d ∷ [])) (sym refused.deliveries) by_one in
+      subst (λ f. HasWritten (told after.writer) store job.roots after.deliveries f) (sym refused.failed) by_deliveries
+
+  failed-archived : (after : ArchiveMeaning W) (store : Blocks) (job : JobMeaning) (first : Option (List ℕ)) → IsFailed told d (text_due before.store before.deliveries d) before after → before.failed ≡ [] → HasArchived told before store job first → HasArchived told after store job first
+  failed-archived after store job first refused none h = record {
+    same_store = refused.wrote.same_store ∙ h.same_store;
+    same_roots = refused.wrote.same_roots ∙ h.same_roots;
+    written = λ fresh. failed-written after store job refused none h.same_store (h.written fresh);
+    counted = λ fresh. counted-after refused.part after store job (h.written fresh) (h.counted fresh) none refused.wrote;
+  }
+
+  -- an archive goes on having written what it should
+  pub delivers-archived : {T : Type 0} (r : Result T SinkFault) (after : ArchiveMeaning W) → IsDelivered told d (text_due before.store before.deliveries d) before r after → before.failed ≡ [] → (store : Blocks) (job : JobMeaning) (first : Option (List ℕ)) → HasArchived told before store job first → HasArchived told after store job first
+  delivers-archived (Ok u) after h none store job first was = added-archived after store job first h none was
+  delivers-archived (Err Write) after h none store job first was = failed-archived after store job first h none was
+  delivers-archived (Err Memory) after h none store job first was = subst (λ a. HasArchived told a store job first) (sym h) was
+
+  -- want of memory leaves the archive as it was
+  pub delivers-memory : {T : Type 0} (text : List ℕ) (r : Result T SinkFault) (after : ArchiveMeaning W) → IsDelivered told d text before r after → r ≡ Err Memory → after ≡ before
+  delivers-memory text (Ok u) after h e = absurd cc
+  delivers-memory text (Err Write) after h e = absurd cc
+  delivers-memory text (Err Memory) after h e = h
+
+-- a delivery that writes nothing
+pub adds-nothing : {W : Type 0} (told : W → Option (List ℕ)) (d : Delivery) (store : Blocks) (roots : List (List ℕ)) (ds es failed : List Delivery) (closed : List End) (taken : ℕ) (writer : W) → failed ≡ [] → taken ≤ 2 ^ 64 - 1 → es ≡ ds ++ d ∷ []
+    → IsAdded told d [] (record { store = store; roots = roots; deliveries = ds; failed = failed; closed = closed; taken = taken; writer = writer }) (record { store = store; roots = roots; deliveries = es; failed = failed; closed = closed; taken = taken; writer = writer })
+adds-nothing told d store roots ds es failed closed taken writer none within longer =
+    let stays : taken ≡ min (taken + 0) (2 ^ 64 - 1) = omega arith in record {
+      wrote = record { same_store = refl; same_roots = refl; same_close = refl; grown = appends-nothing (told writer); counted = stays };
+      deliveries = longer;
+      failed = none;
+    }
+
+-- a section is what is due
+pub section-text : (store : Blocks) (ds : List Delivery) (d : Delivery) (place : ℕ) (head block : List ℕ) → is_below (cut_behind ds) d.visit.depth ≡ false → place_due store (kept ds) d ≡ Some place → slice_get (map (λ e. e.1) store) place ≡ Some block
+    → head ≡ varint_of (length (d.visit.cid ++ block)) ++ d.visit.cid → head ++ block ≡ text_due store ds d
+section-text store ds d place head block uncut due at is =
+    let found : position_of store d.visit.cid ≡ Some place = (due-told store (kept ds) d place due).2 in
+    ap (λ l. l ++ block) is ∙ append_assoc (varint_of (length (d.visit.cid ++ block))) d.visit.cid block
+    ∙ sym (due-section store ds d place block uncut due (block_at place store d.visit.cid block (sym found) at))
+
+-- where the block of a section that is due stands
+pub due-within : (store : Blocks) (ks : List Delivery) (d : Delivery) (place : ℕ) → place_due store ks d ≡ Some place → place < length store
+due-within store ks d place due = place_within place store d.visit.cid (sym (due-told store ks d place due).2)
+
+-- a delivery whose section was written whole
+pub adds-section : {W : Type 0} (told : W → Option (List ℕ)) (d : Delivery) (store : Blocks) (roots : List (List ℕ)) (ds es failed : List Delivery) (closed : List End) (taken more n : ℕ) (writer later : W) (text due : List ℕ) → failed ≡ [] → es ≡ ds ++ d ∷ [] → text ≡ due → n ≤ length text → length text ≤ n
+    → Appends (told writer) (told later) (take n text) → more ≡ at_most 64 (taken + n)
+    → IsAdded told d due (record { store = store; roots = roots; deliveries = ds; failed = failed; closed = closed; taken = taken; writer = writer }) (record { store = store; roots = roots; deliveries = es; failed = failed; closed = closed; taken = more; writer = later })
+adds-section told d store roots ds es failed closed taken more n writer later text due none longer is within whole grown counted =
+    let many : n ≡ length due = let same : n ≡ length text = omega arith in same ∙ ap length is in record {
+      wrote = record {
+        same_store = refl;
+        same_roots = refl;
+        same_close = refl;
+        grown = subst (λ l. Appends (told writer) (told later) l) (take_all n text whole ∙ is) grown;
+        counted = counted ∙ ap (λ m. at_most 64 (taken + m)) many;
+      };
+      deliveries = longer;
+      failed = none;
+    }
+
+-- a delivery whose section was written in part
+pub fails-section : {W : Type 0} (told : W → Option (List ℕ)) (d : Delivery) (store : Blocks) (roots : List (List ℕ)) (ds es failed : List Delivery) (closed : List End) (taken more n : ℕ) (writer later : W) (text due : List ℕ) → es ≡ ds → text ≡ due → n < length text
+    → Appends (told writer) (told later) (take n text) → more ≡ at_most 64 (taken + n)
+    → IsFailed told d due (record { store = store; roots = roots; deliveries = ds; failed = failed; closed = closed; taken = taken; writer = writer }) (record { store = store; roots = roots; deliveries = es; failed = d ∷ []; closed = closed; taken = more; writer = later })
+fails-section told d store roots ds es failed closed taken more n writer later text due same is short grown counted =
+    let within : n ≤ length text = omega arith in record {
+      part = take n text;
+      proper = subst (λ l. IsProperPrefix (take n text) l) is (proper-take n text short);
+      wrote = record {
+        same_store = refl;
+        same_roots = refl;
+        same_close = refl;
+        grown = grown;
+        counted = counted ∙ ap (λ m. at_most 64 (taken + m)) (sym (length-take-le n text within));
+      };
+      deliveries = same;
+      failed = refl;
+    }
+
+-- a writer that took a part of a header
+pub begins-in_part : {W : Type 0} (told : W → Option (List ℕ)) (writer later : W) (roots : List (List ℕ)) (header : List ℕ) (n : ℕ) → header ≡ header_of roots → n < length header → Appends (told writer) (told later) (take n header) → told writer ≡ Some [] → TookPartOfHeader (told later) roots
+begins-in_part told writer later roots header n is short grown fresh = (
+  take n header,
+  appended [] (take n header) (told later) (subst (λ o. Appends o (told later) (take n header)) fresh grown),
+  subst (λ l. IsProperPrefix (take n header) l) is (proper-take n header short),
+)
+
+-- an archive whose header was written
+pub begins-archived : {W : Type 0} (told : W → Option (List ℕ)) (writer later : W) (store : Blocks) (job : JobMeaning) (roots : List (List ℕ)) (header : List ℕ) (ds : List Delivery) (n : ℕ) → roots ≡ job.roots → header ≡ header_of job.roots → ds ≡ [] → n ≤ length header → length header ≤ n → n ≤ 2 ^ 64 - 1
+    → Appends (told writer) (told later) (take n header)
+    → HasArchived told (record { store = store; roots = roots; deliveries = ds; failed = []; closed = []; taken = n; writer = later }) store job (told writer)
+begins-archived told writer later store job roots header ds n same is none within whole fits grown =
+    let took : told writer ≡ Some [] → told later ≡ Some header = λ fresh. appended [] (take n header) (told later) (subst (λ o. Appends o (told later) (take n header)) fresh grown) ∙ ap Some (take_all n header whole) in record {
+      same_store = refl;
+      same_roots = same;
+      written = λ fresh. took fresh ∙ ap Some (is ∙ sym (append-nil (header_of job.roots))) ∙ ap (λ l. Some (archive_with store job.roots (kept l))) (sym none);
+      counted = λ fresh bytes tells. let one : bytes ≡ header = some-text bytes header (sym tells ∙ took fresh) in
+          let many : n ≡ min (length header) (2 ^ 64 - 1) = omega arith in many ∙ ap (λ l. at_most 64 (length l)) (sym one);
+    }
+
+-- deliveries close nothing
+pub open-push : (es : List Event) (x : Delivery) → IsOpen es → IsOpen (es ++ delivery x ∷ [])
+open-push [] x h = tt
+open-push (delivery y ∷ es) x h = open-push es x h
+open-push (close e ∷ es) x h = absurd h
+
+-- nothing is closed where nothing was told
+pub open-at_first : {W : Type 0} (a : ArchiveMeaning W) → a.deliveries ≡ [] → a.closed ≡ [] → IsOpen (events_of a)
+open-at_first a none unclosed =
+    let e : events_of a ≡ [] = ap (λ l. map delivery l ++ map close a.closed) none ∙ ap (λ l. map close l) unclosed in subst (λ l. IsOpen l) (sym e) tt

@@ -1,0 +1,14 @@
+pub mod Open
+pub mod Pruning
+pub mod FirstSound
+pub mod Tally
+pub mod Delivered
+pub mod Steps
+pub mod RisingKeys
+pub mod Distinct
+pub mod SoundValues
+pub mod KeptOnce
+pub mod Numbers
+pub mod Archives
+pub mod GoingOnce
+pub mod Prefixes

@@ -1,0 +1,228 @@
+-- What an archive keeps, with one delivery more.
+use Rattle.std.proofs.Common.{◌≡◌, ℕ, ◌+◌, ◌≤◌, Bool, true, false, ◌&&◌, ◌||◌, List, [], ◌∷◌, ◌++◌, length, refl, sym, ap, ◌∙◌, arith, ◌-◌, ◌^◌}
+use Rattle.std.specs.Prelude.{Option, Some, None, if◌then◌else◌, ◌==◌, bytes_eq, min}
+use Rattle.std.proofs.lemmas.Bool.{false≢true}
+use Rattle.std.proofs.lemmas.Bool.Decides.{nat_tests}
+use Rattle.std.proofs.lemmas.Slice.Eq.{bytes_eq-Decides}
+use Rattle.std.proofs.lemmas.List.{length_push}
+use Rattle.ix_check.specs.Verdict.{passes}
+use Rattle.ix_store.specs.Store.{Blocks, position_behind, position_of}
+use Rattle.ix_store.specs.declared.places.PlaceSet.{PlaceSet}
+use Rattle.ix_store.specs.PlaceSet.{contains_place}
+use Rattle.ix_archive.specs.declared.archive.Skip.{Skip}
+use Rattle.ix_archive.specs.declared.sink.Delivery.{Delivery}
+use Rattle.ix_archive.specs.declared.sink.End.{End}
+use Rattle.ix_archive.specs.Kept.{is_below, kept}
+use Rattle.ix_archive.specs.Archive.{is_sound, sections_of}
+use Rattle.ix_archive.specs.declared.archive.Counts.{Counts}
+use Rattle.ix_archive.specs.Report.{at_most, counts_of}
+use Rattle.ix_archive.specs.Archiving.{IsTally, cut_behind, is_told, place_due}
+use Rattle.ix_archive.proofs.FirstSound.{sound_passes, refused_unsound, kept-push, cut-push, told-push, skips_in, skips-passing, skips-refused, sections-unsound, sections-repeat, sections-due, due-told}
+
+-- a count that stops, one higher
+count-more : (most n m k : ℕ) → k ≡ min n most → m ≡ n + 1 → min (k + 1) most ≡ min m most
+count-more most n m k h e = omega arith
+
+-- what is kept where the delivery is cut off, or isn't
+pub kept-cut_off : (ds : List Delivery) (d : Delivery) → is_below (cut_behind ds) d.visit.depth ≡ true → kept (ds ++ d ∷ []) ≡ kept ds
+kept-cut_off ds d below = kept-push ds d ∙ ap (λ b. if b then kept ds else kept ds ++ d ∷ []) below
+
+pub kept-uncut : (ds : List Delivery) (d : Delivery) → is_below (cut_behind ds) d.visit.depth ≡ false → kept (ds ++ d ∷ []) ≡ kept ds ++ d ∷ []
+kept-uncut ds d uncut = kept-push ds d ∙ ap (λ b. if b then kept ds else kept ds ++ d ∷ []) uncut
+
+-- where the list is cut then
+cut-cut_off : (ds : List Delivery) (d : Delivery) → is_below (cut_behind ds) d.visit.depth ≡ true → cut_behind (ds ++ d ∷ []) ≡ cut_behind ds
+cut-cut_off ds d below = cut-push ds d ∙ ap (λ b. if b then cut_behind ds else (if passes d.verdict then None else Some d.visit.depth)) below
+
+cut-uncut : (ds : List Delivery) (d : Delivery) (passing : Bool) → is_below (cut_behind ds) d.visit.depth ≡ false → passes d.verdict ≡ passing → cut_behind (ds ++ d ∷ []) ≡ (if passing then None else Some d.visit.depth)
+cut-uncut ds d passing uncut is =
+    cut-push ds d ∙ ap (λ b. if b then cut_behind ds else (if passes d.verdict then None else Some d.visit.depth)) uncut
+    ∙ ap (λ b. if b then None else Some d.visit.depth) is
+
+-- what a tally says of each count
+visits-of : (store : Blocks) (ds : List Delivery) (c : Counts) → c ≡ counts_of store ds c.bytes → c.visits ≡ at_most 32 (length ds)
+visits-of store ds c h = ap (λ (x : Counts). x.visits) h
+
+kept-of : (store : Blocks) (ds : List Delivery) (c : Counts) → c ≡ counts_of store ds c.bytes → c.kept ≡ at_most 32 (length (kept ds))
+kept-of store ds c h = ap (λ (x : Counts). x.kept) h
+
+sections-of : (store : Blocks) (ds : List Delivery) (c : Counts) → c ≡ counts_of store ds c.bytes → c.sections ≡ at_most 32 (length (sections_of store (kept ds)))
+sections-of store ds c h = ap (λ (x : Counts). x.sections) h
+
+bytes-of : (store : Blocks) (ds : List Delivery) (c : Counts) → c ≡ counts_of store ds c.bytes → c.bytes ≡ at_most 64 c.bytes
+bytes-of store ds c h = ap (λ (x : Counts). x.bytes) h
+
+-- bytes that can be counted
+bytes-fit : (t : ℕ) → t ≤ 2 ^ 64 - 1 → t ≡ at_most 64 t
+bytes-fit t within = omega arith
+
+-- the same tally with a set of the same places
+pub tally-same : (store : Blocks) (ds failed : List Delivery) (closed : List End) (cut : Option ℕ) (c : Counts) (w v : PlaceSet) (skips : List Skip) → IsTally store ds failed closed cut c w skips → ((n : ℕ) → contains_place v n ≡ contains_place w n) → IsTally store ds failed closed cut c v skips
+tally-same store ds failed closed cut c w v skips h same = record {
+  cut_is = h.cut_is;
+  counts_are = h.counts_are;
+  skips_is = h.skips_is;
+  written_is = λ none unclosed e place at. same place ∙ h.written_is none unclosed e place at;
+}
+
+-- a failure leaves no promise of what was written
+pub tally-failed : (store : Blocks) (ds failed : List Delivery) (closed : List End) (d : Delivery) (cut : Option ℕ) (c : Counts) (t : ℕ) (w v : PlaceSet) (skips : List Skip) → IsTally store ds failed closed cut c w skips → t ≤ 2 ^ 64 - 1 → IsTally store ds (d ∷ []) closed cut (record { visits = c.visits; kept = c.kept; sections = c.sections; bytes = t }) v skips
+tally-failed store ds failed closed d cut c t w v skips h within = record {
+  cut_is = h.cut_is;
+  counts_are = λ i. record { visits = visits-of store ds c h.counts_are i; kept = kept-of store ds c h.counts_are i; sections = sections-of store ds c h.counts_are i; bytes = bytes-fit t within i };
+  skips_is = h.skips_is;
+  written_is = λ none unclosed e place at. absurd cc;
+}
+
+-- a close leaves no promise of what was written
+pub tally-closed : (store : Blocks) (ds failed : List Delivery) (closed : List End) (end : End) (cut : Option ℕ) (c : Counts) (w v : PlaceSet) (skips : List Skip) → IsTally store ds failed closed cut c w skips → IsTally store ds failed (end ∷ []) cut c v skips
+tally-closed store ds failed closed end cut c w v skips h =
+    record { cut_is = h.cut_is; counts_are = h.counts_are; skips_is = h.skips_is; written_is = λ none unclosed e place at. absurd cc }
+
+-- the number of deliveries, one higher
+visits-more : (store : Blocks) (ds es : List Delivery) (d : Delivery) (c : Counts) (n : ℕ) → c ≡ counts_of store ds c.bytes → es ≡ ds ++ d ∷ [] → n ≡ at_most 32 (c.visits + 1) → n ≡ at_most 32 (length es)
+visits-more store ds es d c n h longer is =
+    is ∙ count-more (2 ^ 32 - 1) (length ds) (length es) c.visits (visits-of store ds c h) (ap length longer ∙ length_push ds d)
+
+-- a delivery that is cut off
+pub tally-cut_off : (store : Blocks) (ds es failed : List Delivery) (closed : List End) (d : Delivery) (cut : Option ℕ) (c : Counts) (n : ℕ) (w : PlaceSet) (skips : List Skip) → IsTally store ds failed closed cut c w skips → is_below (cut_behind ds) d.visit.depth ≡ true → es ≡ ds ++ d ∷ [] → n ≡ at_most 32 (c.visits + 1)
+    → IsTally store es failed closed cut (record { visits = n; kept = c.kept; sections = c.sections; bytes = c.bytes }) w skips
+tally-cut_off store ds es failed closed d cut c n w skips h below longer visits =
+    let same : kept es ≡ kept ds = ap kept longer ∙ kept-cut_off ds d below in
+    let n_is = visits-more store ds es d c n h.counts_are longer visits in
+    let k_is : c.kept ≡ at_most 32 (length (kept es)) = kept-of store ds c h.counts_are ∙ ap (λ l. at_most 32 (length l)) (sym same) in
+    let s_is : c.sections ≡ at_most 32 (length (sections_of store (kept es))) = sections-of store ds c h.counts_are ∙ ap (λ l. at_most 32 (length (sections_of store l))) (sym same) in record {
+      cut_is = h.cut_is ∙ sym (ap cut_behind longer ∙ cut-cut_off ds d below);
+      counts_are = λ i. record { visits = n_is i; kept = k_is i; sections = s_is i; bytes = bytes-of store ds c h.counts_are i };
+      skips_is = h.skips_is ∙ ap (λ l. skips_in l) (sym same);
+      written_is = λ none unclosed e place at. h.written_is none unclosed e place at ∙ ap (λ l. is_told l e) (sym same);
+    }
+
+-- the number of those kept, one higher
+kept-more : (store : Blocks) (ds es : List Delivery) (d : Delivery) (c : Counts) (k : ℕ) → c ≡ counts_of store ds c.bytes → kept es ≡ kept ds ++ d ∷ [] → k ≡ at_most 32 (c.kept + 1) → k ≡ at_most 32 (length (kept es))
+kept-more store ds es d c k h longer is =
+    is ∙ count-more (2 ^ 32 - 1) (length (kept ds)) (length (kept es)) c.kept (kept-of store ds c h) (ap length longer ∙ length_push (kept ds) d)
+
+-- a test that fails adds nothing
+or-nothing : (a b : Bool) → b ≡ false → (a || b) ≡ a
+or-nothing true b h = refl
+or-nothing false b h = h
+
+-- a skip
+pub tally-skip : (store : Blocks) (ds es failed : List Delivery) (closed : List End) (d : Delivery) (cut : Option ℕ) (c : Counts) (n k : ℕ) (w : PlaceSet) (skips more : List Skip) → IsTally store ds failed closed cut c w skips → is_below (cut_behind ds) d.visit.depth ≡ false → passes d.verdict ≡ false → es ≡ ds ++ d ∷ []
+    → more ≡ skips ++ record { seq = d.visit.seq; cid = d.visit.cid; verdict = d.verdict } ∷ [] → n ≡ at_most 32 (c.visits + 1) → k ≡ at_most 32 (c.kept + 1)
+    → IsTally store es failed closed (Some d.visit.depth) (record { visits = n; kept = k; sections = c.sections; bytes = c.bytes }) w more
+tally-skip store ds es failed closed d cut c n k w skips more h uncut refused longer added visits keeps =
+    let unsound = refused_unsound d.verdict refused in
+    let left : kept es ≡ kept ds ++ d ∷ [] = ap kept longer ∙ kept-uncut ds d uncut in
+    let n_is = visits-more store ds es d c n h.counts_are longer visits in
+    let k_is = kept-more store ds es d c k h.counts_are left keeps in
+    let s_is : c.sections ≡ at_most 32 (length (sections_of store (kept es))) = sections-of store ds c h.counts_are ∙ sym (ap (λ l. at_most 32 (length (sections_of store l))) left ∙ ap (λ l. at_most 32 (length l)) (sections-unsound store (kept ds) d unsound)) in record {
+      cut_is = sym (ap cut_behind longer ∙ cut-uncut ds d false uncut refused);
+      counts_are = λ i. record { visits = n_is i; kept = k_is i; sections = s_is i; bytes = bytes-of store ds c h.counts_are i };
+      skips_is = added ∙ ap (λ l. l ++ record { seq = d.visit.seq; cid = d.visit.cid; verdict = d.verdict } ∷ []) h.skips_is ∙ sym (ap (λ l. skips_in l) left ∙ skips-refused (kept ds) d refused);
+      written_is = λ none unclosed e place at. h.written_is none unclosed e place at
+          ∙ sym (ap (λ l. is_told l e) left ∙ told-push (kept ds) d e ∙ or-nothing (is_told (kept ds) e) (is_sound d.verdict && bytes_eq d.visit.cid e) (ap (λ b. b && bytes_eq d.visit.cid e) unsound));
+    }
+
+-- a CID whose place is known isn't told anew by one of a CID that was told or has no block
+told-again : (store : Blocks) (ks : List Delivery) (d : Delivery) (c : List ℕ) (place : ℕ) → (if is_told ks d.visit.cid then None else position_of store d.visit.cid) ≡ None → position_of store c ≡ Some place → (is_told ks c || bytes_eq d.visit.cid c) ≡ is_told ks c
+told-again store ks d c place none at =
+    let by : (same told : Bool) → bytes_eq d.visit.cid c ≡ same → is_told ks d.visit.cid ≡ told → (is_told ks c || same) ≡ is_told ks c = λ same told. elim same as (λ b. bytes_eq d.visit.cid c ≡ b → is_told ks d.visit.cid ≡ told → (is_told ks c || b) ≡ is_told ks c) [
+      | false ↦ (λ _ _. or-nothing (is_told ks c) false refl)
+      | true ↦ elim told as (λ t. bytes_eq d.visit.cid c ≡ true → is_told ks d.visit.cid ≡ t → (is_told ks c || true) ≡ is_told ks c) [
+        | true ↦ (λ e t. let here : is_told ks c ≡ true = ap (λ x. is_told ks x) (sym ((bytes_eq-Decides d.visit.cid c).0 e)) ∙ t in ap (λ b. b || true) here ∙ sym here)
+        | false ↦ (λ e t. let away : position_of store d.visit.cid ≡ None = sym (ap (λ b. if b then None else position_of store d.visit.cid) t) ∙ none in
+            let here : position_of store c ≡ None = ap (λ x. position_of store x) (sym ((bytes_eq-Decides d.visit.cid c).0 e)) ∙ away in absurd cc)
+      ]
+    ] in
+    by (bytes_eq d.visit.cid c) (is_told ks d.visit.cid) refl refl
+
+-- nor by any that has no place that is due
+repeat-told : (store : Blocks) (ks : List Delivery) (d : Delivery) (c : List ℕ) (place : ℕ) → place_due store ks d ≡ None → position_of store c ≡ Some place → (is_told ks c || (is_sound d.verdict && bytes_eq d.visit.cid c)) ≡ is_told ks c
+repeat-told store ks d c place none at =
+    elim (is_sound d.verdict) as (λ s. (if s then (if is_told ks d.visit.cid then None else position_of store d.visit.cid) else None) ≡ None → (is_told ks c || (s && bytes_eq d.visit.cid c)) ≡ is_told ks c)
+    [ true ↦ (λ h. told-again store ks d c place h at) | false ↦ (λ h. or-nothing (is_told ks c) false refl) ] none
+
+-- one that passes and has no place that is due
+pub tally-repeat : (store : Blocks) (ds es failed : List Delivery) (closed : List End) (d : Delivery) (cut : Option ℕ) (c : Counts) (n k : ℕ) (w : PlaceSet) (skips : List Skip) → IsTally store ds failed closed cut c w skips → is_below (cut_behind ds) d.visit.depth ≡ false → passes d.verdict ≡ true → place_due store (kept ds) d ≡ None
+    → es ≡ ds ++ d ∷ [] → n ≡ at_most 32 (c.visits + 1) → k ≡ at_most 32 (c.kept + 1) → IsTally store es failed closed None (record { visits = n; kept = k; sections = c.sections; bytes = c.bytes }) w skips
+tally-repeat store ds es failed closed d cut c n k w skips h uncut passing none longer visits keeps =
+    let left : kept es ≡ kept ds ++ d ∷ [] = ap kept longer ∙ kept-uncut ds d uncut in
+    let n_is = visits-more store ds es d c n h.counts_are longer visits in
+    let k_is = kept-more store ds es d c k h.counts_are left keeps in
+    let s_is : c.sections ≡ at_most 32 (length (sections_of store (kept es))) = sections-of store ds c h.counts_are ∙ sym (ap (λ l. at_most 32 (length (sections_of store l))) left ∙ ap (λ l. at_most 32 (length l)) (sections-repeat store (kept ds) d none)) in record {
+      cut_is = sym (ap cut_behind longer ∙ cut-uncut ds d true uncut passing);
+      counts_are = λ i. record { visits = n_is i; kept = k_is i; sections = s_is i; bytes = bytes-of store ds c h.counts_are i };
+      skips_is = h.skips_is ∙ sym (ap (λ l. skips_in l) left ∙ skips-passing (kept ds) d passing);
+      written_is = λ fine unclosed e place at. h.written_is fine unclosed e place at
+          ∙ sym (ap (λ l. is_told l e) left ∙ told-push (kept ds) d e ∙ repeat-told store (kept ds) d e place none at);
+    }
+
+-- places rise
+place-from : (n place : ℕ) (store : Blocks) (c : List ℕ) → position_behind n store c ≡ Some place → n ≤ place
+place-from n place [] c h = cc
+place-from n place (e ∷ es) c h =
+    elim (bytes_eq e.0 c) as (λ b. (if b then Some n else position_behind (n + 1) es c) ≡ Some place → n ≤ place)
+    [ true ↦ (λ k. let same : n ≡ place = cc in omega arith) | false ↦ (λ k. let above = place-from (n + 1) place es c k in omega (arith, above)) ] h
+
+some-same : (n m : ℕ) → ◌≡◌ {A = Option ℕ} (Some n) (Some m) → n ≡ m
+some-same n m h = cc
+
+-- two CIDs at one place are one
+one-place : (n place : ℕ) (store : Blocks) (c e : List ℕ) → position_behind n store c ≡ Some place → position_behind n store e ≡ Some place → c ≡ e
+one-place n place [] c e h k = cc
+one-place n place (x ∷ xs) c e h k =
+    let by : (a b : Bool) → bytes_eq x.0 c ≡ a → bytes_eq x.0 e ≡ b → (if a then Some n else position_behind (n + 1) xs c) ≡ Some place → (if b then Some n else position_behind (n + 1) xs e) ≡ Some place → c ≡ e = λ a b. elim a as (λ v. bytes_eq x.0 c ≡ v → bytes_eq x.0 e ≡ b → (if v then Some n else position_behind (n + 1) xs c) ≡ Some place → (if b then Some n else position_behind (n + 1) xs e) ≡ Some place → c ≡ e) [
+      | true ↦ elim b as (λ v. bytes_eq x.0 c ≡ true → bytes_eq x.0 e ≡ v → Some n ≡ Some place → (if v then Some n else position_behind (n + 1) xs e) ≡ Some place → c ≡ e) [
+        | true ↦ (λ s t _ _. sym ((bytes_eq-Decides x.0 c).0 s) ∙ (bytes_eq-Decides x.0 e).0 t)
+        | false ↦ (λ _ _ p q. absurd (omega (arith, some-same n place p, place-from (n + 1) place xs e q)))
+      ]
+      | false ↦ elim b as (λ v. bytes_eq x.0 c ≡ false → bytes_eq x.0 e ≡ v → position_behind (n + 1) xs c ≡ Some place → (if v then Some n else position_behind (n + 1) xs e) ≡ Some place → c ≡ e) [
+        | true ↦ (λ _ _ p q. absurd (omega (arith, some-same n place q, place-from (n + 1) place xs c p)))
+        | false ↦ (λ _ _ p q. one-place (n + 1) place xs c e p q)
+      ]
+    ] in
+    by (bytes_eq x.0 c) (bytes_eq x.0 e) refl refl h k
+
+or-true : (b : Bool) → (b || true) ≡ true
+or-true true = refl
+or-true false = refl
+
+-- the test of a place
+at-place : (here place : ℕ) → here ≡ place → (here == place) ≡ true
+at-place here place same = grind (arith, nat_tests)
+
+apart-place : (here place : ℕ) → (here ≡ place → ⊥) → (here == place) ≡ false
+apart-place here place apart = grind (arith, nat_tests)
+
+-- which places the set has, once one is put in
+put-place : (store : Blocks) (ks : List Delivery) (w v : PlaceSet) (d c : List ℕ) (here place : ℕ) → ((n : ℕ) → contains_place v n ≡ ((here == n) || contains_place w n)) → position_of store d ≡ Some here → position_of store c ≡ Some place → contains_place w place ≡ is_told ks c → contains_place v place ≡ (is_told ks c || bytes_eq d c)
+put-place store ks w v d c here place updates at there was =
+    let by : (same : Bool) → bytes_eq d c ≡ same → ((here == place) || contains_place w place) ≡ (is_told ks c || same) = λ same. elim same as (λ b. bytes_eq d c ≡ b → ((here == place) || contains_place w place) ≡ (is_told ks c || b)) [
+      | true ↦ (λ e. let one : position_of store c ≡ Some here = ap (λ x. position_of store x) (sym ((bytes_eq-Decides d c).0 e)) ∙ at in
+          let same_place : here ≡ place = some-same here place (sym one ∙ there) in
+          ap (λ b. b || contains_place w place) (at-place here place same_place) ∙ sym (or-true (is_told ks c)))
+      | false ↦ (λ e. let apart : here ≡ place → ⊥ = λ p. false≢true (sym e ∙ (bytes_eq-Decides d c).1 (one-place 0 place store d c (at ∙ ap Some p) there)) in
+          ap (λ b. b || contains_place w place) (apart-place here place apart) ∙ was ∙ sym (or-nothing (is_told ks c) false refl))
+    ] in
+    updates place ∙ by (bytes_eq d c) refl
+
+-- a section
+pub tally-section : (store : Blocks) (ds es failed : List Delivery) (closed : List End) (d : Delivery) (cut : Option ℕ) (c : Counts) (n k s t here : ℕ) (w v : PlaceSet) (skips : List Skip) → IsTally store ds failed closed cut c w skips → is_below (cut_behind ds) d.visit.depth ≡ false
+    → place_due store (kept ds) d ≡ Some here → ((n : ℕ) → contains_place v n ≡ ((here == n) || contains_place w n)) → es ≡ ds ++ d ∷ [] → n ≡ at_most 32 (c.visits + 1) → k ≡ at_most 32 (c.kept + 1) → s ≡ at_most 32 (c.sections + 1) → t ≤ 2 ^ 64 - 1
+    → IsTally store es failed closed None (record { visits = n; kept = k; sections = s; bytes = t }) v skips
+tally-section store ds es failed closed d cut c n k s t here w v skips h uncut due updates longer visits keeps sections within =
+    let left : kept es ≡ kept ds ++ d ∷ [] = ap kept longer ∙ kept-uncut ds d uncut in
+    let found = due-told store (kept ds) d here due in
+    let passing = sound_passes d.verdict found.0 in
+    let n_is = visits-more store ds es d c n h.counts_are longer visits in
+    let k_is = kept-more store ds es d c k h.counts_are left keeps in
+    let s_is : s ≡ at_most 32 (length (sections_of store (kept es))) = sections ∙ count-more (2 ^ 32 - 1) (length (sections_of store (kept ds))) (length (sections_of store (kept es))) c.sections (sections-of store ds c h.counts_are) (ap (λ l. length (sections_of store l)) left ∙ sections-due store (kept ds) d here due) in record {
+      cut_is = sym (ap cut_behind longer ∙ cut-uncut ds d true uncut passing);
+      counts_are = λ i. record { visits = n_is i; kept = k_is i; sections = s_is i; bytes = bytes-fit t within i };
+      skips_is = h.skips_is ∙ sym (ap (λ l. skips_in l) left ∙ skips-passing (kept ds) d passing);
+      written_is = λ fine unclosed e place there.
+          put-place store (kept ds) w v d.visit.cid e here place updates found.2 there (h.written_is fine unclosed e place there)
+          ∙ sym (ap (λ l. is_told l e) left ∙ told-push (kept ds) d e ∙ ap (λ b. is_told (kept ds) e || (b && bytes_eq d.visit.cid e)) found.0);
+    }

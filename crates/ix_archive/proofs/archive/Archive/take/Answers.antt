@@ -1,0 +1,26 @@
+use Rattle.std.proofs.Common.{rules, ◌≡◌, false, sym, subst, ◌∙◌}
+use Rattle.std.specs.Prelude.{None}
+use Rattle.ix_check.specs.Verdict.{passes}
+use Rattle.ix_archive.specs.Kept.{is_below, kept}
+use Rattle.ix_archive.specs.Archiving.{IsAdded, IsDelivered, cut_behind, place_due}
+use Rattle.ix_archive.proofs.FirstSound.{due-refused, due-repeat}
+use Rattle.ix_archive.proofs.archive.Archive.take.Goals as goal
+
+pub returns-in-None : goal.returns-in-None
+returns-in-None g c =
+    let a = c.args.self.now in
+    let d = c.args.delivery in
+    let uncut : is_below (cut_behind a.deliveries) d.visit.depth ≡ false = sym c.is_cut_off.ensures ∙ c.if-is_cut_off.false in
+    let none : place_due a.store (kept a.deliveries) d ≡ None = sym c.place_due.ensures ∙ c.in-None.is in
+    subst (λ t. IsAdded g.W.Write.contents d t a c.add_without_section.new.self) (sym (due-repeat a.store a.deliveries d uncut none)) c.add_without_section.ensures
+
+pub returns-then-is_cut_off : goal.returns-then-is_cut_off
+returns-then-is_cut_off g c = search rules
+
+pub returns-then-not-passes : goal.returns-then-not-passes
+returns-then-not-passes g c =
+    let a = c.args.self.now in
+    let d = c.args.delivery in
+    let uncut : is_below (cut_behind a.deliveries) d.visit.depth ≡ false = sym c.is_cut_off.ensures ∙ c.if-is_cut_off.false in
+    let refused : passes d.verdict ≡ false = sym c.passes.ensures ∙ c.if-not-passes.true in
+    subst (λ t. IsDelivered g.W.Write.contents d t a c.add_skip.result c.add_skip.new.self) (sym (due-refused a.store a.deliveries d uncut refused)) c.add_skip.ensures

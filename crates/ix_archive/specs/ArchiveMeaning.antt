@@ -1,0 +1,55 @@
+-- An archive as contracts see it.
+use Rattle.std.specs.Prelude.{◌≡◌, ◌≢◌, ℕ, List, [], ◌∷◌, ◌++◌, length, Option, Some, map}
+use Rattle.ix_store.specs.Store.{Blocks}
+use Rattle.ix_walk.specs.JobMeaning.{JobMeaning}
+use Rattle.ix_archive.specs.declared.sink.Delivery.{Delivery}
+use Rattle.ix_archive.specs.declared.sink.End.{End}
+use Rattle.ix_archive.specs.Events.{Event, delivery, close}
+use Rattle.ix_archive.specs.Kept.{kept}
+use Rattle.ix_car.specs.Writing.{header_of}
+use Rattle.ix_archive.specs.Archive.{archive_with}
+use Rattle.ix_archive.specs.Report.{at_most}
+
+pub record ArchiveMeaning (W : Type 0) : Type 0 where
+  pub store : Blocks
+  pub roots : List (List ℕ)
+  pub deliveries : List Delivery
+  pub failed : List Delivery
+  pub closed : List End
+  -- bytes that the writer took
+  pub taken : ℕ
+  pub writer : W
+
+abbrev pub events_of : {W : Type 0} → ArchiveMeaning W → List Event
+events_of a = map delivery a.deliveries ++ map close a.closed
+
+abbrev pub IsProperPrefix : List ℕ → List ℕ → Type 0
+IsProperPrefix a b = (more : List ℕ) × (a ++ more ≡ b) × (more ≢ [])
+
+-- A writer tells its bytes: those of the archive so far, and after a failed delivery a proper part of those with it.
+abbrev pub HasWritten : Option (List ℕ) → Blocks → List (List ℕ) → List Delivery → List Delivery → Type 0
+HasWritten told store roots ds [] = told ≡ Some (archive_with store roots (kept ds))
+HasWritten told store roots ds (d ∷ more) = (bytes : List ℕ) × (told ≡ Some bytes) × IsProperPrefix bytes (archive_with store roots (kept (ds ++ d ∷ [])))
+
+-- the number of the bytes that a writer tells
+abbrev pub IsCountOf : ℕ → Option (List ℕ) → Type 0
+IsCountOf taken told = (bytes : List ℕ) → told ≡ Some bytes → taken ≡ at_most 64 (length bytes)
+
+-- An archive over this store and job has written what it should, and counted it, where its writer told at first that it had no bytes.
+pub record HasArchived {W : Type 0} (told : W → Option (List ℕ)) (a : ArchiveMeaning W) (store : Blocks) (job : JobMeaning) (first : Option (List ℕ)) : Type 0 where
+  pub same_store : a.store ≡ store
+  pub same_roots : a.roots ≡ job.roots
+  pub written : first ≡ Some [] → HasWritten (told a.writer) store job.roots a.deliveries a.failed
+  pub counted : first ≡ Some [] → IsCountOf a.taken (told a.writer)
+
+-- an archive that was told nothing so far
+pub record IsBegun {W : Type 0} (a : ArchiveMeaning W) (store : Blocks) (roots : List (List ℕ)) : Type 0 where
+  pub same_store : a.store ≡ store
+  pub same_roots : a.roots ≡ roots
+  pub no_deliveries : a.deliveries ≡ []
+  pub no_failure : a.failed ≡ []
+  pub not_closed : a.closed ≡ []
+
+-- a writer took a part of a header, and not the whole
+abbrev pub TookPartOfHeader : Option (List ℕ) → List (List ℕ) → Type 0
+TookPartOfHeader told roots = (bytes : List ℕ) × (told ≡ Some bytes) × IsProperPrefix bytes (header_of roots)

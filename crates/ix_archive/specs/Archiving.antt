@@ -1,0 +1,78 @@
+-- What an archive keeps beside its deliveries, and what one delivery does to it.
+use Rattle.std.specs.Prelude.{◌≡◌, ℕ, ◌+◌, Bool, ◌&&◌, List, [], ◌∷◌, ◌++◌, length, Option, Some, None, Result, Ok, Err, if◌then◌else◌, bytes_eq}
+use Rattle.std.specs.List.{list_any}
+use Rattle.std.specs.Io.KnownBytes.{Appends}
+use Rattle.ix_check.specs.Verdict.{passes}
+use Rattle.ix_store.specs.Store.{Blocks, position_of}
+use Rattle.ix_store.specs.declared.places.PlaceSet.{PlaceSet}
+use Rattle.ix_store.specs.PlaceSet.{contains_place}
+use Rattle.ix_archive.specs.declared.sink.Delivery.{Delivery}
+use Rattle.ix_archive.specs.declared.sink.End.{End}
+use Rattle.ix_archive.specs.declared.fault.SinkFault.{SinkFault}
+use Rattle.ix_archive.specs.declared.fault.SinkFault.TheVariants.{Write, Memory}
+use Rattle.ix_archive.specs.declared.archive.Skip.{Skip}
+use Rattle.ix_archive.specs.declared.archive.Counts.{Counts}
+use Rattle.ix_archive.specs.Kept.{is_below, cut_after, kept}
+use Rattle.ix_archive.specs.Archive.{is_sound, section_of}
+use Rattle.ix_archive.specs.ArchiveMeaning.{ArchiveMeaning, IsProperPrefix}
+use Rattle.ix_archive.specs.Report.{skips_of, at_most, counts_of}
+
+-- where deliveries are cut behind all of them
+abbrev pub cut_behind : List Delivery → Option ℕ
+cut_behind = cut_after (λ d. d.visit.depth) (λ d. passes d.verdict) None
+
+-- whether a sound delivery of this CID is among these
+abbrev pub is_told : List Delivery → List ℕ → Bool
+is_told ds c = list_any (λ d. is_sound d.verdict && bytes_eq d.visit.cid c) ds
+
+-- where the block stands of the section that a kept delivery writes behind these kept ones
+abbrev pub place_due : Blocks → List Delivery → Delivery → Option ℕ
+place_due store ks d = if is_sound d.verdict then (if is_told ks d.visit.cid then None else position_of store d.visit.cid) else None
+
+-- what a kept delivery writes behind these kept ones
+abbrev pub text_behind : Blocks → List Delivery → Delivery → List ℕ
+text_behind store ks d = if is_sound d.verdict then (if is_told ks d.visit.cid then [] else section_of store d) else []
+
+-- what a delivery writes behind these
+abbrev pub text_due : Blocks → List Delivery → Delivery → List ℕ
+text_due store ds d = if is_below (cut_behind ds) d.visit.depth then [] else text_behind store (kept ds) d
+
+-- what an archive keeps, beside these deliveries, those at which a write failed, and the close
+pub record IsTally (store : Blocks) (ds failed : List Delivery) (closed : List End) (cut : Option ℕ) (counts : Counts) (written : PlaceSet) (skips : List Skip) : Type 0 where
+  pub cut_is : cut ≡ cut_behind ds
+  pub counts_are : counts ≡ counts_of store ds counts.bytes
+  pub skips_is : skips ≡ skips_of ds
+  -- while nothing failed and nothing was closed, the place of a CID is in the set where a kept sound delivery has that CID
+  pub written_is : failed ≡ [] → closed ≡ [] → (c : List ℕ) (place : ℕ) → position_of store c ≡ Some place → contains_place written place ≡ is_told (kept ds) c
+
+-- the writer took this text, its bytes were counted, and store, roots and close are as they were
+pub record HasTaken {W : Type 0} (told : W → Option (List ℕ)) (before after : ArchiveMeaning W) (text : List ℕ) : Type 0 where
+  pub same_store : after.store ≡ before.store
+  pub same_roots : after.roots ≡ before.roots
+  pub same_close : after.closed ≡ before.closed
+  pub grown : Appends (told before.writer) (told after.writer) text
+  pub counted : after.taken ≡ at_most 64 (before.taken + length text)
+
+-- a delivery was taken, and its text written
+pub record IsAdded {W : Type 0} (told : W → Option (List ℕ)) (d : Delivery) (text : List ℕ) (before after : ArchiveMeaning W) : Type 0 where
+  pub wrote : HasTaken told before after text
+  pub deliveries : after.deliveries ≡ before.deliveries ++ d ∷ []
+  pub failed : after.failed ≡ []
+
+-- a delivery was refused, and a proper part of its text written
+pub record IsFailed {W : Type 0} (told : W → Option (List ℕ)) (d : Delivery) (text : List ℕ) (before after : ArchiveMeaning W) : Type 0 where
+  pub part : List ℕ
+  pub proper : IsProperPrefix part text
+  pub wrote : HasTaken told before after part
+  pub deliveries : after.deliveries ≡ before.deliveries
+  pub failed : after.failed ≡ d ∷ []
+
+-- a delivery was refused for this fault
+abbrev pub IsRefused : {W : Type 0} → (W → Option (List ℕ)) → Delivery → List ℕ → ArchiveMeaning W → SinkFault → ArchiveMeaning W → Type 0
+IsRefused told d text before Write after = IsFailed told d text before after
+IsRefused told d text before Memory after = after ≡ before
+
+-- what a delivery with this text does to an archive, by its answer
+abbrev pub IsDelivered : {W T : Type 0} → (W → Option (List ℕ)) → Delivery → List ℕ → ArchiveMeaning W → Result T SinkFault → ArchiveMeaning W → Type 0
+IsDelivered told d text before (Ok done) after = IsAdded told d text before after
+IsDelivered told d text before (Err fault) after = IsRefused told d text before fault after

@@ -1,0 +1,27 @@
+-- What a sink was told.
+use Rattle.std.specs.Prelude.{◌≡◌, List, [], ◌∷◌}
+use Rattle.ix_archive.specs.declared.sink.Delivery.{Delivery}
+use Rattle.ix_archive.specs.declared.sink.End.{End}
+use Rattle.ix_archive.specs.declared.fault.SinkFault.{SinkFault}
+use Rattle.ix_archive.specs.declared.fault.SinkFault.TheVariants.{Write, Memory}
+
+pub data Event : Type 0 where
+  delivery : Delivery → Event
+  close : End → Event
+
+-- nothing was closed so far
+abbrev pub IsOpen : List Event → Type 0
+IsOpen [] = Unit {0}
+IsOpen (delivery d ∷ events) = IsOpen events
+IsOpen (close end ∷ events) = ⊥
+
+-- the deliveries of events
+abbrev pub deliveries_of : List Event → List Delivery
+deliveries_of [] = []
+deliveries_of (delivery d ∷ events) = d ∷ deliveries_of events
+deliveries_of (close end ∷ events) = deliveries_of events
+
+-- the refused delivery joins the failed ones where its write failed, and none does where memory ran out
+abbrev pub IsRefusal : SinkFault → Delivery → List Delivery → Type 0
+IsRefusal Write d failed = failed ≡ d ∷ []
+IsRefusal Memory d failed = failed ≡ []

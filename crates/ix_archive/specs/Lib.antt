@@ -1,0 +1,14 @@
+pub mod Events
+pub mod Kept
+pub mod Verified
+pub mod Archive
+pub mod ArchiveMeaning
+pub mod History
+pub mod Archiving
+pub mod ArchiveNew
+pub mod Report
+pub mod Faithful
+pub mod Archived
+pub mod EndWords
+pub mod Examples
+pub mod Headline

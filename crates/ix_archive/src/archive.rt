@@ -1,0 +1,325 @@
+//! Archives (CARv1): a header with the roots of a job, and a section for each sound block at its first
+//! visit.
+
+ghost use Rattle.std.specs.Prelude.{◌≡◌, ◌+◌, true, false, None, Some, [], IfOk, IfErr};
+ghost use Rattle.ix_check.specs.Verdict.{passes};
+ghost use Rattle.ix_archive.specs.Kept.{is_below, kept};
+ghost use Rattle.ix_archive.specs.Archive.{is_sound};
+ghost use Rattle.ix_archive.specs.ArchiveMeaning.{HasArchived, IsBegun};
+ghost use Rattle.ix_archive.specs.Archiving.{cut_behind, place_due, text_due, IsAdded, IsDelivered};
+ghost use Rattle.ix_archive.specs.Report.{at_most, skips_of, counts_of};
+ghost use Rattle.ix_archive.specs.ArchiveNew.{IsNoArchive};
+
+use crate::fault::{ArchiveNew, SinkFault};
+use crate::history::History;
+use crate::sink::{Delivery, End, Sink};
+use ix_car::{header_of, set_section_head, write_section, write_text};
+use ix_check::Verdict;
+use ix_cid::Cid;
+use ix_store::{PlaceSet, Store};
+use ix_walk::{Job, Visit};
+use std::alloc::Global;
+use std::io::Write;
+use std::marker::Model;
+use std::snapshot::Snapshot;
+
+
+// How many bytes of room an archive keeps of its header at most.
+const MOST_SCRATCH: usize = 4096;
+
+/// A visit that was kept and doesn't pass.
+#[derive(Debug, Drop)]
+pub struct Skip {
+    pub seq: u32,
+    pub cid: Cid,
+    pub verdict: Verdict,
+}
+
+/// What was counted; each count stops at the greatest number.
+#[derive(Debug, Drop, Clone, Copy, PartialEq, Eq)]
+pub struct Counts {
+    /// Deliveries that were taken.
+    pub visits: u32,
+    /// Deliveries that weren't cut off.
+    pub kept: u32,
+    /// Whole sections.
+    pub sections: u32,
+    /// Bytes that the writer took, with the header.
+    pub bytes: u64,
+}
+
+/// Takes the deliveries of a job, in preorder, and writes its archive.
+///
+/// Of the deliveries, those that follow one that doesn't pass at a greater depth, up to the next at
+/// that depth or less, are cut off: nothing is written or reported of them. The others are kept. A
+/// kept delivery that doesn't pass is a skip, each time that it comes. A kept sound one whose CID has
+/// no section yet writes one: the length of CID and block together as a varint, the CID, and the
+/// block as the archive's own store has it. Where the store has none, nothing is written, and that is
+/// no section. A CID that holds its bytes itself passes and has no section, also where the store has
+/// a block under it.
+#[derive(Drop)]
+pub struct Archive<'a, W: Write> {
+    store: &'a Store,
+    // The job and what was delivered. Contracts speak of these, and nothing else does.
+    job: Snapshot<Job>,
+    deliveries: History<Delivery>,
+    failed: Option<Delivery>,
+    closed: Option<End>,
+    // The depth of the delivery below which the list is cut off.
+    cut: Option<u32>,
+    counts: Counts,
+    // Where the blocks that were written stand in the store; none any more once it is closed.
+    written: PlaceSet,
+    skips: Vec<Skip>,
+    // What stands before a section's block. Its room is kept from one section to the next.
+    scratch: Vec<u8>,
+    writer: W,
+}
+
+impl<'a, W: Write> Model for Archive<'a, W> {
+    ghost use Rattle.std.specs.Prelude.{option_to_list};
+    ghost use Rattle.ix_archive.specs.ArchiveMeaning.{ArchiveMeaning};
+    ghost use Rattle.ix_archive.specs.Archiving.{IsTally};
+
+    ghost Value = { ArchiveMeaning W };
+
+    ghost view = { λ a. record { store = a.store.now; roots = a.job.value.roots; deliveries = a.deliveries; failed = option_to_list a.failed; closed = option_to_list a.closed; taken = a.counts.bytes; writer = a.writer } };
+
+    ghost invariant = { λ a. IsTally a.store.now a.deliveries (option_to_list a.failed) (option_to_list a.closed) a.cut a.counts a.written a.skips.items };
+}
+
+impl<'a, W: Write> Archive<'a, W> {
+    /// Begins the archive of a job over a store: its header is written, the length of a DAG-CBOR map
+    /// as a varint and the map, with `roots`, a list of a link to each root, and `version` 1. Where
+    /// that fails the writer is handed back.
+    pub fn new(
+        alloc: Global,
+        store: &'a Store,
+        job: &Job,
+        mut writer: W,
+    ) -> Result<Archive<'a, W>, ArchiveNew<W>>
+        ensures begun { IfOk result (λ a. IsBegun a store.now job.now.roots) }
+        ensures fact { IfOk result (λ a. HasArchived W.contents a store.now job.now (W.contents writer)) }
+        ensures refused { IfErr result (λ e. IsNoArchive W.contents writer job.now.roots e) }
+    {
+        let Ok(header) = header_of(alloc, job.roots()) else {
+            return Err(ArchiveNew::Memory(writer));
+        };
+        let taken = write_text(&mut writer, header.as_slice());
+        if taken < header.len() {
+            return Err(ArchiveNew::Write(writer));
+        }
+        Ok(Archive {
+            store,
+            job: Snapshot::of(job),
+            deliveries: History::new(),
+            failed: None,
+            closed: None,
+            cut: None,
+            counts: Counts {
+                visits: 0,
+                kept: 0,
+                sections: 0,
+                bytes: taken as u64,
+            },
+            written: PlaceSet::new(alloc),
+            skips: Vec::new(alloc),
+            scratch: scratch_of(alloc, header),
+            writer,
+        })
+    }
+
+    /// The visits that were kept and don't pass, in order.
+    pub fn skips(&self) -> &[Skip]
+        ensures { result.now ≡ skips_of self.now.deliveries }
+    {
+        self.skips.as_slice()
+    }
+
+    /// What was counted so far.
+    pub fn counts(&self) -> Counts
+        ensures { result ≡ counts_of self.now.store self.now.deliveries self.now.taken }
+    {
+        self.counts
+    }
+
+    /// The writer, the skips and the counts.
+    pub fn into_parts(self) -> (W, Vec<Skip>, Counts)
+        ensures writer { result.0 ≡ self.entry.writer }
+        ensures skips { result.1.items ≡ skips_of self.entry.deliveries }
+        ensures counts { result.2 ≡ counts_of self.entry.store self.entry.deliveries self.entry.taken }
+    {
+        (self.writer, self.skips, self.counts)
+    }
+
+    // Takes a delivery: cut off, a skip, a section, or no more than counted.
+    fn take(&mut self, delivery: Delivery) -> Result<(), SinkFault>
+        requires unfailed { self.old.failed ≡ [] }
+        requires unclosed { self.old.closed ≡ [] }
+        ensures { IsDelivered W.contents delivery (text_due self.old.store self.old.deliveries delivery) self.old result self.new }
+    {
+        if self.is_cut_off(delivery.visit.depth) {
+            self.add_cut_off(&delivery);
+            return Ok(());
+        }
+        if !delivery.verdict.passes() {
+            return self.add_skip(delivery);
+        }
+        match self.place_due(&delivery) {
+            Some(place) => self.add_section(delivery, place),
+            None => {
+                self.add_without_section(&delivery);
+                Ok(())
+            }
+        }
+    }
+
+    // Whether a delivery at this depth is cut off.
+    fn is_cut_off(&self, depth: u32) -> bool
+        ensures { result ≡ is_below (cut_behind self.now.deliveries) depth }
+    {
+        match self.cut {
+            None => false,
+            Some(cut) => cut < depth,
+        }
+    }
+
+    // Where the block stands of the section that a kept delivery writes: none for a CID that has its
+    // section, has no block, or holds its bytes itself.
+    fn place_due(&self, delivery: &Delivery) -> Option<usize>
+        requires unfailed { self.now.failed ≡ [] }
+        requires unclosed { self.now.closed ≡ [] }
+        ensures { result ≡ place_due self.now.store (kept self.now.deliveries) delivery.now }
+    {
+        if !is_sound(delivery.verdict) {
+            return None;
+        }
+        let visit = &delivery.visit;
+        match self.store.find_near(visit.block, &visit.cid) {
+            Some(place) if !self.written.contains(place) => Some(place),
+            _ => None,
+        }
+    }
+
+    // Adds a delivery that is cut off.
+    fn add_cut_off(&mut self, delivery: &Delivery)
+        requires unfailed { self.old.failed ≡ [] }
+        requires cut_off { is_below (cut_behind self.old.deliveries) delivery.now.visit.depth ≡ true }
+        ensures { IsAdded W.contents delivery.now [] self.old self.new }
+    {
+        self.deliveries.note(delivery);
+        self.counts.visits = one_more(self.counts.visits);
+    }
+
+    // Adds a kept delivery that doesn't pass.
+    fn add_skip(&mut self, delivery: Delivery) -> Result<(), SinkFault>
+        requires unfailed { self.old.failed ≡ [] }
+        requires uncut { is_below (cut_behind self.old.deliveries) delivery.visit.depth ≡ false }
+        requires refused { passes delivery.verdict ≡ false }
+        ensures { IsDelivered W.contents delivery [] self.old result self.new }
+    {
+        if self.skips.reserve(1).is_err() {
+            return Err(SinkFault::Memory);
+        }
+        self.deliveries.note(&delivery);
+        self.cut = Some(delivery.visit.depth);
+        self.counts.visits = one_more(self.counts.visits);
+        self.counts.kept = one_more(self.counts.kept);
+        self.skips.push_reserved(Skip {
+            seq: delivery.visit.seq,
+            cid: delivery.visit.cid,
+            verdict: delivery.verdict,
+        });
+        Ok(())
+    }
+
+    // Adds a kept delivery that passes and writes no section.
+    fn add_without_section(&mut self, delivery: &Delivery)
+        requires unfailed { self.old.failed ≡ [] }
+        requires uncut { is_below (cut_behind self.old.deliveries) delivery.now.visit.depth ≡ false }
+        requires passing { passes delivery.now.verdict ≡ true }
+        requires none_due { place_due self.old.store (kept self.old.deliveries) delivery.now ≡ None }
+        ensures { IsAdded W.contents delivery.now [] self.old self.new }
+    {
+        self.deliveries.note(delivery);
+        self.cut = None;
+        self.counts.visits = one_more(self.counts.visits);
+        self.counts.kept = one_more(self.counts.kept);
+    }
+
+    // Adds a kept delivery with its section, whose block stands at this place.
+    fn add_section(&mut self, delivery: Delivery, place: usize) -> Result<(), SinkFault>
+        requires unfailed { self.old.failed ≡ [] }
+        requires uncut { is_below (cut_behind self.old.deliveries) delivery.visit.depth ≡ false }
+        requires due { place_due self.old.store (kept self.old.deliveries) delivery ≡ Some place }
+        ensures { IsDelivered W.contents delivery (text_due self.old.store self.old.deliveries delivery) self.old result self.new }
+    {
+        let store = self.store;
+        let block = store.bytes(place);
+        if set_section_head(&mut self.scratch, &delivery.visit.cid, block).is_err() {
+            return Err(SinkFault::Memory);
+        }
+        if self.written.insert(place).is_err() {
+            return Err(SinkFault::Memory);
+        }
+        let head = self.scratch.as_slice();
+        let length = head.len() + block.len();
+        let taken = write_section(&mut self.writer, head, block);
+        self.counts.bytes = self.counts.bytes.saturating_add(taken as u64);
+        if taken < length {
+            self.failed = Some(delivery);
+            return Err(SinkFault::Write);
+        }
+        self.deliveries.note(&delivery);
+        self.cut = None;
+        self.counts.visits = one_more(self.counts.visits);
+        self.counts.kept = one_more(self.counts.kept);
+        self.counts.sections = one_more(self.counts.sections);
+        Ok(())
+    }
+}
+
+impl<'a, W: Write> Sink for Archive<'a, W> {
+    ghost use Rattle.ix_archive.specs.ArchiveMeaning.{events_of, HasArchived};
+
+    ghost events = { events_of };
+
+    ghost failed = { λ a. a.failed };
+
+    ghost fact = { HasArchived W.contents };
+
+    fn deliver(&mut self, _alloc: Global, visit: Visit, verdict: Verdict) -> Result<(), SinkFault> {
+        self.take(Delivery { visit, verdict })
+    }
+
+    fn close(&mut self, end: End) {
+        self.closed = Some(end);
+        self.written.clear();
+    }
+}
+
+// The scratch of an archive whose header was written: the header's room, unless its roots made it long.
+fn scratch_of(alloc: Global, header: Vec<u8>) -> Vec<u8> {
+    if header.capacity() > MOST_SCRATCH {
+        Vec::new(alloc)
+    } else {
+        header
+    }
+}
+
+// A count with one more, which stops at the greatest number.
+fn one_more(count: u32) -> u32
+    ensures { result ≡ at_most 32 (count + 1) }
+{
+    count.saturating_add(1)
+}
+
+// Whether a block of this verdict has a section.
+fn is_sound(verdict: Verdict) -> bool
+    ensures { result ≡ is_sound verdict }
+{
+    match verdict {
+        Verdict::Sound => true,
+        _ => false,
+    }
+}

@@ -1,0 +1,28 @@
+//! Sinks and archives.
+//!
+//! An archive is the sink of one job: it writes the header at once, then each sound block that it is
+//! told of, once, and leaves out what lies below a CID that doesn't pass. What it wrote, counted and
+//! skipped is what its deliveries call for.
+//!
+//! ```rust
+//! let mut archive = Archive::new(alloc, &store, &job, Vec::new(alloc))?;
+//! let mut check = ShaCheck::new(alloc);
+//! for item in Walk::new(alloc, &store, &job, 0)? {
+//!     let visit = item?;
+//!     let verdict = check.check(alloc, &store, &visit)?;
+//!     archive.deliver(alloc, visit, verdict)?;
+//! }
+//! archive.close(End::Done);
+//! let (bytes, skips, counts) = archive.into_parts();
+//! ```
+#![tactic(auto)]
+
+mod archive;
+mod fault;
+mod history;
+pub mod law;
+mod sink;
+
+pub use archive::{Archive, Counts, Skip};
+pub use fault::{ArchiveNew, SinkFault};
+pub use sink::{Delivery, End, Sink};

@@ -1,0 +1,9 @@
+pub mod Stores
+pub mod Indexes
+pub mod Found
+pub mod Seen
+pub mod Gathered
+pub mod Ends
+pub mod Blocks
+pub mod Marking
+pub mod Bits

@@ -1,0 +1,207 @@
+-- A store with one pair more, and where its pairs stand.
+use Rattle.std.proofs.Common.{◌≡◌, ℕ, zero, suc, ◌+◌, Bool, true, false, ◌||◌, cond, List, [], ◌∷◌, ◌++◌, length, take, drop, ◌<◌, map, get_or, slice_get, option_map, Some, None, bytes_eq, refl, sym, ap, subst, ◌∙◌, zero-add, arith, inl, inr, ⊎_elim}
+use Rattle.std.specs.Prelude.{Result, Ok, Err, OnOk}
+use Rattle.std.specs.Result.{is_err}
+use Rattle.std.specs.Option.{is_some}
+use Rattle.std.proofs.lemmas.Bool.{false≢true, cases_Bool, false_from_ne_true}
+use Rattle.std.proofs.lemmas.Slice.Eq.{bytes_eq-Decides}
+use Rattle.std.proofs.lemmas.List.{length-map, map-append, take_more, drop_more, take-append-drop}
+use Rattle.std.proofs.lemmas.Option.{none-some, same_Some, get_or_from_slice_get, slice_get-map, slice_get-get_or, slice_get_read}
+use Rattle.std.proofs.Math.Bool.{or-true}
+use Rattle.ix_store.specs.Entry.{content}
+use Rattle.ix_store.proofs.Blocks.{some_behind, place_within, block_at}
+use Rattle.ix_store.specs.declared.entry.Entry.{Entry}
+use Rattle.ix_store.specs.Store.{Blocks, has_cid, with_block, HasDistinctCids, block_of, position_behind, position_of}
+
+-- of two tests that fail together the first fails
+or-left : (x y : Bool) → (x || y) ≡ false → x ≡ false
+or-left false y h = refl
+or-left true y h = h
+
+-- and the second
+or-right : (x y : Bool) → (x || y) ≡ false → y ≡ false
+or-right false y h = h
+or-right true y h = absurd (false≢true (sym h))
+
+-- bytes that differ from others, which are equal to third ones, differ from these
+bytes-apart : (a b c : List ℕ) → bytes_eq a b ≡ false → bytes_eq a c ≡ true → bytes_eq b c ≡ false
+bytes-apart a b c apart same =
+    false_from_ne_true (bytes_eq b c) (λ h. false≢true (sym apart ∙ (bytes_eq-Decides a b).1 ((bytes_eq-Decides a c).0 same ∙ sym ((bytes_eq-Decides b c).0 h))))
+
+-- that bytes differ holds both ways
+bytes-apart-back : (a b : List ℕ) → bytes_eq a b ≡ false → bytes_eq b a ≡ false
+bytes-apart-back a b apart =
+    false_from_ne_true (bytes_eq b a) (λ h. false≢true (sym apart ∙ (bytes_eq-Decides a b).1 (sym ((bytes_eq-Decides b a).0 h))))
+
+-- a CID has a place where the pairs have it
+pub is_some-position : (n : ℕ) (es : Blocks) (c : List ℕ) → is_some (position_behind n es c) ≡ has_cid es c
+is_some-position n [] c = refl
+is_some-position n (e ∷ es) c =
+    elim (bytes_eq e.0 c) as (λ b. is_some (cond b (Some n) (position_behind (n + 1) es c)) ≡ (b || has_cid es c)) [
+      | true ↦ refl
+      | false ↦ is_some-position (n + 1) es c
+    ]
+
+-- which CIDs one pair more has
+has_cid-push : (es : Blocks) (k b c : List ℕ) → has_cid es c ≡ false → bytes_eq k c ≡ false → has_cid (es ++ (k, b) ∷ []) c ≡ false
+has_cid-push [] k b c h apart = ap (λ x. x || false) apart
+has_cid-push (e ∷ es) k b c h apart =
+    ap (λ x. x || has_cid (es ++ (k, b) ∷ []) c) (or-left (bytes_eq e.0 c) (has_cid es c) h)
+    ∙ has_cid-push es k b c (or-right (bytes_eq e.0 c) (has_cid es c) h) apart
+
+-- a new CID keeps them distinct
+pub distinct-push : (es : Blocks) (k b : List ℕ) → HasDistinctCids es → has_cid es k ≡ false → HasDistinctCids (es ++ (k, b) ∷ [])
+distinct-push [] k b h new = (refl, tt)
+distinct-push (e ∷ es) k b h new =
+    (has_cid-push es k b e.0 h.0 (bytes-apart-back e.0 k (or-left (bytes_eq e.0 k) (has_cid es k) new)), distinct-push es k b h.1 (or-right (bytes_eq e.0 k) (has_cid es k) new))
+
+-- where the pairs stand once a new CID is at the end
+pub position-push : (n : ℕ) (es : Blocks) (k b c : List ℕ) → has_cid es k ≡ false → cond (bytes_eq k c) (Some (n + length es)) (position_behind n es c) ≡ position_behind n (es ++ (k, b) ∷ []) c
+position-push n [] k b c new = ap (λ m. cond (bytes_eq k c) (Some m) None) (omega arith)
+position-push n (e ∷ es) k b c new =
+    elim (cases_Bool (bytes_eq e.0 c)) [
+      | inl same ↦
+          let apart = bytes-apart e.0 k c (or-left (bytes_eq e.0 k) (has_cid es k) new) same in
+          ap (λ x. cond x (Some (n + length (e ∷ es))) (position_behind n (e ∷ es) c)) apart
+          ∙ ap (λ x. cond x (Some n) (position_behind (n + 1) es c)) same
+          ∙ sym (ap (λ x. cond x (Some n) (position_behind (n + 1) (es ++ (k, b) ∷ []) c)) same)
+      | inr other ↦
+          let later : n + length (e ∷ es) ≡ (n + 1) + length es = omega arith in
+          ap (λ m. cond (bytes_eq k c) (Some m) (position_behind n (e ∷ es) c)) later
+          ∙ ap (λ x. cond (bytes_eq k c) (Some ((n + 1) + length es)) (cond x (Some n) (position_behind (n + 1) es c))) other
+          ∙ position-push (n + 1) es k b c (or-right (bytes_eq e.0 k) (has_cid es k) new)
+          ∙ sym (ap (λ x. cond x (Some n) (position_behind (n + 1) (es ++ (k, b) ∷ []) c)) other)
+    ]
+
+-- the pairs have the CID of each of them
+has_cid-at : (i : ℕ) (es : Blocks) (e : List ℕ × List ℕ) (c : List ℕ) → slice_get es i ≡ Some e → bytes_eq e.0 c ≡ true → has_cid es c ≡ true
+has_cid-at i [] e c at same = absurd (none-some e at)
+has_cid-at zero (x ∷ es) e c at same = ap (λ y. y || has_cid es c) (ap (λ (p : List ℕ × List ℕ). bytes_eq p.0 c) (get_or_from_slice_get (x ∷ es) 0 e e at) ∙ same)
+has_cid-at (suc i) (x ∷ es) e c at same = ap (λ y. bytes_eq x.0 c || y) (has_cid-at i es e c at same) ∙ or-true (bytes_eq x.0 c)
+
+-- a pair of distinct CIDs stands where its CID does
+pub position-at : (n i : ℕ) (es : Blocks) (e : List ℕ × List ℕ) (c : List ℕ) → HasDistinctCids es → slice_get es i ≡ Some e → bytes_eq e.0 c ≡ true → position_behind n es c ≡ Some (n + i)
+position-at n i [] e c h at same = absurd (none-some e at)
+position-at n zero (x ∷ es) e c h at same =
+    let first : bytes_eq x.0 c ≡ true = ap (λ (p : List ℕ × List ℕ). bytes_eq p.0 c) (get_or_from_slice_get (x ∷ es) 0 e e at) ∙ same in
+    ap (λ y. cond y (Some n) (position_behind (n + 1) es c)) first ∙ ap Some (omega arith)
+position-at n (suc i) (x ∷ es) e c h at same =
+    let apart : bytes_eq x.0 c ≡ false = false_from_ne_true (bytes_eq x.0 c) (λ first. false≢true (sym h.0 ∙ has_cid-at i es e x.0 at ((bytes_eq-Decides e.0 x.0).1 ((bytes_eq-Decides e.0 c).0 same ∙ sym ((bytes_eq-Decides x.0 c).0 first))))) in
+    ap (λ y. cond y (Some n) (position_behind (n + 1) es c)) apart ∙ position-at (n + 1) i es e c h.1 at same ∙ ap Some (omega arith)
+
+-- an entry as a pair
+abbrev pub pair : Entry → List ℕ × List ℕ
+pair e = (e.cid, content e.block)
+
+-- the pairs of entries with one entry more
+pub pairs-push : (xs ys : List Entry) (e : Entry) → ys ≡ xs ++ e ∷ [] → map pair ys ≡ map pair xs ++ (e.cid, content e.block) ∷ []
+pairs-push xs ys e is = ap (λ (l : List Entry). map pair l) is ∙ map-append pair xs (e ∷ [])
+
+-- the block of a pair
+abbrev pub block : List ℕ × List ℕ → List ℕ
+block p = p.1
+
+-- the pair of the entry at a place
+pub pair-at : (entries : List Entry) (now : Blocks) (place : ℕ) (e : Entry) → map pair entries ≡ now → place < length now → e ≡ get_or entries place e → slice_get now place ≡ Some (e.cid, content e.block)
+pair-at entries now place e is within at =
+    let lt : place < length entries = omega (arith, ap length is, length-map entries pair) in
+    ap (λ (l : Blocks). slice_get l place) (sym is)
+    ∙ slice_get-map pair entries place
+    ∙ ap (λ o. option_map pair o) (slice_get_read entries (length entries) place e refl lt at)
+
+-- and what is asked of it
+pub asked-at : {X : Type 0} (f : List ℕ × List ℕ → X) (entries : List Entry) (now : Blocks) (place : ℕ) (e : Entry) (r : X) → map pair entries ≡ now → place < length now → e ≡ get_or entries place e → r ≡ f (e.cid, content e.block) → slice_get (map f now) place ≡ Some r
+asked-at f entries now place e r is within at same = slice_get-map f now place ∙ ap (λ o. option_map f o) (pair-at entries now place e is within at) ∙ ap Some (sym same)
+
+-- the block of the entry at a place
+pub block-at : (entries : List Entry) (now : Blocks) (place : ℕ) (e : Entry) (r : List ℕ) → map pair entries ≡ now → place < length now → e ≡ get_or entries place e → r ≡ content e.block → slice_get (map block now) place ≡ Some r
+block-at entries now place e r is within at same =
+    let lt : place < length entries = omega (arith, ap length is, length-map entries pair) in
+    let found : slice_get (map pair entries) place ≡ Some (pair e) = slice_get-map pair entries place ∙ ap (λ o. option_map pair o) (slice_get_read entries (length entries) place e refl lt at) in
+    ap (λ (l : Blocks). slice_get (map block l) place) (sym is)
+    ∙ slice_get-map block (map pair entries) place
+    ∙ ap (λ o. option_map block o) found
+    ∙ ap Some (sym same)
+
+-- the place of the CID of the entry there
+pub position-there : (entries : List Entry) (now : Blocks) (place : ℕ) (e : Entry) (c : List ℕ) → HasDistinctCids (map pair entries) → map pair entries ≡ now → slice_get entries place ≡ Some e → bytes_eq e.cid c ≡ true → position_of now c ≡ Some place
+position-there entries now place e c h is at same =
+    ap (λ (l : Blocks). position_of l c) (sym is)
+    ∙ position-at 0 place (map pair entries) (pair e) c h (slice_get-map pair entries place ∙ ap (λ o. option_map pair o) at) same
+    ∙ ap Some (zero-add place)
+
+-- the pair at the place of a CID has this CID
+pub cid-at : (n i : ℕ) (es : Blocks) (e : List ℕ × List ℕ) (c : List ℕ) → slice_get es i ≡ Some e → position_behind n es c ≡ Some (n + i) → bytes_eq e.0 c ≡ true
+cid-at n i [] e c at is = absurd (none-some e at)
+cid-at n zero (x ∷ es) e c at is =
+    let there : bytes_eq x.0 c ≡ bytes_eq e.0 c = ap (λ (p : List ℕ × List ℕ). bytes_eq p.0 c) (get_or_from_slice_get (x ∷ es) 0 e e at) in
+    ⊎_elim (λ same. sym there ∙ same) (λ other.
+    let later : Some (n + 0) ≡ position_behind (n + 1) es c = sym is ∙ ap (λ b. cond b (Some n) (position_behind (n + 1) es c)) other in
+    absurd (omega (arith, (some_behind (n + 1) (n + 0) es c later).0))) (cases_Bool (bytes_eq x.0 c))
+cid-at n (suc i) (x ∷ es) e c at is =
+    ⊎_elim (λ same.
+    let first : Some n ≡ Some (n + suc i) = sym (ap (λ b. cond b (Some n) (position_behind (n + 1) es c)) same) ∙ is in
+    let here : n ≡ n + suc i = cc in
+    absurd (omega arith)) (λ other.
+    let on : n + suc i ≡ (n + 1) + i = omega arith in
+    cid-at (n + 1) i es e c at (sym (ap (λ b. cond b (Some n) (position_behind (n + 1) es c)) other) ∙ is ∙ ap Some on)) (cases_Bool (bytes_eq x.0 c))
+
+-- the CID of the entry at the place of a CID
+pub same-there : (entries : List Entry) (place : ℕ) (e : Entry) (c : List ℕ) → slice_get entries place ≡ Some e → position_of (map pair entries) c ≡ Some place → bytes_eq e.cid c ≡ true
+same-there entries place e c at is = cid-at 0 place (map pair entries) (pair e) c (slice_get-map pair entries place ∙ ap (λ o. option_map pair o) at) (is ∙ ap Some (sym (zero-add place)))
+
+-- the pair at the place of a CID: this CID, and its block
+pub pair-there : (store : Blocks) (place : ℕ) (c : List ℕ) → Some place ≡ position_of store c → (b : List ℕ) × (slice_get store place ≡ Some (c, b)) × (block_of store c ≡ Some b)
+pair-there store place c e =
+    let p : List ℕ × List ℕ = get_or store place ([], []) in
+    let at : slice_get store place ≡ Some p = slice_get-get_or store place ([], []) (place_within place store c e) in
+    let same : p.0 ≡ c = (bytes_eq-Decides p.0 c).0 (cid-at 0 place store p c at (sym e ∙ ap Some (sym (zero-add place)))) in
+    (p.1, at ∙ ap (λ (k : List ℕ). Some (k, p.1)) same, block_at place store c p.1 e (slice_get-map block store place ∙ ap (λ o. option_map block o) at))
+
+-- what is asked of it
+pub asked-there : {X : Type 0} (f : List ℕ × List ℕ → X) (store : Blocks) (place : ℕ) (c : List ℕ) (r : X) → Some place ≡ position_of store c → slice_get (map f store) place ≡ Some r
+    → (b : List ℕ) × (block_of store c ≡ Some b) × (r ≡ f (c, b))
+asked-there f store place c r e asked =
+    let found = pair-there store place c e in
+    (found.0, found.2, same_Some r (f (c, found.0)) (sym asked ∙ slice_get-map f store place ∙ ap (λ o. option_map f o) found.1))
+
+-- a CID in the midst differs from the others
+has_cid-midst : (xs ys : Blocks) (k b c : List ℕ) → has_cid (xs ++ (k, b) ∷ ys) c ≡ false → bytes_eq k c ≡ false
+has_cid-midst [] ys k b c h = or-left (bytes_eq k c) (has_cid ys c) h
+has_cid-midst (x ∷ xs) ys k b c h = has_cid-midst xs ys k b c (or-right (bytes_eq x.0 c) (has_cid (xs ++ (k, b) ∷ ys) c) h)
+
+-- of distinct CIDs none stands before its place
+pub has_cid-before : (xs ys : Blocks) (k b : List ℕ) → HasDistinctCids (xs ++ (k, b) ∷ ys) → has_cid xs k ≡ false
+has_cid-before [] ys k b h = refl
+has_cid-before (x ∷ xs) ys k b h =
+    ap (λ v. v || has_cid xs k) (bytes-apart-back k x.0 (has_cid-midst xs ys k b x.0 h.0)) ∙ has_cid-before xs ys k b h.1
+
+-- entries up to one, and this one
+pub entries-more : (entries : List Entry) (place : ℕ) (e : Entry) → place < length entries → e ≡ get_or entries place e → map pair (take (place + 1) entries) ≡ map pair (take place entries) ++ (e.cid, content e.block) ∷ []
+entries-more entries place e within at = ap (λ (l : List Entry). map pair l) (take_more entries place e within ∙ ap (λ (x : Entry). take place entries ++ x ∷ []) (sym at)) ∙ map-append pair (take place entries) (e ∷ [])
+
+-- entries with distinct CIDs don't have that of one before it
+pub entries-before : (entries : List Entry) (place : ℕ) (e : Entry) → place < length entries → e ≡ get_or entries place e → HasDistinctCids (map pair entries) → has_cid (map pair (take place entries)) e.cid ≡ false
+entries-before entries place e within at h =
+    let parts : entries ≡ take place entries ++ e ∷ drop (place + 1) entries =
+    sym (take-append-drop place entries) ∙ ap (λ (l : List Entry). take place entries ++ l) (drop_more entries place e within ∙ ap (λ (x : Entry). x ∷ drop (place + 1) entries) (sym at)) in
+    has_cid-before (map pair (take place entries)) (map pair (drop (place + 1) entries)) e.cid (content e.block)
+    (subst (λ (l : Blocks). HasDistinctCids l) (ap (λ (l : List Entry). map pair l) parts ∙ map-append pair (take place entries) (e ∷ drop (place + 1) entries)) h)
+
+-- a CID that isn't there has no place
+pub position-none : (n : ℕ) (es : Blocks) (c : List ℕ) → has_cid es c ≡ false → position_behind n es c ≡ None
+position-none n [] c h = refl
+position-none n (e ∷ es) c h =
+    ap (λ v. cond v (Some n) (position_behind (n + 1) es c)) (or-left (bytes_eq e.0 c) (has_cid es c) h) ∙ position-none (n + 1) es c (or-right (bytes_eq e.0 c) (has_cid es c) h)
+
+-- where it isn't, the pair of one entry more is
+pub with-new : (entries kept later : List Entry) (now : Blocks) (e : Entry) → map pair entries ≡ now → kept ≡ entries → later ≡ kept ++ e ∷ [] → has_cid now e.cid ≡ false → map pair later ≡ with_block now (e.cid, content e.block)
+with-new entries kept later now e is same longer h =
+    pairs-push entries later e (longer ∙ ap (λ (l : List Entry). l ++ e ∷ []) same)
+    ∙ ap (λ (l : Blocks). l ++ (e.cid, content e.block) ∷ []) is
+    ∙ ap (λ v. cond v now (now ++ (e.cid, content e.block) ∷ [])) (sym h)
+
+-- what holds on Ok holds where there is no Err
+pub holds-at_ok : {T E P : Type 0} (r : Result T E) → OnOk r P → is_err r ≡ false → P
+holds-at_ok (Ok x) h fine = h
+holds-at_ok (Err e) h fine = absurd (false≢true (sym fine))

@@ -1,0 +1,11 @@
+use Rattle.std.proofs.Common.{◌≡◌, map, take, All}
+use Rattle.ix_store.specs.Entry.{content}
+use Rattle.ix_store.specs.Index.{HasAllOf, IsTrueBehind, IsBehind}
+use Rattle.ix_store.proofs.index.Index.put_each_behind.Given as goal
+
+abbrev pub invariant-loop-place : goal.invariant-loop-place
+invariant-loop-place l =
+    (l.self.slots ≡ l.fn.self.slots)
+    × HasAllOf l.self l.fn.self
+    × (IsTrueBehind l.fn.self (map (λ e. (e.cid, content e.block)) l.entries) → IsTrueBehind l.self (map (λ e. (e.cid, content e.block)) l.entries))
+    × All (λ p. IsBehind l.self (map (λ e. (e.cid, content e.block)) l.entries) p) (take l.place-index l.places)

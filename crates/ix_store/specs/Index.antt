@@ -1,0 +1,143 @@
+-- What the index of a store says: a table of slots, and a tree behind it.
+use Rattle.std.specs.Prelude.{◌≡◌, ◌⊎◌, ℕ, zero, suc, ◌+◌, ◌-◌, ◌*◌, ◌/◌, ◌^◌, ◌<◌, ◌≤◌, List, [], ◌∷◌, length, take, drop, Contains, nat_lt, if◌then◌else◌, Bool, true, false, ◌&&◌, ◌==◌, bytes_eq, slice_get, slice_index_or, Option, Some, None, Result, IfOk, IfSome}
+use Rattle.std.specs.Global.{Vec}
+use Rattle.std.specs.declared.alloc.AllocError.{AllocError}
+use Rattle.std.specs.BTreeMap.{get}
+use Rattle.std.specs.Cmp.Lexicographic.{slice_cmp}
+use Rattle.std.specs.Ordering.{nat_cmp}
+use Rattle.std.specs.Int.{w64, from_le_bytes}
+use Rattle.std.specs.Int.Bits.{bit_and}
+use Rattle.ix_store.specs.Store.{Blocks, HasDistinctCids, position_of}
+use Rattle.ix_store.specs.declared.index.Slot.{Slot}
+use Rattle.ix_store.specs.declared.index.Seat.{Seat}
+use Rattle.ix_store.specs.declared.index.Seat.TheVariants.{Held, Open, Behind}
+use Rattle.ix_store.specs.declared.index.Sight.{Sight}
+use Rattle.ix_store.specs.declared.index.Sight.TheVariants.{At, Free, Full}
+use Rattle.ix_store.specs.declared.index.Index.{Index}
+
+-- the number of a CID: its last eight bytes, the first the lowest; 0 for a shorter one
+abbrev pub tail_of : List ℕ → ℕ
+tail_of c = if nat_lt (length c) 8 then 0 else from_le_bytes w64 (drop (length c - 8) c)
+
+-- the mark of a number: its upper half
+abbrev pub mark_of : ℕ → ℕ
+mark_of tail = tail / 2 ^ 32
+
+-- the slot at which the look-up of a number begins: its bits, masked by the last slot at which one may
+abbrev pub first_of : List Slot → ℕ → ℕ
+first_of slots tail = bit_and tail (length slots - 8)
+
+-- the slots through which the look-up of a number goes
+abbrev pub window_of : List Slot → ℕ → List Slot
+window_of slots tail = if nat_lt (length slots) 8 then [] else take 8 (drop (first_of slots tail) slots)
+
+abbrev pub IsFree : Slot → Type 0
+IsFree slot = slot.end ≡ 0
+
+abbrev pub IsTaken : Slot → Type 0
+IsTaken slot = 0 < slot.end
+
+-- a slot has this mark and this place
+abbrev pub Has : Slot → ℕ → ℕ → Type 0
+Has slot mark place = (slot.mark ≡ mark) × (slot.end ≡ place + 1)
+
+-- what a slot answers for its place
+abbrev pub HasPlace : Slot → Option ℕ → Type 0
+HasPlace slot (Some place) = slot.end ≡ place + 1
+HasPlace slot None = IsFree slot
+
+-- no slot can have this place
+abbrev pub IsLarge : ℕ → Type 0
+IsLarge place = 2 ^ 32 - 1 ≤ place
+
+-- A look-up of a mark through these slots, up to the first free one, and then in the tree, comes to this place.
+abbrev pub Leads : List Slot → Option ℕ → ℕ → ℕ → Type 0
+Leads [] behind mark place = behind ≡ Some place
+Leads (slot ∷ slots) behind mark place = IsTaken slot × (Has slot mark place ⊎ Leads slots behind mark place)
+
+-- the look-up of a number comes to this place, or no slot can have it and the tree has
+abbrev pub Comes : List Slot → Option ℕ → ℕ → ℕ → Type 0
+Comes slots behind tail place = (IsLarge place × (behind ≡ Some place)) ⊎ Leads (window_of slots tail) behind (mark_of tail) place
+
+-- none of the slots is free
+abbrev pub AreTaken : List Slot → Type 0
+AreTaken [] = Unit {0}
+AreTaken (slot ∷ slots) = IsTaken slot × AreTaken slots
+
+-- the first free slot is the one at n
+abbrev pub IsFirstFree : List Slot → ℕ → Type 0
+IsFirstFree [] n = ⊥
+IsFirstFree (slot ∷ slots) zero = IsFree slot
+IsFirstFree (slot ∷ slots) (suc n) = IsTaken slot × IsFirstFree slots n
+
+-- the place that the tree has for a CID
+abbrev pub place_behind : Index → List ℕ → Option ℕ
+place_behind index c = get (slice_cmp nat_cmp) index.behind c
+
+-- a look-up through these slots, and behind them in the tree of the index, comes to the place of each CID
+abbrev pub AreLedTo : List Slot → Index → Blocks → Type 0
+AreLedTo slots index blocks = (c : List ℕ) (place : ℕ) → position_of blocks c ≡ Some place → Comes slots (place_behind index c) (tail_of c) place
+
+-- an index of pairs with distinct CIDs: the look-up of each comes to its place, and the tree has no wrong one
+pub record IsIndexed (index : Index) (blocks : Blocks) : Type 0 where
+  pub distinct : HasDistinctCids blocks
+  pub leads : AreLedTo index.slots.items index blocks
+  pub true_behind : (c : List ℕ) (place : ℕ) → place_behind index c ≡ Some place → position_of blocks c ≡ Some place
+
+-- a slot is the first free one of the look-up of a number
+abbrev pub IsFreeSlot : List Slot → ℕ → ℕ → Type 0
+IsFreeSlot slots tail slot = (n : ℕ) × (slot ≡ first_of slots tail + n) × IsFirstFree (window_of slots tail) n
+
+-- the place of a number goes to the tree
+abbrev pub GoesBehind : List Slot → ℕ → ℕ → Type 0
+GoesBehind slots tail place = IsLarge place ⊎ AreTaken (window_of slots tail)
+
+-- what a search for a slot for it answers
+abbrev pub FindsFree : List Slot → ℕ → ℕ → Option ℕ → Type 0
+FindsFree slots tail place (Some slot) = (place < 2 ^ 32 - 1) × IsFreeSlot slots tail slot
+FindsFree slots tail place None = GoesBehind slots tail place
+
+-- where the table has a CID, or where the place behind the blocks goes; where that is the tree, the tree has what is there
+abbrev pub IsSeat : Index → Blocks → List ℕ → Seat → Type 0
+IsSeat index blocks c (Held place) = position_of blocks c ≡ Some place
+IsSeat index blocks c (Open slot) = (position_of blocks c ≡ None) × FindsFree index.slots.items (tail_of c) (length blocks) (Some slot)
+IsSeat index blocks c Behind = GoesBehind index.slots.items (tail_of c) (length blocks) × ((place : ℕ) → position_of blocks c ≡ Some place → place_behind index c ≡ Some place)
+
+-- a pair, if there is one, has this CID
+abbrev pub is_cid_of : Option (List ℕ × List ℕ) → List ℕ → Bool
+is_cid_of None c = false
+is_cid_of (Some e) c = bytes_eq e.0 c
+
+-- the pair at a place has this CID
+abbrev pub is_cid_at : Blocks → ℕ → List ℕ → Bool
+is_cid_at blocks place c = is_cid_of (slice_get blocks place) c
+
+-- what a look-up of a CID and its mark sees in these slots: the first place in them whose pair has the CID, if no free slot is before it
+abbrev pub sight_of : Blocks → List Slot → ℕ → List ℕ → Sight
+sight_of blocks [] mark c = Full
+sight_of blocks (slot ∷ slots) mark c =
+    if slot.end == 0 then Free else (if slot.mark == mark && is_cid_at blocks (slot.end - 1) c then At (slot.end - 1) else sight_of blocks slots mark c)
+
+-- what the look-up of a CID sees in the slots of a table
+abbrev pub sight_in : List Slot → Blocks → List ℕ → Sight
+sight_in slots blocks c = sight_of blocks (window_of slots (tail_of c)) (mark_of (tail_of c)) c
+
+-- the look-up of each pair from one place up to another comes to its place, or finds no slot free, and these have its place
+abbrev pub AreSeen : List Slot → Blocks → ℕ → ℕ → List ℕ → Type 0
+AreSeen slots blocks from to places = (k : ℕ) (e : List ℕ × List ℕ) → from ≤ k → k < to → slice_get blocks k ≡ Some e → (sight_in slots blocks e.0 ≡ At k) ⊎ ((sight_in slots blocks e.0 ≡ Full) × Contains places k)
+
+-- what the tree has for a CID is a place at which it stands
+abbrev pub IsTrueBehind : Index → Blocks → Type 0
+IsTrueBehind index blocks = (c : List ℕ) (p : ℕ) → place_behind index c ≡ Some p → is_cid_at blocks p c ≡ true
+
+-- the tree has the place of the pair there
+abbrev pub IsBehind : Index → Blocks → ℕ → Type 0
+IsBehind index blocks p = (e : List ℕ × List ℕ) → slice_get blocks p ≡ Some e → place_behind index e.0 ≡ Some p
+
+-- the tree of an index has whatever that of another has
+abbrev pub HasAllOf : Index → Index → Type 0
+HasAllOf later index = (c : List ℕ) (p : ℕ) → place_behind index c ≡ Some p → place_behind later c ≡ Some p
+
+-- what was seen of the shares of the pairs, each of so many
+abbrev pub AllSeen : List Slot → Blocks → ℕ → List (Result (Option (Vec ℕ)) AllocError) → Type 0
+AllSeen slots blocks share shares = (n : ℕ) (d : Result (Option (Vec ℕ)) AllocError) → n < length shares → IfOk (slice_index_or shares n d) (λ found. IfSome found (λ places. AreSeen slots blocks (n * share) (n * share + share) places.items))

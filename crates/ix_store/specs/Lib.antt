@@ -1,0 +1,11 @@
+pub use Rattle.ix_cid.specs.Cid
+pub use Rattle.ix_cbor.specs.Data
+pub use Rattle.ix_cbor.specs.DataCode
+pub use Rattle.ix_cbor.specs.Spelling
+pub use Rattle.ix_cbor.specs.Reading
+pub mod Store
+pub mod Entry
+pub mod Index
+pub mod Mark
+pub mod PlaceSet
+pub mod Ahead

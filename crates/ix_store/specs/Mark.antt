@@ -1,0 +1,41 @@
+-- What is asked of a pair of a CID and a block, and what a mark tells of it.
+use Rattle.std.specs.Prelude.{◌≡◌, ◌⊎◌, ℕ, ◌/◌, ◌%◌, Bool, false, cond, List, Option, Some, None, slice_get, slice_index, bytes_eq, is_none}
+use Rattle.sha2.specs.Sha256.{sha256}
+use Rattle.sha2.specs.Sha512.{sha512}
+use Rattle.ix_cid.specs.Cid.{parts_of, digest_of, hash_function_of}
+use Rattle.ix_cid.specs.declared.hash_function.HashFunction.{HashFunction}
+use Rattle.ix_cid.specs.declared.hash_function.HashFunction.TheVariants.{Identity, Sha2_256, Sha2_512}
+use Rattle.ix_cbor.specs.Reading.{data_at}
+use Rattle.ix_store.specs.Store.{Blocks}
+
+-- a digest is that of a block by this hash function, if it is known
+abbrev pub agrees_by : Option HashFunction → List ℕ → List ℕ → Bool
+agrees_by None digest block = false
+agrees_by (Some Identity) digest block = bytes_eq block digest
+agrees_by (Some Sha2_256) digest block = bytes_eq (sha256 block) digest
+agrees_by (Some Sha2_512) digest block = bytes_eq (sha512 block) digest
+
+-- the digest of a CID is that of the block that stands with it
+abbrev pub agrees : List ℕ × List ℕ → Bool
+agrees p = agrees_by (hash_function_of (parts_of p.0)) (digest_of p.0) p.1
+
+-- a block spells no data
+abbrev pub is_faulty : List ℕ × List ℕ → Bool
+is_faulty p = is_none (data_at p.1)
+
+-- a digit of a mark: 0 tells nothing, 1 tells yes, 2 tells no
+abbrev pub Tells : ℕ → Bool → Type 0
+Tells digit answer = (digit ≡ 0) ⊎ (digit ≡ cond answer 1 2)
+
+-- to the base 4, the low digit tells whether the digest agrees, the high one whether the block is faulty
+pub record IsTrueMark (mark : ℕ) (p : List ℕ × List ℕ) : Type 0 where
+  pub agrees_told : Tells (mark % 4) (agrees p)
+  pub is_faulty_told : Tells (mark / 4) (is_faulty p)
+
+-- the mark of the block at a place is true, if there is one
+abbrev pub IsTrueAt : Blocks → ℕ → ℕ → Type 0
+IsTrueAt pairs place mark = (p : List ℕ × List ℕ) → slice_get pairs place ≡ Some p → IsTrueMark mark p
+
+-- every mark is true of the block at its place
+abbrev pub AllTrue : Blocks → List ℕ → Type 0
+AllTrue pairs words = (place : ℕ) → IsTrueAt pairs place (slice_index words place)

@@ -1,0 +1,166 @@
+//! A store in the making.
+
+ghost use Rattle.std.specs.Prelude.{◌≡◌, ◌≤◌, [], length, map, take, drop, OnOk, OnErr, IfOk};
+ghost use Rattle.std.specs.Arc.{arc_value};
+ghost use Rattle.ix_store.specs.Entry.{content};
+ghost use Rattle.ix_store.specs.Index.{IsIndexed};
+ghost use Rattle.ix_store.specs.Store.{with_block, with_blocks};
+
+use crate::entry::{Block, Entry};
+use crate::index::Index;
+use crate::store::Store;
+use ix_cid::Cid;
+use std::alloc::{AllocError, Global};
+use std::marker::Model;
+use std::mem;
+use std::sync::Arc;
+use std::thread::Threads;
+
+// How many entries wait at least where several threads index them: with fewer nothing is gained.
+const MANY: usize = 100_000;
+
+/// A store that is made of many blocks by several threads, seen as the pairs that it will have: those of the blocks
+/// that were added, where the first of each CID counts.
+///
+/// A block that is added isn't indexed at once: once many wait, the threads index all that are there together.
+///
+/// ```rust
+/// builder.add_within(cid, file, start, size)?;
+/// builder.index_due(rt, threads)?;
+/// let store = builder.build(rt, threads)?;
+/// ```
+#[derive(Drop)]
+pub struct StoreBuilder {
+    alloc: Global,
+    entries: Vec<Entry>,
+    // The index of the first entries, as many as are indexed. The CIDs of the others may stand there twice.
+    index: Index,
+    indexed: usize,
+}
+
+impl Model for StoreBuilder {
+    ghost use Rattle.std.specs.Prelude.{◌≤◌, List, ℕ, length, map, take, drop};
+    ghost use Rattle.ix_store.specs.Entry.{content};
+    ghost use Rattle.ix_store.specs.Index.{IsIndexed};
+    ghost use Rattle.ix_store.specs.Store.{with_blocks};
+
+    ghost Value = { List (List ℕ × List ℕ) };
+
+    ghost view = { λ b. with_blocks (map (λ e. (e.cid, content e.block)) (take b.indexed b.entries.items)) (map (λ e. (e.cid, content e.block)) (drop b.indexed b.entries.items)) };
+
+    ghost invariant = { λ b. (b.indexed ≤ length b.entries.items) × IsIndexed b.index (map (λ e. (e.cid, content e.block)) (take b.indexed b.entries.items)) };
+}
+
+impl StoreBuilder {
+    /// A store in the making, without blocks.
+    pub fn new(alloc: Global) -> StoreBuilder
+        ensures { result ≡ [] }
+    {
+        StoreBuilder {
+            alloc,
+            entries: Vec::new(alloc),
+            index: Index::new(alloc),
+            indexed: 0,
+        }
+    }
+
+    /// Adds a block that lies in shared bytes, as many as its size from a place on, unless its CID is there. Nothing is
+    /// copied: the store keeps a share of the bytes.
+    pub fn add_within(
+        &mut self,
+        cid: Cid,
+        bytes: &Arc<Vec<u8>>,
+        start: usize,
+        size: usize,
+    ) -> Result<(), AllocError>
+        ensures added { OnOk result (self.new ≡ with_block self.old (cid, take size (drop start (arc_value bytes.now).items))) }
+    {
+        let bytes = Arc::try_clone(bytes)?;
+        let block = Block::Within { bytes, start, size };
+        self.entries.push(Entry { cid, block })?;
+        Ok(())
+    }
+
+    /// Indexes the blocks that wait, by so many threads, if they are due: if 100,000 wait, and three times as many as
+    /// are indexed. Those that wait may have one CID, so calling this at each block bounds the memory that they take.
+    /// At an `Err` no block is left.
+    pub fn index_due<R: Threads + Sync>(&mut self, rt: &R, threads: usize) -> Result<(), AllocError>
+        ensures same { OnOk result (self.new ≡ self.old) }
+        ensures err { OnErr result (self.new ≡ []) }
+    {
+        if self.entries.len() - self.indexed < self.indexed.saturating_mul(3).max(MANY) {
+            return Ok(());
+        }
+        let entries = mem::replace(&mut self.entries, Vec::new(self.alloc));
+        let index = mem::replace(&mut self.index, Index::new(self.alloc));
+        let indexed = mem::replace(&mut self.indexed, 0);
+        let (entries, index) = index_all(rt, self.alloc, entries, index, indexed, threads)?;
+        self.indexed = entries.len();
+        self.entries = entries;
+        self.index = index;
+        Ok(())
+    }
+
+    /// The store of these blocks, which so many threads index where they are many.
+    pub fn build<R: Threads + Sync>(self, rt: &R, threads: usize) -> Result<Store, AllocError>
+        ensures { IfOk result (λ store. store ≡ self) }
+    {
+        let StoreBuilder {
+            alloc,
+            entries,
+            index,
+            indexed,
+        } = self;
+        let (entries, index) = index_all(rt, alloc, entries, index, indexed, threads)?;
+        Ok(Store::of_entries(alloc, entries, index))
+    }
+}
+
+// The entries that count and the index of all of them. So many of the first ones are indexed before.
+fn index_all<R: Threads + Sync>(
+    rt: &R,
+    alloc: Global,
+    entries: Vec<Entry>,
+    index: Index,
+    indexed: usize,
+    threads: usize,
+) -> Result<(Vec<Entry>, Index), AllocError>
+    requires within { indexed ≤ length entries.items }
+    requires before { IsIndexed index (map (λ e. (e.cid, content e.block)) (take indexed entries.items)) }
+    ensures kept { IfOk result (λ r. map (λ e. (e.cid, content e.block)) r.0.items
+        ≡ with_blocks (map (λ e. (e.cid, content e.block)) (take indexed entries.items)) (map (λ e. (e.cid, content e.block)) (drop indexed entries.items))) }
+    ensures indexed { IfOk result (λ r. IsIndexed r.1 (map (λ e. (e.cid, content e.block)) r.0.items)) }
+{
+    if entries.len() - indexed >= MANY {
+        if let Some(made) = Index::by_threads(rt, alloc, entries.as_slice(), threads)? {
+            return Ok((entries, made));
+        }
+    }
+    index_in_turn(alloc, entries, index, indexed)
+}
+
+// The same by one thread, one after the other. An entry whose CID stands before it is left out.
+fn index_in_turn(
+    alloc: Global,
+    mut entries: Vec<Entry>,
+    mut index: Index,
+    indexed: usize,
+) -> Result<(Vec<Entry>, Index), AllocError>
+    requires within { indexed ≤ length entries.items }
+    requires before { IsIndexed index (map (λ e. (e.cid, content e.block)) (take indexed entries.items)) }
+    ensures kept { IfOk result (λ r. map (λ e. (e.cid, content e.block)) r.0.items
+        ≡ with_blocks (map (λ e. (e.cid, content e.block)) (take indexed entries.items)) (map (λ e. (e.cid, content e.block)) (drop indexed entries.items))) }
+    ensures indexed { IfOk result (λ r. IsIndexed r.1 (map (λ e. (e.cid, content e.block)) r.0.items)) }
+{
+    let mut kept = indexed;
+    for place in indexed..entries.len() {
+        let (before, _) = entries.as_slice().split_at(kept);
+        index.make_room(alloc, before)?;
+        if index.enter(alloc, before, &entries[place].cid)? {
+            entries.swap(kept, place);
+            kept += 1;
+        }
+    }
+    entries.truncate(kept);
+    Ok((entries, index))
+}

@@ -1,0 +1,103 @@
+//! What is known of each block of a list, by marks that threads share.
+
+ghost use Rattle.std.specs.Prelude.{◌≡◌, ◌<◌, IfOk, length, map, slice_get, Some, IfSome, IfNone, ◌==◌, cond};
+ghost use Rattle.ix_store.specs.Entry.{pair_of};
+ghost use Rattle.ix_store.specs.Mark.{agrees, is_faulty, IsTrueAt};
+
+use crate::entry::Entry;
+use crate::mark_rule::{Look, MarkSeat, Note, Row};
+use atomic_table::Table;
+use std::alloc::{AllocError, Global};
+use std::marker::Model;
+
+/// What is known of each block of a list. It is seen as that list.
+#[derive(Drop)]
+pub(crate) struct Marks {
+    row: Row,
+}
+
+impl Model for Marks {
+    ghost use Rattle.std.specs.Prelude.{◌≡◌, length, map};
+    ghost use Rattle.ix_store.specs.Entry.{pair_of};
+    ghost use Rattle.ix_store.specs.Store.{Blocks};
+
+    ghost Value = { Blocks };
+
+    ghost view = { λ m. map pair_of m.row.shared.key.items };
+
+    ghost invariant = { λ m. m.row.shared.table_id.words ≡ length m.row.shared.key.items };
+}
+
+impl Marks {
+    /// Marks for these entries, of which nothing is known so far.
+    pub(crate) fn new(alloc: Global, entries: &Vec<Entry>) -> Result<Marks, AllocError>
+        ensures { IfOk result (λ m. m ≡ map pair_of entries.now.items) }
+    {
+        let blank = Vec::from_elem(alloc, 0u64, entries.len())?;
+        let (row, _) = Table::of_words(alloc, blank.as_slice(), entries)?;
+        Ok(Marks { row })
+    }
+
+    /// Whether the digest of the CID at a place is that of the block there. It is computed where no thread has
+    /// noted it.
+    pub(crate) fn agrees(&self, place: usize, entry: &Entry) -> bool
+        requires { slice_get self.now place ≡ Some (pair_of entry.now) }
+        ensures { result ≡ agrees (pair_of entry.now) }
+    {
+        let (mark, mut seat) = look(&self.row, place);
+        if let Some(answer) = told(mark % 4) {
+            return answer;
+        }
+        let answer = entry.agrees();
+        note(&self.row, &mut seat, place, mark, mark + digit(answer));
+        answer
+    }
+
+    /// Whether the block at a place spells no data. It is computed where no thread has noted it.
+    pub(crate) fn is_faulty(&self, place: usize, entry: &Entry) -> bool
+        requires { slice_get self.now place ≡ Some (pair_of entry.now) }
+        ensures { result ≡ is_faulty (pair_of entry.now) }
+    {
+        let (mark, mut seat) = look(&self.row, place);
+        if let Some(answer) = told(mark / 4) {
+            return answer;
+        }
+        let answer = entry.is_faulty();
+        note(&self.row, &mut seat, place, mark, mark + 4 * digit(answer));
+        answer
+    }
+}
+
+// The answer that a digit of a mark tells, if it tells one.
+fn told(digit: u64) -> Option<bool>
+    ensures none { IfNone result (digit ≡ 0) }
+    ensures some { IfSome result (λ b. (0 < digit) × (b ≡ (digit == 1))) }
+{
+    if digit == 0 { None } else { Some(digit == 1) }
+}
+
+// The digit of a mark that tells an answer.
+fn digit(answer: bool) -> u64
+    ensures { result ≡ cond answer 1 2 }
+{
+    if answer { 1 } else { 2 }
+}
+
+// Reads the mark at a place: it is true of the block there.
+fn look(row: &Row, place: usize) -> (u64, MarkSeat)
+    requires { place < row.now.shared.table_id.words }
+    ensures table { result.1.table_id ≡ row.now.shared.table_id }
+    ensures told { IsTrueAt (map pair_of row.now.shared.key.items) place result.0 }
+{
+    row.shared.load_new_seat::<Look>(place)
+}
+
+// Writes a mark over the one that was read, unless another thread has changed it since.
+fn note(row: &Row, seat: &mut MarkSeat, place: usize, found: u64, mark: u64)
+    requires seat { seat.old.table_id ≡ row.now.shared.table_id }
+    requires place { place < row.now.shared.table_id.words }
+    requires mark { IsTrueAt (map pair_of row.now.shared.key.items) place mark }
+{
+    row.shared
+        .compare_exchange::<Note>(seat, place, found, mark);
+}

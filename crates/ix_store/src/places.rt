@@ -1,0 +1,60 @@
+//! Sets of places, a bit each.
+
+ghost use Rattle.std.specs.Prelude.{◌≡◌, ℕ, ◌==◌, ◌||◌, false, OnOk, OnErr};
+ghost use Rattle.ix_store.specs.PlaceSet.{contains_place};
+
+use std::alloc::{AllocError, Global};
+
+// How many places a word has.
+const WORD_BITS: usize = 64;
+
+/// A set of places, as those of some blocks of a store, in a bit for each place up to the greatest that was put in.
+//
+// Bit `n % 64` of word `n / 64` tells whether the place `n` is in it. A place behind the last word isn't.
+#[derive(Drop)]
+pub struct PlaceSet {
+    words: Vec<u64>,
+}
+
+#[tactic(auto, unfolding(crate::specs::PlaceSet::contains_place))]
+impl PlaceSet {
+    /// No place.
+    pub fn new(alloc: Global) -> PlaceSet
+        ensures { (n : ℕ) → contains_place result n ≡ false }
+    {
+        PlaceSet {
+            words: Vec::new(alloc),
+        }
+    }
+
+    /// Whether a place is in the set.
+    pub fn contains(&self, place: usize) -> bool
+        ensures { result ≡ contains_place self.now place }
+    {
+        match self.words.get(place / WORD_BITS) {
+            Some(word) => (word >> (place % WORD_BITS)) & 1 == 1,
+            None => false,
+        }
+    }
+
+    /// Puts a place into the set. Where memory runs out the set is as it was.
+    pub fn insert(&mut self, place: usize) -> Result<(), AllocError>
+        ensures inserted { OnOk result ((n : ℕ) → contains_place self.new n ≡ ((place == n) || contains_place self.old n)) }
+        ensures err { OnErr result ((n : ℕ) → contains_place self.new n ≡ contains_place self.old n) }
+    {
+        let word = place / WORD_BITS;
+        if self.words.len() <= word {
+            self.words.resize(word + 1, 0)?;
+        }
+        self.words[word] |= 1 << (place % WORD_BITS);
+        Ok(())
+    }
+
+    /// Takes all places out, and lets the memory go.
+    pub fn clear(&mut self)
+        ensures { (n : ℕ) → contains_place self.new n ≡ false }
+    {
+        self.words.clear();
+        self.words.shrink_to_fit();
+    }
+}

@@ -1,0 +1,208 @@
+//! Blocks under their CIDs.
+
+ghost use Rattle.std.specs.Prelude.{◌≡◌, ◌<◌, [], ◌∷◌, ◌++◌, length, map, take, drop, slice_get, Some, true, false, IfOk, OnOk, OnErr, not, ◌==◌};
+ghost use Rattle.std.specs.Arc.{arc_value};
+ghost use Rattle.ix_store.specs.Entry.{content};
+ghost use Rattle.ix_store.specs.Index.{IsIndexed};
+ghost use Rattle.ix_store.specs.Mark.{agrees, is_faulty};
+ghost use Rattle.ix_store.specs.Store.{has_cid, with_block, position_of};
+
+use crate::ahead::Ahead;
+use crate::entry::{Block, Entry};
+use crate::index::{Index, holds};
+use crate::marks::Marks;
+use ix_cid::Cid;
+use std::alloc::{AllocError, Global};
+use std::marker::Model;
+use std::sync::Arc;
+
+/// Blocks under their CIDs, seen as the list of pairs in the order of adding.
+#[derive(Drop)]
+pub struct Store {
+    alloc: Global,
+    entries: Vec<Entry>,
+    // Where the entry of each CID stands.
+    index: Index,
+    // What is known of the blocks, once the store was settled and as long as none is added.
+    marks: Option<Marks>,
+}
+
+impl Model for Store {
+    ghost use Rattle.std.specs.Prelude.{◌≡◌, List, ℕ, map, IfSome};
+    ghost use Rattle.ix_store.specs.Entry.{content};
+    ghost use Rattle.ix_store.specs.Index.{IsIndexed};
+
+    ghost Value = { List (List ℕ × List ℕ) };
+
+    ghost view = { λ s. map (λ e. (e.cid, content e.block)) s.entries.items };
+
+    ghost invariant = { λ s. IsIndexed s.index (map (λ e. (e.cid, content e.block)) s.entries.items) × IfSome s.marks (λ m. m ≡ map (λ e. (e.cid, content e.block)) s.entries.items) };
+}
+
+impl Store {
+    /// A store without blocks.
+    pub fn new(alloc: Global) -> Store
+        ensures { result ≡ [] }
+    {
+        Store {
+            alloc,
+            entries: Vec::new(alloc),
+            index: Index::new(alloc),
+            marks: None,
+        }
+    }
+
+    // The store of these entries, of which this is the index.
+    pub(crate) fn of_entries(alloc: Global, entries: Vec<Entry>, index: Index) -> Store
+        requires { IsIndexed index (map (λ e. (e.cid, content e.block)) entries.items) }
+        ensures { result ≡ map (λ e. (e.cid, content e.block)) entries.items }
+    {
+        Store {
+            alloc,
+            entries,
+            index,
+            marks: None,
+        }
+    }
+
+    /// Adds a block, unless its CID is there.
+    pub fn add(&mut self, cid: Cid, bytes: Vec<u8>) -> Result<bool, AllocError>
+        ensures answer { IfOk result (λ added. added ≡ not (has_cid self.old cid)) }
+        ensures added { OnOk result (self.new ≡ with_block self.old (cid, bytes.items)) }
+        ensures err { OnErr result (self.new ≡ self.old) }
+    {
+        self.add_block(cid, Block::Own(bytes))
+    }
+
+    /// Adds a block that lies in shared bytes, as many as its size from a place on, unless its CID is there. Nothing is
+    /// copied: the store keeps a share of the bytes.
+    pub fn add_within(
+        &mut self,
+        cid: Cid,
+        bytes: &Arc<Vec<u8>>,
+        start: usize,
+        size: usize,
+    ) -> Result<bool, AllocError>
+        ensures answer { IfOk result (λ added. added ≡ not (has_cid self.old cid)) }
+        ensures added { OnOk result (self.new ≡ with_block self.old (cid, take size (drop start (arc_value bytes.now).items))) }
+        ensures err { OnErr result (self.new ≡ self.old) }
+    {
+        let bytes = Arc::try_clone(bytes)?;
+        self.add_block(cid, Block::Within { bytes, start, size })
+    }
+
+    // Adds a block, wherever its bytes are, unless its CID is there.
+    fn add_block(&mut self, cid: Cid, block: Block) -> Result<bool, AllocError>
+        ensures answer { IfOk result (λ added. added ≡ not (has_cid self.old cid)) }
+        ensures added { OnOk result (self.new ≡ with_block self.old (cid, content block)) }
+        ensures err { OnErr result (self.new ≡ self.old) }
+    {
+        self.index.make_room(self.alloc, self.entries.as_slice())?;
+        self.entries.reserve(1)?;
+        let entered = self.index.enter(self.alloc, self.entries.as_slice(), &cid)?;
+        if !entered {
+            return Ok(false);
+        }
+        self.marks = None;
+        self.entries.push_reserved(Entry { cid, block });
+        Ok(true)
+    }
+
+    /// Adds a copy of a block, unless its CID is there: then nothing is copied.
+    pub fn add_copy(&mut self, cid: Cid, block: &[u8]) -> Result<bool, AllocError>
+        ensures answer { IfOk result (λ added. added ≡ not (has_cid self.old cid)) }
+        ensures added { OnOk result (self.new ≡ with_block self.old (cid, block.now)) }
+        ensures err { OnErr result (self.new ≡ self.old) }
+    {
+        if self.find(&cid).is_some() {
+            return Ok(false);
+        }
+        let copy = Vec::from_slice(self.alloc, block)?;
+        self.add(cid, copy)
+    }
+
+    /// Makes room to keep what is found of the blocks, eight bytes for each, until one is added. The store holds the
+    /// same, whether there is memory for that or not.
+    pub fn settle(&mut self) -> Result<(), AllocError>
+        ensures { self.new ≡ self.old }
+    {
+        let marks = Marks::new(self.alloc, &self.entries)?;
+        self.marks = Some(marks);
+        Ok(())
+    }
+
+    /// Where the block of a CID stands.
+    pub fn find(&self, cid: &Cid) -> Option<usize>
+        ensures { result ≡ position_of self.now cid.now }
+    {
+        self.index.find(self.entries.as_slice(), cid)
+    }
+
+    /// Where the block of a CID stands. The place that is guessed is looked at first, so that a good
+    /// guess saves the search.
+    pub fn find_near(&self, guess: Option<usize>, cid: &Cid) -> Option<usize>
+        ensures { result ≡ position_of self.now cid.now }
+    {
+        match guess {
+            Some(place) if holds(self.entries.as_slice(), place, cid) => Some(place),
+            _ => self.find(cid),
+        }
+    }
+
+    /// The block at a place.
+    pub fn bytes(&self, place: usize) -> &[u8]
+        requires { place < length self.now }
+        ensures { slice_get (map (λ e. e.1) self.now) place ≡ Some result.now }
+    {
+        self.entries[place].block.bytes()
+    }
+
+    /// The block at a place, as bytes that are ahead: with where it ends in shared ones.
+    pub fn ahead(&self, place: usize) -> Ahead<'_>
+        requires { place < length self.now }
+        ensures { slice_get (map (λ e. e.1) self.now) place ≡ Some result }
+    {
+        self.entries[place].block.ahead()
+    }
+
+    /// Whether the digest of the CID at a place is that of the block there, by the CID's hash function: SHA-256 or
+    /// SHA-512 (FIPS 180-4), or the block itself under identity, and never under another function. A settled store
+    /// computes it once for all threads.
+    pub fn agrees(&self, place: usize) -> bool
+        requires { place < length self.now }
+        ensures { slice_get (map agrees self.now) place ≡ Some result }
+    {
+        let entry = &self.entries[place];
+        match &self.marks {
+            Some(marks) => marks.agrees(place, entry),
+            None => entry.agrees(),
+        }
+    }
+
+    /// Whether the block at a place spells no data (DAG-CBOR, RFC 8949). A settled store computes it once for
+    /// all threads.
+    pub fn is_faulty(&self, place: usize) -> bool
+        requires { place < length self.now }
+        ensures { slice_get (map is_faulty self.now) place ≡ Some result }
+    {
+        let entry = &self.entries[place];
+        match &self.marks {
+            Some(marks) => marks.is_faulty(place, entry),
+            None => entry.is_faulty(),
+        }
+    }
+
+    /// How many blocks there are.
+    pub fn len(&self) -> usize
+        ensures { result ≡ length self.now }
+    {
+        self.entries.len()
+    }
+
+    /// Whether there is no block.
+    pub fn is_empty(&self) -> bool
+        ensures { result ≡ (length self.now == 0) }
+    {
+        self.entries.is_empty()
+    }
+}

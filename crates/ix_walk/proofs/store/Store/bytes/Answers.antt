@@ -1,6 +1,0 @@
-use Rattle.ix_walk.proofs.Stores.{block-at}
-use Rattle.ix_walk.proofs.store.Store.bytes.Goals as goal
-
-pub returns : goal.returns
-returns c =
-    block-at c.self.inside.entries.items c.args.self.now c.args.place c.index.result.now c.bytes.result.now c.self.view_is c.requires c.index.ensures c.bytes.ensures

@@ -1,8 +1,0 @@
--- Sets of places, a bit each.
-use Rattle.std.specs.Prelude.{ℕ, ◌/◌, ◌%◌, ◌==◌, Bool, slice_index}
-use Rattle.std.specs.Int.{bit_at}
-use Rattle.ix_walk.specs.declared.places.PlaceSet.{PlaceSet}
-
--- a place is in the set: its bit is 1, and a word that isn't there has none
-unfoldable pub contains_place : PlaceSet → ℕ → Bool
-contains_place set n = bit_at (slice_index set.words.items (n / 64)) (n % 64) == 1
