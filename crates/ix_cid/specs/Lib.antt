@@ -6,5 +6,6 @@ pub mod CidText
 pub mod FaultWords
 pub mod Gives
 pub mod Held
+pub mod Laws
 pub mod Parts
 pub mod Examples

@@ -1,8 +1,7 @@
 //! RFC 4648 base32, in lower case and without padding.
 
-ghost use Rattle.std.specs.Prelude.{◌≡◌, ◌≤◌, ◌%◌, ◌++◌, length, map, take, All, Ok, OnOk, SomeIff, string_bytes};
-ghost use Rattle.ix_cid.specs.Cid.{◌>>=◌ as ◌and_then◌};
-ghost use Rattle.ix_cid.specs.CidText.{letter, bits_of_letter, number_in, digits_in, quantum, base32_of, bytes_of_base32, IsLetter};
+ghost use Rattle.std.specs.Prelude.{◌≡◌, ◌≤◌, ◌%◌, ◌++◌, length, take, All, OnOk, SomeIff, string_bytes};
+ghost use Rattle.ix_cid.specs.CidText.{letter, bits_of_letter, bits_of_letters, number_in, digits_in, quantum, base32_of, bytes_of_base32, appended, IsLetter};
 ghost use Rattle.ix_cid.specs.Gives.{Gives};
 
 use crate::fault::CidFault;
@@ -50,7 +49,7 @@ fn push_quantum(text: &mut String, bytes: &[u8]) -> Result<(), AllocError>
 // Appends the bytes whose base32 at most eight letters are.
 fn push_bytes(bytes: &mut Vec<u8>, letters: &[u8]) -> Result<(), CidFault>
     requires { length letters.now ≤ 8 }
-    ensures { Gives (λ _. bytes.new.items) result (bytes_of_base32 letters.now and_then (λ more. Ok (bytes.old.items ++ more))) }
+    ensures { Gives (λ _. bytes.new.items) result (appended bytes.old.items (bytes_of_base32 letters.now)) }
 {
     let Some(number) = number_of_letters(letters) else {
         return Err(CidFault::Base32);
@@ -93,7 +92,7 @@ fn number_of_bytes(bytes: &[u8]) -> u64
 // The number that at most eight letters spell, if each is of the alphabet.
 fn number_of_letters(letters: &[u8]) -> Option<u64>
     requires { length letters.now ≤ 8 }
-    ensures { SomeIff result (All IsLetter letters.now) (number_in 32 0 (map bits_of_letter letters.now)) }
+    ensures { SomeIff result (All IsLetter letters.now) (bits_of_letters letters.now) }
 {
     let mut number = 0;
     for letter in letters {

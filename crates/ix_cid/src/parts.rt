@@ -1,7 +1,7 @@
 //! The parts of the CID at the front of some bytes, read in place.
 
-ghost use Rattle.std.specs.Prelude.{◌≡◌, ◌-◌, Ok, length, IfOk, IfSome};
-ghost use Rattle.ix_cid.specs.Cid.{◌>>=◌ as ◌and_then◌, number_at, bytes_at, version_0_at, version_1_at, numbered_at, parts_at, cid_at, parts_of, hash_function_of, IsCid};
+ghost use Rattle.std.specs.Prelude.{◌≡◌, Ok, length, IfOk, IfSome};
+ghost use Rattle.ix_cid.specs.Cid.{number_at, bytes_at, version_0_at, version_1_at, numbered_at, numbered_length_at, parts_at, cid_at, parts_of, hash_function_of, IsCid};
 ghost use Rattle.ix_cid.specs.Parts.{Reads, parts_view};
 
 use crate::code::{
@@ -177,7 +177,7 @@ pub fn whole_parts(cid: &[u8]) -> Parts<'_>
 /// The length of the CIDv1 at the front. A front that only a CIDv0 has is one of
 /// version 18 here.
 pub fn numbered_length(bytes: &[u8]) -> Result<usize, CidFault>
-    ensures exact { Reads (λ n. n) result (numbered_at bytes.now and_then (λ p. Ok (length bytes.now - length p.1))) }
+    ensures exact { Reads (λ n. n) result (numbered_length_at bytes.now) }
 {
     let (_, rest) = split_numbered(bytes)?;
     Ok(bytes.len() - rest.len())
