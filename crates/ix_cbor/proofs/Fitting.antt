@@ -7,18 +7,10 @@ use Rattle.ix_cbor.specs.declared.node.Node.TheVariants.{rolls-Bytes, rolls-Text
 use Rattle.ix_cbor.specs.declared.node.Node.TheVariants as variants
 use Rattle.ix_cbor.specs.declared.node.Node.TheFolds.{fold-roll-Node}
 use Rattle.ix_cbor.specs.declared.node.Node.TheOpen as layer
-use Rattle.ix_cbor.specs.Data.{Data, Items, Entries, bytes, text, list, item, entry, no_items, no_entries, data_of, data_step, items_of, entry_of, entries_of}
+use Rattle.ix_cbor.specs.Data.{Data, Items, Entries, bytes, text, list, item, entry, no_items, no_entries, data_of, data_step, items_of, entry_of, entries_of, node_items, node_entries}
 use Rattle.ix_cbor.specs.Data as data_model
 use Rattle.ix_cbor.specs.Spelling.{item_count, entry_count}
 use Rattle.ix_cbor.specs.Fits.{Fits, ItemsFit, EntriesFit}
-
--- the data of members
-abbrev pub node_items : List Node → Items
-node_items nodes = items_of (map data_of nodes)
-
--- the data of keys and values
-abbrev pub node_entries : List (Vec ℕ × Node) → Entries
-node_entries entries = entries_of (map entry_of entries)
 
 -- as many data as members
 pub item_count-nodes : (nodes : List Node) → item_count (node_items nodes) ≡ length nodes

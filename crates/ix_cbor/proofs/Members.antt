@@ -9,7 +9,7 @@ use Rattle.ix_cbor.specs.declared.node.Node.TheVariants as variants
 use Rattle.ix_cbor.specs.Data.{Data, data_of, entry_of, entries_of}
 use Rattle.ix_cbor.specs.Data as data_model
 use Rattle.ix_cbor.specs.Reading.{Parse, ◌>>=◌, own_at, entries_at, item_with, with_members}
-use Rattle.ix_cbor.specs.Stops.{own_of}
+use Rattle.ix_cbor.specs.Answered.{own_of}
 use Rattle.ix_cbor.proofs.Fitting.{data_of-map}
 
 -- a map whose keys and values are read is read

@@ -9,7 +9,7 @@ use Rattle.ix_cid.specs.Bytes.{AreBytes}
 use Rattle.ix_cbor.specs.Reading.{Fault, decoded}
 use Rattle.ix_cbor.specs.Gives.{FailsAs, IsFirstAs}
 use Rattle.ix_cbor.proofs.Faults.{decoded-fault}
-use Rattle.ix_cbor.specs.Stops.{LiesWithin, placed}
+use Rattle.ix_cbor.specs.Answered.{LiesWithin, placed}
 
 -- where a definition's faults lie within n bytes, a call fails within them
 pub lies_within : (kind : CborKind) (left n : ℕ) (r : Result Data Fault) → ((f : Fault) → r ≡ Err f → f.left ≤ n) → FailsAs kind left r → LiesWithin kind left n

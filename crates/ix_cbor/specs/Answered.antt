@@ -2,7 +2,7 @@
 use Rattle.std.specs.Prelude.{◌≡◌, ℕ, ◌-◌, ◌≤◌, Result, Ok, Err}
 use Rattle.ix_cbor.specs.declared.fault.CborKind.{CborKind}
 use Rattle.ix_cbor.specs.declared.fault.CborKind.TheVariants.{Memory}
-use Rattle.ix_cbor.specs.declared.read.Stop.{Stop}
+use Rattle.ix_cbor.specs.declared.read.PlacedFault.{PlacedFault}
 use Rattle.ix_cbor.specs.declared.read.Own.{Own as RustOwn}
 use Rattle.ix_cbor.specs.declared.read.Own.TheVariants.{Leaf, ListOf, MapOf}
 use Rattle.ix_cbor.specs.Data.{data_of}
@@ -15,12 +15,12 @@ own_of (ListOf n) = list_of n
 own_of (MapOf n) = map_of n
 
 -- what a call that takes no memory answered, seen by view, is what the definition gives
-abbrev pub Reads : {X A : Type 0} → (X → A) → Result X Stop → Result A Fault → Type 0
+abbrev pub Reads : {X A : Type 0} → (X → A) → Result X PlacedFault → Result A Fault → Type 0
 Reads view (Ok x) meant = meant ≡ Ok (view x)
 Reads view (Err e) meant = meant ≡ Err (record { kind = e.kind; left = e.left })
 
 -- the same of a call that takes memory, unless that ran out
-abbrev pub ReadsOrRunsOut : {X A : Type 0} → (X → A) → Result X Stop → Result A Fault → Type 0
+abbrev pub ReadsOrRunsOut : {X A : Type 0} → (X → A) → Result X PlacedFault → Result A Fault → Type 0
 ReadsOrRunsOut view (Ok x) meant = meant ≡ Ok (view x)
 ReadsOrRunsOut view (Err e) meant = FailsAs e.kind e.left meant
 

@@ -1,7 +1,7 @@
 //! Which nodes have a spelling.
 
-ghost use Rattle.std.specs.Prelude.{◌≡◌, ◌≢◌, ◌↔◌, ◌+◌, ◌/◌, ◌%◌, ◌^◌, ◌<◌, IsTrue, None, length, map};
-ghost use Rattle.ix_cbor.specs.Data.{data_of, integer, items_of, entry_of, entries_of};
+ghost use Rattle.std.specs.Prelude.{◌≡◌, ◌≢◌, ◌↔◌, ◌+◌, ◌/◌, ◌%◌, ◌^◌, ◌<◌, IsTrue, None, length};
+ghost use Rattle.ix_cbor.specs.Data.{data_of, integer, node_items, node_entries};
 ghost use Rattle.ix_cbor.specs.Spelling.{IsCanonical, IsSpellable};
 ghost use Rattle.ix_cbor.specs.Fits.{Fits, ItemsFit, EntriesFit};
 
@@ -58,7 +58,7 @@ fn fits(node: &Node, levels: u32) -> bool
 // The same of members.
 #[cycle(fits)]
 fn members_fit(members: &[Node], levels: u32) -> bool
-    ensures { IsTrue result ↔ ItemsFit levels (items_of (map data_of members.now)) }
+    ensures { IsTrue result ↔ ItemsFit levels (node_items members.now) }
 {
     for member in members {
         if !fits(member, levels) {
@@ -71,7 +71,7 @@ fn members_fit(members: &[Node], levels: u32) -> bool
 // The same of keys and values, where each key rises above the one before it.
 #[cycle(fits)]
 fn entries_fit(entries: &[(Vec<u8>, Node)], levels: u32) -> bool
-    ensures { IsTrue result ↔ EntriesFit levels None (entries_of (map entry_of entries.now)) }
+    ensures { IsTrue result ↔ EntriesFit levels None (node_entries entries.now) }
 {
     let mut before: Option<&[u8]> = None;
     for (key, value) in entries {

@@ -5,39 +5,39 @@ ghost use Rattle.ix_cbor.specs.Data.{Data, data_of};
 ghost use Rattle.ix_cbor.specs.Spelling.{Spells, spelling_of};
 ghost use Rattle.ix_cbor.specs.Reading.{decoded};
 ghost use Rattle.ix_cbor.specs.Gives.{Gives, IsFirstOf};
-ghost use Rattle.ix_cbor.specs.Stops.{ReadsOrRunsOut, LiesWithin, placed};
+ghost use Rattle.ix_cbor.specs.Answered.{ReadsOrRunsOut, LiesWithin, placed};
 
 use crate::canonical::LEVELS;
 use crate::fault::{CborFault, CborKind};
 use crate::node::Node;
-use crate::read::{Stop, item};
+use crate::read::{PlacedFault, item};
 use crate::tree::Tree;
 use crate::write::push_item;
 use std::alloc::{AllocError, Global};
 
 // The one item that is all of the bytes.
-fn whole(alloc: Global, bytes: &[u8]) -> Result<Node, Stop>
+fn whole(alloc: Global, bytes: &[u8]) -> Result<Node, PlacedFault>
     ensures { ReadsOrRunsOut (λ n. data_of n) result (decoded bytes.now) }
 {
     let (node, rest) = item(alloc, bytes, LEVELS)?;
     if !rest.is_empty() {
-        return Err(Stop::at(CborKind::Rest, rest));
+        return Err(PlacedFault::at(CborKind::Rest, rest));
     }
     Ok(node)
 }
 
 // The fault of a block of that length, its place counted from the front.
-fn fault_of(stop: Stop, length: usize) -> CborFault
-    requires { LiesWithin stop.kind stop.left length }
-    ensures kind { result.kind ≡ stop.kind }
-    ensures place { result.place ≡ placed stop.kind stop.left length }
+fn fault_of(fault: PlacedFault, length: usize) -> CborFault
+    requires { LiesWithin fault.kind fault.left length }
+    ensures kind { result.kind ≡ fault.kind }
+    ensures place { result.place ≡ placed fault.kind fault.left length }
 {
-    let place = match stop.kind {
+    let place = match fault.kind {
         CborKind::Memory => 0,
-        _ => length - stop.left,
+        _ => length - fault.left,
     };
     CborFault {
-        kind: stop.kind,
+        kind: fault.kind,
         place,
     }
 }
@@ -53,7 +53,7 @@ pub fn decode(alloc: Global, bytes: &[u8]) -> Result<Tree, CborFault>
 {
     match whole(alloc, bytes) {
         Ok(node) => Ok(Tree::of_canonical(node)),
-        Err(stop) => Err(fault_of(stop, bytes.len())),
+        Err(fault) => Err(fault_of(fault, bytes.len())),
     }
 }
 

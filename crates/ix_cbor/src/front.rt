@@ -40,7 +40,7 @@ pub fn read_front(bytes: &[u8]) -> Result<(Front<'_>, &[u8]), CborFault>
 {
     match front_of_item(bytes) {
         Ok(read) => Ok(read),
-        Err(stop) => Err(stop.within(bytes)),
+        Err(fault) => Err(fault.within(bytes)),
     }
 }
 
@@ -54,6 +54,6 @@ pub fn read_key<'a>(
 {
     match key(before, bytes) {
         Ok(read) => Ok(read),
-        Err(stop) => Err(stop.within(bytes)),
+        Err(fault) => Err(fault.within(bytes)),
     }
 }

@@ -1,32 +1,31 @@
 //! Heads and strings, read where they stand.
 
 ghost use Rattle.std.specs.Prelude.{◌≡◌, ◌++◌, option_map, OnOk, OnErr};
-ghost use Rattle.ix_cbor.specs.declared.fault.CborKind.TheVariants.{KeyKind};
 ghost use Rattle.ix_cbor.specs.Spelling.{head_of, key_cmp};
-ghost use Rattle.ix_cbor.specs.Reading.{fails, take_at, wide_at, argument_at, string_at, string_of_major, rises, key_at};
+ghost use Rattle.ix_cbor.specs.Reading.{take_at, wide_at, argument_at, string_at, rises, key_text_at, key_at};
 ghost use Rattle.ix_cbor.specs.Majors.{number_of};
 ghost use Rattle.ix_cbor.specs.Widths.{bits_of, least_of};
-ghost use Rattle.ix_cbor.specs.Stops.{Reads};
+ghost use Rattle.ix_cbor.specs.Answered.{Reads};
 
 use crate::fault::CborKind;
 use crate::information::{IN_1_BYTE, IN_2_BYTES, IN_4_BYTES, IN_8_BYTES, OPEN, information_of};
 use crate::major::Major;
-use crate::read::Stop;
+use crate::read::PlacedFault;
 use crate::width::Width;
 use std::alloc::AllocError;
 use std::cmp::Ordering;
 
 // An argument in so many bytes, which is none where a shorter form would do.
-fn wide<'a>(at: &'a [u8], width: Width, bytes: &'a [u8]) -> Result<(u64, &'a [u8]), Stop>
+fn wide<'a>(at: &'a [u8], width: Width, bytes: &'a [u8]) -> Result<(u64, &'a [u8]), PlacedFault>
     ensures { Reads (λ r. (r.0, r.1.now)) result (wide_at at.now (bits_of width) (least_of width) bytes.now) }
 {
     if bytes.len() < width.len() {
-        return Err(Stop::at_end());
+        return Err(PlacedFault::at_end());
     }
     let (front, rest) = bytes.split_at(width.len());
     let number = width.number(front);
     if number < width.least() {
-        return Err(Stop::at(CborKind::NotShortest, at));
+        return Err(PlacedFault::at(CborKind::NotShortest, at));
     }
     Ok((number, rest))
 }
@@ -36,7 +35,7 @@ pub(crate) fn argument<'a>(
     at: &'a [u8],
     information: u8,
     bytes: &'a [u8],
-) -> Result<(u64, &'a [u8]), Stop>
+) -> Result<(u64, &'a [u8]), PlacedFault>
     ensures { Reads (λ r. (r.0, r.1.now)) result (argument_at at.now information bytes.now) }
 {
     match information {
@@ -45,17 +44,17 @@ pub(crate) fn argument<'a>(
         IN_2_BYTES => wide(at, Width::Two, bytes),
         IN_4_BYTES => wide(at, Width::Four, bytes),
         IN_8_BYTES => wide(at, Width::Eight, bytes),
-        OPEN => Err(Stop::at(CborKind::Indefinite, at)),
-        _ => Err(Stop::at(CborKind::NotShortest, at)),
+        OPEN => Err(PlacedFault::at(CborKind::Indefinite, at)),
+        _ => Err(PlacedFault::at(CborKind::NotShortest, at)),
     }
 }
 
 // That many bytes, and those after them.
-pub(crate) fn take(count: u64, bytes: &[u8]) -> Result<(&[u8], &[u8]), Stop>
+pub(crate) fn take(count: u64, bytes: &[u8]) -> Result<(&[u8], &[u8]), PlacedFault>
     ensures { Reads (λ r. (r.0.now, r.1.now)) result (take_at count bytes.now) }
 {
     if (bytes.len() as u64) < count {
-        return Err(Stop::at_end());
+        return Err(PlacedFault::at_end());
     }
     Ok(bytes.split_at(count as usize))
 }
@@ -65,7 +64,7 @@ pub(crate) fn string<'a>(
     at: &'a [u8],
     information: u8,
     bytes: &'a [u8],
-) -> Result<(&'a [u8], &'a [u8]), Stop>
+) -> Result<(&'a [u8], &'a [u8]), PlacedFault>
     ensures { Reads (λ r. (r.0.now, r.1.now)) result (string_at at.now information bytes.now) }
 {
     let (count, rest) = argument(at, information, bytes)?;
@@ -73,15 +72,15 @@ pub(crate) fn string<'a>(
 }
 
 // The bytes of a text, where a key stands.
-fn key_text(bytes: &[u8]) -> Result<(&[u8], &[u8]), Stop>
-    ensures { Reads (λ r. (r.0.now, r.1.now)) result (string_of_major 3 (λ at. fails KeyKind at) bytes.now) }
+fn key_text(bytes: &[u8]) -> Result<(&[u8], &[u8]), PlacedFault>
+    ensures { Reads (λ r. (r.0.now, r.1.now)) result (key_text_at bytes.now) }
 {
     match bytes {
-        [] => Err(Stop::at_end()),
+        [] => Err(PlacedFault::at_end()),
         [head, rest @ ..] if Major::of(*head) == Major::Text => {
             string(bytes, information_of(*head), rest)
         }
-        _ => Err(Stop::at(CborKind::KeyKind, bytes)),
+        _ => Err(PlacedFault::at(CborKind::KeyKind, bytes)),
     }
 }
 
@@ -107,12 +106,12 @@ fn is_above(before: Option<&[u8]>, key: &[u8]) -> bool
 pub(crate) fn key<'a>(
     before: Option<&'a [u8]>,
     bytes: &'a [u8],
-) -> Result<(&'a [u8], &'a [u8]), Stop>
+) -> Result<(&'a [u8], &'a [u8]), PlacedFault>
     ensures { Reads (λ r. (r.0.now, r.1.now)) result (key_at (option_map (λ k. k.now) before.entry) bytes.now) }
 {
     let (text, rest) = key_text(bytes)?;
     if !is_above(before, text) {
-        return Err(Stop::at(CborKind::KeyOrder, bytes));
+        return Err(PlacedFault::at(CborKind::KeyOrder, bytes));
     }
     Ok((text, rest))
 }

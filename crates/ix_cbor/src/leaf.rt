@@ -1,12 +1,11 @@
 //! What an item is by its own head.
 
 ghost use Rattle.std.specs.Prelude.{◌≡◌, IfOk};
-ghost use Rattle.ix_cbor.specs.declared.fault.CborKind.TheVariants as kinds;
 ghost use Rattle.ix_cbor.specs.Data.{float, link};
-ghost use Rattle.ix_cbor.specs.Reading.{fails, string_of_major, float_at, is_cid, link_of, link_at, own_behind, own_at};
+ghost use Rattle.ix_cbor.specs.Reading.{tag_content_at, float_at, is_cid, link_of, link_at, own_behind, own_at};
 ghost use Rattle.ix_cbor.specs.Majors.{number_of};
 ghost use Rattle.ix_cbor.specs.Fronts.{own_of_front, HasCid};
-ghost use Rattle.ix_cbor.specs.Stops.{Reads};
+ghost use Rattle.ix_cbor.specs.Answered.{Reads};
 
 use crate::canonical::is_finite;
 use crate::fault::CborKind;
@@ -16,53 +15,57 @@ use crate::information::{
     FALSE, FLOAT_16, FLOAT_32, FLOAT_64, LINK, NULL, OPEN, TRUE, information_of,
 };
 use crate::major::Major;
-use crate::read::Stop;
+use crate::read::PlacedFault;
 use crate::width::u64_of;
 use ix_cid::Cid;
 
 // The bits of a finite float.
-fn float_bits<'a>(at: &'a [u8], bytes: &'a [u8]) -> Result<(u64, &'a [u8]), Stop>
+fn float_bits<'a>(at: &'a [u8], bytes: &'a [u8]) -> Result<(u64, &'a [u8]), PlacedFault>
     ensures { Reads (λ r. (float r.0, r.1.now)) result (float_at at.now bytes.now) }
 {
     if bytes.len() < 8 {
-        return Err(Stop::at_end());
+        return Err(PlacedFault::at_end());
     }
     let (front, rest) = bytes.split_at(8);
     let bits = u64_of(front);
     if !is_finite(bits) {
-        return Err(Stop::at(CborKind::Float, at));
+        return Err(PlacedFault::at(CborKind::Float, at));
     }
     Ok((bits, rest))
 }
 
 // A truth value, null or a float, by the information in a head of major type 7.
-fn simple<'a>(at: &'a [u8], information: u8, bytes: &'a [u8]) -> Result<(Front<'a>, &'a [u8]), Stop>
+fn simple<'a>(
+    at: &'a [u8],
+    information: u8,
+    bytes: &'a [u8],
+) -> Result<(Front<'a>, &'a [u8]), PlacedFault>
     ensures { Reads (λ r. (own_of_front r.0, r.1.now)) result (own_behind at.now 7 information bytes.now) }
 {
     match information {
         FALSE => Ok((Front::Bool(false), bytes)),
         TRUE => Ok((Front::Bool(true), bytes)),
         NULL => Ok((Front::Null, bytes)),
-        FLOAT_16 | FLOAT_32 => Err(Stop::at(CborKind::Float, at)),
+        FLOAT_16 | FLOAT_32 => Err(PlacedFault::at(CborKind::Float, at)),
         FLOAT_64 => {
             let (bits, rest) = float_bits(at, bytes)?;
             Ok((Front::Bits64(bits), rest))
         }
-        OPEN => Err(Stop::at(CborKind::Indefinite, at)),
-        _ => Err(Stop::at(CborKind::Simple, at)),
+        OPEN => Err(PlacedFault::at(CborKind::Indefinite, at)),
+        _ => Err(PlacedFault::at(CborKind::Simple, at)),
     }
 }
 
 // The byte string in a tag.
-fn tag_content<'a>(at: &'a [u8], bytes: &'a [u8]) -> Result<(&'a [u8], &'a [u8]), Stop>
-    ensures { Reads (λ r. (r.0.now, r.1.now)) result (string_of_major 2 (λ content. fails kinds.Link at.now) bytes.now) }
+fn tag_content<'a>(at: &'a [u8], bytes: &'a [u8]) -> Result<(&'a [u8], &'a [u8]), PlacedFault>
+    ensures { Reads (λ r. (r.0.now, r.1.now)) result (tag_content_at at.now bytes.now) }
 {
     match bytes {
-        [] => Err(Stop::at_end()),
+        [] => Err(PlacedFault::at_end()),
         [head, rest @ ..] if Major::of(*head) == Major::Bytes => {
             string(bytes, information_of(*head), rest)
         }
-        _ => Err(Stop::at(CborKind::Link, at)),
+        _ => Err(PlacedFault::at(CborKind::Link, at)),
     }
 }
 
@@ -77,21 +80,25 @@ fn is_cid(bytes: &[u8]) -> bool
 }
 
 // The bytes of the CID in a tag's content, behind a `00`.
-fn cid_in<'a>(at: &'a [u8], content: &'a [u8], rest: &'a [u8]) -> Result<(&'a [u8], &'a [u8]), Stop>
+fn cid_in<'a>(
+    at: &'a [u8],
+    content: &'a [u8],
+    rest: &'a [u8],
+) -> Result<(&'a [u8], &'a [u8]), PlacedFault>
     ensures { Reads (λ r. (link r.0.now, r.1.now)) result (link_of at.now (content.now, rest.now)) }
 {
     match content {
         [0, cid @ ..] if is_cid(cid) => Ok((cid, rest)),
-        _ => Err(Stop::at(CborKind::Link, at)),
+        _ => Err(PlacedFault::at(CborKind::Link, at)),
     }
 }
 
 // A link, by its tag.
-fn tagged<'a>(at: &'a [u8], tag: u64, bytes: &'a [u8]) -> Result<(&'a [u8], &'a [u8]), Stop>
+fn tagged<'a>(at: &'a [u8], tag: u64, bytes: &'a [u8]) -> Result<(&'a [u8], &'a [u8]), PlacedFault>
     ensures { Reads (λ r. (link r.0.now, r.1.now)) result (link_at at.now tag bytes.now) }
 {
     if tag != LINK {
-        return Err(Stop::at(CborKind::Tag, at));
+        return Err(PlacedFault::at(CborKind::Tag, at));
     }
     let (content, rest) = tag_content(at, bytes)?;
     cid_in(at, content, rest)
@@ -103,7 +110,7 @@ fn of_major<'a>(
     major: Major,
     information: u8,
     bytes: &'a [u8],
-) -> Result<(Front<'a>, &'a [u8]), Stop>
+) -> Result<(Front<'a>, &'a [u8]), PlacedFault>
     ensures { Reads (λ r. (own_of_front r.0, r.1.now)) result (own_behind at.now (number_of major) information bytes.now) }
 {
     if let Major::Simple = major {
@@ -131,12 +138,12 @@ fn of_major<'a>(
 }
 
 // The tests at one item, before any member of it is read.
-pub(crate) fn front_of_item(bytes: &[u8]) -> Result<(Front<'_>, &[u8]), Stop>
+pub(crate) fn front_of_item(bytes: &[u8]) -> Result<(Front<'_>, &[u8]), PlacedFault>
     ensures exact { Reads (λ r. (own_of_front r.0, r.1.now)) result (own_at bytes.now) }
     ensures cid { IfOk result (λ r. HasCid r.0) }
 {
     match bytes {
-        [] => Err(Stop::at_end()),
+        [] => Err(PlacedFault::at_end()),
         [head, rest @ ..] => of_major(bytes, Major::of(*head), information_of(*head), rest),
     }
 }

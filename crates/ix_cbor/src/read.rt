@@ -1,11 +1,11 @@
 //! The parts of decode.
 
-ghost use Rattle.std.specs.Prelude.{◌≡◌, map, Some, None, IfOk};
+ghost use Rattle.std.specs.Prelude.{◌≡◌, None, IfOk};
 ghost use Rattle.ix_cid.specs.Cid.{IsCid};
-ghost use Rattle.ix_cbor.specs.Data.{data_of, items_of, entry_of, entries_of, link};
-ghost use Rattle.ix_cbor.specs.Reading.{own_at, item_with, item_at, items_at, entries_at};
+ghost use Rattle.ix_cbor.specs.Data.{data_of, node_items, node_entries, link};
+ghost use Rattle.ix_cbor.specs.Reading.{own_at, item_with, item_at, branch_at, members_at, fields_at};
 ghost use Rattle.ix_cbor.specs.Fronts.{own_of_front, HasCid};
-ghost use Rattle.ix_cbor.specs.Stops.{ReadsOrRunsOut, own_of};
+ghost use Rattle.ix_cbor.specs.Answered.{ReadsOrRunsOut, own_of};
 
 use crate::fault::{CborFault, CborKind};
 use crate::front::Front;
@@ -17,30 +17,30 @@ use std::alloc::{AllocError, AllocFailed, Global};
 
 // A fault, and how many bytes there are from its place to the end.
 #[derive(Drop)]
-pub(crate) struct Stop {
+pub(crate) struct PlacedFault {
     pub kind: CborKind,
     pub left: usize,
 }
 
-impl Stop {
+impl PlacedFault {
     ghost use Rattle.std.specs.Prelude.{◌≡◌, ◌≤◌, ◌-◌, length};
     ghost use Rattle.ix_cbor.specs.declared.fault.CborKind.TheVariants.{Truncated, Memory};
 
     // A fault at the front of these bytes.
-    pub(crate) fn at(kind: CborKind, bytes: &[u8]) -> Stop
+    pub(crate) fn at(kind: CborKind, bytes: &[u8]) -> PlacedFault
         ensures { result ≡ record { kind = kind; left = length bytes.now } }
     {
-        Stop {
+        PlacedFault {
             kind,
             left: bytes.len(),
         }
     }
 
     // The bytes end too early.
-    pub(crate) fn at_end() -> Stop
+    pub(crate) fn at_end() -> PlacedFault
         ensures { result ≡ record { kind = Truncated; left = 0 } }
     {
-        Stop {
+        PlacedFault {
             kind: CborKind::Truncated,
             left: 0,
         }
@@ -58,35 +58,35 @@ impl Stop {
     }
 
     // No memory was left.
-    pub(crate) fn memory() -> Stop
+    pub(crate) fn memory() -> PlacedFault
         ensures { result ≡ record { kind = Memory; left = 0 } }
     {
-        Stop {
+        PlacedFault {
             kind: CborKind::Memory,
             left: 0,
         }
     }
 }
 
-impl From<AllocError> for Stop {
+impl From<AllocError> for PlacedFault {
     ghost use Rattle.std.specs.Prelude.{◌≡◌};
     ghost use Rattle.ix_cbor.specs.declared.fault.CborKind.TheVariants.{Memory};
 
     ghost from_gives = { λ _ e. e.kind ≡ Memory };
 
-    fn from(_: AllocError) -> Stop {
-        Stop::memory()
+    fn from(_: AllocError) -> PlacedFault {
+        PlacedFault::memory()
     }
 }
 
-impl<T: Drop> From<AllocFailed<T>> for Stop {
+impl<T: Drop> From<AllocFailed<T>> for PlacedFault {
     ghost use Rattle.std.specs.Prelude.{◌≡◌};
     ghost use Rattle.ix_cbor.specs.declared.fault.CborKind.TheVariants.{Memory};
 
     ghost from_gives = { λ _ e. e.kind ≡ Memory };
 
-    fn from(_: AllocFailed<T>) -> Stop {
-        Stop::memory()
+    fn from(_: AllocFailed<T>) -> PlacedFault {
+        PlacedFault::memory()
     }
 }
 
@@ -128,7 +128,7 @@ fn copied(alloc: Global, front: Front) -> Result<Own, AllocError>
 }
 
 // The tests at one item, before any member of it is read.
-fn head_of_item(alloc: Global, bytes: &[u8]) -> Result<(Own, &[u8]), Stop>
+fn head_of_item(alloc: Global, bytes: &[u8]) -> Result<(Own, &[u8]), PlacedFault>
     ensures { ReadsOrRunsOut (λ r. (own_of r.0, r.1.now)) result (own_at bytes.now) }
 {
     let (front, rest) = front_of_item(bytes)?;
@@ -136,20 +136,20 @@ fn head_of_item(alloc: Global, bytes: &[u8]) -> Result<(Own, &[u8]), Stop>
 }
 
 // One item, where no list or map may stand.
-fn leaf(alloc: Global, bytes: &[u8]) -> Result<(Node, &[u8]), Stop>
+fn leaf(alloc: Global, bytes: &[u8]) -> Result<(Node, &[u8]), PlacedFault>
     ensures { ReadsOrRunsOut (λ r. (data_of r.0, r.1.now)) result (item_with None bytes.now) }
 {
     let (own, rest) = head_of_item(alloc, bytes)?;
     match own {
         Own::Leaf(node) => Ok((node, rest)),
-        Own::ListOf(_) | Own::MapOf(_) => Err(Stop::at(CborKind::Nesting, bytes)),
+        Own::ListOf(_) | Own::MapOf(_) => Err(PlacedFault::at(CborKind::Nesting, bytes)),
     }
 }
 
 // One item, where a list or map may stand, and others nest so deep inside it.
 #[cycle(item)]
-fn branch(alloc: Global, bytes: &[u8], levels: u32) -> Result<(Node, &[u8]), Stop>
-    ensures { ReadsOrRunsOut (λ r. (data_of r.0, r.1.now)) result (item_with (Some (item_at levels)) bytes.now) }
+fn branch(alloc: Global, bytes: &[u8], levels: u32) -> Result<(Node, &[u8]), PlacedFault>
+    ensures { ReadsOrRunsOut (λ r. (data_of r.0, r.1.now)) result (branch_at levels bytes.now) }
 {
     let (own, rest) = head_of_item(alloc, bytes)?;
     match own {
@@ -167,7 +167,7 @@ fn branch(alloc: Global, bytes: &[u8], levels: u32) -> Result<(Node, &[u8]), Sto
 
 // One item, where lists and maps may nest so deep.
 #[cycle(item)]
-pub(crate) fn item(alloc: Global, bytes: &[u8], levels: u32) -> Result<(Node, &[u8]), Stop>
+pub(crate) fn item(alloc: Global, bytes: &[u8], levels: u32) -> Result<(Node, &[u8]), PlacedFault>
     ensures { ReadsOrRunsOut (λ r. (data_of r.0, r.1.now)) result (item_at levels bytes.now) }
 {
     if levels == 0 {
@@ -179,8 +179,13 @@ pub(crate) fn item(alloc: Global, bytes: &[u8], levels: u32) -> Result<(Node, &[
 
 // So many members of a list, inside which lists and maps may nest so deep.
 #[cycle(item)]
-fn items(alloc: Global, bytes: &[u8], count: u64, levels: u32) -> Result<(Vec<Node>, &[u8]), Stop>
-    ensures { ReadsOrRunsOut (λ r. (items_of (map data_of r.0.items), r.1.now)) result (items_at (item_at levels) count bytes.now) }
+fn items(
+    alloc: Global,
+    bytes: &[u8],
+    count: u64,
+    levels: u32,
+) -> Result<(Vec<Node>, &[u8]), PlacedFault>
+    ensures { ReadsOrRunsOut (λ r. (node_items r.0.items, r.1.now)) result (members_at levels count bytes.now) }
 {
     let mut members = Vec::new(alloc);
     let mut rest = bytes;
@@ -199,8 +204,8 @@ fn entries(
     bytes: &[u8],
     count: u64,
     levels: u32,
-) -> Result<(Vec<(Vec<u8>, Node)>, &[u8]), Stop>
-    ensures { ReadsOrRunsOut (λ r. (entries_of (map entry_of r.0.items), r.1.now)) result (entries_at (item_at levels) None count bytes.now) }
+) -> Result<(Vec<(Vec<u8>, Node)>, &[u8]), PlacedFault>
+    ensures { ReadsOrRunsOut (λ r. (node_entries r.0.items, r.1.now)) result (fields_at levels count bytes.now) }
 {
     let mut members = Vec::new(alloc);
     let mut rest = bytes;

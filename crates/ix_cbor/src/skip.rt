@@ -1,32 +1,32 @@
 //! Going over items, without a tree.
 
-ghost use Rattle.std.specs.Prelude.{None, Some};
-ghost use Rattle.ix_cbor.specs.Reading.{◌>>=◌ as ◌then◌, item_with, item_at, items_at, entries_at};
+ghost use Rattle.std.specs.Prelude.{None};
+ghost use Rattle.ix_cbor.specs.Reading.{◌>>=◌ as ◌then◌, item_with, branch_at, members_at, fields_at};
 ghost use Rattle.ix_cbor.specs.Fronts.{Answers, behind, behind_item, judged};
-ghost use Rattle.ix_cbor.specs.Stops.{Reads};
+ghost use Rattle.ix_cbor.specs.Answered.{Reads};
 
 use crate::canonical::LEVELS;
 use crate::fault::{CborFault, CborKind};
 use crate::front::Front;
 use crate::head::key;
 use crate::leaf::front_of_item;
-use crate::read::Stop;
+use crate::read::PlacedFault;
 
 // The bytes behind one item, where no list or map may stand.
-fn behind_leaf(bytes: &[u8]) -> Result<&[u8], Stop>
+fn behind_leaf(bytes: &[u8]) -> Result<&[u8], PlacedFault>
     ensures { Reads (λ r. r.now) result (item_with None bytes.now then behind) }
 {
     let (front, rest) = front_of_item(bytes)?;
     match front {
-        Front::List(_) | Front::Map(_) => Err(Stop::at(CborKind::Nesting, bytes)),
+        Front::List(_) | Front::Map(_) => Err(PlacedFault::at(CborKind::Nesting, bytes)),
         _ => Ok(rest),
     }
 }
 
 // The bytes behind one item, where a list or map may stand, and others nest so deep inside it.
 #[cycle(behind_item)]
-fn behind_branch(bytes: &[u8], levels: u32) -> Result<&[u8], Stop>
-    ensures { Reads (λ r. r.now) result (item_with (Some (item_at levels)) bytes.now then behind) }
+fn behind_branch(bytes: &[u8], levels: u32) -> Result<&[u8], PlacedFault>
+    ensures { Reads (λ r. r.now) result (branch_at levels bytes.now then behind) }
 {
     let (front, rest) = front_of_item(bytes)?;
     match front {
@@ -38,7 +38,7 @@ fn behind_branch(bytes: &[u8], levels: u32) -> Result<&[u8], Stop>
 
 // The bytes behind one item, where lists and maps may nest so deep.
 #[cycle(behind_item)]
-fn behind_item(bytes: &[u8], levels: u32) -> Result<&[u8], Stop>
+fn behind_item(bytes: &[u8], levels: u32) -> Result<&[u8], PlacedFault>
     ensures { Reads (λ r. r.now) result (behind_item levels bytes.now) }
 {
     if levels == 0 {
@@ -50,8 +50,8 @@ fn behind_item(bytes: &[u8], levels: u32) -> Result<&[u8], Stop>
 
 // The bytes behind so many members of a list, inside which lists and maps may nest so deep.
 #[cycle(behind_item)]
-fn behind_items(bytes: &[u8], count: u64, levels: u32) -> Result<&[u8], Stop>
-    ensures { Reads (λ r. r.now) result (items_at (item_at levels) count bytes.now then behind) }
+fn behind_items(bytes: &[u8], count: u64, levels: u32) -> Result<&[u8], PlacedFault>
+    ensures { Reads (λ r. r.now) result (members_at levels count bytes.now then behind) }
 {
     let mut rest = bytes;
     for _ in 0..count {
@@ -62,8 +62,8 @@ fn behind_items(bytes: &[u8], count: u64, levels: u32) -> Result<&[u8], Stop>
 
 // The bytes behind so many keys and values of a map, inside which lists and maps may nest so deep.
 #[cycle(behind_item)]
-fn behind_entries(bytes: &[u8], count: u64, levels: u32) -> Result<&[u8], Stop>
-    ensures { Reads (λ r. r.now) result (entries_at (item_at levels) None count bytes.now then behind) }
+fn behind_entries(bytes: &[u8], count: u64, levels: u32) -> Result<&[u8], PlacedFault>
+    ensures { Reads (λ r. r.now) result (fields_at levels count bytes.now then behind) }
 {
     let mut rest = bytes;
     let mut before = None;
@@ -82,7 +82,7 @@ pub fn skip_item(bytes: &[u8]) -> Result<&[u8], CborFault>
 {
     match behind_item(bytes, LEVELS) {
         Ok(rest) => Ok(rest),
-        Err(stop) => Err(stop.within(bytes)),
+        Err(fault) => Err(fault.within(bytes)),
     }
 }
 
@@ -93,7 +93,7 @@ pub fn check(bytes: &[u8]) -> Result<(), CborFault>
 {
     match behind_item(bytes, LEVELS) {
         Ok([]) => Ok(()),
-        Ok(rest) => Err(Stop::at(CborKind::Rest, rest).within(bytes)),
-        Err(stop) => Err(stop.within(bytes)),
+        Ok(rest) => Err(PlacedFault::at(CborKind::Rest, rest).within(bytes)),
+        Err(fault) => Err(fault.within(bytes)),
     }
 }

@@ -1,9 +1,9 @@
 //! The parts of encode.
 
-ghost use Rattle.std.specs.Prelude.{◌≡◌, ℕ, List, ◌++◌, OnOk, OnErr, length, map};
-ghost use Rattle.ix_cbor.specs.Data.{data_of, integer, float, items_of, entry_of, entries_of};
+ghost use Rattle.std.specs.Prelude.{◌≡◌, ℕ, List, ◌++◌, OnOk, OnErr};
+ghost use Rattle.ix_cbor.specs.Data.{data_of, integer, float, node_items, node_entries};
 ghost use Rattle.ix_cbor.specs.Majors.{number_of};
-ghost use Rattle.ix_cbor.specs.Spelling.{head_of, link_spelling, spelling_of, items_spelling, entries_spelling, IsSpellable, AreSpellable, AreRising};
+ghost use Rattle.ix_cbor.specs.Spelling.{string_spelling, link_spelling, spelling_of, items_spelling, entries_spelling, IsSpellable, AreSpellable, AreRising};
 
 use crate::head::push_head;
 use crate::information::{FALSE, FLOAT_64, LINK, NULL, TRUE};
@@ -33,7 +33,7 @@ fn push_float(out: &mut Vec<u8>, bits: u64) -> Result<(), AllocError>
 
 // A string behind the head with its length.
 fn push_string(out: &mut Vec<u8>, major: Major, bytes: &[u8]) -> Result<(), AllocError>
-    ensures ok { OnOk result (out.new.items ≡ out.old.items ++ (head_of (number_of major) (length bytes.now) ++ bytes.now)) }
+    ensures ok { OnOk result (out.new.items ≡ out.old.items ++ string_spelling (number_of major) bytes.now) }
 {
     push_head(out, major, bytes.len() as u64)?;
     out.extend_from_slice(bytes)
@@ -80,8 +80,8 @@ pub(crate) fn push_item(out: &mut Vec<u8>, node: &Node) -> Result<(), AllocError
 // The spellings of members, one after the other.
 #[cycle(push_item)]
 fn push_members(out: &mut Vec<u8>, members: &[Node]) -> Result<(), AllocError>
-    requires { AreSpellable (items_of (map data_of members.now)) }
-    ensures ok { OnOk result (out.new.items ≡ out.old.items ++ items_spelling (items_of (map data_of members.now))) }
+    requires { AreSpellable (node_items members.now) }
+    ensures ok { OnOk result (out.new.items ≡ out.old.items ++ items_spelling (node_items members.now)) }
 {
     for member in members {
         push_item(out, member)?;
@@ -92,8 +92,8 @@ fn push_members(out: &mut Vec<u8>, members: &[Node]) -> Result<(), AllocError>
 // The spellings of keys and values, each key before its value.
 #[cycle(push_item)]
 fn push_entries(out: &mut Vec<u8>, entries: &[(Vec<u8>, Node)]) -> Result<(), AllocError>
-    requires { AreRising (entries_of (map entry_of entries.now)) }
-    ensures ok { OnOk result (out.new.items ≡ out.old.items ++ entries_spelling (entries_of (map entry_of entries.now))) }
+    requires { AreRising (node_entries entries.now) }
+    ensures ok { OnOk result (out.new.items ≡ out.old.items ++ entries_spelling (node_entries entries.now)) }
 {
     for (key, value) in entries {
         push_string(out, Major::Text, key.as_slice())?;

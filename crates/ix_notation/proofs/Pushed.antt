@@ -6,8 +6,8 @@ use Rattle.std.proofs.lemmas.Result.{on_ok_weaker}
 use Rattle.json.specs.Token.{Token}
 use Rattle.ix_cbor.specs.declared.node.Node.{Node}
 use Rattle.ix_cbor.specs.declared.node.Node.TheVariants as variants
-use Rattle.ix_cbor.specs.Data.{data_of}
-use Rattle.ix_cbor.proofs.Fitting.{node_entries, data_of-map}
+use Rattle.ix_cbor.specs.Data.{data_of, node_entries}
+use Rattle.ix_cbor.proofs.Fitting.{data_of-map}
 use Rattle.ix_notation.specs.Notation.{tokens_of, entries_tokens}
 
 -- a map's tokens are its brace and those of its keys and values

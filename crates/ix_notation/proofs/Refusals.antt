@@ -3,8 +3,7 @@ use Rattle.std.proofs.Common.{◌≡◌, ℕ, zero, suc, ◌<◌, List, [], ◌�
 use Rattle.std.specs.Str.{IsUtf8}
 use Rattle.std.specs.Global.{Vec}
 use Rattle.ix_cbor.specs.declared.node.Node.{Node}
-use Rattle.ix_cbor.specs.Data.{Data, data_of}
-use Rattle.ix_cbor.proofs.Fitting.{node_items, node_entries}
+use Rattle.ix_cbor.specs.Data.{Data, data_of, node_items, node_entries}
 use Rattle.ix_notation.specs.declared.fault.NotationFault.{NotationFault}
 use Rattle.ix_notation.specs.declared.fault.NotationFault.TheVariants.{Json, Repeated, Number, Hex, Block, Selector, Name, Memory}
 use Rattle.ix_notation.specs.Notation.{IsSelectorOf, IsRefused, IsHexOf, IsHexRefused}

@@ -10,11 +10,11 @@ use Rattle.json.specs.Value.{value_view, items_view, members_view}
 use Rattle.json.proofs.Trees.{view-Object, view-Array}
 use Rattle.ix_cbor.specs.declared.node.Node.{Node}
 use Rattle.ix_cbor.specs.declared.node.Node.TheVariants as variants
-use Rattle.ix_cbor.specs.Data.{Data, data_of, list}
+use Rattle.ix_cbor.specs.Data.{Data, data_of, list, node_items, node_entries}
 use Rattle.ix_cbor.specs.Data as data_model
 use Rattle.ix_cbor.specs.Spelling.{Rises, item_count, entry_count}
 use Rattle.ix_cbor.specs.Fits.{Fits, ItemsFit, EntriesFit}
-use Rattle.ix_cbor.proofs.Fitting.{node_items, node_entries, item_count-nodes, entry_count-nodes, data_of-list, data_of-map}
+use Rattle.ix_cbor.proofs.Fitting.{item_count-nodes, entry_count-nodes, data_of-list, data_of-map}
 use Rattle.ix_notation.specs.Saying.{AreIntegers, ItemsAreIntegers, MembersAreIntegers}
 use Rattle.ix_notation.proofs.Sayings.{Entry, Member}
 use Rattle.ix_notation.proofs.KeyOrder.{IsBelow, AreSorted}

@@ -1,7 +1,7 @@
 use Rattle.std.proofs.Common.{◌↔◌, None, drop}
 use Rattle.std.specs.Option.{option_map}
 use Rattle.ix_cbor.specs.Fits.{ItemsFit, EntriesFit}
-use Rattle.ix_cbor.proofs.Fitting.{node_items, node_entries}
+use Rattle.ix_cbor.specs.Data.{node_items, node_entries}
 use Rattle.ix_cbor.proofs.canonical.+fits.Given as goal
 
 abbrev pub invariant-entries_fit-loop-key : goal.invariant-entries_fit-loop-key

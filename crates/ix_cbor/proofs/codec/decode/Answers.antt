@@ -19,7 +19,7 @@ of_canonical-requires c =
 
 pub fault_of-requires : goal.fault_of-requires
 fault_of-requires c =
-    lies_within c.in-Err.stop.kind c.in-Err.stop.left (length c.args.bytes.now) (decoded c.args.bytes.now) (decoded_within c.args.bytes.now) c.in-Err.ensures
+    lies_within c.in-Err.fault.kind c.in-Err.fault.left (length c.args.bytes.now) (decoded c.args.bytes.now) (decoded_within c.args.bytes.now) c.in-Err.ensures
 
 pub returns-in-Ok-clause-found : goal.returns-in-Ok-clause-found
 returns-in-Ok-clause-found c =
@@ -33,10 +33,10 @@ returns-in-Ok-clause-only c = λ d spelled.
 exact : goal.returns-in-Err-clause-exact
 exact c =
     let n = length c.args.bytes.now in
-    let stop = c.in-Err.stop in
-    let within = lies_within stop.kind stop.left n (decoded c.args.bytes.now) (decoded_within c.args.bytes.now) c.in-Err.ensures in
+    let fault = c.in-Err.fault in
+    let within = lies_within fault.kind fault.left n (decoded c.args.bytes.now) (decoded_within c.args.bytes.now) c.in-Err.ensures in
     subst (λ (k : CborKind). (c.fault_of.result.place ≤ n) × FailsAs k (n - c.fault_of.result.place) (decoded c.args.bytes.now)) (sym c.fault_of.ensures.kind)
-    (placed_fails stop.kind stop.left n c.fault_of.result.place (decoded c.args.bytes.now) within c.fault_of.ensures.place c.in-Err.ensures)
+    (placed_fails fault.kind fault.left n c.fault_of.result.place (decoded c.args.bytes.now) within c.fault_of.ensures.place c.in-Err.ensures)
 
 pub returns-in-Err-clause-exact : goal.returns-in-Err-clause-exact
 returns-in-Err-clause-exact c = exact c
@@ -48,8 +48,8 @@ returns-in-Err-clause-only c = λ d spelled.
 pub returns-in-Err-clause-fault : goal.returns-in-Err-clause-fault
 returns-in-Err-clause-fault c =
     let b = c.args.bytes.now in
-    let stop = c.in-Err.stop in
+    let fault = c.in-Err.fault in
     let bytes : AreBytes b = All-from_get_or (λ x. x < 2 ^ 8) b 0 (λ i _. omega (arith, c.type_inv.bytes i)) in
-    let within = lies_within stop.kind stop.left (length b) (decoded b) (decoded_within b) c.in-Err.ensures in
+    let within = lies_within fault.kind fault.left (length b) (decoded b) (decoded_within b) c.in-Err.ensures in
     subst (λ (k : CborKind). IsFirstAs b k c.fault_of.result.place) (sym c.fault_of.ensures.kind)
-    (first_placed stop.kind b stop.left c.fault_of.result.place bytes within c.fault_of.ensures.place c.in-Err.ensures)
+    (first_placed fault.kind b fault.left c.fault_of.result.place bytes within c.fault_of.ensures.place c.in-Err.ensures)

@@ -10,4 +10,4 @@ within-requires c = let b = c.args.bytes.now in err_within (length b) (own_at b)
 pub returns-in-Err-clause-exact : goal.returns-in-Err-clause-exact
 returns-in-Err-clause-exact c =
     let b = c.args.bytes.now in
-    answered (length b) (own_at b) c.in-Err.stop.kind c.in-Err.stop.left c.within.result (err_within (length b) (own_at b) _ (own_within (length b) b (omega arith)) c.in-Err.ensures.exact) c.within.ensures c.in-Err.ensures.exact
+    answered (length b) (own_at b) c.in-Err.fault.kind c.in-Err.fault.left c.within.result (err_within (length b) (own_at b) _ (own_within (length b) b (omega arith)) c.in-Err.ensures.exact) c.within.ensures c.in-Err.ensures.exact

@@ -15,4 +15,4 @@ pub returns-in-Err : goal.returns-in-Err
 returns-in-Err c =
     let b = c.args.bytes.now in
     let before = option_map (λ k. k.now) c.args.before in
-    answered (length b) (key_at before b) c.in-Err.stop.kind c.in-Err.stop.left c.within.result (err_within (length b) (key_at before b) _ (key_within (length b) before b (omega arith)) c.in-Err.ensures) c.within.ensures c.in-Err.ensures
+    answered (length b) (key_at before b) c.in-Err.fault.kind c.in-Err.fault.left c.within.result (err_within (length b) (key_at before b) _ (key_within (length b) before b (omega arith)) c.in-Err.ensures) c.within.ensures c.in-Err.ensures

@@ -1,7 +1,7 @@
 use Rattle.std.proofs.Common.{arith, subst}
 use Rattle.ix_cbor.specs.Majors.{number_of}
 use Rattle.ix_cbor.specs.Fronts.{own_of_front}
-use Rattle.ix_cbor.specs.Stops.{Reads}
+use Rattle.ix_cbor.specs.Answered.{Reads}
 use Rattle.ix_cbor.proofs.Leaves.{own_at-behind}
 use Rattle.ix_cbor.proofs.Links.{front_has_cid}
 use Rattle.ix_cbor.proofs.leaf.front_of_item.Goals as goal

@@ -4,7 +4,7 @@ use Rattle.std.proofs.lemmas.Result.{err_from_is_err_and}
 use Rattle.std.proofs.lemmas.List.{map_push}
 use Rattle.ix_cbor.specs.Data.{data_of, entry_of}
 use Rattle.ix_cbor.specs.Reading.{item_at, items_at, entries_at}
-use Rattle.ix_cbor.specs.Stops.{ReadsOrRunsOut}
+use Rattle.ix_cbor.specs.Answered.{ReadsOrRunsOut}
 use Rattle.ix_cbor.proofs.Fronts.{item_at-zero, item_at-above, goes_on, stops, is_done, FailsAs-along, FailsAs-exactly}
 use Rattle.ix_cbor.proofs.EntryFronts as entries
 use Rattle.ix_cbor.proofs.Members.{map_read}

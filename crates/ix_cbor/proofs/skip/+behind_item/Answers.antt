@@ -3,7 +3,7 @@ use Rattle.std.specs.Prelude.{None, option_map}
 use Rattle.std.proofs.lemmas.Result.{err_from_is_err_and}
 use Rattle.ix_cbor.specs.Reading.{◌>>=◌, item_at, items_at, entries_at}
 use Rattle.ix_cbor.specs.Fronts.{behind}
-use Rattle.ix_cbor.specs.Stops.{Reads}
+use Rattle.ix_cbor.specs.Answered.{Reads}
 use Rattle.ix_cbor.proofs.Fronts.{item_at-zero, item_at-above}
 use Rattle.ix_cbor.proofs.Skips.{item_over, entry_over, key_stops, value_stops}
 use Rattle.ix_cbor.proofs.skip.+behind_item.Goals as goal

@@ -10,7 +10,7 @@ within-requires c = skip_within c.args.bytes.now _ c.in-Err.ensures
 pub returns-in-Err : goal.returns-in-Err
 returns-in-Err c =
     let b = c.args.bytes.now in
-    answered (length b) (behind_item 512 b) c.in-Err.stop.kind c.in-Err.stop.left c.within.result (skip_within b _ c.in-Err.ensures) c.within.ensures c.in-Err.ensures
+    answered (length b) (behind_item 512 b) c.in-Err.fault.kind c.in-Err.fault.left c.within.result (skip_within b _ c.in-Err.ensures) c.within.ensures c.in-Err.ensures
 
 pub returns-in-Ok : goal.returns-in-Ok
 returns-in-Ok c = search rules

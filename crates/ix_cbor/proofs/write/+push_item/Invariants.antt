@@ -1,6 +1,6 @@
 use Rattle.std.proofs.Common.{◌≡◌, ◌++◌, drop}
 use Rattle.ix_cbor.specs.Spelling.{items_spelling, entries_spelling, AreSpellable, AreRising}
-use Rattle.ix_cbor.proofs.Fitting.{node_items, node_entries}
+use Rattle.ix_cbor.specs.Data.{node_items, node_entries}
 use Rattle.ix_cbor.proofs.write.+push_item.Given as goal
 
 abbrev pub invariant-push_members-loop-member : goal.invariant-push_members-loop-member

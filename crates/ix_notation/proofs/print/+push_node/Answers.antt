@@ -1,8 +1,8 @@
 use Rattle.std.proofs.Common.{rules, ◌≡◌, sym, ap, ◌∙◌, subst}
 use Rattle.std.specs.Prelude.{IfErr}
 use Rattle.std.proofs.lemmas.Result.{err_from_is_err_and}
-use Rattle.ix_cbor.specs.Data.{data_of, map}
-use Rattle.ix_cbor.proofs.Fitting.{node_entries, data_of-map}
+use Rattle.ix_cbor.specs.Data.{data_of, map, node_entries}
+use Rattle.ix_cbor.proofs.Fitting.{data_of-map}
 use Rattle.ix_notation.specs.Printed.{HasBadText, HasOtherKind, IsUnprinted}
 use Rattle.ix_notation.proofs.Pushed.{map-pushed}
 use Rattle.ix_notation.proofs.Refusals.{member_unprinted, key_unprinted, value_unprinted}

@@ -1,5 +1,5 @@
 use Rattle.std.proofs.Common.{◌≡◌, ◌++◌, drop}
-use Rattle.ix_cbor.proofs.Fitting.{node_items, node_entries}
+use Rattle.ix_cbor.specs.Data.{node_items, node_entries}
 use Rattle.ix_notation.specs.Notation.{items_tokens, entries_tokens}
 use Rattle.ix_notation.proofs.print.+push_node.Given as goal
 
