@@ -1,6 +1,7 @@
 -- In how many bytes behind the first one of a head its argument stands.
-use Rattle.std.specs.Prelude.{ℕ, ◌^◌}
+use Rattle.std.specs.Prelude.{ℕ, ◌^◌, List}
 use Rattle.std.specs.Int.{Width, w8, w16, w32, w64}
+use Rattle.ix_cbor.specs.Reading.{Parse, wide_at}
 use Rattle.ix_cbor.specs.declared.width.Width.{Width as HeadWidth}
 use Rattle.ix_cbor.specs.declared.width.Width.TheVariants.{One, Two, Four, Eight}
 
@@ -16,3 +17,7 @@ least_of One = 24
 least_of Two = 2 ^ 8
 least_of Four = 2 ^ 16
 least_of Eight = 2 ^ 32
+
+-- an argument in so many bytes, of the head at a place
+abbrev pub argument_in : List ℕ → HeadWidth → Parse ℕ
+argument_in at width b = wide_at at (bits_of width) (least_of width) b

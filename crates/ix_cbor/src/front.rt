@@ -1,8 +1,9 @@
 //! The front of an item, read where it stands.
 
-ghost use Rattle.std.specs.Prelude.{IfOk, option_map};
+ghost use Rattle.std.specs.Prelude.{IfOk};
 ghost use Rattle.ix_cbor.specs.Reading.{own_at, key_at};
-ghost use Rattle.ix_cbor.specs.Fronts.{own_of_front, HasCid, Answers};
+ghost use Rattle.ix_cbor.specs.Fronts.{HasCid, Answers};
+ghost use Rattle.ix_cbor.specs.Views.{front_and_rest, key_bytes, string_and_rest};
 
 use crate::fault::CborFault;
 use crate::head::key;
@@ -35,7 +36,7 @@ pub enum Front<'a> {
 /// The front of the item that begins here, and the bytes behind it. The place of a fault is counted from
 /// here, and is that of the item, or the length of the bytes for `Truncated`.
 pub fn read_front(bytes: &[u8]) -> Result<(Front<'_>, &[u8]), CborFault>
-    ensures exact { Answers (λ r. (own_of_front r.0, r.1.now)) bytes.now result (own_at bytes.now) }
+    ensures exact { Answers front_and_rest bytes.now result (own_at bytes.now) }
     ensures cid { IfOk result (λ r. HasCid r.0) }
 {
     match front_of_item(bytes) {
@@ -50,7 +51,7 @@ pub fn read_key<'a>(
     before: Option<&'a [u8]>,
     bytes: &'a [u8],
 ) -> Result<(&'a [u8], &'a [u8]), CborFault>
-    ensures { Answers (λ r. (r.0.now, r.1.now)) bytes.now result (key_at (option_map (λ k. k.now) before.entry) bytes.now) }
+    ensures { Answers string_and_rest bytes.now result (key_at (key_bytes before.entry) bytes.now) }
 {
     match key(before, bytes) {
         Ok(read) => Ok(read),

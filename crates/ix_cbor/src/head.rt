@@ -1,11 +1,12 @@
 //! Heads and strings, read where they stand.
 
-ghost use Rattle.std.specs.Prelude.{◌≡◌, ◌++◌, option_map, OnOk, OnErr};
+ghost use Rattle.std.specs.Prelude.{◌≡◌, ◌++◌, OnOk, OnErr};
 ghost use Rattle.ix_cbor.specs.Spelling.{head_of, key_cmp};
-ghost use Rattle.ix_cbor.specs.Reading.{take_at, wide_at, argument_at, string_at, rises, key_text_at, key_at};
+ghost use Rattle.ix_cbor.specs.Reading.{take_at, argument_at, string_at, rises, key_text_at, key_at};
 ghost use Rattle.ix_cbor.specs.Majors.{number_of};
-ghost use Rattle.ix_cbor.specs.Widths.{bits_of, least_of};
+ghost use Rattle.ix_cbor.specs.Widths.{argument_in};
 ghost use Rattle.ix_cbor.specs.Answered.{Reads};
+ghost use Rattle.ix_cbor.specs.Views.{key_bytes, string_and_rest};
 
 use crate::fault::CborKind;
 use crate::information::{IN_1_BYTE, IN_2_BYTES, IN_4_BYTES, IN_8_BYTES, OPEN, information_of};
@@ -17,7 +18,7 @@ use std::cmp::Ordering;
 
 // An argument in so many bytes, which is none where a shorter form would do.
 fn wide<'a>(at: &'a [u8], width: Width, bytes: &'a [u8]) -> Result<(u64, &'a [u8]), PlacedFault>
-    ensures { Reads (λ r. (r.0, r.1.now)) result (wide_at at.now (bits_of width) (least_of width) bytes.now) }
+    ensures { Reads (λ r. (r.0, r.1.now)) result (argument_in at.now width bytes.now) }
 {
     if bytes.len() < width.len() {
         return Err(PlacedFault::at_end());
@@ -51,7 +52,7 @@ pub(crate) fn argument<'a>(
 
 // That many bytes, and those after them.
 pub(crate) fn take(count: u64, bytes: &[u8]) -> Result<(&[u8], &[u8]), PlacedFault>
-    ensures { Reads (λ r. (r.0.now, r.1.now)) result (take_at count bytes.now) }
+    ensures { Reads string_and_rest result (take_at count bytes.now) }
 {
     if (bytes.len() as u64) < count {
         return Err(PlacedFault::at_end());
@@ -65,7 +66,7 @@ pub(crate) fn string<'a>(
     information: u8,
     bytes: &'a [u8],
 ) -> Result<(&'a [u8], &'a [u8]), PlacedFault>
-    ensures { Reads (λ r. (r.0.now, r.1.now)) result (string_at at.now information bytes.now) }
+    ensures { Reads string_and_rest result (string_at at.now information bytes.now) }
 {
     let (count, rest) = argument(at, information, bytes)?;
     take(count, rest)
@@ -73,7 +74,7 @@ pub(crate) fn string<'a>(
 
 // The bytes of a text, where a key stands.
 fn key_text(bytes: &[u8]) -> Result<(&[u8], &[u8]), PlacedFault>
-    ensures { Reads (λ r. (r.0.now, r.1.now)) result (key_text_at bytes.now) }
+    ensures { Reads string_and_rest result (key_text_at bytes.now) }
 {
     match bytes {
         [] => Err(PlacedFault::at_end()),
@@ -94,7 +95,7 @@ pub fn compare_keys(before: &[u8], key: &[u8]) -> Ordering
 
 // Whether a key comes behind the one before it.
 fn is_above(before: Option<&[u8]>, key: &[u8]) -> bool
-    ensures { result ≡ rises (option_map (λ k. k.now) before.entry) key.now }
+    ensures { result ≡ rises (key_bytes before.entry) key.now }
 {
     match before {
         None => true,
@@ -107,7 +108,7 @@ pub(crate) fn key<'a>(
     before: Option<&'a [u8]>,
     bytes: &'a [u8],
 ) -> Result<(&'a [u8], &'a [u8]), PlacedFault>
-    ensures { Reads (λ r. (r.0.now, r.1.now)) result (key_at (option_map (λ k. k.now) before.entry) bytes.now) }
+    ensures { Reads string_and_rest result (key_at (key_bytes before.entry) bytes.now) }
 {
     let (text, rest) = key_text(bytes)?;
     if !is_above(before, text) {

@@ -4,8 +4,9 @@ ghost use Rattle.std.specs.Prelude.{◌≡◌, IfOk};
 ghost use Rattle.ix_cbor.specs.Data.{float, link};
 ghost use Rattle.ix_cbor.specs.Reading.{tag_content_at, float_at, is_cid, link_of, link_at, own_behind, own_at};
 ghost use Rattle.ix_cbor.specs.Majors.{number_of};
-ghost use Rattle.ix_cbor.specs.Fronts.{own_of_front, HasCid};
+ghost use Rattle.ix_cbor.specs.Fronts.{HasCid};
 ghost use Rattle.ix_cbor.specs.Answered.{Reads};
+ghost use Rattle.ix_cbor.specs.Views.{front_and_rest, string_and_rest};
 
 use crate::canonical::is_finite;
 use crate::fault::CborKind;
@@ -40,7 +41,7 @@ fn simple<'a>(
     information: u8,
     bytes: &'a [u8],
 ) -> Result<(Front<'a>, &'a [u8]), PlacedFault>
-    ensures { Reads (λ r. (own_of_front r.0, r.1.now)) result (own_behind at.now 7 information bytes.now) }
+    ensures { Reads front_and_rest result (own_behind at.now 7 information bytes.now) }
 {
     match information {
         FALSE => Ok((Front::Bool(false), bytes)),
@@ -58,7 +59,7 @@ fn simple<'a>(
 
 // The byte string in a tag.
 fn tag_content<'a>(at: &'a [u8], bytes: &'a [u8]) -> Result<(&'a [u8], &'a [u8]), PlacedFault>
-    ensures { Reads (λ r. (r.0.now, r.1.now)) result (tag_content_at at.now bytes.now) }
+    ensures { Reads string_and_rest result (tag_content_at at.now bytes.now) }
 {
     match bytes {
         [] => Err(PlacedFault::at_end()),
@@ -111,7 +112,7 @@ fn of_major<'a>(
     information: u8,
     bytes: &'a [u8],
 ) -> Result<(Front<'a>, &'a [u8]), PlacedFault>
-    ensures { Reads (λ r. (own_of_front r.0, r.1.now)) result (own_behind at.now (number_of major) information bytes.now) }
+    ensures { Reads front_and_rest result (own_behind at.now (number_of major) information bytes.now) }
 {
     if let Major::Simple = major {
         return simple(at, information, bytes);
@@ -139,7 +140,7 @@ fn of_major<'a>(
 
 // The tests at one item, before any member of it is read.
 pub(crate) fn front_of_item(bytes: &[u8]) -> Result<(Front<'_>, &[u8]), PlacedFault>
-    ensures exact { Reads (λ r. (own_of_front r.0, r.1.now)) result (own_at bytes.now) }
+    ensures exact { Reads front_and_rest result (own_at bytes.now) }
     ensures cid { IfOk result (λ r. HasCid r.0) }
 {
     match bytes {

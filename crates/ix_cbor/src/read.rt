@@ -2,10 +2,11 @@
 
 ghost use Rattle.std.specs.Prelude.{◌≡◌, None, IfOk};
 ghost use Rattle.ix_cid.specs.Cid.{IsCid};
-ghost use Rattle.ix_cbor.specs.Data.{data_of, node_items, node_entries, link};
+ghost use Rattle.ix_cbor.specs.Data.{data_of, link};
 ghost use Rattle.ix_cbor.specs.Reading.{own_at, item_with, item_at, branch_at, members_at, fields_at};
 ghost use Rattle.ix_cbor.specs.Fronts.{own_of_front, HasCid};
 ghost use Rattle.ix_cbor.specs.Answered.{ReadsOrRunsOut, own_of};
+ghost use Rattle.ix_cbor.specs.Views.{entries_and_rest, members_and_rest, node_and_rest};
 
 use crate::fault::{CborFault, CborKind};
 use crate::front::Front;
@@ -137,7 +138,7 @@ fn head_of_item(alloc: Global, bytes: &[u8]) -> Result<(Own, &[u8]), PlacedFault
 
 // One item, where no list or map may stand.
 fn leaf(alloc: Global, bytes: &[u8]) -> Result<(Node, &[u8]), PlacedFault>
-    ensures { ReadsOrRunsOut (λ r. (data_of r.0, r.1.now)) result (item_with None bytes.now) }
+    ensures { ReadsOrRunsOut node_and_rest result (item_with None bytes.now) }
 {
     let (own, rest) = head_of_item(alloc, bytes)?;
     match own {
@@ -149,7 +150,7 @@ fn leaf(alloc: Global, bytes: &[u8]) -> Result<(Node, &[u8]), PlacedFault>
 // One item, where a list or map may stand, and others nest so deep inside it.
 #[cycle(item)]
 fn branch(alloc: Global, bytes: &[u8], levels: u32) -> Result<(Node, &[u8]), PlacedFault>
-    ensures { ReadsOrRunsOut (λ r. (data_of r.0, r.1.now)) result (branch_at levels bytes.now) }
+    ensures { ReadsOrRunsOut node_and_rest result (branch_at levels bytes.now) }
 {
     let (own, rest) = head_of_item(alloc, bytes)?;
     match own {
@@ -168,7 +169,7 @@ fn branch(alloc: Global, bytes: &[u8], levels: u32) -> Result<(Node, &[u8]), Pla
 // One item, where lists and maps may nest so deep.
 #[cycle(item)]
 pub(crate) fn item(alloc: Global, bytes: &[u8], levels: u32) -> Result<(Node, &[u8]), PlacedFault>
-    ensures { ReadsOrRunsOut (λ r. (data_of r.0, r.1.now)) result (item_at levels bytes.now) }
+    ensures { ReadsOrRunsOut node_and_rest result (item_at levels bytes.now) }
 {
     if levels == 0 {
         leaf(alloc, bytes)
@@ -185,7 +186,7 @@ fn items(
     count: u64,
     levels: u32,
 ) -> Result<(Vec<Node>, &[u8]), PlacedFault>
-    ensures { ReadsOrRunsOut (λ r. (node_items r.0.items, r.1.now)) result (members_at levels count bytes.now) }
+    ensures { ReadsOrRunsOut members_and_rest result (members_at levels count bytes.now) }
 {
     let mut members = Vec::new(alloc);
     let mut rest = bytes;
@@ -205,7 +206,7 @@ fn entries(
     count: u64,
     levels: u32,
 ) -> Result<(Vec<(Vec<u8>, Node)>, &[u8]), PlacedFault>
-    ensures { ReadsOrRunsOut (λ r. (node_entries r.0.items, r.1.now)) result (fields_at levels count bytes.now) }
+    ensures { ReadsOrRunsOut entries_and_rest result (fields_at levels count bytes.now) }
 {
     let mut members = Vec::new(alloc);
     let mut rest = bytes;
