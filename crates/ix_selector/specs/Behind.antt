@@ -1,5 +1,5 @@
 -- Which selectors, in which recursions, are left of a selector at its root and behind a step.
-use Rattle.std.specs.Prelude.{ℕ, ◌+◌, ◌-◌, nat_eq, nat_lt, nat_le, Bool, true, false, if◌then◌else◌, bytes_eq, List, [], ◌∷◌, ◌++◌, map, Option, Some, None}
+use Rattle.std.specs.Prelude.{◌≡◌, ℕ, ◌+◌, ◌-◌, nat_eq, nat_lt, nat_le, Bool, true, false, if◌then◌else◌, bytes_eq, List, [], ◌∷◌, ◌++◌, map, Option, Some, None}
 use Rattle.std.specs.Option.{option_eq, option_cmp}
 use Rattle.std.specs.declared.cmp.Ordering.{Ordering}
 use Rattle.std.specs.Ordering.{nat_cmp, on, then_cmp, eq_of_both}
@@ -143,6 +143,12 @@ residual_of s = merged (standing (leads s 0 [] None))
 -- behind a step: nothing where the child isn't entered
 unfoldable pub residual_behind : List Place → Step → List Place
 residual_behind places t = let found = all_lead_behind places t in entering (standing found) (again found)
+
+abbrev pub IsLeftBehind : List Place → Step → List Place → Type 0
+IsLeftBehind places t r = r ≡ residual_behind places t
+
+abbrev pub NothingIsLeftBehind : List Place → Step → Type 0
+NothingIsLeftBehind places t = residual_behind places t ≡ []
 
 -- behind each step of a path in turn
 abbrev pub residual_along : List Place → Path → List Place

@@ -3,8 +3,8 @@ use Rattle.std.specs.Prelude.{◌≡◌, ℕ, ◌+◌, ◌<◌, ◌≤◌, List,
 use Rattle.std.specs.Global.{Vec}
 use Rattle.ix_selector.specs.declared.spot.Spot.{Spot}
 use Rattle.ix_selector.specs.declared.spot.Spot.TheVariants.{Matcher, All, Fields, Index, Range, Recursive, Union, Edge}
-use Rattle.ix_selector.specs.Pattern.{Pattern}
-use Rattle.ix_selector.specs.Places.{at, places_of}
+use Rattle.ix_selector.specs.Pattern.{Pattern, IsSelector}
+use Rattle.ix_selector.specs.Places.{at, places_of, AreSpots, AreNamedOnce}
 use Rattle.ix_selector.specs.Behind.{inside_of}
 
 abbrev pub number_of : Vec ℕ × ℕ → ℕ
@@ -34,3 +34,17 @@ pub record IsLaid (places : List Pattern) (n : ℕ) (x : Spot) : Type 0 where
 -- so it is at each place from m on
 pub record AreLaidFrom (m : ℕ) (spots : List Spot) : Type 0 where
   pub laid : (n : ℕ) (x : Spot) → m ≤ n → n < length spots → x ≡ get_or spots n x → IsLaid (places_of spots) n x
+
+-- the selectors at these places, and all that is inside them, are the places that were put behind those that were there
+abbrev pub AreRowBehind : Vec Spot → Vec Spot → List ℕ → Type 0
+AreRowBehind old new ks = AreRow (places_of new.items) (length old.items) ks (length new.items)
+
+-- these are the places of a selector, and the last of them is its own
+abbrev pub IsTableOf : List Spot → ℕ → Type 0
+IsTableOf spots root =
+    IsSelector (at (places_of spots) root) × AreSpots 0 spots × AreNamedOnce spots × (root + 1 ≡ length spots)
+    × AreLaidFrom 0 spots × (root ≡ inside_of (at (places_of spots) root))
+
+-- the last of these places is that of the selector
+abbrev pub IsRootOf : List Spot → Pattern → ℕ → Type 0
+IsRootOf spots s root = (root + 1 ≡ length spots) × (at (places_of spots) root ≡ s)

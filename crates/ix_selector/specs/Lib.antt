@@ -25,3 +25,4 @@ pub mod Behind
 pub mod Merging
 pub mod Laid
 pub mod Compared
+pub mod Laws

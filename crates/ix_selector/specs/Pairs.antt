@@ -125,6 +125,10 @@ Stands edge = ⊥
 abbrev pub IsStanding : List Spot → Pair → Type 0
 IsStanding spots x = Stands (selector_at spots x)
 
+-- places of these that stand
+abbrev pub AreStandingPairs : List Spot → List Pair → Type 0
+AreStandingPairs spots xs = All (IsPair spots) xs × All (IsStanding spots) xs
+
 -- no edge of it stands before a step
 pub record NoEdge (s : Pattern) : Type 0 where
   pub around : Around

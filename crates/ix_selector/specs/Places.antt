@@ -1,11 +1,13 @@
 -- The places of a selector, by number: itself and the selectors inside it, each behind those inside it.
-use Rattle.std.specs.Prelude.{◌≡◌, ◌⊎◌, ℕ, ◌+◌, ◌<◌, ◌≤◌, List, [], ◌∷◌, ◌++◌, map, get_or}
+use Rattle.std.specs.Prelude.{◌≡◌, ◌⊎◌, ℕ, ◌+◌, ◌<◌, ◌≤◌, List, [], ◌∷◌, ◌++◌, map, get_or, length}
 use Rattle.std.specs.Global.{Vec}
 use Rattle.std.specs.declared.cmp.Ordering.TheVariants.{Less}
 use Rattle.ix_cbor.specs.Spelling.{key_cmp}
 use Rattle.ix_selector.specs.declared.spot.Spot.{Spot}
 use Rattle.ix_selector.specs.declared.spot.Spot.TheVariants.{Matcher, All, Fields, Index, Range, Recursive, Union, Edge}
-use Rattle.ix_selector.specs.Pattern.{Pattern, matcher, all, fields, index, range, recursive, union, edge, fields_of, members_of}
+use Rattle.ix_selector.specs.Pattern.{Pattern, matcher, all, fields, index, range, recursive, union, edge, fields_of, members_of, pattern_of}
+use Rattle.ix_selector.specs.declared.sel.Sel.{Sel}
+use Rattle.ix_selector.specs.Views.{seen_field}
 
 -- the selector at a place
 abbrev pub at : List Pattern → ℕ → Pattern
@@ -107,3 +109,26 @@ AreFrom m (x ∷ xs) = ((k : ℕ) → Names x k → m ≤ k) × AreFrom m xs
 -- no spot names the place, which is from a number on
 abbrev pub IsFreeFrom : ℕ → List Spot → ℕ → Type 0
 IsFreeFrom m xs k = (m ≤ k) × IsFree xs k
+
+-- ---- what is put behind the places that are there
+
+-- the selector stands at the place
+abbrev pub IsAtPlace : List Spot → Pattern → ℕ → Type 0
+IsAtPlace spots s n = (n < length spots) × (at (places_of spots) n ≡ s)
+
+-- the spot is to stand behind these, as the selector
+abbrev pub IsSpotOf : List Spot → Pattern → Spot → Type 0
+IsSpotOf spots s x = IsSpot (length spots) x × (seen (places_of spots) x ≡ s)
+
+-- the numbers behind the names are the places of these fields
+abbrev pub AreFieldsAt : List Spot → List (Vec ℕ × Sel) → List (Vec ℕ × ℕ) → Type 0
+AreFieldsAt spots fs names =
+    AreNamedBelow (length spots) names × AreRising names × (map (named_at (places_of spots)) names ≡ map seen_field fs)
+
+-- the numbers are the places of these members
+abbrev pub AreMembersAt : List Spot → List Sel → List ℕ → Type 0
+AreMembersAt spots ss ks = AreBelow (length spots) ks × (map (at (places_of spots)) ks ≡ map pattern_of ss)
+
+-- the places that are named were put behind those that were there, and no spot names them
+abbrev pub AreFreeBehind : Vec Spot → Vec Spot → (ℕ → Type 0) → Type 0
+AreFreeBehind old new Named = (k : ℕ) → Named k → IsFreeFrom (length old.items) new.items k

@@ -1,15 +1,18 @@
 -- Where members of a union and edges lead.
-use Rattle.std.specs.Prelude.{◌≡◌, ℕ, ◌-◌, List, [], ◌∷◌, ◌++◌, map, Option, Some, None}
+use Rattle.std.specs.Prelude.{◌≡◌, ℕ, ◌-◌, ◌≤◌, List, [], ◌∷◌, ◌++◌, map, length, Option, Some, None}
 use Rattle.ix_selector.specs.declared.pair.Pair.{Pair}
 use Rattle.ix_selector.specs.declared.pair.Recursion.{Recursion}
 use Rattle.ix_selector.specs.declared.spot.Spot.{Spot}
 use Rattle.ix_selector.specs.declared.reached.Reached.{Reached}
 use Rattle.ix_selector.specs.Pattern.{Pattern}
 use Rattle.ix_selector.specs.Enters.{Step, Frame}
-use Rattle.ix_selector.specs.Places.{at}
-use Rattle.ix_selector.specs.Residual.{Place}
-use Rattle.ix_selector.specs.Pairs.{lowered, seen_pairs}
-use Rattle.ix_selector.specs.Behind.{inside_of, leads, standing, again, entering, leads_behind}
+use Rattle.std.specs.List.{All}
+use Rattle.ix_selector.specs.Places.{at, AreSpots, AreNamedOnce}
+use Rattle.ix_selector.specs.Laid.{AreLaidFrom}
+use Rattle.ix_selector.specs.declared.step.Step.{Step as RustStep}
+use Rattle.ix_selector.specs.Residual.{Place, step_of}
+use Rattle.ix_selector.specs.Pairs.{lowered, place_of, seen_pairs, IsPair, IsStanding, HasNoEdge, Stands, EntersAt, SomeEnter, ReachedEnters, Same, Joins, LeadsTo, LeadsNowhere}
+use Rattle.ix_selector.specs.Behind.{inside_of, leads, leads_from, all_lead, standing, again, entering, leads_behind, leads_behind_from, residual_behind}
 
 -- the members of a union, in the recursion round it
 abbrev pub members_at : Pair → List ℕ → List Pair
@@ -43,3 +46,65 @@ LeadsAs places n t k =
 -- behind the step it leads nowhere
 abbrev pub LeadsToNone : List Pattern → ℕ → Step → Type 0
 LeadsToNone places n t = (e : List Frame) (q : Option ℕ) → leads_behind (at places n) t (n - inside_of (at places n)) e q ≡ []
+
+-- what was reached enters the paths of one more pair
+abbrev pub EntersPair : List Spot → Pair → Reached → Reached → Type 0
+EntersPair spots x old new = Joins (ReachedEnters spots new) (ReachedEnters spots old) (EntersAt spots x)
+
+-- those of the members of a union
+abbrev pub EntersMembers : List Spot → Pair → List ℕ → Reached → Reached → Type 0
+EntersMembers spots x ks old new = Joins (ReachedEnters spots new) (ReachedEnters spots old) (SomeEnter spots (members_at x ks))
+
+-- those that a pair enters behind a step
+abbrev pub EntersStep : List Spot → Pair → RustStep → Reached → Reached → Type 0
+EntersStep spots x t old new = Joins (ReachedEnters spots new) (ReachedEnters spots old) (λ p. EntersAt spots x (step_of t ∷ p))
+
+-- to what was reached is added where a pair leads without a step
+abbrev pub AddsPair : List Spot → Pair → Reached → Reached → Type 0
+AddsPair spots x old new = Adds spots old new (leads_from (place_of spots x))
+
+-- where the members of a union lead
+abbrev pub AddsMembers : List Spot → Pair → List ℕ → Reached → Reached → Type 0
+AddsMembers spots x ks old new = Adds spots old new (all_lead (seen_pairs spots (members_at x ks)))
+
+-- where a pair leads behind a step
+abbrev pub AddsStep : List Spot → Pair → RustStep → Reached → Reached → Type 0
+AddsStep spots x t old new = Adds spots old new (leads_behind_from (place_of spots x) (step_of t))
+
+-- a pair without an edge adds no sequence
+abbrev pub PairKeepsAgain : List Spot → Pair → Reached → Reached → Type 0
+PairKeepsAgain spots x old new = HasNoEdge spots x → new.again.items ≡ old.again.items
+
+-- nor do members without one
+abbrev pub MembersKeepAgain : List Spot → Pair → List ℕ → Reached → Reached → Type 0
+MembersKeepAgain spots x ks old new = All (HasNoEdge spots) (members_at x ks) → new.again.items ≡ old.again.items
+
+-- an edge in this recursion leads to its sequence once more
+abbrev pub EntersAgain : Option Recursion → Reached → Reached → Type 0
+EntersAgain r old new = new.again.items ≡ old.again.items ++ entered_again r
+
+-- pairs that stand enter the paths of what was reached
+abbrev pub EnterAsReached : List Spot → Reached → List Pair → Type 0
+EnterAsReached spots reached rs = Same (SomeEnter spots rs) (ReachedEnters spots reached)
+
+-- those that pairs enter behind a step
+abbrev pub EnterBehind : List Spot → List Pair → RustStep → List Pair → Type 0
+EnterBehind spots xs t rs = Same (SomeEnter spots rs) (λ p. SomeEnter spots xs (step_of t ∷ p))
+
+-- as places they are what is left behind the step
+abbrev pub AreLeftBehind : List Spot → List Pair → RustStep → List Pair → Type 0
+AreLeftBehind spots xs t rs = seen_pairs spots rs ≡ residual_behind (seen_pairs spots xs) (step_of t)
+
+-- the place n leads to the place k behind the step
+abbrev pub LeadsBeside : List Pattern → ℕ → Step → ℕ → Type 0
+LeadsBeside places n t k = LeadsTo (at places n) t (at places k)
+
+-- a place that stands enters nothing behind the step
+abbrev pub StandsAtEnd : List Pattern → ℕ → Step → Type 0
+StandsAtEnd places n t = Stands (at places n) → LeadsNowhere (at places n) t
+
+-- pairs of these places that stand, no two at one place
+abbrev pub AreLeftIn : List Spot → List Pair → Type 0
+AreLeftIn spots xs =
+    AreSpots 0 spots × All (IsPair spots) xs × All (IsStanding spots) xs × AreNamedOnce spots
+    × (length xs ≤ length spots) × AreLaidFrom 0 spots

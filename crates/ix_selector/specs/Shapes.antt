@@ -1,15 +1,17 @@
 -- What a selector is by its own map, and what the parts of reading answer.
-use Rattle.std.specs.Prelude.{◌≡◌, ℕ, List, map, Option, Result, Ok, Err}
+use Rattle.std.specs.Prelude.{◌≡◌, ℕ, List, codes, Option, Result, Ok, Err}
+use Rattle.std.specs.Borrow.{Bor}
 use Rattle.std.specs.Global.{Vec}
 use Rattle.ix_cbor.specs.declared.node.Node.{Node}
-use Rattle.ix_cbor.specs.Data.{Data, Items, Entries, data_of, items_of, entry_of, entries_of}
+use Rattle.ix_cbor.specs.Data.{Data, Items, Entries, data_of, node_items, node_entries}
 use Rattle.ix_selector.specs.declared.fault.SelFault.{SelFault}
 use Rattle.ix_selector.specs.declared.read.Around.{Around as RustAround}
 use Rattle.ix_selector.specs.declared.read.Around.TheVariants.{Outside, Unguarded, Guarded}
 use Rattle.ix_selector.specs.declared.read.Shape.{Shape}
 use Rattle.ix_selector.specs.declared.read.Shape.TheVariants.{Matcher, All, Fields, Index, Range, Recursive, Union, Edge}
+use Rattle.ix_selector.specs.Pattern as patterns
 use Rattle.ix_selector.specs.Pattern.{Pattern, matcher, all, fields, index, range, recursive, union, edge, Around, outside, unguarded, guarded, behind_step}
-use Rattle.ix_selector.specs.Reading.{Reader, ◌>>=◌, integer_of, entries_of_map, no_limit_of, depth_of, fields_read, members_read}
+use Rattle.ix_selector.specs.Reading.{Reader, ◌>>=◌, integer_of, entries_of_map, three_of, no_limit_of, depth_of, fields_read, members_read, read_with, selector_at}
 
 -- what stands round a selector, as the program keeps it
 abbrev pub around_of : RustAround → Around
@@ -19,10 +21,10 @@ around_of Guarded = guarded
 
 -- the entries of a map of the program, and the members of a list
 abbrev pub entries_data : List (Vec ℕ × Node) → Entries
-entries_data es = entries_of (map entry_of es)
+entries_data es = node_entries es
 
 abbrev pub items_data : List Node → Items
-items_data ds = items_of (map data_of ds)
+items_data ds = node_items ds
 
 -- a form whose body is a map
 abbrev pub in_map : (Entries → Result Pattern SelFault) → Data → Result Pattern SelFault
@@ -51,3 +53,37 @@ inside read around Edge = Ok edge
 abbrev pub Shapes : Reader → Around → Result Shape SelFault → Result Pattern SelFault → Type 0
 Shapes read around (Ok shape) meant = meant ≡ inside read around shape
 Shapes read around (Err e) meant = meant ≡ Err e
+
+-- so it is of a form, whatever reads inside and wherever it stands
+abbrev pub Forms : Result Shape SelFault → (Reader → Around → Data → Result Pattern SelFault) → Data → Type 0
+Forms found form d = (read : Reader) (around : Around) → Shapes read around found (form read around d)
+
+-- the same of a form that stands here
+abbrev pub FormsIn : RustAround → Result Shape SelFault → (Reader → Around → Data → Result Pattern SelFault) → Data → Type 0
+FormsIn here found form d = (read : Reader) → Shapes read (around_of here) found (form read (around_of here) d)
+
+-- the data of two nodes, and of three
+abbrev pub two_nodes : Bor Node × Bor Node → Data × Data
+two_nodes d = (data_of d.0.now, data_of d.1.now)
+
+abbrev pub three_nodes : Bor Node × Bor Node × Bor Node → Data × Data × Data
+three_nodes d = (data_of d.0.now, data_of d.1.now, data_of d.2.now)
+
+-- the end, the selector and the start of a range
+abbrev pub range_parts : Entries → Result (Data × Data × Data) SelFault
+range_parts es = three_of (codes "$") (codes ">") (codes "^") es
+
+-- the selector for which a node stands here, which nests at most so deep
+abbrev pub selector_in : ℕ → RustAround → Node → Result Pattern SelFault
+selector_in levels here node = selector_at levels (around_of here) (data_of node)
+
+-- the same, where what is inside it nests at most so deep
+abbrev pub selector_above : ℕ → RustAround → Node → Result Pattern SelFault
+selector_above levels here node = read_with (selector_at levels) (around_of here) (data_of node)
+
+-- the fields and the members of one that stands here
+abbrev pub fields_at : ℕ → RustAround → List (Vec ℕ × Node) → Result patterns.Fields SelFault
+fields_at levels here names = fields_read (selector_at levels (around_of here)) (entries_data names)
+
+abbrev pub members_at : ℕ → RustAround → List Node → Result patterns.Members SelFault
+members_at levels here nodes = members_read (selector_at levels (around_of here)) (items_data nodes)

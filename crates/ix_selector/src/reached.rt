@@ -1,12 +1,10 @@
 //! What is reached from a place without a step.
 
-ghost use Rattle.std.specs.Prelude.{◌≡◌, [], ◌++◌, OnOk};
+ghost use Rattle.std.specs.Prelude.{◌≡◌, [], OnOk};
 ghost use Rattle.ix_selector.specs.Places.{AreSpots, AreBelow};
-ghost use Rattle.ix_selector.specs.Pairs.{IsPair, HasNoEdge, AreReached, ReachedEnters, EntersAt, SomeEnter, Joins};
-ghost use Rattle.ix_selector.specs.Pairs.{place_of, seen_pairs};
-ghost use Rattle.ix_selector.specs.Reaching.{members_at, entered_again, Adds};
+ghost use Rattle.ix_selector.specs.Pairs.{IsPair, AreReached};
+ghost use Rattle.ix_selector.specs.Reaching.{members_at, EntersPair, EntersMembers, AddsPair, AddsMembers, PairKeepsAgain, MembersKeepAgain, EntersAgain};
 ghost use Rattle.ix_selector.specs.Laid.{AreLaidFrom};
-ghost use Rattle.ix_selector.specs.Behind.{leads_from, all_lead};
 ghost use Rattle.std.specs.List.{All};
 
 use crate::pair::{Pair, Pairs, Recursion};
@@ -42,9 +40,9 @@ pub(crate) fn reach(spots: &[Spot], pair: Pair, reached: &mut Reached) -> Result
     requires reached { AreReached spots.now reached.old }
     requires laid { AreLaidFrom 0 spots.now }
     ensures reached { OnOk result (AreReached spots.now reached.new) }
-    ensures enters { OnOk result (Joins (ReachedEnters spots.now reached.new) (ReachedEnters spots.now reached.old) (EntersAt spots.now pair)) }
-    ensures exact { OnOk result (Adds spots.now reached.old reached.new (leads_from (place_of spots.now pair))) }
-    ensures again { OnOk result (HasNoEdge spots.now pair → reached.new.again.items ≡ reached.old.again.items) }
+    ensures enters { OnOk result (EntersPair spots.now pair reached.old reached.new) }
+    ensures exact { OnOk result (AddsPair spots.now pair reached.old reached.new) }
+    ensures again { OnOk result (PairKeepsAgain spots.now pair reached.old reached.new) }
 {
     match &spots[pair.place] {
         Spot::Recursive(depth, sequence) => {
@@ -75,9 +73,9 @@ fn reach_each(
     requires reached { AreReached spots.now reached.old }
     requires laid { AreLaidFrom 0 spots.now }
     ensures reached { OnOk result (AreReached spots.now reached.new) }
-    ensures enters { OnOk result (Joins (ReachedEnters spots.now reached.new) (ReachedEnters spots.now reached.old) (SomeEnter spots.now (members_at pair members.now))) }
-    ensures exact { OnOk result (Adds spots.now reached.old reached.new (all_lead (seen_pairs spots.now (members_at pair members.now)))) }
-    ensures again { OnOk result (All (HasNoEdge spots.now) (members_at pair members.now) → reached.new.again.items ≡ reached.old.again.items) }
+    ensures enters { OnOk result (EntersMembers spots.now pair members.now reached.old reached.new) }
+    ensures exact { OnOk result (AddsMembers spots.now pair members.now reached.old reached.new) }
+    ensures again { OnOk result (MembersKeepAgain spots.now pair members.now reached.old reached.new) }
 {
     for member in members {
         let place = *member;
@@ -90,7 +88,7 @@ fn reach_each(
 // Adds the sequence that an edge enters again, where its recursion has a depth left.
 fn reach_again(pair: Pair, reached: &mut Reached) -> Result<(), AllocError>
     ensures standing { reached.new.standing ≡ reached.old.standing }
-    ensures again { OnOk result (reached.new.again.items ≡ reached.old.again.items ++ entered_again pair.recursion) }
+    ensures again { OnOk result (EntersAgain pair.recursion reached.old reached.new) }
 {
     let Some(recursion) = pair.recursion else {
         return Ok(());

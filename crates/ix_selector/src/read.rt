@@ -1,12 +1,12 @@
 //! The parts of reading a selector.
 
-ghost use Rattle.std.specs.Prelude.{◌≡◌, codes, map, IfOk};
+ghost use Rattle.std.specs.Prelude.{◌≡◌};
 ghost use Rattle.ix_cbor.specs.Data.{data_of};
-ghost use Rattle.ix_selector.specs.Pattern.{pattern_of, fields_of, members_of, Around as SpecAround, behind_step};
-ghost use Rattle.ix_selector.specs.Reading.{Reader, integer_of, entries_of_map, one_of, two_of, three_of, has_key, limit_of, matcher_of, all_read, fields_form, index_form, range_form, recursive_form, union_form, edge_form, form_of, fields_read, members_read, read_with, selector_at, without_envelope, selector_of};
-ghost use Rattle.ix_selector.specs.Views.{seen_field};
+ghost use Rattle.ix_selector.specs.Pattern.{pattern_of, behind_step};
+ghost use Rattle.ix_selector.specs.Reading.{integer_of, entries_of_map, one_of, two_of, has_key, limit_of, matcher_of, all_read, fields_form, index_form, range_form, recursive_form, union_form, edge_form, form_of, read_with, selector_at, without_envelope, selector_of};
+ghost use Rattle.ix_selector.specs.Views.{seen_fields, seen_members};
 ghost use Rattle.ix_selector.specs.Gives.{Gives, Reads};
-ghost use Rattle.ix_selector.specs.Shapes.{around_of, entries_data, items_data, in_map, none_limit, depth_limit, inside, Shapes};
+ghost use Rattle.ix_selector.specs.Shapes.{around_of, two_nodes, three_nodes, entries_data, in_map, none_limit, depth_limit, range_parts, selector_in, selector_above, fields_at, members_at, inside, Forms, FormsIn};
 
 use crate::fault::{Form, SelFault};
 use crate::sel::Sel;
@@ -85,7 +85,7 @@ fn both<'t>(
     first: &[u8],
     second: &[u8],
 ) -> Result<(&'t Node, &'t Node), SelFault>
-    ensures { Reads (λ d. (data_of d.0.now, data_of d.1.now)) result (two_of first.now second.now (entries_data entries.now)) }
+    ensures { Reads two_nodes result (two_of first.now second.now (entries_data entries.now)) }
 {
     let [(name, value), rest @ ..] = entries else {
         return Err(SelFault::Keys);
@@ -99,7 +99,7 @@ fn both<'t>(
 
 // The values of the three keys of a range.
 fn range_parts(entries: &[(Vec<u8>, Node)]) -> Result<(&Node, &Node, &Node), SelFault>
-    ensures { Reads (λ d. (data_of d.0.now, data_of d.1.now, data_of d.2.now)) result (three_of (codes "$") (codes ">") (codes "^") (entries_data entries.now)) }
+    ensures { Reads three_nodes result (range_parts (entries_data entries.now)) }
 {
     let [(name, value), rest @ ..] = entries else {
         return Err(SelFault::Keys);
@@ -114,7 +114,7 @@ fn range_parts(entries: &[(Vec<u8>, Node)]) -> Result<(&Node, &Node, &Node), Sel
 
 // A matcher may have a label, which is a text.
 fn matcher(body: &Node) -> Result<Shape<'_>, SelFault>
-    ensures { (read : Reader) (around : SpecAround) → Shapes read around result (in_map matcher_of (data_of body.now)) }
+    ensures { Forms result (λ _ _. in_map matcher_of) (data_of body.now) }
 {
     for (name, value) in map_entries(body)? {
         if name.as_slice() != b"label".as_slice() {
@@ -128,20 +128,20 @@ fn matcher(body: &Node) -> Result<Shape<'_>, SelFault>
 }
 
 fn all(body: &Node) -> Result<Shape<'_>, SelFault>
-    ensures { (read : Reader) (around : SpecAround) → Shapes read around result (in_map (all_read read around) (data_of body.now)) }
+    ensures { Forms result (λ read around. in_map (all_read read around)) (data_of body.now) }
 {
     Ok(Shape::All(only(map_entries(body)?, b">")?))
 }
 
 fn fields(body: &Node) -> Result<Shape<'_>, SelFault>
-    ensures { (read : Reader) (around : SpecAround) → Shapes read around result (in_map (fields_form read around) (data_of body.now)) }
+    ensures { Forms result (λ read around. in_map (fields_form read around)) (data_of body.now) }
 {
     let names = only(map_entries(body)?, b"f>")?;
     Ok(Shape::Fields(map_entries(names)?))
 }
 
 fn index(body: &Node) -> Result<Shape<'_>, SelFault>
-    ensures { (read : Reader) (around : SpecAround) → Shapes read around result (in_map (index_form read around) (data_of body.now)) }
+    ensures { Forms result (λ read around. in_map (index_form read around)) (data_of body.now) }
 {
     let (next, position) = both(map_entries(body)?, b">", b"i")?;
     Ok(Shape::Index(integer(position)?, next))
@@ -149,7 +149,7 @@ fn index(body: &Node) -> Result<Shape<'_>, SelFault>
 
 // The start is tested before the end.
 fn range(body: &Node) -> Result<Shape<'_>, SelFault>
-    ensures { (read : Reader) (around : SpecAround) → Shapes read around result (in_map (range_form read around) (data_of body.now)) }
+    ensures { Forms result (λ read around. in_map (range_form read around)) (data_of body.now) }
 {
     let (end, next, start) = range_parts(map_entries(body)?)?;
     let start = integer(start)?;
@@ -158,7 +158,7 @@ fn range(body: &Node) -> Result<Shape<'_>, SelFault>
 }
 
 fn union(body: &Node) -> Result<Shape<'_>, SelFault>
-    ensures { (read : Reader) (around : SpecAround) → Shapes read around result (union_form read around (data_of body.now)) }
+    ensures { Forms result union_form (data_of body.now) }
 {
     match body {
         Node::List(members) => Ok(Shape::Union(members.as_slice())),
@@ -167,7 +167,7 @@ fn union(body: &Node) -> Result<Shape<'_>, SelFault>
 }
 
 fn edge(body: &Node, around: Around) -> Result<Shape<'_>, SelFault>
-    ensures { (read : Reader) → Shapes read (around_of around) result (in_map (edge_form (around_of around)) (data_of body.now)) }
+    ensures { FormsIn around result (λ _ around. in_map (edge_form around)) (data_of body.now) }
 {
     let [] = map_entries(body)? else {
         return Err(SelFault::Keys);
@@ -220,7 +220,7 @@ fn has_key(entries: &[(Vec<u8>, Node)], key: &[u8]) -> bool
 }
 
 fn recursive(body: &Node) -> Result<Shape<'_>, SelFault>
-    ensures { (read : Reader) (around : SpecAround) → Shapes read around result (in_map (recursive_form read) (data_of body.now)) }
+    ensures { Forms result (λ read _. in_map (recursive_form read)) (data_of body.now) }
 {
     let entries = map_entries(body)?;
     if has_key(entries, b"!") {
@@ -232,7 +232,7 @@ fn recursive(body: &Node) -> Result<Shape<'_>, SelFault>
 
 // The form that a key names, with its body.
 fn shape_named<'t>(key: &[u8], body: &'t Node, around: Around) -> Result<Shape<'t>, SelFault>
-    ensures { (read : Reader) → Shapes read (around_of around) result (form_of read (around_of around) key.now (data_of body.now)) }
+    ensures { FormsIn around result (λ read around. form_of read around key.now) (data_of body.now) }
 {
     let [letter] = key else {
         return Err(SelFault::Unknown);
@@ -253,7 +253,7 @@ fn shape_named<'t>(key: &[u8], body: &'t Node, around: Around) -> Result<Shape<'
 }
 
 fn shape_of(node: &Node, around: Around) -> Result<Shape<'_>, SelFault>
-    ensures { (read : Reader) → Shapes read (around_of around) result (read_with read (around_of around) (data_of node.now)) }
+    ensures { FormsIn around result read_with (data_of node.now) }
 {
     let Node::Map(entries) = node else {
         return Err(SelFault::NotMap);
@@ -267,7 +267,7 @@ fn shape_of(node: &Node, around: Around) -> Result<Shape<'_>, SelFault>
 // A selector that nests at most so deep, itself counted.
 #[cycle(levels)]
 fn selector_at(alloc: Global, node: &Node, around: Around, levels: u32) -> Result<Sel, SelFault>
-    ensures { Gives pattern_of result (selector_at levels (around_of around) (data_of node.now)) }
+    ensures { Gives pattern_of result (selector_in levels around node.now) }
 {
     if levels == 0 {
         Err(SelFault::Nesting)
@@ -278,7 +278,7 @@ fn selector_at(alloc: Global, node: &Node, around: Around, levels: u32) -> Resul
 
 #[cycle(levels)]
 fn selector_with(alloc: Global, node: &Node, around: Around, levels: u32) -> Result<Sel, SelFault>
-    ensures { Gives pattern_of result (read_with (selector_at levels) (around_of around) (data_of node.now)) }
+    ensures { Gives pattern_of result (selector_above levels around node.now) }
 {
     let shape = shape_of(node, around)?;
     selector_inside(alloc, shape, around, levels)
@@ -318,7 +318,7 @@ fn selector_inside(
 
 #[cycle(levels)]
 fn boxed(alloc: Global, node: &Node, around: Around, levels: u32) -> Result<Box<Sel>, SelFault>
-    ensures { Gives (λ b. pattern_of b.value) result (selector_at levels (around_of around) (data_of node.now)) }
+    ensures { Gives (λ b. pattern_of b.value) result (selector_in levels around node.now) }
 {
     let sel = selector_at(alloc, node, around, levels)?;
     Ok(Box::new(alloc, sel)?)
@@ -331,7 +331,7 @@ fn fields_inside(
     around: Around,
     levels: u32,
 ) -> Result<Vec<(Vec<u8>, Sel)>, SelFault>
-    ensures { Gives (λ v. fields_of (map seen_field v.items)) result (fields_read (selector_at levels (around_of around)) (entries_data names.now)) }
+    ensures { Gives (λ v. seen_fields v.items) result (fields_at levels around names.now) }
 {
     let mut fields = Vec::new(alloc);
     for (name, node) in names {
@@ -348,7 +348,7 @@ fn members_inside(
     around: Around,
     levels: u32,
 ) -> Result<Vec<Sel>, SelFault>
-    ensures { Gives (λ v. members_of (map pattern_of v.items)) result (members_read (selector_at levels (around_of around)) (items_data nodes.now)) }
+    ensures { Gives (λ v. seen_members v.items) result (members_at levels around nodes.now) }
 {
     let mut members = Vec::new(alloc);
     for node in nodes {

@@ -1,10 +1,8 @@
 //! What is left of a selector at a place.
 
-ghost use Rattle.std.specs.Prelude.{◌≡◌, ◌↔◌, [], ◌∷◌, IfOk, IfSome, IfNone};
-ghost use Rattle.ix_selector.specs.Enters.{Enters, Path};
-ghost use Rattle.ix_selector.specs.IsEntered.{is_entered};
-ghost use Rattle.ix_selector.specs.Residual.{ResidualEnters, residual_enters, step_of, IsBehind};
-ghost use Rattle.ix_selector.specs.Behind.{residual_of, residual_behind, same_residual, residual_order};
+ghost use Rattle.std.specs.Prelude.{◌≡◌, [], ◌∷◌, IfOk, IfSome, IfNone};
+ghost use Rattle.ix_selector.specs.Residual.{ResidualEnters, EntersAs, IsTestedAs, EntersBehind, step_of, IsBehind};
+ghost use Rattle.ix_selector.specs.Behind.{residual_of, IsLeftBehind, NothingIsLeftBehind, same_residual, residual_order};
 
 use crate::merge::merged;
 use crate::pair::{Pair, Pairs};
@@ -27,12 +25,10 @@ pub struct Residual<'s> {
 }
 
 impl<'s> Model for Residual<'s> {
-    ghost use Rattle.std.specs.Prelude.{◌≤◌, List, map, length};
-    ghost use Rattle.std.specs.List.{All};
-    ghost use Rattle.ix_selector.specs.Places.{AreSpots, AreNamedOnce};
-    ghost use Rattle.ix_selector.specs.Pairs.{place_of, IsPair, IsStanding};
+    ghost use Rattle.std.specs.Prelude.{List, map};
+    ghost use Rattle.ix_selector.specs.Pairs.{place_of};
     ghost use Rattle.ix_selector.specs.Residual.{Place, coded_places};
-    ghost use Rattle.ix_selector.specs.Laid.{AreLaidFrom};
+    ghost use Rattle.ix_selector.specs.Reaching.{AreLeftIn};
 
     ghost Value = { List Place };
 
@@ -40,14 +36,14 @@ impl<'s> Model for Residual<'s> {
 
     ghost view = { λ r. map (place_of r.spots.now) r.pairs.items };
 
-    ghost invariant = { λ r. AreSpots 0 r.spots.now × All (IsPair r.spots.now) r.pairs.items × All (IsStanding r.spots.now) r.pairs.items × AreNamedOnce r.spots.now × (length r.pairs.items ≤ length r.spots.now) × AreLaidFrom 0 r.spots.now };
+    ghost invariant = { λ r. AreLeftIn r.spots.now r.pairs.items };
 }
 
 impl<'s> Residual<'s> {
     /// What a selector enters, from the root.
     pub fn start(alloc: Global, selector: &'s Selector) -> Result<Residual<'s>, AllocError>
-        ensures entered { IfOk result (λ r. (p : Path) → (ResidualEnters r p ↔ Enters selector.now [] p)) }
-        ensures tested { IfOk result (λ r. (p : Path) → residual_enters r p ≡ is_entered selector.now p) }
+        ensures entered { IfOk result (EntersAs selector.now) }
+        ensures tested { IfOk result (IsTestedAs selector.now) }
         ensures exact { IfOk result (λ r. r ≡ residual_of selector.now) }
     {
         let (spots, place) = selector.places();
@@ -64,11 +60,11 @@ impl<'s> Residual<'s> {
     /// What is left behind a step, where the child is entered.
     pub fn step(&self, alloc: Global, step: &Step) -> Result<Option<Residual<'s>>, AllocError>
         ensures entered { IfOk result (λ o. IfSome o (λ r. ResidualEnters r [])) }
-        ensures below { IfOk result (λ o. IfSome o (λ r. (p : Path) → (ResidualEnters r p ↔ ResidualEnters self.now (step_of step.now ∷ p)))) }
+        ensures below { IfOk result (λ o. IfSome o (EntersBehind self.now (step_of step.now))) }
         ensures none { IfOk result (λ o. IfNone o (¬ ResidualEnters self.now (step_of step.now ∷ []))) }
         ensures tested { IfOk result (IsBehind self.now (step_of step.now)) }
-        ensures exact { IfOk result (λ o. IfSome o (λ r. r ≡ residual_behind self.now (step_of step.now))) }
-        ensures stays_out { IfOk result (λ o. IfNone o (residual_behind self.now (step_of step.now) ≡ [])) }
+        ensures exact { IfOk result (λ o. IfSome o (IsLeftBehind self.now (step_of step.now))) }
+        ensures stays_out { IfOk result (λ o. IfNone o (NothingIsLeftBehind self.now (step_of step.now))) }
     {
         let spots = self.spots;
         let pairs = stepped(alloc, spots, self.pairs.as_slice(), step)?;

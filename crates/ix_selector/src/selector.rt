@@ -1,10 +1,10 @@
 //! Selectors that keep the rules on edges.
 
-ghost use Rattle.std.specs.Prelude.{◌≡◌, ◌+◌, length, IfOk};
+ghost use Rattle.std.specs.Prelude.{◌≡◌, IfOk};
 ghost use Rattle.ix_selector.specs.Pattern.{IsSelector};
-ghost use Rattle.ix_selector.specs.Places.{at, places_of, AreSpots, AreNamedOnce};
+ghost use Rattle.ix_selector.specs.Places.{AreSpots, AreNamedOnce};
 ghost use Rattle.ix_selector.specs.Reading.{selector_of};
-ghost use Rattle.ix_selector.specs.Laid.{AreLaidFrom};
+ghost use Rattle.ix_selector.specs.Laid.{AreLaidFrom, IsRootOf};
 ghost use Rattle.ix_selector.specs.Behind.{inside_of};
 ghost use Rattle.ix_selector.specs.Gives.{Gives};
 
@@ -24,12 +24,10 @@ pub struct Selector {
 }
 
 impl Model for Selector {
-    ghost use Rattle.std.specs.Prelude.{◌≡◌, ◌+◌, length};
-    ghost use Rattle.ix_selector.specs.Pattern.{Pattern, IsSelector};
+    ghost use Rattle.ix_selector.specs.Pattern.{Pattern};
     ghost use Rattle.ix_selector.specs.PatternCode.{coded_pattern};
-    ghost use Rattle.ix_selector.specs.Places.{at, places_of, AreSpots, AreNamedOnce};
-    ghost use Rattle.ix_selector.specs.Laid.{AreLaidFrom};
-    ghost use Rattle.ix_selector.specs.Behind.{inside_of};
+    ghost use Rattle.ix_selector.specs.Places.{at, places_of};
+    ghost use Rattle.ix_selector.specs.Laid.{IsTableOf};
 
     ghost Value = { Pattern };
 
@@ -37,7 +35,7 @@ impl Model for Selector {
 
     ghost view = { λ s. at (places_of s.spots.items) s.root };
 
-    ghost invariant = { λ s. IsSelector (at (places_of s.spots.items) s.root) × AreSpots 0 s.spots.items × AreNamedOnce s.spots.items × (s.root + 1 ≡ length s.spots.items) × AreLaidFrom 0 s.spots.items × (s.root ≡ inside_of (at (places_of s.spots.items) s.root)) };
+    ghost invariant = { λ s. IsTableOf s.spots.items s.root };
 }
 
 impl Selector {
@@ -58,7 +56,7 @@ impl Selector {
         ensures once { AreNamedOnce result.0.now }
         ensures laid { AreLaidFrom 0 result.0.now }
         ensures whole { result.1 ≡ inside_of self.now }
-        ensures root { (result.1 + 1 ≡ length result.0.now) × (at (places_of result.0.now) result.1 ≡ self.now) }
+        ensures root { IsRootOf result.0.now self.now result.1 }
         ensures selector { IsSelector self.now }
     {
         (self.spots.as_slice(), self.root)

@@ -1,13 +1,13 @@
 //! The places of a selector: itself and the selectors inside it, by number.
 
-ghost use Rattle.std.specs.Prelude.{◌≡◌, ℕ, ◌+◌, ◌<◌, ◌≤◌, map, length, IfOk};
-ghost use Rattle.ix_selector.specs.Pattern.{pattern_of, fields_of, members_of};
+ghost use Rattle.std.specs.Prelude.{◌≡◌, ◌+◌, ◌≤◌, map, length, IfOk};
+ghost use Rattle.ix_selector.specs.Pattern.{pattern_of};
 ghost use Rattle.ix_selector.specs.Ordered.{IsOrdered, AreOrdered, EachOrdered};
-ghost use Rattle.ix_selector.specs.Views.{seen_field};
-ghost use Rattle.ix_selector.specs.Places.{at, named_at, places_of, AreSpots, AreNamedOnce, IsSpot, seen, AreRising, AreNamedBelow, AreBelow, IsNumber, HasNumber, Names, IsFreeFrom};
+ghost use Rattle.ix_selector.specs.Views.{seen_fields, seen_members};
+ghost use Rattle.ix_selector.specs.Places.{AreSpots, AreNamedOnce, IsAtPlace, IsSpotOf, AreFieldsAt, AreMembersAt, AreFreeBehind, IsNumber, HasNumber, Names};
 ghost use Rattle.ix_selector.specs.Grown.{Grows};
 ghost use Rattle.ix_selector.specs.Behind.{inside_of};
-ghost use Rattle.ix_selector.specs.Laid.{number_of, numbers_of, AreRow, AreLaidFrom};
+ghost use Rattle.ix_selector.specs.Laid.{number_of, numbers_of, AreRowBehind, AreLaidFrom};
 
 use crate::sel::Sel;
 use std::alloc::{AllocError, Global};
@@ -38,7 +38,7 @@ pub(crate) fn push_spots(
     requires spots { AreSpots 0 spots.old.items }
     requires once { AreNamedOnce spots.old.items }
     ensures grows { IfOk result (λ _. Grows spots.old.items spots.new.items) }
-    ensures place { IfOk result (λ n. (n < length spots.new.items) × (at (places_of spots.new.items) n ≡ pattern_of sel.now)) }
+    ensures place { IfOk result (IsAtPlace spots.new.items (pattern_of sel.now)) }
     ensures last { IfOk result (λ n. n + 1 ≡ length spots.new.items) }
     ensures behind { IfOk result (λ n. length spots.old.items ≤ n) }
     ensures number { IfOk result (λ n. n ≡ length spots.old.items + inside_of (pattern_of sel.now)) }
@@ -57,9 +57,9 @@ fn spot_of(alloc: Global, sel: &Sel, spots: &mut Vec<Spot>) -> Result<Spot, Allo
     requires spots { AreSpots 0 spots.old.items }
     requires once { AreNamedOnce spots.old.items }
     ensures grows { IfOk result (λ _. Grows spots.old.items spots.new.items) }
-    ensures spot { IfOk result (λ x. IsSpot (length spots.new.items) x × (seen (places_of spots.new.items) x ≡ pattern_of sel.now)) }
-    ensures free { IfOk result (λ x. (k : ℕ) → Names x k → IsFreeFrom (length spots.old.items) spots.new.items k) }
-    ensures row { IfOk result (λ x. AreRow (places_of spots.new.items) (length spots.old.items) (numbers_of x) (length spots.new.items)) }
+    ensures spot { IfOk result (IsSpotOf spots.new.items (pattern_of sel.now)) }
+    ensures free { IfOk result (λ x. AreFreeBehind spots.old spots.new (Names x)) }
+    ensures row { IfOk result (λ x. AreRowBehind spots.old spots.new (numbers_of x)) }
     ensures laid { IfOk result (λ _. AreLaidFrom (length spots.old.items) spots.new.items) }
 {
     match sel {
@@ -85,13 +85,13 @@ fn push_fields(
     fields: &[(Vec<u8>, Sel)],
     spots: &mut Vec<Spot>,
 ) -> Result<Vec<(Vec<u8>, usize)>, AllocError>
-    requires ordered { AreOrdered (fields_of (map seen_field fields.now)) }
+    requires ordered { AreOrdered (seen_fields fields.now) }
     requires spots { AreSpots 0 spots.old.items }
     requires once { AreNamedOnce spots.old.items }
     ensures grows { IfOk result (λ _. Grows spots.old.items spots.new.items) }
-    ensures named { IfOk result (λ names. AreNamedBelow (length spots.new.items) names.items × AreRising names.items × (map (named_at (places_of spots.new.items)) names.items ≡ map seen_field fields.now)) }
-    ensures free { IfOk result (λ names. (k : ℕ) → HasNumber names.items k → IsFreeFrom (length spots.old.items) spots.new.items k) }
-    ensures row { IfOk result (λ names. AreRow (places_of spots.new.items) (length spots.old.items) (map number_of names.items) (length spots.new.items)) }
+    ensures named { IfOk result (λ names. AreFieldsAt spots.new.items fields.now names.items) }
+    ensures free { IfOk result (λ names. AreFreeBehind spots.old spots.new (HasNumber names.items)) }
+    ensures row { IfOk result (λ names. AreRowBehind spots.old spots.new (map number_of names.items)) }
     ensures laid { IfOk result (λ _. AreLaidFrom (length spots.old.items) spots.new.items) }
 {
     let mut names = Vec::new(alloc);
@@ -109,13 +109,13 @@ fn push_members(
     members: &[Sel],
     spots: &mut Vec<Spot>,
 ) -> Result<Vec<usize>, AllocError>
-    requires ordered { EachOrdered (members_of (map pattern_of members.now)) }
+    requires ordered { EachOrdered (seen_members members.now) }
     requires spots { AreSpots 0 spots.old.items }
     requires once { AreNamedOnce spots.old.items }
     ensures grows { IfOk result (λ _. Grows spots.old.items spots.new.items) }
-    ensures members { IfOk result (λ numbers. AreBelow (length spots.new.items) numbers.items × (map (at (places_of spots.new.items)) numbers.items ≡ map pattern_of members.now)) }
-    ensures free { IfOk result (λ numbers. (k : ℕ) → IsNumber numbers.items k → IsFreeFrom (length spots.old.items) spots.new.items k) }
-    ensures row { IfOk result (λ numbers. AreRow (places_of spots.new.items) (length spots.old.items) numbers.items (length spots.new.items)) }
+    ensures members { IfOk result (λ numbers. AreMembersAt spots.new.items members.now numbers.items) }
+    ensures free { IfOk result (λ numbers. AreFreeBehind spots.old spots.new (IsNumber numbers.items)) }
+    ensures row { IfOk result (λ numbers. AreRowBehind spots.old spots.new numbers.items) }
     ensures laid { IfOk result (λ _. AreLaidFrom (length spots.old.items) spots.new.items) }
 {
     let mut numbers = Vec::new(alloc);

@@ -1,16 +1,12 @@
 //! Steps from the places of a selector to those behind them.
 
-ghost use Rattle.std.specs.Prelude.{◌≡◌, ◌∷◌, ◌<◌, ◌≤◌, length, IfOk, OnOk, IfSome, IfNone};
-ghost use Rattle.std.specs.List.{All};
-ghost use Rattle.ix_selector.specs.Places.{at, places_of, AreSpots, AreNamedOnce, AreRising};
+ghost use Rattle.std.specs.Prelude.{◌<◌, ◌≤◌, length, IfOk, OnOk, IfSome, IfNone};
+ghost use Rattle.ix_selector.specs.Places.{places_of, AreSpots, AreNamedOnce, AreRising};
 ghost use Rattle.ix_selector.specs.Standing.{IsBeside};
 ghost use Rattle.ix_selector.specs.Named.{HasName, HasNoName};
-ghost use Rattle.ix_selector.specs.Pairs.{selector_at, Stands, IsPair, IsStanding, AreReached, ReachedEnters, EntersAt, SomeEnter, Joins, Same, LeadsTo, LeadsNowhere};
-ghost use Rattle.ix_selector.specs.Pairs.{place_of, seen_pairs};
-ghost use Rattle.ix_selector.specs.Reaching.{Adds, AreLeft, LeadsAs, LeadsToNone};
+ghost use Rattle.ix_selector.specs.Pairs.{IsPair, IsStanding, AreStandingPairs, AreReached};
+ghost use Rattle.ix_selector.specs.Reaching.{EntersStep, AddsStep, EnterAsReached, EnterBehind, AreLeft, AreLeftBehind, LeadsBeside, StandsAtEnd, LeadsAs, LeadsToNone};
 ghost use Rattle.ix_selector.specs.Laid.{AreLaidFrom};
-ghost use Rattle.ix_selector.specs.Behind.{leads_behind_from, residual_behind};
-ghost use Rattle.ix_selector.specs.Enters.{Path};
 ghost use Rattle.ix_selector.specs.Residual.{step_of};
 
 use crate::merge::merged;
@@ -44,8 +40,8 @@ fn behind(spots: &[Spot], place: usize, step: &Step) -> Option<usize>
     requires laid { AreLaidFrom 0 spots.now }
     ensures within { IfSome result (λ k. k < length spots.now) }
     ensures beside { IfSome result (IsBeside spots.now place) }
-    ensures some { IfSome result (λ k. LeadsTo (at (places_of spots.now) place) (step_of step.now) (at (places_of spots.now) k)) }
-    ensures none { IfNone result (Stands (at (places_of spots.now) place) → LeadsNowhere (at (places_of spots.now) place) (step_of step.now)) }
+    ensures some { IfSome result (LeadsBeside (places_of spots.now) place (step_of step.now)) }
+    ensures none { IfNone result (StandsAtEnd (places_of spots.now) place (step_of step.now)) }
     ensures leads { IfSome result (LeadsAs (places_of spots.now) place (step_of step.now)) }
     ensures nowhere { IfNone result (LeadsToNone (places_of spots.now) place (step_of step.now)) }
 {
@@ -70,8 +66,8 @@ fn step_from(
     requires reached { AreReached spots.now reached.old }
     requires laid { AreLaidFrom 0 spots.now }
     ensures reached { OnOk result (AreReached spots.now reached.new) }
-    ensures enters { OnOk result (Joins (ReachedEnters spots.now reached.new) (ReachedEnters spots.now reached.old) (λ p. EntersAt spots.now pair (step_of step.now ∷ p))) }
-    ensures exact { OnOk result (Adds spots.now reached.old reached.new (leads_behind_from (place_of spots.now pair) (step_of step.now))) }
+    ensures enters { OnOk result (EntersStep spots.now pair step.now reached.old reached.new) }
+    ensures exact { OnOk result (AddsStep spots.now pair step.now reached.old reached.new) }
 {
     match behind(spots, pair.place, step) {
         Some(place) => {
@@ -88,9 +84,9 @@ fn entered_again(alloc: Global, spots: &[Spot], reached: Reached) -> Result<Pair
     requires once { AreNamedOnce spots.now }
     requires reached { AreReached spots.now reached }
     requires laid { AreLaidFrom 0 spots.now }
-    ensures pairs { IfOk result (λ r. All (IsPair spots.now) r.items × All (IsStanding spots.now) r.items) }
+    ensures pairs { IfOk result (λ r. AreStandingPairs spots.now r.items) }
     ensures few { IfOk result (λ r. length r.items ≤ length spots.now) }
-    ensures enters { IfOk result (λ r. Same (SomeEnter spots.now r.items) (ReachedEnters spots.now reached)) }
+    ensures enters { IfOk result (λ r. EnterAsReached spots.now reached r.items) }
     ensures exact { IfOk result (λ r. AreLeft spots.now reached r.items) }
 {
     let Reached { standing, again } = reached;
@@ -114,12 +110,12 @@ pub(crate) fn stepped(
 ) -> Result<Pairs, AllocError>
     requires spots { AreSpots 0 spots.now }
     requires once { AreNamedOnce spots.now }
-    requires pairs { All (IsPair spots.now) pairs.now × All (IsStanding spots.now) pairs.now }
+    requires pairs { AreStandingPairs spots.now pairs.now }
     requires laid { AreLaidFrom 0 spots.now }
-    ensures pairs { IfOk result (λ r. All (IsPair spots.now) r.items × All (IsStanding spots.now) r.items) }
+    ensures pairs { IfOk result (λ r. AreStandingPairs spots.now r.items) }
     ensures few { IfOk result (λ r. length r.items ≤ length spots.now) }
-    ensures enters { IfOk result (λ r. Same (SomeEnter spots.now r.items) (λ p. SomeEnter spots.now pairs.now (step_of step.now ∷ p))) }
-    ensures exact { IfOk result (λ r. seen_pairs spots.now r.items ≡ residual_behind (seen_pairs spots.now pairs.now) (step_of step.now)) }
+    ensures enters { IfOk result (λ r. EnterBehind spots.now pairs.now step.now r.items) }
+    ensures exact { IfOk result (λ r. AreLeftBehind spots.now pairs.now step.now r.items) }
 {
     let mut reached = Reached::new(alloc);
     for pair in pairs {
