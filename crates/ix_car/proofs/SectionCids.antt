@@ -4,7 +4,7 @@ use Rattle.std.specs.Prelude.{Ok}
 use Rattle.std.proofs.lemmas.List.{length-append, length-take-le, take-append-le}
 use Rattle.ix_cid.specs.Cid.{◌>>=◌ as ◌and_then◌, parts_at, cid_at, IsCid}
 use Rattle.ix_cid.specs.Held.{StandsAt}
-use Rattle.ix_cid.proofs.Results.{same_answer, bind_ok}
+use Rattle.ix_cid.proofs.Results.{ok_same, bind_ok}
 use Rattle.ix_cid.proofs.Cids.{IsCid-from_parts}
 use Rattle.ix_car.specs.Reads.{IsEnd}
 
@@ -20,8 +20,8 @@ has_cid b n e =
     let cid = bind_ok (cid_at b) (λ r. Ok r.1) n e in
     let parts = bind_ok (parts_at b) (λ p. Ok (take (length b - length p.1) b, length b - length p.1)) cid.0 cid.1 in
     let k = length b - length parts.0.1 in
-    let same : (take k b, k) ≡ cid.0 = same_answer (take k b, k) cid.0 parts.2 in
-    let size : k ≡ n = ap (λ (r : List ℕ × ℕ). r.1) same ∙ same_answer cid.0.1 n cid.2 in
+    let same : (take k b, k) ≡ cid.0 = ok_same (take k b, k) cid.0 parts.2 in
+    let size : k ≡ n = ap (λ (r : List ℕ × ℕ). r.1) same ∙ ok_same cid.0.1 n cid.2 in
     record {
       within = omega (arith, size);
       is = subst (λ (m : ℕ). IsCid (take m b)) size (IsCid-from_parts b parts.0.0 parts.0.1 parts.1);

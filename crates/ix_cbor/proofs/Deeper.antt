@@ -4,7 +4,7 @@ use Rattle.std.specs.Prelude.{Option, Some, None, Ok, if◌then◌else◌}
 use Rattle.ix_cbor.specs.declared.fault.CborKind.TheVariants.{KeyKind, KeyOrder}
 use Rattle.ix_cbor.specs.Data.{Data, Items, Entries}
 use Rattle.ix_cbor.specs.Reading.{Parse, ◌>>=◌, fails, string_of_major, rises, key_at, own_at, Own, leaf, list_of, map_of, items_at, entries_at, with_members, item_with, item_at}
-use Rattle.ix_cbor.proofs.Steps.{bind_ok, no_ok, if_passed, with_item, items_behind, with_entry, entries_behind, value_behind, as_list, as_map}
+use Rattle.ix_cbor.proofs.Steps.{bind_ok, no_ok, past_guard, with_item, items_behind, with_entry, entries_behind, value_behind, as_list, as_map}
 
 -- what one reading gives another gives too
 abbrev pub IsAlso : Parse Data → Parse Data → Type 0
@@ -60,7 +60,7 @@ item_deeper (suc n) = item_also (item_at n) (item_at (suc n)) (item_deeper n)
 pub key_first : (before : Option (List ℕ)) (b : List ℕ) (k : List ℕ × List ℕ) → key_at before b ≡ Ok k → key_at None b ≡ Ok k
 key_first before b k e =
     let m = bind_ok (string_of_major 3 (λ at. fails KeyKind at) b) (λ k. if rises before k.0 then Ok k else fails KeyOrder b) k e in
-    ap (λ r. r >>= (λ k. if rises None k.0 then Ok k else fails KeyOrder b)) m.1 ∙ (if_passed (rises before m.0.0) _ (Ok m.0) k m.2).1
+    ap (λ r. r >>= (λ k. if rises None k.0 then Ok k else fails KeyOrder b)) m.1 ∙ (past_guard (rises before m.0.0) _ (Ok m.0) k m.2).1
 
 -- keys and values behind a key are keys and values
 pub entries_first : (read : Parse Data) (before : Option (List ℕ)) (count : ℕ) (b : List ℕ) (x : Entries × List ℕ) → entries_at read before count b ≡ Ok x → entries_at read None count b ≡ Ok x

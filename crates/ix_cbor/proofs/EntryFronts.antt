@@ -25,9 +25,9 @@ before_more [] k d es = refl
 before_more (e ∷ more) k d es = ap (entry e.0 e.1) (before_more more k d es)
 
 -- the entry that is read stands in front of those that are still read
-behind : (front : List (List ℕ × Data)) (k : List ℕ) (d : Data) (r : Result (Entries × List ℕ) Fault) → with_front (front ++ (k, d) ∷ []) r ≡ with_front front (r >>= (λ es. Ok (entry k d es.0, es.1)))
-behind front k d (Ok x) = ap (λ es. Ok (es, x.1)) (before_more front k d x.0)
-behind front k d (Err f) = refl
+with_front-append : (front : List (List ℕ × Data)) (k : List ℕ) (d : Data) (r : Result (Entries × List ℕ) Fault) → with_front (front ++ (k, d) ∷ []) r ≡ with_front front (r >>= (λ es. Ok (entry k d es.0, es.1)))
+with_front-append front k d (Ok x) = ap (λ es. Ok (es, x.1)) (before_more front k d x.0)
+with_front-append front k d (Err f) = refl
 
 module _ (front : List (List ℕ × Data)) (read : Parse Data) (last : Option (List ℕ)) (n : ℕ) (b : List ℕ) where
   -- a key can't be read
@@ -42,7 +42,7 @@ module _ (front : List (List ℕ × Data)) (read : Parse Data) (last : Option (L
   pub read_more : (k value next : List ℕ) (d : Data) → key_at last b ≡ Ok (k, value) → read value ≡ Ok (d, next)
       → with_front (front ++ (k, d) ∷ []) (entries_at read (Some k) n next) ≡ with_front front (entries_at read last (suc n) b)
   read_more k value next d e g =
-      behind front k d (entries_at read (Some k) n next) ∙ ap (λ r. with_front front (r >>= entries_behind read n k)) (sym g) ∙ ap (λ r. with_front front (r >>= value_behind read n)) (sym e)
+      with_front-append front k d (entries_at read (Some k) n next) ∙ ap (λ r. with_front front (r >>= entries_behind read n k)) (sym g) ∙ ap (λ r. with_front front (r >>= value_behind read n)) (sym e)
 
 -- The same in a loop that counts up, where whole is what is read in all.
 module _ (front : List (List ℕ × Data)) (read : Parse Data) (last : Option (List ℕ)) (count i : ℕ) (b : List ℕ) (whole : Result (Entries × List ℕ) Fault) where

@@ -9,7 +9,7 @@ use Rattle.ix_cbor.specs.declared.fault.CborKind.TheVariants.{Truncated, NotShor
 use Rattle.ix_cbor.specs.Spelling.{head_of}
 use Rattle.ix_cbor.specs.Reading.{Fault, wide_at, argument_at}
 use Rattle.ix_cbor.proofs.Bytes.{IsBytes, IsBytes-take}
-use Rattle.ix_cbor.proofs.Steps.{no_ok, ok_same, cases_if, if_no_fault}
+use Rattle.ix_cbor.proofs.Steps.{no_ok, ok_same, cases_if, past_test}
 
 -- numbers of one width, as bytes and back
 pub record IsWide (w : Width) (limit : ℕ) : Type 0 where
@@ -74,8 +74,8 @@ checked at least rest n = cond (nat_lt n least) (Err (record { kind = NotShortes
 pub wide_taken : (w : Width) (limit : ℕ) (wide : IsWide w limit) (at : List ℕ) (least : ℕ) (b : List ℕ) (n : ℕ) (rest : List ℕ) → IsBytes b
     → wide_at at w least b ≡ Ok (n, rest) → WideTaken w limit least b n rest
 wide_taken w limit wide at least b n rest fits e =
-    let long = if_no_fault (nat_lt (length b) (byte_len w)) (record { kind = Truncated; left = 0 }) (checked at least (drop (byte_len w) b) (from_be_bytes w (take (byte_len w) b))) (n, rest) e in
-    let short = if_no_fault (nat_lt (from_be_bytes w (take (byte_len w) b)) least) (record { kind = NotShortest; left = length at }) (Ok (from_be_bytes w (take (byte_len w) b), drop (byte_len w) b)) (n, rest) long.1 in
+    let long = past_test (nat_lt (length b) (byte_len w)) (record { kind = Truncated; left = 0 }) (checked at least (drop (byte_len w) b) (from_be_bytes w (take (byte_len w) b))) (n, rest) e in
+    let short = past_test (nat_lt (from_be_bytes w (take (byte_len w) b)) least) (record { kind = NotShortest; left = length at }) (Ok (from_be_bytes w (take (byte_len w) b), drop (byte_len w) b)) (n, rest) long.1 in
     let same = ok_same (from_be_bytes w (take (byte_len w) b), drop (byte_len w) b) (n, rest) short.1 in
     let enough : byte_len w ≤ length b = ltb-false _ _ long.0 in
     subst (λ (x : ℕ × List ℕ). WideTaken w limit least b x.0 x.1) same

@@ -9,7 +9,7 @@ use Rattle.ix_cbor.specs.Data.{Data, Entries, entry}
 use Rattle.ix_cbor.specs.Spelling.{key_spelling, key_cmp, Rises}
 use Rattle.ix_cbor.specs.Reading.{Fault, ◌>>=◌, fails, string_of_major, rises, key_at}
 use Rattle.ix_cbor.proofs.Bytes.{IsBytes}
-use Rattle.ix_cbor.proofs.Steps.{bind_ok, ok_same, if_passed}
+use Rattle.ix_cbor.proofs.Steps.{bind_ok, ok_same, past_guard}
 use Rattle.ix_cbor.proofs.Strings.{string_taken, string_again}
 
 -- a key that was read
@@ -31,7 +31,7 @@ RisesFrom (Some before) es = Rises before es
 pub key_taken : (before : Option (List ℕ)) (b k rest : List ℕ) → IsBytes b → key_at before b ≡ Ok (k, rest) → KeyTaken before b k rest
 key_taken before b k rest fits e =
     let a = bind_ok (string_of_major 3 (λ at. fails KeyKind at) b) (λ k. cond (rises before k.0) (Ok k) (fails KeyOrder b)) (k, rest) e in
-    let t = if_passed (rises before a.0.0) (record { kind = KeyOrder; left = length b }) (Ok a.0) (k, rest) a.2 in
+    let t = past_guard (rises before a.0.0) (record { kind = KeyOrder; left = length b }) (Ok a.0) (k, rest) a.2 in
     let s = string_taken 3 key_fault b a.0.0 a.0.1 fits a.1 in
     subst (λ (x : List ℕ × List ℕ). KeyTaken before b x.0 x.1) (ok_same a.0 (k, rest) t.1) (record { parts = s.parts; below = s.below; above = t.0 })
 

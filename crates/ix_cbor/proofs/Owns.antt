@@ -11,7 +11,7 @@ use Rattle.ix_cbor.specs.Spelling.{head_of, spelling_of, IsSpellable, IsFinite, 
 use Rattle.ix_cbor.specs.Reading.{Fault, ◌>>=◌, fails, take_at, argument_at, string_of_major, float_at, simple_at, is_cid, link_of, link_at, Own, leaf, list_of, map_of, own_with, own_at}
 use Rattle.ix_cbor.proofs.Bytes.{IsBytes, IsBytes-rest, IsBytes-take, IsBytes-behind}
 use Rattle.ix_cbor.proofs.Leaves.{as_leaf}
-use Rattle.ix_cbor.proofs.Steps.{bind_ok, no_ok, ok_same, ok_data, cases_if, if_no_fault, if_passed}
+use Rattle.ix_cbor.proofs.Steps.{bind_ok, no_ok, ok_same, ok_data, cases_if, past_test, past_guard}
 use Rattle.ix_cbor.proofs.Heads.{Headed, head_taken, head_read, wide64}
 use Rattle.ix_cbor.proofs.Strings.{counted, take_again, StringTaken, string_taken, string_again}
 use Rattle.ix_cbor.proofs.Cids.{IsCid-from_test, is_cid_at}
@@ -64,10 +64,10 @@ finite_at at rest n = cond (n / 2 ^ 52 % 2 ^ 11 == 2047) (Err (record { kind = k
 -- a float that was read
 float_taken : (at : List ℕ) (h : ℕ) (b : List ℕ) (d : Data) (rest : List ℕ) → IsBytes b → h ≡ 251 → float_at at b ≡ Ok (d, rest) → LeafTaken (h ∷ b) d rest
 float_taken at h b d rest fits is e =
-    let long = if_no_fault (nat_lt (length b) 8) (record { kind = Truncated; left = 0 }) (finite_at at (drop 8 b) (from_be_bytes w64 (take 8 b))) (d, rest) e in
+    let long = past_test (nat_lt (length b) 8) (record { kind = Truncated; left = 0 }) (finite_at at (drop 8 b) (from_be_bytes w64 (take 8 b))) (d, rest) e in
     let enough : 8 ≤ length b = ltb-false (length b) 8 long.0 in
     let n = from_be_bytes w64 (take 8 b) in
-    let t = if_no_fault (n / 2 ^ 52 % 2 ^ 11 == 2047) (record { kind = kinds.Float; left = length at }) (Ok (float n, drop 8 b)) (d, rest) long.1 in
+    let t = past_test (n / 2 ^ 52 % 2 ^ 11 == 2047) (record { kind = kinds.Float; left = length at }) (Ok (float n, drop 8 b)) (d, rest) long.1 in
     let front = IsBytes-take 8 b fits in
     subst (λ (y : Data × List ℕ). LeafTaken (h ∷ b) y.0 y.1) (ok_same (float n, drop 8 b) (d, rest) t.1)
     (float_here h b n is (wide64.back (take 8 b) (omega (arith, length-take 8 b)) front) (wide64.below (take 8 b) front) t.0)
@@ -122,8 +122,8 @@ module _ (at : List ℕ) (h : ℕ) (b : List ℕ) (d : Data) (rest : List ℕ) (
   -- floats of other sizes are none
   taken_25 : simple_25 at (h % 32) b ≡ Ok (d, rest) → LeafTaken (h ∷ b) d rest
   taken_25 e =
-      let f = if_no_fault (h % 32 == 25) (record { kind = kinds.Float; left = length at }) (simple_26 at (h % 32) b) (d, rest) e in
-      let g = if_no_fault (h % 32 == 26) (record { kind = kinds.Float; left = length at }) (simple_27 at (h % 32) b) (d, rest) f.1 in
+      let f = past_test (h % 32 == 25) (record { kind = kinds.Float; left = length at }) (simple_26 at (h % 32) b) (d, rest) e in
+      let g = past_test (h % 32 == 26) (record { kind = kinds.Float; left = length at }) (simple_27 at (h % 32) b) (d, rest) f.1 in
       taken_27 g.1
 
   -- null or later
@@ -157,7 +157,7 @@ link_here : (at whole : List ℕ) (b content : List ℕ) (d : Data) (rest behind
     → link_of at (content, behind) ≡ Ok (d, rest) → LeafTaken whole d rest
 link_here at whole b [] d rest behind is s e = no_ok (record { kind = kinds.Link; left = length at }) (d, rest) e
 link_here at whole b (first ∷ c) d rest behind is s e =
-    let t = if_passed ((first == 0) && is_cid c) (record { kind = kinds.Link; left = length at }) (Ok (link c, behind)) (d, rest) e in
+    let t = past_guard ((first == 0) && is_cid c) (record { kind = kinds.Link; left = length at }) (Ok (link c, behind)) (d, rest) e in
     let both = and_parts (first == 0) (is_cid c) t.0 in
     let zero_is : first ≡ 0 = eqb-true first 0 both.0 in
     let size : suc (length c) ≡ length c + 1 = omega arith in
@@ -171,7 +171,7 @@ link_here at whole b (first ∷ c) d rest behind is s e =
 -- a link that was read
 link_taken : (at whole : List ℕ) (tag : ℕ) (b : List ℕ) (d : Data) (rest : List ℕ) → IsBytes b → whole ≡ head_of 6 tag ++ b → link_at at tag b ≡ Ok (d, rest) → LeafTaken whole d rest
 link_taken at whole tag b d rest fits is e =
-    let t = if_passed (tag == 42) (record { kind = Tag; left = length at }) (string_of_major 2 (λ content. fails kinds.Link at) b >>= link_of at) (d, rest) e in
+    let t = past_guard (tag == 42) (record { kind = Tag; left = length at }) (string_of_major 2 (λ content. fails kinds.Link at) b >>= link_of at) (d, rest) e in
     let a = bind_ok (string_of_major 2 (λ content. fails kinds.Link at) b) (link_of at) (d, rest) t.1 in
     let s = string_taken 2 (λ content. record { kind = kinds.Link; left = length at }) b a.0.0 a.0.1 fits a.1 in
     link_here at whole b a.0.0 d rest a.0.1 (is ∙ ap (λ (n : ℕ). head_of 6 n ++ b) (eqb-true tag 42 t.0)) s a.2

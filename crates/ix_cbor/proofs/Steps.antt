@@ -1,13 +1,9 @@
 -- Readings in turn, and tests, taken apart.
 use Rattle.std.proofs.Common.{◌≡◌, ◌⊎◌, inl, inr, Bool, true, false, cond, refl, ap}
 use Rattle.std.specs.Prelude.{ℕ, List, Some, Result, Ok, Err}
+pub use Rattle.ix_cid.proofs.Results.{bind_ok, ok_same, past_test, past_guard}
 use Rattle.ix_cbor.specs.Data.{Data, Items, Entries, list, map, item, entry}
 use Rattle.ix_cbor.specs.Reading.{Fault, Parse, ◌>>=◌, items_at, entries_at}
-
--- what two readings in turn give is what the second gives behind the first
-pub bind_ok : {A B : Type 0} (r : Result A Fault) (f : A → Result B Fault) (y : B) → (r >>= f) ≡ Ok y → (x : A) × (r ≡ Ok x) × (f x ≡ Ok y)
-bind_ok (Ok x) f y e = (x, refl, e)
-bind_ok (Err d) f y e = absurd cc
 
 -- the fault of a reading, or another where there is none
 abbrev fault_of : {A : Type 0} → Fault → Result A Fault → Fault
@@ -31,14 +27,6 @@ no_ok f y e = absurd cc
 pub no_err : {A P : Type 0} (x : A) (f : Fault) → Ok x ≡ Err f → P
 no_err x f e = absurd cc
 
--- a value that is given
-abbrev done : {A : Type 0} → A → Result A Fault
-done x = Ok x
-
--- two values that are given are one
-pub ok_same : {A : Type 0} (x y : A) → done x ≡ done y → x ≡ y
-ok_same x y e = cc
-
 -- a fault that is given
 abbrev failed : {A : Type 0} → Fault → Result A Fault
 failed f = Err f
@@ -51,16 +39,6 @@ fault_same f g e = cc
 pub cases_if : {A : Type 0} (b : Bool) (x y r : A) → cond b x y ≡ r → ((b ≡ true) × (x ≡ r)) ⊎ ((b ≡ false) × (y ≡ r))
 cases_if true x y r e = inl (refl, e)
 cases_if false x y r e = inr (refl, e)
-
--- a test that fails where it is true
-pub if_no_fault : {A : Type 0} (b : Bool) (f : Fault) (x : Result A Fault) (y : A) → cond b (Err f) x ≡ Ok y → (b ≡ false) × (x ≡ Ok y)
-if_no_fault true f x y e = absurd cc
-if_no_fault false f x y e = (refl, e)
-
--- a test that fails where it is false
-pub if_passed : {A : Type 0} (b : Bool) (f : Fault) (x : Result A Fault) (y : A) → cond b x (Err f) ≡ Ok y → (b ≡ true) × (x ≡ Ok y)
-if_passed true f x y e = (refl, e)
-if_passed false f x y e = absurd cc
 
 -- data that is given
 abbrev pub ok_data : Data × List ℕ → Result (Data × List ℕ) Fault

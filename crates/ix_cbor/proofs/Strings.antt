@@ -7,7 +7,7 @@ use Rattle.ix_cbor.specs.declared.fault.CborKind.TheVariants.{Truncated}
 use Rattle.ix_cbor.specs.Spelling.{head_of}
 use Rattle.ix_cbor.specs.Reading.{Fault, ◌>>=◌, take_at, argument_at, string_at, string_of_major}
 use Rattle.ix_cbor.proofs.Bytes.{IsBytes, IsBytes-rest}
-use Rattle.ix_cbor.proofs.Steps.{bind_ok, no_ok, ok_same, if_no_fault, if_passed}
+use Rattle.ix_cbor.proofs.Steps.{bind_ok, no_ok, ok_same, past_test, past_guard}
 use Rattle.ix_cbor.proofs.Heads.{head_taken, head_read}
 
 -- n bytes at the front
@@ -18,7 +18,7 @@ pub record Counted (n : ℕ) (b s rest : List ℕ) : Type 0 where
 -- what is read has its length and stands at the front
 pub counted : (n : ℕ) (b s rest : List ℕ) → take_at n b ≡ Ok (s, rest) → Counted n b s rest
 counted n b s rest e =
-    let t = if_no_fault (nat_lt (length b) n) (record { kind = Truncated; left = 0 }) (Ok (take n b, drop n b)) (s, rest) e in
+    let t = past_test (nat_lt (length b) n) (record { kind = Truncated; left = 0 }) (Ok (take n b, drop n b)) (s, rest) e in
     let enough : n ≤ length b = ltb-false (length b) n t.0 in
     subst (λ (x : List ℕ × List ℕ). Counted n b x.0 x.1) (ok_same (take n b, drop n b) (s, rest) t.1)
     (record { parts = sym (take-append-drop n b); size = omega (arith, length-take n b) })
@@ -37,7 +37,7 @@ pub record StringTaken (major : ℕ) (b s rest : List ℕ) : Type 0 where
 pub string_taken : (major : ℕ) (other : List ℕ → Fault) (b s rest : List ℕ) → IsBytes b → string_of_major major (λ at. Err (other at)) b ≡ Ok (s, rest) → StringTaken major b s rest
 string_taken major other [] s rest fits e = no_ok _ (s, rest) e
 string_taken major other (h ∷ b) s rest fits e =
-    let t = if_passed (h / 32 == major) (other (h ∷ b)) (string_at (h ∷ b) (h % 32) b) (s, rest) e in
+    let t = past_guard (h / 32 == major) (other (h ∷ b)) (string_at (h ∷ b) (h % 32) b) (s, rest) e in
     let a = bind_ok (argument_at (h ∷ b) (h % 32) b) (λ n. take_at n.0 n.1) (s, rest) t.1 in
     let head = head_taken (h ∷ b) h b a.0.0 a.0.1 (IsBytes-rest h b fits) a.1 in
     let content = counted a.0.0 a.0.1 s rest a.2 in

@@ -18,7 +18,7 @@ use Rattle.ix_cid.specs.declared.fault.CidFault.TheVariants.{Base32}
 use Rattle.ix_cid.proofs.Digits.{number_in-split, digits_in-below, digits_in-number_in, length-digits_in, number_in-digits_in, number_in-lt, pow-32}
 use Rattle.ix_cid.proofs.Quanta.{IsQuantum, one, two, three, four, five, bytes_of_quantum-digits, bytes_of_letters-short, bytes_of_letters-eight, base32_of-short, base32_of-five}
 use Rattle.ix_cid.proofs.Quanta as quanta
-use Rattle.ix_cid.proofs.Results.{same_answer, fails_along}
+use Rattle.ix_cid.proofs.Results.{ok_same, fails_along}
 
 -- ---- letters
 
@@ -176,20 +176,20 @@ module _ (n j l k g : ℕ) (q : IsQuantum n j l k g) (s : List ℕ) (size : leng
 -- ---- the laws
 
 -- letters that are base32 are the base32 of their bytes
-pub spelled : (letters : List ℕ) → IsBase32 letters → base32_of (bytes_of_letters letters) ≡ letters
-spelled [] h = refl
-spelled (a ∷ []) h = absurd (h.count.0 refl)
-spelled (a ∷ b ∷ []) h = again-short 1 4 2 6 4 one (a ∷ b ∷ []) refl h.alphabet h.nothing_left (omega arith) (omega arith)
-spelled (a ∷ b ∷ c ∷ []) h = absurd (h.count.1 refl)
-spelled (a ∷ b ∷ c ∷ d ∷ []) h = again-short 2 3 4 4 16 two (a ∷ b ∷ c ∷ d ∷ []) refl h.alphabet h.nothing_left (omega arith) (omega arith)
-spelled (a ∷ b ∷ c ∷ d ∷ e ∷ []) h = again-short 3 2 5 3 2 three (a ∷ b ∷ c ∷ d ∷ e ∷ []) refl h.alphabet h.nothing_left (omega arith) (omega arith)
-spelled (a ∷ b ∷ c ∷ d ∷ e ∷ f ∷ []) h = absurd (h.count.2 refl)
-spelled (a ∷ b ∷ c ∷ d ∷ e ∷ f ∷ i ∷ []) h = again-short 4 1 7 1 8 four (a ∷ b ∷ c ∷ d ∷ e ∷ f ∷ i ∷ []) refl h.alphabet h.nothing_left (omega arith) (omega arith)
-spelled (a ∷ b ∷ c ∷ d ∷ e ∷ f ∷ i ∷ o ∷ more) h =
+pub base32_of-letters : (letters : List ℕ) → IsBase32 letters → base32_of (bytes_of_letters letters) ≡ letters
+base32_of-letters [] h = refl
+base32_of-letters (a ∷ []) h = absurd (h.count.0 refl)
+base32_of-letters (a ∷ b ∷ []) h = again-short 1 4 2 6 4 one (a ∷ b ∷ []) refl h.alphabet h.nothing_left (omega arith) (omega arith)
+base32_of-letters (a ∷ b ∷ c ∷ []) h = absurd (h.count.1 refl)
+base32_of-letters (a ∷ b ∷ c ∷ d ∷ []) h = again-short 2 3 4 4 16 two (a ∷ b ∷ c ∷ d ∷ []) refl h.alphabet h.nothing_left (omega arith) (omega arith)
+base32_of-letters (a ∷ b ∷ c ∷ d ∷ e ∷ []) h = again-short 3 2 5 3 2 three (a ∷ b ∷ c ∷ d ∷ e ∷ []) refl h.alphabet h.nothing_left (omega arith) (omega arith)
+base32_of-letters (a ∷ b ∷ c ∷ d ∷ e ∷ f ∷ []) h = absurd (h.count.2 refl)
+base32_of-letters (a ∷ b ∷ c ∷ d ∷ e ∷ f ∷ i ∷ []) h = again-short 4 1 7 1 8 four (a ∷ b ∷ c ∷ d ∷ e ∷ f ∷ i ∷ []) refl h.alphabet h.nothing_left (omega arith) (omega arith)
+base32_of-letters (a ∷ b ∷ c ∷ d ∷ e ∷ f ∷ i ∷ o ∷ more) h =
     let front = a ∷ b ∷ c ∷ d ∷ e ∷ f ∷ i ∷ o ∷ [] in
     let parts = split front more refl h in
     again-five 5 0 8 0 1 five front refl parts.0.alphabet parts.0.nothing_left (bytes_of_letters more) refl
-    ∙ ap (λ (x : List ℕ). front ++ x) (spelled more parts.1)
+    ∙ ap (λ (x : List ℕ). front ++ x) (base32_of-letters more parts.1)
 
 -- the letters of a quantum of bytes are base32
 is_base32-quantum : (n j l k g : ℕ) → IsQuantum n j l k g → (l % 8 ≢ 1) × (l % 8 ≢ 3) × (l % 8 ≢ 6) → (b : List ℕ) → length b ≡ n → AreBytes b → IsBase32 (quantum b)
@@ -242,38 +242,38 @@ bytes_are (a ∷ b ∷ c ∷ d ∷ e ∷ f ∷ i ∷ o ∷ more) =
     All-append (λ x. x < 2 ^ 8) (bytes_of_quantum front) (bytes_of_letters more) (bytes_are-quantum front) (bytes_are more)
 
 -- the base32 of the bytes of letters is the letters only where these are base32
-only : (letters : List ℕ) → base32_of (bytes_of_letters letters) ≡ letters → IsBase32 letters
-only letters e = subst IsBase32 e (is_base32 (bytes_of_letters letters) (bytes_are letters))
+IsBase32-again : (letters : List ℕ) → base32_of (bytes_of_letters letters) ≡ letters → IsBase32 letters
+IsBase32-again letters e = subst IsBase32 e (is_base32 (bytes_of_letters letters) (bytes_are letters))
 
 -- letters are base32 and read as their bytes, or are none and refused
-pub read : (letters : List ℕ) → (IsBase32 letters × (bytes_of_base32 letters ≡ Ok (bytes_of_letters letters))) ⊎ ((¬ IsBase32 letters) × (bytes_of_base32 letters ≡ Err Base32))
-read letters =
+pub bytes_of_base32-cases : (letters : List ℕ) → (IsBase32 letters × (bytes_of_base32 letters ≡ Ok (bytes_of_letters letters))) ⊎ ((¬ IsBase32 letters) × (bytes_of_base32 letters ≡ Err Base32))
+bytes_of_base32-cases letters =
     let again = base32_of (bytes_of_letters letters) in
     let answer : Bool → Result (List ℕ) CidFault = λ b. if b then Ok (bytes_of_letters letters) else Err Base32 in
     ⊎_elim
-    (λ (same : bytes_eq again letters ≡ true). inl (only letters ((bytes_eq-Decides again letters).0 same), ap answer same))
-    (λ (other : bytes_eq again letters ≡ false). inr (λ is. not_from_Decides (bytes_eq again letters) (bytes_eq-Decides again letters) other (spelled letters is), ap answer other))
+    (λ (same : bytes_eq again letters ≡ true). inl (IsBase32-again letters ((bytes_eq-Decides again letters).0 same), ap answer same))
+    (λ (other : bytes_eq again letters ≡ false). inr (λ is. not_from_Decides (bytes_eq again letters) (bytes_eq-Decides again letters) other (base32_of-letters letters is), ap answer other))
     (cases_Bool (bytes_eq again letters))
 
 -- what is base32 is read
-pub read-is : (letters : List ℕ) → IsBase32 letters → bytes_of_base32 letters ≡ Ok (bytes_of_letters letters)
-read-is letters h = ⊎_elim (λ found. found.1) (λ other. absurd (other.0 h)) (read letters)
+pub bytes_of_base32-is : (letters : List ℕ) → IsBase32 letters → bytes_of_base32 letters ≡ Ok (bytes_of_letters letters)
+bytes_of_base32-is letters h = ⊎_elim (λ found. found.1) (λ other. absurd (other.0 h)) (bytes_of_base32-cases letters)
 
 -- what isn't is refused
-pub refused : (letters : List ℕ) → ¬ IsBase32 letters → bytes_of_base32 letters ≡ Err Base32
-refused letters h = ⊎_elim (λ found. absurd (h found.0)) (λ other. other.1) (read letters)
+pub bytes_of_base32-refused : (letters : List ℕ) → ¬ IsBase32 letters → bytes_of_base32 letters ≡ Err Base32
+bytes_of_base32-refused letters h = ⊎_elim (λ found. absurd (h found.0)) (λ other. other.1) (bytes_of_base32-cases letters)
 
 -- what is read is base32
-pub read-only : (letters b : List ℕ) → bytes_of_base32 letters ≡ Ok b → IsBase32 letters × (b ≡ bytes_of_letters letters)
-read-only letters b h =
+pub bytes_of_base32-only : (letters b : List ℕ) → bytes_of_base32 letters ≡ Ok b → IsBase32 letters × (b ≡ bytes_of_letters letters)
+bytes_of_base32-only letters b h =
     ⊎_elim
-    (λ found. (found.0, same_answer b (bytes_of_letters letters) (sym h ∙ found.1)))
+    (λ found. (found.0, ok_same b (bytes_of_letters letters) (sym h ∙ found.1)))
     (λ other. let never : ◌≡◌ {A = Result (List ℕ) CidFault} (Ok b) (Err Base32) = sym h ∙ other.1 in absurd cc)
-    (read letters)
+    (bytes_of_base32-cases letters)
 
 -- what is refused isn't
-pub refused-only : (letters : List ℕ) → bytes_of_base32 letters ≡ Err Base32 → ¬ IsBase32 letters
-refused-only letters h is = let never : ◌≡◌ {A = Result (List ℕ) CidFault} (Ok (bytes_of_letters letters)) (Err Base32) = sym (read-is letters is) ∙ h in absurd cc
+pub bytes_of_base32-refused-only : (letters : List ℕ) → bytes_of_base32 letters ≡ Err Base32 → ¬ IsBase32 letters
+bytes_of_base32-refused-only letters h is = let never : ◌≡◌ {A = Result (List ℕ) CidFault} (Ok (bytes_of_letters letters)) (Err Base32) = sym (bytes_of_base32-is letters is) ∙ h in absurd cc
 
 -- ---- one quantum that is read
 
@@ -305,7 +305,7 @@ one-quantum s most =
 
 -- what isn't base32 is refused, whatever stands in front
 pub refused-behind : (old s : List ℕ) → ¬ IsBase32 s → (bytes_of_base32 s >>= (λ more. Ok (old ++ more))) ≡ Err Base32
-refused-behind old s h = let next : Result (List ℕ) CidFault → Result (List ℕ) CidFault = λ r. r >>= (λ more. Ok (old ++ more)) in ap next (refused s h)
+refused-behind old s h = let next : Result (List ℕ) CidFault → Result (List ℕ) CidFault = λ r. r >>= (λ more. Ok (old ++ more)) in ap next (bytes_of_base32-refused s h)
 
 -- the bytes of a quantum are pushed
 pub pushed : (old new s : List ℕ) (number : ℕ) → length s ≤ 8 → IsBase32 s → number ≡ number_in 32 0 (map bits_of_letter s) → new ≡ old ++ take (5 * length s / 8) (digits_in 256 5 (number * 2 ^ (5 * (8 - length s)) % 2 ^ 64)) → (bytes_of_base32 s >>= (λ more. Ok (old ++ more))) ≡ Ok new
@@ -320,7 +320,7 @@ pushed old new s number most is number-is h =
     shl_whole number (5 * length s) (5 * missing) 64 small (omega arith)
     ∙ ap (λ (x : ℕ). number * x) (pow-32 missing)
     ∙ ap (λ (x : ℕ). x * 32 ^ missing) number-is in
-    ap next (read-is s is)
+    ap next (bytes_of_base32-is s is)
     ∙ ap (λ (x : List ℕ). answer (old ++ x)) (one-quantum s most)
     ∙ ap (λ (x : ℕ). answer (old ++ take (5 * length s / 8) (digits_in 256 5 x))) (sym bits)
     ∙ ap answer (sym h)
@@ -346,13 +346,13 @@ eight q more size =
     (λ front.
     ⊎_elim
     (λ rest.
-    read-is (q ++ more) (join q more size front.0 rest.0)
+    bytes_of_base32-is (q ++ more) (join q more size front.0 rest.0)
     ∙ ap answer (bytes_of_letters-eight q more size ∙ ap (λ (x : List ℕ). x ++ bytes_of_letters more) one)
     ∙ sym (ap first front.1 ∙ ap second rest.1))
-    (λ rest. refused (q ++ more) (λ is. rest.0 (split q more size is).1) ∙ sym (ap first front.1 ∙ ap second rest.1))
-    (read more))
-    (λ front. refused (q ++ more) (λ is. front.0 (split q more size is).0) ∙ sym (ap first front.1))
-    (read q)
+    (λ rest. bytes_of_base32-refused (q ++ more) (λ is. rest.0 (split q more size is).1) ∙ sym (ap first front.1 ∙ ap second rest.1))
+    (bytes_of_base32-cases more))
+    (λ front. bytes_of_base32-refused (q ++ more) (λ is. front.0 (split q more size is).0) ∙ sym (ap first front.1))
+    (bytes_of_base32-cases q)
 
 -- nothing follows
 together-none : (r : Result (List ℕ) CidFault) → r ≡ together r (bytes_of_base32 [])
@@ -379,7 +379,7 @@ piece-read whole left (Ok a) (Ok b) old new so_far parts one =
     let answer : List ℕ → Result (List ℕ) CidFault = λ x. Ok x in
     so_far
     ∙ ap (behind old) parts
-    ∙ ap answer (sym (append_assoc old a b) ∙ ap (λ (x : List ℕ). x ++ b) (same_answer (old ++ a) new one))
+    ∙ ap answer (sym (append_assoc old a b) ∙ ap (λ (x : List ℕ). x ++ b) (ok_same (old ++ a) new one))
 piece-read whole left (Ok a) (Err e) old new so_far parts one = so_far ∙ ap (behind old) parts
 piece-read whole left (Err e) rest old new so_far parts one = absurd cc
 

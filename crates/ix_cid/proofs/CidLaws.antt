@@ -11,7 +11,7 @@ use Rattle.ix_cid.specs.declared.fault.VarintFault.{VarintFault}
 use Rattle.ix_cid.specs.declared.fault.CidFault.{CidFault}
 use Rattle.ix_cid.specs.declared.fault.CidFault.TheVariants.{Truncated, Version}
 use Rattle.ix_cid.proofs.Bytes.{bytes_rest}
-use Rattle.ix_cid.proofs.Results.{past_test, past_guard, part_ok, same_answer, bind_ok, bind_to}
+use Rattle.ix_cid.proofs.Results.{past_test, past_guard, part_ok, ok_same, bind_ok, bind_to}
 use Rattle.ix_cid.proofs.VarintLaws as varints
 
 -- ---- the numbers
@@ -21,19 +21,19 @@ pub number_spelled : (b : List ℕ) (n : ℕ) (rest : List ℕ) → IsVarint b n
 number_spelled b n rest h =
     let next : Result (ℕ × ℕ) VarintFault → Result (ℕ × List ℕ) CidFault = λ r. as_part r >>= (λ v. Ok (v.0, drop v.1 (b ++ rest))) in
     let left : List ℕ → Result (ℕ × List ℕ) CidFault = λ r. Ok (n, r) in
-    ap next (varints.read b n rest h) ∙ ap left (drop_at b rest (length b) refl)
+    ap next (varints.varint_at-append b n rest h) ∙ ap left (drop_at b rest (length b) refl)
 
 -- what is read as a number is its one varint
 pub number_read : (b : List ℕ) (n : ℕ) (rest : List ℕ) → AreBytes b → number_at b ≡ Ok (n, rest) → (n < 2 ^ 63) × (b ≡ varint_of n ++ rest)
 number_read b n rest bytes h =
     let found = bind_ok (as_part (varint_at b)) (λ v. Ok (v.0, drop v.1 b)) (n, rest) h in
     let v : ℕ × ℕ = found.0 in
-    let pair = same_answer (v.0, drop v.1 b) (n, rest) found.2 in
-    let is = (varints.only b v.0 v.1 bytes (part_ok (varint_at b) v found.1)).1 in
+    let pair = ok_same (v.0, drop v.1 b) (n, rest) found.2 in
+    let is = (varints.varint_at-varint b v.0 v.1 bytes (part_ok (varint_at b) v found.1)).1 in
     let number : v.0 ≡ n = ap (λ (p : ℕ × List ℕ). p.0) pair in
     let left : drop v.1 b ≡ rest = ap (λ (p : ℕ × List ℕ). p.1) pair in
-    let spelled : take v.1 b ≡ varint_of n = subst (λ m. take v.1 b ≡ varint_of m) number (varints.one (take v.1 b) v.0 is) in (
-      subst (λ m. m < 2 ^ 63) number (varints.below (take v.1 b) v.0 is),
+    let spelled : take v.1 b ≡ varint_of n = subst (λ m. take v.1 b ≡ varint_of m) number (varints.IsVarint-is (take v.1 b) v.0 is) in (
+      subst (λ m. m < 2 ^ 63) number (varints.IsVarint-below (take v.1 b) v.0 is),
       sym (take-append-drop v.1 b) ∙ (ap (λ t. t ++ drop v.1 b) spelled ∙ ap (λ r. varint_of n ++ r) left),
     )
 
@@ -49,7 +49,7 @@ bytes_again d rest =
 pub bytes_read : (n : ℕ) (b d rest : List ℕ) → bytes_at n b ≡ Ok (d, rest) → (length d ≡ n) × (b ≡ d ++ rest)
 bytes_read n b d rest h =
     let found = past_test (ltb (length b) n) Truncated (Ok (take n b, drop n b)) (d, rest) h in
-    let pair = same_answer (take n b, drop n b) (d, rest) found.1 in
+    let pair = ok_same (take n b, drop n b) (d, rest) found.1 in
     let front : take n b ≡ d = ap (λ (p : List ℕ × List ℕ). p.0) pair in
     let left : drop n b ≡ rest = ap (λ (p : List ℕ × List ℕ). p.1) pair in
     let size : n ≤ length b = ltb-false (length b) n found.0 in
@@ -109,7 +109,7 @@ numbered_again p rest h =
     let n : ℕ = length p.digest in
     let whole : numbered_at (varint_of 1 ++ (varint_of p.codec ++ (varint_of p.hash_code ++ (varint_of n ++ (p.digest ++ rest))))) ≡ Ok (version_1 p.codec p.hash_code p.digest, rest) =
     numbered_spelled (varint_of 1) (varint_of p.codec) (varint_of p.hash_code) (varint_of n) p.digest rest p.codec p.hash_code
-    (varints.spelled 1 (omega arith)) (varints.spelled p.codec h.codec) (varints.spelled p.hash_code h.hash_code) (varints.spelled n h.size) in
+    (varints.IsVarint-varint_of 1 (omega arith)) (varints.IsVarint-varint_of p.codec h.codec) (varints.IsVarint-varint_of p.hash_code h.hash_code) (varints.IsVarint-varint_of n h.size) in
     let P : Parts → Type 0 = λ q. numbered_at (parts_spelling q ++ rest) ≡ Ok (q, rest) in
     subst P (sym (version_1_is p h))
     (ap numbered_at (regroup (varint_of 1) (varint_of p.codec) (varint_of p.hash_code) (varint_of n) p.digest rest) ∙ whole)
@@ -134,7 +134,7 @@ digest_read codec hash n b p rest h =
     let d : List ℕ = found.0.0 in
     let is : (length d ≡ n) × (b ≡ d ++ found.0.1) = bytes_read n b d found.0.1 found.1 in
     let Q : Parts × List ℕ → Type 0 = λ q. (q.0 ≡ version_1 codec hash q.0.digest) × (length q.0.digest ≡ n) × (b ≡ q.0.digest ++ q.1) in
-    subst Q (same_answer (version_1 codec hash d, found.0.1) (p, rest) found.2) (refl, is.0, is.1)
+    subst Q (ok_same (version_1 codec hash d, found.0.1) (p, rest) found.2) (refl, is.0, is.1)
 
 -- what is read behind the hash code
 size_read : (codec hash : ℕ) (b : List ℕ) (p : Parts) (rest : List ℕ) → AreBytes b → behind_codec codec (hash, b) ≡ Ok (p, rest) → (p ≡ version_1 codec hash p.digest) × (length p.digest < 2 ^ 63) × (b ≡ varint_of (length p.digest) ++ (p.digest ++ rest))
@@ -226,7 +226,7 @@ version_0_read b p rest begins h =
     sym (take-append-le 2 front left (omega (arith, is.0)))
     ∙ (sym (ap (λ (t : List ℕ). take 2 t) is.1) ∙ (bytes_eq-Decides (take 2 b) (0x12 ∷ 0x20 ∷ [])).0 begins) in
     let Q : Parts × List ℕ → Type 0 = λ q. IsVersion0 q.0 × (b ≡ parts_spelling q.0 ++ q.1) in
-    subst Q (same_answer (version_0 (drop 2 front), left) (p, rest) found.2) (
+    subst Q (ok_same (version_0 (drop 2 front), left) (p, rest) found.2) (
       record { version = refl; codec = refl; hash_code = refl; size = omega (arith, length-drop 2 front) },
       is.1 ∙ (let put : List ℕ → List ℕ = λ t. t ++ left in ap put (two_more 0x12 0x20 front two)),
     )
@@ -299,7 +299,7 @@ cid_read b c k bytes h =
     let n : ℕ = length b - length rest in
     let Q : List ℕ × ℕ → Type 0 = λ q. (q.1 ≡ length q.0) × (b ≡ q.0 ++ drop q.1 b) × ((p : Parts) × IsCidOf q.0 p) in
     let P : List ℕ → Type 0 = λ t. IsCidOf t p in
-    subst Q (same_answer (take n b, n) (c, k) found.2)
+    subst Q (ok_same (take n b, n) (c, k) found.2)
     (sym (length-take-le n b (omega arith)), sym (take-append-drop n b), (p, subst P (sym (front_is b (parts_spelling p) rest is.1)) is.0))
 
 -- ---- laws
@@ -325,7 +325,7 @@ nothing_follows c rest bytes h both =
     let is = is_cid c bytes h in
     let one : List ℕ × ℕ = (c, length c) in
     let other : List ℕ × ℕ = (c ++ rest, length (c ++ rest)) in
-    let size : length c ≡ length (c ++ rest) = ap (λ (q : List ℕ × ℕ). q.1) (same_answer one other (sym (cid_again c is.0 rest is.1) ∙ both)) in
+    let size : length c ≡ length (c ++ rest) = ap (λ (q : List ℕ × ℕ). q.1) (ok_same one other (sym (cid_again c is.0 rest is.1) ∙ both)) in
     nil_from_length rest (omega (arith, length-append c rest))
 
 -- a CID is read as its parts, and nothing is left

@@ -13,17 +13,17 @@ past_test true e r x h = absurd cc
 past_test false e r x h = (refl, h)
 
 -- one answer is the other
-pub same_answer : {A E : Type 0} (x y : A) → (let r : Result A E = Ok x in r ≡ Ok y) → x ≡ y
-same_answer x y h = cc
+pub ok_same : {A E : Type 0} (x y : A) → (let r : Result A E = Ok x in r ≡ Ok y) → x ≡ y
+ok_same x y h = cc
 
 -- an answer of two readings in turn is of what the first answered
-pub bind_ok : {A B : Type 0} (r : Result A CidFault) (f : A → Result B CidFault) (y : B) → (r >>= f) ≡ Ok y → (x : A) × (r ≡ Ok x) × (f x ≡ Ok y)
+pub bind_ok : {A B E : Type 0} (r : Result A E) (f : A → Result B E) (y : B) → (r >>= f) ≡ Ok y → (x : A) × (r ≡ Ok x) × (f x ≡ Ok y)
 bind_ok (Ok x) f y h = (x, refl, h)
 bind_ok (Err e) f y h = absurd cc
 
 -- two readings in turn, where the first answers
-pub bind_to : {A B : Type 0} (r : Result A CidFault) (x : A) (f : A → Result B CidFault) → r ≡ Ok x → (r >>= f) ≡ f x
-bind_to {A = A} {B = B} r x f e = let next : Result A CidFault → Result B CidFault = λ s. s >>= f in ap next e
+pub bind_to : {A B E : Type 0} (r : Result A E) (x : A) (f : A → Result B E) → r ≡ Ok x → (r >>= f) ≡ f x
+bind_to {A = A} {B = B} {E = E} r x f e = let next : Result A E → Result B E = λ s. s >>= f in ap next e
 
 -- a varint that is read as a part is read
 pub part_ok : (r : Result (ℕ × ℕ) VarintFault) (v : ℕ × ℕ) → as_part r ≡ Ok v → r ≡ Ok v

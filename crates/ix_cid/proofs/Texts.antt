@@ -14,8 +14,8 @@ use Rattle.ix_cid.specs.declared.fault.CidFault.TheVariants.{Truncated, Version,
 use Rattle.ix_cid.specs.declared.fault.VarintFault.{VarintFault}
 use Rattle.ix_cid.specs.declared.fault.VarintFault.TheVariants as varints
 use Rattle.ix_cid.proofs.Quanta.{bytes_of_letters-base32_of}
-use Rattle.ix_cid.proofs.Base32Laws.{spelled, is_base32, read-is, read-only}
-use Rattle.ix_cid.proofs.Results.{past_guard, same_answer, bind_ok, fails_with}
+use Rattle.ix_cid.proofs.Base32Laws.{base32_of-letters, is_base32, bytes_of_base32-is, bytes_of_base32-only}
+use Rattle.ix_cid.proofs.Results.{past_guard, ok_same, bind_ok, fails_with}
 
 -- What is read behind the version 1 has that version.
 pub version_1_at-version : (bytes : List ℕ) (p : Parts × List ℕ) → version_1_at bytes ≡ Ok p → p.0.version ≡ 1
@@ -24,7 +24,7 @@ version_1_at-version bytes p h =
     let hash = bind_ok (number_at codec.0.1) _ p codec.2 in
     let size = bind_ok (number_at hash.0.1) _ p hash.2 in
     let digest = bind_ok (bytes_at size.0.0 size.0.1) _ p size.2 in
-    ap (λ (x : Parts × List ℕ). x.0.version) (sym (same_answer _ p digest.2))
+    ap (λ (x : Parts × List ℕ). x.0.version) (sym (ok_same _ p digest.2))
 
 -- What begins with a version that is numbered has the version 1.
 pub numbered_at-version : (bytes : List ℕ) (p : Parts × List ℕ) → numbered_at bytes ≡ Ok p → p.0.version ≡ 1
@@ -37,7 +37,7 @@ numbered_at-version bytes p h =
 pub version_0_at-version : (bytes : List ℕ) (p : Parts × List ℕ) → version_0_at bytes ≡ Ok p → p.0.version ≡ 0
 version_0_at-version bytes p h =
     let whole = bind_ok (bytes_at 34 bytes) _ p h in
-    ap (λ (x : Parts × List ℕ). x.0.version) (sym (same_answer _ p whole.2))
+    ap (λ (x : Parts × List ℕ). x.0.version) (sym (ok_same _ p whole.2))
 
 -- A first byte of 18 spells 18.
 varint_at-18 : (rest : List ℕ) → varint_at (18 ∷ rest) ≡ Ok (18, 1)
@@ -100,7 +100,7 @@ numbered_at-version_1 bytes is one =
     let read = bind_ok (parts_at bytes) (λ q. Ok (take (length bytes - length q.1) bytes, length bytes - length q.1)) (bytes, length bytes) is in
     let p : Parts × List ℕ = read.0 in
     let version : p.0.version ≡ 1 = ap (λ (x : Result (Parts × List ℕ) CidFault). (parts_or_none x).version) (sym read.1) ∙ one in
-    let size : length bytes - length p.1 ≡ length bytes = ap (λ (x : List ℕ × ℕ). x.1) (same_answer _ (bytes, length bytes) read.2) in
+    let size : length bytes - length p.1 ≡ length bytes = ap (λ (x : List ℕ × ℕ). x.1) (ok_same _ (bytes, length bytes) read.2) in
     ⊎_elim
     (λ (begins : begins_version_0 bytes ≡ true).
     let zeroth : version_0_at bytes ≡ Ok p = ap (λ (x : Bool). if x then version_0_at bytes else numbered_at bytes) (sym begins) ∙ read.1 in
@@ -113,13 +113,13 @@ numbered_at-version_1 bytes is one =
 -- Base32 is read where it is spelled.
 pub bytes_of_base32-spelled : (bytes : List ℕ) → AreBytes bytes → bytes_of_base32 (base32_of bytes) ≡ Ok bytes
 bytes_of_base32-spelled bytes are =
-    read-is (base32_of bytes) (is_base32 bytes are) ∙ ap Ok (bytes_of_letters-base32_of bytes are)
+    bytes_of_base32-is (base32_of bytes) (is_base32 bytes are) ∙ ap Ok (bytes_of_letters-base32_of bytes are)
 
 -- What is read as base32 is spelled by it.
 pub bytes_of_base32-ok : (letters bytes : List ℕ) → bytes_of_base32 letters ≡ Ok bytes → letters ≡ base32_of bytes
 bytes_of_base32-ok letters bytes h =
-    let is = read-only letters bytes h in
-    sym (spelled letters is.0) ∙ ap base32_of (sym is.1)
+    let is = bytes_of_base32-only letters bytes h in
+    sym (base32_of-letters letters is.0) ∙ ap base32_of (sym is.1)
 
 -- The text of a CID of no version 0.
 pub text_of-other : (c : List ℕ) → (version_of c ≡ 0 → ⊥) → text_of c ≡ 98 ∷ base32_of c
@@ -139,7 +139,7 @@ cid_of_text-text_of c are is one =
 
 -- Where nothing is refused, nothing is left.
 without_rest-ok : (bytes rest c : List ℕ) → without_rest bytes rest ≡ Ok c → (rest ≡ []) × (bytes ≡ c)
-without_rest-ok bytes [] c h = (refl, same_answer bytes c h)
+without_rest-ok bytes [] c h = (refl, ok_same bytes c h)
 without_rest-ok bytes (b ∷ bs) c h = absurd (cc)
 
 -- What is read is a CID of version 1, and its text is what was read.
@@ -192,7 +192,7 @@ module _ (t letters bytes : List ℕ) (begins : t ≡ 98 ∷ letters) (read : by
   pub text-rest : (n : ℕ) → length_at bytes ≡ Ok n → n < length bytes → cid_of_text t ≡ Err Rest
   text-rest n h more =
       let front = bind_ok (numbered_at bytes) (λ p. Ok (length bytes - length p.1)) n h in
-      let size : length bytes - length front.0.1 ≡ n = same_answer _ n front.2 in
+      let size : length bytes - length front.0.1 ≡ n = ok_same _ n front.2 in
       let F : Result (Parts × List ℕ) CidFault → Result (List ℕ) CidFault = λ x. x >>= (λ p. without_rest bytes p.1) in
       text-is ∙ ap F front.1 ∙ without_rest-some bytes front.0.1 (omega arith)
 
@@ -200,7 +200,7 @@ module _ (t letters bytes : List ℕ) (begins : t ≡ 98 ∷ letters) (read : by
   pub text-whole : (n : ℕ) → length_at bytes ≡ Ok n → length bytes ≤ n → IsCid bytes × (cid_of_text t ≡ Ok bytes)
   text-whole n h most =
       let front = bind_ok (numbered_at bytes) (λ p. Ok (length bytes - length p.1)) n h in
-      let size : length bytes - length front.0.1 ≡ n = same_answer _ n front.2 in
+      let size : length bytes - length front.0.1 ≡ n = ok_same _ n front.2 in
       let none = numbered_at-whole bytes front.0 front.1 (omega arith) in
       let F : Result (Parts × List ℕ) CidFault → Result (List ℕ) CidFault = λ x. x >>= (λ p. without_rest bytes p.1) in
       (IsCid-numbered bytes front.0 front.1 none, text-is ∙ ap F front.1 ∙ ap (without_rest bytes) none)

@@ -14,8 +14,8 @@ abbrev pub usual : ℕ → List ℕ → Parts
 usual codec digest = record { version = 1; codec = codec; hash_code = 0x12; digest = digest }
 
 -- where the codec is one byte, the parts are spelled by four bytes and the digest
-spelled : (codec : ℕ) (digest : List ℕ) → varint_of codec ≡ codec ∷ [] → length digest ≡ 32 → 1 ∷ codec ∷ 0x12 ∷ 0x20 ∷ digest ≡ parts_spelling (usual codec digest)
-spelled codec digest one size =
+parts_spelling-usual : (codec : ℕ) (digest : List ℕ) → varint_of codec ≡ codec ∷ [] → length digest ≡ 32 → 1 ∷ codec ∷ 0x12 ∷ 0x20 ∷ digest ≡ parts_spelling (usual codec digest)
+parts_spelling-usual codec digest one size =
     sym (ap (λ (n : ℕ). 1 ∷ (varint_of codec ++ (0x12 ∷ (varint_of n ++ digest)))) size ∙ ap (λ (l : List ℕ). 1 ∷ (l ++ (0x12 ∷ 0x20 ∷ digest))) one)
 
 -- what begins with these four bytes and has 32 more has these parts
@@ -26,7 +26,7 @@ usual_at codec bytes one small front long =
     let size : length digest ≡ 32 = length-take-le 32 (drop 4 bytes) long in
     let is : IsCidOf (1 ∷ codec ∷ 0x12 ∷ 0x20 ∷ digest) (usual codec digest) = record {
       form = inr (record { version = refl; codec = small; hash_code = omega arith; size = omega (arith, size) });
-      spelled = spelled codec digest one size;
+      spelled = parts_spelling-usual codec digest one size;
     } in
     let whole : bytes ≡ (1 ∷ codec ∷ 0x12 ∷ 0x20 ∷ digest) ++ rest =
     front ∙ ap (λ (l : List ℕ). 1 ∷ codec ∷ 0x12 ∷ 0x20 ∷ l) (sym (take-append-drop 32 (drop 4 bytes))) in

@@ -6,20 +6,20 @@ use Rattle.ix_cid.specs.Bytes.{AreBytes}
 use Rattle.ix_cid.specs.Varint.{number_of_groups, continued, AreGroups, last, more, varint_at, varint_of, varint_ending, IsVarint}
 use Rattle.ix_cid.specs.declared.fault.VarintFault.{VarintFault}
 use Rattle.ix_cid.specs.declared.fault.VarintFault.TheVariants.{Truncated, TooLong, NotMinimal}
-use Rattle.ix_cid.proofs.Results.{past_test, same_answer}
+use Rattle.ix_cid.proofs.Results.{past_test, ok_same}
 use Rattle.ix_cid.proofs.GroupLaws.{continued_groups, number_groups, last_group, bound_groups, one_spelling, groups_spell, groups_length, continued_length, read_groups, read_one_group}
 
 -- a number below 2 ^ 63 has a varint
-pub spelled : (n : ℕ) → n < 2 ^ 63 → IsVarint (varint_of n) n
-spelled n small = record { groups = groups_spell 8 n small; short = groups_length 8 n }
+pub IsVarint-varint_of : (n : ℕ) → n < 2 ^ 63 → IsVarint (varint_of n) n
+IsVarint-varint_of n small = record { groups = groups_spell 8 n small; short = groups_length 8 n }
 
 -- what has a varint is below 2 ^ 63
-pub below : (b : List ℕ) (n : ℕ) → IsVarint b n → n < 2 ^ 63
-below b n h = bound_groups h.groups 8 h.short
+pub IsVarint-below : (b : List ℕ) (n : ℕ) → IsVarint b n → n < 2 ^ 63
+IsVarint-below b n h = bound_groups h.groups 8 h.short
 
 -- a number has one varint
-pub one : (b : List ℕ) (n : ℕ) → IsVarint b n → b ≡ varint_of n
-one b n h = one_spelling h.groups 8 h.short
+pub IsVarint-is : (b : List ℕ) (n : ℕ) → IsVarint b n → b ≡ varint_of n
+IsVarint-is b n h = one_spelling h.groups 8 h.short
 
 -- whether the byte k ends a longer form, `00` behind others
 abbrev ends_in_zero : List ℕ → ℕ → Bool
@@ -44,8 +44,8 @@ reading b short inside end =
     rw (long, cut, end) refl
 
 -- a varint at the front is read, whatever follows
-pub read : (b : List ℕ) (n : ℕ) (rest : List ℕ) → IsVarint b n → varint_at (b ++ rest) ≡ Ok (n, length b)
-read b n rest h =
+pub varint_at-append : (b : List ℕ) (n : ℕ) (rest : List ℕ) → IsVarint b n → varint_at (b ++ rest) ≡ Ok (n, length b)
+varint_at-append b n rest h =
     let size : continued (b ++ rest) + 1 ≡ length b = continued_groups h.groups rest in
     let found : ℕ → Result (ℕ × ℕ) VarintFault = λ k. Ok (number_of_groups (take k (b ++ rest)), k) in
     let number : List ℕ → Result (ℕ × ℕ) VarintFault = λ t. Ok (number_of_groups t, length b) in
@@ -67,15 +67,15 @@ front_groups b bytes inside end =
     (and_cases _ _ end)
 
 -- what is read of bytes is a varint at their front
-pub only : (b : List ℕ) (n k : ℕ) → AreBytes b → varint_at b ≡ Ok (n, k) → (k ≤ length b) × IsVarint (take k b) n
-only b n k bytes h =
+pub varint_at-varint : (b : List ℕ) (n k : ℕ) → AreBytes b → varint_at b ≡ Ok (n, k) → (k ≤ length b) × IsVarint (take k b) n
+varint_at-varint b n k bytes h =
     let long = past_test (leb 9 (continued b)) TooLong (cond (eqb (continued b) (length b)) (Err Truncated) (varint_ending b (continued b))) (n, k) h in
     let cut = past_test (eqb (continued b) (length b)) Truncated (varint_ending b (continued b)) (n, k) long.1 in
     let end = past_test (ends_in_zero b (continued b)) NotMinimal (Ok (number_of_groups (take (continued b + 1) b), continued b + 1)) (n, k) cut.1 in
     let short : continued b < 9 = leb-false 9 (continued b) long.0 in
     let ne : continued b ≡ length b → ⊥ = eqb-false _ _ cut.0 in
     let inside : continued b < length b = omega (arith, continued_length b) in
-    let pair = same_answer (number_of_groups (take (continued b + 1) b), continued b + 1) (n, k) end.1 in
+    let pair = ok_same (number_of_groups (take (continued b + 1) b), continued b + 1) (n, k) end.1 in
     let size : continued b + 1 ≡ k = ap (λ (p : ℕ × ℕ). p.1) pair in
     let number : number_of_groups (take (continued b + 1) b) ≡ n = ap (λ (p : ℕ × ℕ). p.0) pair in
     let P : ℕ → Type 0 = λ j. AreGroups (take j b) n in (
@@ -89,6 +89,6 @@ only b n k bytes h =
 -- no varint begins another
 pub no_beginning : (a b x y : List ℕ) (m n : ℕ) → IsVarint a m → IsVarint b n → a ++ x ≡ b ++ y → (a ≡ b) × (m ≡ n)
 no_beginning a b x y m n ha hb same =
-    let pair : (m, length a) ≡ (n, length b) = same_answer (m, length a) (n, length b) (sym (read a m x ha) ∙ (ap varint_at same ∙ read b n y hb)) in
+    let pair : (m, length a) ≡ (n, length b) = ok_same (m, length a) (n, length b) (sym (varint_at-append a m x ha) ∙ (ap varint_at same ∙ varint_at-append b n y hb)) in
     let number : m ≡ n = ap (λ (p : ℕ × ℕ). p.0) pair in
-    (one a m ha ∙ (ap varint_of number ∙ sym (one b n hb)), number)
+    (IsVarint-is a m ha ∙ (ap varint_of number ∙ sym (IsVarint-is b n hb)), number)

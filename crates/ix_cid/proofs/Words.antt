@@ -8,8 +8,8 @@ use Rattle.std.proofs.Math.Nat.{mul-le-mul_right, pow-suc}
 use Rattle.ix_cid.specs.Bytes.{AreBytes}
 
 -- what is behind the first byte are bytes
-behind : (b : ℕ) (bs : List ℕ) → AreBytes (b ∷ bs) → AreBytes bs
-behind b bs are k d within = are (suc k) d (omega (arith, within))
+AreBytes-rest : (b : ℕ) (bs : List ℕ) → AreBytes (b ∷ bs) → AreBytes bs
+AreBytes-rest b bs are k d within = are (suc k) d (omega (arith, within))
 
 -- the number that bytes spell, the first the highest
 abbrev worth : List ℕ → ℕ
@@ -20,7 +20,7 @@ worth (b ∷ bs) = b * 256 ^ length bs + worth bs
 worth_below : (bs : List ℕ) → AreBytes bs → worth bs < 256 ^ length bs
 worth_below [] are = omega arith
 worth_below (b ∷ bs) are =
-    let below : worth bs < 256 ^ length bs = worth_below bs (behind b bs are) in
+    let below : worth bs < 256 ^ length bs = worth_below bs (AreBytes-rest b bs are) in
     let small : b < 256 = are 0 0 (omega arith) in
     let first : (b + 1) * 256 ^ length bs ≤ 256 * 256 ^ length bs = mul-le-mul_right (256 ^ length bs) (omega (arith, small)) in
     omega (arith, below, first, pow-suc 256 (length bs))
@@ -41,8 +41,8 @@ ranked [] (y ∷ ys) same xb yb = absurd (omega (arith, same))
 ranked (x ∷ xs) [] same xb yb = absurd (omega (arith, same))
 ranked (x ∷ xs) (y ∷ ys) same xb yb =
     let tails : length xs ≡ length ys = omega (arith, same) in
-    let below : worth ys < 256 ^ length xs = subst (λ (n : ℕ). worth ys < 256 ^ n) (sym tails) (worth_below ys (behind y ys yb)) in
-    let d = digits (nat_cmp x y) (slice_cmp nat_cmp xs ys) x y (256 ^ length xs) (worth xs) (worth ys) (worth_below xs (behind x xs xb)) below (ranks x y) (ranked xs ys tails (behind x xs xb) (behind y ys yb)) in
+    let below : worth ys < 256 ^ length xs = subst (λ (n : ℕ). worth ys < 256 ^ n) (sym tails) (worth_below ys (AreBytes-rest y ys yb)) in
+    let d = digits (nat_cmp x y) (slice_cmp nat_cmp xs ys) x y (256 ^ length xs) (worth xs) (worth ys) (worth_below xs (AreBytes-rest x xs xb)) below (ranks x y) (ranked xs ys tails (AreBytes-rest x xs xb) (AreBytes-rest y ys yb)) in
     subst (λ (n : ℕ). MatchOrdering (ordering_then (nat_cmp x y) (slice_cmp nat_cmp xs ys)) (x * 256 ^ length xs + worth xs < y * 256 ^ n + worth ys) (x * 256 ^ length xs + worth xs ≡ y * 256 ^ n + worth ys) (y * 256 ^ n + worth ys < x * 256 ^ length xs + worth xs)) tails d
 
 -- eight bytes

@@ -1,4 +1,5 @@
 pub mod Bytes
+pub mod Results
 pub mod Varint
 pub mod Cid
 pub mod CidForm

@@ -2,6 +2,7 @@
 use Rattle.std.proofs.Common.{◌≡◌, ◌+◌, ◌≤◌, ◌<◌, ◌^◌, arith, ℕ, zero, suc, Bool, true, false, true≢false, List, refl, sym, ap, subst, pos, negsuc}
 use Rattle.std.proofs.lemmas.Bool.{ltb-true}
 use Rattle.std.specs.Prelude.{ℤ, Option, Some, None, Result, Ok, Err, is_ok, nat_lt, bytes_eq, codes, if◌then◌else◌}
+pub use Rattle.ix_cid.proofs.Results.{bind_ok, ok_same}
 use Rattle.ix_cbor.specs.Data.{Data, Items, Entries, text, list, map, no_items, item, no_entries, entry}
 use Rattle.ix_selector.specs.declared.fault.SelFault.{SelFault}
 use Rattle.ix_selector.specs.declared.fault.SelFault.TheVariants.{NotMap, Keys, Unknown, Unsupported, Kind, Depth, EdgeOutside, EdgeUnguarded, Nesting}
@@ -17,15 +18,6 @@ pub record MayBe (n : ℕ) (around : Around) (s : Pattern) : Type 0 where
 -- a fault is no value
 pub err_no_ok : {A P : Type 0} {x : A} (e : SelFault) → Err e ≡ Ok x → P
 err_no_ok e h = absurd (true≢false (sym (ap is_ok h)))
-
--- a value of two readings in turn is the second one's, behind a value of the first
-pub bind_ok : {A B : Type 0} (r : Result A SelFault) (f : A → Result B SelFault) (y : B) → (r >>= f) ≡ Ok y → (x : A) × (r ≡ Ok x) × (f x ≡ Ok y)
-bind_ok (Ok x) f y h = (x, refl, h)
-bind_ok (Err e) f y h = err_no_ok e h
-
--- one answer is one value
-pub ok_same : {A : Type 0} (x y : A) → ◌≡◌ {A = Result A SelFault} (Ok x) (Ok y) → x ≡ y
-ok_same x y h = cc
 
 -- one of two cases
 pub by_test : {A : Type 0} (b : Bool) (r s : Result A SelFault) (y : A) (P : Type 0) → (r ≡ Ok y → P) → (s ≡ Ok y → P) → (if b then r else s) ≡ Ok y → P

@@ -5,7 +5,7 @@ use Rattle.std.proofs.lemmas.List.Elements.{All-nil, All-cons, All-head, All-tai
 use Rattle.std.proofs.lemmas.Slice.Eq.{bytes_eq-Decides}
 use Rattle.ix_cid.specs.Cid.{IsCid}
 use Rattle.ix_cid.specs.Varint.{varint_of}
-use Rattle.ix_cid.proofs.VarintLaws.{spelled}
+use Rattle.ix_cid.proofs.VarintLaws.{IsVarint-varint_of}
 use Rattle.ix_cid.proofs.GroupLaws.{some_group}
 use Rattle.ix_cbor.specs.Spelling.{spelling_of}
 use Rattle.ix_store.specs.Store.{Blocks, block_of}
@@ -36,7 +36,7 @@ block-cid (e ∷ store) c block cids there = on_test (bytes_eq e.0 c) refl there
 
 -- a section takes a byte at least
 section_some : (text : List ℕ) → length text < 2 ^ 63 → 0 < length (with_length text)
-section_some text short = omega (arith, some_group ((spelled (length text) short).groups), length-append (varint_of (length text)) text)
+section_some text short = omega (arith, some_group ((IsVarint-varint_of (length text) short).groups), length-append (varint_of (length text)) text)
 
 module _ (store : Blocks) (size : ℕ) (small : size < 2 ^ 63) (cids : All (λ (p : List ℕ × List ℕ). IsCid p.0) store) where
   -- from a place on the sections of these deliveries are read

@@ -6,8 +6,8 @@ use Rattle.std.proofs.Math.Seq.{drop-append_seam, take-append_seam}
 use Rattle.ix_cid.specs.Varint.{varint_at, varint_of}
 use Rattle.ix_cid.specs.Cid.{Parts, parts_at, cid_at, IsCid}
 use Rattle.ix_cid.specs.declared.fault.CidFault.{CidFault}
-use Rattle.ix_cid.proofs.VarintLaws.{spelled, read}
-use Rattle.ix_cid.proofs.Results.{same_answer, bind_ok, bind_to}
+use Rattle.ix_cid.proofs.VarintLaws.{IsVarint-varint_of, varint_at-append}
+use Rattle.ix_cid.proofs.Results.{ok_same, bind_ok, bind_to}
 use Rattle.ix_cid.proofs.Cids.{parts_at-reads}
 use Rattle.ix_car.specs.declared.fault.CarKind.TheVariants.{Truncated}
 use Rattle.ix_car.specs.Writing.{with_length}
@@ -33,7 +33,7 @@ pub text_again : (text rest : List ℕ) → length text < 2 ^ 63 → text_at (wi
 text_again text rest short =
     let v = varint_of (length text) in
     let number : varint_at ((v ++ text) ++ rest) ≡ Ok (length text, length v) =
-    ap varint_at (append_assoc v text rest) ∙ read v (length text) (text ++ rest) (spelled (length text) short) in
+    ap varint_at (append_assoc v text rest) ∙ varint_at-append v (length text) (text ++ rest) (IsVarint-varint_of (length text) short) in
     ap (text_behind ((v ++ text) ++ rest)) number ∙ behind_again v text rest
 
 -- what has no length is empty
@@ -47,7 +47,7 @@ cid_again c rest is =
     let cid_behind : List ℕ → Parts × List ℕ → Result (List ℕ × ℕ) CidFault = λ b p. Ok (take (length b - length p.1) b, length b - length p.1) in
     let parts = bind_ok (parts_at c) (cid_behind c) (c, length c) is in
     let left = parts.0.1 in
-    let size : length c - length left ≡ length c = ap (λ (r : List ℕ × ℕ). r.1) (same_answer (take (length c - length left) c, length c - length left) (c, length c) parts.2) in
+    let size : length c - length left ≡ length c = ap (λ (r : List ℕ × ℕ). r.1) (ok_same (take (length c - length left) c, length c - length left) (c, length c) parts.2) in
     let front = parts_at-reads c parts.0.0 left parts.1 in
     let all : left ≡ [] = none left (omega (arith, size, ap length front.whole, length-append front.front left)) in
     let whole : front.front ≡ c = sym (append-nil front.front) ∙ ap (λ (l : List ℕ). front.front ++ l) (sym all) ∙ sym front.whole in

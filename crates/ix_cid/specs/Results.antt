@@ -1,0 +1,8 @@
+-- Readings in turn.
+use Rattle.std.specs.Prelude.{Result, Ok, Err}
+
+-- goes on with a value, or keeps the fault
+infixl 10 ◌>>=◌
+abbrev pub ◌>>=◌ : {A B E : Type 0} → Result A E → (A → Result B E) → Result B E
+(Ok x) >>= f = f x
+(Err e) >>= f = Err e
