@@ -39,11 +39,16 @@ pub record AreLaidFrom (m : ℕ) (spots : List Spot) : Type 0 where
 abbrev pub AreRowBehind : Vec Spot → Vec Spot → List ℕ → Type 0
 AreRowBehind old new ks = AreRow (places_of new.items) (length old.items) ks (length new.items)
 
+-- each spot names places before it alone, and what is inside it stands right before it
+pub record IsTable (spots : List Spot) : Type 0 where
+  pub placed : AreSpots 0 spots
+  pub laid : AreLaidFrom 0 spots
+
 -- these are the places of a selector, and the last of them is its own
 abbrev pub IsTableOf : List Spot → ℕ → Type 0
 IsTableOf spots root =
-    IsSelector (at (places_of spots) root) × AreSpots 0 spots × AreNamedOnce spots × (root + 1 ≡ length spots)
-    × AreLaidFrom 0 spots × (root ≡ inside_of (at (places_of spots) root))
+    IsSelector (at (places_of spots) root) × IsTable spots × AreNamedOnce spots × (root + 1 ≡ length spots)
+    × (root ≡ inside_of (at (places_of spots) root))
 
 -- the last of these places is that of the selector
 abbrev pub IsRootOf : List Spot → Pattern → ℕ → Type 0

@@ -7,8 +7,8 @@ use Rattle.ix_selector.specs.declared.reached.Reached.{Reached}
 use Rattle.ix_selector.specs.Pattern.{Pattern}
 use Rattle.ix_selector.specs.Enters.{Step, Frame}
 use Rattle.std.specs.List.{All}
-use Rattle.ix_selector.specs.Places.{at, AreSpots, AreNamedOnce}
-use Rattle.ix_selector.specs.Laid.{AreLaidFrom}
+use Rattle.ix_selector.specs.Places.{at, AreNamedOnce}
+use Rattle.ix_selector.specs.Laid.{IsTable}
 use Rattle.ix_selector.specs.declared.step.Step.{Step as RustStep}
 use Rattle.ix_selector.specs.Residual.{Place, step_of}
 use Rattle.ix_selector.specs.Pairs.{lowered, place_of, seen_pairs, IsPair, IsStanding, HasNoEdge, Stands, EntersAt, SomeEnter, ReachedEnters, Same, Joins, LeadsTo, LeadsNowhere}
@@ -106,5 +106,5 @@ StandsAtEnd places n t = Stands (at places n) → LeadsNowhere (at places n) t
 -- pairs of these places that stand, no two at one place
 abbrev pub AreLeftIn : List Spot → List Pair → Type 0
 AreLeftIn spots xs =
-    AreSpots 0 spots × All (IsPair spots) xs × All (IsStanding spots) xs × AreNamedOnce spots
-    × (length xs ≤ length spots) × AreLaidFrom 0 spots
+    IsTable spots × All (IsPair spots) xs × All (IsStanding spots) xs × AreNamedOnce spots
+    × (length xs ≤ length spots)

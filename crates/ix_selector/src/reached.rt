@@ -1,10 +1,10 @@
 //! What is reached from a place without a step.
 
 ghost use Rattle.std.specs.Prelude.{◌≡◌, [], OnOk};
-ghost use Rattle.ix_selector.specs.Places.{AreSpots, AreBelow};
+ghost use Rattle.ix_selector.specs.Places.{AreBelow};
 ghost use Rattle.ix_selector.specs.Pairs.{IsPair, AreReached};
 ghost use Rattle.ix_selector.specs.Reaching.{members_at, EntersPair, EntersMembers, AddsPair, AddsMembers, PairKeepsAgain, MembersKeepAgain, EntersAgain};
-ghost use Rattle.ix_selector.specs.Laid.{AreLaidFrom};
+ghost use Rattle.ix_selector.specs.Laid.{IsTable};
 ghost use Rattle.std.specs.List.{All};
 
 use crate::pair::{Pair, Pairs, Recursion};
@@ -35,10 +35,9 @@ impl Reached {
 /// that its edges enter again.
 #[cycle(reach)]
 pub(crate) fn reach(spots: &[Spot], pair: Pair, reached: &mut Reached) -> Result<(), AllocError>
-    requires spots { AreSpots 0 spots.now }
+    requires table { IsTable spots.now }
     requires pair { IsPair spots.now pair }
     requires reached { AreReached spots.now reached.old }
-    requires laid { AreLaidFrom 0 spots.now }
     ensures reached { OnOk result (AreReached spots.now reached.new) }
     ensures enters { OnOk result (EntersPair spots.now pair reached.old reached.new) }
     ensures exact { OnOk result (AddsPair spots.now pair reached.old reached.new) }
@@ -67,11 +66,10 @@ fn reach_each(
     pair: Pair,
     reached: &mut Reached,
 ) -> Result<(), AllocError>
-    requires spots { AreSpots 0 spots.now }
+    requires table { IsTable spots.now }
     requires members { AreBelow pair.place members.now }
     requires pairs { All (IsPair spots.now) (members_at pair members.now) }
     requires reached { AreReached spots.now reached.old }
-    requires laid { AreLaidFrom 0 spots.now }
     ensures reached { OnOk result (AreReached spots.now reached.new) }
     ensures enters { OnOk result (EntersMembers spots.now pair members.now reached.old reached.new) }
     ensures exact { OnOk result (AddsMembers spots.now pair members.now reached.old reached.new) }

@@ -2,9 +2,9 @@
 
 ghost use Rattle.std.specs.Prelude.{◌≡◌, IfOk};
 ghost use Rattle.ix_selector.specs.Pattern.{IsSelector};
-ghost use Rattle.ix_selector.specs.Places.{AreSpots, AreNamedOnce};
+ghost use Rattle.ix_selector.specs.Places.{AreNamedOnce};
 ghost use Rattle.ix_selector.specs.Reading.{selector_of};
-ghost use Rattle.ix_selector.specs.Laid.{AreLaidFrom, IsRootOf};
+ghost use Rattle.ix_selector.specs.Laid.{IsTable, IsRootOf};
 ghost use Rattle.ix_selector.specs.Behind.{inside_of};
 ghost use Rattle.ix_selector.specs.Gives.{Gives};
 
@@ -52,9 +52,8 @@ impl Selector {
 
     /// Its places, and the number of its own.
     pub(crate) fn places(&self) -> (&[Spot], usize)
-        ensures spots { AreSpots 0 result.0.now }
+        ensures table { IsTable result.0.now }
         ensures once { AreNamedOnce result.0.now }
-        ensures laid { AreLaidFrom 0 result.0.now }
         ensures whole { result.1 ≡ inside_of self.now }
         ensures root { IsRootOf result.0.now self.now result.1 }
         ensures selector { IsSelector self.now }

@@ -1,12 +1,12 @@
 //! Steps from the places of a selector to those behind them.
 
 ghost use Rattle.std.specs.Prelude.{◌<◌, ◌≤◌, length, IfOk, OnOk, IfSome, IfNone};
-ghost use Rattle.ix_selector.specs.Places.{places_of, AreSpots, AreNamedOnce, AreRising};
+ghost use Rattle.ix_selector.specs.Places.{places_of, AreNamedOnce, AreRising};
 ghost use Rattle.ix_selector.specs.Standing.{IsBeside};
 ghost use Rattle.ix_selector.specs.Named.{HasName, HasNoName};
 ghost use Rattle.ix_selector.specs.Pairs.{IsPair, IsStanding, AreStandingPairs, AreReached};
 ghost use Rattle.ix_selector.specs.Reaching.{EntersStep, AddsStep, EnterAsReached, EnterBehind, AreLeft, AreLeftBehind, LeadsBeside, StandsAtEnd, LeadsAs, LeadsToNone};
-ghost use Rattle.ix_selector.specs.Laid.{AreLaidFrom};
+ghost use Rattle.ix_selector.specs.Laid.{IsTable};
 ghost use Rattle.ix_selector.specs.Residual.{step_of};
 
 use crate::merge::merged;
@@ -35,9 +35,8 @@ fn named(names: &[(Vec<u8>, usize)], step: &Step) -> Option<usize>
 
 // The place behind a step from a place that stands.
 fn behind(spots: &[Spot], place: usize, step: &Step) -> Option<usize>
-    requires spots { AreSpots 0 spots.now }
+    requires table { IsTable spots.now }
     requires place { place < length spots.now }
-    requires laid { AreLaidFrom 0 spots.now }
     ensures within { IfSome result (λ k. k < length spots.now) }
     ensures beside { IfSome result (IsBeside spots.now place) }
     ensures some { IfSome result (LeadsBeside (places_of spots.now) place (step_of step.now)) }
@@ -61,10 +60,9 @@ fn step_from(
     step: &Step,
     reached: &mut Reached,
 ) -> Result<(), AllocError>
-    requires spots { AreSpots 0 spots.now }
+    requires table { IsTable spots.now }
     requires pair { IsPair spots.now pair × IsStanding spots.now pair }
     requires reached { AreReached spots.now reached.old }
-    requires laid { AreLaidFrom 0 spots.now }
     ensures reached { OnOk result (AreReached spots.now reached.new) }
     ensures enters { OnOk result (EntersStep spots.now pair step.now reached.old reached.new) }
     ensures exact { OnOk result (AddsStep spots.now pair step.now reached.old reached.new) }
@@ -80,10 +78,9 @@ fn step_from(
 
 // The places that stand, where the sequences that edges enter again are reached too.
 fn entered_again(alloc: Global, spots: &[Spot], reached: Reached) -> Result<Pairs, AllocError>
-    requires spots { AreSpots 0 spots.now }
+    requires table { IsTable spots.now }
     requires once { AreNamedOnce spots.now }
     requires reached { AreReached spots.now reached }
-    requires laid { AreLaidFrom 0 spots.now }
     ensures pairs { IfOk result (λ r. AreStandingPairs spots.now r.items) }
     ensures few { IfOk result (λ r. length r.items ≤ length spots.now) }
     ensures enters { IfOk result (λ r. EnterAsReached spots.now reached r.items) }
@@ -108,10 +105,9 @@ pub(crate) fn stepped(
     pairs: &[Pair],
     step: &Step,
 ) -> Result<Pairs, AllocError>
-    requires spots { AreSpots 0 spots.now }
+    requires table { IsTable spots.now }
     requires once { AreNamedOnce spots.now }
     requires pairs { AreStandingPairs spots.now pairs.now }
-    requires laid { AreLaidFrom 0 spots.now }
     ensures pairs { IfOk result (λ r. AreStandingPairs spots.now r.items) }
     ensures few { IfOk result (λ r. length r.items ≤ length spots.now) }
     ensures enters { IfOk result (λ r. EnterBehind spots.now pairs.now step.now r.items) }

@@ -19,24 +19,24 @@ use Rattle.ix_selector.proofs.stepping.behind.Goals as goal
 pub named-requires : goal.named-requires
 named-requires c =
     let is = subst (λ y. y ≡ get_or c.args.spots.now c.args.place y) c.in-Fields.is c.index-spots-place.is in
-    subst AreRising (sym c.deref.ensures.value) (spot-is c.args.spots.now c.args.place (Fields c.in-Fields.names) c.requires.spots c.requires.place is).1
+    subst AreRising (sym c.deref.ensures.value) (spot-is c.args.spots.now c.args.place (Fields c.in-Fields.names) c.requires.table.placed c.requires.place is).1
 
 pub returns-in-All-clause-within : goal.returns-in-All-clause-within
 returns-in-All-clause-within c =
     let is = subst (λ y. y ≡ get_or c.args.spots.now c.args.place y) c.in-All.is c.index-spots-place.is in
-    let below : c.in-All.next < c.args.place = spot-is c.args.spots.now c.args.place (All c.in-All.next) c.requires.spots c.requires.place is in
+    let below : c.in-All.next < c.args.place = spot-is c.args.spots.now c.args.place (All c.in-All.next) c.requires.table.placed c.requires.place is in
     omega arith
 
 pub returns-in-All-clause-some : goal.returns-in-All-clause-some
 returns-in-All-clause-some c =
     let is = subst (λ y. y ≡ get_or c.args.spots.now c.args.place y) c.in-All.is c.index-spots-place.is in
     let ps = places_of c.args.spots.now in
-    subst (λ s. LeadsTo s (step_of c.args.step.now) (at ps c.in-All.next)) (sym (place-is c.args.spots.now c.args.place (All c.in-All.next) c.requires.spots c.requires.place is)) (all_leads (at ps c.in-All.next) (step_of c.args.step.now))
+    subst (λ s. LeadsTo s (step_of c.args.step.now) (at ps c.in-All.next)) (sym (place-is c.args.spots.now c.args.place (All c.in-All.next) c.requires.table.placed c.requires.place is)) (all_leads (at ps c.in-All.next) (step_of c.args.step.now))
 
 pub returns-in-Fields-clause-within : goal.returns-in-Fields-clause-within
 returns-in-Fields-clause-within c =
     let is = subst (λ y. y ≡ get_or c.args.spots.now c.args.place y) c.in-Fields.is c.index-spots-place.is in
-    let spot = spot-is c.args.spots.now c.args.place (Fields c.in-Fields.names) c.requires.spots c.requires.place is in
+    let spot = spot-is c.args.spots.now c.args.place (Fields c.in-Fields.names) c.requires.table.placed c.requires.place is in
     IfSome_then c.named.result c.named.ensures.some
     (λ k has.
     let below : k < c.args.place = name-below c.args.place c.in-Fields.names.items (step_of c.args.step.now) k spot.0 (subst (λ l. HasName l (step_of c.args.step.now) k) c.deref.ensures.value has) in
@@ -47,10 +47,10 @@ pub returns-in-Fields-clause-some : goal.returns-in-Fields-clause-some
 returns-in-Fields-clause-some c =
     let is = subst (λ y. y ≡ get_or c.args.spots.now c.args.place y) c.in-Fields.is c.index-spots-place.is in
     let ps = places_of c.args.spots.now in
-    let spot = spot-is c.args.spots.now c.args.place (Fields c.in-Fields.names) c.requires.spots c.requires.place is in
+    let spot = spot-is c.args.spots.now c.args.place (Fields c.in-Fields.names) c.requires.table.placed c.requires.place is in
     IfSome_then c.named.result c.named.ensures.some
     (λ k has.
-    subst (λ s. LeadsTo s (step_of c.args.step.now) (at ps k)) (sym (place-is c.args.spots.now c.args.place (Fields c.in-Fields.names) c.requires.spots c.requires.place is))
+    subst (λ s. LeadsTo s (step_of c.args.step.now) (at ps k)) (sym (place-is c.args.spots.now c.args.place (Fields c.in-Fields.names) c.requires.table.placed c.requires.place is))
     (fields_lead ps c.in-Fields.names.items (step_of c.args.step.now) k spot.1 (subst (λ l. HasName l (step_of c.args.step.now) k) c.deref.ensures.value has)))
 
 pub returns-in-Fields-clause-none : goal.returns-in-Fields-clause-none
@@ -59,14 +59,14 @@ returns-in-Fields-clause-none c =
     let ps = places_of c.args.spots.now in
     if-none _ _ c.named.result
     (λ none stands.
-    subst (λ s. LeadsNowhere s (step_of c.args.step.now)) (sym (place-is c.args.spots.now c.args.place (Fields c.in-Fields.names) c.requires.spots c.requires.place is))
+    subst (λ s. LeadsNowhere s (step_of c.args.step.now)) (sym (place-is c.args.spots.now c.args.place (Fields c.in-Fields.names) c.requires.table.placed c.requires.place is))
     (fields_nowhere ps c.in-Fields.names.items (step_of c.args.step.now) (subst (λ l. HasNoName l (step_of c.args.step.now)) c.deref.ensures.value none)))
     c.named.ensures.none
 
 pub returns-in-Index-clause-within : goal.returns-in-Index-clause-within
 returns-in-Index-clause-within c =
     let is = subst (λ y. y ≡ get_or c.args.spots.now c.args.place y) c.in-Index.is c.index-spots-place.is in
-    let below : c.in-Index.next < c.args.place = spot-is c.args.spots.now c.args.place (Index c.in-Index.position c.in-Index.next) c.requires.spots c.requires.place is in
+    let below : c.in-Index.next < c.args.place = spot-is c.args.spots.now c.args.place (Index c.in-Index.position c.in-Index.next) c.requires.table.placed c.requires.place is in
     chosen-some (λ k. k < length c.args.spots.now) c.is_at.result c.in-Index.next c.then_some.result c.then_some.ensures (λ e. omega arith)
 
 pub returns-in-Index-clause-some : goal.returns-in-Index-clause-some
@@ -75,7 +75,7 @@ returns-in-Index-clause-some c =
     let ps = places_of c.args.spots.now in
     chosen-some (λ k. LeadsTo (at ps c.args.place) (step_of c.args.step.now) (at ps k)) c.is_at.result c.in-Index.next c.then_some.result c.then_some.ensures
     (λ e.
-    subst (λ s. LeadsTo s (step_of c.args.step.now) (at ps c.in-Index.next)) (sym (place-is c.args.spots.now c.args.place (Index c.in-Index.position c.in-Index.next) c.requires.spots c.requires.place is))
+    subst (λ s. LeadsTo s (step_of c.args.step.now) (at ps c.in-Index.next)) (sym (place-is c.args.spots.now c.args.place (Index c.in-Index.position c.in-Index.next) c.requires.table.placed c.requires.place is))
     (index_leads c.in-Index.position (at ps c.in-Index.next) (step_of c.args.step.now) (subst (λ i. is_at i (step_of c.args.step.now) ≡ true) (to_z-of_z w128 c.in-Index.position (search rules)) (sym c.is_at.ensures ∙ e))))
 
 pub returns-in-Index-clause-none : goal.returns-in-Index-clause-none
@@ -84,13 +84,13 @@ returns-in-Index-clause-none c =
     let ps = places_of c.args.spots.now in
     chosen-none (Stands (at ps c.args.place) → LeadsNowhere (at ps c.args.place) (step_of c.args.step.now)) c.is_at.result c.in-Index.next c.then_some.result c.then_some.ensures
     (λ e stands.
-    subst (λ s. LeadsNowhere s (step_of c.args.step.now)) (sym (place-is c.args.spots.now c.args.place (Index c.in-Index.position c.in-Index.next) c.requires.spots c.requires.place is))
+    subst (λ s. LeadsNowhere s (step_of c.args.step.now)) (sym (place-is c.args.spots.now c.args.place (Index c.in-Index.position c.in-Index.next) c.requires.table.placed c.requires.place is))
     (index_nowhere c.in-Index.position (at ps c.in-Index.next) (step_of c.args.step.now) (subst (λ i. is_at i (step_of c.args.step.now) ≡ false) (to_z-of_z w128 c.in-Index.position (search rules)) (sym c.is_at.ensures ∙ e))))
 
 pub returns-in-Range-clause-within : goal.returns-in-Range-clause-within
 returns-in-Range-clause-within c =
     let is = subst (λ y. y ≡ get_or c.args.spots.now c.args.place y) c.in-Range.is c.index-spots-place.is in
-    let below : c.in-Range.next < c.args.place = spot-is c.args.spots.now c.args.place (Range c.in-Range.start c.in-Range.end c.in-Range.next) c.requires.spots c.requires.place is in
+    let below : c.in-Range.next < c.args.place = spot-is c.args.spots.now c.args.place (Range c.in-Range.start c.in-Range.end c.in-Range.next) c.requires.table.placed c.requires.place is in
     chosen-some (λ k. k < length c.args.spots.now) c.is_within.result c.in-Range.next c.then_some-in-Range.result c.then_some-in-Range.ensures (λ e. omega arith)
 
 pub returns-in-Range-clause-some : goal.returns-in-Range-clause-some
@@ -99,7 +99,7 @@ returns-in-Range-clause-some c =
     let ps = places_of c.args.spots.now in
     chosen-some (λ k. LeadsTo (at ps c.args.place) (step_of c.args.step.now) (at ps k)) c.is_within.result c.in-Range.next c.then_some-in-Range.result c.then_some-in-Range.ensures
     (λ e.
-    subst (λ s. LeadsTo s (step_of c.args.step.now) (at ps c.in-Range.next)) (sym (place-is c.args.spots.now c.args.place (Range c.in-Range.start c.in-Range.end c.in-Range.next) c.requires.spots c.requires.place is))
+    subst (λ s. LeadsTo s (step_of c.args.step.now) (at ps c.in-Range.next)) (sym (place-is c.args.spots.now c.args.place (Range c.in-Range.start c.in-Range.end c.in-Range.next) c.requires.table.placed c.requires.place is))
     (range_leads c.in-Range.start c.in-Range.end (at ps c.in-Range.next) (step_of c.args.step.now)
     (subst (λ i. is_within i c.in-Range.end (step_of c.args.step.now) ≡ true) (to_z-of_z w128 c.in-Range.start (search rules))
     (subst (λ j. is_within (to_z w128 (of_z w128 c.in-Range.start)) j (step_of c.args.step.now) ≡ true) (to_z-of_z w128 c.in-Range.end (search rules)) (sym c.is_within.ensures ∙ e)))))
@@ -110,7 +110,7 @@ returns-in-Range-clause-none c =
     let ps = places_of c.args.spots.now in
     chosen-none (Stands (at ps c.args.place) → LeadsNowhere (at ps c.args.place) (step_of c.args.step.now)) c.is_within.result c.in-Range.next c.then_some-in-Range.result c.then_some-in-Range.ensures
     (λ e stands.
-    subst (λ s. LeadsNowhere s (step_of c.args.step.now)) (sym (place-is c.args.spots.now c.args.place (Range c.in-Range.start c.in-Range.end c.in-Range.next) c.requires.spots c.requires.place is))
+    subst (λ s. LeadsNowhere s (step_of c.args.step.now)) (sym (place-is c.args.spots.now c.args.place (Range c.in-Range.start c.in-Range.end c.in-Range.next) c.requires.table.placed c.requires.place is))
     (range_nowhere c.in-Range.start c.in-Range.end (at ps c.in-Range.next) (step_of c.args.step.now)
     (subst (λ i. is_within i c.in-Range.end (step_of c.args.step.now) ≡ false) (to_z-of_z w128 c.in-Range.start (search rules))
     (subst (λ j. is_within (to_z w128 (of_z w128 c.in-Range.start)) j (step_of c.args.step.now) ≡ false) (to_z-of_z w128 c.in-Range.end (search rules)) (sym c.is_within.ensures ∙ e)))))
@@ -118,7 +118,7 @@ returns-in-Range-clause-none c =
 pub returns-in_default-clause-none : goal.returns-in_default-clause-none
 returns-in_default-clause-none c =
     let ps = places_of c.args.spots.now in
-    subst (λ s. Stands s → LeadsNowhere s (step_of c.args.step.now)) (sym (place-is c.args.spots.now c.args.place c.index-spots-place.result c.requires.spots c.requires.place c.index-spots-place.is))
+    subst (λ s. Stands s → LeadsNowhere s (step_of c.args.step.now)) (sym (place-is c.args.spots.now c.args.place c.index-spots-place.result c.requires.table.placed c.requires.place c.index-spots-place.is))
     (default-nowhere ps c.index-spots-place.result c.in_default.not-All c.in_default.not-Fields c.in_default.not-Index c.in_default.not-Range (step_of c.args.step.now))
 
 pub returns-in-All-clause-beside : goal.returns-in-All-clause-beside
@@ -152,37 +152,37 @@ returns-in-Range-clause-beside c =
 pub returns-in-All-clause-leads : goal.returns-in-All-clause-leads
 returns-in-All-clause-leads c =
     let is = subst (λ y. y ≡ get_or c.args.spots.now c.args.place y) c.in-All.is c.index-spots-place.is in
-    all-as c.args.spots.now c.requires.spots c.requires.laid c.args.place c.requires.place (step_of c.args.step.now) c.in-All.next is
+    all-as c.args.spots.now c.requires.table.placed c.requires.table.laid c.args.place c.requires.place (step_of c.args.step.now) c.in-All.next is
 
 pub returns-in-Fields-clause-leads : goal.returns-in-Fields-clause-leads
 returns-in-Fields-clause-leads c =
     let is = subst (λ y. y ≡ get_or c.args.spots.now c.args.place y) c.in-Fields.is c.index-spots-place.is in
-    let rising = (spot-is c.args.spots.now c.args.place (Fields c.in-Fields.names) c.requires.spots c.requires.place is).1 in
+    let rising = (spot-is c.args.spots.now c.args.place (Fields c.in-Fields.names) c.requires.table.placed c.requires.place is).1 in
     IfSome_then c.named.result c.named.ensures.some
-    (λ k has. fields-as c.args.spots.now c.requires.spots c.requires.laid c.args.place c.requires.place (step_of c.args.step.now) c.in-Fields.names is rising k (subst (λ l. HasName l (step_of c.args.step.now) k) c.deref.ensures.value has))
+    (λ k has. fields-as c.args.spots.now c.requires.table.placed c.requires.table.laid c.args.place c.requires.place (step_of c.args.step.now) c.in-Fields.names is rising k (subst (λ l. HasName l (step_of c.args.step.now) k) c.deref.ensures.value has))
 
 pub returns-in-Fields-clause-nowhere : goal.returns-in-Fields-clause-nowhere
 returns-in-Fields-clause-nowhere c =
     let is = subst (λ y. y ≡ get_or c.args.spots.now c.args.place y) c.in-Fields.is c.index-spots-place.is in
-    if-none _ _ c.named.result (λ none. fields-none c.args.spots.now c.requires.spots c.requires.laid c.args.place c.requires.place (step_of c.args.step.now) c.in-Fields.names is (subst (λ l. HasNoName l (step_of c.args.step.now)) c.deref.ensures.value none)) c.named.ensures.none
+    if-none _ _ c.named.result (λ none. fields-none c.args.spots.now c.requires.table.placed c.requires.table.laid c.args.place c.requires.place (step_of c.args.step.now) c.in-Fields.names is (subst (λ l. HasNoName l (step_of c.args.step.now)) c.deref.ensures.value none)) c.named.ensures.none
 
 pub returns-in-Index-clause-leads : goal.returns-in-Index-clause-leads
 returns-in-Index-clause-leads c =
     let is = subst (λ y. y ≡ get_or c.args.spots.now c.args.place y) c.in-Index.is c.index-spots-place.is in
     chosen-some (LeadsAs (places_of c.args.spots.now) c.args.place (step_of c.args.step.now)) c.is_at.result c.in-Index.next c.then_some.result c.then_some.ensures
-    (λ e. index-as c.args.spots.now c.requires.spots c.requires.laid c.args.place c.requires.place (step_of c.args.step.now) c.in-Index.position c.in-Index.next is (subst (λ i. is_at i (step_of c.args.step.now) ≡ true) (to_z-of_z w128 c.in-Index.position (search rules)) (sym c.is_at.ensures ∙ e)))
+    (λ e. index-as c.args.spots.now c.requires.table.placed c.requires.table.laid c.args.place c.requires.place (step_of c.args.step.now) c.in-Index.position c.in-Index.next is (subst (λ i. is_at i (step_of c.args.step.now) ≡ true) (to_z-of_z w128 c.in-Index.position (search rules)) (sym c.is_at.ensures ∙ e)))
 
 pub returns-in-Index-clause-nowhere : goal.returns-in-Index-clause-nowhere
 returns-in-Index-clause-nowhere c =
     let is = subst (λ y. y ≡ get_or c.args.spots.now c.args.place y) c.in-Index.is c.index-spots-place.is in
     chosen-none (LeadsToNone (places_of c.args.spots.now) c.args.place (step_of c.args.step.now)) c.is_at.result c.in-Index.next c.then_some.result c.then_some.ensures
-    (λ e. index-none c.args.spots.now c.requires.spots c.requires.laid c.args.place c.requires.place (step_of c.args.step.now) c.in-Index.position c.in-Index.next is (subst (λ i. is_at i (step_of c.args.step.now) ≡ false) (to_z-of_z w128 c.in-Index.position (search rules)) (sym c.is_at.ensures ∙ e)))
+    (λ e. index-none c.args.spots.now c.requires.table.placed c.requires.table.laid c.args.place c.requires.place (step_of c.args.step.now) c.in-Index.position c.in-Index.next is (subst (λ i. is_at i (step_of c.args.step.now) ≡ false) (to_z-of_z w128 c.in-Index.position (search rules)) (sym c.is_at.ensures ∙ e)))
 
 pub returns-in-Range-clause-leads : goal.returns-in-Range-clause-leads
 returns-in-Range-clause-leads c =
     let is = subst (λ y. y ≡ get_or c.args.spots.now c.args.place y) c.in-Range.is c.index-spots-place.is in
     chosen-some (LeadsAs (places_of c.args.spots.now) c.args.place (step_of c.args.step.now)) c.is_within.result c.in-Range.next c.then_some-in-Range.result c.then_some-in-Range.ensures
-    (λ e. range-as c.args.spots.now c.requires.spots c.requires.laid c.args.place c.requires.place (step_of c.args.step.now) c.in-Range.start c.in-Range.end c.in-Range.next is
+    (λ e. range-as c.args.spots.now c.requires.table.placed c.requires.table.laid c.args.place c.requires.place (step_of c.args.step.now) c.in-Range.start c.in-Range.end c.in-Range.next is
     (subst (λ i. is_within i c.in-Range.end (step_of c.args.step.now) ≡ true) (to_z-of_z w128 c.in-Range.start (search rules))
     (subst (λ j. is_within (to_z w128 (of_z w128 c.in-Range.start)) j (step_of c.args.step.now) ≡ true) (to_z-of_z w128 c.in-Range.end (search rules)) (sym c.is_within.ensures ∙ e))))
 
@@ -190,10 +190,10 @@ pub returns-in-Range-clause-nowhere : goal.returns-in-Range-clause-nowhere
 returns-in-Range-clause-nowhere c =
     let is = subst (λ y. y ≡ get_or c.args.spots.now c.args.place y) c.in-Range.is c.index-spots-place.is in
     chosen-none (LeadsToNone (places_of c.args.spots.now) c.args.place (step_of c.args.step.now)) c.is_within.result c.in-Range.next c.then_some-in-Range.result c.then_some-in-Range.ensures
-    (λ e. range-none c.args.spots.now c.requires.spots c.requires.laid c.args.place c.requires.place (step_of c.args.step.now) c.in-Range.start c.in-Range.end c.in-Range.next is
+    (λ e. range-none c.args.spots.now c.requires.table.placed c.requires.table.laid c.args.place c.requires.place (step_of c.args.step.now) c.in-Range.start c.in-Range.end c.in-Range.next is
     (subst (λ i. is_within i c.in-Range.end (step_of c.args.step.now) ≡ false) (to_z-of_z w128 c.in-Range.start (search rules))
     (subst (λ j. is_within (to_z w128 (of_z w128 c.in-Range.start)) j (step_of c.args.step.now) ≡ false) (to_z-of_z w128 c.in-Range.end (search rules)) (sym c.is_within.ensures ∙ e))))
 
 pub returns-in_default-clause-nowhere : goal.returns-in_default-clause-nowhere
 returns-in_default-clause-nowhere c =
-    default-none c.args.spots.now c.requires.spots c.requires.laid c.args.place c.requires.place (step_of c.args.step.now) c.index-spots-place.result c.index-spots-place.is c.in_default.not-All c.in_default.not-Fields c.in_default.not-Index c.in_default.not-Range
+    default-none c.args.spots.now c.requires.table.placed c.requires.table.laid c.args.place c.requires.place (step_of c.args.step.now) c.index-spots-place.result c.index-spots-place.is c.in_default.not-All c.in_default.not-Fields c.in_default.not-Index c.in_default.not-Range

@@ -4,7 +4,7 @@ use Rattle.ix_selector.proofs.Adding.{start-exact}
 use Rattle.ix_selector.proofs.residual.Residual.start.Goals as goal
 
 pub reach-requires-clause-pair : goal.reach-requires-clause-pair
-reach-requires-clause-pair c = root-pair c.places-place.result.0.now c.places-place.result.1 c.args.selector.now c.places-place.ensures.spots c.places-place.ensures.root.0 c.places-place.ensures.root.1 c.places-place.ensures.selector
+reach-requires-clause-pair c = root-pair c.places-place.result.0.now c.places-place.result.1 c.args.selector.now c.places-place.ensures.table.placed c.places-place.ensures.root.0 c.places-place.ensures.root.1 c.places-place.ensures.selector
 
 pub merged-requires : goal.merged-requires
 merged-requires c = record { agree = pairs-agree c.places-place.result.0.now c.reach.new.reached.standing.items c.places-place.ensures.once c.in_ok-reach.ensures.reached.pairs }
@@ -15,7 +15,7 @@ invariant_of-result c =
     let reached = c.in_ok-reach.ensures.reached in
     let among = c.in_ok-pairs.ensures.among in
     let pairs = pairs-of spots c.reach.new.reached.standing.items c.in_ok-pairs.pairs.items among reached.pairs in
-    (c.places-place.ensures.spots, pairs, standing-of spots c.reach.new.reached.standing.items c.in_ok-pairs.pairs.items among reached.standing, c.places-place.ensures.once, few-pairs spots c.in_ok-pairs.pairs.items c.in_ok-pairs.ensures.rising pairs, c.places-place.ensures.laid)
+    (c.places-place.ensures.table, pairs, standing-of spots c.reach.new.reached.standing.items c.in_ok-pairs.pairs.items among reached.standing, c.places-place.ensures.once, few-pairs spots c.in_ok-pairs.pairs.items c.in_ok-pairs.ensures.rising pairs)
 
 pub returns-clause-entered : goal.returns-clause-entered
 returns-clause-entered c =
