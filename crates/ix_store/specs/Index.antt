@@ -1,5 +1,5 @@
 -- What the index of a store says: a table of slots, and a tree behind it.
-use Rattle.std.specs.Prelude.{◌≡◌, ◌⊎◌, ℕ, zero, suc, ◌+◌, ◌-◌, ◌*◌, ◌/◌, ◌^◌, ◌<◌, ◌≤◌, List, [], ◌∷◌, length, take, drop, Contains, nat_lt, if◌then◌else◌, Bool, true, false, ◌&&◌, ◌==◌, bytes_eq, slice_get, slice_index_or, Option, Some, None, Result, IfOk, IfSome}
+use Rattle.std.specs.Prelude.{◌≡◌, ◌⊎◌, ℕ, zero, suc, ◌+◌, ◌-◌, ◌*◌, ◌/◌, ◌^◌, ◌<◌, ◌≤◌, List, [], ◌∷◌, ◌++◌, length, take, drop, All, Contains, nat_lt, if◌then◌else◌, Bool, true, false, ◌&&◌, ◌==◌, bytes_eq, slice_get, slice_index_or, Option, Some, None, Result, IfOk, IfSome}
 use Rattle.std.specs.Global.{Vec}
 use Rattle.std.specs.declared.alloc.AllocError.{AllocError}
 use Rattle.std.specs.BTreeMap.{get}
@@ -78,11 +78,31 @@ place_behind index c = get (slice_cmp nat_cmp) index.behind c
 abbrev pub AreLedTo : List Slot → Index → Blocks → Type 0
 AreLedTo slots index blocks = (c : List ℕ) (place : ℕ) → position_of blocks c ≡ Some place → Comes slots (place_behind index c) (tail_of c) place
 
+-- only the tree leads the look-up of a number to this place
+abbrev pub ComesOnlyBehind : List Slot → ℕ → ℕ → Type 0
+ComesOnlyBehind slots tail place = (behind : Option ℕ) → Comes slots behind tail place → behind ≡ Some place
+
+-- the trees of two indexes have the same places
+abbrev pub SameBehind : Index → Index → Type 0
+SameBehind old new = (c : List ℕ) → place_behind new c ≡ place_behind old c
+
+-- the tree has this place for a CID, and what it had for each other
+abbrev pub PutsBehind : Index → Index → List ℕ → ℕ → Type 0
+PutsBehind old new cid place = (c : List ℕ) → place_behind new c ≡ (if bytes_eq cid c then Some place else place_behind old c)
+
 -- an index of pairs with distinct CIDs: the look-up of each comes to its place, and the tree has no wrong one
 pub record IsIndexed (index : Index) (blocks : Blocks) : Type 0 where
   pub distinct : HasDistinctCids blocks
   pub leads : AreLedTo index.slots.items index blocks
   pub true_behind : (c : List ℕ) (place : ℕ) → place_behind index c ≡ Some place → position_of blocks c ≡ Some place
+
+-- the same of these pairs with one more, under this CID
+abbrev pub IsIndexedWith : Index → Blocks → List ℕ → Type 0
+IsIndexedWith index blocks cid = (block : List ℕ) → IsIndexed index (blocks ++ (cid, block) ∷ [])
+
+-- what threads answer for an index of these pairs: none, or one of all of them
+abbrev pub MayIndex : Blocks → Result (Option Index) AllocError → Type 0
+MayIndex blocks result = IfOk result (λ found. IfSome found (λ index. IsIndexed index blocks))
 
 -- a slot is the first free one of the look-up of a number
 abbrev pub IsFreeSlot : List Slot → ℕ → ℕ → Type 0
@@ -130,14 +150,27 @@ AreSeen slots blocks from to places = (k : ℕ) (e : List ℕ × List ℕ) → f
 abbrev pub IsTrueBehind : Index → Blocks → Type 0
 IsTrueBehind index blocks = (c : List ℕ) (p : ℕ) → place_behind index c ≡ Some p → is_cid_at blocks p c ≡ true
 
+-- what the tree of an index has stays so
+abbrev pub StaysTrueBehind : Index → Index → Blocks → Type 0
+StaysTrueBehind old new blocks = IsTrueBehind old blocks → IsTrueBehind new blocks
+
 -- the tree has the place of the pair there
 abbrev pub IsBehind : Index → Blocks → ℕ → Type 0
 IsBehind index blocks p = (e : List ℕ × List ℕ) → slice_get blocks p ≡ Some e → place_behind index e.0 ≡ Some p
+
+-- the tree has these places, each for the CID of the pair there
+abbrev pub AreBehind : Index → Blocks → List ℕ → Type 0
+AreBehind index blocks places = All (λ p. IsBehind index blocks p) places
 
 -- the tree of an index has whatever that of another has
 abbrev pub HasAllOf : Index → Index → Type 0
 HasAllOf later index = (c : List ℕ) (p : ℕ) → place_behind index c ≡ Some p → place_behind later c ≡ Some p
 
+-- what was seen of the share of the pairs with this number, where each share has so many
+abbrev pub ShareSeen : List Slot → Blocks → ℕ → ℕ → Result (Option (Vec ℕ)) AllocError → Type 0
+ShareSeen slots blocks share number result =
+    IfOk result (λ found. IfSome found (λ places. AreSeen slots blocks (number * share) (number * share + share) places.items))
+
 -- what was seen of the shares of the pairs, each of so many
 abbrev pub AllSeen : List Slot → Blocks → ℕ → List (Result (Option (Vec ℕ)) AllocError) → Type 0
-AllSeen slots blocks share shares = (n : ℕ) (d : Result (Option (Vec ℕ)) AllocError) → n < length shares → IfOk (slice_index_or shares n d) (λ found. IfSome found (λ places. AreSeen slots blocks (n * share) (n * share + share) places.items))
+AllSeen slots blocks share shares = (n : ℕ) (d : Result (Option (Vec ℕ)) AllocError) → n < length shares → ShareSeen slots blocks share n (slice_index_or shares n d)

@@ -3,6 +3,8 @@ use Rattle.std.specs.Prelude.{◌≡◌, ◌⊎◌, ℕ, ◌/◌, ◌%◌, Bool,
 use Rattle.sha2.specs.Sha256.{sha256}
 use Rattle.sha2.specs.Sha512.{sha512}
 use Rattle.ix_cid.specs.Cid.{parts_of, digest_of, hash_function_of}
+use Rattle.ix_cid.specs.Parts.{parts_view}
+use Rattle.ix_cid.specs.declared.parts.Parts.{Parts}
 use Rattle.ix_cid.specs.declared.hash_function.HashFunction.{HashFunction}
 use Rattle.ix_cid.specs.declared.hash_function.HashFunction.TheVariants.{Identity, Sha2_256, Sha2_512}
 use Rattle.ix_cbor.specs.Reading.{data_at}
@@ -14,6 +16,10 @@ agrees_by None digest block = false
 agrees_by (Some Identity) digest block = bytes_eq block digest
 agrees_by (Some Sha2_256) digest block = bytes_eq (sha256 block) digest
 agrees_by (Some Sha2_512) digest block = bytes_eq (sha512 block) digest
+
+-- the digest in the parts of a CID is that of a block
+abbrev pub has_digest_of : Parts → List ℕ → Bool
+has_digest_of parts block = agrees_by (hash_function_of (parts_view parts)) parts.digest.now block
 
 -- the digest of a CID is that of the block that stands with it
 abbrev pub agrees : List ℕ × List ℕ → Bool

@@ -1,10 +1,10 @@
 //! A store in the making.
 
-ghost use Rattle.std.specs.Prelude.{◌≡◌, ◌≤◌, [], length, map, take, drop, OnOk, OnErr, IfOk};
+ghost use Rattle.std.specs.Prelude.{◌≡◌, ◌≤◌, [], length, take, OnOk, OnErr, IfOk};
 ghost use Rattle.std.specs.Arc.{arc_value};
-ghost use Rattle.ix_store.specs.Entry.{content};
+ghost use Rattle.ix_store.specs.Entry.{part_of, pairs_of, pairs_counted};
 ghost use Rattle.ix_store.specs.Index.{IsIndexed};
-ghost use Rattle.ix_store.specs.Store.{with_block, with_blocks};
+ghost use Rattle.ix_store.specs.Store.{with_block};
 
 use crate::entry::{Block, Entry};
 use crate::index::Index;
@@ -39,16 +39,15 @@ pub struct StoreBuilder {
 }
 
 impl Model for StoreBuilder {
-    ghost use Rattle.std.specs.Prelude.{◌≤◌, List, ℕ, length, map, take, drop};
-    ghost use Rattle.ix_store.specs.Entry.{content};
+    ghost use Rattle.std.specs.Prelude.{◌≤◌, List, ℕ, length, take};
+    ghost use Rattle.ix_store.specs.Entry.{pairs_of, pairs_counted};
     ghost use Rattle.ix_store.specs.Index.{IsIndexed};
-    ghost use Rattle.ix_store.specs.Store.{with_blocks};
 
     ghost Value = { List (List ℕ × List ℕ) };
 
-    ghost view = { λ b. with_blocks (map (λ e. (e.cid, content e.block)) (take b.indexed b.entries.items)) (map (λ e. (e.cid, content e.block)) (drop b.indexed b.entries.items)) };
+    ghost view = { λ b. pairs_counted b.indexed b.entries.items };
 
-    ghost invariant = { λ b. (b.indexed ≤ length b.entries.items) × IsIndexed b.index (map (λ e. (e.cid, content e.block)) (take b.indexed b.entries.items)) };
+    ghost invariant = { λ b. (b.indexed ≤ length b.entries.items) × IsIndexed b.index (pairs_of (take b.indexed b.entries.items)) };
 }
 
 impl StoreBuilder {
@@ -73,7 +72,7 @@ impl StoreBuilder {
         start: usize,
         size: usize,
     ) -> Result<(), AllocError>
-        ensures added { OnOk result (self.new ≡ with_block self.old (cid, take size (drop start (arc_value bytes.now).items))) }
+        ensures added { OnOk result (self.new ≡ with_block self.old (cid, part_of (arc_value bytes.now) start size)) }
     {
         let bytes = Arc::try_clone(bytes)?;
         let block = Block::Within { bytes, start, size };
@@ -126,10 +125,9 @@ fn index_all<R: Threads + Sync>(
     threads: usize,
 ) -> Result<(Vec<Entry>, Index), AllocError>
     requires within { indexed ≤ length entries.items }
-    requires before { IsIndexed index (map (λ e. (e.cid, content e.block)) (take indexed entries.items)) }
-    ensures kept { IfOk result (λ r. map (λ e. (e.cid, content e.block)) r.0.items
-        ≡ with_blocks (map (λ e. (e.cid, content e.block)) (take indexed entries.items)) (map (λ e. (e.cid, content e.block)) (drop indexed entries.items))) }
-    ensures indexed { IfOk result (λ r. IsIndexed r.1 (map (λ e. (e.cid, content e.block)) r.0.items)) }
+    requires before { IsIndexed index (pairs_of (take indexed entries.items)) }
+    ensures kept { IfOk result (λ r. pairs_of r.0.items ≡ pairs_counted indexed entries.items) }
+    ensures indexed { IfOk result (λ r. IsIndexed r.1 (pairs_of r.0.items)) }
 {
     if entries.len() - indexed >= MANY {
         if let Some(made) = Index::by_threads(rt, alloc, entries.as_slice(), threads)? {
@@ -147,10 +145,9 @@ fn index_in_turn(
     indexed: usize,
 ) -> Result<(Vec<Entry>, Index), AllocError>
     requires within { indexed ≤ length entries.items }
-    requires before { IsIndexed index (map (λ e. (e.cid, content e.block)) (take indexed entries.items)) }
-    ensures kept { IfOk result (λ r. map (λ e. (e.cid, content e.block)) r.0.items
-        ≡ with_blocks (map (λ e. (e.cid, content e.block)) (take indexed entries.items)) (map (λ e. (e.cid, content e.block)) (drop indexed entries.items))) }
-    ensures indexed { IfOk result (λ r. IsIndexed r.1 (map (λ e. (e.cid, content e.block)) r.0.items)) }
+    requires before { IsIndexed index (pairs_of (take indexed entries.items)) }
+    ensures kept { IfOk result (λ r. pairs_of r.0.items ≡ pairs_counted indexed entries.items) }
+    ensures indexed { IfOk result (λ r. IsIndexed r.1 (pairs_of r.0.items)) }
 {
     let mut kept = indexed;
     for place in indexed..entries.len() {

@@ -3,9 +3,7 @@
 ghost use Rattle.std.specs.Prelude.{◌≡◌, bytes_eq};
 ghost use Rattle.sha2.specs.Sha256.{sha256};
 ghost use Rattle.sha2.specs.Sha512.{sha512};
-ghost use Rattle.ix_cid.specs.Cid.{hash_function_of};
-ghost use Rattle.ix_cid.specs.Parts.{parts_view};
-ghost use Rattle.ix_store.specs.Mark.{agrees_by};
+ghost use Rattle.ix_store.specs.Mark.{has_digest_of};
 
 use ix_cid::{HashFunction, Parts};
 use sha2::{Digest, Sha256, Sha512};
@@ -13,7 +11,7 @@ use sha2::{Digest, Sha256, Sha512};
 // Whether the digest of a CID with these parts is that of a block. No block has the digest of a hash function
 // that isn't known.
 pub(crate) fn agrees_with(parts: &Parts<'_>, block: &[u8]) -> bool
-    ensures { result ≡ agrees_by (hash_function_of (parts_view parts.now)) parts.now.digest.now block.now }
+    ensures { result ≡ has_digest_of parts.now block.now }
 {
     match parts.hash_function() {
         None => false,

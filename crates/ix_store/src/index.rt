@@ -7,11 +7,11 @@
 //! to one slot. So a look-up goes through a bounded number of slots, and what finds none of them free goes to a tree
 //! over whole CIDs.
 
-ghost use Rattle.std.specs.Prelude.{◌≡◌, ◌↔◌, ◌++◌, List, [], ◌∷◌, map, ◌-◌, ◌*◌, ◌^◌, ◌<◌, Option, length, Some, true, false, not, IsTrue, IfOk, IfSome, OnErr, All, ℕ, bytes_eq, if◌then◌else◌, ◌≤◌};
+ghost use Rattle.std.specs.Prelude.{◌≡◌, ◌↔◌, List, [], ◌-◌, ◌*◌, ◌^◌, ◌<◌, Option, length, Some, None, true, false, not, IsTrue, IfOk, OnErr, ℕ, ◌≤◌};
 ghost use Rattle.std.specs.Option.{unwrap_or};
-ghost use Rattle.ix_store.specs.Entry.{content};
+ghost use Rattle.ix_store.specs.Entry.{pairs_of};
 ghost use Rattle.ix_store.specs.Store.{has_cid, position_of, HasDistinctCids};
-ghost use Rattle.ix_store.specs.Index.{tail_of, mark_of, first_of, window_of, Has, HasPlace, place_behind, Comes, AreLedTo, IsIndexed, IsTrueBehind, AllSeen, HasAllOf, IsBehind, FindsFree, IsSeat, is_cid_at, sight_of};
+ghost use Rattle.ix_store.specs.Index.{tail_of, mark_of, first_of, window_of, Has, HasPlace, place_behind, ComesOnlyBehind, SameBehind, PutsBehind, AreLedTo, IsIndexed, IsIndexedWith, MayIndex, StaysTrueBehind, AllSeen, HasAllOf, AreBehind, FindsFree, IsSeat, is_cid_at, sight_in};
 
 use crate::entry::Entry;
 use crate::filling::filled;
@@ -108,7 +108,7 @@ impl Index {
         entries: &[Entry],
         threads: usize,
     ) -> Result<Option<Index>, AllocError>
-        ensures { IfOk result (λ found. IfSome found (λ index. IsIndexed index (map (λ e. (e.cid, content e.block)) entries.now))) }
+        ensures { MayIndex (pairs_of entries.now) result }
     {
         let slots = filled(rt, alloc, entries, threads)?;
         let index = Index {
@@ -128,7 +128,7 @@ impl Index {
         threads: usize,
     ) -> Result<Option<Index>, AllocError>
         requires { (c : List ℕ) → place_behind self c ≡ None }
-        ensures { IfOk result (λ found. IfSome found (λ index. IsIndexed index (map (λ e. (e.cid, content e.block)) entries.now))) }
+        ensures { MayIndex (pairs_of entries.now) result }
     {
         let threads = threads.max(1);
         let share = entries.len().div_ceil(threads);
@@ -145,9 +145,9 @@ impl Index {
         shares: &[Seen],
     ) -> Result<Option<Index>, AllocError>
         requires empty { (c : List ℕ) → place_behind self c ≡ None }
-        requires seen { AllSeen self.slots.items (map (λ e. (e.cid, content e.block)) entries.now) share shares.now }
+        requires seen { AllSeen self.slots.items (pairs_of entries.now) share shares.now }
         requires whole { length entries.now ≤ length shares.now * share }
-        ensures { IfOk result (λ found. IfSome found (λ index. IsIndexed index (map (λ e. (e.cid, content e.block)) entries.now))) }
+        ensures { MayIndex (pairs_of entries.now) result }
     {
         for places in shares.iter() {
             match places {
@@ -172,8 +172,8 @@ impl Index {
     ) -> Result<bool, AllocError>
         ensures slots { self.new.slots ≡ self.old.slots }
         ensures kept { HasAllOf self.new self.old }
-        ensures behind { IsTrueBehind self.old (map (λ e. (e.cid, content e.block)) entries.now) → IsTrueBehind self.new (map (λ e. (e.cid, content e.block)) entries.now) }
-        ensures put { IfOk result (λ all. IsTrue all → All (λ p. IsBehind self.new (map (λ e. (e.cid, content e.block)) entries.now) p) places.now) }
+        ensures behind { StaysTrueBehind self.old self.new (pairs_of entries.now) }
+        ensures put { IfOk result (λ all. IsTrue all → AreBehind self.new (pairs_of entries.now) places.now) }
     {
         for place in places.iter() {
             let place = *place;
@@ -190,8 +190,8 @@ impl Index {
 
     // The index with room for one entry more: its table is doubled where half of its slots may be taken.
     pub(crate) fn make_room(&mut self, alloc: Global, entries: &[Entry]) -> Result<(), AllocError>
-        requires { IsIndexed self.old (map (λ e. (e.cid, content e.block)) entries.now) }
-        ensures { IsIndexed self.new (map (λ e. (e.cid, content e.block)) entries.now) }
+        requires { IsIndexed self.old (pairs_of entries.now) }
+        ensures { IsIndexed self.new (pairs_of entries.now) }
     {
         let starts = self.slots.len().saturating_sub(PROBES - 1);
         if entries.len() >= starts / 2 {
@@ -209,9 +209,9 @@ impl Index {
         entries: &[Entry],
         starts: usize,
     ) -> Result<Vec<Slot>, AllocError>
-        requires { IsIndexed self.old (map (λ e. (e.cid, content e.block)) entries.now) }
-        ensures same { IsIndexed self.new (map (λ e. (e.cid, content e.block)) entries.now) }
-        ensures table { IfOk result (λ slots. AreLedTo slots.items self.new (map (λ e. (e.cid, content e.block)) entries.now)) }
+        requires { IsIndexed self.old (pairs_of entries.now) }
+        ensures same { IsIndexed self.new (pairs_of entries.now) }
+        ensures table { IfOk result (λ slots. AreLedTo slots.items self.new (pairs_of entries.now)) }
     {
         let mut slots = vec![in alloc; Slot::FREE; starts.saturating_add(PROBES - 1)]?;
         for (place, entry) in entries.iter().enumerate() {
@@ -230,7 +230,7 @@ impl Index {
     // Whether the look-up of a number goes through a slot with this place. Where it doesn't, only the tree can
     // lead to it.
     fn has_place(&self, tail: u64, place: usize) -> bool
-        ensures { result ≡ false → (behind : Option ℕ) → Comes self.now.slots.items behind tail place → behind ≡ Some place }
+        ensures { result ≡ false → ComesOnlyBehind self.now.slots.items tail place }
     {
         let (_, window) = window(self.slots.as_slice(), tail);
         for slot in window {
@@ -246,9 +246,9 @@ impl Index {
     // The place that the tree has for a CID. Where it has none, it is given this one.
     fn put_behind(&mut self, alloc: Global, cid: &Cid, place: usize) -> Result<usize, AllocError>
         ensures slots { self.new.slots ≡ self.old.slots }
-        ensures stood { IfOk result (λ stood. stood ≡ unwrap_or (place_behind self.old cid.now) place) }
-        ensures put { IfOk result (λ stood. (c : List ℕ) → place_behind self.new c ≡ (if bytes_eq cid.now c then Some stood else place_behind self.old c)) }
-        ensures err { OnErr result ((c : List ℕ) → place_behind self.new c ≡ place_behind self.old c) }
+        ensures stood { IfOk result (λ p. p ≡ unwrap_or (place_behind self.old cid.now) place) }
+        ensures put { IfOk result (λ stood. PutsBehind self.old self.new cid.now stood) }
+        ensures err { OnErr result (SameBehind self.old self.new) }
     {
         let key = cid.try_clone(alloc)?;
         match self.behind.entry(key) {
@@ -259,8 +259,8 @@ impl Index {
 
     // Where the table has the entry of a CID, or where its place goes.
     fn seat(&self, entries: &[Entry], cid: &Cid) -> Seat
-        requires { IsIndexed self.now (map (λ e. (e.cid, content e.block)) entries.now) }
-        ensures { IsSeat self.now (map (λ e. (e.cid, content e.block)) entries.now) cid.now result }
+        requires { IsIndexed self.now (pairs_of entries.now) }
+        ensures { IsSeat self.now (pairs_of entries.now) cid.now result }
     {
         let tail = tail_of(cid);
         let mark = mark_of(tail);
@@ -281,8 +281,8 @@ impl Index {
 
     // Where the entry of a CID stands.
     pub(crate) fn find(&self, entries: &[Entry], cid: &Cid) -> Option<usize>
-        requires { IsIndexed self.now (map (λ e. (e.cid, content e.block)) entries.now) }
-        ensures { result ≡ position_of (map (λ e. (e.cid, content e.block)) entries.now) cid.now }
+        requires { IsIndexed self.now (pairs_of entries.now) }
+        ensures { result ≡ position_of (pairs_of entries.now) cid.now }
     {
         match self.seat(entries, cid) {
             Seat::Held(place) => Some(place),
@@ -298,11 +298,11 @@ impl Index {
         entries: &[Entry],
         cid: &Cid,
     ) -> Result<bool, AllocError>
-        requires { IsIndexed self.old (map (λ e. (e.cid, content e.block)) entries.now) }
-        ensures answer { IfOk result (λ entered. entered ≡ not (has_cid (map (λ e. (e.cid, content e.block)) entries.now) cid.now)) }
-        ensures entered { IfOk result (λ entered. IsTrue entered → (b : List ℕ) → IsIndexed self.new (map (λ e. (e.cid, content e.block)) entries.now ++ (cid.now, b) ∷ [])) }
-        ensures held { IfOk result (λ entered. entered ≡ false → IsIndexed self.new (map (λ e. (e.cid, content e.block)) entries.now)) }
-        ensures err { OnErr result (IsIndexed self.new (map (λ e. (e.cid, content e.block)) entries.now)) }
+        requires { IsIndexed self.old (pairs_of entries.now) }
+        ensures answer { IfOk result (λ b. b ≡ not (has_cid (pairs_of entries.now) cid.now)) }
+        ensures entered { IfOk result (λ b. IsTrue b → IsIndexedWith self.new (pairs_of entries.now) cid.now) }
+        ensures held { IfOk result (λ b. b ≡ false → IsIndexed self.new (pairs_of entries.now)) }
+        ensures err { OnErr result (IsIndexed self.new (pairs_of entries.now)) }
     {
         let place = entries.len();
         match self.seat(entries, cid) {
@@ -350,7 +350,7 @@ fn free_slot(slots: &[Slot], tail: u64, place: usize) -> Option<usize>
 
 // What the look-up of a CID sees in a table.
 pub(crate) fn look(slots: &[Slot], entries: &[Entry], cid: &Cid) -> Sight
-    ensures { result ≡ sight_of (map (λ e. (e.cid, content e.block)) entries.now) (window_of slots.now (tail_of cid.now)) (mark_of (tail_of cid.now)) cid.now }
+    ensures { result ≡ sight_in slots.now (pairs_of entries.now) cid.now }
 {
     let tail = tail_of(cid);
     let mark = mark_of(tail);
@@ -368,7 +368,7 @@ pub(crate) fn look(slots: &[Slot], entries: &[Entry], cid: &Cid) -> Sight
 
 // Whether an entry at a place has this CID.
 fn is_cid_at(entries: &[Entry], place: usize, cid: &Cid) -> bool
-    ensures { result ≡ is_cid_at (map (λ e. (e.cid, content e.block)) entries.now) place cid.now }
+    ensures { result ≡ is_cid_at (pairs_of entries.now) place cid.now }
 {
     match entries.get(place) {
         Some(Entry { cid: other, .. }) => *other == *cid,
@@ -406,9 +406,8 @@ pub(crate) fn tail_of(cid: &Cid) -> u64
 
 // Whether the entry of a CID stands at a place.
 pub(crate) fn holds(entries: &[Entry], place: usize, cid: &Cid) -> bool
-    requires { HasDistinctCids (map (λ e. (e.cid, content e.block)) entries.now) }
-    ensures { IsTrue result
-        ↔ (position_of (map (λ e. (e.cid, content e.block)) entries.now) cid.now ≡ Some place) }
+    requires { HasDistinctCids (pairs_of entries.now) }
+    ensures { IsTrue result ↔ (position_of (pairs_of entries.now) cid.now ≡ Some place) }
 {
     match entries.get(place) {
         Some(entry) => entry.cid == *cid,

@@ -1,7 +1,7 @@
 //! Sets of places, a bit each.
 
-ghost use Rattle.std.specs.Prelude.{◌≡◌, ℕ, ◌==◌, ◌||◌, false, OnOk, OnErr};
-ghost use Rattle.ix_store.specs.PlaceSet.{contains_place};
+ghost use Rattle.std.specs.Prelude.{◌≡◌, ℕ, false, OnOk, OnErr};
+ghost use Rattle.ix_store.specs.PlaceSet.{contains_place, HasThePlacesOf, HasOneMoreThan};
 
 use std::alloc::{AllocError, Global};
 
@@ -39,8 +39,8 @@ impl PlaceSet {
 
     /// Puts a place into the set. Where memory runs out the set is as it was.
     pub fn insert(&mut self, place: usize) -> Result<(), AllocError>
-        ensures inserted { OnOk result ((n : ℕ) → contains_place self.new n ≡ ((place == n) || contains_place self.old n)) }
-        ensures err { OnErr result ((n : ℕ) → contains_place self.new n ≡ contains_place self.old n) }
+        ensures inserted { OnOk result (HasOneMoreThan self.new self.old place) }
+        ensures err { OnErr result (HasThePlacesOf self.new self.old) }
     {
         let word = place / WORD_BITS;
         if self.words.len() <= word {

@@ -1,8 +1,8 @@
 //! Which entries find no free slot in a table, as each of several threads sees in its share of them.
 
-ghost use Rattle.std.specs.Prelude.{◌≡◌, ◌*◌, ◌+◌, IfOk, IfSome, map, vec_len};
-ghost use Rattle.ix_store.specs.Entry.{content};
-ghost use Rattle.ix_store.specs.Index.{AreSeen, AllSeen};
+ghost use Rattle.std.specs.Prelude.{◌≡◌, IfOk, vec_len};
+ghost use Rattle.ix_store.specs.Entry.{pairs_of};
+ghost use Rattle.ix_store.specs.Index.{AllSeen, ShareSeen};
 
 use crate::entry::Entry;
 use crate::index::{Sight, Slot, look};
@@ -27,7 +27,7 @@ pub(crate) fn see_shares<R: Threads + Sync>(
     threads: usize,
 ) -> Result<Vec<Seen>, AllocError>
     ensures len { IfOk result (λ shares. vec_len shares ≡ threads) }
-    ensures seen { IfOk result (λ shares. AllSeen slots.now (map (λ e. (e.cid, content e.block)) entries.now) share shares.items) }
+    ensures seen { IfOk result (λ shares. AllSeen slots.now (pairs_of entries.now) share shares.items) }
 {
     map_indices(
         rt,
@@ -40,7 +40,7 @@ pub(crate) fn see_shares<R: Threads + Sync>(
 // The places of the entries for which none of their slots is free, of those in the share with a number, where each share has
 // so many. There are none where an entry's look-up comes to a free slot or to another place, or where they are more than a few.
 fn see_share(alloc: Global, slots: &[Slot], entries: &[Entry], share: usize, number: usize) -> Seen
-    ensures { IfOk result (λ found. IfSome found (λ places. AreSeen slots.now (map (λ e. (e.cid, content e.block)) entries.now) (number * share) (number * share + share) places.items)) }
+    ensures { ShareSeen slots.now (pairs_of entries.now) share number result }
 {
     let from = number.saturating_mul(share).min(entries.len());
     let to = from.saturating_add(share).min(entries.len());

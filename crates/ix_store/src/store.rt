@@ -1,11 +1,11 @@
 //! Blocks under their CIDs.
 
-ghost use Rattle.std.specs.Prelude.{◌≡◌, ◌<◌, [], ◌∷◌, ◌++◌, length, map, take, drop, slice_get, Some, true, false, IfOk, OnOk, OnErr, not, ◌==◌};
+ghost use Rattle.std.specs.Prelude.{◌≡◌, ◌<◌, [], length, map, slice_get, Some, ◌==◌};
 ghost use Rattle.std.specs.Arc.{arc_value};
-ghost use Rattle.ix_store.specs.Entry.{content};
+ghost use Rattle.ix_store.specs.Entry.{content, part_of, pairs_of};
 ghost use Rattle.ix_store.specs.Index.{IsIndexed};
 ghost use Rattle.ix_store.specs.Mark.{agrees, is_faulty};
-ghost use Rattle.ix_store.specs.Store.{has_cid, with_block, position_of};
+ghost use Rattle.ix_store.specs.Store.{Adds, position_of};
 
 use crate::ahead::Ahead;
 use crate::entry::{Block, Entry};
@@ -28,15 +28,15 @@ pub struct Store {
 }
 
 impl Model for Store {
-    ghost use Rattle.std.specs.Prelude.{◌≡◌, List, ℕ, map, IfSome};
-    ghost use Rattle.ix_store.specs.Entry.{content};
+    ghost use Rattle.std.specs.Prelude.{◌≡◌, List, ℕ, IfSome};
+    ghost use Rattle.ix_store.specs.Entry.{pairs_of};
     ghost use Rattle.ix_store.specs.Index.{IsIndexed};
 
     ghost Value = { List (List ℕ × List ℕ) };
 
-    ghost view = { λ s. map (λ e. (e.cid, content e.block)) s.entries.items };
+    ghost view = { λ s. pairs_of s.entries.items };
 
-    ghost invariant = { λ s. IsIndexed s.index (map (λ e. (e.cid, content e.block)) s.entries.items) × IfSome s.marks (λ m. m ≡ map (λ e. (e.cid, content e.block)) s.entries.items) };
+    ghost invariant = { λ s. IsIndexed s.index (pairs_of s.entries.items) × IfSome s.marks (λ m. m ≡ pairs_of s.entries.items) };
 }
 
 impl Store {
@@ -54,8 +54,8 @@ impl Store {
 
     // The store of these entries, of which this is the index.
     pub(crate) fn of_entries(alloc: Global, entries: Vec<Entry>, index: Index) -> Store
-        requires { IsIndexed index (map (λ e. (e.cid, content e.block)) entries.items) }
-        ensures { result ≡ map (λ e. (e.cid, content e.block)) entries.items }
+        requires { IsIndexed index (pairs_of entries.items) }
+        ensures { result ≡ pairs_of entries.items }
     {
         Store {
             alloc,
@@ -67,9 +67,7 @@ impl Store {
 
     /// Adds a block, unless its CID is there.
     pub fn add(&mut self, cid: Cid, bytes: Vec<u8>) -> Result<bool, AllocError>
-        ensures answer { IfOk result (λ added. added ≡ not (has_cid self.old cid)) }
-        ensures added { OnOk result (self.new ≡ with_block self.old (cid, bytes.items)) }
-        ensures err { OnErr result (self.new ≡ self.old) }
+        ensures { Adds self.old self.new cid bytes.items result }
     {
         self.add_block(cid, Block::Own(bytes))
     }
@@ -83,9 +81,7 @@ impl Store {
         start: usize,
         size: usize,
     ) -> Result<bool, AllocError>
-        ensures answer { IfOk result (λ added. added ≡ not (has_cid self.old cid)) }
-        ensures added { OnOk result (self.new ≡ with_block self.old (cid, take size (drop start (arc_value bytes.now).items))) }
-        ensures err { OnErr result (self.new ≡ self.old) }
+        ensures { Adds self.old self.new cid (part_of (arc_value bytes.now) start size) result }
     {
         let bytes = Arc::try_clone(bytes)?;
         self.add_block(cid, Block::Within { bytes, start, size })
@@ -93,9 +89,7 @@ impl Store {
 
     // Adds a block, wherever its bytes are, unless its CID is there.
     fn add_block(&mut self, cid: Cid, block: Block) -> Result<bool, AllocError>
-        ensures answer { IfOk result (λ added. added ≡ not (has_cid self.old cid)) }
-        ensures added { OnOk result (self.new ≡ with_block self.old (cid, content block)) }
-        ensures err { OnErr result (self.new ≡ self.old) }
+        ensures { Adds self.old self.new cid (content block) result }
     {
         self.index.make_room(self.alloc, self.entries.as_slice())?;
         self.entries.reserve(1)?;
@@ -110,9 +104,7 @@ impl Store {
 
     /// Adds a copy of a block, unless its CID is there: then nothing is copied.
     pub fn add_copy(&mut self, cid: Cid, block: &[u8]) -> Result<bool, AllocError>
-        ensures answer { IfOk result (λ added. added ≡ not (has_cid self.old cid)) }
-        ensures added { OnOk result (self.new ≡ with_block self.old (cid, block.now)) }
-        ensures err { OnErr result (self.new ≡ self.old) }
+        ensures { Adds self.old self.new cid block.now result }
     {
         if self.find(&cid).is_some() {
             return Ok(false);

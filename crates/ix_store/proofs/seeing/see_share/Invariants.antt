@@ -1,7 +1,6 @@
-use Rattle.std.proofs.Common.{map}
-use Rattle.ix_store.specs.Entry.{content}
+use Rattle.ix_store.specs.Entry.{pairs_of}
 use Rattle.ix_store.specs.Index.{AreSeen}
 use Rattle.ix_store.proofs.seeing.see_share.Given as goal
 
 abbrev pub invariant-loop-place : goal.invariant-loop-place
-invariant-loop-place l = AreSeen l.slots (map (λ e. (e.cid, content e.block)) l.entries) l.from l.place l.places.items
+invariant-loop-place l = AreSeen l.slots (pairs_of l.entries) l.from l.place l.places.items
