@@ -15,5 +15,7 @@ mod reader;
 mod writer;
 
 pub use fault::{CarFault, CarKind};
-pub use reader::{CarFile, Section, load_car, load_car_by, read_car, read_sections};
+pub use reader::{
+    CarFile, Section, load_car, load_car_by, load_shared_by, read_car, read_sections,
+};
 pub use writer::{header_of, set_section_head, write_section, write_text};

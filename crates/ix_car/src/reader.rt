@@ -15,7 +15,7 @@ mod sections;
 use crate::fault::{CarFault, CarKind};
 use crate::reader::header::header_at;
 use crate::reader::section::{Stop, section_at};
-pub use by_threads::load_car_by;
+pub use by_threads::{load_car_by, load_shared_by};
 use ix_store::Store;
 pub use sections::{CarFile, Section, read_sections};
 use std::alloc::Global;

@@ -23,18 +23,30 @@ pub fn load_car_by<R: Threads + Sync>(
 ) -> Result<Store, CarFault>
     ensures { Gives (λ store. store) bytes.items result (blocks_of bytes.items) }
 {
-    let length = bytes.len();
-    let Ok(file) = Arc::new(alloc, bytes) else {
-        return Err(CarFault {
+    match Arc::new(alloc, bytes) {
+        Ok(file) => load_shared_by(rt, alloc, &file, threads),
+        Err(_) => Err(CarFault {
             kind: CarKind::Memory,
             place: 0,
-        });
-    };
-    match store_by_threads(rt, alloc, &file, threads) {
+        }),
+    }
+}
+
+/// The blocks of a CARv1 file that is shared, as `load_car_by` reads them: the store keeps a share of its bytes, and
+/// what lies in them can be borrowed while the store stands.
+pub fn load_shared_by<R: Threads + Sync>(
+    rt: &R,
+    alloc: Global,
+    file: &Arc<Vec<u8>>,
+    threads: usize,
+) -> Result<Store, CarFault>
+    ensures { Gives (λ store. store) (arc_value file.now).items result (blocks_of (arc_value file.now).items) }
+{
+    match store_by_threads(rt, alloc, file, threads) {
         Ok(store) => Ok(store),
         Err(stop) => Err(CarFault {
             kind: stop.kind,
-            place: length - stop.left,
+            place: file.len() - stop.left,
         }),
     }
 }
