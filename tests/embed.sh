@@ -1,12 +1,13 @@
 #!/usr/bin/env bash
 # Tests the library for C: its header against its source; calls with answers from the formats, sixty-four threads over one
-# store, and each request for memory refused in turn, with nothing left behind; and the examples in C, Rust and Python, where
-# their compilers are. Ends with status 1 at the first that is wrong.
+# store, and each request for memory refused in turn, with nothing left behind; the worked examples of jobs; and the examples
+# in C, Rust and Python, where their compilers are. Ends with status 1 at the first that is wrong.
 #
-# usage: tests/embed.sh [LIBRARY.a | --of-gate]      a library that is built, or else .ci/library makes it, in the gate's way
-#                                                    or its own
+# usage: tests/embed.sh [--only PART] [LIBRARY.a | --of-gate]
+#   a library that is built, or else .ci/library makes it, in the gate's way or its own
+#   PART is calls, threads, memory, cases, c, python or rust; with it the status is 2 where the part couldn't be run
 set -Eeuo pipefail
-export LC_ALL=C
+export LC_ALL=C PYTHONDONTWRITEBYTECODE=1
 
 top=$(cd "$(dirname "${BASH_SOURCE[0]}")/.." && pwd)
 scratch=$(mktemp -d)
@@ -19,7 +20,13 @@ fail() {
   exit 1
 }
 
-PYTHONDONTWRITEBYTECODE=1 "$top/tests/embed/header.py"
+only=
+if [ "${1-}" = --only ]; then
+  only=$2
+  shift 2
+else
+  "$top/tests/embed/header.py"
+fi
 cd "$scratch"
 printf '#include <pthread.h>\n#include <stdio.h>\nint main(void) { return 0; }\n' >plain.c
 compiler=
@@ -30,6 +37,7 @@ for it in cc gcc clang; do
   fi
 done
 if [ -z "$compiler" ]; then
+  [ -z "$only" ] || exit 2
   echo 'tests/embed.sh: no compiler makes a program of C here: only the header was compared'
   exit 0
 fi
@@ -52,45 +60,79 @@ clean() {
 
 # build SOURCE PROGRAM OPTION..
 build() {
-  "$compiler" -std=c11 -D_POSIX_C_SOURCE=200809L -Wall -Wextra -Werror -O1 -I"$top/include" "${@:3}" "$1" "$library" -lpthread -o "$2"
+  "$compiler" -std=c11 -D_POSIX_C_SOURCE=200809L -Wall -Wextra -Werror -O1 -I"$top/include" "${@:3}" "$1" "$library" -lpthread -o "$2" ||
+    exit 2
 }
 
-build "$top/tests/embed/calls.c" calls -Wl,--wrap=malloc,--wrap=realloc,--wrap=free
-told=$(clean ./calls)
-ran="calls, $told"
-
-# has_archives FOLDER: the archives of the example.
+# The archives of the example in a folder.
 has_archives() {
   local file
   for file in "$top"/examples/expected/*.car; do
     cmp "$file" "$1/${file##*/}" || fail "$1/${file##*/}"
   done
 }
-sed '/^total /d' "$top/examples/expected/report.txt" >report.wanted
 
-build "$top/examples/c/export.c" export
-mkdir out
-clean ./export "$top/examples/library.car" "$top/examples/library.jobs" out >report
-cmp report report.wanted || fail 'the report of the example in C'
-has_archives out
-ran="$ran, the example in C"
+# Makes a shared object of the library, which Python loads.
+share() {
+  "$compiler" -shared -Wl,--whole-archive "$library" -Wl,--no-whole-archive -o libix_export.so || exit 2
+}
 
-if command -v python3 >/dev/null; then
-  "$compiler" -shared -Wl,--whole-archive "$library" -Wl,--no-whole-archive -o libix_export.so
-  PYTHONDONTWRITEBYTECODE=1 python3 "$top/examples/python/export.py" ./libix_export.so \
-    "$top/examples/library.car" "$top/examples/library.jobs" >told
+# run_calls PART: one part of the calls, or all.
+run_calls() {
+  build "$top/tests/embed/calls.c" calls -Wl,--wrap=malloc,--wrap=realloc,--wrap=free
+  told=$(clean ./calls "$@") || fail "calls $*"
+  ran="$ran, calls${told:+, $told}"
+}
+
+run_c() {
+  build "$top/examples/c/export.c" export
+  mkdir out
+  clean ./export "$top/examples/library.car" "$top/examples/library.jobs" out >report || fail 'the example in C'
+  cmp report report.wanted || fail 'the report of the example in C'
+  has_archives out
+  ran="$ran, the example in C"
+}
+
+run_cases() {
+  share
+  told=$("$top/tests/embed/cases.py" ./libix_export.so) || fail 'the cases'
+  ran="$ran, $told"
+}
+
+run_python() {
+  share
+  python3 "$top/examples/python/export.py" ./libix_export.so "$top/examples/library.car" "$top/examples/library.jobs" >told ||
+    fail 'the example in Python'
   grep -v '^  archive ' told >report
   cmp report report.wanted || fail 'the report of the example in Python'
   sed -n 's/^  archive //p' told | sort >sums
   sha256sum "$top"/examples/expected/*.car | cut -d' ' -f1 | sort | cmp - sums || fail 'the archives of the example in Python'
   ran="$ran, in Python"
-fi
+}
 
-if cargo --version >/dev/null 2>&1; then
-  cp -r "$top/examples" examples
-  (cd examples/rust && IX_EXPORT_LIB=$(dirname "$library") cargo test --offline --quiet >"$scratch/cargo" 2>&1) ||
+run_rust() {
+  mkdir examples
+  tar -c -C "$top/examples" --exclude=target . | tar -x -C examples
+  (cd examples/rust && export IX_EXPORT_LIB=${library%/*} && cargo test --offline --quiet --no-run >"$scratch/cargo" 2>&1) ||
+    { cat cargo >&2; exit 2; }
+  (cd examples/rust && export IX_EXPORT_LIB=${library%/*} && cargo test --offline --quiet >"$scratch/cargo" 2>&1) ||
     { cat cargo >&2; fail 'the example in Rust'; }
   ran="$ran, in Rust"
-fi
+}
 
-echo "tests/embed.sh: passed: $ran"
+sed '/^total /d' "$top/examples/expected/report.txt" >report.wanted
+ran=
+if [ -n "$only" ]; then
+  case $only in
+    calls | threads | memory) run_calls "$only" ;;
+    cases | c | python | rust) "run_$only" ;;
+    *) exit 2 ;;
+  esac
+else
+  run_calls
+  ! command -v python3 >/dev/null || run_cases
+  run_c
+  ! command -v python3 >/dev/null || run_python
+  ! cargo --version >/dev/null 2>&1 || run_rust
+fi
+echo "tests/embed.sh: passed: ${ran#, }"

@@ -227,45 +227,179 @@ static void tells_refusals(void) {
   ix_free(&handle);
 }
 
-/* Sixty-four threads over one store, each with handles of its own and a stack of 1 MiB. */
+/* Sixty-four jobs, each with three roots of the four below, and what is wanted of each, from the formats: the roots that stand
+ * for the digits of its number at base 4. The last root's block is damaged. */
+enum { JOBS = 64, ROOTS = 3, CHOICES = 4 };
+
+#define DAMAGED_CID \
+  "\x01\x55\x12\x20\xba\x78\x16\xbf\x8f\x01\xcf\xea\x41\x41\x40\xde\x5d\xae\x22\x23\xb0\x03\x61\xa3\x96\x17\x7a\x9c\xb4\x10" \
+  "\xff\x61\xf2\x00\x15\xae"
+#define DAMAGED_TEXT "bafkreif2pall7dybz7vecqka3zo24irdwabwdi4wc55jznaq75q7eaavvy"
+
+static const char *const root_cids[CHOICES] = {ABC_CID, INNER_CID, OUTER_CID, DAMAGED_CID};
+static const unsigned root_visits[CHOICES] = {1, 2, 5, 1};
+
+/* The blocks that a root leads to, in the order of their sections: as many as its visits have different ones. */
+typedef struct block {
+  const char *cid, *bytes;
+  size_t length;
+} block;
+
+static const block abc_block = {ABC_CID, "abc", 3};
+static const block inner_block = {INNER_CID, INNER, sizeof INNER - 1};
+static const block outer_block = {OUTER_CID, OUTER, sizeof OUTER - 1};
+static const block *const reached[CHOICES][ROOTS] = {
+    {&abc_block}, {&inner_block, &abc_block}, {&outer_block, &inner_block, &abc_block}, {NULL}};
+
+typedef struct wanted {
+  char roots[ROOTS * 36], archive[1024], report[1024];
+  size_t archive_length, report_length;
+  ix_counts counts;
+} wanted;
+
+static void append(wanted *it, const char *bytes, size_t length) {
+  EXPECT(it->archive_length + length <= sizeof it->archive);
+  memcpy(it->archive + it->archive_length, bytes, length);
+  it->archive_length += length;
+}
+
+/* Appends a section, unless it is there. */
+static void append_section(wanted *it, const block *block) {
+  char section[256];
+  size_t length = 36 + block->length;
+  section[0] = (char)length;
+  memcpy(section + 1, block->cid, 36), memcpy(section + 37, block->bytes, block->length);
+  for (size_t at = 0; at + length < it->archive_length; at++)
+    if (!memcmp(it->archive + at, section, length + 1)) return;
+  append(it, section, length + 1);
+  it->counts.sections++;
+}
+
+static wanted wanted_of(unsigned number) {
+  wanted it = {.counts = {.end = IX_END_DONE}};
+  char skips[512] = "";
+  append(&it, "\x8c\x01\xa2\x65roots\x83", 10);
+  for (unsigned i = 0, rest = number; i < ROOTS; i++, rest /= CHOICES) {
+    const char *cid = root_cids[rest % CHOICES];
+    memcpy(it.roots + 36 * i, cid, 36);
+    append(&it, "\xd8\x2a\x58\x25\x00", 5), append(&it, cid, 36);
+  }
+  append(&it, "\x67version\x01", 9);
+  for (unsigned i = 0, rest = number; i < ROOTS; i++, rest /= CHOICES) {
+    for (unsigned at = 0; at < ROOTS && reached[rest % CHOICES][at]; at++) append_section(&it, reached[rest % CHOICES][at]);
+    if (rest % CHOICES == CHOICES - 1) {
+      size_t length = strlen(skips);
+      snprintf(skips + length, sizeof skips - length, "  %u damaged " DAMAGED_TEXT "\n", it.counts.visits);
+      it.counts.skips++;
+    }
+    it.counts.visits += root_visits[rest % CHOICES];
+  }
+  it.counts.kept = it.counts.visits, it.counts.bytes = it.archive_length;
+  ix_counts *c = &it.counts;
+  it.report_length = (size_t)snprintf(
+      it.report, sizeof it.report, "job done visits=%u kept=%u sections=%u bytes=%u\n%stotal jobs=1 done=1 skips=%u\n", c->visits,
+      c->kept, c->sections, (unsigned)c->bytes, skips, (unsigned)c->skips);
+  return it;
+}
+
+static void expect_result(ix_handle *out, const wanted *it) {
+  ix_counts counts;
+  ix_skip skip;
+  const uint8_t *cid;
+  size_t length;
+  expect_named(ix_result_archive, out, it->archive, it->archive_length);
+  expect_named(ix_result_report, out, it->report, it->report_length);
+  EXPECT(ix_result_counts(out, &counts) == IX_DONE && !memcmp(&counts, &it->counts, sizeof counts));
+  for (size_t i = 0; i < counts.skips; i++) {
+    EXPECT(ix_result_skip(out, i, &skip, &cid, &length) == IX_DONE && skip.why == IX_WHY_DAMAGED && skip.visit < counts.visits);
+    EXPECT(length == 36 && !memcmp(cid, DAMAGED_CID, 36));
+  }
+  EXPECT(ix_result_skip(out, counts.skips, &skip, &cid, &length) == IX_RANGE);
+}
+
+static ix_handle store_of_four(void) {
+  ix_handle store = store_of_abc();
+  EXPECT(ix_store_add(&store, BYTES(INNER_CID), BYTES(INNER)) == IX_DONE);
+  EXPECT(ix_store_add(&store, BYTES(OUTER_CID), BYTES(OUTER)) == IX_DONE);
+  EXPECT(ix_store_add(&store, BYTES(DAMAGED_CID), bytes("abd"), 3) == IX_DONE && ix_store_freeze(&store) == IX_DONE);
+  return store;
+}
+
+static ix_handle job_of(const wanted *it) {
+  ix_handle job = IX_EMPTY;
+  EXPECT(ix_job_new(&job, bytes(it->roots), sizeof it->roots, BYTES(ALL), 100) == IX_DONE);
+  return job;
+}
+
+/* Each job on one thread. */
+static void exports_each_job(void) {
+  ix_handle store = store_of_four();
+  for (unsigned number = 0; number < JOBS; number++) {
+    ix_handle out = IX_EMPTY;
+    wanted it = wanted_of(number);
+    ix_handle job = job_of(&it);
+    EXPECT(ix_export(&store, &job, &out) == IX_DONE);
+    expect_result(&out, &it);
+    ix_job_free(&job), ix_result_free(&out);
+  }
+  ix_store_free(&store);
+}
+
+/* The same by sixty-four threads at once over one store whose blocks nobody has judged, each its own job again and again, with
+ * handles of its own and a stack of 1 MiB. */
+static pthread_barrier_t all_there;
+
+typedef struct worker {
+  pthread_t thread;
+  unsigned number;
+  ix_handle store;
+} worker;
+
 static void *export_often(void *given) {
-  ix_handle *store = given, job = IX_EMPTY, out = IX_EMPTY;
-  EXPECT(ix_job_from_line(&job, bytes(LINE), strlen(LINE)) == IX_DONE);
-  for (int i = 0; i < 100; i++) EXPECT(ix_export(store, &job, &out) == IX_DONE);
-  EXPECT_PART(&out, IX_ARCHIVE, ARCHIVE);
-  ix_free(store), ix_free(&job), ix_free(&out);
+  worker *self = given;
+  ix_handle out = IX_EMPTY;
+  wanted it = wanted_of(self->number);
+  ix_handle job = job_of(&it);
+  pthread_barrier_wait(&all_there);
+  for (int i = 0; i < 50; i++) {
+    EXPECT(ix_export(&self->store, &job, &out) == IX_DONE);
+    expect_result(&out, &it);
+  }
+  ix_store_free(&self->store), ix_job_free(&job), ix_result_free(&out);
   return NULL;
 }
 
 static void shares_a_store(void) {
-  enum { THREADS = 64 };
-  static ix_handle stores[THREADS];
-  pthread_t threads[THREADS];
+  static worker workers[JOBS];
   pthread_attr_t small;
   EXPECT(!pthread_attr_init(&small) && !pthread_attr_setstacksize(&small, 1 << 20));
-  ix_handle store = store_of_abc();
-  EXPECT(ix_store_freeze(&store) == IX_DONE);
-  for (int i = 0; i < THREADS; i++) EXPECT(ix_store_share(&store, &stores[i]) == IX_DONE);
-  ix_free(&store);
-  for (int i = 0; i < THREADS; i++) EXPECT(!pthread_create(&threads[i], &small, export_often, &stores[i]));
-  for (int i = 0; i < THREADS; i++) pthread_join(threads[i], NULL);
-  pthread_attr_destroy(&small);
+  EXPECT(!pthread_barrier_init(&all_there, NULL, JOBS));
+  ix_handle store = store_of_four();
+  for (unsigned i = 0; i < JOBS; i++) {
+    workers[i].number = i, workers[i].store = (ix_handle)IX_EMPTY;
+    EXPECT(ix_store_share(&store, &workers[i].store) == IX_DONE);
+  }
+  ix_store_free(&store);
+  for (unsigned i = 0; i < JOBS; i++) EXPECT(!pthread_create(&workers[i].thread, &small, export_often, &workers[i]));
+  for (unsigned i = 0; i < JOBS; i++) pthread_join(workers[i].thread, NULL);
+  pthread_attr_destroy(&small), pthread_barrier_destroy(&all_there);
 }
 
 /* Each call that takes memory once, of which any may find none: it answers IX_MEMORY then, and its handles are as they were. */
 static bool any_without_memory(void) {
-  ix_handle store = IX_EMPTY, other = IX_EMPTY, job = IX_EMPTY, line = IX_EMPTY, out = IX_EMPTY, text = IX_EMPTY;
+  ix_handle store = IX_EMPTY, other = IX_EMPTY, job = IX_EMPTY, line = IX_EMPTY, out = IX_EMPTY, text = IX_EMPTY, no = IX_EMPTY;
   bool without = false;
-#define STEP(call, handle) \
+#define STEP_TO(wanted, call, handle) \
   do { \
     ix_handle before = handle; \
     uint32_t status = call; \
-    EXPECT(status == IX_DONE || (status == IX_MEMORY && before.is_held == handle.is_held && before.held == handle.held)); \
+    EXPECT(status == wanted || (status == IX_MEMORY && before.is_held == handle.is_held && before.held == handle.held)); \
     if (status == IX_MEMORY) { \
       without = true; \
       goto end; \
     } \
   } while (0)
+#define STEP(call, handle) STEP_TO(IX_DONE, call, handle)
   STEP(ix_store_read_car(&store, bytes(ARCHIVE), sizeof ARCHIVE - 1), store);
   STEP(ix_store_new(&store), store);
   STEP(ix_store_add(&store, bytes(ABC_CID), 36, bytes("abc"), 3), store);
@@ -273,10 +407,17 @@ static bool any_without_memory(void) {
   STEP(ix_store_share(&store, &other), other);
   STEP(ix_selector_from_json(&text, bytes("{\".\":{}}"), 8), text);
   STEP(ix_job_from_line(&line, BYTES(LINE)), line);
+  STEP(ix_job_new(&job, BYTES(ABC_CID INNER_CID), BYTES(ALL), 9), job);
   STEP(ix_job_new(&job, BYTES(ABC_CID), BYTES(MATCHER), 1), job);
   STEP(ix_job_once(&job), job);
+  STEP_TO(IX_REFUSED, ix_store_read_car(&no, bytes(""), 0), no);
+  STEP_TO(IX_REFUSED, ix_job_from_line(&no, BYTES("a")), no);
+  STEP_TO(IX_REFUSED, ix_job_new(&no, BYTES(ABC_CID), bytes(MATCHER), 3, 1), no);
+  STEP_TO(IX_REFUSED, ix_job_new(&no, BYTES(ABC_CID), BYTES(MATCHER), 0), no);
+  STEP_TO(IX_REFUSED, ix_selector_from_json(&no, BYTES("{}")), no);
   STEP(ix_export(&other, &line, &out), out);
   STEP(ix_export(&other, &job, &out), out);
+  unsigned long made = requests;
   ix_counts counts;
   EXPECT(ix_result_counts(&out, &counts) == IX_DONE);
   if (counts.end == IX_END_MEMORY || counts.end == IX_END_WRITE) {
@@ -284,9 +425,21 @@ static bool any_without_memory(void) {
   } else {
     EXPECT(counts.end == IX_END_DONE);
     EXPECT_PART(&out, IX_ARCHIVE, ARCHIVE);
+    EXPECT_NAMED(ix_result_archive, &out, ARCHIVE);
+    EXPECT_NAMED(ix_result_report, &out, "job" REPORT_BEHIND);
+    EXPECT_NAMED(ix_fault_line, &no, "selector: wrong keys");
   }
+  ix_skip skip;
+  const uint8_t *cid;
+  size_t length;
+  uint32_t end;
+  EXPECT(ix_result_end(&out, &end) == IX_DONE && end == counts.end);
+  EXPECT(ix_result_skip(&out, counts.skips, &skip, &cid, &length) == IX_RANGE && requests == made);
 end:
-  ix_free(&store), ix_free(&other), ix_free(&job), ix_free(&line), ix_free(&out), ix_free(&text);
+  made = requests;
+  ix_store_free(&store), ix_store_free(&other), ix_job_free(&job), ix_job_free(&line), ix_result_free(&out);
+  ix_free(&text), ix_free(&no);
+  EXPECT(requests == made);
   return without;
 }
 
@@ -305,18 +458,27 @@ static unsigned long refuses_each_request(void) {
   return told;
 }
 
-int main(void) {
-  exports_one_block();
-  exports_a_job_of_parts();
-  refuses_parts();
-  goes_in_once();
-  tells_a_skip();
-  tells_refusals();
-  EXPECT(blocks_held == 0);
-  shares_a_store();
-  EXPECT(blocks_held == 0);
-  unsigned long told = refuses_each_request();
-  EXPECT(told > 50);
-  printf("%lu refused requests\n", told);
+/* A word names the one part that is run: calls, threads or memory. */
+int main(int count, char **words) {
+  const char *only = count > 1 ? words[1] : NULL;
+  if (!only || !strcmp(only, "calls")) {
+    exports_one_block();
+    exports_a_job_of_parts();
+    refuses_parts();
+    goes_in_once();
+    tells_a_skip();
+    tells_refusals();
+    exports_each_job();
+    EXPECT(blocks_held == 0);
+  }
+  if (!only || !strcmp(only, "threads")) {
+    shares_a_store();
+    EXPECT(blocks_held == 0);
+  }
+  if (!only || !strcmp(only, "memory")) {
+    unsigned long told = refuses_each_request();
+    EXPECT(told > 80);
+    printf("%lu refused requests\n", told);
+  }
   return 0;
 }
