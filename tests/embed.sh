@@ -1,11 +1,12 @@
 #!/usr/bin/env bash
 # Tests the library for C: its header against its source; calls with answers from the formats, sixty-four threads over one
 # store, and each request for memory refused in turn, with nothing left behind; the worked examples of jobs; and the examples
-# in C, Rust and Python, where their compilers are. Ends with status 1 at the first that is wrong.
+# in C, Rust and Python, where their compilers are, and the program of docs/EMBEDDING.md over an installed library. Ends with
+# status 1 at the first that is wrong.
 #
 # usage: tests/embed.sh [--only PART] [LIBRARY.a | --of-gate]
 #   a library that is built, or else .ci/library makes it, in the gate's way or its own
-#   PART is calls, threads, memory, cases, c, python or rust; with it the status is 2 where the part couldn't be run
+#   PART is calls, threads, memory, cases, c, python, rust or installed; with it the status is 2 where the part couldn't be run
 set -Eeuo pipefail
 export LC_ALL=C PYTHONDONTWRITEBYTECODE=1
 
@@ -120,12 +121,45 @@ run_rust() {
   ran="$ran, in Rust"
 }
 
+# The whole program of docs/EMBEDDING.md, made by its command over the library that `make install-lib` installed: the archive
+# of a root's block alone is the front of the archive of everything below it.
+run_installed() {
+  local prefix=$scratch/prefix root
+  make -s -C "$top" install-lib LIBRARY="$library" PREFIX="$prefix" || exit 2
+  sed -n '/^```c$/,/^```$/p' "$top/docs/EMBEDDING.md" | sed '1d; /^```$/,$d' >front.c
+  PKG_CONFIG_PATH=$prefix/lib/pkgconfig "$compiler" front.c \
+    $(PKG_CONFIG_PATH=$prefix/lib/pkgconfig pkg-config --cflags --libs ix_export) -o front || exit 2
+  root=$(sed -n 's/^whole \([^ ]*\) .*/\1/p' "$top/examples/library.jobs")
+  clean ./front "$root" <"$top/examples/library.car" >front.car || fail 'the program of docs/EMBEDDING.md'
+  front_of "$top/examples/expected/whole.car" | cmp - front.car || fail 'the archive of docs/EMBEDDING.md'
+  ran="$ran, the program of docs/EMBEDDING.md"
+}
+
+# The front of an archive: its header and its first section, each behind its length.
+front_of() {
+  python3 - "$1" <<'PY'
+import sys
+
+data, at = open(sys.argv[1], "rb").read(), 0
+for _ in range(2):
+    length = shift = 0
+    while True:
+        byte = data[at]
+        length |= (byte & 127) << shift
+        at, shift = at + 1, shift + 7
+        if byte < 128:
+            break
+    at += length
+sys.stdout.buffer.write(data[:at])
+PY
+}
+
 sed '/^total /d' "$top/examples/expected/report.txt" >report.wanted
 ran=
 if [ -n "$only" ]; then
   case $only in
     calls | threads | memory) run_calls "$only" ;;
-    cases | c | python | rust) "run_$only" ;;
+    cases | c | python | rust | installed) "run_$only" ;;
     *) exit 2 ;;
   esac
 else
@@ -134,5 +168,6 @@ else
   run_c
   ! command -v python3 >/dev/null || run_python
   ! cargo --version >/dev/null 2>&1 || run_rust
+  ! { pkg-config --version && python3 --version && make --version; } >/dev/null 2>&1 || run_installed
 fi
 echo "tests/embed.sh: passed: ${ran#, }"

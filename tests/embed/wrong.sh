@@ -49,7 +49,7 @@ expect() {
   echo 'uint32_t ix_export(ix_handle *store, ix_handle *job, ix_handle *result) { return true_ix_export(store, job, result); }'
 } >"$work/nothing.c"
 make "$work/nothing" "$work/nothing.c"
-for part in calls threads memory cases c python rust; do
+for part in calls threads memory cases c python rust installed; do
   expect 0 nothing "$part"
 done
 for name; do

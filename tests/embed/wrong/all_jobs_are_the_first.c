@@ -5,8 +5,8 @@
 #include <string.h>
 
 uint32_t true_ix_job_from_line(ix_handle *job, const uint8_t *line, size_t length);
-uint32_t true_ix_job_new(ix_handle *job, const uint8_t *roots, size_t roots_length, const uint8_t *selector, size_t selector_length,
-                         uint32_t limit);
+uint32_t true_ix_job_new(ix_handle *job, const uint8_t *roots, size_t roots_length, const uint8_t *selector,
+                         size_t selector_length, uint32_t limit);
 
 typedef struct first {
   uint8_t bytes[4096];
