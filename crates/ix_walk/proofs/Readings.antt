@@ -1,5 +1,5 @@
 -- What the bytes that a CID names spell.
-use Rattle.std.proofs.Common.{◌≡◌, ◌⊎◌, inl, inr, ⊎_elim, ℕ, ◌-◌, true, false, List, [], ◌∷◌, map, refl, sym, ◌∙◌, ap}
+use Rattle.std.proofs.Common.{◌≡◌, ◌⊎◌, inl, inr, ⊎_elim, ℕ, true, false, List, [], ◌∷◌, map, refl, sym, ◌∙◌, ap}
 use Rattle.std.specs.Prelude.{Option, Some, None, Result, Ok, Err, ◌==◌, slice_get, is_none}
 use Rattle.std.proofs.lemmas.Bool.{false≢true}
 use Rattle.ix_cid.specs.Cid.{parts_of, codec_of, digest_of, hash_function_of}

@@ -10,7 +10,7 @@ use Rattle.ix_walk.specs.declared.subtree.Trail.{Trail}
 use Rattle.ix_store.specs.Store.{Blocks, position_of}
 use Rattle.ix_walk.specs.Walking.{Going, data_inside, waiting, links_below, links_inside, all_links, opened, found, stands, with_next, trail_stands}
 use Rattle.ix_walk.specs.Descent.{IsNode}
-use Rattle.ix_walk.specs.Arriving.{IsReading, Goes, Roots, Arrives}
+use Rattle.ix_walk.specs.Arriving.{IsReading, Goes, Roots, ArrivesBy}
 use Rattle.ix_walk.proofs.Readings.{item_of_block}
 use Rattle.ix_walk.proofs.Stands.{open_on, reversed_push, trail_without}
 
@@ -56,7 +56,7 @@ roots_open places b at depth o root old new node none next_is at_is pushed root_
 -- a visit, and the root behind it
 pub arrives : (store : Blocks) (number seq : ℕ) (places : List Place) (depth : ℕ) (c d : List ℕ) (block : Option ℕ) (bytes entered : Option (List ℕ)) (malformed : Bool) (had has : Option Going) (old new : Trail)
     → d ≡ c → block ≡ position_of store d → IsReading store c bytes malformed → Goes store (waiting places depth c) had entered has → Roots places entered (depth + 1) old new
-    → Arrives store number seq (waiting places depth c) had old (record { job = number; seq = seq; depth = depth; cid = d; block = block; malformed = malformed }) has new
+    → ArrivesBy store number seq (waiting places depth c) had old (record { job = number; seq = seq; depth = depth; cid = d; block = block; malformed = malformed }) has new
 arrives store number seq places depth c d block bytes entered malformed had has old new same found reading goes roots = λ ss e.
     let r = roots (data_inside store had (waiting places depth c)) goes.inside ss e in (
       r.0,

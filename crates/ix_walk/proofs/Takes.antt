@@ -12,7 +12,7 @@ use Rattle.ix_store.specs.Store.{Blocks}
 use Rattle.ix_walk.specs.Visits.{visits_from, visit_of}
 use Rattle.ix_walk.specs.WalkLeft.{GivesNext, nothing_left}
 use Rattle.ix_walk.specs.Walking.{arrival, Going, data_inside, gone_behind, links_inside, first_arrivals, Subtree, all_links, root_link, links_left, trail_stands, walk_left, NoDeeper, IsWalk}
-use Rattle.ix_walk.specs.Arriving.{FindsNext, IsArrived, Arrives, trail_left}
+use Rattle.ix_walk.specs.Arriving.{FindsNext, IsArrived, ArrivesBy, trail_left}
 use Rattle.ix_walk.proofs.Stands.{subtrees_are}
 use Rattle.ix_walk.proofs.Reached.{all_append, all_inside}
 
@@ -107,7 +107,7 @@ trail_end store number limit given had selector old new roots rest is finds =
     (g.2.links ∙ ap (λ (ss : List Subtree). links_left selector ss rest) g.2.ends.0 ∙ ap (map (root_link selector)) g.2.ends.1))
 
 pub trail_visit : (store : Blocks) (number limit given : ℕ) (had has : Option Going) (selector : Pattern) (old mid new : Trail) (roots rest : List (List ℕ)) (f : Found) (v : Visit) → (given ≡ limit → ⊥) → IsWalk limit given old
-    → FindsNext selector old roots (Some f) mid rest → Arrives store number given f had mid v has new
+    → FindsNext selector old roots (Some f) mid rest → ArrivesBy store number given f had mid v has new
     → GivesNext (trail_left store number limit given had selector old roots) (Some (Ok v)) (trail_left store number limit (given + 1) has selector new rest) × IsWalk limit (given + 1) new
 trail_visit store number limit given had has selector old mid new roots rest f v not is finds arrives =
     let g = finds is.1 is.2 in

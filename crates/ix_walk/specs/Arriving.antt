@@ -4,13 +4,16 @@ use Rattle.ix_cbor.specs.Data.{Data}
 use Rattle.ix_cbor.specs.Reading.{decoded}
 use Rattle.ix_selector.specs.Pattern.{Pattern}
 use Rattle.ix_selector.specs.Residual.{Place}
+use Rattle.ix_walk.specs.declared.gone.Gone.{Gone}
 use Rattle.ix_walk.specs.declared.subtree.Found.{Found}
 use Rattle.ix_walk.specs.declared.subtree.Trail.{Trail}
 use Rattle.ix_walk.specs.declared.visit.Visit.{Visit}
 use Rattle.ix_walk.specs.declared.fault.WalkStop.{WalkStop}
 use Rattle.ix_store.specs.Store.{Blocks, value_of}
+use Rattle.ix_walk.specs.JobMeaning.{JobMeaning}
 use Rattle.ix_walk.specs.Visits.{is_malformed, visit_of}
-use Rattle.ix_walk.specs.Walking.{arrival, Going, data_inside, gone_behind, links_inside, Subtree, all_links, found_links, trail_stands, subtrees, links_left, walk_left, NoDeeper, IsWalk}
+use Rattle.ix_walk.specs.Gone.{going_of}
+use Rattle.ix_walk.specs.Walking.{arrival, waiting, Going, data_inside, gone_behind, links_inside, Subtree, all_links, found_links, trail_stands, subtrees, links_left, walk_left, NoDeeper, IsWalk}
 use Rattle.ix_walk.specs.WalkLeft.{WalkLeft, GivesNext, nothing_left}
 
 -- the bytes spell the data of a CID, or there are none
@@ -27,6 +30,11 @@ pub record Goes (store : Blocks) (f : Found) (had : Option Going) (block : Optio
   pub inside : IsValue (data_inside store had f) block
   pub gone : has ≡ gone_behind (data_inside store had f) f had
 
+-- the same of a CID where this is left of the selector, at whatever depth
+abbrev pub GoesInto : Blocks → List Place → List ℕ → Option Gone → Option (List ℕ) → Option Gone → Type 0
+GoesInto store places cid old block new =
+    (depth : ℕ) → Goes store (waiting places depth cid) (going_of store old) block (going_of store new)
+
 -- the links in a block are left before others, if there is one
 abbrev pub Roots : List Place → Option (List ℕ) → ℕ → Trail → Trail → Type 0
 Roots places block depth old new =
@@ -39,9 +47,14 @@ pub record IsArrived (store : Blocks) (number seq : ℕ) (f : Found) (had : Opti
   pub gone : has ≡ gone_behind (data_inside store had f) f had
   pub links : all_links new ≡ links_inside f.residual (f.depth + 1) (data_inside store had f) ++ all_links old
 
-abbrev pub Arrives : Blocks → ℕ → ℕ → Found → Option Going → Trail → Visit → Option Going → Trail → Type 0
-Arrives store number seq f had old v has new =
+-- the same of the trails by which a walk stands, before and after
+abbrev pub ArrivesBy : Blocks → ℕ → ℕ → Found → Option Going → Trail → Visit → Option Going → Trail → Type 0
+ArrivesBy store number seq f had old v has new =
     (ss : List Subtree) → trail_stands old ≡ Some ss → (more : List Subtree) × (trail_stands new ≡ Some more) × IsArrived store number seq f had ss v has more
+
+-- the same of what a walk keeps: what it has gone into and its trail, before and after
+abbrev pub Arrives : Blocks → ℕ → ℕ → Found → Visit → Option Gone → Trail → Option Gone → Trail → Type 0
+Arrives store number seq f v had old has new = ArrivesBy store number seq f (going_of store had) old v (going_of store has) new
 
 -- the next link of what is left, or the next root where nothing is, or there is neither
 pub record IsNextArrival (selector : Pattern) (old : List Subtree) (roots : List (List ℕ)) (o : Option Found) (new : List Subtree) (rest : List (List ℕ)) : Type 0 where
@@ -63,3 +76,17 @@ Takes store number limit given selector had old roots (Ok (Some v)) has new rest
     GivesNext (trail_left store number limit given had selector old roots) (Some (Ok v)) (trail_left store number limit (given + 1) has selector new rest) × IsWalk limit (given + 1) new
 Takes store number limit given selector had old roots (Ok None) has new rest = GivesNext (trail_left store number limit given had selector old roots) None nothing_left
 Takes store number limit given selector had old roots (Err stop) has new rest = GivesNext (trail_left store number limit given had selector old roots) (Some (Err stop)) nothing_left
+
+-- what a walk keeps: what it has gone into, its trail, and the roots at which it has not arrived
+pub record WalkState : Type 0 where
+  pub gone : Option Gone
+  pub trail : Trail
+  pub roots : List (List ℕ)
+
+abbrev pub state : Option Gone → Trail → List (List ℕ) → WalkState
+state gone trail roots = record { gone = gone; trail = trail; roots = roots }
+
+-- what is taken of the walk of the job with this number, which has given so many visits, and what it then keeps
+abbrev pub TakesNext : Blocks → JobMeaning → ℕ → ℕ → WalkState → Result (Option Visit) WalkStop → WalkState → Type 0
+TakesNext store job number given old result new =
+    Takes store number job.limit given job.selector (going_of store old.gone) old.trail old.roots result (going_of store new.gone) new.trail new.roots

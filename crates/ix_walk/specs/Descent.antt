@@ -10,6 +10,7 @@ use Rattle.ix_walk.specs.declared.subtree.Children.{Children}
 use Rattle.ix_walk.specs.declared.subtree.Children.TheVariants.{Members, Values}
 use Rattle.ix_walk.specs.declared.subtree.Entered.{Entered}
 use Rattle.ix_walk.specs.declared.subtree.Entered.TheVariants.{Link, Open}
+use Rattle.ix_walk.specs.declared.subtree.Opened.{Opened}
 use Rattle.ix_walk.specs.declared.subtree.Trail.{Trail}
 use Rattle.ix_walk.specs.declared.subtree.Found.{Found}
 use Rattle.ix_selector.specs.Behind.{residual_behind}
@@ -18,6 +19,10 @@ use Rattle.ix_walk.specs.Walking.{when_entered, links_below, Part, part_links, p
 -- an item can be read here
 abbrev pub IsItem : List ℕ → Type 0
 IsItem b = (x : Data × List ℕ) × (item_at 512 b ≡ Ok x)
+
+-- the bytes behind the item that stands here
+abbrev pub IsBehindItem : List ℕ → List ℕ → Type 0
+IsBehindItem at behind = (d : Data) (rest : List ℕ) → item_at 512 at ≡ Ok (d, rest) → behind ≡ rest
 
 -- a key can be read here
 abbrev pub IsKey : List ℕ → Type 0
@@ -90,6 +95,18 @@ pub record IsGone (places : List Place) (depth : ℕ) (part : Part) (rest : List
 abbrev pub IsNext : List Place → ℕ → Children → List ℕ → Option Entered → Children → List ℕ → Type 0
 IsNext places depth old at None new now = (x : Part × List ℕ) → part_at old at ≡ Some x → (now ≡ x.1) × (part_links places depth x.0 ≡ [])
 IsNext places depth old at (Some e) new now = (x : Part × List ℕ) → part_at old at ≡ Some x → IsGone places depth x.0 x.1 e new now
+
+-- the same of a list with so many members, of which so many are left
+abbrev pub IsNextMember : List Place → ℕ → ℕ → ℕ → List ℕ → Option Entered → ℕ → List ℕ → Type 0
+IsNextMember places depth count left at o more now = IsNext places depth (Members count left) at o (Members count more) now
+
+-- the same of a map, of which so many values are left
+abbrev pub IsNextValue : List Place → ℕ → ℕ → List ℕ → Option Entered → ℕ → List ℕ → Type 0
+IsNextValue places depth left at o more now = IsNext places depth (Values left) at o (Values more) now
+
+-- the same of what is open
+abbrev pub IsNextChild : Opened → List ℕ → Option Entered → Opened → List ℕ → Type 0
+IsNextChild old at o new now = IsNext old.residual old.depth old.children at o new.children now
 
 -- what has no link is let go
 abbrev pub Leaves : Trail → Trail → Type 0

@@ -1,5 +1,6 @@
 -- What a walk has gone into: places of blocks and CIDs without one, each with what was left of the selector there.
-use Rattle.std.specs.Prelude.{◌≡◌, ℕ, Bool, true, false, ◌||◌, ◌&&◌, List, Option, Some, None, if◌then◌else◌, nat_eq, bytes_eq}
+use Rattle.std.specs.Prelude.{◌≡◌, ℕ, Bool, true, false, ◌||◌, ◌&&◌, List, Option, Some, None, Result, IfOk, if◌then◌else◌, nat_eq, bytes_eq}
+use Rattle.std.specs.declared.alloc.AllocError.{AllocError}
 use Rattle.std.specs.declared.cmp.Ordering.{Ordering}
 use Rattle.std.specs.Ordering.{nat_cmp, ordering_then}
 use Rattle.std.specs.Cmp.Lexicographic.{slice_cmp}
@@ -38,6 +39,19 @@ abbrev pub IsNoted : Gone → Gone → Option ℕ → List ℕ → List Place �
 IsNoted old new block c places true =
     (has_gone old block c places ≡ false) × ((b : Option ℕ) (d : List ℕ) (others : List Place) → has_gone new b d others ≡ (is_same_going block c places b d others || has_gone old b d others))
 IsNoted old new block c places false = (has_gone old block c places ≡ true) × ((b : Option ℕ) (d : List ℕ) (others : List Place) → has_gone new b d others ≡ has_gone old b d others)
+
+-- the same of a block at a place, where as much was left as at a root
+abbrev pub IsNotedWhole : Gone → Gone → ℕ → Result Bool AllocError → Type 0
+IsNotedWhole old new place result =
+    (c : List ℕ) (places : List Place) → same_residual old.whole places ≡ true → IfOk result (IsNoted old new (Some place) c places)
+
+-- the same of a block at a place, whatever its CID
+abbrev pub IsNotedBlock : Gone → Gone → ℕ → List Place → Result Bool AllocError → Type 0
+IsNotedBlock old new place places result = (c : List ℕ) → IfOk result (IsNoted old new (Some place) c places)
+
+-- nothing was gone into
+abbrev pub HasGoneNowhere : Gone → Type 0
+HasGoneNowhere g = (block : Option ℕ) (c : List ℕ) (places : List Place) → has_gone g block c places ≡ false
 
 -- in a store: whether a CID was gone into with what is left of the selector
 abbrev pub gone_of : Blocks → Gone → Going

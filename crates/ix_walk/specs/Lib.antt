@@ -19,6 +19,7 @@ pub mod JobMeaning
 pub mod Job
 pub mod Arrivals
 pub mod Once
+pub mod Laws
 pub mod Visits
 pub mod WalkLeft
 pub mod Walking

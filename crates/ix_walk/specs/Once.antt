@@ -72,9 +72,13 @@ is_sound_by (Some Sha2_256) digest (Some block) = agrees_by (Some Sha2_256) dige
 is_sound_by (Some Sha2_512) digest None = false
 is_sound_by (Some Sha2_512) digest (Some block) = agrees_by (Some Sha2_512) digest block
 
+-- in a store, the bytes that a CID names are true to it
+abbrev pub is_sound : Blocks → List ℕ → Bool
+is_sound store c = is_sound_by (hash_function_of (parts_of c)) (digest_of c) (block_of store c)
+
 -- the data of a CID where its block is sound
 abbrev pub sound_value : Blocks → List ℕ → Option Data
-sound_value store c = if is_sound_by (hash_function_of (parts_of c)) (digest_of c) (block_of store c) then value_of store c else None
+sound_value store c = if is_sound store c then value_of store c else None
 
 -- the arrivals of a job that goes in once, and only where a block is sound: its limit of them, and one more if there is one
 abbrev pub once_arrivals : {R : Type 0} → Blocks → JobMeaning → (Path → R) → (R → R → Bool) → List Arrival

@@ -1,14 +1,12 @@
 //! Arriving at a link.
 
-ghost use Rattle.std.specs.Prelude.{◌≡◌, ℕ, ◌+◌, ◌<◌, ◌^◌, IfOk, IfSome, OnOk, None, option_map, is_none};
+ghost use Rattle.std.specs.Prelude.{◌≡◌, ◌+◌, ◌<◌, ◌^◌, IfOk, IfSome, OnOk, None, option_map, is_none};
 ghost use Rattle.ix_cbor.specs.Reading.{data_at};
-ghost use Rattle.ix_cid.specs.Cid.{parts_of, digest_of, hash_function_of};
-ghost use Rattle.ix_store.specs.Store.{position_of, bytes_of, block_of, value_of};
-ghost use Rattle.ix_walk.specs.Once.{is_sound_by};
-ghost use Rattle.ix_walk.specs.Gone.{going_of};
+ghost use Rattle.ix_store.specs.Store.{position_of, bytes_of, value_of};
+ghost use Rattle.ix_walk.specs.Once.{is_sound};
 ghost use Rattle.ix_walk.specs.Descent.{IsItem};
-ghost use Rattle.ix_walk.specs.Arriving.{IsValue, IsReading, Goes, Roots, Arrives, FindsNext, Takes};
-ghost use Rattle.ix_walk.specs.Walking.{waiting, IsStanding, IsWalk};
+ghost use Rattle.ix_walk.specs.Arriving.{IsValue, IsReading, GoesInto, Roots, Arrives, FindsNext, state, TakesNext};
+ghost use Rattle.ix_walk.specs.Walking.{IsStanding, IsWalk};
 
 use crate::descent::{next_found, node_at};
 use crate::fault::WalkStop;
@@ -68,7 +66,7 @@ fn read_block<'a>(
 // Whether the bytes that a CID names are true to it: those that it holds itself, and those of a block that has its digest.
 fn is_sound(store: &Store, cid: &Cid, block: Option<usize>) -> bool
     requires { block ≡ position_of store.now cid.now }
-    ensures { result ≡ is_sound_by (hash_function_of (parts_of cid.now)) (digest_of cid.now) (block_of store.now cid.now) }
+    ensures { result ≡ is_sound store.now cid.now }
 {
     let parts = cid.parts();
     let Some(function) = parts.hash_function() else {
@@ -97,7 +95,7 @@ fn goes_into<'a>(
     requires block { block ≡ position_of store.now cid.now }
     requires value { IsValue (value_of store.now cid.now) bytes }
     requires item { IfSome bytes (λ b. IsItem b) }
-    ensures goes { (depth : ℕ) → IfOk result (λ b. Goes store.now (waiting residual.now depth cid.now) (going_of store.now gone.old) b (going_of store.now gone.new)) }
+    ensures goes { IfOk result (λ b. GoesInto store.now residual.now cid.now gone.old b gone.new) }
     ensures item { IfOk result (λ o. IfSome o (λ b. IsItem b)) }
 {
     let Some(gone) = gone else {
@@ -152,7 +150,7 @@ fn arrive<'a>(
 ) -> Result<Visit, AllocError>
     requires depth { found.depth + 1 < 2 ^ 32 }
     requires next { trail.old.next ≡ None }
-    ensures { IfOk result (λ v. Arrives store.now number seq found.entry (going_of store.now gone.old) trail.old v (going_of store.now gone.new) trail.new) }
+    ensures { IfOk result (λ v. Arrives store.now number seq found.entry v gone.old trail.old gone.new trail.new) }
 {
     let Found {
         residual,
@@ -212,7 +210,8 @@ pub(crate) fn take_next<'a>(
     roots: &mut &'a [Cid],
 ) -> Result<Option<Visit>, WalkStop>
     requires { IsWalk job.now.limit given trail.old }
-    ensures takes { Takes store.now number job.now.limit given job.now.selector (going_of store.now gone.old) trail.old roots.old.now result (going_of store.now gone.new) trail.new roots.new.now }
+    ensures takes { TakesNext store.now job.now number given (state gone.old trail.old roots.old.now)
+        result (state gone.new trail.new roots.new.now) }
     ensures within { IfOk result (λ o. IfSome o (λ _. given < 1000000)) }
 {
     let Some(found) = next_arrival(alloc, job, trail, roots)? else {

@@ -1,13 +1,12 @@
 //! Going through the bytes of a block, down to the next link.
 
-ghost use Rattle.std.specs.Prelude.{◌≡◌, IfOk, OnOk, Ok, None, List, ℕ};
-ghost use Rattle.ix_cbor.specs.Data.{Data};
-ghost use Rattle.ix_cbor.specs.Reading.{own_at, item_at, key_at};
+ghost use Rattle.std.specs.Prelude.{◌≡◌, IfOk, OnOk, Ok, None};
+ghost use Rattle.ix_cbor.specs.Reading.{own_at, key_at};
 ghost use Rattle.ix_cbor.specs.Fronts.{own_of_front, HasCid};
 ghost use Rattle.ix_selector.specs.Residual.{step_of};
 ghost use Rattle.ix_walk.specs.declared.subtree.Children.TheVariants as children;
 ghost use Rattle.ix_walk.specs.Walking.{with_children, IsStanding};
-ghost use Rattle.ix_walk.specs.Descent.{IsItem, IsKey, IsPart, may_hold_links, entered_by, IsNode, IsChild, IsNext, Finds, Leaves};
+ghost use Rattle.ix_walk.specs.Descent.{IsItem, IsBehindItem, IsKey, IsPart, may_hold_links, entered_by, IsNode, IsChild, IsNextMember, IsNextValue, IsNextChild, Finds, Leaves};
 ghost use Rattle.ix_store.specs.Ahead.{EndsWith, LinkBefore};
 
 use crate::subtree::{Children, Entered, Found, Opened, Trail};
@@ -33,7 +32,7 @@ fn front_at(at: &[u8]) -> (Front<'_>, &[u8])
 // The bytes behind the item that stands here.
 fn skipped(at: &[u8]) -> &[u8]
     requires { IsItem at.now }
-    ensures exact { (d : Data) (rest : List ℕ) → item_at 512 at.now ≡ Ok (d, rest) → result.now ≡ rest }
+    ensures exact { IsBehindItem at.now result.now }
     ensures end { EndsWith at.now result.now }
 {
     match skip_item(at) {
@@ -47,7 +46,7 @@ fn end_of<'a>(at: &'a [u8], front: Front<'_>, behind: &'a [u8]) -> &'a [u8]
     requires item { IsItem at.now }
     requires front { own_at at.now ≡ Ok (own_of_front front, behind.now) }
     requires end { EndsWith at.now behind.now }
-    ensures exact { (d : Data) (rest : List ℕ) → item_at 512 at.now ≡ Ok (d, rest) → result.now ≡ rest }
+    ensures exact { IsBehindItem at.now result.now }
     ensures end { EndsWith at.now result.now }
 {
     match front {
@@ -179,7 +178,7 @@ fn next_member<'a>(
     at: &mut Ahead<'a>,
 ) -> Result<Option<Entered<'a>>, AllocError>
     requires { IsPart (children.Members count left.old) at.old }
-    ensures { IfOk result (λ o. IsNext residual.now depth (children.Members count left.old) at.old o (children.Members count left.new) at.new) }
+    ensures { IfOk result (λ o. IsNextMember residual.now depth count left.old at.old o left.new at.new) }
 {
     while *left > 0 {
         let place = Step::Pos(count - *left);
@@ -213,7 +212,7 @@ fn next_value<'a>(
     at: &mut Ahead<'a>,
 ) -> Result<Option<Entered<'a>>, AllocError>
     requires { IsPart (children.Values left.old) at.old }
-    ensures { IfOk result (λ o. IsNext residual.now depth (children.Values left.old) at.old o (children.Values left.new) at.new) }
+    ensures { IfOk result (λ o. IsNextValue residual.now depth left.old at.old o left.new at.new) }
 {
     while *left > 0 {
         let (key, value) = key_at(at.bytes());
@@ -234,7 +233,7 @@ fn next_child<'a>(
     at: &mut Ahead<'a>,
 ) -> Result<Option<Entered<'a>>, AllocError>
     requires { IsPart opened.old.children at.old }
-    ensures next { IfOk result (λ o. IsNext opened.old.residual opened.old.depth opened.old.children at.old o opened.new.children at.new) }
+    ensures next { IfOk result (λ o. IsNextChild opened.old at.old o opened.new at.new) }
     ensures same { IfOk result (λ _. opened.new ≡ with_children opened.old opened.new.children) }
 {
     let Opened {

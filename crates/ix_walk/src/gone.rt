@@ -1,9 +1,8 @@
 //! What a walk has gone into.
 
-ghost use Rattle.std.specs.Prelude.{IfOk, List, ℕ, Option, Some, ◌≡◌, true, false};
-ghost use Rattle.ix_selector.specs.Residual.{Place};
+ghost use Rattle.std.specs.Prelude.{IfOk, ◌≡◌, false};
 ghost use Rattle.ix_selector.specs.Behind.{same_residual};
-ghost use Rattle.ix_walk.specs.Gone.{has_gone, IsNoted};
+ghost use Rattle.ix_walk.specs.Gone.{HasGoneNowhere, IsNoted, IsNotedWhole, IsNotedBlock};
 
 use ix_cid::Cid;
 use ix_selector::{Residual, Selector};
@@ -27,7 +26,7 @@ pub(crate) struct Gone<'a> {
 impl<'a> Gone<'a> {
     // Nothing, for a walk by this selector.
     pub(crate) fn new(alloc: Global, selector: &'a Selector) -> Result<Gone<'a>, AllocError>
-        ensures { IfOk result (λ g. (b : Option ℕ) (c : List ℕ) (places : List Place) → has_gone g b c places ≡ false) }
+        ensures { IfOk result (λ g. HasGoneNowhere g) }
     {
         Ok(Gone {
             whole: Residual::start(alloc, selector)?,
@@ -60,7 +59,7 @@ impl<'a> Gone<'a> {
 
     // The same of a block at a place, where as much was left as at a root.
     fn note_place(&mut self, place: usize) -> Result<bool, AllocError>
-        ensures { (c : List ℕ) (places : List Place) → same_residual self.old.whole places ≡ true → IfOk result (IsNoted self.old self.new (Some place) c places) }
+        ensures { IsNotedWhole self.old self.new place result }
     {
         if self.places.contains(place) {
             return Ok(false);
@@ -77,7 +76,7 @@ impl<'a> Gone<'a> {
         residual: &Residual<'a>,
     ) -> Result<bool, AllocError>
         requires { same_residual self.old.whole residual.now ≡ false }
-        ensures { (c : List ℕ) → IfOk result (IsNoted self.old self.new (Some place) c residual.now) }
+        ensures { IsNotedBlock self.old self.new place residual.now result }
     {
         if let Some(places) = self.blocks.get_mut(residual) {
             return Ok(places.insert(place)?);

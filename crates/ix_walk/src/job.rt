@@ -2,7 +2,7 @@
 
 ghost use Rattle.std.specs.Prelude.{◌≡◌, ◌≤◌, true, false, Some, None, IfOk, IfErr, OnOk, string_bytes};
 ghost use Rattle.ix_walk.specs.Job.{JobMeaning, job_fault};
-ghost use Rattle.ix_walk.specs.JobMeaning.{going_in, is_name, is_name_byte};
+ghost use Rattle.ix_walk.specs.JobMeaning.{job_of, going_in, is_name, is_name_byte};
 
 use crate::fault::JobFault;
 use ix_cid::Cid;
@@ -49,7 +49,7 @@ impl Job {
         selector: Selector,
         limit: u32,
     ) -> Result<Job, JobFault>
-        ensures ok { IfOk result (λ j. j ≡ record { name = string_bytes name; roots = roots.items; selector = selector; limit = limit; once = false }) }
+        ensures ok { IfOk result (λ j. j ≡ job_of (string_bytes name) roots.items selector limit) }
         ensures fits { OnOk result (job_fault (string_bytes name) roots.items limit ≡ None) }
         ensures fault { IfErr result (λ e. job_fault (string_bytes name) roots.items limit ≡ Some e) }
     {

@@ -1,7 +1,7 @@
 //! The walk.
 
 ghost use Rattle.std.specs.Prelude.{◌≡◌, false, IfOk};
-ghost use Rattle.ix_walk.specs.Visits.{visits_of, is_over_limit};
+ghost use Rattle.ix_walk.specs.Visits.{whole_walk};
 
 use crate::arriving::take_next;
 use crate::fault::WalkStop;
@@ -45,8 +45,7 @@ impl<'a> Model for Walk<'a> {
 }
 
 impl<'a> Walk<'a> {
-    ghost use Rattle.std.specs.Prelude.{false};
-    ghost use Rattle.ix_walk.specs.Visits.{visits_of, is_over_limit};
+    ghost use Rattle.ix_walk.specs.Visits.{whole_walk};
 
     /// The walk of the job with this number.
     pub fn new(
@@ -55,7 +54,7 @@ impl<'a> Walk<'a> {
         job: &'a Job,
         number: u32,
     ) -> Result<Walk<'a>, AllocError>
-        ensures { IfOk result (λ w. w ≡ record { visits = visits_of store.now number job.now; limited = is_over_limit store.now job.now; ended = false }) }
+        ensures { IfOk result (λ w. w ≡ whole_walk store.now number job.now) }
     {
         let gone = if job.goes_once() {
             Some(Gone::new(alloc, job.selector())?)
