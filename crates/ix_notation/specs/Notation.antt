@@ -1,5 +1,5 @@
 -- What the conversions of selectors print.
-use Rattle.std.specs.Prelude.{◌≡◌, ◌≢◌, ℕ, List, [], ◌∷◌, ◌++◌, Ok, Err, IsErr}
+use Rattle.std.specs.Prelude.{◌≡◌, ◌≢◌, ℕ, ℤ, List, [], ◌∷◌, ◌++◌, Ok, Err, IsErr}
 use Rattle.std.specs.Fmt.{signed_decimal}
 use Rattle.json.specs.Token.{Token}
 use Rattle.json.specs.Print.{print}
@@ -32,13 +32,17 @@ pub record IsSelectorHex (text line : List ℕ) : Type 0 where
   pub selector : IsSelectorOf selector_data
   pub printed : line ≡ encode_lower (spelling_of selector_data) ++ 10 ∷ []
 
+-- the token of an integer
+abbrev pub integer_tokens : ℤ → List Token
+integer_tokens n = Token.number (signed_decimal n) ∷ []
+
 -- The tokens of data as JSON: null, truth values, integers, texts, lists and maps stand for themselves. JSON has no
 -- word for a float, a byte string and a link.
 abbrev mutual
   pub tokens_of : Data → List Token
   tokens_of data_model.null = Token.null ∷ []
   tokens_of (data_model.boolean b) = Token.boolean b ∷ []
-  tokens_of (data_model.integer n) = Token.number (signed_decimal n) ∷ []
+  tokens_of (data_model.integer n) = integer_tokens n
   tokens_of (data_model.float bits) = Token.bad ∷ []
   tokens_of (data_model.bytes b) = Token.bad ∷ []
   tokens_of (data_model.text t) = Token.string t ∷ []

@@ -58,3 +58,13 @@ IsUnprinted bad_text other_kind Repeated = ⊥
 IsUnprinted bad_text other_kind Number = ⊥
 IsUnprinted bad_text other_kind Hex = ⊥
 IsUnprinted bad_text other_kind (Block fault) = ⊥
+
+-- why data, members, or keys and values are not printed
+abbrev pub IsDataUnprinted : Data → NotationFault → Type 0
+IsDataUnprinted d fault = IsUnprinted (HasBadText d) (HasOtherKind d) fault
+
+abbrev pub AreItemsUnprinted : Items → NotationFault → Type 0
+AreItemsUnprinted ds fault = IsUnprinted (ItemsHaveBadText ds) (ItemsHaveOtherKind ds) fault
+
+abbrev pub AreEntriesUnprinted : Entries → NotationFault → Type 0
+AreEntriesUnprinted es fault = IsUnprinted (EntriesHaveBadText es) (EntriesHaveOtherKind es) fault

@@ -6,9 +6,12 @@ use Rattle.std.specs.Str.Parse.{IsNumeral, without_leading_sign, signed_digits_v
 use Rattle.json.specs.Json.{Json, if_last, value}
 use Rattle.json.specs.Json as json_model
 use Rattle.json.specs.Lex.{tokens}
-use Rattle.ix_cbor.specs.Data.{Data, items_of, entries_of}
+use Rattle.json.specs.Strict.{keys, AreDistinct, HasUniqueKeys, ItemsHaveUniqueKeys, MembersHaveUniqueKeys}
+use Rattle.json.specs.Tree.{depth, items_depth, members_depth}
+use Rattle.ix_cbor.specs.Data.{Data, Items, Entries, items_of, entries_of}
 use Rattle.ix_cbor.specs.Data as data_model
 use Rattle.ix_cbor.specs.Spelling.{IsSpellable}
+use Rattle.ix_cbor.specs.Fits.{Fits, ItemsFit, EntriesFit}
 use Rattle.ix_notation.specs.declared.fault.NotationFault.{NotationFault}
 use Rattle.ix_notation.specs.declared.fault.NotationFault.TheVariants.{Json as NoJson, Repeated, Number, Hex, Block, Selector, Name, Memory}
 
@@ -92,3 +95,23 @@ IsUnread integers unique Hex = ⊥
 IsUnread integers unique (Block fault) = ⊥
 IsUnread integers unique (Selector fault) = ⊥
 IsUnread integers unique Name = ⊥
+
+-- why a value, items or members say no data
+abbrev pub IsValueUnread : Json → NotationFault → Type 0
+IsValueUnread j fault = IsUnread (AreIntegers j) (HasUniqueKeys j) fault
+
+abbrev pub AreItemsUnread : json_model.Items → NotationFault → Type 0
+AreItemsUnread js fault = IsUnread (ItemsAreIntegers js) (ItemsHaveUniqueKeys js) fault
+
+abbrev pub AreMembersUnread : json_model.Members → NotationFault → Type 0
+AreMembersUnread ms fault = IsUnread (MembersAreIntegers ms) (AreDistinct (keys ms) × MembersHaveUniqueKeys ms) fault
+
+-- what a value says has a spelling, where its numbers are integers that have one; so it is of items and of members
+abbrev pub ValueFits : Json → Data → Type 0
+ValueFits j d = AreIntegers j → Fits (depth j) d
+
+abbrev pub ValuesFit : json_model.Items → Items → Type 0
+ValuesFit js ds = ItemsAreIntegers js → ItemsFit (items_depth js) ds
+
+abbrev pub MembersFit : json_model.Members → Entries → Type 0
+MembersFit ms es = MembersAreIntegers ms → EntriesFit (members_depth ms) None es

@@ -1,13 +1,11 @@
 //! Data as JSON.
 
-ghost use Rattle.std.specs.Prelude.{◌≡◌, ◌++◌, ◌∷◌, [], OnOk, IfOk, IfErr, map};
-ghost use Rattle.std.specs.Fmt.{signed_decimal};
+ghost use Rattle.std.specs.Prelude.{◌≡◌, ◌++◌, OnOk, IfOk, IfErr};
 ghost use Rattle.std.specs.Str.{IsUtf8};
-ghost use Rattle.json.specs.Token.{number};
 ghost use Rattle.json.specs.Print.{print};
-ghost use Rattle.ix_cbor.specs.Data.{data_of, items_of, entry_of, entries_of};
-ghost use Rattle.ix_notation.specs.Notation.{tokens_of, items_tokens, entries_tokens};
-ghost use Rattle.ix_notation.specs.Printed.{HasBadText, ItemsHaveBadText, EntriesHaveBadText, HasOtherKind, ItemsHaveOtherKind, EntriesHaveOtherKind, IsUnprinted};
+ghost use Rattle.ix_cbor.specs.Data.{data_of, node_items, node_entries};
+ghost use Rattle.ix_notation.specs.Notation.{integer_tokens, tokens_of, items_tokens, entries_tokens};
+ghost use Rattle.ix_notation.specs.Printed.{IsDataUnprinted, AreItemsUnprinted, AreEntriesUnprinted};
 
 use crate::fault::NotationFault;
 use ix_cbor::Node;
@@ -20,7 +18,7 @@ use std::alloc::Global;
 pub(crate) fn text_of(alloc: Global, node: &Node) -> Result<Vec<u8>, NotationFault>
     ensures text { IfOk result (λ text. text.items ≡ print (tokens_of (data_of node.now))) }
     ensures utf8 { IfOk result (λ text. IsUtf8 text.items) }
-    ensures refused { IfErr result (IsUnprinted (HasBadText (data_of node.now)) (HasOtherKind (data_of node.now))) }
+    ensures refused { IfErr result (IsDataUnprinted (data_of node.now)) }
 {
     let mut out = Writer::new(Vec::new(alloc));
     push_node(alloc, &mut out, node)?;
@@ -32,7 +30,7 @@ pub(crate) fn text_of(alloc: Global, node: &Node) -> Result<Vec<u8>, NotationFau
 fn push_node(alloc: Global, out: &mut Writer, node: &Node) -> Result<(), NotationFault>
     ensures ok { OnOk result (out.new.tokens ≡ out.old.tokens ++ tokens_of (data_of node.now)) }
     ensures before { out.new.before ≡ out.old.before }
-    ensures refused { IfErr result (IsUnprinted (HasBadText (data_of node.now)) (HasOtherKind (data_of node.now))) }
+    ensures refused { IfErr result (IsDataUnprinted (data_of node.now)) }
 {
     match node {
         Node::Null => Ok(out.null()?),
@@ -56,10 +54,9 @@ fn push_node(alloc: Global, out: &mut Writer, node: &Node) -> Result<(), Notatio
 // Appends the members of a list and the closing bracket.
 #[cycle(push_node)]
 fn push_members(alloc: Global, out: &mut Writer, members: &[Node]) -> Result<(), NotationFault>
-    ensures ok { OnOk result (out.new.tokens ≡ out.old.tokens ++ items_tokens (items_of (map data_of members.now))) }
+    ensures ok { OnOk result (out.new.tokens ≡ out.old.tokens ++ items_tokens (node_items members.now)) }
     ensures before { out.new.before ≡ out.old.before }
-    ensures refused { IfErr result (IsUnprinted (ItemsHaveBadText (items_of (map data_of members.now)))
-        (ItemsHaveOtherKind (items_of (map data_of members.now)))) }
+    ensures refused { IfErr result (AreItemsUnprinted (node_items members.now)) }
 {
     for member in members {
         push_node(alloc, out, member)?;
@@ -74,10 +71,9 @@ fn push_entries(
     out: &mut Writer,
     entries: &[(Vec<u8>, Node)],
 ) -> Result<(), NotationFault>
-    ensures ok { OnOk result (out.new.tokens ≡ out.old.tokens ++ entries_tokens (entries_of (map entry_of entries.now))) }
+    ensures ok { OnOk result (out.new.tokens ≡ out.old.tokens ++ entries_tokens (node_entries entries.now)) }
     ensures before { out.new.before ≡ out.old.before }
-    ensures refused { IfErr result (IsUnprinted (EntriesHaveBadText (entries_of (map entry_of entries.now)))
-        (EntriesHaveOtherKind (entries_of (map entry_of entries.now)))) }
+    ensures refused { IfErr result (AreEntriesUnprinted (node_entries entries.now)) }
 {
     for (key, value) in entries {
         out.key(name_of(key.as_slice())?)?;
@@ -88,7 +84,7 @@ fn push_entries(
 
 // Appends an integer in decimal.
 fn push_integer(alloc: Global, out: &mut Writer, integer: i128) -> Result<(), NotationFault>
-    ensures ok { OnOk result (out.new.tokens ≡ out.old.tokens ++ number (signed_decimal integer) ∷ []) }
+    ensures ok { OnOk result (out.new.tokens ≡ out.old.tokens ++ integer_tokens integer) }
     ensures before { out.new.before ≡ out.old.before }
     ensures refused { IfErr result (λ e. e ≡ NotationFault.Memory) }
 {

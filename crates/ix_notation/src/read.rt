@@ -1,13 +1,10 @@
 //! Data out of JSON.
 
-ghost use Rattle.std.specs.Prelude.{◌≡◌, [], IfOk, IfErr, None, map};
-ghost use Rattle.json.specs.Strict.{keys, AreDistinct, HasUniqueKeys, ItemsHaveUniqueKeys, MembersHaveUniqueKeys};
-ghost use Rattle.json.specs.Tree.{depth, items_depth, members_depth};
+ghost use Rattle.std.specs.Prelude.{◌≡◌, [], IfOk, IfErr, map};
 ghost use Rattle.json.specs.Value.{value_view, items_view, members_view};
-ghost use Rattle.ix_cbor.specs.Data.{data_of, items_of, entry_of, entries_of};
+ghost use Rattle.ix_cbor.specs.Data.{data_of, entry_of, node_items, node_entries};
 ghost use Rattle.ix_cbor.specs.Spelling.{key_cmp};
-ghost use Rattle.ix_cbor.specs.Fits.{Fits, ItemsFit, EntriesFit};
-ghost use Rattle.ix_notation.specs.Saying.{Says, ItemsSay, ArePut, AreIntegers, ItemsAreIntegers, MembersAreIntegers, IsJsonOf, IsUnread};
+ghost use Rattle.ix_notation.specs.Saying.{Says, ItemsSay, ArePut, ValueFits, ValuesFit, MembersFit, IsJsonOf, IsValueUnread, AreItemsUnread, AreMembersUnread};
 ghost use Rattle.ix_notation.specs.Notation.{IsJsonRefused};
 
 use crate::fault::NotationFault;
@@ -51,10 +48,8 @@ pub(crate) fn tree_of(alloc: Global, text: &[u8]) -> Result<Tree, NotationFault>
 #[cycle(node_of)]
 fn node_of(alloc: Global, value: &Value<'_>) -> Result<Node, NotationFault>
     ensures says { IfOk result (λ n. Says (value_view value.now) (data_of n)) }
-    ensures fits { IfOk result (λ n. AreIntegers (value_view value.now)
-        → Fits (depth (value_view value.now)) (data_of n)) }
-    ensures refused { IfErr result (IsUnread (AreIntegers (value_view value.now))
-        (HasUniqueKeys (value_view value.now))) }
+    ensures fits { IfOk result (λ n. ValueFits (value_view value.now) (data_of n)) }
+    ensures refused { IfErr result (IsValueUnread (value_view value.now)) }
 {
     match value {
         Value::Null => Ok(Node::Null),
@@ -73,10 +68,8 @@ fn node_of(alloc: Global, value: &Value<'_>) -> Result<Node, NotationFault>
 #[cycle(node_of)]
 fn members_of(alloc: Global, values: &[Value<'_>]) -> Result<Vec<Node>, NotationFault>
     ensures says { IfOk result (λ v. ItemsSay (items_view values.now) (map data_of v.items)) }
-    ensures fits { IfOk result (λ v. ItemsAreIntegers (items_view values.now)
-        → ItemsFit (items_depth (items_view values.now)) (items_of (map data_of v.items))) }
-    ensures refused { IfErr result (IsUnread (ItemsAreIntegers (items_view values.now))
-        (ItemsHaveUniqueKeys (items_view values.now))) }
+    ensures fits { IfOk result (λ v. ValuesFit (items_view values.now) (node_items v.items)) }
+    ensures refused { IfErr result (AreItemsUnread (items_view values.now)) }
 {
     let mut members = Vec::new(alloc);
     for value in values {
@@ -92,10 +85,8 @@ fn entries_of(
     values: &[(&str, Value<'_>)],
 ) -> Result<Vec<(Vec<u8>, Node)>, NotationFault>
     ensures says { IfOk result (λ v. ArePut (members_view values.now) [] (map entry_of v.items)) }
-    ensures fits { IfOk result (λ v. MembersAreIntegers (members_view values.now)
-        → EntriesFit (members_depth (members_view values.now)) None (entries_of (map entry_of v.items))) }
-    ensures refused { IfErr result (IsUnread (MembersAreIntegers (members_view values.now))
-        (AreDistinct (keys (members_view values.now)) × MembersHaveUniqueKeys (members_view values.now))) }
+    ensures fits { IfOk result (λ v. MembersFit (members_view values.now) (node_entries v.items)) }
+    ensures refused { IfErr result (AreMembersUnread (members_view values.now)) }
 {
     let mut entries: Vec<(Vec<u8>, Node)> = Vec::new(alloc);
     for (name, value) in values {
