@@ -1,19 +1,23 @@
 -- What the parts of reading a CARv1 file answer.
-use Rattle.std.specs.Prelude.{◌≡◌, ℕ, List, drop, Result, Ok, Err}
+use Rattle.std.specs.Prelude.{◌≡◌, ℕ, ◌≤◌, List, length, drop, Result, Ok, Err, IfErr}
 use Rattle.ix_car.specs.Reading.{Fault}
 use Rattle.ix_car.specs.Gives.{FailsAs}
-use Rattle.ix_car.specs.declared.reader.section.Stop.{Stop}
+use Rattle.ix_car.specs.declared.reader.section.FaultAt.{FaultAt}
 
 -- the answer of a part that takes no memory, seen by view, is what the definition gives
-abbrev pub Reads : {X A : Type 0} → (X → A) → Result X Stop → Result A Fault → Type 0
+abbrev pub Reads : {X A : Type 0} → (X → A) → Result X FaultAt → Result A Fault → Type 0
 Reads view (Ok x) meant = meant ≡ Ok (view x)
 Reads view (Err e) meant = meant ≡ Err (record { kind = e.kind; left = e.left })
 
 -- the same of a part that takes memory, unless it ran out
-abbrev pub ReadsOrRunsOut : {X A : Type 0} → (X → A) → Result X Stop → Result A Fault → Type 0
+abbrev pub ReadsOrRunsOut : {X A : Type 0} → (X → A) → Result X FaultAt → Result A Fault → Type 0
 ReadsOrRunsOut view (Ok x) meant = meant ≡ Ok (view x)
 ReadsOrRunsOut view (Err e) meant = FailsAs e.kind e.left meant
 
 -- these bytes are the end of others
 abbrev pub IsEnd : List ℕ → List ℕ → Type 0
 IsEnd end bytes = (n : ℕ) × (end ≡ drop n bytes)
+
+-- the place of the fault stands within these bytes, if there is one
+abbrev pub StandsWithin : {X : Type 0} → Result X FaultAt → List ℕ → Type 0
+StandsWithin result bytes = IfErr result (λ fault. fault.left ≤ length bytes)

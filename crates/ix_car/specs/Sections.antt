@@ -21,9 +21,13 @@ sections_behind size n so_far [] = Ok so_far
 sections_behind size zero so_far (x ∷ b) = Ok so_far
 sections_behind size (suc n) so_far (x ∷ b) = section_at (x ∷ b) >>= (λ s. sections_behind size n (so_far ++ placed (size - length (x ∷ b)) s.0 ∷ []) s.1)
 
+-- the sections in the bytes that end a file of so many, or the first fault
+abbrev pub sections_in : ℕ → List ℕ → Result (List SectionMeaning) Fault
+sections_in size b = sections_behind size (length b) [] b
+
 -- the sections of a file, or the first fault
 abbrev pub section_list : List ℕ → Result (List SectionMeaning) Fault
-section_list b = header_at b >>= (λ rest. sections_behind (length b) (length rest) [] rest)
+section_list b = header_at b >>= (λ rest. sections_in (length b) rest)
 
 -- the CIDs of the links in a list
 abbrev pub links_in : Items → List (List ℕ)

@@ -1,11 +1,11 @@
 //! Reading CARv1 files.
 
-ghost use Rattle.std.specs.Prelude.{◌≡◌, ◌≤◌, [], length, IfErr};
+ghost use Rattle.std.specs.Prelude.{◌≡◌, ◌≤◌, [], length};
 ghost use Rattle.std.specs.Arc.{arc_value};
 ghost use Rattle.ix_store.specs.Store.{Blocks};
-ghost use Rattle.ix_car.specs.Reading.{sections_at, blocks_of};
+ghost use Rattle.ix_car.specs.Reading.{blocks_in, blocks_of};
 ghost use Rattle.ix_car.specs.Gives.{Gives};
-ghost use Rattle.ix_car.specs.Reads.{ReadsOrRunsOut, IsEnd};
+ghost use Rattle.ix_car.specs.Reads.{ReadsOrRunsOut, IsEnd, StandsWithin};
 
 mod by_threads;
 mod header;
@@ -14,7 +14,7 @@ mod sections;
 
 use crate::fault::{CarFault, CarKind};
 use crate::reader::header::header_at;
-use crate::reader::section::{Stop, section_at};
+use crate::reader::section::{FaultAt, section_at};
 pub use by_threads::{load_car_by, load_shared_by};
 use ix_store::Store;
 pub use sections::{CarFile, Section, read_sections};
@@ -62,22 +62,22 @@ pub fn load_car(alloc: Global, bytes: Vec<u8>) -> Result<Store, CarFault>
     };
     match store_of_file(alloc, &file) {
         Ok(store) => Ok(store),
-        Err(stop) => Err(CarFault {
-            kind: stop.kind,
-            place: length - stop.left,
+        Err(fault) => Err(CarFault {
+            kind: fault.kind,
+            place: length - fault.left,
         }),
     }
 }
 
 // The blocks of a file, of which what is found will be kept.
-fn store_of_file(alloc: Global, file: &Arc<Vec<u8>>) -> Result<Store, Stop>
+fn store_of_file(alloc: Global, file: &Arc<Vec<u8>>) -> Result<Store, FaultAt>
     ensures reads { ReadsOrRunsOut (λ store. store) result (blocks_of (arc_value file.now).items) }
-    ensures within { IfErr result (λ stop. stop.left ≤ length (arc_value file.now).items) }
+    ensures within { StandsWithin result (arc_value file.now).items }
 {
     let sections = header_at(alloc, file.as_slice())?;
     let mut store = store_of_sections(alloc, file, sections)?;
     if store.settle().is_err() {
-        return Err(Stop {
+        return Err(FaultAt {
             kind: CarKind::Memory,
             left: 0,
         });
@@ -86,10 +86,10 @@ fn store_of_file(alloc: Global, file: &Arc<Vec<u8>>) -> Result<Store, Stop>
 }
 
 // The blocks of the sections at the end of a file.
-fn store_of_sections(alloc: Global, file: &Arc<Vec<u8>>, sections: &[u8]) -> Result<Store, Stop>
+fn store_of_sections(alloc: Global, file: &Arc<Vec<u8>>, sections: &[u8]) -> Result<Store, FaultAt>
     requires { IsEnd sections.now (arc_value file.now).items }
-    ensures reads { ReadsOrRunsOut (λ store. store) result (sections_at (length sections.now) [] sections.now) }
-    ensures within { IfErr result (λ stop. stop.left ≤ length sections.now) }
+    ensures reads { ReadsOrRunsOut (λ store. store) result (blocks_in sections.now) }
+    ensures within { StandsWithin result sections.now }
 {
     let mut rest = sections;
     let mut store = Store::new(alloc);
@@ -97,7 +97,7 @@ fn store_of_sections(alloc: Global, file: &Arc<Vec<u8>>, sections: &[u8]) -> Res
         let (cid, block, after) = section_at(alloc, file, rest)?;
         let start = file.len() - after.len() - block.len();
         if store.add_within(cid, file, start, block.len()).is_err() {
-            return Err(Stop::at(CarKind::Memory, rest));
+            return Err(FaultAt::at(CarKind::Memory, rest));
         }
         rest = after;
     }

@@ -64,7 +64,8 @@ pub fn set_section_head(text: &mut Vec<u8>, cid: &Cid, block: &[u8]) -> Result<(
 /// Writes a section, and says how many of its bytes the writer took.
 pub fn write_section<W: Write>(writer: &mut W, head: &[u8], block: &[u8]) -> usize
     ensures within { result ≤ length head.now + length block.now }
-    ensures grown { Appends (W.contents writer.old) (W.contents writer.new) (take result (head.now ++ block.now)) }
+    ensures grown { Appends (W.contents writer.old) (W.contents writer.new)
+        (take result (head.now ++ block.now)) }
 {
     let taken = write_text(writer, head);
     if taken < head.len() {

@@ -17,7 +17,7 @@ use std::marker::Model;
 pub trait Check {
     ghost use Rattle.std.specs.Prelude.{◌≡◌, ◌++◌, ◌∷◌, [], IfOk, OnOk, OnErr, List, ℕ};
     ghost use Rattle.ix_check.specs.Verdict.{verdict_of};
-    ghost use Rattle.ix_check.specs.Visits.{IsVisitOf};
+    ghost use Rattle.ix_check.specs.Visits.{IsVisitOf, receipt_of};
 
     /// The job and number of each visit that was checked, in order.
     ghost checked: { Self → List (ℕ × ℕ) };
@@ -26,7 +26,7 @@ pub trait Check {
     fn check(&mut self, alloc: Global, store: &Store, visit: &Visit) -> Result<Verdict, AllocError>
         requires { IsVisitOf store.now visit.now }
         ensures verdict { IfOk result (λ v. v ≡ verdict_of store.now visit.now.cid) }
-        ensures noted { OnOk result (checked self.new ≡ checked self.old ++ (visit.now.job, visit.now.seq) ∷ []) }
+        ensures noted { OnOk result (checked self.new ≡ checked self.old ++ receipt_of visit.now ∷ []) }
         ensures err { OnErr result (checked self.new ≡ checked self.old) };
 }
 

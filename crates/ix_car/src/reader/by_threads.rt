@@ -1,14 +1,14 @@
 //! Reading a CARv1 file whose blocks several threads index.
 
-ghost use Rattle.std.specs.Prelude.{◌≡◌, ◌≤◌, [], length, IfErr};
+ghost use Rattle.std.specs.Prelude.{◌≡◌, ◌≤◌, [], length};
 ghost use Rattle.std.specs.Arc.{arc_value};
-ghost use Rattle.ix_car.specs.Reading.{sections_at, blocks_of};
+ghost use Rattle.ix_car.specs.Reading.{blocks_in, blocks_of};
 ghost use Rattle.ix_car.specs.Gives.{Gives};
-ghost use Rattle.ix_car.specs.Reads.{ReadsOrRunsOut, IsEnd};
+ghost use Rattle.ix_car.specs.Reads.{ReadsOrRunsOut, IsEnd, StandsWithin};
 
 use crate::fault::{CarFault, CarKind};
 use crate::reader::header::header_at;
-use crate::reader::section::{Stop, section_at};
+use crate::reader::section::{FaultAt, section_at};
 use ix_store::{Store, StoreBuilder};
 use std::alloc::Global;
 use std::sync::Arc;
@@ -44,9 +44,9 @@ pub fn load_shared_by<R: Threads + Sync>(
 {
     match store_by_threads(rt, alloc, file, threads) {
         Ok(store) => Ok(store),
-        Err(stop) => Err(CarFault {
-            kind: stop.kind,
-            place: file.len() - stop.left,
+        Err(fault) => Err(CarFault {
+            kind: fault.kind,
+            place: file.len() - fault.left,
         }),
     }
 }
@@ -57,20 +57,20 @@ fn store_by_threads<R: Threads + Sync>(
     alloc: Global,
     file: &Arc<Vec<u8>>,
     threads: usize,
-) -> Result<Store, Stop>
+) -> Result<Store, FaultAt>
     ensures reads { ReadsOrRunsOut (λ store. store) result (blocks_of (arc_value file.now).items) }
-    ensures within { IfErr result (λ stop. stop.left ≤ length (arc_value file.now).items) }
+    ensures within { StandsWithin result (arc_value file.now).items }
 {
     let sections = header_at(alloc, file.as_slice())?;
     let builder = blocks_of_sections(rt, alloc, file, sections, threads)?;
     let Ok(mut store) = builder.build(rt, threads) else {
-        return Err(Stop {
+        return Err(FaultAt {
             kind: CarKind::Memory,
             left: 0,
         });
     };
     if store.settle().is_err() {
-        return Err(Stop {
+        return Err(FaultAt {
             kind: CarKind::Memory,
             left: 0,
         });
@@ -85,10 +85,10 @@ fn blocks_of_sections<R: Threads + Sync>(
     file: &Arc<Vec<u8>>,
     sections: &[u8],
     threads: usize,
-) -> Result<StoreBuilder, Stop>
+) -> Result<StoreBuilder, FaultAt>
     requires { IsEnd sections.now (arc_value file.now).items }
-    ensures reads { ReadsOrRunsOut (λ builder. builder) result (sections_at (length sections.now) [] sections.now) }
-    ensures within { IfErr result (λ stop. stop.left ≤ length sections.now) }
+    ensures reads { ReadsOrRunsOut (λ builder. builder) result (blocks_in sections.now) }
+    ensures within { StandsWithin result sections.now }
 {
     let mut rest = sections;
     let mut builder = StoreBuilder::new(alloc);
@@ -96,10 +96,10 @@ fn blocks_of_sections<R: Threads + Sync>(
         let (cid, block, after) = section_at(alloc, file, rest)?;
         let start = file.len() - after.len() - block.len();
         if builder.add_within(cid, file, start, block.len()).is_err() {
-            return Err(Stop::at(CarKind::Memory, rest));
+            return Err(FaultAt::at(CarKind::Memory, rest));
         }
         if builder.index_due(rt, threads).is_err() {
-            return Err(Stop::at(CarKind::Memory, rest));
+            return Err(FaultAt::at(CarKind::Memory, rest));
         }
         rest = after;
     }

@@ -5,29 +5,29 @@ ghost use Rattle.ix_cbor.specs.Data.{data_of, items_of, entry_of, entries_of};
 ghost use Rattle.ix_cbor.specs.Reading.{data_at};
 ghost use Rattle.ix_car.specs.declared.fault.CarKind.TheVariants.{Memory};
 ghost use Rattle.ix_car.specs.Reading.{value_at, are_links, has_roots, version_fault, header_fault, header_at};
-ghost use Rattle.ix_car.specs.Reads.{ReadsOrRunsOut, IsEnd};
+ghost use Rattle.ix_car.specs.Reads.{ReadsOrRunsOut, IsEnd, StandsWithin};
 ghost use Rattle.ix_car.specs.Sections.{links_in, links_of, roots_in, roots_of};
 
 use crate::fault::CarKind;
-use crate::reader::section::{Stop, text_at};
+use crate::reader::section::{FaultAt, text_at};
 use ix_cbor::{CborKind, Node, Tree, decode};
 use ix_cid::Cid;
 use std::alloc::{AllocError, Global};
 
 // The bytes behind the header.
-pub(super) fn header_at(alloc: Global, bytes: &[u8]) -> Result<&[u8], Stop>
+pub(super) fn header_at(alloc: Global, bytes: &[u8]) -> Result<&[u8], FaultAt>
     ensures reads { ReadsOrRunsOut (λ rest. rest.now) result (header_at bytes.now) }
     ensures shorter { IfOk result (λ rest. length rest.now < length bytes.now) }
     ensures end { IfOk result (λ rest. IsEnd rest.now bytes.now) }
-    ensures within { IfErr result (λ stop. stop.left ≤ length bytes.now) }
+    ensures within { StandsWithin result bytes.now }
 {
     let (text, rest) = text_at(bytes)?;
     let Ok(tree) = tree_of(alloc, text) else {
-        return Err(Stop::at(CarKind::Memory, bytes));
+        return Err(FaultAt::at(CarKind::Memory, bytes));
     };
     match fault_of_header(&tree) {
         None => Ok(rest),
-        Some(kind) => Err(Stop::at(kind, bytes)),
+        Some(kind) => Err(FaultAt::at(kind, bytes)),
     }
 }
 
@@ -54,7 +54,8 @@ fn fault_of_root(root: &Node) -> Option<CarKind>
 
 // What is wrong with a header's version, or with its roots behind a good one.
 fn fault_of_version(version: Option<&Node>, has_roots: bool) -> Option<CarKind>
-    ensures { result ≡ version_fault (option_map (λ node. data_of node.now) version.entry) has_roots }
+    ensures { result
+        ≡ version_fault (option_map (λ node. data_of node.now) version.entry) has_roots }
 {
     let Some(Node::Int(version)) = version else {
         return Some(CarKind::Header);
@@ -117,16 +118,16 @@ fn tree_of(alloc: Global, block: &[u8]) -> Result<Option<Tree>, AllocError>
 }
 
 // The roots of a file whose header is good.
-pub(super) fn roots_at(alloc: Global, bytes: &[u8]) -> Result<Vec<Cid>, Stop>
+pub(super) fn roots_at(alloc: Global, bytes: &[u8]) -> Result<Vec<Cid>, FaultAt>
     ensures roots { IfOk result (λ roots. roots.items ≡ roots_of bytes.now) }
-    ensures memory { IfErr result (λ stop. (stop.kind ≡ Memory) × (stop.left ≤ length bytes.now)) }
+    ensures memory { IfErr result (λ f. (f.kind ≡ Memory) × (f.left ≤ length bytes.now)) }
 {
     let Ok((text, _)) = text_at(bytes) else {
         return Ok(Vec::new(alloc));
     };
     match roots_of_header(alloc, text) {
         Ok(roots) => Ok(roots),
-        Err(_) => Err(Stop::at(CarKind::Memory, bytes)),
+        Err(_) => Err(FaultAt::at(CarKind::Memory, bytes)),
     }
 }
 

@@ -1,15 +1,15 @@
 //! The sections of a CARv1 file, where they stand.
 
-ghost use Rattle.std.specs.Prelude.{◌≡◌, ◌<◌, ◌≤◌, [], length, map, IfOk, IfErr};
+ghost use Rattle.std.specs.Prelude.{◌≡◌, ◌<◌, ◌≤◌, length, IfOk};
 ghost use Rattle.ix_car.specs.Reading.{section_at};
 ghost use Rattle.ix_car.specs.Gives.{Gives};
-ghost use Rattle.ix_car.specs.Reads.{Reads, ReadsOrRunsOut};
-ghost use Rattle.ix_car.specs.Sections.{section_list, sections_behind, roots_of};
-ghost use Rattle.ix_car.specs.SectionView.{section_of};
+ghost use Rattle.ix_car.specs.Reads.{Reads, ReadsOrRunsOut, StandsWithin};
+ghost use Rattle.ix_car.specs.Sections.{section_list, sections_in, roots_of};
+ghost use Rattle.ix_car.specs.SectionView.{views_of};
 
 use crate::fault::{CarFault, CarKind};
 use crate::reader::header::{header_at, roots_at};
-use crate::reader::section::{Stop, text_at};
+use crate::reader::section::{FaultAt, text_at};
 use ix_cid::{Cid, CidRef};
 use std::alloc::Global;
 
@@ -35,23 +35,23 @@ pub struct CarFile<'a> {
 ///
 /// Each section is there, those too whose CID has stood before. No block is copied.
 pub fn read_sections(alloc: Global, bytes: &[u8]) -> Result<CarFile<'_>, CarFault>
-    ensures sections { Gives (λ s. map section_of s.sections.items) bytes.now result (section_list bytes.now) }
+    ensures sections { Gives (λ s. views_of s.sections) bytes.now result (section_list bytes.now) }
     ensures roots { IfOk result (λ s. s.roots.items ≡ roots_of bytes.now) }
 {
     match sections_of(alloc, bytes) {
         Ok(sections) => Ok(sections),
-        Err(stop) => Err(CarFault {
-            kind: stop.kind,
-            place: bytes.len() - stop.left,
+        Err(fault) => Err(CarFault {
+            kind: fault.kind,
+            place: bytes.len() - fault.left,
         }),
     }
 }
 
 // The same, with the place of a fault from the end.
-fn sections_of(alloc: Global, bytes: &[u8]) -> Result<CarFile<'_>, Stop>
-    ensures sections { ReadsOrRunsOut (λ s. map section_of s.sections.items) result (section_list bytes.now) }
+fn sections_of(alloc: Global, bytes: &[u8]) -> Result<CarFile<'_>, FaultAt>
+    ensures sections { ReadsOrRunsOut (λ s. views_of s.sections) result (section_list bytes.now) }
     ensures roots { IfOk result (λ s. s.roots.items ≡ roots_of bytes.now) }
-    ensures within { IfErr result (λ stop. stop.left ≤ length bytes.now) }
+    ensures within { StandsWithin result bytes.now }
 {
     let rest = header_at(alloc, bytes)?;
     let roots = roots_at(alloc, bytes)?;
@@ -64,10 +64,10 @@ fn sections_behind<'a>(
     alloc: Global,
     size: usize,
     bytes: &'a [u8],
-) -> Result<Vec<Section<'a>>, Stop>
+) -> Result<Vec<Section<'a>>, FaultAt>
     requires { length bytes.now ≤ size }
-    ensures reads { ReadsOrRunsOut (λ v. map section_of v.items) result (sections_behind size (length bytes.now) [] bytes.now) }
-    ensures within { IfErr result (λ stop. stop.left ≤ length bytes.now) }
+    ensures reads { ReadsOrRunsOut (λ v. views_of v) result (sections_in size bytes.now) }
+    ensures within { StandsWithin result bytes.now }
 {
     let mut rest = bytes;
     let mut sections = Vec::new(alloc);
@@ -75,7 +75,7 @@ fn sections_behind<'a>(
         let (cid, block, after) = standing_at(rest)?;
         let place = size - rest.len();
         let Ok(()) = sections.push(Section { place, cid, block }) else {
-            return Err(Stop::at(CarKind::Memory, rest));
+            return Err(FaultAt::at(CarKind::Memory, rest));
         };
         rest = after;
     }
@@ -83,14 +83,14 @@ fn sections_behind<'a>(
 }
 
 // The CID and the block of the section at the front, where they stand, and the bytes after it.
-fn standing_at(bytes: &[u8]) -> Result<(CidRef<'_>, &[u8], &[u8]), Stop>
+fn standing_at(bytes: &[u8]) -> Result<(CidRef<'_>, &[u8], &[u8]), FaultAt>
     ensures reads { Reads (λ r. ((r.0, r.1.now), r.2.now)) result (section_at bytes.now) }
     ensures shorter { IfOk result (λ r. length r.2.now < length bytes.now) }
-    ensures within { IfErr result (λ stop. stop.left ≤ length bytes.now) }
+    ensures within { StandsWithin result bytes.now }
 {
     let (section, rest) = text_at(bytes)?;
     let Ok(length) = Cid::length_at(section) else {
-        return Err(Stop::at(CarKind::SectionCid, bytes));
+        return Err(FaultAt::at(CarKind::SectionCid, bytes));
     };
     let (cid, block) = section.split_at(length);
     Ok((CidRef::of(cid), block, rest))
