@@ -1,8 +1,5 @@
 -- What an archive has: a header with the roots, and a section for each sound block at its first visit.
-use Rattle.std.specs.Prelude.{ℕ, Bool, true, false, not, pos, List, [], ◌∷◌, ◌++◌, length, filter, flat_map, Option, Some, None, is_some, if◌then◌else◌, bytes_eq, codes}
-use Rattle.ix_cid.specs.Varint.{varint_of}
-use Rattle.ix_cbor.specs.Data.{Data, Items, integer, list, map, link, no_items, item, no_entries, entry}
-use Rattle.ix_cbor.specs.Spelling.{spelling_of}
+use Rattle.std.specs.Prelude.{ℕ, Bool, true, false, not, List, [], ◌∷◌, ◌++◌, filter, flat_map, is_some, if◌then◌else◌, bytes_eq}
 use Rattle.ix_store.specs.Store.{Blocks, block_of}
 use Rattle.ix_walk.specs.JobMeaning.{JobMeaning}
 use Rattle.ix_car.specs.Writing.{header_of, section_with}

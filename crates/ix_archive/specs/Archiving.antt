@@ -21,6 +21,10 @@ use Rattle.ix_archive.specs.Report.{skips_of, at_most, counts_of}
 abbrev pub cut_behind : List Delivery → Option ℕ
 cut_behind = cut_after (λ d. d.visit.depth) (λ d. passes d.verdict) None
 
+-- whether a delivery at this depth is cut off behind these
+abbrev pub is_cut_off : List Delivery → ℕ → Bool
+is_cut_off ds depth = is_below (cut_behind ds) depth
+
 -- whether a sound delivery of this CID is among these
 abbrev pub is_told : List Delivery → List ℕ → Bool
 is_told ds c = list_any (λ d. is_sound d.verdict && bytes_eq d.visit.cid c) ds
@@ -35,7 +39,7 @@ text_behind store ks d = if is_sound d.verdict then (if is_told ks d.visit.cid t
 
 -- what a delivery writes behind these
 abbrev pub text_due : Blocks → List Delivery → Delivery → List ℕ
-text_due store ds d = if is_below (cut_behind ds) d.visit.depth then [] else text_behind store (kept ds) d
+text_due store ds d = if is_cut_off ds d.visit.depth then [] else text_behind store (kept ds) d
 
 -- what an archive keeps, beside these deliveries, those at which a write failed, and the close
 pub record IsTally (store : Blocks) (ds failed : List Delivery) (closed : List End) (cut : Option ℕ) (counts : Counts) (written : PlaceSet) (skips : List Skip) : Type 0 where
@@ -76,3 +80,15 @@ IsRefused told d text before Memory after = after ≡ before
 abbrev pub IsDelivered : {W T : Type 0} → (W → Option (List ℕ)) → Delivery → List ℕ → ArchiveMeaning W → Result T SinkFault → ArchiveMeaning W → Type 0
 IsDelivered told d text before (Ok done) after = IsAdded told d text before after
 IsDelivered told d text before (Err fault) after = IsRefused told d text before fault after
+
+-- what a delivery with the text that is due does to it
+abbrev pub IsDeliveredDue : {W T : Type 0} → (W → Option (List ℕ)) → Delivery → ArchiveMeaning W → Result T SinkFault → ArchiveMeaning W → Type 0
+IsDeliveredDue told d before result after = IsDelivered told d (text_due before.store before.deliveries d) before result after
+
+-- where the block stands of the section that a kept delivery writes into an archive
+abbrev pub section_due : {W : Type 0} → ArchiveMeaning W → Delivery → Option ℕ
+section_due a d = place_due a.store (kept a.deliveries) d
+
+-- what an archive has counted
+abbrev pub counts_in : {W : Type 0} → ArchiveMeaning W → Counts
+counts_in a = counts_of a.store a.deliveries a.taken

@@ -1,5 +1,7 @@
 -- What a sink was told.
 use Rattle.std.specs.Prelude.{◌≡◌, List, [], ◌∷◌}
+use Rattle.ix_walk.specs.declared.visit.Visit.{Visit}
+use Rattle.ix_check.specs.declared.verdict.Verdict.{Verdict}
 use Rattle.ix_archive.specs.declared.sink.Delivery.{Delivery}
 use Rattle.ix_archive.specs.declared.sink.End.{End}
 use Rattle.ix_archive.specs.declared.fault.SinkFault.{SinkFault}
@@ -8,6 +10,13 @@ use Rattle.ix_archive.specs.declared.fault.SinkFault.TheVariants.{Write, Memory}
 pub data Event : Type 0 where
   delivery : Delivery → Event
   close : End → Event
+
+-- a visit with its verdict, and the event that it was taken
+abbrev pub with_verdict : Visit → Verdict → Delivery
+with_verdict visit verdict = record { visit = visit; verdict = verdict }
+
+abbrev pub delivered : Visit → Verdict → Event
+delivered visit verdict = delivery (with_verdict visit verdict)
 
 -- nothing was closed so far
 abbrev pub IsOpen : List Event → Type 0

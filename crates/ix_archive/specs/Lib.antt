@@ -12,3 +12,4 @@ pub mod Archived
 pub mod EndWords
 pub mod Examples
 pub mod Headline
+pub mod Laws

@@ -3,11 +3,10 @@
 
 ghost use Rattle.std.specs.Prelude.{◌≡◌, ◌+◌, true, false, None, Some, [], IfOk, IfErr};
 ghost use Rattle.ix_check.specs.Verdict.{passes};
-ghost use Rattle.ix_archive.specs.Kept.{is_below, kept};
 ghost use Rattle.ix_archive.specs.Archive.{is_sound};
 ghost use Rattle.ix_archive.specs.ArchiveMeaning.{HasArchived, IsBegun};
-ghost use Rattle.ix_archive.specs.Archiving.{cut_behind, place_due, text_due, IsAdded, IsDelivered};
-ghost use Rattle.ix_archive.specs.Report.{at_most, skips_of, counts_of};
+ghost use Rattle.ix_archive.specs.Archiving.{is_cut_off, section_due, counts_in, IsAdded, IsDelivered, IsDeliveredDue};
+ghost use Rattle.ix_archive.specs.Report.{at_most, skips_of};
 ghost use Rattle.ix_archive.specs.ArchiveNew.{IsNoArchive};
 
 use crate::fault::{ArchiveNew, SinkFault};
@@ -22,7 +21,6 @@ use std::alloc::Global;
 use std::io::Write;
 use std::marker::Model;
 use std::snapshot::Snapshot;
-
 
 // How many bytes of room an archive keeps of its header at most.
 const MOST_SCRATCH: usize = 4096;
@@ -138,7 +136,7 @@ impl<'a, W: Write> Archive<'a, W> {
 
     /// What was counted so far.
     pub fn counts(&self) -> Counts
-        ensures { result ≡ counts_of self.now.store self.now.deliveries self.now.taken }
+        ensures { result ≡ counts_in self.now }
     {
         self.counts
     }
@@ -147,7 +145,7 @@ impl<'a, W: Write> Archive<'a, W> {
     pub fn into_parts(self) -> (W, Vec<Skip>, Counts)
         ensures writer { result.0 ≡ self.entry.writer }
         ensures skips { result.1.items ≡ skips_of self.entry.deliveries }
-        ensures counts { result.2 ≡ counts_of self.entry.store self.entry.deliveries self.entry.taken }
+        ensures counts { result.2 ≡ counts_in self.entry }
     {
         (self.writer, self.skips, self.counts)
     }
@@ -156,7 +154,7 @@ impl<'a, W: Write> Archive<'a, W> {
     fn take(&mut self, delivery: Delivery) -> Result<(), SinkFault>
         requires unfailed { self.old.failed ≡ [] }
         requires unclosed { self.old.closed ≡ [] }
-        ensures { IsDelivered W.contents delivery (text_due self.old.store self.old.deliveries delivery) self.old result self.new }
+        ensures { IsDeliveredDue W.contents delivery self.old result self.new }
     {
         if self.is_cut_off(delivery.visit.depth) {
             self.add_cut_off(&delivery);
@@ -176,7 +174,7 @@ impl<'a, W: Write> Archive<'a, W> {
 
     // Whether a delivery at this depth is cut off.
     fn is_cut_off(&self, depth: u32) -> bool
-        ensures { result ≡ is_below (cut_behind self.now.deliveries) depth }
+        ensures { result ≡ is_cut_off self.now.deliveries depth }
     {
         match self.cut {
             None => false,
@@ -189,7 +187,7 @@ impl<'a, W: Write> Archive<'a, W> {
     fn place_due(&self, delivery: &Delivery) -> Option<usize>
         requires unfailed { self.now.failed ≡ [] }
         requires unclosed { self.now.closed ≡ [] }
-        ensures { result ≡ place_due self.now.store (kept self.now.deliveries) delivery.now }
+        ensures { result ≡ section_due self.now delivery.now }
     {
         if !is_sound(delivery.verdict) {
             return None;
@@ -204,7 +202,7 @@ impl<'a, W: Write> Archive<'a, W> {
     // Adds a delivery that is cut off.
     fn add_cut_off(&mut self, delivery: &Delivery)
         requires unfailed { self.old.failed ≡ [] }
-        requires cut_off { is_below (cut_behind self.old.deliveries) delivery.now.visit.depth ≡ true }
+        requires cut_off { is_cut_off self.old.deliveries delivery.now.visit.depth ≡ true }
         ensures { IsAdded W.contents delivery.now [] self.old self.new }
     {
         self.deliveries.note(delivery);
@@ -214,7 +212,7 @@ impl<'a, W: Write> Archive<'a, W> {
     // Adds a kept delivery that doesn't pass.
     fn add_skip(&mut self, delivery: Delivery) -> Result<(), SinkFault>
         requires unfailed { self.old.failed ≡ [] }
-        requires uncut { is_below (cut_behind self.old.deliveries) delivery.visit.depth ≡ false }
+        requires uncut { is_cut_off self.old.deliveries delivery.visit.depth ≡ false }
         requires refused { passes delivery.verdict ≡ false }
         ensures { IsDelivered W.contents delivery [] self.old result self.new }
     {
@@ -236,9 +234,9 @@ impl<'a, W: Write> Archive<'a, W> {
     // Adds a kept delivery that passes and writes no section.
     fn add_without_section(&mut self, delivery: &Delivery)
         requires unfailed { self.old.failed ≡ [] }
-        requires uncut { is_below (cut_behind self.old.deliveries) delivery.now.visit.depth ≡ false }
+        requires uncut { is_cut_off self.old.deliveries delivery.now.visit.depth ≡ false }
         requires passing { passes delivery.now.verdict ≡ true }
-        requires none_due { place_due self.old.store (kept self.old.deliveries) delivery.now ≡ None }
+        requires none_due { section_due self.old delivery.now ≡ None }
         ensures { IsAdded W.contents delivery.now [] self.old self.new }
     {
         self.deliveries.note(delivery);
@@ -250,9 +248,9 @@ impl<'a, W: Write> Archive<'a, W> {
     // Adds a kept delivery with its section, whose block stands at this place.
     fn add_section(&mut self, delivery: Delivery, place: usize) -> Result<(), SinkFault>
         requires unfailed { self.old.failed ≡ [] }
-        requires uncut { is_below (cut_behind self.old.deliveries) delivery.visit.depth ≡ false }
-        requires due { place_due self.old.store (kept self.old.deliveries) delivery ≡ Some place }
-        ensures { IsDelivered W.contents delivery (text_due self.old.store self.old.deliveries delivery) self.old result self.new }
+        requires uncut { is_cut_off self.old.deliveries delivery.visit.depth ≡ false }
+        requires due { section_due self.old delivery ≡ Some place }
+        ensures { IsDeliveredDue W.contents delivery self.old result self.new }
     {
         let store = self.store;
         let block = store.bytes(place);

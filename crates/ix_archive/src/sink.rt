@@ -58,7 +58,8 @@ pub trait Sink {
     ghost use Rattle.ix_walk.specs.JobMeaning.{JobMeaning};
     ghost use Rattle.ix_archive.specs.declared.sink.Delivery.{Delivery};
     ghost use Rattle.ix_archive.specs.declared.fault.SinkFault.TheVariants.{Memory};
-    ghost use Rattle.ix_archive.specs.Events.{Event, delivery, close as closing, IsOpen, IsRefusal};
+    ghost use Rattle.ix_archive.specs.Events.{Event, delivered, with_verdict, close as closing, IsOpen, IsRefusal};
+    ghost use Rattle.ix_archive.specs.Headline.{Keeps};
 
     /// The deliveries that were taken, and the close, in order.
     ghost events: { Self → List Event };
@@ -76,12 +77,12 @@ pub trait Sink {
     fn deliver(&mut self, alloc: Global, visit: Visit, verdict: Verdict) -> Result<(), SinkFault>
         requires open { IsOpen (events self.old) }
         requires unfailed { failed self.old ≡ [] }
-        ensures ok { OnOk result (events self.new ≡ events self.old ++ delivery (record { visit = visit; verdict = verdict }) ∷ []) }
+        ensures ok { OnOk result (events self.new ≡ events self.old ++ delivered visit verdict ∷ []) }
         ensures ok_failed { OnOk result (failed self.new ≡ []) }
         ensures err { OnErr result (events self.new ≡ events self.old) }
-        ensures refused { IfErr result (λ e. IsRefusal e (record { visit = visit; verdict = verdict }) (failed self.new)) }
+        ensures refused { IfErr result (λ e. IsRefusal e (with_verdict visit verdict) (failed self.new)) }
         ensures memory { result ≡ Err Memory → self.new ≡ self.old }
-        ensures kept { (store : Blocks) (job : JobMeaning) (first : Option (List ℕ)) → fact self.old store job first → fact self.new store job first };
+        ensures kept { Keeps fact self.old self.new };
 
     /// Tells how the job ended, which is the last event. It may be called once, after a failed write
     /// too.
@@ -89,5 +90,5 @@ pub trait Sink {
         requires { IsOpen (events self.old) }
         ensures closed { events self.new ≡ events self.old ++ closing end ∷ [] }
         ensures failed { failed self.new ≡ failed self.old }
-        ensures kept { (store : Blocks) (job : JobMeaning) (first : Option (List ℕ)) → fact self.old store job first → fact self.new store job first };
+        ensures kept { Keeps fact self.old self.new };
 }

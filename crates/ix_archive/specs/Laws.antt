@@ -1,0 +1,117 @@
+-- The laws of cutting and of archives.
+use Rattle.std.specs.Prelude.{◌≡◌, ◌↔◌, ℕ, true, false, List, [], ◌∷◌, ◌++◌, take, map, Option, Some, if◌then◌else◌}
+use Rattle.std.specs.List.{Contains}
+use Rattle.ix_selector.specs.IsEntered.{is_entered}
+use Rattle.ix_selector.specs.Pattern.{IsSelector}
+use Rattle.ix_store.specs.Store.{Blocks, value_of}
+use Rattle.ix_walk.specs.JobMeaning.{JobMeaning, going_in}
+use Rattle.ix_walk.specs.Arrivals.{Arrival, arrivals_from}
+use Rattle.ix_walk.specs.Visits.{is_over_limit, visits_from}
+use Rattle.ix_walk.specs.Once.{EndsBefore, cids_of, sound_value}
+use Rattle.ix_check.specs.Verdict.{passes, verdict_of}
+use Rattle.ix_archive.specs.declared.sink.Delivery.{Delivery}
+use Rattle.ix_archive.specs.declared.sink.End.{End}
+use Rattle.ix_archive.specs.declared.sink.End.TheVariants.{Done}
+use Rattle.ix_archive.specs.Events.{Event}
+use Rattle.ix_archive.specs.Kept.{kept, without_deeper_than}
+use Rattle.ix_archive.specs.Verified.{only_passing, is_good, judged, verified, judged_visits}
+use Rattle.ix_archive.specs.Faithful.{IsFaithful}
+use Rattle.ix_archive.specs.Archive.{is_sound, sections_of, archive_with, archive_of}
+use Rattle.ix_archive.specs.ArchiveMeaning.{ArchiveMeaning, HasArchived, events_of}
+use Rattle.ix_archive.specs.Archived.{IsArchived, IsBeginning, TellsBeginning}
+
+-- what is kept of the visits of a job within its limit is the verified traversal
+abbrev pub KeptIsVerified : Type 0
+KeptIsVerified =
+    (store : Blocks) (number : ℕ) (job : JobMeaning) → is_over_limit store job ≡ false
+    → kept (judged_visits store number job) ≡ verified store number job
+
+-- what is kept of the visits of any job begins it
+abbrev pub KeptBeginsVerified : Type 0
+KeptBeginsVerified =
+    (store : Blocks) (number : ℕ) (job : JobMeaning)
+    → (more : List Delivery) × (kept (judged_visits store number job) ++ more ≡ verified store number job)
+
+-- the first delivery is kept, and behind it what is kept of the rest, or of the rest without its longest prefix of deeper ones
+abbrev pub FirstIsKept : Type 0
+FirstIsKept =
+    (d : Delivery) (ds : List Delivery) → kept (d ∷ ds) ≡ d ∷ (if passes d.verdict then kept ds else kept (without_deeper_than d ds))
+
+-- the same job where a CID is gone into once, and where it is at every arrival
+abbrev pub once : JobMeaning → JobMeaning
+once = going_in true
+
+abbrev pub every_time : JobMeaning → JobMeaning
+every_time = going_in false
+
+-- the traversal of a job that goes into sound blocks alone, at every arrival, ends before so many links are crossed
+abbrev pub EndsVerified : Blocks → JobMeaning → ℕ → Type 0
+EndsVerified store job links = EndsBefore (is_entered job.selector) (sound_value store) links job.roots
+
+-- its arrivals where at most so many links are crossed
+abbrev pub sound_arrivals : Blocks → JobMeaning → ℕ → List Arrival
+sound_arrivals store job links = arrivals_from (is_entered job.selector) (sound_value store) links 0 job.roots
+
+-- the CIDs of the sections in the archive of a job
+abbrev pub section_cids : Blocks → ℕ → JobMeaning → List (List ℕ)
+section_cids store number job = map (λ d. d.visit.cid) (sections_of store (judged_visits store number job))
+
+-- what it goes into are the CIDs with a good verdict
+abbrev pub GoodIsSound : Type 0
+GoodIsSound = (store : Blocks) (c : List ℕ) → only_passing (is_good store) (value_of store) c ≡ sound_value store c
+
+-- nothing of its visits is cut
+abbrev pub OnceIsUncut : Type 0
+OnceIsUncut =
+    (store : Blocks) (number : ℕ) (job : JobMeaning) (m : ℕ)
+    → kept (take m (judged_visits store number (once job))) ≡ take m (judged_visits store number (once job))
+
+-- a job within its limit at every arrival is within it once
+abbrev pub OnceIsWithin : Type 0
+OnceIsWithin =
+    (store : Blocks) (job : JobMeaning) → is_over_limit store (every_time job) ≡ false → is_over_limit store (once job) ≡ false
+
+-- it then has the same archive
+abbrev pub OnceArchivesTheSame : Type 0
+OnceArchivesTheSame =
+    (store : Blocks) (number : ℕ) (job : JobMeaning) → IsSelector job.selector → is_over_limit store (every_time job) ≡ false
+    → archive_of store number (once job) ≡ archive_of store number (every_time job)
+
+-- so it has where it is within its limit once, and the verified traversal ends
+abbrev pub OnceArchivesTheEnded : Type 0
+OnceArchivesTheEnded =
+    (store : Blocks) (number : ℕ) (job : JobMeaning) (links : ℕ) → IsSelector job.selector
+    → EndsVerified store job links → is_over_limit store (once job) ≡ false
+    → archive_of store number (once job) ≡ archive_of store number (every_time job)
+
+-- whatever its limit, its first visits write a beginning of the archive of the verified traversal that ends
+abbrev pub OnceBeginsTheEnded : Type 0
+OnceBeginsTheEnded =
+    (store : Blocks) (number : ℕ) (job : JobMeaning) (links : ℕ) → IsSelector job.selector → EndsVerified store job links
+    → (m : ℕ) → IsBeginning (archive_with store job.roots (take m (judged_visits store number (once job))))
+    (archive_with store job.roots (map (judged store) (visits_from store number 0 (sound_arrivals store job links))))
+
+-- its sections are those of the sound blocks that are reached, however many links are crossed
+abbrev pub OnceArchivesTheReached : Type 0
+OnceArchivesTheReached =
+    (store : Blocks) (number : ℕ) (job : JobMeaning) → IsSelector job.selector → is_over_limit store (once job) ≡ false
+    → (c : List ℕ) → (Contains (section_cids store number (once job)) c
+    ↔ ((is_sound (verdict_of store c) ≡ true) × ((links : ℕ) × Contains (cids_of (sound_arrivals store job links)) c)))
+
+-- the archive of a sink that was faithful to its job is that of the job where it was done, and else begins it
+abbrev pub FaithfulIsArchived : Type 0
+FaithfulIsArchived =
+    (store : Blocks) (number : ℕ) (job : JobMeaning) (end : End) (events : List Event) (failed : List Delivery)
+    → IsFaithful store number job end events failed → IsArchived store number job end events failed
+
+-- the writer of an archive whose fact held, and that was faithful to its job, has the archive of the job at Done
+abbrev pub HasWholeArchive : {W : Type 0} → (W → Option (List ℕ)) → Type 0
+HasWholeArchive {W} told =
+    (a : ArchiveMeaning W) (store : Blocks) (number : ℕ) (job : JobMeaning) → HasArchived told a store job (Some [])
+    → IsFaithful store number job Done (events_of a) a.failed → told a.writer ≡ Some (archive_of store number job)
+
+-- it has a beginning of that whatever the end
+abbrev pub HasBegunArchive : {W : Type 0} → (W → Option (List ℕ)) → Type 0
+HasBegunArchive {W} told =
+    (a : ArchiveMeaning W) (store : Blocks) (number : ℕ) (job : JobMeaning) (end : End) → HasArchived told a store job (Some [])
+    → IsFaithful store number job end (events_of a) a.failed → TellsBeginning (told a.writer) (archive_of store number job)
