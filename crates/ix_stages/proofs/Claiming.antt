@@ -7,15 +7,20 @@ use lib.ListN.{get_elem?}
 use Rattle.atomic_table.specs.Table.{State, Me, Act, keeps, takes, Valid, stepped, opening, carried_after, Allows, Enters, Splits, Joins}
 use Rattle.atomic_table.proofs.Lists.{set_else}
 use Rattle.ix_stages.specs.declared.claim_rule.ClaimView.{ClaimView}
-use Rattle.ix_stages.specs.ClaimRule.{claimer, spent, one_less, one_seat, total, FitsClaimer, IsClaimed, gains, refused, Draws, Tells, Looks}
+use Rattle.ix_stages.specs.ClaimRule.{claimer, spent, one_less, one_seat, FitsClaimer, IsClaimed, gains, refused, Draws, Tells, Looks}
 use Rattle.ix_stages.specs.Claims.{times, once_below}
-use Rattle.ix_stages.proofs.ClaimTotals.{times-append, total_set, total_snoc, total_le, part_le, only, each_set, each_snoc, at_other}
+use Rattle.ix_stages.specs.Totals.{total}
+use Rattle.ix_stages.proofs.Totals.{total_set, total_snoc, total_le, part_le, only, each_set, each_snoc, at_other}
 
 module _ {T : Type 0} where
   value_at : (l : List T) (i : ℕ) → i < length l → (x : T) × (slice_get l i ≡ Some x)
   value_at [] i h = absurd (omega (arith, h))
   value_at (x ∷ xs) zero h = (x, refl)
   value_at (x ∷ xs) (suc i) h = value_at xs i (omega (arith, h))
+
+times-append : (x : ℕ) (xs ys : List ℕ) → times x (xs ++ ys) ≡ times x xs + times x ys
+times-append x [] ys = omega arith
+times-append x (y ∷ xs) ys = let ih = times-append x xs ys in omega arith
 
 times-snoc : (x n : ℕ) (xs : List ℕ) → times x (xs ++ n ∷ []) ≡ times x xs + cond (n == x) 1 0
 times-snoc x n xs = let a = times-append x xs (n ∷ []) in omega (arith, a)
@@ -68,9 +73,9 @@ module _ {T : Type 0} (values : List T) (all slots id : ℕ) (me : Me (Option T)
         counted = (let a = total_set (λ v. v.parts) s.views id v w at in let b = r.counted in omega (arith, a, b));
         once = λ y. (let a = total_set (λ v. times y v.places) s.views id v w at in let b = r.once y in let t = times-snoc y k v.places in let o = once_more y r.word (length values) (let l = below in omega (arith, l, e)) in let q : cond (k == y) 1 0 ≡ eq_one r.word y = ap (λ (n : ℕ). eq_one n y) e in omega (arith, a, b, t, o, q));
         homes = λ j y le get. (set_else s.homes k j none (λ same. (let l = le in absurd (omega (arith, l, same, e)))) ∙ r.homes j y (omega (arith, le)) get);
-        fits = each_set (FitsClaimer values all (r.word + 1)) s.views id w
+        fits = each_set (λ _. FitsClaimer values all (r.word + 1)) s.views id w
             (record { known = f.known; idle = λ z. absurd (omega (arith, part, z)); few = f.few; over = λ o. absurd (omega (arith, o, first)) })
-            (λ j u at. (let g = r.fits j u at in record { known = g.known; idle = g.idle; few = g.few; over = λ o. (let l = g.over o in omega (arith, l)) }));
+            (λ j u _ at. (let g = r.fits j u at in record { known = g.known; idle = g.idle; few = g.few; over = λ o. (let l = g.over o in omega (arith, l)) }));
       }
 
   refuse : (k : ℕ) → k ≡ r.word → length values ≤ k → IsClaimed values all (stepped s 0 ((k + 1) % 2 ^ 64) id me.1 (refused me.0) keeps)
@@ -86,9 +91,9 @@ module _ {T : Type 0} (values : List T) (all slots id : ℕ) (me : Me (Option T)
         counted = (let a = total_set (λ v. v.parts) s.views id v w at in let b = r.counted in omega (arith, a, b));
         once = λ y. (let a = total_set (λ v. times y v.places) s.views id v w at in let b = r.once y in let o = once_same y r.word (length values) (omega (arith, above, e)) in omega (arith, a, b, o));
         homes = λ j y le get. r.homes j y (omega (arith, le)) get;
-        fits = each_set (FitsClaimer values all (r.word + 1)) s.views id w
+        fits = each_set (λ _. FitsClaimer values all (r.word + 1)) s.views id w
             (record { known = f.known; idle = λ z. absurd (omega (arith, part, z)); few = omega (arith, part, first); over = λ o. omega (arith, above, e) })
-            (λ j u at. (let g = r.fits j u at in record { known = g.known; idle = g.idle; few = g.few; over = λ o. (let l = g.over o in omega (arith, l)) }));
+            (λ j u _ at. (let g = r.fits j u at in record { known = g.known; idle = g.idle; few = g.few; over = λ o. (let l = g.over o in omega (arith, l)) }));
       }
 
   told : (b : Bool) (k : ℕ) → k ≡ r.word → nat_lt k (length values) ≡ b → (w : ClaimView T) × (a : Act (Option T)) × Valid s.homes me.1 a × IsClaimed values all (stepped s 0 ((k + 1) % 2 ^ 64) id me.1 w a)
@@ -144,7 +149,7 @@ looks {T} values all slots id me s r len at below =
         counted = same (λ v. v.parts) ∙ r.counted;
         once = λ x. same (λ v. times x v.places) ∙ r.once x;
         homes = r.homes;
-        fits = each_set (FitsClaimer values all r.word) s.views id v (r.fits id v at) r.fits;
+        fits = each_set (λ _. FitsClaimer values all r.word) s.views id v (r.fits id v at) (λ j u _ at. r.fits j u at);
       },
       (refl, λ part. tells values all id v s r at part k e),
     )
@@ -165,7 +170,7 @@ begins {T} values all slots s r len below =
         counted = more (λ v. v.parts) refl ∙ r.counted;
         once = λ x. more (λ v. times x v.places) refl ∙ r.once x;
         homes = r.homes;
-        fits = each_snoc (FitsClaimer values all r.word) s.views spent (fits_spent values all r.word) r.fits;
+        fits = each_snoc (λ _. FitsClaimer values all r.word) s.views spent r.fits (fits_spent values all r.word);
       },
       refl,
     )
@@ -190,7 +195,7 @@ splits {T} values all id v left right cut s r at =
       counted = same (λ v. v.parts) cut.parts ∙ r.counted;
       once = λ x. same (λ v. times x v.places) (cut.places x) ∙ r.once x;
       homes = r.homes;
-      fits = each_snoc (FitsClaimer values all r.word) (set s.views id left) right f.1 (each_set (FitsClaimer values all r.word) s.views id left f.0 r.fits);
+      fits = each_snoc (λ _. FitsClaimer values all r.word) (set s.views id left) right (each_set (λ _. FitsClaimer values all r.word) s.views id left f.0 (λ j u _ at. r.fits j u at)) f.1;
     }
 
 -- one seat is cut off a view that has claimed nothing
@@ -226,9 +231,9 @@ joins {T} values all id v other w part s r at apart beside =
       counted = same (λ v. v.parts) refl refl ∙ r.counted;
       once = λ x. same (λ v. times x v.places) refl (times-append x v.places w.places) ∙ r.once x;
       homes = r.homes;
-      fits = each_set (FitsClaimer values all r.word) (set s.views id both) other spent (fits_spent values all r.word) (each_set (FitsClaimer values all r.word) s.views id both
+      fits = each_set (λ _. FitsClaimer values all r.word) (set s.views id both) other spent (fits_spent values all r.word) (λ j u _ at. each_set (λ _. FitsClaimer values all r.word) s.views id both
           (record { known = λ h. g.known part; idle = λ h. absurd (omega (arith, h, part)); few = (let a = f.few in let b = g.few in omega (arith, a, b)); over = of_either v.refusals w.refusals (length values) r.word f.over g.over })
-          r.fits);
+          (λ j u _ at. r.fits j u at) j u at);
     }
 
 homes_at : {T : Type 0} (values : List T) (k : ℕ) (x : T) → slice_get values k ≡ Some x → get_elem? (map some (map Some values)) k ≡ some (some (Some x))
@@ -246,7 +251,7 @@ opens values all few seats = record {
   counted = omega arith;
   once = λ x. grind (arith, nat_tests);
   homes = λ k x le is. homes_at values k x is;
-  fits = each_snoc (FitsClaimer values all 0) [] (claimer all all values [] 0) (record { known = λ h. (refl, refl); idle = λ h. refl; few = omega arith; over = λ h. absurd (omega (arith, h)) }) (λ j u e. absurd (some-ne-none u (sym e)));
+  fits = each_snoc (λ _. FitsClaimer values all 0) [] (claimer all all values [] 0) (λ j u e. absurd (some-ne-none u (sym e))) (record { known = λ h. (refl, refl); idle = λ h. refl; few = omega arith; over = λ h. absurd (omega (arith, h)) });
 }
 
 pub claimed_at : {T : Type 0} (me : Me (Option T) (ClaimView T)) (n : ℕ) (w : Me (Option T) (ClaimView T)) (b : Bool) → nat_lt n (length me.0.values) ≡ b → Draws me n w → n < length me.0.values → (x : T) × (slice_get me.0.values n ≡ Some x) × (w ≡ (gains me.0 n, (n, Some x) ∷ me.1))

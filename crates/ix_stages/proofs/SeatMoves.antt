@@ -13,7 +13,7 @@ use Rattle.ix_stages.specs.Items.{is_of, seq_of, count_up}
 use Rattle.ix_stages.specs.Course.{course_visits, Allowed, IsPut, opened, IsCourse}
 use Rattle.ix_stages.specs.PassViews.{after_put}
 use Rattle.ix_stages.specs.Seats.{IsJobPass, next_after, closed_after}
-use Rattle.ix_stages.proofs.Moves.{MayPut}
+use Rattle.ix_stages.proofs.Puts.{MayPut}
 use Rattle.ix_stages.proofs.Numbers.{count_up-snoc}
 
 pub take_next : (l : List Visit) (n : ℕ) (v : Visit) → slice_get l n ≡ Some v → (take (n + 1) l ≡ take n l ++ v ∷ []) × (n + 1 ≤ length l)

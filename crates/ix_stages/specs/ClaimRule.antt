@@ -5,6 +5,7 @@ use lib.ListN.{get_elem?}
 use Rattle.atomic_table.specs.Table.{State, Me}
 use Rattle.ix_stages.specs.declared.claim_rule.ClaimView.{ClaimView}
 use Rattle.ix_stages.specs.Claims.{times, once_below}
+use Rattle.ix_stages.specs.Totals.{total}
 
 module _ {T : Type 0} where
   abbrev pub claimer : ℕ → ℕ → List T → List ℕ → ℕ → ClaimView T
@@ -20,10 +21,6 @@ module _ {T : Type 0} where
 
   abbrev pub one_seat : ClaimView T → ClaimView T
   one_seat v = claimer 1 v.seats v.values [] 0
-
-  abbrev pub total : (ClaimView T → ℕ) → List (ClaimView T) → ℕ
-  total f [] = 0
-  total f (v ∷ vs) = f v + total f vs
 
   -- what one view has to do with the values and the word
   pub record FitsClaimer (values : List T) (seats word : ℕ) (v : ClaimView T) : Type 0 where

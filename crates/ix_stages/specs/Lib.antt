@@ -4,6 +4,7 @@ pub mod Good
 pub mod Sent
 pub mod Course
 pub mod PassViews
+pub mod Totals
 pub mod QueueState
 pub mod Seats
 pub mod Queue

@@ -9,10 +9,7 @@ use Rattle.ix_stages.specs.Items.{numbers, count_up, Rises}
 use Rattle.ix_stages.specs.Received.{weigh}
 use Rattle.ix_stages.specs.Course.{Allowed, IsPut, times, ends}
 use Rattle.ix_stages.specs.PassViews.{blank, all_put, all_taken}
-
-abbrev pub total : (PassView → ℕ) → List PassView → ℕ
-total f [] = 0
-total f (v ∷ vs) = f v + total f vs
+use Rattle.ix_stages.specs.Totals.{total}
 
 -- a pass among the views. For each job, head is the number that is taken next, and left how many of its items the queue holds
 pub record Fits (course : List JobVisits) (all : ℕ) (head left : ℕ → ℕ) (count port : ℕ) (v : PassView) : Type 0 where

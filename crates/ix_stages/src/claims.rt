@@ -3,7 +3,8 @@
 ghost use Rattle.std.specs.Prelude.{◌≡◌, ◌<◌, ◌≤◌, All, length, map, replicate, true, IfOk, MatchOption};
 ghost use Rattle.ix_stages.specs.ClaimRule.{spent, Draws, Tells};
 ghost use Rattle.ix_stages.specs.ClaimsJoined.{with_seat, HasJoined, IsMakerOf, IsRowOf, seat_dealt};
-ghost use Rattle.ix_stages.specs.Claims.{new_seat, HasClaimed, at_end, all_places, some_ended, EachAtMostOnceBelow, EachOnceBelow};
+ghost use Rattle.ix_stages.specs.Claims.{new_seat, at_end, all_places, some_ended};
+ghost use Rattle.ix_stages.specs.Claims.{HasClaimed, EachAtMostOnceBelow, EachOnceBelow};
 
 use crate::claim_rule::{Begin, Both, ClaimView, Draw, Key, Look, OneSeat, Row, Whole};
 use atomic_table::{Seat, Table};
@@ -68,7 +69,8 @@ fn deal<T: Drop>(
 ) -> Result<Vec<ClaimSeat<T>>, AllocError>
     requires table { IsRowOf maker.old.table_id row.now.shared.table_id }
     requires view { IsMakerOf seats maker.old.me.0 }
-    ensures { IfOk result (λ all. all.items ≡ replicate seats (seat_dealt row.now.shared.table_id maker.old.me.0)) }
+    ensures { IfOk result (λ all.
+        all.items ≡ replicate seats (seat_dealt row.now.shared.table_id maker.old.me.0)) }
 {
     let mut all = Vec::with_capacity(alloc, seats as usize)?;
     for _ in 0..seats {
@@ -125,7 +127,8 @@ impl<T: Drop> Claims<T> {
     /// was answered none is answered none for ever, with no further step. It waits for nobody.
     pub fn claim(&self, seat: &mut ClaimSeat<T>) -> Option<(u32, T)>
         requires { seat.old.of ≡ self.now }
-        ensures { MatchOption result (seat.new ≡ at_end seat.old) (λ p. HasClaimed self.now seat.old p.0 p.1 seat.new) }
+        ensures { MatchOption result (seat.new ≡ at_end seat.old)
+            (λ p. HasClaimed self.now seat.old p.0 p.1 seat.new) }
     {
         if seat.ended {
             return None;

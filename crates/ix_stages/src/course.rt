@@ -1,7 +1,8 @@
 //! Courses: what the walks of all jobs are to put.
 
 ghost use Rattle.std.specs.Prelude.{List};
-ghost use Rattle.ix_stages.specs.CourseLaws.{IsSized, HasVisits, HasOver, AllowsVisits, AllowsCloses, IsSmall, IsOfStore, GivesGood};
+ghost use Rattle.ix_stages.specs.CourseLaws.{IsSized, HasVisits, HasOver, IsSmall, IsOfStore};
+ghost use Rattle.ix_stages.specs.CourseLaws.{AllowsVisits, AllowsCloses, GivesGood};
 
 use ix_walk::Visit;
 use std::collections::LinkedList;

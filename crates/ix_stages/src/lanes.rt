@@ -2,7 +2,9 @@
 
 ghost use Rattle.std.specs.Prelude.{◌≡◌, ◌≤◌, ◌+◌, [], IfOk, IfErr, IfSome, IfNone, OnOk, OnErr};
 ghost use mathlib.Core.List.{IsPrefix};
-ghost use Rattle.ix_stages.specs.Lanes.{sent_by, received_by, room_in, seen_in, IsLane, IsNewLane, IsSameLane, HasSent, HasReceived, IsSeen, IsEmptied, SameIn, SameOut};
+ghost use Rattle.ix_stages.specs.Lanes.{sent_by, received_by, room_in, seen_in};
+ghost use Rattle.ix_stages.specs.Lanes.{IsLane, IsNewLane, IsSameLane, SameIn, SameOut};
+ghost use Rattle.ix_stages.specs.Lanes.{HasSent, HasReceived, IsSeen, IsEmptied};
 
 use crate::verdicted::Verdicted;
 use rtrb::{Consumer, PopError, Producer, PushError, RingBuffer};

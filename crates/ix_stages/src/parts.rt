@@ -60,11 +60,11 @@ fn job_seat(line: &Line, pass: &mut Pass<Item, PassView>, job: u32) -> JobSeat
 }
 
 // One seat that takes.
-fn take_seat(line: &Line, pass: &mut Pass<Item, PassView>, _made: u32) -> TakeSeat
-    requires pass { IsMaker line.now pass.old _made }
-    requires parts { _made + 1 < (view pass.old).all }
+fn take_seat(line: &Line, pass: &mut Pass<Item, PassView>) -> TakeSeat
+    requires pass { IsMaker line.now pass.old (view pass.old).made }
+    requires parts { (view pass.old).made + 1 < (view pass.old).all }
     ensures same { IsSamePass pass.old pass.new }
-    ensures made { HasMade pass.old pass.new (_made + 1) }
+    ensures made { HasMade pass.old pass.new ((view pass.old).made + 1) }
     ensures seat { result ≡ taker_made line.now pass.old }
 {
     TakeSeat {
@@ -83,7 +83,8 @@ fn job_seats(
     requires parts { jobs < (view pass.old).all }
     requires course { IsCourse (view pass.old).course }
     ensures same { OnOk result (IsSamePass pass.old pass.new × HasMade pass.old pass.new jobs) }
-    ensures seats { IfOk result (λ s. s.items ≡ map (job_made line.now pass.old) (count_up 0 jobs)) }
+    ensures seats { IfOk result (λ s.
+        s.items ≡ map (job_made line.now pass.old) (count_up 0 jobs)) }
 {
     let mut seats = Vec::new(alloc);
     for job in 0..jobs {
@@ -102,12 +103,13 @@ fn take_seats(
 ) -> Result<Vec<TakeSeat>, AllocError>
     requires pass { IsMaker line.now pass.old jobs }
     requires parts { (jobs + takers < (view pass.old).all) × (jobs + takers < 2 ^ 32) }
-    ensures same { OnOk result (IsSamePass pass.old pass.new × HasMade pass.old pass.new (jobs + takers)) }
+    ensures same { OnOk result (IsSamePass pass.old pass.new
+        × HasMade pass.old pass.new (jobs + takers)) }
     ensures seats { IfOk result (λ s. s.items ≡ replicate takers (taker_made line.now pass.old)) }
 {
     let mut seats = Vec::new(alloc);
-    for made in 0..takers {
-        seats.push(take_seat(line, pass, jobs + made))?;
+    for _ in 0..takers {
+        seats.push(take_seat(line, pass))?;
     }
     Ok(seats)
 }

@@ -3,7 +3,8 @@
 ghost use Rattle.std.specs.Prelude.{◌≡◌, ◌+◌, ℕ, List, []};
 ghost use Rattle.ix_stages.specs.Received.{weigh};
 ghost use Rattle.ix_stages.specs.Course.{IsWellTaken};
-ghost use Rattle.ix_stages.specs.PassViews.{blank, spent, root, after_seat, job_pass, take_pass, after_put, after_join, all_put, all_taken};
+ghost use Rattle.ix_stages.specs.PassViews.{blank, spent, root, after_seat, job_pass, take_pass};
+ghost use Rattle.ix_stages.specs.PassViews.{after_put, after_join, all_put, all_taken};
 ghost use Rattle.ix_stages.specs.QueueState.{IsQueueState};
 ghost use Rattle.ix_stages.specs.Seats.{IsTake};
 ghost use Rattle.ix_stages.specs.declared.course.JobVisits.{JobVisits};

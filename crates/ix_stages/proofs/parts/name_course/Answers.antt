@@ -3,7 +3,7 @@ use Rattle.crossbeam_queue.specs.Fifo.{Forks}
 use Rattle.ix_stages.specs.declared.pass_view.PassView.{PassView}
 use Rattle.ix_stages.specs.PassViews.{root, spent}
 use Rattle.ix_stages.specs.QueueState.{IsQueueState}
-use Rattle.ix_stages.proofs.Moves.{names}
+use Rattle.ix_stages.proofs.NewSeats.{names}
 use Rattle.ix_stages.proofs.parts.name_course.Goals as goal
 
 pub another-requires-clause-rule : goal.another-requires-clause-rule

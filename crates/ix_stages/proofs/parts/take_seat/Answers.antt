@@ -1,7 +1,7 @@
 use Rattle.std.proofs.Common.{◌<◌, ap, arith}
 use Rattle.crossbeam_queue.specs.Passes.{view}
 use Rattle.ix_stages.specs.declared.pass_view.PassView.{PassView}
-use Rattle.ix_stages.proofs.Moves.{forks, take_seat_is_new}
+use Rattle.ix_stages.proofs.NewSeats.{forks, take_seat_is_new}
 use Rattle.ix_stages.proofs.parts.take_seat.Goals as goal
 
 pub another-requires-clause-rule : goal.another-requires-clause-rule

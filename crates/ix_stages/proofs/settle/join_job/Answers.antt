@@ -1,4 +1,4 @@
-use Rattle.ix_stages.proofs.Moves.{merges}
+use Rattle.ix_stages.proofs.Joins.{merges}
 use Rattle.ix_stages.proofs.settle.join_job.Goals as goal
 
 pub absorb-requires-clause-rule : goal.absorb-requires-clause-rule

@@ -6,7 +6,7 @@ use Rattle.ix_stages.specs.Course.{IsWellTaken}
 use Rattle.ix_stages.specs.PassViews.{all_put, all_taken}
 use Rattle.ix_stages.specs.Seats.{SeatView}
 use Rattle.ix_stages.specs.Settled.{Settles}
-use Rattle.ix_stages.proofs.Moves.{well_taken}
+use Rattle.ix_stages.proofs.Joins.{well_taken}
 use Rattle.ix_stages.proofs.Settling.{Settles-append, settled_put, settled_taken}
 use Rattle.ix_stages.proofs.queue.VisitQueue.settle.Goals as goal
 

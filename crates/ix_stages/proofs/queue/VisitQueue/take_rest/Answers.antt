@@ -1,4 +1,5 @@
-use Rattle.ix_stages.proofs.Moves.{takes, learns}
+use Rattle.ix_stages.proofs.Takes.{takes}
+use Rattle.ix_stages.proofs.Joins.{learns}
 use Rattle.ix_stages.proofs.queue.VisitQueue.take_rest.Goals as goal
 
 pub pop_as-requires-clause-rule : goal.pop_as-requires-clause-rule

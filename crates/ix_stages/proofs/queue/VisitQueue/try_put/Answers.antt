@@ -3,7 +3,7 @@ use Rattle.crossbeam_queue.specs.Passes.{view}
 use Rattle.ix_stages.specs.declared.pass_view.PassView.{PassView}
 use Rattle.ix_stages.specs.PassViews.{after_put}
 use Rattle.ix_stages.specs.Seats.{IsNext, IsJobPass, JobView, next_after, closed_after}
-use Rattle.ix_stages.proofs.Moves.{puts}
+use Rattle.ix_stages.proofs.Puts.{puts}
 use Rattle.ix_stages.proofs.SeatMoves.{may_put, next_pass, next_one}
 use Rattle.ix_stages.proofs.queue.VisitQueue.try_put.Goals as goal
 

@@ -1,6 +1,6 @@
 use Rattle.std.proofs.Common.{◌<◌, arith}
 use Rattle.crossbeam_queue.specs.Passes.{view}
-use Rattle.ix_stages.proofs.Moves.{puts}
+use Rattle.ix_stages.proofs.Puts.{puts}
 use Rattle.ix_stages.proofs.SeatMoves.{may_stop}
 use Rattle.ix_stages.proofs.queue.VisitQueue.try_stop.Goals as goal
 

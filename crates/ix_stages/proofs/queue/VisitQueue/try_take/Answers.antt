@@ -1,6 +1,7 @@
 use Rattle.std.proofs.Common.{◌<◌, arith}
 use Rattle.crossbeam_queue.specs.Passes.{view}
-use Rattle.ix_stages.proofs.Moves.{takes, learns}
+use Rattle.ix_stages.proofs.Takes.{takes}
+use Rattle.ix_stages.proofs.Joins.{learns}
 use Rattle.ix_stages.proofs.queue.VisitQueue.try_take.Goals as goal
 
 pub pop_as-requires-clause-rule : goal.pop_as-requires-clause-rule

@@ -1,0 +1,22 @@
+-- A queue that runs, and small facts of its views.
+use Rattle.std.proofs.Common.{◌≡◌, ℕ, zero, suc, Bool, false, true≢false, cond, List, sym, ap, ◌∙◌, inl, inr, Some, None}
+use mathlib.Core.Option.{some, some-ne-none, some-injective}
+use lib.ListN.{get_elem?}
+use Rattle.ix_stages.specs.declared.item.Item.{Item}
+use Rattle.ix_stages.specs.declared.pass_view.PassView.{PassView}
+use Rattle.ix_stages.specs.PassViews.{blank}
+use Rattle.ix_stages.specs.QueueState.{Running, IsQueueState}
+
+-- a pass that isn't blank shows that the queue runs
+pub runs : (items : List Item) (views : List PassView) (port : ℕ) (v : PassView) → IsQueueState items views → get_elem? views port ≡ some v → v.blank ≡ false → Running items views
+runs items views port v (inr r) at live = r
+runs items views zero v (inl b) at live = absurd (true≢false (ap (λ (u : PassView). u.blank) (some-injective blank v (ap (λ (l : List PassView). get_elem? l 0) (sym b.1) ∙ at)) ∙ live))
+runs items views (suc p) v (inl b) at live = absurd (some-ne-none v (sym (ap (λ (l : List PassView). get_elem? l (suc p)) (sym b.1) ∙ at)))
+
+-- one, where it is so
+abbrev pub one_if : Bool → ℕ
+one_if b = cond b 1 0
+
+-- no job is none
+pub none_some : (j : ℕ) → None ≡ Some j → ⊥
+none_some j e = cc
