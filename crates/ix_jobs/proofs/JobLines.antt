@@ -8,14 +8,13 @@ use Rattle.std.proofs.lemmas.Bool.{cases_lt}
 use Rattle.std.proofs.lemmas.List.{take_all, drop_all}
 use Rattle.std.proofs.lemmas.List.Sums.{prefix_len-le-length}
 use Rattle.ix_walk.specs.JobMeaning.{JobMeaning}
+use Rattle.ix_cid.proofs.Results.{ok_same}
 use Rattle.ix_jobs.specs.declared.fault.JobsKind.{JobsKind}
 use Rattle.ix_jobs.specs.declared.fault.JobsKind.TheVariants.{Repeated, TooMany}
 use Rattle.ix_jobs.specs.Jobs.{◌>>=◌, is_ignored, line_job, joined, with_line, at_line, jobs_from, jobs_up_to}
 use Rattle.ix_jobs.specs.Parts.{own_line, job_lines_from, job_lines}
 use Rattle.ix_jobs.proofs.Pieces.{slice_split_whole}
-
-abbrev is_end : ℕ → Bool
-is_end b = b == 10
+use Rattle.ix_jobs.proofs.LinesInTurn.{is_end}
 
 -- the first line, then those behind it
 pub job_lines-first : (n : ℕ) (bs : List ℕ) → 0 < length bs
@@ -51,9 +50,6 @@ job_lines-own n line bs rest some is_line is_rest own =
     ∙ ap (λ r. own_line n line ++ job_lines_from (n + 1) (slice_split is_end r)) (sym is_rest)
     ∙ ap (λ (b : Bool). cond b [] (n ∷ []) ++ job_lines_from (n + 1) (slice_split is_end rest)) own
 
-ok_same : {A E : Type 0} (x y : A) → ◌≡◌ {A = Result A E} (Ok x) (Ok y) → x ≡ y
-ok_same x y h = cc
-
 -- how many there are doesn't depend on the number of the first
 pub job_lines-many : (n m : ℕ) (ls : List (List ℕ)) → length (job_lines_from n ls) ≡ length (job_lines_from m ls)
 job_lines-many n m [] = refl
@@ -64,9 +60,9 @@ job_lines-many n m (l ∷ ls) = by_line (is_ignored (strip_carriage_return l)) (
   by_line false same = ap (λ k. suc k) same
 
 -- what stands behind the first
-pub later : (x : ℕ) (xs : List ℕ) (i : ℕ) → 0 < i → get_or (x ∷ xs) i 0 ≡ get_or xs (i - 1) 0
-later x xs zero some = absurd (omega (arith, some))
-later x xs (suc i) some = let before : suc i - 1 ≡ i = omega arith in ap (λ k. get_or xs k 0) (sym before)
+pub get_or-behind : (x : ℕ) (xs : List ℕ) (i : ℕ) → 0 < i → get_or (x ∷ xs) i 0 ≡ get_or xs (i - 1) 0
+get_or-behind x xs zero some = absurd (omega (arith, some))
+get_or-behind x xs (suc i) some = let before : suc i - 1 ≡ i = omega arith in ap (λ k. get_or xs k 0) (sym before)
 
 -- the jobs that are read have as many lines
 joined-more : (most : ℕ) (before jobs : List JobMeaning) (job : JobMeaning) (taken full : Bool) → cond taken (Err Repeated) (cond full (Err TooMany) (Ok (before ++ job ∷ []))) ≡ Ok jobs → length jobs ≡ length before + 1

@@ -28,8 +28,8 @@ value_above d ds low high = omega (arith, value_after-above (0 * 10 + digit_valu
 abbrev fits : ℕ → List ℕ → Bool
 fits d ds = (all_ascii_digits (d ∷ ds) && not (d == 48)) && nat_le (digits_value 10 (d ∷ ds)) 1000000
 
-given : ℕ → List ℕ → Bool → Result ℕ JobsKind
-given d ds b = if b then Ok (digits_value 10 (d ∷ ds)) else Err Limit
+limit_if : ℕ → List ℕ → Bool → Result ℕ JobsKind
+limit_if d ds b = if b then Ok (digits_value 10 (d ∷ ds)) else Err Limit
 
 first_fits : (d : ℕ) → 49 ≤ d → not (d == 48) ≡ true
 first_fits d low = grind (arith, nat_tests)
@@ -37,31 +37,31 @@ first_fits d low = grind (arith, nat_tests)
 no_plus : (d : ℕ) → 49 ≤ d → d ≢ 43
 no_plus d low e = omega (arith, e)
 
-within : (v : ℕ) → v ≤ 1000000 → nat_le v 1000000 ≡ true
-within v h = grind (arith, nat_tests)
+limit-passes : (v : ℕ) → v ≤ 1000000 → nat_le v 1000000 ≡ true
+limit-passes v h = grind (arith, nat_tests)
 
-within-le : (v : ℕ) → nat_le v 1000000 ≡ true → v ≤ 1000000
-within-le v h = grind (arith, nat_tests)
+limit-small : (v : ℕ) → nat_le v 1000000 ≡ true → v ≤ 1000000
+limit-small v h = grind (arith, nat_tests)
 
 -- a number that is parsed and within the bound
 pub limit_in-ok : {E : Type 0} (bs : List ℕ) (r : Result ℕ E) (n : ℕ) → 49 ≤ get_or bs 0 0 → get_or bs 0 0 ≤ 57 → ParsesUnsigned 32 10 bs r → r ≡ Ok n → n ≤ 1000000 → (limit_in bs ≡ Ok n) × (1 ≤ n)
-unfolding given
+unfolding limit_if
 limit_in-ok [] r n low high parses is few = absurd (omega (arith, low))
 limit_in-ok (d ∷ ds) r n low high parses is few =
     let found = OkIff-at_ok r _ (digits_value 10 (d ∷ ds)) n (parse_plain own 32 (d ∷ ds) r parses (no_plus d low)) is in
     let same : digits_value 10 (d ∷ ds) ≡ n = sym found.1 in
-    let passes : fits d ds ≡ true = and_from _ _ (and_from _ _ found.0.0 (first_fits d low)) (within (digits_value 10 (d ∷ ds)) (omega (arith, same, few))) in
-    (ap (given d ds) passes ∙ ap Ok same, omega (arith, same, value_above d ds low high))
+    let passes : fits d ds ≡ true = and_from _ _ (and_from _ _ found.0.0 (first_fits d low)) (limit-passes (digits_value 10 (d ∷ ds)) (omega (arith, same, few))) in
+    (ap (limit_if d ds) passes ∙ ap Ok same, omega (arith, same, value_above d ds low high))
 
 -- no number, or one that is greater still
 pub limit_in-err : {E : Type 0} (bs : List ℕ) (r : Result ℕ E) (e : E) → 49 ≤ get_or bs 0 0 → ParsesUnsigned 32 10 bs r → r ≡ Err e → limit_in bs ≡ Err Limit
-unfolding given
+unfolding limit_if
 limit_in-err [] r e low parses is = refl
 limit_in-err (d ∷ ds) r e low parses is =
     let plain = parse_plain own 32 (d ∷ ds) r parses (no_plus d low) in
     let fails : fits d ds ≡ false =
     false_from_ne_true (fits d ds) (λ passes.
     let halves = and_parts (all_ascii_digits (d ∷ ds) && not (d == 48)) (nat_le (digits_value 10 (d ∷ ds)) 1000000) passes in
-    let few = within-le (digits_value 10 (d ∷ ds)) halves.1 in
+    let few = limit-small (digits_value 10 (d ∷ ds)) halves.1 in
     OkIff-at_err r _ (digits_value 10 (d ∷ ds)) e plain is ((and_parts (all_ascii_digits (d ∷ ds)) (not (d == 48)) halves.0).0, omega arith, omega (arith, few))) in
-    ap (given d ds) fails
+    ap (limit_if d ds) fails

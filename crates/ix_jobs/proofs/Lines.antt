@@ -34,8 +34,8 @@ pub all_written : (text all : List ℕ) (jobs : List JobMeaning) (rs : List JobR
 all_written text all jobs rs none before = sym (ap (λ (t : List ℕ). text ++ t) (no_more jobs rs none) ∙ append-nil text) ∙ before
 
 -- the last line, from the counts
-pub totals : (text : List ℕ) (jobs : ℕ) (rs : List JobResult) (done skips : ℕ) → done ≡ done_count rs → skips ≡ skip_count rs → text ++ total_line jobs done skips ≡ text ++ total_line jobs (done_count rs) (skip_count rs)
-totals text jobs rs done skips d s =
+pub total_line-same : (text : List ℕ) (jobs : ℕ) (rs : List JobResult) (done skips : ℕ) → done ≡ done_count rs → skips ≡ skip_count rs → text ++ total_line jobs done skips ≡ text ++ total_line jobs (done_count rs) (skip_count rs)
+total_line-same text jobs rs done skips d s =
     ap (λ (n : ℕ). text ++ total_line jobs n skips) d ∙ ap (λ (n : ℕ). text ++ total_line jobs (done_count rs) n) s
 
 pub status_with_skips : (rs : List JobResult) → list_all (λ (r : JobResult). is_done r.end) rs ≡ true → 0 < skip_count rs → 3 ≡ status_of rs

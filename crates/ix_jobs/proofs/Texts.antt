@@ -7,18 +7,18 @@ use Rattle.std.proofs.lemmas.Str.Ascii.{IsAscii-nil, IsAscii-cons}
 use Rattle.std.proofs.lemmas.Bool.Decides.{nat_tests}
 use Rattle.ix_jobs.specs.Jobs.{is_text}
 
-both : (a b : Bool) → (a && b) ≡ true → (a ≡ true) × (b ≡ true)
-both true b h = (refl, h)
-both false b h = absurd cc
+and-parts : (a b : Bool) → (a && b) ≡ true → (a ≡ true) × (b ≡ true)
+and-parts true b h = (refl, h)
+and-parts false b h = absurd cc
 
-below : (b : ℕ) → nat_le b 126 ≡ true → b < 128
-below b h = grind (arith, nat_tests)
+printable-below : (b : ℕ) → nat_le b 126 ≡ true → b < 128
+printable-below b h = grind (arith, nat_tests)
 
-ascii : (line : List ℕ) → is_text line ≡ true → IsAscii line
-ascii [] h = IsAscii-nil
-ascii (b ∷ line) h =
-    let parts = both (nat_le 32 b && nat_le b 126) (is_text line) h in
-    IsAscii-cons b line (below b (both (nat_le 32 b) (nat_le b 126) parts.0).1) (ascii line parts.1)
+IsAscii-text : (line : List ℕ) → is_text line ≡ true → IsAscii line
+IsAscii-text [] h = IsAscii-nil
+IsAscii-text (b ∷ line) h =
+    let parts = and-parts (nat_le 32 b && nat_le b 126) (is_text line) h in
+    IsAscii-cons b line (printable-below b (and-parts (nat_le 32 b) (nat_le b 126) parts.0).1) (IsAscii-text line parts.1)
 
 pub text_is_utf8 : (line : List ℕ) → is_text line ≡ true → IsUtf8 line
-text_is_utf8 line h = IsUtf8-from_ascii line (ascii line h)
+text_is_utf8 line h = IsUtf8-from_ascii line (IsAscii-text line h)

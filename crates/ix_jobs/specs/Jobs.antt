@@ -5,6 +5,7 @@ use Rattle.std.specs.Str.{all_ascii_digits}
 use Rattle.std.specs.Str.Lines.{strip_carriage_return}
 use Rattle.std.specs.Str.Parse.{digits_value}
 use Rattle.hex.specs.Hex.{decode_of}
+pub use Rattle.ix_cid.specs.Results.{◌>>=◌}
 use Rattle.ix_cid.specs.CidText.{cid_of_text}
 use Rattle.ix_cbor.specs.Data.{Data}
 use Rattle.ix_cbor.specs.Reading.{decoded}
@@ -13,11 +14,6 @@ use Rattle.ix_selector.specs.Reading.{selector_of}
 use Rattle.ix_walk.specs.JobMeaning.{JobMeaning, is_name}
 use Rattle.ix_jobs.specs.declared.fault.JobsKind.{JobsKind}
 use Rattle.ix_jobs.specs.declared.fault.JobsKind.TheVariants.{Fields, Name, Root, Limit, Hex, Selector, Repeated, TooMany, Text}
-
-infixl 10 ◌>>=◌
-abbrev pub ◌>>=◌ : {A B E : Type 0} → Result A E → (A → Result B E) → Result B E
-(Ok x) >>= f = f x
-(Err e) >>= f = Err e
 
 -- the same, with any fault told as this one
 abbrev pub or_fault : {A E : Type 0} → JobsKind → Result A E → Result A JobsKind
@@ -101,6 +97,10 @@ joined most before job =
 abbrev pub with_line : ℕ → List JobMeaning → List ℕ → Result (List JobMeaning) JobsKind
 with_line most before line = if is_ignored line then Ok before else line_job line >>= joined most before
 
+-- the same of a line as it stands in a file, with or without a carriage return at its end
+abbrev pub with_file_line : ℕ → List JobMeaning → List ℕ → Result (List JobMeaning) JobsKind
+with_file_line most before line = with_line most before (strip_carriage_return line)
+
 -- a fault and its line
 abbrev pub at_line : {A : Type 0} → ℕ → Result A JobsKind → Result A (JobsKind × ℕ)
 at_line line (Ok x) = Ok x
@@ -109,7 +109,7 @@ at_line line (Err kind) = Err (kind, line)
 -- the jobs of the lines from a number on, behind those before
 abbrev pub jobs_from : ℕ → ℕ → List JobMeaning → List (List ℕ) → Result (List JobMeaning) (JobsKind × ℕ)
 jobs_from most line before [] = Ok before
-jobs_from most line before (l ∷ ls) = at_line line (with_line most before (strip_carriage_return l)) >>= (λ jobs. jobs_from most (line + 1) jobs ls)
+jobs_from most line before (l ∷ ls) = at_line line (with_file_line most before l) >>= (λ jobs. jobs_from most (line + 1) jobs ls)
 
 -- the jobs of a file that may have so many, or the first faulty line
 abbrev pub jobs_up_to : ℕ → List ℕ → Result (List JobMeaning) (JobsKind × ℕ)

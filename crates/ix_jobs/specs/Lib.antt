@@ -8,3 +8,4 @@ pub mod Parts
 pub mod PartList
 pub mod Joined
 pub mod Examples
+pub mod Laws

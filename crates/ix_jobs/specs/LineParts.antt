@@ -1,8 +1,13 @@
 -- The fields of a line, one after another.
-use Rattle.std.specs.Prelude.{ℕ, List, [], ◌∷◌, if◌then◌else◌, Result, Ok, Err}
+use Rattle.std.specs.Prelude.{ℕ, List, [], ◌∷◌, ◌==◌, if◌then◌else◌, Result, Ok, Err}
+use Rattle.std.specs.List.{slice_split}
 use Rattle.ix_jobs.specs.declared.fault.JobsKind.{JobsKind}
 use Rattle.ix_jobs.specs.declared.fault.JobsKind.TheVariants.{Fields}
 use Rattle.ix_jobs.specs.Jobs.{is_empty}
+
+-- the pieces of a text between spaces
+abbrev pub pieces : List ℕ → List (List ℕ)
+pieces text = slice_split (λ b. b == 32) text
 
 -- a field that isn't empty, and the pieces behind it, of which there is one at least
 abbrev pub first_field : List (List ℕ) → Result (List ℕ × List (List ℕ)) JobsKind

@@ -18,3 +18,8 @@ pub record Keeps (start end : ℕ) (jobs : List JobMeaning) (list : PartList) : 
 abbrev pub KeepsMore : {X : Type 0} → ℕ → ℕ → PartList → Result X JobsKind → Result (List JobMeaning) JobsKind → Type 0
 KeepsMore start end after (Ok x) meant = (jobs : List JobMeaning) × (meant ≡ Ok jobs) × Keeps start end jobs after
 KeepsMore start end after (Err kind) meant = FailsAs kind kind meant
+
+-- a call adds to whatever jobs there are what the definition adds, for each window that is kept
+abbrev pub KeepsAdded : {X : Type 0} → PartList → PartList → Result X JobsKind → (List JobMeaning → Result (List JobMeaning) JobsKind) → Type 0
+KeepsAdded old new answer add =
+    (start end : ℕ) (before : List JobMeaning) → Keeps start end before old → KeepsMore start end new answer (add before)

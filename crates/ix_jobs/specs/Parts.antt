@@ -1,8 +1,9 @@
 -- The parts of a list, and of a job file.
-use Rattle.std.specs.Prelude.{ℕ, ◌+◌, ◌-◌, ◌*◌, ◌/◌, List, [], ◌∷◌, ◌++◌, length, get_or, slice_range, flat_map, nat_le, ◌==◌, if◌then◌else◌, Result, Ok, Err}
+use Rattle.std.specs.Prelude.{◌≡◌, ℕ, ◌+◌, ◌-◌, ◌*◌, ◌/◌, List, [], ◌∷◌, ◌++◌, length, get_or, slice_range, flat_map, nat_le, ◌==◌, if◌then◌else◌, Result, Ok, Err}
 use Rattle.std.specs.List.{slice_split, range_with_len}
 use Rattle.std.specs.Str.Lines.{strip_carriage_return}
 use Rattle.ix_walk.specs.JobMeaning.{JobMeaning}
+use Rattle.ix_jobs.specs.declared.part.Part.{Part}
 use Rattle.ix_jobs.specs.declared.fault.JobsKind.{JobsKind}
 use Rattle.ix_jobs.specs.declared.fault.JobsKind.TheVariants.{TooMany}
 use Rattle.ix_jobs.specs.Jobs.{◌>>=◌, is_ignored, jobs_up_to}
@@ -40,3 +41,11 @@ few_of lines jobs = if nat_le (length jobs) 1000 then Ok jobs else Err (TooMany,
 -- that is too many for the part.
 abbrev pub part_jobs_of : ℕ → ℕ → List ℕ → Result (List JobMeaning) (JobsKind × ℕ)
 part_jobs_of k n b = jobs_up_to 1000000 b >>= (λ jobs. few_of (part_of k n (job_lines b)) (part_of k n jobs))
+
+-- that of the part that the program names
+abbrev pub jobs_of_part : Part → List ℕ → Result (List JobMeaning) (JobsKind × ℕ)
+jobs_of_part part b = part_jobs_of part.number part.of b
+
+-- the jobs of a file that may have a million, from one on up to, and not including, another
+abbrev pub AreJobsBetween : ℕ → ℕ → List ℕ → List JobMeaning → Type 0
+AreJobsBetween start end b kept = (jobs : List JobMeaning) × (jobs_up_to 1000000 b ≡ Ok jobs) × (kept ≡ slice_range jobs start end)

@@ -31,8 +31,11 @@ job_line name end counts =
     name ++ codes " " ++ end_word end ++ codes " visits=" ++ decimal counts.visits ++ codes " kept=" ++ decimal counts.kept ++ codes " sections=" ++ decimal counts.sections ++ codes " bytes="
     ++ decimal counts.bytes ++ 10 ∷ []
 
+abbrev pub end_line : JobMeaning → JobResult → List ℕ
+end_line job r = job_line job.name r.end r.counts
+
 abbrev pub job_lines : JobMeaning → JobResult → List ℕ
-job_lines job r = job_line job.name r.end r.counts ++ skip_lines r.skips.items
+job_lines job r = end_line job r ++ skip_lines r.skips.items
 
 -- the lines of each job, in order
 abbrev pub all_lines : List JobMeaning → List JobResult → List ℕ

@@ -1,10 +1,9 @@
 //! One line of a job file.
 
-ghost use Rattle.std.specs.Prelude.{◌≡◌, ◌==◌};
-ghost use Rattle.std.specs.List.{slice_split};
+ghost use Rattle.std.specs.Prelude.{◌≡◌};
 ghost use Rattle.std.specs.Str.Lines.{strip_carriage_return};
-ghost use Rattle.ix_jobs.specs.Jobs.{is_ignored, is_text, text_in, fields_in, job_of_fields, line_job, with_line};
-ghost use Rattle.ix_jobs.specs.LineParts.{first_field, last_field};
+ghost use Rattle.ix_jobs.specs.Jobs.{is_ignored, is_text, text_in, fields_in, job_of_fields, line_job, with_file_line};
+ghost use Rattle.ix_jobs.specs.LineParts.{pieces, first_field, last_field};
 ghost use Rattle.ix_jobs.specs.Gives.{Gives, Reads};
 
 use crate::fault::JobsKind;
@@ -16,8 +15,7 @@ use std::str;
 
 /// Adds the job of a line, unless the line is ignored.
 pub(crate) fn add_line(alloc: Global, jobs: &mut JobList, line: &[u8]) -> Result<(), JobsKind>
-    ensures { Gives (λ _. jobs.new) result
-        (with_line 1000 jobs.old (strip_carriage_return line.now)) }
+    ensures { Gives (λ _. jobs.new) result (with_file_line 1000 jobs.old line.now) }
 {
     let line = without_return(line);
     if is_ignored(line) {
@@ -86,8 +84,7 @@ fn fields_in(text: &str) -> Result<(&str, &str, &str, &str), JobsKind>
 
 // The field before the first space, and what stands behind the space.
 fn first_field(text: &str) -> Result<(&str, &str), JobsKind>
-    ensures { Reads (λ f. (f.0.now, slice_split (λ b. b == 32) f.1.now)) result
-        (first_field (slice_split (λ b. b == 32) text.now)) }
+    ensures { Reads (λ f. (f.0.now, pieces f.1.now)) result (first_field (pieces text.now)) }
 {
     match text.split_once(' ') {
         Some((field, rest)) if !field.is_empty() => Ok((field, rest)),
@@ -97,7 +94,7 @@ fn first_field(text: &str) -> Result<(&str, &str), JobsKind>
 
 // A field with no space behind it.
 fn last_field(text: &str) -> Result<&str, JobsKind>
-    ensures { Reads (λ field. field.now) result (last_field (slice_split (λ b. b == 32) text.now)) }
+    ensures { Reads (λ field. field.now) result (last_field (pieces text.now)) }
 {
     match text.split_once(' ') {
         None if !text.is_empty() => Ok(text),
@@ -113,8 +110,7 @@ fn job_of_fields(
     limit: &str,
     selector: &str,
 ) -> Result<Job, JobsKind>
-    ensures { Gives (λ job. job) result
-        (job_of_fields name.now roots.now limit.now selector.now) }
+    ensures { Gives (λ job. job) result (job_of_fields name.now roots.now limit.now selector.now) }
 {
     if !is_name(name) {
         return Err(JobsKind::Name);

@@ -5,7 +5,7 @@ ghost use Rattle.ix_jobs.specs.Report.{
   is_done,
   skip_line,
   skip_lines,
-  job_line,
+  end_line,
   total_line,
   report_of,
   done_count,
@@ -71,7 +71,7 @@ pub fn status(results: &[JobResult]) -> u8
 
 // Appends the line of a job.
 fn push_job_line(text: &mut String, job: &Job, outcome: &JobResult) -> Result<(), AllocError>
-    ensures { OnOk result (string_bytes text.new ≡ string_bytes text.old ++ job_line job.now.name outcome.now.end outcome.now.counts) }
+    ensures { OnOk result (string_bytes text.new ≡ string_bytes text.old ++ end_line job.now outcome.now) }
 {
     let name = job.name();
     let end = outcome.end;

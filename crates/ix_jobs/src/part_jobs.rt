@@ -2,10 +2,9 @@
 //!
 //! The whole file is read and judged, whatever the part.
 
-ghost use Rattle.std.specs.Prelude.{◌≡◌, ◌==◌, ◌≤◌, List, length, get_or, slice_range, Ok, IfOk, IfErr};
-ghost use Rattle.ix_walk.specs.JobMeaning.{JobMeaning};
+ghost use Rattle.std.specs.Prelude.{◌≡◌, ◌≤◌, length, get_or, Ok, IfOk, IfErr};
 ghost use Rattle.ix_jobs.specs.Jobs.{jobs_up_to};
-ghost use Rattle.ix_jobs.specs.Parts.{job_lines, part_jobs_of};
+ghost use Rattle.ix_jobs.specs.Parts.{job_lines, jobs_of_part, AreJobsBetween};
 ghost use Rattle.ix_jobs.specs.Gives.{IsFaultOf};
 
 use crate::fault::{JobsFault, JobsKind};
@@ -22,9 +21,9 @@ const MOST_JOBS: usize = 1_000;
 /// The jobs of a part of a job file that may have 1,000,000, in its order; or the first fault of the file; or, where it has none,
 /// that there are too many jobs in the part, with the line of the first of them for which there is no room.
 pub fn read_jobs_part(alloc: Global, bytes: &[u8], part: Part) -> Result<Vec<Job>, JobsFault>
-    ensures jobs { IfOk result (λ jobs. part_jobs_of part.number part.of bytes.now ≡ Ok jobs.items) }
+    ensures jobs { IfOk result (λ jobs. jobs_of_part part bytes.now ≡ Ok jobs.items) }
     ensures few { IfOk result (λ jobs. length jobs.items ≤ 1000) }
-    ensures fault { IfErr result (λ fault. IsFaultOf fault (part_jobs_of part.number part.of bytes.now)) }
+    ensures fault { IfErr result (λ fault. IsFaultOf fault (jobs_of_part part bytes.now)) }
 {
     let count = job_count(bytes);
     let start = part.start(count);
@@ -42,7 +41,7 @@ pub fn read_jobs_part(alloc: Global, bytes: &[u8], part: Part) -> Result<Vec<Job
 
 // The jobs that are numbered from `start` up to, and not including, `end`, or the first fault of the file.
 fn read_window(alloc: Global, bytes: &[u8], start: usize, end: usize) -> Result<Vec<Job>, JobsFault>
-    ensures jobs { IfOk result (λ kept. (jobs : List JobMeaning) × (jobs_up_to 1000000 bytes.now ≡ Ok jobs) × (kept.items ≡ slice_range jobs start end)) }
+    ensures jobs { IfOk result (λ kept. AreJobsBetween start end bytes.now kept.items) }
     ensures fault { IfErr result (λ fault. IsFaultOf fault (jobs_up_to 1000000 bytes.now)) }
 {
     let mut jobs = PartList::new(alloc, start, end);

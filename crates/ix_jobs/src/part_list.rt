@@ -1,10 +1,8 @@
 //! The jobs of the lines so far, of which those of a part are kept.
 
-ghost use Rattle.std.specs.Prelude.{◌≡◌, [], ℕ, List};
-ghost use Rattle.std.specs.Str.Lines.{strip_carriage_return};
-ghost use Rattle.ix_walk.specs.JobMeaning.{JobMeaning};
-ghost use Rattle.ix_jobs.specs.Jobs.{joined, with_line};
-ghost use Rattle.ix_jobs.specs.PartList.{Keeps, KeepsMore};
+ghost use Rattle.std.specs.Prelude.{◌≡◌, []};
+ghost use Rattle.ix_jobs.specs.Jobs.{joined, with_file_line};
+ghost use Rattle.ix_jobs.specs.PartList.{Keeps, KeepsAdded};
 
 use crate::fault::JobsKind;
 use crate::line::{is_ignored, line_job, without_return};
@@ -42,8 +40,7 @@ impl PartList {
 
     /// Adds the job of a line, unless the line is ignored.
     pub(crate) fn add_line(&mut self, alloc: Global, line: &[u8]) -> Result<(), JobsKind>
-        ensures { (start end : ℕ) (before : List JobMeaning) → Keeps start end before self.old
-            → KeepsMore start end self.new result (with_line 1000000 before (strip_carriage_return line.now)) }
+        ensures { KeepsAdded self.old self.new result (λ before. with_file_line 1000000 before line.now) }
     {
         let line = without_return(line);
         if is_ignored(line) {
@@ -55,8 +52,7 @@ impl PartList {
 
     // Adds a job, unless its name is taken or there are too many before it.
     fn add(&mut self, alloc: Global, job: Job) -> Result<(), JobsKind>
-        ensures { (start end : ℕ) (before : List JobMeaning) → Keeps start end before self.old
-            → KeepsMore start end self.new result (joined 1000000 before job) }
+        ensures { KeepsAdded self.old self.new result (λ before. joined 1000000 before job) }
     {
         if self.names.contains(job.name()) {
             return Err(JobsKind::Repeated);

@@ -1,7 +1,7 @@
 use Rattle.std.proofs.Common.{rules, ap, ◌∙◌, ◌≡◌, ◌++◌, length, string_bytes, ℕ, List}
 use Rattle.std.proofs.lemmas.Slice.Zip.{Zip-more, either_empty_from_Zip}
 use Rattle.ix_jobs.specs.Report.{total_line}
-use Rattle.ix_jobs.proofs.Lines.{a_job_more, all_written, totals}
+use Rattle.ix_jobs.proofs.Lines.{a_job_more, all_written, total_line-same}
 use Rattle.ix_jobs.proofs.outcome.report.Goals as goal
 
 pub loop-job-preserved : goal.loop-job-preserved
@@ -15,4 +15,4 @@ returns c =
     let none = either_empty_from_Zip c.loop-job.job-iterator c.next.new.self c.next.result c.in-None.is c.next.ensures.steps in
     let written = all_written _ _ _ _ none c.loop-job.invariant in
     bytes ∙ c.in_ok-push_total_line.ensures ∙ ap (λ (t : List ℕ). t ++ total_line (length c.args.jobs.now) c.done_count-done.result c.skip_count-skips.result) written
-    ∙ totals _ _ c.args.results.now _ _ c.done_count-done.ensures c.skip_count-skips.ensures
+    ∙ total_line-same _ _ c.args.results.now _ _ c.done_count-done.ensures c.skip_count-skips.ensures

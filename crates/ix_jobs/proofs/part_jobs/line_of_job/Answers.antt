@@ -4,7 +4,7 @@ use Rattle.std.specs.Str.Lines.{strip_carriage_return}
 use Rattle.ix_jobs.specs.Jobs.{is_ignored}
 use Rattle.ix_jobs.specs.Parts.{job_lines_from}
 use Rattle.ix_jobs.proofs.LinesInTurn.{rest-shorter}
-use Rattle.ix_jobs.proofs.JobLines.{job_lines-ignored, job_lines-own, later}
+use Rattle.ix_jobs.proofs.JobLines.{job_lines-ignored, job_lines-own, get_or-behind}
 use Rattle.ix_jobs.proofs.part_jobs.line_of_job.Goals as goal
 
 pub returns-then-before-eq0 : goal.returns-then-before-eq0
@@ -27,7 +27,7 @@ loop-rest-preserved-else-before-eq0 c =
     record {
       within = omega (arith, c.loop-rest.invariant.within, rest-shorter c.loop-rest.rest.now some, ap length c.split_line.ensures.rest);
       goes_on =
-          sym (later number (job_lines_from (number + 1) (slice_split (λ b. b == 10) c.split_line.result.1.now)) c.loop-rest.before more)
+          sym (get_or-behind number (job_lines_from (number + 1) (slice_split (λ b. b == 10) c.split_line.result.1.now)) c.loop-rest.before more)
           ∙ sym (ap (λ (l : List ℕ). get_or l c.loop-rest.before 0) first)
           ∙ c.loop-rest.invariant.goes_on;
     }
