@@ -1,5 +1,6 @@
 //! The command `inspect`: what stands in a CARv1 file, or what a file is that is none.
 
+use crate::at_most_processors;
 use crate::words::flag_argument;
 use clap::{Arg, ArgMatches, Command};
 use ix_car::{CarFault, CarFile, CarKind, Section, read_sections};
@@ -10,6 +11,10 @@ use std::alloc::{AllocError, Global};
 use std::fmt::Write as FmtWrite;
 use std::io::{self, BufWriter, ErrorKind, Write};
 use std::rt::Files;
+use std::thread::Threads;
+
+// How many threads look CIDs up, where there are processors for them: as many as load blocks where nothing else is said.
+const LOADERS: usize = 8;
 
 const ABOUT: &str = "Tells what stands in a CARv1 file, without hashing";
 
@@ -42,7 +47,7 @@ pub fn inspect_command<'a>(alloc: Global) -> Result<Command<'a>, AllocError> {
 }
 
 /// Does what the words say, and answers the status.
-pub fn inspect<'a, R: AllocGlobal + Eprint + Files + Input + Print>(
+pub fn inspect<'a, R: AllocGlobal + Eprint + Files + Input + Print + Threads + Sync>(
     rt: &R,
     words: &ArgMatches<'a>,
 ) -> Result<u8, Failure> {
@@ -88,13 +93,14 @@ fn answer_of<R: AllocGlobal>(rt: &R, error: &io::Error) -> Result<u8, Failure> {
 }
 
 // What is counted of a file of so many bytes.
-fn summarize<R: AllocGlobal + Print>(
+fn summarize<R: AllocGlobal + Print + Threads + Sync>(
     rt: &R,
     file: &CarFile<'_>,
     bytes: usize,
 ) -> Result<u8, Failure> {
     let alloc = rt.alloc();
-    let summary = summary_of(alloc, file.sections.as_slice())?;
+    let threads = at_most_processors(rt, LOADERS);
+    let summary = summary_of(rt, alloc, file.sections.as_slice(), threads)?;
     let mut text = format!(in alloc; "version 1\nroots {}\n", file.roots.len())?;
     for root in &file.roots {
         let cid = root.text(alloc)?;

@@ -303,6 +303,11 @@ fn run_by_words<'a, R: AllocGlobal + Clock + Eprint + Threads + Wait + Sync, W: 
 // How many threads index the blocks: as many as walk and hash, where there are processors for them.
 fn loaders<'a, R: Threads>(rt: &R, words: &ArgMatches<'a>) -> usize {
     let asked = threads(words, "walkers") as usize + threads(words, "verifiers") as usize;
+    at_most_processors(rt, asked)
+}
+
+// So many threads, or as many as there are processors.
+fn at_most_processors<R: Threads>(rt: &R, asked: usize) -> usize {
     match thread::available_parallelism(rt) {
         Ok(processors) => asked.min(processors.get()),
         Err(_) => asked,

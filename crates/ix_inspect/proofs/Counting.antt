@@ -1,18 +1,15 @@
--- A code, and a CID, more.
-use Rattle.std.proofs.Common.{◌≡◌, ◌⊎◌, inl, inr, ℕ, zero, suc, ◌+◌, ◌<◌, ◌≤◌, Bool, true, false, ◌||◌, List, [], ◌∷◌, ◌++◌, length, take, drop, get_or, refl, sym, ◌∙◌, ap, arith, add-one, drop-cons}
-use Rattle.std.specs.Prelude.{Some, unwrap_or, bytes_eq, map, not, if◌then◌else◌}
+-- CIDs one by one, those of a share.
+use Rattle.std.proofs.Common.{◌≡◌, ℕ, zero, suc, ◌+◌, ◌<◌, ◌≤◌, Bool, true, false, ◌||◌, List, [], ◌∷◌, ◌++◌, length, take, drop, get_or, refl, sym, ◌∙◌, ap, subst, arith, add-one, drop-cons}
+use Rattle.std.specs.Prelude.{bytes_eq, map, filter, ◌==◌, if◌then◌else◌}
 use Rattle.std.specs.List.{list_any}
+use Rattle.std.proofs.lemmas.Bool.{eq-eqb, ne_eqb}
+use Rattle.std.proofs.lemmas.List.Elements.{filter-append}
+use Rattle.std.proofs.lemmas.List.{append-nil}
+use Rattle.std.proofs.Math.ListN.{drop_of_length-le}
 use Rattle.std.proofs.lemmas.List.Folds.{list_any-append}
 use Rattle.std.proofs.lemmas.Slice.Eq.{bytes_eq-Decides}
 use Rattle.ix_store.specs.Store.{Blocks, has_cid, with_block}
-use Rattle.ix_inspect.specs.Counted.{if_any, has_stood, repeats_behind}
-
-pub if_any-more : (n : ℕ) → if_any (n + 1) ≡ Some (n + 1)
-if_any-more n = ap if_any (add-one n) ∙ ap (λ (k : ℕ). Some k) (sym (add-one n))
-
-pub unwrap-if_any : (n : ℕ) → unwrap_or (if_any n) 0 ≡ n
-unwrap-if_any zero = refl
-unwrap-if_any (suc n) = refl
+use Rattle.ix_inspect.specs.Counted.{has_stood, repeats_behind, repeats, share_of, in_share}
 
 or_false : (a : Bool) → a ≡ (a || false)
 or_false true = refl
@@ -41,27 +38,71 @@ take-push [] i d h = absurd (omega (arith, h))
 take-push (x ∷ xs) zero d h = refl
 take-push (x ∷ xs) (suc i) d h = ap (λ n. take n (x ∷ xs)) (add-one (suc i)) ∙ ap (λ l. x ∷ l) (ap (λ n. take n xs) (sym (add-one i)) ∙ take-push xs i d (omega (arith, h)))
 
--- the CIDs so far stand in the store
-pub seen-more : (cids : List (List ℕ)) (i : ℕ) (store new : Blocks) (x block : List ℕ) → i < length cids → x ≡ get_or cids i x → new ≡ with_block store (x, block)
-    → ((c : List ℕ) → has_cid store c ≡ has_stood (take i cids) c) → (c : List ℕ) → has_cid new c ≡ has_stood (take (i + 1) cids) c
-seen-more cids i store new x block lt is added before c =
-    ap (λ (s : Blocks). has_cid s c) added ∙ has_cid-with store (x, block) c
-    ∙ ap (λ (b : Bool). b || bytes_eq x c) (before c)
-    ∙ ap (λ (b : Bool). has_stood (take i cids) c || b) (or_false (bytes_eq x c))
-    ∙ sym (list_any-append (λ (d : List ℕ). bytes_eq d c) (take i cids) (x ∷ []))
-    ∙ ap (λ (y : List ℕ). has_stood (take i cids ++ y ∷ []) c) is
-    ∙ ap (λ (l : List (List ℕ)). has_stood l c) (sym (take-push cids i x lt))
+at-most-one : (b : Bool) → (if b then 1 else 0) ≤ 1
+at-most-one true = omega arith
+at-most-one false = omega arith
 
--- one CID more is counted
-pub repeats-more : (cids : List (List ℕ)) (i n new all : ℕ) (x : List ℕ) → i < length cids → x ≡ get_or cids i x → new ≡ n + (if has_stood (take i cids) x then 1 else 0)
-    → n + repeats_behind (take i cids) (drop i cids) ≡ all → new + repeats_behind (take (i + 1) cids) (drop (i + 1) cids) ≡ all
-repeats-more cids i n new all x lt is counted before =
-    let one = if has_stood (take i cids) x then 1 else 0 in
-    let left : drop i cids ≡ x ∷ drop (i + 1) cids = drop-cons cids i x lt ∙ ap (λ (y : List ℕ). y ∷ drop (suc i) cids) (sym is) ∙ ap (λ (m : ℕ). x ∷ drop m cids) (sym (add-one i)) in
-    let front : take (i + 1) cids ≡ take i cids ++ x ∷ [] = take-push cids i x lt ∙ ap (λ (y : List ℕ). take i cids ++ y ∷ []) (sym is) in
-    let more : repeats_behind (take (i + 1) cids) (drop (i + 1) cids) ≡ repeats_behind (take i cids ++ x ∷ []) (drop (i + 1) cids) = ap (λ (l : List (List ℕ)). repeats_behind l (drop (i + 1) cids)) front in
-    let whole : repeats_behind (take i cids) (drop i cids) ≡ one + repeats_behind (take i cids ++ x ∷ []) (drop (i + 1) cids) = ap (repeats_behind (take i cids)) left in
-    omega (arith, counted, more, whole, before)
+-- the CIDs so far, and one more
+front-more : (cids : List (List ℕ)) (i : ℕ) (x : List ℕ) → i < length cids → x ≡ get_or cids i x → take (i + 1) cids ≡ take i cids ++ x ∷ []
+front-more cids i x lt is = take-push cids i x lt ∙ ap (λ (y : List ℕ). take i cids ++ y ∷ []) (sym is)
+
+-- those that are left begin with it
+left-more : (cids : List (List ℕ)) (i : ℕ) (x : List ℕ) → i < length cids → x ≡ get_or cids i x → drop i cids ≡ x ∷ drop (i + 1) cids
+left-more cids i x lt is = drop-cons cids i x lt ∙ ap (λ (y : List ℕ). y ∷ drop (suc i) cids) (sym is) ∙ ap (λ (m : ℕ). x ∷ drop m cids) (sym (add-one i))
+
+-- of a share: what one more CID changes
+share-with : (n t : ℕ) (xs : List (List ℕ)) (x : List ℕ) (there : Bool) → (share_of n x == t) ≡ there → in_share n t (xs ++ x ∷ []) ≡ in_share n t xs ++ (if there then x ∷ [] else [])
+share-with n t xs x there is = filter-append (λ c. share_of n c == t) xs (x ∷ []) ∙ ap (λ (b : Bool). in_share n t xs ++ (if b then x ∷ [] else [])) is
+
+-- the CIDs of the share so far stand in the store, and how many of them had stood before is counted
+pub record IsSoFar (n t : ℕ) (cids : List (List ℕ)) (i : ℕ) (store : Blocks) (count : ℕ) : Type 0 where
+  pub seen : (c : List ℕ) → has_cid store c ≡ has_stood (in_share n t (take i cids)) c
+  pub counted : count + repeats_behind (in_share n t (take i cids)) (in_share n t (drop i cids)) ≡ repeats (in_share n t cids)
+  pub few : count ≤ i
+
+pub at-first : (n t : ℕ) (cids : List (List ℕ)) (store : Blocks) → store ≡ [] → IsSoFar n t cids 0 store 0
+at-first n t cids store none = record { seen = λ c. ap (λ (s : Blocks). has_cid s c) none; counted = omega arith; few = omega arith }
+
+pub at-last : (n t : ℕ) (cids : List (List ℕ)) (i : ℕ) (store : Blocks) (count : ℕ) → length cids ≤ i → IsSoFar n t cids i store count → count ≡ repeats (in_share n t cids)
+at-last n t cids i store count past h =
+    let left : drop i cids ≡ [] = drop_of_length-le cids past in
+    let none : repeats_behind (in_share n t (take i cids)) (in_share n t (drop i cids)) ≡ 0 = ap (λ (l : List (List ℕ)). repeats_behind (in_share n t (take i cids)) (in_share n t l)) left in
+    omega (arith, h.counted, none)
+
+-- a CID of another share
+pub so-far-other : (n t : ℕ) (cids : List (List ℕ)) (i : ℕ) (x : List ℕ) (store : Blocks) (count : ℕ) → i < length cids → x ≡ get_or cids i x → (share_of n x == t) ≡ false → IsSoFar n t cids i store count
+    → IsSoFar n t cids (i + 1) store count
+so-far-other n t cids i x store count lt is other h =
+    let front : in_share n t (take (i + 1) cids) ≡ in_share n t (take i cids) =
+    ap (in_share n t) (front-more cids i x lt is) ∙ share-with n t (take i cids) x false other ∙ append-nil (in_share n t (take i cids)) in
+    let left : in_share n t (drop i cids) ≡ in_share n t (drop (i + 1) cids) =
+    ap (in_share n t) (left-more cids i x lt is) ∙ ap (λ (b : Bool). if b then x ∷ in_share n t (drop (i + 1) cids) else in_share n t (drop (i + 1) cids)) other in
+    let rest : repeats_behind (in_share n t (take (i + 1) cids)) (in_share n t (drop (i + 1) cids)) ≡ repeats_behind (in_share n t (take i cids)) (in_share n t (drop i cids)) =
+    ap (λ (l : List (List ℕ)). repeats_behind l (in_share n t (drop (i + 1) cids))) front ∙ ap (repeats_behind (in_share n t (take i cids))) (sym left) in
+    record {
+      seen = λ c. h.seen c ∙ ap (λ (l : List (List ℕ)). has_stood l c) (sym front);
+      counted = omega (arith, h.counted, rest);
+      few = omega (arith, h.few);
+    }
+
+-- a CID of this share
+pub so-far-more : (n t : ℕ) (cids : List (List ℕ)) (i : ℕ) (x : List ℕ) (store new : Blocks) (count one : ℕ) → i < length cids → x ≡ get_or cids i x → (share_of n x == t) ≡ true
+    → one ≡ (if has_cid store x then 1 else 0) → new ≡ with_block store (x, []) → IsSoFar n t cids i store count → IsSoFar n t cids (i + 1) new (count + one)
+so-far-more n t cids i x store new count one lt is here told added h =
+    let before = in_share n t (take i cids) in
+    let later = in_share n t (drop (i + 1) cids) in
+    let front : in_share n t (take (i + 1) cids) ≡ before ++ x ∷ [] = ap (in_share n t) (front-more cids i x lt is) ∙ share-with n t (take i cids) x true here in
+    let left : in_share n t (drop i cids) ≡ x ∷ later = ap (in_share n t) (left-more cids i x lt is) ∙ ap (λ (b : Bool). if b then x ∷ later else later) here in
+    let stood : one ≡ (if has_stood before x then 1 else 0) = told ∙ ap (λ (b : Bool). if b then 1 else 0) (h.seen x) in
+    let rest : repeats_behind (in_share n t (take (i + 1) cids)) later ≡ repeats_behind (before ++ x ∷ []) later = ap (λ (l : List (List ℕ)). repeats_behind l later) front in
+    let whole : repeats_behind before (in_share n t (drop i cids)) ≡ (if has_stood before x then 1 else 0) + repeats_behind (before ++ x ∷ []) later = ap (repeats_behind before) left in
+    record {
+      seen = λ c. ap (λ (s : Blocks). has_cid s c) added ∙ has_cid-with store (x, []) c ∙ ap (λ (b : Bool). b || bytes_eq x c) (h.seen c)
+          ∙ ap (λ (b : Bool). has_stood before c || b) (or_false (bytes_eq x c)) ∙ sym (list_any-append (λ (d : List ℕ). bytes_eq d c) before (x ∷ []))
+          ∙ ap (λ (l : List (List ℕ)). has_stood l c) (sym front);
+      counted = omega (arith, h.counted, stood, rest, whole);
+      few = omega (arith, h.few, stood, at-most-one (has_stood before x));
+    }
 
 -- an element of a list whose elements were changed
 pub get_or-mapped : {A B : Type 0} (f : A → B) (xs : List A) (i : ℕ) (x : A) → x ≡ get_or xs i x → f x ≡ get_or (map f xs) i (f x)
@@ -71,16 +112,12 @@ get_or-mapped f xs i x is = ap f is ∙ through f xs i x where
   through f (y ∷ ys) zero d = refl
   through f (y ∷ ys) (suc i) d = through f ys i d
 
--- a turn of the loop: one more, where the CID was no new one
-abbrev pub Grows : Bool → ℕ → ℕ → Type 0
-Grows is_new n m = ((is_new ≡ false) × (m ≡ n + 1)) ⊎ ((is_new ≡ true) × (m ≡ n))
+-- what a turn of the loop leaves
+pub same-so-far : (n t : ℕ) (cids : List (List ℕ)) (i : ℕ) (store new : Blocks) (count more : ℕ) → new ≡ store → more ≡ count → IsSoFar n t cids i store count → IsSoFar n t cids i new more
+same-so-far n t cids i store new count more same told h = subst (λ (s : Blocks). IsSoFar n t cids i s more) (sym same) (subst (λ (m : ℕ). IsSoFar n t cids i store m) (sym told) h)
 
-pub grown : (is_new there : Bool) (n m : ℕ) → is_new ≡ not there → Grows is_new n m → m ≡ n + (if there then 1 else 0)
-grown is_new true n m is (inl h) = h.1
-grown is_new true n m is (inr h) = absurd cc
-grown is_new false n m is (inl h) = absurd cc
-grown is_new false n m is (inr h) = omega (arith, h.1)
+pub is-eqb : (a b : ℕ) → a ≡ b → (a == b) ≡ true
+is-eqb a b h = eq-eqb a b h
 
-pub grown-within : (is_new : Bool) (n m i : ℕ) → n ≤ i → Grows is_new n m → m ≤ i + 1
-grown-within is_new n m i few (inl h) = omega (arith, few, h.1)
-grown-within is_new n m i few (inr h) = omega (arith, few, h.1)
+pub is-apart : (a b : ℕ) → (a ≡ b → ⊥) → (a == b) ≡ false
+is-apart a b h = ne_eqb a b h

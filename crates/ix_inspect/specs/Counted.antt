@@ -1,7 +1,8 @@
 -- What is counted of sections.
-use Rattle.std.specs.Prelude.{◌≡◌, ℕ, zero, suc, ◌+◌, Bool, List, [], ◌∷◌, ◌++◌, ◌==◌, if◌then◌else◌, bytes_eq, count_by, Option, Some, None}
+use Rattle.std.specs.Prelude.{◌≡◌, ℕ, zero, suc, ◌+◌, ◌-◌, ◌%◌, ◌<◌, Bool, List, [], ◌∷◌, ◌++◌, length, ◌==◌, if◌then◌else◌, bytes_eq, count_by, filter, slice_get, slice_index_or, Option, Some, None, Result, IfOk}
 use Rattle.std.specs.List.{list_any}
 use Rattle.std.specs.Ordering.{nat_cmp}
+use Rattle.std.specs.declared.alloc.AllocError.{AllocError}
 use Rattle.std.specs.BTreeMap.{BTreeMap, get}
 
 -- a number of times, or none
@@ -28,3 +29,19 @@ repeats_behind before (c ∷ cs) = (if has_stood before c then 1 else 0) + repea
 
 abbrev pub repeats : List (List ℕ) → ℕ
 repeats cids = repeats_behind [] cids
+
+-- into which of so many shares a CID with this last byte falls
+abbrev pub share_by : ℕ → Option ℕ → ℕ
+share_by shares None = 0
+share_by shares (Some byte) = byte % shares
+
+abbrev pub share_of : ℕ → List ℕ → ℕ
+share_of shares c = share_by shares (slice_get c (length c - 1))
+
+-- the CIDs that fall into a share
+abbrev pub in_share : ℕ → ℕ → List (List ℕ) → List (List ℕ)
+in_share shares share cids = filter (λ c. share_of shares c == share) cids
+
+-- for each of so many shares, how many of its CIDs have stood before
+abbrev pub AreCounted : ℕ → List (List ℕ) → List (Result ℕ AllocError) → Type 0
+AreCounted shares cids counts = (share : ℕ) (d : Result ℕ AllocError) → share < shares → IfOk (slice_index_or counts share d) (λ n. n ≡ repeats (in_share shares share cids))

@@ -6,10 +6,11 @@ ghost use Rattle.ix_cid.specs.Cid.{codec_of, hash_code_of};
 ghost use Rattle.ix_car.specs.declared.reader.sections.Section.{Section};
 ghost use Rattle.ix_inspect.specs.Counted.{IsTallyOf, repeats};
 
+use crate::repeats::repeats_of;
 use crate::tally::{Tally, tally_of};
 use ix_car::Section;
-use ix_store::Store;
 use std::alloc::{AllocError, Global};
+use std::thread::Threads;
 
 /// What is counted of sections.
 #[derive(Drop)]
@@ -48,8 +49,13 @@ impl Summary {
     }
 }
 
-/// What is counted of sections. Nothing is hashed.
-pub fn summary_of(alloc: Global, sections: &[Section<'_>]) -> Result<Summary, AllocError>
+/// What is counted of sections, whose CIDs so many threads look up. Nothing is hashed.
+pub fn summary_of<R: Threads + Sync>(
+    rt: &R,
+    alloc: Global,
+    sections: &[Section<'_>],
+    threads: usize,
+) -> Result<Summary, AllocError>
     ensures sections { IfOk result (λ s. s.sections ≡ length sections.now) }
     ensures repeated { IfOk result (λ s. s.repeated ≡ repeats (map (λ (x : Section). x.cid) sections.now)) }
     ensures codecs { IfOk result (λ s. IsTallyOf (map (λ (x : Section). codec_of x.cid) sections.now) s.codecs) }
@@ -61,7 +67,7 @@ pub fn summary_of(alloc: Global, sections: &[Section<'_>]) -> Result<Summary, Al
     let hashes = hashes_of(alloc, sections)?;
     Ok(Summary {
         sections: sections.len(),
-        repeated: repeats_of(alloc, sections)?,
+        repeated: repeats_of(rt, alloc, sections, threads)?,
         codecs: tally_of(alloc, codecs.as_slice())?,
         hashes: tally_of(alloc, hashes.as_slice())?,
         sizes: sizes_of(alloc, sections)?,
@@ -99,19 +105,4 @@ fn sizes_of(alloc: Global, sections: &[Section<'_>]) -> Result<Vec<usize>, Alloc
         .collect(alloc)?;
     sizes.sort()?;
     Ok(sizes)
-}
-
-// How many have a CID that has stood before.
-fn repeats_of(alloc: Global, sections: &[Section<'_>]) -> Result<usize, AllocError>
-    ensures { IfOk result (λ n. n ≡ repeats (map (λ (x : Section). x.cid) sections.now)) }
-{
-    let mut seen = Store::new(alloc);
-    let mut repeats = 0usize;
-    for section in sections {
-        let is_new = seen.add(section.cid.to_cid(alloc)?, Vec::new(alloc))?;
-        if !is_new {
-            repeats += 1;
-        }
-    }
-    Ok(repeats)
 }

@@ -1,7 +1,9 @@
 //! How often codes come.
 
-ghost use Rattle.std.specs.Prelude.{IfOk};
-ghost use Rattle.ix_inspect.specs.Counted.{IsTallyOf};
+ghost use Rattle.std.specs.Prelude.{◌≡◌, ℕ, ◌<◌, ◌≤◌, ◌==◌, length, take, slice_index, if◌then◌else◌, IfOk, IfErr};
+ghost use Rattle.std.specs.Ordering.{nat_cmp};
+ghost use Rattle.std.specs.BTreeMap.{get};
+ghost use Rattle.ix_inspect.specs.Counted.{IsTallyOf, times, if_any};
 
 use std::alloc::{AllocError, Global};
 use std::collections::BTreeMap;
@@ -9,14 +11,30 @@ use std::collections::BTreeMap;
 /// How often each code comes, in the order of the codes.
 pub type Tally = BTreeMap<u64, usize>;
 
-// How often each of these codes comes.
+// How often each of these codes comes. Those that are alike and stand together are looked up once.
 pub(crate) fn tally_of(alloc: Global, codes: &[u64]) -> Result<Tally, AllocError>
     ensures { IfOk result (IsTallyOf codes.now) }
 {
     let mut tally = BTreeMap::new(alloc);
-    for code in codes {
+    let mut rest = codes;
+    while let Some((code, behind)) = rest.split_first() {
+        let run = run_of(*code, behind);
         let had = tally.get(code).copied().unwrap_or(0usize);
-        tally.insert(*code, had + 1)?;
+        tally.insert(*code, had + run + 1)?;
+        (_, rest) = behind.split_at(run);
     }
     Ok(tally)
+}
+
+// How many codes at the front are this one.
+fn run_of(code: u64, codes: &[u64]) -> usize
+    ensures within { result ≤ length codes.now }
+    ensures alike { (c : ℕ) → times c (take result codes.now) ≡ (if code == c then result else 0) }
+{
+    for place in 0..codes.len() {
+        if codes[place] != code {
+            return place;
+        }
+    }
+    codes.len()
 }

@@ -1,0 +1,101 @@
+//! How many sections have a CID that has stood before.
+//!
+//! The CIDs fall into shares, each by its last byte: alike ones into one. So the repeats of all are those of each share
+//! together, and each thread counts those of its own.
+
+ghost use Rattle.std.specs.Prelude.{◌≡◌, ◌<◌, [], length, map, vec_len, if◌then◌else◌, IfOk, OnOk};
+ghost use Rattle.ix_car.specs.declared.reader.sections.Section.{Section};
+ghost use Rattle.ix_store.specs.Store.{has_cid, with_block};
+ghost use Rattle.ix_inspect.specs.Counted.{repeats, share_of, in_share, AreCounted};
+
+use ix_car::Section;
+use ix_cid::CidRef;
+use ix_store::Store;
+use std::alloc::{AllocError, Global};
+use std::thread::{Threads, map_indices};
+
+// How many shares there are at most: the last byte tells no more apart.
+const MOST_SHARES: usize = 256;
+
+// The repeats of a share.
+type Count = Result<usize, AllocError>;
+
+// How many have a CID that has stood before, counted by so many threads.
+pub(crate) fn repeats_of<R: Threads + Sync>(
+    rt: &R,
+    alloc: Global,
+    sections: &[Section<'_>],
+    threads: usize,
+) -> Result<usize, AllocError>
+    ensures { IfOk result (λ n. n ≡ repeats (map (λ (x : Section). x.cid) sections.now)) }
+{
+    let counts = counts_of(rt, alloc, sections, threads.clamp(1, MOST_SHARES))?;
+    sum_of(sections, counts.as_slice())
+}
+
+// The repeats of each of so many shares.
+fn counts_of<R: Threads + Sync>(
+    rt: &R,
+    alloc: Global,
+    sections: &[Section<'_>],
+    shares: usize,
+) -> Result<Vec<Count>, AllocError>
+    requires { 0 < shares }
+    ensures len { IfOk result (λ counts. vec_len counts ≡ shares) }
+    ensures counted { IfOk result (λ counts. AreCounted shares (map (λ (x : Section). x.cid) sections.now) counts.items) }
+{
+    map_indices(
+        rt,
+        alloc,
+        shares,
+        &|share| repeats_in(alloc, sections, shares, share),
+    )
+}
+
+// The sum of what was counted of the shares of sections, which are no more than these.
+fn sum_of(sections: &[Section<'_>], counts: &[Count]) -> Result<usize, AllocError>
+    requires some { 0 < length counts.now }
+    requires counted { AreCounted (length counts.now) (map (λ (x : Section). x.cid) sections.now) counts.now }
+    ensures { IfOk result (λ n. n ≡ repeats (map (λ (x : Section). x.cid) sections.now)) }
+{
+    let mut repeats = 0usize;
+    for count in counts {
+        repeats += (*count)?;
+    }
+    Ok(repeats)
+}
+
+// Of those that fall into a share, how many have a CID that has stood before.
+fn repeats_in(alloc: Global, sections: &[Section<'_>], shares: usize, share: usize) -> Count
+    requires { 0 < shares }
+    ensures { IfOk result (λ n. n ≡ repeats (in_share shares share (map (λ (x : Section). x.cid) sections.now))) }
+{
+    let mut seen = Store::new(alloc);
+    let mut repeats = 0usize;
+    for section in sections {
+        if share_of(&section.cid, shares) == share {
+            repeats += repeats_with(alloc, &mut seen, &section.cid)?;
+        }
+    }
+    Ok(repeats)
+}
+
+// One where the CID is there, and none where it is added.
+fn repeats_with(alloc: Global, seen: &mut Store, cid: &CidRef<'_>) -> Result<usize, AllocError>
+    ensures counted { IfOk result (λ n. n ≡ (if has_cid seen.old cid.now then 1 else 0)) }
+    ensures added { OnOk result (seen.new ≡ with_block seen.old (cid.now, [])) }
+{
+    let is_new = seen.add(cid.to_cid(alloc)?, Vec::new(alloc))?;
+    Ok(usize::from(!is_new))
+}
+
+// Into which of so many shares a CID falls.
+fn share_of(cid: &CidRef<'_>, shares: usize) -> usize
+    requires { 0 < shares }
+    ensures { result ≡ share_of shares cid.now }
+{
+    match cid.as_bytes().last() {
+        Some(byte) => usize::from(*byte) % shares,
+        None => 0,
+    }
+}
