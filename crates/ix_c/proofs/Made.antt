@@ -8,11 +8,12 @@ use Rattle.ix_store.specs.Store.{Blocks}
 use Rattle.ix_walk.specs.JobMeaning.{JobMeaning}
 use Rattle.ix_embedding.specs.declared.exported.Exported.{Exported}
 use Rattle.ix_embedding.specs.declared.failure.Failure.{Failure}
-use Rattle.ix_embedding.specs.declared.failure.Failure.TheVariants.{Refused}
+use Rattle.ix_embedding.specs.declared.failure.Failure.TheVariants as failures
 use Rattle.ix_embedding.specs.declared.held.Held.{Held}
 use Rattle.ix_embedding.specs.declared.held.Held.TheVariants as held
-use Rattle.ix_c.specs.declared.status.Status.TheVariants.{Done, Memory, Handle}
-use Rattle.ix_c.specs.Answers.{HoldsFrozen, HoldsExport, IsOwnerOf, HasShared, IsExportedOf, IsExported}
+use Rattle.ix_c.specs.declared.status.Status.{Status}
+use Rattle.ix_c.specs.declared.status.Status.TheVariants.{Done, Memory, Refused, Handle, Known, NoCid, Range}
+use Rattle.ix_c.specs.Answers.{IsMade, IsFilled, IsRefused, HoldsFrozen, HoldsExport, IsOwnerOf, HasShared, IsExportedOf, IsExported}
 
 -- one more owner
 pub shares : (store : Option Held) (s : Held) (owner : Arc Blocks Global) (before after : Option Held) → store ≡ Some s → IsOwnerOf s (Some (Ok owner)) → after ≡ Some (held.Frozen owner) → HasShared store before after Done
@@ -33,6 +34,29 @@ exports_none store job s j before after is wants told same = (same, λ blocks wa
   inside : (x y : Held) → ◌≡◌ {A = Option Held} (Some x) (Some y) → x ≡ y
   inside x y e = cc
 
--- a refusal
-pub refused : (fails : Failure → Type 0) (line : Vec ℕ) (after : Option Held) (failure : Failure) → after ≡ Some (held.Refusal line) → fails failure → failure ≡ Refused line → (told : Vec ℕ) × (after ≡ Some (held.Refusal told)) × fails (Refused told)
-refused fails line after failure made told is = (line, made, subst fails is told)
+-- what is held is meant
+pub filled : (meant : Held → Type 0) (fails : Failure → Type 0) (content : Held) (before after : Option Held) (status : Status) → IsFilled content before after status → meant content → IsMade meant fails before after status
+filled meant fails content before after Done made is = (content, made, is)
+filled meant fails content before after Memory made is = made
+filled meant fails content before after Refused made is = absurd made
+filled meant fails content before after Handle made is = absurd made
+filled meant fails content before after Known made is = absurd made
+filled meant fails content before after NoCid made is = absurd made
+filled meant fails content before after Range made is = absurd made
+
+-- a refusal, or want of memory
+pub refused : (meant : Held → Type 0) (fails : Failure → Type 0) (failure : Failure) (before after : Option Held) (status : Status) → IsRefused failure before after status → fails failure → IsMade meant fails before after status
+refused meant fails (failures.Refused line) before after Done made told = absurd made
+refused meant fails (failures.Refused line) before after Memory made told = made
+refused meant fails (failures.Refused line) before after Refused made told = (line, made, told)
+refused meant fails (failures.Refused line) before after Handle made told = absurd made
+refused meant fails (failures.Refused line) before after Known made told = absurd made
+refused meant fails (failures.Refused line) before after NoCid made told = absurd made
+refused meant fails (failures.Refused line) before after Range made told = absurd made
+refused meant fails failures.Memory before after Done made told = absurd made
+refused meant fails failures.Memory before after Memory made told = made
+refused meant fails failures.Memory before after Refused made told = absurd made
+refused meant fails failures.Memory before after Handle made told = absurd made
+refused meant fails failures.Memory before after Known made told = absurd made
+refused meant fails failures.Memory before after NoCid made told = absurd made
+refused meant fails failures.Memory before after Range made told = absurd made

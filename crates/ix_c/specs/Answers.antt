@@ -39,15 +39,29 @@ code_of Range = 6
 abbrev pub Told : (Status → Type 0) → ℕ → Type 0
 Told says number = (status : Status) × (number ≡ code_of status) × says status
 
--- What a handle holds before and after a call that makes something out of its input: it holds one of those that are meant; or nothing is changed, for want of memory; or it holds the line of a refusal.
+-- What a handle holds before and after a call that makes something out of its input: it holds one of those that are
+-- meant; or nothing is changed, for want of memory; or it holds the line of a refusal.
 abbrev pub IsMade : (Held → Type 0) → (Failure → Type 0) → Option Held → Option Held → Status → Type 0
 IsMade meant fails before after Done = (content : Held) × (after ≡ Some content) × meant content
 IsMade meant fails before after Memory = after ≡ before
-IsMade meant fails before after Refused = (line : Vec ℕ) × (after ≡ Some (held.Refusal line)) × fails (failures.Refused line)
+IsMade meant fails before after Refused =
+    (line : Vec ℕ) × (after ≡ Some (held.Refusal line)) × fails (failures.Refused line)
 IsMade meant fails before after Handle = ⊥
 IsMade meant fails before after Known = ⊥
 IsMade meant fails before after NoCid = ⊥
 IsMade meant fails before after Range = ⊥
+
+-- a handle holds this after a call that fills it, or nothing is changed, for want of memory
+abbrev pub IsFilled : Held → Option Held → Option Held → Status → Type 0
+IsFilled content before after Done = after ≡ Some content
+IsFilled content before after Memory = after ≡ before
+IsFilled content before after other = ⊥
+
+-- the same of the line of a refusal
+abbrev pub IsRefused : Failure → Option Held → Option Held → Status → Type 0
+IsRefused (failures.Refused line) before after Refused = after ≡ Some (held.Refusal line)
+IsRefused failure before after Memory = after ≡ before
+IsRefused failure before after other = ⊥
 
 -- an open store of these blocks
 abbrev pub IsOpen : Blocks → Held → Type 0
@@ -113,7 +127,9 @@ IsNoFailure failure = ⊥
 
 -- an open store that has been handed a block, of which this was told
 abbrev pub HasAddedAs : Added → List ℕ → List ℕ → Option Held → Option Held → Type 0
-HasAddedAs told cid block before after = (old : Blocks) × (new : Blocks) × (before ≡ Some (held.Open old)) × (after ≡ Some (held.Open new)) × HasAdded old cid block new told
+HasAddedAs told cid block before after =
+    (old : Blocks) × (new : Blocks) × (before ≡ Some (held.Open old)) × (after ≡ Some (held.Open new))
+    × HasAdded old cid block new told
 
 -- the handle holds no open store
 abbrev pub IsNoOpen : Option Held → Type 0
@@ -131,7 +147,9 @@ HasAddedTo cid block before after Range = ⊥
 
 -- what a call answers that freezes an open store
 abbrev pub HasFrozen : Option Held → Option Held → Status → Type 0
-HasFrozen before after Done = (store : Blocks) × (frozen : Held) × (before ≡ Some (held.Open store)) × (after ≡ Some frozen) × IsFrozen store frozen
+HasFrozen before after Done =
+    (store : Blocks) × (frozen : Held) × (before ≡ Some (held.Open store)) × (after ≡ Some frozen)
+    × IsFrozen store frozen
 HasFrozen before after Memory = after ≡ before
 HasFrozen before after Handle = (after ≡ before) × IsNoOpen before
 HasFrozen before after Refused = ⊥
@@ -145,7 +163,8 @@ IsNoJob content = (job : JobMeaning) → content ≢ Some (held.Job job)
 
 -- what a call answers that has a job go into each CID once
 abbrev pub HasOnce : Option Held → Option Held → Status → Type 0
-HasOnce before after Done = (job : JobMeaning) × (before ≡ Some (held.Job job)) × (after ≡ Some (held.Job (going_in true job)))
+HasOnce before after Done =
+    (job : JobMeaning) × (before ≡ Some (held.Job job)) × (after ≡ Some (held.Job (going_in true job)))
 HasOnce before after Handle = (after ≡ before) × IsNoJob before
 HasOnce before after Memory = ⊥
 HasOnce before after Refused = ⊥
@@ -175,11 +194,14 @@ HasShared store before after Range = ⊥
 
 -- these are no frozen store and a job
 abbrev pub AreNoneToExport : Option Held → Option Held → Type 0
-AreNoneToExport store job = (blocks : Blocks) (wanted : JobMeaning) → HoldsFrozen blocks store → job ≢ Some (held.Job wanted)
+AreNoneToExport store job =
+    (blocks : Blocks) (wanted : JobMeaning) → HoldsFrozen blocks store → job ≢ Some (held.Job wanted)
 
 -- what a call answers that exports a job over a frozen store
 abbrev pub IsExported : Option Held → Option Held → Option Held → Option Held → Status → Type 0
-IsExported store job before after Done = (blocks : Blocks) × (wanted : JobMeaning) × HoldsFrozen blocks store × (job ≡ Some (held.Job wanted)) × HoldsExport blocks wanted after
+IsExported store job before after Done =
+    (blocks : Blocks) × (wanted : JobMeaning) × HoldsFrozen blocks store × (job ≡ Some (held.Job wanted))
+    × HoldsExport blocks wanted after
 IsExported store job before after Memory = after ≡ before
 IsExported store job before after Handle = (after ≡ before) × AreNoneToExport store job
 IsExported store job before after Refused = ⊥
@@ -189,7 +211,9 @@ IsExported store job before after Range = ⊥
 
 -- what is answered for these two, before a handle is filled with it: none where they are no frozen store and a job
 abbrev pub IsExportedOf : Held → Held → Option (Result Exported AllocError) → Type 0
-IsExportedOf store job (Some (Ok out)) = (blocks : Blocks) × (wanted : JobMeaning) × IsFrozen blocks store × (job ≡ held.Job wanted) × HasExported blocks wanted out
+IsExportedOf store job (Some (Ok out)) =
+    (blocks : Blocks) × (wanted : JobMeaning) × IsFrozen blocks store × (job ≡ held.Job wanted)
+    × HasExported blocks wanted out
 IsExportedOf store job (Some (Err e)) = Unit {0}
 IsExportedOf store job None = (blocks : Blocks) (wanted : JobMeaning) → IsFrozen blocks store → job ≢ held.Job wanted
 

@@ -1,5 +1,6 @@
 -- What the calls of the C library tell of what a handle holds.
-use Rattle.std.specs.Prelude.{◌≡◌, ◌≢◌, ◌==◌, if◌then◌else◌, ℕ, List, ◌++◌, Option, Some, None, length, take, drop, slice_get}
+use Rattle.std.specs.Prelude.{◌≡◌, ◌≢◌, ◌==◌, if◌then◌else◌, ℕ, List, ◌++◌, length, take, drop, slice_get}
+use Rattle.std.specs.Prelude.{Option, Some, None}
 use Rattle.ix_archive.specs.declared.archive.Skip.{Skip}
 use Rattle.ix_archive.specs.declared.sink.End.{End}
 use Rattle.ix_archive.specs.declared.sink.End.TheVariants as ends
@@ -34,7 +35,9 @@ why_code verdicts.Sound = 5
 why_code verdicts.Inline = 6
 
 abbrev pub part_numbered : ℕ → Option Part
-part_numbered n = if n == 0 then Some parts.Archive else (if n == 1 then Some parts.Report else (if n == 2 then Some parts.Text else None))
+part_numbered n =
+    if n == 0 then Some parts.Archive else
+    (if n == 1 then Some parts.Report else (if n == 2 then Some parts.Text else None))
 
 -- a part of what a handle holds
 abbrev pub part_held : Part → Option Held → Option (List ℕ)
@@ -43,7 +46,8 @@ part_held part (Some content) = part_of part content
 
 -- what a call answers that tells how long a part is, and the length before and after
 abbrev pub HasBytes : Option Part → Option Held → ℕ → ℕ → Status → Type 0
-HasBytes (Some part) content before after Done = (bytes : List ℕ) × (part_held part content ≡ Some bytes) × (after ≡ length bytes)
+HasBytes (Some part) content before after Done =
+    (bytes : List ℕ) × (part_held part content ≡ Some bytes) × (after ≡ length bytes)
 HasBytes (Some part) content before after Handle = (part_held part content ≡ None) × (after ≡ before)
 HasBytes None content before after Range = after ≡ before
 HasBytes part content before after other = ⊥
@@ -59,14 +63,24 @@ pub record IsCopied (bytes : List ℕ) (from : ℕ) (before after : List ℕ) (c
 
 -- what a call answers that copies a part, with buffer and count before and after
 abbrev pub HasCopied : Option Part → ℕ → Option Held → List ℕ → ℕ → List ℕ → ℕ → Status → Type 0
-HasCopied (Some part) from content before had after count Done = (bytes : List ℕ) × (part_held part content ≡ Some bytes) × IsCopied bytes from before after count
-HasCopied (Some part) from content before had after count Handle = (part_held part content ≡ None) × (after ≡ before) × (count ≡ had)
+HasCopied (Some part) from content before had after count Done =
+    (bytes : List ℕ) × (part_held part content ≡ Some bytes) × IsCopied bytes from before after count
+HasCopied (Some part) from content before had after count Handle =
+    (part_held part content ≡ None) × (after ≡ before) × (count ≡ had)
 HasCopied None from content before had after count Range = (after ≡ before) × (count ≡ had)
 HasCopied part from content before had after count other = ⊥
 
 abbrev pub counts_told : Exported → Counts
 counts_told out =
-    record { end = end_code out.result.end; visits = out.result.counts.visits; kept = out.result.counts.kept; sections = out.result.counts.sections; bytes = out.result.counts.bytes; skips = length out.result.skips.items }
+    let counts = out.result.counts in
+    record {
+      end = end_code out.result.end;
+      visits = counts.visits;
+      kept = counts.kept;
+      sections = counts.sections;
+      bytes = counts.bytes;
+      skips = length out.result.skips.items;
+    }
 
 abbrev pub skip_told : Skip → SkipTold
 skip_told s = record { visit = s.seq; why = why_code s.verdict }
@@ -77,19 +91,25 @@ IsNoResult content = (out : Exported) → content ≢ Some (held.Exported out)
 
 -- what a call answers that tells how a job ended, with what was told before and after
 abbrev pub HasEnd : Option Held → ℕ → ℕ → Status → Type 0
-HasEnd content before after Done = (out : Exported) × (content ≡ Some (held.Exported out)) × (after ≡ end_code out.result.end)
+HasEnd content before after Done =
+    (out : Exported) × (content ≡ Some (held.Exported out)) × (after ≡ end_code out.result.end)
 HasEnd content before after Handle = IsNoResult content × (after ≡ before)
 HasEnd content before after other = ⊥
 
 -- what a call answers that tells of a job, with what was told before and after
 abbrev pub HasCounts : Option Held → Counts → Counts → Status → Type 0
-HasCounts content before after Done = (out : Exported) × (content ≡ Some (held.Exported out)) × (after ≡ counts_told out)
+HasCounts content before after Done =
+    (out : Exported) × (content ≡ Some (held.Exported out)) × (after ≡ counts_told out)
 HasCounts content before after Handle = IsNoResult content × (after ≡ before)
 HasCounts content before after other = ⊥
 
 -- what a call answers that tells of a skip, with what was told and the length of a CID before and after
 abbrev pub HasSkip : ℕ → Option Held → SkipTold → ℕ → SkipTold → ℕ → Status → Type 0
-HasSkip number content before had after count Done = (out : Exported) × (skip : Skip) × (content ≡ Some (held.Exported out)) × (slice_get out.result.skips.items number ≡ Some skip) × (after ≡ skip_told skip) × (count ≡ length skip.cid)
-HasSkip number content before had after count Range = (out : Exported) × (content ≡ Some (held.Exported out)) × (slice_get out.result.skips.items number ≡ None) × (after ≡ before) × (count ≡ had)
+HasSkip number content before had after count Done =
+    (out : Exported) × (skip : Skip) × (content ≡ Some (held.Exported out))
+    × (slice_get out.result.skips.items number ≡ Some skip) × (after ≡ skip_told skip) × (count ≡ length skip.cid)
+HasSkip number content before had after count Range =
+    (out : Exported) × (content ≡ Some (held.Exported out))
+    × (slice_get out.result.skips.items number ≡ None) × (after ≡ before) × (count ≡ had)
 HasSkip number content before had after count Handle = IsNoResult content × (after ≡ before) × (count ≡ had)
 HasSkip number content before had after count other = ⊥

@@ -1,7 +1,7 @@
 //! An export.
 
-ghost use Rattle.std.specs.Prelude.{◌≡◌};
-ghost use Rattle.ix_c.specs.Answers.{IsExported, IsExportedOf};
+ghost use Rattle.ix_c.specs.Answers.{IsExportedOf};
+ghost use Rattle.ix_c.specs.Calls.{ExportsTo, Stays};
 
 use crate::filling::fill;
 use crate::handle::Handle;
@@ -16,9 +16,9 @@ pub(crate) fn export_into(
     job: &mut Handle,
     out: &mut Handle,
 ) -> Status
-    ensures exported { IsExported store.old.pointed.value job.old.pointed.value out.old.pointed.value out.new.pointed.value result }
-    ensures store { store.new.pointed.value ≡ store.old.pointed.value }
-    ensures job { job.new.pointed.value ≡ job.old.pointed.value }
+    ensures exported { ExportsTo store.old job.old out.old out.new result }
+    ensures store { Stays store.old store.new }
+    ensures job { Stays job.old job.new }
 {
     let Some(blocks) = store.take(alloc) else {
         return Status::Handle;

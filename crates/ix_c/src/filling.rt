@@ -1,12 +1,15 @@
 //! What a call leaves in the handle that it fills.
 
 ghost use Rattle.std.specs.Prelude.{◌≡◌, Some, OnOk, OnErr};
+ghost use Rattle.ix_c.specs.Answers.{IsFilled, IsRefused};
 
 use crate::handle::Handle;
-use ix_embedding::Held;
+use crate::status::Status;
+use ix_embedding::{Failure, Held};
 use std::alloc::{AllocError, Global};
 
-/// Fills a handle with this, in place of what it held. Where there is no memory for it, the handle is as it was.
+/// Fills a handle with this, in place of what it held. Where there is no memory for it, the handle is as it
+/// was.
 pub(crate) fn fill(alloc: Global, handle: &mut Handle, held: Held) -> Result<(), AllocError>
     ensures ok { OnOk result (handle.new.pointed.value ≡ Some held) }
     ensures err { OnErr result (handle.new.pointed.value ≡ handle.old.pointed.value) }
@@ -17,5 +20,28 @@ pub(crate) fn fill(alloc: Global, handle: &mut Handle, held: Held) -> Result<(),
             Ok(())
         }
         Err(_) => Err(AllocError),
+    }
+}
+
+/// The same, with what a call answers then.
+pub(crate) fn fill_with(alloc: Global, handle: &mut Handle, held: Held) -> Status
+    ensures { IsFilled held handle.old.pointed.value handle.new.pointed.value result }
+{
+    match fill(alloc, handle, held) {
+        Ok(()) => Status::Done,
+        Err(_) => Status::Memory,
+    }
+}
+
+/// Fills a handle with the line of a refusal, or says that memory ran out.
+pub(crate) fn refuse(alloc: Global, handle: &mut Handle, failure: Failure) -> Status
+    ensures { IsRefused failure handle.old.pointed.value handle.new.pointed.value result }
+{
+    let Failure::Refused(line) = failure else {
+        return Status::Memory;
+    };
+    match fill(alloc, handle, Held::Refusal(line)) {
+        Ok(()) => Status::Refused,
+        Err(_) => Status::Memory,
     }
 }

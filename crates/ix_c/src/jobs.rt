@@ -2,6 +2,7 @@
 
 ghost use Rattle.std.specs.Prelude.{Some};
 ghost use Rattle.ix_c.specs.Answers.{HasOnce};
+ghost use Rattle.ix_c.specs.Calls.{MakesOnce};
 
 use crate::handle::Handle;
 use crate::status::Status;
@@ -10,7 +11,7 @@ use std::alloc::Global;
 
 /// Has a job go into each CID once, and not at every arrival.
 pub(crate) fn once(alloc: Global, job: &mut Handle) -> Status
-    ensures { HasOnce job.old.pointed.value job.new.pointed.value result }
+    ensures { MakesOnce job.old job.new result }
 {
     let Some(mut held) = job.take(alloc) else {
         return Status::Handle;

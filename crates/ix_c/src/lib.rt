@@ -5,25 +5,29 @@
 //! many handles as there are threads.
 #![tactic(auto)]
 
-ghost use Rattle.std.specs.Prelude.{◌≡◌, [], None, Some};
-ghost use Rattle.ix_embedding.specs.Failures.{IsStoreFailure, IsJobFailure, IsPartsFailure, IsSelectorFailure};
+ghost use Rattle.std.specs.Prelude.{◌≡◌, Some};
 ghost use Rattle.ix_embedding.specs.declared.held.Part.TheVariants.{Archive, Report, Text};
-ghost use Rattle.ix_c.specs.Answers.{
-  Told,
-  IsMade,
-  IsOpen,
-  IsStoreOf,
-  IsJobOf,
-  IsJobOfParts,
-  IsSelectorTextOf,
-  IsNoFailure,
-  HasAddedTo,
-  HasFrozen,
-  HasOnce,
-  HasShared,
-  IsExported,
+ghost use Rattle.ix_c.specs.Answers.{Told};
+ghost use Rattle.ix_c.specs.Calls.{
+  Stays,
+  IsEmptied,
+  FillsWithNoBlocks,
+  FillsWithStoreOf,
+  FillsWithJobOf,
+  FillsWithJobOfParts,
+  FillsWithSelectorOf,
+  Adds,
+  Freezes,
+  MakesOnce,
+  SharesWith,
+  ExportsTo,
+  TellsEnd,
+  TellsCounts,
+  TellsBytes,
+  TellsPart,
+  TellsSkip,
+  Copies,
 };
-ghost use Rattle.ix_c.specs.Results.{part_numbered, HasBytes, HasCopied, HasEnd, HasCounts, HasSkip};
 
 mod exporting;
 mod filling;
@@ -53,7 +57,7 @@ pub extern "C" fn ix_version() -> u32
 /// Lets go of what a handle holds, which leaves it empty.
 #[unsafe(no_mangle)]
 pub extern "C" fn ix_free(alloc: Global, handle: &mut Handle)
-    ensures { handle.new.pointed.value ≡ None }
+    ensures { IsEmptied handle.new }
 {
     handle.take(alloc);
 }
@@ -61,7 +65,7 @@ pub extern "C" fn ix_free(alloc: Global, handle: &mut Handle)
 /// `ix_free`, of a store. The blocks go with the last of its handles.
 #[unsafe(no_mangle)]
 pub extern "C" fn ix_store_free(alloc: Global, store: &mut Handle)
-    ensures { store.new.pointed.value ≡ None }
+    ensures { IsEmptied store.new }
 {
     ix_free(alloc, store)
 }
@@ -69,7 +73,7 @@ pub extern "C" fn ix_store_free(alloc: Global, store: &mut Handle)
 /// `ix_free`, of a job.
 #[unsafe(no_mangle)]
 pub extern "C" fn ix_job_free(alloc: Global, job: &mut Handle)
-    ensures { job.new.pointed.value ≡ None }
+    ensures { IsEmptied job.new }
 {
     ix_free(alloc, job)
 }
@@ -77,7 +81,7 @@ pub extern "C" fn ix_job_free(alloc: Global, job: &mut Handle)
 /// `ix_free`, of a result.
 #[unsafe(no_mangle)]
 pub extern "C" fn ix_result_free(alloc: Global, exported: &mut Handle)
-    ensures { exported.new.pointed.value ≡ None }
+    ensures { IsEmptied exported.new }
 {
     ix_free(alloc, exported)
 }
@@ -85,7 +89,7 @@ pub extern "C" fn ix_result_free(alloc: Global, exported: &mut Handle)
 /// Fills a handle with an open store without blocks.
 #[unsafe(no_mangle)]
 pub extern "C" fn ix_store_new(alloc: Global, store: &mut Handle) -> u32
-    ensures { Told (IsMade (IsOpen []) IsNoFailure store.old.pointed.value store.new.pointed.value) result }
+    ensures { Told (FillsWithNoBlocks store.old store.new) result }
 {
     inputs::new_store(alloc, store).code()
 }
@@ -93,7 +97,7 @@ pub extern "C" fn ix_store_new(alloc: Global, store: &mut Handle) -> u32
 /// Fills a handle with an open store of the blocks of a CARv1 file, which is copied.
 #[unsafe(no_mangle)]
 pub extern "C" fn ix_store_read_car(alloc: Global, store: &mut Handle, car: &[u8]) -> u32
-    ensures { Told (IsMade (IsStoreOf car.now) (IsStoreFailure car.now) store.old.pointed.value store.new.pointed.value) result }
+    ensures { Told (FillsWithStoreOf car.now store.old store.new) result }
 {
     inputs::store_of_car(alloc, store, car).code()
 }
@@ -101,7 +105,7 @@ pub extern "C" fn ix_store_read_car(alloc: Global, store: &mut Handle, car: &[u8
 /// Adds a copy of a block to an open store under its CID, unless there is one.
 #[unsafe(no_mangle)]
 pub extern "C" fn ix_store_add(alloc: Global, store: &mut Handle, cid: &[u8], block: &[u8]) -> u32
-    ensures { Told (HasAddedTo cid.now block.now store.old.pointed.value store.new.pointed.value) result }
+    ensures { Told (Adds cid.now block.now store.old store.new) result }
 {
     stores::add(alloc, store, cid, block).code()
 }
@@ -109,7 +113,7 @@ pub extern "C" fn ix_store_add(alloc: Global, store: &mut Handle, cid: &[u8], bl
 /// Freezes an open store: from then on it is shared and doesn't change.
 #[unsafe(no_mangle)]
 pub extern "C" fn ix_store_freeze(alloc: Global, store: &mut Handle) -> u32
-    ensures { Told (HasFrozen store.old.pointed.value store.new.pointed.value) result }
+    ensures { Told (Freezes store.old store.new) result }
 {
     stores::freeze(alloc, store).code()
 }
@@ -117,8 +121,8 @@ pub extern "C" fn ix_store_freeze(alloc: Global, store: &mut Handle) -> u32
 /// Fills another handle with the same frozen store, for another thread.
 #[unsafe(no_mangle)]
 pub extern "C" fn ix_store_share(alloc: Global, store: &mut Handle, other: &mut Handle) -> u32
-    ensures shared { Told (HasShared store.old.pointed.value other.old.pointed.value other.new.pointed.value) result }
-    ensures kept { store.new.pointed.value ≡ store.old.pointed.value }
+    ensures shared { Told (SharesWith store.old other.old other.new) result }
+    ensures kept { Stays store.old store.new }
 {
     stores::share(alloc, store, other).code()
 }
@@ -126,13 +130,13 @@ pub extern "C" fn ix_store_share(alloc: Global, store: &mut Handle, other: &mut 
 /// Fills a handle with the job of a line of a job file.
 #[unsafe(no_mangle)]
 pub extern "C" fn ix_job_from_line(alloc: Global, job: &mut Handle, line: &[u8]) -> u32
-    ensures { Told (IsMade (IsJobOf line.now) (IsJobFailure line.now) job.old.pointed.value job.new.pointed.value) result }
+    ensures { Told (FillsWithJobOf line.now job.old job.new) result }
 {
     inputs::job_from_line(alloc, job, line).code()
 }
 
-/// Fills a handle with the job that has these parts: the CIDs of its roots in binary, end to end, its selector as DAG-CBOR,
-/// and its limit of visits. Its name is `job`.
+/// Fills a handle with the job that has these parts: the CIDs of its roots in binary, end to end, its selector as
+/// DAG-CBOR, and its limit of visits. Its name is `job`.
 #[unsafe(no_mangle)]
 pub extern "C" fn ix_job_new(
     alloc: Global,
@@ -141,7 +145,7 @@ pub extern "C" fn ix_job_new(
     selector: &[u8],
     limit: u32,
 ) -> u32
-    ensures { Told (IsMade (IsJobOfParts roots.now selector.now limit) (IsPartsFailure roots.now selector.now limit) job.old.pointed.value job.new.pointed.value) result }
+    ensures { Told (FillsWithJobOfParts roots.now selector.now limit job.old job.new) result }
 {
     inputs::job_new(alloc, job, roots, selector, limit).code()
 }
@@ -149,7 +153,7 @@ pub extern "C" fn ix_job_new(
 /// Has a job go into each CID once, and not at every arrival.
 #[unsafe(no_mangle)]
 pub extern "C" fn ix_job_once(alloc: Global, job: &mut Handle) -> u32
-    ensures { Told (HasOnce job.old.pointed.value job.new.pointed.value) result }
+    ensures { Told (MakesOnce job.old job.new) result }
 {
     jobs::once(alloc, job).code()
 }
@@ -157,7 +161,7 @@ pub extern "C" fn ix_job_once(alloc: Global, job: &mut Handle) -> u32
 /// Fills a handle with the hexadecimal of the selector of a JSON text, which is the last field of a job's line.
 #[unsafe(no_mangle)]
 pub extern "C" fn ix_selector_from_json(alloc: Global, text: &mut Handle, json: &[u8]) -> u32
-    ensures { Told (IsMade (IsSelectorTextOf json.now) (IsSelectorFailure json.now) text.old.pointed.value text.new.pointed.value) result }
+    ensures { Told (FillsWithSelectorOf json.now text.old text.new) result }
 {
     inputs::selector_from_json(alloc, text, json).code()
 }
@@ -170,9 +174,9 @@ pub extern "C" fn ix_export(
     job: &mut Handle,
     out: &mut Handle,
 ) -> u32
-    ensures exported { Told (IsExported store.old.pointed.value job.old.pointed.value out.old.pointed.value out.new.pointed.value) result }
-    ensures store { store.new.pointed.value ≡ store.old.pointed.value }
-    ensures job { job.new.pointed.value ≡ job.old.pointed.value }
+    ensures exported { Told (ExportsTo store.old job.old out.old out.new) result }
+    ensures store { Stays store.old store.new }
+    ensures job { Stays job.old job.new }
 {
     exporting::export_into(alloc, store, job, out).code()
 }
@@ -180,8 +184,7 @@ pub extern "C" fn ix_export(
 /// How the job of a result ended.
 #[unsafe(no_mangle)]
 pub extern "C" fn ix_result_end(alloc: Global, handle: &mut Handle, end: &mut u32) -> u32
-    ensures end { Told (HasEnd handle.old.pointed.value end.old end.new) result }
-    ensures kept { handle.new.pointed.value ≡ handle.old.pointed.value }
+    ensures { Told (TellsEnd handle.old handle.new end.old end.new) result }
 {
     results::result_end(alloc, handle, end).code()
 }
@@ -189,8 +192,7 @@ pub extern "C" fn ix_result_end(alloc: Global, handle: &mut Handle, end: &mut u3
 /// How a job ended, and what was counted.
 #[unsafe(no_mangle)]
 pub extern "C" fn ix_result_counts(alloc: Global, handle: &mut Handle, counts: &mut Counts) -> u32
-    ensures counts { Told (HasCounts handle.old.pointed.value counts.old counts.new) result }
-    ensures kept { handle.new.pointed.value ≡ handle.old.pointed.value }
+    ensures { Told (TellsCounts handle.old handle.new counts.old counts.new) result }
 {
     results::result_counts(alloc, handle, counts).code()
 }
@@ -203,8 +205,7 @@ pub extern "C" fn ix_result_archive(
     archive: &mut *const u8,
     length: &mut usize,
 ) -> u32
-    ensures bytes { Told (HasBytes (Some Archive) handle.old.pointed.value length.old length.new) result }
-    ensures kept { handle.new.pointed.value ≡ handle.old.pointed.value }
+    ensures { Told (TellsBytes (Some Archive) handle.old handle.new length.old length.new) result }
 {
     results::part_bytes(alloc, handle, Part::Archive, archive, length).code()
 }
@@ -219,8 +220,7 @@ pub extern "C" fn ix_result_skip(
     cid: &mut *const u8,
     length: &mut usize,
 ) -> u32
-    ensures skip { Told (HasSkip number handle.old.pointed.value skip.old length.old skip.new length.new) result }
-    ensures kept { handle.new.pointed.value ≡ handle.old.pointed.value }
+    ensures { Told (TellsSkip number handle.old handle.new skip.old skip.new length.old length.new) result }
 {
     results::result_skip(alloc, handle, number, skip, cid, length).code()
 }
@@ -233,8 +233,7 @@ pub extern "C" fn ix_result_report(
     report: &mut *const u8,
     length: &mut usize,
 ) -> u32
-    ensures bytes { Told (HasBytes (Some Report) handle.old.pointed.value length.old length.new) result }
-    ensures kept { handle.new.pointed.value ≡ handle.old.pointed.value }
+    ensures { Told (TellsBytes (Some Report) handle.old handle.new length.old length.new) result }
 {
     results::part_bytes(alloc, handle, Part::Report, report, length).code()
 }
@@ -247,8 +246,7 @@ pub extern "C" fn ix_fault_line(
     line: &mut *const u8,
     length: &mut usize,
 ) -> u32
-    ensures bytes { Told (HasBytes (Some Text) handle.old.pointed.value length.old length.new) result }
-    ensures kept { handle.new.pointed.value ≡ handle.old.pointed.value }
+    ensures { Told (TellsBytes (Some Text) handle.old handle.new length.old length.new) result }
 {
     results::part_bytes(alloc, handle, Part::Text, line, length).code()
 }
@@ -262,8 +260,7 @@ pub extern "C" fn ix_bytes(
     start: &mut *const u8,
     length: &mut usize,
 ) -> u32
-    ensures bytes { Told (HasBytes (part_numbered part) handle.old.pointed.value length.old length.new) result }
-    ensures kept { handle.new.pointed.value ≡ handle.old.pointed.value }
+    ensures { Told (TellsPart part handle.old handle.new length.old length.new) result }
 {
     results::bytes(alloc, handle, part, start, length).code()
 }
@@ -278,8 +275,7 @@ pub extern "C" fn ix_copy(
     buffer: &mut [u8],
     count: &mut usize,
 ) -> u32
-    ensures copied { Told (HasCopied (part_numbered part) from handle.old.pointed.value buffer.old count.old buffer.new count.new) result }
-    ensures kept { handle.new.pointed.value ≡ handle.old.pointed.value }
+    ensures { Told (Copies part from handle.old handle.new buffer.old buffer.new count.old count.new) result }
 {
     results::copy(alloc, handle, part, from, buffer, count).code()
 }

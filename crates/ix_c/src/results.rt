@@ -1,7 +1,20 @@
 //! What a handle holds, as C reads it.
 
 ghost use Rattle.std.specs.Prelude.{◌≡◌, Some};
-ghost use Rattle.ix_c.specs.Results.{end_code, why_code, part_numbered, counts_told, skip_told, HasBytes, HasCopied, IsCopied, HasEnd, HasCounts, HasSkip};
+ghost use Rattle.ix_c.specs.Calls.{content, Stays, Copies};
+ghost use Rattle.ix_c.specs.Results.{
+  end_code,
+  why_code,
+  part_numbered,
+  counts_told,
+  skip_told,
+  HasBytes,
+  HasCopied,
+  IsCopied,
+  HasEnd,
+  HasCounts,
+  HasSkip,
+};
 
 use crate::handle::Handle;
 use crate::start::start_of;
@@ -79,8 +92,8 @@ fn part_numbered(number: u32) -> Option<Part>
     }
 }
 
-/// Where the bytes of the part with a number begin and how many they are. They stay there until the handle is filled or
-/// freed.
+/// Where the bytes of the part with a number begin and how many they are. They stay there until the handle is
+/// filled or freed.
 pub(crate) fn bytes(
     alloc: Global,
     handle: &mut Handle,
@@ -88,8 +101,8 @@ pub(crate) fn bytes(
     start: &mut *const u8,
     length: &mut usize,
 ) -> Status
-    ensures bytes { HasBytes (part_numbered part) handle.old.pointed.value length.old length.new result }
-    ensures kept { handle.new.pointed.value ≡ handle.old.pointed.value }
+    ensures bytes { HasBytes (part_numbered part) (content handle.old) length.old length.new result }
+    ensures kept { Stays handle.old handle.new }
 {
     match part_numbered(part) {
         Some(part) => part_bytes(alloc, handle, part, start, length),
@@ -105,8 +118,8 @@ pub(crate) fn part_bytes(
     start: &mut *const u8,
     length: &mut usize,
 ) -> Status
-    ensures bytes { HasBytes (Some part) handle.old.pointed.value length.old length.new result }
-    ensures kept { handle.new.pointed.value ≡ handle.old.pointed.value }
+    ensures bytes { HasBytes (Some part) (content handle.old) length.old length.new result }
+    ensures kept { Stays handle.old handle.new }
 {
     let Some(held) = handle.take(alloc) else {
         return Status::Handle;
@@ -137,8 +150,7 @@ pub(crate) fn copy(
     buffer: &mut [u8],
     count: &mut usize,
 ) -> Status
-    ensures copied { HasCopied (part_numbered part) from handle.old.pointed.value buffer.old count.old buffer.new count.new result }
-    ensures kept { handle.new.pointed.value ≡ handle.old.pointed.value }
+    ensures { Copies part from handle.old handle.new buffer.old buffer.new count.old count.new result }
 {
     let Some(part) = part_numbered(part) else {
         return Status::Range;
@@ -176,8 +188,8 @@ fn copy_from(bytes: &[u8], from: usize, buffer: &mut [u8]) -> usize
 
 /// How a job that was exported ended.
 pub(crate) fn result_end(alloc: Global, handle: &mut Handle, end: &mut u32) -> Status
-    ensures end { HasEnd handle.old.pointed.value end.old end.new result }
-    ensures kept { handle.new.pointed.value ≡ handle.old.pointed.value }
+    ensures end { HasEnd (content handle.old) end.old end.new result }
+    ensures kept { Stays handle.old handle.new }
 {
     let Some(held) = handle.take(alloc) else {
         return Status::Handle;
@@ -200,8 +212,8 @@ fn end_of(held: &Held, end: &mut u32) -> Status
 
 /// What is told of a job that was exported.
 pub(crate) fn result_counts(alloc: Global, handle: &mut Handle, counts: &mut Counts) -> Status
-    ensures counts { HasCounts handle.old.pointed.value counts.old counts.new result }
-    ensures kept { handle.new.pointed.value ≡ handle.old.pointed.value }
+    ensures counts { HasCounts (content handle.old) counts.old counts.new result }
+    ensures kept { Stays handle.old handle.new }
 {
     let Some(held) = handle.take(alloc) else {
         return Status::Handle;
@@ -246,8 +258,8 @@ pub(crate) fn result_skip(
     cid: &mut *const u8,
     length: &mut usize,
 ) -> Status
-    ensures skip { HasSkip number handle.old.pointed.value skip.old length.old skip.new length.new result }
-    ensures kept { handle.new.pointed.value ≡ handle.old.pointed.value }
+    ensures skip { HasSkip number (content handle.old) skip.old length.old skip.new length.new result }
+    ensures kept { Stays handle.old handle.new }
 {
     let Some(held) = handle.take(alloc) else {
         return Status::Handle;

@@ -1,7 +1,8 @@
 //! What is done with a store.
 
-ghost use Rattle.std.specs.Prelude.{◌≡◌, Some};
-ghost use Rattle.ix_c.specs.Answers.{HasAddedTo, HasFrozen, HasShared, IsOwnerOf};
+ghost use Rattle.std.specs.Prelude.{Some};
+ghost use Rattle.ix_c.specs.Answers.{HasAddedTo, HasFrozen, IsOwnerOf};
+ghost use Rattle.ix_c.specs.Calls.{Adds, Freezes, SharesWith, Stays};
 
 use crate::filling::fill;
 use crate::handle::Handle;
@@ -13,7 +14,7 @@ use std::sync::Arc;
 
 /// Adds a block to an open store.
 pub(crate) fn add(alloc: Global, store: &mut Handle, cid: &[u8], block: &[u8]) -> Status
-    ensures { HasAddedTo cid.now block.now store.old.pointed.value store.new.pointed.value result }
+    ensures { Adds cid.now block.now store.old store.new result }
 {
     let Some(mut held) = store.take(alloc) else {
         return Status::Handle;
@@ -40,7 +41,7 @@ fn add_to(alloc: Global, held: &mut Held, cid: &[u8], block: &[u8]) -> Status
 
 /// Freezes an open store.
 pub(crate) fn freeze(alloc: Global, store: &mut Handle) -> Status
-    ensures { HasFrozen store.old.pointed.value store.new.pointed.value result }
+    ensures { Freezes store.old store.new result }
 {
     let Some(mut held) = store.take(alloc) else {
         return Status::Handle;
@@ -67,8 +68,8 @@ fn frozen_of(alloc: Global, held: Held) -> (Held, Status)
 
 /// Fills a handle with one more owner of a frozen store.
 pub(crate) fn share(alloc: Global, store: &mut Handle, other: &mut Handle) -> Status
-    ensures shared { HasShared store.old.pointed.value other.old.pointed.value other.new.pointed.value result }
-    ensures kept { store.new.pointed.value ≡ store.old.pointed.value }
+    ensures shared { SharesWith store.old other.old other.new result }
+    ensures kept { Stays store.old store.new }
 {
     let Some(held) = store.take(alloc) else {
         return Status::Handle;

@@ -3,6 +3,9 @@ use Rattle.std.specs.Prelude.{◌≡◌, ℕ, [], ◌∷◌, Some}
 use Rattle.std.specs.Global.{Vec}
 use Rattle.ix_store.specs.Store.{Blocks}
 use Rattle.ix_walk.specs.JobMeaning.{JobMeaning}
+use Rattle.ix_archive.specs.declared.sink.End.TheVariants.{Done}
+use Rattle.ix_archive.specs.Archive.{archive_of}
+use Rattle.ix_archive.specs.Archived.{IsBeginning}
 use Rattle.ix_jobs.specs.declared.outcome.JobResult.{JobResult}
 use Rattle.ix_jobs.specs.Report.{report_of}
 use Rattle.ix_run.specs.Run.{IsRun}
@@ -10,8 +13,18 @@ use Rattle.ix_embedding.specs.declared.exported.Exported.{Exported}
 
 -- what is told of a job that runs alone, and what was written to memory, from nothing on
 abbrev pub IsRunOfOne : Blocks → JobMeaning → JobResult → Vec ℕ → Type 0
-IsRunOfOne store job result archive = (empty : Vec ℕ) × (empty.items ≡ []) × IsRun (λ v. Some v.items) store 0 job empty result archive
+IsRunOfOne store job result archive =
+    (empty : Vec ℕ) × (empty.items ≡ []) × IsRun (λ v. Some v.items) store 0 job empty result archive
 
 -- the same with the report of a run of the job alone
 abbrev pub HasExported : Blocks → JobMeaning → Exported → Type 0
-HasExported store job out = IsRunOfOne store job out.result out.archive × (out.report.items ≡ report_of (job ∷ []) (out.result ∷ []))
+HasExported store job out =
+    IsRunOfOne store job out.result out.archive × (out.report.items ≡ report_of (job ∷ []) (out.result ∷ []))
+
+-- where the job is done, the archive is that of the job
+abbrev pub IsWholeAtDone : Blocks → JobMeaning → Exported → Type 0
+IsWholeAtDone store job out = out.result.end ≡ Done → out.archive.items ≡ archive_of store 0 job
+
+-- however it ended, the archive is a beginning of that of the job
+abbrev pub IsBegun : Blocks → JobMeaning → Exported → Type 0
+IsBegun store job out = IsBeginning out.archive.items (archive_of store 0 job)

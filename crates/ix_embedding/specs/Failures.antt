@@ -29,12 +29,14 @@ IsFailureBy line (Refused told) = told.items ≡ line
 -- the first fault of a CARv1 file, in the program's words, or memory ran out
 abbrev pub IsStoreFailure : List ℕ → Failure → Type 0
 IsStoreFailure file Memory = Unit {0}
-IsStoreFailure file (Refused told) = (fault : CarFault) × car.IsFaultOf file fault (blocks_of file) × (told.items ≡ line_of (Car fault))
+IsStoreFailure file (Refused told) =
+    (fault : CarFault) × car.IsFaultOf file fault (blocks_of file) × (told.items ≡ line_of (Car fault))
 
 -- these jobs are none, or more than one
 abbrev pub IsNotOneFailure : List JobMeaning → Failure → Type 0
 IsNotOneFailure list Memory = Unit {0}
-IsNotOneFailure list (Refused told) = ((job : JobMeaning) → list ≢ job ∷ []) × (told.items ≡ codes "jobs: not one job")
+IsNotOneFailure list (Refused told) =
+    ((job : JobMeaning) → list ≢ job ∷ []) × (told.items ≡ codes "jobs: not one job")
 
 -- the first fault of a job file, in the program's words
 abbrev pub IsFaultyLine : List ℕ → List ℕ → Type 0
@@ -46,12 +48,14 @@ IsJobFault file (Refused told) = IsFaultyLine file told.items
 
 -- or it has no job, or more than one; or memory ran out
 abbrev pub IsJobFailure : List ℕ → Failure → Type 0
-IsJobFailure file failure = IsJobFault file failure ⊎ ((list : List JobMeaning) × (jobs_of file ≡ Ok list) × IsNotOneFailure list failure)
+IsJobFailure file failure =
+    IsJobFault file failure ⊎ ((list : List JobMeaning) × (jobs_of file ≡ Ok list) × IsNotOneFailure list failure)
 
 -- the fault of a text that is no JSON of a selector, in the program's words, or memory ran out
 abbrev pub IsSelectorFailure : List ℕ → Failure → Type 0
 IsSelectorFailure text Memory = Unit {0}
-IsSelectorFailure text (Refused told) = (fault : NotationFault) × IsJsonRefused text fault × (told.items ≡ selectors.line_of fault)
+IsSelectorFailure text (Refused told) =
+    (fault : NotationFault) × IsJsonRefused text fault × (told.items ≡ selectors.line_of fault)
 
 -- the words for a limit or a number of roots that no job has
 abbrev pub job_words : JobFault → List ℕ
@@ -72,4 +76,5 @@ parts_line parts.Memory = codes "memory"
 -- the first fault of the parts of a job, or memory ran out
 abbrev pub IsPartsFailure : List ℕ → List ℕ → ℕ → Failure → Type 0
 IsPartsFailure roots selector limit Memory = Unit {0}
-IsPartsFailure roots selector limit (Refused told) = (fault : PartsFault) × (job_of_parts roots selector limit ≡ Err fault) × (told.items ≡ parts_line fault)
+IsPartsFailure roots selector limit (Refused told) =
+    (fault : PartsFault) × (job_of_parts roots selector limit ≡ Err fault) × (told.items ≡ parts_line fault)

@@ -1,5 +1,6 @@
 -- A job out of its parts: the bytes of its roots' CIDs end to end, the DAG-CBOR of its selector, and its limit.
-use Rattle.std.specs.Prelude.{◌≡◌, ℕ, zero, suc, ◌-◌, false, List, [], ◌∷◌, ◌++◌, length, drop, codes, Option, Some, None, Result, Ok, Err}
+use Rattle.std.specs.Prelude.{◌≡◌, ℕ, zero, suc, ◌-◌, false, List, [], ◌∷◌, ◌++◌, length, drop, codes}
+use Rattle.std.specs.Prelude.{Option, Some, None, Result, Ok, Err}
 use Rattle.ix_cid.specs.Cid.{cid_at}
 use Rattle.ix_cid.specs.declared.fault.CidFault.{CidFault}
 use Rattle.ix_cbor.specs.Data.{Data}
@@ -61,10 +62,15 @@ judged job = told (job_fault job.name job.roots job.limit) where
   told None = Ok job
   told (Some fault) = Err (Job fault)
 
--- the job with these parts and the name "job", which goes in at every arrival
+-- what has these parts and the name "job", and goes in at every arrival
+abbrev pub named_job : List (List ℕ) → Pattern → ℕ → JobMeaning
+named_job roots selector limit =
+    record { name = codes "job"; roots = roots; selector = selector; limit = limit; once = false }
+
+-- the job that is so, or the first fault of its parts
 abbrev pub job_of_parts : List ℕ → List ℕ → ℕ → Result JobMeaning PartsFault
 job_of_parts roots selector limit =
-    roots_in roots >>= (λ r. selector_in selector >>= (λ s. judged (record { name = codes "job"; roots = r; selector = s; limit = limit; once = false })))
+    roots_in roots >>= (λ r. selector_in selector >>= (λ s. judged (named_job r s limit)))
 
 -- what a call answered, seen by view, is what the definition gives, unless memory ran out
 abbrev pub Gives : {X A : Type 0} → (X → A) → Result X PartsFault → Result A PartsFault → Type 0

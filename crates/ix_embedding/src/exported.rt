@@ -1,10 +1,7 @@
 //! An export of one job on the caller's thread.
 
-ghost use Rattle.std.specs.Prelude.{◌≡◌, IfOk};
-ghost use Rattle.ix_archive.specs.declared.sink.End.TheVariants.{Done};
-ghost use Rattle.ix_archive.specs.Archive.{archive_of};
-ghost use Rattle.ix_archive.specs.Archived.{IsBeginning};
-ghost use Rattle.ix_embedding.specs.Exporting.{HasExported, IsRunOfOne};
+ghost use Rattle.std.specs.Prelude.{IfOk};
+ghost use Rattle.ix_embedding.specs.Exporting.{HasExported, IsWholeAtDone, IsBegun, IsRunOfOne};
 
 use ix_check::ShaCheck;
 use ix_jobs::{JobResult, report};
@@ -25,12 +22,12 @@ pub struct Exported {
     pub report: Vec<u8>,
 }
 
-/// Exports one job over a store on the caller's thread: at Done the archive is that of the job, and else a
-/// beginning of it.
+/// Exports one job over a store on the caller's thread: at Done the archive is that of the job, and at every
+/// end a beginning of it.
 pub fn export(alloc: Global, store: &Store, job: &Job) -> Result<Exported, AllocError>
     ensures exported { IfOk result (HasExported store.now job.now) }
-    ensures whole { IfOk result (λ out. out.result.end ≡ Done → out.archive.items ≡ archive_of store.now 0 job.now) }
-    ensures beginning { IfOk result (λ out. IsBeginning out.archive.items (archive_of store.now 0 job.now)) }
+    ensures whole { IfOk result (IsWholeAtDone store.now job.now) }
+    ensures beginning { IfOk result (IsBegun store.now job.now) }
 {
     let (result, archive) = run_one(alloc, store, job)?;
     let report = report(alloc, slice::from_ref(job), slice::from_ref(&result))?;

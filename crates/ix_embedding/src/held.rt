@@ -1,8 +1,8 @@
 //! What a handle holds.
 
-ghost use Rattle.std.specs.Prelude.{◌≡◌, None, Some, MatchOption, MatchResult, IfOk};
+ghost use Rattle.std.specs.Prelude.{◌≡◌, MatchOption, MatchResult, IfOk};
 ghost use Rattle.std.specs.Arc.{arc_value};
-ghost use Rattle.ix_embedding.specs.Parts.{part_of};
+ghost use Rattle.ix_embedding.specs.Parts.{Has, HasNo};
 
 use crate::exported::Exported;
 use ix_store::Store;
@@ -41,7 +41,7 @@ pub enum Part {
 impl Held {
     /// The bytes of a part, if there is such a one.
     pub fn bytes(&self, part: Part) -> Option<&[u8]>
-        ensures { MatchOption result (part_of part self.now ≡ None) (λ bytes. part_of part self.now ≡ Some bytes.now) }
+        ensures { MatchOption result (HasNo part self.now) (λ bytes. Has part self.now bytes.now) }
     {
         match (part, self) {
             (Part::Archive, Held::Exported(out)) => Some(out.archive.as_slice()),

@@ -49,8 +49,8 @@ impl<T: Drop> From<AllocFailed<T>> for PartsFault {
     }
 }
 
-/// The job with these parts and the name `job`: the CIDs of its roots in binary, end to end, its selector as DAG-CBOR, and
-/// its limit of visits.
+/// The job with these parts and the name `job`: the CIDs of its roots in binary, end to end, its selector as
+/// DAG-CBOR, and its limit of visits.
 pub fn job_of_parts(
     alloc: Global,
     roots: &[u8],

@@ -1,8 +1,13 @@
+use Rattle.ix_embedding.specs.declared.held.Held.TheVariants as held
 use Rattle.ix_embedding.specs.Failures.{IsSelectorFailure}
-use Rattle.ix_c.proofs.Made.{refused}
+use Rattle.ix_c.specs.Answers.{IsSelectorTextOf}
+use Rattle.ix_c.proofs.Made.{filled, refused}
 use Rattle.ix_c.proofs.inputs.selector_from_json.Goals as goal
 
-pub returns-in-Ok-fill-2 : goal.returns-in-Ok-fill-2
-returns-in-Ok-fill-2 c =
-    let whole = c.in-Err-Refused.field-0-is in let part = c.in-Err-Refused.line-is in
-    refused (IsSelectorFailure c.args.json.now) c.in-Err-Refused.line _ _ c.in-Ok-fill-2.ensures.ok c.in-Err-Refused.ensures.failed cc
+pub returns-in-Ok : goal.returns-in-Ok
+returns-in-Ok c =
+    filled (IsSelectorTextOf c.args.json.now) (IsSelectorFailure c.args.json.now) (held.Text c.in-Ok.hex) c.args.text.now.pointed.value c.fill_with.new.handle.pointed.value c.fill_with.result c.fill_with.ensures c.in-Ok.ensures.selector
+
+pub returns-in-Err : goal.returns-in-Err
+returns-in-Err c =
+    refused (IsSelectorTextOf c.args.json.now) (IsSelectorFailure c.args.json.now) c.in-Err.failure c.args.text.now.pointed.value c.refuse.new.handle.pointed.value c.refuse.result c.refuse.ensures c.in-Err.ensures.failed
