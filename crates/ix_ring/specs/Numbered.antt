@@ -1,5 +1,5 @@
 -- Items with numbers, as a ring holds them.
-use Rattle.std.specs.Prelude.{◌≡◌, ◌≤◌, ◌<◌, ℕ, zero, suc, ◌+◌, List, [], ◌∷◌, Option, Some, None, ◌==◌, if◌then◌else◌, refl}
+use Rattle.std.specs.Prelude.{◌≡◌, ◌≤◌, ◌<◌, ℕ, zero, suc, ◌+◌, List, [], ◌∷◌, length, Option, Some, None, MatchOption, ◌==◌, if◌then◌else◌, refl}
 use Rattle.std.specs.Coded.{Coded, code_by, coded×, coded_list, coded_ℕ}
 use Rattle.ix_ring.specs.declared.fault.RingFault.{RingFault}
 use Rattle.ix_ring.specs.declared.fault.RingFault.TheVariants.{Passed, Far, Taken, Memory}
@@ -18,6 +18,14 @@ module _ {T : Type 0} where
   slot [] k = None
   slot (o ∷ os) zero = o
   slot (o ∷ os) (suc k) = slot os k
+
+  -- there is an item in the slot k
+  abbrev pub IsTaken : List (Option T) → ℕ → Type 0
+  IsTaken os k = (x : T) × (slot os k ≡ Some x)
+
+  -- room was made up to a slot, and for no more
+  abbrev pub ReachesNoFurther : ℕ → List (Option T) → List (Option T) → Type 0
+  ReachesNoFurther k old new = (most : ℕ) → k < most → length old ≤ most → length new ≤ most
 
   -- the items in slots that are numbered from n on
   abbrev pub entries_of : ℕ → List (Option T) → List (ℕ × T)
@@ -56,6 +64,10 @@ module _ {T : Type 0} where
   IsRefused r n x (Taken y) = (y ≡ x) × (r.next ≤ n) × (n < r.next + 1048576) × ((z : T) × (found r n ≡ Some z))
   IsRefused r n x (Memory y) = (y ≡ x) × IsFree r n
 
+  -- the same, and nothing changed
+  abbrev pub Refuses : Numbered T → ℕ → T → Numbered T → RingFault T → Type 0
+  Refuses old n x new fault = (new ≡ old) × IsRefused old n x fault
+
   -- the reason is want of memory
   abbrev pub IsMemory : RingFault T → Type 0
   IsMemory (Passed x) = ⊥
@@ -70,3 +82,7 @@ module _ {T : Type 0} where
   -- the next item came out
   abbrev pub IsPopped : Numbered T → T → Numbered T → Type 0
   IsPopped old x new = (found old old.next ≡ Some x) × (new.next ≡ old.next + 1) × (found new old.next ≡ None) × IsSameBeside old.next old new
+
+  -- what is popped is the next item, if it is there
+  abbrev pub Pops : Numbered T → Option T → Numbered T → Type 0
+  Pops old result new = MatchOption result (HasNoNext old new) (λ item. IsPopped old item new)

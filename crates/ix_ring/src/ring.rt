@@ -1,7 +1,7 @@
 //! Items by number, in a window that moves on.
 
-ghost use Rattle.std.specs.Prelude.{◌≡◌, ◌<◌, ◌≤◌, ◌+◌, ◌-◌, ℕ, [], length, slice_set, drop, IfOk, OnOk, OnErr, IfErr, MatchOption, MatchBool, None, Some};
-ghost use Rattle.ix_ring.specs.Numbered.{slot, HasNoNext, IsHeldWithin, IsPlaced, IsRefused, IsPopped};
+ghost use Rattle.std.specs.Prelude.{◌≡◌, ◌<◌, ◌≤◌, ◌+◌, ◌-◌, ℕ, [], length, slice_set, drop, IfOk, OnOk, OnErr, IfErr, MatchBool, None, Some};
+ghost use Rattle.ix_ring.specs.Numbered.{slot, IsTaken, ReachesNoFurther, IsHeldWithin, IsPlaced, Refuses, Pops};
 
 use crate::fault::RingFault;
 use circular_buffer::HeapCircularBuffer;
@@ -48,7 +48,7 @@ fn reach<T: Drop>(
     requires { index < 1048576 }
     ensures slots { (k : ℕ) → slot window.new.items k ≡ slot window.old.items k }
     ensures reached { OnOk result (index < length window.new.items) }
-    ensures within { (most : ℕ) → index < most → length window.old.items ≤ most → length window.new.items ≤ most }
+    ensures within { ReachesNoFurther index window.old.items window.new.items }
 {
     if window.capacity() <= index {
         let wanted = (index + 1).next_power_of_two();
@@ -62,7 +62,7 @@ fn reach<T: Drop>(
 
 // Whether there is an item in the slot.
 fn is_taken<T: Drop>(window: &HeapCircularBuffer<Option<T>>, index: usize) -> bool
-    ensures { MatchBool result ((x : T) × (slot window.now.items index ≡ Some x)) (slot window.now.items index ≡ None) }
+    ensures { MatchBool result (IsTaken window.now.items index) (slot window.now.items index ≡ None) }
 {
     match window.get(index) {
         Some(Some(_)) => true,
@@ -102,7 +102,7 @@ impl<T: Drop> Ring<T> {
     /// Places an item at its number. A refusal changes nothing.
     pub fn place(&mut self, seq: u32, item: T) -> Result<(), RingFault<T>>
         ensures placed { OnOk result (IsPlaced self.old seq item self.new) }
-        ensures refused { IfErr result (λ fault. (self.new ≡ self.old) × IsRefused self.old seq item fault) }
+        ensures refused { IfErr result (λ fault. Refuses self.old seq item self.new fault) }
     {
         let seq = u64::from(seq);
         if seq < self.next {
@@ -124,7 +124,7 @@ impl<T: Drop> Ring<T> {
 
     /// Gives the item numbered `next`, and the number behind it is then the next.
     pub fn pop(&mut self) -> Option<T>
-        ensures popped { MatchOption result (HasNoNext self.old self.new) (λ item. IsPopped self.old item self.new) }
+        ensures popped { Pops self.old result self.new }
         ensures within { self.new.next ≤ 4294967296 }
     {
         if !is_taken(&self.window, 0) {
