@@ -24,7 +24,8 @@ pub struct Log {
 impl Log {
     /// Nothing was told so far, and there is room for so many deliveries.
     pub fn new(alloc: Global, room: usize) -> Result<Log, AllocError>
-        ensures events { IfOk result (λ s. map delivery s.deliveries.items ++ map closing (option_to_list s.closed) ≡ []) }
+        ensures events { IfOk result (λ s. map delivery s.deliveries.items
+            ++ map closing (option_to_list s.closed) ≡ []) }
         ensures failed { IfOk result (λ s. option_to_list s.failed ≡ []) }
     {
         Ok(Log {
