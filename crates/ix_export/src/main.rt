@@ -24,8 +24,8 @@ ghost use Rattle.std.specs.Arc.{arc_value};
 use crate::job_file::{check_jobs, print_job};
 use clap::ArgMatches;
 use ix_files::{
-    Failure, Progress, STANDARD_INPUT, Telling, load_input, make_outputs, name_complete_outputs,
-    name_outputs, read_all, read_input, remove_outputs, stand_in,
+    Failure, Help, Progress, STANDARD_INPUT, Telling, load_input, make_outputs,
+    name_complete_outputs, name_outputs, read_all, read_input, remove_outputs, stand_in,
 };
 use ix_notation::{hex_of_json, json_of_hex};
 use ix_pipeline::Plan;
@@ -86,8 +86,16 @@ fn obey<
         + Sync,
 >(rt: &R, terminals: Terminals) -> Result<u8, Failure> {
     let words = words_of(rt)?;
-    let matches = command_line(rt.alloc())?.try_get_matches_from(words.as_slice())?;
-    obey_command(rt, &matches, terminals)
+    match command_line(rt.alloc())?.try_get_matches_from(words.as_slice()) {
+        Ok(matches) => obey_command(rt, &matches, terminals),
+        Err(error) => print_help(rt, error),
+    }
+}
+
+// Prints the help or the version, where the words asked for it.
+fn print_help<R: AllocGlobal + Eprint + Print>(rt: &R, error: clap::Error) -> Result<u8, Failure> {
+    Help::asked_for(error)?.print(rt)?;
+    Ok(0)
 }
 
 // The words that the program was started with.

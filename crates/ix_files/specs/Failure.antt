@@ -1,6 +1,9 @@
 -- What the program says of a refusal that comes from below.
 use Rattle.std.specs.Prelude.{◌≡◌, ◌≢◌, ℕ, List, ◌++◌, String, ◌⊎◌, string_bytes, codes, Contains}
 use Rattle.std.specs.Global.{Global}
+use Rattle.std.specs.IoError.{error_kind}
+use Rattle.std.specs.declared.io.Error as io
+use Rattle.std.specs.declared.io.ErrorKind.TheVariants as kinds
 use Rattle.clap.specs.Values.{kind_of}
 use Rattle.clap.specs.declared.error.Error.{Error}
 use Rattle.clap.specs.declared.error.kind.ErrorKind.TheVariants.{OutOfMemory, DisplayHelp, DisplayVersion}
@@ -8,6 +11,10 @@ use Rattle.ix_walk.specs.JobMeaning.{JobMeaning}
 use Rattle.ix_files.specs.declared.fault.Failure.{Failure}
 use Rattle.ix_files.specs.declared.fault.Failure.TheVariants.{Usage, Words, Fault, CannotRead, TooLarge, CannotWrite}
 use Rattle.ix_run.specs.declared.fault.RunFault.TheVariants.{Memory}
+
+-- an error on a file that is want of memory
+abbrev pub WantsMemory : io.Error → Type 0
+WantsMemory error = error_kind error ≡ kinds.OutOfMemory
 
 -- clap's refusal is told as it is, but for want of memory
 pub record IsUsageOf (error : Error) (failure : Failure) : Type 0 where
@@ -61,5 +68,5 @@ abbrev pub IsOutputFailure : List ℕ → List JobMeaning → Failure → Type 0
 IsOutputFailure folder jobs failure = (failure ≡ Fault Memory) ⊎ NamesOutput folder jobs failure
 
 -- nobody asked for this text: it is no help and no version
-abbrev pub IsRefusal : Failure → Type 0
-IsRefusal failure = (error : Error) → failure ≡ Usage error → (kind_of error ≢ DisplayHelp) × (kind_of error ≢ DisplayVersion)
+abbrev pub IsMistake : Error → Type 0
+IsMistake error = (kind_of error ≢ DisplayHelp) × (kind_of error ≢ DisplayVersion)

@@ -1,9 +1,8 @@
 //! Why the program ends early, and what it tells the user.
 
 ghost use Rattle.std.specs.Prelude.{◌≡◌, ◌↔◌, IsTrue};
-ghost use Rattle.std.specs.IoError.{error_kind};
 ghost use Rattle.ix_files.specs.declared.fault.Failure.TheVariants.{CannotRead, TooLarge, CannotWrite};
-ghost use Rattle.ix_files.specs.Failure.{IsRefusal, IsWordsOf, Names, NamesFile};
+ghost use Rattle.ix_files.specs.Failure.{IsWordsOf, Names, NamesFile, WantsMemory};
 
 use clap::error::ErrorKind as UsageKind;
 use ix_notation::NotationFault;
@@ -36,7 +35,7 @@ pub enum Failure {
 impl Failure {
     /// The arguments of the process can't be read.
     pub fn of_words(error: &io::Error) -> Failure
-        ensures { IsWordsOf (error_kind error.now ≡ ErrorKind.OutOfMemory) result }
+        ensures { IsWordsOf (WantsMemory error.now) result }
     {
         if is_want_of_memory(error) {
             Failure::Fault(RunFault::Memory)
@@ -47,7 +46,7 @@ impl Failure {
 
     /// An input can't be read.
     pub fn cannot_read(alloc: Global, path: &str, error: &io::Error) -> Failure
-        ensures { NamesFile CannotRead path.now (error_kind error.now ≡ ErrorKind.OutOfMemory) result }
+        ensures { NamesFile CannotRead path.now (WantsMemory error.now) result }
     {
         match String::from_str(alloc, path) {
             Ok(path) if !is_want_of_memory(error) => Failure::CannotRead(path),
@@ -57,7 +56,7 @@ impl Failure {
 
     /// An output can't be made or written.
     pub fn cannot_write(alloc: Global, path: &str, error: &io::Error) -> Failure
-        ensures { NamesFile CannotWrite path.now (error_kind error.now ≡ ErrorKind.OutOfMemory) result }
+        ensures { NamesFile CannotWrite path.now (WantsMemory error.now) result }
     {
         match String::from_str(alloc, path) {
             Ok(path) if !is_want_of_memory(error) => Failure::CannotWrite(path),
@@ -77,15 +76,10 @@ impl Failure {
 
     /// Tells the user, and answers the status.
     pub fn report<R: AllocGlobal + Eprint + Print>(&self, rt: &R) -> u8
-        ensures { IsRefusal self.now → result ≡ 2 }
+        ensures { result ≡ 2 }
     {
         let told = match self {
-            Failure::Usage(error) if error.use_stderr() => error.print(rt),
-            // The help was asked for.
-            Failure::Usage(error) => match error.print(rt) {
-                Ok(()) => return 0,
-                Err(_) => rt.eprintln("cannot write -"),
-            },
+            Failure::Usage(error) => error.print(rt),
             Failure::Words => rt.eprintln("error: a word of the command is not UTF-8"),
             Failure::Fault(fault) => match fault_line(rt.alloc(), fault) {
                 Ok(line) => rt.eprintln(line.as_str()),
@@ -106,7 +100,7 @@ impl Failure {
 }
 
 fn is_want_of_memory(error: &io::Error) -> bool
-    ensures { IsTrue result ↔ (error_kind error.now ≡ ErrorKind.OutOfMemory) }
+    ensures { IsTrue result ↔ WantsMemory error.now }
 {
     matches!(error.kind(), ErrorKind::OutOfMemory)
 }

@@ -5,6 +5,7 @@ use Rattle.ix_jobs.specs.declared.fault.JobsKind.{JobsKind}
 use Rattle.ix_jobs.specs.declared.part.Part.{Part}
 use Rattle.ix_jobs.specs.Jobs.{jobs_of}
 use Rattle.ix_jobs.specs.Parts.{part_jobs_of}
+use Rattle.ix_run.specs.declared.loading.Choice.{Choice}
 
 -- the jobs of a job file, or of a part of it
 abbrev pub jobs_in : Option Part → List ℕ → Result (List JobMeaning) (JobsKind × ℕ)
@@ -16,5 +17,5 @@ abbrev pub walked : Bool → List JobMeaning → List JobMeaning
 walked once jobs = if once then map (going_in true) jobs else jobs
 
 -- these are the jobs that are run of a file
-abbrev pub AreChosen : Option Part → Bool → List ℕ → List JobMeaning → Type 0
-AreChosen part once b jobs = (all : List JobMeaning) × (jobs_in part b ≡ Ok all) × (jobs ≡ walked once all)
+abbrev pub AreChosen : Choice → List ℕ → List JobMeaning → Type 0
+AreChosen choice b jobs = (all : List JobMeaning) × (jobs_in choice.part b ≡ Ok all) × (jobs ≡ walked choice.once all)

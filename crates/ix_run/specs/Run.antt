@@ -1,5 +1,8 @@
 -- What a run leaves.
-use Rattle.std.specs.Prelude.{◌≡◌, ◌⊎◌, ℕ, ◌+◌, ◌<◌, List, [], ◌∷◌, ◌++◌, length, map, Option, Some}
+use Rattle.std.specs.Prelude.{◌≡◌, ◌⊎◌, ℕ, ◌+◌, ◌<◌, ◌≤◌, List, [], ◌∷◌, ◌++◌, length, map, Option, Some, Result, IfOk}
+use Rattle.std.specs.Arc.{arc_value}
+use Rattle.std.specs.Global.{Global, Vec}
+use Rattle.std.specs.declared.sync.Arc.{Arc}
 use Rattle.std.specs.Io.KnownBytes.{Keeps}
 use Rattle.ix_store.specs.Store.{Blocks}
 use Rattle.ix_walk.specs.JobMeaning.{JobMeaning}
@@ -17,6 +20,10 @@ use Rattle.ix_jobs.specs.Report.{report_of, status_of}
 use Rattle.ix_run.specs.declared.fault.RunFault.{RunFault}
 use Rattle.ix_run.specs.declared.fault.RunFault.TheVariants.{Hex, Root, Car, Jobs, Write, Memory}
 use Rattle.ix_run.specs.declared.execution.RunOut.{RunOut}
+
+-- a run can be begun: there is a writer for each job, and there are at most 1,000
+abbrev pub CanRun : {W : Type 0} → Arc (Vec JobMeaning) Global → List W → Type 0
+CanRun jobs writers = (length writers ≡ length (arc_value jobs).items) × (length (arc_value jobs).items ≤ 1000)
 
 -- The end that is told of a job: that of its close, or a failed write, where the last bytes of a whole archive couldn't be flushed.
 abbrev pub IsEndOf : End → End → Type 0
@@ -51,6 +58,10 @@ module _ {W : Type 0} (told : W → Option (List ℕ)) where
   EachRun store n (j ∷ js) (b ∷ bs) (r ∷ rs) (a ∷ xs) = IsRun told store n j b r a × EachRun store (n + 1) js bs rs xs
   EachRun store n js bs rs xs = ⊥
 
+  -- all jobs were run: what was told of them, and their writers
+  abbrev pub HaveRun : Blocks → List JobMeaning → List W → Vec JobResult × Vec W → Type 0
+  HaveRun store jobs before out = EachRun store 0 jobs before out.0.items out.1.items
+
   -- an archive for each job and its writer, told nothing so far
   abbrev pub EachBegun : Blocks → List JobMeaning → List W → List (ArchiveMeaning W) → Type 0
   EachBegun store [] [] [] = Unit {0}
@@ -79,6 +90,10 @@ pub record HasRun {W : Type 0} (told : W → Option (List ℕ)) (store : Blocks)
   pub ends : out.ends.items ≡ map (λ r. r.end) results
   -- and so is what is handed out of each
   pub told_of : out.results.items ≡ results
+
+-- a run that isn't refused leaves this
+abbrev pub RunsTo : {W : Type 0} → (W → Option (List ℕ)) → Arc Blocks Global → Arc (Vec JobMeaning) Global → List W → Result (RunOut W) RunFault → Type 0
+RunsTo told store jobs before result = IfOk result (λ out. HasRun told (arc_value store) (arc_value jobs).items before out)
 
 -- the header of one of the jobs can't be written, or memory ran out
 abbrev pub IsRunRefusal : List JobMeaning → RunFault → Type 0

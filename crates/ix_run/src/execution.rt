@@ -4,9 +4,9 @@ ghost use Rattle.std.specs.Prelude.{◌≡◌, ◌≤◌, [], length, map, vec_l
 ghost use Rattle.std.specs.Arc.{arc_value};
 ghost use Rattle.std.specs.Io.KnownBytes.{Keeps};
 ghost use Rattle.ix_pipeline.specs.Headline.{EachUnused};
-ghost use Rattle.ix_pipeline.specs.Planned.{IsPlan};
 ghost use Rattle.ix_run.specs.declared.fault.RunFault.TheVariants.{Memory};
-ghost use Rattle.ix_run.specs.Run.{HasRun, EachRun, IsRunRefusal, EachBegun, EachEnded, IsEndOf};
+ghost use Rattle.ix_pipeline.specs.Planned.{IsPlan};
+ghost use Rattle.ix_run.specs.Run.{CanRun, HaveRun, RunsTo, IsRunRefusal, EachBegun, EachEnded, IsEndOf};
 
 use crate::fault::RunFault;
 use crate::watch::{Unwatched, Watch, Watched};
@@ -46,10 +46,9 @@ pub fn run<R: Threads + Wait + Sync, W: Write + Drop>(
     verifiers: u32,
     plan: Plan,
 ) -> Result<RunOut<W>, RunFault>
-    requires writers { length writers.items ≡ length (arc_value jobs.now).items }
-    requires jobs { length (arc_value jobs.now).items ≤ 1000 }
+    requires run { CanRun jobs.now writers.items }
     requires plan { IsPlan plan verifiers }
-    ensures ran { IfOk result (λ out. HasRun W.contents (arc_value store.now) (arc_value jobs.now).items writers.items out) }
+    ensures ran { RunsTo W.contents store.now jobs.now writers.items result }
     ensures refused { IfErr result (λ fault. IsRunRefusal (arc_value jobs.now).items fault) }
 {
     let watch = Unwatched;
@@ -68,10 +67,9 @@ pub fn run_watched<R: Threads + Wait + Sync, W: Write + Drop, V: Watch>(
     plan: Plan,
     watch: &V,
 ) -> Result<RunOut<W>, RunFault>
-    requires writers { length writers.items ≡ length (arc_value jobs.now).items }
-    requires jobs { length (arc_value jobs.now).items ≤ 1000 }
+    requires run { CanRun jobs.now writers.items }
     requires plan { IsPlan plan verifiers }
-    ensures ran { IfOk result (λ out. HasRun W.contents (arc_value store.now) (arc_value jobs.now).items writers.items out) }
+    ensures ran { RunsTo W.contents store.now jobs.now writers.items result }
     ensures refused { IfErr result (λ fault. IsRunRefusal (arc_value jobs.now).items fault) }
 {
     let (results, writers) = run_by(rt, alloc, store, jobs, writers, verifiers, plan, watch)?;
@@ -105,10 +103,10 @@ fn run_by<R: Threads + Wait + Sync, W: Write + Drop, V: Watch>(
     plan: Plan,
     watch: &V,
 ) -> Result<(Vec<JobResult>, Vec<W>), RunFault>
-    requires writers { length writers.items ≡ length (arc_value jobs.now).items }
-    requires jobs { length (arc_value jobs.now).items ≤ 1000 }
+    requires run { CanRun jobs.now writers.items }
     requires plan { IsPlan plan verifiers }
-    ensures ran { IfOk result (λ r. EachRun W.contents (arc_value store.now) 0 (arc_value jobs.now).items writers.items r.0.items r.1.items) }
+    ensures ran { IfOk result (λ out.
+        HaveRun W.contents (arc_value store.now) (arc_value jobs.now).items writers.items out) }
     ensures refused { IfErr result (λ fault. IsRunRefusal (arc_value jobs.now).items fault) }
 {
     let mut archives = begun(alloc, store, jobs.as_slice(), writers, watch)?;
@@ -143,7 +141,7 @@ pub fn run_jobs<W: Write + Drop, C: Check>(
     requires unused { C.checked check.old ≡ [] }
     requires writers { length writers.items ≡ length jobs.now }
     requires jobs { length jobs.now ≤ 1000 }
-    ensures ran { IfOk result (λ r. EachRun W.contents store.now 0 jobs.now writers.items r.0.items r.1.items) }
+    ensures ran { IfOk result (λ out. HaveRun W.contents store.now jobs.now writers.items out) }
     ensures refused { IfErr result (λ fault. IsRunRefusal jobs.now fault) }
 {
     let watch = Unwatched;
@@ -162,7 +160,8 @@ fn begun<'a, W: Write + Drop, V: Watch>(
 ) -> Result<Vec<Watched<'a, W, V>>, RunFault>
     requires writers { length writers.items ≡ length jobs.now }
     requires jobs { length jobs.now ≤ 1000 }
-    ensures begun { IfOk result (λ archives. EachBegun W.contents store.now jobs.now writers.items archives.items) }
+    ensures begun { IfOk result (λ archives.
+        EachBegun W.contents store.now jobs.now writers.items archives.items) }
     ensures refused { IfErr result (λ fault. IsRunRefusal jobs.now fault) }
 {
     let mut archives = Vec::with_capacity(alloc, jobs.len())?;
@@ -183,7 +182,8 @@ fn ended<'a, W: Write + Drop, V: Watch>(
     ends: &[End],
 ) -> Result<(Vec<JobResult>, Vec<W>), RunFault>
     requires { length archives.items ≡ length ends.now }
-    ensures ended { IfOk result (λ r. EachEnded W.contents archives.entry.items ends.now r.0.items r.1.items) }
+    ensures ended { IfOk result (λ out.
+        EachEnded W.contents archives.entry.items ends.now out.0.items out.1.items) }
     ensures memory { IfErr result (λ fault. fault ≡ Memory) }
 {
     let mut results = Vec::with_capacity(alloc, ends.len())?;

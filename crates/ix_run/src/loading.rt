@@ -8,6 +8,7 @@ ghost use Rattle.ix_run.specs.Choosing.{jobs_in, walked, AreChosen};
 ghost use Rattle.ix_run.specs.Prepare.{IsFilesRefusal};
 
 use crate::fault::RunFault;
+use crate::preparation::shared;
 use ix_car::load_car_by;
 use ix_jobs::{JobsFault, Part, read_jobs, read_jobs_part};
 use ix_store::Store;
@@ -37,14 +38,14 @@ pub fn load_by<R: Threads + Sync>(
     threads: usize,
 ) -> Result<(Arc<Store>, Arc<Vec<Job>>), RunFault>
     ensures blocks { IfOk result (λ p. blocks_of car.items ≡ Ok (arc_value p.0)) }
-    ensures jobs { IfOk result (λ p. AreChosen choice.part choice.once job_file.now (arc_value p.1).items) }
+    ensures jobs { IfOk result (λ p. AreChosen choice job_file.now (arc_value p.1).items) }
     ensures few { IfOk result (λ p. length (arc_value p.1).items ≤ 1000) }
-    ensures refused { IfErr result (λ fault. IsFilesRefusal car.items (jobs_in choice.part job_file.now) fault) }
+    ensures refused { IfErr result (IsFilesRefusal car.items (jobs_in choice.part job_file.now)) }
 {
     let store = load_car_by(rt, alloc, car, threads)?;
     let jobs = read_chosen(alloc, job_file, choice.part)?;
     let jobs = walked(alloc, jobs, choice.once)?;
-    Ok((Arc::new(alloc, store)?, Arc::new(alloc, jobs)?))
+    Ok(shared(alloc, store, jobs)?)
 }
 
 // The jobs of a file, or of a part of it.

@@ -54,7 +54,8 @@ fn run_alone(
 
 // The archive of one job, where it is whole.
 fn whole_archive(results: &[JobResult], mut archives: Vec<Vec<u8>>) -> Option<Vec<u8>>
-    ensures whole { IfSome result (λ archive. (is_whole results.now ≡ true) × IsLast archives.items archive) }
+    ensures whole { IfSome result (λ archive.
+        (is_whole results.now ≡ true) × IsLast archives.items archive) }
     ensures none { IfNone result ((is_whole results.now ≡ false) ⊎ (archives.items ≡ [])) }
 {
     if is_whole(results) {

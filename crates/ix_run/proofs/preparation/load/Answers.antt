@@ -1,6 +1,10 @@
-use Rattle.std.proofs.Common.{◌≤◌, length, subst, sym}
+use Rattle.std.proofs.Common.{rules, ◌≤◌, length, subst, sym}
 use Rattle.ix_run.proofs.JobNumbers.{few_jobs}
 use Rattle.ix_run.proofs.preparation.load.Goals as goal
 
-pub returns-clause-few : goal.returns-clause-few
-returns-clause-few c = subst (λ v. length v.items ≤ 1000) (sym c.in_ok-new-2.ensures.ok) (few_jobs c.args.job_file.now c.in_ok-jobs.jobs.items c.in_ok-jobs.ensures.jobs)
+pub returns-clause-loaded : goal.returns-clause-loaded
+returns-clause-loaded c = (
+  search rules,
+  search rules,
+  subst (λ v. length v.items ≤ 1000) (sym c.in_ok-shared.ensures.1) (few_jobs c.args.job_file.now c.in_ok-jobs.jobs.items c.in_ok-jobs.ensures.jobs),
+)

@@ -1,0 +1,39 @@
+//! The help and the version of the program, which are no failure.
+
+ghost use Rattle.std.specs.Prelude.{IfOk, IfErr, codes};
+ghost use Rattle.ix_files.specs.Failure.{IsMistake, IsPathFailure, IsUsageOf};
+
+use crate::fault::Failure;
+
+// The path that names standard output.
+const STANDARD_OUTPUT: &str = "-";
+
+/// A text that the words of the program asked for: its help, or its version.
+#[derive(Debug, Drop)]
+pub struct Help {
+    text: clap::Error,
+}
+
+impl Help {
+    /// The text that the words asked for, or why they are no command.
+    pub fn asked_for(error: clap::Error) -> Result<Help, Failure>
+        ensures asked { IfOk result (λ help. IsMistake error → ⊥) }
+        ensures refused { IfErr result (λ failure. IsMistake error × IsUsageOf error failure) }
+    {
+        if error.use_stderr() {
+            Err(Failure::from(error))
+        } else {
+            Ok(Help { text: error })
+        }
+    }
+
+    /// Prints it on standard output.
+    pub fn print<R: AllocGlobal + Eprint + Print>(&self, rt: &R) -> Result<(), Failure>
+        ensures { IfErr result (λ failure. IsPathFailure (codes "-") failure) }
+    {
+        match self.text.print(rt) {
+            Ok(()) => Ok(()),
+            Err(error) => Err(Failure::cannot_write(rt.alloc(), STANDARD_OUTPUT, &error)),
+        }
+    }
+}
