@@ -26,7 +26,7 @@ use Rattle.ix_stages.specs.Good.{judged_at, over_at, IsAllowed, IsGood}
 use Rattle.ix_collect.specs.JobProgress.{IsOver, IsCome, IsComeTo}
 use Rattle.ix_collect.specs.Collected.{EachCome, AllEnded, EachEnded}
 use Rattle.ix_collect.proofs.Counting.{point_here}
-use Rattle.ix_collect.proofs.Stepping.{less_at}
+use Rattle.ix_collect.proofs.Arrivals.{less_at}
 use Rattle.ix_collect.proofs.Goodness.{same_tests}
 
 abbrev pub end_or : JobProgress → End

@@ -15,7 +15,7 @@ use Rattle.ix_stages.specs.Received.{weigh, point, is_checked, is_unchecked, is_
 use Rattle.ix_stages.specs.Good.{judged_at, over_at, IsCloseOf, IsAllowed, IsGood}
 use Rattle.ix_collect.specs.JobProgress.{below, IsFine, IsItem}
 use Rattle.ix_collect.proofs.Counting.{point_here, point_else}
-use Rattle.ix_collect.proofs.Stepping.{less_at}
+use Rattle.ix_collect.proofs.Arrivals.{less_at}
 
 pub weigh_append : {X : Type 0} (h : X → ℕ) (xs ys : List X) → weigh h (xs ++ ys) ≡ weigh h xs + weigh h ys
 weigh_append h [] ys = omega arith

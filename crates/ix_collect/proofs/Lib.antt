@@ -1,7 +1,10 @@
 pub mod Kept
 pub mod Members
 pub mod Counting
-pub mod Stepping
+pub mod Arrivals
+pub mod Closes
+pub mod Deliveries
+pub mod Closings
 pub mod Goodness
 pub mod Collecting
 pub mod Beginning

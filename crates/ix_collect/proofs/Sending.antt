@@ -16,7 +16,7 @@ use Rattle.ix_stages.specs.declared.verdicted.Verdicted.TheVariants.{Checked, Un
 use Rattle.ix_stages.specs.Received.{weigh, point, is_checked, is_unchecked, is_close, pairs_of}
 use Rattle.ix_stages.specs.Good.{judged_at, IsAllowed, IsGood}
 use Rattle.ix_stages.specs.Sent.{visits_at, Answers, SentFor, IsOfCourse, is_item, is_end, IsGoodTaken}
-use Rattle.ix_collect.proofs.Stepping.{less_at}
+use Rattle.ix_collect.proofs.Arrivals.{less_at}
 
 get_map : {X Y : Type 0} (f : X → Y) (xs : List X) (k : ℕ) (x : X) → slice_get xs k ≡ Some x → slice_get (map f xs) k ≡ Some (f x)
 get_map f [] k x e = cc

@@ -1,13 +1,19 @@
--- What the laws say of what is sent for what was taken.
-use Rattle.std.specs.Prelude.{◌<◌, ℕ, List, Contains}
+-- What the laws say of what is sent for what was taken, and of what is collected.
+use Rattle.std.specs.Prelude.{◌≡◌, ◌<◌, ℕ, List, [], length, Contains}
 use Rattle.ix_store.specs.Store.{Blocks}
 use Rattle.ix_walk.specs.JobMeaning.{JobMeaning}
-use Rattle.ix_archive.specs.Headline.{IsEachOnce, visit_count}
+use Rattle.ix_archive.specs.declared.sink.Delivery.{Delivery}
+use Rattle.ix_archive.specs.declared.sink.End.{End}
+use Rattle.ix_archive.specs.Events.{Event}
+use Rattle.ix_archive.specs.Headline.{EachFresh, IsEachOnce, visit_count}
 use Rattle.ix_stages.specs.declared.item.Item.{Item}
 use Rattle.ix_stages.specs.declared.verdicted.Verdicted.{Verdicted}
 use Rattle.ix_stages.specs.Good.{IsGood}
 use Rattle.ix_stages.specs.Received.{pairs_of}
 use Rattle.ix_stages.specs.Sent.{SentFor, IsGoodTaken}
+use Rattle.ix_collect.specs.declared.collector.Collector.{Collector}
+use Rattle.ix_collect.specs.Collected.{job_count, HasEnds, IsUnused, MayTell}
+use Rattle.ix_collect.specs.Collecting.{HasCollected, IfCollected}
 
 -- what is sent for good items is good
 abbrev pub GivesGood : Type 0
@@ -20,3 +26,16 @@ IsOnceEach = (store : Blocks) (jobs : List JobMeaning) (got : List Verdicted) �
 -- and each is that of a visit
 abbrev pub IsWithinVisits : Type 0
 IsWithinVisits = (store : Blocks) (jobs : List JobMeaning) (got : List Verdicted) (job seq : ℕ) → IsGood store jobs got → Contains (pairs_of got) (job, seq) → seq < visit_count store jobs job
+
+module _ {S : Type 0} (events : S → List Event) (failed : S → List Delivery) where
+  -- before the first item each sink may be told what comes next
+  abbrev pub BeginsSafe : Type 0
+  BeginsSafe = (c : Collector) (sinks : List S) → length sinks ≡ job_count c → IsUnused c → EachFresh events failed sinks → MayTell events failed c sinks
+
+  -- and none was told anything
+  abbrev pub BeginsCollected : Type 0
+  BeginsCollected = (c : Collector) (sinks : List S) → length sinks ≡ job_count c → IsUnused c → EachFresh events failed sinks → HasCollected events failed [] c sinks
+
+  -- where every sink was closed with these ends, what was collected is exported
+  abbrev pub GivesExported : Type 0
+  GivesExported = (c : Collector) (sinks : List S) (ends : List End) → HasEnds c ends → IfCollected events failed c sinks ends

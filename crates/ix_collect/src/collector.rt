@@ -1,10 +1,10 @@
 //! Receives what the verifiers send, and tells each job's sink.
 
 ghost use Rattle.std.specs.Prelude.{◌≡◌, ◌≤◌, [], length, IfOk, IsTrue, ◌↔◌, vec_capacity, true, false};
-ghost use Rattle.ix_archive.specs.Headline.{EachKept, EachFresh};
+ghost use Rattle.ix_archive.specs.Headline.{EachKept};
 ghost use Rattle.ix_stages.specs.Received.{job_of};
 ghost use Rattle.ix_collect.specs.Collected.{job_count, has_stray, IsUnused, IsDone, MayTell, HasEnds};
-ghost use Rattle.ix_collect.specs.Collecting.{CollectsItem, HasCollected, IfCollected, IfStray};
+ghost use Rattle.ix_collect.specs.Collecting.{CollectsItem, IfStray};
 
 use crate::job_progress::JobProgress;
 use ix_archive::{End, Sink};
@@ -100,14 +100,12 @@ impl Collector {
         true
     }
 
-    /// How each job ended, once every sink was closed. If the items that were received are good, none
-    /// was noted, each sink was told what its job calls for, and each visit was checked as often as
-    /// it is to be. `ends` is empty, with room for as many as there are jobs.
-    pub fn ends<S: Sink>(&self, _sinks: &[S], ends: Vec<End>) -> Vec<End>
+    /// How each job ended, once every sink was closed. `ends` is empty, with room for as many as there
+    /// are jobs.
+    pub fn ends(&self, ends: Vec<End>) -> Vec<End>
         requires room { (ends.items ≡ []) × (job_count self.now ≤ vec_capacity ends) }
         requires done { IsDone self.now }
-        ensures ends { HasEnds self.now result.items }
-        ensures exported { IfCollected S.events S.failed self.now _sinks.now result.items }
+        ensures { HasEnds self.now result.items }
     {
         let mut ends = ends;
         for job in self.jobs.iter() {
@@ -115,14 +113,4 @@ impl Collector {
         }
         ends
     }
-
-    /// What holds before the first item: each sink may be told what comes next, and none was told
-    /// anything.
-    pub fn begins<S: Sink>(&self, _sinks: &[S])
-        requires jobs { length _sinks.now ≡ job_count self.now }
-        requires unused { IsUnused self.now }
-        requires fresh { EachFresh S.events S.failed _sinks.now }
-        ensures may { MayTell S.events S.failed self.now _sinks.now }
-        ensures collected { HasCollected S.events S.failed [] self.now _sinks.now }
-    {}
 }

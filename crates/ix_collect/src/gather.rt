@@ -1,8 +1,10 @@
 //! The collector takes from all lanes.
 
-ghost use Rattle.std.specs.Prelude.{◌≡◌, ◌≤◌, ◌+◌, length, cond};
-ghost use Rattle.ix_stages.specs.Lanes.{sent_by, received_by, IsLane, IsSameLane, SameOut, EachSameOut, EachLane, all_received, all_sent};
-ghost use Rattle.ix_collect.specs.Collected.{is_last, last_count};
+ghost use Rattle.std.specs.Prelude.{◌≡◌, ◌≤◌, length, cond};
+ghost use Rattle.ix_stages.specs.Lanes.{sent_by, received_by, all_received, all_sent};
+ghost use Rattle.ix_stages.specs.Lanes.{IsLane, IsSameLane, SameOut, EachSameOut, EachLane};
+ghost use Rattle.ix_collect.specs.Collected.{is_last};
+ghost use Rattle.ix_collect.specs.Received.{HasCounted};
 ghost use Rattle.ix_collect.specs.Collecting.{CanCollect, CollectsAmong, CollectsBehind, GoesOn};
 
 use crate::collector::Collector;
@@ -37,11 +39,11 @@ fn receive_one<S: Sink>(
     requires { CanCollect S.events S.failed collector.old sinks.old }
     ensures lane { SameOut lane.old lane.new }
     ensures one { (result.items ≤ 1) × (result.lasts ≤ 1) }
-    ensures items { length (received_by lane.new) ≡ result.items + length (received_by lane.old) }
-    ensures last { last_count (received_by lane.new) ≡ result.lasts + last_count (received_by lane.old) }
+    ensures counted { HasCounted (received_by lane.old) (received_by lane.new) result }
     ensures on { GoesOn S.events S.failed S.fact collector.old collector.new sinks.old sinks.new }
-    ensures collected { CollectsAmong S.events S.failed (received_by lane.old) (received_by lane.new)
-        collector.old collector.new sinks.old sinks.new }
+    ensures collected { CollectsAmong S.events S.failed
+        (received_by lane.old) (received_by lane.new) collector.old collector.new
+        sinks.old sinks.new }
 {
     let Some(item) = lane.try_recv() else {
         return Received { items: 0, lasts: 0 };
@@ -63,10 +65,10 @@ pub fn round<S: Sink>(
     requires { CanCollect S.events S.failed collector.old sinks.old }
     ensures on { GoesOn S.events S.failed S.fact collector.old collector.new sinks.old sinks.new }
     ensures lanes { EachSameOut lanes.old lanes.new }
-    ensures items { length (all_received lanes.new) ≡ result.items + length (all_received lanes.old) }
-    ensures lasts { last_count (all_received lanes.new) ≡ result.lasts + last_count (all_received lanes.old) }
-    ensures collected { CollectsBehind S.events S.failed (all_received lanes.old) (all_received lanes.new)
-        collector.old collector.new sinks.old sinks.new }
+    ensures counted { HasCounted (all_received lanes.old) (all_received lanes.new) result }
+    ensures collected { CollectsBehind S.events S.failed
+        (all_received lanes.old) (all_received lanes.new) collector.old collector.new
+        sinks.old sinks.new }
 {
     let mut items = 0;
     let mut lasts = 0;
@@ -92,8 +94,9 @@ pub fn drain<R: Wait, S: Sink>(
     requires collector { CanCollect S.events S.failed collector.old sinks.old }
     ensures lane { IsSameLane sender.old sender.new receiver.old receiver.new }
     ensures on { GoesOn S.events S.failed S.fact collector.old collector.new sinks.old sinks.new }
-    ensures collected { CollectsAmong S.events S.failed (received_by receiver.old) (sent_by sender.old)
-        collector.old collector.new sinks.old sinks.new }
+    ensures collected { CollectsAmong S.events S.failed
+        (received_by receiver.old) (sent_by sender.old) collector.old collector.new
+        sinks.old sinks.new }
 {
     for _ in rt.forever() {
         match lane_rest(sender, receiver) {
@@ -119,8 +122,9 @@ pub fn finish<R: Wait, S: Sink>(
     requires collector { CanCollect S.events S.failed collector.old sinks.old }
     ensures sent { all_sent senders.new ≡ all_sent senders.old }
     ensures on { GoesOn S.events S.failed S.fact collector.old collector.new sinks.old sinks.new }
-    ensures collected { CollectsBehind S.events S.failed (all_received receivers.old) (all_sent senders.new)
-        collector.old collector.new sinks.old sinks.new }
+    ensures collected { CollectsBehind S.events S.failed
+        (all_received receivers.old) (all_sent senders.new) collector.old collector.new
+        sinks.old sinks.new }
 {
     for i in 0..senders.len() {
         drain(

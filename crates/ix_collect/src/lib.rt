@@ -7,12 +7,13 @@
 //!
 //! ```rust
 //! let mut collector = Collector::new(alloc, sinks.len() as u32)?;
-//! collector.begins(&sinks);
+//! law::unused_has_collected_nothing::<Log>();
 //! for item in items {
 //!     collector.receive(alloc, item, &mut sinks);
 //! }
 //! if collector.is_done() {
-//!     let ends = collector.ends(&sinks, Vec::with_capacity(alloc, sinks.len())?);
+//!     let ends = collector.ends(Vec::with_capacity(alloc, sinks.len())?);
+//!     law::collected_is_exported::<Log>();
 //! }
 //! ```
 #![tactic(auto)]

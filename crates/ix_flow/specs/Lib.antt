@@ -1,6 +1,7 @@
 pub mod Ready
 pub mod Working
 pub mod Verifiers
+pub mod Joined
 pub mod Stopping
 pub mod Shared
 pub mod Gathered

@@ -7,10 +7,12 @@ use Rattle.ix_stages.specs.Course.{IsCourseOf}
 use Rattle.ix_stages.specs.Items.{count_up}
 use Rattle.ix_stages.specs.Lanes.{sent_by, received_by, IsLane}
 use Rattle.ix_stages.specs.Queue.{table_of}
+use Rattle.ix_stages.specs.Seats.{SeatView}
 use Rattle.ix_flow.specs.declared.preparing.VerifierSlot.{VerifierSlot}
 use Rattle.ix_flow.specs.declared.preparing.Prepared.{Prepared}
-use Rattle.ix_flow.specs.Ready.{IsReady}
-use Rattle.ix_flow.specs.Verifiers.{HasRunningRoom}
+use Rattle.ix_flow.specs.declared.verifying.UnstartedVerifier.{UnstartedVerifier}
+use Rattle.ix_flow.specs.Ready.{IsIdle, IsReady}
+use Rattle.ix_flow.specs.Verifiers.{HasRunningRoom, IsUnstarted}
 use Rattle.ix_flow.specs.Flowing.{IsCaller}
 
 -- a seat that has taken nothing, and a lane that nothing has gone through
@@ -21,6 +23,14 @@ pub record IsSlot (store : Blocks) (t : TableId) (p : VerifierSlot) : Type 0 whe
   pub sent : sent_by p.lane ≡ []
   pub lane : IsLane p.lane p.out
   pub received : received_by p.out ≡ []
+
+-- of seats that have taken nothing these are slots, whatever queue and store they are of
+abbrev pub AreSlotsOf : List SeatView → List VerifierSlot → Type 0
+AreSlotsOf takers slots = (store : Blocks) (t : TableId) → All (IsIdle store t) takers → All (IsSlot store t) slots
+
+-- in such slots these are verifiers that weren't started yet
+abbrev pub AreUnstartedIn : {C : Type 0} → (C → List (ℕ × ℕ)) → List VerifierSlot → List (UnstartedVerifier C) → Type 0
+AreUnstartedIn checked slots unstarted = (store : Blocks) (t : TableId) → All (IsSlot store t) slots → All (IsUnstarted checked store t) unstarted
 
 -- how many walkers there are
 abbrev pub walker_count : {C : Type 0} → Prepared C → ℕ

@@ -11,7 +11,7 @@ ghost use Rattle.ix_flow.specs.Gathered.{Gathers, IsTold};
 ghost use Rattle.ix_flow.specs.Stopping.{CanStop, IsSeatOf};
 
 use ix_archive::Sink;
-use ix_collect::{Collector, finish, round};
+use ix_collect::{Collector, finish, law, round};
 use ix_stages::{LaneIn, LaneOut, StopSeat, VisitQueue, Waiting};
 use std::alloc::Global;
 use std::sync::Wait;
@@ -34,7 +34,8 @@ fn collect<R: Wait, S: Sink>(
     sinks: &mut [S],
 )
     requires { IsTold S.events S.failed (all_received outs.old) collector.old sinks.old }
-    ensures on { Gathers S.events S.failed S.fact collector.old collector.new outs.old outs.new sinks.old sinks.new }
+    ensures on { Gathers S.events S.failed S.fact
+        collector.old collector.new outs.old outs.new sinks.old sinks.new }
     ensures done { IsDone collector.new }
 {
     let mut waiting = Waiting::new();
@@ -91,7 +92,8 @@ fn stop_verifiers<R: Wait, S: Sink>(
     requires stop { CanStop stopper }
     requires told { IsTold S.events S.failed (all_received outs.old) collector.old sinks.old }
     ensures stop { IsSeatOf stopper.entry.seat result }
-    ensures on { Gathers S.events S.failed S.fact collector.old collector.new outs.old outs.new sinks.old sinks.new }
+    ensures on { Gathers S.events S.failed S.fact
+        collector.old collector.new outs.old outs.new sinks.old sinks.new }
 {
     let Stopper {
         queue,
@@ -128,10 +130,11 @@ pub(crate) fn gather<R: Wait, S: Sink>(
     requires unused { IsUnused collector.old × (all_received outs.old ≡ []) }
     requires fresh { EachFresh S.events S.failed sinks.old }
     ensures stop { IsSeatOf stopper.entry.seat result }
-    ensures on { Gathers S.events S.failed S.fact collector.old collector.new outs.old outs.new sinks.old sinks.new }
+    ensures on { Gathers S.events S.failed S.fact
+        collector.old collector.new outs.old outs.new sinks.old sinks.new }
     ensures done { IsDone collector.new }
 {
-    collector.begins(sinks);
+    law::unused_has_collected_nothing::<S>();
     collect(rt, alloc, collector, outs, sinks);
     stop_verifiers(rt, alloc, stopper, collector, outs, sinks)
 }
@@ -171,7 +174,8 @@ pub(crate) fn receive_rest<R: Wait, S: Sink>(
     requires lanes { EachLane senders.items outs.old }
     requires told { IsTold S.events S.failed (all_received outs.old) collector.old sinks.old }
     ensures on { GoesOn S.events S.failed S.fact collector.old collector.new sinks.old sinks.new }
-    ensures collected { HasCollected S.events S.failed (all_sent senders.items) collector.new sinks.new }
+    ensures collected { HasCollected S.events S.failed
+        (all_sent senders.items) collector.new sinks.new }
 {
     let mut senders = senders;
     finish(rt, alloc, collector, senders.as_mut_slice(), outs, sinks);

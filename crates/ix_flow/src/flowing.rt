@@ -70,7 +70,8 @@ fn stop_early<R: Threads + Wait, S: Sink, C: Check + Drop, G>(
     requires caller { IsCallerIn shared.now (vec_len handles) caller }
     requires sinks { length sinks.old ≡ length shared.now.task.now.jobs.now }
     requires fresh { EachFresh S.events S.failed sinks.old }
-    ensures { IsFlown S.events S.failed S.fact C.checked shared.now.task.now sinks.old sinks.new result }
+    ensures { IsFlown S.events S.failed S.fact C.checked shared.now.task.now
+        sinks.old sinks.new result }
 {
     let CallerState {
         stop,
@@ -90,10 +91,10 @@ fn stop_early<R: Threads + Wait, S: Sink, C: Check + Drop, G>(
         takers,
         senders,
         checks,
-    } = join_verifiers(rt, shared.task.store, shared.queue, handles, joined);
+    } = join_verifiers(rt, handles, joined);
     settle(alloc, shared, stop, takers);
     law::good_is_checked_once();
-    unexported(shared.task, sinks, checks, ends)
+    unexported(sinks, checks, ends)
 }
 
 // Collects while the threads run, stops and joins the verifiers, and receives what is left.
@@ -111,7 +112,8 @@ fn collect_all<R: Threads + Wait, S: Sink, C: Check + Drop, G>(
     requires caller { IsCallerIn shared.now (vec_len running.handles) caller }
     requires sinks { length sinks.old ≡ length shared.now.task.now.jobs.now }
     requires fresh { EachFresh S.events S.failed sinks.old }
-    ensures { IsFlown S.events S.failed S.fact C.checked shared.now.task.now sinks.old sinks.new result }
+    ensures { IsFlown S.events S.failed S.fact C.checked shared.now.task.now
+        sinks.old sinks.new result }
 {
     let RunningVerifiers { handles, mut outs } = running;
     let CallerState {
@@ -131,10 +133,11 @@ fn collect_all<R: Threads + Wait, S: Sink, C: Check + Drop, G>(
         takers,
         senders,
         checks,
-    } = join_verifiers(rt, shared.task.store, shared.queue, handles, joined);
+    } = join_verifiers(rt, handles, joined);
     settle(alloc, shared, stop, takers);
     receive_rest(rt, alloc, &mut collector, senders, outs, sinks);
-    let ends = collector.ends(sinks, ends);
+    let ends = collector.ends(ends);
+    law::collected_is_exported::<S>();
     Outcome { checks, ends }
 }
 
@@ -153,7 +156,8 @@ where
     G: Gate + Sync + 'e,
     R: Threads + Wait + Sync + 'e,
     requires { CanFlowTo S.events S.failed C.checked shared.now sinks.old inputs }
-    ensures { IsFlown S.events S.failed S.fact C.checked shared.now.task.now sinks.old sinks.new result }
+    ensures { IsFlown S.events S.failed S.fact C.checked shared.now.task.now
+        sinks.old sinks.new result }
 {
     let Inputs {
         unstarted,
@@ -164,7 +168,7 @@ where
     let running = start_verifiers(scope, rt, alloc, shared, unstarted, running);
     if running.handles.is_empty() {
         let checks = Vec::new(alloc);
-        return unexported(shared.task, sinks, checks, caller.ends);
+        return unexported(sinks, checks, caller.ends);
     }
     if !start_walkers(scope, rt, alloc, shared, claimers) {
         return stop_early(rt, alloc, shared, sinks, running.handles, caller);
@@ -240,7 +244,7 @@ where
         running,
         caller,
     } = prepared;
-    let unstarted = assign_checks(task.store, &queue, checks, slots, unstarted);
+    let unstarted = assign_checks(checks, slots, unstarted);
     let inputs = Inputs {
         unstarted,
         running,

@@ -1,22 +1,17 @@
 //! The joins: what the verifiers took and sent is known.
 
-ghost use Rattle.std.specs.Prelude.{◌≡◌, ◌≤◌, [], All, vec_len, vec_capacity};
-ghost use Rattle.ix_archive.specs.Headline.{checked_by};
+ghost use Rattle.std.specs.Prelude.{◌≡◌, ◌≤◌, All, vec_len};
 ghost use Rattle.ix_stages.specs.Course.{course_of};
-ghost use Rattle.ix_stages.specs.Lanes.{all_sent};
-ghost use Rattle.ix_stages.specs.Queue.{table_of};
-ghost use Rattle.ix_stages.specs.Received.{pairs_of};
-ghost use Rattle.ix_stages.specs.Sent.{SentFor};
 ghost use Rattle.ix_stages.specs.Settled.{taken_by};
+ghost use Rattle.ix_flow.specs.Joined.{AreJoined};
 ghost use Rattle.ix_flow.specs.Shared.{store_of, jobs_of, queue_of, IsAnsweredWell};
-ghost use Rattle.ix_flow.specs.Verifiers.{IsBegan, EachBack, HasJoinRoom};
+ghost use Rattle.ix_flow.specs.Verifiers.{EachBack, HasJoinRoom};
 
 use crate::shared::Shared;
 use crate::verifying::{Began, Verifier};
 use ix_check::Check;
 use ix_collect::law;
-use ix_stages::{LaneIn, StopSeat, TakeSeat, VisitQueue, well_taken_is_good};
-use ix_store::Store;
+use ix_stages::{LaneIn, StopSeat, TakeSeat, well_taken_is_good};
 use std::alloc::Global;
 use std::thread::{PromisedHandle, Threads};
 
@@ -31,16 +26,11 @@ pub(crate) struct Joined<C> {
 /// Joins all verifiers.
 pub(crate) fn join_verifiers<R: Threads, C: Check + Drop>(
     rt: &R,
-    _store: &Store,
-    _queue: &VisitQueue,
     handles: Vec<PromisedHandle<Verifier<C>, Began<C>>>,
     joined: Joined<C>,
 ) -> Joined<C>
     requires room { HasJoinRoom (vec_len handles) joined }
-    requires began { All (IsBegan C.checked _store.now (table_of _queue.now)) handles.items }
-    ensures tables { All (λ s. s.table ≡ table_of _queue.now) result.takers.items }
-    ensures sent { SentFor _store.now (taken_by result.takers.items) (all_sent result.senders.items) }
-    ensures checked { checked_by C.checked result.checks.items ≡ pairs_of (all_sent result.senders.items) }
+    ensures joined { AreJoined C.checked handles.items result }
     ensures lanes { EachBack handles.items result.senders.items }
 {
     let Joined {

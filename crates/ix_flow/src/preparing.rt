@@ -3,10 +3,8 @@
 ghost use Rattle.std.specs.Prelude.{◌≡◌, ◌<◌, ◌≤◌, [], length, All, vec_len, vec_capacity, IfOk};
 ghost use Rattle.ix_walk.specs.JobMeaning.{JobMeaning};
 ghost use Rattle.ix_archive.specs.Headline.{EachUnused};
-ghost use Rattle.ix_stages.specs.Queue.{table_of};
-ghost use Rattle.ix_flow.specs.Prepared.{IsSlot, IsPrepared, walker_count};
-ghost use Rattle.ix_flow.specs.Ready.{IsIdle};
-ghost use Rattle.ix_flow.specs.Verifiers.{HasJoinRoom, HasRunningRoom, IsUnstarted};
+ghost use Rattle.ix_flow.specs.Prepared.{AreSlotsOf, AreUnstartedIn, IsPrepared, walker_count};
+ghost use Rattle.ix_flow.specs.Verifiers.{HasJoinRoom, HasRunningRoom};
 
 use crate::flowing::CallerState;
 use crate::joining::Joined;
@@ -69,13 +67,10 @@ fn see_limits(jobs: &[Job])
 // A lane for each seat.
 fn make_slots(
     alloc: Global,
-    _store: &Store,
-    _queue: &VisitQueue,
     takers: Vec<TakeSeat>,
     capacity: u32,
 ) -> Result<Vec<VerifierSlot>, AllocError>
-    requires { All (IsIdle _store.now (table_of _queue.now)) takers.items }
-    ensures slots { IfOk result (λ slots. All (IsSlot _store.now (table_of _queue.now)) slots.items) }
+    ensures slots { IfOk result (λ slots. AreSlotsOf takers.items slots.items) }
     ensures count { IfOk result (λ slots. vec_len slots ≡ vec_len takers) }
 {
     let mut slots = Vec::with_capacity(alloc, takers.len())?;
@@ -116,17 +111,14 @@ fn make_joined<C: Drop>(alloc: Global, verifiers: usize) -> Result<Joined<C>, Al
 
 /// Gives each check a slot.
 pub(crate) fn assign_checks<C: Check + Drop>(
-    _store: &Store,
-    _queue: &VisitQueue,
     checks: Vec<C>,
     slots: Vec<VerifierSlot>,
     unstarted: Vec<UnstartedVerifier<C>>,
 ) -> Vec<UnstartedVerifier<C>>
-    requires slots { All (IsSlot _store.now (table_of _queue.now)) slots.items }
     requires count { vec_len slots ≡ vec_len checks }
     requires unused { EachUnused C.checked checks.items }
     requires room { (unstarted.items ≡ []) × (vec_len checks ≤ vec_capacity unstarted) }
-    ensures unstarted { All (IsUnstarted C.checked _store.now (table_of _queue.now)) result.items }
+    ensures unstarted { AreUnstartedIn C.checked slots.items result.items }
     ensures count { vec_len result ≡ vec_len checks }
 {
     let mut slots = slots;
@@ -173,7 +165,7 @@ impl<C: Check + Drop> Prepared<C> {
             takers,
             stop,
         } = parts;
-        let slots = make_slots(alloc, store, &queue, takers, plan.lane)?;
+        let slots = make_slots(alloc, takers, plan.lane)?;
         let running = make_running(alloc, verifiers)?;
         let joined = make_joined(alloc, verifiers)?;
         let caller = CallerState {

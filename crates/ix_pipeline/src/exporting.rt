@@ -2,7 +2,8 @@
 
 ghost use Rattle.std.specs.Prelude.{◌≡◌, ◌≤◌, length, vec_len, IfOk, IfErr};
 ghost use Rattle.std.specs.Arc.{arc_value};
-ghost use Rattle.ix_pipeline.specs.Headline.{EachDelivered, EachArchived, EachFresh, EachKept, EachUnused, IsCheckedOnce, NoneOrAllStart, checked_by};
+ghost use Rattle.ix_pipeline.specs.Headline.{EachDelivered, EachArchived, EachFresh, EachKept};
+ghost use Rattle.ix_pipeline.specs.Headline.{EachUnused, IsCheckedOnce, NoneOrAllStart, checked_by};
 ghost use Rattle.ix_pipeline.specs.Planned.{IsPlan};
 
 use ix_archive::{Sink, law};
@@ -57,7 +58,8 @@ where
     ensures facts { EachKept S.fact sinks.old sinks.new }
     ensures checked { IfOk result (λ out. IsCheckedOnce S.events (arc_value store.now)
         (arc_value jobs.now).items out.ends.items sinks.new (checked_by C.checked out.checks.items)) }
-    ensures not_started { IfErr result (λ none. (sinks.new ≡ sinks.old) × (none.checks.items ≡ checks.items)) }
+    ensures not_started { IfErr result (λ none.
+        (sinks.new ≡ sinks.old) × (none.checks.items ≡ checks.items)) }
 {
     let Ok(prepared) = Prepared::new(alloc, store, jobs, plan, checks.len()) else {
         return Err(NotStarted { checks });

@@ -3,7 +3,8 @@
 ghost use Rattle.std.specs.Prelude.{◌≡◌, ◌≤◌, [], length, IfOk, OnErr};
 ghost use Rattle.ix_check.specs.Visits.{IsVisitOf};
 ghost use Rattle.ix_pipeline.specs.Progress.{told_by, CanHand, HandsOn, Delivers, IsWalked, Exports, end_of};
-ghost use Rattle.ix_pipeline.specs.Headline.{EachDelivered, EachArchived, Keeps, EachKept, EachFresh, IsCheckedOnce, NoneIsStart};
+ghost use Rattle.ix_pipeline.specs.Headline.{EachDelivered, EachArchived, Keeps, EachKept, EachFresh};
+ghost use Rattle.ix_pipeline.specs.Headline.{IsCheckedOnce, NoneIsStart};
 
 use crate::sink_state::SinkState;
 use ix_archive::{End, Sink, SinkFault, law};

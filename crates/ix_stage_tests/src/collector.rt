@@ -6,7 +6,7 @@ ghost use Rattle.ix_collect.specs.Collected.{job_count, MayTell};
 
 use ix_archive::{End, Sink};
 use ix_check::Verdict;
-use ix_collect::{Collector, drain, finish, round};
+use ix_collect::{Collector, drain, finish, law, round};
 use ix_fixtures::{ABC, Log, cid_of};
 use ix_stages::{LaneIn, LaneOut, Verdicted, lane};
 use ix_walk::Visit;
@@ -135,13 +135,13 @@ fn ends_of_four_jobs(rt: HostRuntime) -> Result<(), Fail> {
         Log::new(alloc, 9)?,
     ];
     let mut collector = Collector::new(alloc, 4)?;
-    collector.begins(&logs);
+    law::unused_has_collected_nothing::<Log>();
     let (before, last) = FOUR_JOBS.split_at(11);
     receive_all(alloc, &mut collector, &mut logs, before)?;
     assert!(rt; !collector.is_done());
     receive_all(alloc, &mut collector, &mut logs, last)?;
     assert!(rt; collector.is_done());
-    let ends = collector.ends(&logs, Vec::with_capacity(alloc, 4)?);
+    let ends = collector.ends(Vec::with_capacity(alloc, 4)?);
     assert!(rt; ends.as_slice() == [End::Done, End::Write, End::Memory, End::Memory].as_slice());
     for (log, count) in logs.iter().zip([3, 1, 0, 0]) {
         has_in_order(&rt, log, count);
@@ -165,7 +165,7 @@ const STRAYS: [&[Sent]; 6] = [
 fn notes_the_last(rt: &impl Abort, alloc: Global, items: &[Sent]) -> Result<(), Fail> {
     let mut logs = [Log::new(alloc, 9)?];
     let mut collector = Collector::new(alloc, 1)?;
-    collector.begins(&logs);
+    law::unused_has_collected_nothing::<Log>();
     let Some((last, before)) = items.split_last() else {
         return Err("an item was wanted".into());
     };
@@ -200,7 +200,7 @@ fn lanes_into_one_sink(rt: HostRuntime) -> Result<(), Fail> {
     let mut receivers = [first_out, second_out];
     let mut logs = [Log::new(alloc, 9)?];
     let mut collector = Collector::new(alloc, 1)?;
-    collector.begins(&logs);
+    law::unused_has_collected_nothing::<Log>();
     round_gives(&rt, alloc, &mut collector, &mut read, &mut logs, (1, 0));
     round_gives(&rt, alloc, &mut collector, &mut read, &mut logs, (1, 1));
     round_gives(&rt, alloc, &mut collector, &mut read, &mut logs, (0, 0));
@@ -222,7 +222,7 @@ fn lanes_into_one_sink(rt: HostRuntime) -> Result<(), Fail> {
         &mut logs,
     );
     assert!(rt; collector.is_done());
-    let ends = collector.ends(&logs, Vec::with_capacity(alloc, 1)?);
+    let ends = collector.ends(Vec::with_capacity(alloc, 1)?);
     assert!(rt; ends.as_slice() == [End::Done].as_slice());
     has_in_order(&rt, &logs[0], 3);
     Ok(())

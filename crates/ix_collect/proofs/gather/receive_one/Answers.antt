@@ -25,23 +25,18 @@ returns-clause-collected g c = λ store jobs before after h.
     c.receive.ensures.collected store jobs (before ++ received_by c.args.lane.now ++ after) (before ++ received_by c.try_recv.new.self ++ after)
     (inserts_mid before (received_by c.args.lane.now) (received_by c.try_recv.new.self) after c.in-Some.item (search rules)) h
 
-pub returns-clause-last : goal.returns-clause-last
-returns-clause-last g c =
+pub returns-clause-counted : goal.returns-clause-counted
+returns-clause-counted g c =
     let item = c.in-Some.item in
-    let gives : received_by c.try_recv.new.self ≡ received_by c.args.lane.now ++ item ∷ [] = search rules in
-    let counts : last_count (received_by c.args.lane.now ++ item ∷ []) ≡ last_count (received_by c.args.lane.now) + last_count (item ∷ []) = weigh_append is_last (received_by c.args.lane.now) (item ∷ []) in
+    let old = received_by c.args.lane.now in
+    let gives : received_by c.try_recv.new.self ≡ old ++ item ∷ [] = search rules in
+    let counts : last_count (old ++ item ∷ []) ≡ last_count old + last_count (item ∷ []) = weigh_append is_last old (item ∷ []) in
     let one : cond c.is_last-last.result 1 0 ≡ is_last item = c.is_last-last.ensures in
     let as_one : c.from-lasts.result ≡ cond c.is_last-last.result 1 0 = c.from-lasts.ensures ∙ bool_one c.is_last-last.result in
-    let new : last_count (received_by c.try_recv.new.self) ≡ last_count (received_by c.args.lane.now ++ item ∷ []) = ap last_count gives in
-    omega arith
-
-pub returns-clause-items : goal.returns-clause-items
-returns-clause-items g c =
-    let item = c.in-Some.item in
-    let gives : received_by c.try_recv.new.self ≡ received_by c.args.lane.now ++ item ∷ [] = search rules in
-    let counts : length (received_by c.args.lane.now ++ item ∷ []) ≡ length (received_by c.args.lane.now) + 1 = length-append (received_by c.args.lane.now) (item ∷ []) in
-    let new : length (received_by c.try_recv.new.self) ≡ length (received_by c.args.lane.now ++ item ∷ []) = ap (λ (l : List Verdicted). length l) gives in
-    omega arith
+    let new : last_count (received_by c.try_recv.new.self) ≡ last_count (old ++ item ∷ []) = ap last_count gives in
+    let long : length (old ++ item ∷ []) ≡ length old + 1 = length-append old (item ∷ []) in
+    let longer : length (received_by c.try_recv.new.self) ≡ length (old ++ item ∷ []) = ap (λ (l : List Verdicted). length l) gives in
+    record { items = omega (arith, long, longer); lasts = omega (arith, counts, one, as_one, new) }
 
 pub returns-clause-one : goal.returns-clause-one
 returns-clause-one g c =

@@ -29,12 +29,12 @@ loop-i-preserved g c =
       items = (let was : length (all_received c.loop-i.lanes) ≡ c.loop-i.items + length (all_received c.args.lanes.now) = h.items in
           let old = ap (λ (l : List Verdicted). length l) there.old_is in
           let new = ap (λ (l : List Verdicted). length l) there.new_is in
-          let set_is = length_set there.before (received_by lane) (received_by c.receive_one-received.new.lane) there.after c.receive_one-received.result.items c.receive_one-received.ensures.items in
+          let set_is = length_set there.before (received_by lane) (received_by c.receive_one-received.new.lane) there.after c.receive_one-received.result.items c.receive_one-received.ensures.counted.items in
           omega arith);
       lasts = (let was : last_count (all_received c.loop-i.lanes) ≡ c.loop-i.lasts + last_count (all_received c.args.lanes.now) = h.lasts in
           let old = ap last_count there.old_is in
           let new = ap last_count there.new_is in
-          let set_is = lasts_set there.before (received_by lane) (received_by c.receive_one-received.new.lane) there.after c.receive_one-received.result.lasts c.receive_one-received.ensures.last in
+          let set_is = lasts_set there.before (received_by lane) (received_by c.receive_one-received.new.lane) there.after c.receive_one-received.result.lasts c.receive_one-received.ensures.counted.lasts in
           omega arith);
       size = length-set c.loop-i.lanes c.loop-i.i c.receive_one-received.new.lane ∙ h.size;
       on = on_trans g.S.Sink.events g.S.Sink.failed g.S.Sink.fact c.args.collector.now c.loop-i.collector c.receive_one-received.new.collector c.args.sinks.now c.loop-i.sinks c.receive_one-received.new.sinks h.on c.receive_one-received.ensures.on;

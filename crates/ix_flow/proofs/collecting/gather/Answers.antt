@@ -1,5 +1,19 @@
+use Rattle.std.proofs.Common.{List, [], sym, subst}
+use Rattle.ix_stages.specs.declared.verdicted.Verdicted.{Verdicted}
+use Rattle.ix_collect.specs.Collecting.{HasCollected}
 use Rattle.ix_flow.proofs.Gathering.{gathers_trans}
 use Rattle.ix_flow.proofs.collecting.gather.Goals as goal
+
+pub collect-requires : goal.collect-requires
+collect-requires g c =
+    let law = c.unused_has_collected_nothing.ensures in
+    let collector = c.args.collector.now in
+    let sinks = c.args.sinks.now in
+    let unused = c.requires.unused.0 in
+    record {
+      can = record { sinks = c.requires.jobs; may = law.may collector sinks c.requires.jobs unused c.requires.fresh };
+      collected = subst (λ (got : List Verdicted). HasCollected g.S.Sink.events g.S.Sink.failed got collector sinks) (sym c.requires.unused.1) (law.collected collector sinks c.requires.jobs unused c.requires.fresh);
+    }
 
 pub returns-clause-on : goal.returns-clause-on
 returns-clause-on g c =

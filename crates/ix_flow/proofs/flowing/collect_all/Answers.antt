@@ -6,8 +6,12 @@ use Rattle.ix_stages.specs.Good.{IsGood}
 use Rattle.ix_stages.specs.Lanes.{EachSameOut, all_sent}
 use Rattle.ix_collect.specs.Collected.{IsCollectedFrom}
 use Rattle.ix_flow.proofs.Ends.{lanes_back}
-use Rattle.ix_flow.specs.Shared.{store_of, jobs_of}
+use Rattle.ix_flow.specs.Shared.{store_of, jobs_of, queue_of}
 use Rattle.ix_flow.proofs.flowing.collect_all.Goals as goal
+
+pub settle-requires-clause-takers : goal.settle-requires-clause-takers
+settle-requires-clause-takers g c =
+    let joined = c.join_verifiers-takers.ensures.joined (store_of c.args.shared.now) (queue_of c.args.shared.now) c.requires.began in joined.tables
 
 pub receive_rest-requires-clause-lanes : goal.receive_rest-requires-clause-lanes
 receive_rest-requires-clause-lanes g c =
@@ -20,14 +24,15 @@ returns g c =
     let jobs = jobs_of c.args.shared.now in
     let senders = c.join_verifiers-takers.result.senders.items in
     let got = all_sent senders in
-    let good : IsGood store jobs got = c.settle.ensures got c.join_verifiers-takers.ensures.sent in
+    let joined = c.join_verifiers-takers.ensures.joined store (queue_of c.args.shared.now) c.requires.began in
+    let good : IsGood store jobs got = c.settle.ensures got joined.sent in
     let caller = c.requires.caller in
     let from : IsCollectedFrom g.S.Sink.events g.S.Sink.failed store jobs got c.receive_rest.new.collector c.receive_rest.new.sinks =
     record { good = good; sized = c.receive_rest.ensures.on.jobs ∙ (c.gather-stop.ensures.on.collector.jobs ∙ caller.collector.1); collected = c.receive_rest.ensures.collected store jobs } in
-    let e = c.ends-ends.ensures.exported store jobs got from in
+    let e = c.collected_is_exported.ensures c.receive_rest.new.collector c.receive_rest.new.sinks c.ends-ends.result.items c.ends-ends.ensures store jobs got from in
     record {
       delivered = e.delivered;
       kept = kept_trans g.S.Sink.fact c.args.sinks.now c.gather-stop.new.sinks c.receive_rest.new.sinks c.gather-stop.ensures.on.collector.kept c.receive_rest.ensures.on.kept;
-      checks = subst (λ (ps : List (ℕ × ℕ)). IsCheckedOnce g.S.Sink.events store jobs c.ends-ends.result.items c.receive_rest.new.sinks ps) (sym c.join_verifiers-takers.ensures.checked) e.checked;
+      checks = subst (λ (ps : List (ℕ × ℕ)). IsCheckedOnce g.S.Sink.events store jobs c.ends-ends.result.items c.receive_rest.new.sinks ps) (sym joined.checks) e.checked;
       started = inl e.started;
     }

@@ -1,32 +1,31 @@
-use Rattle.std.proofs.Common.{◌≡◌, [], ◌∷◌, List, All, length, ap, sym, subst, arith}
-use Rattle.std.proofs.lemmas.List.Elements.{All-head, All-tail, All-push}
+use Rattle.std.proofs.Common.{◌≡◌, ◌++◌, [], ◌∷◌, List, All, length, ap, sym, subst, ◌∙◌, arith, append_assoc}
+use Rattle.std.proofs.lemmas.List.Elements.{All-push}
 use Rattle.std.specs.Vec.Iter.{into_iter_items}
-use Rattle.ix_stages.specs.Course.{IsCourseOf}
-use Rattle.ix_stages.specs.Queue.{table_of}
 use Rattle.ix_stages.specs.Seats.{SeatView}
 use Rattle.ix_flow.specs.declared.preparing.VerifierSlot.{VerifierSlot}
-use Rattle.ix_flow.specs.Prepared.{IsSlot}
+use Rattle.ix_flow.specs.Prepared.{AreSlotsOf, IsSlot}
+use Rattle.ix_flow.specs.Ready.{IsIdle}
+use Rattle.ix_flow.proofs.Lists.{all_front, all_last}
 use Rattle.ix_flow.proofs.preparing.make_slots.Goals as goal
 
 pub loop-seat-preserved : goal.loop-seat-preserved
 loop-seat-preserved c =
     let h = c.loop-seat.invariant in
-    let t = table_of c.args._queue.now in
-    let store = c.args._store.now in
-    let P : SeatView → Type 0 = λ s. (s.table ≡ t) × IsCourseOf store s.pass.course × (s.pass.taken ≡ []) in
     let seat = c.in-Some.seat in
     let rest = into_iter_items c.next.new.self in
     let steps = c.in-Some.ensures.steps.0 in
-    let all : All P (seat ∷ rest) = subst (λ (l : List SeatView). All P l) steps h.seats in
-    let is : P seat = All-head P seat rest all in
     let l = c.in_ok-sender.ensures in
     let slot : VerifierSlot = record { seat = seat; lane = c.in_ok-sender.sender; out = c.in_ok-sender.out } in
+    let slots : AreSlotsOf (c.loop-seat.yielded ++ seat ∷ []) (c.loop-seat.slots.items ++ slot ∷ []) = λ store t idle.
+    let is : IsIdle store t seat = all_last (IsIdle store t) c.loop-seat.yielded seat idle in
     let good : IsSlot store t slot = record { table = is.0; course = is.1; taken = is.2; sent = l.1; lane = l.0; received = l.2 } in
+    All-push (IsSlot store t) c.loop-seat.slots.items slot (h.slots store t (all_front (IsIdle store t) c.loop-seat.yielded (seat ∷ []) idle)) good
+    in
     record {
       can_next = tt;
       finite = tt;
-      seats = All-tail P seat rest all;
-      slots = subst (λ (l : List VerifierSlot). All (IsSlot store t) l) (sym c.push_reserved.ensures.items) (All-push (IsSlot store t) c.loop-seat.slots.items slot h.slots good);
+      split = h.split ∙ (ap (λ (l : List SeatView). c.loop-seat.yielded ++ l) steps ∙ sym (append_assoc c.loop-seat.yielded (seat ∷ []) rest));
+      slots = subst (λ (l : List VerifierSlot). AreSlotsOf (c.loop-seat.yielded ++ seat ∷ []) l) (sym c.push_reserved.ensures.items) slots;
       count = (let step = ap length steps in let more = c.push_reserved.ensures.len in let old = h.count in omega arith);
       room = (let more = c.push_reserved.ensures.capacity in let old = h.room in omega arith);
     }

@@ -1,5 +1,5 @@
 use Rattle.std.proofs.Common.{rules, ◌≡◌, ◌+◌}
-use Rattle.ix_collect.proofs.Stepping.{finishes}
+use Rattle.ix_collect.proofs.Closings.{finishes}
 use Rattle.ix_collect.proofs.job_progress.JobProgress.finish.Goals as goal
 
 pub returns-clause-finished : goal.returns-clause-finished

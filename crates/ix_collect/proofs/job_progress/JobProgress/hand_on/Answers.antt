@@ -1,7 +1,7 @@
 use Rattle.std.proofs.Common.{rules, Option, subst}
 use Rattle.ix_archive.specs.declared.sink.Delivery.{Delivery}
 use Rattle.ix_collect.specs.JobProgress.{IsPoppedUnderWay}
-use Rattle.ix_collect.proofs.Stepping.{handed_on, handed_failed, safe_on}
+use Rattle.ix_collect.proofs.Deliveries.{handed_on, handed_failed, safe_on}
 use Rattle.ix_collect.proofs.job_progress.JobProgress.hand_on.Goals as goal
 
 pub returns-in-Ok-clause-safe : goal.returns-in-Ok-clause-safe

@@ -1,6 +1,7 @@
 use Rattle.std.proofs.Common.{rules, ◌≡◌, refl, true}
 use Rattle.ix_archive.specs.declared.sink.End.TheVariants.{Memory}
-use Rattle.ix_collect.proofs.Stepping.{close_arrives, no_second_close, stays_or, or_stays, counts_up}
+use Rattle.ix_collect.proofs.Closes.{close_arrives, no_second_close, or_stays}
+use Rattle.ix_collect.proofs.Arrivals.{stays_or, counts_up}
 use Rattle.ix_collect.proofs.job_progress.JobProgress.note_close.Goals as goal
 
 pub returns-then-is_some-clause-noted : goal.returns-then-is_some-clause-noted

@@ -1,6 +1,6 @@
 use Rattle.std.proofs.Common.{rules, ◌≡◌, refl, true, None}
 use Rattle.std.specs.Prelude.{is_some}
-use Rattle.ix_collect.proofs.Stepping.{no_item_after, under_way}
+use Rattle.ix_collect.proofs.Closings.{no_item_after, under_way}
 use Rattle.ix_collect.proofs.job_progress.JobProgress.receive.Goals as goal
 
 pub returns-then-is_some-clause-received : goal.returns-then-is_some-clause-received

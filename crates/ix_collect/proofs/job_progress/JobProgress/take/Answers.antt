@@ -1,7 +1,7 @@
 use Rattle.std.proofs.Common.{rules, ◌≡◌, refl}
 use Rattle.ix_ring.specs.Numbered.{IsMemory}
 use Rattle.ix_collect.specs.declared.job_progress.Stage.TheVariants.{Delivering}
-use Rattle.ix_collect.proofs.Stepping.{arrives_late, arrives_placed, arrives_short, refused_for_memory, stays_or, shorts_or, counts_up}
+use Rattle.ix_collect.proofs.Arrivals.{arrives_late, arrives_placed, arrives_short, refused_for_memory, stays_or, shorts_or, counts_up}
 use Rattle.ix_collect.proofs.job_progress.JobProgress.take.Goals as goal
 
 pub returns-then-ne-clause-taken : goal.returns-then-ne-clause-taken

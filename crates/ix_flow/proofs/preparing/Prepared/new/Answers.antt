@@ -16,11 +16,6 @@ new-requires-3-clause-values g c =
     let most = c.requires.jobs in
     omega (arith, len, many, ok, most)
 
-pub make_slots-requires : goal.make_slots-requires
-make_slots-requires g c =
-    let same : course_of c.of.result.value c.of-2.result.value.items ≡ course_of c.args.store.now c.args.jobs.now.items = λ i. course_of (c.of.ensures i) (c.of-2.ensures i).items in
-    takers_ready c.args.store.now c.args.jobs.now.items (table_of c.in_ok-parts.parts.queue) _ _ same c.args.verifiers c.in_ok-parts.parts.takers.items (c.course_of_jobs.ensures.store c.args.store.now c.args.jobs.now.items) c.in_ok-parts.ensures.takers
-
 pub returns-clause-prepared : goal.returns-clause-prepared
 returns-clause-prepared g c =
     let verifiers = c.args.verifiers in
@@ -34,7 +29,7 @@ returns-clause-prepared g c =
     let stop = c.in_ok-parts.ensures.stop in
     let claims = c.in_ok-claims.claims in
     record {
-      slots = c.in_ok-slots.ensures.slots;
+      slots = c.in_ok-slots.ensures.slots store t (takers_ready store jobs t _ _ same verifiers c.in_ok-parts.parts.takers.items (c.course_of_jobs.ensures.store store jobs) c.in_ok-parts.ensures.takers);
       count = c.in_ok-slots.ensures.count ∙ takers;
       unstarted = (c.in_ok-unstarted.ensures.items, c.in_ok-unstarted.ensures.capacity);
       running = c.in_ok-running.ensures;

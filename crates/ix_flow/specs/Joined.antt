@@ -1,0 +1,25 @@
+-- What verifiers gave back.
+use Rattle.std.specs.Prelude.{◌≡◌, ℕ, List, All}
+use Rattle.std.specs.declared.thread.PromisedHandle.{PromisedHandle}
+use Rattle.atomic_table.specs.Seated.{TableId}
+use Rattle.ix_store.specs.Store.{Blocks}
+use Rattle.ix_archive.specs.Headline.{checked_by}
+use Rattle.ix_stages.specs.Lanes.{all_sent}
+use Rattle.ix_stages.specs.Received.{pairs_of}
+use Rattle.ix_stages.specs.Sent.{SentFor}
+use Rattle.ix_stages.specs.Settled.{taken_by}
+use Rattle.ix_flow.specs.declared.joining.Joined.{Joined}
+use Rattle.ix_flow.specs.declared.verifying.Began.{Began}
+use Rattle.ix_flow.specs.declared.verifying.Verifier.{Verifier}
+use Rattle.ix_flow.specs.Verifiers.{IsBegan}
+
+module _ {C : Type 0} (checked : C → List (ℕ × ℕ)) where
+  -- seats of this queue, what was sent for all that they took, and just as much was checked
+  pub record IsJoined (store : Blocks) (t : TableId) (j : Joined C) : Type 0 where
+    pub tables : All (λ s. s.table ≡ t) j.takers.items
+    pub sent : SentFor store (taken_by j.takers.items) (all_sent j.senders.items)
+    pub checks : checked_by checked j.checks.items ≡ pairs_of (all_sent j.senders.items)
+
+  -- it is what the verifiers gave back that were started so, whatever queue and store they were started with
+  abbrev pub AreJoined : List (PromisedHandle (Verifier C) (Began C)) → Joined C → Type 0
+  AreJoined handles j = (store : Blocks) (t : TableId) → All (IsBegan checked store t) handles → IsJoined store t j
