@@ -21,12 +21,18 @@ pub fault-along : (b : List ℕ) (e : CarFault) → IsFaultOf b e (blocks_of b) 
 fault-along b e h = (h.0, FailsAs-along e.kind _ (blocks_of b) (section_list b) (λ f is. same_fault (section_list b) f (sym (blocks-of_sections b) ∙ is)) h.1)
 
 -- the store of a file's blocks is that of its sections
-pub store-of_sections : (b : List ℕ) (sections : List SectionMeaning) → section_list b ≡ Ok sections → blocks_of b ≡ Ok (with_sections [] sections)
+store-of_sections : (b : List ℕ) (sections : List SectionMeaning) → section_list b ≡ Ok sections → blocks_of b ≡ Ok (with_sections [] sections)
 store-of_sections b sections read = blocks-of_sections b ∙ ap first_of_each read
 
 one_store : (store other : Blocks) → ◌≡◌ {A = Result Blocks Fault} (Ok store) (Ok other) → store ≡ other
 one_store store other h = cc
 
--- what is met in one reading of the blocks is met in each
-pub reaches-each : (b : List ℕ) (roots : List (List ℕ)) (store other : Blocks) (skips : List Skip) (over : Bool) → blocks_of b ≡ Ok store → IsReached store roots skips over → blocks_of b ≡ Ok other → IsReached other roots skips over
-reaches-each b roots store other skips over read reached again = subst (λ (s : Blocks). IsReached s roots skips over) (one_store store other (sym read ∙ again)) reached
+-- the store that was read of a file is that of its sections
+pub store-is : (b : List ℕ) (store : Blocks) (sections : List SectionMeaning) → blocks_of b ≡ Ok store → section_list b ≡ Ok sections → store ≡ with_sections [] sections
+store-is b store sections stored read = one_store store (with_sections [] sections) (sym stored ∙ store-of_sections b sections read)
+
+-- what is met from a file's roots on in the store that was read of it
+pub reached-in : (b : List ℕ) (store : Blocks) (sections : List SectionMeaning) (roots named : List (List ℕ)) (skips : List Skip) (over : Bool) → blocks_of b ≡ Ok store → section_list b ≡ Ok sections → roots ≡ named
+    → IsReached store roots skips over → IsReached (with_sections [] sections) named skips over
+reached-in b store sections roots named skips over stored read same reached =
+    subst (λ (s : Blocks). IsReached s named skips over) (store-is b store sections stored read) (subst (λ (rs : List (List ℕ)). IsReached store rs skips over) same reached)

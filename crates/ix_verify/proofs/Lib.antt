@@ -2,7 +2,9 @@ pub mod SelectorOfAll
 pub mod Walked
 pub mod SoundSections
 pub mod ToldSections
+pub mod Stored
 pub mod FileFaults
+pub mod FoundOf
 pub mod RootsLeft
 pub mod TextsAgain
 pub mod HeaderAgain

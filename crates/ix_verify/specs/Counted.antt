@@ -1,14 +1,14 @@
 -- What is told of sections, one by one.
 use Rattle.std.specs.Prelude.{◌≡◌, ℕ, Bool, List, [], ◌∷◌, ◌++◌, length, if◌then◌else◌, Ok}
-use Rattle.ix_store.specs.Store.{Blocks}
+use Rattle.std.specs.Global.{Vec}
 use Rattle.ix_check.specs.declared.verdict.Verdict.{Verdict}
 use Rattle.ix_archive.specs.declared.archive.Skip.{Skip}
 use Rattle.ix_car.specs.declared.reader.sections.Section.{Section}
 use Rattle.ix_archive.specs.Archive.{is_sound}
 use Rattle.ix_car.specs.Sections.{SectionMeaning, section_list, roots_of}
-use Rattle.ix_car.specs.Reading.{blocks_of}
-use Rattle.ix_verify.specs.Found.{unsound_of, IsReached}
+use Rattle.ix_verify.specs.Found.{unsound_of}
 use Rattle.ix_verify.specs.declared.found.Unsound.{Unsound}
+use Rattle.ix_verify.specs.declared.found.Findings.{Findings}
 use Rattle.ix_verify.specs.declared.file.Judged.{Judged}
 
 -- a section with its verdict, unless it is sound
@@ -29,6 +29,6 @@ pub record IsJudgedOf (b : List ℕ) (j : Judged) : Type 0 where
   pub unsound : j.unsound.items ≡ unsound_of sections
   pub roots : j.roots.items ≡ roots_of b
 
--- what is met from roots on in the blocks of a file
-abbrev pub ReachesFrom : List ℕ → List (List ℕ) → List Skip → Bool → Type 0
-ReachesFrom b roots skips over = (store : Blocks) → blocks_of b ≡ Ok store → IsReached store roots skips over
+-- what is found of the sections of a file, and what was met from its roots on
+abbrev pub findings_of : Judged → Vec Skip → Bool → Findings
+findings_of j skips over = record { sections = j.sections; unsound = j.unsound; skips = skips; is_over_limit = over }

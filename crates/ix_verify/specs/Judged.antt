@@ -27,6 +27,10 @@ verdict_by_hash (Some function) c block = verdict_on (digest_by function) c bloc
 abbrev pub section_verdict : List ℕ → List ℕ → Verdict
 section_verdict c block = if has_codec c then verdict_by_hash (hash_function_of (parts_of c)) c block else Codec
 
+-- the CID and the block of a section
+abbrev pub section_pair : Section → List ℕ × List ℕ
+section_pair s = (s.cid, s.block.now)
+
 abbrev pub verdict_in : Section → Verdict
 verdict_in s = section_verdict s.cid s.block.now
 

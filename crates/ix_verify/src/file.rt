@@ -1,21 +1,24 @@
 //! Files, verified.
 
 ghost use Rattle.std.specs.Prelude.{◌≡◌, ◌<◌, ◌++◌, map, IfOk, IfErr, OnOk};
+ghost use Rattle.std.specs.Arc.{arc_value};
 ghost use Rattle.ix_car.specs.declared.fault.CarKind.TheVariants.{Memory};
 ghost use Rattle.ix_car.specs.Gives.{IsFaultOf};
 ghost use Rattle.ix_car.specs.SectionView.{section_of};
 ghost use Rattle.ix_car.specs.Sections.{section_list};
-ghost use Rattle.ix_verify.specs.Found.{unsound_of, roots_to_walk, IsFoundOf};
-ghost use Rattle.ix_verify.specs.Judged.{verdict_in};
-ghost use Rattle.ix_verify.specs.Counted.{told_if, told_among, IsJudgedOf, ReachesFrom};
+ghost use Rattle.ix_verify.specs.declared.found.Reach.TheVariants.{Blocks as OfBlocks, Roots as OfRoots};
+ghost use Rattle.ix_verify.specs.Found.{unsound_of, IsFoundOf};
+ghost use Rattle.ix_verify.specs.Counted.{told_if, told_among, findings_of, IsJudgedOf};
 
 use crate::found::{Findings, Reach, Unsound};
-use crate::reach::{Reached, walk_by};
-use crate::section::judge_all;
-use ix_car::{CarFault, CarFile, CarKind, Section, load_car, read_sections};
+use crate::reach::{Reached, walk_roots};
+use crate::section::judge_beside;
+use ix_car::{CarFault, CarFile, CarKind, Section, load_shared_by, read_sections};
 use ix_check::Verdict;
 use ix_cid::Cid;
+use ix_store::Store;
 use std::alloc::{AllocError, Global};
+use std::sync::Arc;
 use std::thread::Threads;
 
 /// What is found of a CARv1 file whose sections are hashed by at most so many threads, or the file's first
@@ -34,14 +37,51 @@ pub fn verify<R: Threads + Sync>(
     ensures found { IfOk result (IsFoundOf car.items reach) }
     ensures refused { IfErr result (λ fault. IsFaultOf car.items fault (section_list car.items)) }
 {
-    let judged = judge_file(rt, alloc, car.as_slice(), threads)?;
-    let reached = reach_from(rt, alloc, car, judged.roots.as_slice(), threads, reach)?;
-    Ok(Findings {
-        sections: judged.sections,
-        unsound: judged.unsound,
-        skips: reached.skips,
-        is_over_limit: reached.is_over_limit,
-    })
+    match reach {
+        Reach::Blocks => verify_blocks(rt, alloc, car.as_slice(), threads),
+        Reach::Roots => match Arc::new(alloc, car) {
+            Ok(file) => verify_all(rt, alloc, &file, threads),
+            Err(_) => Err(no_memory()),
+        },
+    }
+}
+
+// What is found of a file by its sections alone.
+fn verify_blocks<R: Threads + Sync>(
+    rt: &R,
+    alloc: Global,
+    car: &[u8],
+    threads: usize,
+) -> Result<Findings, CarFault>
+    requires { 0 < threads }
+    ensures found { IfOk result (IsFoundOf car.now OfBlocks) }
+    ensures refused { IfErr result (λ fault. IsFaultOf car.now fault (section_list car.now)) }
+{
+    let judged = judge_file(rt, alloc, None, car, threads)?;
+    Ok(judged.with(Reached::nothing(alloc)))
+}
+
+// What is found of a file by its sections and from its roots on. Its blocks are in a store, which keeps for the walk what
+// the threads find of them.
+fn verify_all<R: Threads + Sync>(
+    rt: &R,
+    alloc: Global,
+    file: &Arc<Vec<u8>>,
+    threads: usize,
+) -> Result<Findings, CarFault>
+    requires { 0 < threads }
+    ensures found { IfOk result (IsFoundOf (arc_value file.now).items OfRoots) }
+    ensures refused { IfErr result (λ fault. IsFaultOf (arc_value file.now).items fault (section_list (arc_value file.now).items)) }
+{
+    let store = match load_shared_by(rt, alloc, file, threads) {
+        Ok(store) => store,
+        Err(fault) => return Err(fault),
+    };
+    let judged = judge_file(rt, alloc, Some(&store), file.as_slice(), threads)?;
+    match walk_roots(alloc, &store, judged.roots.as_slice()) {
+        Ok(reached) => Ok(judged.with(reached)),
+        Err(_) => Err(no_memory()),
+    }
 }
 
 // What is found of the sections of a file, and its roots.
@@ -52,9 +92,25 @@ struct Judged {
     unsound: Vec<Unsound>,
 }
 
+impl Judged {
+    // The same, and what was met from roots on.
+    fn with(self, reached: Reached) -> Findings
+        ensures { result ≡ findings_of self reached.skips reached.is_over_limit }
+    {
+        Findings {
+            sections: self.sections,
+            unsound: self.unsound,
+            skips: reached.skips,
+            is_over_limit: reached.is_over_limit,
+        }
+    }
+}
+
+// What is found of the sections of a file, beside the store of its blocks where there is one.
 fn judge_file<R: Threads + Sync>(
     rt: &R,
     alloc: Global,
+    store: Option<&Store>,
     car: &[u8],
     threads: usize,
 ) -> Result<Judged, CarFault>
@@ -63,52 +119,12 @@ fn judge_file<R: Threads + Sync>(
     ensures refused { IfErr result (λ fault. IsFaultOf car.now fault (section_list car.now)) }
 {
     let CarFile { roots, sections } = read_sections(alloc, car)?;
-    match judge_sections(rt, alloc, sections.as_slice(), threads) {
+    match judge_sections(rt, alloc, store, sections.as_slice(), threads) {
         Ok(unsound) => Ok(Judged {
             roots,
             sections: sections.len(),
             unsound,
         }),
-        Err(_) => Err(no_memory()),
-    }
-}
-
-// What is met from these roots on in a file that was read, where it is to be verified so far.
-fn reach_from<R: Threads + Sync>(
-    rt: &R,
-    alloc: Global,
-    car: Vec<u8>,
-    roots: &[Cid],
-    threads: usize,
-    reach: Reach,
-) -> Result<Reached, CarFault>
-    requires { 0 < threads }
-    ensures reached { IfOk result (λ r. ReachesFrom car.items (roots_to_walk reach roots.now) r.skips.items r.is_over_limit) }
-    ensures refused { IfErr result (λ fault. IsFaultOf car.items fault (section_list car.items)) }
-{
-    match reach {
-        Reach::Blocks => Ok(Reached::nothing(alloc)),
-        Reach::Roots => walk_file(rt, alloc, car, roots, threads),
-    }
-}
-
-fn walk_file<R: Threads + Sync>(
-    rt: &R,
-    alloc: Global,
-    car: Vec<u8>,
-    roots: &[Cid],
-    threads: usize,
-) -> Result<Reached, CarFault>
-    requires { 0 < threads }
-    ensures reached { IfOk result (λ r. ReachesFrom car.items roots.now r.skips.items r.is_over_limit) }
-    ensures refused { IfErr result (λ fault. IsFaultOf car.items fault (section_list car.items)) }
-{
-    let store = match load_car(alloc, car) {
-        Ok(store) => store,
-        Err(fault) => return Err(fault),
-    };
-    match walk_by(rt, alloc, &store, roots, threads) {
-        Ok(reached) => Ok(reached),
         Err(_) => Err(no_memory()),
     }
 }
@@ -126,13 +142,14 @@ fn no_memory() -> CarFault
 fn judge_sections<R: Threads + Sync>(
     rt: &R,
     alloc: Global,
+    store: Option<&Store>,
     sections: &[Section<'_>],
     threads: usize,
 ) -> Result<Vec<Unsound>, AllocError>
     requires { 0 < threads }
     ensures { IfOk result (λ unsound. unsound.items ≡ unsound_of (map section_of sections.now)) }
 {
-    let verdicts = judge_all(rt, alloc, sections, threads)?;
+    let verdicts = judge_beside(rt, alloc, store, sections, threads)?;
     unsound_among(alloc, sections, verdicts.as_slice())
 }
 

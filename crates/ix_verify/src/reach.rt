@@ -1,6 +1,6 @@
 //! What the roots of a file call for.
 
-ghost use Rattle.std.specs.Prelude.{◌≡◌, ◌<◌, ◌++◌, ◌||◌, [], length, false, IfOk, OnOk};
+ghost use Rattle.std.specs.Prelude.{◌≡◌, ◌++◌, ◌||◌, [], false, IfOk, OnOk};
 ghost use Rattle.ix_walk.specs.Visits.{is_over_limit};
 ghost use Rattle.ix_archive.specs.Verified.{judged_visits};
 ghost use Rattle.ix_archive.specs.Report.{skips_of};
@@ -16,8 +16,7 @@ use ix_run::run_jobs;
 use ix_store::Store;
 use ix_walk::Job;
 use std::alloc::{AllocError, Global};
-use std::thread::Threads;
-use std::{io, slice, thread};
+use std::{io, slice};
 
 // What was met on the way from roots.
 #[derive(Drop)]
@@ -49,45 +48,8 @@ impl Reached {
     }
 }
 
-// What is met from these roots on, where so many threads look at the blocks first: the walk finds with each what they found.
-pub(crate) fn walk_by<R: Threads + Sync>(
-    rt: &R,
-    alloc: Global,
-    store: &Store,
-    roots: &[Cid],
-    threads: usize,
-) -> Result<Reached, AllocError>
-    requires { 0 < threads }
-    ensures { IfOk result (λ r. IsReached store.now roots.now r.skips.items r.is_over_limit) }
-{
-    if !roots.is_empty() {
-        look_at_blocks(rt, alloc, store, threads)?;
-    }
-    walk_roots(alloc, store, roots)
-}
-
-// Whether each block has its digest, which a store that was read from a file keeps.
-fn look_at_blocks<R: Threads + Sync>(
-    rt: &R,
-    alloc: Global,
-    store: &Store,
-    threads: usize,
-) -> Result<Vec<bool>, AllocError>
-    requires { 0 < threads }
-    ensures { IfOk result (λ found. length found.items ≡ length store.now) }
-{
-    let mut found = vec![in alloc; false; store.len()]?;
-    thread::for_each_mut(
-        rt,
-        found.as_mut_slice(),
-        threads,
-        &|place, agrees| *agrees = store.agrees(place),
-    );
-    Ok(found)
-}
-
 // What is met from these roots on, root after root.
-fn walk_roots(alloc: Global, store: &Store, roots: &[Cid]) -> Result<Reached, AllocError>
+pub(crate) fn walk_roots(alloc: Global, store: &Store, roots: &[Cid]) -> Result<Reached, AllocError>
     ensures { IfOk result (λ r. IsReached store.now roots.now r.skips.items r.is_over_limit) }
 {
     let mut reached = Reached::nothing(alloc);

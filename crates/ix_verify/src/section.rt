@@ -1,17 +1,18 @@
 //! Sections, judged by their own bytes.
 
-ghost use Rattle.std.specs.Prelude.{◌≡◌, ℕ, ◌<◌, length, slice_index_or, bytes_eq, is_none, map, slice_get, Some, IfOk};
+ghost use Rattle.std.specs.Prelude.{◌≡◌, ℕ, ◌<◌, length, slice_index_or, bytes_eq, is_none, map, slice_get, Some, IfOk, IfSome};
 ghost use Rattle.sha2.specs.Sha256.{sha256};
 ghost use Rattle.sha2.specs.Sha512.{sha512};
 ghost use Rattle.ix_cbor.specs.Reading.{data_at};
 ghost use Rattle.ix_check.specs.Verdict.{is_codec};
-ghost use Rattle.ix_verify.specs.Judged.{digest_by, verdict_in};
+ghost use Rattle.ix_verify.specs.Judged.{digest_by, verdict_in, section_pair};
 
 use ix_car::Section;
 use ix_cbor::check;
 use ix_check::Verdict;
 use ix_cid::HashFunction;
 use ix_cid::code::{DAG_CBOR, RAW};
+use ix_store::Store;
 use sha2::{Digest, Sha256, Sha512};
 use std::alloc::{AllocError, Global};
 use std::thread;
@@ -50,14 +51,31 @@ pub fn judge_all<R: Threads + Sync>(
     requires { 0 < threads }
     ensures { IfOk result (λ verdicts. verdicts.items ≡ map verdict_in sections.now) }
 {
+    judge_beside(rt, alloc, None, sections, threads)
+}
+
+// The same beside a store, where there is one. Where it has the very block of a section under the section's CID, what it
+// finds of that counts: a block is hashed once, and a settled store keeps what is found.
+pub(crate) fn judge_beside<R: Threads + Sync>(
+    rt: &R,
+    alloc: Global,
+    store: Option<&Store>,
+    sections: &[Section<'_>],
+    threads: usize,
+) -> Result<Vec<Verdict>, AllocError>
+    requires { 0 < threads }
+    ensures { IfOk result (λ verdicts. verdicts.items ≡ map verdict_in sections.now) }
+{
     let mut verdicts = vec![in alloc; Verdict::Sound; sections.len()]?;
-    judge_into(rt, sections, threads, verdicts.as_mut_slice());
+    judge_into(rt, alloc, store, sections, threads, verdicts.as_mut_slice());
     Ok(verdicts)
 }
 
 // Writes the verdict on each section to its place.
 fn judge_into<R: Threads + Sync>(
     rt: &R,
+    alloc: Global,
+    store: Option<&Store>,
     sections: &[Section<'_>],
     threads: usize,
     verdicts: &mut [Verdict],
@@ -66,11 +84,13 @@ fn judge_into<R: Threads + Sync>(
     requires each { length verdicts.old ≡ length sections.now }
     ensures { verdicts.new ≡ map verdict_in sections.now }
 {
-    judge_each(rt, sections, threads, verdicts);
+    judge_each(rt, alloc, store, sections, threads, verdicts);
 }
 
 fn judge_each<R: Threads + Sync>(
     rt: &R,
+    alloc: Global,
+    store: Option<&Store>,
     sections: &[Section<'_>],
     threads: usize,
     verdicts: &mut [Verdict],
@@ -84,16 +104,66 @@ fn judge_each<R: Threads + Sync>(
         rt,
         verdicts,
         threads,
-        &|place, verdict| *verdict = judge_at(sections, place),
+        &|place, verdict| *verdict = judge_at(alloc, store, sections, place),
     );
 }
 
 // The verdict on the section at a place.
-fn judge_at(sections: &[Section<'_>], place: usize) -> Verdict
+fn judge_at(alloc: Global, store: Option<&Store>, sections: &[Section<'_>], place: usize) -> Verdict
     requires { place < length sections.now }
     ensures { slice_get (map verdict_in sections.now) place ≡ Some result }
 {
-    judge(&sections[place])
+    let section = &sections[place];
+    match store {
+        Some(store) => judge_in(alloc, store, place, section),
+        None => judge(section),
+    }
+}
+
+// The verdict on a section, which may stand at this place of a store.
+fn judge_in(alloc: Global, store: &Store, guess: usize, section: &Section<'_>) -> Verdict
+    ensures { result ≡ verdict_in section.now }
+{
+    match place_in(alloc, store, guess, section) {
+        Some(place) => judge_stored(store, place, section),
+        None => judge(section),
+    }
+}
+
+// Where the very block of a section stands in a store under the section's CID. The place that is guessed is looked at
+// first.
+fn place_in(alloc: Global, store: &Store, guess: usize, section: &Section<'_>) -> Option<usize>
+    ensures { IfSome result (λ place. slice_get store.now place ≡ Some (section_pair section.now)) }
+{
+    let Ok(cid) = section.cid.to_cid(alloc) else {
+        return None;
+    };
+    match store.find_near(Some(guess), &cid) {
+        Some(place) if store.bytes(place) == section.block => Some(place),
+        _ => None,
+    }
+}
+
+// The verdict on a section that stands at a place of a store, by what the store finds.
+fn judge_stored(store: &Store, place: usize, section: &Section<'_>) -> Verdict
+    requires { slice_get store.now place ≡ Some (section_pair section.now) }
+    ensures { result ≡ verdict_in section.now }
+{
+    let parts = section.cid.parts();
+    if !is_codec(parts.codec) {
+        return Verdict::Codec;
+    }
+    if parts.hash_function().is_none() {
+        return Verdict::Hash;
+    }
+    if !store.agrees(place) {
+        return Verdict::Damaged;
+    }
+    if parts.codec == DAG_CBOR && store.is_faulty(place) {
+        Verdict::Malformed
+    } else {
+        Verdict::Sound
+    }
 }
 
 // Raw or DAG-CBOR.
