@@ -1,9 +1,24 @@
 -- What is counted of sections.
-use Rattle.std.specs.Prelude.{◌≡◌, ℕ, zero, suc, ◌+◌, ◌-◌, ◌%◌, ◌<◌, Bool, List, [], ◌∷◌, ◌++◌, length, ◌==◌, if◌then◌else◌, bytes_eq, count_by, filter, slice_get, slice_index_or, Option, Some, None, Result, IfOk}
+use Rattle.std.specs.Prelude.{◌≡◌, ℕ, zero, suc, ◌+◌, ◌-◌, ◌%◌, ◌<◌, Bool, List, [], ◌∷◌, ◌++◌, length, ◌==◌, if◌then◌else◌, bytes_eq, count_by, filter, map, slice_get, slice_index_or, Option, Some, None, Result, IfOk}
 use Rattle.std.specs.List.{list_any}
 use Rattle.std.specs.Ordering.{nat_cmp}
 use Rattle.std.specs.declared.alloc.AllocError.{AllocError}
 use Rattle.std.specs.BTreeMap.{BTreeMap, get}
+use Rattle.ix_cid.specs.Cid.{codec_of, hash_code_of}
+use Rattle.ix_car.specs.declared.reader.sections.Section.{Section}
+
+-- of each of these sections the CID, its codec, the code of its hash function, and the size of the block
+abbrev pub cids_of : List Section → List (List ℕ)
+cids_of sections = map (λ (x : Section). x.cid) sections
+
+abbrev pub codecs_of : List Section → List ℕ
+codecs_of sections = map (λ (x : Section). codec_of x.cid) sections
+
+abbrev pub hash_codes_of : List Section → List ℕ
+hash_codes_of sections = map (λ (x : Section). hash_code_of x.cid) sections
+
+abbrev pub sizes_of : List Section → List ℕ
+sizes_of sections = map (λ (x : Section). length x.block.now) sections
 
 -- a number of times, or none
 abbrev pub if_any : ℕ → Option ℕ
@@ -44,4 +59,5 @@ in_share shares share cids = filter (λ c. share_of shares c == share) cids
 
 -- for each of so many shares, how many of its CIDs have stood before
 abbrev pub AreCounted : ℕ → List (List ℕ) → List (Result ℕ AllocError) → Type 0
-AreCounted shares cids counts = (share : ℕ) (d : Result ℕ AllocError) → share < shares → IfOk (slice_index_or counts share d) (λ n. n ≡ repeats (in_share shares share cids))
+AreCounted shares cids counts =
+    (share : ℕ) (d : Result ℕ AllocError) → share < shares → IfOk (slice_index_or counts share d) (λ n. n ≡ repeats (in_share shares share cids))

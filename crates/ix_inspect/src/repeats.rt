@@ -3,10 +3,9 @@
 //! The CIDs fall into shares, each by its last byte: alike ones into one. So the repeats of all are those of each share
 //! together, and each thread counts those of its own.
 
-ghost use Rattle.std.specs.Prelude.{◌≡◌, ◌<◌, [], length, map, vec_len, if◌then◌else◌, IfOk, OnOk};
-ghost use Rattle.ix_car.specs.declared.reader.sections.Section.{Section};
+ghost use Rattle.std.specs.Prelude.{◌≡◌, ◌<◌, [], length, vec_len, if◌then◌else◌, IfOk, OnOk};
 ghost use Rattle.ix_store.specs.Store.{has_cid, with_block};
-ghost use Rattle.ix_inspect.specs.Counted.{repeats, share_of, in_share, AreCounted};
+ghost use Rattle.ix_inspect.specs.Counted.{cids_of, repeats, share_of, in_share, AreCounted};
 
 use ix_car::Section;
 use ix_cid::CidRef;
@@ -27,7 +26,7 @@ pub(crate) fn repeats_of<R: Threads + Sync>(
     sections: &[Section<'_>],
     threads: usize,
 ) -> Result<usize, AllocError>
-    ensures { IfOk result (λ n. n ≡ repeats (map (λ (x : Section). x.cid) sections.now)) }
+    ensures { IfOk result (λ n. n ≡ repeats (cids_of sections.now)) }
 {
     let counts = counts_of(rt, alloc, sections, threads.clamp(1, MOST_SHARES))?;
     sum_of(sections, counts.as_slice())
@@ -42,7 +41,7 @@ fn counts_of<R: Threads + Sync>(
 ) -> Result<Vec<Count>, AllocError>
     requires { 0 < shares }
     ensures len { IfOk result (λ counts. vec_len counts ≡ shares) }
-    ensures counted { IfOk result (λ counts. AreCounted shares (map (λ (x : Section). x.cid) sections.now) counts.items) }
+    ensures counted { IfOk result (λ counts. AreCounted shares (cids_of sections.now) counts.items) }
 {
     map_indices(
         rt,
@@ -55,8 +54,8 @@ fn counts_of<R: Threads + Sync>(
 // The sum of what was counted of the shares of sections, which are no more than these.
 fn sum_of(sections: &[Section<'_>], counts: &[Count]) -> Result<usize, AllocError>
     requires some { 0 < length counts.now }
-    requires counted { AreCounted (length counts.now) (map (λ (x : Section). x.cid) sections.now) counts.now }
-    ensures { IfOk result (λ n. n ≡ repeats (map (λ (x : Section). x.cid) sections.now)) }
+    requires counted { AreCounted (length counts.now) (cids_of sections.now) counts.now }
+    ensures { IfOk result (λ n. n ≡ repeats (cids_of sections.now)) }
 {
     let mut repeats = 0usize;
     for count in counts {
@@ -68,7 +67,7 @@ fn sum_of(sections: &[Section<'_>], counts: &[Count]) -> Result<usize, AllocErro
 // Of those that fall into a share, how many have a CID that has stood before.
 fn repeats_in(alloc: Global, sections: &[Section<'_>], shares: usize, share: usize) -> Count
     requires { 0 < shares }
-    ensures { IfOk result (λ n. n ≡ repeats (in_share shares share (map (λ (x : Section). x.cid) sections.now))) }
+    ensures { IfOk result (λ n. n ≡ repeats (in_share shares share (cids_of sections.now))) }
 {
     let mut seen = Store::new(alloc);
     let mut repeats = 0usize;

@@ -1,10 +1,8 @@
 //! What stands in a file, counted.
 
-ghost use Rattle.std.specs.Prelude.{◌≡◌, ◌-◌, ◌/◌, length, map, slice_get, IfOk, IsSorted, IsPermutation};
+ghost use Rattle.std.specs.Prelude.{◌≡◌, ◌-◌, ◌/◌, length, slice_get, IfOk, IsSorted, IsPermutation};
 ghost use Rattle.std.specs.Ordering.{nat_cmp};
-ghost use Rattle.ix_cid.specs.Cid.{codec_of, hash_code_of};
-ghost use Rattle.ix_car.specs.declared.reader.sections.Section.{Section};
-ghost use Rattle.ix_inspect.specs.Counted.{IsTallyOf, repeats};
+ghost use Rattle.ix_inspect.specs.Counted.{cids_of, codecs_of, hash_codes_of, sizes_of, IsTallyOf, repeats};
 
 use crate::repeats::repeats_of;
 use crate::tally::{Tally, tally_of};
@@ -57,10 +55,10 @@ pub fn summary_of<R: Threads + Sync>(
     threads: usize,
 ) -> Result<Summary, AllocError>
     ensures sections { IfOk result (λ s. s.sections ≡ length sections.now) }
-    ensures repeated { IfOk result (λ s. s.repeated ≡ repeats (map (λ (x : Section). x.cid) sections.now)) }
-    ensures codecs { IfOk result (λ s. IsTallyOf (map (λ (x : Section). codec_of x.cid) sections.now) s.codecs) }
-    ensures hashes { IfOk result (λ s. IsTallyOf (map (λ (x : Section). hash_code_of x.cid) sections.now) s.hashes) }
-    ensures sizes { IfOk result (λ s. IsPermutation (map (λ (x : Section). length x.block.now) sections.now) s.sizes.items) }
+    ensures repeated { IfOk result (λ s. s.repeated ≡ repeats (cids_of sections.now)) }
+    ensures codecs { IfOk result (λ s. IsTallyOf (codecs_of sections.now) s.codecs) }
+    ensures hashes { IfOk result (λ s. IsTallyOf (hash_codes_of sections.now) s.hashes) }
+    ensures sizes { IfOk result (λ s. IsPermutation (sizes_of sections.now) s.sizes.items) }
     ensures sorted { IfOk result (λ s. IsSorted nat_cmp s.sizes.items) }
 {
     let codecs = codecs_of(alloc, sections)?;
@@ -76,7 +74,7 @@ pub fn summary_of<R: Threads + Sync>(
 
 // The codec of each.
 fn codecs_of(alloc: Global, sections: &[Section<'_>]) -> Result<Vec<u64>, AllocError>
-    ensures { IfOk result (λ v. v.items ≡ map (λ (x : Section). codec_of x.cid) sections.now) }
+    ensures { IfOk result (λ v. v.items ≡ codecs_of sections.now) }
 {
     sections
         .iter()
@@ -86,7 +84,7 @@ fn codecs_of(alloc: Global, sections: &[Section<'_>]) -> Result<Vec<u64>, AllocE
 
 // The code of the hash function of each.
 fn hashes_of(alloc: Global, sections: &[Section<'_>]) -> Result<Vec<u64>, AllocError>
-    ensures { IfOk result (λ v. v.items ≡ map (λ (x : Section). hash_code_of x.cid) sections.now) }
+    ensures { IfOk result (λ v. v.items ≡ hash_codes_of sections.now) }
 {
     sections
         .iter()
@@ -96,7 +94,7 @@ fn hashes_of(alloc: Global, sections: &[Section<'_>]) -> Result<Vec<u64>, AllocE
 
 // The size of each block, from the smallest to the greatest.
 fn sizes_of(alloc: Global, sections: &[Section<'_>]) -> Result<Vec<usize>, AllocError>
-    ensures sizes { IfOk result (λ v. IsPermutation (map (λ (x : Section). length x.block.now) sections.now) v.items) }
+    ensures sizes { IfOk result (λ v. IsPermutation (sizes_of sections.now) v.items) }
     ensures sorted { IfOk result (λ v. IsSorted nat_cmp v.items) }
 {
     let mut sizes: Vec<usize> = sections

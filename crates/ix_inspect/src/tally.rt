@@ -1,9 +1,7 @@
 //! How often codes come.
 
-ghost use Rattle.std.specs.Prelude.{◌≡◌, ℕ, ◌<◌, ◌≤◌, ◌==◌, length, take, slice_index, if◌then◌else◌, IfOk, IfErr};
-ghost use Rattle.std.specs.Ordering.{nat_cmp};
-ghost use Rattle.std.specs.BTreeMap.{get};
-ghost use Rattle.ix_inspect.specs.Counted.{IsTallyOf, times, if_any};
+ghost use Rattle.std.specs.Prelude.{◌≡◌, ℕ, ◌≤◌, ◌==◌, length, take, if◌then◌else◌, IfOk};
+ghost use Rattle.ix_inspect.specs.Counted.{IsTallyOf, times};
 
 use std::alloc::{AllocError, Global};
 use std::collections::BTreeMap;

@@ -4,3 +4,4 @@ pub mod Found
 pub mod Told
 pub mod Counted
 pub mod Written
+pub mod Laws

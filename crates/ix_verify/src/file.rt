@@ -71,7 +71,8 @@ fn verify_all<R: Threads + Sync>(
 ) -> Result<Findings, CarFault>
     requires { 0 < threads }
     ensures found { IfOk result (IsFoundOf (arc_value file.now).items OfRoots) }
-    ensures refused { IfErr result (λ fault. IsFaultOf (arc_value file.now).items fault (section_list (arc_value file.now).items)) }
+    ensures refused { IfErr result (λ fault. IsFaultOf (arc_value file.now).items fault
+        (section_list (arc_value file.now).items)) }
 {
     let store = match load_shared_by(rt, alloc, file, threads) {
         Ok(store) => store,

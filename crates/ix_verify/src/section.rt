@@ -98,7 +98,8 @@ fn judge_each<R: Threads + Sync>(
     requires threads { 0 < threads }
     requires each { length verdicts.old ≡ length sections.now }
     ensures len { length verdicts.new ≡ length sections.now }
-    ensures each { (i : ℕ) (d : _) → i < length sections.now → slice_get (map verdict_in sections.now) i ≡ Some (slice_index_or verdicts.new i d) }
+    ensures each { (i : ℕ) (d : _) → i < length sections.now
+        → slice_get (map verdict_in sections.now) i ≡ Some (slice_index_or verdicts.new i d) }
 {
     thread::for_each_mut(
         rt,

@@ -1,0 +1,68 @@
+-- The laws of what is verified.
+use Rattle.std.specs.Prelude.{◌≡◌, ℕ, ◌≤◌, false, List, [], ◌∷◌, Some, Ok, All}
+use Rattle.ix_walk.specs.JobMeaning.{JobMeaning}
+use Rattle.ix_store.specs.Store.{Blocks, block_of}
+use Rattle.ix_walk.specs.Visits.{is_over_limit}
+use Rattle.ix_check.specs.Verdict.{verdict_of}
+use Rattle.ix_check.specs.declared.verdict.Verdict.TheVariants.{Sound}
+use Rattle.ix_archive.specs.declared.sink.Delivery.{Delivery}
+use Rattle.ix_archive.specs.Archive.{sections_of, archive_with, archive_of}
+use Rattle.ix_archive.specs.Report.{skips_of}
+use Rattle.ix_archive.specs.Verified.{verified, judged_visits}
+use Rattle.ix_car.specs.Sections.{section_list, roots_of}
+use Rattle.ix_verify.specs.Judged.{section_verdict, IsSoundSection}
+use Rattle.ix_verify.specs.Found.{job_below, HasSoundSections, IsSoundFile}
+use Rattle.ix_verify.specs.Written.{written_sections, IsArchivable, IsJudged, IsSoundByItself}
+
+-- where the verdict on a CID is Sound, that on the CID and the store's block is
+abbrev pub SoundBlocksAreSoundSections : Type 0
+SoundBlocksAreSoundSections =
+    (store : Blocks) (c block : List ℕ) → verdict_of store c ≡ Sound → block_of store c ≡ Some block → section_verdict c block ≡ Sound
+
+-- every section of which the archive of a job is made is sound
+abbrev pub ArchivesHaveSoundSections : Type 0
+ArchivesHaveSoundSections =
+    (store : Blocks) (number : ℕ) (job : JobMeaning) → All (IsSoundSection store) (sections_of store (verified store number job))
+
+-- the header of an archive names the roots
+abbrev pub RootsAreReadBack : Type 0
+RootsAreReadBack =
+    (store : Blocks) (roots : List (List ℕ)) (ds : List Delivery) → IsArchivable store roots ds → roots_of (archive_with store roots ds) ≡ roots
+
+-- the sections of an archive are those that were written
+abbrev pub SectionsAreReadBack : Type 0
+SectionsAreReadBack =
+    (store : Blocks) (roots : List (List ℕ)) (ds : List Delivery) → IsArchivable store roots ds
+    → section_list (archive_with store roots ds) ≡ Ok (written_sections store roots ds)
+
+-- what was written with the store's verdicts is sound by its own bytes
+abbrev pub WrittenIsSoundByItself : Type 0
+WrittenIsSoundByItself =
+    (store : Blocks) (roots : List (List ℕ)) (ds : List Delivery) → All (IsJudged store) ds
+    → All IsSoundByItself (written_sections store roots ds)
+
+-- the verdicts of a job's deliveries are the store's
+abbrev pub VerifiedIsJudged : Type 0
+VerifiedIsJudged = (store : Blocks) (number : ℕ) (job : JobMeaning) → All (IsJudged store) (verified store number job)
+
+-- the sections of an archive of deliveries with the store's verdicts are found to be sound
+abbrev pub DeliveriesHaveSoundSections : Type 0
+DeliveriesHaveSoundSections =
+    (store : Blocks) (roots : List (List ℕ)) (ds : List Delivery) → IsArchivable store roots ds → All (IsJudged store) ds
+    → HasSoundSections (archive_with store roots ds)
+
+-- those of the archive of a job
+abbrev pub JobsHaveSoundSections : Type 0
+JobsHaveSoundSections =
+    (store : Blocks) (number : ℕ) (job : JobMeaning) → IsArchivable store job.roots (verified store number job)
+    → HasSoundSections (archive_of store number job)
+
+-- where a job took everything below one root, going into each CID once, within its limit and without a skip, the whole of its
+-- archive is, with all that its root calls for
+abbrev pub WholeArchivesAreSound : Type 0
+WholeArchivesAreSound =
+    (store : Blocks) (number : ℕ) (name : List ℕ) (limit : ℕ) (root : List ℕ)
+    → IsArchivable store (root ∷ []) (verified store number (job_below name limit root))
+    → limit ≤ 1000000 → is_over_limit store (job_below name limit root) ≡ false
+    → skips_of (judged_visits store number (job_below name limit root)) ≡ []
+    → IsSoundFile (archive_of store number (job_below name limit root))
