@@ -18,33 +18,33 @@ use Rattle.ix_jobs.specs.Jobs.{◌>>=◌, is_ignored, is_text, line_job, fields_
 use Rattle.ix_job_words.specs.declared.line.LineFault.TheVariants.{Field}
 use Rattle.ix_job_words.specs.Line.{is_visible, is_word, line_of, IsRefusedBy}
 
-both : (a b : Bool) → (a && b) ≡ true → (a ≡ true) × (b ≡ true)
-both true b h = (refl, h)
-both false b h = absurd cc
+and-parts : (a b : Bool) → (a && b) ≡ true → (a ≡ true) × (b ≡ true)
+and-parts true b h = (refl, h)
+and-parts false b h = absurd cc
 
 and_true : (a b : Bool) → a ≡ true → b ≡ true → (a && b) ≡ true
 and_true a b h k = rw (h, k) refl
 
-negated : (a : Bool) → not a ≡ true → a ≡ false
-negated true h = absurd cc
-negated false h = refl
+not-true : (a : Bool) → not a ≡ true → a ≡ false
+not-true true h = absurd cc
+not-true false h = refl
 
 -- what no visible character is
 no_space : (b : ℕ) → is_visible b ≡ true → (b == 32) ≡ false
-no_space b h = let above : nat_lt 32 b ≡ true = (both (nat_lt 32 b) (nat_le b 126) h).0 in grind (arith, nat_tests)
+no_space b h = let above : nat_lt 32 b ≡ true = (and-parts (nat_lt 32 b) (nat_le b 126) h).0 in grind (arith, nat_tests)
 
 no_end : (b : ℕ) → is_visible b ≡ true → (b == 10) ≡ false
-no_end b h = let above : nat_lt 32 b ≡ true = (both (nat_lt 32 b) (nat_le b 126) h).0 in grind (arith, nat_tests)
+no_end b h = let above : nat_lt 32 b ≡ true = (and-parts (nat_lt 32 b) (nat_le b 126) h).0 in grind (arith, nat_tests)
 
 no_return : (b : ℕ) → is_visible b ≡ true → (b == 13) ≡ false
-no_return b h = let above : nat_lt 32 b ≡ true = (both (nat_lt 32 b) (nat_le b 126) h).0 in grind (arith, nat_tests)
+no_return b h = let above : nat_lt 32 b ≡ true = (and-parts (nat_lt 32 b) (nat_le b 126) h).0 in grind (arith, nat_tests)
 
 is_printable : ℕ → Bool
 is_printable b = nat_le 32 b && nat_le b 126
 
-printable : (b : ℕ) → is_visible b ≡ true → (nat_le 32 b && nat_le b 126) ≡ true
-printable b h =
-    let parts = both (nat_lt 32 b) (nat_le b 126) h in
+visible-printable : (b : ℕ) → is_visible b ≡ true → (nat_le 32 b && nat_le b 126) ≡ true
+visible-printable b h =
+    let parts = and-parts (nat_lt 32 b) (nat_le b 126) h in
     let above : nat_lt 32 b ≡ true = parts.0 in
     let least : nat_le 32 b ≡ true = grind (arith, nat_tests) in
     and_true (nat_le 32 b) (nat_le b 126) least parts.1
@@ -53,39 +53,39 @@ printable b h =
 of_name : (b : ℕ) → is_name_byte b ≡ true → (is_visible b ≡ true) × ((b == 35) ≡ false)
 of_name b h = (grind (arith, nat_tests), grind (arith, nat_tests))
 
-each : (P : ℕ → Type 0) → ((b : ℕ) → is_visible b ≡ true → P b) → (w : List ℕ) → list_all is_visible w ≡ true → All P w
-each P f [] h = All-nil P
-each P f (b ∷ bs) h = let parts = both (is_visible b) (list_all is_visible bs) h in All-cons P b bs (f b parts.0) (each P f bs parts.1)
+All-visible : (P : ℕ → Type 0) → ((b : ℕ) → is_visible b ≡ true → P b) → (w : List ℕ) → list_all is_visible w ≡ true → All P w
+All-visible P f [] h = All-nil P
+All-visible P f (b ∷ bs) h = let parts = and-parts (is_visible b) (list_all is_visible bs) h in All-cons P b bs (f b parts.0) (All-visible P f bs parts.1)
 
 text_of : (w : List ℕ) → list_all is_visible w ≡ true → is_text w ≡ true
 text_of [] h = refl
-text_of (b ∷ bs) h = let parts = both (is_visible b) (list_all is_visible bs) h in and_true (nat_le 32 b && nat_le b 126) (is_text bs) (printable b parts.0) (text_of bs parts.1)
+text_of (b ∷ bs) h = let parts = and-parts (is_visible b) (list_all is_visible bs) h in and_true (nat_le 32 b && nat_le b 126) (is_text bs) (visible-printable b parts.0) (text_of bs parts.1)
 
 name_visible : (w : List ℕ) → list_all is_name_byte w ≡ true → list_all is_visible w ≡ true
 name_visible [] h = refl
-name_visible (b ∷ bs) h = let parts = both (is_name_byte b) (list_all is_name_byte bs) h in and_true (is_visible b) (list_all is_visible bs) (of_name b parts.0).0 (name_visible bs parts.1)
+name_visible (b ∷ bs) h = let parts = and-parts (is_name_byte b) (list_all is_name_byte bs) h in and_true (is_visible b) (list_all is_visible bs) (of_name b parts.0).0 (name_visible bs parts.1)
 
 -- what is known of a word
 pub record IsWord (w : List ℕ) : Type 0 where
   pub visible : list_all is_visible w ≡ true
   pub some : (length w == 0) ≡ false
 
-pub word : (w : List ℕ) → is_word w ≡ true → IsWord w
-word w h =
-    let parts = both (not (length w == 0)) (list_all is_visible w) h in
-    record { visible = parts.1; some = negated (length w == 0) parts.0 }
+pub IsWord-word : (w : List ℕ) → is_word w ≡ true → IsWord w
+IsWord-word w h =
+    let parts = and-parts (not (length w == 0)) (list_all is_visible w) h in
+    record { visible = parts.1; some = not-true (length w == 0) parts.0 }
 
 name_word : (name : List ℕ) → is_name name ≡ true → IsWord name
 name_word [] h = absurd cc
 name_word (b ∷ bs) h =
-    let parts = both (nat_le 1 (length (b ∷ bs)) && nat_le (length (b ∷ bs)) 64) (list_all is_name_byte (b ∷ bs)) h in
+    let parts = and-parts (nat_le 1 (length (b ∷ bs)) && nat_le (length (b ∷ bs)) 64) (list_all is_name_byte (b ∷ bs)) h in
     let many : 0 < length (b ∷ bs) = omega arith in
     record { visible = name_visible (b ∷ bs) parts.1; some = grind (arith, nat_tests) }
 
 -- a word, a space and what follows
 module _ (P : ℕ → Type 0) (visible : (b : ℕ) → is_visible b ≡ true → P b) (space : P 32) where
   all_behind : (w rest : List ℕ) → IsWord w → All P rest → All P (w ++ 32 ∷ rest)
-  all_behind w rest is more = All-append P w (32 ∷ rest) (each P visible w is.visible) (All-cons P 32 rest space more)
+  all_behind w rest is more = All-append P w (32 ∷ rest) (All-visible P visible w is.visible) (All-cons P 32 rest space more)
 
 text_behind : (w rest : List ℕ) → IsWord w → is_text rest ≡ true → is_text (w ++ 32 ∷ rest) ≡ true
 text_behind w rest is more = list_all-append (λ b. nat_le 32 b && nat_le b 126) w (32 ∷ rest) ∙ and_true (is_text w) (is_text rest) (text_of w is.visible) more
@@ -93,13 +93,13 @@ text_behind w rest is more = list_all-append (λ b. nat_le 32 b && nat_le b 126)
 not_ignored : (name rest : List ℕ) → is_name name ≡ true → is_ignored (name ++ rest) ≡ false
 not_ignored [] rest h = absurd cc
 not_ignored (b ∷ bs) rest h =
-    let parts = both (nat_le 1 (length (b ∷ bs)) && nat_le (length (b ∷ bs)) 64) (list_all is_name_byte (b ∷ bs)) h in
-    (of_name b (both (is_name_byte b) (list_all is_name_byte bs) parts.1).0).1
+    let parts = and-parts (nat_le 1 (length (b ∷ bs)) && nat_le (length (b ∷ bs)) 64) (list_all is_name_byte (b ∷ bs)) h in
+    (of_name b (and-parts (is_name_byte b) (list_all is_name_byte bs) parts.1).0).1
 
 -- a job alone
-alone : (r : Result JobMeaning JobsKind) → (at_line 1 (r >>= joined 1000 []) >>= (λ jobs. jobs_from 1000 (1 + 1) jobs ([] ∷ []))) ≡ (at_line 1 r >>= (λ j. Ok (j ∷ [])))
-alone (Ok j) = refl
-alone (Err kind) = refl
+jobs_from-one : (r : Result JobMeaning JobsKind) → (at_line 1 (r >>= joined 1000 []) >>= (λ jobs. jobs_from 1000 (1 + 1) jobs ([] ∷ []))) ≡ (at_line 1 r >>= (λ j. Ok (j ∷ [])))
+jobs_from-one (Ok j) = refl
+jobs_from-one (Err kind) = refl
 
 module _ (name roots limit selector : List ℕ) where
   abbrev body : List ℕ
@@ -110,14 +110,14 @@ module _ (name roots limit selector : List ℕ) where
 
   module _ (named : is_name name ≡ true) (is_roots : IsWord roots) (is_limit : IsWord limit) (is_selector : IsWord selector) where
     all_of_body : (P : ℕ → Type 0) → ((b : ℕ) → is_visible b ≡ true → P b) → P 32 → All P body
-    all_of_body P visible space = all_behind P visible space name _ (name_word name named) (all_behind P visible space roots _ is_roots (all_behind P visible space limit _ is_limit (each P visible selector is_selector.visible)))
+    all_of_body P visible space = all_behind P visible space name _ (name_word name named) (all_behind P visible space roots _ is_roots (all_behind P visible space limit _ is_limit (All-visible P visible selector is_selector.visible)))
 
     text_of_body : is_text body ≡ true
     text_of_body = text_behind name _ (name_word name named) (text_behind roots _ is_roots (text_behind limit _ is_limit (text_of selector is_selector.visible)))
 
     pieces : slice_split (λ b. b == 32) body ≡ name ∷ roots ∷ limit ∷ selector ∷ []
     pieces =
-        let none : (w : List ℕ) → IsWord w → All (λ b. (b == 32) ≡ false) w = λ w is. each (λ b. (b == 32) ≡ false) no_space w is.visible in
+        let none : (w : List ℕ) → IsWord w → All (λ b. (b == 32) ≡ false) w = λ w is. All-visible (λ b. (b == 32) ≡ false) no_space w is.visible in
         slice_split_at (λ b. b == 32) name 32 _ (none name (name_word name named)) refl
         ∙ ap (λ l. name ∷ l) (slice_split_at (λ b. b == 32) roots 32 _ (none roots is_roots) refl
         ∙ ap (λ l. roots ∷ l) (slice_split_at (λ b. b == 32) limit 32 _ (none limit is_limit) refl
@@ -155,7 +155,7 @@ module _ (name roots limit selector : List ℕ) where
     pub read_alone : jobs_of (line_of name roots limit selector) ≡ (at_line 1 (job_of_fields name roots limit selector) >>= (λ j. Ok (j ∷ [])))
     read_alone =
         let with_first : Result (List JobMeaning) JobsKind → Result (List JobMeaning) (JobsKind × ℕ) = λ r. at_line 1 r >>= (λ jobs. jobs_from 1000 (1 + 1) jobs ([] ∷ [])) in
-        ap (jobs_from 1000 1 []) lines ∙ ap with_first joins ∙ alone (job_of_fields name roots limit selector)
+        ap (jobs_from 1000 1 []) lines ∙ ap with_first joins ∙ jobs_from-one (job_of_fields name roots limit selector)
 
 -- what was read
 pub was_read : (r : Result JobMeaning JobsKind) (jobs : List JobMeaning) → (at_line 1 r >>= (λ j. Ok (j ∷ []))) ≡ Ok jobs → (job : JobMeaning) × (r ≡ Ok job) × (jobs ≡ job ∷ [])
@@ -171,10 +171,10 @@ was_refused (Ok j) kind line h = absurd cc
 was_refused (Err other) kind line h = ap (λ (k : JobsKind). Err k) (ap (kind_in other) h)
 
 -- the fault of the line is that of the words
-pub refused : (IsSpelled : List ℕ → Type 0) (IsUnspelled : NotationFault → Type 0) (name roots limit hex line : List ℕ) (kind : JobsKind) (n : ℕ) → IsSpelled (hex ++ 10 ∷ []) → jobs_of line ≡ (at_line 1 (job_of_fields name roots limit hex) >>= (λ j. Ok (j ∷ []))) → FailsAs kind (kind, n) (jobs_of line)
+pub IsRefusedBy-line : (IsSpelled : List ℕ → Type 0) (IsUnspelled : NotationFault → Type 0) (name roots limit hex line : List ℕ) (kind : JobsKind) (n : ℕ) → IsSpelled (hex ++ 10 ∷ []) → jobs_of line ≡ (at_line 1 (job_of_fields name roots limit hex) >>= (λ j. Ok (j ∷ []))) → FailsAs kind (kind, n) (jobs_of line)
     → IsRefusedBy IsSpelled IsUnspelled name roots limit (Field kind)
-refused IsSpelled IsUnspelled name roots limit hex line Memory n made alone h = tt
-refused IsSpelled IsUnspelled name roots limit hex line kind n made alone h = inr (record { selector = hex; spelled = made; refused = was_refused (job_of_fields name roots limit hex) kind n (sym alone ∙ h) })
+IsRefusedBy-line IsSpelled IsUnspelled name roots limit hex line Memory n made alone h = tt
+IsRefusedBy-line IsSpelled IsUnspelled name roots limit hex line kind n made alone h = inr (record { selector = hex; spelled = made; refused = was_refused (job_of_fields name roots limit hex) kind n (sym alone ∙ h) })
 
 -- the hexadecimal of a selector, and its line end
 pub without_end : (line hex : List ℕ) → line ≡ hex ++ 10 ∷ [] → take (length line - 1) line ++ 10 ∷ [] ≡ line

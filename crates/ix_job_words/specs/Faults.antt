@@ -33,9 +33,13 @@ abbrev pub faults_from : ℕ → List JobMeaning → List (List ℕ) → List Jo
 faults_from line before [] = []
 faults_from line before (l ∷ ls) = told line (fault_behind before (jobs_of l)) ++ faults_from (line + 1) (jobs_behind before (jobs_of l)) ls
 
+-- those of the lines behind one
+abbrev pub later : ℕ → List JobsFault → List JobsFault
+later first faults = filter (λ f. nat_lt first f.line) faults
+
 -- the faults of the lines behind one
 abbrev pub faults_after : ℕ → List ℕ → List JobsFault
-faults_after first b = filter (λ f. nat_lt first f.line) (faults_from 1 [] (slice_split (λ b. b == 10) b))
+faults_after first b = later first (faults_from 1 [] (slice_split (λ b. b == 10) b))
 
 -- none where the file has jobs; else the one for which it is refused, and those of the lines behind
 abbrev pub AreFaultsOf : List ℕ → List JobsFault → Type 0

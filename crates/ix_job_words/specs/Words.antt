@@ -1,5 +1,6 @@
 -- The job of words, with a selector of any kind.
-use Rattle.std.specs.Prelude.{◌≡◌, ℕ, Bool, true, List, [], ◌∷◌, ◌++◌, map, codes, if◌then◌else◌}
+use Rattle.std.specs.Prelude.{◌≡◌, ℕ, Bool, true, List, [], ◌∷◌, ◌++◌, map, codes, if◌then◌else◌, String, string_bytes}
+use Rattle.std.specs.Global.{Vec}
 use Rattle.ix_walk.specs.JobMeaning.{JobMeaning, going_in}
 use Rattle.ix_notation.specs.declared.fault.NotationFault.{NotationFault}
 use Rattle.ix_notation.specs.Notation.{IsSelectorHex, IsJsonRefused}
@@ -9,7 +10,7 @@ use Rattle.ix_job_words.specs.declared.line.LineFault.TheVariants as faults
 use Rattle.ix_job_words.specs.declared.selector.SelectorWord.{SelectorWord}
 use Rattle.ix_job_words.specs.declared.selector.SelectorWord.TheVariants.{Everything, Json, Hex}
 use Rattle.ix_job_words.specs.declared.job.JobWords.{JobWords}
-use Rattle.ix_job_words.specs.Line.{IsLineBy, IsRefusedBy}
+use Rattle.ix_job_words.specs.Line.{IsLineBy, IsReadBy, IsRefusedBy}
 
 -- the selector that goes into every child, as long as there are any, in hexadecimal
 abbrev pub everything_hex : List ℕ
@@ -43,6 +44,14 @@ pub record AreJobsOf (words : JobWords) (once : Bool) (jobs : List JobMeaning) :
   pub is : IsLineBy (IsSpelledBy words.selector) words.name.now words.roots.now words.limit.now line
   pub are : jobs ≡ walked once (is.job ∷ [])
 
+-- the line of a selector of any kind, beside the only job of it
+abbrev pub IsMadeOf : {Y : Type 0} → SelectorWord → List ℕ → List ℕ → List ℕ → String Y × Vec JobMeaning → Type 0
+IsMadeOf selector name roots limit made = IsReadBy (IsSpelledBy selector) name roots limit (string_bytes made.0) made.1.items
+
+-- why there is none, or memory ran out
+abbrev pub IsRefusedOf : SelectorWord → List ℕ → List ℕ → List ℕ → LineFault → Type 0
+IsRefusedOf selector name roots limit fault = IsRefusedBy (IsSpelledBy selector) (IsNoSelector selector) name roots limit fault
+
 -- why the words are those of no job, or memory ran out
 abbrev pub AreWordsRefused : JobWords → LineFault → Type 0
-AreWordsRefused words fault = IsRefusedBy (IsSpelledBy words.selector) (IsNoSelector words.selector) words.name.now words.roots.now words.limit.now fault
+AreWordsRefused words fault = IsRefusedOf words.selector words.name.now words.roots.now words.limit.now fault

@@ -1,10 +1,8 @@
 //! All faulty lines of a job file.
 
-ghost use Rattle.std.specs.Prelude.{◌≡◌, ◌++◌, filter, nat_lt, List, IfOk, OnOk};
-ghost use Rattle.ix_walk.specs.JobMeaning.{JobMeaning};
-ghost use Rattle.ix_jobs.specs.Named.{HasNames};
-ghost use Rattle.ix_job_words.specs.Faults.{told, faults_after, AreFaultsOf};
-ghost use Rattle.ix_job_words.specs.Steps.{IsBehind};
+ghost use Rattle.std.specs.Prelude.{◌≡◌, ◌++◌, IfOk, OnOk};
+ghost use Rattle.ix_job_words.specs.Faults.{later, told, faults_after, AreFaultsOf};
+ghost use Rattle.ix_job_words.specs.Steps.{AnswersBehind};
 
 use ix_jobs::{JobsFault, JobsKind, read_jobs, split_line};
 use std::alloc::{AllocError, Global};
@@ -55,7 +53,7 @@ fn fault_behind(
     names: &mut BTreeSet<String>,
     line: &[u8],
 ) -> Result<Option<JobsKind>, AllocError>
-    ensures { (before : List JobMeaning) → HasNames names.old before → IfOk result (IsBehind before line.now names.new) }
+    ensures { AnswersBehind names.old line.now names.new result }
 {
     let jobs = match read_jobs(alloc, line) {
         Ok(jobs) => jobs,
@@ -84,7 +82,7 @@ fn push_told(
     line: u64,
     kind: Option<JobsKind>,
 ) -> Result<(), AllocError>
-    ensures { OnOk result (faults.new.items ≡ faults.old.items ++ filter (λ f. nat_lt first f.line) (told line kind)) }
+    ensures { OnOk result (faults.new.items ≡ faults.old.items ++ later first (told line kind)) }
 {
     match kind {
         Some(kind) if first < line => {

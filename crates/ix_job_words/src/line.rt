@@ -2,8 +2,8 @@
 
 ghost use Rattle.std.specs.Prelude.{◌≡◌, ◌<◌, ◌-◌, length, take, IfOk, IfErr, string_bytes};
 ghost use Rattle.std.specs.List.{list_all};
-ghost use Rattle.ix_job_words.specs.Line.{is_visible, is_word, IsLineOf, IsLineRefused, IsReadBy, IsRefusedBy};
-ghost use Rattle.ix_job_words.specs.Words.{IsSpelledBy, IsNoSelector};
+ghost use Rattle.ix_job_words.specs.Line.{is_visible, is_word, IsLineOf, IsLineRefused};
+ghost use Rattle.ix_job_words.specs.Words.{IsMadeOf, IsRefusedOf};
 
 use crate::selector::{SelectorWord, hex_line};
 use crate::words::{limit_fault, name_fault, roots_fault};
@@ -47,8 +47,8 @@ pub(crate) fn line_by(
     limit: &str,
     selector: &SelectorWord<'_>,
 ) -> Result<(String, Vec<Job>), LineFault>
-    ensures read { IfOk result (λ made. IsReadBy (IsSpelledBy selector.now) name.now roots.now limit.now (string_bytes made.0) made.1.items) }
-    ensures refused { IfErr result (IsRefusedBy (IsSpelledBy selector.now) (IsNoSelector selector.now) name.now roots.now limit.now) }
+    ensures read { IfOk result (IsMadeOf selector.now name.now roots.now limit.now) }
+    ensures refused { IfErr result (IsRefusedOf selector.now name.now roots.now limit.now) }
 {
     if !is_name(name) {
         return Err(LineFault::Field(JobsKind::Name));

@@ -4,8 +4,8 @@ use Rattle.ix_walk.specs.JobMeaning.{JobMeaning, is_name}
 use Rattle.ix_jobs.specs.Jobs.{jobs_of, job_of_fields}
 use Rattle.ix_job_words.specs.Line.{is_word, line_of}
 use Rattle.ix_job_words.specs.Words.{IsSpelledBy, IsNoSelector}
-use Rattle.ix_job_words.proofs.Ended.{ended}
-use Rattle.ix_job_words.proofs.LineWords.{word, read_alone, was_read, refused, without_end}
+use Rattle.ix_job_words.proofs.Ended.{IsSpelledBy-ended}
+use Rattle.ix_job_words.proofs.LineWords.{IsWord-word, read_alone, was_read, IsRefusedBy-line, without_end}
 use Rattle.ix_job_words.proofs.line.line_by.Goals as goal
 
 pub returns-in-Ok-clause-read : goal.returns-in-Ok-clause-read
@@ -16,13 +16,13 @@ returns-in-Ok-clause-read c =
     let hex : List ℕ = c.without_end.result.now in
     let made = c.in_ok-selector.ensures.spelled in
     let front : hex ≡ take (length (string_bytes c.in_ok-selector.selector) - 1) (string_bytes c.in_ok-selector.selector) = c.without_end.ensures ∙ ap (λ (l : List ℕ). take (length l - 1) l) c.as_bytes-3.ensures.value in
-    let whole : hex ++ 10 ∷ [] ≡ string_bytes c.in_ok-selector.selector = ap (λ (l : List ℕ). l ++ 10 ∷ []) front ∙ without_end (string_bytes c.in_ok-selector.selector) _ (ended c.args.selector.now _ made).1 in
+    let whole : hex ++ 10 ∷ [] ≡ string_bytes c.in_ok-selector.selector = ap (λ (l : List ℕ). l ++ 10 ∷ []) front ∙ without_end (string_bytes c.in_ok-selector.selector) _ (IsSpelledBy-ended c.args.selector.now _ made).1 in
     let line : string_bytes c.in_ok-line.line ≡ line_of name roots limit hex = c.in_ok-line.ensures.ok ∙ ap (λ (l : List ℕ). name ++ (32 ∷ (roots ++ (32 ∷ (limit ++ (32 ∷ l)))))) (sym whole) in
     let named : is_name name ≡ true = search rules in
     let is_roots : is_word roots ≡ true = search rules in
     let is_limit : is_word limit ≡ true = search rules in
     let is_hex : is_word hex ≡ true = search rules in
-    let alone = read_alone name roots limit hex named (word roots is_roots) (word limit is_limit) (word hex is_hex) in
+    let alone = read_alone name roots limit hex named (IsWord-word roots is_roots) (IsWord-word limit is_limit) (IsWord-word hex is_hex) in
     let read : jobs_of (string_bytes c.in_ok-line.line) ≡ Ok c.in-Ok.jobs.items = ap jobs_of (sym c.as_bytes-4.ensures.value) ∙ c.in-Ok.ensures.jobs in
     let was = was_read (job_of_fields name roots limit hex) c.in-Ok.jobs.items (sym alone ∙ ap jobs_of (sym line) ∙ read) in
     record {
@@ -45,12 +45,12 @@ returns-clause-refused c =
     let hex : List ℕ = c.without_end.result.now in
     let made = c.in_ok-selector.ensures.spelled in
     let front : hex ≡ take (length (string_bytes c.in_ok-selector.selector) - 1) (string_bytes c.in_ok-selector.selector) = c.without_end.ensures ∙ ap (λ (l : List ℕ). take (length l - 1) l) c.as_bytes-3.ensures.value in
-    let whole : hex ++ 10 ∷ [] ≡ string_bytes c.in_ok-selector.selector = ap (λ (l : List ℕ). l ++ 10 ∷ []) front ∙ without_end (string_bytes c.in_ok-selector.selector) _ (ended c.args.selector.now _ made).1 in
+    let whole : hex ++ 10 ∷ [] ≡ string_bytes c.in_ok-selector.selector = ap (λ (l : List ℕ). l ++ 10 ∷ []) front ∙ without_end (string_bytes c.in_ok-selector.selector) _ (IsSpelledBy-ended c.args.selector.now _ made).1 in
     let line : string_bytes c.in_ok-line.line ≡ line_of name roots limit hex = c.in_ok-line.ensures.ok ∙ ap (λ (l : List ℕ). name ++ (32 ∷ (roots ++ (32 ∷ (limit ++ (32 ∷ l)))))) (sym whole) in
     let named : is_name name ≡ true = search rules in
     let is_roots : is_word roots ≡ true = search rules in
     let is_limit : is_word limit ≡ true = search rules in
     let is_hex : is_word hex ≡ true = search rules in
-    let alone = read_alone name roots limit hex named (word roots is_roots) (word limit is_limit) (word hex is_hex) in
-    refused (IsSpelledBy c.args.selector.now) (IsNoSelector c.args.selector.now) name roots limit hex c.as_bytes-4.result.now c.in-Err.fault.kind c.in-Err.fault.line (subst (IsSpelledBy c.args.selector.now) (sym whole) made)
+    let alone = read_alone name roots limit hex named (IsWord-word roots is_roots) (IsWord-word limit is_limit) (IsWord-word hex is_hex) in
+    IsRefusedBy-line (IsSpelledBy c.args.selector.now) (IsNoSelector c.args.selector.now) name roots limit hex c.as_bytes-4.result.now c.in-Err.fault.kind c.in-Err.fault.line (subst (IsSpelledBy c.args.selector.now) (sym whole) made)
     (ap jobs_of (c.as_bytes-4.ensures.value ∙ line) ∙ alone) c.in-Err.ensures.fault
