@@ -1,4 +1,5 @@
-use Rattle.std.proofs.Common.{◌≡◌, ◌++◌, ◌∷◌, [], List, All, length, ap, sym, subst, ◌∙◌, arith, append_assoc}
+use Rattle.std.proofs.Common.{◌≡◌, ◌++◌, ◌∷◌, [], List, All, length, ap, sym, subst, ◌∙◌, arith, append_assoc, append-nil}
+use Rattle.std.proofs.lemmas.List.{nil_from_length}
 use Rattle.std.proofs.lemmas.List.Elements.{All-push}
 use Rattle.std.specs.Vec.Iter.{into_iter_items}
 use Rattle.std.specs.declared.thread.PromisedHandle.{PromisedHandle}
@@ -41,6 +42,7 @@ loop-handle-preserved g c =
       can_next = tt;
       finite = tt;
       split = h.split ∙ (ap (λ (l : List (PromisedHandle (Verifier g.row.C.Denot) (Began g.row.C.Denot))). before ++ l) steps ∙ sym (append_assoc before (handle ∷ []) rest));
+      sized = (let fewer = ap length steps in let size = h.sized in let len = c.in-Some.ensures.steps.1 in omega (arith, fewer, size, len));
       joined = λ store t all.
           let began : IsBegan checked store t handle = all_last (IsBegan checked store t) before handle all in
           let was = h.joined store t (all_front (IsBegan checked store t) before (handle ∷ []) all) in
@@ -55,3 +57,10 @@ loop-handle-preserved g c =
       senders_fit = ((let step = ap length steps in let more = senders.len in let old = h.senders_fit.0 in omega arith), senders.capacity ∙ h.senders_fit.1);
       checks_fit = ((let step = ap length steps in let more = checks.len in let old = h.checks_fit.0 in omega arith), checks.capacity ∙ h.checks_fit.1);
     }
+
+pub returns-clause-joined : goal.returns-clause-joined
+returns-clause-joined g c =
+    let before = c.loop-handle.yielded in
+    let over : into_iter_items c.loop-handle.handle-iterator ≡ [] = nil_from_length (into_iter_items c.loop-handle.handle-iterator) (sym c.loop-handle.invariant.sized ∙ c.in-None.ensures.steps.0) in
+    let whole : c.args.handles.items ≡ before = c.loop-handle.invariant.split ∙ ap (λ (l : List (PromisedHandle (Verifier g.row.C.Denot) (Began g.row.C.Denot))). before ++ l) over ∙ append-nil before in
+    subst (λ (l : List (PromisedHandle (Verifier g.row.C.Denot) (Began g.row.C.Denot))). AreJoined g.C.Check.checked l (record { takers = c.loop-handle.takers; senders = c.loop-handle.senders; checks = c.loop-handle.checks })) (sym whole) c.loop-handle.invariant.joined

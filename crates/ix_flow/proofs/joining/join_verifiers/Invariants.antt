@@ -1,5 +1,5 @@
 use Rattle.std.proofs.Common.{◌≡◌, ◌+◌, ◌++◌, length, vec_len, vec_capacity}
-use Rattle.std.specs.Vec.Iter.{into_iter_items}
+use Rattle.std.specs.Vec.Iter.{into_iter_items, into_iter_len}
 use Rattle.ix_flow.specs.Joined.{AreJoined}
 use Rattle.ix_flow.specs.Verifiers.{EachBack}
 use Rattle.ix_flow.proofs.joining.join_verifiers.Given as goal
@@ -9,6 +9,7 @@ invariant-loop-handle g l = record {
   can_next : (goal.iterator-loop-handle g).can_next l.handle-iterator;
   finite : (goal.iterator-loop-handle g).is_finite l.handle-iterator;
   split : l.fn.handles.items ≡ l.yielded ++ into_iter_items l.handle-iterator;
+  sized : into_iter_len l.handle-iterator ≡ length (into_iter_items l.handle-iterator);
   joined : AreJoined g.C.Check.checked l.yielded (record { takers = l.takers; senders = l.senders; checks = l.checks });
   lanes : EachBack l.yielded l.senders.items;
   takers_fit : (vec_len l.takers + length (into_iter_items l.handle-iterator) ≡ vec_len l.fn.handles) × (vec_capacity l.takers ≡ vec_capacity l.fn.joined.takers);

@@ -1,4 +1,5 @@
-use Rattle.std.proofs.Common.{◌≡◌, ◌++◌, [], ◌∷◌, List, All, length, ap, sym, subst, ◌∙◌, arith, append_assoc}
+use Rattle.std.proofs.Common.{◌≡◌, ◌++◌, [], ◌∷◌, List, All, length, ap, sym, subst, ◌∙◌, arith, append_assoc, append-nil}
+use Rattle.std.proofs.lemmas.List.{nil_from_length}
 use Rattle.std.proofs.lemmas.List.Elements.{All-push}
 use Rattle.std.specs.Vec.Iter.{into_iter_items}
 use Rattle.ix_stages.specs.Seats.{SeatView}
@@ -25,7 +26,15 @@ loop-seat-preserved c =
       can_next = tt;
       finite = tt;
       split = h.split ∙ (ap (λ (l : List SeatView). c.loop-seat.yielded ++ l) steps ∙ sym (append_assoc c.loop-seat.yielded (seat ∷ []) rest));
+      sized = (let fewer = ap length steps in let size = h.sized in let len = c.in-Some.ensures.steps.1 in omega (arith, fewer, size, len));
       slots = subst (λ (l : List VerifierSlot). AreSlotsOf (c.loop-seat.yielded ++ seat ∷ []) l) (sym c.push_reserved.ensures.items) slots;
       count = (let step = ap length steps in let more = c.push_reserved.ensures.len in let old = h.count in omega arith);
       room = (let more = c.push_reserved.ensures.capacity in let old = h.room in omega arith);
     }
+
+pub returns-clause-slots : goal.returns-clause-slots
+returns-clause-slots c =
+    let before = c.loop-seat.yielded in
+    let over : into_iter_items c.loop-seat.seat-iterator ≡ [] = nil_from_length (into_iter_items c.loop-seat.seat-iterator) (sym c.loop-seat.invariant.sized ∙ c.in-None.ensures.steps.0) in
+    let whole : c.args.takers.items ≡ before = c.loop-seat.invariant.split ∙ ap (λ (l : List SeatView). before ++ l) over ∙ append-nil before in
+    subst (λ (l : List SeatView). AreSlotsOf l c.loop-seat.slots.items) (sym whole) c.loop-seat.invariant.slots
