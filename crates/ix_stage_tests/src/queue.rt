@@ -50,11 +50,15 @@ fn queue_of(
 ) -> Result<QueueParts, AllocError>
     requires jobs { All (λ job. job.limit ≤ 1000000) jobs.now × (length jobs.now < 1000) }
     requires room { (0 < capacity) × (takers < 1000) }
-    ensures jobs { IfOk result (λ q. q.jobs.items ≡ map (new_job (table_of q.queue) (course_of store.now jobs.now) (seat_count (length jobs.now) takers)) (count_up 0 (length jobs.now))) }
-    ensures takers { IfOk result (λ q. q.takers.items ≡ replicate takers (new_taker (table_of q.queue) (course_of store.now jobs.now) (seat_count (length jobs.now) takers))) }
+    ensures jobs { IfOk result (λ q. q.jobs.items ≡ map
+        (new_job (table_of q.queue) (course_of store.now jobs.now) (seat_count (length jobs.now) takers))
+        (count_up 0 (length jobs.now))) }
+    ensures takers { IfOk result (λ q. q.takers.items ≡ replicate takers
+        (new_taker (table_of q.queue) (course_of store.now jobs.now) (seat_count (length jobs.now) takers))) }
     ensures walkers { IfOk result (λ q. All (CanWalk q.queue (course_of store.now jobs.now)) q.jobs.items) }
     ensures tables { IfOk result (λ q. All (IsTaker q.queue) q.takers.items) }
-    ensures stop { IfOk result (λ q. q.stop ≡ new_stop (table_of q.queue) (course_of store.now jobs.now) (seat_count (length jobs.now) takers)) }
+    ensures stop { IfOk result (λ q. q.stop
+        ≡ new_stop (table_of q.queue) (course_of store.now jobs.now) (seat_count (length jobs.now) takers)) }
 {
     course_of_jobs();
     let course = Walks { store, jobs };
@@ -76,8 +80,10 @@ fn put_visits<R: Wait>(
     requires course { seat.old.pass.course ≡ course_of store.now _jobs.now }
     requires fresh { (seat.old.next ≡ 0) × (seat.old.closed ≡ false) }
     requires job { slice_get _jobs.now seat.old.job ≡ Some job.now }
-    ensures same { (seat.new.table ≡ seat.old.table) × (seat.new.job ≡ seat.old.job) × (seat.new.closed ≡ false) × (seat.new.pass.course ≡ seat.old.pass.course) }
-    ensures end { IfOk result (λ end. IsCloseOf end seat.new.next (visits_of store.now seat.old.job job.now) (is_over_limit store.now job.now)) }
+    ensures same { (seat.new.table ≡ seat.old.table) × (seat.new.job ≡ seat.old.job)
+        × (seat.new.closed ≡ false) × (seat.new.pass.course ≡ seat.old.pass.course) }
+    ensures end { IfOk result (λ end. IsCloseOf end seat.new.next
+        (visits_of store.now seat.old.job job.now) (is_over_limit store.now job.now)) }
 {
     course_of_jobs();
     for item in Walk::new(alloc, store, job, seat.job())? {
@@ -384,7 +390,8 @@ fn run_five<R: Threads + Wait + Sync>(
     first: TakeSeat,
     second: TakeSeat,
 ) -> (Walked, (Option<Taken>, Option<Taken>))
-    requires walkers { CanRun queue.now (course_of store.now jobs.now) walkers.first walkers.second walkers.third walkers.stop }
+    requires walkers { CanRun queue.now (course_of store.now jobs.now)
+        walkers.first walkers.second walkers.third walkers.stop }
     requires first { IsTaker queue.now first }
     requires second { IsTaker queue.now second }
     ensures walked { HasRun queue.now result.0.first result.0.second result.0.third result.0.stop }
@@ -394,7 +401,8 @@ fn run_five<R: Threads + Wait + Sync>(
     thread::join(
         rt,
         || -> Walked
-            requires { CanRun queue.now (course_of store.now jobs.now) walkers.first walkers.second walkers.third walkers.stop }
+            requires { CanRun queue.now (course_of store.now jobs.now)
+                walkers.first walkers.second walkers.third walkers.stop }
         { walk_three(rt, alloc, store, jobs, queue, walkers) },
         || -> (Option<Taken>, Option<Taken>)
             requires first { IsTaker queue.now first }
