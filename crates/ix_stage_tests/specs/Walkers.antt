@@ -1,13 +1,36 @@
 -- The seats of a queue of walks.
-use Rattle.std.specs.Prelude.{◌≡◌, false, List, Option, IfSome}
+use Rattle.std.specs.Prelude.{◌≡◌, ℕ, false, List, All, Option, IfSome}
+use Rattle.ix_store.specs.Store.{Blocks}
+use Rattle.ix_walk.specs.JobMeaning.{JobMeaning}
+use Rattle.ix_walk.specs.Visits.{visits_of, is_over_limit}
+use Rattle.ix_archive.specs.declared.sink.End.{End}
+use Rattle.ix_stages.specs.declared.item.Item.{Item}
+use Rattle.ix_stages.specs.declared.parts.QueueParts.{QueueParts}
+use Rattle.ix_stages.specs.Good.{IsCloseOf}
 use Rattle.ix_stages.specs.declared.course.JobVisits.{JobVisits}
 use Rattle.ix_stages.specs.declared.queue.VisitQueue.{VisitQueue}
 use Rattle.ix_stages.specs.Queue.{table_of}
-use Rattle.ix_stages.specs.Seats.{JobView, SeatView}
+use Rattle.ix_stages.specs.Seats.{JobView, SeatView, IsNext}
 
 -- a seat of the queue, of which nothing was put so far
 abbrev pub CanWalk : VisitQueue → List JobVisits → JobView → Type 0
 CanWalk queue course s = (s.table ≡ table_of queue) × (s.pass.course ≡ course) × (s.next ≡ 0) × (s.closed ≡ false)
+
+-- each job's seat of a queue is one
+abbrev pub CanAllWalk : QueueParts → List JobVisits → Type 0
+CanAllWalk parts course = All (CanWalk parts.queue course) parts.jobs.items
+
+-- the same seat of the same job, which is not closed
+abbrev pub IsOpenAsBefore : JobView → JobView → Type 0
+IsOpenAsBefore old new = (new.table ≡ old.table) × (new.job ≡ old.job) × (new.closed ≡ false) × (new.pass.course ≡ old.pass.course)
+
+-- the walk of a job, which has this number, may end so behind so many visits
+abbrev pub EndsWalk : Blocks → ℕ → JobMeaning → ℕ → End → Type 0
+EndsWalk store number job given end = IsCloseOf end given (visits_of store number job) (is_over_limit store job)
+
+-- an open seat of the queue, whose next item this is
+abbrev pub CanClose : VisitQueue → JobView → Item → Type 0
+CanClose queue s close = (s.table ≡ table_of queue) × (s.closed ≡ false) × IsNext s close
 
 -- a seat of the queue that puts, and one that takes
 abbrev pub IsWalker : VisitQueue → JobView → Type 0

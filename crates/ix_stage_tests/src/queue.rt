@@ -1,14 +1,12 @@
 //! The visit queue and a verifier: a chain through both on one thread, and walks on three threads
 //! through a queue with room for one.
 
-ghost use Rattle.std.specs.Prelude.{◌≡◌, ◌≤◌, ◌<◌, ◌^◌, ◌+◌, ℕ, false, All, Some, IfOk, OnOk, IfSome, length, map, replicate, slice_get};
-ghost use Rattle.ix_walk.specs.Visits.{visits_of, is_over_limit};
-ghost use Rattle.ix_stages.specs.Items.{count_up};
-ghost use Rattle.ix_stages.specs.Good.{IsCloseOf};
+ghost use Rattle.std.specs.Prelude.{◌≡◌, ◌≤◌, ◌<◌, false, All, Some, IfOk, OnOk, IfSome, length, slice_get};
 ghost use Rattle.ix_stages.specs.Course.{course_of};
+ghost use Rattle.ix_stages.specs.Making.{IsNewQueue};
 ghost use Rattle.ix_stages.specs.Queue.{table_of};
-ghost use Rattle.ix_stage_tests.specs.Walkers.{CanWalk, IsWalker, IsTaker, CanRun, HasRun};
-ghost use Rattle.ix_stages.specs.Seats.{IsNext, new_job, new_taker, new_stop, seat_count};
+ghost use Rattle.ix_stage_tests.specs.Walkers.{CanWalk, CanAllWalk, IsOpenAsBefore, EndsWalk, CanClose, IsWalker, IsTaker, CanRun, HasRun};
+ghost use Rattle.ix_stages.specs.Seats.{IsNext};
 
 use ix_archive::End;
 use ix_check::{ShaCheck, Verdict};
@@ -50,15 +48,9 @@ fn queue_of(
 ) -> Result<QueueParts, AllocError>
     requires jobs { All (λ job. job.limit ≤ 1000000) jobs.now × (length jobs.now < 1000) }
     requires room { (0 < capacity) × (takers < 1000) }
-    ensures jobs { IfOk result (λ q. q.jobs.items ≡ map
-        (new_job (table_of q.queue) (course_of store.now jobs.now) (seat_count (length jobs.now) takers))
-        (count_up 0 (length jobs.now))) }
-    ensures takers { IfOk result (λ q. q.takers.items ≡ replicate takers
-        (new_taker (table_of q.queue) (course_of store.now jobs.now) (seat_count (length jobs.now) takers))) }
-    ensures walkers { IfOk result (λ q. All (CanWalk q.queue (course_of store.now jobs.now)) q.jobs.items) }
+    ensures made { IfOk result (IsNewQueue (course_of store.now jobs.now) (length jobs.now) takers) }
+    ensures walkers { IfOk result (λ q. CanAllWalk q (course_of store.now jobs.now)) }
     ensures tables { IfOk result (λ q. All (IsTaker q.queue) q.takers.items) }
-    ensures stop { IfOk result (λ q. q.stop
-        ≡ new_stop (table_of q.queue) (course_of store.now jobs.now) (seat_count (length jobs.now) takers)) }
 {
     course_of_jobs();
     let course = Walks { store, jobs };
@@ -76,14 +68,10 @@ fn put_visits<R: Wait>(
     queue: &VisitQueue,
     seat: &mut JobSeat,
 ) -> Result<End, AllocError>
-    requires queue { seat.old.table ≡ table_of queue.now }
-    requires course { seat.old.pass.course ≡ course_of store.now _jobs.now }
-    requires fresh { (seat.old.next ≡ 0) × (seat.old.closed ≡ false) }
+    requires seat { CanWalk queue.now (course_of store.now _jobs.now) seat.old }
     requires job { slice_get _jobs.now seat.old.job ≡ Some job.now }
-    ensures same { (seat.new.table ≡ seat.old.table) × (seat.new.job ≡ seat.old.job)
-        × (seat.new.closed ≡ false) × (seat.new.pass.course ≡ seat.old.pass.course) }
-    ensures end { IfOk result (λ end. IsCloseOf end seat.new.next
-        (visits_of store.now seat.old.job job.now) (is_over_limit store.now job.now)) }
+    ensures same { IsOpenAsBefore seat.old seat.new }
+    ensures end { IfOk result (λ end. EndsWalk store.now seat.old.job job.now seat.new.next end) }
 {
     course_of_jobs();
     for item in Walk::new(alloc, store, job, seat.job())? {
@@ -112,9 +100,7 @@ fn put_job<R: Wait>(
     queue: &VisitQueue,
     seat: &mut JobSeat,
 ) -> Result<Item, AllocError>
-    requires queue { seat.old.table ≡ table_of queue.now }
-    requires course { seat.old.pass.course ≡ course_of store.now jobs.now }
-    requires fresh { (seat.old.next ≡ 0) × (seat.old.closed ≡ false) }
+    requires seat { CanWalk queue.now (course_of store.now jobs.now) seat.old }
     ensures table { seat.new.table ≡ seat.old.table }
     ensures next { IfOk result (λ close. (seat.new.closed ≡ false) × IsNext seat.new close) }
 {
@@ -139,9 +125,7 @@ fn put_walk<R: Wait>(
     queue: &VisitQueue,
     seat: &mut JobSeat,
 ) -> Result<(), AllocError>
-    requires queue { seat.old.table ≡ table_of queue.now }
-    requires course { seat.old.pass.course ≡ course_of store.now jobs.now }
-    requires fresh { (seat.old.next ≡ 0) × (seat.old.closed ≡ false) }
+    requires seat { CanWalk queue.now (course_of store.now jobs.now) seat.old }
     ensures { seat.new.table ≡ seat.old.table }
 {
     let close = put_job(rt, alloc, store, jobs, queue, seat)?;
@@ -331,7 +315,8 @@ fn walk_three<R: Threads + Wait + Sync>(
     queue: &VisitQueue,
     seats: Seats,
 ) -> Walked
-    requires { CanRun queue.now (course_of store.now jobs.now) seats.first seats.second seats.third seats.stop }
+    requires { CanRun queue.now (course_of store.now jobs.now)
+        seats.first seats.second seats.third seats.stop }
     ensures { HasRun queue.now result.first result.second result.third result.stop }
 {
     let Seats {
@@ -420,7 +405,7 @@ fn close_at_full<R: Wait>(
     taker: &mut TakeSeat,
     close: Item,
 ) -> bool
-    requires seat { (seat.old.table ≡ table_of queue.now) × (seat.old.closed ≡ false) × IsNext seat.old close }
+    requires seat { CanClose queue.now seat.old close }
     requires taker { taker.old.table ≡ table_of queue.now }
     ensures { taker.new.table ≡ taker.old.table }
 {
@@ -525,7 +510,8 @@ fn three_walkers(
 ) -> Option<Seats>
     requires seats { All (CanWalk queue.now (course_of store.now jobs.now)) seats.items }
     requires stop { stop.table ≡ table_of queue.now }
-    ensures { IfSome result (λ w. CanRun queue.now (course_of store.now jobs.now) w.first w.second w.third w.stop) }
+    ensures { IfSome result (λ w. CanRun queue.now (course_of store.now jobs.now)
+        w.first w.second w.third w.stop) }
 {
     let mut seats = seats;
     let third = next_walker(store, jobs, queue, &mut seats)?;
@@ -675,24 +661,54 @@ fn fills_and_empties<R: Abort + Wait>(
     Ok(())
 }
 
+// A queue of one job, with the seat of the job, one that takes and that for Stops.
+#[derive(Drop)]
+struct OneEach {
+    queue: VisitQueue,
+    seat: JobSeat,
+    taker: TakeSeat,
+    stop: StopSeat,
+}
+
+fn one_of_each(alloc: Global, store: &Store, jobs: &[Job], capacity: u32) -> Result<OneEach, Fail>
+    requires jobs { All (λ job. job.limit ≤ 1000000) jobs.now × (length jobs.now < 1000) }
+    requires room { 0 < capacity }
+    ensures seat { IfOk result (λ q. CanWalk q.queue (course_of store.now jobs.now) q.seat) }
+    ensures taker { IfOk result (λ q. IsTaker q.queue q.taker) }
+    ensures stop { IfOk result (λ q. q.stop.table ≡ table_of q.queue) }
+{
+    let QueueParts {
+        queue,
+        jobs: mut seats,
+        mut takers,
+        stop,
+    } = queue_of(alloc, store, jobs, capacity, 1)?;
+    let (Some(taker), Some(seat)) = (
+        next_taker(&queue, &mut takers),
+        next_walker(store, jobs, &queue, &mut seats),
+    ) else {
+        return Err("a seat and a taker were wanted".into());
+    };
+    Ok(OneEach {
+        queue,
+        seat,
+        taker,
+        stop,
+    })
+}
+
 // None of the contracts says when a queue is full or empty.
 #[test]
 fn queue(rt: HostRuntime) -> Result<(), Fail> {
     let alloc = rt.alloc();
     let store = chain_of(alloc)?;
     let jobs = jobs_of(alloc, OUTER, 1, 100)?;
-    let QueueParts {
+    let OneEach {
         queue,
-        jobs: mut seats,
-        mut takers,
+        mut seat,
+        mut taker,
         ..
-    } = queue_of(alloc, &store, &jobs, 1, 1)?;
-    let (Some(mut taker), Some(mut seat)) = (
-        next_taker(&queue, &mut takers),
-        next_walker(&store, &jobs, &queue, &mut seats),
-    ) else {
-        return Err("a seat and a taker were wanted".into());
-    };
+    } = one_of_each(alloc, &store, &jobs, 1)?;
     assert!(rt; has_room_for_one(&rt, alloc, &store, &jobs, &queue, &mut seat, &mut taker,)?);
     Ok(())
 }
@@ -703,18 +719,12 @@ fn close_and_stop_at_a_full_queue(rt: HostRuntime) -> Result<(), Fail> {
     let alloc = rt.alloc();
     let store = chain_of(alloc)?;
     let jobs = jobs_of(alloc, OUTER, 1, 100)?;
-    let QueueParts {
+    let OneEach {
         queue,
-        jobs: mut seats,
-        mut takers,
+        mut seat,
+        mut taker,
         mut stop,
-    } = queue_of(alloc, &store, &jobs, 4, 1)?;
-    let (Some(mut taker), Some(mut seat)) = (
-        next_taker(&queue, &mut takers),
-        next_walker(&store, &jobs, &queue, &mut seats),
-    ) else {
-        return Err("a seat and a taker were wanted".into());
-    };
+    } = one_of_each(alloc, &store, &jobs, 4)?;
     fills_and_empties(
         &rt, alloc, &store, &jobs, &queue, &mut seat, &mut taker, &mut stop,
     )?;

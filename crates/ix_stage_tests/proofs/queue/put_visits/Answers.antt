@@ -17,7 +17,7 @@ put-requires-clause-next g c =
     let steps = subst (λ (r : Result Visit WalkStop). GivesNext c.loop-item.item-iterator (Some r) c.next.new.self) c.in-Ok.is c.in-Some.ensures.steps in
     let next = next_of (visits_of c.args.store.now c.args.seat.now.job c.args.job.now) c.loop-item.seat.next v c.next.new.self.visits (h.left ∙ steps.1) in
     let may = c.course_of_jobs.ensures.visit c.args.store.now c.args._jobs.now c.args.seat.now.job c.loop-item.seat.next c.args.job.now v c.requires.job next.0 in
-    (h.same.2, (eq-eqb v.job c.loop-item.seat.job (may.0 ∙ sym h.same.1), may.1, subst (λ (k : List JobVisits). Allowed k (item.Visit v)) (sym (h.same.3 ∙ c.requires.course)) may.2))
+    (h.same.2, (eq-eqb v.job c.loop-item.seat.job (may.0 ∙ sym h.same.1), may.1, subst (λ (k : List JobVisits). Allowed k (item.Visit v)) (sym (h.same.3 ∙ c.requires.seat.1)) may.2))
 
 pub loop-item-preserved : goal.loop-item-preserved
 loop-item-preserved g c =
