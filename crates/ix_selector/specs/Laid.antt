@@ -39,6 +39,10 @@ pub record AreLaidFrom (m : ℕ) (spots : List Spot) : Type 0 where
 abbrev pub AreRowBehind : Vec Spot → Vec Spot → List ℕ → Type 0
 AreRowBehind old new ks = AreRow (places_of new.items) (length old.items) ks (length new.items)
 
+-- the number of a selector whose places are put behind these
+abbrev pub IsNumberBehind : List Spot → Pattern → ℕ → Type 0
+IsNumberBehind spots s n = n ≡ length spots + inside_of s
+
 -- each spot names places before it alone, and what is inside it stands right before it
 pub record IsTable (spots : List Spot) : Type 0 where
   pub placed : AreSpots 0 spots

@@ -101,6 +101,10 @@ abbrev pub AreNamedOnce : List Spot → Type 0
 AreNamedOnce [] = Unit {0}
 AreNamedOnce (x ∷ xs) = ((k : ℕ) → Names x k → IsFree xs k) × AreNamedOnce xs
 
+-- spots behind which more may be put: each names places before it alone, and no two name one place
+abbrev pub AreOwnSpots : List Spot → Type 0
+AreOwnSpots spots = AreSpots 0 spots × AreNamedOnce spots
+
 -- the spots name places from a number on
 abbrev pub AreFrom : ℕ → List Spot → Type 0
 AreFrom m [] = Unit {0}

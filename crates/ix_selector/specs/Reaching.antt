@@ -51,9 +51,9 @@ LeadsToNone places n t = (e : List Frame) (q : Option ℕ) → leads_behind (at 
 abbrev pub EntersPair : List Spot → Pair → Reached → Reached → Type 0
 EntersPair spots x old new = Joins (ReachedEnters spots new) (ReachedEnters spots old) (EntersAt spots x)
 
--- those of the members of a union
-abbrev pub EntersMembers : List Spot → Pair → List ℕ → Reached → Reached → Type 0
-EntersMembers spots x ks old new = Joins (ReachedEnters spots new) (ReachedEnters spots old) (SomeEnter spots (members_at x ks))
+-- those of each of the members of a union
+abbrev pub EntersEach : List Spot → Pair → List ℕ → Reached → Reached → Type 0
+EntersEach spots x ks old new = Joins (ReachedEnters spots new) (ReachedEnters spots old) (SomeEnter spots (members_at x ks))
 
 -- those that a pair enters behind a step
 abbrev pub EntersStep : List Spot → Pair → RustStep → Reached → Reached → Type 0
@@ -63,21 +63,21 @@ EntersStep spots x t old new = Joins (ReachedEnters spots new) (ReachedEnters sp
 abbrev pub AddsPair : List Spot → Pair → Reached → Reached → Type 0
 AddsPair spots x old new = Adds spots old new (leads_from (place_of spots x))
 
--- where the members of a union lead
-abbrev pub AddsMembers : List Spot → Pair → List ℕ → Reached → Reached → Type 0
-AddsMembers spots x ks old new = Adds spots old new (all_lead (seen_pairs spots (members_at x ks)))
+-- where each of the members of a union leads
+abbrev pub AddsEach : List Spot → Pair → List ℕ → Reached → Reached → Type 0
+AddsEach spots x ks old new = Adds spots old new (all_lead (seen_pairs spots (members_at x ks)))
 
 -- where a pair leads behind a step
 abbrev pub AddsStep : List Spot → Pair → RustStep → Reached → Reached → Type 0
 AddsStep spots x t old new = Adds spots old new (leads_behind_from (place_of spots x) (step_of t))
 
 -- a pair without an edge adds no sequence
-abbrev pub PairKeepsAgain : List Spot → Pair → Reached → Reached → Type 0
-PairKeepsAgain spots x old new = HasNoEdge spots x → new.again.items ≡ old.again.items
+abbrev pub PairKeeps : List Spot → Pair → Reached → Reached → Type 0
+PairKeeps spots x old new = HasNoEdge spots x → new.again.items ≡ old.again.items
 
 -- nor do members without one
-abbrev pub MembersKeepAgain : List Spot → Pair → List ℕ → Reached → Reached → Type 0
-MembersKeepAgain spots x ks old new = All (HasNoEdge spots) (members_at x ks) → new.again.items ≡ old.again.items
+abbrev pub MembersKeep : List Spot → Pair → List ℕ → Reached → Reached → Type 0
+MembersKeep spots x ks old new = All (HasNoEdge spots) (members_at x ks) → new.again.items ≡ old.again.items
 
 -- an edge in this recursion leads to its sequence once more
 abbrev pub EntersAgain : Option Recursion → Reached → Reached → Type 0

@@ -11,7 +11,7 @@ use Rattle.ix_selector.specs.declared.read.Shape.{Shape}
 use Rattle.ix_selector.specs.declared.read.Shape.TheVariants.{Matcher, All, Fields, Index, Range, Recursive, Union, Edge}
 use Rattle.ix_selector.specs.Pattern as patterns
 use Rattle.ix_selector.specs.Pattern.{Pattern, matcher, all, fields, index, range, recursive, union, edge, Around, outside, unguarded, guarded, behind_step}
-use Rattle.ix_selector.specs.Reading.{Reader, ◌>>=◌, integer_of, entries_of_map, three_of, no_limit_of, depth_of, fields_read, members_read, read_with, selector_at}
+use Rattle.ix_selector.specs.Reading.{Reader, ◌>>=◌, integer_of, entries_of_map, three_of, no_limit_of, depth_of, fields_read, members_read, form_of, read_with, selector_at}
 
 -- what stands round a selector, as the program keeps it
 abbrev pub around_of : RustAround → Around
@@ -61,6 +61,10 @@ Forms found form d = (read : Reader) (around : Around) → Shapes read around fo
 -- the same of a form that stands here
 abbrev pub FormsIn : RustAround → Result Shape SelFault → (Reader → Around → Data → Result Pattern SelFault) → Data → Type 0
 FormsIn here found form d = (read : Reader) → Shapes read (around_of here) found (form read (around_of here) d)
+
+-- the form that a key names
+abbrev pub form_named : List ℕ → Reader → Around → Data → Result Pattern SelFault
+form_named k read around d = form_of read around k d
 
 -- the data of two nodes, and of three
 abbrev pub two_nodes : Bor Node × Bor Node → Data × Data

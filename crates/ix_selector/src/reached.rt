@@ -3,7 +3,7 @@
 ghost use Rattle.std.specs.Prelude.{◌≡◌, [], OnOk};
 ghost use Rattle.ix_selector.specs.Places.{AreBelow};
 ghost use Rattle.ix_selector.specs.Pairs.{IsPair, AreReached};
-ghost use Rattle.ix_selector.specs.Reaching.{members_at, EntersPair, EntersMembers, AddsPair, AddsMembers, PairKeepsAgain, MembersKeepAgain, EntersAgain};
+ghost use Rattle.ix_selector.specs.Reaching.{members_at, EntersPair, EntersEach, AddsPair, AddsEach, PairKeeps, MembersKeep, EntersAgain};
 ghost use Rattle.ix_selector.specs.Laid.{IsTable};
 ghost use Rattle.std.specs.List.{All};
 
@@ -41,7 +41,7 @@ pub(crate) fn reach(spots: &[Spot], pair: Pair, reached: &mut Reached) -> Result
     ensures reached { OnOk result (AreReached spots.now reached.new) }
     ensures enters { OnOk result (EntersPair spots.now pair reached.old reached.new) }
     ensures exact { OnOk result (AddsPair spots.now pair reached.old reached.new) }
-    ensures again { OnOk result (PairKeepsAgain spots.now pair reached.old reached.new) }
+    ensures again { OnOk result (PairKeeps spots.now pair reached.old reached.new) }
 {
     match &spots[pair.place] {
         Spot::Recursive(depth, sequence) => {
@@ -71,9 +71,9 @@ fn reach_each(
     requires pairs { All (IsPair spots.now) (members_at pair members.now) }
     requires reached { AreReached spots.now reached.old }
     ensures reached { OnOk result (AreReached spots.now reached.new) }
-    ensures enters { OnOk result (EntersMembers spots.now pair members.now reached.old reached.new) }
-    ensures exact { OnOk result (AddsMembers spots.now pair members.now reached.old reached.new) }
-    ensures again { OnOk result (MembersKeepAgain spots.now pair members.now reached.old reached.new) }
+    ensures enters { OnOk result (EntersEach spots.now pair members.now reached.old reached.new) }
+    ensures exact { OnOk result (AddsEach spots.now pair members.now reached.old reached.new) }
+    ensures again { OnOk result (MembersKeep spots.now pair members.now reached.old reached.new) }
 {
     for member in members {
         let place = *member;

@@ -3,10 +3,10 @@
 ghost use Rattle.std.specs.Prelude.{◌≡◌};
 ghost use Rattle.ix_cbor.specs.Data.{data_of};
 ghost use Rattle.ix_selector.specs.Pattern.{pattern_of, behind_step};
-ghost use Rattle.ix_selector.specs.Reading.{integer_of, entries_of_map, one_of, two_of, has_key, limit_of, matcher_of, all_read, fields_form, index_form, range_form, recursive_form, union_form, edge_form, form_of, read_with, selector_at, without_envelope, selector_of};
+ghost use Rattle.ix_selector.specs.Reading.{integer_of, entries_of_map, one_of, two_of, has_key, limit_of, matcher_of, all_read, fields_form, index_form, range_form, recursive_form, union_form, edge_form, read_with, selector_at, without_envelope, selector_of};
 ghost use Rattle.ix_selector.specs.Views.{seen_fields, seen_members};
 ghost use Rattle.ix_selector.specs.Gives.{Gives, Reads};
-ghost use Rattle.ix_selector.specs.Shapes.{around_of, two_nodes, three_nodes, entries_data, in_map, none_limit, depth_limit, range_parts, selector_in, selector_above, fields_at, members_at, inside, Forms, FormsIn};
+ghost use Rattle.ix_selector.specs.Shapes.{around_of, form_named, two_nodes, three_nodes, entries_data, in_map, none_limit, depth_limit, range_parts, selector_in, selector_above, fields_at, members_at, inside, Forms, FormsIn};
 
 use crate::fault::{Form, SelFault};
 use crate::sel::Sel;
@@ -232,7 +232,7 @@ fn recursive(body: &Node) -> Result<Shape<'_>, SelFault>
 
 // The form that a key names, with its body.
 fn shape_named<'t>(key: &[u8], body: &'t Node, around: Around) -> Result<Shape<'t>, SelFault>
-    ensures { FormsIn around result (λ read around. form_of read around key.now) (data_of body.now) }
+    ensures { FormsIn around result (form_named key.now) (data_of body.now) }
 {
     let [letter] = key else {
         return Err(SelFault::Unknown);

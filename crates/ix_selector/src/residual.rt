@@ -1,7 +1,7 @@
 //! What is left of a selector at a place.
 
-ghost use Rattle.std.specs.Prelude.{◌≡◌, [], ◌∷◌, IfOk, IfSome, IfNone};
-ghost use Rattle.ix_selector.specs.Residual.{ResidualEnters, EntersAs, IsTestedAs, EntersBehind, step_of, IsBehind};
+ghost use Rattle.std.specs.Prelude.{◌≡◌, [], IfOk, IfSome, IfNone};
+ghost use Rattle.ix_selector.specs.Residual.{ResidualEnters, EntersAs, IsTestedAs, EntersBehind, LeavesOut, step_of, IsBehind};
 ghost use Rattle.ix_selector.specs.Behind.{residual_of, IsLeftBehind, NothingIsLeftBehind, same_residual, residual_order};
 
 use crate::merge::merged;
@@ -61,7 +61,7 @@ impl<'s> Residual<'s> {
     pub fn step(&self, alloc: Global, step: &Step) -> Result<Option<Residual<'s>>, AllocError>
         ensures entered { IfOk result (λ o. IfSome o (λ r. ResidualEnters r [])) }
         ensures below { IfOk result (λ o. IfSome o (EntersBehind self.now (step_of step.now))) }
-        ensures none { IfOk result (λ o. IfNone o (¬ ResidualEnters self.now (step_of step.now ∷ []))) }
+        ensures none { IfOk result (λ o. IfNone o (LeavesOut self.now (step_of step.now))) }
         ensures tested { IfOk result (IsBehind self.now (step_of step.now)) }
         ensures exact { IfOk result (λ o. IfSome o (IsLeftBehind self.now (step_of step.now))) }
         ensures stays_out { IfOk result (λ o. IfNone o (NothingIsLeftBehind self.now (step_of step.now))) }

@@ -4,10 +4,9 @@ ghost use Rattle.std.specs.Prelude.{◌≡◌, ◌+◌, ◌≤◌, map, length, 
 ghost use Rattle.ix_selector.specs.Pattern.{pattern_of};
 ghost use Rattle.ix_selector.specs.Ordered.{IsOrdered, AreOrdered, EachOrdered};
 ghost use Rattle.ix_selector.specs.Views.{seen_fields, seen_members};
-ghost use Rattle.ix_selector.specs.Places.{AreSpots, AreNamedOnce, IsAtPlace, IsSpotOf, AreFieldsAt, AreMembersAt, AreFreeBehind, IsNumber, HasNumber, Names};
+ghost use Rattle.ix_selector.specs.Places.{AreOwnSpots, IsAtPlace, IsSpotOf, AreFieldsAt, AreMembersAt, AreFreeBehind, IsNumber, HasNumber, Names};
 ghost use Rattle.ix_selector.specs.Grown.{Grows};
-ghost use Rattle.ix_selector.specs.Behind.{inside_of};
-ghost use Rattle.ix_selector.specs.Laid.{number_of, numbers_of, AreRowBehind, AreLaidFrom};
+ghost use Rattle.ix_selector.specs.Laid.{number_of, numbers_of, IsNumberBehind, AreRowBehind, AreLaidFrom};
 
 use crate::sel::Sel;
 use std::alloc::{AllocError, Global};
@@ -35,13 +34,12 @@ pub(crate) fn push_spots(
     spots: &mut Vec<Spot>,
 ) -> Result<usize, AllocError>
     requires ordered { IsOrdered (pattern_of sel.now) }
-    requires spots { AreSpots 0 spots.old.items }
-    requires once { AreNamedOnce spots.old.items }
+    requires spots { AreOwnSpots spots.old.items }
     ensures grows { IfOk result (λ _. Grows spots.old.items spots.new.items) }
     ensures place { IfOk result (IsAtPlace spots.new.items (pattern_of sel.now)) }
     ensures last { IfOk result (λ n. n + 1 ≡ length spots.new.items) }
     ensures behind { IfOk result (λ n. length spots.old.items ≤ n) }
-    ensures number { IfOk result (λ n. n ≡ length spots.old.items + inside_of (pattern_of sel.now)) }
+    ensures number { IfOk result (IsNumberBehind spots.old.items (pattern_of sel.now)) }
     ensures laid { IfOk result (λ _. AreLaidFrom (length spots.old.items) spots.new.items) }
 {
     let spot = spot_of(alloc, sel, spots)?;
@@ -54,8 +52,7 @@ pub(crate) fn push_spots(
 #[cycle(spots)]
 fn spot_of(alloc: Global, sel: &Sel, spots: &mut Vec<Spot>) -> Result<Spot, AllocError>
     requires ordered { IsOrdered (pattern_of sel.now) }
-    requires spots { AreSpots 0 spots.old.items }
-    requires once { AreNamedOnce spots.old.items }
+    requires spots { AreOwnSpots spots.old.items }
     ensures grows { IfOk result (λ _. Grows spots.old.items spots.new.items) }
     ensures spot { IfOk result (IsSpotOf spots.new.items (pattern_of sel.now)) }
     ensures free { IfOk result (λ x. AreFreeBehind spots.old spots.new (Names x)) }
@@ -86,12 +83,11 @@ fn push_fields(
     spots: &mut Vec<Spot>,
 ) -> Result<Vec<(Vec<u8>, usize)>, AllocError>
     requires ordered { AreOrdered (seen_fields fields.now) }
-    requires spots { AreSpots 0 spots.old.items }
-    requires once { AreNamedOnce spots.old.items }
+    requires spots { AreOwnSpots spots.old.items }
     ensures grows { IfOk result (λ _. Grows spots.old.items spots.new.items) }
-    ensures named { IfOk result (λ names. AreFieldsAt spots.new.items fields.now names.items) }
-    ensures free { IfOk result (λ names. AreFreeBehind spots.old spots.new (HasNumber names.items)) }
-    ensures row { IfOk result (λ names. AreRowBehind spots.old spots.new (map number_of names.items)) }
+    ensures named { IfOk result (λ r. AreFieldsAt spots.new.items fields.now r.items) }
+    ensures free { IfOk result (λ r. AreFreeBehind spots.old spots.new (HasNumber r.items)) }
+    ensures row { IfOk result (λ r. AreRowBehind spots.old spots.new (map number_of r.items)) }
     ensures laid { IfOk result (λ _. AreLaidFrom (length spots.old.items) spots.new.items) }
 {
     let mut names = Vec::new(alloc);
@@ -110,12 +106,11 @@ fn push_members(
     spots: &mut Vec<Spot>,
 ) -> Result<Vec<usize>, AllocError>
     requires ordered { EachOrdered (seen_members members.now) }
-    requires spots { AreSpots 0 spots.old.items }
-    requires once { AreNamedOnce spots.old.items }
+    requires spots { AreOwnSpots spots.old.items }
     ensures grows { IfOk result (λ _. Grows spots.old.items spots.new.items) }
-    ensures members { IfOk result (λ numbers. AreMembersAt spots.new.items members.now numbers.items) }
-    ensures free { IfOk result (λ numbers. AreFreeBehind spots.old spots.new (IsNumber numbers.items)) }
-    ensures row { IfOk result (λ numbers. AreRowBehind spots.old spots.new numbers.items) }
+    ensures members { IfOk result (λ r. AreMembersAt spots.new.items members.now r.items) }
+    ensures free { IfOk result (λ r. AreFreeBehind spots.old spots.new (IsNumber r.items)) }
+    ensures row { IfOk result (λ r. AreRowBehind spots.old spots.new r.items) }
     ensures laid { IfOk result (λ _. AreLaidFrom (length spots.old.items) spots.new.items) }
 {
     let mut numbers = Vec::new(alloc);

@@ -56,7 +56,7 @@ push_spots-returns-clause-place t c =
 pub spot_of-push_fields-requires : goal.spot_of-push_fields-requires
 spot_of-push_fields-requires t c =
     let is = ap pattern_of c.in-Fields.is ∙ pattern_of-fields c.in-Fields.fields in
-    (search (rules, the_lemmas), (subst (λ l. AreOrdered (fields_of (map seen_field l))) (sym c.deref-in-Fields.ensures.value) (subst IsOrdered is c.requires.ordered), (c.requires.spots, c.requires.once)))
+    (search (rules, the_lemmas), (subst (λ l. AreOrdered (fields_of (map seen_field l))) (sym c.deref-in-Fields.ensures.value) (subst IsOrdered is c.requires.ordered), c.requires.spots))
 
 pub spot_of-returns-in_ok-push_fields-in-Fields-clause-spot : goal.spot_of-returns-in_ok-push_fields-in-Fields-clause-spot
 spot_of-returns-in_ok-push_fields-in-Fields-clause-spot t c =
