@@ -181,11 +181,11 @@ module _ (spots : List Spot) (table : AreSpots 0 spots) (laid : AreLaidFrom 0 sp
 
 -- ---- behind a step
 
-unnumbered : (ps : List Pattern) (fs : List (Vec ℕ × ℕ)) (l : List ℕ) → IsUnnamed fs l → (m : ℕ) (e : List Frame) (q : Option ℕ) → named_lead (fields_of (map (named_at ps) fs)) l m e q ≡ []
-unnumbered ps [] l none m e q = refl
-unnumbered ps (f ∷ fs) l none m e q =
+named_lead_nowhere : (ps : List Pattern) (fs : List (Vec ℕ × ℕ)) (l : List ℕ) → IsUnnamed fs l → (m : ℕ) (e : List Frame) (q : Option ℕ) → named_lead (fields_of (map (named_at ps) fs)) l m e q ≡ []
+named_lead_nowhere ps [] l none m e q = refl
+named_lead_nowhere ps (f ∷ fs) l none m e q =
     ap (λ b. (if b then leads (at ps f.1) m e q else []) ++ named_lead (fields_of (map (named_at ps) fs)) l (m + (inside_of (at ps f.1) + 1)) e q) (other (bytes_eq f.0.items l) refl)
-    ∙ unnumbered ps fs l none.1 (m + (inside_of (at ps f.1) + 1)) e q where
+    ∙ named_lead_nowhere ps fs l none.1 (m + (inside_of (at ps f.1) + 1)) e q where
       other : (b : Bool) → bytes_eq f.0.items l ≡ b → bytes_eq f.0.items l ≡ false
       other true is = absurd (none.0 ((bytes_eq-Decides f.0.items l).0 is))
       other false is = is
@@ -194,23 +194,23 @@ before_unnamed : (l : List ℕ) (fs : List (Vec ℕ × ℕ)) → IsBefore l fs �
 before_unnamed l [] h = tt
 before_unnamed l (f ∷ fs) h = (λ same. not_before l f.0.items h.0 (sym same), before_unnamed l fs h.1)
 
-numbered : (ps : List Pattern) (fs : List (Vec ℕ × ℕ)) (l : List ℕ) (k : ℕ) → AreRising fs → IsNumbered fs l k → (m n : ℕ) → AreRow ps m (map number_of fs) n → (e : List Frame) (q : Option ℕ)
+named_lead_to : (ps : List Pattern) (fs : List (Vec ℕ × ℕ)) (l : List ℕ) (k : ℕ) → AreRising fs → IsNumbered fs l k → (m n : ℕ) → AreRow ps m (map number_of fs) n → (e : List Frame) (q : Option ℕ)
     → named_lead (fields_of (map (named_at ps) fs)) l m e q ≡ leads (at ps k) (k - inside_of (at ps k)) e q
-numbered ps [] l k rising h m n row e q = absurd h
-numbered ps (f ∷ fs) l k rising h m n row e q =
+named_lead_to ps [] l k rising h m n row e q = absurd h
+named_lead_to ps (f ∷ fs) l k rising h m n row e q =
     let s = at ps f.1 in
     let rest = named_lead (fields_of (map (named_at ps) fs)) l in
     let start = row.0 in
     ⊎_elim
     (λ (here : (f.0.items ≡ l) × (f.1 ≡ k)).
     ap (λ b. (if b then leads s m e q else []) ++ rest (m + (inside_of s + 1)) e q) ((bytes_eq-Decides f.0.items l).1 here.0)
-    ∙ ap (λ r. leads s m e q ++ r) (unnumbered ps fs l (before_unnamed l fs (subst (λ c. IsBefore c fs) here.0 rising.0)) (m + (inside_of s + 1)) e q)
+    ∙ ap (λ r. leads s m e q ++ r) (named_lead_nowhere ps fs l (before_unnamed l fs (subst (λ c. IsBefore c fs) here.0 rising.0)) (m + (inside_of s + 1)) e q)
     ∙ append-nil (leads s m e q)
     ∙ ap (λ j. leads s j e q) (let low : m ≡ f.1 - inside_of s = omega arith in low)
     ∙ ap (λ j. leads (at ps j) (j - inside_of (at ps j)) e q) here.1)
     (λ (there : IsNumbered fs l k).
     ap (λ b. (if b then leads s m e q else []) ++ rest (m + (inside_of s + 1)) e q) (other there (bytes_eq f.0.items l) refl)
-    ∙ numbered ps fs l k rising.1 there (m + (inside_of s + 1)) n (subst (λ j. AreRow ps j (map number_of fs) n) (let next : f.1 + 1 ≡ m + (inside_of s + 1) = omega arith in next) row.1) e q)
+    ∙ named_lead_to ps fs l k rising.1 there (m + (inside_of s + 1)) n (subst (λ j. AreRow ps j (map number_of fs) n) (let next : f.1 + 1 ≡ m + (inside_of s + 1) = omega arith in next) row.1) e q)
     h where
       other : IsNumbered fs l k → (b : Bool) → bytes_eq f.0.items l ≡ b → bytes_eq f.0.items l ≡ false
       other there true is = absurd (before_unnumbered fs l k (subst (λ c. IsBefore c fs) ((bytes_eq-Decides f.0.items l).0 is) rising.0) there)
@@ -326,13 +326,13 @@ module _ (spots : List Spot) (table : AreSpots 0 spots) (laid : AreLaidFrom 0 sp
       ∙ by names.items t has rising here.first here.row where
         by : (fs : List (Vec ℕ × ℕ)) (t : Step) → HasName fs t k → AreRising fs → (m : ℕ) → AreRow (places_of spots) m (map number_of fs) n
             → leads_behind (fields (fields_of (map (named_at (places_of spots)) fs))) t m e q ≡ leads (at (places_of spots) k) (k - inside_of (at (places_of spots) k)) e q
-        by fs (key l) has rising m row = numbered (places_of spots) fs l k rising has m n row e q
+        by fs (key l) has rising m row = named_lead_to (places_of spots) fs l k rising has m n row e q
         by fs (nth j) has rising m row = absurd has
 
   pub fields-none : (names : _) → Fields names ≡ get_or spots n (Fields names) → HasNoName names.items t → LeadsToNone (places_of spots) n t
   fields-none names is none = none_as (fields (fields_of (map (named_at (places_of spots)) names.items))) (place-is spots n (Fields names) table within is) (by names.items t none) where
     by : (fs : List (Vec ℕ × ℕ)) (t : Step) → HasNoName fs t → (m : ℕ) (e : List Frame) (q : Option ℕ) → leads_behind (fields (fields_of (map (named_at (places_of spots)) fs))) t m e q ≡ []
-    by fs (key l) none m e q = unnumbered (places_of spots) fs l none m e q
+    by fs (key l) none m e q = named_lead_nowhere (places_of spots) fs l none m e q
     by fs (nth j) none m e q = refl
 
 -- ---- from the root

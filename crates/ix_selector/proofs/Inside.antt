@@ -1,5 +1,5 @@
 -- What is reached from a place without a step: the members of a union, the sequence of a recursion, and what an edge enters again.
-use Rattle.std.proofs.Common.{◌≡◌, ℕ, zero, suc, ◌+◌, ◌-◌, ◌<◌, ◌≤◌, ◌⊎◌, inl, inr, ⊎_elim, Bool, true, false, true≢false, List, [], ◌∷◌, ◌++◌, map, take, get_or, length, refl, sym, ◌∙◌, ap, subst, arith}
+use Rattle.std.proofs.Common.{◌≡◌, ℕ, zero, suc, ◌+◌, ◌-◌, ◌<◌, ◌⊎◌, inl, inr, ⊎_elim, Bool, true, false, true≢false, List, [], ◌∷◌, ◌++◌, map, take, get_or, length, refl, sym, ◌∙◌, ap, subst, arith}
 use Rattle.std.specs.Prelude.{Option, Some, None, nat_le, if◌then◌else◌}
 use Rattle.std.specs.List.{All}
 use Rattle.std.proofs.lemmas.Bool.{leb-true, le-leb}
@@ -18,7 +18,7 @@ use Rattle.ix_selector.specs.Reaching.{members_at, at_start, entered_again}
 use Rattle.ix_selector.specs.Pairs.{frames, selector_at, EntersAt, SomeEnter, around, IsSequence, sequence_of, IsPair, Stands, IsStanding, HasNoEdge, AreReached, ReachedEnters, Same, Joins}
 use Rattle.ix_selector.proofs.Spots.{place-seen, spot-at}
 use Rattle.ix_selector.proofs.Standing.{own-start}
-use Rattle.ix_selector.proofs.Entering.{inner_only}
+use Rattle.ix_selector.proofs.Entering.{inner_only, edge-inside, edge-inside_within, edge-nowhere}
 use Rattle.ix_selector.proofs.Reaching.{none-enter, standing-more, again-more, joins-same}
 
 -- a place is what its spot is, and its spot names places before it
@@ -30,23 +30,23 @@ spot-is xs n y spots h is = subst (λ z. IsSpot n z) (sym is) (subst (λ k. IsSp
 
 mutual
   -- behind a step more edges may stand
-  pub loosened : (s : Pattern) → IsGuarded unguarded s → IsGuarded guarded s
-  loosened matcher g = tt
-  loosened (all s) g = g
-  loosened (fields fs) g = fields_loosened fs g
-  loosened (index i s) g = g
-  loosened (range i j s) g = g
-  loosened (recursive d s) g = g
-  loosened (union ss) g = each_loosened ss g
-  loosened edge g = absurd g
+  pub guarded-later : (s : Pattern) → IsGuarded unguarded s → IsGuarded guarded s
+  guarded-later matcher g = tt
+  guarded-later (all s) g = g
+  guarded-later (fields fs) g = fields_guarded_later fs g
+  guarded-later (index i s) g = g
+  guarded-later (range i j s) g = g
+  guarded-later (recursive d s) g = g
+  guarded-later (union ss) g = each_guarded_later ss g
+  guarded-later edge g = absurd g
 
-  fields_loosened : (fs : FieldPatterns) → AreGuarded unguarded fs → AreGuarded guarded fs
-  fields_loosened no_fields g = tt
-  fields_loosened (field k s fs) g = (g.0, fields_loosened fs g.1)
+  fields_guarded_later : (fs : FieldPatterns) → AreGuarded unguarded fs → AreGuarded guarded fs
+  fields_guarded_later no_fields g = tt
+  fields_guarded_later (field k s fs) g = (g.0, fields_guarded_later fs g.1)
 
-  each_loosened : (ss : Members) → EachGuarded unguarded ss → EachGuarded guarded ss
-  each_loosened no_members g = tt
-  each_loosened (member s ss) g = (loosened s g.0, each_loosened ss g.1)
+  each_guarded_later : (ss : Members) → EachGuarded unguarded ss → EachGuarded guarded ss
+  each_guarded_later no_members g = tt
+  each_guarded_later (member s ss) g = (guarded-later s g.0, each_guarded_later ss g.1)
 
 -- the first of some pairs, or another
 pub some-cons : (spots : List Spot) (x : Pair) (xs : List Pair) (p : Path) → SomeEnter spots (x ∷ xs) p → EntersAt spots x p ⊎ SomeEnter spots xs p
@@ -83,7 +83,7 @@ module _ (spots : List Spot) (table : AreSpots 0 spots) (x : Pair) (is_pair : Is
   sequence_guarded = let g = subst (IsGuarded (around x.recursion)) is_recursive is_pair.guarded in g.1
 
   pub sequence-pair : IsPair spots sequence_pair
-  sequence-pair = record { within = sequence_within; guarded = loosened (at (places_of spots) k) sequence_guarded; sequence = (sequence_within, sequence_guarded); stands = in_own (record { depth = d; within = is_pair.within; is = is }) }
+  sequence-pair = record { within = sequence_within; guarded = guarded-later (at (places_of spots) k) sequence_guarded; sequence = (sequence_within, sequence_guarded); stands = in_own (record { depth = d; within = is_pair.within; is = is }) }
 
   pub sequence-enters : Same (EntersAt spots sequence_pair) (EntersAt spots x)
   sequence-enters p = (
@@ -151,12 +151,6 @@ module _ (spots : List Spot) (table : AreSpots 0 spots) (x : Pair) (is_pair : Is
 
 -- ---- what an edge enters again
 
-out_edge : {s : Pattern} {p : Path} → Enters edge (record { sequence = s; depth = None } ∷ []) p → Enters s (record { sequence = s; depth = None } ∷ []) p
-out_edge (at_edge h) = h
-
-out_edge_within : {s : Pattern} {d : ℕ} {p : Path} → Enters edge (record { sequence = s; depth = Some d } ∷ []) p → (2 ≤ d) × Enters s (record { sequence = s; depth = Some (d - 1) } ∷ []) p
-out_edge_within (at_edge_within deep h) = (deep, h)
-
 again_enters : (spots : List Spot) (q : ℕ) (d : Option ℕ) (p : Path)
     → (SomeEnter spots (entered_again (Some (record { sequence = q; depth = d }))) p → Enters edge (record { sequence = at (places_of spots) q; depth = d } ∷ []) p)
     × (Enters edge (record { sequence = at (places_of spots) q; depth = d } ∷ []) p → SomeEnter spots (entered_again (Some (record { sequence = q; depth = d }))) p)
@@ -166,7 +160,7 @@ again_enters spots q None p = (
       (λ (here : EntersAt spots (record { place = q; recursion = Some (record { sequence = q; depth = None }) }) p). at_edge here)
       (λ (there : SomeEnter spots [] p). absurd (none-enter spots p there))
       (some-cons spots _ [] p h),
-  λ h. cons-here spots (record { place = q; recursion = Some (record { sequence = q; depth = None }) }) [] p (out_edge h),
+  λ h. cons-here spots (record { place = q; recursion = Some (record { sequence = q; depth = None }) }) [] p (edge-inside h),
 )
 again_enters spots q (Some d) p = by (nat_le 2 d) refl where
   lower : Pair
@@ -185,19 +179,16 @@ again_enters spots q (Some d) p = by (nat_le 2 d) refl where
         (λ (here : EntersAt spots lower p). at_edge_within (leb-true 2 d e) here)
         (λ (there : SomeEnter spots [] p). absurd (none-enter spots p there))
         (some-cons spots lower [] p h),
-    λ h. cons-here spots lower [] p (out_edge_within h).1,
+    λ h. cons-here spots lower [] p (edge-inside_within h).1,
   )
   by false e = (
     λ h. absurd (none-enter spots p h),
-    λ h. absurd (true≢false (sym (le-leb 2 d (out_edge_within h).0) ∙ e)),
+    λ h. absurd (true≢false (sym (le-leb 2 d (edge-inside_within h).0) ∙ e)),
   )
-
-out_nothing : {p : Path} → Enters edge [] p → ⊥
-out_nothing h = elim h [ ]
 
 edge_enters : (spots : List Spot) (r : Option Recursion) → (p : Path)
     → (SomeEnter spots (entered_again r) p → Enters edge (frames (places_of spots) r) p) × (Enters edge (frames (places_of spots) r) p → SomeEnter spots (entered_again r) p)
-edge_enters spots None p = (λ h. absurd (none-enter spots p h), λ h. absurd (out_nothing h))
+edge_enters spots None p = (λ h. absurd (none-enter spots p h), λ h. absurd (edge-nowhere h))
 edge_enters spots (Some r) p = again_enters spots r.sequence r.depth p
 
 again_pairs : (spots : List Spot) (q : ℕ) (d : Option ℕ) → (q < length spots) × IsGuarded unguarded (at (places_of spots) q) → StandsIn spots q (Some q)
@@ -205,7 +196,7 @@ again_pairs : (spots : List Spot) (q : ℕ) (d : Option ℕ) → (q < length spo
 again_pairs spots q d is stands = by d where
   one : (n : Option ℕ) → All (IsPair spots) (at_start (Some (record { sequence = q; depth = n }))) × All (HasNoEdge spots) (at_start (Some (record { sequence = q; depth = n })))
   one n = (
-    All-cons (IsPair spots) _ [] (record { within = is.0; guarded = loosened (at (places_of spots) q) is.1; sequence = is; stands = stands }) (All-nil (IsPair spots)),
+    All-cons (IsPair spots) _ [] (record { within = is.0; guarded = guarded-later (at (places_of spots) q) is.1; sequence = is; stands = stands }) (All-nil (IsPair spots)),
     All-cons (HasNoEdge spots) _ [] (record { around = unguarded; never = λ m. m; guarded = is.1 }) (All-nil (HasNoEdge spots)),
   )
 

@@ -16,7 +16,7 @@ use Rattle.ix_selector.specs.Places.{at, places_of, seen, AreNamedBelow, HasNumb
 use Rattle.ix_selector.specs.Standing.{IsBeside, in_same}
 use Rattle.ix_selector.specs.Named.{IsNumbered, HasName}
 use Rattle.ix_selector.specs.Pairs.{frames, selector_at, EntersAt, around, IsPair, Stands, Same, LeadsTo, LeadsNowhere}
-use Rattle.ix_selector.proofs.Decides.{and_parts, and_both, holds, is_true}
+use Rattle.ix_selector.proofs.Decides.{and_parts, and_both, true-holds, holds-true}
 
 out_all : {s : Pattern} {e : List Frame} {t : Step} {p : Path} → Enters (all s) e (t ∷ p) → Enters s e p
 out_all (below_all h) = h
@@ -38,13 +38,13 @@ pub index_nowhere : (i : ℤ) (s : Pattern) (t : Step) → is_at i t ≡ false �
 index_nowhere i s t is e p h = true≢false (sym (out_index h).0 ∙ is)
 
 out_range : {i j : ℤ} {s : Pattern} {e : List Frame} {t : Step} {p : Path} → Enters (range i j s) e (t ∷ p) → (is_within i j t ≡ true) × Enters s e p
-out_range (below_range {n = n} low high h) = (and_both _ _ (is_true _ low.le) (is_true _ high.lt), h)
+out_range (below_range {n = n} low high h) = (and_both _ _ (holds-true _ low.le) (holds-true _ high.lt), h)
 
 into_range : (i j : ℤ) (s : Pattern) (e : List Frame) (t : Step) (p : Path) → is_within i j t ≡ true → Enters s e p → Enters (range i j s) e (t ∷ p)
 into_range i j s e (key l) p is h = absurd (true≢false (sym is))
 into_range i j s e (nth n) p is h =
     let both = and_parts (int_le i (pos n)) (int_lt (pos n) j) is in
-    below_range (le_z_yes (holds _ both.0)) (lt_z_yes (holds _ both.1)) h
+    below_range (le_z_yes (true-holds _ both.0)) (lt_z_yes (true-holds _ both.1)) h
 
 pub range_leads : (i j : ℤ) (s : Pattern) (t : Step) → is_within i j t ≡ true → LeadsTo (range i j s) t s
 range_leads i j s t is = record { enters = λ e p. (λ h. (out_range h).1, λ h. into_range i j s e t p is h); guarded = λ a g. g }

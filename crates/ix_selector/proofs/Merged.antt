@@ -25,34 +25,34 @@ deeper-flip None (Some b) = refl
 deeper-flip (Some a) None = refl
 deeper-flip (Some a) (Some b) = ap Some (omega arith)
 
-around_swap : (e d c : List Frame) → deeper_around (deeper_around e d) c ≡ deeper_around (deeper_around e c) d
-around_swap [] d c = refl
-around_swap (f ∷ e) [] [] = refl
-around_swap (f ∷ e) [] (h ∷ c) = refl
-around_swap (f ∷ e) (g ∷ d) [] = refl
-around_swap (f ∷ e) (g ∷ d) (h ∷ c) = ap (λ n. record { sequence = f.sequence; depth = n } ∷ e) (deeper-swap f.depth g.depth h.depth)
+deeper_around_swap : (e d c : List Frame) → deeper_around (deeper_around e d) c ≡ deeper_around (deeper_around e c) d
+deeper_around_swap [] d c = refl
+deeper_around_swap (f ∷ e) [] [] = refl
+deeper_around_swap (f ∷ e) [] (h ∷ c) = refl
+deeper_around_swap (f ∷ e) (g ∷ d) [] = refl
+deeper_around_swap (f ∷ e) (g ∷ d) (h ∷ c) = ap (λ n. record { sequence = f.sequence; depth = n } ∷ e) (deeper-swap f.depth g.depth h.depth)
 
 -- of three ways to a place the last two may be joined in either order
 both-swap : (x y z : Place) → both (both x y) z ≡ both (both x z) y
-both-swap x y z = ap (λ e. record { selector = x.selector; around = e; number = x.number; sequence = x.sequence }) (around_swap x.around y.around z.around)
+both-swap x y z = ap (λ e. record { selector = x.selector; around = e; number = x.number; sequence = x.sequence }) (deeper_around_swap x.around y.around z.around)
 
 -- ---- a place put among others
 
-pub below : (x y : Place) (ys : List Place) → x.number < y.number → put x (y ∷ ys) ≡ x ∷ y ∷ ys
-below x y ys h = ap (λ b. if b then x ∷ y ∷ ys else (if nat_lt y.number x.number then y ∷ put x ys else both y x ∷ ys)) (lt-ltb x.number y.number h)
+pub put-below : (x y : Place) (ys : List Place) → x.number < y.number → put x (y ∷ ys) ≡ x ∷ y ∷ ys
+put-below x y ys h = ap (λ b. if b then x ∷ y ∷ ys else (if nat_lt y.number x.number then y ∷ put x ys else both y x ∷ ys)) (lt-ltb x.number y.number h)
 
-pub above : (x y : Place) (ys : List Place) → y.number < x.number → put x (y ∷ ys) ≡ y ∷ put x ys
-above x y ys h =
+pub put-above : (x y : Place) (ys : List Place) → y.number < x.number → put x (y ∷ ys) ≡ y ∷ put x ys
+put-above x y ys h =
     ap (λ b. if b then x ∷ y ∷ ys else (if nat_lt y.number x.number then y ∷ put x ys else both y x ∷ ys)) (le-ltb x.number y.number (omega arith))
     ∙ ap (λ b. if b then y ∷ put x ys else both y x ∷ ys) (lt-ltb y.number x.number h)
 
-pub beside : (x y : Place) (ys : List Place) → x.number ≡ y.number → put x (y ∷ ys) ≡ both y x ∷ ys
-beside x y ys h =
+pub put-beside : (x y : Place) (ys : List Place) → x.number ≡ y.number → put x (y ∷ ys) ≡ both y x ∷ ys
+put-beside x y ys h =
     ap (λ b. if b then x ∷ y ∷ ys else (if nat_lt y.number x.number then y ∷ put x ys else both y x ∷ ys)) (le-ltb x.number y.number (omega arith))
     ∙ ap (λ b. if b then y ∷ put x ys else both y x ∷ ys) (le-ltb y.number x.number (omega arith))
 
-pub three : (a b : ℕ) → (a < b) ⊎ ((a ≡ b) ⊎ (b < a))
-three a b = by (nat_lt a b) refl (nat_lt b a) refl where
+pub less-same-greater : (a b : ℕ) → (a < b) ⊎ ((a ≡ b) ⊎ (b < a))
+less-same-greater a b = by (nat_lt a b) refl (nat_lt b a) refl where
   by : (s : Bool) → nat_lt a b ≡ s → (t : Bool) → nat_lt b a ≡ t → (a < b) ⊎ ((a ≡ b) ⊎ (b < a))
   by true e t g = inl (ltb-true a b e)
   by false e true g = inr (inr (ltb-true b a g))
@@ -65,13 +65,13 @@ Alike x y = x.number ≡ y.number → both x y ≡ both y x
 pub put-swap : (x y : Place) (zs : List Place) → Alike x y → put x (put y zs) ≡ put y (put x zs)
 put-swap x y [] alike =
     ⊎_elim
-    (λ (l : x.number < y.number). below x y [] l ∙ sym (above y x [] l))
+    (λ (l : x.number < y.number). put-below x y [] l ∙ sym (put-above y x [] l))
     (λ (r : (x.number ≡ y.number) ⊎ (y.number < x.number)).
     ⊎_elim
-    (λ (e : x.number ≡ y.number). beside x y [] e ∙ ap (λ z. z ∷ []) (sym (alike e)) ∙ sym (beside y x [] (sym e)))
-    (λ (g : y.number < x.number). above x y [] g ∙ sym (below y x [] g))
+    (λ (e : x.number ≡ y.number). put-beside x y [] e ∙ ap (λ z. z ∷ []) (sym (alike e)) ∙ sym (put-beside y x [] (sym e)))
+    (λ (g : y.number < x.number). put-above x y [] g ∙ sym (put-below y x [] g))
     r)
-    (three x.number y.number)
+    (less-same-greater x.number y.number)
 put-swap x y (z ∷ zs) alike =
     ⊎_elim
     (λ (xl : x.number < z.number).
@@ -82,7 +82,7 @@ put-swap x y (z ∷ zs) alike =
     (λ (ye : y.number ≡ z.number). low_beside x y xl ye)
     (λ (yg : z.number < y.number). low_above x y xl yg)
     r)
-    (three y.number z.number))
+    (less-same-greater y.number z.number))
     (λ (r : (x.number ≡ z.number) ⊎ (z.number < x.number)).
     ⊎_elim
     (λ (xe : x.number ≡ z.number).
@@ -93,7 +93,7 @@ put-swap x y (z ∷ zs) alike =
     (λ (ye : y.number ≡ z.number). both_beside xe ye)
     (λ (yg : z.number < y.number). beside_above x y xe yg)
     s)
-    (three y.number z.number))
+    (less-same-greater y.number z.number))
     (λ (xg : z.number < x.number).
     ⊎_elim
     (λ (yl : y.number < z.number). sym (low_above y x yl xg))
@@ -102,53 +102,53 @@ put-swap x y (z ∷ zs) alike =
     (λ (ye : y.number ≡ z.number). sym (beside_above y x ye xg))
     (λ (yg : z.number < y.number). both_above (put-swap x y zs alike) xg yg)
     s)
-    (three y.number z.number))
+    (less-same-greater y.number z.number))
     r)
-    (three x.number z.number) where
+    (less-same-greater x.number z.number) where
       both_below : x.number < z.number → y.number < z.number → put x (put y (z ∷ zs)) ≡ put y (put x (z ∷ zs))
       both_below xl yl =
-          ap (put x) (below y z zs yl)
+          ap (put x) (put-below y z zs yl)
           ∙ ⊎_elim
-          (λ (l : x.number < y.number). below x y (z ∷ zs) l ∙ sym (above y x (z ∷ zs) l ∙ ap (λ l. x ∷ l) (below y z zs yl)))
+          (λ (l : x.number < y.number). put-below x y (z ∷ zs) l ∙ sym (put-above y x (z ∷ zs) l ∙ ap (λ l. x ∷ l) (put-below y z zs yl)))
           (λ (r : (x.number ≡ y.number) ⊎ (y.number < x.number)).
           ⊎_elim
-          (λ (e : x.number ≡ y.number). beside x y (z ∷ zs) e ∙ ap (λ w. w ∷ z ∷ zs) (sym (alike e)) ∙ sym (beside y x (z ∷ zs) (sym e)))
-          (λ (g : y.number < x.number). above x y (z ∷ zs) g ∙ ap (λ l. y ∷ l) (below x z zs xl) ∙ sym (below y x (z ∷ zs) g))
+          (λ (e : x.number ≡ y.number). put-beside x y (z ∷ zs) e ∙ ap (λ w. w ∷ z ∷ zs) (sym (alike e)) ∙ sym (put-beside y x (z ∷ zs) (sym e)))
+          (λ (g : y.number < x.number). put-above x y (z ∷ zs) g ∙ ap (λ l. y ∷ l) (put-below x z zs xl) ∙ sym (put-below y x (z ∷ zs) g))
           r)
-          (three x.number y.number)
-          ∙ sym (ap (put y) (below x z zs xl))
+          (less-same-greater x.number y.number)
+          ∙ sym (ap (put y) (put-below x z zs xl))
 
       low_beside : (x y : Place) → x.number < z.number → y.number ≡ z.number → put x (put y (z ∷ zs)) ≡ put y (put x (z ∷ zs))
       low_beside x y xl ye =
-          ap (put x) (beside y z zs ye)
-          ∙ below x (both z y) zs xl
-          ∙ sym (ap (put y) (below x z zs xl) ∙ above y x (z ∷ zs) (omega arith) ∙ ap (λ l. x ∷ l) (beside y z zs ye))
+          ap (put x) (put-beside y z zs ye)
+          ∙ put-below x (both z y) zs xl
+          ∙ sym (ap (put y) (put-below x z zs xl) ∙ put-above y x (z ∷ zs) (omega arith) ∙ ap (λ l. x ∷ l) (put-beside y z zs ye))
 
       low_above : (x y : Place) → x.number < z.number → z.number < y.number → put x (put y (z ∷ zs)) ≡ put y (put x (z ∷ zs))
       low_above x y xl yg =
-          ap (put x) (above y z zs yg)
-          ∙ below x z (put y zs) xl
-          ∙ sym (ap (put y) (below x z zs xl) ∙ above y x (z ∷ zs) (omega arith) ∙ ap (λ l. x ∷ l) (above y z zs yg))
+          ap (put x) (put-above y z zs yg)
+          ∙ put-below x z (put y zs) xl
+          ∙ sym (ap (put y) (put-below x z zs xl) ∙ put-above y x (z ∷ zs) (omega arith) ∙ ap (λ l. x ∷ l) (put-above y z zs yg))
 
       both_beside : x.number ≡ z.number → y.number ≡ z.number → put x (put y (z ∷ zs)) ≡ put y (put x (z ∷ zs))
       both_beside xe ye =
-          ap (put x) (beside y z zs ye)
-          ∙ beside x (both z y) zs xe
+          ap (put x) (put-beside y z zs ye)
+          ∙ put-beside x (both z y) zs xe
           ∙ ap (λ w. w ∷ zs) (both-swap z y x)
-          ∙ sym (ap (put y) (beside x z zs xe) ∙ beside y (both z x) zs ye)
+          ∙ sym (ap (put y) (put-beside x z zs xe) ∙ put-beside y (both z x) zs ye)
 
       beside_above : (x y : Place) → x.number ≡ z.number → z.number < y.number → put x (put y (z ∷ zs)) ≡ put y (put x (z ∷ zs))
       beside_above x y xe yg =
-          ap (put x) (above y z zs yg)
-          ∙ beside x z (put y zs) xe
-          ∙ sym (ap (put y) (beside x z zs xe) ∙ above y (both z x) zs yg)
+          ap (put x) (put-above y z zs yg)
+          ∙ put-beside x z (put y zs) xe
+          ∙ sym (ap (put y) (put-beside x z zs xe) ∙ put-above y (both z x) zs yg)
 
       both_above : put x (put y zs) ≡ put y (put x zs) → z.number < x.number → z.number < y.number → put x (put y (z ∷ zs)) ≡ put y (put x (z ∷ zs))
       both_above inner xg yg =
-          ap (put x) (above y z zs yg)
-          ∙ above x z (put y zs) xg
+          ap (put x) (put-above y z zs yg)
+          ∙ put-above x z (put y zs) xg
           ∙ ap (λ l. z ∷ l) inner
-          ∙ sym (ap (put y) (above x z zs xg) ∙ above y z (put x zs) yg)
+          ∙ sym (ap (put y) (put-above x z zs xg) ∙ put-above y z (put x zs) yg)
 
 -- ---- many places
 
@@ -174,14 +174,14 @@ put_set (z ∷ zs) zero x h alike = refl
 put_set (z ∷ zs) (suc i) x h alike = ap (put z) (put_set zs i x (omega arith) alike.1) ∙ sym (put-swap x z (merged (dropped zs i)) alike.0)
 
 -- two that change places
-exchanged : (zs : List Place) (i j : ℕ) (x y : Place) → i < length zs → j < length zs → (i ≡ j → x ≡ y) → Alike x y → AlikeAll x zs → AlikeAll y zs → merged (set (set zs i y) j x) ≡ merged (set (set zs i x) j y)
-exchanged [] i j x y a b same alike ax ay = absurd (omega arith)
-exchanged (z ∷ zs) zero zero x y a b same alike ax ay = let is : x ≡ y = same refl in ap (λ w. put w (merged zs)) is
-exchanged (z ∷ zs) zero (suc j) x y a b same alike ax ay =
+merged_exchanged : (zs : List Place) (i j : ℕ) (x y : Place) → i < length zs → j < length zs → (i ≡ j → x ≡ y) → Alike x y → AlikeAll x zs → AlikeAll y zs → merged (set (set zs i y) j x) ≡ merged (set (set zs i x) j y)
+merged_exchanged [] i j x y a b same alike ax ay = absurd (omega arith)
+merged_exchanged (z ∷ zs) zero zero x y a b same alike ax ay = let is : x ≡ y = same refl in ap (λ w. put w (merged zs)) is
+merged_exchanged (z ∷ zs) zero (suc j) x y a b same alike ax ay =
     ap (put y) (put_set zs j x (omega arith) ax.1) ∙ sym (put-swap x y (merged (dropped zs j)) alike) ∙ ap (put x) (sym (put_set zs j y (omega arith) ay.1))
-exchanged (z ∷ zs) (suc i) zero x y a b same alike ax ay =
+merged_exchanged (z ∷ zs) (suc i) zero x y a b same alike ax ay =
     ap (put x) (put_set zs i y (omega arith) ay.1) ∙ put-swap x y (merged (dropped zs i)) alike ∙ ap (put y) (sym (put_set zs i x (omega arith) ax.1))
-exchanged (z ∷ zs) (suc i) (suc j) x y a b same alike ax ay = ap (put z) (exchanged zs i j x y (omega arith) (omega arith) (λ e. same (ap suc e)) alike ax.1 ay.1)
+merged_exchanged (z ∷ zs) (suc i) (suc j) x y a b same alike ax ay = ap (put z) (merged_exchanged zs i j x y (omega arith) (omega arith) (λ e. same (ap suc e)) alike ax.1 ay.1)
 
 -- any two of these are alike
 pub record AreAlike (xs : List Place) : Type 0 where
@@ -199,19 +199,19 @@ alike_permuted xs ys moved alike = record {
   at = λ x y a b. alike.at x y (Contains-permutation ys xs x (IsPermutation-sym xs ys moved) a) (Contains-permutation ys xs y (IsPermutation-sym xs ys moved) b);
 }
 
-once : (l : List Place) (i j : ℕ) → i < length l → j < length l → AreAlike l → merged (swap l i j) ≡ merged l
-once [] i j a b alike = refl
-once (d ∷ ds) i j a b alike =
+merged_swap : (l : List Place) (i j : ℕ) → i < length l → j < length l → AreAlike l → merged (swap l i j) ≡ merged l
+merged_swap [] i j a b alike = refl
+merged_swap (d ∷ ds) i j a b alike =
     let l = d ∷ ds in
     let x = get_or l i d in
     let y = get_or l j d in
     let has_x : Contains l x = (i, a, get_or_default l i x d a) in
     let has_y : Contains l y = (j, b, get_or_default l j y d b) in
     let kept : set (set l i x) j y ≡ l = ap (λ k. set k j y) (set-get_or l i d) ∙ set-get_or l j d in
-    exchanged l i j x y a b (λ e. ap (λ k. get_or l k d) e) (alike.at x y has_x has_y) (alike-all x l alike has_x) (alike-all y l alike has_y) ∙ ap merged kept
+    merged_exchanged l i j x y a b (λ e. ap (λ k. get_or l k d) e) (alike.at x y has_x has_y) (alike-all x l alike has_x) (alike-all y l alike has_y) ∙ ap merged kept
 
 -- in another order the same is put
 pub merged-permutation : (xs ys : List Place) → IsPermutation xs ys → AreAlike xs → merged ys ≡ merged xs
 merged-permutation xs ys moved alike =
     (IsPermutation-keeps xs (λ l. IsPermutation xs l × (merged l ≡ merged xs)) (IsPermutation-refl xs, refl)
-    (λ l i j p q h. (IsPermutation-trans xs l (swap l i j) h.0 (IsPermutation-swap l (swap l i j) i j p q refl), once l i j p q (alike_permuted xs l h.0 alike) ∙ h.1)) ys moved).1
+    (λ l i j p q h. (IsPermutation-trans xs l (swap l i j) h.0 (IsPermutation-swap l (swap l i j) i j p q refl), merged_swap l i j p q (alike_permuted xs l h.0 alike) ∙ h.1)) ys moved).1

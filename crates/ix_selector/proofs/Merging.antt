@@ -174,8 +174,8 @@ merged-more rs qs xs i x within is so_far enters among rising =
     })
 
 -- in another order
-pub merged-sorted : (rs xs ys : List Pair) → IsPermutation xs ys → Merged rs ys → Merged rs xs
-merged-sorted rs xs ys moved all = record {
+merged_sorted : (rs xs ys : List Pair) → IsPermutation xs ys → Merged rs ys → Merged rs xs
+merged_sorted rs xs ys moved all = record {
   enters = λ spots p.
       let same = some-permutation spots xs ys moved p in
       let here = all.enters spots p in
@@ -183,6 +183,10 @@ merged-sorted rs xs ys moved all = record {
   among = of-more ys xs rs (λ y among. Contains-permutation ys xs y (IsPermutation-sym xs ys moved) among) all.among;
   rising = all.rising;
 }
+
+-- and where all of them were gone through
+pub merged-done : (rs xs ys : List Pair) (i : ℕ) → IsPermutation xs ys → length ys ≤ i → Merged rs (take i ys) → Merged rs xs
+merged-done rs xs ys i moved done all = merged_sorted rs xs ys moved (subst (Merged rs) (take_all i ys done) all)
 
 -- the last of the pairs joined with one more
 pub joined-last : (front : List Pair) (last x both : Pair) → IsJoined last x both → EnterMore (front ++ both ∷ []) (front ++ last ∷ []) x × All (IsOf ((front ++ last ∷ []) ++ x ∷ [])) (front ++ both ∷ [])
@@ -211,19 +215,24 @@ joined-last front last x both is = (
 )
 
 -- one more behind the others
-pub pushed : (xs : List Pair) (x : Pair) → EnterMore (xs ++ x ∷ []) xs x × All (IsOf (xs ++ x ∷ [])) (xs ++ x ∷ [])
-pushed xs x = (λ spots p. some-push spots xs x p, of-itself (xs ++ x ∷ [])) where
+pub push-enters : (xs : List Pair) (x : Pair) → EnterMore (xs ++ x ∷ []) xs x × All (IsOf (xs ++ x ∷ [])) (xs ++ x ∷ [])
+push-enters xs x = (λ spots p. some-push spots xs x p, of-itself (xs ++ x ∷ [])) where
   of-itself : (ys : List Pair) → All (IsOf ys) ys
   of-itself ys = All-weaker (Contains ys) (IsOf ys) (λ y among. itself-of ys y among) ys (All-contains_itself ys)
 
 -- a slice that was sorted is put back whole
-pub refilled : (xs was ws now : List Pair) → was ≡ xs → IsPermutation was ws → now ≡ refill (length xs) xs ws → now ≡ ws
-refilled xs was ws now same moved is =
+pub refill-whole : (xs was ws now : List Pair) → was ≡ xs → IsPermutation was ws → now ≡ refill (length xs) xs ws → now ≡ ws
+refill-whole xs was ws now same moved is =
     let as_long : length ws ≡ length xs = length_permutation was ws moved ∙ ap length same in
     is ∙ take_all_of ws xs as_long where
       take_all_of : (ws xs : List Pair) → length ws ≡ length xs → refill (length xs) xs ws ≡ ws
       take_all_of ws xs e =
           ap (λ n. take (length xs) (ws ++ drop n xs)) e ∙ ap (λ l. take (length xs) (ws ++ l)) (drop_all (length xs) xs (omega arith)) ∙ ap (take (length xs)) (append-nil ws) ∙ take_all (length xs) ws (omega arith)
+
+-- so it holds what it held, in another order
+pub refill-permutation : (xs was ws now : List Pair) → was ≡ xs → IsPermutation was ws → now ≡ refill (length xs) xs ws → IsPermutation xs now
+refill-permutation xs was ws now same moved is =
+    subst (λ l. IsPermutation l now) same (subst (IsPermutation was) (sym (refill-whole xs was ws now same moved is)) moved)
 
 -- ---- places rise
 
@@ -249,8 +258,8 @@ pushed-rising front last x up_to none h =
       above a b le apart = omega arith
 
 -- all so far are up to the next of sorted pairs
-pub up-to : (rs xs : List Pair) (i : ℕ) (x : Pair) → i < length xs → x ≡ get_or xs i x → IsNonDecreasingBy (λ (y : Pair). y.place) xs → Agree xs → All (IsOf (take i xs)) rs → All (IsUpTo x) rs
-up-to rs xs i x within is sorted agree all = All-weaker (IsOf (take i xs)) (IsUpTo x) (λ y of. by y of of.among.0 of.among.1 of.among.2) rs all where
+pub sorted-up_to : (rs xs : List Pair) (i : ℕ) (x : Pair) → i < length xs → x ≡ get_or xs i x → IsNonDecreasingBy (λ (y : Pair). y.place) xs → Agree xs → All (IsOf (take i xs)) rs → All (IsUpTo x) rs
+sorted-up_to rs xs i x within is sorted agree all = All-weaker (IsOf (take i xs)) (IsUpTo x) (λ y of. by y of of.among.0 of.among.1 of.among.2) rs all where
   by : (y : Pair) (of : IsOf (take i xs) y) (k : ℕ) → k < length (take i xs) → get_or (take i xs) k of.pair ≡ of.pair → IsUpTo x y
   by y of k below at =
       let long : length (take i xs) ≡ i = length-take-le i xs (omega arith) in

@@ -1,43 +1,34 @@
 -- What is left of a selector behind each step of a path in turn.
-use Rattle.std.proofs.Common.{◌≡◌, ℕ, ◌-◌, ◌<◌, ◌≤◌, ◌⊎◌, inl, inr, ⊎_elim, Bool, true, false, true≢false, nat_eq, ◌&&◌, List, [], ◌∷◌, ◌++◌, refl, sym, ◌∙◌, ap, subst, append-nil}
+use Rattle.std.proofs.Common.{◌≡◌, ℕ, ◌-◌, ◌<◌, ◌⊎◌, inl, inr, ⊎_elim, Bool, true, false, true≢false, nat_eq, ◌&&◌, List, [], ◌∷◌, ◌++◌, refl, sym, ◌∙◌, ap, subst, append-nil}
 use Rattle.std.specs.Prelude.{◌↔◌, Option, Some, None, nat_le, if◌then◌else◌}
 use Rattle.std.specs.Option.{option_eq}
 use Rattle.std.specs.Cmp.Lexicographic.{pointwise}
 use Rattle.std.proofs.lemmas.Bool.{leb-true, le-leb, eqb-true}
 use Rattle.ix_selector.specs.Pattern.{Pattern, matcher, all, fields, index, range, recursive, union, edge, outside, unguarded, IsGuarded, IsSelector}
-use Rattle.ix_selector.specs.Enters.{Step, Path, Frame, Enters, at_matcher, at_all, at_fields, at_index, at_range, at_edge, at_edge_within}
+use Rattle.ix_selector.specs.Enters.{Step, Path, Enters, at_edge, at_edge_within}
 use Rattle.ix_selector.specs.IsEntered.{is_entered}
 use Rattle.ix_selector.specs.Residual.{Place, IsAmong, here, there, ResidualEnters, residual_enters}
 use Rattle.ix_selector.specs.Pairs.{deeper, Stands}
 use Rattle.ix_selector.specs.Behind.{leads, before, leads_from, all_lead, is_edge, standing, again, started, restarted, innermost, deeper_around, both, put, merged, leads_behind, leads_behind_from, all_lead_behind, residual_of, residual_behind, residual_along, residual_at, depths, same_place, same_residual}
-use Rattle.ix_selector.proofs.Decides.{FramesGuarded, and_parts, decides}
-use Rattle.ix_selector.proofs.Entering.{deeper-left, deeper-right, deeper-either}
-use Rattle.ix_selector.proofs.Inside.{loosened}
+use Rattle.ix_selector.proofs.Decides.{FramesGuarded, and_parts, is_entered-decides}
+use Rattle.ix_selector.proofs.Entering.{stands-enters, edge-inside, edge-inside_within, edge-nowhere, deeper-left, deeper-right, deeper-either}
+use Rattle.ix_selector.proofs.Inside.{guarded-later}
 use Rattle.ix_selector.proofs.Tested.{around_of, ArePlaces, residual_sound, residual_complete, same_tests}
-use Rattle.ix_selector.proofs.Merged.{below, above, beside, three}
+use Rattle.ix_selector.proofs.Merged.{put-below, put-above, put-beside, less-same-greater}
 use Rattle.ix_selector.proofs.Within.{Inner, itself, one-place}
-use Rattle.ix_selector.proofs.Rests.{Enter, iff_twice, iff_same, iff_back, either_iff, lone, grouped, enter-append, enter_by, Each, each-append, leads-enter, IsLead, leads-lead, standing-each, standing-stands, leads-no_edge, no_edges, behind-enter, behind-lead, frames_in, number_in, around_in, Home, IsIn, leads-in, behind-in, before_is}
+use Rattle.ix_selector.proofs.Rests.{Enter, iff_twice, iff_same, iff_back, either_iff, either-never, either-grouped, enter-append, enter_by, Each, each-append, leads-enter, IsLead, leads-lead, standing-each, standing-stands, leads-no_edge, no_edges, behind-enter, behind-lead, frames_in, number_in, around_in, Home, IsIn, leads-in, behind-in, before_is}
 
 -- ---- the sequences that edges enter again
 
-out_edge : {s : Pattern} {p : Path} → Enters edge (record { sequence = s; depth = None } ∷ []) p → Enters s (record { sequence = s; depth = None } ∷ []) p
-out_edge (at_edge h) = h
-
-out_edge_within : {s : Pattern} {d : ℕ} {p : Path} → Enters edge (record { sequence = s; depth = Some d } ∷ []) p → (2 ≤ d) × Enters s (record { sequence = s; depth = Some (d - 1) } ∷ []) p
-out_edge_within (at_edge_within deep h) = (deep, h)
-
-out_nothing : {p : Path} → Enters edge [] p → ⊥
-out_nothing h = elim h [ ]
-
 limit_enter : (s : Pattern) (n : ℕ) (d : Option ℕ) (p : Path) → (Enter (restarted s n d) p ↔ Enters edge (record { sequence = s; depth = d } ∷ []) p)
-limit_enter s n None p = iff_twice lone (λ h. at_edge h, λ h. out_edge h)
+limit_enter s n None p = iff_twice either-never (λ h. at_edge h, λ h. edge-inside h)
 limit_enter s n (Some d) p = by (nat_le 2 d) refl where
   by : (b : Bool) → nat_le 2 d ≡ b → (Enter (if b then started s n (Some (d - 1)) else []) p ↔ Enters edge (record { sequence = s; depth = Some d } ∷ []) p)
-  by true is = iff_twice lone (λ h. at_edge_within (leb-true 2 d is) h, λ h. (out_edge_within h).1)
-  by false is = (λ h. absurd h, λ h. true≢false (sym (le-leb 2 d (out_edge_within h).0) ∙ is))
+  by true is = iff_twice either-never (λ h. at_edge_within (leb-true 2 d is) h, λ h. (edge-inside_within h).1)
+  by false is = (λ h. absurd h, λ h. true≢false (sym (le-leb 2 d (edge-inside_within h).0) ∙ is))
 
 edge_enter : (q : Inner) (d : Option ℕ) (p : Path) → (Enter (innermost (frames_in q d) (number_in q)) p ↔ Enters edge (frames_in q d) p)
-edge_enter None d p = (λ h. absurd h, λ h. absurd (out_nothing h))
+edge_enter None d p = (λ h. absurd h, λ h. absurd (edge-nowhere h))
 edge_enter (Some c) d p = limit_enter c.1 c.0 d p
 
 is_an_edge : (s : Pattern) → is_edge s ≡ true → s ≡ edge
@@ -79,11 +70,11 @@ module _ (whole : Pattern) where
     by true is rest =
         iff_twice (either_iff (iff_back (place_enter x h.0 is p)) rest)
         (iff_twice swapped (either_iff iff_same (iff_back (enter-append (innermost x.around x.sequence) (again xs) p))))
-    by false is rest = iff_twice (either_iff iff_same rest) grouped
+    by false is rest = iff_twice (either_iff iff_same rest) either-grouped
 
   start_in : (c : ℕ × Pattern) (d : Option ℕ) → Home whole (Some c) → Each (λ x. IsIn whole x × IsStart x) (started c.1 c.0 d)
   start_in c d home = (
-    (record { first = home.0; inner = Some c; depth = d; up = home.2; home = home; guard = loosened c.1 home.3; number = home.1; around = refl; sequence = refl }, home.3),
+    (record { first = home.0; inner = Some c; depth = d; up = home.2; home = home; guard = guarded-later c.1 home.3; number = home.1; around = refl; sequence = refl }, home.3),
     tt,
   )
 
@@ -154,15 +145,15 @@ module _ (whole : Pattern) where
   put-in P x (y ∷ ys) a pa bs ps =
       let rest = put-in P x ys a pa bs.1 ps.1 in
       ⊎_elim
-      (λ (l : x.number < y.number). by (x ∷ y ∷ ys) (below x y ys l) (a, bs) (pa, ps) (λ p. iff_same))
+      (λ (l : x.number < y.number). by (x ∷ y ∷ ys) (put-below x y ys l) (a, bs) (pa, ps) (λ p. iff_same))
       (λ (r : (x.number ≡ y.number) ⊎ (y.number < x.number)).
       ⊎_elim
       (λ (e : x.number ≡ y.number).
       let joint = join y x bs.0 a e in
-      by (both y x ∷ ys) (beside x y ys e) (joint.is, bs.1) ps (λ p. iff_twice (either_iff (joint.enters p) iff_same) turned))
-      (λ (g : y.number < x.number). by (y ∷ put x ys) (above x y ys g) (bs.0, rest.each) (ps.0, rest.such) (λ p. iff_twice (either_iff iff_same (rest.enters p)) swapped))
+      by (both y x ∷ ys) (put-beside x y ys e) (joint.is, bs.1) ps (λ p. iff_twice (either_iff (joint.enters p) iff_same) turned))
+      (λ (g : y.number < x.number). by (y ∷ put x ys) (put-above x y ys g) (bs.0, rest.each) (ps.0, rest.such) (λ p. iff_twice (either_iff iff_same (rest.enters p)) swapped))
       r)
-      (three x.number y.number) where
+      (less-same-greater x.number y.number) where
         by : (zs : List Place) → put x (y ∷ ys) ≡ zs → Each (IsIn whole) zs → Each (λ y. P y.selector) zs → ((p : Path) → (Enter zs p ↔ (Enters x.selector x.around p ⊎ Enter (y ∷ ys) p))) → Put P x (y ∷ ys)
         by zs same each such enters = record {
           each = subst (Each (IsIn whole)) (sym same) each;
@@ -333,7 +324,7 @@ module _ (whole : Pattern) where
   rest-tested selector p q =
       let r = at-rest selector.edges p in
       let meant = iff_twice (iff_back (enter_among (residual_at whole p) q)) (r.1 q) in
-      let test = decides whole (p ++ q) selector in
+      let test = is_entered-decides whole (p ++ q) selector in
       same_tests _ _ (λ h. test.1 (meant.0 (residual_sound (residual_at whole p) q h))) (λ h. residual_complete (residual_at whole p) q (are_places (residual_at whole p) r.0.each) (meant.1 (test.0 h)))
 
   -- ---- the same rest
@@ -377,24 +368,14 @@ module _ (whole : Pattern) where
 
   -- ---- whether anything is left
 
-  stands_enters : (s : Pattern) (e : List Frame) → Stands s → Enters s e []
-  stands_enters matcher e h = at_matcher
-  stands_enters (all s) e h = at_all
-  stands_enters (fields fs) e h = at_fields
-  stands_enters (index i s) e h = at_index
-  stands_enters (range i j s) e h = at_range
-  stands_enters (recursive d s) e h = absurd h
-  stands_enters (union ss) e h = absurd h
-  stands_enters edge e h = absurd h
-
   none_left : (xs : List Place) → Each (λ x. Stands x.selector) xs → (Enter xs [] → ⊥) → xs ≡ []
   none_left [] h none = refl
-  none_left (x ∷ xs) h none = absurd (none (inl (stands_enters x.selector x.around h.0)))
+  none_left (x ∷ xs) h none = absurd (none (inl (stands-enters x.selector x.around h.0)))
 
   pub left-entered : IsSelector whole → (p : Path) → (is_entered whole p ≡ false ↔ residual_at whole p ≡ [])
   left-entered selector p =
       let r = at-rest selector.edges p in
-      let test = decides whole p selector in
+      let test = is_entered-decides whole p selector in
       let here : p ++ [] ≡ p = append-nil p in (
         λ out. none_left (residual_at whole p) r.0.stands (λ h. true≢false (sym (test.1 (subst (Enters whole []) here ((r.1 []).0 h))) ∙ out)),
         λ empty. by (is_entered whole p) refl (λ h. subst (λ l. Enter l []) empty ((r.1 []).1 (subst (Enters whole []) (sym here) (test.0 h)))),

@@ -15,7 +15,7 @@ use Rattle.ix_selector.specs.Residual.{Place}
 use Rattle.ix_selector.specs.Pairs.{IsDeeper, IsJoined, frames, sequence_of, place_of, seen_pairs, AgreesWith, Agree, AreRisingFrom, ArePlacesRising, IsUpTo}
 use Rattle.ix_selector.specs.Behind.{deeper_around, both, put, merged}
 use Rattle.ix_selector.specs.Merging.{AreMerged, ArePut}
-use Rattle.ix_selector.proofs.Merged.{deeper-flip, above, beside, Alike, AlikeAll, AreAlike, merged-front, merged-permutation}
+use Rattle.ix_selector.proofs.Merged.{deeper-flip, put-above, put-beside, Alike, AlikeAll, AreAlike, merged-front, merged-permutation}
 
 -- ---- two ways to a place
 
@@ -56,7 +56,7 @@ put_last : (spots : List Spot) (n : ℕ) (front : List Pair) (last x : Pair) →
 put_last spots n [] last x h le = refl
 put_last spots n (y ∷ front) last x h le =
     let far = rises-to (y.place + 1) front last h.1 in
-    above (place_of spots x) (place_of spots y) (seen_pairs spots (front ++ last ∷ [])) (omega arith) ∙ ap (λ l. place_of spots y ∷ l) (put_last spots (y.place + 1) front last x h.1 le)
+    put-above (place_of spots x) (place_of spots y) (seen_pairs spots (front ++ last ∷ [])) (omega arith) ∙ ap (λ l. place_of spots y ∷ l) (put_last spots (y.place + 1) front last x h.1 le)
 
 seen_push : (spots : List Spot) (xs : List Pair) (x : Pair) → seen_pairs spots (xs ++ x ∷ []) ≡ seen_pairs spots xs ++ place_of spots x ∷ []
 seen_push spots [] x = refl
@@ -66,7 +66,7 @@ pub put-joined : (front : List Pair) (last x both : Pair) → IsJoined last x bo
 put-joined front last x joint is rises spots =
     seen_push spots front joint
     ∙ ap (λ y. seen_pairs spots front ++ y ∷ []) (both-joined spots last x joint is)
-    ∙ ap (λ l. seen_pairs spots front ++ l) (sym (beside (place_of spots x) (place_of spots last) [] (sym is.0)))
+    ∙ ap (λ l. seen_pairs spots front ++ l) (sym (put-beside (place_of spots x) (place_of spots last) [] (sym is.0)))
     ∙ sym (put_last spots 0 front last x rises (let same = is.0 in omega arith))
 
 pub put-behind : (front : List Pair) (last x : Pair) → All (IsUpTo x) (front ++ last ∷ []) → (AgreesWith last x → last.place ≡ x.place → ⊥) → ArePlacesRising (front ++ last ∷ []) → ArePut ((front ++ last ∷ []) ++ x ∷ []) (front ++ last ∷ []) x
@@ -77,7 +77,7 @@ put-behind front last x up_to none rises spots =
     seen_push spots (front ++ last ∷ []) x
     ∙ ap (λ l. l ++ place_of spots x ∷ []) (seen_push spots front last)
     ∙ append_assoc (seen_pairs spots front) (place_of spots last ∷ []) (place_of spots x ∷ [])
-    ∙ ap (λ l. seen_pairs spots front ++ l) (sym (above (place_of spots x) (place_of spots last) [] (far last.place x.place le apart)))
+    ∙ ap (λ l. seen_pairs spots front ++ l) (sym (put-above (place_of spots x) (place_of spots last) [] (far last.place x.place le apart)))
     ∙ sym (put_last spots 0 front last x rises le) where
       far : (a b : ℕ) → a ≤ b → (a ≡ b → ⊥) → a < b
       far a b le apart = omega arith

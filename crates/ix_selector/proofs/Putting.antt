@@ -14,7 +14,7 @@ use Rattle.ix_selector.specs.Grown.{Grows}
 use Rattle.ix_selector.specs.Behind.{inside_of}
 use Rattle.ix_selector.specs.Laid.{number_of, AreRow, AreLaidFrom}
 use Rattle.ix_selector.proofs.Laid.{row-push, row-kept, laid-twice}
-use Rattle.ix_selector.proofs.Spots.{at-last, grows-one, grows-twice, longer, map-kept, named-kept, below-more, named_below-more, below-push, named_below-push, numbers-free, names-free}
+use Rattle.ix_selector.proofs.Spots.{at-last, grows-one, grows-twice, length-grows, map-kept, named-kept, below-more, named_below-more, below-push, named_below-push, numbers-free, names-free}
 
 -- so many fields were put
 pub record FieldsPut (old new : List Spot) (names : List (Vec ℕ × ℕ)) (done : List (Vec ℕ × Sel)) : Type 0 where
@@ -39,13 +39,13 @@ pub fields-more : (old mid new : List Spot) (names : List (Vec ℕ × ℕ)) (fs 
     → FieldsPut old new (names ++ (name, n) ∷ []) (take (i + 1) fs)
 fields-more old mid new names fs i f name n within is same put grows below behind last there number laid = record {
   grows = grows-twice old mid new put.grows grows;
-  below = named_below-push (length new) names (name, n) (named_below-more (length mid) (length new) names (longer mid new grows) put.below) below;
+  below = named_below-push (length new) names (name, n) (named_below-more (length mid) (length new) names (length-grows mid new grows) put.below) below;
   named =
       map_push (named_at (places_of new)) names (name, n)
       ∙ (λ j. (named-kept mid new grows names put.below ∙ put.named) j ++ (same j, there j) ∷ [])
       ∙ sym (map_push seen_field (take i fs) f)
       ∙ ap (map seen_field) (sym (take_more fs i f within ∙ ap (λ x. take i fs ++ x ∷ []) (sym is)));
-  free = names-free old mid new names (name, n) (longer old mid put.grows) grows put.below put.free behind last;
+  free = names-free old mid new names (name, n) (length-grows old mid put.grows) grows put.below put.free behind last;
   row =
       subst (λ l. AreRow (places_of new) (length old) l (length new)) (sym (map_push number_of names (name, n)))
       (row-push (places_of new) (length old) (map number_of names) (length mid) n (length new) (pattern_of f.1) (row-kept mid new (length old) (map number_of names) (length mid) grows (omega arith) put.row) there number last);
@@ -57,13 +57,13 @@ pub members-more : (old mid new : List Spot) (numbers : List ℕ) (ss : List Sel
     → MembersPut old new (numbers ++ n ∷ []) (take (i + 1) ss)
 members-more old mid new numbers ss i s n within is put grows below behind last there number laid = record {
   grows = grows-twice old mid new put.grows grows;
-  below = below-push (length new) numbers n (below-more (length mid) (length new) numbers (longer mid new grows) put.below) below;
+  below = below-push (length new) numbers n (below-more (length mid) (length new) numbers (length-grows mid new grows) put.below) below;
   members =
       map_push (at (places_of new)) numbers n
       ∙ (λ j. (map-kept mid new grows numbers put.below ∙ put.members) j ++ there j ∷ [])
       ∙ sym (map_push pattern_of (take i ss) s)
       ∙ ap (map pattern_of) (sym (take_more ss i s within ∙ ap (λ x. take i ss ++ x ∷ []) (sym is)));
-  free = numbers-free old mid new numbers n (longer old mid put.grows) grows put.below put.free behind last;
+  free = numbers-free old mid new numbers n (length-grows old mid put.grows) grows put.below put.free behind last;
   row = row-push (places_of new) (length old) numbers (length mid) n (length new) (pattern_of s) (row-kept mid new (length old) numbers (length mid) grows (omega arith) put.row) there number last;
   laid = laid-twice (length old) mid new grows put.laid laid;
 }

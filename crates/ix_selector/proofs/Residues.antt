@@ -9,15 +9,16 @@ use Rattle.ix_selector.specs.declared.spot.Spot.{Spot}
 use Rattle.ix_selector.specs.declared.pair.Pair.{Pair}
 use Rattle.ix_selector.specs.declared.pair.Recursion.{Recursion}
 use Rattle.ix_selector.specs.declared.reached.Reached.{Reached}
-use Rattle.ix_selector.specs.Pattern.{Pattern, matcher, all, fields, index, range, recursive, union, edge, outside, IsGuarded, IsSelector}
-use Rattle.ix_selector.specs.Enters.{Step, Path, Frame, Enters, at_matcher, at_all, at_fields, at_index, at_range}
+use Rattle.ix_selector.specs.Pattern.{Pattern, outside, IsGuarded, IsSelector}
+use Rattle.ix_selector.specs.Enters.{Step, Path, Enters}
 use Rattle.ix_selector.specs.IsEntered.{is_entered}
 use Rattle.ix_selector.specs.Residual.{Place, IsAmong, here, there, ResidualEnters, residual_enters, IsBehind}
 use Rattle.ix_selector.specs.Places.{at, places_of, AreSpots}
 use Rattle.ix_selector.specs.Standing.{in_none}
 use Rattle.ix_selector.proofs.Spots.{last-free}
-use Rattle.ix_selector.specs.Pairs.{frames, place_of, selector_at, EntersAt, SomeEnter, around, IsSequence, IsPair, Stands, IsStanding, HasNoEdge, AreReached, ReachedEnters, Same, Joins, EnterSame, IsOf}
+use Rattle.ix_selector.specs.Pairs.{frames, place_of, selector_at, EntersAt, SomeEnter, around, IsSequence, IsPair, IsStanding, HasNoEdge, AreReached, ReachedEnters, Same, Joins, EnterSame, IsOf}
 use Rattle.ix_selector.proofs.Decides.{FramesGuarded}
+use Rattle.ix_selector.proofs.Entering.{stands-enters}
 use Rattle.ix_selector.proofs.Tested.{around_of, ArePlaces, start_tested, step_tested_some, step_tested_none}
 use Rattle.ix_selector.proofs.Reaching.{none-enter, some-push, Reaches}
 use Rattle.ix_selector.proofs.Merging.{pairs-of}
@@ -50,20 +51,10 @@ are_places spots (x ∷ xs) h =
     let first = All-head (IsPair spots) x xs h in
     (is_place spots (selector_at spots x) x.recursion first.guarded first.sequence, are_places spots xs (All-tail (IsPair spots) x xs h))
 
-stands_enters : (s : Pattern) (e : List Frame) → Stands s → Enters s e []
-stands_enters matcher e h = at_matcher
-stands_enters (all s) e h = at_all
-stands_enters (fields fs) e h = at_fields
-stands_enters (index i s) e h = at_index
-stands_enters (range i j s) e h = at_range
-stands_enters (recursive d s) e h = absurd h
-stands_enters (union ss) e h = absurd h
-stands_enters edge e h = absurd h
-
 -- where there is a pair, it enters where it stands
 some_stands : (spots : List Spot) (xs : List Pair) → All (IsStanding spots) xs → (xs ≡ [] → ⊥) → SomeEnter spots xs []
 some_stands spots [] h some = absurd (some refl)
-some_stands spots (x ∷ xs) h some = cons-here spots x xs [] (stands_enters (selector_at spots x) (frames (places_of spots) x.recursion) (All-head (IsStanding spots) x xs h))
+some_stands spots (x ∷ xs) h some = cons-here spots x xs [] (stands-enters (selector_at spots x) (frames (places_of spots) x.recursion) (All-head (IsStanding spots) x xs h))
 
 -- ---- from the root
 
@@ -151,8 +142,18 @@ same-twice A B C s t p = (λ h. (t p).0 ((s p).0 h), λ h. (s p).1 ((t p).1 h))
 
 -- ---- the residual behind a step
 
-module _ (spots : List Spot) (xs ys : List Pair) (t : Step) (places : List Place) (from : places ≡ map (place_of spots) xs) (pairs : All (IsPair spots) xs)
+-- the pairs that were read of a residual are its places
+pub places-read : (spots : List Spot) (held xs : List Pair) (places : List Place) → map (place_of spots) held ≡ places → xs ≡ held → places ≡ map (place_of spots) xs
+places-read spots held xs places seen read = sym seen ∙ ap (map (place_of spots)) (sym read)
+
+module _ (spots : List Spot) (held xs ys : List Pair) (t : Step) (places : List Place) (seen : map (place_of spots) held ≡ places) (read : xs ≡ held) (whole : All (IsPair spots) held)
     (behind : All (IsPair spots) ys) (standing : All (IsStanding spots) ys) (enters : Same (SomeEnter spots ys) (λ p. SomeEnter spots xs (t ∷ p))) where
+  from : places ≡ map (place_of spots) xs
+  from = places-read spots held xs places seen read
+
+  pairs : All (IsPair spots) xs
+  pairs = subst (All (IsPair spots)) (sym read) whole
+
   pub step-below : (p : Path) → (ResidualEnters (map (place_of spots) ys) p → ResidualEnters places (t ∷ p)) × (ResidualEnters places (t ∷ p) → ResidualEnters (map (place_of spots) ys) p)
   step-below p = (
     λ h. subst (λ l. ResidualEnters l (t ∷ p)) (sym from) (some-residual spots xs (t ∷ p) ((enters p).0 (residual-some spots ys p h))),

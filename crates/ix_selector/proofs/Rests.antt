@@ -9,7 +9,7 @@ use Rattle.ix_selector.specs.Residual.{Place}
 use Rattle.ix_selector.specs.Pairs.{Stands}
 use Rattle.ix_selector.specs.Behind.{inside_of, leads, each_leads, before, is_edge, standing, named_lead, leads_behind}
 use Rattle.ix_selector.proofs.Entering.{inner_only}
-use Rattle.ix_selector.proofs.Inside.{loosened}
+use Rattle.ix_selector.proofs.Inside.{guarded-later}
 use Rattle.ix_selector.proofs.Leading.{index_leads, index_nowhere, range_leads, range_nowhere, matcher_nowhere}
 use Rattle.ix_selector.proofs.Adding.{standing-append}
 use Rattle.ix_selector.proofs.Within.{Inner, In, in_all, in_fields, in_index, in_range, in_recursive, in_union, InFields, in_field, later_field, InMembers, in_member, later_member}
@@ -36,18 +36,18 @@ either_iff {A} {B} {C} {D} f g = (
   λ h. ⊎_elim (λ (b : B). inl (f.1 b)) (λ (d : D). inr (g.1 d)) h,
 )
 
-pub lone : {A : Type 0} → ((A ⊎ ⊥) ↔ A)
-lone {A} = (λ h. ⊎_elim (λ (a : A). a) (λ (n : ⊥). absurd n) h, λ a. inl a)
+pub either-never : {A : Type 0} → ((A ⊎ ⊥) ↔ A)
+either-never {A} = (λ h. ⊎_elim (λ (a : A). a) (λ (n : ⊥). absurd n) h, λ a. inl a)
 
-pub grouped : {A B C : Type 0} → ((A ⊎ (B ⊎ C)) ↔ ((A ⊎ B) ⊎ C))
-grouped {A} {B} {C} = (
+pub either-grouped : {A B C : Type 0} → ((A ⊎ (B ⊎ C)) ↔ ((A ⊎ B) ⊎ C))
+either-grouped {A} {B} {C} = (
   λ h. ⊎_elim (λ (a : A). inl (inl a)) (λ (r : B ⊎ C). ⊎_elim (λ (b : B). inl (inr b)) (λ (c : C). inr c) r) h,
   λ h. ⊎_elim (λ (l : A ⊎ B). ⊎_elim (λ (a : A). inl a) (λ (b : B). inr (inl b)) l) (λ (c : C). inr (inr c)) h,
 )
 
 pub enter-append : (xs ys : List Place) (p : Path) → (Enter (xs ++ ys) p ↔ (Enter xs p ⊎ Enter ys p))
 enter-append [] ys p = (λ h. inr h, λ h. ⊎_elim (λ (n : ⊥). absurd n) (λ (y : Enter ys p). y) h)
-enter-append (x ∷ xs) ys p = iff_twice (either_iff iff_same (enter-append xs ys p)) grouped
+enter-append (x ∷ xs) ys p = iff_twice (either_iff iff_same (enter-append xs ys p)) either-grouped
 
 pub enter_by : (xs ys : List Place) (p : Path) → xs ≡ ys → (Enter xs p ↔ Enter ys p)
 enter_by xs ys p same = (λ h. subst (λ l. Enter l p) same h, λ h. subst (λ l. Enter l p) (sym same) h)
@@ -71,16 +71,16 @@ out_union (in_union {s = s} is h) = (s, is, h)
 
 mutual
   pub leads-enter : (s : Pattern) (n : ℕ) (e : List Frame) (q : Option ℕ) (p : Path) → (Enter (leads s n e q) p ↔ Enters s e p)
-  leads-enter matcher n e q p = lone
-  leads-enter (all s) n e q p = lone
-  leads-enter (fields fs) n e q p = lone
-  leads-enter (index i s) n e q p = lone
-  leads-enter (range i j s) n e q p = lone
+  leads-enter matcher n e q p = either-never
+  leads-enter (all s) n e q p = either-never
+  leads-enter (fields fs) n e q p = either-never
+  leads-enter (index i s) n e q p = either-never
+  leads-enter (range i j s) n e q p = either-never
   leads-enter (recursive d s) n e q p =
       let f : Frame = record { sequence = s; depth = d } in
       iff_twice (leads-enter s n (f ∷ []) (Some (n + inside_of s)) p) (λ h. in_recursion (inner_only f [] e h), λ h. inner_only f e [] (out_recursion h))
   leads-enter (union ss) n e q p = iff_twice (each_leads-enter ss n e q p) (λ h. in_union h.1 h.2, λ h. out_union h)
-  leads-enter edge n e q p = lone
+  leads-enter edge n e q p = either-never
 
   each_leads-enter : (ss : Members) (n : ℕ) (e : List Frame) (q : Option ℕ) (p : Path) → (Enter (each_leads ss n e q) p ↔ ((s : Pattern) × IsMember s ss × Enters s e p))
   each_leads-enter no_members n e q p = (λ h. absurd h, λ h. no_member h.1) where
@@ -278,7 +278,7 @@ module _ (whole : Pattern) where
     leads-in (range i j s) m r d up home g = lone_in (range i j s) m r d up home g
     leads-in (recursive limit s) m r d up home g =
         let up_in : Up whole s m (Some (m + inside_of s, s)) = λ t l v h. up t l v (in_recursive h) in
-        leads-in s m (Some (m + inside_of s, s)) limit up_in (m, refl, up_in, g.1) (loosened s g.1)
+        leads-in s m (Some (m + inside_of s, s)) limit up_in (m, refl, up_in, g.1) (guarded-later s g.1)
     leads-in (union ss) m r d up home g = each_leads-in ss m r d (λ t l v h. up t l v (in_union h)) home g
     leads-in edge m r d up home g = lone_in edge m r d up home g
 

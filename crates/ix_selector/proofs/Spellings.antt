@@ -102,8 +102,8 @@ matcher_spelled (entry k d es) s h =
       rest_of other r h = err_no_ok Kind h
 
 -- the same data, and the same selector
-along : (d e : Data) (s t : Pattern) → e ≡ d → s ≡ t → SpellsPattern d s → SpellsPattern e t
-along d e s t e_is s_is h = subst (λ x. SpellsPattern x t) (sym e_is) (subst (λ x. SpellsPattern d x) s_is h)
+SpellsPattern_same : (d e : Data) (s t : Pattern) → e ≡ d → s ≡ t → SpellsPattern d s → SpellsPattern e t
+SpellsPattern_same d e s t e_is s_is h = subst (λ x. SpellsPattern x t) (sym e_is) (subst (λ x. SpellsPattern d x) s_is h)
 
 -- an edge is read from an empty map
 edge_spelled : (around : Around) (es : Entries) (s : Pattern) → edge_form around es ≡ Ok s → SpellsPattern (one_key (codes "@") (map es)) s
@@ -119,7 +119,7 @@ module _ (read : Reader) (spelled : (around : Around) (d : Data) (s : Pattern) �
   all_spelled around es s h =
       let one = bind_ok (one_of (codes ">") es) (λ d. read (behind_step around) d >>= (λ s. Ok (all s))) s h in
       let inner = bind_ok (read (behind_step around) one.0) (λ s. Ok (all s)) s one.2 in
-      along _ _ (all inner.0) s (ap (λ l. one_key (codes "a") (map l)) (is_one (codes ">") es one.0 one.1)) (ok_same (all inner.0) s inner.2)
+      SpellsPattern_same _ _ (all inner.0) s (ap (λ l. one_key (codes "a") (map l)) (is_one (codes ">") es one.0 one.1)) (ok_same (all inner.0) s inner.2)
       (as_all (spelled (behind_step around) one.0 inner.0 inner.1))
 
   index_spelled : (around : Around) (es : Entries) (s : Pattern) → index_form read around es ≡ Ok s → SpellsPattern (one_key (codes "i") (map es)) s
@@ -128,7 +128,7 @@ module _ (read : Reader) (spelled : (around : Around) (d : Data) (s : Pattern) �
       let d = two.0 in
       let at = bind_ok (integer_of d.1) (λ i. read (behind_step around) d.0 >>= (λ s. Ok (index i s))) s two.2 in
       let inner = bind_ok (read (behind_step around) d.0) (λ s. Ok (index at.0 s)) s at.2 in
-      along (one_key (codes "i") (two_keys (codes ">") d.0 (codes "i") (integer at.0))) _ (index at.0 inner.0) s
+      SpellsPattern_same (one_key (codes "i") (two_keys (codes ">") d.0 (codes "i") (integer at.0))) _ (index at.0 inner.0) s
       (ap (λ l. one_key (codes "i") (map l)) (is_two (codes ">") (codes "i") es d two.1) ∙ ap (λ x. one_key (codes "i") (two_keys (codes ">") d.0 (codes "i") x)) (is_integer d.1 at.0 at.1))
       (ok_same (index at.0 inner.0) s inner.2) (as_index (spelled (behind_step around) d.0 inner.0 inner.1))
 
@@ -142,7 +142,7 @@ module _ (read : Reader) (spelled : (around : Around) (d : Data) (s : Pattern) �
       let last = bind_ok (integer_of d.0) (λ end. read (behind_step around) d.1 >>= (λ s. Ok (range first.0 end s))) s first.2 in
       let inner = bind_ok (read (behind_step around) d.1) (λ s. Ok (range first.0 last.0 s)) s last.2 in
       let keys : Data → Data → Data = λ end start. one_key (codes "r") (three_keys (codes "$") end (codes ">") d.1 (codes "^") start) in
-      along (keys (integer last.0) (integer first.0)) _ (range first.0 last.0 inner.0) s
+      SpellsPattern_same (keys (integer last.0) (integer first.0)) _ (range first.0 last.0 inner.0) s
       (ap (λ l. one_key (codes "r") (map l)) (is_three (codes "$") (codes ">") (codes "^") es d three.1)
       ∙ ap (λ x. keys x d.2) (is_integer d.0 last.0 last.1) ∙ ap (keys (integer last.0)) (is_integer d.2 first.0 first.1))
       (ok_same (range first.0 last.0 inner.0) s inner.2) (as_range (spelled (behind_step around) d.1 inner.0 inner.1))
@@ -154,7 +154,7 @@ module _ (read : Reader) (spelled : (around : Around) (d : Data) (s : Pattern) �
       let d = two.0 in
       let limit = bind_ok (limit_of d.0) (λ limit. read unguarded d.1 >>= (λ s. Ok (recursive limit s))) s two.2 in
       let inner = bind_ok (read unguarded d.1) (λ s. Ok (recursive limit.0 s)) s limit.2 in
-      along _ _ (recursive limit.0 inner.0) s (ap (λ l. one_key (codes "R") (map l)) (is_two (codes "l") (codes ":>") es d two.1)) (ok_same (recursive limit.0 inner.0) s inner.2)
+      SpellsPattern_same _ _ (recursive limit.0 inner.0) s (ap (λ l. one_key (codes "R") (map l)) (is_two (codes "l") (codes ":>") es d two.1)) (ok_same (recursive limit.0 inner.0) s inner.2)
       (as_recursive (limit_spelled d.0 limit.0 limit.1) (spelled unguarded d.1 inner.0 inner.1))) h where
         rest : Data × Data → Result Pattern SelFault
         rest d = limit_of d.0 >>= (λ limit. read unguarded d.1 >>= (λ s. Ok (recursive limit s)))
@@ -172,7 +172,7 @@ module _ (read : Reader) (spelled : (around : Around) (d : Data) (s : Pattern) �
       let one = bind_ok (one_of (codes "f>") es) (λ d. entries_of_map d >>= (λ names. fields_read (read (behind_step around)) names >>= (λ fs. Ok (fields fs)))) s h in
       let names = bind_ok (entries_of_map one.0) (λ names. fields_read (read (behind_step around)) names >>= (λ fs. Ok (fields fs))) s one.2 in
       let inner = bind_ok (fields_read (read (behind_step around)) names.0) (λ fs. Ok (fields fs)) s names.2 in
-      along (one_key (codes "f") (one_key (codes "f>") (map names.0))) _ (fields inner.0) s
+      SpellsPattern_same (one_key (codes "f") (one_key (codes "f>") (map names.0))) _ (fields inner.0) s
       (ap (λ l. one_key (codes "f") (map l)) (is_one (codes "f>") es one.0 one.1) ∙ ap (λ x. one_key (codes "f") (one_key (codes "f>") x)) (is_map one.0 names.0 names.1))
       (ok_same (fields inner.0) s inner.2) (as_fields (named_spelled (behind_step around) names.0 inner.0 inner.1))
 

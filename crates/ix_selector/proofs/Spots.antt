@@ -186,14 +186,14 @@ once-push (x ∷ xs) y once free = (λ k h. free-append xs (y ∷ []) k (once.0 
 
 -- ---- growing
 
-pub longer : (xs ys : List Spot) → Grows xs ys → length xs ≤ length ys
-longer xs ys g = let n : length ys ≡ length xs + length g.more = ap length g.grown ∙ length-append xs g.more in omega arith
+pub length-grows : (xs ys : List Spot) → Grows xs ys → length xs ≤ length ys
+length-grows xs ys g = let n : length ys ≡ length xs + length g.more = ap length g.grown ∙ length-append xs g.more in omega arith
 
 pub grows-twice : (xs ys zs : List Spot) → Grows xs ys → Grows ys zs → Grows xs zs
 grows-twice xs ys zs g h = record {
   more = g.more ++ h.more;
   grown = h.grown ∙ ap (λ l. l ++ h.more) g.grown ∙ append_assoc xs g.more h.more;
-  from = from-append (length xs) g.more h.more g.from (from-weaker (length xs) (length ys) h.more (longer xs ys g) h.from);
+  from = from-append (length xs) g.more h.more g.from (from-weaker (length xs) (length ys) h.more (length-grows xs ys g) h.from);
   spots = h.spots;
   once = h.once;
 }

@@ -5,7 +5,7 @@ use Rattle.ix_selector.specs.Pattern.{Pattern, Around, outside, guarded, IsGuard
 use Rattle.ix_selector.specs.Enters.{Step, Path, Frame, Enters}
 use Rattle.ix_selector.specs.IsEntered.{entered_within, is_entered}
 use Rattle.ix_selector.specs.Residual.{Place, IsAmong, here, there, ResidualEnters, residual_enters, IsBehind}
-use Rattle.ix_selector.proofs.Decides.{or_parts, or_left, or_right, within_sound, within_is, complete, edges, FramesGuarded, decides}
+use Rattle.ix_selector.proofs.Decides.{or_parts, or_left, or_right, within_sound, within_is, entered-complete, edges, FramesGuarded, is_entered-decides}
 
 -- what stands round a place
 abbrev pub around_of : List Frame → Around
@@ -30,7 +30,7 @@ residual_sound (x ∷ xs) p h =
 
 among_entered : {x : Place} {xs : List Place} (p : Path) → IsAmong x xs → ArePlaces xs → Enters x.selector x.around p → residual_enters xs p ≡ true
 among_entered p (here {x = x} {xs = xs}) g h =
-    or_left _ _ (within_is (length p + 1) x.selector x.around p ∙ complete (length p + 1) (around_of x.around) h g.0.0 g.0.1 (few_edges x.around p))
+    or_left _ _ (within_is (length p + 1) x.selector x.around p ∙ entered-complete (length p + 1) (around_of x.around) h g.0.0 g.0.1 (few_edges x.around p))
 among_entered p (there a) g h = or_right _ _ (among_entered p a g.1 h)
 
 pub residual_complete : (places : List Place) (p : Path) → ArePlaces places → ResidualEnters places p → residual_enters places p ≡ true
@@ -45,7 +45,7 @@ same_tests false false f g = refl
 -- a residual that enters what a selector does tests as the selector does
 pub start_tested : (places : List Place) (s : Pattern) → ArePlaces places → IsSelector s → ((p : Path) → (ResidualEnters places p ↔ Enters s [] p)) → (p : Path) → residual_enters places p ≡ is_entered s p
 start_tested places s g is same p =
-    same_tests _ _ (λ h. (decides s p is).1 ((same p).0 (residual_sound places p h))) (λ h. residual_complete places p g ((same p).1 ((decides s p is).0 h)))
+    same_tests _ _ (λ h. (is_entered-decides s p is).1 ((same p).0 (residual_sound places p h))) (λ h. residual_complete places p g ((same p).1 ((is_entered-decides s p is).0 h)))
 
 -- the clauses of a step give what the tests say
 pub step_tested_some : (places behind : List Place) (t : Step) → ArePlaces places → ArePlaces behind → ResidualEnters behind [] → ((p : Path) → (ResidualEnters behind p ↔ ResidualEnters places (t ∷ p))) → IsBehind places t (Some behind)

@@ -1,7 +1,7 @@
 use Rattle.std.proofs.Common.{◌≡◌, ◌++◌, ◌∷◌, [], sym, ◌∙◌, ap, subst}
 use Rattle.std.specs.List.{All}
 use Rattle.ix_selector.specs.Pairs.{IsJoined, IsOf, EnterMore, ArePlacesRising, IsUpTo}
-use Rattle.ix_selector.proofs.Merging.{joined-last, pushed, joined-rising, pushed-rising}
+use Rattle.ix_selector.proofs.Merging.{joined-last, push-enters, joined-rising, pushed-rising}
 use Rattle.ix_selector.specs.Merging.{ArePut}
 use Rattle.ix_selector.proofs.PairsMerged.{put-joined, put-behind}
 use Rattle.ix_selector.proofs.merge.push_merged.Goals as goal
@@ -28,7 +28,7 @@ pub returns-in_ok-push-in-None-2-clause-enters : goal.returns-in_ok-push-in-None
 returns-in_ok-push-in-None-2-clause-enters c =
     let was : c.args.merged.now.items ≡ c.pop.new.self.items ++ c.in-Some.last ∷ [] = c.in-Some.ensures.items in
     let now : c.push-in-None-2.new.self.items ≡ c.args.merged.now.items ++ c.args.pair ∷ [] = c.in_ok-push-in-None-2.ensures.ok ∙ ap (λ l. l ++ c.args.pair ∷ []) (c.in_ok-push-in-None.ensures.ok ∙ sym was) in
-    subst (λ l. EnterMore l c.args.merged.now.items c.args.pair) (sym now) (pushed c.args.merged.now.items c.args.pair).0
+    subst (λ l. EnterMore l c.args.merged.now.items c.args.pair) (sym now) (push-enters c.args.merged.now.items c.args.pair).0
 
 pub returns-in_ok-push-in-Some-joined-clause-rising : goal.returns-in_ok-push-in-Some-joined-clause-rising
 returns-in_ok-push-in-Some-joined-clause-rising c =

@@ -7,7 +7,7 @@ use Rattle.ix_selector.specs.Places.{at, places_of}
 use Rattle.ix_selector.specs.Views.{seen_field}
 use Rattle.ix_selector.specs.Grown.{Grows}
 use Rattle.ix_selector.proofs.Views.{pattern_of-fields}
-use Rattle.ix_selector.proofs.Spots.{longer, one-free}
+use Rattle.ix_selector.proofs.Spots.{length-grows, one-free}
 use Rattle.ix_selector.proofs.Putting.{FieldsPut, MembersPut, fields-more, members-more, field-ordered, member-ordered, rising-put, last-put}
 use Rattle.ix_selector.specs.Behind.{inside_of}
 use Rattle.ix_selector.specs.Laid.{AreLaidFrom}
@@ -70,7 +70,7 @@ push_spots-returns-clause-last t c = search rules
 pub push_spots-returns-clause-behind : goal.push_spots-returns-clause-behind
 push_spots-returns-clause-behind t c =
     let number : c.len-number.result ≡ length c.spot_of.new.spots.items = search rules in
-    let more = longer c.args.spots.now.items c.spot_of.new.spots.items c.in_ok-spot.ensures.grows in
+    let more = length-grows c.args.spots.now.items c.spot_of.new.spots.items c.in_ok-spot.ensures.grows in
     omega arith
 
 pub spot_of-returns-in_ok-push_spots-in-All-clause-free : goal.spot_of-returns-in_ok-push_spots-in-All-clause-free
