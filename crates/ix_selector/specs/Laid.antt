@@ -43,15 +43,16 @@ AreRowBehind old new ks = AreRow (places_of new.items) (length old.items) ks (le
 abbrev pub IsNumberBehind : List Spot → Pattern → ℕ → Type 0
 IsNumberBehind spots s n = n ≡ length spots + inside_of s
 
--- each spot names places before it alone, and what is inside it stands right before it
+-- each spot names places before it alone, no two name one place, and what is inside a spot stands right before it
 pub record IsTable (spots : List Spot) : Type 0 where
   pub placed : AreSpots 0 spots
+  pub once : AreNamedOnce spots
   pub laid : AreLaidFrom 0 spots
 
 -- these are the places of a selector, and the last of them is its own
 abbrev pub IsTableOf : List Spot → ℕ → Type 0
 IsTableOf spots root =
-    IsSelector (at (places_of spots) root) × IsTable spots × AreNamedOnce spots × (root + 1 ≡ length spots)
+    IsSelector (at (places_of spots) root) × IsTable spots × (root + 1 ≡ length spots)
     × (root ≡ inside_of (at (places_of spots) root))
 
 -- the last of these places is that of the selector

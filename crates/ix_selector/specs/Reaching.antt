@@ -7,7 +7,7 @@ use Rattle.ix_selector.specs.declared.reached.Reached.{Reached}
 use Rattle.ix_selector.specs.Pattern.{Pattern}
 use Rattle.ix_selector.specs.Enters.{Step, Frame}
 use Rattle.std.specs.List.{All}
-use Rattle.ix_selector.specs.Places.{at, AreNamedOnce}
+use Rattle.ix_selector.specs.Places.{at}
 use Rattle.ix_selector.specs.Laid.{IsTable}
 use Rattle.ix_selector.specs.declared.step.Step.{Step as RustStep}
 use Rattle.ix_selector.specs.Residual.{Place, step_of}
@@ -106,5 +106,4 @@ StandsAtEnd places n t = Stands (at places n) → LeadsNowhere (at places n) t
 -- pairs of these places that stand, no two at one place
 abbrev pub AreLeftIn : List Spot → List Pair → Type 0
 AreLeftIn spots xs =
-    IsTable spots × All (IsPair spots) xs × All (IsStanding spots) xs × AreNamedOnce spots
-    × (length xs ≤ length spots)
+    IsTable spots × All (IsPair spots) xs × All (IsStanding spots) xs × (length xs ≤ length spots)

@@ -2,7 +2,6 @@
 
 ghost use Rattle.std.specs.Prelude.{◌≡◌, IfOk};
 ghost use Rattle.ix_selector.specs.Pattern.{IsSelector};
-ghost use Rattle.ix_selector.specs.Places.{AreNamedOnce};
 ghost use Rattle.ix_selector.specs.Reading.{selector_of};
 ghost use Rattle.ix_selector.specs.Laid.{IsTable, IsRootOf};
 ghost use Rattle.ix_selector.specs.Behind.{inside_of};
@@ -53,7 +52,6 @@ impl Selector {
     /// Its places, and the number of its own.
     pub(crate) fn places(&self) -> (&[Spot], usize)
         ensures table { IsTable result.0.now }
-        ensures once { AreNamedOnce result.0.now }
         ensures whole { result.1 ≡ inside_of self.now }
         ensures root { IsRootOf result.0.now self.now result.1 }
         ensures selector { IsSelector self.now }

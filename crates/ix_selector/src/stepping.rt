@@ -1,7 +1,7 @@
 //! Steps from the places of a selector to those behind them.
 
 ghost use Rattle.std.specs.Prelude.{◌<◌, ◌≤◌, length, IfOk, OnOk, IfSome, IfNone};
-ghost use Rattle.ix_selector.specs.Places.{places_of, AreNamedOnce, AreRising};
+ghost use Rattle.ix_selector.specs.Places.{places_of, AreRising};
 ghost use Rattle.ix_selector.specs.Standing.{IsBeside};
 ghost use Rattle.ix_selector.specs.Named.{HasName, HasNoName};
 ghost use Rattle.ix_selector.specs.Pairs.{IsPair, IsStanding, AreStandingPairs, AreReached};
@@ -79,7 +79,6 @@ fn step_from(
 // The places that stand, where the sequences that edges enter again are reached too.
 fn entered_again(alloc: Global, spots: &[Spot], reached: Reached) -> Result<Pairs, AllocError>
     requires table { IsTable spots.now }
-    requires once { AreNamedOnce spots.now }
     requires reached { AreReached spots.now reached }
     ensures pairs { IfOk result (λ r. AreStandingPairs spots.now r.items) }
     ensures few { IfOk result (λ r. length r.items ≤ length spots.now) }
@@ -106,7 +105,6 @@ pub(crate) fn stepped(
     step: &Step,
 ) -> Result<Pairs, AllocError>
     requires table { IsTable spots.now }
-    requires once { AreNamedOnce spots.now }
     requires pairs { AreStandingPairs spots.now pairs.now }
     ensures pairs { IfOk result (λ r. AreStandingPairs spots.now r.items) }
     ensures few { IfOk result (λ r. length r.items ≤ length spots.now) }

@@ -7,7 +7,7 @@ pub reach-requires-clause-pair : goal.reach-requires-clause-pair
 reach-requires-clause-pair c = root-pair c.places-place.result.0.now c.places-place.result.1 c.args.selector.now c.places-place.ensures.table.placed c.places-place.ensures.root.0 c.places-place.ensures.root.1 c.places-place.ensures.selector
 
 pub merged-requires : goal.merged-requires
-merged-requires c = record { agree = pairs-agree c.places-place.result.0.now c.reach.new.reached.standing.items c.places-place.ensures.once c.in_ok-reach.ensures.reached.pairs }
+merged-requires c = record { agree = pairs-agree c.places-place.result.0.now c.reach.new.reached.standing.items c.places-place.ensures.table.once c.in_ok-reach.ensures.reached.pairs }
 
 pub invariant_of-result : goal.invariant_of-result
 invariant_of-result c =
@@ -15,7 +15,7 @@ invariant_of-result c =
     let reached = c.in_ok-reach.ensures.reached in
     let among = c.in_ok-pairs.ensures.among in
     let pairs = pairs-of spots c.reach.new.reached.standing.items c.in_ok-pairs.pairs.items among reached.pairs in
-    (c.places-place.ensures.table, pairs, standing-of spots c.reach.new.reached.standing.items c.in_ok-pairs.pairs.items among reached.standing, c.places-place.ensures.once, few-pairs spots c.in_ok-pairs.pairs.items c.in_ok-pairs.ensures.rising pairs)
+    (c.places-place.ensures.table, pairs, standing-of spots c.reach.new.reached.standing.items c.in_ok-pairs.pairs.items among reached.standing, few-pairs spots c.in_ok-pairs.pairs.items c.in_ok-pairs.ensures.rising pairs)
 
 pub returns-clause-entered : goal.returns-clause-entered
 returns-clause-entered c =
