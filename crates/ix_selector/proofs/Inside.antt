@@ -14,8 +14,8 @@ use Rattle.ix_selector.specs.Pattern.{Pattern, Fields as FieldPatterns, Members,
 use Rattle.ix_selector.specs.Enters.{Path, Frame, IsMember, head, tail, Enters, in_union, in_recursion, at_edge, at_edge_within}
 use Rattle.ix_selector.specs.Places.{at, places_of, seen, AreBelow, IsSpot, AreSpots, IsNumber}
 use Rattle.ix_selector.specs.Standing.{IsBeside, StandsIn, in_own, in_same}
-use Rattle.ix_selector.specs.Reaching.{members_at, at_start, entered_again}
-use Rattle.ix_selector.specs.Pairs.{frames, selector_at, EntersAt, SomeEnter, around, IsSequence, sequence_of, IsPair, Stands, IsStanding, HasNoEdge, AreReached, ReachedEnters, Same, Joins}
+use Rattle.ix_selector.specs.Reaching.{AreReached, members_at, at_start, entered_again}
+use Rattle.ix_selector.specs.Pairs.{frames, selector_at, EntersAt, SomeEnter, around, IsSequence, sequence_of, IsPair, Stands, IsStanding, HasNoEdge, ReachedEnters, Same, Joins}
 use Rattle.ix_selector.proofs.Spots.{place-seen, spot-at}
 use Rattle.ix_selector.proofs.Standing.{own-start}
 use Rattle.ix_selector.proofs.Entering.{inner_only, edge-inside, edge-inside_within, edge-nowhere}
@@ -220,6 +220,7 @@ module _ (spots : List Spot) (table : AreSpots 0 spots) (x : Pair) (is_pair : Is
   pub edge-reached : AreReached spots new
   edge-reached =
       let more = edge_pairs spots x.place x.recursion is_pair.sequence is_pair.stands in record {
+        table = were.table;
         pairs = subst (λ l. All (IsPair spots) l.items) (sym standing) were.pairs;
         standing = subst (λ l. All (IsStanding spots) l.items) (sym standing) were.standing;
         again = subst (All (IsPair spots)) (sym again) (All-append (IsPair spots) old.again.items (entered_again x.recursion) were.again more.0);
@@ -242,6 +243,7 @@ module _ (spots : List Spot) (x : Pair) (is_pair : IsPair spots x) (stands : IsS
     (more : new.standing.items ≡ old.standing.items ++ x ∷ []) (again : new.again ≡ old.again) where
   pub standing-reached : AreReached spots new
   standing-reached = record {
+    table = were.table;
     pairs = subst (All (IsPair spots)) (sym more) (All-push (IsPair spots) old.standing.items x were.pairs is_pair);
     standing = subst (All (IsStanding spots)) (sym more) (All-push (IsStanding spots) old.standing.items x were.standing stands);
     again = subst (λ l. All (IsPair spots) l.items) (sym again) were.again;

@@ -9,7 +9,8 @@ use Rattle.ix_selector.specs.declared.spot.Spot.{Spot}
 use Rattle.ix_selector.specs.declared.pair.Pair.{Pair}
 use Rattle.ix_selector.specs.declared.reached.Reached.{Reached}
 use Rattle.ix_selector.specs.Enters.{Path}
-use Rattle.ix_selector.specs.Pairs.{EntersAt, SomeEnter, ReachedEnters, AreReached, HasNoEdge, Same, Joins}
+use Rattle.ix_selector.specs.Reaching.{AreReached}
+use Rattle.ix_selector.specs.Pairs.{EntersAt, SomeEnter, ReachedEnters, HasNoEdge, Same, Joins}
 
 -- none of no pairs enters
 pub none-enter : (spots : List Spot) (p : Path) → SomeEnter spots [] p → ⊥

@@ -16,7 +16,8 @@ use Rattle.ix_selector.specs.Residual.{Place, IsAmong, here, there, ResidualEnte
 use Rattle.ix_selector.specs.Places.{at, places_of, AreSpots}
 use Rattle.ix_selector.specs.Standing.{in_none}
 use Rattle.ix_selector.proofs.Spots.{last-free}
-use Rattle.ix_selector.specs.Pairs.{frames, place_of, selector_at, EntersAt, SomeEnter, around, IsSequence, IsPair, IsStanding, HasNoEdge, AreReached, ReachedEnters, Same, Joins, EnterSame, IsOf}
+use Rattle.ix_selector.specs.Reaching.{AreReached}
+use Rattle.ix_selector.specs.Pairs.{frames, place_of, selector_at, EntersAt, SomeEnter, around, IsSequence, IsPair, IsStanding, HasNoEdge, ReachedEnters, Same, Joins, EnterSame, IsOf}
 use Rattle.ix_selector.proofs.Decides.{FramesGuarded}
 use Rattle.ix_selector.proofs.Entering.{stands-enters}
 use Rattle.ix_selector.proofs.Tested.{around_of, ArePlaces, start_tested, step_tested_some, step_tested_none}

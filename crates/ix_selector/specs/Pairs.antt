@@ -138,13 +138,6 @@ pub record NoEdge (s : Pattern) : Type 0 where
 abbrev pub HasNoEdge : List Spot → Pair → Type 0
 HasNoEdge spots x = NoEdge (selector_at spots x)
 
--- what was reached are pairs: those that stand, and sequences that edges enter again
-pub record AreReached (spots : List Spot) (r : Reached) : Type 0 where
-  pub pairs : All (IsPair spots) r.standing.items
-  pub standing : All (IsStanding spots) r.standing.items
-  pub again : All (IsPair spots) r.again.items
-  pub sequences : All (HasNoEdge spots) r.again.items
-
 -- one of those that were reached enters the path
 abbrev pub ReachedEnters : List Spot → Reached → Path → Type 0
 ReachedEnters spots r p = SomeEnter spots r.standing.items p ⊎ SomeEnter spots r.again.items p

@@ -28,6 +28,14 @@ abbrev pub entered_again : Option Recursion → List Pair
 entered_again None = []
 entered_again (Some r) = at_start (lowered r)
 
+-- what was reached are pairs of a table: those that stand, and sequences that edges enter again
+pub record AreReached (spots : List Spot) (r : Reached) : Type 0 where
+  pub table : IsTable spots
+  pub pairs : All (IsPair spots) r.standing.items
+  pub standing : All (IsStanding spots) r.standing.items
+  pub again : All (IsPair spots) r.again.items
+  pub sequences : All (HasNoEdge spots) r.again.items
+
 -- to what was reached are added the places that stand among these, and the sequences that their edges enter again
 abbrev pub Adds : List Spot → Reached → Reached → List Place → Type 0
 Adds spots old new found =

@@ -2,9 +2,8 @@
 
 ghost use Rattle.std.specs.Prelude.{◌≡◌, [], OnOk};
 ghost use Rattle.ix_selector.specs.Places.{AreBelow};
-ghost use Rattle.ix_selector.specs.Pairs.{IsPair, AreReached};
-ghost use Rattle.ix_selector.specs.Reaching.{members_at, EntersPair, EntersEach, AddsPair, AddsEach, PairKeeps, MembersKeep, EntersAgain};
-ghost use Rattle.ix_selector.specs.Laid.{IsTable};
+ghost use Rattle.ix_selector.specs.Pairs.{IsPair};
+ghost use Rattle.ix_selector.specs.Reaching.{members_at, AreReached, EntersPair, EntersEach, AddsPair, AddsEach, PairKeeps, MembersKeep, EntersAgain};
 ghost use Rattle.std.specs.List.{All};
 
 use crate::pair::{Pair, Pairs, Recursion};
@@ -35,7 +34,6 @@ impl Reached {
 /// that its edges enter again.
 #[cycle(reach)]
 pub(crate) fn reach(spots: &[Spot], pair: Pair, reached: &mut Reached) -> Result<(), AllocError>
-    requires table { IsTable spots.now }
     requires pair { IsPair spots.now pair }
     requires reached { AreReached spots.now reached.old }
     ensures reached { OnOk result (AreReached spots.now reached.new) }
@@ -66,7 +64,6 @@ fn reach_each(
     pair: Pair,
     reached: &mut Reached,
 ) -> Result<(), AllocError>
-    requires table { IsTable spots.now }
     requires members { AreBelow pair.place members.now }
     requires pairs { All (IsPair spots.now) (members_at pair members.now) }
     requires reached { AreReached spots.now reached.old }

@@ -4,8 +4,8 @@ ghost use Rattle.std.specs.Prelude.{◌<◌, ◌≤◌, length, IfOk, OnOk, IfSo
 ghost use Rattle.ix_selector.specs.Places.{places_of, AreRising};
 ghost use Rattle.ix_selector.specs.Standing.{IsBeside};
 ghost use Rattle.ix_selector.specs.Named.{HasName, HasNoName};
-ghost use Rattle.ix_selector.specs.Pairs.{IsPair, IsStanding, AreStandingPairs, AreReached};
-ghost use Rattle.ix_selector.specs.Reaching.{EntersStep, AddsStep, EnterAsReached, EnterBehind, AreLeft, AreLeftBehind, LeadsBeside, StandsAtEnd, LeadsAs, LeadsToNone};
+ghost use Rattle.ix_selector.specs.Pairs.{IsPair, IsStanding, AreStandingPairs};
+ghost use Rattle.ix_selector.specs.Reaching.{AreReached, EntersStep, AddsStep, EnterAsReached, EnterBehind, AreLeft, AreLeftBehind, LeadsBeside, StandsAtEnd, LeadsAs, LeadsToNone};
 ghost use Rattle.ix_selector.specs.Laid.{IsTable};
 ghost use Rattle.ix_selector.specs.Residual.{step_of};
 
@@ -60,7 +60,6 @@ fn step_from(
     step: &Step,
     reached: &mut Reached,
 ) -> Result<(), AllocError>
-    requires table { IsTable spots.now }
     requires pair { IsPair spots.now pair × IsStanding spots.now pair }
     requires reached { AreReached spots.now reached.old }
     ensures reached { OnOk result (AreReached spots.now reached.new) }
@@ -78,7 +77,6 @@ fn step_from(
 
 // The places that stand, where the sequences that edges enter again are reached too.
 fn entered_again(alloc: Global, spots: &[Spot], reached: Reached) -> Result<Pairs, AllocError>
-    requires table { IsTable spots.now }
     requires reached { AreReached spots.now reached }
     ensures pairs { IfOk result (λ r. AreStandingPairs spots.now r.items) }
     ensures few { IfOk result (λ r. length r.items ≤ length spots.now) }

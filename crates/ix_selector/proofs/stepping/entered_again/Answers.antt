@@ -38,10 +38,10 @@ returns-clause-enters c =
     c.merged-2.ensures.enters
 
 pub merged-requires : goal.merged-requires
-merged-requires c = record { agree = pairs-agree c.args.spots.now c.args.reached.again.items c.requires.table.once c.requires.reached.again }
+merged-requires c = record { agree = pairs-agree c.args.spots.now c.args.reached.again.items c.requires.reached.table.once c.requires.reached.again }
 
 pub merged-requires-2 : goal.merged-requires-2
-merged-requires-2 c = record { agree = pairs-agree c.args.spots.now c.loop-pair.reached.standing.items c.requires.table.once c.loop-pair.invariant.0.reached.pairs }
+merged-requires-2 c = record { agree = pairs-agree c.args.spots.now c.loop-pair.reached.standing.items c.requires.reached.table.once c.loop-pair.invariant.0.reached.pairs }
 
 pub returns-clause-few : goal.returns-clause-few
 returns-clause-few c =
