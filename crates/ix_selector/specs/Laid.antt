@@ -5,6 +5,7 @@ use Rattle.ix_selector.specs.declared.spot.Spot.{Spot}
 use Rattle.ix_selector.specs.declared.spot.Spot.TheVariants.{Matcher, All, Fields, Index, Range, Recursive, Union, Edge}
 use Rattle.ix_selector.specs.Pattern.{Pattern, IsSelector}
 use Rattle.ix_selector.specs.Places.{at, places_of, AreSpots, AreNamedOnce}
+use Rattle.ix_selector.specs.Grown.{Grows}
 use Rattle.ix_selector.specs.Behind.{inside_of}
 
 abbrev pub number_of : Vec ℕ × ℕ → ℕ
@@ -34,6 +35,10 @@ pub record IsLaid (places : List Pattern) (n : ℕ) (x : Spot) : Type 0 where
 -- so it is at each place from m on
 pub record AreLaidFrom (m : ℕ) (spots : List Spot) : Type 0 where
   pub laid : (n : ℕ) (x : Spot) → m ≤ n → n < length spots → x ≡ get_or spots n x → IsLaid (places_of spots) n x
+
+-- spots were put behind those that were there, and what is inside each of them stands right before it
+abbrev pub GrowsInOrder : List Spot → List Spot → Type 0
+GrowsInOrder old new = Grows old new × AreLaidFrom (length old) new
 
 -- the selectors at these places, and all that is inside them, are the places that were put behind those that were there
 abbrev pub AreRowBehind : Vec Spot → Vec Spot → List ℕ → Type 0

@@ -5,8 +5,7 @@ ghost use Rattle.ix_selector.specs.Pattern.{pattern_of};
 ghost use Rattle.ix_selector.specs.Ordered.{IsOrdered, AreOrdered, EachOrdered};
 ghost use Rattle.ix_selector.specs.Views.{seen_fields, seen_members};
 ghost use Rattle.ix_selector.specs.Places.{AreOwnSpots, IsAtPlace, IsSpotOf, AreFieldsAt, AreMembersAt, AreFreeBehind, IsNumber, HasNumber, Names};
-ghost use Rattle.ix_selector.specs.Grown.{Grows};
-ghost use Rattle.ix_selector.specs.Laid.{number_of, numbers_of, IsNumberBehind, AreRowBehind, AreLaidFrom};
+ghost use Rattle.ix_selector.specs.Laid.{number_of, numbers_of, GrowsInOrder, IsNumberBehind, AreRowBehind};
 
 use crate::sel::Sel;
 use std::alloc::{AllocError, Global};
@@ -35,12 +34,11 @@ pub(crate) fn push_spots(
 ) -> Result<usize, AllocError>
     requires ordered { IsOrdered (pattern_of sel.now) }
     requires spots { AreOwnSpots spots.old.items }
-    ensures grows { IfOk result (λ _. Grows spots.old.items spots.new.items) }
+    ensures grows { IfOk result (λ _. GrowsInOrder spots.old.items spots.new.items) }
     ensures place { IfOk result (IsAtPlace spots.new.items (pattern_of sel.now)) }
     ensures last { IfOk result (λ n. n + 1 ≡ length spots.new.items) }
     ensures behind { IfOk result (λ n. length spots.old.items ≤ n) }
     ensures number { IfOk result (IsNumberBehind spots.old.items (pattern_of sel.now)) }
-    ensures laid { IfOk result (λ _. AreLaidFrom (length spots.old.items) spots.new.items) }
 {
     let spot = spot_of(alloc, sel, spots)?;
     let number = spots.len();
@@ -53,11 +51,10 @@ pub(crate) fn push_spots(
 fn spot_of(alloc: Global, sel: &Sel, spots: &mut Vec<Spot>) -> Result<Spot, AllocError>
     requires ordered { IsOrdered (pattern_of sel.now) }
     requires spots { AreOwnSpots spots.old.items }
-    ensures grows { IfOk result (λ _. Grows spots.old.items spots.new.items) }
+    ensures grows { IfOk result (λ _. GrowsInOrder spots.old.items spots.new.items) }
     ensures spot { IfOk result (IsSpotOf spots.new.items (pattern_of sel.now)) }
     ensures free { IfOk result (λ x. AreFreeBehind spots.old spots.new (Names x)) }
     ensures row { IfOk result (λ x. AreRowBehind spots.old spots.new (numbers_of x)) }
-    ensures laid { IfOk result (λ _. AreLaidFrom (length spots.old.items) spots.new.items) }
 {
     match sel {
         Sel::Matcher => Ok(Spot::Matcher),
@@ -84,11 +81,10 @@ fn push_fields(
 ) -> Result<Vec<(Vec<u8>, usize)>, AllocError>
     requires ordered { AreOrdered (seen_fields fields.now) }
     requires spots { AreOwnSpots spots.old.items }
-    ensures grows { IfOk result (λ _. Grows spots.old.items spots.new.items) }
+    ensures grows { IfOk result (λ _. GrowsInOrder spots.old.items spots.new.items) }
     ensures named { IfOk result (λ r. AreFieldsAt spots.new.items fields.now r.items) }
     ensures free { IfOk result (λ r. AreFreeBehind spots.old spots.new (HasNumber r.items)) }
     ensures row { IfOk result (λ r. AreRowBehind spots.old spots.new (map number_of r.items)) }
-    ensures laid { IfOk result (λ _. AreLaidFrom (length spots.old.items) spots.new.items) }
 {
     let mut names = Vec::new(alloc);
     for (name, sel) in fields {
@@ -107,11 +103,10 @@ fn push_members(
 ) -> Result<Vec<usize>, AllocError>
     requires ordered { EachOrdered (seen_members members.now) }
     requires spots { AreOwnSpots spots.old.items }
-    ensures grows { IfOk result (λ _. Grows spots.old.items spots.new.items) }
+    ensures grows { IfOk result (λ _. GrowsInOrder spots.old.items spots.new.items) }
     ensures members { IfOk result (λ r. AreMembersAt spots.new.items members.now r.items) }
     ensures free { IfOk result (λ r. AreFreeBehind spots.old spots.new (IsNumber r.items)) }
     ensures row { IfOk result (λ r. AreRowBehind spots.old spots.new r.items) }
-    ensures laid { IfOk result (λ _. AreLaidFrom (length spots.old.items) spots.new.items) }
 {
     let mut numbers = Vec::new(alloc);
     for sel in members {

@@ -5,12 +5,11 @@ use Rattle.ix_selector.specs.Pattern.{pattern_of, fields, fields_of}
 use Rattle.ix_selector.specs.Ordered.{IsOrdered, AreOrdered}
 use Rattle.ix_selector.specs.Places.{at, places_of}
 use Rattle.ix_selector.specs.Views.{seen_field}
-use Rattle.ix_selector.specs.Grown.{Grows}
 use Rattle.ix_selector.proofs.Views.{pattern_of-fields}
 use Rattle.ix_selector.proofs.Spots.{length-grows, one-free}
 use Rattle.ix_selector.proofs.Putting.{FieldsPut, MembersPut, fields-more, members-more, field-ordered, member-ordered, rising-put, last-put}
 use Rattle.ix_selector.specs.Behind.{inside_of}
-use Rattle.ix_selector.specs.Laid.{AreLaidFrom}
+use Rattle.ix_selector.specs.Laid.{GrowsInOrder}
 use Rattle.ix_selector.proofs.Laid.{row-inside, laid-last}
 use Rattle.ix_selector.proofs.spot.+spots.Goals as goal
 
@@ -24,7 +23,7 @@ push_fields-loop-name-preserved t c =
     let there : at (places_of c.push_spots.new.spots.items) c.in_ok-number.number ≡ pattern_of c.loop-name-item.result.1 = search rules in
     subst (λ l. FieldsPut c.args.spots.now.items c.push_spots.new.spots.items l (take (c.loop-name.name-index + 1) c.args.fields.now)) (sym c.in_ok-push.ensures.items)
     (fields-more c.args.spots.now.items c.loop-name.spots.items c.push_spots.new.spots.items c.loop-name.names.items c.args.fields.now c.loop-name.name-index c.loop-name-item.result c.in_ok-from_slice.field-0 c.in_ok-number.number
-    c.loop-name-test.true c.loop-name-item.is same c.loop-name.invariant c.in_ok-number.ensures.grows c.in_ok-number.ensures.place.0 c.in_ok-number.ensures.behind c.in_ok-number.ensures.last there c.in_ok-number.ensures.number c.in_ok-number.ensures.laid)
+    c.loop-name-test.true c.loop-name-item.is same c.loop-name.invariant c.in_ok-number.ensures.grows.0 c.in_ok-number.ensures.place.0 c.in_ok-number.ensures.behind c.in_ok-number.ensures.last there c.in_ok-number.ensures.number c.in_ok-number.ensures.grows.1)
 
 pub push_fields-returns-clause-named : goal.push_fields-returns-clause-named
 push_fields-returns-clause-named t c =
@@ -39,16 +38,17 @@ pub push_members-loop-sel-preserved : goal.push_members-loop-sel-preserved
 push_members-loop-sel-preserved t c =
     subst (λ l. MembersPut c.args.spots.now.items c.push_spots.new.spots.items l (take (c.loop-sel.sel-index + 1) c.args.members.now)) (sym c.in_ok-push.ensures.items)
     (members-more c.args.spots.now.items c.loop-sel.spots.items c.push_spots.new.spots.items c.loop-sel.numbers.items c.args.members.now c.loop-sel.sel-index c.sel-item.result c.in_ok-push_spots.field-0
-    c.loop-sel-test.true c.sel-item.is c.loop-sel.invariant c.in_ok-push_spots.ensures.grows c.in_ok-push_spots.ensures.place.0 c.in_ok-push_spots.ensures.behind c.in_ok-push_spots.ensures.last c.in_ok-push_spots.ensures.place.1 c.in_ok-push_spots.ensures.number c.in_ok-push_spots.ensures.laid)
+    c.loop-sel-test.true c.sel-item.is c.loop-sel.invariant c.in_ok-push_spots.ensures.grows.0 c.in_ok-push_spots.ensures.place.0 c.in_ok-push_spots.ensures.behind c.in_ok-push_spots.ensures.last c.in_ok-push_spots.ensures.place.1 c.in_ok-push_spots.ensures.number c.in_ok-push_spots.ensures.grows.1)
 
 pub push_spots-returns-clause-grows : goal.push_spots-returns-clause-grows
 push_spots-returns-clause-grows t c =
-    let put = last-put c.args.spots.now.items c.spot_of.new.spots.items c.in_ok-spot.spot (pattern_of c.args.sel.now) c.in_ok-spot.ensures.grows c.in_ok-spot.ensures.spot.0 c.in_ok-spot.ensures.free c.in_ok-spot.ensures.spot.1 in
-    subst (Grows c.args.spots.now.items) (sym c.in_ok-push.ensures.items) put.0
+    let put = last-put c.args.spots.now.items c.spot_of.new.spots.items c.in_ok-spot.spot (pattern_of c.args.sel.now) c.in_ok-spot.ensures.grows.0 c.in_ok-spot.ensures.spot.0 c.in_ok-spot.ensures.free c.in_ok-spot.ensures.spot.1 in
+    subst (GrowsInOrder c.args.spots.now.items) (sym c.in_ok-push.ensures.items)
+    (put.0, laid-last (length c.args.spots.now.items) c.spot_of.new.spots.items c.in_ok-spot.spot c.in_ok-spot.ensures.grows.1 c.in_ok-spot.ensures.row)
 
 pub push_spots-returns-clause-place : goal.push_spots-returns-clause-place
 push_spots-returns-clause-place t c =
-    let put = last-put c.args.spots.now.items c.spot_of.new.spots.items c.in_ok-spot.spot (pattern_of c.args.sel.now) c.in_ok-spot.ensures.grows c.in_ok-spot.ensures.spot.0 c.in_ok-spot.ensures.free c.in_ok-spot.ensures.spot.1 in
+    let put = last-put c.args.spots.now.items c.spot_of.new.spots.items c.in_ok-spot.spot (pattern_of c.args.sel.now) c.in_ok-spot.ensures.grows.0 c.in_ok-spot.ensures.spot.0 c.in_ok-spot.ensures.free c.in_ok-spot.ensures.spot.1 in
     let number : c.len-number.result ≡ length c.spot_of.new.spots.items = search rules in
     subst (λ l. (c.len-number.result < length l) × (at (places_of l) c.len-number.result ≡ pattern_of c.args.sel.now)) (sym c.in_ok-push.ensures.items)
     (subst (λ n. (n < length (c.spot_of.new.spots.items ++ c.in_ok-spot.spot ∷ [])) × (at (places_of (c.spot_of.new.spots.items ++ c.in_ok-spot.spot ∷ [])) n ≡ pattern_of c.args.sel.now)) (sym number) (put.1, put.2))
@@ -70,24 +70,24 @@ push_spots-returns-clause-last t c = search rules
 pub push_spots-returns-clause-behind : goal.push_spots-returns-clause-behind
 push_spots-returns-clause-behind t c =
     let number : c.len-number.result ≡ length c.spot_of.new.spots.items = search rules in
-    let more = length-grows c.args.spots.now.items c.spot_of.new.spots.items c.in_ok-spot.ensures.grows in
+    let more = length-grows c.args.spots.now.items c.spot_of.new.spots.items c.in_ok-spot.ensures.grows.0 in
     omega arith
 
 pub spot_of-returns-in_ok-push_spots-in-All-clause-free : goal.spot_of-returns-in_ok-push_spots-in-All-clause-free
 spot_of-returns-in_ok-push_spots-in-All-clause-free t c =
-    one-free c.args.spots.now.items c.push_spots.new.spots.items c.in_ok-push_spots-in-All.field-0 c.in_ok-push_spots-in-All.ensures.behind c.in_ok-push_spots-in-All.ensures.last c.in_ok-push_spots-in-All.ensures.grows.spots
+    one-free c.args.spots.now.items c.push_spots.new.spots.items c.in_ok-push_spots-in-All.field-0 c.in_ok-push_spots-in-All.ensures.behind c.in_ok-push_spots-in-All.ensures.last c.in_ok-push_spots-in-All.ensures.grows.0.spots
 
 pub spot_of-returns-in_ok-push_spots-in-Index-clause-free : goal.spot_of-returns-in_ok-push_spots-in-Index-clause-free
 spot_of-returns-in_ok-push_spots-in-Index-clause-free t c =
-    one-free c.args.spots.now.items c.push_spots-in-Index.new.spots.items c.in_ok-push_spots-in-Index.field-0 c.in_ok-push_spots-in-Index.ensures.behind c.in_ok-push_spots-in-Index.ensures.last c.in_ok-push_spots-in-Index.ensures.grows.spots
+    one-free c.args.spots.now.items c.push_spots-in-Index.new.spots.items c.in_ok-push_spots-in-Index.field-0 c.in_ok-push_spots-in-Index.ensures.behind c.in_ok-push_spots-in-Index.ensures.last c.in_ok-push_spots-in-Index.ensures.grows.0.spots
 
 pub spot_of-returns-in_ok-push_spots-in-Range-clause-free : goal.spot_of-returns-in_ok-push_spots-in-Range-clause-free
 spot_of-returns-in_ok-push_spots-in-Range-clause-free t c =
-    one-free c.args.spots.now.items c.push_spots-in-Range.new.spots.items c.in_ok-push_spots-in-Range.field-0 c.in_ok-push_spots-in-Range.ensures.behind c.in_ok-push_spots-in-Range.ensures.last c.in_ok-push_spots-in-Range.ensures.grows.spots
+    one-free c.args.spots.now.items c.push_spots-in-Range.new.spots.items c.in_ok-push_spots-in-Range.field-0 c.in_ok-push_spots-in-Range.ensures.behind c.in_ok-push_spots-in-Range.ensures.last c.in_ok-push_spots-in-Range.ensures.grows.0.spots
 
 pub spot_of-returns-in_ok-push_spots-in-Recursive-clause-free : goal.spot_of-returns-in_ok-push_spots-in-Recursive-clause-free
 spot_of-returns-in_ok-push_spots-in-Recursive-clause-free t c =
-    one-free c.args.spots.now.items c.push_spots-in-Recursive.new.spots.items c.in_ok-push_spots-in-Recursive.field-0 c.in_ok-push_spots-in-Recursive.ensures.behind c.in_ok-push_spots-in-Recursive.ensures.last c.in_ok-push_spots-in-Recursive.ensures.grows.spots
+    one-free c.args.spots.now.items c.push_spots-in-Recursive.new.spots.items c.in_ok-push_spots-in-Recursive.field-0 c.in_ok-push_spots-in-Recursive.ensures.behind c.in_ok-push_spots-in-Recursive.ensures.last c.in_ok-push_spots-in-Recursive.ensures.grows.0.spots
 
 pub spot_of-push_spots-requires : goal.spot_of-push_spots-requires
 spot_of-push_spots-requires t c = search (rules, the_lemmas)
@@ -131,8 +131,3 @@ push_spots-returns-clause-number t c =
     number
     ∙ sym (row-inside (places_of c.spot_of.new.spots.items) (length c.args.spots.now.items) c.in_ok-spot.spot (length c.spot_of.new.spots.items) c.in_ok-spot.ensures.row)
     ∙ ap (λ s. length c.args.spots.now.items + inside_of s) c.in_ok-spot.ensures.spot.1
-
-pub push_spots-returns-clause-laid : goal.push_spots-returns-clause-laid
-push_spots-returns-clause-laid t c =
-    subst (AreLaidFrom (length c.args.spots.now.items)) (sym c.in_ok-push.ensures.items)
-    (laid-last (length c.args.spots.now.items) c.spot_of.new.spots.items c.in_ok-spot.spot c.in_ok-spot.ensures.laid c.in_ok-spot.ensures.row)

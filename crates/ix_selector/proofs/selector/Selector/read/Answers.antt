@@ -17,7 +17,7 @@ pub invariant_of-result : goal.invariant_of-result
 invariant_of-result c =
     let none : length c.new-spots.result.items ≡ 0 = search rules in
     let is = reads_selector (data_of c.root.result.now) (pattern_of c.in_ok-sel.sel) c.in_ok-sel.ensures in
-    (subst IsSelector (sym c.in_ok-root.ensures.place.1) is, record { placed = c.in_ok-root.ensures.grows.spots; once = c.in_ok-root.ensures.grows.once; laid = subst (λ m. AreLaidFrom m c.push_spots.new.spots.items) none c.in_ok-root.ensures.laid }, c.in_ok-root.ensures.last, c.in_ok-root.ensures.number ∙ (λ i. none i + inside_of (sym c.in_ok-root.ensures.place.1 i)) ∙ (let whole : 0 + inside_of (at (places_of c.push_spots.new.spots.items) c.in_ok-root.root) ≡ inside_of (at (places_of c.push_spots.new.spots.items) c.in_ok-root.root) = omega arith in whole))
+    (subst IsSelector (sym c.in_ok-root.ensures.place.1) is, record { placed = c.in_ok-root.ensures.grows.0.spots; once = c.in_ok-root.ensures.grows.0.once; laid = subst (λ m. AreLaidFrom m c.push_spots.new.spots.items) none c.in_ok-root.ensures.grows.1 }, c.in_ok-root.ensures.last, c.in_ok-root.ensures.number ∙ (λ i. none i + inside_of (sym c.in_ok-root.ensures.place.1 i)) ∙ (let whole : 0 + inside_of (at (places_of c.push_spots.new.spots.items) c.in_ok-root.root) ≡ inside_of (at (places_of c.push_spots.new.spots.items) c.in_ok-root.root) = omega arith in whole))
 
 pub returns-clause-selector : goal.returns-clause-selector
 returns-clause-selector c =
