@@ -1,10 +1,10 @@
 -- The CID at the front of a list is a CID by itself.
-use Rattle.std.proofs.Common.{◌≡◌, ℕ, ◌-◌, ◌≤◌, true, false, cond, eqb, List, [], ◌∷◌, ◌++◌, length, take, drop, Result, Ok, Err, bytes_eq, sym, ap, subst, ◌∙◌, ⊎_elim, arith, length-append}
+use Rattle.std.proofs.Common.{◌≡◌, ℕ, ◌-◌, ◌≤◌, Bool, true, false, cond, eqb, List, [], ◌∷◌, ◌++◌, length, take, drop, Result, Ok, Err, bytes_eq, sym, ap, subst, ◌∙◌, ⊎_elim, arith, length-append}
 use Rattle.std.proofs.lemmas.List.{append-nil, take_at, take_all, take-append-le}
 use Rattle.ix_cid.specs.Cid.{◌>>=◌, number_at, bytes_at, Parts, version_0_at, version_1_at, numbered_at, parts_at, begins_version_0, IsCid}
 use Rattle.ix_cid.specs.declared.fault.CidFault.{CidFault}
 use Rattle.ix_cid.specs.declared.fault.CidFault.TheVariants.{Version}
-use Rattle.ix_cid.proofs.Fronts.{chosen, ReadsFront, ReadsFront-bind, ReadsFront-done, ReadsFront-guard, ReadsFront-fewer, bytes_at-reads, number_at-reads}
+use Rattle.ix_cid.proofs.Fronts.{chosen, Again, ReadsFront, ReadsFront-bind, ReadsFront-done, ReadsFront-guard, ReadsFront-fewer, bytes_at-reads, number_at-reads}
 
 -- behind the length of the digest
 abbrev digest_behind : ℕ → ℕ → ℕ → List ℕ → Result (Parts × List ℕ) CidFault
@@ -53,33 +53,26 @@ begins_version_0-front : (front rest more : List ℕ) → 2 ≤ length front →
 begins_version_0-front front rest more long =
     ap (λ l. bytes_eq l (0x12 ∷ 0x20 ∷ [])) (take-append-le 2 front more long ∙ sym (take-append-le 2 front rest long))
 
+-- what is read by the form with which the bytes begin is read again, which looks at two bytes at least
+begun-reads : (zero : Bool) (bytes : List ℕ) (x : Parts) (rest : List ℕ) → begins_version_0 bytes ≡ zero → Again 2 (λ l. cond zero (version_0_at l) (numbered_at l)) bytes x rest → Again 2 parts_at bytes x rest
+begun-reads zero bytes x rest begins a = record {
+  front = a.front;
+  least = a.least;
+  whole = a.whole;
+  again = λ more.
+      let all = a.front ++ more in
+      let test : begins_version_0 all ≡ zero = begins_version_0-front a.front rest more a.least ∙ ap begins_version_0 (sym a.whole) ∙ begins in
+      ap (λ t. cond t (version_0_at all) (numbered_at all)) test ∙ a.again more;
+}
+
 -- a CID
 pub parts_at-reads : ReadsFront 2 parts_at
 parts_at-reads bytes x rest h =
     let s = chosen (begins_version_0 bytes) (version_0_at bytes) (numbered_at bytes) (Ok (x, rest)) h in
-    ⊎_elim (λ zero.
-    let a = version_0_at-reads bytes x rest zero.1 in
-    let long : 2 ≤ length a.front = omega (arith, a.least) in
-    record {
-      front = a.front;
-      least = long;
-      whole = a.whole;
-      again = λ more.
-          let all = a.front ++ more in
-          let test : begins_version_0 all ≡ true = begins_version_0-front a.front rest more long ∙ ap begins_version_0 (sym a.whole) ∙ zero.0 in
-          ap (λ t. cond t (version_0_at all) (numbered_at all)) test ∙ a.again more;
-    }) (λ other.
-    let a = numbered_at-reads bytes x rest other.1 in
-    let long : 2 ≤ length a.front = omega (arith, a.least) in
-    record {
-      front = a.front;
-      least = long;
-      whole = a.whole;
-      again = λ more.
-          let all = a.front ++ more in
-          let test : begins_version_0 all ≡ false = begins_version_0-front a.front rest more long ∙ ap begins_version_0 (sym a.whole) ∙ other.0 in
-          ap (λ t. cond t (version_0_at all) (numbered_at all)) test ∙ a.again more;
-    }) s
+    ⊎_elim
+    (λ zero. begun-reads true bytes x rest zero.0 (ReadsFront-fewer 2 34 version_0_at (omega arith) version_0_at-reads bytes x rest zero.1))
+    (λ other. begun-reads false bytes x rest other.0 (ReadsFront-fewer 2 4 numbered_at (omega arith) numbered_at-reads bytes x rest other.1))
+    s
 
 -- what is left is a rest of the bytes
 pub rest_within : {A : Type 0} (n : ℕ) (read : List ℕ → Result (A × List ℕ) CidFault) → ReadsFront n read → (bytes : List ℕ) (x : A) (rest : List ℕ) → read bytes ≡ Ok (x, rest) → length rest ≤ length bytes
