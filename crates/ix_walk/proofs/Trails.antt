@@ -1,9 +1,10 @@
 -- A stack of open lists and maps, gone on with.
 use Rattle.std.proofs.Common.{◌≡◌, ℕ, ◌+◌, ◌-◌, ◌<◌, true, List, [], ◌∷◌, ◌++◌, length, take, get_or, reverse, refl, sym, ◌∙◌, ap, subst, append_assoc, arith}
-use Rattle.std.specs.Prelude.{Some, None, option_map, nat_lt}
+use Rattle.std.specs.Prelude.{Option, Some, None, option_map, nat_lt}
 use Rattle.std.proofs.lemmas.Bool.Decides.{nat_tests}
 use Rattle.std.proofs.lemmas.List.{take_more, take_all}
 use Rattle.ix_walk.specs.declared.subtree.Children.{Children}
+use Rattle.ix_walk.specs.declared.subtree.Entered.{Entered}
 use Rattle.ix_walk.specs.declared.subtree.Entered.TheVariants.{Link, Open}
 use Rattle.ix_walk.specs.declared.subtree.Opened.{Opened}
 use Rattle.ix_walk.specs.declared.subtree.Trail.{Trail}
@@ -124,21 +125,24 @@ step_spent old new o rest next then items left spent at_is = record {
 }
 
 -- one of which nothing more comes
-pub step_none : (old new : Trail) (o : Opened) (c : Children) (now : List ℕ) (rest : List Opened) → old.next ≡ None → new.next ≡ None → old.stack.items ≡ rest ++ o ∷ [] → new.stack.items ≡ rest
-    → IsNext o.residual o.depth o.children old.at None c now → new.at ≡ goes_on o.back now → Steps old new
-step_none old new o c now rest next then items left is at_is = record {
+pub step_none : (old new : Trail) (o n : Opened) (found : Option Entered) (now : List ℕ) (rest : List Opened) → old.next ≡ None → new.next ≡ None → old.stack.items ≡ rest ++ o ∷ [] → new.stack.items ≡ rest
+    → found ≡ None → IsNext o.residual o.depth o.children old.at found n.children now → n ≡ with_children o n.children → new.at ≡ goes_on n.back now → Steps old new
+step_none old new o n found now rest next then items left none is same at_is = record {
   next = then;
   on = λ ss e.
-      let g = gone_none o c old.at now (reverse rest) ss is (above old o rest ss next items e) in (g.0, below new rest (goes_on o.back now) g.0 then left at_is g.1, g.2, g.3);
+      let here : IsNext o.residual o.depth o.children old.at None n.children now = subst (λ f. IsNext o.residual o.depth o.children old.at f n.children now) none is in
+      let back : new.at ≡ goes_on o.back now = at_is ∙ ap (λ (m : Opened). goes_on m.back now) same in
+      let g = gone_none o n.children old.at now (reverse rest) ss here (above old o rest ss next items e) in (g.0, below new rest (goes_on o.back now) g.0 then left back g.1, g.2, g.3);
 }
 
 -- one in which another was entered
-pub step_open : (old new : Trail) (o n p : Opened) (rest : List Opened) → old.next ≡ None → new.next ≡ None → old.stack.items ≡ rest ++ o ∷ [] → new.stack.items ≡ (rest ++ n ∷ []) ++ p ∷ []
-    → IsNext o.residual o.depth o.children old.at (Some (Open p)) n.children new.at → n ≡ with_children o n.children → Steps old new
-step_open old new o n p rest next then items pushed is same = record {
+pub step_open : (old new : Trail) (o n p : Opened) (found : Option Entered) (rest : List Opened) → old.next ≡ None → new.next ≡ None → old.stack.items ≡ rest ++ o ∷ [] → new.stack.items ≡ (rest ++ n ∷ []) ++ p ∷ []
+    → found ≡ Some (Open p) → IsNext o.residual o.depth o.children old.at found n.children new.at → n ≡ with_children o n.children → Steps old new
+step_open old new o n p found rest next then items pushed opens is same = record {
   next = then;
   on = λ ss e.
-      let g = gone_open o p n.children old.at new.at (reverse rest) ss is (above old o rest ss next items e) in
+      let here : IsNext o.residual o.depth o.children old.at (Some (Open p)) n.children new.at = subst (λ f. IsNext o.residual o.depth o.children old.at f n.children new.at) opens is in
+      let g = gone_open o p n.children old.at new.at (reverse rest) ss here (above old o rest ss next items e) in
       let stack : reverse new.stack.items ≡ p ∷ with_children o n.children ∷ reverse rest =
       reversed_push new.stack.items (rest ++ n ∷ []) p pushed ∙ ap (λ os. p ∷ os) (reversed_push (rest ++ n ∷ []) rest n refl ∙ ap (λ x. x ∷ reverse rest) same) in
       (g.0, trail_without new then ∙ ap (stands new.at) stack ∙ g.1, g.2, g.3);

@@ -1,9 +1,8 @@
 use Rattle.std.proofs.Common.{List, [], ◌∷◌, ◌++◌, refl, ◌∙◌, ap, subst}
-use Rattle.std.specs.Prelude.{Some, None}
-use Rattle.ix_walk.specs.declared.subtree.Entered.TheVariants.{Link, Open}
+use Rattle.std.specs.Prelude.{Some}
+use Rattle.ix_walk.specs.declared.subtree.Entered.TheVariants.{Link}
 use Rattle.ix_walk.specs.declared.subtree.Opened.{Opened}
 use Rattle.ix_walk.specs.declared.subtree.Trail.{Trail}
-use Rattle.ix_store.specs.Ahead.{goes_on}
 use Rattle.ix_walk.specs.Descent.{IsNext}
 use Rattle.ix_walk.proofs.Trails.{steps_kept, steps_lighter, step_none, step_open, link_found}
 use Rattle.ix_walk.proofs.descent.next_below.Goals as goal
@@ -23,69 +22,59 @@ loop-opened-preserved-in-Continue-branch-6 c =
     let o = c.in-Some.opened in
     let n = c.next_child.new.opened in
     let new : Trail = record { at = c.next_child.new.at; next = c.loop-opened.trail.next; stack = c.push-in-Some-Open-2.new.self } in
-    let is : IsNext o.residual o.depth o.children c.loop-opened.trail.at (Some (Open c.in-Some-Open.inner)) n.children c.next_child.new.at =
-    subst (λ e. IsNext o.residual o.depth o.children c.loop-opened.trail.at e n.children c.next_child.new.at) (c.in-Some-Open.is ∙ ap (λ x. Some x) c.in-Some-Open.field-0-is) c.in_ok-found.ensures.next in
     let next = c.loop-opened.invariant.next in
     steps_kept c.args.trail.now c.loop-opened.trail new c.loop-opened.invariant
-    (step_open c.loop-opened.trail new o n c.in-Some-Open.inner c.pop.new.self.items next next c.in-Some.ensures.items
-    (c.in_ok-push-in-Some-Open-2.ensures.items ∙ ap (λ (l : List Opened). l ++ c.in-Some-Open.inner ∷ []) c.in_ok-push-in-Some-Open.ensures.items) is c.in_ok-found.ensures.same)
+    (step_open c.loop-opened.trail new o n c.in-Some-Open.inner _ c.pop.new.self.items next next c.in-Some.ensures.items
+    (c.in_ok-push-in-Some-Open-2.ensures.items ∙ ap (λ (l : List Opened). l ++ c.in-Some-Open.inner ∷ []) c.in_ok-push-in-Some-Open.ensures.items)
+    (c.in-Some-Open.is ∙ ap (λ x. Some x) c.in-Some-Open.field-0-is) c.in_ok-found.ensures.next c.in_ok-found.ensures.same)
 
 pub loop-opened-smaller-in-Continue-branch-6 : goal.loop-opened-smaller-in-Continue-branch-6
 loop-opened-smaller-in-Continue-branch-6 c =
     let o = c.in-Some.opened in
     let n = c.next_child.new.opened in
     let new : Trail = record { at = c.next_child.new.at; next = c.loop-opened.trail.next; stack = c.push-in-Some-Open-2.new.self } in
-    let is : IsNext o.residual o.depth o.children c.loop-opened.trail.at (Some (Open c.in-Some-Open.inner)) n.children c.next_child.new.at =
-    subst (λ e. IsNext o.residual o.depth o.children c.loop-opened.trail.at e n.children c.next_child.new.at) (c.in-Some-Open.is ∙ ap (λ x. Some x) c.in-Some-Open.field-0-is) c.in_ok-found.ensures.next in
     let next = c.loop-opened.invariant.next in
     steps_lighter c.args.trail.now c.loop-opened.trail new c.requires.standing c.loop-opened.invariant
-    (step_open c.loop-opened.trail new o n c.in-Some-Open.inner c.pop.new.self.items next next c.in-Some.ensures.items
-    (c.in_ok-push-in-Some-Open-2.ensures.items ∙ ap (λ (l : List Opened). l ++ c.in-Some-Open.inner ∷ []) c.in_ok-push-in-Some-Open.ensures.items) is c.in_ok-found.ensures.same)
+    (step_open c.loop-opened.trail new o n c.in-Some-Open.inner _ c.pop.new.self.items next next c.in-Some.ensures.items
+    (c.in_ok-push-in-Some-Open-2.ensures.items ∙ ap (λ (l : List Opened). l ++ c.in-Some-Open.inner ∷ []) c.in_ok-push-in-Some-Open.ensures.items)
+    (c.in-Some-Open.is ∙ ap (λ x. Some x) c.in-Some-Open.field-0-is) c.in_ok-found.ensures.next c.in_ok-found.ensures.same)
 
 pub loop-opened-preserved-in-None : goal.loop-opened-preserved-in-None
 loop-opened-preserved-in-None c =
     let o = c.in-Some.opened in
     let n = c.next_child.new.opened in
     let new : Trail = record { at = c.go_on.new.self; next = c.loop-opened.trail.next; stack = c.pop.new.self } in
-    let is : IsNext o.residual o.depth o.children c.loop-opened.trail.at None n.children c.next_child.new.at =
-    subst (λ e. IsNext o.residual o.depth o.children c.loop-opened.trail.at e n.children c.next_child.new.at) c.in-None.is c.in_ok-found.ensures.next in
     let next = c.loop-opened.invariant.next in
     steps_kept c.args.trail.now c.loop-opened.trail new c.loop-opened.invariant
-    (step_none c.loop-opened.trail new o n.children c.next_child.new.at c.pop.new.self.items next next c.in-Some.ensures.items refl is
-    (c.go_on.ensures ∙ ap (λ (m : Opened). goes_on m.back c.next_child.new.at) c.in_ok-found.ensures.same))
+    (step_none c.loop-opened.trail new o n _ c.next_child.new.at c.pop.new.self.items next next c.in-Some.ensures.items refl c.in-None.is c.in_ok-found.ensures.next
+    c.in_ok-found.ensures.same c.go_on.ensures)
 
 pub loop-opened-smaller-in-None : goal.loop-opened-smaller-in-None
 loop-opened-smaller-in-None c =
     let o = c.in-Some.opened in
     let n = c.next_child.new.opened in
     let new : Trail = record { at = c.go_on.new.self; next = c.loop-opened.trail.next; stack = c.pop.new.self } in
-    let is : IsNext o.residual o.depth o.children c.loop-opened.trail.at None n.children c.next_child.new.at =
-    subst (λ e. IsNext o.residual o.depth o.children c.loop-opened.trail.at e n.children c.next_child.new.at) c.in-None.is c.in_ok-found.ensures.next in
     let next = c.loop-opened.invariant.next in
     steps_lighter c.args.trail.now c.loop-opened.trail new c.requires.standing c.loop-opened.invariant
-    (step_none c.loop-opened.trail new o n.children c.next_child.new.at c.pop.new.self.items next next c.in-Some.ensures.items refl is
-    (c.go_on.ensures ∙ ap (λ (m : Opened). goes_on m.back c.next_child.new.at) c.in_ok-found.ensures.same))
+    (step_none c.loop-opened.trail new o n _ c.next_child.new.at c.pop.new.self.items next next c.in-Some.ensures.items refl c.in-None.is c.in_ok-found.ensures.next
+    c.in_ok-found.ensures.same c.go_on.ensures)
 
 pub loop-opened-preserved : goal.loop-opened-preserved
 loop-opened-preserved c =
     let o = c.in-Some.opened in
     let n = c.next_child.new.opened in
     let new : Trail = record { at = c.go_on.new.self; next = c.loop-opened.trail.next; stack = c.pop.new.self } in
-    let is : IsNext o.residual o.depth o.children c.loop-opened.trail.at None n.children c.next_child.new.at =
-    subst (λ e. IsNext o.residual o.depth o.children c.loop-opened.trail.at e n.children c.next_child.new.at) c.in-None.is c.in_ok-found.ensures.next in
     let next = c.loop-opened.invariant.next in
     steps_kept c.args.trail.now c.loop-opened.trail new c.loop-opened.invariant
-    (step_none c.loop-opened.trail new o n.children c.next_child.new.at c.pop.new.self.items next next c.in-Some.ensures.items refl is
-    (c.go_on.ensures ∙ ap (λ (m : Opened). goes_on m.back c.next_child.new.at) c.in_ok-found.ensures.same))
+    (step_none c.loop-opened.trail new o n _ c.next_child.new.at c.pop.new.self.items next next c.in-Some.ensures.items refl c.in-None.is c.in_ok-found.ensures.next
+    c.in_ok-found.ensures.same c.go_on.ensures)
 
 pub loop-opened-smaller : goal.loop-opened-smaller
 loop-opened-smaller c =
     let o = c.in-Some.opened in
     let n = c.next_child.new.opened in
     let new : Trail = record { at = c.go_on.new.self; next = c.loop-opened.trail.next; stack = c.pop.new.self } in
-    let is : IsNext o.residual o.depth o.children c.loop-opened.trail.at None n.children c.next_child.new.at =
-    subst (λ e. IsNext o.residual o.depth o.children c.loop-opened.trail.at e n.children c.next_child.new.at) c.in-None.is c.in_ok-found.ensures.next in
     let next = c.loop-opened.invariant.next in
     steps_lighter c.args.trail.now c.loop-opened.trail new c.requires.standing c.loop-opened.invariant
-    (step_none c.loop-opened.trail new o n.children c.next_child.new.at c.pop.new.self.items next next c.in-Some.ensures.items refl is
-    (c.go_on.ensures ∙ ap (λ (m : Opened). goes_on m.back c.next_child.new.at) c.in_ok-found.ensures.same))
+    (step_none c.loop-opened.trail new o n _ c.next_child.new.at c.pop.new.self.items next next c.in-Some.ensures.items refl c.in-None.is c.in_ok-found.ensures.next
+    c.in_ok-found.ensures.same c.go_on.ensures)
