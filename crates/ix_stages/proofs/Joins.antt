@@ -1,9 +1,9 @@
 -- Seats are joined: the rule of the queue is kept, and tells what they took.
-use Rattle.std.proofs.Common.{◌≡◌, ◌≢◌, ℕ, ◌+◌, ◌-◌, ◌<◌, ◌≤◌, ◌⊎◌, true, false, true≢false, List, [], ◌∷◌, ◌++◌, length, set, sym, refl, ap, ◌∙◌, subst, inr, ⊎_elim, arith, append-nil, append_assoc, Some}
+use Rattle.std.proofs.Common.{◌≡◌, ◌≢◌, ℕ, ◌+◌, ◌<◌, ◌≤◌, ◌⊎◌, false, List, [], ◌∷◌, ◌++◌, length, set, sym, ap, ◌∙◌, subst, inr, ⊎_elim, arith, append-nil, append_assoc, Some}
 use Rattle.std.proofs.Math.ListN.{length-set}
-use Rattle.std.proofs.lemmas.List.Elements.{All-nil, All-append}
+use Rattle.std.proofs.lemmas.List.Elements.{All-append}
 use Rattle.std.specs.Prelude.{All}
-use mathlib.Core.Option.{some, some-ne-none}
+use mathlib.Core.Option.{some}
 use lib.ListN.{get_elem?}
 use Rattle.crossbeam_queue.specs.Fifo.{Merges, Learns}
 use Rattle.crossbeam_queue.proofs.Lists.{at_set, at_snoc}
@@ -19,24 +19,12 @@ use Rattle.ix_stages.specs.QueueState.{Fits, Running, IsQueueState}
 use Rattle.ix_stages.specs.Totals.{total}
 use Rattle.ix_stages.proofs.Totals.{total_set, part_le, only, each_set}
 use Rattle.ix_stages.proofs.Numbers.{weigh-append, concat-snoc}
-use Rattle.ix_stages.proofs.Running.{runs, none_some}
+use Rattle.ix_stages.proofs.Running.{runs, none_some, spent_fits}
 
 -- a seat that may be joined: it took in no other
 pub record IsPlain (u : PassView) : Type 0 where
   pub live : u.blank ≡ false
   pub lists : (u.puts ≡ []) × (u.takens ≡ [])
-
-spent_fits : (c : List JobVisits) (n : ℕ) (head left : ℕ → ℕ) (count port : ℕ) → Fits c n head left count port spent
-spent_fits c n head left count port = record {
-  named = refl;
-  course_is = λ z. absurd (omega (arith, z));
-  idle = λ _. (refl, refl);
-  seat = λ j e. absurd (none_some j e);
-  maker = λ m. absurd (true≢false (sym m));
-  rises = λ j. omega arith;
-  joined = λ j k t e. absurd (some-ne-none t (sym e));
-  took = All-nil (Allowed c);
-}
 
 module _ (port : ℕ) (v : PassView) (other : ℕ) (u : PassView) (live : v.blank ≡ false) (part : 0 < v.parts) (plain : IsPlain u) (items : List Item) (views : List PassView) (r : Running items views) (at : get_elem? views port ≡ some v) (apart : ¬ (other ≡ port)) (at' : get_elem? (set views port (after_join v u)) other ≡ some u) where
   join_was : get_elem? views other ≡ some u

@@ -17,23 +17,11 @@ use Rattle.ix_stages.specs.PassViews.{blank, spent, root, after_seat, job_pass, 
 use Rattle.ix_stages.specs.QueueState.{Fits, Running, IsQueueState}
 use Rattle.ix_stages.specs.Totals.{total}
 use Rattle.ix_stages.proofs.Totals.{total_set, total_snoc, each_set, each_snoc}
-use Rattle.ix_stages.proofs.Running.{runs, none_some}
+use Rattle.ix_stages.proofs.Running.{runs, none_some, spent_fits}
 
 -- before anything was put or made, the course gets its name
 pub begins : IsQueueState [] (blank ∷ [])
 begins = inl (refl, refl)
-
-quiet : (c : List JobVisits) (n : ℕ) (count : ℕ) → Fits c n (λ _. 0) (λ _. 0) count 1 spent
-quiet c n count = record {
-  named = refl;
-  course_is = λ z. absurd (omega (arith, z));
-  idle = λ _. (refl, refl);
-  seat = λ j e. absurd (none_some j e);
-  maker = λ m. absurd (true≢false (sym m));
-  rises = λ j. omega arith;
-  joined = λ j k t e. absurd (some-ne-none t (sym e));
-  took = All-nil (Allowed c);
-}
 
 root_fits : (c : List JobVisits) (n : ℕ) → Fits c n (λ _. 0) (λ _. 0) 2 0 (root c n)
 root_fits c n = record {
@@ -49,7 +37,7 @@ root_fits c n = record {
 
 named_at : (c : List JobVisits) (n : ℕ) (p : ℕ) (u : PassView) → get_elem? (root c n ∷ spent ∷ []) p ≡ some u → Fits c n (λ _. 0) (λ _. 0) 2 p u
 named_at c n zero u e = subst (λ (w : PassView). Fits c n (λ _. 0) (λ _. 0) 2 0 w) (some-injective (root c n) u e) (root_fits c n)
-named_at c n (suc zero) u e = subst (λ (w : PassView). Fits c n (λ _. 0) (λ _. 0) 2 1 w) (some-injective spent u e) (quiet c n 2)
+named_at c n (suc zero) u e = subst (λ (w : PassView). Fits c n (λ _. 0) (λ _. 0) 2 1 w) (some-injective spent u e) (spent_fits c n (λ _. 0) (λ _. 0) 2 1)
 named_at c n (suc (suc p)) u e = absurd (some-ne-none u (sym e))
 
 named_runs : (c : List JobVisits) (n : ℕ) → Running [] (root c n ∷ spent ∷ [])

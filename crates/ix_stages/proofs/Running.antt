@@ -1,11 +1,14 @@
 -- A queue that runs, and small facts of its views.
-use Rattle.std.proofs.Common.{◌≡◌, ℕ, zero, suc, Bool, false, true≢false, cond, List, sym, ap, ◌∙◌, inl, inr, Some, None}
+use Rattle.std.proofs.Common.{◌≡◌, ℕ, zero, suc, Bool, false, true≢false, cond, List, refl, sym, ap, ◌∙◌, inl, inr, Some, None, arith}
+use Rattle.std.proofs.lemmas.List.Elements.{All-nil}
 use mathlib.Core.Option.{some, some-ne-none, some-injective}
 use lib.ListN.{get_elem?}
+use Rattle.ix_stages.specs.declared.course.JobVisits.{JobVisits}
 use Rattle.ix_stages.specs.declared.item.Item.{Item}
 use Rattle.ix_stages.specs.declared.pass_view.PassView.{PassView}
-use Rattle.ix_stages.specs.PassViews.{blank}
-use Rattle.ix_stages.specs.QueueState.{Running, IsQueueState}
+use Rattle.ix_stages.specs.Course.{Allowed}
+use Rattle.ix_stages.specs.PassViews.{blank, spent}
+use Rattle.ix_stages.specs.QueueState.{Fits, Running, IsQueueState}
 
 -- a pass that isn't blank shows that the queue runs
 pub runs : (items : List Item) (views : List PassView) (port : ℕ) (v : PassView) → IsQueueState items views → get_elem? views port ≡ some v → v.blank ≡ false → Running items views
@@ -20,3 +23,16 @@ one_if b = cond b 1 0
 -- no job is none
 pub none_some : (j : ℕ) → None ≡ Some j → ⊥
 none_some j e = cc
+
+-- a pass that was joined, or that has nothing yet, fits whatever was put
+pub spent_fits : (c : List JobVisits) (n : ℕ) (head left : ℕ → ℕ) (count port : ℕ) → Fits c n head left count port spent
+spent_fits c n head left count port = record {
+  named = refl;
+  course_is = λ z. absurd (omega (arith, z));
+  idle = λ _. (refl, refl);
+  seat = λ j e. absurd (none_some j e);
+  maker = λ m. absurd (true≢false (sym m));
+  rises = λ j. omega arith;
+  joined = λ j k t e. absurd (some-ne-none t (sym e));
+  took = All-nil (Allowed c);
+}

@@ -1,7 +1,7 @@
 //! The rule of claims, which holds between any two steps: what the word, the slots and what the seats
 //! know have to do with one another.
 
-ghost use Rattle.std.specs.Prelude.{◌≡◌, ◌+◌, [], ◌∷◌, ◌++◌};
+ghost use Rattle.std.specs.Prelude.{◌≡◌, ◌+◌, [], ◌++◌};
 ghost use Rattle.ix_stages.specs.ClaimRule.{claimer, spent, one_less, one_seat, IsClaimed, Draws, Looks};
 
 use atomic_table::{Join, Play, Split, Table, TableRule};

@@ -17,6 +17,7 @@ use crate::seats::{JobSeat, StopSeat, TakeSeat};
 use crossbeam_queue::Pass;
 use std::alloc::{AllocError, Global};
 use std::marker::Brand;
+use std::snapshot::Snapshot;
 
 /// A queue with all its seats.
 #[derive(Drop)]
@@ -31,13 +32,13 @@ pub struct QueueParts {
 fn name_course<N: Naming, K: Course>(
     line: &Line,
     pass: &mut Pass<Item, PassView>,
-    _course: &K,
-    _seats: u64,
+    course: Snapshot<K>,
+    seats: Snapshot<u64>,
 )
     requires pass { IsPassOf line.now pass.old × (view pass.old ≡ blank) }
-    requires name { (N.course ≡ K.plan _course.now) × (N.seats ≡ _seats) }
+    requires name { (N.course ≡ K.plan course.value) × (N.seats ≡ seats.value) }
     ensures same { IsSamePass pass.old pass.new }
-    ensures named { view pass.new ≡ maker_pass (K.plan _course.now) _seats 0 }
+    ensures named { view pass.new ≡ maker_pass (K.plan course.value) seats.value 0 }
 {
     line.another::<Names<N>>(pass);
 }
@@ -131,7 +132,7 @@ impl VisitQueue {
     {
         let (line, mut pass) = Line::ruled(alloc, capacity as usize)?;
         let seats = u64::from(jobs) + u64::from(takers) + 1;
-        name_course::<Brand, K>(&line, &mut pass, course, seats);
+        name_course::<Brand, K>(&line, &mut pass, Snapshot::of(course), Snapshot::of(&seats));
         let jobs_made = job_seats(&line, &mut pass, alloc, jobs)?;
         let takers_made = take_seats(&line, &mut pass, alloc, jobs, takers)?;
         Ok(QueueParts {
