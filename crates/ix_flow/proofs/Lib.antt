@@ -6,3 +6,4 @@ pub mod Starts
 pub mod Joins
 pub mod Closings
 pub mod Makes
+pub mod JobsKnown

@@ -14,7 +14,7 @@ use Rattle.ix_archive.specs.Verified.{judged, judged_visits}
 use Rattle.ix_archive.specs.Faithful.{IsFaithful}
 use Rattle.ix_archive.specs.Archived.{IsArchived}
 use Rattle.ix_pipeline.specs.Progress.{pairs_of, IsExported, Exports}
-use Rattle.ix_pipeline.specs.Headline.{EachDelivered, EachArchived, EachFresh, Fact, Keeps, EachKept, IsCheckedOnce, NoneIsStart, AllWalked, IsWalkedAt, visit_count}
+use Rattle.ix_pipeline.specs.Headline.{EachDelivered, EachArchived, EachFresh, Fact, Keeps, EachKept, IsCheckedOnce, NoneIsStart, visit_count}
 use Rattle.ix_pipeline.proofs.Pairs.{pairs_over, cases_cons, none_in, has_got, in_pairs, has_pair, once_over, over_push}
 
 -- what is delivered of visits has the job's number, and a number among them

@@ -1,4 +1,3 @@
-use Rattle.std.proofs.Common.{◌≡◌}
 use Rattle.ix_flow.specs.Stopping.{IsSeatOf}
 use Rattle.ix_flow.proofs.collecting.stop_idle.Given as goal
 

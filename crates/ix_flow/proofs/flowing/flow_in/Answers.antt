@@ -1,4 +1,4 @@
-use Rattle.std.proofs.Common.{rules, ◌≡◌, ℕ, List, [], Contains, sym, subst}
+use Rattle.std.proofs.Common.{rules, ◌≡◌, List, [], sym, subst}
 use Rattle.ix_archive.specs.Headline.{IsEachOnce, checked_by}
 use Rattle.ix_collect.proofs.Members.{none_in}
 use Rattle.ix_flow.specs.Flowing.{AreOfVisits}

@@ -12,7 +12,6 @@ use Rattle.ix_stages.specs.Verified.{IsVerified}
 use Rattle.ix_archive.specs.Headline.{checked_by}
 use Rattle.ix_flow.specs.declared.verifying.Verifier.{Verifier}
 use Rattle.ix_flow.specs.declared.verifying.Began.{Began}
-use Rattle.ix_flow.specs.declared.joining.Joined.{Joined}
 use Rattle.ix_flow.specs.Joined.{AreJoined}
 use Rattle.ix_flow.specs.Verifiers.{IsBegan, EachBack}
 use Rattle.ix_flow.proofs.Ends.{back_push}

@@ -1,4 +1,6 @@
 use Rattle.std.proofs.Common.{rules, ◌≡◌, ◌≤◌, List, All, length, map, vec_len, ap, sym, subst, refl, ◌∙◌, arith}
+use Rattle.std.proofs.lemmas.List.Elements.{All-weaker}
+use Rattle.ix_walk.specs.JobMeaning.{IsJob}
 use Rattle.ix_stages.specs.Course.{course_of}
 use Rattle.ix_stages.specs.Claims.{SeatMeaning}
 use Rattle.ix_stages.specs.Queue.{table_of}
@@ -37,7 +39,7 @@ returns-clause-prepared g c =
       each = ap (λ (l : List JobView). map (λ s. s.job) l) c.in_ok-claims.ensures.claims.0 ∙ seats_each store jobs t _ _ same c.len-count.result c.in_ok-parts.parts.jobs.items many c.in_ok-parts.ensures.jobs;
       claimers = subst (λ (l : List (SeatMeaning JobView)). All (λ s. s.of ≡ claims) l) (sym c.in_ok-claims.ensures.seats) (all_same (λ (s : SeatMeaning JobView). s.of ≡ claims) _ c.args.plan.walkers refl);
       caller = record {
-        limits = subst (λ l. All (λ job. job.limit ≤ 1000000) l) c.deref.ensures.value c.see_limits.ensures;
+        limits = All-weaker IsJob (λ job. job.limit ≤ 1000000) (λ job is. is.bounded) jobs (subst (All IsJob) c.deref.ensures.value c.each_is_job.ensures);
         stop = (search rules, search rules);
         join = c.in_ok-joined.ensures;
         ends = (c.in_ok-with_capacity.ensures.items, (let a = many in let b = c.in_ok-with_capacity.ensures.capacity in omega (arith, a, b)));
