@@ -28,17 +28,8 @@ pub fn name_complete_outputs<R: AllocGlobal + Eprint + Files>(
     ensures refused { IfErr result (λ failure. IsOutputFailure folder.now jobs.now failure) }
 {
     let mut told = Ok(());
-    let mut results = results.iter();
-    let mut outputs = outputs.iter();
-    for job in jobs {
-        let outcome = results.next();
-        let output = outputs.next();
-        if let (Some(outcome), Some(output)) = (outcome, output) {
-            let named = name_or_leave(rt, folder, job, outcome, output, sync);
-            if told.is_ok() {
-                told = named;
-            }
-        }
+    for ((job, outcome), output) in jobs.iter().zip(results).zip(outputs) {
+        told = told.and(name_or_leave(rt, folder, job, outcome, output, sync));
     }
     told
 }

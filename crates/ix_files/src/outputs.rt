@@ -146,16 +146,9 @@ pub fn name_outputs<R: Files + AllocGlobal>(
     ensures refused { IfErr result (λ failure. IsOutputFailure folder.now jobs.now failure) }
 {
     let mut told = Ok(());
-    let mut ends = ends.iter();
-    let mut outputs = outputs.iter();
-    for job in jobs {
-        let end = ends.next();
-        let output = outputs.next();
-        if let (Some(End::Done | End::Limit), Some(output)) = (end, output) {
-            let named = name_job(rt, folder, job, output, sync);
-            if told.is_ok() {
-                told = named;
-            }
+    for ((job, end), output) in jobs.iter().zip(ends).zip(outputs) {
+        if matches!(end, End::Done | End::Limit) {
+            told = told.and(name_job(rt, folder, job, output, sync));
         }
     }
     told
