@@ -1,6 +1,6 @@
 -- A job file has no more than 1,000 jobs.
 use Rattle.std.proofs.Common.{◌≡◌, ℕ, ◌+◌, ◌≤◌, List, [], ◌∷◌, ◌++◌, length, refl, sym, ap, subst, Bool, true, false, cond, arith, length-append, leb, eqb}
-use Rattle.std.specs.Prelude.{Result, Ok, Err, IfOk, map, if◌then◌else◌, bytes_eq}
+use Rattle.std.specs.Prelude.{Result, Ok, Err, IfOk, bytes_eq}
 use Rattle.std.specs.Global.{Vec}
 use Rattle.std.specs.List.{list_any, slice_split}
 use Rattle.std.specs.Str.Lines.{strip_carriage_return}

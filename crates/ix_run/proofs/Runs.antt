@@ -206,6 +206,17 @@ module _ {W : Type 0} (told : W → Option (List ℕ)) where
 pub whole_again : {A : Type 0} (n : ℕ) (new old : List A) → length new ≡ n → take n (new ++ drop (length new) old) ≡ new
 whole_again n new old h = ap (λ m. take m (new ++ drop (length new) old)) (sym h) ∙ take-append_seam new (drop (length new) old)
 
+-- what was told of archives that were handed out as sinks, and then ended
+pub ended_sinks : {W : Type 0} (told : W → Option (List ℕ)) (at store : Blocks) (listed jobs : List JobMeaning) (before after : List W) (archives first sinks : List (ArchiveMeaning W)) (n : ℕ) (es given : List End) (results : List JobResult)
+    → at ≡ store → listed ≡ jobs → EachBegun told at listed before archives → first ≡ archives → length first ≡ n → EachKept (HasArchived told) first sinks
+    → EachDelivered events_of (λ a. a.failed) store 0 jobs es sinks → EachArchived events_of (λ a. a.failed) store 0 jobs es sinks → given ≡ es
+    → EachEnded told (take n (sinks ++ drop (length sinks) archives)) given results after → EachRun told store 0 jobs before results after
+ended_sinks told at store listed jobs before after archives first sinks n es given results same_store same_jobs begun same sized kept delivered archived ends_are ended =
+    let again = whole_again n sinks archives (kept-length told first sinks kept ∙ sized) in
+    let begun_so = subst (λ s. EachBegun told s jobs before archives) same_store (subst (λ l. EachBegun told at l before archives) same_jobs begun) in
+    runs told store 0 jobs before after archives sinks es results begun_so delivered archived (subst (λ xs. EachKept (HasArchived told) xs sinks) same kept)
+    (subst (λ l. EachEnded told sinks l results after) ends_are (subst (λ xs. EachEnded told xs given results after) again ended))
+
 -- one check more that has checked nothing
 pub unused_push : {C : Type 0} (checked : C → List (ℕ × ℕ)) (cs : List C) (c : C) → EachUnused checked cs → checked c ≡ [] → EachUnused checked (cs ++ c ∷ [])
 unused_push checked [] c h is = (is, tt)

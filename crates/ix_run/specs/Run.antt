@@ -80,16 +80,20 @@ module _ {W : Type 0} (told : W → Option (List ℕ)) where
   EachEnded (a ∷ xs) (e ∷ es) (r ∷ rs) (w ∷ ws) = IsEnded a e r w × EachEnded xs es rs ws
   EachEnded xs es rs ws = ⊥
 
--- each job was run, and the report and the status are those of what was told
-pub record HasRun {W : Type 0} (told : W → Option (List ℕ)) (store : Blocks) (jobs : List JobMeaning) (before : List W) (out : RunOut W) : Type 0 where
-  pub results : List JobResult
-  pub ran : EachRun told store 0 jobs before results out.writers.items
+-- what is left of a run of which these results were told
+pub record IsLeftOf {W : Type 0} (jobs : List JobMeaning) (results : List JobResult) (out : RunOut W) : Type 0 where
   pub report : out.report.items ≡ report_of jobs results
   pub status : out.status ≡ status_of results
   -- the ends are those that the report tells
   pub ends : out.ends.items ≡ map (λ r. r.end) results
   -- and so is what is handed out of each
   pub told_of : out.results.items ≡ results
+
+-- each job was run, and the report and the status are those of what was told
+pub record HasRun {W : Type 0} (told : W → Option (List ℕ)) (store : Blocks) (jobs : List JobMeaning) (before : List W) (out : RunOut W) : Type 0 where
+  pub results : List JobResult
+  pub ran : EachRun told store 0 jobs before results out.writers.items
+  pub left : IsLeftOf jobs results out
 
 -- a run that isn't refused leaves this
 abbrev pub RunsTo : {W : Type 0} → (W → Option (List ℕ)) → Arc Blocks Global → Arc (Vec JobMeaning) Global → List W → Result (RunOut W) RunFault → Type 0

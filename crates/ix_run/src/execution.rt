@@ -6,7 +6,16 @@ ghost use Rattle.std.specs.Io.KnownBytes.{Keeps};
 ghost use Rattle.ix_pipeline.specs.Headline.{EachUnused};
 ghost use Rattle.ix_run.specs.declared.fault.RunFault.TheVariants.{Memory};
 ghost use Rattle.ix_pipeline.specs.Planned.{IsPlan};
-ghost use Rattle.ix_run.specs.Run.{CanRun, HaveRun, RunsTo, IsRunRefusal, EachBegun, EachEnded, IsEndOf};
+ghost use Rattle.ix_run.specs.Run.{
+  CanRun,
+  HaveRun,
+  RunsTo,
+  IsLeftOf,
+  IsRunRefusal,
+  EachBegun,
+  EachEnded,
+  IsEndOf,
+};
 
 use crate::fault::RunFault;
 use crate::watch::{Unwatched, Watch, Watched};
@@ -72,8 +81,28 @@ pub fn run_watched<R: Threads + Wait + Sync, W: Write + Drop, V: Watch>(
     ensures ran { RunsTo W.contents store.now jobs.now writers.items result }
     ensures refused { IfErr result (λ fault. IsRunRefusal (arc_value jobs.now).items fault) }
 {
-    let (results, writers) = run_by(rt, alloc, store, jobs, writers, verifiers, plan, watch)?;
-    let report = report(alloc, jobs.as_slice(), results.as_slice())?;
+    let mut archives = begun(alloc, store, jobs.as_slice(), writers, watch)?;
+    let checks = sha_checks(alloc, verifiers)?;
+    let sinks = archives.as_mut_slice();
+    let Ok(outcome) = export(rt, alloc, store, jobs, sinks, checks, &Open, plan) else {
+        return Err(RunFault::Memory);
+    };
+    let (results, writers) = ended(alloc, archives, outcome.ends.as_slice())?;
+    Ok(left_of(alloc, jobs.as_slice(), results, writers)?)
+}
+
+// What is left of a run of which this was told, with these writers.
+fn left_of<W: Drop>(
+    alloc: Global,
+    jobs: &[Job],
+    results: Vec<JobResult>,
+    writers: Vec<W>,
+) -> Result<RunOut<W>, AllocError>
+    requires { length jobs.now ≡ length results.items }
+    ensures left { IfOk result (IsLeftOf jobs.now results.items) }
+    ensures writers { IfOk result (λ out. out.writers.items ≡ writers.items) }
+{
+    let report = report(alloc, jobs, results.as_slice())?;
     let status = status(results.as_slice());
     let ends = ends_of(alloc, results.as_slice())?;
     Ok(RunOut {
@@ -90,32 +119,6 @@ fn ends_of(alloc: Global, results: &[JobResult]) -> Result<Vec<End>, AllocError>
     ensures { IfOk result (λ ends. ends.items ≡ map (λ r. r.end) results.now) }
 {
     results.iter().map(|told| told.end).collect(alloc)
-}
-
-// Runs the jobs over the store by walkers and verifiers: what was told of each, and its writer.
-fn run_by<R: Threads + Wait + Sync, W: Write + Drop, V: Watch>(
-    rt: &R,
-    alloc: Global,
-    store: &Arc<Store>,
-    jobs: &Arc<Vec<Job>>,
-    writers: Vec<W>,
-    verifiers: u32,
-    plan: Plan,
-    watch: &V,
-) -> Result<(Vec<JobResult>, Vec<W>), RunFault>
-    requires run { CanRun jobs.now writers.items }
-    requires plan { IsPlan plan verifiers }
-    ensures ran { IfOk result (λ out.
-        HaveRun W.contents (arc_value store.now) (arc_value jobs.now).items writers.items out) }
-    ensures refused { IfErr result (λ fault. IsRunRefusal (arc_value jobs.now).items fault) }
-{
-    let mut archives = begun(alloc, store, jobs.as_slice(), writers, watch)?;
-    let checks = sha_checks(alloc, verifiers)?;
-    let sinks = archives.as_mut_slice();
-    match export(rt, alloc, store, jobs, sinks, checks, &Open, plan) {
-        Ok(outcome) => ended(alloc, archives, outcome.ends.as_slice()),
-        Err(_) => Err(RunFault::Memory),
-    }
 }
 
 // So many checks that have checked nothing so far.
