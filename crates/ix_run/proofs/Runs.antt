@@ -37,9 +37,9 @@ keeps_told (Some xs) None bytes h e = absurd h
 keeps_told (Some xs) (Some ys) bytes h e = ap (λ l. Some l) (h ∙ some_same xs bytes e)
 
 -- an archive's writer tells some bytes
-tells : (told : Option (List ℕ)) (store : Blocks) (roots : List (List ℕ)) (ds failed : List Delivery) → HasWritten told store roots ds failed → (bytes : List ℕ) × (told ≡ Some bytes)
-tells told store roots ds [] h = (_, h)
-tells told store roots ds (d ∷ more) h = (h.0, h.1)
+tells_some_bytes : (told : Option (List ℕ)) (store : Blocks) (roots : List (List ℕ)) (ds failed : List Delivery) → HasWritten told store roots ds failed → (bytes : List ℕ) × (told ≡ Some bytes)
+tells_some_bytes told store roots ds [] h = (_, h)
+tells_some_bytes told store roots ds (d ∷ more) h = (h.0, h.1)
 
 -- the number of bytes is that of the bytes that are told in the end
 count_kept : (old new : Option (List ℕ)) (taken : ℕ) (bytes : List ℕ) → known.Keeps old new → old ≡ Some bytes → IsCountOf taken old → IsCountOf taken new
@@ -69,15 +69,15 @@ module _ {W : Type 0} (told : W → Option (List ℕ)) where
         skips = ended.skips;
         counts = ended.counts ∙ ap (λ s. counts_of s ds last.taken) fact.same_store;
         counted = λ h.
-            let some = tells (told last.writer) store job.roots ds last.failed (fact.written h) in
+            let some = tells_some_bytes (told last.writer) store job.roots ds last.failed (fact.written h) in
             count_kept (told last.writer) (told after) last.taken some.0 ended.flushed some.1 (fact.counted h);
         written = λ h.
-            let some = tells (told last.writer) store job.roots ds last.failed (fact.written h) in
+            let some = tells_some_bytes (told last.writer) store job.roots ds last.failed (fact.written h) in
             let same_told : told last.writer ≡ told after = some.1 ∙ sym (keeps_told (told last.writer) (told after) some.0 ended.flushed some.1) in
             subst (λ o. HasWritten o store job.roots ds last.failed) same_told (fact.written h);
         whole = λ h done. keeps_told (told last.writer) (told after) _ ended.flushed (archived.whole (done_is_done end result.end ended.ended done) (told last.writer) (wrote h));
         beginning = λ h bytes shows.
-            let some = tells (told last.writer) store job.roots ds last.failed (fact.written h) in
+            let some = tells_some_bytes (told last.writer) store job.roots ds last.failed (fact.written h) in
             let same_bytes : some.0 ≡ bytes = some_same some.0 bytes (sym (keeps_told (told last.writer) (told after) some.0 ended.flushed some.1) ∙ shows) in
             archived.beginning bytes (subst (λ o. HasWritten o store job.roots (deliveries_of (events_of last)) last.failed) (some.1 ∙ ap (λ l. Some l) same_bytes) (wrote h));
       }
