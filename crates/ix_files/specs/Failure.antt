@@ -1,6 +1,6 @@
 -- What the program says of a refusal that comes from below.
-use Rattle.std.specs.Prelude.{◌≡◌, ◌≢◌, ℕ, List, ◌++◌, String, ◌⊎◌, string_bytes, codes, Contains}
-use Rattle.std.specs.Global.{Global}
+use Rattle.std.specs.Prelude.{◌≡◌, ◌≢◌, ℕ, ◌≤◌, List, ◌++◌, length, String, ◌⊎◌, string_bytes, codes, Contains, Result, Ok, Err, IfErr}
+use Rattle.std.specs.Global.{Global, Vec}
 use Rattle.std.specs.IoError.{error_kind}
 use Rattle.std.specs.declared.io.Error as io
 use Rattle.std.specs.declared.io.ErrorKind.TheVariants as kinds
@@ -45,6 +45,11 @@ pub record NamesFile (told : String Global → Failure) (path : List ℕ) (wants
 abbrev pub IsInputFailure : List ℕ → Failure → Type 0
 IsInputFailure path failure = Names CannotRead path failure ⊎ NamesPath TooLarge path failure
 
+-- what is read of this path is no larger than the greatest input, or else it is refused so
+abbrev pub IsRead : List ℕ → Result (Vec ℕ) Failure → Type 0
+IsRead path (Ok input) = length input.items ≤ 1073741824
+IsRead path (Err failure) = IsInputFailure path failure
+
 -- the output of a job of this name
 abbrev pub output_path : List ℕ → List ℕ → List ℕ
 output_path folder name = folder ++ (codes "/" ++ (name ++ codes ".car"))
@@ -66,6 +71,18 @@ IsFailureOf folder job failure = IsPathFailure (output_path folder job.name) fai
 -- an output can't be made, or memory ran out
 abbrev pub IsOutputFailure : List ℕ → List JobMeaning → Failure → Type 0
 IsOutputFailure folder jobs failure = (failure ≡ Fault Memory) ⊎ NamesOutput folder jobs failure
+
+-- what is refused is the output of this path
+abbrev pub RefusesPath : {A : Type 0} → List ℕ → Result A Failure → Type 0
+RefusesPath path result = IfErr result (IsPathFailure path)
+
+-- the output of this job
+abbrev pub RefusesOutputOf : {A : Type 0} → List ℕ → JobMeaning → Result A Failure → Type 0
+RefusesOutputOf folder job result = IfErr result (IsFailureOf folder job)
+
+-- the output of one of these jobs
+abbrev pub RefusesOutputs : {A : Type 0} → List ℕ → List JobMeaning → Result A Failure → Type 0
+RefusesOutputs folder jobs result = IfErr result (IsOutputFailure folder jobs)
 
 -- nobody asked for this text: it is no help and no version
 abbrev pub IsMistake : Error → Type 0

@@ -1,9 +1,9 @@
 //! Names for complete archives alone.
 
-ghost use Rattle.std.specs.Prelude.{◌≡◌, IfOk, IfErr};
+ghost use Rattle.std.specs.Prelude.{◌≡◌, IfOk};
 ghost use Rattle.ix_run.specs.Complete.{is_complete};
 ghost use Rattle.ix_files.specs.Complete.{met_roots_alone};
-ghost use Rattle.ix_files.specs.Failure.{IsFailureOf, IsOutputFailure, IsPathFailure};
+ghost use Rattle.ix_files.specs.Failure.{RefusesOutputOf, RefusesOutputs, RefusesPath};
 
 use crate::fault::Failure;
 use crate::outputs::{name_job, name_output, path_of};
@@ -25,7 +25,7 @@ pub fn name_complete_outputs<R: AllocGlobal + Eprint + Files>(
     outputs: &[BufWriter<R::File>],
     sync: bool,
 ) -> Result<(), Failure>
-    ensures refused { IfErr result (λ failure. IsOutputFailure folder.now jobs.now failure) }
+    ensures refused { RefusesOutputs folder.now jobs.now result }
 {
     let mut told = Ok(());
     for ((job, outcome), output) in jobs.iter().zip(results).zip(outputs) {
@@ -43,7 +43,7 @@ fn name_or_leave<R: AllocGlobal + Eprint + Files>(
     output: &BufWriter<R::File>,
     sync: bool,
 ) -> Result<(), Failure>
-    ensures refused { IfErr result (λ failure. IsFailureOf folder.now job.now failure) }
+    ensures refused { RefusesOutputOf folder.now job.now result }
 {
     if is_complete(job, outcome) {
         return name_job(rt, folder, job, output, sync);
@@ -63,7 +63,7 @@ pub fn name_complete_output<R: AllocGlobal + Eprint + Files>(
     sync: bool,
 ) -> Result<bool, Failure>
     ensures named { IfOk result (λ named. named ≡ is_complete job.now outcome.now) }
-    ensures refused { IfErr result (λ failure. IsPathFailure path.now failure) }
+    ensures refused { RefusesPath path.now result }
 {
     let named = is_complete(job, outcome);
     if named {

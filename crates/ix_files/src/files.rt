@@ -1,7 +1,7 @@
 //! Files, as they are read.
 
-ghost use Rattle.std.specs.Prelude.{◌≡◌, ◌≤◌, length, IfOk, IfErr, IfSome};
-ghost use Rattle.ix_files.specs.Failure.{IsInputFailure};
+ghost use Rattle.std.specs.Prelude.{◌≡◌, IfOk, IfErr, IfSome};
+ghost use Rattle.ix_files.specs.Failure.{IsInputFailure, IsRead};
 
 use crate::fault::Failure;
 use crate::progress::{Loading, Progress};
@@ -40,8 +40,7 @@ pub fn stand_in<R: Files>(rt: &R) -> StandIns<R::File> {
 
 /// The bytes of a file, or of standard input where the path is `-`.
 pub fn read_input<R: AllocGlobal + Files + Input>(rt: &R, path: &str) -> Result<Vec<u8>, Failure>
-    ensures size { IfOk result (λ input. length input.items ≤ 1073741824) }
-    ensures refused { IfErr result (λ failure. IsInputFailure path.now failure) }
+    ensures { IsRead path.now result }
 {
     if path == STANDARD_INPUT {
         read_all(rt.alloc(), rt.reader(), 0, path)
@@ -56,8 +55,7 @@ pub fn load_input<R: AllocGlobal + Clock + Eprint + Files + Input>(
     path: &str,
     progress: &Progress<R>,
 ) -> Result<Vec<u8>, Failure>
-    ensures size { IfOk result (λ input. length input.items ≤ 1073741824) }
-    ensures refused { IfErr result (λ failure. IsInputFailure path.now failure) }
+    ensures { IsRead path.now result }
 {
     if path == STANDARD_INPUT {
         return read_all(rt.alloc(), Loading::new(rt.reader(), progress), 0, path);
@@ -69,8 +67,7 @@ pub fn load_input<R: AllocGlobal + Clock + Eprint + Files + Input>(
 
 /// The bytes of a file, whose size is judged before it is read.
 pub fn read_file<R: Files + AllocGlobal>(rt: &R, path: &str) -> Result<Vec<u8>, Failure>
-    ensures size { IfOk result (λ input. length input.items ≤ 1073741824) }
-    ensures refused { IfErr result (λ failure. IsInputFailure path.now failure) }
+    ensures { IsRead path.now result }
 {
     let (file, size) = open_file(rt, path)?;
     read_all(rt.alloc(), file, size, path)
@@ -78,7 +75,7 @@ pub fn read_file<R: Files + AllocGlobal>(rt: &R, path: &str) -> Result<Vec<u8>, 
 
 // A file and its size, which isn't too large.
 fn open_file<R: Files + AllocGlobal>(rt: &R, path: &str) -> Result<(R::File, usize), Failure>
-    ensures refused { IfErr result (λ failure. IsInputFailure path.now failure) }
+    ensures refused { IfErr result (IsInputFailure path.now) }
 {
     let alloc = rt.alloc();
     let file = match fs::open(rt, path) {
@@ -104,8 +101,7 @@ pub fn read_all<R: Read + Drop>(
     path: &str,
 ) -> Result<Vec<u8>, Failure>
     ensures whole { IfOk result (λ input. IfSome (R.remaining reader) (λ bytes. input.items ≡ bytes)) }
-    ensures size { IfOk result (λ input. length input.items ≤ 1073741824) }
-    ensures refused { IfErr result (λ failure. IsInputFailure path.now failure) }
+    ensures read { IsRead path.now result }
 {
     let mut input = Vec::with_capacity(alloc, expected)?;
     match reader.take(LARGEST_INPUT + 1).read_to_end(&mut input) {

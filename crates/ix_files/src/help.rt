@@ -1,7 +1,7 @@
 //! The help and the version of the program, which are no failure.
 
 ghost use Rattle.std.specs.Prelude.{IfOk, IfErr, codes};
-ghost use Rattle.ix_files.specs.Failure.{IsMistake, IsPathFailure, IsUsageOf};
+ghost use Rattle.ix_files.specs.Failure.{IsMistake, IsUsageOf, RefusesPath};
 
 use crate::fault::Failure;
 
@@ -29,7 +29,7 @@ impl Help {
 
     /// Prints it on standard output.
     pub fn print<R: AllocGlobal + Eprint + Print>(&self, rt: &R) -> Result<(), Failure>
-        ensures { IfErr result (λ failure. IsPathFailure (codes "-") failure) }
+        ensures { RefusesPath (codes "-") result }
     {
         match self.text.print(rt) {
             Ok(()) => Ok(()),

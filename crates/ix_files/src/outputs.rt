@@ -6,8 +6,8 @@
 //! until it has its name the file is locked, by the advisory lock of its system that goes with the
 //! process, so that no other run takes it for one that was left there.
 
-ghost use Rattle.std.specs.Prelude.{◌≡◌, length, IfOk, IfErr, string_bytes};
-ghost use Rattle.ix_files.specs.Failure.{output_path, IsFailureOf, IsOutputFailure, IsPathFailure};
+ghost use Rattle.std.specs.Prelude.{◌≡◌, length, IfOk, string_bytes};
+ghost use Rattle.ix_files.specs.Failure.{output_path, RefusesOutputOf, RefusesOutputs, RefusesPath};
 
 use crate::fault::Failure;
 use ix_archive::End;
@@ -62,7 +62,7 @@ pub fn make_outputs<R: Files<File = File> + AllocGlobal>(
     inputs: [&str; 2],
 ) -> Result<Vec<BufWriter<R::File>>, Failure>
     ensures each { IfOk result (λ outputs. length outputs.items ≡ length jobs.now) }
-    ensures refused { IfErr result (λ failure. IsOutputFailure folder.now jobs.now failure) }
+    ensures refused { RefusesOutputs folder.now jobs.now result }
 {
     let alloc = rt.alloc();
     judge_outputs(rt, folder, jobs, inputs)?;
@@ -90,7 +90,7 @@ pub fn make_output<R: Files<File = File> + AllocGlobal>(
     path: &str,
     input: &str,
 ) -> Result<BufWriter<R::File>, Failure>
-    ensures refused { IfErr result (λ failure. IsPathFailure path.now failure) }
+    ensures refused { RefusesPath path.now result }
 {
     if is_no_file(rt, path) {
         let error = io::Error::from(ErrorKind::AlreadyExists);
@@ -143,7 +143,7 @@ pub fn name_outputs<R: Files + AllocGlobal>(
     outputs: &[BufWriter<R::File>],
     sync: bool,
 ) -> Result<(), Failure>
-    ensures refused { IfErr result (λ failure. IsOutputFailure folder.now jobs.now failure) }
+    ensures refused { RefusesOutputs folder.now jobs.now result }
 {
     let mut told = Ok(());
     for ((job, end), output) in jobs.iter().zip(ends).zip(outputs) {
@@ -162,7 +162,7 @@ pub(crate) fn name_job<R: Files + AllocGlobal>(
     output: &BufWriter<R::File>,
     sync: bool,
 ) -> Result<(), Failure>
-    ensures refused { IfErr result (λ failure. IsFailureOf folder.now job.now failure) }
+    ensures refused { RefusesOutputOf folder.now job.now result }
 {
     let path = path_of(rt.alloc(), folder, job)?;
     name_output(rt, path.as_str(), output, sync)
@@ -176,7 +176,7 @@ pub(crate) fn name_output<R: Files + AllocGlobal>(
     output: &BufWriter<R::File>,
     sync: bool,
 ) -> Result<(), Failure>
-    ensures refused { IfErr result (λ failure. IsPathFailure path.now failure) }
+    ensures refused { RefusesPath path.now result }
 {
     let alloc = rt.alloc();
     let part = part_of(alloc, path)?;
@@ -202,7 +202,7 @@ fn judge_outputs<R: Files<File = File> + AllocGlobal>(
     jobs: &[Job],
     inputs: [&str; 2],
 ) -> Result<(), Failure>
-    ensures refused { IfErr result (λ failure. IsOutputFailure folder.now jobs.now failure) }
+    ensures refused { RefusesOutputs folder.now jobs.now result }
 {
     let inputs = [file_id(rt, inputs[0]), file_id(rt, inputs[1])];
     for job in jobs {
@@ -218,7 +218,7 @@ fn judge_job<R: Files<File = File> + AllocGlobal>(
     job: &Job,
     inputs: [Option<FileId>; 2],
 ) -> Result<(), Failure>
-    ensures refused { IfErr result (λ failure. IsFailureOf folder.now job.now failure) }
+    ensures refused { RefusesOutputOf folder.now job.now result }
 {
     let path = path_of(rt.alloc(), folder, job)?;
     judge_output(rt, path.as_str(), inputs)
@@ -230,7 +230,7 @@ fn judge_output<R: Files<File = File> + AllocGlobal>(
     path: &str,
     inputs: [Option<FileId>; 2],
 ) -> Result<(), Failure>
-    ensures refused { IfErr result (λ failure. IsPathFailure path.now failure) }
+    ensures refused { RefusesPath path.now result }
 {
     let alloc = rt.alloc();
     let part = part_of(alloc, path)?;
@@ -283,7 +283,7 @@ fn make_job<R: Files<File = File> + AllocGlobal>(
     folder: &str,
     job: &Job,
 ) -> Result<BufWriter<R::File>, Failure>
-    ensures refused { IfErr result (λ failure. IsFailureOf folder.now job.now failure) }
+    ensures refused { RefusesOutputOf folder.now job.now result }
 {
     let path = path_of(rt.alloc(), folder, job)?;
     make_part(rt, path.as_str())
@@ -295,7 +295,7 @@ fn make_part<R: Files<File = File> + AllocGlobal>(
     rt: &R,
     path: &str,
 ) -> Result<BufWriter<R::File>, Failure>
-    ensures refused { IfErr result (λ failure. IsPathFailure path.now failure) }
+    ensures refused { RefusesPath path.now result }
 {
     let alloc = rt.alloc();
     let part = part_of(alloc, path)?;
