@@ -5,6 +5,7 @@ use Rattle.ix_cbor.specs.Reading.{decoded}
 use Rattle.ix_selector.specs.Pattern.{Pattern}
 use Rattle.ix_selector.specs.Residual.{Place}
 use Rattle.ix_walk.specs.declared.gone.Gone.{Gone}
+use Rattle.ix_walk.specs.declared.state.WalkState.{WalkState}
 use Rattle.ix_walk.specs.declared.subtree.Found.{Found}
 use Rattle.ix_walk.specs.declared.subtree.Trail.{Trail}
 use Rattle.ix_walk.specs.declared.visit.Visit.{Visit}
@@ -52,9 +53,9 @@ abbrev pub ArrivesBy : Blocks → ℕ → ℕ → Found → Option Going → Tra
 ArrivesBy store number seq f had old v has new =
     (ss : List Subtree) → trail_stands old ≡ Some ss → (more : List Subtree) × (trail_stands new ≡ Some more) × IsArrived store number seq f had ss v has more
 
--- the same of what a walk keeps: what it has gone into and its trail, before and after
-abbrev pub Arrives : Blocks → ℕ → ℕ → Found → Visit → Option Gone → Trail → Option Gone → Trail → Type 0
-Arrives store number seq f v had old has new = ArrivesBy store number seq f (going_of store had) old v (going_of store has) new
+-- the same of what a walk keeps, before and after: what it has gone into, and its trail
+abbrev pub Arrives : Blocks → ℕ → ℕ → Found → Visit → WalkState → WalkState → Type 0
+Arrives store number seq f v old new = ArrivesBy store number seq f (going_of store old.gone) old.trail v (going_of store new.gone) new.trail
 
 -- the next link of what is left, or the next root where nothing is, or there is neither
 pub record IsNextArrival (selector : Pattern) (old : List Subtree) (roots : List (List ℕ)) (o : Option Found) (new : List Subtree) (rest : List (List ℕ)) : Type 0 where
@@ -77,16 +78,7 @@ Takes store number limit given selector had old roots (Ok (Some v)) has new rest
 Takes store number limit given selector had old roots (Ok None) has new rest = GivesNext (trail_left store number limit given had selector old roots) None nothing_left
 Takes store number limit given selector had old roots (Err stop) has new rest = GivesNext (trail_left store number limit given had selector old roots) (Some (Err stop)) nothing_left
 
--- what a walk keeps: what it has gone into, its trail, and the roots at which it has not arrived
-pub record WalkState : Type 0 where
-  pub gone : Option Gone
-  pub trail : Trail
-  pub roots : List (List ℕ)
-
-abbrev pub state : Option Gone → Trail → List (List ℕ) → WalkState
-state gone trail roots = record { gone = gone; trail = trail; roots = roots }
-
 -- what is taken of the walk of the job with this number, which has given so many visits, and what it then keeps
 abbrev pub TakesNext : Blocks → JobMeaning → ℕ → ℕ → WalkState → Result (Option Visit) WalkStop → WalkState → Type 0
 TakesNext store job number given old result new =
-    Takes store number job.limit given job.selector (going_of store old.gone) old.trail old.roots result (going_of store new.gone) new.trail new.roots
+    Takes store number job.limit given job.selector (going_of store old.gone) old.trail old.roots.now result (going_of store new.gone) new.trail new.roots.now

@@ -5,13 +5,14 @@ ghost use Rattle.ix_cbor.specs.Reading.{data_at};
 ghost use Rattle.ix_store.specs.Store.{position_of, bytes_of, value_of};
 ghost use Rattle.ix_walk.specs.Once.{is_sound};
 ghost use Rattle.ix_walk.specs.Descent.{IsItem};
-ghost use Rattle.ix_walk.specs.Arriving.{IsValue, IsReading, GoesInto, Roots, Arrives, FindsNext, state, TakesNext};
+ghost use Rattle.ix_walk.specs.Arriving.{IsValue, IsReading, GoesInto, Roots, Arrives, FindsNext, TakesNext};
 ghost use Rattle.ix_walk.specs.Walking.{IsStanding, IsWalk};
 
 use crate::descent::{next_found, node_at};
 use crate::fault::WalkStop;
 use crate::gone::Gone;
 use crate::job::Job;
+use crate::state::WalkState;
 use crate::subtree::{Entered, Found, Trail};
 use crate::visit::Visit;
 use ix_cid::code::DAG_CBOR;
@@ -81,21 +82,20 @@ fn is_sound(store: &Store, cid: &Cid, block: Option<usize>) -> bool
     }
 }
 
-// The bytes into which a walk goes of those that a CID names: all of them, or those that are sound where it keeps what it
-// has gone into and has not gone into this with what is left of the selector. That it now has is then kept.
+// The bytes into which a walk goes at a visit, of those that its CID names: all of them, or those that are sound where it
+// keeps what it has gone into and has not gone into this with what is left of the selector. That it now has is then kept.
 fn goes_into<'a>(
     alloc: Global,
     store: &'a Store,
     gone: &mut Option<Gone<'a>>,
-    cid: &Cid,
-    block: Option<usize>,
+    visit: &Visit,
     residual: &Residual<'a>,
     bytes: Option<Ahead<'a>>,
 ) -> Result<Option<Ahead<'a>>, AllocError>
-    requires block { block ≡ position_of store.now cid.now }
-    requires value { IsValue (value_of store.now cid.now) bytes }
+    requires block { visit.now.block ≡ position_of store.now visit.now.cid }
+    requires value { IsValue (value_of store.now visit.now.cid) bytes }
     requires item { IfSome bytes (λ b. IsItem b) }
-    ensures goes { IfOk result (λ b. GoesInto store.now residual.now cid.now gone.old b gone.new) }
+    ensures goes { IfOk result (λ b. GoesInto store.now residual.now visit.now.cid gone.old b gone.new) }
     ensures item { IfOk result (λ o. IfSome o (λ b. IsItem b)) }
 {
     let Some(gone) = gone else {
@@ -104,10 +104,10 @@ fn goes_into<'a>(
     let Some(bytes) = bytes else {
         return Ok(None);
     };
-    if !is_sound(store, cid, block) {
+    if !is_sound(store, &visit.cid, visit.block) {
         return Ok(None);
     }
-    let is_first = gone.note(alloc, cid, block, residual)?;
+    let is_first = gone.note(alloc, &visit.cid, visit.block, residual)?;
     if is_first { Ok(Some(bytes)) } else { Ok(None) }
 }
 
@@ -145,12 +145,12 @@ fn arrive<'a>(
     number: u32,
     seq: u32,
     found: Found<'a>,
-    gone: &mut Option<Gone<'a>>,
-    trail: &mut Trail<'a>,
+    state: &mut WalkState<'a>,
 ) -> Result<Visit, AllocError>
     requires depth { found.depth + 1 < 2 ^ 32 }
-    requires next { trail.old.next ≡ None }
-    ensures { IfOk result (λ v. Arrives store.now number seq found.entry v gone.old trail.old gone.new trail.new) }
+    requires next { state.old.trail.next ≡ None }
+    ensures arrives { IfOk result (λ v. Arrives store.now number seq found.entry v state.old state.new) }
+    ensures roots { state.new.roots.now ≡ state.old.roots.now }
 {
     let Found {
         residual,
@@ -160,16 +160,17 @@ fn arrive<'a>(
     let cid = at.to_cid(alloc)?;
     let block = store.find(&cid);
     let (bytes, malformed) = read_block(store, &at, block);
-    let bytes = goes_into(alloc, store, gone, &cid, block, &residual, bytes)?;
-    enter_block(alloc, trail, residual, bytes, depth + 1)?;
-    Ok(Visit {
+    let visit = Visit {
         job: number,
         seq,
         depth,
         cid,
         block,
         malformed,
-    })
+    };
+    let bytes = goes_into(alloc, store, &mut state.gone, &visit, &residual, bytes)?;
+    enter_block(alloc, &mut state.trail, residual, bytes, depth + 1)?;
+    Ok(visit)
 }
 
 // The next link of what the walk has entered, or the next root where nothing is left of those before.
@@ -205,21 +206,18 @@ pub(crate) fn take_next<'a>(
     job: &'a Job,
     number: u32,
     given: u32,
-    gone: &mut Option<Gone<'a>>,
-    trail: &mut Trail<'a>,
-    roots: &mut &'a [Cid],
+    state: &mut WalkState<'a>,
 ) -> Result<Option<Visit>, WalkStop>
-    requires { IsWalk job.now.limit given trail.old }
-    ensures takes { TakesNext store.now job.now number given (state gone.old trail.old roots.old.now)
-        result (state gone.new trail.new roots.new.now) }
+    requires { IsWalk job.now.limit given state.old.trail }
+    ensures takes { TakesNext store.now job.now number given state.old result state.new }
     ensures within { IfOk result (λ o. IfSome o (λ _. given < 1000000)) }
 {
-    let Some(found) = next_arrival(alloc, job, trail, roots)? else {
+    let Some(found) = next_arrival(alloc, job, &mut state.trail, &mut state.roots)? else {
         return Ok(None);
     };
     if given == job.limit() {
         return Err(WalkStop::Limit);
     }
-    let visit = arrive(alloc, store, number, given, found, gone, trail)?;
+    let visit = arrive(alloc, store, number, given, found, state)?;
     Ok(Some(visit))
 }

@@ -114,26 +114,26 @@ pub(crate) fn node_at<'a>(
     entered
 }
 
-// What the child is that stands here, with this front and these bytes behind it, where the selector enters it; the walk
-// then stands behind its front, or behind all of it where it isn't entered. It isn't inlined, so that children without
-// links don't pay for its locals.
+// What the child is that stands here, of which the front and the bytes behind it were read, where the selector enters it;
+// the walk then stands behind its front, or behind all of it where it isn't entered. It isn't inlined, so that children
+// without links don't pay for its locals.
 #[inline(never)]
 fn step_into<'a>(
     alloc: Global,
     residual: &Residual<'a>,
     step: &Step,
     at: &mut Ahead<'a>,
-    front: Front<'a>,
-    behind: &'a [u8],
+    read: (Front<'a>, &'a [u8]),
     depth: u32,
 ) -> Result<Option<Entered<'a>>, AllocError>
     requires item { IsItem at.old }
-    requires front { own_at at.old ≡ Ok (own_of_front front, behind.now) }
-    requires cid { HasCid front }
-    requires end { EndsWith at.old behind.now }
-    requires link { LinkBefore at.old front behind.now }
+    requires front { own_at at.old ≡ Ok (own_of_front read.0, read.1.now) }
+    requires cid { HasCid read.0 }
+    requires end { EndsWith at.old read.1.now }
+    requires link { LinkBefore at.old read.0 read.1.now }
     ensures { IfOk result (λ o. IsChild residual.now (step_of step.now) at.old depth o at.new) }
 {
+    let (front, behind) = read;
     match residual.step(alloc, step)? {
         Some(residual) => {
             let entered = entered_by(at, front, behind, residual, depth);
@@ -160,11 +160,11 @@ fn child_at<'a>(
     requires { IsItem at.old }
     ensures { IfOk result (λ o. IsChild residual.now (step_of step.now) at.old depth o at.new) }
 {
-    let (front, behind) = front_at(at.bytes());
-    if may_hold_links(front) {
-        return step_into(alloc, residual, step, at, front, behind, depth);
+    let read = front_at(at.bytes());
+    if may_hold_links(read.0) {
+        return step_into(alloc, residual, step, at, read, depth);
     }
-    at.go_to(behind);
+    at.go_to(read.1);
     Ok(None)
 }
 

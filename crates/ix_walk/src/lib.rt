@@ -22,6 +22,7 @@ mod fault;
 mod gone;
 mod job;
 pub mod law;
+mod state;
 mod subtree;
 mod visit;
 mod walk;

@@ -7,9 +7,9 @@ use crate::arriving::take_next;
 use crate::fault::WalkStop;
 use crate::gone::Gone;
 use crate::job::Job;
+use crate::state::WalkState;
 use crate::subtree::Trail;
 use crate::visit::Visit;
-use ix_cid::Cid;
 use ix_selector::law::{residual_is_the_rest, selector_is_one};
 use ix_store::Store;
 use std::alloc::{AllocError, Global};
@@ -23,11 +23,7 @@ pub struct Walk<'a> {
     job: &'a Job,
     number: u32,
     given: u32,
-    // What it has gone into, where it goes into a CID once.
-    gone: Option<Gone<'a>>,
-    trail: Trail<'a>,
-    // The roots at which the walk has not arrived.
-    roots: &'a [Cid],
+    state: WalkState<'a>,
     ended: bool,
 }
 
@@ -39,9 +35,9 @@ impl<'a> Model for Walk<'a> {
     ghost use Rattle.ix_walk.specs.Gone.{going_of};
     ghost use Rattle.ix_walk.specs.Walking.{walk_left, links_left, subtrees, IsWalk};
 
-    ghost view = { λ w. walk_left w.store.now w.number w.job.now.limit w.given (going_of w.store.now w.gone) (links_left w.job.now.selector (subtrees w.trail) w.roots.now) w.ended };
+    ghost view = { λ w. walk_left w.store.now w.number w.job.now.limit w.given (going_of w.store.now w.state.gone) (links_left w.job.now.selector (subtrees w.state.trail) w.state.roots.now) w.ended };
 
-    ghost invariant = { λ w. IsWalk w.job.now.limit w.given w.trail };
+    ghost invariant = { λ w. IsWalk w.job.now.limit w.given w.state.trail };
 }
 
 impl<'a> Walk<'a> {
@@ -69,9 +65,11 @@ impl<'a> Walk<'a> {
             job,
             number,
             given: 0,
-            gone,
-            trail: Trail::new(alloc),
-            roots: job.roots(),
+            state: WalkState {
+                gone,
+                trail: Trail::new(alloc),
+                roots: job.roots(),
+            },
             ended: false,
         })
     }
@@ -97,21 +95,19 @@ impl<'a> Iterator for Walk<'a> {
             self.job,
             self.number,
             self.given,
-            &mut self.gone,
-            &mut self.trail,
-            &mut self.roots,
+            &mut self.state,
         ) {
             Ok(Some(visit)) => {
                 self.given += 1;
                 Some(Ok(visit))
             }
             Ok(None) => {
-                self.trail.clear();
+                self.state.trail.clear();
                 self.ended = true;
                 None
             }
             Err(stop) => {
-                self.trail.clear();
+                self.state.trail.clear();
                 self.ended = true;
                 Some(Err(stop))
             }

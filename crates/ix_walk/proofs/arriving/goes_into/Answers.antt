@@ -11,7 +11,7 @@ use Rattle.ix_walk.proofs.arriving.goes_into.Goals as goal
 pub returns-then-is_first-clause-goes : goal.returns-then-is_first-clause-goes
 returns-then-is_first-clause-goes c = λ depth.
     let store = c.args.store.now in
-    let cid = c.args.cid.now in
+    let cid = c.args.visit.now.cid in
     let places = c.args.residual.now in
     let new = c.note.new.self in
     let noted : IsNoted c.in-Some.gone new (position_of store cid) cid places true =
@@ -23,7 +23,7 @@ returns-then-is_first-clause-goes c = λ depth.
 pub returns-else-is_first-clause-goes : goal.returns-else-is_first-clause-goes
 returns-else-is_first-clause-goes c = λ depth.
     let store = c.args.store.now in
-    let cid = c.args.cid.now in
+    let cid = c.args.visit.now.cid in
     let places = c.args.residual.now in
     let new = c.note.new.self in
     let noted : IsNoted c.in-Some.gone new (position_of store cid) cid places false =

@@ -1,28 +1,33 @@
-use Rattle.std.proofs.Common.{sym, ◌∙◌, subst, arith}
-use Rattle.std.specs.Prelude.{Option}
+use Rattle.std.proofs.Common.{ℕ, List, sym, ◌∙◌, subst, arith}
+use Rattle.std.specs.Prelude.{Option, Some, Ok}
 use Rattle.ix_walk.specs.declared.subtree.Found.{Found}
-use Rattle.ix_walk.specs.Arriving.{FindsNext}
+use Rattle.ix_walk.specs.Arriving.{FindsNext, Takes}
 use Rattle.ix_walk.specs.Gone.{going_of}
 use Rattle.ix_walk.proofs.Takes.{trail_limit, trail_end, trail_visit, low_depth}
 use Rattle.ix_walk.proofs.arriving.take_next.Goals as goal
 
 pub returns-then-given-limit-clause-takes : goal.returns-then-given-limit-clause-takes
 returns-then-given-limit-clause-takes c =
-    trail_limit c.args.store.now c.args.number c.args.job.now.limit c.args.given (going_of c.args.store.now c.args.gone.now) c.args.job.now.selector c.args.trail.now c.next_arrival.new.trail c.args.roots.now.now c.next_arrival.new.roots.now c.in-Some.found (c.if-given-limit.true ∙ c.limit.ensures.is) c.requires
-    (subst (λ (o : Option Found). FindsNext c.args.job.now.selector c.args.trail.now c.args.roots.now.now o c.next_arrival.new.trail c.next_arrival.new.roots.now) c.in-Some.is c.in_ok-found.ensures.found)
+    trail_limit c.args.store.now c.args.number c.args.job.now.limit c.args.given (going_of c.args.store.now c.args.state.now.gone) c.args.job.now.selector c.args.state.now.trail c.next_arrival.new.trail c.args.state.now.roots.now c.next_arrival.new.roots.now c.in-Some.found (c.if-given-limit.true ∙ c.limit.ensures.is) c.requires
+    (subst (λ (o : Option Found). FindsNext c.args.job.now.selector c.args.state.now.trail c.args.state.now.roots.now o c.next_arrival.new.trail c.next_arrival.new.roots.now) c.in-Some.is c.in_ok-found.ensures.found)
 
 pub returns-in_default-clause-takes : goal.returns-in_default-clause-takes
 returns-in_default-clause-takes c =
-    trail_end c.args.store.now c.args.number c.args.job.now.limit c.args.given (going_of c.args.store.now c.args.gone.now) c.args.job.now.selector c.args.trail.now c.next_arrival.new.trail c.args.roots.now.now c.next_arrival.new.roots.now c.requires
-    (subst (λ (o : Option Found). FindsNext c.args.job.now.selector c.args.trail.now c.args.roots.now.now o c.next_arrival.new.trail c.next_arrival.new.roots.now) c.in_default.is c.in_ok-found.ensures.found)
+    trail_end c.args.store.now c.args.number c.args.job.now.limit c.args.given (going_of c.args.store.now c.args.state.now.gone) c.args.job.now.selector c.args.state.now.trail c.next_arrival.new.trail c.args.state.now.roots.now c.next_arrival.new.roots.now c.requires
+    (subst (λ (o : Option Found). FindsNext c.args.job.now.selector c.args.state.now.trail c.args.state.now.roots.now o c.next_arrival.new.trail c.next_arrival.new.roots.now) c.in_default.is c.in_ok-found.ensures.found)
 
 pub arrive-requires-clause-depth : goal.arrive-requires-clause-depth
 arrive-requires-clause-depth c =
-    let low = low_depth c.args.job.now.limit c.args.given c.args.job.now.selector c.args.trail.now c.next_arrival.new.trail c.args.roots.now.now c.next_arrival.new.roots.now c.in-Some.found (λ e. c.if-given-limit.false (e ∙ sym c.limit.ensures.is)) c.requires
-    (subst (λ (o : Option Found). FindsNext c.args.job.now.selector c.args.trail.now c.args.roots.now.now o c.next_arrival.new.trail c.next_arrival.new.roots.now) c.in-Some.is c.in_ok-found.ensures.found) in
+    let low = low_depth c.args.job.now.limit c.args.given c.args.job.now.selector c.args.state.now.trail c.next_arrival.new.trail c.args.state.now.roots.now c.next_arrival.new.roots.now c.in-Some.found (λ e. c.if-given-limit.false (e ∙ sym c.limit.ensures.is)) c.requires
+    (subst (λ (o : Option Found). FindsNext c.args.job.now.selector c.args.state.now.trail c.args.state.now.roots.now o c.next_arrival.new.trail c.next_arrival.new.roots.now) c.in-Some.is c.in_ok-found.ensures.found) in
     let h = c.limit.ensures.within in let s = c.limit.ensures.is in omega (arith, low, h, s)
 
 pub returns-clause-takes : goal.returns-clause-takes
 returns-clause-takes c =
-    trail_visit c.args.store.now c.args.number c.args.job.now.limit c.args.given (going_of c.args.store.now c.args.gone.now) (going_of c.args.store.now c.arrive.new.gone) c.args.job.now.selector c.args.trail.now c.next_arrival.new.trail c.arrive.new.trail c.args.roots.now.now c.next_arrival.new.roots.now c.in-Some.found c.in_ok-visit.visit (λ e. c.if-given-limit.false (e ∙ sym c.limit.ensures.is)) c.requires
-    (subst (λ (o : Option Found). FindsNext c.args.job.now.selector c.args.trail.now c.args.roots.now.now o c.next_arrival.new.trail c.next_arrival.new.roots.now) c.in-Some.is c.in_ok-found.ensures.found) c.in_ok-visit.ensures
+    let store = c.args.store.now in
+    let job = c.args.job.now in
+    let old = c.args.state.now in
+    let new = c.arrive.new.state in
+    subst (λ (l : List (List ℕ)). Takes store c.args.number job.limit c.args.given job.selector (going_of store old.gone) old.trail old.roots.now (Ok (Some c.in_ok-visit.visit)) (going_of store new.gone) new.trail l) (sym c.in_ok-visit.ensures.roots)
+    (trail_visit c.args.store.now c.args.number c.args.job.now.limit c.args.given (going_of c.args.store.now c.args.state.now.gone) (going_of c.args.store.now c.arrive.new.state.gone) c.args.job.now.selector c.args.state.now.trail c.next_arrival.new.trail c.arrive.new.state.trail c.args.state.now.roots.now c.next_arrival.new.roots.now c.in-Some.found c.in_ok-visit.visit (λ e. c.if-given-limit.false (e ∙ sym c.limit.ensures.is)) c.requires
+    (subst (λ (o : Option Found). FindsNext c.args.job.now.selector c.args.state.now.trail c.args.state.now.roots.now o c.next_arrival.new.trail c.next_arrival.new.roots.now) c.in-Some.is c.in_ok-found.ensures.found) c.in_ok-visit.ensures.arrives)
