@@ -117,8 +117,8 @@ draws {T} values all slots id me part first s r len at below =
     (t.0, t.1, t.2, t.3, subst P (sym v) t.4)
 
 -- what a view tells of the word
-tells : {T : Type 0} (values : List T) (all id : ℕ) (v : ClaimView T) (s : State (Option T) (ClaimView T)) (r : IsClaimed values all s) → get_elem? s.views id ≡ some v → 0 < v.parts → (k : ℕ) → k ≡ r.word → Tells v k
-tells {T} values all id v s r at part k e =
+view_tells_word : {T : Type 0} (values : List T) (all id : ℕ) (v : ClaimView T) (s : State (Option T) (ClaimView T)) (r : IsClaimed values all s) → get_elem? s.views id ≡ some v → 0 < v.parts → (k : ℕ) → k ≡ r.word → Tells v k
+view_tells_word {T} values all id v s r at part k e =
     let f = r.fits id v at in
     let known = f.known part in
     let sum : (x : ℕ) → total (λ v. times x v.places) s.views ≡ once_below x (min k (length v.values)) = λ x. r.once x ∙ (λ i. once_below x (min (sym e i) (length (sym known.0 i)))) in
@@ -151,7 +151,7 @@ looks {T} values all slots id me s r len at below =
         homes = r.homes;
         fits = each_set (λ _. FitsClaimer values all r.word) s.views id v (r.fits id v at) (λ j u _ at. r.fits j u at);
       },
-      (refl, λ part. tells values all id v s r at part k e),
+      (refl, λ part. view_tells_word values all id v s r at part k e),
     )
 
 fits_spent : {T : Type 0} (values : List T) (all word : ℕ) → FitsClaimer values all word spent

@@ -1,5 +1,5 @@
 -- Seats are joined: the rule of the queue is kept, and tells what they took.
-use Rattle.std.proofs.Common.{◌≡◌, ◌≢◌, ℕ, ◌+◌, ◌<◌, ◌≤◌, ◌⊎◌, false, List, [], ◌∷◌, ◌++◌, length, set, sym, ap, ◌∙◌, subst, inr, ⊎_elim, arith, append-nil, append_assoc, Some}
+use Rattle.std.proofs.Common.{◌≡◌, ◌≢◌, ℕ, ◌+◌, ◌<◌, ◌≤◌, false, List, [], ◌∷◌, ◌++◌, length, set, sym, ap, ◌∙◌, subst, inr, ⊎_elim, arith, append-nil, append_assoc, Some}
 use Rattle.std.proofs.Math.ListN.{length-set}
 use Rattle.std.proofs.lemmas.List.Elements.{All-append}
 use Rattle.std.specs.Prelude.{All}
@@ -112,8 +112,8 @@ pub merges : (port : ℕ) (v : PassView) (other : ℕ) (u : PassView) → v.blan
 merges port v other u live part plain items views h at apart at' = inr (join_runs port v other u live part plain items views (runs items views port v h at live) at apart at')
 
 -- whoever has all parts knows what the queue holds
-pub learns : (port : ℕ) (v : PassView) → v.blank ≡ false → 0 < v.parts → Learns IsQueueState port v (λ items. v.parts ≡ v.all → (h : Item → ℕ) → weigh h (all_put v) ≡ weigh h (all_taken v) + weigh h items)
-learns port v live part items views q at whole h =
+pub learns_what_is_left : (port : ℕ) (v : PassView) → v.blank ≡ false → 0 < v.parts → Learns IsQueueState port v (λ items. v.parts ≡ v.all → (h : Item → ℕ) → weigh h (all_put v) ≡ weigh h (all_taken v) + weigh h items)
+learns_what_is_left port v live part items views q at whole h =
     let r = runs items views port v q at live in
     let f = r.fits port v at in
     let all : total (λ u. u.parts) views ≡ v.parts = r.counted ∙ (sym (f.course_is part).1 ∙ sym whole) in

@@ -68,8 +68,8 @@ same_again a b c l s = ((s.0.0 ∙ l.0.0, s.0.1 ∙ l.0.1, s.0.2 ∙ l.0.2, s.0.
 
 -- ---- what a verifier has done, and one item more
 
-abbrev pub begun : (store : Blocks) (v : PassView) (sent : List Verdicted) (checked : List (ℕ × ℕ)) → Passed store v v sent sent checked checked
-begun store v sent checked = record {
+abbrev pub passed_none : (store : Blocks) (v : PassView) (sent : List Verdicted) (checked : List (ℕ × ℕ)) → Passed store v v sent sent checked checked
+passed_none store v sent checked = record {
   taken = [];
   passed = [];
   took_is = took_none v;
@@ -90,9 +90,9 @@ pub record Nexts (store : Blocks) (w u : PassView) (sent' sent'' : List Verdicte
   pub sent : sent'' ≡ sent' ++ y ∷ []
   pub checked : checked'' ≡ checked' ++ pairs_of (y ∷ [])
 
-abbrev pub more : (store : Blocks) (v w u : PassView) (sent sent' sent'' : List Verdicted) (checked checked' checked'' : List (ℕ × ℕ)) (x : Item) (y : Verdicted) (did : Passed store v w sent sent' checked checked')
+abbrev pub passed_more : (store : Blocks) (v w u : PassView) (sent sent' sent'' : List Verdicted) (checked checked' checked'' : List (ℕ × ℕ)) (x : Item) (y : Verdicted) (did : Passed store v w sent sent' checked checked')
     → Nexts store w u sent' sent'' checked' checked'' x y → Passed store v u sent sent'' checked checked''
-more store v w u sent sent' sent'' checked checked' checked'' x y did next = record {
+passed_more store v w u sent sent' sent'' checked checked' checked'' x y did next = record {
   taken = did.taken ++ x ∷ [];
   passed = did.passed ++ y ∷ [];
   took_is = next.taken.pass ∙ (ap (λ (h : PassView). after_take h x) did.took_is ∙ took_more v did.taken x);
@@ -111,7 +111,7 @@ the_stop item.Stop h = refl
 pub verified : (store : Blocks) (v w u : PassView) (sent sent' sent'' : List Verdicted) (checked checked' checked'' : List (ℕ × ℕ)) (x : Item) (y : Verdicted) (did : Passed store v w sent sent' checked checked')
     → All (λ x. IsStop x → ⊥) did.taken → Nexts store w u sent' sent'' checked' checked'' x y → IsStop x → IsVerified store v u sent sent'' checked checked''
 verified store v w u sent sent' sent'' checked checked' checked'' x y did none next stop = record {
-  did = more store v w u sent sent' sent'' checked checked' checked'' x y did next;
+  did = passed_more store v w u sent sent' sent'' checked checked' checked'' x y did next;
   before = did.taken;
   ends = ap (λ (z : Item). did.taken ++ z ∷ []) (the_stop x stop);
   one = none;

@@ -61,6 +61,10 @@ pub record IsTake (v : PassView) (x : Item) (w : PassView) : Type 0 where
   pub allowed : Allowed v.course x
   pub above : (j : ℕ) → is_of j x ≡ true → Rises 0 (seq_of x) (numbers j v.taken)
 
+-- a seat of the same queue has taken the item
+abbrev pub HasTaken : SeatView → Item → SeatView → Type 0
+HasTaken old x new = (new.table ≡ old.table) × IsTake old.pass x new.pass
+
 -- the item is the next of the seat's job, and the course allows it
 abbrev pub IsNext : JobView → Item → Type 0
 IsNext s x = (is_of s.job x ≡ true) × (seq_of x ≡ s.next) × Allowed s.pass.course x

@@ -1,8 +1,9 @@
 -- What is known once seats are joined.
 use Rattle.std.specs.Prelude.{◌≡◌, ◌+◌, ℕ, List, ◌++◌, length, map}
+use Rattle.crossbeam_queue.specs.Passes.{Pass, view, IsSamePass}
 use Rattle.ix_stages.specs.declared.item.Item.{Item}
 use Rattle.ix_stages.specs.declared.pass_view.PassView.{PassView}
-use Rattle.ix_stages.specs.PassViews.{all_put, all_taken}
+use Rattle.ix_stages.specs.PassViews.{after_join, all_put, all_taken}
 use Rattle.ix_stages.specs.Items.{concat}
 use Rattle.ix_stages.specs.Received.{weigh}
 use Rattle.ix_stages.specs.Seats.{JobView, SeatView}
@@ -15,6 +16,14 @@ pub record Settles (v : PassView) (passes : List PassView) (w : PassView) : Type
   pub own : (w.put ≡ v.put) × (w.taken ≡ v.taken)
   pub puts : w.puts ≡ v.puts ++ map (λ u. u.put) passes
   pub takens : w.takens ≡ v.takens ++ map (λ u. u.taken) passes
+
+-- a pass took in what another knows, and is still the same pass of the same queue
+abbrev pub Absorbs : Pass Item PassView → PassView → Pass Item PassView → Type 0
+Absorbs old v new = IsSamePass old new × (view new ≡ after_join (view old) v)
+
+-- the same of what several passes know, in this order
+abbrev pub AbsorbsAll : Pass Item PassView → List PassView → Pass Item PassView → Type 0
+AbsorbsAll old passes new = IsSamePass old new × Settles (view old) passes (view new)
 
 -- what the passes of these seats know
 abbrev pub passes_of : List JobView → List SeatView → List PassView

@@ -4,7 +4,7 @@ ghost use Rattle.std.specs.Prelude.{◌≡◌, false, OnOk, IfErr, IfSome, IfNon
 ghost use Rattle.std.specs.Bool.{OnTrue, OnFalse};
 ghost use Rattle.ix_stages.specs.declared.item.Item.{Item};
 ghost use Rattle.ix_stages.specs.PassViews.{after_put};
-ghost use Rattle.ix_stages.specs.Seats.{IsNext, IsSameSeat, HasPut, IsTake, closed_after};
+ghost use Rattle.ix_stages.specs.Seats.{IsNext, IsSameSeat, HasPut, HasTaken, IsTake, closed_after};
 ghost use Rattle.ix_stages.specs.Queue.{table_of};
 
 use crate::item::Item;
@@ -90,8 +90,7 @@ impl VisitQueue {
     /// Takes an item, and waits for one.
     pub fn take<R: Wait>(&self, rt: &R, seat: &mut TakeSeat) -> Item
         requires { seat.old.table ≡ table_of self.now }
-        ensures same { seat.new.table ≡ seat.old.table }
-        ensures taken { IsTake seat.old.pass result seat.new.pass }
+        ensures taken { HasTaken seat.old result seat.new }
     {
         let mut waiting = Waiting::new();
         for _ in rt.forever() {

@@ -1,12 +1,12 @@
 //! How the seats are joined, and what is left is taken.
 
 ghost use Rattle.std.specs.Prelude.{◌≡◌, ◌++◌, [], All, map, IfSome, IfNone};
-ghost use Rattle.crossbeam_queue.specs.Passes.{view, IsSamePass};
 ghost use Rattle.ix_stages.specs.Course.{IsWellTaken};
-ghost use Rattle.ix_stages.specs.PassViews.{after_join, all_put, all_taken};
+ghost use Rattle.ix_stages.specs.PassViews.{all_put, all_taken};
 ghost use Rattle.ix_stages.specs.Seats.{IsTake};
 ghost use Rattle.ix_stages.specs.Making.{IsLivePass};
-ghost use Rattle.ix_stages.specs.Settled.{Settles, IsAllTaken, passes_of, put_by, taken_by};
+ghost use Rattle.ix_stages.specs.Settled.{Absorbs, AbsorbsAll, Settles, IsAllTaken};
+ghost use Rattle.ix_stages.specs.Settled.{passes_of, put_by, taken_by};
 ghost use Rattle.ix_stages.specs.Queue.{table_of};
 
 use crate::item::Item;
@@ -21,8 +21,7 @@ use std::sync::Wait;
 fn join_job(line: &Line, pass: &mut Pass<Item, PassView>, seat: JobSeat)
     requires pass { IsLivePass line.now pass.old }
     requires seat { seat.table ≡ line.now.table.shared.table_id }
-    ensures same { IsSamePass pass.old pass.new }
-    ensures joined { view pass.new ≡ after_join (view pass.old) seat.pass }
+    ensures joined { Absorbs pass.old seat.pass pass.new }
     ensures part { seat.pass.parts ≡ 1 }
     ensures taken { seat.pass.taken ≡ [] }
 {
@@ -42,8 +41,7 @@ fn join_job(line: &Line, pass: &mut Pass<Item, PassView>, seat: JobSeat)
 fn join_taker(line: &Line, pass: &mut Pass<Item, PassView>, seat: TakeSeat)
     requires pass { IsLivePass line.now pass.old }
     requires seat { seat.table ≡ line.now.table.shared.table_id }
-    ensures same { IsSamePass pass.old pass.new }
-    ensures joined { view pass.new ≡ after_join (view pass.old) seat.pass }
+    ensures joined { Absorbs pass.old seat.pass pass.new }
     ensures part { seat.pass.parts ≡ 1 }
     ensures put { seat.pass.put ≡ [] }
 {
@@ -56,8 +54,7 @@ fn join_taker(line: &Line, pass: &mut Pass<Item, PassView>, seat: TakeSeat)
 fn join_jobs(line: &Line, pass: &mut Pass<Item, PassView>, seats: Vec<JobSeat>)
     requires pass { IsLivePass line.now pass.old }
     requires seats { All (λ s. s.table ≡ line.now.table.shared.table_id) seats.items }
-    ensures same { IsSamePass pass.old pass.new }
-    ensures joined { Settles (view pass.old) (map (λ s. s.pass) seats.items) (view pass.new) }
+    ensures joined { AbsorbsAll pass.old (map (λ s. s.pass) seats.items) pass.new }
     ensures taken { All (λ s. s.pass.taken ≡ []) seats.items }
 {
     for seat in seats {
@@ -69,8 +66,7 @@ fn join_jobs(line: &Line, pass: &mut Pass<Item, PassView>, seats: Vec<JobSeat>)
 fn join_takers(line: &Line, pass: &mut Pass<Item, PassView>, seats: Vec<TakeSeat>)
     requires pass { IsLivePass line.now pass.old }
     requires seats { All (λ s. s.table ≡ line.now.table.shared.table_id) seats.items }
-    ensures same { IsSamePass pass.old pass.new }
-    ensures joined { Settles (view pass.old) (map (λ s. s.pass) seats.items) (view pass.new) }
+    ensures joined { AbsorbsAll pass.old (map (λ s. s.pass) seats.items) pass.new }
     ensures put { All (λ s. s.pass.put ≡ []) seats.items }
 {
     for seat in seats {
