@@ -3,8 +3,7 @@ use Rattle.std.proofs.Common.{◌≡◌, ◌⊎◌, ℕ, zero, suc, ◌+◌, ◌
 use Rattle.std.specs.Prelude.{slice_get, is_some, not, min, ◌||◌}
 use Rattle.std.proofs.lemmas.Bool.{cases_lt}
 use Rattle.ix_archive.specs.declared.sink.Delivery.{Delivery}
-use Rattle.ix_archive.specs.declared.sink.End.TheVariants.{Memory}
-use Rattle.ix_archive.specs.Events.{Event, close}
+use Rattle.ix_archive.specs.Events.{Event}
 use Rattle.ix_ring.specs.declared.fault.RingFault.{RingFault}
 use Rattle.ix_ring.specs.declared.fault.RingFault.TheVariants as faults
 use Rattle.ix_collect.specs.declared.job_progress.JobProgress.{JobProgress}

@@ -1,7 +1,8 @@
 -- What each step does to the export of a job: how far it has come, if what came fits its visits.
-use Rattle.std.specs.Prelude.{◌≡◌, Bool, true, List, Option}
+use Rattle.std.specs.Prelude.{◌≡◌, Bool, true, List, Option, None}
 use Rattle.ix_archive.specs.declared.sink.Delivery.{Delivery}
 use Rattle.ix_archive.specs.Events.{Event}
+use Rattle.ix_archive.specs.Headline.{Fact, Keeps}
 use Rattle.ix_stages.specs.declared.verdicted.Verdicted.{Verdicted}
 use Rattle.ix_stages.specs.Received.{Tally}
 use Rattle.ix_collect.specs.declared.job_progress.JobProgress.{JobProgress}
@@ -11,6 +12,10 @@ use Rattle.ix_collect.specs.JobProgress.{IsFine, IsItem, IsUnderWay, IsPoppedUnd
 abbrev pub StaysSafe : JobProgress → JobProgress → Type 0
 StaysSafe p q = (events : List Event) (failed : List Delivery) → IsSafe p events failed → IsSafe q events failed
 
+-- the step tells the sink nothing: it is closed just where it was, and still may be told what comes next
+abbrev pub LeavesSink : JobProgress → JobProgress → Type 0
+LeavesSink p q = (q.end ≡ p.end) × StaysSafe p q
+
 -- an arrival that fits is noted: the job is under way with it
 abbrev pub IsNoted : (List Delivery → Bool → Tally → Tally → Type 0) → JobProgress → Bool → JobProgress → Type 0
 IsNoted arrival p result q = (all : List Delivery) (over : Bool) (t u : Tally) (events : List Event) (failed : List Delivery) → IsFine all u → arrival all over t u → IsUnderWay all over t p events failed → (result ≡ true) × IsUnderWay all over u q events failed
@@ -19,6 +24,18 @@ module _ {S : Type 0} (events : S → List Event) (failed : S → List Delivery)
   -- the sink may be told what comes next
   abbrev pub IsSafeFor : JobProgress → S → Type 0
   IsSafeFor p s = IsSafe p (events s) (failed s)
+
+  -- the sink isn't closed, and may be told what comes next
+  abbrev pub IsOpenFor : JobProgress → S → Type 0
+  IsOpenFor p s = (p.end ≡ None) × IsSafeFor p s
+
+  -- the sink may be told what comes next, and keeps what it promised before
+  abbrev pub KeepsSafe : Fact S → JobProgress → S → S → Type 0
+  KeepsSafe fact q s r = IsSafeFor q r × Keeps fact s r
+
+  -- the sink isn't closed, may be told what comes next, and keeps what it promised before
+  abbrev pub KeepsOpen : Fact S → JobProgress → S → S → Type 0
+  KeepsOpen fact q s r = IsOpenFor q r × Keeps fact s r
 
   -- what came out of the ring was handed on
   abbrev pub IsHandedOn : Option Delivery → JobProgress → S → JobProgress → S → Type 0

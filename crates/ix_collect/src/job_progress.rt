@@ -1,13 +1,13 @@
 //! What was received of one job, and how far its sink has come.
 
-ghost use Rattle.std.specs.Prelude.{◌≡◌, ◌+◌, Some, None, false, IfOk, IsTrue, ◌↔◌, unwrap_or};
+ghost use Rattle.std.specs.Prelude.{◌≡◌, ◌+◌, Some, false, IfOk, IsTrue, ◌↔◌, unwrap_or};
 ghost use Rattle.ix_archive.specs.declared.sink.End.TheVariants.{Memory};
-ghost use Rattle.ix_archive.specs.Headline.{Keeps};
 ghost use Rattle.ix_collect.specs.declared.job_progress.Stage.TheVariants.{Delivering};
 ghost use Rattle.ix_collect.specs.declared.job_progress.WalkEnd.{WalkEnd};
 ghost use Rattle.ix_ring.specs.Numbered.{IsFree};
 ghost use Rattle.ix_collect.specs.JobProgress.{IsArrival, IsCloseArrival, IsItem, IsNew, IsEnded, IsMisplaced, end_of};
-ghost use Rattle.ix_collect.specs.Steps.{HasCome, HasDelivered, HasFinished, IsHandedOn, IsNoted, IsSafeFor, StaysSafe};
+ghost use Rattle.ix_collect.specs.Steps.{HasCome, HasDelivered, HasFinished, IsHandedOn, IsNoted};
+ghost use Rattle.ix_collect.specs.Steps.{IsOpenFor, IsSafeFor, KeepsOpen, KeepsSafe, LeavesSink};
 
 use ix_archive::{Delivery, End, Sink, SinkFault};
 use ix_ring::Ring;
@@ -73,9 +73,8 @@ impl JobProgress {
     // A visit came: with its verdict, or without where the check found no memory. False is a number
     // that can't be.
     fn take(&mut self, seq: u32, judged: Option<Delivery>) -> bool
-        ensures end { self.new.end ≡ self.old.end }
+        ensures sink { LeavesSink self.old self.new }
         ensures misplaced { self.old.stage ≡ Delivering → (IsFree self.old.ring seq → ⊥) → result ≡ false }
-        ensures safe { StaysSafe self.old self.new }
         ensures taken { IsNoted (λ all over. IsArrival all seq judged) self.old result self.new }
     {
         self.arrived = self.arrived.saturating_add(1);
@@ -96,9 +95,8 @@ impl JobProgress {
 
     // The close of the job's walk came. False is a second one.
     fn note_close(&mut self, seq: u32, end: End) -> bool
-        ensures end { self.new.end ≡ self.old.end }
+        ensures sink { LeavesSink self.old self.new }
         ensures second { (w : WalkEnd) → self.old.close ≡ Some w → result ≡ false }
-        ensures safe { StaysSafe self.old self.new }
         ensures noted { IsNoted (λ all over. IsCloseArrival all over seq end) self.old result self.new }
     {
         self.arrived = self.arrived.saturating_add(1);
@@ -112,13 +110,10 @@ impl JobProgress {
 
     // Delivers the visit that came out of the ring, or stops at one without a verdict.
     fn hand_on<S: Sink>(&mut self, alloc: Global, judged: Option<Delivery>, sink: &mut S)
-        requires open { self.old.end ≡ None }
+        requires open { IsOpenFor S.events S.failed self.old sink.old }
         requires stage { self.old.stage ≡ Delivering }
-        requires safe { IsSafeFor S.events S.failed self.old sink.old }
-        ensures end { self.new.end ≡ None }
         ensures ring { self.new.ring ≡ self.old.ring }
-        ensures safe { IsSafeFor S.events S.failed self.new sink.new }
-        ensures kept { Keeps S.fact sink.old sink.new }
+        ensures kept { KeepsOpen S.events S.failed S.fact self.new sink.old sink.new }
         ensures handed { IsHandedOn S.events S.failed judged self.old sink.old self.new sink.new }
     {
         let Some(Delivery { visit, verdict }) = judged else {
@@ -137,11 +132,8 @@ impl JobProgress {
 
     // Delivers what is next, as long as there is something.
     fn deliver<S: Sink>(&mut self, alloc: Global, sink: &mut S)
-        requires open { self.old.end ≡ None }
-        requires safe { IsSafeFor S.events S.failed self.old sink.old }
-        ensures end { self.new.end ≡ None }
-        ensures safe { IsSafeFor S.events S.failed self.new sink.new }
-        ensures kept { Keeps S.fact sink.old sink.new }
+        requires open { IsOpenFor S.events S.failed self.old sink.old }
+        ensures kept { KeepsOpen S.events S.failed S.fact self.new sink.old sink.new }
         ensures delivered { HasDelivered S.events S.failed self.old sink.old self.new sink.new }
     {
         while self.stage == Stage::Delivering {
@@ -154,10 +146,8 @@ impl JobProgress {
 
     // Closes the sink, where all has arrived.
     fn finish<S: Sink>(&mut self, sink: &mut S)
-        requires open { self.old.end ≡ None }
-        requires safe { IsSafeFor S.events S.failed self.old sink.old }
-        ensures safe { IsSafeFor S.events S.failed self.new sink.new }
-        ensures kept { Keeps S.fact sink.old sink.new }
+        requires open { IsOpenFor S.events S.failed self.old sink.old }
+        ensures kept { KeepsSafe S.events S.failed S.fact self.new sink.old sink.new }
         ensures finished { HasFinished S.events S.failed self.old sink.old self.new sink.new }
     {
         let Some(close) = self.close else {
@@ -201,8 +191,7 @@ impl JobProgress {
     // An item of the job came. False is one that can't come.
     pub(crate) fn receive<S: Sink>(&mut self, alloc: Global, item: Verdicted, sink: &mut S) -> bool
         requires safe { IsSafeFor S.events S.failed self.old sink.old }
-        ensures safe { IsSafeFor S.events S.failed self.new sink.new }
-        ensures kept { Keeps S.fact sink.old sink.new }
+        ensures kept { KeepsSafe S.events S.failed S.fact self.new sink.old sink.new }
         ensures ended { IsEnded self.old → IsEnded self.new }
         ensures late { IsEnded self.old → result ≡ false }
         ensures misplaced { IsMisplaced self.old item → result ≡ false }
@@ -222,9 +211,8 @@ impl JobProgress {
 
     // Notes an item, whether or not it is next.
     fn note(&mut self, item: Verdicted) -> bool
-        ensures end { self.new.end ≡ self.old.end }
+        ensures sink { LeavesSink self.old self.new }
         ensures misplaced { IsMisplaced self.old item → result ≡ false }
-        ensures safe { StaysSafe self.old self.new }
         ensures noted { IsNoted (λ all over. IsItem all over item) self.old result self.new }
     {
         match item {

@@ -24,12 +24,12 @@ receive-fine-requires g c =
     }
 
 pub returns-clause-may : goal.returns-clause-may
-returns-clause-may g c = safe_set g.S.Sink.events g.S.Sink.failed c.args.self.now.jobs.items c.args.sinks.now c.in-Some.job c.receive-fine.new.self c.receive-fine.new.sink c.receive-fine.ensures.safe c.requires.may
+returns-clause-may g c = safe_set g.S.Sink.events g.S.Sink.failed c.args.self.now.jobs.items c.args.sinks.now c.in-Some.job c.receive-fine.new.self c.receive-fine.new.sink c.receive-fine.ensures.kept.0 c.requires.may
 
 pub returns-clause-kept : goal.returns-clause-kept
 returns-clause-kept g c =
     let sink = get_or c.args.sinks.now c.in-Some.job c.index-sinks-job.result in
-    kept_set g.S.Sink.fact c.args.sinks.now c.in-Some.job sink c.receive-fine.new.sink (ap (λ (s : g.row.S.Denot). get_or c.args.sinks.now c.in-Some.job s) c.index-sinks-job.is) c.receive-fine.ensures.kept
+    kept_set g.S.Sink.fact c.args.sinks.now c.in-Some.job sink c.receive-fine.new.sink (ap (λ (s : g.row.S.Denot). get_or c.args.sinks.now c.in-Some.job s) c.index-sinks-job.is) c.receive-fine.ensures.kept.1
 
 pub returns-clause-done : goal.returns-clause-done
 returns-clause-done g c =

@@ -4,9 +4,15 @@ use Rattle.ix_collect.specs.JobProgress.{IsPoppedUnderWay}
 use Rattle.ix_collect.proofs.Deliveries.{handed_on, handed_failed, safe_on}
 use Rattle.ix_collect.proofs.job_progress.JobProgress.hand_on.Goals as goal
 
-pub returns-in-Ok-clause-safe : goal.returns-in-Ok-clause-safe
-returns-in-Ok-clause-safe g c =
-    safe_on c.args.self.now (g.S.Sink.events c.args.sink.now) (g.S.Sink.events c.deliver.new.self) (g.S.Sink.failed c.args.sink.now) (g.S.Sink.failed c.deliver.new.self) c.in-Some.field-0 c.requires.open c.requires.safe c.in-Ok.ensures.ok c.in-Ok.ensures.ok_failed
+pub returns-in-Ok-clause-kept : goal.returns-in-Ok-clause-kept
+returns-in-Ok-clause-kept g c = (
+  (
+    c.requires.open.0,
+    safe_on c.args.self.now (g.S.Sink.events c.args.sink.now) (g.S.Sink.events c.deliver.new.self) (g.S.Sink.failed c.args.sink.now) (g.S.Sink.failed c.deliver.new.self) c.in-Some.field-0 c.requires.open.0 c.requires.open.1 c.in-Ok.ensures.ok
+        c.in-Ok.ensures.ok_failed,
+  ),
+  c.deliver.ensures.kept,
+)
 
 pub returns-in-Ok-clause-handed : goal.returns-in-Ok-clause-handed
 returns-in-Ok-clause-handed g c = λ all over t w.
