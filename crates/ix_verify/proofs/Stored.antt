@@ -11,7 +11,6 @@ use Rattle.ix_store.specs.Mark.{agrees, agrees_by}
 use Rattle.ix_store.specs.Store.{Blocks, position_of}
 use Rattle.ix_store.proofs.Stores.{pair-there}
 use Rattle.ix_check.specs.Verdict.{has_codec, is_no_data}
-use Rattle.ix_check.specs.declared.verdict.Verdict.{Verdict}
 use Rattle.ix_check.specs.declared.verdict.Verdict.TheVariants.{Codec, Damaged, Malformed, Sound}
 use Rattle.ix_verify.specs.Judged.{verdict_by_hash, section_verdict}
 

@@ -67,26 +67,11 @@ pub(crate) fn judge_beside<R: Threads + Sync>(
     ensures { IfOk result (λ verdicts. verdicts.items ≡ map verdict_in sections.now) }
 {
     let mut verdicts = vec![in alloc; Verdict::Sound; sections.len()]?;
-    judge_into(rt, alloc, store, sections, threads, verdicts.as_mut_slice());
+    judge_each(rt, alloc, store, sections, threads, verdicts.as_mut_slice());
     Ok(verdicts)
 }
 
 // Writes the verdict on each section to its place.
-fn judge_into<R: Threads + Sync>(
-    rt: &R,
-    alloc: Global,
-    store: Option<&Store>,
-    sections: &[Section<'_>],
-    threads: usize,
-    verdicts: &mut [Verdict],
-)
-    requires threads { 0 < threads }
-    requires each { length verdicts.old ≡ length sections.now }
-    ensures { verdicts.new ≡ map verdict_in sections.now }
-{
-    judge_each(rt, alloc, store, sections, threads, verdicts);
-}
-
 fn judge_each<R: Threads + Sync>(
     rt: &R,
     alloc: Global,
