@@ -2,7 +2,7 @@
  *
  * WHAT EACH CALL OWES ITS CALLER. A call that returns uint32_t answers a status (below). It starts no thread,
  * waits for nothing and ends no process; want of memory is the status IX_MEMORY, and then each handle holds
- * what it held.
+ * what it held. Where the status isn't IX_DONE, what the other pointers lead to is what it was.
  *
  * WHAT THE CALLER OWES EACH CALL; nothing of it can be checked:
  *  - A handle begins as IX_EMPTY, and is written by nobody but the calls below. It isn't copied: a copy

@@ -227,6 +227,64 @@ static void tells_refusals(void) {
   ix_free(&handle);
 }
 
+/* What the calls fill that tell something. A call that isn't done leaves it as it was, by marks that no call writes. */
+typedef struct told {
+  const uint8_t *start;
+  size_t length, count;
+  uint8_t buffer[8];
+  ix_counts counts;
+  ix_skip skip;
+  uint32_t end;
+} told;
+
+#define EXPECT_LEFT(wanted, call) \
+  do { \
+    told it, marks; \
+    memset(&it, 0xa5, sizeof it), memset(&marks, 0xa5, sizeof marks); \
+    EXPECT((call) == wanted && !memcmp(&it, &marks, sizeof it)); \
+  } while (0)
+
+static void expect_no_part(ix_handle *handle, uint32_t part, uint32_t wanted) {
+  EXPECT_LEFT(wanted, ix_bytes(handle, part, &it.start, &it.length));
+  EXPECT_LEFT(wanted, ix_copy(handle, part, 0, it.buffer, sizeof it.buffer, &it.count));
+}
+
+static void expect_no_result(ix_handle *handle) {
+  EXPECT_LEFT(IX_HANDLE, ix_result_end(handle, &it.end));
+  EXPECT_LEFT(IX_HANDLE, ix_result_counts(handle, &it.counts));
+  EXPECT_LEFT(IX_HANDLE, ix_result_archive(handle, &it.start, &it.length));
+  EXPECT_LEFT(IX_HANDLE, ix_result_report(handle, &it.start, &it.length));
+  EXPECT_LEFT(IX_HANDLE, ix_result_skip(handle, 0, &it.skip, &it.start, &it.length));
+  expect_no_part(handle, IX_ARCHIVE, IX_HANDLE), expect_no_part(handle, IX_REPORT, IX_HANDLE);
+}
+
+static void expect_no_text(ix_handle *handle) {
+  EXPECT_LEFT(IX_HANDLE, ix_fault_line(handle, &it.start, &it.length));
+  expect_no_part(handle, IX_TEXT, IX_HANDLE), expect_no_part(handle, IX_TEXT + 1, IX_RANGE);
+}
+
+/* Handles that are empty or hold something else than a call is for: whatever its pointers lead to is left, and so is what the
+ * handles hold that it was to fill. */
+static void leaves_what_it_does_not_fill(void) {
+  ix_handle store = store_of_abc(), job = IX_EMPTY, out = IX_EMPTY, text = IX_EMPTY, empty = IX_EMPTY;
+  EXPECT(ix_selector_from_json(&text, BYTES("{\".\":{}}")) == IX_DONE);
+  EXPECT(ix_job_new(&job, BYTES(ABC_CID INNER_CID), BYTES(MATCHER), 9) == IX_DONE);
+  expect_no_result(&store), expect_no_text(&store);
+  EXPECT(ix_export(&store, &job, &text) == IX_HANDLE && ix_store_share(&store, &text) == IX_HANDLE);
+  EXPECT(ix_store_freeze(&store) == IX_DONE);
+  EXPECT(ix_export(&store, &empty, &text) == IX_HANDLE && ix_export(&empty, &job, &text) == IX_HANDLE);
+  EXPECT(ix_store_share(&job, &text) == IX_HANDLE && ix_store_share(&empty, &text) == IX_HANDLE);
+  EXPECT_PART(&text, IX_TEXT, "a1612ea0");
+  EXPECT(ix_export(&store, &job, &out) == IX_DONE);
+  expect_no_result(&empty), expect_no_result(&store), expect_no_result(&job), expect_no_result(&text);
+  expect_no_text(&empty), expect_no_text(&store), expect_no_text(&job), expect_no_text(&out);
+  EXPECT_LEFT(IX_RANGE, ix_result_skip(&out, 1, &it.skip, &it.start, &it.length));
+  EXPECT_LEFT(IX_RANGE, ix_result_skip(&out, SIZE_MAX, &it.skip, &it.start, &it.length));
+  expect_no_part(&out, IX_TEXT + 1, IX_RANGE), expect_no_part(&out, UINT32_MAX, IX_RANGE);
+  EXPECT(!empty.is_held && ix_job_once(&job) == IX_DONE && ix_export(&store, &job, &text) == IX_DONE);
+  ix_store_free(&store), ix_job_free(&job), ix_result_free(&out), ix_result_free(&text);
+}
+
 /* Sixty-four jobs, each with three roots of the four below, and what is wanted of each, from the formats: the roots that stand
  * for the digits of its number at base 4. The last root's block is damaged. */
 enum { JOBS = 64, ROOTS = 3, CHOICES = 4 };
@@ -468,6 +526,7 @@ int main(int count, char **words) {
     goes_in_once();
     tells_a_skip();
     tells_refusals();
+    leaves_what_it_does_not_fill();
     exports_each_job();
     EXPECT(blocks_held == 0);
   }

@@ -1,8 +1,9 @@
 -- What each call answers, by what its handles hold before and after it.
-use Rattle.std.specs.Prelude.{◌≡◌, ℕ, List, [], Option, None}
+use Rattle.std.specs.Prelude.{◌≡◌, ℕ, List, [], length, Option, Some, None, Result}
 use Rattle.ix_embedding.specs.declared.failure.Failure.{Failure}
 use Rattle.ix_embedding.specs.declared.held.Held.{Held}
 use Rattle.ix_embedding.specs.declared.held.Part.{Part}
+use Rattle.ix_embedding.specs.declared.held.Part.TheVariants.{Archive, Report, Text}
 use Rattle.ix_embedding.specs.Failures.{IsStoreFailure, IsJobFailure, IsPartsFailure, IsSelectorFailure}
 use Rattle.ix_c.specs.declared.handle.Handle.{Handle}
 use Rattle.ix_c.specs.declared.results.Counts.{Counts}
@@ -22,7 +23,20 @@ use Rattle.ix_c.specs.Answers.{
   HasShared,
   IsExported,
 }
-use Rattle.ix_c.specs.Results.{part_numbered, HasBytes, HasCopied, HasEnd, HasCounts, HasSkip}
+use Rattle.ix_c.specs.Results.{
+  part_numbered,
+  end_of,
+  counts_of,
+  skip_of,
+  cid_length,
+  export_in,
+  skip_in,
+  bytes_in,
+  of_found,
+  IsTold,
+  count_copied,
+  HasCopied,
+}
 
 -- what a handle holds
 abbrev pub content : Handle → Option Held
@@ -77,28 +91,46 @@ SharesWith store before after = HasShared (content store) (content before) (cont
 abbrev pub ExportsTo : Handle → Handle → Handle → Handle → Status → Type 0
 ExportsTo store job before after = IsExported (content store) (content job) (content before) (content after)
 
--- tells how a job ended, and how the handle stays
+-- tells of what is found in a handle, which holds what it held
+abbrev pub Tells : {A : Type 0} → (Option Held → Result A Status) → Handle → Handle → A → A → Status → Type 0
+Tells meant before after had told status = IsTold (meant (content before)) had told status × Stays before after
+
+-- how a job ended
 abbrev pub TellsEnd : Handle → Handle → ℕ → ℕ → Status → Type 0
-TellsEnd before after had told status = HasEnd (content before) had told status × Stays before after
+TellsEnd = Tells (λ content. of_found end_of (export_in content))
 
--- the same of what was counted
+-- what was counted
 abbrev pub TellsCounts : Handle → Handle → Counts → Counts → Status → Type 0
-TellsCounts before after had told status = HasCounts (content before) had told status × Stays before after
+TellsCounts = Tells (λ content. of_found counts_of (export_in content))
 
--- the same of the length of a part
-abbrev pub TellsBytes : Option Part → Handle → Handle → ℕ → ℕ → Status → Type 0
-TellsBytes part before after had length status = HasBytes part (content before) had length status × Stays before after
+-- how long a part is: the archive, the report, the text or line, and the part with a number
+abbrev pub TellsLength : Option Part → Handle → Handle → ℕ → ℕ → Status → Type 0
+TellsLength part = Tells (λ content. of_found length (bytes_in part content))
 
--- the same of the part with a number
-abbrev pub TellsPart : ℕ → Handle → Handle → ℕ → ℕ → Status → Type 0
-TellsPart part = TellsBytes (part_numbered part)
+abbrev pub TellsArchiveLength : Handle → Handle → ℕ → ℕ → Status → Type 0
+TellsArchiveLength = TellsLength (Some Archive)
 
--- the same of a skip and the length of its CID
-abbrev pub TellsSkip : ℕ → Handle → Handle → SkipTold → SkipTold → ℕ → ℕ → Status → Type 0
-TellsSkip number before after had told length_had length status =
-    HasSkip number (content before) had length_had told length status × Stays before after
+abbrev pub TellsReportLength : Handle → Handle → ℕ → ℕ → Status → Type 0
+TellsReportLength = TellsLength (Some Report)
 
--- copies bytes of the part with a number, from a place on, into a buffer, and tells how many; the handle stays
-abbrev pub Copies : ℕ → ℕ → Handle → Handle → List ℕ → List ℕ → ℕ → ℕ → Status → Type 0
-Copies part from before after had buffer count_had count status =
-    HasCopied (part_numbered part) from (content before) had count_had buffer count status × Stays before after
+abbrev pub TellsTextLength : Handle → Handle → ℕ → ℕ → Status → Type 0
+TellsTextLength = TellsLength (Some Text)
+
+abbrev pub TellsPartLength : ℕ → Handle → Handle → ℕ → ℕ → Status → Type 0
+TellsPartLength number = TellsLength (part_numbered number)
+
+-- a skip by its number, and how long its CID is
+abbrev pub TellsSkip : ℕ → Handle → Handle → SkipTold → SkipTold → Status → Type 0
+TellsSkip number = Tells (λ content. of_found skip_of (skip_in number content))
+
+abbrev pub TellsCidLength : ℕ → Handle → Handle → ℕ → ℕ → Status → Type 0
+TellsCidLength number = Tells (λ content. of_found cid_length (skip_in number content))
+
+-- tells how many bytes of the part with a number are copied into a buffer, from a place on
+abbrev pub IsCounted : ℕ → ℕ → List ℕ → Handle → ℕ → ℕ → Status → Type 0
+IsCounted part from buffer handle =
+    IsTold (of_found (count_copied from buffer) (bytes_in (part_numbered part) (content handle)))
+
+-- copies them
+abbrev pub Copies : ℕ → ℕ → Handle → List ℕ → List ℕ → Type 0
+Copies part from handle before after = HasCopied from (bytes_in (part_numbered part) (content handle)) before after

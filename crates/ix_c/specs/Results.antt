@@ -1,6 +1,6 @@
 -- What the calls of the C library tell of what a handle holds.
 use Rattle.std.specs.Prelude.{◌≡◌, ◌≢◌, ◌==◌, if◌then◌else◌, ℕ, List, ◌++◌, length, take, drop, slice_get}
-use Rattle.std.specs.Prelude.{Option, Some, None}
+use Rattle.std.specs.Prelude.{Option, Some, None, Result, Ok, Err}
 use Rattle.ix_archive.specs.declared.archive.Skip.{Skip}
 use Rattle.ix_archive.specs.declared.sink.End.{End}
 use Rattle.ix_archive.specs.declared.sink.End.TheVariants as ends
@@ -13,9 +13,11 @@ use Rattle.ix_embedding.specs.declared.held.Part.{Part}
 use Rattle.ix_embedding.specs.declared.held.Part.TheVariants as parts
 use Rattle.ix_embedding.specs.Parts.{part_of}
 use Rattle.ix_c.specs.declared.results.Counts.{Counts}
+use Rattle.ix_c.specs.declared.results.Place.{Place}
+use Rattle.ix_c.specs.declared.results.SkipPlace.{SkipPlace}
 use Rattle.ix_c.specs.declared.results.SkipTold.{SkipTold}
 use Rattle.ix_c.specs.declared.status.Status.{Status}
-use Rattle.ix_c.specs.declared.status.Status.TheVariants.{Done, Memory, Refused, Handle, Known, NoCid, Range}
+use Rattle.ix_c.specs.declared.status.Status.TheVariants.{Done, Handle, Range}
 
 -- the numbers that C has for ends, for why a visit is skipped, and for parts
 abbrev pub end_code : End → ℕ
@@ -39,42 +41,15 @@ part_numbered n =
     if n == 0 then Some parts.Archive else
     (if n == 1 then Some parts.Report else (if n == 2 then Some parts.Text else None))
 
--- a part of what a handle holds
-abbrev pub part_held : Part → Option Held → Option (List ℕ)
-part_held part None = None
-part_held part (Some content) = part_of part content
+-- What is told of an export: how the job ended, and what was counted;
+abbrev pub end_of : Exported → ℕ
+end_of out = end_code out.result.end
 
--- what a call answers that tells how long a part is, and the length before and after
-abbrev pub HasBytes : Option Part → Option Held → ℕ → ℕ → Status → Type 0
-HasBytes (Some part) content before after Done =
-    (bytes : List ℕ) × (part_held part content ≡ Some bytes) × (after ≡ length bytes)
-HasBytes (Some part) content before after Handle = (part_held part content ≡ None) × (after ≡ before)
-HasBytes None content before after Range = after ≡ before
-HasBytes part content before after other = ⊥
-
--- the bytes from a place on for which a buffer has room
-abbrev pub copied : ℕ → List ℕ → List ℕ → List ℕ
-copied from bytes buffer = take (length buffer) (drop from bytes)
-
--- a part is copied to the front of a buffer, from a place on, as far as there is room
-pub record IsCopied (bytes : List ℕ) (from : ℕ) (before after : List ℕ) (count : ℕ) : Type 0 where
-  pub counted : count ≡ length (copied from bytes before)
-  pub placed : after ≡ copied from bytes before ++ drop (length (copied from bytes before)) before
-
--- what a call answers that copies a part, with buffer and count before and after
-abbrev pub HasCopied : Option Part → ℕ → Option Held → List ℕ → ℕ → List ℕ → ℕ → Status → Type 0
-HasCopied (Some part) from content before had after count Done =
-    (bytes : List ℕ) × (part_held part content ≡ Some bytes) × IsCopied bytes from before after count
-HasCopied (Some part) from content before had after count Handle =
-    (part_held part content ≡ None) × (after ≡ before) × (count ≡ had)
-HasCopied None from content before had after count Range = (after ≡ before) × (count ≡ had)
-HasCopied part from content before had after count other = ⊥
-
-abbrev pub counts_told : Exported → Counts
-counts_told out =
+abbrev pub counts_of : Exported → Counts
+counts_of out =
     let counts = out.result.counts in
     record {
-      end = end_code out.result.end;
+      end = end_of out;
       visits = counts.visits;
       kept = counts.kept;
       sections = counts.sections;
@@ -82,34 +57,77 @@ counts_told out =
       skips = length out.result.skips.items;
     }
 
-abbrev pub skip_told : Skip → SkipTold
-skip_told s = record { visit = s.seq; why = why_code s.verdict }
+-- and of a skip, and how long its CID is
+abbrev pub skip_of : Skip → SkipTold
+skip_of s = record { visit = s.seq; why = why_code s.verdict }
 
--- the handle holds no result
-abbrev pub IsNoResult : Option Held → Type 0
-IsNoResult content = (out : Exported) → content ≢ Some (held.Exported out)
+abbrev pub cid_length : Skip → ℕ
+cid_length s = length s.cid
 
--- what a call answers that tells how a job ended, with what was told before and after
-abbrev pub HasEnd : Option Held → ℕ → ℕ → Status → Type 0
-HasEnd content before after Done =
-    (out : Exported) × (content ≡ Some (held.Exported out)) × (after ≡ end_code out.result.end)
-HasEnd content before after Handle = IsNoResult content × (after ≡ before)
-HasEnd content before after other = ⊥
+-- what is read of what a handle holds; of an empty one nothing is
+abbrev pub IsRead : {A : Type 0} → (Held → Result A Status → Type 0) → Option Held → Result A Status → Type 0
+IsRead reads None answer = answer ≡ Err Handle
+IsRead reads (Some content) answer = reads content answer
 
--- what a call answers that tells of a job, with what was told before and after
-abbrev pub HasCounts : Option Held → Counts → Counts → Status → Type 0
-HasCounts content before after Done =
-    (out : Exported) × (content ≡ Some (held.Exported out)) × (after ≡ counts_told out)
-HasCounts content before after Handle = IsNoResult content × (after ≡ before)
-HasCounts content before after other = ⊥
+-- What a call finds in a handle, or what it answers where that isn't there: what an export left,
+abbrev pub export_in : Option Held → Result Exported Status
+export_in (Some (held.Exported out)) = Ok out
+export_in content = Err Handle
 
--- what a call answers that tells of a skip, with what was told and the length of a CID before and after
-abbrev pub HasSkip : ℕ → Option Held → SkipTold → ℕ → SkipTold → ℕ → Status → Type 0
-HasSkip number content before had after count Done =
-    (out : Exported) × (skip : Skip) × (content ≡ Some (held.Exported out))
-    × (slice_get out.result.skips.items number ≡ Some skip) × (after ≡ skip_told skip) × (count ≡ length skip.cid)
-HasSkip number content before had after count Range =
-    (out : Exported) × (content ≡ Some (held.Exported out))
-    × (slice_get out.result.skips.items number ≡ None) × (after ≡ before) × (count ≡ had)
-HasSkip number content before had after count Handle = IsNoResult content × (after ≡ before) × (count ≡ had)
-HasSkip number content before had after count other = ⊥
+-- a skip of it by its number,
+abbrev pub skip_in : ℕ → Option Held → Result Skip Status
+skip_in number (Some (held.Exported out)) = numbered (slice_get out.result.skips.items number) where
+  numbered : Option Skip → Result Skip Status
+  numbered (Some skip) = Ok skip
+  numbered None = Err Range
+skip_in number content = Err Handle
+
+-- or the bytes of a part
+abbrev pub bytes_of : Part → Held → Result (List ℕ) Status
+bytes_of part content = found (part_of part content) where
+  found : Option (List ℕ) → Result (List ℕ) Status
+  found (Some bytes) = Ok bytes
+  found None = Err Handle
+
+abbrev pub bytes_in : Option Part → Option Held → Result (List ℕ) Status
+bytes_in None content = Err Range
+bytes_in (Some part) None = Err Handle
+bytes_in (Some part) (Some content) = bytes_of part content
+
+-- what is told of what was found
+abbrev pub of_found : {X A : Type 0} → (X → A) → Result X Status → Result A Status
+of_found tell (Ok found) = Ok (tell found)
+of_found tell (Err why) = Err why
+
+-- this is told: the call is done, and it stands where it was wanted; or nothing is: the call answers why, and what
+-- stood there is left
+abbrev pub IsTold : {A : Type 0} → Result A Status → A → A → Status → Type 0
+IsTold (Ok told) before after status = (status ≡ Done) × (after ≡ told)
+IsTold (Err why) before after status = (status ≡ why) × (after ≡ before)
+
+-- unless a call is done, what a pointer leads to is left
+abbrev pub IsLeft : {A : Type 0} → A → A → Status → Type 0
+IsLeft before after status = status ≢ Done → after ≡ before
+
+-- where bytes stand that were found, known by how many they are; where a skip does, known by what is told of it too
+abbrev pub IsPlaced : Result (List ℕ) Status → Result Place Status → Type 0
+IsPlaced found place = of_found (λ p. p.length) place ≡ of_found length found
+
+abbrev pub IsSkipPlaced : Result Skip Status → Result SkipPlace Status → Type 0
+IsSkipPlaced found place =
+    (of_found (λ p. p.told) place ≡ of_found skip_of found)
+    × (of_found (λ p. p.cid.length) place ≡ of_found cid_length found)
+
+-- the bytes from a place on for which a buffer has room
+abbrev pub copied : ℕ → List ℕ → List ℕ → List ℕ
+copied from buffer bytes = take (length buffer) (drop from bytes)
+
+-- how many there are
+abbrev pub count_copied : ℕ → List ℕ → List ℕ → ℕ
+count_copied from buffer bytes = length (copied from buffer bytes)
+
+-- the bytes that were found are copied to the front of a buffer, from a place on; where none were found, it is left
+abbrev pub HasCopied : ℕ → Result (List ℕ) Status → List ℕ → List ℕ → Type 0
+HasCopied from (Ok bytes) before after =
+    after ≡ copied from before bytes ++ drop (count_copied from before bytes) before
+HasCopied from (Err why) before after = after ≡ before

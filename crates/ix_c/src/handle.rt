@@ -1,10 +1,13 @@
 //! Handles.
 
 ghost use Rattle.std.specs.Prelude.{◌≡◌, None, Some, IfSome, IfNone};
+ghost use Rattle.std.specs.Fn.{FnOnceReturnsAt};
 ghost use Rattle.ix_c.specs.Holding.{is_some};
+ghost use Rattle.ix_c.specs.Results.{IsRead};
 
 use crate::loose::Loose;
 use crate::pointed::Pointed;
+use crate::status::Status;
 use ix_embedding::Held;
 use std::alloc::Global;
 use std::mem;
@@ -69,5 +72,23 @@ impl Handle {
         ensures { self.new.pointed.value ≡ Some held.value }
     {
         mem::replace(self, Handle::of(held)).into_box(alloc);
+    }
+
+    /// What is read of what the handle holds, which stays there. Of an empty one nothing is.
+    pub(crate) fn read<T: Drop, F: FnOnce(&Held) -> Result<T, Status>>(
+        &mut self,
+        alloc: Global,
+        reads: F,
+    ) -> Result<T, Status>
+        requires { F.IsAlwaysCallable reads }
+        ensures read { IsRead (FnOnceReturnsAt F.FnOnce reads) self.old.pointed.value result }
+        ensures kept { self.new.pointed.value ≡ self.old.pointed.value }
+    {
+        let Some(held) = self.take(alloc) else {
+            return Err(Status::Handle);
+        };
+        let read = reads(&held);
+        self.put(alloc, held);
+        read
     }
 }

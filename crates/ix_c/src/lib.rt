@@ -2,11 +2,10 @@
 //!
 //! Each call answers the number of a `Status`. It works on handles that C keeps, each a struct of two
 //! fields, and starts no thread, waits for nothing and ends no process. A frozen store is shared by as
-//! many handles as there are threads.
+//! many handles as there are threads. Where a call isn't done, what its pointers lead to is left.
 #![tactic(auto)]
 
-ghost use Rattle.std.specs.Prelude.{◌≡◌, Some};
-ghost use Rattle.ix_embedding.specs.declared.held.Part.TheVariants.{Archive, Report, Text};
+ghost use Rattle.std.specs.Prelude.{◌≡◌};
 ghost use Rattle.ix_c.specs.Answers.{Told};
 ghost use Rattle.ix_c.specs.Calls.{
   Stays,
@@ -23,11 +22,16 @@ ghost use Rattle.ix_c.specs.Calls.{
   ExportsTo,
   TellsEnd,
   TellsCounts,
-  TellsBytes,
-  TellsPart,
+  TellsArchiveLength,
+  TellsReportLength,
+  TellsTextLength,
+  TellsPartLength,
   TellsSkip,
+  TellsCidLength,
+  IsCounted,
   Copies,
 };
+ghost use Rattle.ix_c.specs.Results.{IsLeft};
 
 mod exporting;
 mod filling;
@@ -205,7 +209,8 @@ pub extern "C" fn ix_result_archive(
     archive: &mut *const u8,
     length: &mut usize,
 ) -> u32
-    ensures { Told (TellsBytes (Some Archive) handle.old handle.new length.old length.new) result }
+    ensures told { Told (TellsArchiveLength handle.old handle.new length.old length.new) result }
+    ensures left { Told (IsLeft archive.old archive.new) result }
 {
     results::part_bytes(alloc, handle, Part::Archive, archive, length).code()
 }
@@ -220,7 +225,9 @@ pub extern "C" fn ix_result_skip(
     cid: &mut *const u8,
     length: &mut usize,
 ) -> u32
-    ensures { Told (TellsSkip number handle.old handle.new skip.old skip.new length.old length.new) result }
+    ensures skip { Told (TellsSkip number handle.old handle.new skip.old skip.new) result }
+    ensures cid { Told (TellsCidLength number handle.old handle.new length.old length.new) result }
+    ensures left { Told (IsLeft cid.old cid.new) result }
 {
     results::result_skip(alloc, handle, number, skip, cid, length).code()
 }
@@ -233,7 +240,8 @@ pub extern "C" fn ix_result_report(
     report: &mut *const u8,
     length: &mut usize,
 ) -> u32
-    ensures { Told (TellsBytes (Some Report) handle.old handle.new length.old length.new) result }
+    ensures told { Told (TellsReportLength handle.old handle.new length.old length.new) result }
+    ensures left { Told (IsLeft report.old report.new) result }
 {
     results::part_bytes(alloc, handle, Part::Report, report, length).code()
 }
@@ -246,7 +254,8 @@ pub extern "C" fn ix_fault_line(
     line: &mut *const u8,
     length: &mut usize,
 ) -> u32
-    ensures { Told (TellsBytes (Some Text) handle.old handle.new length.old length.new) result }
+    ensures told { Told (TellsTextLength handle.old handle.new length.old length.new) result }
+    ensures left { Told (IsLeft line.old line.new) result }
 {
     results::part_bytes(alloc, handle, Part::Text, line, length).code()
 }
@@ -260,7 +269,8 @@ pub extern "C" fn ix_bytes(
     start: &mut *const u8,
     length: &mut usize,
 ) -> u32
-    ensures { Told (TellsPart part handle.old handle.new length.old length.new) result }
+    ensures told { Told (TellsPartLength part handle.old handle.new length.old length.new) result }
+    ensures left { Told (IsLeft start.old start.new) result }
 {
     results::bytes(alloc, handle, part, start, length).code()
 }
@@ -275,7 +285,9 @@ pub extern "C" fn ix_copy(
     buffer: &mut [u8],
     count: &mut usize,
 ) -> u32
-    ensures { Told (Copies part from handle.old handle.new buffer.old buffer.new count.old count.new) result }
+    ensures copied { Copies part from handle.old buffer.old buffer.new }
+    ensures count { Told (IsCounted part from buffer.old handle.old count.old count.new) result }
+    ensures kept { Stays handle.old handle.new }
 {
     results::copy(alloc, handle, part, from, buffer, count).code()
 }

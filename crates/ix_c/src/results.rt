@@ -1,19 +1,36 @@
 //! What a handle holds, as C reads it.
 
-ghost use Rattle.std.specs.Prelude.{◌≡◌, Some};
-ghost use Rattle.ix_c.specs.Calls.{content, Stays, Copies};
+ghost use Rattle.std.specs.Prelude.{◌≡◌, Some, Ok, length};
+ghost use denote.RawPtr.{block_ptr};
+ghost use Rattle.ix_c.specs.Calls.{
+  Stays,
+  TellsEnd,
+  TellsCounts,
+  TellsLength,
+  TellsPartLength,
+  TellsSkip,
+  TellsCidLength,
+  IsCounted,
+  Copies,
+};
 ghost use Rattle.ix_c.specs.Results.{
   end_code,
   why_code,
   part_numbered,
-  counts_told,
-  skip_told,
-  HasBytes,
+  end_of,
+  counts_of,
+  skip_of,
+  cid_length,
+  export_in,
+  skip_in,
+  bytes_of,
+  of_found,
+  IsTold,
+  IsLeft,
+  IsPlaced,
+  IsSkipPlaced,
+  count_copied,
   HasCopied,
-  IsCopied,
-  HasEnd,
-  HasCounts,
-  HasSkip,
 };
 
 use crate::handle::Handle;
@@ -92,6 +109,59 @@ fn part_numbered(number: u32) -> Option<Part>
     }
 }
 
+// Where bytes begin, and how many they are.
+#[derive(Drop)]
+struct Place {
+    start: *const u8,
+    length: usize,
+}
+
+fn place_of(bytes: &[u8]) -> Place
+    ensures start { result.start ≡ block_ptr bytes.entry.ref_ptr.0 bytes.entry.ref_ptr.1 }
+    ensures length { result.length ≡ length bytes.now }
+{
+    Place {
+        start: start_of(bytes),
+        length: bytes.len(),
+    }
+}
+
+// A visit that was skipped, and where its CID stands.
+#[derive(Drop)]
+struct SkipPlace {
+    told: SkipTold,
+    cid: Place,
+}
+
+// Has what is told stand where it is wanted, or leaves that, and answers what came of it.
+fn tell<T: Drop>(told: Result<T, Status>, wanted: &mut T) -> Status
+    ensures { IsTold told wanted.old wanted.new result }
+{
+    match told {
+        Ok(told) => {
+            *wanted = told;
+            Status::Done
+        }
+        Err(why) => why,
+    }
+}
+
+// The same of where bytes begin and how many they are.
+fn tell_place(found: Result<Place, Status>, start: &mut *const u8, length: &mut usize) -> Status
+    ensures told { IsTold (of_found (λ place. place.length) found) length.old length.new result }
+    ensures left { IsLeft start.old start.new result }
+{
+    match found {
+        Ok(place) => {
+            let at = place.start;
+            *start = at;
+            *length = place.length;
+            Status::Done
+        }
+        Err(no_bytes) => no_bytes,
+    }
+}
+
 /// Where the bytes of the part with a number begin and how many they are. They stay there until the handle is
 /// filled or freed.
 pub(crate) fn bytes(
@@ -101,8 +171,8 @@ pub(crate) fn bytes(
     start: &mut *const u8,
     length: &mut usize,
 ) -> Status
-    ensures bytes { HasBytes (part_numbered part) (content handle.old) length.old length.new result }
-    ensures kept { Stays handle.old handle.new }
+    ensures told { TellsPartLength part handle.old handle.new length.old length.new result }
+    ensures left { IsLeft start.old start.new result }
 {
     match part_numbered(part) {
         Some(part) => part_bytes(alloc, handle, part, start, length),
@@ -118,27 +188,24 @@ pub(crate) fn part_bytes(
     start: &mut *const u8,
     length: &mut usize,
 ) -> Status
-    ensures bytes { HasBytes (Some part) (content handle.old) length.old length.new result }
-    ensures kept { Stays handle.old handle.new }
+    ensures told { TellsLength (Some part) handle.old handle.new length.old length.new result }
+    ensures left { IsLeft start.old start.new result }
 {
-    let Some(held) = handle.take(alloc) else {
-        return Status::Handle;
-    };
-    let status = bytes_of(&held, part, start, length);
-    handle.put(alloc, held);
-    status
+    tell_place(
+        handle.read(alloc, |held| bytes_of(held, part)),
+        start,
+        length,
+    )
 }
 
 // Where the bytes of a part begin and how many they are, if there is such a one.
-fn bytes_of(held: &Held, part: Part, start: &mut *const u8, length: &mut usize) -> Status
-    ensures { HasBytes (Some part) (Some held.now) length.old length.new result }
+fn bytes_of(held: &Held, part: Part) -> Result<Place, Status>
+    ensures { IsPlaced (bytes_of part held.now) result }
 {
-    let Some(bytes) = held.bytes(part) else {
-        return Status::Handle;
-    };
-    *start = start_of(bytes);
-    *length = bytes.len();
-    Status::Done
+    match held.bytes(part) {
+        Some(bytes) => Ok(place_of(bytes)),
+        None => Err(Status::Handle),
+    }
 }
 
 /// Copies bytes of a part from a place on into a buffer, as many as there are and have room.
@@ -150,7 +217,9 @@ pub(crate) fn copy(
     buffer: &mut [u8],
     count: &mut usize,
 ) -> Status
-    ensures { Copies part from handle.old handle.new buffer.old buffer.new count.old count.new result }
+    ensures copied { Copies part from handle.old buffer.old buffer.new }
+    ensures count { IsCounted part from buffer.old handle.old count.old count.new result }
+    ensures kept { Stays handle.old handle.new }
 {
     let Some(part) = part_numbered(part) else {
         return Status::Range;
@@ -158,25 +227,26 @@ pub(crate) fn copy(
     let Some(held) = handle.take(alloc) else {
         return Status::Handle;
     };
-    let status = copy_of(&held, part, from, buffer, count);
+    let copied = copy_of(&held, part, from, buffer);
     handle.put(alloc, held);
-    status
+    tell(copied, count)
 }
 
-// Copies bytes of a part, if there is such a one.
-fn copy_of(held: &Held, part: Part, from: usize, buffer: &mut [u8], count: &mut usize) -> Status
-    ensures { HasCopied (Some part) from (Some held.now) buffer.old count.old buffer.new count.new result }
+// Copies bytes of a part, if there is such a one, and says how many.
+fn copy_of(held: &Held, part: Part, from: usize, buffer: &mut [u8]) -> Result<usize, Status>
+    ensures copied { HasCopied from (bytes_of part held.now) buffer.old buffer.new }
+    ensures count { result ≡ of_found (count_copied from buffer.old) (bytes_of part held.now) }
 {
-    let Some(bytes) = held.bytes(part) else {
-        return Status::Handle;
-    };
-    *count = copy_from(bytes, from, buffer);
-    Status::Done
+    match held.bytes(part) {
+        Some(bytes) => Ok(copy_from(bytes, from, buffer)),
+        None => Err(Status::Handle),
+    }
 }
 
 // Copies bytes from a place on, as many as there are and have room, and says how many.
 fn copy_from(bytes: &[u8], from: usize, buffer: &mut [u8]) -> usize
-    ensures { IsCopied bytes.now from buffer.old buffer.new result }
+    ensures copied { HasCopied from (Ok bytes.now) buffer.old buffer.new }
+    ensures count { result ≡ count_copied from buffer.old bytes.now }
 {
     let Some(rest) = bytes.get(from..) else {
         return 0;
@@ -188,55 +258,41 @@ fn copy_from(bytes: &[u8], from: usize, buffer: &mut [u8]) -> usize
 
 /// How a job that was exported ended.
 pub(crate) fn result_end(alloc: Global, handle: &mut Handle, end: &mut u32) -> Status
-    ensures end { HasEnd (content handle.old) end.old end.new result }
-    ensures kept { Stays handle.old handle.new }
+    ensures { TellsEnd handle.old handle.new end.old end.new result }
 {
-    let Some(held) = handle.take(alloc) else {
-        return Status::Handle;
-    };
-    let status = end_of(&held, end);
-    handle.put(alloc, held);
-    status
+    tell(handle.read(alloc, end_of), end)
 }
 
 // How a job ended, if this is what an export left.
-fn end_of(held: &Held, end: &mut u32) -> Status
-    ensures { HasEnd (Some held.now) end.old end.new result }
+fn end_of(held: &Held) -> Result<u32, Status>
+    ensures { result ≡ of_found end_of (export_in (Some held.now)) }
 {
-    let Held::Exported(out) = held else {
-        return Status::Handle;
-    };
-    *end = end_code(out.result.end);
-    Status::Done
+    match held {
+        Held::Exported(out) => Ok(end_code(out.result.end)),
+        _ => Err(Status::Handle),
+    }
 }
 
 /// What is told of a job that was exported.
 pub(crate) fn result_counts(alloc: Global, handle: &mut Handle, counts: &mut Counts) -> Status
-    ensures counts { HasCounts (content handle.old) counts.old counts.new result }
-    ensures kept { Stays handle.old handle.new }
+    ensures { TellsCounts handle.old handle.new counts.old counts.new result }
 {
-    let Some(held) = handle.take(alloc) else {
-        return Status::Handle;
-    };
-    let status = counts_of(&held, counts);
-    handle.put(alloc, held);
-    status
+    tell(handle.read(alloc, counts_of), counts)
 }
 
 // What is told of a job, if this is what an export left.
-fn counts_of(held: &Held, counts: &mut Counts) -> Status
-    ensures { HasCounts (Some held.now) counts.old counts.new result }
+fn counts_of(held: &Held) -> Result<Counts, Status>
+    ensures { result ≡ of_found counts_of (export_in (Some held.now)) }
 {
-    let Held::Exported(out) = held else {
-        return Status::Handle;
-    };
-    *counts = counts_told(out);
-    Status::Done
+    match held {
+        Held::Exported(out) => Ok(counts_told(out)),
+        _ => Err(Status::Handle),
+    }
 }
 
 // What is told of a job.
 fn counts_told(out: &Exported) -> Counts
-    ensures { result ≡ counts_told out.now }
+    ensures { result ≡ counts_of out.now }
 {
     let counts = out.result.counts;
     Counts {
@@ -258,46 +314,42 @@ pub(crate) fn result_skip(
     cid: &mut *const u8,
     length: &mut usize,
 ) -> Status
-    ensures skip { HasSkip number (content handle.old) skip.old length.old skip.new length.new result }
-    ensures kept { Stays handle.old handle.new }
+    ensures skip { TellsSkip number handle.old handle.new skip.old skip.new result }
+    ensures cid { TellsCidLength number handle.old handle.new length.old length.new result }
+    ensures left { IsLeft cid.old cid.new result }
 {
-    let Some(held) = handle.take(alloc) else {
-        return Status::Handle;
-    };
-    let status = skip_of(&held, number, skip, cid, length);
-    handle.put(alloc, held);
-    status
+    match handle.read(alloc, |held| skip_of(held, number)) {
+        Ok(found) => {
+            *skip = found.told;
+            tell_place(Ok(found.cid), cid, length)
+        }
+        Err(no_skip) => no_skip,
+    }
 }
 
 // A visit that was skipped, if this is what an export left.
-fn skip_of(
-    held: &Held,
-    number: usize,
-    skip: &mut SkipTold,
-    cid: &mut *const u8,
-    length: &mut usize,
-) -> Status
-    ensures { HasSkip number (Some held.now) skip.old length.old skip.new length.new result }
+fn skip_of(held: &Held, number: usize) -> Result<SkipPlace, Status>
+    ensures { IsSkipPlaced (skip_in number (Some held.now)) result }
 {
     let Held::Exported(out) = held else {
-        return Status::Handle;
+        return Err(Status::Handle);
     };
-    let Some(told) = out.result.skips.get(number) else {
-        return Status::Range;
-    };
-    *skip = skip_told(told);
-    let bytes = told.cid.as_bytes();
-    *cid = start_of(bytes);
-    *length = bytes.len();
-    Status::Done
+    match out.result.skips.get(number) {
+        Some(skip) => Ok(skip_place(skip)),
+        None => Err(Status::Range),
+    }
 }
 
-// What is told of a skip.
-fn skip_told(skip: &Skip) -> SkipTold
-    ensures { result ≡ skip_told skip.now }
+// What is told of a skip, and where its CID stands.
+fn skip_place(skip: &Skip) -> SkipPlace
+    ensures told { result.told ≡ skip_of skip.now }
+    ensures length { result.cid.length ≡ cid_length skip.now }
 {
-    SkipTold {
-        visit: skip.seq,
-        why: why_code(skip.verdict),
+    SkipPlace {
+        told: SkipTold {
+            visit: skip.seq,
+            why: why_code(skip.verdict),
+        },
+        cid: place_of(skip.cid.as_bytes()),
     }
 }
