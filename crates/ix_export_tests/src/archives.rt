@@ -9,35 +9,29 @@ ghost use Rattle.ix_pipeline.specs.Planned.{IsPlan};
 
 use crate::exporting::{chain, exported, list, plan_of};
 use ix_archive::{Archive, Counts, End, Skip};
-use ix_check::{Check, ShaCheck, Verdict};
-use ix_fixtures::{CHAIN_ARCHIVE, LIST_ARCHIVE, Refusing, bytes_of};
+use ix_check::{Check, ShaCheck};
+use ix_fixtures::{Awaited, Before, CheckAfter, Refusing, TURNS, chain_archive, list_archive};
 use ix_pipeline::{Gate, Open, Outcome, Plan};
 use ix_store::Store;
 use ix_walk::{Job, Visit};
 use std::alloc::{AllocError, Global};
 use std::process::Abort;
-use std::sync::atomic::{AtomicBool, Ordering};
 use std::sync::{Arc, Wait};
 use std::test::Fail;
-use std::thread::{self, Threads};
-
-// How often a side looks whether the other began.
-const TURNS: u32 = 10_000_000;
+use std::thread::Threads;
 
 // Two sides that are to meet.
 #[derive(Drop)]
 struct Meeting {
-    first: AtomicBool,
-    second: AtomicBool,
-    is_missed: AtomicBool,
+    first: Awaited,
+    second: Awaited,
 }
 
 impl Meeting {
     fn new() -> Meeting {
         Meeting {
-            first: AtomicBool::new(false),
-            second: AtomicBool::new(false),
-            is_missed: AtomicBool::new(false),
+            first: Awaited::new(1),
+            second: Awaited::new(1),
         }
     }
 
@@ -48,44 +42,36 @@ impl Meeting {
         } else {
             (&self.second, &self.first)
         };
-        mine.store(true, Ordering::SeqCst);
-        for _ in 0..TURNS {
-            if other.load(Ordering::SeqCst) {
-                return;
-            }
-            thread::yield_now();
-        }
-        self.is_missed.store(true, Ordering::SeqCst);
+        mine.tell();
+        other.wait(TURNS);
     }
 
     // Whether both sides began, and neither missed the other.
     fn is_met(&self) -> bool {
-        self.first.load(Ordering::SeqCst)
-            && self.second.load(Ordering::SeqCst)
-            && !self.is_missed.load(Ordering::SeqCst)
+        let is_missed = self.first.is_missed() || self.second.is_missed();
+        self.first.has_begun() && self.second.has_begun() && !is_missed
     }
 }
 
-// Checks as `ShaCheck` does, once a call on the check of the other side began.
+// Holds each check of one side until a call on the check of the other began.
 #[derive(Drop)]
 struct Held<'a> {
-    check: ShaCheck,
     meeting: &'a Meeting,
     is_first: bool,
 }
 
-impl Check for Held<'_> {
-    ghost checked = { λ c. c.check };
-
-    fn check(
-        &mut self,
-        alloc: Global,
-        store: &Store,
-        visit: &Visit,
-    ) -> Result<Verdict, AllocError> {
+impl Before for Held<'_> {
+    fn before(&self, _visit: &Visit) -> Result<(), AllocError> {
         self.meeting.meet(self.is_first);
-        self.check.check(alloc, store, visit)
+        Ok(())
     }
+}
+
+// A check of one side.
+fn check_of<'a>(alloc: Global, meeting: &'a Meeting, is_first: bool) -> CheckAfter<Held<'a>>
+    ensures { result.check ≡ [] }
+{
+    CheckAfter::new(alloc, Held { meeting, is_first })
 }
 
 // Holds the walker of each of two jobs at its first visit until the walk of the other began.
@@ -170,12 +156,14 @@ where
     Ok((all_left, out))
 }
 
-// Whether so many jobs are done, each with this archive.
-fn are_done(all_left: &[Left], ends: &[End], count: usize, whole: &[u8]) -> bool {
-    all_left.len() == count
-        && ends.len() == count
-        && ends.iter().all(|end| *end == End::Done)
-        && all_left.iter().all(|left| left.bytes.as_slice() == whole)
+// Whether so many jobs over the chain are done, each with its whole archive.
+fn are_done(alloc: Global, all_left: &[Left], ends: &[End], count: usize) -> Result<bool, Fail> {
+    let whole = chain_archive(alloc)?;
+    let are_whole = all_left
+        .iter()
+        .all(|left| left.bytes.as_slice() == whole.as_slice());
+    let all_done = ends.iter().all(|end| *end == End::Done);
+    Ok(all_left.len() == count && ends.len() == count && all_done && are_whole)
 }
 
 #[test]
@@ -183,32 +171,17 @@ fn held_verifiers(rt: HostRuntime) -> Result<(), Fail> {
     let alloc = rt.alloc();
     let (store, jobs) = chain(alloc, 1)?;
     let meeting = Meeting::new();
-    let first = Held {
-        check: ShaCheck::new(alloc),
-        meeting: &meeting,
-        is_first: true,
-    };
-    let second = Held {
-        check: ShaCheck::new(alloc),
-        meeting: &meeting,
-        is_first: false,
-    };
-    let checks = vec![in alloc; first, second]?;
+    let checks = vec![in alloc;
+        check_of(alloc, &meeting, true),
+        check_of(alloc, &meeting, false),
+    ]?;
     let plan = plan_of(1, 256, 64);
     let (all_left, out) = archived(&rt, alloc, &store, &jobs, checks, &Open, plan)?;
     assert!(rt;
         meeting.is_met(),
         "a check didn't begin while the other waited"
     );
-    let whole = bytes_of(alloc, CHAIN_ARCHIVE.as_slice())?;
-    assert!(rt;
-        are_done(
-            all_left.as_slice(),
-            out.ends.as_slice(),
-            1,
-            whole.as_slice()
-        )
-    );
+    assert!(rt; are_done(alloc, all_left.as_slice(), out.ends.as_slice(), 1)?);
     Ok(())
 }
 
@@ -226,15 +199,7 @@ fn held_walkers(rt: HostRuntime) -> Result<(), Fail> {
         gate.meeting.is_met(),
         "a walk didn't begin while the other waited"
     );
-    let whole = bytes_of(alloc, CHAIN_ARCHIVE.as_slice())?;
-    assert!(rt;
-        are_done(
-            all_left.as_slice(),
-            out.ends.as_slice(),
-            2,
-            whole.as_slice()
-        )
-    );
+    assert!(rt; are_done(alloc, all_left.as_slice(), out.ends.as_slice(), 2)?);
     Ok(())
 }
 
@@ -257,18 +222,15 @@ fn has_begun(rt: &impl Abort, left: &Left, sections: u32, bytes: u64, whole: &[u
 fn refused_memory(rt: HostRuntime) -> Result<(), Fail> {
     let alloc = rt.alloc();
     let (store, jobs) = chain(alloc, 2)?;
-    let first = Refusing {
-        check: ShaCheck::new(alloc),
-    };
-    let second = Refusing {
-        check: ShaCheck::new(alloc),
-    };
-    let checks = vec![in alloc; first, second]?;
+    let checks = vec![in alloc;
+        CheckAfter::new(alloc, Refusing),
+        CheckAfter::new(alloc, Refusing),
+    ]?;
     let plan = plan_of(2, 256, 64);
     let (all_left, out) = archived(&rt, alloc, &store, &jobs, checks, &Open, plan)?;
     assert!(rt; out.ends.as_slice() == [End::Memory, End::Done].as_slice());
     assert_eq!(rt; all_left.len(), 2);
-    let whole = bytes_of(alloc, CHAIN_ARCHIVE.as_slice())?;
+    let whole = chain_archive(alloc)?;
     for (left, (sections, bytes)) in all_left.iter().zip([(2, 217), (4, 336)]) {
         has_begun(&rt, left, sections, bytes, whole.as_slice());
     }
@@ -291,7 +253,7 @@ fn says_what_was_written(rt: &impl Abort, end: End, written: &[u8], whole: &[u8]
 fn ends_say_what_was_written(rt: HostRuntime) -> Result<(), Fail> {
     let alloc = rt.alloc();
     let (store, jobs) = list(alloc, 3)?;
-    let whole = bytes_of(alloc, LIST_ARCHIVE.as_slice())?;
+    let whole = list_archive(alloc)?;
     let checks = vec![in alloc; ShaCheck::new(alloc), ShaCheck::new(alloc)]?;
     let plan = plan_of(2, 256, 64);
     let (all_left, out) = archived(&rt, alloc, &store, &jobs, checks, &Open, plan)?;

@@ -1,7 +1,7 @@
 //! As many jobs as there may be, by as many threads, which have room for one item.
 
-use crate::input::{CHAIN_CAR, CHAIN_JOBS};
-use ix_fixtures::{CHAIN_ARCHIVE, bytes_of};
+use crate::input::{CHAIN_JOBS, chain_car};
+use ix_fixtures::chain_archive;
 use ix_pipeline::Plan;
 use ix_run::{RunOut, prepare, run};
 use std::alloc::{AllocError, Global};
@@ -83,7 +83,7 @@ fn run_all<R: Threads + Wait + Sync>(
     alloc: Global,
     yields: u32,
 ) -> Result<RunOut<Slow>, Fail> {
-    let car = bytes_of(alloc, CHAIN_CAR.as_slice())?;
+    let car = chain_car(alloc)?;
     let (store, jobs) = prepare(alloc, car.as_slice(), job_file(alloc)?.as_bytes())?;
     let writers = writers(alloc, yields)?;
     if jobs.len() != writers.len() {
@@ -114,7 +114,7 @@ fn are_whole<R: Threads + Wait + Sync>(
     runs: u32,
     yields: u32,
 ) -> Result<bool, Fail> {
-    let archive = bytes_of(alloc, CHAIN_ARCHIVE.as_slice())?;
+    let archive = chain_archive(alloc)?;
     let report = wanted_report(alloc)?;
     for _ in 0..runs {
         let out = run_all(rt, alloc, yields)?;

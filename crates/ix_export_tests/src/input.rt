@@ -1,26 +1,18 @@
 //! The two files of a run.
 
-use ix_fixtures::{ABC, INNER, INNER_BLOCK, ONE_LINK, ONE_LINK_BLOCK, OUTER, OUTER_BLOCK};
+use ix_fixtures::{CHAIN, bytes_of, sections_of};
+use std::alloc::Global;
+use std::test::Fail;
 
 // A header of a CARv1 file without roots.
 const HEADER: &str = "11a265726f6f7473806776657273696f6e01";
 
-/// A file of four blocks, each linked by the one before.
-pub const CHAIN_CAR: [&str; 13] = [
-    HEADER,
-    "4e",
-    OUTER,
-    OUTER_BLOCK,
-    "4e",
-    INNER,
-    INNER_BLOCK,
-    "4e",
-    ONE_LINK,
-    ONE_LINK_BLOCK,
-    "27",
-    ABC,
-    "616263",
-];
+/// A file of the four blocks of the chain.
+pub fn chain_car(alloc: Global) -> Result<Vec<u8>, Fail> {
+    let mut car = bytes_of(alloc, &[HEADER])?;
+    car.extend_from_slice(sections_of(alloc, CHAIN.as_slice())?.as_slice())?;
+    Ok(car)
+}
 
 /// Everything below the first of them, for two jobs.
 pub const CHAIN_JOBS: &str =

@@ -3,9 +3,9 @@
 ghost use Rattle.std.specs.Prelude.{◌≡◌, ◌≤◌, [], length, IfOk};
 ghost use Rattle.std.specs.Arc.{arc_value};
 
-use crate::input::{CHAIN_CAR, CHAIN_JOBS};
+use crate::input::{CHAIN_JOBS, chain_car};
 use ix_check::{Check, ShaCheck};
-use ix_fixtures::{CHAIN_ARCHIVE, Refusing, bytes_of};
+use ix_fixtures::{CHAIN, CheckAfter, OUTER, Refusing, archive_of, chain_archive};
 use ix_jobs::{JobResult, report, status};
 use ix_run::{prepare, run_jobs};
 use ix_store::Store;
@@ -48,7 +48,7 @@ struct Ran<W> {
 fn two_jobs(alloc: Global) -> Result<(Arc<Store>, Arc<Vec<Job>>), Fail>
     ensures { IfOk result (λ p. length (arc_value p.1).items ≡ 2) }
 {
-    let car = bytes_of(alloc, CHAIN_CAR.as_slice())?;
+    let car = chain_car(alloc)?;
     let (store, jobs) = prepare(alloc, car.as_slice(), CHAIN_JOBS.as_bytes())?;
     if jobs.len() != 2 {
         return Err("two jobs were wanted".into());
@@ -92,8 +92,8 @@ fn tells<W>(ran: &Ran<W>, report: &str) -> bool {
 
 // Whether the first writer has the archive up to its third section, and the second has all of it.
 fn are_cut_and_whole(alloc: Global, writers: &[Vec<u8>]) -> Result<bool, Fail> {
-    let beginning = bytes_of(alloc, &CHAIN_ARCHIVE[..9])?;
-    let whole = bytes_of(alloc, CHAIN_ARCHIVE.as_slice())?;
+    let beginning = archive_of(alloc, OUTER, &CHAIN[..2])?;
+    let whole = chain_archive(alloc)?;
     Ok(match writers {
         [first, second] => *first == beginning && *second == whole,
         _ => false,
@@ -104,9 +104,7 @@ fn are_cut_and_whole(alloc: Global, writers: &[Vec<u8>]) -> Result<bool, Fail> {
 fn want_of_memory(rt: HostRuntime) -> Result<(), Fail> {
     let alloc = rt.alloc();
     let (store, jobs) = two_jobs(alloc)?;
-    let mut check = Refusing {
-        check: ShaCheck::new(alloc),
-    };
+    let mut check = CheckAfter::new(alloc, Refusing);
     let writers = vec![in alloc; Vec::new(alloc), Vec::new(alloc)]?;
     let ran = run_two(alloc, &store, jobs.as_slice(), writers, &mut check)?;
     let report = "a memory visits=2 kept=2 sections=2 bytes=217\n\
@@ -127,7 +125,7 @@ fn empty_writer(alloc: Global, fails: bool) -> Flushed {
 
 // Whether two writers have the archive.
 fn are_whole(alloc: Global, writers: &[Flushed]) -> Result<bool, Fail> {
-    let whole = bytes_of(alloc, CHAIN_ARCHIVE.as_slice())?;
+    let whole = chain_archive(alloc)?;
     Ok(writers.len() == 2 && writers.iter().all(|writer| writer.bytes == whole))
 }
 

@@ -7,7 +7,7 @@ ghost use Rattle.ix_pipeline.specs.Headline.{EachUnused};
 use crate::exporting::{exported, list, plan_of};
 use ix_archive::End;
 use ix_check::{ShaCheck, Verdict};
-use ix_fixtures::{ABC, ALL, Log, ONE_LINK, ONE_LINK_BLOCK, job_of, store_of};
+use ix_fixtures::{ABC_SECTION, ALL, Log, ONE_LINK, ONE_LINK_SECTION, job_of, store_of};
 use ix_pipeline::{Open, export_plain};
 use ix_store::Store;
 use ix_walk::Job;
@@ -50,7 +50,7 @@ fn plain_ends(
 #[test]
 fn ends_and_receipts(rt: HostRuntime) -> Result<(), Fail> {
     let alloc = rt.alloc();
-    let store = store_of(alloc, &[(ABC, "616263"), (ONE_LINK, ONE_LINK_BLOCK)])?;
+    let store = store_of(alloc, &[ABC_SECTION, ONE_LINK_SECTION])?;
     let jobs = two_jobs(alloc)?;
     let mut check = ShaCheck::new(alloc);
     let ends = plain_ends(alloc, &store, &jobs, &mut check)?;

@@ -4,16 +4,12 @@
 //! refuses them: bit i of `REFUSE_THREADS` for the thread start with number i, verifiers before walkers.
 //! Without it all threads are started.
 
-ghost use Rattle.std.specs.Prelude.{◌≡◌, []};
-
 use crate::exporting::{exported, list, plan_of};
 use ix_archive::End;
-use ix_check::{Check, ShaCheck, Verdict};
-use ix_fixtures::Log;
+use ix_fixtures::{Before, CheckAfter, Log};
 use ix_pipeline::Open;
-use ix_store::Store;
 use ix_walk::Visit;
-use std::alloc::{AllocError, Global};
+use std::alloc::AllocError;
 use std::env;
 use std::rt::Env;
 use std::test::Fail;
@@ -26,32 +22,13 @@ const WALKERS: u32 = 0b11000;
 // How many visits the three jobs have together.
 const VISITS: usize = 15;
 
-// Checks as `ShaCheck` does, and has the number of its verifier.
+// The number of a check's verifier, for which nothing else is done.
 #[derive(Drop)]
-struct Numbered {
-    number: u32,
-    check: ShaCheck,
-}
+struct Number(u32);
 
-impl Check for Numbered {
-    ghost checked = { λ c. c.check };
-
-    fn check(
-        &mut self,
-        alloc: Global,
-        store: &Store,
-        visit: &Visit,
-    ) -> Result<Verdict, AllocError> {
-        self.check.check(alloc, store, visit)
-    }
-}
-
-fn with_number(alloc: Global, number: u32) -> Numbered
-    ensures { result.check ≡ [] }
-{
-    Numbered {
-        number,
-        check: ShaCheck::new(alloc),
+impl Before for Number {
+    fn before(&self, _visit: &Visit) -> Result<(), AllocError> {
+        Ok(())
     }
 }
 
@@ -64,13 +41,13 @@ fn refused_starts<R: AllocGlobal + Env>(rt: &R) -> u32 {
 }
 
 // Whether these checks are those of the verifiers whose starts weren't refused, in their order.
-fn are_started(checks: &[Numbered], refused: u32) -> bool {
+fn are_started(checks: &[CheckAfter<Number>], refused: u32) -> bool {
     let started = (0..3).filter(|number| refused >> number & 1 == 0);
-    checks.iter().map(|check| check.number).eq(started)
+    checks.iter().map(|numbered| numbered.first.0).eq(started)
 }
 
 // How many visits they checked.
-fn checked_by(checks: &[Numbered]) -> usize {
+fn checked_by(checks: &[CheckAfter<Number>]) -> usize {
     let mut count = 0usize;
     for numbered in checks {
         count = count.saturating_add(numbered.check.receipts().len());
@@ -88,9 +65,9 @@ fn checks_of_verifiers_that_started(rt: HostRuntime) -> Result<(), Fail> {
         Log::new(alloc, 9)?,
     ];
     let checks = vec![in alloc;
-        with_number(alloc, 0),
-        with_number(alloc, 1),
-        with_number(alloc, 2),
+        CheckAfter::new(alloc, Number(0)),
+        CheckAfter::new(alloc, Number(1)),
+        CheckAfter::new(alloc, Number(2)),
     ]?;
     let plan = plan_of(2, 1, 1);
     let out = exported(&rt, alloc, &store, &jobs, &mut sinks, checks, &Open, plan)?;

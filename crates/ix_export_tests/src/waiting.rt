@@ -1,24 +1,24 @@
 //! Exports in which one stage waits for another: delivery goes on while visits are checked, checks
 //! while jobs are walked, and any walker takes any job.
 
+ghost use Rattle.std.specs.Prelude.{◌≡◌, []};
+
 use crate::archives::{Left, archived};
 use crate::exporting::{chain, exported, list, plan_of};
 use ix_archive::{Counts, End, Sink, SinkFault};
-use ix_check::{Check, ShaCheck, Verdict};
+use ix_check::{ShaCheck, Verdict};
 use ix_cid::Cid;
-use ix_fixtures::{ABC, ALL, Log, ROOTS, VERSION, bytes_of, job_at, store_of};
+use ix_fixtures::{
+    ABC, ABC_SECTION, ALL, Awaited, Before, CheckAfter, Log, TURNS, archive_with, bytes_of, job_at,
+    sections_of, store_of,
+};
 use ix_pipeline::{Gate, Open};
 use ix_store::Store;
 use ix_walk::Visit;
 use sha2::{Digest, Sha256};
 use std::alloc::{AllocError, Global};
 use std::sync::Arc;
-use std::sync::atomic::{AtomicBool, AtomicU32, Ordering};
 use std::test::Fail;
-use std::thread;
-
-// How often a side looks whether what it waits for began.
-const TURNS: u32 = 10_000_000;
 
 // How many visits of the forty layers are wanted.
 const LIMIT: u32 = 1_000;
@@ -30,52 +30,6 @@ const LAYER_COUNTS: Counts = Counts {
     sections: 41,
     bytes: 4_899,
 };
-
-// Something that is to begin while another side waits for it.
-#[derive(Drop)]
-struct Awaited {
-    count: AtomicU32,
-    wanted: u32,
-    waits: AtomicU32,
-    is_missed: AtomicBool,
-}
-
-impl Awaited {
-    // It has begun once it was told so many times.
-    fn new(wanted: u32) -> Awaited {
-        Awaited {
-            count: AtomicU32::new(0),
-            wanted,
-            waits: AtomicU32::new(0),
-            is_missed: AtomicBool::new(false),
-        }
-    }
-
-    fn tell(&self) {
-        self.count.fetch_add(1, Ordering::SeqCst);
-    }
-
-    // Waits until it began, for so many turns. It is missed where it never does.
-    fn wait(&self, turns: u32) {
-        self.waits.fetch_add(1, Ordering::SeqCst);
-        for _ in 0..turns {
-            if self.count.load(Ordering::SeqCst) >= self.wanted {
-                return;
-            }
-            thread::yield_now();
-        }
-        self.is_missed.store(true, Ordering::SeqCst);
-    }
-
-    fn is_missed(&self) -> bool {
-        self.is_missed.load(Ordering::SeqCst)
-    }
-
-    // Whether one side waited for it, and didn't miss it.
-    fn is_met(&self) -> bool {
-        self.waits.load(Ordering::SeqCst) == 1 && !self.is_missed()
-    }
-}
 
 // Keeps what it is told, and tells that its first delivery began.
 #[derive(Drop)]
@@ -104,74 +58,57 @@ impl Sink for Telling<'_> {
     }
 }
 
-// Checks as `ShaCheck` does, the fourth visit of a job once what it waits for began.
+// Holds the check of the fourth visit of a job until what it waits for began.
 #[derive(Drop)]
 struct LastHeld<'a> {
-    check: ShaCheck,
     begun: &'a Awaited,
 }
 
-impl Check for LastHeld<'_> {
-    ghost checked = { λ c. c.check };
-
-    fn check(
-        &mut self,
-        alloc: Global,
-        store: &Store,
-        visit: &Visit,
-    ) -> Result<Verdict, AllocError> {
+impl Before for LastHeld<'_> {
+    fn before(&self, visit: &Visit) -> Result<(), AllocError> {
         if visit.seq == 3 {
             self.begun.wait(TURNS);
         }
-        self.check.check(alloc, store, visit)
+        Ok(())
     }
 }
 
-// Checks as `ShaCheck` does, and tells that a check began.
+// Tells that a check began.
 #[derive(Drop)]
 struct CheckTelling<'a> {
-    check: ShaCheck,
     begun: &'a Awaited,
 }
 
-impl Check for CheckTelling<'_> {
-    ghost checked = { λ c. c.check };
-
-    fn check(
-        &mut self,
-        alloc: Global,
-        store: &Store,
-        visit: &Visit,
-    ) -> Result<Verdict, AllocError> {
+impl Before for CheckTelling<'_> {
+    fn before(&self, _visit: &Visit) -> Result<(), AllocError> {
         self.begun.tell();
-        self.check.check(alloc, store, visit)
+        Ok(())
     }
 }
 
-// Checks as `ShaCheck` does, the slow one once there were enough calls on the other.
+// Holds the checks of the slow side until there were enough calls on those of the other.
 #[derive(Drop)]
 struct Paced<'a> {
-    check: ShaCheck,
     begun: &'a Awaited,
     is_slow: bool,
 }
 
-impl Check for Paced<'_> {
-    ghost checked = { λ c. c.check };
-
-    fn check(
-        &mut self,
-        alloc: Global,
-        store: &Store,
-        visit: &Visit,
-    ) -> Result<Verdict, AllocError> {
+impl Before for Paced<'_> {
+    fn before(&self, _visit: &Visit) -> Result<(), AllocError> {
         if self.is_slow {
             self.begun.wait(10 * TURNS);
         } else {
             self.begun.tell();
         }
-        self.check.check(alloc, store, visit)
+        Ok(())
     }
+}
+
+// A check of one side.
+fn check_of<'a>(alloc: Global, begun: &'a Awaited, is_slow: bool) -> CheckAfter<Paced<'a>>
+    ensures { result.check ≡ [] }
+{
+    CheckAfter::new(alloc, Paced { begun, is_slow })
 }
 
 // Holds the walk at its second visit until the check of the first began.
@@ -215,13 +152,8 @@ fn delivery_begins_before_checking_has_ended(rt: HostRuntime) -> Result<(), Fail
     let begun = Awaited::new(1);
     let log = Log::new(alloc, 9)?;
     let mut sinks = [Telling { log, begun: &begun }];
-    let check = ShaCheck::new(alloc);
-    let checks = vec![in alloc;
-        LastHeld {
-            check,
-            begun: &begun
-        },
-    ]?;
+    let held = LastHeld { begun: &begun };
+    let checks = vec![in alloc; CheckAfter::new(alloc, held)]?;
     let plan = plan_of(1, 256, 64);
     let out = exported(&rt, alloc, &store, &jobs, &mut sinks, checks, &Open, plan)?;
     assert!(rt;
@@ -239,13 +171,8 @@ fn checking_before_the_walk_ends(rt: HostRuntime) -> Result<(), Fail> {
     let (store, jobs) = chain(alloc, 1)?;
     let begun = Awaited::new(1);
     let mut sinks = [Log::new(alloc, 9)?];
-    let check = ShaCheck::new(alloc);
-    let checks = vec![in alloc;
-        CheckTelling {
-            check,
-            begun: &begun
-        },
-    ]?;
+    let telling = CheckTelling { begun: &begun };
+    let checks = vec![in alloc; CheckAfter::new(alloc, telling)]?;
     let gate = SecondHeld { begun: &begun };
     let plan = plan_of(1, 256, 64);
     let out = exported(&rt, alloc, &store, &jobs, &mut sinks, checks, &gate, plan)?;
@@ -282,21 +209,12 @@ fn no_walker_has_a_fixed_share(rt: HostRuntime) -> Result<(), Fail> {
     Ok(())
 }
 
-// An archive of these sections.
-fn archive_of(alloc: Global, root: &[u8], sections: &[u8]) -> Result<Vec<u8>, Fail> {
-    let mut archive = bytes_of(alloc, &[ROOTS])?;
-    archive.extend_from_slice(root)?;
-    archive.extend_from_slice(bytes_of(alloc, &[VERSION])?.as_slice())?;
-    archive.extend_from_slice(sections)?;
-    Ok(archive)
-}
-
 // Forty layers, each a list of two links to the next, above a raw block; the CID of the first; and
 // the archive of all of them.
 fn layers(alloc: Global) -> Result<(Store, Cid, Vec<u8>), Fail> {
-    let mut store = store_of(alloc, &[(ABC, "616263")])?;
+    let mut store = store_of(alloc, &[ABC_SECTION])?;
     let mut cid = bytes_of(alloc, &[ABC])?;
-    let mut sections = bytes_of(alloc, &["27", ABC, "616263"])?;
+    let mut sections = sections_of(alloc, &[ABC_SECTION])?;
     for _ in 0..40 {
         let mut block = bytes_of(alloc, &["82"])?;
         for _ in 0..2 {
@@ -314,7 +232,7 @@ fn layers(alloc: Global) -> Result<(Store, Cid, Vec<u8>), Fail> {
         store.add(key, block)?;
     }
     let (root, _) = Cid::read(alloc, cid.as_slice())?;
-    let archive = archive_of(alloc, cid.as_slice(), sections.as_slice())?;
+    let archive = archive_with(alloc, cid.as_slice(), sections.as_slice())?;
     Ok((store, root, archive))
 }
 
@@ -348,17 +266,10 @@ fn slow_verifier(rt: HostRuntime) -> Result<(), Fail> {
     let store = Arc::new(alloc, store)?;
     let jobs = Arc::new(alloc, vec![in alloc; job_at(alloc, root, ALL, LIMIT)?]?)?;
     let begun = Awaited::new(100);
-    let slow = Paced {
-        check: ShaCheck::new(alloc),
-        begun: &begun,
-        is_slow: true,
-    };
-    let other = Paced {
-        check: ShaCheck::new(alloc),
-        begun: &begun,
-        is_slow: false,
-    };
-    let checks = vec![in alloc; slow, other]?;
+    let checks = vec![in alloc;
+        check_of(alloc, &begun, true),
+        check_of(alloc, &begun, false),
+    ]?;
     let plan = plan_of(1, 1, 1);
     let (all_left, out) = archived(&rt, alloc, &store, &jobs, checks, &Open, plan)?;
     assert!(rt;

@@ -1,21 +1,40 @@
-//! A check that finds no memory for one visit.
+//! A check before which something else is done, and one that finds no memory for one visit.
+
+ghost use Rattle.std.specs.Prelude.{◌≡◌, []};
 
 use ix_check::{Check, ShaCheck, Verdict};
 use ix_store::Store;
 use ix_walk::Visit;
 use std::alloc::{AllocError, Global};
 
-// The third visit of the first job.
-const REFUSED: (u32, u32) = (0, 2);
+/// What is done before a visit is checked.
+pub trait Before {
+    /// Tells another side, waits for one, or finds no memory, before this visit is checked.
+    fn before(&self, visit: &Visit) -> Result<(), AllocError>;
+}
 
-/// Checks as `ShaCheck` does, but finds no memory for the third visit of the first job.
+/// Checks as `ShaCheck` does, each visit once something else was done.
 #[derive(Drop)]
-pub struct Refusing {
-    /// What checks the others.
+pub struct CheckAfter<B> {
+    /// What is done first.
+    pub first: B,
+    /// What checks then.
     pub check: ShaCheck,
 }
 
-impl Check for Refusing {
+impl<B> CheckAfter<B> {
+    /// A check that has checked nothing so far.
+    pub fn new(alloc: Global, first: B) -> CheckAfter<B>
+        ensures { result.check ≡ [] }
+    {
+        CheckAfter {
+            first,
+            check: ShaCheck::new(alloc),
+        }
+    }
+}
+
+impl<B: Before> Check for CheckAfter<B> {
     ghost checked = { λ c. c.check };
 
     fn check(
@@ -24,9 +43,23 @@ impl Check for Refusing {
         store: &Store,
         visit: &Visit,
     ) -> Result<Verdict, AllocError> {
+        self.first.before(visit)?;
+        self.check.check(alloc, store, visit)
+    }
+}
+
+// The third visit of the first job.
+const REFUSED: (u32, u32) = (0, 2);
+
+/// Finds no memory for the third visit of the first job.
+#[derive(Drop)]
+pub struct Refusing;
+
+impl Before for Refusing {
+    fn before(&self, visit: &Visit) -> Result<(), AllocError> {
         if (visit.job, visit.seq) == REFUSED {
             return Err(AllocError);
         }
-        self.check.check(alloc, store, visit)
+        Ok(())
     }
 }

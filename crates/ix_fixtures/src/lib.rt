@@ -1,5 +1,5 @@
-//! What tests share: blocks under their CIDs, jobs over them, a sink that keeps what it is told,
-//! and a check that finds no memory.
+//! What tests share: blocks under their CIDs, jobs over them, a sink that keeps what it is told, what
+//! one side waits for, and checks before which something else is done.
 //!
 //! Jobs have the root, selector and limit that are given, and as many as are asked for. A log keeps
 //! each delivery and the close, as a sink is to.
@@ -11,16 +11,18 @@
 //! ```
 #![tactic(auto)]
 
+mod awaited;
 mod blocks;
+mod check_after;
 mod jobs;
 mod log;
-mod refusing;
 
+pub use awaited::{Awaited, TURNS};
 pub use blocks::{
-    ABC, CHAIN_ARCHIVE, DAMAGED, DAMAGED_BLOCK, INNER, INNER_BLOCK, LIST, LIST_ARCHIVE, LIST_BLOCK,
-    ONE_LINK, ONE_LINK_BLOCK, OUTER, OUTER_BLOCK, ROOTS, VERSION, bytes_of, chain_of, cid_of,
-    list_of, store_of,
+    ABC, ABC_SECTION, CHAIN, DAMAGED, DAMAGED_SECTION, INNER_BLOCK, LIST, LIST_SECTION, ONE_LINK,
+    ONE_LINK_SECTION, OUTER, Section, archive_of, archive_with, bytes_of, chain_archive, chain_of,
+    cid_of, list_archive, list_of, sections_of, store_of,
 };
+pub use check_after::{Before, CheckAfter, Refusing};
 pub use jobs::{ALL, job_at, job_of, jobs_of};
 pub use log::Log;
-pub use refusing::Refusing;

@@ -7,8 +7,8 @@ ghost use Rattle.ix_archive.specs.ArchiveMeaning.{events_of};
 use ix_archive::{Archive, ArchiveNew, Counts, Delivery, End, Sink, SinkFault, Skip};
 use ix_check::Verdict;
 use ix_fixtures::{
-    ABC, DAMAGED, DAMAGED_BLOCK, LIST, LIST_ARCHIVE, LIST_BLOCK, ONE_LINK, ONE_LINK_BLOCK, ROOTS,
-    VERSION, bytes_of, cid_of, job_of, store_of,
+    ABC, ABC_SECTION, DAMAGED, DAMAGED_SECTION, LIST, LIST_SECTION, ONE_LINK, ONE_LINK_SECTION,
+    Section, archive_of, cid_of, job_of, list_archive, store_of,
 };
 use ix_walk::Visit;
 use std::alloc::{AllocError, Global};
@@ -25,16 +25,19 @@ const MATCHER: &str = "a1612ea0";
 // A map of two links to ONE_LINK.
 const TWICE: &str = "0171122078c168043a4b6f78fffac7096ef50158a9490a98d171ecdbfba7332f7100ac87";
 
-const TWICE_BLOCK: &str =
-    "a26161d82a5825000171122021e288dd95d20c03227dc4c449b3a8885fcb420f614135142435f3b33b4288326162d82a5825000171122021e288dd95d20c03227dc4c449b3a8885fcb420f614135142435f3b33b428832";
+const TWICE_SECTION: Section = (
+    "7b",
+    TWICE,
+    "a26161d82a5825000171122021e288dd95d20c03227dc4c449b3a8885fcb420f614135142435f3b33b4288326162d82a5825000171122021e288dd95d20c03227dc4c449b3a8885fcb420f614135142435f3b33b428832",
+);
 
 // CIDs and their blocks. None is EMPTY.
-const BLOCKS: [(&str, &str); 5] = [
-    (ABC, "616263"),
-    (ONE_LINK, ONE_LINK_BLOCK),
-    (DAMAGED, DAMAGED_BLOCK),
-    (LIST, LIST_BLOCK),
-    (TWICE, TWICE_BLOCK),
+const BLOCKS: [Section; 5] = [
+    ABC_SECTION,
+    ONE_LINK_SECTION,
+    DAMAGED_SECTION,
+    LIST_SECTION,
+    TWICE_SECTION,
 ];
 
 // The damaged list, with what is below DAMAGED.
@@ -46,7 +49,7 @@ const LIST_VISITS: [(&str, u32, Verdict); 5] = [
     (ABC, 2, Verdict::Sound),
 ];
 
-// A map with two links to one block, and its archive, part by part.
+// A map with two links to one block, and the sections of its archive.
 const TWICE_VISITS: [(&str, u32, Verdict); 4] = [
     (TWICE, 0, Verdict::Sound),
     (ONE_LINK, 1, Verdict::Sound),
@@ -54,38 +57,15 @@ const TWICE_VISITS: [(&str, u32, Verdict); 4] = [
     (ABC, 2, Verdict::Sound),
 ];
 
-const TWICE_ARCHIVE: [&str; 12] = [
-    ROOTS,
-    TWICE,
-    VERSION,
-    "7b",
-    TWICE,
-    TWICE_BLOCK,
-    "4e",
-    ONE_LINK,
-    ONE_LINK_BLOCK,
-    "27",
-    ABC,
-    "616263",
-];
+const TWICE_SECTIONS: [Section; 3] = [TWICE_SECTION, ONE_LINK_SECTION, ABC_SECTION];
 
-// A list of one link.
+// A list of one link, and the sections of its archive.
 const ONE_LINK_VISITS: [(&str, u32, Verdict); 2] = [
     (ONE_LINK, 0, Verdict::Sound),
     (ABC, 1, Verdict::Sound),
 ];
 
-const ONE_LINK_ARCHIVE: [&str; 9] = [
-    ROOTS,
-    ONE_LINK,
-    VERSION,
-    "4e",
-    ONE_LINK,
-    ONE_LINK_BLOCK,
-    "27",
-    ABC,
-    "616263",
-];
+const ONE_LINK_SECTIONS: [Section; 2] = [ONE_LINK_SECTION, ABC_SECTION];
 
 // A writer that takes so many bytes, at most so many a call, and then fails or takes none.
 #[derive(Debug, Drop)]
@@ -219,7 +199,7 @@ fn counted(visits: u32, kept: u32, sections: u32, bytes: u64) -> Option<Counts> 
 #[test]
 fn writes_the_damaged_list(rt: HostRuntime) -> Result<(), Fail> {
     let alloc = rt.alloc();
-    let want = bytes_of(alloc, LIST_ARCHIVE.as_slice())?;
+    let want = list_archive(alloc)?;
     for width in [1usize, 1000] {
         let deliveries = deliveries_of(alloc, LIST_VISITS.as_slice())?;
         let got = archive_through(alloc, LIST, deliveries, writer_of(alloc, 1000, width))?;
@@ -235,7 +215,7 @@ fn writes_the_damaged_list(rt: HostRuntime) -> Result<(), Fail> {
 #[test]
 fn writes_once_what_is_entered_twice(rt: HostRuntime) -> Result<(), Fail> {
     let alloc = rt.alloc();
-    let want = bytes_of(alloc, TWICE_ARCHIVE.as_slice())?;
+    let want = archive_of(alloc, TWICE, TWICE_SECTIONS.as_slice())?;
     let deliveries = deliveries_of(alloc, TWICE_VISITS.as_slice())?;
     let got = archive_through(alloc, TWICE, deliveries, writer_of(alloc, 1000, 1000))?;
     assert_eq!(rt; got.counts, counted(4, 4, 3, 302));
@@ -258,7 +238,7 @@ fn writes_nothing_where_the_store_has_no_block(rt: HostRuntime) -> Result<(), Fa
 #[test]
 fn tells_where_a_writer_fails(rt: HostRuntime) -> Result<(), Fail> {
     let alloc = rt.alloc();
-    let whole = bytes_of(alloc, ONE_LINK_ARCHIVE.as_slice())?;
+    let whole = archive_of(alloc, ONE_LINK, ONE_LINK_SECTIONS.as_slice())?;
     assert_eq!(rt; whole.len(), 178);
     for room in 0..179usize {
         let deliveries = deliveries_of(alloc, ONE_LINK_VISITS.as_slice())?;

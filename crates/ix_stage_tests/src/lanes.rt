@@ -3,14 +3,11 @@
 
 ghost use Rattle.std.specs.Prelude.{◌≡◌, All, IfOk};
 
+use ix_fixtures::{Awaited, TURNS};
 use ix_stages::{ClaimSeat, Claims, LaneIn, LaneOut, Verdicted, lane_rest};
 use std::alloc::{AllocError, Global};
-use std::sync::atomic::{AtomicBool, AtomicU64, Ordering};
 use std::test::Fail;
 use std::thread::{self, Threads};
-
-// How often a side looks whether the other went on.
-const TURNS: u32 = 10_000_000;
 
 // How many items go through a lane.
 const ITEMS: u32 = 100_000;
@@ -152,27 +149,6 @@ fn claims(rt: HostRuntime) -> Result<(), Fail> {
     Ok(())
 }
 
-// Threads that are to begin together.
-#[derive(Drop)]
-struct Start {
-    begun: AtomicU64,
-    is_missed: AtomicBool,
-}
-
-impl Start {
-    // Begins, and waits until so many have begun. The start is missed where they never do.
-    fn meet(&self, wanted: u64) {
-        self.begun.fetch_add(1, Ordering::SeqCst);
-        for _ in 0..TURNS {
-            if self.begun.load(Ordering::SeqCst) >= wanted {
-                return;
-            }
-            thread::yield_now();
-        }
-        self.is_missed.store(true, Ordering::SeqCst);
-    }
-}
-
 // A seat, and what was claimed through it.
 #[derive(Drop)]
 struct Claimed {
@@ -180,11 +156,11 @@ struct Claimed {
     found: Vec<(u32, u32)>,
 }
 
-// Claims until all are claimed.
+// Claims until all are claimed, once four threads have begun.
 fn claim_all(
     alloc: Global,
     claims: &Claims<u32>,
-    start: &Start,
+    start: &Awaited,
     seat: ClaimSeat<u32>,
 ) -> Result<Claimed, AllocError>
     requires { seat.of ≡ claims.now }
@@ -192,7 +168,8 @@ fn claim_all(
 {
     let mut seat = seat;
     let mut found = Vec::new(alloc);
-    start.meet(4);
+    start.tell();
+    start.wait(TURNS);
     for _ in 0..1001 {
         let Some(next) = claims.claim(&mut seat) else {
             break;
@@ -207,7 +184,7 @@ fn claim_in_threads<R: Threads + Sync>(
     rt: &R,
     alloc: Global,
     claims: &Claims<u32>,
-    start: &Start,
+    start: &Awaited,
     seats: Vec<ClaimSeat<u32>>,
 ) -> Result<Vec<Result<Claimed, AllocError>>, AllocError>
     requires { All (λ s. s.of ≡ claims.now) seats.items }
@@ -251,15 +228,9 @@ fn four_threads_claim_each_place_once(rt: HostRuntime) -> Result<(), Fail> {
     }
     assert_eq!(rt; values.len(), 1000);
     let (claims, seats) = Claims::new(alloc, values, 4)?;
-    let start = Start {
-        begun: AtomicU64::new(0),
-        is_missed: AtomicBool::new(false),
-    };
+    let start = Awaited::new(4);
     let all = claim_in_threads(&rt, alloc, &claims, &start, seats)?;
-    assert!(rt;
-        !start.is_missed.load(Ordering::SeqCst),
-        "fewer than four threads began"
-    );
+    assert!(rt; !start.is_missed(), "fewer than four threads began");
     let (back, mut places) = gather(alloc, &claims, all)?;
     assert_eq!(rt; back.len(), 4);
     assert_eq!(rt; claims.settle(back), 1000);

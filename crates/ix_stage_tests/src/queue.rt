@@ -10,7 +10,7 @@ ghost use Rattle.ix_stages.specs.Seats.{IsNext};
 
 use ix_archive::End;
 use ix_check::{ShaCheck, Verdict};
-use ix_fixtures::{INNER_BLOCK, ONE_LINK, OUTER, chain_of, jobs_of, store_of};
+use ix_fixtures::{INNER_BLOCK, ONE_LINK, OUTER, TURNS, chain_of, jobs_of, store_of};
 use ix_stages::{
     Course, Item, JobSeat, LaneOut, QueueParts, StopSeat, TakeSeat, Verdicted, VisitQueue,
     course_of_jobs, lane, verify,
@@ -23,9 +23,6 @@ use std::sync::Wait;
 use std::test::Fail;
 use std::thread;
 use std::thread::Threads;
-
-// How often a full queue is tried.
-const TURNS: u32 = 10_000_000;
 
 // Names the course of jobs over a store.
 #[derive(Drop)]
@@ -574,7 +571,7 @@ fn takers_back(
 fn three_walks_through_room_for_one(rt: HostRuntime) -> Result<(), Fail> {
     let alloc = rt.alloc();
     // A block that links to itself, as far as its CID says.
-    let store = store_of(alloc, [(ONE_LINK, INNER_BLOCK)].as_slice())?;
+    let store = store_of(alloc, [("4e", ONE_LINK, INNER_BLOCK)].as_slice())?;
     let jobs = jobs_of(alloc, ONE_LINK, 3, 100)?;
     let QueueParts {
         queue,
@@ -661,35 +658,40 @@ fn fills_and_empties<R: Abort + Wait>(
     Ok(())
 }
 
-// A queue of one job, with the seat of the job, one that takes and that for Stops.
+// A queue of one job over the chain, with the seat of the job, one that takes and that for Stops.
 #[derive(Drop)]
 struct OneEach {
+    store: Store,
+    jobs: Vec<Job>,
     queue: VisitQueue,
     seat: JobSeat,
     taker: TakeSeat,
     stop: StopSeat,
 }
 
-fn one_of_each(alloc: Global, store: &Store, jobs: &[Job], capacity: u32) -> Result<OneEach, Fail>
-    requires jobs { All (λ job. job.limit ≤ 1000000) jobs.now × (length jobs.now < 1000) }
-    requires room { 0 < capacity }
-    ensures seat { IfOk result (λ q. CanWalk q.queue (course_of store.now jobs.now) q.seat) }
+fn one_of_each(alloc: Global, capacity: u32) -> Result<OneEach, Fail>
+    requires { 0 < capacity }
+    ensures seat { IfOk result (λ q. CanWalk q.queue (course_of q.store q.jobs.items) q.seat) }
     ensures taker { IfOk result (λ q. IsTaker q.queue q.taker) }
     ensures stop { IfOk result (λ q. q.stop.table ≡ table_of q.queue) }
 {
+    let store = chain_of(alloc)?;
+    let jobs = jobs_of(alloc, OUTER, 1, 100)?;
     let QueueParts {
         queue,
         jobs: mut seats,
         mut takers,
         stop,
-    } = queue_of(alloc, store, jobs, capacity, 1)?;
+    } = queue_of(alloc, &store, &jobs, capacity, 1)?;
     let (Some(taker), Some(seat)) = (
         next_taker(&queue, &mut takers),
-        next_walker(store, jobs, &queue, &mut seats),
+        next_walker(&store, &jobs, &queue, &mut seats),
     ) else {
         return Err("a seat and a taker were wanted".into());
     };
     Ok(OneEach {
+        store,
+        jobs,
         queue,
         seat,
         taker,
@@ -701,15 +703,17 @@ fn one_of_each(alloc: Global, store: &Store, jobs: &[Job], capacity: u32) -> Res
 #[test]
 fn queue(rt: HostRuntime) -> Result<(), Fail> {
     let alloc = rt.alloc();
-    let store = chain_of(alloc)?;
-    let jobs = jobs_of(alloc, OUTER, 1, 100)?;
-    let OneEach {
-        queue,
-        mut seat,
-        mut taker,
-        ..
-    } = one_of_each(alloc, &store, &jobs, 1)?;
-    assert!(rt; has_room_for_one(&rt, alloc, &store, &jobs, &queue, &mut seat, &mut taker,)?);
+    let mut each = one_of_each(alloc, 1)?;
+    let has_room = has_room_for_one(
+        &rt,
+        alloc,
+        &each.store,
+        &each.jobs,
+        &each.queue,
+        &mut each.seat,
+        &mut each.taker,
+    )?;
+    assert!(rt; has_room);
     Ok(())
 }
 
@@ -717,16 +721,16 @@ fn queue(rt: HostRuntime) -> Result<(), Fail> {
 #[test]
 fn close_and_stop_at_a_full_queue(rt: HostRuntime) -> Result<(), Fail> {
     let alloc = rt.alloc();
-    let store = chain_of(alloc)?;
-    let jobs = jobs_of(alloc, OUTER, 1, 100)?;
-    let OneEach {
-        queue,
-        mut seat,
-        mut taker,
-        mut stop,
-    } = one_of_each(alloc, &store, &jobs, 4)?;
+    let mut each = one_of_each(alloc, 4)?;
     fills_and_empties(
-        &rt, alloc, &store, &jobs, &queue, &mut seat, &mut taker, &mut stop,
+        &rt,
+        alloc,
+        &each.store,
+        &each.jobs,
+        &each.queue,
+        &mut each.seat,
+        &mut each.taker,
+        &mut each.stop,
     )?;
     Ok(())
 }
