@@ -1,11 +1,10 @@
 -- What a call answers that fills a handle is what was meant.
-use Rattle.std.proofs.Common.{◌≡◌, ℕ, sym, subst, ap, ◌∙◌, refl}
-use Rattle.std.specs.Prelude.{Option, Some, None, Result, Ok, Err}
+use Rattle.std.proofs.Common.{◌≡◌, sym, subst, ap, ◌∙◌, refl}
+use Rattle.std.specs.Prelude.{Option, Some, None, Ok}
 use Rattle.std.specs.Arc.{arc_value}
-use Rattle.std.specs.Global.{Vec, Global}
+use Rattle.std.specs.Global.{Global}
 use Rattle.std_alloc.specs.declared.arc.Arc.{Arc}
 use Rattle.ix_store.specs.Store.{Blocks}
-use Rattle.ix_walk.specs.JobMeaning.{JobMeaning}
 use Rattle.ix_embedding.specs.declared.exported.Exported.{Exported}
 use Rattle.ix_embedding.specs.declared.failure.Failure.{Failure}
 use Rattle.ix_embedding.specs.declared.failure.Failure.TheVariants as failures

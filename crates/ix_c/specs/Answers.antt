@@ -1,5 +1,5 @@
 -- What the calls of the C library answer, and what stands in their handles after.
-use Rattle.std.specs.Prelude.{◌≡◌, ◌≢◌, ℕ, true, List, [], ◌∷◌, ◌++◌, Option, Some, None, length, Result, Ok, Err}
+use Rattle.std.specs.Prelude.{◌≡◌, ◌≢◌, ℕ, true, List, [], ◌∷◌, ◌++◌, Option, Some, None, Result, Ok, Err}
 use Rattle.std.specs.Global.{Vec, Global}
 use Rattle.std_alloc.specs.declared.arc.Arc.{Arc}
 use Rattle.std.specs.Arc.{arc_value}
@@ -13,15 +13,12 @@ use Rattle.ix_embedding.specs.declared.failure.Failure.{Failure}
 use Rattle.ix_embedding.specs.declared.failure.Failure.TheVariants as failures
 use Rattle.ix_embedding.specs.declared.held.Held.{Held}
 use Rattle.ix_embedding.specs.declared.held.Held.TheVariants as held
-use Rattle.ix_embedding.specs.declared.held.Part.{Part}
 use Rattle.ix_embedding.specs.declared.input.Added.{Added}
 use Rattle.ix_embedding.specs.declared.input.Added.TheVariants as added
 use Rattle.ix_embedding.specs.declared.exported.Exported.{Exported}
 use Rattle.ix_embedding.specs.Adding.{HasAdded}
 use Rattle.ix_embedding.specs.Exporting.{HasExported}
-use Rattle.ix_embedding.specs.Failures.{IsStoreFailure, IsJobFailure, IsSelectorFailure}
 use Rattle.ix_embedding.specs.JobParts.{job_of_parts}
-use Rattle.ix_embedding.specs.Parts.{part_of}
 use Rattle.ix_c.specs.declared.status.Status.{Status}
 use Rattle.ix_c.specs.declared.status.Status.TheVariants.{Done, Memory, Refused, Handle, Known, NoCid, Range}
 

@@ -1,7 +1,8 @@
 //! Runs of an example, and reports.
 
-ghost use Rattle.std.specs.Prelude.{◌≡◌, ◌≤◌, length};
+ghost use Rattle.std.specs.Prelude.{◌≡◌};
 ghost use Rattle.std.specs.Arc.{arc_value};
+ghost use Rattle.ix_walk.specs.JobMeaning.{AreFew};
 ghost use Rattle.ix_pipeline.specs.Planned.{IsPlan};
 
 use crate::example::Example;
@@ -108,7 +109,7 @@ fn run_prepared<R: Threads + Wait + Sync>(
     verifiers: u32,
     plan: Plan,
 ) -> Result<String>
-    requires jobs { length (arc_value jobs.now).items ≤ 1000 }
+    requires jobs { AreFew (arc_value jobs.now).items }
     requires plan { IsPlan plan verifiers }
 {
     let writers = writers_of(alloc, example, jobs.len())?;

@@ -20,6 +20,7 @@ mod words;
 
 ghost use Rattle.std.specs.Prelude.{◌≡◌, ◌≤◌, length, IfOk};
 ghost use Rattle.std.specs.Arc.{arc_value};
+ghost use Rattle.ix_walk.specs.JobMeaning.{AreFew};
 
 use crate::job_file::{check_jobs, print_job};
 use clap::ArgMatches;
@@ -29,7 +30,9 @@ use ix_files::{
 };
 use ix_notation::{hex_of_json, json_of_hex};
 use ix_pipeline::Plan;
-use ix_run::{Choice, RunFault, RunOut, load_by, printed_root, root_of_text, run, run_watched};
+use ix_run::{
+    Choice, RunFault, RunInput, RunOut, load_by, printed_root, root_of_text, run, run_watched,
+};
 use ix_store::Store;
 use ix_walk::Job;
 use std::fs::File;
@@ -222,7 +225,7 @@ fn load_files<R: AllocGlobal + Clock + Eprint + Files + Input + Threads + Sync>(
     loaders: usize,
     progress: &Progress<R>,
 ) -> Result<(Arc<Store>, Arc<Vec<Job>>), Failure>
-    ensures { IfOk result (λ loaded. length (arc_value loaded.1).items ≤ 1000) }
+    ensures { IfOk result (λ loaded. AreFew (arc_value loaded.1).items) }
 {
     let car = load_input(rt, inputs[0], progress)?;
     let file = read_input(rt, inputs[1])?;
@@ -242,7 +245,7 @@ fn export_loaded<
     jobs: &Arc<Vec<Job>>,
     progress: &Progress<R>,
 ) -> Result<u8, Failure>
-    requires { length (arc_value jobs.now).items ≤ 1000 }
+    requires { AreFew (arc_value jobs.now).items }
 {
     let folder = words.get_str("out").unwrap_or("");
     let files = inputs.map(|path| if path == STANDARD_INPUT {
@@ -254,7 +257,7 @@ fn export_loaded<
     let ran = run_by_words(rt, words, store, jobs, writers, progress);
     progress.end();
     match ran {
-        Ok(out) => tell(rt, words, folder, jobs.as_slice(), &out),
+        Ok(out) => name_and_report(rt, words, folder, jobs.as_slice(), &out),
         Err(fault) => {
             remove_outputs(rt, folder, jobs.as_slice(), jobs.len());
             Err(Failure::from(fault))
@@ -263,7 +266,7 @@ fn export_loaded<
 }
 
 // Names the outputs of a run, and prints its report.
-fn tell<'a, R: AllocGlobal + Eprint + Files<File = File> + Print>(
+fn name_and_report<'a, R: AllocGlobal + Eprint + Files<File = File> + Print>(
     rt: &R,
     words: &ArgMatches<'a>,
     folder: &str,
@@ -292,7 +295,7 @@ fn run_by_words<'a, R: AllocGlobal + Clock + Eprint + Threads + Wait + Sync, W: 
     progress: &Progress<R>,
 ) -> Result<RunOut<W>, RunFault>
     requires writers { length writers.items ≡ length (arc_value jobs.now).items }
-    requires jobs { length (arc_value jobs.now).items ≤ 1000 }
+    requires jobs { AreFew (arc_value jobs.now).items }
 {
     let alloc = rt.alloc();
     let verifiers = threads(words, "verifiers");
@@ -305,7 +308,13 @@ fn run_by_words<'a, R: AllocGlobal + Clock + Eprint + Threads + Wait + Sync, W: 
         return run(rt, alloc, store, jobs, writers, verifiers, plan);
     }
     progress.begin(jobs.len());
-    run_watched(rt, alloc, store, jobs, writers, verifiers, plan, progress)
+    let input = RunInput {
+        store,
+        jobs,
+        verifiers,
+        plan,
+    };
+    run_watched(rt, alloc, input, writers, progress)
 }
 
 // How many threads index the blocks: as many as walk and hash, where there are processors for them.

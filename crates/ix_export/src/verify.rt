@@ -9,6 +9,7 @@ use ix_run::RunFault;
 use ix_verify::{Findings, Reach, verify};
 use std::alloc::{AllocError, Global};
 use std::fmt::Write;
+use std::num::NonZeroUsize;
 use std::rt::Files;
 use std::thread::Threads;
 
@@ -96,7 +97,10 @@ fn verify_file<'a, R: AllocGlobal + Eprint + Files + Input + Print + Threads + S
     } else {
         Reach::Roots
     };
-    match verify(rt, alloc, car, threads(words, "verifiers") as usize, reach) {
+    let threads = NonZeroUsize::new(threads(words, "verifiers") as usize).unwrap_or(
+        NonZeroUsize::MIN,
+    );
+    match verify(rt, alloc, car, threads, reach) {
         Ok(found) => {
             let text = lines_of(alloc, path, bytes, &found)?;
             print_all(rt, text.as_bytes())?;

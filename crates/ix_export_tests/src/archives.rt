@@ -1,8 +1,9 @@
 //! Exports by walkers and verifiers that wait for one another, and by some that find no memory or
 //! aren't started.
 
-ghost use Rattle.std.specs.Prelude.{◌≡◌, ◌≤◌, [], length, vec_len, IfOk};
+ghost use Rattle.std.specs.Prelude.{◌≡◌, [], length, vec_len, IfOk};
 ghost use Rattle.std.specs.Arc.{arc_value};
+ghost use Rattle.ix_walk.specs.JobMeaning.{AreFew};
 ghost use Rattle.ix_archive.specs.ArchiveMeaning.{events_of};
 ghost use Rattle.ix_pipeline.specs.Headline.{EachFresh, EachUnused};
 ghost use Rattle.ix_pipeline.specs.Planned.{IsPlan};
@@ -138,7 +139,7 @@ where
     G: Gate + Sync,
     R: Threads + Wait + Sync,
     requires unused { EachUnused C.checked checks.items }
-    requires jobs { length (arc_value jobs.now).items ≤ 1000 }
+    requires jobs { AreFew (arc_value jobs.now).items }
     requires plan { IsPlan plan (vec_len checks) }
 {
     let mut archives = archives_of(alloc, store, jobs.as_slice())?;

@@ -1,7 +1,8 @@
 //! What is exported, and an export that has to begin.
 
-ghost use Rattle.std.specs.Prelude.{◌≡◌, ◌≤◌, length, vec_len, IfOk};
+ghost use Rattle.std.specs.Prelude.{◌≡◌, length, vec_len, IfOk};
 ghost use Rattle.std.specs.Arc.{arc_value};
+ghost use Rattle.ix_walk.specs.JobMeaning.{AreFew};
 ghost use Rattle.ix_pipeline.specs.Headline.{EachFresh, EachUnused};
 ghost use Rattle.ix_pipeline.specs.Planned.{IsPlan};
 
@@ -62,7 +63,7 @@ where
     requires sinks { length sinks.old ≡ length (arc_value jobs.now).items }
     requires fresh { EachFresh S.events S.failed sinks.old }
     requires unused { EachUnused C.checked checks.items }
-    requires jobs { length (arc_value jobs.now).items ≤ 1000 }
+    requires jobs { AreFew (arc_value jobs.now).items }
     requires plan { IsPlan plan (vec_len checks) }
 {
     match export(rt, alloc, store, jobs, sinks, checks, gate, plan) {

@@ -1,7 +1,8 @@
 //! Runs with a check that finds no memory, and with a writer of a test's own.
 
-ghost use Rattle.std.specs.Prelude.{◌≡◌, ◌≤◌, [], length, IfOk};
+ghost use Rattle.std.specs.Prelude.{◌≡◌, [], length, IfOk};
 ghost use Rattle.std.specs.Arc.{arc_value};
+ghost use Rattle.ix_walk.specs.JobMeaning.{AreFew};
 
 use crate::input::{CHAIN_JOBS, chain_car};
 use ix_check::{Check, ShaCheck};
@@ -66,7 +67,7 @@ fn run_two<W: Write + Drop, C: Check>(
 ) -> Result<Ran<W>, Fail>
     requires unused { C.checked check.old ≡ [] }
     requires writers { length writers.items ≡ length jobs.now }
-    requires jobs { length jobs.now ≤ 1000 }
+    requires jobs { AreFew jobs.now }
 {
     let (results, writers) = run_jobs(alloc, store, jobs, writers, check)?;
     let report = report_of(alloc, jobs, results.as_slice())?;

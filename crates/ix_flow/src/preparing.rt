@@ -1,7 +1,7 @@
 //! What is made before the first thread.
 
-ghost use Rattle.std.specs.Prelude.{◌≡◌, ◌<◌, ◌≤◌, [], length, All, vec_len, vec_capacity, IfOk};
-ghost use Rattle.ix_walk.specs.JobMeaning.{IsJob};
+ghost use Rattle.std.specs.Prelude.{◌≡◌, ◌<◌, ◌≤◌, [], All, vec_len, vec_capacity, IfOk};
+ghost use Rattle.ix_walk.specs.JobMeaning.{AreFew, IsJob};
 ghost use Rattle.ix_archive.specs.Headline.{EachUnused};
 ghost use Rattle.ix_flow.specs.Prepared.{AreSlotsOf, AreUnstartedIn, IsPrepared, walker_count};
 ghost use Rattle.ix_flow.specs.Verifiers.{HasJoinRoom, HasRunningRoom};
@@ -139,7 +139,7 @@ impl<C: Check + Drop> Prepared<C> {
         plan: Plan,
         verifiers: usize,
     ) -> Result<Prepared<C>, AllocError>
-        requires jobs { length jobs.now.items ≤ 1000 }
+        requires jobs { AreFew jobs.now.items }
         requires walkers { (1 ≤ plan.walkers) × (plan.walkers ≤ 64) }
         requires queue { 0 < plan.queue }
         requires lane { 0 < plan.lane }

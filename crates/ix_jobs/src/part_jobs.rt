@@ -3,6 +3,7 @@
 //! The whole file is read and judged, whatever the part.
 
 ghost use Rattle.std.specs.Prelude.{◌≡◌, ◌≤◌, length, get_or, Ok, IfOk, IfErr};
+ghost use Rattle.ix_walk.specs.JobMeaning.{AreFew};
 ghost use Rattle.ix_jobs.specs.Jobs.{jobs_up_to};
 ghost use Rattle.ix_jobs.specs.Parts.{job_lines, jobs_of_part, AreJobsBetween};
 ghost use Rattle.ix_jobs.specs.Gives.{IsFaultOf};
@@ -22,7 +23,7 @@ const MOST_JOBS: usize = 1_000;
 /// that there are too many jobs in the part, with the line of the first of them for which there is no room.
 pub fn read_jobs_part(alloc: Global, bytes: &[u8], part: Part) -> Result<Vec<Job>, JobsFault>
     ensures jobs { IfOk result (λ jobs. jobs_of_part part bytes.now ≡ Ok jobs.items) }
-    ensures few { IfOk result (λ jobs. length jobs.items ≤ 1000) }
+    ensures few { IfOk result (λ jobs. AreFew jobs.items) }
     ensures fault { IfErr result (λ fault. IsFaultOf fault (jobs_of_part part bytes.now)) }
 {
     let count = job_count(bytes);

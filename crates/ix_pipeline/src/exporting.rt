@@ -1,7 +1,8 @@
 //! The exporter by walkers and verifiers.
 
-ghost use Rattle.std.specs.Prelude.{◌≡◌, ◌≤◌, length, vec_len, IfOk, IfErr};
+ghost use Rattle.std.specs.Prelude.{◌≡◌, length, vec_len, IfOk, IfErr};
 ghost use Rattle.std.specs.Arc.{arc_value};
+ghost use Rattle.ix_walk.specs.JobMeaning.{AreFew};
 ghost use Rattle.ix_pipeline.specs.Headline.{EachDelivered, EachArchived, EachFresh, EachKept};
 ghost use Rattle.ix_pipeline.specs.Headline.{EachUnused, IsCheckedOnce, NoneOrAllStart, checked_by};
 ghost use Rattle.ix_pipeline.specs.Planned.{IsPlan};
@@ -48,7 +49,7 @@ where
     requires sinks { length sinks.old ≡ length (arc_value jobs.now).items }
     requires fresh { EachFresh S.events S.failed sinks.old }
     requires unused { EachUnused C.checked checks.items }
-    requires jobs { length (arc_value jobs.now).items ≤ 1000 }
+    requires jobs { AreFew (arc_value jobs.now).items }
     requires plan { IsPlan plan (vec_len checks) }
     ensures delivered { IfOk result (λ out. EachDelivered S.events S.failed
         (arc_value store.now) 0 (arc_value jobs.now).items out.ends.items sinks.new) }

@@ -1,6 +1,7 @@
 //! The exporter on one thread.
 
-ghost use Rattle.std.specs.Prelude.{◌≡◌, ◌≤◌, [], length, IfOk, OnErr};
+ghost use Rattle.std.specs.Prelude.{◌≡◌, [], length, IfOk, OnErr};
+ghost use Rattle.ix_walk.specs.JobMeaning.{AreFew};
 ghost use Rattle.ix_check.specs.Visits.{IsVisitOf};
 ghost use Rattle.ix_pipeline.specs.Progress.{told_by, CanHand, HandsOn, Delivers, IsWalked, Exports, end_of};
 ghost use Rattle.ix_pipeline.specs.Headline.{EachDelivered, EachArchived, Keeps, EachKept, EachFresh};
@@ -26,7 +27,7 @@ pub fn export_plain<S: Sink, C: Check>(
     requires sinks { length sinks.old ≡ length jobs.now }
     requires fresh { EachFresh S.events S.failed sinks.old }
     requires unused { C.checked check.old ≡ [] }
-    requires jobs { length jobs.now ≤ 1000 }
+    requires jobs { AreFew jobs.now }
     ensures delivered { IfOk result (λ ends.
         EachDelivered S.events S.failed store.now 0 jobs.now ends.items sinks.new) }
     ensures archived { IfOk result (λ ends.

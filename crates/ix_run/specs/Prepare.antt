@@ -1,10 +1,10 @@
 -- What is read of the files of a run, and why they are refused.
-use Rattle.std.specs.Prelude.{◌≡◌, ◌≤◌, ℕ, List, length, Result, Ok}
+use Rattle.std.specs.Prelude.{◌≡◌, ℕ, List, Result, Ok}
 use Rattle.std.specs.Arc.{arc_value}
 use Rattle.std.specs.Global.{Global, Vec}
 use Rattle.std.specs.declared.sync.Arc.{Arc}
 use Rattle.ix_store.specs.Store.{Blocks}
-use Rattle.ix_walk.specs.JobMeaning.{JobMeaning}
+use Rattle.ix_walk.specs.JobMeaning.{JobMeaning, AreFew}
 use Rattle.ix_car.specs.Reading.{blocks_of}
 use Rattle.ix_car.specs.Gives as car
 use Rattle.ix_jobs.specs.Gives as jobs
@@ -15,7 +15,7 @@ use Rattle.ix_run.specs.declared.fault.RunFault.TheVariants.{Hex, Root, Car, Job
 -- the blocks of this file, and the jobs that are meant, of which there are at most 1,000
 abbrev pub IsLoaded : List ℕ → Result (List JobMeaning) (JobsKind × ℕ) → Arc Blocks Global × Arc (Vec JobMeaning) Global → Type 0
 IsLoaded file meant loaded =
-    (blocks_of file ≡ Ok (arc_value loaded.0)) × (meant ≡ Ok (arc_value loaded.1).items) × (length (arc_value loaded.1).items ≤ 1000)
+    (blocks_of file ≡ Ok (arc_value loaded.0)) × (meant ≡ Ok (arc_value loaded.1).items) × AreFew (arc_value loaded.1).items
 
 -- The first fault of the CARv1 file; or, where that is good, that of the job file, of whose jobs this is meant; or memory ran out.
 abbrev pub IsFilesRefusal : List ℕ → Result (List JobMeaning) (JobsKind × ℕ) → RunFault → Type 0

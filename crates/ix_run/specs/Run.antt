@@ -1,11 +1,11 @@
 -- What a run leaves.
-use Rattle.std.specs.Prelude.{◌≡◌, ◌⊎◌, ℕ, ◌+◌, ◌<◌, ◌≤◌, List, [], ◌∷◌, ◌++◌, length, map, Option, Some, Result, IfOk}
+use Rattle.std.specs.Prelude.{◌≡◌, ◌⊎◌, ℕ, ◌+◌, ◌<◌, List, [], ◌∷◌, ◌++◌, length, map, Option, Some, Result, IfOk}
 use Rattle.std.specs.Arc.{arc_value}
 use Rattle.std.specs.Global.{Global, Vec}
 use Rattle.std.specs.declared.sync.Arc.{Arc}
 use Rattle.std.specs.Io.KnownBytes.{Keeps}
 use Rattle.ix_store.specs.Store.{Blocks}
-use Rattle.ix_walk.specs.JobMeaning.{JobMeaning}
+use Rattle.ix_walk.specs.JobMeaning.{JobMeaning, AreFew}
 use Rattle.ix_archive.specs.declared.sink.Delivery.{Delivery}
 use Rattle.ix_archive.specs.declared.sink.End.{End}
 use Rattle.ix_archive.specs.declared.sink.End.TheVariants as ends
@@ -23,7 +23,7 @@ use Rattle.ix_run.specs.declared.execution.RunOut.{RunOut}
 
 -- a run can be begun: there is a writer for each job, and there are at most 1,000
 abbrev pub CanRun : {W : Type 0} → Arc (Vec JobMeaning) Global → List W → Type 0
-CanRun jobs writers = (length writers ≡ length (arc_value jobs).items) × (length (arc_value jobs).items ≤ 1000)
+CanRun jobs writers = (length writers ≡ length (arc_value jobs).items) × AreFew (arc_value jobs).items
 
 -- The end that is told of a job: that of its close, or a failed write, where the last bytes of a whole archive couldn't be flushed.
 abbrev pub IsEndOf : End → End → Type 0

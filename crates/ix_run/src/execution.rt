@@ -1,10 +1,10 @@
 //! A run: every job's archive, the report and the status.
 
-ghost use Rattle.std.specs.Prelude.{◌≡◌, ◌≤◌, [], length, map, vec_len, IfOk, IfErr};
+ghost use Rattle.std.specs.Prelude.{◌≡◌, [], length, map, vec_len, IfOk, IfErr};
 ghost use Rattle.std.specs.Arc.{arc_value};
 ghost use Rattle.std.specs.Io.KnownBytes.{Keeps};
+ghost use Rattle.ix_walk.specs.JobMeaning.{AreFew};
 ghost use Rattle.ix_pipeline.specs.Headline.{EachUnused};
-ghost use Rattle.ix_run.specs.declared.fault.RunFault.TheVariants.{Memory};
 ghost use Rattle.ix_pipeline.specs.Planned.{IsPlan};
 ghost use Rattle.ix_run.specs.Run.{
   CanRun,
@@ -60,27 +60,47 @@ pub fn run<R: Threads + Wait + Sync, W: Write + Drop>(
     ensures ran { RunsTo W.contents store.now jobs.now writers.items result }
     ensures refused { IfErr result (λ fault. IsRunRefusal (arc_value jobs.now).items fault) }
 {
-    let watch = Unwatched;
-    run_watched(rt, alloc, store, jobs, writers, verifiers, plan, &watch)
+    let input = RunInput {
+        store,
+        jobs,
+        verifiers,
+        plan,
+    };
+    run_watched(rt, alloc, input, writers, &Unwatched)
 }
 
-/// The same, of which a watch is told while it goes on: at first of the bytes of each header, then of
+/// What a run is given beside its writers: the blocks, the jobs, and how many threads work.
+#[derive(Drop)]
+pub struct RunInput<'a> {
+    pub store: &'a Arc<Store>,
+    pub jobs: &'a Arc<Vec<Job>>,
+    /// How many verifiers hash.
+    pub verifiers: u32,
+    pub plan: Plan,
+}
+
+/// As `run`, of which a watch is told while it goes on: at first of the bytes of each header, then of
 /// each delivery and its bytes, and of each close.
 pub fn run_watched<R: Threads + Wait + Sync, W: Write + Drop, V: Watch>(
     rt: &R,
     alloc: Global,
-    store: &Arc<Store>,
-    jobs: &Arc<Vec<Job>>,
+    input: RunInput<'_>,
     writers: Vec<W>,
-    verifiers: u32,
-    plan: Plan,
     watch: &V,
 ) -> Result<RunOut<W>, RunFault>
-    requires run { CanRun jobs.now writers.items }
-    requires plan { IsPlan plan verifiers }
-    ensures ran { RunsTo W.contents store.now jobs.now writers.items result }
-    ensures refused { IfErr result (λ fault. IsRunRefusal (arc_value jobs.now).items fault) }
+    requires run { CanRun input.jobs.now writers.items }
+    requires plan { IsPlan input.plan input.verifiers }
+    ensures ran { RunsTo W.contents
+        input.entry.store.now input.entry.jobs.now writers.items result }
+    ensures refused { IfErr result (λ fault.
+        IsRunRefusal (arc_value input.entry.jobs.now).items fault) }
 {
+    let RunInput {
+        store,
+        jobs,
+        verifiers,
+        plan,
+    } = input;
     let mut archives = begun(alloc, store, jobs.as_slice(), writers, watch)?;
     let checks = sha_checks(alloc, verifiers)?;
     let sinks = archives.as_mut_slice();
@@ -143,14 +163,14 @@ pub fn run_jobs<W: Write + Drop, C: Check>(
 ) -> Result<(Vec<JobResult>, Vec<W>), RunFault>
     requires unused { C.checked check.old ≡ [] }
     requires writers { length writers.items ≡ length jobs.now }
-    requires jobs { length jobs.now ≤ 1000 }
+    requires jobs { AreFew jobs.now }
     ensures ran { IfOk result (λ out. HaveRun W.contents store.now jobs.now writers.items out) }
     ensures refused { IfErr result (λ fault. IsRunRefusal jobs.now fault) }
 {
     let watch = Unwatched;
     let mut archives = begun(alloc, store, jobs, writers, &watch)?;
     let ends = export_plain(alloc, store, jobs, archives.as_mut_slice(), check)?;
-    ended(alloc, archives, ends.as_slice())
+    Ok(ended(alloc, archives, ends.as_slice())?)
 }
 
 // An archive for each job, with its header written, of which the watch is told.
@@ -162,7 +182,7 @@ fn begun<'a, W: Write + Drop, V: Watch>(
     watch: &'a V,
 ) -> Result<Vec<Watched<'a, W, V>>, RunFault>
     requires writers { length writers.items ≡ length jobs.now }
-    requires jobs { length jobs.now ≤ 1000 }
+    requires jobs { AreFew jobs.now }
     ensures begun { IfOk result (λ archives.
         EachBegun W.contents store.now jobs.now writers.items archives.items) }
     ensures refused { IfErr result (λ fault. IsRunRefusal jobs.now fault) }
@@ -183,11 +203,10 @@ fn ended<'a, W: Write + Drop, V: Watch>(
     alloc: Global,
     archives: Vec<Watched<'a, W, V>>,
     ends: &[End],
-) -> Result<(Vec<JobResult>, Vec<W>), RunFault>
+) -> Result<(Vec<JobResult>, Vec<W>), AllocError>
     requires { length archives.items ≡ length ends.now }
-    ensures ended { IfOk result (λ out.
+    ensures { IfOk result (λ out.
         EachEnded W.contents archives.entry.items ends.now out.0.items out.1.items) }
-    ensures memory { IfErr result (λ fault. fault ≡ Memory) }
 {
     let mut results = Vec::with_capacity(alloc, ends.len())?;
     let mut writers = Vec::with_capacity(alloc, ends.len())?;

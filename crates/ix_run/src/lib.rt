@@ -29,7 +29,7 @@ mod watch;
 
 pub use command::{printed_root, root_of_text};
 pub use complete::{is_complete, is_root};
-pub use execution::{RunOut, run, run_jobs, run_watched};
+pub use execution::{RunInput, RunOut, run, run_jobs, run_watched};
 pub use fault::{RunFault, fault_line};
 pub use loading::{Choice, load_by};
 pub use preparation::{load, load_part, prepare};

@@ -1,7 +1,8 @@
 //! What a run needs, where its jobs are chosen and several threads index the blocks.
 
-ghost use Rattle.std.specs.Prelude.{◌≡◌, ◌≤◌, length, IfOk, IfErr, Ok};
+ghost use Rattle.std.specs.Prelude.{◌≡◌, IfOk, IfErr, Ok};
 ghost use Rattle.std.specs.Arc.{arc_value};
+ghost use Rattle.ix_walk.specs.JobMeaning.{AreFew};
 ghost use Rattle.ix_car.specs.Reading.{blocks_of};
 ghost use Rattle.ix_jobs.specs.Gives.{IsFaultOf};
 ghost use Rattle.ix_run.specs.Choosing.{jobs_in, walked, AreChosen};
@@ -39,7 +40,7 @@ pub fn load_by<R: Threads + Sync>(
 ) -> Result<(Arc<Store>, Arc<Vec<Job>>), RunFault>
     ensures blocks { IfOk result (λ p. blocks_of car.items ≡ Ok (arc_value p.0)) }
     ensures jobs { IfOk result (λ p. AreChosen choice job_file.now (arc_value p.1).items) }
-    ensures few { IfOk result (λ p. length (arc_value p.1).items ≤ 1000) }
+    ensures few { IfOk result (λ p. AreFew (arc_value p.1).items) }
     ensures refused { IfErr result (IsFilesRefusal car.items (jobs_in choice.part job_file.now)) }
 {
     let store = load_car_by(rt, alloc, car, threads)?;
@@ -51,7 +52,7 @@ pub fn load_by<R: Threads + Sync>(
 // The jobs of a file, or of a part of it.
 fn read_chosen(alloc: Global, job_file: &[u8], part: Option<Part>) -> Result<Vec<Job>, JobsFault>
     ensures jobs { IfOk result (λ jobs. jobs_in part job_file.now ≡ Ok jobs.items) }
-    ensures few { IfOk result (λ jobs. length jobs.items ≤ 1000) }
+    ensures few { IfOk result (λ jobs. AreFew jobs.items) }
     ensures fault { IfErr result (λ fault. IsFaultOf fault (jobs_in part job_file.now)) }
 {
     match part {

@@ -2,7 +2,6 @@
 
 ghost use Rattle.std.specs.Prelude.{◌≡◌, ◌⊎◌, IfOk, IfErr, IfSome, IfNone, Ok, true, false, []};
 ghost use Rattle.ix_selector.specs.Pattern.{matcher};
-ghost use Rattle.ix_run.specs.declared.fault.RunFault.TheVariants.{Memory};
 ghost use Rattle.ix_run.specs.Root.{root_job, exported_from, is_whole, IsRunAlone, IsLast, IsRefusalOf};
 
 use crate::execution::run_jobs;
@@ -16,7 +15,7 @@ use ix_jobs::JobResult;
 use ix_selector::Selector;
 use ix_store::Store;
 use ix_walk::Job;
-use std::alloc::Global;
+use std::alloc::{AllocError, Global};
 use std::slice;
 
 // The matcher selector in DAG-CBOR: a map with the key `.` and an empty map.
@@ -39,16 +38,15 @@ fn run_alone(
     alloc: Global,
     store: &Store,
     job: &Job,
-) -> Result<(Vec<JobResult>, Vec<Vec<u8>>), RunFault>
-    ensures ran { IfOk result (λ r. IsRunAlone store.now job.now r.0.items r.1.items) }
-    ensures memory { IfErr result (λ fault. fault ≡ Memory) }
+) -> Result<(Vec<JobResult>, Vec<Vec<u8>>), AllocError>
+    ensures { IfOk result (λ r. IsRunAlone store.now job.now r.0.items r.1.items) }
 {
     let writers = vec![in alloc; Vec::new(alloc)]?;
     let mut check = ShaCheck::new(alloc);
     // A vector takes what it is given while there is memory.
     match run_jobs(alloc, store, slice::from_ref(job), writers, &mut check) {
         Ok(ran) => Ok(ran),
-        Err(_) => Err(RunFault::Memory),
+        Err(_) => Err(AllocError),
     }
 }
 
@@ -76,9 +74,8 @@ fn is_whole(results: &[JobResult]) -> bool
 }
 
 // The job of a root: the matcher, and one visit.
-fn root_job(alloc: Global, root: Cid) -> Result<Job, RunFault>
-    ensures job { IfOk result (λ job. job ≡ root_job root) }
-    ensures memory { IfErr result (λ fault. fault ≡ Memory) }
+fn root_job(alloc: Global, root: Cid) -> Result<Job, AllocError>
+    ensures { IfOk result (λ job. job ≡ root_job root) }
 {
     let name = String::from_str(alloc, "root")?;
     let roots = vec![in alloc; root]?;
@@ -86,21 +83,20 @@ fn root_job(alloc: Global, root: Cid) -> Result<Job, RunFault>
     // The name, the one root and the limit are those of a job.
     match Job::new(name, roots, selector, 1) {
         Ok(job) => Ok(job),
-        Err(_) => Err(RunFault::Memory),
+        Err(_) => Err(AllocError),
     }
 }
 
 // The selector that enters the root alone.
-fn matcher(alloc: Global) -> Result<Selector, RunFault>
-    ensures selector { IfOk result (λ selector. selector ≡ matcher) }
-    ensures memory { IfErr result (λ fault. fault ≡ Memory) }
+fn matcher(alloc: Global) -> Result<Selector, AllocError>
+    ensures { IfOk result (λ selector. selector ≡ matcher) }
 {
     // The bytes spell a selector, so only memory can be refused.
     let Ok(tree) = decode(alloc, MATCHER) else {
-        return Err(RunFault::Memory);
+        return Err(AllocError);
     };
     match Selector::read(alloc, &tree) {
         Ok(selector) => Ok(selector),
-        Err(_) => Err(RunFault::Memory),
+        Err(_) => Err(AllocError),
     }
 }

@@ -1,6 +1,6 @@
 //! Files, verified.
 
-ghost use Rattle.std.specs.Prelude.{◌≡◌, ◌<◌, ◌++◌, map, IfOk, IfErr, OnOk};
+ghost use Rattle.std.specs.Prelude.{◌≡◌, ◌++◌, map, IfOk, IfErr, OnOk};
 ghost use Rattle.std.specs.Arc.{arc_value};
 ghost use Rattle.ix_car.specs.declared.fault.CarKind.TheVariants.{Memory};
 ghost use Rattle.ix_car.specs.Gives.{IsFaultOf};
@@ -18,6 +18,7 @@ use ix_check::Verdict;
 use ix_cid::Cid;
 use ix_store::Store;
 use std::alloc::{AllocError, Global};
+use std::num::NonZeroUsize;
 use std::sync::Arc;
 use std::thread::Threads;
 
@@ -30,10 +31,9 @@ pub fn verify<R: Threads + Sync>(
     rt: &R,
     alloc: Global,
     car: Vec<u8>,
-    threads: usize,
+    threads: NonZeroUsize,
     reach: Reach,
 ) -> Result<Findings, CarFault>
-    requires { 0 < threads }
     ensures found { IfOk result (IsFoundOf car.items reach) }
     ensures refused { IfErr result (λ fault. IsFaultOf car.items fault (section_list car.items)) }
 {
@@ -51,9 +51,8 @@ fn verify_blocks<R: Threads + Sync>(
     rt: &R,
     alloc: Global,
     car: &[u8],
-    threads: usize,
+    threads: NonZeroUsize,
 ) -> Result<Findings, CarFault>
-    requires { 0 < threads }
     ensures found { IfOk result (IsFoundOf car.now OfBlocks) }
     ensures refused { IfErr result (λ fault. IsFaultOf car.now fault (section_list car.now)) }
 {
@@ -67,14 +66,13 @@ fn verify_all<R: Threads + Sync>(
     rt: &R,
     alloc: Global,
     file: &Arc<Vec<u8>>,
-    threads: usize,
+    threads: NonZeroUsize,
 ) -> Result<Findings, CarFault>
-    requires { 0 < threads }
     ensures found { IfOk result (IsFoundOf (arc_value file.now).items OfRoots) }
     ensures refused { IfErr result (λ fault. IsFaultOf (arc_value file.now).items fault
         (section_list (arc_value file.now).items)) }
 {
-    let store = match load_shared_by(rt, alloc, file, threads) {
+    let store = match load_shared_by(rt, alloc, file, threads.get()) {
         Ok(store) => store,
         Err(fault) => return Err(fault),
     };
@@ -113,9 +111,8 @@ fn judge_file<R: Threads + Sync>(
     alloc: Global,
     store: Option<&Store>,
     car: &[u8],
-    threads: usize,
+    threads: NonZeroUsize,
 ) -> Result<Judged, CarFault>
-    requires { 0 < threads }
     ensures judged { IfOk result (IsJudgedOf car.now) }
     ensures refused { IfErr result (λ fault. IsFaultOf car.now fault (section_list car.now)) }
 {
@@ -145,9 +142,8 @@ fn judge_sections<R: Threads + Sync>(
     alloc: Global,
     store: Option<&Store>,
     sections: &[Section<'_>],
-    threads: usize,
+    threads: NonZeroUsize,
 ) -> Result<Vec<Unsound>, AllocError>
-    requires { 0 < threads }
     ensures { IfOk result (λ unsound. unsound.items ≡ unsound_of (map section_of sections.now)) }
 {
     let verdicts = judge_beside(rt, alloc, store, sections, threads)?;

@@ -5,7 +5,7 @@
 //! many threads hash.
 //!
 //! ```rust
-//! let found = verify(rt, alloc, car, 4, Reach::Roots)?;
+//! let found = verify(rt, alloc, car, threads, Reach::Roots)?;
 //! for section in &found.unsound {
 //!     println!(rt; "{} {}", section.place, section.verdict)?;
 //! }

@@ -15,6 +15,7 @@ use ix_cid::code::{DAG_CBOR, RAW};
 use ix_store::Store;
 use sha2::{Digest, Sha256, Sha512};
 use std::alloc::{AllocError, Global};
+use std::num::NonZeroUsize;
 use std::thread;
 use std::thread::Threads;
 
@@ -46,9 +47,8 @@ pub fn judge_all<R: Threads + Sync>(
     rt: &R,
     alloc: Global,
     sections: &[Section<'_>],
-    threads: usize,
+    threads: NonZeroUsize,
 ) -> Result<Vec<Verdict>, AllocError>
-    requires { 0 < threads }
     ensures { IfOk result (λ verdicts. verdicts.items ≡ map verdict_in sections.now) }
 {
     judge_beside(rt, alloc, None, sections, threads)
@@ -61,9 +61,8 @@ pub(crate) fn judge_beside<R: Threads + Sync>(
     alloc: Global,
     store: Option<&Store>,
     sections: &[Section<'_>],
-    threads: usize,
+    threads: NonZeroUsize,
 ) -> Result<Vec<Verdict>, AllocError>
-    requires { 0 < threads }
     ensures { IfOk result (λ verdicts. verdicts.items ≡ map verdict_in sections.now) }
 {
     let mut verdicts = vec![in alloc; Verdict::Sound; sections.len()]?;
@@ -77,11 +76,10 @@ fn judge_each<R: Threads + Sync>(
     alloc: Global,
     store: Option<&Store>,
     sections: &[Section<'_>],
-    threads: usize,
+    threads: NonZeroUsize,
     verdicts: &mut [Verdict],
 )
-    requires threads { 0 < threads }
-    requires each { length verdicts.old ≡ length sections.now }
+    requires { length verdicts.old ≡ length sections.now }
     ensures len { length verdicts.new ≡ length sections.now }
     ensures each { (i : ℕ) (d : _) → i < length sections.now
         → slice_get (map verdict_in sections.now) i ≡ Some (slice_index_or verdicts.new i d) }
@@ -89,7 +87,7 @@ fn judge_each<R: Threads + Sync>(
     thread::for_each_mut(
         rt,
         verdicts,
-        threads,
+        threads.get(),
         &|place, verdict| *verdict = judge_at(alloc, store, sections, place),
     );
 }

@@ -71,6 +71,11 @@ FindsNext selector old roots o new rest =
 abbrev pub trail_left : Blocks → ℕ → ℕ → ℕ → Option Going → Pattern → Trail → List (List ℕ) → WalkLeft
 trail_left store number limit given gone selector t roots = walk_left store number limit given gone (links_left selector (subtrees t) roots) false
 
+-- what is left of the walk of the job with this number, which has given so many visits and keeps this, or has ended
+abbrev pub left_of_walk : Blocks → ℕ → JobMeaning → ℕ → WalkState → Bool → WalkLeft
+left_of_walk store number job given state ended =
+    walk_left store number job.limit given (going_of store state.gone) (links_left job.selector (subtrees state.trail) state.roots.now) ended
+
 -- what is taken of it, and what is then left
 abbrev pub Takes : Blocks → ℕ → ℕ → ℕ → Pattern → Option Going → Trail → List (List ℕ) → Result (Option Visit) WalkStop → Option Going → Trail → List (List ℕ) → Type 0
 Takes store number limit given selector had old roots (Ok (Some v)) has new rest =

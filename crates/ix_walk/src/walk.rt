@@ -32,10 +32,10 @@ impl<'a> Model for Walk<'a> {
 
     ghost Value = { WalkLeft };
 
-    ghost use Rattle.ix_walk.specs.Gone.{going_of};
-    ghost use Rattle.ix_walk.specs.Walking.{walk_left, links_left, subtrees, IsWalk};
+    ghost use Rattle.ix_walk.specs.Arriving.{left_of_walk};
+    ghost use Rattle.ix_walk.specs.Walking.{IsWalk};
 
-    ghost view = { λ w. walk_left w.store.now w.number w.job.now.limit w.given (going_of w.store.now w.state.gone) (links_left w.job.now.selector (subtrees w.state.trail) w.state.roots.now) w.ended };
+    ghost view = { λ w. left_of_walk w.store.now w.number w.job.now w.given w.state w.ended };
 
     ghost invariant = { λ w. IsWalk w.job.now.limit w.given w.state.trail };
 }

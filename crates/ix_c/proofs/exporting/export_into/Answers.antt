@@ -1,4 +1,4 @@
-use Rattle.std.proofs.Common.{◌≡◌, ◌∙◌, refl, sym, ap, subst}
+use Rattle.std.proofs.Common.{◌∙◌, refl, sym, ap}
 use Rattle.std.specs.Prelude.{Some}
 use Rattle.ix_c.proofs.Made.{exports_none}
 use Rattle.ix_c.proofs.exporting.export_into.Goals as goal

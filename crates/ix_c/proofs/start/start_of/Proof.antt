@@ -1,12 +1,12 @@
 -- `start_of` is the pointer of the slice.
-use Rattle.std.proofs.Common.{◌≡◌, ℕ, List, [], ◌∷◌, refl}
+use Rattle.std.proofs.Common.{◌≡◌, List, [], ◌∷◌, refl}
 use mir.Syntax.{named}
 use mir.Val.{Val, vptr}
 use base.Logic.{emp}
 use base.Fml.{ftrue, flft}
-use types.Kit.{‵, raw, ◌⊛◌, ◌$◌, ◌∵◌, !, qed, by, keep, drop, split, fjoin, join, feq_i, use0, move}
-use types.Run.{of_opd, addr, from, hop, fld, stop, enter, returns}
-use types.ByLocal.{alloc_all, pass_all, free_all, look_at, look_in_at, get, get_in, sets}
+use types.Kit.{‵, raw, ◌⊛◌, ◌$◌, ◌∵◌, !, qed, by, keep, split, fjoin, feq_i, use0}
+use types.Run.{addr, from, hop, fld, stop, enter, returns}
+use types.ByLocal.{alloc_all, pass_all, free_all, look_at, look_in_at, sets}
 use types.Part.{sub, whole}
 use contract.Monad.{fact, fact_i}
 use denote.Exit.{yes}

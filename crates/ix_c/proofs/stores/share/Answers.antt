@@ -1,4 +1,4 @@
-use Rattle.std.proofs.Common.{◌≡◌, ◌∙◌, refl, sym, ap, subst}
+use Rattle.std.proofs.Common.{◌∙◌, refl, sym, ap}
 use Rattle.std.specs.Prelude.{Some}
 use Rattle.ix_c.proofs.Made.{shares_none}
 use Rattle.ix_c.proofs.stores.share.Goals as goal

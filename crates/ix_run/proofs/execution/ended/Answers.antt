@@ -33,8 +33,8 @@ loop-archive-preserved g c =
       ended = rw (taken_more archive_of ys x, taken_more end_of ys x) (rw c.in_ok-push.ensures.items (rw c.in_ok-push-2.ensures.items more));
     }
 
-pub returns-clause-ended : goal.returns-clause-ended
-returns-clause-ended g c =
+pub returns : goal.returns
+returns g c =
     let was = c.loop-archive.invariant in
     let ys = c.loop-archive.yielded in
     let archive_of = λ (p : ArchiveMeaning g.row.W.Denot × Bor End). p.0 in

@@ -1,7 +1,6 @@
 use Rattle.std.proofs.Common.{refl, sym, ◌∙◌, ap, subst, length}
 use Rattle.ix_archive.specs.ArchiveMeaning.{events_of}
 use Rattle.ix_pipeline.specs.Headline.{EachFresh}
-use Rattle.ix_run.proofs.Turns.{if_ok}
 use Rattle.ix_run.proofs.Runs.{begun-length, begun-fresh, delivered-length, kept-length, whole_again, ended_sinks}
 use Rattle.ix_run.proofs.execution.run_jobs.Goals as goal
 
@@ -26,7 +25,6 @@ pub returns-clause-ran : goal.returns-clause-ran
 returns-clause-ran g c =
     let exported = c.in_ok-ends.ensures in
     let archives = c.in_ok-archives.archives in
-    if_ok _ _ c.ended.result
-    (λ r ended. ended_sinks g.W.Write.contents c.args.store.now c.args.store.now c.args.jobs.now c.args.jobs.now c.args.writers.items r.1.items archives.items c.as_mut_slice.result.now c.export_plain.new.sinks archives.len c.in_ok-ends.ends.items c.as_slice.result.now
-    r.0.items refl refl c.in_ok-archives.ensures.begun c.as_mut_slice.ensures.value c.as_mut_slice.ensures.len exported.facts exported.delivered exported.archived c.as_slice.ensures.value ended)
-    c.ended.ensures.ended
+    let told = c.in_ok-ended.field-0 in
+    ended_sinks g.W.Write.contents c.args.store.now c.args.store.now c.args.jobs.now c.args.jobs.now c.args.writers.items told.1.items archives.items c.as_mut_slice.result.now c.export_plain.new.sinks archives.len c.in_ok-ends.ends.items c.as_slice.result.now
+    told.0.items refl refl c.in_ok-archives.ensures.begun c.as_mut_slice.ensures.value c.as_mut_slice.ensures.len exported.facts exported.delivered exported.archived c.as_slice.ensures.value c.in_ok-ended.ensures

@@ -13,10 +13,10 @@ ok_or-of_some None e P Q f h = tt
 pub returns-clause-archive : goal.returns-clause-archive
 returns-clause-archive c =
     let job = c.in_ok-job.job in
-    let alone = c.in_ok-results.ensures.ran in
+    let alone = c.in_ok-results.ensures in
     subst (λ r. IfOk r (λ archive. exported_from c.args.car.now c.args.root ≡ Ok archive.items)) (sym c.ok_or.ensures.value)
     (ok_or-of_some c.whole_archive.result _ _ (λ archive. exported_from c.args.car.now c.args.root ≡ Ok archive.items)
     (λ archive last.
     exported_by (λ (v : Vec ℕ Global). Some v.items) c.args.car.now c.args.root c.in_ok-store.store job (job ∷ []) alone.0 (alone.0 ∷ []) c.in_ok-results.archives.items last.1.0 archive c.in_ok-results.results.items archive.items
-    refl refl c.in_ok-store.ensures c.in_ok-job.ensures.job (ap (λ l. Some l) alone.1) alone.2 (ap is_whole (sym c.as_slice.ensures.value) ∙ last.0) last.1.1 refl)
+    refl refl c.in_ok-store.ensures c.in_ok-job.ensures (ap (λ l. Some l) alone.1) alone.2 (ap is_whole (sym c.as_slice.ensures.value) ∙ last.0) last.1.1 refl)
     c.whole_archive.ensures.whole)

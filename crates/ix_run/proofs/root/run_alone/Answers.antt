@@ -3,8 +3,8 @@ use Rattle.std.specs.Prelude.{Some}
 use Rattle.ix_run.specs.Run.{EachRun}
 use Rattle.ix_run.proofs.root.run_alone.Goals as goal
 
-pub returns-in-Ok-clause-ran : goal.returns-in-Ok-clause-ran
-returns-in-Ok-clause-ran c =
+pub returns-in-Ok : goal.returns-in-Ok
+returns-in-Ok c =
     let told = λ (v : Vec ℕ Global). Some v.items in (
       c.new.result,
       c.new.ensures.items,

@@ -1,22 +1,19 @@
 -- `empty` holds nothing, so it owns nothing.
-use Rattle.std.proofs.Common.{◌≡◌, ℕ, List, [], ◌∷◌, refl, lit<}
+use Rattle.std.proofs.Common.{◌≡◌, [], ◌∷◌, refl, lit<}
 use mir.Val.{Val, vint}
 use mir.Syntax.{w64}
-use base.Logic.{SProp, emp}
-use base.Fml.{ftrue}
-use types.Kit.{‵, raw, ◌$◌, ◌∵◌, !, qed, by, keep, move, use0}
+use base.Logic.{emp}
+use types.Kit.{raw, ◌$◌, ◌∵◌, !, qed, by, keep, use0}
 use types.Run.{lit, no_more, and_then, enter, returns}
 use types.ByLocal.{alloc_all, pass_all, free_all, look_at, sets}
 use types.Part.{agg}
 use contract.Monad.{fact, fact_i}
-use contract.Running.{tables}
 use denote.RawPtr.{null_ptr}
 use denote.Steps.{nothing}
-use denote.Triple.Entry.{on_entry}
 use denote.Triple.Walked.{Stays, walk_of}
-use Rattle.std.specs.Prelude.{Option, None}
+use Rattle.std.specs.Prelude.{None}
 use Rattle.std.proofs.raw_atomic.Walks.{proved_at, leaves}
-use Rattle.ix_c.proofs.Pointing.{Pointed, Held, one, pointed_in}
+use Rattle.ix_c.proofs.Pointing.{one, pointed_in}
 use Rattle.ix_c.specs.contracts.pointed.Pointed.empty as f
 use Rattle.ix_c.proofs.pointed.Pointed.empty.Statement.{statement}
 use Rattle.ix_c.proofs.pointed.Pointed.empty.Code as code
