@@ -1,5 +1,8 @@
 //! How a run goes on, on standard error.
 
+ghost use Rattle.std.specs.Prelude.{◌≡◌};
+ghost use Rattle.ix_files.specs.Progress.{is_told};
+
 use ix_run::Watch;
 use std::cell::Cell;
 use std::io::{self, Read};
@@ -58,7 +61,9 @@ pub struct Progress<'a, R> {
 
 impl<'a, R: AllocGlobal + Clock + Eprint> Progress<'a, R> {
     /// The progress of a run of which nothing was told so far.
-    pub fn new(rt: &'a R, telling: Telling) -> Progress<'a, R> {
+    pub fn new(rt: &'a R, telling: Telling) -> Progress<'a, R>
+        ensures { result.telling ≡ telling }
+    {
         Progress {
             rt,
             telling,
@@ -77,7 +82,9 @@ impl<'a, R: AllocGlobal + Clock + Eprint> Progress<'a, R> {
     }
 
     /// Whether anything is told.
-    pub fn is_told(&self) -> bool {
+    pub fn is_told(&self) -> bool
+        ensures { result ≡ is_told self.now.telling }
+    {
         self.telling != Telling::Nothing
     }
 
@@ -212,6 +219,9 @@ impl<'a, F, R> Loading<'a, F, R> {
 }
 
 impl<'a, F: Read, R: AllocGlobal + Clock + Eprint> Read for Loading<'a, F, R> {
+    // It gives what its file gives.
+    ghost remaining = { λ loading. F.remaining loading.file };
+
     fn read(&mut self, buf: &mut [u8]) -> io::Result<usize> {
         let most = buf.len().min(PIECE);
         let count = self.file.read(&mut buf[..most])?;
