@@ -4,6 +4,7 @@ use Rattle.std.specs.Prelude.{Option, Some, None, if◌then◌else◌, bytes_eq}
 use Rattle.std.proofs.lemmas.List.{take_all}
 use Rattle.std.proofs.lemmas.List.Elements.{filter-append}
 use Rattle.std.proofs.lemmas.List.Concat.{flat_map-append}
+use Rattle.std.proofs.lemmas.Option.{same_Some}
 use Rattle.ix_store.specs.Store.{Blocks}
 use Rattle.ix_walk.specs.JobMeaning.{JobMeaning}
 use Rattle.ix_walk.specs.Visits.{is_over_limit}
@@ -81,20 +82,17 @@ take-next zero (x ∷ all) more d e = ap (take 1) e
 take-next (suc m) [] more d e = absurd cc
 take-next (suc m) (x ∷ all) more d e = ap (λ l. x ∷ l) (take-next m all more d e)
 
-bytes_same : (a b : List ℕ) → Some a ≡ Some b → a ≡ b
-bytes_same a b e = cc
-
 -- where a delivery failed, a proper part of the archive with it is written
 written-beginning : (store : Blocks) (number : ℕ) (job : JobMeaning) (m : ℕ) (failed : List Delivery) → (failed ≡ []) ⊎ (failed ≡ take 1 (drop m (judged_visits store number job)))
     → (bytes : List ℕ) → HasWritten (Some bytes) store job.roots (take m (judged_visits store number job)) failed → IsBeginning bytes (archive_of store number job)
 written-beginning store number job m [] next bytes written =
-    subst (λ l. IsBeginning l (archive_of store number job)) (sym (bytes_same bytes (archive_with store job.roots (kept (take m (judged_visits store number job)))) written)) (archive-first_visits store number job m)
+    subst (λ l. IsBeginning l (archive_of store number job)) (sym (same_Some bytes (archive_with store job.roots (kept (take m (judged_visits store number job)))) written)) (archive-first_visits store number job m)
 written-beginning store number job m (d ∷ more) (inl e) bytes written = absurd cc
 written-beginning store number job m (d ∷ more) (inr e) bytes written =
     let visits = judged_visits store number job in
     let part = written.2 in
     let rest : IsBeginning (archive_with store job.roots (kept (take m visits ++ d ∷ []))) (archive_of store number job) = subst (λ l. IsBeginning (archive_with store job.roots (kept l)) (archive_of store number job)) (sym (take-next m visits more d e)) (archive-first_visits store number job (suc m)) in
-    (part.0 ++ rest.0, sym (append_assoc bytes part.0 rest.0) ∙ ap (λ l. l ++ rest.0) (ap (λ l. l ++ part.0) (bytes_same bytes written.0 written.1) ∙ part.1) ∙ rest.1)
+    (part.0 ++ rest.0, sym (append_assoc bytes part.0 rest.0) ∙ ap (λ l. l ++ rest.0) (ap (λ l. l ++ part.0) (same_Some bytes written.0 written.1) ∙ part.1) ∙ rest.1)
 
 -- where all visits were told, and the limit cut nothing, the whole archive is written
 written-whole : (store : Blocks) (number : ℕ) (job : JobMeaning) (m : ℕ) (failed : List Delivery) → EndFits Done m (judged_visits store number job) (is_over_limit store job) failed
@@ -120,12 +118,12 @@ closed-deliveries : (ends : List End) → deliveries_of (map close ends) ≡ []
 closed-deliveries [] = refl
 closed-deliveries (e ∷ es) = closed-deliveries es
 
-told-back : (ds : List Delivery) (ends : List End) → deliveries_of (map delivery ds ++ map close ends) ≡ ds
+pub told-back : (ds : List Delivery) (ends : List End) → deliveries_of (map delivery ds ++ map close ends) ≡ ds
 told-back [] ends = closed-deliveries ends
 told-back (d ∷ ds) ends = ap (λ l. d ∷ l) (told-back ds ends)
 
 -- what has written tells its bytes
-written-tells : (told : Option (List ℕ)) (store : Blocks) (roots : List (List ℕ)) (ds failed : List Delivery) → HasWritten told store roots ds failed → (bytes : List ℕ) × (told ≡ Some bytes)
+pub written-tells : (told : Option (List ℕ)) (store : Blocks) (roots : List (List ℕ)) (ds failed : List Delivery) → HasWritten told store roots ds failed → (bytes : List ℕ) × (told ≡ Some bytes)
 written-tells told store roots ds [] written = (archive_with store roots (kept ds), written)
 written-tells told store roots ds (d ∷ more) written = (written.0, written.1)
 

@@ -3,6 +3,8 @@ use Rattle.std.proofs.Common.{◌≡◌, ℕ, ◌≤◌, ◌<◌, ◌+◌, ◌-�
 use Rattle.std.specs.Prelude.{Option, Some, Result, Ok, Err, OnOk, OnErr, IfErr, min, slice_get}
 use Rattle.std.specs.Io.KnownBytes.{Appends}
 use Rattle.std.proofs.lemmas.List.{append-nil, append_assoc, length-append, length-take-le, take_all}
+use Rattle.std.proofs.lemmas.Option.{same_Some}
+use Rattle.std.proofs.KnownBytes.{Appends-nil}
 use Rattle.ix_cid.specs.Varint.{varint_of}
 use Rattle.ix_store.specs.Store.{Blocks, position_of}
 use Rattle.ix_walk.specs.JobMeaning.{JobMeaning}
@@ -18,7 +20,7 @@ use Rattle.ix_archive.specs.Archive.{archive_with}
 use Rattle.ix_archive.specs.Report.{at_most}
 use Rattle.ix_archive.specs.ArchiveMeaning.{ArchiveMeaning, events_of, HasWritten, IsCountOf, HasArchived, IsProperPrefix, TookPartOfHeader}
 use Rattle.ix_archive.specs.Archiving.{cut_behind, place_due, text_due, HasTaken, IsAdded, IsFailed, IsDelivered}
-use Rattle.ix_car.proofs.Growth.{appended, appends-nothing}
+use Rattle.ix_car.proofs.Growth.{appended}
 use Rattle.ix_archive.proofs.Prefixes.{proper-behind, proper-take}
 use Rattle.ix_archive.proofs.FirstSound.{archive-due, due-section, due-told}
 
@@ -31,9 +33,6 @@ events-push (x ∷ ds) d ends h = ap (λ l. delivery x ∷ l) (events-push ds d 
 -- a count that stops, with what is added
 count-add : (most n m k : ℕ) → k ≡ min n most → min (k + m) most ≡ min (n + m) most
 count-add most n m k h = omega arith
-
-some-text : (xs ys : List ℕ) → ◌≡◌ {A = Option (List ℕ)} (Some xs) (Some ys) → xs ≡ ys
-some-text xs ys h = cc
 
 module _ {W : Type 0} (told : W → Option (List ℕ)) (d : Delivery) (before : ArchiveMeaning W) where
   pub delivers-ok : {T : Type 0} (text : List ℕ) (r : Result T SinkFault) (after : ArchiveMeaning W) → IsDelivered told d text before r after → IsOpen (events_of before) → OnOk r (events_of after ≡ events_of before ++ delivery d ∷ [])
@@ -70,7 +69,7 @@ module _ {W : Type 0} (told : W → Option (List ℕ)) (d : Delivery) (before : 
   counted-after : (text : List ℕ) (after : ArchiveMeaning W) (store : Blocks) (job : JobMeaning) → HasWritten (told before.writer) store job.roots before.deliveries before.failed → IsCountOf before.taken (told before.writer) → before.failed ≡ [] → HasTaken told before after text → IsCountOf after.taken (told after.writer)
   counted-after text after store job h count none took bytes is =
       let whole = archive_with store job.roots (kept before.deliveries) in
-      let same : bytes ≡ whole ++ text = some-text bytes (whole ++ text) (sym is ∙ bytes-after text after store job h none took) in
+      let same : bytes ≡ whole ++ text = same_Some bytes (whole ++ text) (sym is ∙ bytes-after text after store job h none took) in
       took.counted
       ∙ count-add (2 ^ 64 - 1) (length whole) (length text) before.taken (count whole (bytes-before store job h none))
       ∙ ap (at_most 64) (sym (length-append whole text))
@@ -130,7 +129,7 @@ pub adds-nothing : {W : Type 0} (told : W → Option (List ℕ)) (d : Delivery) 
     → IsAdded told d [] (record { store = store; roots = roots; deliveries = ds; failed = failed; closed = closed; taken = taken; writer = writer }) (record { store = store; roots = roots; deliveries = es; failed = failed; closed = closed; taken = taken; writer = writer })
 adds-nothing told d store roots ds es failed closed taken writer none within longer =
     let stays : taken ≡ min (taken + 0) (2 ^ 64 - 1) = omega arith in record {
-      wrote = record { same_store = refl; same_roots = refl; same_close = refl; grown = appends-nothing (told writer); counted = stays };
+      wrote = record { same_store = refl; same_roots = refl; same_close = refl; grown = Appends-nil (told writer); counted = stays };
       deliveries = longer;
       failed = none;
     }
@@ -200,7 +199,7 @@ begins-archived told writer later store job roots header ds n same is none withi
       same_store = refl;
       same_roots = same;
       written = λ fresh. took fresh ∙ ap Some (is ∙ sym (append-nil (header_of job.roots))) ∙ ap (λ l. Some (archive_with store job.roots (kept l))) (sym none);
-      counted = λ fresh bytes tells. let one : bytes ≡ header = some-text bytes header (sym tells ∙ took fresh) in
+      counted = λ fresh bytes tells. let one : bytes ≡ header = same_Some bytes header (sym tells ∙ took fresh) in
           let many : n ≡ min (length header) (2 ^ 64 - 1) = omega arith in many ∙ ap (λ l. at_most 64 (length l)) (sym one);
     }
 

@@ -7,16 +7,9 @@ use Rattle.ix_cbor.specs.Data as nodes
 use Rattle.ix_cbor.specs.Data.{Data, Items, Entries, no_items, item, no_entries, entry}
 use Rattle.ix_selector.specs.Enters.{Step, key, nth, Path}
 use Rattle.ix_walk.specs.Arrivals.{Arrival, Crossing, Inside, behind, when_some, arrivals_below, arrivals_in_items, arrivals_in_entries, arrivals_at, arrivals_from}
+use Rattle.ix_walk.proofs.Links.{all-append, all-weaker}
 use Rattle.ix_archive.specs.Verified.{same_step, same_path}
 use Rattle.ix_archive.proofs.RisingKeys.{IsBelowAll, HasRisingKeys, HaveRisingKeys, AreRisingKeys, IsRisingIfAny, below-differs}
-
-all-append : {X : Type 0} (P : X → Type 0) (xs ys : List X) → AllByRecursion P xs → AllByRecursion P ys → AllByRecursion P (xs ++ ys)
-all-append P [] ys h g = g
-all-append P (x ∷ xs) ys h g = (h.0, all-append P xs ys h.1 g)
-
-all-weaker : {X : Type 0} (P Q : X → Type 0) → ((x : X) → P x → Q x) → (xs : List X) → AllByRecursion P xs → AllByRecursion Q xs
-all-weaker P Q weaker [] h = tt
-all-weaker P Q weaker (x ∷ xs) h = (weaker x h.0, all-weaker P Q weaker xs h.1)
 
 -- ---- arrivals that don't agree
 

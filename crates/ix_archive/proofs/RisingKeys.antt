@@ -1,18 +1,17 @@
 -- In what a block spells the keys of each map differ: reading refuses a key that isn't above the one before it.
 use Rattle.std.proofs.Common.{◌≡◌, ℕ, zero, suc, Bool, true, false, List, [], ◌∷◌, length, refl, sym, ◌∙◌, ap}
 use Rattle.std.specs.Prelude.{Option, Some, None, Result, Ok, Err, if◌then◌else◌, bytes_eq, option_and_then, ◌==◌, ◌/◌, ◌%◌}
-use Rattle.std.specs.Cmp.{IsTotalOrder}
-use Rattle.std.specs.Ordering.{is_lt}
-use Rattle.std.specs.declared.cmp.Ordering.{Ordering}
-use Rattle.std.specs.declared.cmp.Ordering.TheVariants.{Less, Equal, Greater}
+use Rattle.std.specs.declared.cmp.Ordering.TheVariants.{Less}
 use Rattle.std.proofs.lemmas.Bool.{false_from_ne_true}
-use Rattle.std.proofs.lemmas.Cmp.{then_total, on_total, nat_cmp_total, nat_list_cmp_total, tied_itself}
+use Rattle.std.proofs.lemmas.Cmp.{tied_itself}
 use Rattle.std.proofs.lemmas.Slice.Eq.{bytes_eq-Decides}
+use Rattle.std.specs.Result.{result_ok}
 use Rattle.ix_cbor.specs.declared.fault.CborKind.TheVariants.{Tag, Link, KeyKind, KeyOrder}
 use Rattle.ix_cbor.specs.Data as nodes
 use Rattle.ix_cbor.specs.Data.{Data, Items, Entries, no_items, item, no_entries, entry}
 use Rattle.ix_cbor.specs.Spelling.{key_cmp}
 use Rattle.ix_cbor.specs.Reading.{Fault, ◌>>=◌, Parse, fails, take_at, string_of_major, rises, key_at, float_at, simple_at, link_of, link_at, Own, leaf, list_of, map_of, own_with, own_behind, own_at, argument_at, items_at, entries_at, with_members, item_with, item_at, nothing_after, decoded, data_at}
+use Rattle.ix_cbor.proofs.Keys.{less_from_test, key_total, less_not_equal}
 use Rattle.ix_store.specs.Store.{Blocks, bytes_of, is_dag_cbor, value_of}
 
 -- ---- keys
@@ -43,12 +42,6 @@ abbrev mutual
   AreRisingKeys no_entries = Unit {0}
   AreRisingKeys (entry k d es) = IsBelowAll k es × HasRisingKeys d × AreRisingKeys es
 
-key_total : IsTotalOrder key_cmp
-key_total = then_total (on_total length nat_cmp_total) nat_list_cmp_total
-
-less_not_equal : Less ≡ Equal → ⊥
-less_not_equal e = cc
-
 -- a key below another is another
 pub below-differs : (k l : List ℕ) → key_cmp k l ≡ Less → bytes_eq k l ≡ false
 below-differs k l below =
@@ -62,11 +55,6 @@ below_all-below j k (entry l d es) below all = (key_total.trans j k l below all.
 abbrev IsBelowAllFrom : Option (List ℕ) → Entries → Type 0
 IsBelowAllFrom None es = Unit {0}
 IsBelowAllFrom (Some k) es = IsBelowAll k es
-
-less_from_test : (o : Ordering) → is_lt o ≡ true → o ≡ Less
-less_from_test Less e = refl
-less_from_test Equal e = absurd cc
-less_from_test Greater e = absurd cc
 
 below_all-first : (before : Option (List ℕ)) (k : List ℕ) (d : Data) (es : Entries) → rises before k ≡ true → IsBelowAll k es → IsBelowAllFrom before (entry k d es)
 below_all-first None k d es rise all = tt
@@ -213,12 +201,7 @@ abbrev pub IsRisingIfAny : Option Data → Type 0
 IsRisingIfAny None = Unit {0}
 IsRisingIfAny (Some d) = HasRisingKeys d
 
--- the data that was read, or none
-abbrev some_of : Result Data Fault → Option Data
-some_of (Ok d) = Some d
-some_of (Err f) = None
-
-some_rising_read : (r : Result Data Fault) → Reads HasRisingKeys r → IsRisingIfAny (some_of r)
+some_rising_read : (r : Result Data Fault) → Reads HasRisingKeys r → IsRisingIfAny (result_ok r)
 some_rising_read (Ok d) h = h
 some_rising_read (Err f) h = tt
 

@@ -1,14 +1,15 @@
 -- What an archive keeps, with one delivery more.
 use Rattle.std.proofs.Common.{◌≡◌, ℕ, ◌+◌, ◌≤◌, Bool, true, false, ◌&&◌, ◌||◌, List, [], ◌∷◌, ◌++◌, length, refl, sym, ap, ◌∙◌, arith, ◌-◌, ◌^◌}
 use Rattle.std.specs.Prelude.{Option, Some, None, if◌then◌else◌, ◌==◌, bytes_eq, min}
-use Rattle.std.proofs.lemmas.Bool.{false≢true}
-use Rattle.std.proofs.lemmas.Bool.Decides.{nat_tests}
+use Rattle.std.proofs.lemmas.Bool.{false≢true, eq-eqb, ne_eqb}
 use Rattle.std.proofs.lemmas.Slice.Eq.{bytes_eq-Decides}
 use Rattle.std.proofs.lemmas.List.{length_push}
+use Rattle.std.proofs.Math.Bool.{or-true}
 use Rattle.ix_check.specs.Verdict.{passes}
-use Rattle.ix_store.specs.Store.{Blocks, position_behind, position_of}
+use Rattle.ix_store.specs.Store.{Blocks, position_of}
 use Rattle.ix_store.specs.declared.places.PlaceSet.{PlaceSet}
 use Rattle.ix_store.specs.PlaceSet.{contains_place}
+use Rattle.ix_walk.proofs.Goes.{one_behind}
 use Rattle.ix_archive.specs.declared.archive.Skip.{Skip}
 use Rattle.ix_archive.specs.declared.sink.Delivery.{Delivery}
 use Rattle.ix_archive.specs.declared.sink.End.{End}
@@ -159,42 +160,8 @@ tally-repeat store ds es failed closed d cut c n k w skips h uncut passing none 
           ∙ sym (ap (λ l. is_told l e) left ∙ told-push (kept ds) d e ∙ repeat-told store (kept ds) d e place none at);
     }
 
--- places rise
-place-from : (n place : ℕ) (store : Blocks) (c : List ℕ) → position_behind n store c ≡ Some place → n ≤ place
-place-from n place [] c h = cc
-place-from n place (e ∷ es) c h =
-    elim (bytes_eq e.0 c) as (λ b. (if b then Some n else position_behind (n + 1) es c) ≡ Some place → n ≤ place)
-    [ true ↦ (λ k. let same : n ≡ place = cc in omega arith) | false ↦ (λ k. let above = place-from (n + 1) place es c k in omega (arith, above)) ] h
-
 some-same : (n m : ℕ) → ◌≡◌ {A = Option ℕ} (Some n) (Some m) → n ≡ m
 some-same n m h = cc
-
--- two CIDs at one place are one
-one-place : (n place : ℕ) (store : Blocks) (c e : List ℕ) → position_behind n store c ≡ Some place → position_behind n store e ≡ Some place → c ≡ e
-one-place n place [] c e h k = cc
-one-place n place (x ∷ xs) c e h k =
-    let by : (a b : Bool) → bytes_eq x.0 c ≡ a → bytes_eq x.0 e ≡ b → (if a then Some n else position_behind (n + 1) xs c) ≡ Some place → (if b then Some n else position_behind (n + 1) xs e) ≡ Some place → c ≡ e = λ a b. elim a as (λ v. bytes_eq x.0 c ≡ v → bytes_eq x.0 e ≡ b → (if v then Some n else position_behind (n + 1) xs c) ≡ Some place → (if b then Some n else position_behind (n + 1) xs e) ≡ Some place → c ≡ e) [
-      | true ↦ elim b as (λ v. bytes_eq x.0 c ≡ true → bytes_eq x.0 e ≡ v → Some n ≡ Some place → (if v then Some n else position_behind (n + 1) xs e) ≡ Some place → c ≡ e) [
-        | true ↦ (λ s t _ _. sym ((bytes_eq-Decides x.0 c).0 s) ∙ (bytes_eq-Decides x.0 e).0 t)
-        | false ↦ (λ _ _ p q. absurd (omega (arith, some-same n place p, place-from (n + 1) place xs e q)))
-      ]
-      | false ↦ elim b as (λ v. bytes_eq x.0 c ≡ false → bytes_eq x.0 e ≡ v → position_behind (n + 1) xs c ≡ Some place → (if v then Some n else position_behind (n + 1) xs e) ≡ Some place → c ≡ e) [
-        | true ↦ (λ _ _ p q. absurd (omega (arith, some-same n place q, place-from (n + 1) place xs c p)))
-        | false ↦ (λ _ _ p q. one-place (n + 1) place xs c e p q)
-      ]
-    ] in
-    by (bytes_eq x.0 c) (bytes_eq x.0 e) refl refl h k
-
-or-true : (b : Bool) → (b || true) ≡ true
-or-true true = refl
-or-true false = refl
-
--- the test of a place
-at-place : (here place : ℕ) → here ≡ place → (here == place) ≡ true
-at-place here place same = grind (arith, nat_tests)
-
-apart-place : (here place : ℕ) → (here ≡ place → ⊥) → (here == place) ≡ false
-apart-place here place apart = grind (arith, nat_tests)
 
 -- which places the set has, once one is put in
 put-place : (store : Blocks) (ks : List Delivery) (w v : PlaceSet) (d c : List ℕ) (here place : ℕ) → ((n : ℕ) → contains_place v n ≡ ((here == n) || contains_place w n)) → position_of store d ≡ Some here → position_of store c ≡ Some place → contains_place w place ≡ is_told ks c → contains_place v place ≡ (is_told ks c || bytes_eq d c)
@@ -202,9 +169,9 @@ put-place store ks w v d c here place updates at there was =
     let by : (same : Bool) → bytes_eq d c ≡ same → ((here == place) || contains_place w place) ≡ (is_told ks c || same) = λ same. elim same as (λ b. bytes_eq d c ≡ b → ((here == place) || contains_place w place) ≡ (is_told ks c || b)) [
       | true ↦ (λ e. let one : position_of store c ≡ Some here = ap (λ x. position_of store x) (sym ((bytes_eq-Decides d c).0 e)) ∙ at in
           let same_place : here ≡ place = some-same here place (sym one ∙ there) in
-          ap (λ b. b || contains_place w place) (at-place here place same_place) ∙ sym (or-true (is_told ks c)))
-      | false ↦ (λ e. let apart : here ≡ place → ⊥ = λ p. false≢true (sym e ∙ (bytes_eq-Decides d c).1 (one-place 0 place store d c (at ∙ ap Some p) there)) in
-          ap (λ b. b || contains_place w place) (apart-place here place apart) ∙ was ∙ sym (or-nothing (is_told ks c) false refl))
+          ap (λ b. b || contains_place w place) (eq-eqb here place same_place) ∙ sym (or-true (is_told ks c)))
+      | false ↦ (λ e. let apart : here ≡ place → ⊥ = λ p. false≢true (sym e ∙ (bytes_eq-Decides d c).1 (one_behind 0 place store d c (at ∙ ap Some p) there)) in
+          ap (λ b. b || contains_place w place) (ne_eqb here place apart) ∙ was ∙ sym (or-nothing (is_told ks c) false refl))
     ] in
     updates place ∙ by (bytes_eq d c) refl
 

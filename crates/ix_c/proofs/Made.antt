@@ -1,31 +1,17 @@
 -- What a call answers that fills a handle is what was meant.
-use Rattle.std.proofs.Common.{◌≡◌, sym, subst, ap, ◌∙◌, refl}
-use Rattle.std.specs.Prelude.{Option, Some, None, Ok}
-use Rattle.std.specs.Arc.{arc_value}
-use Rattle.std.specs.Global.{Global}
-use Rattle.std_alloc.specs.declared.arc.Arc.{Arc}
-use Rattle.ix_store.specs.Store.{Blocks}
-use Rattle.ix_embedding.specs.declared.exported.Exported.{Exported}
+use Rattle.std.proofs.Common.{◌≡◌, sym, subst, ◌∙◌}
+use Rattle.std.specs.Prelude.{Option, Some, None}
 use Rattle.ix_embedding.specs.declared.failure.Failure.{Failure}
 use Rattle.ix_embedding.specs.declared.failure.Failure.TheVariants as failures
 use Rattle.ix_embedding.specs.declared.held.Held.{Held}
 use Rattle.ix_embedding.specs.declared.held.Held.TheVariants as held
 use Rattle.ix_c.specs.declared.status.Status.{Status}
 use Rattle.ix_c.specs.declared.status.Status.TheVariants.{Done, Memory, Refused, Handle, Known, NoCid, Range}
-use Rattle.ix_c.specs.Answers.{IsMade, IsFilled, IsRefused, HoldsFrozen, HoldsExport, IsOwnerOf, HasShared, IsExportedOf, IsExported}
-
--- one more owner
-pub shares : (store : Option Held) (s : Held) (owner : Arc Blocks Global) (before after : Option Held) → store ≡ Some s → IsOwnerOf s (Some (Ok owner)) → after ≡ Some (held.Frozen owner) → HasShared store before after Done
-shares store s owner before after is owns made = (arc_value owner, subst (HoldsFrozen (arc_value owner)) (sym is) owns, subst (HoldsFrozen (arc_value owner)) (sym made) refl)
+use Rattle.ix_c.specs.Answers.{IsMade, IsFilled, IsRefused, HoldsFrozen, IsOwnerOf, HasShared, IsExportedOf, IsExported}
 
 -- none
 pub shares_none : (store : Option Held) (s : Held) (before after : Option Held) → store ≡ Some s → IsOwnerOf s None → after ≡ before → HasShared store before after Handle
 shares_none store s before after is owns same = (same, λ blocks frozen. owns blocks (subst (HoldsFrozen blocks) is frozen))
-
--- what an export leaves
-pub exports : (store job : Option Held) (s j : Held) (out : Exported) (before after : Option Held) → store ≡ Some s → job ≡ Some j → IsExportedOf s j (Some (Ok out)) → after ≡ Some (held.Exported out) → IsExported store job before after Done
-exports store job s j out before after is wants told made =
-    (told.0, told.1, subst (HoldsFrozen told.0) (sym is) told.2, wants ∙ ap (λ h. Some h) told.3, subst (HoldsExport told.0 told.1) (sym made) told.4)
 
 -- nothing
 pub exports_none : (store job : Option Held) (s j : Held) (before after : Option Held) → store ≡ Some s → job ≡ Some j → IsExportedOf s j None → after ≡ before → IsExported store job before after Handle

@@ -1,6 +1,6 @@
 -- The machine values of a `Pointed`, and of a `Loose` of what it holds. Assumes `Logic`.
 use Rattle.std.proofs.Common.{◌≡◌, ℕ, List, [], ◌∷◌, ◌++◌, refl, subst}
-use Rattle.std.specs.Prelude.{Option, Some, None, Bool, true, false}
+use Rattle.std.specs.Prelude.{Option, Some, None, true, is_some}
 use seplogic.Ra.Ura.{Ura}
 use mir.Raw.{raw as bare}
 use mir.Val.{Val, vptr, vstruct, vcons, vnil, of_list}
@@ -19,7 +19,8 @@ use Rattle.std_heap.specs.contracts.Global as global
 use Rattle.std_heap.specs.contracts.GlobalAllocator.TheImpl as heap
 use Rattle.std_heap.proofs.Handle.{heap_val, heap_Tells}
 use Rattle.std_alloc.specs.Box.Ownership.{box_owns}
-use Rattle.ix_c.specs.Holding.{held, may_free, is_some}
+use Rattle.std.proofs.lemmas.Bool.{false≢true}
+use Rattle.ix_c.specs.Holding.{held, may_free}
 use Rattle.ix_embedding.specs.contracts.held.Held as what
 use Rattle.ix_c.specs.contracts.pointed.Pointed as pointed
 use Rattle.ix_c.specs.contracts.loose.Loose as loose
@@ -36,9 +37,6 @@ Pointed = pointed.the_row
 
 abbrev pub Loose : RattleType
 Loose = loose.the_row Held Global heap.ghosts
-
-no_none : false ≡ true → ⊥
-no_none e = subst (λ (b : Bool). lib.Dec.T (mathlib.Core.Bool.not b)) e tt
 
 -- the machine value of a `Pointed` at this pointer
 abbrev pub one : Val → Val
@@ -77,7 +75,7 @@ module _ {M : Type 1} {𝓤 : Ura M} {𝓛 : Logic 𝓤} {K : Type 0} {Γ : List
   pub some_out : K → (p : Ptr) (y : Option (Held.Denot)) → is_some y ≡ true
       → ((b o : ℕ) (x : Held.Denot) → p ≡ block_ptr b o → Some x ≡ y → Seq K 𝓛 (‵ (box_owns may_free Held (block_ptr b o) x) ∷ Γ) G)
       → Seq K 𝓛 (‵ (held Held p y) ∷ Γ) G
-  some_out t p None there k = absurd (no_none there)
+  some_out t p None there k = absurd (false≢true there)
   some_out t p (Some x) there k = in_a_block t p (λ p'. box_owns may_free Held p' x) (fst∗ 𝓤 (never 𝓤) (sem 𝓛 (may_free (bare (lone Held.mir)) null_ptr))) (λ b o e. k b o x e refl)
 
   -- the allocator is one machine value

@@ -1,6 +1,6 @@
 -- The machine values of a `Loose` and of a `OnceBox`. Assumes `Logic`.
 use Rattle.std.proofs.Common.{◌≡◌, ℕ, List, [], ◌∷◌, ◌++◌, refl, subst}
-use mathlib.Core.Bool.{Bool, true, false, ◌&&◌}
+use mathlib.Core.Bool.{true, ◌&&◌}
 use lib.Dec.{T}
 use seplogic.Ra.Ura.{Ura}
 use mir.Syntax.{impl, tnil, dnil}
@@ -19,7 +19,6 @@ use denote.Param.{layout}
 use denote.Param.Laws.{Laws}
 use denote.Struct.Struct.{Struct, within}
 use denote.Struct.Owning.{shape}
-use denote.Struct.Tuple.{Tuple}
 use Rattle.core.specs.declared.alloc.Allocator.{Ghosts}
 use Rattle.core.proofs.alloc.Calls.{Al, handle_tells}
 use Rattle.core.proofs.cell.Inside.{Good, one}
@@ -29,11 +28,6 @@ use Rattle.ix_c.specs.contracts.loose.Loose as loose
 
 abbrev pub both : Val → Val → Val
 both v w = vstruct (vcons v (vcons w vnil))
-
-pub both_tt : (x y : Bool) → T x → T y → T (x && (y && true))
-both_tt true true s t = tt
-both_tt true false s t = absurd t
-both_tt false y s t = absurd s
 
 module _ (R Z : RattleType) (L : Laws Z) (g : Ghosts Z.Denot) where
   abbrev pub Loose : RattleType
@@ -77,7 +71,3 @@ module _ (P Q : RattleType) where
         let g₁ = one (layout P) vss.0 (subst (λ (ρs : List mir.Syntax.Ty). Typed ρs vss.0) eP (LP.typed x vss.0 i)) in let g₂ = one (layout Q) vss.1.0 (subst (λ (ρs : List mir.Syntax.Ty). Typed ρs vss.1.0) eQ (LQ.typed y vss.1.0 j)) in
         rewrite t 0 (λ (ws : List Val). ‵ (Q.own_val y ws)) g₂.1 refl $ rewrite t 1 (λ (ws : List Val). ‵ (P.own_val x ws)) g₁.1 refl $ move t (2 ∷ []) $ drop t $ move t (1 ∷ 0 ∷ []) $
         k g₁.0 g₂.0 g₁.2 g₂.2 (mathlib.Core.Path.◌∙◌ e (λ n. vstruct (of_list (g₁.1 n ++ (g₂.1 n ++ []))) ∷ []))))))
-
-module _ (P Q : RattleType) {M : Type 1} {𝓤 : Ura M} {𝓛 : Logic 𝓤} {K : Type 0} {Γ : List (Item 𝓤)} {G : Goal 𝓤 𝓛.H} where
-  pub pair_in : K → (x : P.Denot) (y : Q.Denot) (v w : Val) → Step K 𝓛 (‵ ((Tuple (P ∷ Q ∷ [])).own_val (x, y) (both v w ∷ [])) ∷ Γ) G (‵ (P.own_val x (v ∷ [])) ∷ ‵ (Q.own_val y (w ∷ [])) ∷ Γ) G
-  pair_in t x y v w = two_in P Q x y t v w

@@ -1,5 +1,5 @@
 -- What a handle owns.
-use Rattle.std.specs.Prelude.{Option, Some, None, Bool, true, false}
+use Rattle.std.specs.Prelude.{Option, Some, None}
 use mir.Syntax.{Ty}
 use base.Fml.{Fml, ftrue}
 use denote.RattleType.{RattleType}
@@ -20,7 +20,3 @@ may_free = ghosts.dealloc_token heap
 abbrev pub held : (R : RattleType) → Ptr → Option R.Denot → Fml
 held R p None = ftrue
 held R p (Some x) = box_owns may_free R p x
-
-abbrev pub is_some : {X : Type 0} → Option X → Bool
-is_some None = false
-is_some (Some x) = true

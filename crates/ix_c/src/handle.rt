@@ -2,7 +2,7 @@
 
 ghost use Rattle.std.specs.Prelude.{◌≡◌, None, Some, IfSome, IfNone};
 ghost use Rattle.std.specs.Fn.{FnOnceReturnsAt};
-ghost use Rattle.ix_c.specs.Holding.{is_some};
+ghost use Rattle.std.specs.Option.{is_some};
 ghost use Rattle.ix_c.specs.Results.{IsRead};
 
 use crate::loose::Loose;

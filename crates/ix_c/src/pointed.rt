@@ -2,9 +2,9 @@
 
 ghost use Rattle.std.specs.Prelude.{◌≡◌, Option, true, None, Some};
 ghost use Rattle.std.specs.Coded.{coded_option};
+ghost use Rattle.std.specs.Option.{is_some};
 ghost use Rattle.ix_embedding.specs.contracts.held.Held.{the_row as held_row};
 ghost use Rattle.ix_embedding.specs.declared.held.Held.{Held};
-ghost use Rattle.ix_c.specs.Holding.{is_some};
 
 use crate::loose::Loose;
 use ix_embedding::Held;

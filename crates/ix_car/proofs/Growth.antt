@@ -2,19 +2,8 @@
 use Rattle.std.proofs.Common.{◌≡◌, ℕ, ◌+◌, ◌≤◌, List, [], ◌++◌, length, take, drop, sym, ap, ◌∙◌, subst, arith}
 use Rattle.std.specs.Prelude.{Option, Some, None}
 use Rattle.std.specs.Io.KnownBytes.{Appends}
-use Rattle.std.proofs.lemmas.List.{append-nil, append_assoc, take-take, drop-take, take-append-drop, take-append-le, drop_at}
-
--- bytes that stay grow by nothing
-pub appends-nothing : (known : Option (List ℕ)) → Appends known known []
-appends-nothing None = tt
-appends-nothing (Some xs) = sym (append-nil xs)
-
--- bytes that grow twice
-pub appends-twice : (a b c : Option (List ℕ)) (x y : List ℕ) → Appends a b x → Appends b c y → Appends a c (x ++ y)
-appends-twice None b c x y h k = tt
-appends-twice (Some xs) None c x y h k = absurd h
-appends-twice (Some xs) (Some ys) None x y h k = absurd k
-appends-twice (Some xs) (Some ys) (Some zs) x y h k = k ∙ ap (λ l. l ++ y) h ∙ append_assoc xs x y
+use Rattle.std.proofs.lemmas.List.{take-take, drop-take, take-append-drop, take-append-le, drop_at}
+use Rattle.std.proofs.KnownBytes.{Appends-trans}
 
 -- what known bytes are once they have grown
 pub appended : (xs text : List ℕ) (after : Option (List ℕ)) → Appends (Some xs) after text → after ≡ Some (xs ++ text)
@@ -31,7 +20,7 @@ take-more n m xs =
 -- a turn of the loop that writes a text
 pub appends-turn : (a b c : Option (List ℕ)) (n m : ℕ) (text : List ℕ) → Appends a b (take n text) → Appends b c (take m (drop n text)) → Appends a c (take (n + m) text)
 appends-turn a b c n m text h k =
-    subst (λ l. Appends a c l) (take-more n m text) (appends-twice a b c (take n text) (take m (drop n text)) h k)
+    subst (λ l. Appends a c l) (take-more n m text) (Appends-trans a b c (take n text) (take m (drop n text)) h k)
 
 -- a head that was written whole, and a part of the block behind it
 pub appends-section : (a b c : Option (List ℕ)) (n m : ℕ) (head block : List ℕ) → n ≤ length head → length head ≤ n → Appends a b (take n head) → Appends b c (take m block) → Appends a c (take (n + m) (head ++ block))

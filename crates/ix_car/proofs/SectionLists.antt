@@ -1,5 +1,5 @@
 -- The sections of a file, read one by one into a list.
-use Rattle.std.proofs.Common.{◌≡◌, ℕ, zero, suc, ◌-◌, ◌++◌, ◌<◌, ◌≤◌, List, [], ◌∷◌, length, map, refl, sym, ◌∙◌, ap, arith}
+use Rattle.std.proofs.Common.{◌≡◌, ℕ, zero, suc, ◌-◌, ◌++◌, ◌<◌, ◌≤◌, List, [], ◌∷◌, length, refl, sym, ◌∙◌, ap, arith}
 use Rattle.std.specs.Prelude.{Result, Ok, Err}
 use Rattle.ix_store.specs.Store.{Blocks, with_block}
 use Rattle.ix_car.specs.declared.fault.CarKind.{CarKind}
@@ -84,7 +84,3 @@ blocks-of_sections b = on_header (header_at b) where
 pub FailsAs-of : {A : Type 0} (kind : CarKind) (left : ℕ) (meant : Result A Fault) → meant ≡ Err (record { kind = kind; left = left }) → FailsAs kind left meant
 FailsAs-of Memory left meant h = tt
 FailsAs-of kind left meant h = h
-
-pub map_push : {A B : Type 0} (f : A → B) (xs : List A) (x : A) → map f (xs ++ x ∷ []) ≡ map f xs ++ f x ∷ []
-map_push f [] x = refl
-map_push f (y ∷ xs) x = ap (λ l. f y ∷ l) (map_push f xs x)

@@ -1,5 +1,5 @@
 -- The sections of a file, read one by one into a store.
-use Rattle.std.proofs.Common.{◌≡◌, ℕ, zero, suc, ◌+◌, ◌-◌, ◌++◌, ◌<◌, ◌≤◌, Bool, true, false, cond, ltb, leb, eqb, ◌&&◌, List, [], ◌∷◌, length, drop, take, get_or, refl, sym, ◌∙◌, ap, subst, inl, inr, arith, length-drop}
+use Rattle.std.proofs.Common.{◌≡◌, ℕ, zero, suc, ◌+◌, ◌-◌, ◌++◌, ◌<◌, ◌≤◌, cond, ltb, leb, eqb, ◌&&◌, List, [], ◌∷◌, length, drop, take, get_or, refl, sym, ◌∙◌, ap, subst, inl, inr, arith, length-drop}
 use Rattle.std.specs.Prelude.{Result, Ok, Err}
 use Rattle.std.proofs.lemmas.Bool.{cases_Bool, ltb-true, ltb-false}
 use Rattle.std.proofs.lemmas.List.{length-append, drop-drop, drop-append-le}
@@ -9,25 +9,13 @@ use Rattle.ix_cid.specs.declared.fault.VarintFault.{VarintFault}
 use Rattle.ix_cid.specs.declared.fault.VarintFault.TheVariants as varints
 use Rattle.ix_cid.specs.Varint.{continued, number_of_groups, varint_at}
 use Rattle.ix_cid.specs.Cid.{cid_at}
+use Rattle.ix_cid.proofs.Results.{past_test, bind_ok, ok_same}
 use Rattle.ix_store.specs.Store.{Blocks, with_block}
 use Rattle.ix_car.specs.declared.fault.CarKind.{CarKind}
 use Rattle.ix_car.specs.declared.fault.CarKind.TheVariants.{Memory}
 use Rattle.ix_car.specs.Gives.{FailsAs}
 use Rattle.ix_car.specs.Reads.{IsEnd}
 use Rattle.ix_car.specs.Reading.{Fault, ◌>>=◌, text_at, text_behind, pair_of, section_at, sections_at}
-
--- an answer behind a test for a fault
-past_test : {A E : Type 0} (t : Bool) (e : E) (r : Result A E) (x : A) → cond t (Err e) r ≡ Ok x → (t ≡ false) × (r ≡ Ok x)
-past_test true e r x h = absurd cc
-past_test false e r x h = (refl, h)
-
--- an answer of two readings in turn is of what the first answered
-bind_ok : {A B : Type 0} (r : Result A Fault) (f : A → Result B Fault) (y : B) → (r >>= f) ≡ Ok y → (x : A) × (r ≡ Ok x) × (f x ≡ Ok y)
-bind_ok (Ok x) f y h = (x, refl, h)
-bind_ok (Err e) f y h = absurd cc
-
-ok_same : {A E : Type 0} (x y : A) → ◌≡◌ {A = Result A E} (Ok x) (Ok y) → x ≡ y
-ok_same x y h = cc
 
 -- a varint takes a byte at least
 varint_at-some : (b : List ℕ) (v : ℕ × ℕ) → varint_at b ≡ Ok v → 1 ≤ v.1

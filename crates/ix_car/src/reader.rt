@@ -1,8 +1,7 @@
 //! Reading CARv1 files.
 
-ghost use Rattle.std.specs.Prelude.{◌≡◌, ◌≤◌, [], length};
+ghost use Rattle.std.specs.Prelude.{[], length};
 ghost use Rattle.std.specs.Arc.{arc_value};
-ghost use Rattle.ix_store.specs.Store.{Blocks};
 ghost use Rattle.ix_car.specs.Reading.{blocks_in, blocks_of};
 ghost use Rattle.ix_car.specs.Gives.{Gives};
 ghost use Rattle.ix_car.specs.Reads.{ReadsOrRunsOut, IsEnd, StandsWithin};

@@ -4,8 +4,9 @@ use Rattle.std.specs.Prelude.{Option, Some, None, Ok}
 use Rattle.ix_cbor.specs.Data.{Data, Items, Entries, null, boolean, integer, float, bytes, text, list, map, link, no_items, item, no_entries, entry}
 use Rattle.ix_cbor.specs.Spelling.{head_of, key_spelling, spelling_of, items_spelling, entries_spelling, item_count, entry_count, IsSpellable, AreSpellable, AreRising, nesting_of, items_nesting, entries_nesting}
 use Rattle.ix_cbor.specs.Reading.{Parse, ◌>>=◌, key_at, own_at, Own, leaf, list_of, map_of, items_at, entries_at, with_members, item_with, item_at}
+use Rattle.ix_cbor.specs.Fits.{RisesAbove}
 use Rattle.ix_cbor.proofs.Steps.{with_item, items_behind, with_entry, entries_behind, value_behind, as_list, as_map}
-use Rattle.ix_cbor.proofs.Keys.{key_again, RisesFrom, rises_at}
+use Rattle.ix_cbor.proofs.Keys.{key_again, rises_at}
 use Rattle.ix_cbor.proofs.Owns.{own_spelling, IsOwn, own_again}
 
 -- each item that is spelled is read
@@ -40,7 +41,7 @@ module _ (n : ℕ) (read : Parse Data) (complete : IsComplete n read) where
       (items_again ds rest spellable.1 (omega arith))
 
   -- keys and values that are spelled
-  pub entries_again : (before : Option (List ℕ)) (es : Entries) (rest : List ℕ) → AreRising es → RisesFrom before es → entries_nesting es ≤ n
+  pub entries_again : (before : Option (List ℕ)) (es : Entries) (rest : List ℕ) → AreRising es → RisesAbove before es → entries_nesting es ≤ n
       → entries_at read before (entry_count es) (entries_spelling es ++ rest) ≡ Ok (es, rest)
   entries_again before no_entries rest rising above nesting = refl
   entries_again before (entry k d es) rest rising above nesting =

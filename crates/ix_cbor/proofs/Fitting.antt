@@ -3,11 +3,11 @@ use Rattle.std.proofs.Common.{◌≡◌, ℕ, ◌-◌, ◌<◌, ◌≢◌, ◌^�
 use Rattle.std.specs.Prelude.{◌↔◌, None}
 use Rattle.std.specs.Global.{Vec}
 use Rattle.ix_cbor.specs.declared.node.Node.{Node}
-use Rattle.ix_cbor.specs.declared.node.Node.TheVariants.{rolls-Bytes, rolls-Text, rolls-List, rolls-Map}
+use Rattle.ix_cbor.specs.declared.node.Node.TheVariants.{rolls-List, rolls-Map}
 use Rattle.ix_cbor.specs.declared.node.Node.TheVariants as variants
 use Rattle.ix_cbor.specs.declared.node.Node.TheFolds.{fold-roll-Node}
 use Rattle.ix_cbor.specs.declared.node.Node.TheOpen as layer
-use Rattle.ix_cbor.specs.Data.{Data, Items, Entries, bytes, text, list, item, entry, no_items, no_entries, data_of, data_step, items_of, entry_of, entries_of, node_items, node_entries}
+use Rattle.ix_cbor.specs.Data.{Data, Items, Entries, list, data_of, data_step, entry_of, entries_of, node_items, node_entries}
 use Rattle.ix_cbor.specs.Data as data_model
 use Rattle.ix_cbor.specs.Spelling.{item_count, entry_count}
 use Rattle.ix_cbor.specs.Fits.{Fits, ItemsFit, EntriesFit}
@@ -46,19 +46,19 @@ pub data_of-map : (v : Vec (Vec ℕ × Node)) → data_of (variants.Map v) ≡ d
 data_of-map v = ap data_of (sym (rolls-Map v)) ∙ fold-roll-Node Data data_step (layer.Map v) ∙ ap (λ es. data_model.map (entries_of es)) (each-entry v.items)
 
 -- a test of what means the same
-through : {P Q R : Type 0} → (P ↔ Q) → (R ↔ Q) → (P ↔ R)
-through a b = (λ p. b.1 (a.0 p), λ r. a.1 (b.0 r))
+iff_by : {P Q R : Type 0} → (P ↔ Q) → (R ↔ Q) → (P ↔ R)
+iff_by a b = (λ p. b.1 (a.0 p), λ r. a.1 (b.0 r))
 
 -- the test of a node with members is that of its members
 pub list-tested : (n : ℕ) (node : Node) (v : Vec Node) (members : List Node) (r : Bool) → node ≡ variants.List v → members ≡ v.items → length members < 2 ^ 64 → n ≢ 0
     → (IsTrue r ↔ ItemsFit (n - 1) (node_items members)) → (IsTrue r ↔ Fits n (data_of node))
 list-tested n node v members r is same count above tested =
     let e : data_of node ≡ list (node_items members) = ap data_of is ∙ data_of-list v ∙ ap (λ m. list (node_items m)) (sym same) in
-    subst (λ d. IsTrue r ↔ Fits n d) (sym e) (through tested (list-fits n (node_items members) (omega (arith, item_count-nodes members)) above))
+    subst (λ d. IsTrue r ↔ Fits n d) (sym e) (iff_by tested (list-fits n (node_items members) (omega (arith, item_count-nodes members)) above))
 
 -- the test of a node with keys and values is that of these
 pub map-tested : (n : ℕ) (node : Node) (v : Vec (Vec ℕ × Node)) (entries : List (Vec ℕ × Node)) (r : Bool) → node ≡ variants.Map v → entries ≡ v.items → length entries < 2 ^ 64 → n ≢ 0
     → (IsTrue r ↔ EntriesFit (n - 1) None (node_entries entries)) → (IsTrue r ↔ Fits n (data_of node))
 map-tested n node v entries r is same count above tested =
     let e : data_of node ≡ data_model.map (node_entries entries) = ap data_of is ∙ data_of-map v ∙ ap (λ m. data_model.map (node_entries m)) (sym same) in
-    subst (λ d. IsTrue r ↔ Fits n d) (sym e) (through tested (map-fits n (node_entries entries) (omega (arith, entry_count-nodes entries)) above))
+    subst (λ d. IsTrue r ↔ Fits n d) (sym e) (iff_by tested (map-fits n (node_entries entries) (omega (arith, entry_count-nodes entries)) above))

@@ -5,11 +5,12 @@ use Rattle.std.specs.Int.{Width, w8, w16, w32, w64, byte_len, from_be_bytes, to_
 use Rattle.std.proofs.lemmas.Bool.{cond-true, cond-false, cases_lt}
 use Rattle.std.proofs.lemmas.List.{take_at, drop_at}
 use Rattle.std.proofs.lemmas.Nat.{be_bytes_2, be_bytes_4, be_bytes_8, from_be_bytes-to_be_bytes_2, from_be_bytes-to_be_bytes_4, from_be_bytes-to_be_bytes_8}
+use Rattle.ix_cid.proofs.Fronts.{chosen}
 use Rattle.ix_cbor.specs.declared.fault.CborKind.TheVariants.{Truncated, NotShortest, Indefinite}
 use Rattle.ix_cbor.specs.Spelling.{head_of}
 use Rattle.ix_cbor.specs.Reading.{Fault, wide_at, argument_at}
 use Rattle.ix_cbor.proofs.Bytes.{IsBytes, IsBytes-take}
-use Rattle.ix_cbor.proofs.Steps.{no_ok, ok_same, cases_if, past_test}
+use Rattle.ix_cbor.proofs.Steps.{no_ok, ok_same, past_test}
 
 -- numbers of one width, as bytes and back
 pub record IsWide (w : Width) (limit : ℕ) : Type 0 where
@@ -165,7 +166,7 @@ module _ (at : List ℕ) (major info : ℕ) (b : List ℕ) (n : ℕ) (rest : Lis
   -- no test gives one
   taken_none : none_from at info b ≡ Ok (n, rest) → Headed major n ((32 * major + info) ∷ b) rest
   taken_none e =
-      elim (cases_if (info == 31) (Err (record { kind = Indefinite; left = length at })) (Err (record { kind = NotShortest; left = length at })) (Ok (n, rest)) e) [
+      elim (chosen (info == 31) (Err (record { kind = Indefinite; left = length at })) (Err (record { kind = NotShortest; left = length at })) (Ok (n, rest)) e) [
         | inl t ↦ no_ok (record { kind = Indefinite; left = length at }) (n, rest) t.1
         | inr f ↦ no_ok (record { kind = NotShortest; left = length at }) (n, rest) f.1
       ]
@@ -173,7 +174,7 @@ module _ (at : List ℕ) (major info : ℕ) (b : List ℕ) (n : ℕ) (rest : Lis
   -- eight bytes
   taken_27 : from_27 at info b ≡ Ok (n, rest) → Headed major n ((32 * major + info) ∷ b) rest
   taken_27 e =
-      elim (cases_if (info == 27) (wide_at at w64 (2 ^ 32) b) (none_from at info b) (Ok (n, rest)) e) [
+      elim (chosen (info == 27) (wide_at at w64 (2 ^ 32) b) (none_from at info b) (Ok (n, rest)) e) [
         | inl t ↦ let w = wide_taken w64 (2 ^ 64) wide64 at (2 ^ 32) b n rest fits t.1 in wide_headed major info 27 w64 (2 ^ 64) (2 ^ 32) b n rest w (eqb-true info 27 t.0) (head_64 major n w.at_least) (omega arith)
         | inr f ↦ taken_none f.1
       ]
@@ -181,7 +182,7 @@ module _ (at : List ℕ) (major info : ℕ) (b : List ℕ) (n : ℕ) (rest : Lis
   -- four or eight
   taken_26 : from_26 at info b ≡ Ok (n, rest) → Headed major n ((32 * major + info) ∷ b) rest
   taken_26 e =
-      elim (cases_if (info == 26) (wide_at at w32 (2 ^ 16) b) (from_27 at info b) (Ok (n, rest)) e) [
+      elim (chosen (info == 26) (wide_at at w32 (2 ^ 16) b) (from_27 at info b) (Ok (n, rest)) e) [
         | inl t ↦ let w = wide_taken w32 (2 ^ 32) wide32 at (2 ^ 16) b n rest fits t.1 in wide_headed major info 26 w32 (2 ^ 32) (2 ^ 16) b n rest w (eqb-true info 26 t.0) (head_32 major n w.at_least w.below) (omega arith)
         | inr f ↦ taken_27 f.1
       ]
@@ -189,7 +190,7 @@ module _ (at : List ℕ) (major info : ℕ) (b : List ℕ) (n : ℕ) (rest : Lis
   -- two or more
   taken_25 : from_25 at info b ≡ Ok (n, rest) → Headed major n ((32 * major + info) ∷ b) rest
   taken_25 e =
-      elim (cases_if (info == 25) (wide_at at w16 (2 ^ 8) b) (from_26 at info b) (Ok (n, rest)) e) [
+      elim (chosen (info == 25) (wide_at at w16 (2 ^ 8) b) (from_26 at info b) (Ok (n, rest)) e) [
         | inl t ↦ let w = wide_taken w16 (2 ^ 16) wide16 at (2 ^ 8) b n rest fits t.1 in wide_headed major info 25 w16 (2 ^ 16) (2 ^ 8) b n rest w (eqb-true info 25 t.0) (head_16 major n w.at_least w.below) (omega arith)
         | inr f ↦ taken_26 f.1
       ]
@@ -197,7 +198,7 @@ module _ (at : List ℕ) (major info : ℕ) (b : List ℕ) (n : ℕ) (rest : Lis
   -- one or more
   taken_24 : from_24 at info b ≡ Ok (n, rest) → Headed major n ((32 * major + info) ∷ b) rest
   taken_24 e =
-      elim (cases_if (info == 24) (wide_at at w8 24 b) (from_25 at info b) (Ok (n, rest)) e) [
+      elim (chosen (info == 24) (wide_at at w8 24 b) (from_25 at info b) (Ok (n, rest)) e) [
         | inl t ↦ let w = wide_taken w8 (2 ^ 8) wide8 at 24 b n rest fits t.1 in wide_headed major info 24 w8 (2 ^ 8) 24 b n rest w (eqb-true info 24 t.0) (head_8 major n w.at_least w.below) (omega arith)
         | inr f ↦ taken_25 f.1
       ]
@@ -205,7 +206,7 @@ module _ (at : List ℕ) (major info : ℕ) (b : List ℕ) (n : ℕ) (rest : Lis
   -- any
   pub argument_taken : argument_at at info b ≡ Ok (n, rest) → Headed major n ((32 * major + info) ∷ b) rest
   argument_taken e =
-      elim (cases_if (nat_lt info 24) (Ok (info, b)) (from_24 at info b) (Ok (n, rest)) e) [
+      elim (chosen (nat_lt info 24) (Ok (info, b)) (from_24 at info b) (Ok (n, rest)) e) [
         | inl t ↦ let same = ok_same (info, b) (n, rest) t.1 in tiny_headed major info b n rest (ltb-true info 24 t.0) (ap (λ (x : ℕ × List ℕ). x.0) same) (ap (λ (x : ℕ × List ℕ). x.1) same)
         | inr f ↦ taken_24 f.1
       ]

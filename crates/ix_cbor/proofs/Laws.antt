@@ -1,6 +1,8 @@
 -- The laws of reading: bytes are read as data exactly where they spell it.
 use Rattle.std.proofs.Common.{◌≡◌, ℕ, ◌≤◌, List, [], ◌∷◌, ◌++◌, sym, ◌∙◌, ap, append-nil, length}
-use Rattle.std.specs.Prelude.{◌↔◌, Option, Some, None, Result, Ok, Err}
+use Rattle.std.specs.Prelude.{◌↔◌, Some, Result, Ok, Err}
+use Rattle.std.proofs.lemmas.Option.{same_Some}
+use Rattle.std.specs.Result.{result_ok}
 use Rattle.ix_cid.specs.Bytes.{AreBytes}
 use Rattle.ix_cbor.specs.declared.fault.CborKind.TheVariants.{Rest}
 use Rattle.ix_cbor.specs.Data.{Data}
@@ -60,24 +62,11 @@ data-once b d e s t = (spelling-prefix d e [] s.canonical t.canonical (sym t.spe
 pub decoded-iff : (b : List ℕ) (d : Data) → AreBytes b → (decoded b ≡ Ok d ↔ Spells b d)
 decoded-iff b d fits = (decoded-sound b d fits, decoded-complete b d)
 
--- data that is there
-abbrev given : Data → Option Data
-given d = Some d
-
--- two that are there are one
-some_same : (d e : Data) → given d ≡ given e → d ≡ e
-some_same d e h = cc
-
--- the data that was read, or none
-abbrev some_of : Result Data Fault → Option Data
-some_of (Ok d) = Some d
-some_of (Err f) = None
-
 -- what is there was read
-some_from_ok : (r : Result Data Fault) (d : Data) → some_of r ≡ Some d → r ≡ Ok d
-some_from_ok (Ok x) d e = ap (λ (y : Data). Ok y) (some_same x d e)
+some_from_ok : (r : Result Data Fault) (d : Data) → result_ok r ≡ Some d → r ≡ Ok d
+some_from_ok (Ok x) d e = ap (λ (y : Data). Ok y) (same_Some x d e)
 some_from_ok (Err f) d e = absurd cc
 
 -- there is data for a block exactly where the block spells it
 pub data_at-iff : (b : List ℕ) (d : Data) → AreBytes b → (data_at b ≡ Some d ↔ Spells b d)
-data_at-iff b d fits = (λ e. decoded-sound b d fits (some_from_ok (decoded b) d e), λ s. ap some_of (decoded-complete b d s))
+data_at-iff b d fits = (λ e. decoded-sound b d fits (some_from_ok (decoded b) d e), λ s. ap result_ok (decoded-complete b d s))

@@ -4,6 +4,7 @@ use Rattle.std.specs.Prelude.{nat_lt, ◌==◌, Result, Ok, Err}
 use Rattle.std.specs.Int.{from_be_bytes, to_be_bytes, w64}
 use Rattle.std.proofs.lemmas.Bool.{cond-false, and_parts, eqb-false}
 use Rattle.std.proofs.lemmas.List.{take_at as take_front, drop_at}
+use Rattle.ix_cid.proofs.Fronts.{chosen}
 use Rattle.ix_cbor.specs.declared.fault.CborKind.TheVariants.{Truncated, Indefinite, Tag, Simple}
 use Rattle.ix_cbor.specs.declared.fault.CborKind.TheVariants as kinds
 use Rattle.ix_cbor.specs.Data.{Data, null, boolean, integer, float, bytes, text, list, map, link}
@@ -11,7 +12,7 @@ use Rattle.ix_cbor.specs.Spelling.{head_of, spelling_of, IsSpellable, IsFinite, 
 use Rattle.ix_cbor.specs.Reading.{Fault, ◌>>=◌, fails, take_at, argument_at, string_of_major, float_at, simple_at, is_cid, link_of, link_at, Own, leaf, list_of, map_of, own_with, own_at}
 use Rattle.ix_cbor.proofs.Bytes.{IsBytes, IsBytes-rest, IsBytes-take, IsBytes-behind}
 use Rattle.ix_cbor.proofs.Leaves.{as_leaf}
-use Rattle.ix_cbor.proofs.Steps.{bind_ok, no_ok, ok_same, ok_data, cases_if, past_test, past_guard}
+use Rattle.ix_cbor.proofs.Steps.{bind_ok, no_ok, ok_same, ok_data, past_test, past_guard}
 use Rattle.ix_cbor.proofs.Heads.{Headed, head_taken, head_read, wide64}
 use Rattle.ix_cbor.proofs.Strings.{counted, take_again, StringTaken, string_taken, string_again}
 use Rattle.ix_cbor.proofs.Cids.{IsCid-from_test, is_cid_at}
@@ -106,7 +107,7 @@ module _ (at : List ℕ) (h : ℕ) (b : List ℕ) (d : Data) (rest : List ℕ) (
   -- no value
   taken_31 : simple_31 at (h % 32) b ≡ Ok (d, rest) → LeafTaken (h ∷ b) d rest
   taken_31 e =
-      elim (cases_if (h % 32 == 31) (Err (record { kind = Indefinite; left = length at })) (Err (record { kind = Simple; left = length at })) (Ok (d, rest)) e) [
+      elim (chosen (h % 32 == 31) (Err (record { kind = Indefinite; left = length at })) (Err (record { kind = Simple; left = length at })) (Ok (d, rest)) e) [
         | inl t ↦ no_ok (record { kind = Indefinite; left = length at }) (d, rest) t.1
         | inr f ↦ no_ok (record { kind = Simple; left = length at }) (d, rest) f.1
       ]
@@ -114,7 +115,7 @@ module _ (at : List ℕ) (h : ℕ) (b : List ℕ) (d : Data) (rest : List ℕ) (
   -- a float
   taken_27 : simple_27 at (h % 32) b ≡ Ok (d, rest) → LeafTaken (h ∷ b) d rest
   taken_27 e =
-      elim (cases_if (h % 32 == 27) (float_at at b) (simple_31 at (h % 32) b) (Ok (d, rest)) e) [
+      elim (chosen (h % 32 == 27) (float_at at b) (simple_31 at (h % 32) b) (Ok (d, rest)) e) [
         | inl t ↦ float_taken at h b d rest fits (byte_is 27 t.0) t.1
         | inr f ↦ taken_31 f.1
       ]
@@ -129,7 +130,7 @@ module _ (at : List ℕ) (h : ℕ) (b : List ℕ) (d : Data) (rest : List ℕ) (
   -- null or later
   taken_22 : simple_22 at (h % 32) b ≡ Ok (d, rest) → LeafTaken (h ∷ b) d rest
   taken_22 e =
-      elim (cases_if (h % 32 == 22) (Ok (null, b)) (simple_25 at (h % 32) b) (Ok (d, rest)) e) [
+      elim (chosen (h % 32 == 22) (Ok (null, b)) (simple_25 at (h % 32) b) (Ok (d, rest)) e) [
         | inl t ↦ leaf_here h 246 b null d rest (byte_is 22 t.0) refl tt refl t.1
         | inr f ↦ taken_25 f.1
       ]
@@ -137,7 +138,7 @@ module _ (at : List ℕ) (h : ℕ) (b : List ℕ) (d : Data) (rest : List ℕ) (
   -- true or later
   taken_21 : simple_21 at (h % 32) b ≡ Ok (d, rest) → LeafTaken (h ∷ b) d rest
   taken_21 e =
-      elim (cases_if (h % 32 == 21) (Ok (boolean true, b)) (simple_22 at (h % 32) b) (Ok (d, rest)) e) [
+      elim (chosen (h % 32 == 21) (Ok (boolean true, b)) (simple_22 at (h % 32) b) (Ok (d, rest)) e) [
         | inl t ↦ leaf_here h 245 b (boolean true) d rest (byte_is 21 t.0) refl tt refl t.1
         | inr f ↦ taken_22 f.1
       ]
@@ -145,7 +146,7 @@ module _ (at : List ℕ) (h : ℕ) (b : List ℕ) (d : Data) (rest : List ℕ) (
   -- any
   simple_taken : simple_at at (h % 32) b ≡ Ok (d, rest) → LeafTaken (h ∷ b) d rest
   simple_taken e =
-      elim (cases_if (h % 32 == 20) (Ok (boolean false, b)) (simple_21 at (h % 32) b) (Ok (d, rest)) e) [
+      elim (chosen (h % 32 == 20) (Ok (boolean false, b)) (simple_21 at (h % 32) b) (Ok (d, rest)) e) [
         | inl t ↦ leaf_here h 244 b (boolean false) d rest (byte_is 20 t.0) refl tt refl t.1
         | inr f ↦ taken_21 f.1
       ]
@@ -257,7 +258,7 @@ module _ (at whole : List ℕ) (major n : ℕ) (b : List ℕ) (own : Own) (rest 
   -- a map or later
   with_taken_5 : 5 ≤ major → with_5 at major n b ≡ Ok (own, rest) → OwnTaken whole own rest
   with_taken_5 le e =
-      elim (cases_if (major == 5) (Ok (map_of n, b)) (with_6 at major n b) (Ok (own, rest)) e) [
+      elim (chosen (major == 5) (Ok (map_of n, b)) (with_6 at major n b) (Ok (own, rest)) e) [
         | inl t ↦ nested_own whole b (map_of n) own rest (head_at 5 t.0).parts head.below t.1
         | inr f ↦ with_taken_6 (above 5 le f.0) f.1
       ]
@@ -265,7 +266,7 @@ module _ (at whole : List ℕ) (major n : ℕ) (b : List ℕ) (own : Own) (rest 
   -- a list or later
   with_taken_4 : 4 ≤ major → with_4 at major n b ≡ Ok (own, rest) → OwnTaken whole own rest
   with_taken_4 le e =
-      elim (cases_if (major == 4) (Ok (list_of n, b)) (with_5 at major n b) (Ok (own, rest)) e) [
+      elim (chosen (major == 4) (Ok (list_of n, b)) (with_5 at major n b) (Ok (own, rest)) e) [
         | inl t ↦ nested_own whole b (list_of n) own rest (head_at 4 t.0).parts head.below t.1
         | inr f ↦ with_taken_5 (above 4 le f.0) f.1
       ]
@@ -273,7 +274,7 @@ module _ (at whole : List ℕ) (major n : ℕ) (b : List ℕ) (own : Own) (rest 
   -- a text or later
   with_taken_3 : 3 ≤ major → with_3 at major n b ≡ Ok (own, rest) → OwnTaken whole own rest
   with_taken_3 le e =
-      elim (cases_if (major == 3) (take_at n b >>= (λ s. Ok (leaf (text s.0), s.1))) (with_4 at major n b) (Ok (own, rest)) e) [
+      elim (chosen (major == 3) (take_at n b >>= (λ s. Ok (leaf (text s.0), s.1))) (with_4 at major n b) (Ok (own, rest)) e) [
         | inl t ↦ string_own whole 3 n b text own rest (head_at 3 t.0) (λ s. refl) (λ s lt. lt) (λ s. refl) t.1
         | inr f ↦ with_taken_4 (above 3 le f.0) f.1
       ]
@@ -281,7 +282,7 @@ module _ (at whole : List ℕ) (major n : ℕ) (b : List ℕ) (own : Own) (rest 
   -- bytes or later
   with_taken_2 : 2 ≤ major → with_2 at major n b ≡ Ok (own, rest) → OwnTaken whole own rest
   with_taken_2 le e =
-      elim (cases_if (major == 2) (take_at n b >>= (λ s. Ok (leaf (bytes s.0), s.1))) (with_3 at major n b) (Ok (own, rest)) e) [
+      elim (chosen (major == 2) (take_at n b >>= (λ s. Ok (leaf (bytes s.0), s.1))) (with_3 at major n b) (Ok (own, rest)) e) [
         | inl t ↦ string_own whole 2 n b bytes own rest (head_at 2 t.0) (λ s. refl) (λ s lt. lt) (λ s. refl) t.1
         | inr f ↦ with_taken_3 (above 2 le f.0) f.1
       ]
@@ -289,7 +290,7 @@ module _ (at whole : List ℕ) (major n : ℕ) (b : List ℕ) (own : Own) (rest 
   -- a negative integer or later
   with_taken_1 : 1 ≤ major → with_1 at major n b ≡ Ok (own, rest) → OwnTaken whole own rest
   with_taken_1 le e =
-      elim (cases_if (major == 1) (Ok (leaf (integer (negsuc n)), b)) (with_2 at major n b) (Ok (own, rest)) e) [
+      elim (chosen (major == 1) (Ok (leaf (integer (negsuc n)), b)) (with_2 at major n b) (Ok (own, rest)) e) [
         | inl t ↦ whole_own whole 1 n b (integer (negsuc n)) own rest (head_at 1 t.0) refl (λ lt. lt) refl t.1
         | inr f ↦ with_taken_2 (above 1 le f.0) f.1
       ]
@@ -297,7 +298,7 @@ module _ (at whole : List ℕ) (major n : ℕ) (b : List ℕ) (own : Own) (rest 
   -- any
   with_taken : own_with at major n b ≡ Ok (own, rest) → OwnTaken whole own rest
   with_taken e =
-      elim (cases_if (major == 0) (Ok (leaf (integer (pos n)), b)) (with_1 at major n b) (Ok (own, rest)) e) [
+      elim (chosen (major == 0) (Ok (leaf (integer (pos n)), b)) (with_1 at major n b) (Ok (own, rest)) e) [
         | inl t ↦ whole_own whole 0 n b (integer (pos n)) own rest (head_at 0 t.0) refl (λ lt. lt) refl t.1
         | inr f ↦ with_taken_1 (above 0 (omega arith) f.0) f.1
       ]
@@ -306,7 +307,7 @@ module _ (at whole : List ℕ) (major n : ℕ) (b : List ℕ) (own : Own) (rest 
 pub own_taken : (b : List ℕ) (own : Own) (rest : List ℕ) → IsBytes b → own_at b ≡ Ok (own, rest) → OwnTaken b own rest
 own_taken [] own rest fits e = no_ok (record { kind = Truncated; left = 0 }) (own, rest) e
 own_taken (h ∷ b) own rest fits e =
-    elim (cases_if (h / 32 == 7) (simple_at (h ∷ b) (h % 32) b >>= (λ d. Ok (leaf d.0, d.1))) (argument_at (h ∷ b) (h % 32) b >>= (λ n. own_with (h ∷ b) (h / 32) n.0 n.1)) (Ok (own, rest)) e) [
+    elim (chosen (h / 32 == 7) (simple_at (h ∷ b) (h % 32) b >>= (λ d. Ok (leaf d.0, d.1))) (argument_at (h ∷ b) (h % 32) b >>= (λ n. own_with (h ∷ b) (h / 32) n.0 n.1)) (Ok (own, rest)) e) [
       | inl t ↦
           let a = bind_ok (simple_at (h ∷ b) (h % 32) b) (λ d. Ok (leaf d.0, d.1)) (own, rest) t.1 in
           leaf_own (h ∷ b) a.0.0 a.0.1 own rest (simple_taken (h ∷ b) h b a.0.0 a.0.1 (IsBytes-rest h b fits) (eqb-true (h / 32) 7 t.0) a.1) a.2

@@ -7,7 +7,7 @@ use Rattle.std.proofs.lemmas.Result.{on_ok_weaker}
 use Rattle.std.proofs.lemmas.List.{drop_more}
 use Rattle.ix_cbor.specs.declared.node.Node.{Node}
 use Rattle.ix_cbor.specs.declared.node.Node.TheVariants as variants
-use Rattle.ix_cbor.specs.Data.{Data, data_of, integer, node_items, node_entries}
+use Rattle.ix_cbor.specs.Data.{data_of, integer, node_items, node_entries}
 use Rattle.ix_cbor.specs.Data as data_model
 use Rattle.ix_cbor.specs.Spelling.{head_of, item_count, entry_count, spelling_of, items_spelling, entries_spelling, IsSpellable, AreRising}
 use Rattle.ix_cbor.proofs.Fitting.{item_count-nodes, entry_count-nodes, data_of-list, data_of-map}

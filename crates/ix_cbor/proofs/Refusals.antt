@@ -7,8 +7,9 @@ use Rattle.ix_cbor.specs.Data.{Data, Items, Entries, no_items, item, no_entries,
 use Rattle.ix_cbor.specs.Spelling.{head_of, key_spelling, spelling_of, items_spelling, entries_spelling, item_count, entry_count, items_nesting, entries_nesting, AreSpellable, AreRising, Spells}
 use Rattle.ix_cbor.specs.Reading.{Fault, Parse, ◌>>=◌, key_at, rises, own_at, list_of, map_of, items_at, entries_at, with_members, item_with, item_at, nothing_after, decoded}
 use Rattle.ix_cbor.specs.FirstFault.{last_key, BeginsList, BeginsMap, FaultAt, own, list_too_deep, map_too_deep, in_list, at_key, in_map, FirstFault}
+use Rattle.ix_cbor.specs.Fits.{RisesAbove}
 use Rattle.ix_cbor.proofs.Steps.{fault_same, no_err, with_item, items_behind, with_entry, entries_behind, value_behind, as_list, as_map}
-use Rattle.ix_cbor.proofs.Keys.{RisesFrom, key_again, rises_at}
+use Rattle.ix_cbor.proofs.Keys.{key_again, rises_at}
 use Rattle.ix_cbor.proofs.Owns.{own_again}
 use Rattle.ix_cbor.proofs.Complete.{IsComplete, item_complete}
 use Rattle.ix_cbor.proofs.Faults.{entry_parts, decoded-fault}
@@ -40,7 +41,7 @@ module _ (n : ℕ) (read : Parse Data) (complete : IsComplete n read) where
       ∙ ap (λ x. x >>= with_item d) (items_refused ds left after f spellable.1 (omega arith) e)
 
   -- behind keys and values that are spelled
-  entries_refused : (last : Option (List ℕ)) (before : Entries) (left : ℕ) (after : List ℕ) (f : Fault) → AreRising before → RisesFrom last before
+  entries_refused : (last : Option (List ℕ)) (before : Entries) (left : ℕ) (after : List ℕ) (f : Fault) → AreRising before → RisesAbove last before
       → entries_nesting before ≤ n → entries_at read (last_key last before) left after ≡ Err f
       → entries_at read last (entry_count before + left) (entries_spelling before ++ after) ≡ Err f
   entries_refused last no_entries left after f rising above nesting e = ap (λ (k : ℕ). entries_at read last k after) (omega arith) ∙ e
@@ -76,7 +77,7 @@ module _ (n : ℕ) (read : Parse Data) (complete : IsComplete n read) where
       ap (λ x. x >>= with_members (Some read) b) (ap own_at is ∙ own_again (map_of count) behind begins.count_fits)
       ∙ ap (λ (k : ℕ). entries_at read None k behind >>= as_map) sum
       ∙ ap (λ x. x >>= as_map) (entries_refused None before (suc left) after f begins.spelled (from_none before) begins.nesting (e left)) where
-        from_none : (es : Entries) → RisesFrom None es
+        from_none : (es : Entries) → RisesAbove None es
         from_none es = tt
 
   -- a key that can't be read

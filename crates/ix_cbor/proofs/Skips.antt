@@ -3,7 +3,7 @@ use Rattle.std.proofs.Common.{◌≡◌, ◌+◌, ◌<◌, ◌≤◌, ◌-◌, a
 use Rattle.std.specs.Prelude.{Option, Some, Result, Ok, Err}
 use Rattle.ix_cbor.specs.declared.fault.CborKind.TheVariants.{Rest}
 use Rattle.ix_cbor.specs.Data.{Data, Items, Entries}
-use Rattle.ix_cbor.specs.Reading.{Fault, Parse, ◌>>=◌, key_at, Own, items_at, entries_at, with_members, item_at, nothing_after}
+use Rattle.ix_cbor.specs.Reading.{Fault, Parse, ◌>>=◌, key_at, items_at, entries_at, item_at, nothing_after}
 use Rattle.ix_cbor.specs.Fronts.{behind, behind_item, judged}
 use Rattle.ix_cbor.proofs.Steps.{with_item, items_behind, with_entry, entries_behind, value_behind}
 use Rattle.ix_cbor.proofs.Within.{item_within, err_within, ok_within}
@@ -62,16 +62,6 @@ module _ (read : Parse Data) (last : Option (List ℕ)) (count i : ℕ) (b : Lis
       let k : count - i ≡ suc n = omega arith in
       sym so_far ∙ ap (λ m. entries_at read last m b >>= behind) k ∙ ap (λ r. r >>= value_behind read n >>= behind) named
       ∙ ap (λ r. r >>= entries_behind read n key >>= behind) (fault_before (read value) f e)
-
-  -- all are gone over
-  pub entries_over : count ≤ i → (entries_at read last (count - i) b >>= behind) ≡ whole → whole ≡ Ok b
-  entries_over le so_far =
-      let k : count - i ≡ 0 = omega arith in
-      sym so_far ∙ ap (λ m. entries_at read last m b >>= behind) k
-
--- what stands behind an item's own part and its members
-abbrev pub over : Option (Parse Data) → List ℕ → Own → List ℕ → Result (List ℕ) Fault
-over inner at own b = with_members inner at (own, b) >>= behind
 
 -- a block with bytes behind its item
 pub judged_more : (b next : List ℕ) → behind_item 512 b ≡ Ok next → 1 ≤ length next → judged b ≡ Err (record { kind = Rest; left = length next })

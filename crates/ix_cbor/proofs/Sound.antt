@@ -5,9 +5,10 @@ use Rattle.ix_cbor.specs.declared.fault.CborKind.TheVariants.{Nesting}
 use Rattle.ix_cbor.specs.Data.{Data, Items, Entries, list, map, no_items, item, no_entries, entry}
 use Rattle.ix_cbor.specs.Spelling.{head_of, key_spelling, spelling_of, items_spelling, entries_spelling, item_count, entry_count, IsSpellable, AreSpellable, AreRising, nesting_of, items_nesting, entries_nesting}
 use Rattle.ix_cbor.specs.Reading.{Parse, ◌>>=◌, key_at, own_at, Own, leaf, list_of, map_of, items_at, entries_at, with_members, item_with, item_at}
+use Rattle.ix_cbor.specs.Fits.{RisesAbove}
 use Rattle.ix_cbor.proofs.Bytes.{IsBytes, IsBytes-behind}
 use Rattle.ix_cbor.proofs.Steps.{bind_ok, no_ok, ok_same, ok_data, with_item, items_behind, with_entry, entries_behind, value_behind, as_list, as_map}
-use Rattle.ix_cbor.proofs.Keys.{KeyTaken, key_taken, RisesFrom, RisesFrom-from_test}
+use Rattle.ix_cbor.proofs.Keys.{KeyTaken, key_taken, RisesFrom-from_test}
 use Rattle.ix_cbor.proofs.Owns.{OwnTaken, own_taken, own_spelling}
 
 -- what was read is a spelling at the front
@@ -28,7 +29,7 @@ pub record TakesEntries (n : ℕ) (before : Option (List ℕ)) (count : ℕ) (b 
   pub whole : b ≡ entries_spelling es ++ rest
   pub counted : entry_count es ≡ count
   pub rising : AreRising es
-  pub above : RisesFrom before es
+  pub above : RisesAbove before es
   pub nesting : entries_nesting es ≤ n
 
 -- each item that is read is taken
@@ -62,7 +63,7 @@ entries_more n before count b at middle rest k d es s t ts =
     }
 
 -- where no key follows nothing has to rise
-none_above : (before : Option (List ℕ)) → RisesFrom before no_entries
+none_above : (before : Option (List ℕ)) → RisesAbove before no_entries
 none_above None = tt
 none_above (Some before) = tt
 

@@ -1,5 +1,5 @@
 -- Readings in turn, and tests, taken apart.
-use Rattle.std.proofs.Common.{◌≡◌, ◌⊎◌, inl, inr, Bool, true, false, cond, refl, ap}
+use Rattle.std.proofs.Common.{◌≡◌, ◌⊎◌, inl, inr, refl, ap}
 use Rattle.std.specs.Prelude.{ℕ, List, Some, Result, Ok, Err}
 pub use Rattle.ix_cid.proofs.Results.{bind_ok, ok_same, past_test, past_guard}
 use Rattle.ix_cbor.specs.Data.{Data, Items, Entries, list, map, item, entry}
@@ -34,11 +34,6 @@ failed f = Err f
 -- two faults that are given are one
 pub fault_same : {A : Type 0} (f g : Fault) → failed {A = A} f ≡ failed g → f ≡ g
 fault_same f g e = cc
-
--- a test that has an outcome
-pub cases_if : {A : Type 0} (b : Bool) (x y r : A) → cond b x y ≡ r → ((b ≡ true) × (x ≡ r)) ⊎ ((b ≡ false) × (y ≡ r))
-cases_if true x y r e = inl (refl, e)
-cases_if false x y r e = inr (refl, e)
 
 -- data that is given
 abbrev pub ok_data : Data × List ℕ → Result (Data × List ℕ) Fault

@@ -1,6 +1,6 @@
 //! Which nodes have a spelling.
 
-ghost use Rattle.std.specs.Prelude.{◌≡◌, ◌≢◌, ◌↔◌, ◌+◌, ◌/◌, ◌%◌, ◌^◌, ◌<◌, IsTrue, None, length};
+ghost use Rattle.std.specs.Prelude.{◌≢◌, ◌↔◌, ◌+◌, ◌/◌, ◌%◌, ◌^◌, ◌<◌, IsTrue, None, length};
 ghost use Rattle.ix_cbor.specs.Data.{data_of, integer, node_items, node_entries};
 ghost use Rattle.ix_cbor.specs.Spelling.{IsCanonical, IsSpellable};
 ghost use Rattle.ix_cbor.specs.Fits.{Fits, ItemsFit, EntriesFit};

@@ -1,5 +1,5 @@
 -- The verdict on a CID in a store, test by test.
-use Rattle.std.proofs.Common.{◌≡◌, ◌⊎◌, inl, inr, ℕ, ◌+◌, Bool, true, false, List, [], ◌∷◌, refl, sym, ◌∙◌, ap}
+use Rattle.std.proofs.Common.{◌≡◌, ◌⊎◌, inl, inr, ℕ, Bool, true, List, [], refl, sym, ◌∙◌, ap}
 use Rattle.std.specs.Prelude.{Option, Some, None, bytes_eq, if◌then◌else◌}
 use Rattle.sha2.specs.Sha256.{sha256}
 use Rattle.sha2.specs.Sha512.{sha512}
@@ -7,17 +7,11 @@ use Rattle.ix_cid.specs.Cid.{parts_of, digest_of, hash_function_of}
 use Rattle.ix_cid.specs.declared.hash_function.HashFunction.{HashFunction}
 use Rattle.ix_cid.specs.declared.hash_function.HashFunction.TheVariants.{Sha2_256, Sha2_512}
 use Rattle.ix_store.specs.Mark.{agrees_by, agrees}
-use Rattle.ix_store.specs.Store.{Blocks, block_of, position_behind, position_of, bytes_by, bytes_of}
+use Rattle.ix_store.specs.Store.{Blocks, block_of, position_of, bytes_by, bytes_of}
+use Rattle.ix_store.proofs.Blocks.{none_behind}
 use Rattle.ix_walk.specs.Visits.{is_malformed}
 use Rattle.ix_check.specs.declared.verdict.Verdict.TheVariants.{Codec, Missing, Damaged, Malformed, Sound}
 use Rattle.ix_check.specs.Verdict.{is_no_data, verdict_under, verdict_by, has_codec, verdict_of}
-
--- a CID without a place has no block
-none_behind : (n : ℕ) (store : Blocks) (c : List ℕ) → None ≡ position_behind n store c → block_of store c ≡ None
-none_behind n [] c e = refl
-none_behind n (x ∷ xs) c e =
-    elim (bytes_eq x.0 c) as (λ b. None ≡ (if b then Some n else position_behind (n + 1) xs c) → (if b then Some x.1 else block_of xs c) ≡ None)
-    [ true ↦ (λ h. cc) | false ↦ (λ h. none_behind (n + 1) xs c h) ] e
 
 module _ (store : Blocks) (c : List ℕ) (codec : has_codec c ≡ true) where
   -- what of the verdict is left once the codec is good and the hash function known

@@ -11,7 +11,7 @@ use Rattle.std.proofs.lemmas.Slice.Eq.{bytes_eq-Decides}
 use Rattle.std.proofs.Math.Nat.{mod-eq_of_lt, mod-one, mul-mod_left, mul-add-mod_self_left, div-add-mod, mul-div_cancel, one-le-pow, lt_of_mul-lt-mul_right}
 use Rattle.ix_cid.specs.Bytes.{AreBytes}
 use Rattle.ix_cid.specs.Cid.{◌>>=◌}
-use Rattle.ix_cid.specs.CidText.{letter, bits_of_letter, number_in, digits_in, quantum, bytes_of_quantum, base32_of, bytes_of_letters, bytes_of_base32, IsLetter, IsBase32}
+use Rattle.ix_cid.specs.CidText.{letter, bits_of_letter, number_in, digits_in, quantum, bytes_of_quantum, base32_of, bytes_of_letters, bytes_of_base32, IsLetter, IsBase32, appended}
 use Rattle.ix_cid.specs.Gives.{Fails}
 use Rattle.ix_cid.specs.declared.fault.CidFault.{CidFault}
 use Rattle.ix_cid.specs.declared.fault.CidFault.TheVariants.{Base32}
@@ -86,12 +86,12 @@ nothing_left-eight q size =
 
 -- eight letters that are base32, and what follows them
 pub join : (q more : List ℕ) → length q ≡ 8 → IsBase32 q → IsBase32 more → IsBase32 (q ++ more)
-join q more size front behind =
+join q more size front appended =
     let count : length (q ++ more) % 8 ≡ length more % 8 = omega (arith, length-append q more) in
     record {
-      alphabet = All-append IsLetter q more front.alphabet behind.alphabet;
-      count = (λ e. behind.count.0 (sym count ∙ e), λ e. behind.count.1 (sym count ∙ e), λ e. behind.count.2 (sym count ∙ e));
-      nothing_left = left-behind q more size ∙ behind.nothing_left;
+      alphabet = All-append IsLetter q more front.alphabet appended.alphabet;
+      count = (λ e. appended.count.0 (sym count ∙ e), λ e. appended.count.1 (sym count ∙ e), λ e. appended.count.2 (sym count ∙ e));
+      nothing_left = left-behind q more size ∙ appended.nothing_left;
     }
 
 pub split : (q more : List ℕ) → length q ≡ 8 → IsBase32 (q ++ more) → IsBase32 q × IsBase32 more
@@ -224,8 +224,8 @@ is_base32 (a ∷ b ∷ c ∷ d ∷ []) are = is_base32-quantum 4 1 7 1 8 four (�
 is_base32 (a ∷ b ∷ c ∷ d ∷ e ∷ more) are =
     let first = a ∷ b ∷ c ∷ d ∷ e ∷ [] in
     let front : AreBytes first = All-take (λ x. x < 2 ^ 8) 5 (a ∷ b ∷ c ∷ d ∷ e ∷ more) are in
-    let behind : AreBytes more = All-drop (λ x. x < 2 ^ 8) 5 (a ∷ b ∷ c ∷ d ∷ e ∷ more) are in
-    join (quantum first) (base32_of more) (quanta.length-quantum 5 0 8 0 1 five first refl front) (is_base32-quantum 5 0 8 0 1 five (λ e. omega arith, λ e. omega arith, λ e. omega arith) first refl front) (is_base32 more behind)
+    let appended : AreBytes more = All-drop (λ x. x < 2 ^ 8) 5 (a ∷ b ∷ c ∷ d ∷ e ∷ more) are in
+    join (quantum first) (base32_of more) (quanta.length-quantum 5 0 8 0 1 five first refl front) (is_base32-quantum 5 0 8 0 1 five (λ e. omega arith, λ e. omega arith, λ e. omega arith) first refl front) (is_base32 more appended)
 
 -- letters spell bytes
 bytes_are : (letters : List ℕ) → AreBytes (bytes_of_letters letters)
@@ -308,8 +308,8 @@ pub refused-behind : (old s : List ℕ) → ¬ IsBase32 s → (bytes_of_base32 s
 refused-behind old s h = let next : Result (List ℕ) CidFault → Result (List ℕ) CidFault = λ r. r >>= (λ more. Ok (old ++ more)) in ap next (bytes_of_base32-refused s h)
 
 -- the bytes of a quantum are pushed
-pub pushed : (old new s : List ℕ) (number : ℕ) → length s ≤ 8 → IsBase32 s → number ≡ number_in 32 0 (map bits_of_letter s) → new ≡ old ++ take (5 * length s / 8) (digits_in 256 5 (number * 2 ^ (5 * (8 - length s)) % 2 ^ 64)) → (bytes_of_base32 s >>= (λ more. Ok (old ++ more))) ≡ Ok new
-pushed old new s number most is number-is h =
+pub quantum-pushed : (old new s : List ℕ) (number : ℕ) → length s ≤ 8 → IsBase32 s → number ≡ number_in 32 0 (map bits_of_letter s) → new ≡ old ++ take (5 * length s / 8) (digits_in 256 5 (number * 2 ^ (5 * (8 - length s)) % 2 ^ 64)) → (bytes_of_base32 s >>= (λ more. Ok (old ++ more))) ≡ Ok new
+quantum-pushed old new s number most is number-is h =
     let next : Result (List ℕ) CidFault → Result (List ℕ) CidFault = λ r. r >>= (λ more. Ok (old ++ more)) in
     let answer : List ℕ → Result (List ℕ) CidFault = λ x. Ok x in
     let missing = 8 - length s in
@@ -326,10 +326,6 @@ pushed old new s number most is number-is h =
     ∙ ap answer (sym h)
 
 -- ---- one quantum after another
-
--- what is read behind bytes
-abbrev behind : List ℕ → Result (List ℕ) CidFault → Result (List ℕ) CidFault
-behind old r = r >>= (λ more. Ok (old ++ more))
 
 -- what is read of two parts
 abbrev pub together : Result (List ℕ) CidFault → Result (List ℕ) CidFault → Result (List ℕ) CidFault
@@ -374,21 +370,21 @@ step n s h =
     (cases_lt (length s) 8)
 
 -- a front is read behind what was, and the rest is still to come
-pub piece-read : (whole left front rest : Result (List ℕ) CidFault) (old new : List ℕ) → whole ≡ behind old left → left ≡ together front rest → behind old front ≡ Ok new → whole ≡ behind new rest
+pub piece-read : (whole left front rest : Result (List ℕ) CidFault) (old new : List ℕ) → whole ≡ appended old left → left ≡ together front rest → appended old front ≡ Ok new → whole ≡ appended new rest
 piece-read whole left (Ok a) (Ok b) old new so_far parts one =
     let answer : List ℕ → Result (List ℕ) CidFault = λ x. Ok x in
     so_far
-    ∙ ap (behind old) parts
+    ∙ ap (appended old) parts
     ∙ ap answer (sym (append_assoc old a b) ∙ ap (λ (x : List ℕ). x ++ b) (ok_same (old ++ a) new one))
-piece-read whole left (Ok a) (Err e) old new so_far parts one = so_far ∙ ap (behind old) parts
+piece-read whole left (Ok a) (Err e) old new so_far parts one = so_far ∙ ap (appended old) parts
 piece-read whole left (Err e) rest old new so_far parts one = absurd cc
 
 -- a front that is refused is the fault of the whole
-piece-refused : (whole left front rest : Result (List ℕ) CidFault) (old : List ℕ) (f : CidFault) → whole ≡ behind old left → left ≡ together front rest → behind old front ≡ Err f → whole ≡ Err f
+piece-refused : (whole left front rest : Result (List ℕ) CidFault) (old : List ℕ) (f : CidFault) → whole ≡ appended old left → left ≡ together front rest → appended old front ≡ Err f → whole ≡ Err f
 piece-refused whole left (Ok a) rest old f so_far parts one = absurd cc
-piece-refused whole left (Err e) rest old f so_far parts one = so_far ∙ ap (behind old) parts ∙ one
+piece-refused whole left (Err e) rest old f so_far parts one = so_far ∙ ap (appended old) parts ∙ one
 
 -- a front that fails is the failure of the whole
-pub piece-fails : (whole left front rest : Result (List ℕ) CidFault) (old : List ℕ) (e : CidFault) → whole ≡ behind old left → left ≡ together front rest → Fails e (behind old front) → Fails e whole
+pub piece-fails : (whole left front rest : Result (List ℕ) CidFault) (old : List ℕ) (e : CidFault) → whole ≡ appended old left → left ≡ together front rest → Fails e (appended old front) → Fails e whole
 piece-fails whole left front rest old e so_far parts one =
-    fails_along e (behind old front) whole (λ f h. piece-refused whole left front rest old f so_far parts h) one
+    fails_along e (appended old front) whole (λ f h. piece-refused whole left front rest old f so_far parts h) one

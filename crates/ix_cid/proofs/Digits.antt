@@ -1,5 +1,5 @@
 -- Numbers and their digits in a base.
-use Rattle.std.proofs.Common.{◌≡◌, ℕ, zero, suc, ◌+◌, ◌*◌, ◌/◌, ◌%◌, ◌^◌, ◌<◌, ◌≤◌, List, [], ◌∷◌, ◌++◌, length, get_or, take, drop, refl, sym, ap, ◌∙◌, add-one, arith}
+use Rattle.std.proofs.Common.{◌≡◌, ℕ, zero, suc, ◌+◌, ◌*◌, ◌/◌, ◌%◌, ◌^◌, ◌<◌, ◌≤◌, List, [], ◌∷◌, ◌++◌, length, get_or, take, drop, refl, sym, ap, ◌∙◌, arith}
 use Rattle.std.specs.List.{All}
 use Rattle.std.proofs.lemmas.List.Elements.{All-head, All-tail, All-nil, All-cons}
 use Rattle.std.proofs.lemmas.List.{at_drop_more}
@@ -87,10 +87,6 @@ digits_in-more base (suc k) m (suc i) j e =
 -- One digit is taken into the number.
 pub number_in-turn : (base n : ℕ) (ds : List ℕ) (i : ℕ) → i < length ds → number_in base n (drop i ds) ≡ number_in base (n * base + get_or ds i 0) (drop (i + 1) ds)
 number_in-turn base n ds i h = at_drop_more (number_in base n) ds i 0 h
-
--- One power more.
-pub pow-more : (base i : ℕ) → base ^ (i + 1) ≡ base ^ i * base
-pow-more base i = ap (λ (x : ℕ). base ^ x) (add-one i) ∙ pow-suc base i
 
 -- Five bits are a digit in the base 32.
 pub pow-32 : (j : ℕ) → 2 ^ (5 * j) ≡ 32 ^ j

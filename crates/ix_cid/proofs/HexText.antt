@@ -25,6 +25,6 @@ encode_lower-bytes (x ∷ b) are =
     ∙ ap (λ (y : List ℕ). hex_digit (x / 16) ∷ hex_digit (x % 16) ∷ y) rest
 
 -- What is pushed last is what the call answers.
-pub pushed : {E : Type 0} (r : Result (Unit {0}) E) (more out digits meant : List ℕ) → more ≡ (if is_ok r then out ++ digits else out) → digits ≡ meant → OnOk r (more ≡ out ++ meant)
-pushed (Ok u) more out digits meant h same = h ∙ ap (λ (x : List ℕ). out ++ x) same
-pushed (Err e) more out digits meant h same = tt
+pub digits-pushed : {E : Type 0} (r : Result (Unit {0}) E) (more out digits meant : List ℕ) → more ≡ (if is_ok r then out ++ digits else out) → digits ≡ meant → OnOk r (more ≡ out ++ meant)
+digits-pushed (Ok u) more out digits meant h same = h ∙ ap (λ (x : List ℕ). out ++ x) same
+digits-pushed (Err e) more out digits meant h same = tt

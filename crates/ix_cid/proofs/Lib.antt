@@ -3,6 +3,7 @@ pub mod Groups
 pub mod Fronts
 pub mod Cids
 pub mod Bytes
+pub mod Lists
 pub mod Results
 pub mod GroupLaws
 pub mod VarintLaws

@@ -6,7 +6,7 @@ use Rattle.std.proofs.lemmas.List.{nil_from_length}
 use Rattle.std.proofs.Math.Seq.{take-length}
 use Rattle.ix_cid.specs.Bytes.{AreBytes}
 use Rattle.ix_cid.specs.Varint.{varint_at, varint_ending}
-use Rattle.ix_cid.specs.Cid.{◌>>=◌, Parts, as_part, number_at, bytes_at, version_0_at, version_1_at, numbered_at, begins_version_0, parts_at, IsCid, version_of, parts_or_none}
+use Rattle.ix_cid.specs.Cid.{◌>>=◌, Parts, as_part, number_at, bytes_at, version_0_at, version_1_at, numbered_at, begins_version_0, parts_at, IsCid, version_of, parts_or_none, numbered_length_at}
 use Rattle.ix_cid.specs.CidText.{base32_of, hex_of, bytes_of_base32, without_rest, text_of, cid_of_text}
 use Rattle.ix_cid.specs.Gives.{Fails}
 use Rattle.ix_cid.specs.declared.fault.CidFault.{CidFault}
@@ -158,10 +158,6 @@ cid_of_text-ok (first ∷ letters) c h =
       spelled ∙ ap text_of whole.1,
     )
 
--- how long the parts at the front are
-abbrev pub length_at : List ℕ → Result ℕ CidFault
-length_at bytes = numbered_at bytes >>= (λ p. Ok (length bytes - length p.1))
-
 -- the bytes, where nothing stands behind the parts
 abbrev pub whole_at : List ℕ → Result (List ℕ) CidFault
 whole_at bytes = numbered_at bytes >>= (λ p. without_rest bytes p.1)
@@ -185,11 +181,11 @@ module _ (t letters bytes : List ℕ) (begins : t ≡ 98 ∷ letters) (read : by
       ap cid_of_text begins ∙ ap F read
 
   -- a fault at the front is the text's
-  pub text-fails : (e : CidFault) → length_at bytes ≡ Err e → Fails e (cid_of_text t)
+  pub text-fails : (e : CidFault) → numbered_length_at bytes ≡ Err e → Fails e (cid_of_text t)
   text-fails e h = fails_with e (cid_of_text t) (text-is ∙ fault-kept bytes (numbered_at bytes) e h)
 
   -- bytes that are longer than the parts are refused
-  pub text-rest : (n : ℕ) → length_at bytes ≡ Ok n → n < length bytes → cid_of_text t ≡ Err Rest
+  pub text-rest : (n : ℕ) → numbered_length_at bytes ≡ Ok n → n < length bytes → cid_of_text t ≡ Err Rest
   text-rest n h more =
       let front = bind_ok (numbered_at bytes) (λ p. Ok (length bytes - length p.1)) n h in
       let size : length bytes - length front.0.1 ≡ n = ok_same _ n front.2 in
@@ -197,7 +193,7 @@ module _ (t letters bytes : List ℕ) (begins : t ≡ 98 ∷ letters) (read : by
       text-is ∙ ap F front.1 ∙ without_rest-some bytes front.0.1 (omega arith)
 
   -- bytes that are as long as the parts are the CID
-  pub text-whole : (n : ℕ) → length_at bytes ≡ Ok n → length bytes ≤ n → IsCid bytes × (cid_of_text t ≡ Ok bytes)
+  pub text-whole : (n : ℕ) → numbered_length_at bytes ≡ Ok n → length bytes ≤ n → IsCid bytes × (cid_of_text t ≡ Ok bytes)
   text-whole n h most =
       let front = bind_ok (numbered_at bytes) (λ p. Ok (length bytes - length p.1)) n h in
       let size : length bytes - length front.0.1 ≡ n = ok_same _ n front.2 in

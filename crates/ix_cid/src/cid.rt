@@ -41,7 +41,8 @@ impl Cid {
     ghost use Rattle.ix_cid.specs.Cid.{◌>>=◌ as ◌and_then◌, cid_at, version_of, codec_of, hash_code_of, digest_of, parts_of, IsCid};
     ghost use Rattle.ix_cid.specs.CidText.{text_of, cid_of_text};
     ghost use Rattle.ix_cid.specs.Gives.{Gives};
-    ghost use Rattle.ix_cid.specs.Parts.{Reads, parts_view};
+    ghost use Rattle.ix_cid.specs.Parts.{parts_view};
+    ghost use Rattle.ix_cid.specs.Results.{Reads};
 
     /// The bytes.
     #[inline]

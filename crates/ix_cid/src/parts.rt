@@ -2,7 +2,8 @@
 
 ghost use Rattle.std.specs.Prelude.{◌≡◌, Ok, length, IfOk, IfSome};
 ghost use Rattle.ix_cid.specs.Cid.{number_at, bytes_at, version_0_at, version_1_at, numbered_at, numbered_length_at, parts_at, cid_at, parts_of, hash_function_of, IsCid};
-ghost use Rattle.ix_cid.specs.Parts.{Reads, parts_view};
+ghost use Rattle.ix_cid.specs.Parts.{parts_view};
+ghost use Rattle.ix_cid.specs.Results.{Reads};
 
 use crate::code::{
     DAG_CBOR, DAG_PB, IDENTITY, RAW, SHA2_256, SHA2_256_LENGTH, SHA2_512, SHA2_512_LENGTH,

@@ -1,7 +1,8 @@
 -- A visit of a job comes.
-use Rattle.std.proofs.Common.{◌≡◌, ◌⊎◌, ℕ, zero, suc, ◌+◌, ◌<◌, ◌≤◌, Bool, true, false, List, [], ◌∷◌, length, Option, Some, None, refl, sym, ◌∙◌, subst, inl, inr, arith}
-use Rattle.std.specs.Prelude.{slice_get, is_some, not, min, ◌||◌}
-use Rattle.std.proofs.lemmas.Bool.{cases_lt}
+use Rattle.std.proofs.Common.{◌≡◌, ℕ, ◌+◌, ◌<◌, ◌≤◌, Bool, true, false, List, [], length, Option, Some, None, refl, sym, ◌∙◌, subst, inl, inr, arith}
+use Rattle.std.specs.Prelude.{is_some, not, min, ◌||◌}
+use Rattle.std.proofs.lemmas.Bool.{cases_lt, cases_Bool}
+use Rattle.std.proofs.lemmas.Option.{slice_get_within}
 use Rattle.ix_archive.specs.declared.sink.Delivery.{Delivery}
 use Rattle.ix_archive.specs.Events.{Event}
 use Rattle.ix_ring.specs.declared.fault.RingFault.{RingFault}
@@ -24,15 +25,6 @@ abbrev pub IsShortBy : Option Delivery → Bool → Type 0
 IsShortBy (Some d) more = Unit {0}
 IsShortBy None more = more ≡ true
 
-pub true_or_false : (b : Bool) → (b ≡ true) ⊎ (b ≡ false)
-true_or_false true = inl refl
-true_or_false false = inr refl
-
-pub less_at : {X : Type 0} (xs : List X) (k : ℕ) (x : X) → slice_get xs k ≡ Some x → k < length xs
-less_at [] k x e = cc
-less_at (y ∷ ys) zero x e = omega arith
-less_at (y ∷ ys) (suc k) x e = let h : k < length ys = less_at ys k x e in omega arith
-
 module _ (all : List Delivery) (over : Bool) where
   pub held_adds : (t u : Tally) (c n z : ℕ → ℕ) (out_of_memory more : Bool) (k : ℕ) (o : Option Delivery) → Adds t u c n z → Stays out_of_memory more → IsHeld all t out_of_memory k o → IsHeld all u more k o
   held_adds t u c n z out_of_memory more k (Some d) a s h = (h.0, (let e : u.checked k ≡ c k + t.checked k = a.checked_is k in let l : 0 < t.checked k = h.1 in omega arith))
@@ -41,10 +33,6 @@ module _ (all : List Delivery) (over : Bool) where
   close_adds : (t u : Tally) (c n : ℕ → ℕ) (out_of_memory more : Bool) (w : Option WalkEnd) → Adds t u c n none_of → Stays out_of_memory more → IsCloseKnown all over t out_of_memory w → IsCloseKnown all over u more w
   close_adds t u c n out_of_memory more None a s h = λ k. let e : u.closes k ≡ 0 + t.closes k = a.closes_is k in let z : t.closes k ≡ 0 = h k in omega arith
   close_adds t u c n out_of_memory more (Some w) a s h = ((let e : u.closes w.seq ≡ 0 + t.closes w.seq = a.closes_is w.seq in let l : 0 < t.closes w.seq = h.0 in omega arith), h.1, λ m. s (h.2 m))
-
-  pub close_short : (t : Tally) (out_of_memory more : Bool) (w : Option WalkEnd) → Stays out_of_memory more → IsCloseKnown all over t out_of_memory w → IsCloseKnown all over t more w
-  close_short t out_of_memory more None s h = h
-  close_short t out_of_memory more (Some w) s h = (h.0, h.1, λ m. s (h.2 m))
 
   pub checked_adds : (t u : Tally) (c n z : ℕ → ℕ) (count : ℕ) → Adds t u c n z → ((k : ℕ) → k < count → 0 < t.checked k) → (k : ℕ) → k < count → 0 < u.checked k
   checked_adds t u c n z count a h k lt = let e : u.checked k ≡ c k + t.checked k = a.checked_is k in let l : 0 < t.checked k = h k lt in omega arith
@@ -108,7 +96,7 @@ module _ (all : List Delivery) (over : Bool) where
   arrival_count t u seq None a = let r = a.1 in r.count_is
 
   arrival_below : (t u : Tally) (seq : ℕ) (o : Option Delivery) → IsArrival all seq o t u → seq < length all
-  arrival_below t u seq (Some d) a = less_at all seq d a.0
+  arrival_below t u seq (Some d) a = slice_get_within all seq d a.0
   arrival_below t u seq None a = a.0
 
   arrival_close : (t u : Tally) (seq : ℕ) (o : Option Delivery) (out_of_memory more : Bool) (w : Option WalkEnd) → IsArrival all seq o t u → Stays out_of_memory more → IsCloseKnown all over t out_of_memory w → IsCloseKnown all over u more w
@@ -122,7 +110,7 @@ module _ (all : List Delivery) (over : Bool) where
   arrival_unchecked : (t u : Tally) (seq : ℕ) (o : Option Delivery) (out_of_memory more : Bool)
       → IsArrival all seq o t u → Stays out_of_memory more → IsShortBy o more → (out_of_memory ≡ false → (k : ℕ) → t.unchecked k ≡ 0) → more ≡ false → (k : ℕ) → u.unchecked k ≡ 0
   arrival_unchecked t u seq (Some d) out_of_memory more a s b h e k =
-      let was : out_of_memory ≡ false = elim (true_or_false out_of_memory) [ inl up ↦ (let m : more ≡ true = s up in cc) | inr down ↦ down ] in
+      let was : out_of_memory ≡ false = elim (cases_Bool out_of_memory) [ inl up ↦ (let m : more ≡ true = s up in cc) | inr down ↦ down ] in
       let r = a.1 in
       let f : u.unchecked k ≡ 0 + t.unchecked k = r.unchecked_is k in
       let z : t.unchecked k ≡ 0 = h was k in

@@ -1,7 +1,7 @@
 -- The close of a job's walk comes.
-use Rattle.std.proofs.Common.{◌≡◌, ℕ, ◌+◌, ◌<◌, ◌≤◌, Bool, true, false, List, Option, Some, None, refl, subst, inl, inr, arith}
-use Rattle.std.specs.Prelude.{is_some, ◌||◌}
-use Rattle.std.proofs.lemmas.Bool.{cases_lt}
+use Rattle.std.proofs.Common.{◌≡◌, ℕ, ◌+◌, ◌<◌, ◌≤◌, Bool, true, false, List, Option, Some, None, subst, inl, inr, arith}
+use Rattle.std.specs.Prelude.{is_some}
+use Rattle.std.proofs.lemmas.Bool.{cases_lt, cases_Bool}
 use Rattle.ix_archive.specs.declared.sink.Delivery.{Delivery}
 use Rattle.ix_archive.specs.declared.sink.End.{End}
 use Rattle.ix_archive.specs.declared.sink.End.TheVariants.{Memory}
@@ -14,11 +14,7 @@ use Rattle.ix_ring.specs.Numbered.{Numbered}
 use Rattle.ix_stages.specs.Received.{Tally, seen, point}
 use Rattle.ix_collect.specs.JobProgress.{IsFine, Adds, none_of, IsCloseArrival, IsWaiting, IsOn, IsCloseKnown, IsUnderWay}
 use Rattle.ix_collect.proofs.Counting.{point_here, few_items}
-use Rattle.ix_collect.proofs.Arrivals.{Stays, true_or_false, held_adds, checked_adds}
-
-pub or_stays : (a b : Bool) → b ≡ true → (a || b) ≡ true
-or_stays true b e = refl
-or_stays false b e = e
+use Rattle.ix_collect.proofs.Arrivals.{Stays, held_adds, checked_adds}
 
 module _ (all : List Delivery) (over : Bool) where
   -- a close changes nothing of what waits
@@ -40,7 +36,7 @@ module _ (all : List Delivery) (over : Bool) where
 
   close_unchecked : (t u : Tally) (z : ℕ → ℕ) (out_of_memory more : Bool) → Adds t u none_of none_of z → Stays out_of_memory more → (out_of_memory ≡ false → (k : ℕ) → t.unchecked k ≡ 0) → more ≡ false → (k : ℕ) → u.unchecked k ≡ 0
   close_unchecked t u z out_of_memory more a s h e k =
-      let was : out_of_memory ≡ false = elim (true_or_false out_of_memory) [ inl up ↦ (let m : more ≡ true = s up in cc) | inr down ↦ down ] in
+      let was : out_of_memory ≡ false = elim (cases_Bool out_of_memory) [ inl up ↦ (let m : more ≡ true = s up in cc) | inr down ↦ down ] in
       let f : u.unchecked k ≡ 0 + t.unchecked k = a.unchecked_is k in
       let none : t.unchecked k ≡ 0 = h was k in
       omega arith

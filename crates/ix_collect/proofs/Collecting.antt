@@ -54,11 +54,6 @@ misplaced_at [] x i p at h = absurd h
 misplaced_at (q ∷ ps) x zero p at h = subst (λ (r : JobProgress). IsMisplaced r x) (sym at) h
 misplaced_at (q ∷ ps) x (suc i) p at h = misplaced_at ps x i p at h
 
--- what was noted stays noted, and an item that can't come is
-pub stays_noted : (noted more : Bool) → noted ≡ true → (noted || more) ≡ true
-stays_noted true more e = refl
-stays_noted false more e = cc
-
 pub is_noted_then : (noted fine : Bool) → fine ≡ false → (noted || not fine) ≡ true
 is_noted_then true fine e = refl
 is_noted_then false true e = cc

@@ -1,11 +1,11 @@
 -- All sinks were closed: what the good items say of them all.
-use Rattle.std.proofs.Common.{◌≡◌, ◌⊎◌, ℕ, zero, suc, ◌+◌, ◌<◌, ◌≤◌, Bool, true, false, List, [], ◌∷◌, ◌++◌, length, take, map, Option, Some, None, refl, sym, ◌∙◌, ap, subst, inl, inr, arith, All, slice_get, Contains, unwrap_or}
+use Rattle.std.proofs.Common.{◌≡◌, ℕ, zero, suc, ◌+◌, ◌<◌, ◌≤◌, Bool, true, List, [], ◌∷◌, ◌++◌, length, take, map, Option, Some, None, refl, sym, ◌∙◌, ap, subst, inl, inr, arith, All, slice_get, Contains, unwrap_or}
 use Rattle.std.specs.Prelude.{◌==◌, cond}
-use Rattle.std.proofs.lemmas.Bool.{cases_lt}
+use Rattle.std.proofs.lemmas.Bool.{cases_lt, cases_Bool}
 use Rattle.std.proofs.lemmas.Bool.Decides.{nat_tests}
 use Rattle.std.proofs.lemmas.List.{length-map}
 use Rattle.std.proofs.lemmas.List.Elements.{All-head, All-tail, Contains-push_cases}
-use Rattle.std.proofs.lemmas.Option.{slice_get_past}
+use Rattle.std.proofs.lemmas.Option.{slice_get_past, slice_get_within}
 use Rattle.ix_store.specs.Store.{Blocks}
 use Rattle.ix_walk.specs.JobMeaning.{JobMeaning}
 use Rattle.ix_walk.specs.Arrivals.{Arrival}
@@ -21,12 +21,12 @@ use Rattle.ix_collect.proofs.Members.{cases_cons, none_in, has_first, has_rest, 
 use Rattle.ix_stages.specs.declared.verdicted.Verdicted.{Verdicted}
 use Rattle.ix_stages.specs.declared.verdicted.Verdicted.TheVariants.{Checked, Unchecked, Close, Last}
 use Rattle.ix_collect.specs.declared.job_progress.JobProgress.{JobProgress}
-use Rattle.ix_stages.specs.Received.{weigh, point, is_checked, is_unchecked, is_close, Tally, tally, pairs_of}
+use Rattle.ix_stages.specs.Received.{point, is_checked, is_unchecked, is_close, Tally, tally, pairs_of}
 use Rattle.ix_stages.specs.Good.{judged_at, over_at, IsAllowed, IsGood}
+use Rattle.ix_stages.specs.Totals.{total}
 use Rattle.ix_collect.specs.JobProgress.{IsOver, IsCome, IsComeTo}
 use Rattle.ix_collect.specs.Collected.{EachCome, AllEnded, EachEnded}
 use Rattle.ix_collect.proofs.Counting.{point_here}
-use Rattle.ix_collect.proofs.Arrivals.{less_at}
 use Rattle.ix_collect.proofs.Goodness.{same_tests}
 
 abbrev pub end_or : JobProgress → End
@@ -40,17 +40,13 @@ pub ends_known : (ps : List JobProgress) → AllEnded ps → EachEnded ps (map e
 ends_known [] h = tt
 ends_known (p ∷ ps) h = (let e = h.0 in end_known p.end e.0 e.1, ends_known ps h.1)
 
-yes_or_no : (b : Bool) → (b ≡ true) ⊎ (b ≡ false)
-yes_or_no true = inl refl
-yes_or_no false = inr refl
-
 -- a pair that counts stands in the list
-pub has_pair : (j n : ℕ) (got : List Verdicted) → 0 < weigh (is_checked j n) got → Contains (pairs_of got) (j, n)
+pub has_pair : (j n : ℕ) (got : List Verdicted) → 0 < total (is_checked j n) got → Contains (pairs_of got) (j, n)
 has_pair j n [] lt = absurd (omega arith)
 has_pair j n (Checked v d ∷ got) lt =
-    elim (yes_or_no (v.job == j)) [
+    elim (cases_Bool (v.job == j)) [
       | inl e ↦
-          elim (yes_or_no (v.seq == n)) [
+          elim (cases_Bool (v.seq == n)) [
             | inl f ↦
                 (let job : v.job ≡ j = same_tests v.job j e in
                 let seq : v.seq ≡ n = same_tests v.seq n f in
@@ -67,7 +63,7 @@ itself : (v w : ℕ) → cond (v == v) (point w w) 0 ≡ point w w
 itself v w = let t : (v == v) ≡ true = grind (arith, nat_tests) in rw t refl
 
 -- a pair that stands in the list counts
-pair_counts : (j n : ℕ) (got : List Verdicted) → Contains (pairs_of got) (j, n) → 0 < weigh (is_checked j n) got
+pair_counts : (j n : ℕ) (got : List Verdicted) → Contains (pairs_of got) (j, n) → 0 < total (is_checked j n) got
 pair_counts j n [] h = absurd (none_in (j, n) h)
 pair_counts j n (Checked v d ∷ got) h =
     elim (cases_cons (v.job, v.seq) (pairs_of got) (j, n) h) [
@@ -77,25 +73,25 @@ pair_counts j n (Checked v d ∷ got) h =
           let one : is_checked v.job v.seq (Checked v d) ≡ 1 = itself v.job v.seq ∙ point_here v.seq in
           let here : is_checked j n (Checked v d) ≡ 1 = subst (λ (k : ℕ). is_checked k n (Checked v d) ≡ 1) job (subst (λ (k : ℕ). is_checked v.job k (Checked v d) ≡ 1) seq one) in
           omega arith)
-      | inr r ↦ (let rest : 0 < weigh (is_checked j n) got = pair_counts j n got r in omega arith)
+      | inr r ↦ (let rest : 0 < total (is_checked j n) got = pair_counts j n got r in omega arith)
     ]
-pair_counts j n (Unchecked k m ∷ got) h = let rest : 0 < weigh (is_checked j n) got = pair_counts j n got h in omega arith
-pair_counts j n (Close k m end ∷ got) h = let rest : 0 < weigh (is_checked j n) got = pair_counts j n got h in omega arith
-pair_counts j n (Last ∷ got) h = let rest : 0 < weigh (is_checked j n) got = pair_counts j n got h in omega arith
+pair_counts j n (Unchecked k m ∷ got) h = let rest : 0 < total (is_checked j n) got = pair_counts j n got h in omega arith
+pair_counts j n (Close k m end ∷ got) h = let rest : 0 < total (is_checked j n) got = pair_counts j n got h in omega arith
+pair_counts j n (Last ∷ got) h = let rest : 0 < total (is_checked j n) got = pair_counts j n got h in omega arith
 
-pub pairs_once : (got : List Verdicted) → ((j n : ℕ) → weigh (is_checked j n) got ≤ 1) → IsEachOnce (pairs_of got)
+pub pairs_once : (got : List Verdicted) → ((j n : ℕ) → total (is_checked j n) got ≤ 1) → IsEachOnce (pairs_of got)
 pairs_once [] h = tt
 pairs_once (Checked v d ∷ got) h = (
   λ (c : Contains (pairs_of got) (v.job, v.seq)).
-      let rest : 0 < weigh (is_checked v.job v.seq) got = pair_counts v.job v.seq got c in
+      let rest : 0 < total (is_checked v.job v.seq) got = pair_counts v.job v.seq got c in
       let one : is_checked v.job v.seq (Checked v d) ≡ 1 = itself v.job v.seq ∙ point_here v.seq in
-      let most : is_checked v.job v.seq (Checked v d) + weigh (is_checked v.job v.seq) got ≤ 1 = h v.job v.seq in
+      let most : is_checked v.job v.seq (Checked v d) + total (is_checked v.job v.seq) got ≤ 1 = h v.job v.seq in
       absurd (omega arith),
-  pairs_once got (λ j n. let most : is_checked j n (Checked v d) + weigh (is_checked j n) got ≤ 1 = h j n in omega arith),
+  pairs_once got (λ j n. let most : is_checked j n (Checked v d) + total (is_checked j n) got ≤ 1 = h j n in omega arith),
 )
-pairs_once (Unchecked k m ∷ got) h = pairs_once got (λ j n. let most : 0 + weigh (is_checked j n) got ≤ 1 = h j n in omega arith)
-pairs_once (Close k m end ∷ got) h = pairs_once got (λ j n. let most : 0 + weigh (is_checked j n) got ≤ 1 = h j n in omega arith)
-pairs_once (Last ∷ got) h = pairs_once got (λ j n. let most : 0 + weigh (is_checked j n) got ≤ 1 = h j n in omega arith)
+pairs_once (Unchecked k m ∷ got) h = pairs_once got (λ j n. let most : 0 + total (is_checked j n) got ≤ 1 = h j n in omega arith)
+pairs_once (Close k m end ∷ got) h = pairs_once got (λ j n. let most : 0 + total (is_checked j n) got ≤ 1 = h j n in omega arith)
+pairs_once (Last ∷ got) h = pairs_once got (λ j n. let most : 0 + total (is_checked j n) got ≤ 1 = h j n in omega arith)
 
 module _ (store : Blocks) (jobs : List JobMeaning) where
   -- the pair of a good item is that of a visit
@@ -105,7 +101,7 @@ module _ (store : Blocks) (jobs : List JobMeaning) where
       elim (cases_cons (v.job, v.seq) (pairs_of got) (j, n) h) [
         | inl e ↦
             (let here = All-head (IsAllowed store jobs) (Checked v d) got a in
-            let lt : v.seq < length (judged_at store jobs v.job) = less_at (judged_at store jobs v.job) v.seq (record { visit = v; verdict = d }) here.1 in
+            let lt : v.seq < length (judged_at store jobs v.job) = slice_get_within (judged_at store jobs v.job) v.seq (record { visit = v; verdict = d }) here.1 in
             subst (λ (p : ℕ × ℕ). p.1 < length (judged_at store jobs p.0)) e lt)
         | inr r ↦ pairs_within got j n (All-tail (IsAllowed store jobs) (Checked v d) got a) r
       ]
@@ -166,7 +162,7 @@ module _ (store : Blocks) (jobs : List JobMeaning) where
         | inl l ↦
             (let r = delivered_at n 0 w.count (take j.limit (arrivals_of store j)) d l in
             let lt : d.visit.seq < 0 + w.count = r.2 in
-            let counts : 0 < weigh (is_checked n d.visit.seq) got = w.checked d.visit.seq (omega arith) in
+            let counts : 0 < total (is_checked n d.visit.seq) got = w.checked d.visit.seq (omega arith) in
             subst (λ (k : ℕ). Contains (pairs_of got) (k, d.visit.seq)) (sym r.0) (has_pair n d.visit.seq got counts))
         | inr same ↦ cc
       ]
@@ -237,7 +233,7 @@ module _ {S : Type 0} (events : S → List Event) (failed : S → List Delivery)
       let same : job ≡ n = omega arith in
       let w = over_of n p s e ended.0 come.0 in
       let here : seq < length (judged_at store jobs n) = subst (λ (k : ℕ). seq < length (judged_at store jobs k)) same within in
-      let counts : 0 < weigh (is_checked n seq) got = w.every (λ (m : e ≡ Memory). walked (ap (λ (x : End). Some x) m)) seq here in
+      let counts : 0 < total (is_checked n seq) got = w.every (λ (m : e ≡ Memory). walked (ap (λ (x : End). Some x) m)) seq here in
       subst (λ (k : ℕ). Contains (pairs_of got) (k, seq)) (sym same) (has_pair n seq got counts)
   every_from n (suc i) job seq (p ∷ ps) (s ∷ ss) (e ∷ es) at lt come ended walked within =
       every_from (n + 1) i job seq ps ss es (omega arith) (omega arith) come.1 ended.1 walked within
@@ -265,7 +261,7 @@ module _ {S : Type 0} (events : S → List Event) (failed : S → List Delivery)
       → IsGood store jobs got → length ps ≡ length jobs → EachCome events failed store jobs got 0 ps ss → EachEnded ps es → IsCheckedOnce events store jobs es ss (pairs_of got)
   checked_from ps ss es good len come ended = record {
     once = pairs_once got
-        (λ j n. let most : weigh (is_checked j n) got + weigh (is_unchecked j n) got + weigh (is_close j n) got ≤ 1 = good.once j n in omega arith);
+        (λ j n. let most : total (is_checked j n) got + total (is_unchecked j n) got + total (is_close j n) got ≤ 1 = good.once j n in omega arith);
     within = λ job seq c. subst (λ (k : ℕ). seq < k) (sym (count_is store jobs job)) (pairs_within store jobs got job seq good.allowed c);
     delivered = λ s d among c. told_from 0 jobs ps ss es s d from_all len come ended among c;
     every = λ job seq walked lt. every_at job seq ps ss es len come ended walked.0 lt;
@@ -276,6 +272,6 @@ module _ (store : Blocks) (jobs : List JobMeaning) (got : List Verdicted) where
   -- of what is good no pair is checked twice, and each is that of a visit
   pub good_pairs : IsGood store jobs got → IsEachOnce (pairs_of got) × ((job seq : ℕ) → Contains (pairs_of got) (job, seq) → seq < visit_count store jobs job)
   good_pairs good = (
-    pairs_once got (λ j n. let most : weigh (is_checked j n) got + weigh (is_unchecked j n) got + weigh (is_close j n) got ≤ 1 = good.once j n in omega arith),
+    pairs_once got (λ j n. let most : total (is_checked j n) got + total (is_unchecked j n) got + total (is_close j n) got ≤ 1 = good.once j n in omega arith),
     λ job seq c. subst (λ (k : ℕ). seq < k) (sym (count_is store jobs job)) (pairs_within store jobs got job seq good.allowed c),
   )

@@ -14,8 +14,8 @@ use Rattle.ix_collect.specs.declared.collector.Collector.{Collector}
 use Rattle.ix_collect.specs.Collected.{is_last, last_count}
 use Rattle.ix_collect.specs.Collecting.{CanCollect, GoesOn}
 use Rattle.ix_collect.proofs.Kept.{kept_same, kept_trans}
-use Rattle.ix_collect.proofs.Goodness.{weigh_append}
 use Rattle.ix_stages.specs.Lanes.{received_by, sent_by, all_sent, EachLane, IsLane, SameIn, SameOut, EachSameOut, all_received}
+use Rattle.ix_stages.proofs.Totals.{total_append}
 
 module _ {S : Type 0} (events : S → List Event) (failed : S → List Delivery) (fact : Fact S) where
   -- the collector goes on by no step, and by one step more
@@ -78,10 +78,10 @@ one_at_most false = omega arith
 -- a lane gives one verifier's last more, or none
 pub lasts_set : (before old new after : List Verdicted) (k : ℕ) → last_count new ≡ k + last_count old → last_count (before ++ new ++ after) ≡ k + last_count (before ++ old ++ after)
 lasts_set before old new after k e =
-    let a : last_count (before ++ old ++ after) ≡ last_count (before ++ old) + last_count after = weigh_append is_last (before ++ old) after in
-    let b : last_count (before ++ old) ≡ last_count before + last_count old = weigh_append is_last before old in
-    let c : last_count (before ++ new ++ after) ≡ last_count (before ++ new) + last_count after = weigh_append is_last (before ++ new) after in
-    let d : last_count (before ++ new) ≡ last_count before + last_count new = weigh_append is_last before new in
+    let a : last_count (before ++ old ++ after) ≡ last_count (before ++ old) + last_count after = total_append is_last (before ++ old) after in
+    let b : last_count (before ++ old) ≡ last_count before + last_count old = total_append is_last before old in
+    let c : last_count (before ++ new ++ after) ≡ last_count (before ++ new) + last_count after = total_append is_last (before ++ new) after in
+    let d : last_count (before ++ new) ≡ last_count before + last_count new = total_append is_last before new in
     omega arith
 
 pub same_trans : (x y z : LaneOut) → SameOut x y → SameOut y z → SameOut x z
@@ -98,20 +98,9 @@ same_set (x ∷ xs) [] i l m h at e = absurd h
 same_set (x ∷ xs) (y ∷ ys) zero l m h at e = (same_trans x y m h.0 (subst (λ (z : LaneOut). SameOut z m) at e), h.1)
 same_set (x ∷ xs) (y ∷ ys) (suc i) l m h at e = (h.0, same_set xs ys i l m h.1 at e)
 
-pub in_trans : (x y z : LaneIn) → SameIn x y → SameIn y z → SameIn x z
-in_trans x y z h k = let a = h.0 in let b = k.0 in ((b.0 ∙ a.0, b.1 ∙ a.1, b.2 ∙ a.2, b.3 ∙ a.3), k.1 ∙ h.1)
-
 -- the ends of one lane stay so
 pub lane_same : (i j : LaneIn) (o p : LaneOut) → SameIn i j → SameOut o p → IsLane i o → IsLane j p
 lane_same i j o p a b h = let x = a.0 in let y = b.0 in (y.0 ∙ h.0 ∙ sym x.0, y.1 ∙ h.1 ∙ sym x.1, y.2 ∙ h.2 ∙ sym x.2, y.3 ∙ h.3 ∙ sym x.3)
-
-pub lanes_same : (is : List LaneIn) (os ps : List LaneOut) → EachSameOut os ps → EachLane is os → EachLane is ps
-lanes_same [] [] [] a h = tt
-lanes_same [] [] (p ∷ ps) a h = absurd a
-lanes_same [] (o ∷ os) ps a h = absurd h
-lanes_same (i ∷ is) [] ps a h = absurd h
-lanes_same (i ∷ is) (o ∷ os) [] a h = absurd a
-lanes_same (i ∷ is) (o ∷ os) (p ∷ ps) a h = (lane_same i i o p ((refl, refl, refl, refl), refl) a.0 h.0, lanes_same is os ps a.1 h.1)
 
 pub each_same_trans : (xs ys zs : List LaneOut) → EachSameOut xs ys → EachSameOut ys zs → EachSameOut xs zs
 each_same_trans [] [] [] h k = tt

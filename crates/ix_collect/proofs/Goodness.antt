@@ -4,6 +4,7 @@ use Rattle.std.specs.Prelude.{◌==◌, cond, slice_get}
 use Rattle.std.proofs.lemmas.Bool.{cases_lt}
 use Rattle.std.proofs.lemmas.Bool.Decides.{nat_tests}
 use Rattle.std.proofs.lemmas.List.Elements.{All-head, All-tail, All-cons}
+use Rattle.std.proofs.lemmas.Option.{slice_get_within, same_Some}
 use Rattle.ix_store.specs.Store.{Blocks}
 use Rattle.ix_walk.specs.JobMeaning.{JobMeaning}
 use Rattle.ix_archive.specs.declared.sink.Delivery.{Delivery}
@@ -11,21 +12,19 @@ use Rattle.ix_archive.specs.declared.sink.End.{End}
 use Rattle.ix_archive.specs.declared.sink.End.TheVariants.{Done, Limit, Memory, Write, Start}
 use Rattle.ix_stages.specs.declared.verdicted.Verdicted.{Verdicted}
 use Rattle.ix_stages.specs.declared.verdicted.Verdicted.TheVariants.{Checked, Unchecked, Close, Last}
-use Rattle.ix_stages.specs.Received.{weigh, point, is_checked, is_unchecked, is_close, is_of, tally, seen, Inserts, job_of}
+use Rattle.ix_stages.specs.Received.{point, is_checked, is_unchecked, is_close, is_of, tally, seen, Inserts, job_of}
 use Rattle.ix_stages.specs.Good.{judged_at, over_at, IsCloseOf, IsAllowed, IsGood}
+use Rattle.ix_stages.specs.Totals.{total}
+use Rattle.ix_stages.proofs.Running.{one_if}
+use Rattle.ix_stages.proofs.Totals.{total_append}
 use Rattle.ix_collect.specs.JobProgress.{below, IsFine, IsItem}
 use Rattle.ix_collect.proofs.Counting.{point_here, point_else}
-use Rattle.ix_collect.proofs.Arrivals.{less_at}
-
-pub weigh_append : {X : Type 0} (h : X → ℕ) (xs ys : List X) → weigh h (xs ++ ys) ≡ weigh h xs + weigh h ys
-weigh_append h [] ys = omega arith
-weigh_append h (x ∷ xs) ys = let e : weigh h (xs ++ ys) ≡ weigh h xs + weigh h ys = weigh_append h xs ys in omega arith
 
 -- an item counts wherever it stands
-pub weigh_inserts : (h : Verdicted → ℕ) (x : Verdicted) (got more : List Verdicted) → Inserts x got more → weigh h more ≡ h x + weigh h got
-weigh_inserts h x got more i =
-    let a : weigh h got ≡ weigh h i.before + weigh h i.after = ap (λ (l : List Verdicted). weigh h l) i.got_is ∙ weigh_append h i.before i.after in
-    let b : weigh h more ≡ weigh h i.before + (h x + weigh h i.after) = ap (λ (l : List Verdicted). weigh h l) i.more_is ∙ weigh_append h i.before (x ∷ i.after) in
+pub total_inserts : (h : Verdicted → ℕ) (x : Verdicted) (got more : List Verdicted) → Inserts x got more → total h more ≡ h x + total h got
+total_inserts h x got more i =
+    let a : total h got ≡ total h i.before + total h i.after = ap (λ (l : List Verdicted). total h l) i.got_is ∙ total_append h i.before i.after in
+    let b : total h more ≡ total h i.before + (h x + total h i.after) = ap (λ (l : List Verdicted). total h l) i.more_is ∙ total_append h i.before (x ∷ i.after) in
     omega arith
 
 all_parts : (P : Verdicted → Type 0) (xs : List Verdicted) (x : Verdicted) (ys : List Verdicted) → All P (xs ++ x ∷ ys) → All P (xs ++ ys) × P x
@@ -40,17 +39,17 @@ good_before store jobs x got more i g =
       record {
         allowed = subst (λ (l : List Verdicted). All (IsAllowed store jobs) l) (sym i.got_is) parts.0;
         once = λ j n.
-            let a : weigh (is_checked j n) more ≡ is_checked j n x + weigh (is_checked j n) got = weigh_inserts (is_checked j n) x got more i in
-            let b : weigh (is_unchecked j n) more ≡ is_unchecked j n x + weigh (is_unchecked j n) got = weigh_inserts (is_unchecked j n) x got more i in
-            let c : weigh (is_close j n) more ≡ is_close j n x + weigh (is_close j n) got = weigh_inserts (is_close j n) x got more i in
-            let most : weigh (is_checked j n) more + weigh (is_unchecked j n) more + weigh (is_close j n) more ≤ 1 = g.once j n in
+            let a : total (is_checked j n) more ≡ is_checked j n x + total (is_checked j n) got = total_inserts (is_checked j n) x got more i in
+            let b : total (is_unchecked j n) more ≡ is_unchecked j n x + total (is_unchecked j n) got = total_inserts (is_unchecked j n) x got more i in
+            let c : total (is_close j n) more ≡ is_close j n x + total (is_close j n) got = total_inserts (is_close j n) x got more i in
+            let most : total (is_checked j n) more + total (is_unchecked j n) more + total (is_close j n) more ≤ 1 = g.once j n in
             omega arith;
         last = λ j k n closed lt.
-            let a : weigh (is_checked j n) more ≡ is_checked j n x + weigh (is_checked j n) got = weigh_inserts (is_checked j n) x got more i in
-            let b : weigh (is_unchecked j n) more ≡ is_unchecked j n x + weigh (is_unchecked j n) got = weigh_inserts (is_unchecked j n) x got more i in
-            let c : weigh (is_close j n) more ≡ is_close j n x + weigh (is_close j n) got = weigh_inserts (is_close j n) x got more i in
-            let d : weigh (is_close j k) more ≡ is_close j k x + weigh (is_close j k) got = weigh_inserts (is_close j k) x got more i in
-            let none : weigh (is_checked j n) more + weigh (is_unchecked j n) more + weigh (is_close j n) more ≡ 0 = g.last j k n (omega arith) lt in
+            let a : total (is_checked j n) more ≡ is_checked j n x + total (is_checked j n) got = total_inserts (is_checked j n) x got more i in
+            let b : total (is_unchecked j n) more ≡ is_unchecked j n x + total (is_unchecked j n) got = total_inserts (is_unchecked j n) x got more i in
+            let c : total (is_close j n) more ≡ is_close j n x + total (is_close j n) got = total_inserts (is_close j n) x got more i in
+            let d : total (is_close j k) more ≡ is_close j k x + total (is_close j k) got = total_inserts (is_close j k) x got more i in
+            let none : total (is_checked j n) more + total (is_unchecked j n) more + total (is_close j n) more ≡ 0 = g.last j k n (omega arith) lt in
             omega arith;
         small = g.small;
       },
@@ -94,10 +93,6 @@ hit_below : (b : Bool) (m n : ℕ) → (b ≡ true → m < n) → below (λ k. c
 hit_below true m n h = below_point m n (h refl)
 hit_below false m n h = below_none (λ k. 0) n (λ k. refl)
 
--- 1 where it holds
-abbrev pub is_one : Bool → ℕ
-is_one b = cond b 1 0
-
 pub same_tests : (a b : ℕ) → (a == b) ≡ true → a ≡ b
 same_tests a b e = grind (arith, nat_tests)
 
@@ -115,7 +110,7 @@ module _ (store : Blocks) (jobs : List JobMeaning) (j : ℕ) where
       below_same (seen_here j (Checked v d)) (λ k. cond (v.job == j) (point v.seq k) 0) (suc (length (judged_at store jobs j))) (λ k. omega arith)
       ∙ hit_below (v.job == j) v.seq (suc (length (judged_at store jobs j)))
       (λ e.
-      let lt : v.seq < length (judged_at store jobs v.job) = less_at (judged_at store jobs v.job) v.seq (record { visit = v; verdict = d }) a.1 in
+      let lt : v.seq < length (judged_at store jobs v.job) = slice_get_within (judged_at store jobs v.job) v.seq (record { visit = v; verdict = d }) a.1 in
       let here : v.seq < length (judged_at store jobs j) = subst (λ (i : ℕ). v.seq < length (judged_at store jobs i)) (same_tests v.job j e) lt in
       omega arith)
   item_below (Unchecked i n) a =
@@ -135,10 +130,10 @@ module _ (store : Blocks) (jobs : List JobMeaning) (j : ℕ) where
   all_below (x ∷ got) a =
       let size = suc (length (judged_at store jobs j)) in
       let here : below (seen_here j x) size ≡ is_of j x = item_below x (All-head (IsAllowed store jobs) x got a) in
-      let rest : weigh (is_of j) got ≡ below (seen (tally j got)) size = all_below got (All-tail (IsAllowed store jobs) x got a) in
+      let rest : total (is_of j) got ≡ below (seen (tally j got)) size = all_below got (All-tail (IsAllowed store jobs) x got a) in
       let both : below (seen (tally j (x ∷ got))) size ≡ below (seen_here j x) size + below (seen (tally j got)) size =
       below_sum (seen (tally j (x ∷ got))) (seen_here j x) (seen (tally j got)) size
-      (λ k. sum_of (is_checked j k x) (is_unchecked j k x) (is_close j k x) (weigh (is_checked j k) got) (weigh (is_unchecked j k) got) (weigh (is_close j k) got))
+      (λ k. sum_of (is_checked j k x) (is_unchecked j k x) (is_close j k x) (total (is_checked j k) got) (total (is_unchecked j k) got) (total (is_close j k) got))
       in
       omega arith
     where
@@ -154,7 +149,7 @@ module _ (store : Blocks) (jobs : List JobMeaning) (j : ℕ) where
       let none : cond (v.job == j) (point v.seq n) 0 ≡ 0 =
       beyond_here (v.job == j) v.seq n
       (λ e.
-      let le : v.seq < length (judged_at store jobs v.job) = less_at (judged_at store jobs v.job) v.seq (record { visit = v; verdict = d }) a.1 in
+      let le : v.seq < length (judged_at store jobs v.job) = slice_get_within (judged_at store jobs v.job) v.seq (record { visit = v; verdict = d }) a.1 in
       let here : v.seq < length (judged_at store jobs j) = subst (λ (i : ℕ). v.seq < length (judged_at store jobs i)) (same_tests v.job j e) le in
       omega arith)
       in
@@ -176,7 +171,7 @@ module _ (store : Blocks) (jobs : List JobMeaning) (j : ℕ) where
   all_beyond [] n a lt = refl
   all_beyond (x ∷ got) n a lt =
       let here : is_checked j n x + is_unchecked j n x + is_close j n x ≡ 0 = item_beyond x n (All-head (IsAllowed store jobs) x got a) lt in
-      let rest : weigh (is_checked j n) got + weigh (is_unchecked j n) got + weigh (is_close j n) got ≡ 0 = all_beyond got n (All-tail (IsAllowed store jobs) x got a) lt in
+      let rest : total (is_checked j n) got + total (is_unchecked j n) got + total (is_close j n) got ≡ 0 = all_beyond got n (All-tail (IsAllowed store jobs) x got a) lt in
       omega arith
 
   -- good items are fine for each job
@@ -186,42 +181,39 @@ module _ (store : Blocks) (jobs : List JobMeaning) (j : ℕ) where
   hit_here : (i n m : ℕ) → i ≡ j → cond (i == j) (point n m) 0 ≡ point n m
   hit_here i n m e = let t : (i == j) ≡ true = grind (arith, nat_tests) in rw t refl
 
-  count_here : (i : ℕ) → i ≡ j → is_one (i == j) ≡ 1
+  count_here : (i : ℕ) → i ≡ j → one_if (i == j) ≡ 1
   count_here i e = let t : (i == j) ≡ true = grind (arith, nat_tests) in rw t refl
-
-  some_same : (a b : ℕ) → Some a ≡ Some b → a ≡ b
-  some_same a b e = cc
 
   -- an item of the job comes
   pub item_of : (x : Verdicted) (got more : List Verdicted) → Inserts x got more → IsAllowed store jobs x → job_of x ≡ Some j → IsItem (judged_at store jobs j) (over_at store jobs j) x (tally j got) (tally j more)
   item_of (Checked v d) got more i a e =
-      let same : v.job ≡ j = some_same v.job j e in (
+      let same : v.job ≡ j = same_Some v.job j e in (
         subst (λ (k : ℕ). slice_get (judged_at store jobs k) v.seq ≡ Some (record { visit = v; verdict = d })) same a.1,
         record {
-          checked_is = λ n. weigh_inserts (is_checked j n) (Checked v d) got more i ∙ ap (λ (k : ℕ). k + weigh (is_checked j n) got) (hit_here v.job v.seq n same);
-          unchecked_is = λ n. weigh_inserts (is_unchecked j n) (Checked v d) got more i;
-          closes_is = λ n. weigh_inserts (is_close j n) (Checked v d) got more i;
-          count_is = weigh_inserts (is_of j) (Checked v d) got more i ∙ ap (λ (k : ℕ). k + weigh (is_of j) got) (count_here v.job same);
+          checked_is = λ n. total_inserts (is_checked j n) (Checked v d) got more i ∙ ap (λ (k : ℕ). k + total (is_checked j n) got) (hit_here v.job v.seq n same);
+          unchecked_is = λ n. total_inserts (is_unchecked j n) (Checked v d) got more i;
+          closes_is = λ n. total_inserts (is_close j n) (Checked v d) got more i;
+          count_is = total_inserts (is_of j) (Checked v d) got more i ∙ ap (λ (k : ℕ). k + total (is_of j) got) (count_here v.job same);
         },
       )
   item_of (Unchecked k m) got more i a e =
-      let same : k ≡ j = some_same k j e in (
+      let same : k ≡ j = same_Some k j e in (
         subst (λ (k : ℕ). m < length (judged_at store jobs k)) same a.1,
         record {
-          checked_is = λ n. weigh_inserts (is_checked j n) (Unchecked k m) got more i;
-          unchecked_is = λ n. weigh_inserts (is_unchecked j n) (Unchecked k m) got more i ∙ ap (λ (z : ℕ). z + weigh (is_unchecked j n) got) (hit_here k m n same);
-          closes_is = λ n. weigh_inserts (is_close j n) (Unchecked k m) got more i;
-          count_is = weigh_inserts (is_of j) (Unchecked k m) got more i ∙ ap (λ (z : ℕ). z + weigh (is_of j) got) (count_here k same);
+          checked_is = λ n. total_inserts (is_checked j n) (Unchecked k m) got more i;
+          unchecked_is = λ n. total_inserts (is_unchecked j n) (Unchecked k m) got more i ∙ ap (λ (z : ℕ). z + total (is_unchecked j n) got) (hit_here k m n same);
+          closes_is = λ n. total_inserts (is_close j n) (Unchecked k m) got more i;
+          count_is = total_inserts (is_of j) (Unchecked k m) got more i ∙ ap (λ (z : ℕ). z + total (is_of j) got) (count_here k same);
         },
       )
   item_of (Close k m end) got more i a e =
-      let same : k ≡ j = some_same k j e in (
+      let same : k ≡ j = same_Some k j e in (
         subst (λ (k : ℕ). IsCloseOf end m (judged_at store jobs k) (over_at store jobs k)) same a.1,
         record {
-          checked_is = λ n. weigh_inserts (is_checked j n) (Close k m end) got more i;
-          unchecked_is = λ n. weigh_inserts (is_unchecked j n) (Close k m end) got more i;
-          closes_is = λ n. weigh_inserts (is_close j n) (Close k m end) got more i ∙ ap (λ (z : ℕ). z + weigh (is_close j n) got) (hit_here k m n same);
-          count_is = weigh_inserts (is_of j) (Close k m end) got more i ∙ ap (λ (z : ℕ). z + weigh (is_of j) got) (count_here k same);
+          checked_is = λ n. total_inserts (is_checked j n) (Close k m end) got more i;
+          unchecked_is = λ n. total_inserts (is_unchecked j n) (Close k m end) got more i;
+          closes_is = λ n. total_inserts (is_close j n) (Close k m end) got more i ∙ ap (λ (z : ℕ). z + total (is_close j n) got) (hit_here k m n same);
+          count_is = total_inserts (is_of j) (Close k m end) got more i ∙ ap (λ (z : ℕ). z + total (is_of j) got) (count_here k same);
         },
       )
   item_of Last got more i a e = cc
@@ -229,7 +221,7 @@ module _ (store : Blocks) (jobs : List JobMeaning) (j : ℕ) where
   miss : (i n m : ℕ) → (i ≡ j → ⊥) → cond (i == j) (point n m) 0 ≡ 0
   miss i n m ne = let t : (i == j) ≡ false = grind (arith, nat_tests) in rw t refl
 
-  count_miss : (i : ℕ) → (i ≡ j → ⊥) → is_one (i == j) ≡ 0
+  count_miss : (i : ℕ) → (i ≡ j → ⊥) → one_if (i == j) ≡ 0
   count_miss i ne = let t : (i == j) ≡ false = grind (arith, nat_tests) in rw t refl
 
   -- an item of another job has no weight for this one
@@ -239,15 +231,15 @@ module _ (store : Blocks) (jobs : List JobMeaning) (j : ℕ) where
   nothing_of (Close i m end) ne = let other : i ≡ j → ⊥ = (λ e. ne (ap Some e)) in ((λ n. refl), (λ n. refl), (λ n. miss i m n other), count_miss i other)
   nothing_of Last ne = ((λ n. refl), (λ n. refl), (λ n. refl), refl)
 
-unmoved : (h : Verdicted → ℕ) (x : Verdicted) (got more : List Verdicted) → Inserts x got more → h x ≡ 0 → weigh h more ≡ weigh h got
-unmoved h x got more i e = let all : weigh h more ≡ h x + weigh h got = weigh_inserts h x got more i in omega arith
+unmoved : (h : Verdicted → ℕ) (x : Verdicted) (got more : List Verdicted) → Inserts x got more → h x ≡ 0 → total h more ≡ total h got
+unmoved h x got more i e = let all : total h more ≡ h x + total h got = total_inserts h x got more i in omega arith
 
 -- an item of another job changes no count of this one
 pub tally_same : (store : Blocks) (jobs : List JobMeaning) (j : ℕ) (x : Verdicted) (got more : List Verdicted) → Inserts x got more → (job_of x ≡ Some j → ⊥) → tally j got ≡ tally j more
 tally_same store jobs j x got more i ne =
     let none = nothing_of store jobs j x ne in
-    let checked : (n : ℕ) → weigh (is_checked j n) got ≡ weigh (is_checked j n) more = λ n. sym (unmoved (is_checked j n) x got more i (none.0 n)) in
-    let unchecked : (n : ℕ) → weigh (is_unchecked j n) got ≡ weigh (is_unchecked j n) more = λ n. sym (unmoved (is_unchecked j n) x got more i (none.1 n)) in
-    let closes : (n : ℕ) → weigh (is_close j n) got ≡ weigh (is_close j n) more = λ n. sym (unmoved (is_close j n) x got more i (none.2 n)) in
-    let count : weigh (is_of j) got ≡ weigh (is_of j) more = sym (unmoved (is_of j) x got more i none.3) in
+    let checked : (n : ℕ) → total (is_checked j n) got ≡ total (is_checked j n) more = λ n. sym (unmoved (is_checked j n) x got more i (none.0 n)) in
+    let unchecked : (n : ℕ) → total (is_unchecked j n) got ≡ total (is_unchecked j n) more = λ n. sym (unmoved (is_unchecked j n) x got more i (none.1 n)) in
+    let closes : (n : ℕ) → total (is_close j n) got ≡ total (is_close j n) more = λ n. sym (unmoved (is_close j n) x got more i (none.2 n)) in
+    let count : total (is_of j) got ≡ total (is_of j) more = sym (unmoved (is_of j) x got more i none.3) in
     λ k. record { checked = λ n. checked n k; unchecked = λ n. unchecked n k; closes = λ n. closes n k; count = count k }

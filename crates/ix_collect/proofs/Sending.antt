@@ -2,6 +2,7 @@
 use Rattle.std.proofs.Common.{◌≡◌, ℕ, zero, suc, ◌+◌, ◌≤◌, List, [], ◌∷◌, ◌++◌, map, Option, Some, None, slice_get, All, refl, sym, ◌∙◌, ap, subst, arith}
 use Rattle.std.specs.Prelude.{◌==◌, cond}
 use Rattle.std.proofs.lemmas.List.Elements.{All-head, All-tail, All-cons, All-nil}
+use Rattle.std.proofs.lemmas.Option.{slice_get_within}
 use Rattle.ix_walk.specs.declared.visit.Visit.{Visit}
 use Rattle.ix_store.specs.Store.{Blocks}
 use Rattle.ix_walk.specs.JobMeaning.{JobMeaning}
@@ -13,10 +14,10 @@ use Rattle.ix_stages.specs.declared.item.Item.{Item}
 use Rattle.ix_stages.specs.declared.item.Item.TheVariants as taken
 use Rattle.ix_stages.specs.declared.verdicted.Verdicted.{Verdicted}
 use Rattle.ix_stages.specs.declared.verdicted.Verdicted.TheVariants.{Checked, Unchecked, Close, Last}
-use Rattle.ix_stages.specs.Received.{weigh, point, is_checked, is_unchecked, is_close, pairs_of}
+use Rattle.ix_stages.specs.Received.{point, is_checked, is_unchecked, is_close, pairs_of}
 use Rattle.ix_stages.specs.Good.{judged_at, IsAllowed, IsGood}
 use Rattle.ix_stages.specs.Sent.{visits_at, Answers, SentFor, IsOfCourse, is_item, is_end, IsGoodTaken}
-use Rattle.ix_collect.proofs.Arrivals.{less_at}
+use Rattle.ix_stages.specs.Totals.{total}
 
 get_map : {X Y : Type 0} (f : X → Y) (xs : List X) (k : ℕ) (x : X) → slice_get xs k ≡ Some x → slice_get (map f xs) k ≡ Some (f x)
 get_map f [] k x e = cc
@@ -40,7 +41,7 @@ module _ (store : Blocks) (jobs : List JobMeaning) where
       subst (λ (u : Visit). IsAllowed store jobs (Checked u d)) (sym s.0) (subst (λ (x : Verdict). IsAllowed store jobs (Checked v x)) (sym s.1) (a.0, judged_there v a.1))
   one_allowed (taken.Visit v) (Unchecked j n) a s =
       subst (λ (k : ℕ). IsAllowed store jobs (Unchecked k n)) (sym s.0)
-      (subst (λ (m : ℕ). IsAllowed store jobs (Unchecked v.job m)) (sym s.1) (a.0, less_at (judged_at store jobs v.job) v.seq (judged store v) (judged_there v a.1)))
+      (subst (λ (m : ℕ). IsAllowed store jobs (Unchecked v.job m)) (sym s.1) (a.0, slice_get_within (judged_at store jobs v.job) v.seq (judged store v) (judged_there v a.1)))
   one_allowed (taken.Visit v) (Close j n end) a s = absurd s
   one_allowed (taken.Visit v) Last a s = absurd s
   one_allowed (taken.Close j n end) (Checked w d) a s = absurd s
@@ -80,13 +81,13 @@ module _ (store : Blocks) (jobs : List JobMeaning) where
   one_seen j n taken.Stop (Close k m end) s = absurd s
   one_seen j n taken.Stop Last s = refl
 
-  all_seen : (j n : ℕ) (xs : List Item) (ys : List Verdicted) → SentFor store xs ys → weigh (is_checked j n) ys + weigh (is_unchecked j n) ys + weigh (is_close j n) ys ≡ weigh (is_item j n) xs
+  all_seen : (j n : ℕ) (xs : List Item) (ys : List Verdicted) → SentFor store xs ys → total (is_checked j n) ys + total (is_unchecked j n) ys + total (is_close j n) ys ≡ total (is_item j n) xs
   all_seen j n [] [] s = refl
   all_seen j n [] (y ∷ ys) s = absurd s
   all_seen j n (x ∷ xs) [] s = absurd s
   all_seen j n (x ∷ xs) (y ∷ ys) s =
       let here : is_checked j n y + is_unchecked j n y + is_close j n y ≡ is_item j n x = one_seen j n x y s.0 in
-      let rest : weigh (is_checked j n) ys + weigh (is_unchecked j n) ys + weigh (is_close j n) ys ≡ weigh (is_item j n) xs = all_seen j n xs ys s.1 in
+      let rest : total (is_checked j n) ys + total (is_unchecked j n) ys + total (is_close j n) ys ≡ total (is_item j n) xs = all_seen j n xs ys s.1 in
       omega arith
 
   one_end : (j n : ℕ) (x : Item) (y : Verdicted) → Answers store x y → is_close j n y ≡ is_end j n x
@@ -103,22 +104,22 @@ module _ (store : Blocks) (jobs : List JobMeaning) where
   one_end j n taken.Stop (Close k m end) s = absurd s
   one_end j n taken.Stop Last s = refl
 
-  all_ends : (j n : ℕ) (xs : List Item) (ys : List Verdicted) → SentFor store xs ys → weigh (is_close j n) ys ≡ weigh (is_end j n) xs
+  all_ends : (j n : ℕ) (xs : List Item) (ys : List Verdicted) → SentFor store xs ys → total (is_close j n) ys ≡ total (is_end j n) xs
   all_ends j n [] [] s = refl
   all_ends j n [] (y ∷ ys) s = absurd s
   all_ends j n (x ∷ xs) [] s = absurd s
   all_ends j n (x ∷ xs) (y ∷ ys) s =
-      let here : is_close j n y ≡ is_end j n x = one_end j n x y s.0 in let rest : weigh (is_close j n) ys ≡ weigh (is_end j n) xs = all_ends j n xs ys s.1 in omega arith
+      let here : is_close j n y ≡ is_end j n x = one_end j n x y s.0 in let rest : total (is_close j n) ys ≡ total (is_end j n) xs = all_ends j n xs ys s.1 in omega arith
 
   pub good_of_taken : (xs : List Item) (ys : List Verdicted) → IsGoodTaken store jobs xs → SentFor store xs ys → IsGood store jobs ys
   good_of_taken xs ys g s = record {
     allowed = all_allowed xs ys g.allowed s;
     once = λ j n.
-        let same : weigh (is_checked j n) ys + weigh (is_unchecked j n) ys + weigh (is_close j n) ys ≡ weigh (is_item j n) xs = all_seen j n xs ys s in let most : weigh (is_item j n) xs ≤ 1 = g.once j n in omega arith;
+        let same : total (is_checked j n) ys + total (is_unchecked j n) ys + total (is_close j n) ys ≡ total (is_item j n) xs = all_seen j n xs ys s in let most : total (is_item j n) xs ≤ 1 = g.once j n in omega arith;
     last = λ j k n closed lt.
-        let same : weigh (is_checked j n) ys + weigh (is_unchecked j n) ys + weigh (is_close j n) ys ≡ weigh (is_item j n) xs = all_seen j n xs ys s in
-        let ends : weigh (is_close j k) ys ≡ weigh (is_end j k) xs = all_ends j k xs ys s in
-        let none : weigh (is_item j n) xs ≡ 0 = g.last j k n (omega arith) lt in
+        let same : total (is_checked j n) ys + total (is_unchecked j n) ys + total (is_close j n) ys ≡ total (is_item j n) xs = all_seen j n xs ys s in
+        let ends : total (is_close j k) ys ≡ total (is_end j k) xs = all_ends j k xs ys s in
+        let none : total (is_item j n) xs ≡ 0 = g.last j k n (omega arith) lt in
         omega arith;
     small = g.small;
   }

@@ -9,8 +9,9 @@ use Rattle.ix_stages.specs.declared.verdicted.Verdicted.{Verdicted}
 use Rattle.ix_collect.specs.declared.job_progress.JobProgress.{JobProgress}
 use Rattle.ix_collect.specs.declared.collector.Collector.{Collector}
 use Rattle.ix_stages.specs.declared.verdicted.Verdicted.TheVariants.{Checked, Unchecked, Close, Last}
-use Rattle.ix_stages.specs.Received.{weigh, tally}
+use Rattle.ix_stages.specs.Received.{tally}
 use Rattle.ix_stages.specs.Good.{IsGood, judged_at, over_at}
+use Rattle.ix_stages.specs.Totals.{total}
 use Rattle.ix_collect.specs.JobProgress.{IsNew, IsSafe, IsCome, IsEnded, IsMisplaced}
 
 abbrev pub AllNew : List JobProgress → Type 0
@@ -47,7 +48,7 @@ is_last Last = 1
 
 -- how many of these are a verifier's last
 abbrev pub last_count : List Verdicted → ℕ
-last_count got = weigh is_last got
+last_count got = total is_last got
 
 -- for how many jobs it collects
 abbrev pub job_count : Collector → ℕ

@@ -3,10 +3,8 @@ use Rattle.std.proofs.Common.{◌≡◌, ℕ, ◌-◌, Bool, true, false, not, L
 use Rattle.std.proofs.lemmas.List.{take_all}
 use Rattle.ix_cid.specs.declared.fault.CidFault.{CidFault}
 use Rattle.ix_cid.specs.Cid.{◌>>=◌, Parts, parts_at, cid_at, IsCid}
+use Rattle.ix_cid.proofs.Results.{ok_same}
 use Rattle.ix_store.specs.Store.{Blocks, has_cid, with_block}
-
-ok_same : (x y : List ℕ × ℕ) → ◌≡◌ {A = Result (List ℕ × ℕ) CidFault} (Ok x) (Ok y) → x ≡ y
-ok_same x y e = cc
 
 err_ok : (f : CidFault) (y : List ℕ × ℕ) → ◌≡◌ {A = Result (List ℕ × ℕ) CidFault} (Err f) (Ok y) → ⊥
 err_ok f y e = cc
@@ -18,8 +16,8 @@ front bytes c n (Ok p) e =
     ap (λ q. q.0) (sym same) ∙ ap (λ m. take m bytes) (ap (λ q. q.1) same)
 front bytes c n (Err f) e = absurd (err_ok f (c, n) e)
 
-pub whole : (bytes c : List ℕ) (n : ℕ) → cid_at bytes ≡ Ok (c, n) → n ≡ length bytes → IsCid bytes × (c ≡ bytes)
-whole bytes c n read all =
+pub cid_at-whole : (bytes c : List ℕ) (n : ℕ) → cid_at bytes ≡ Ok (c, n) → n ≡ length bytes → IsCid bytes × (c ≡ bytes)
+cid_at-whole bytes c n read all =
     let same : c ≡ bytes = front bytes c n (parts_at bytes) read ∙ (ap (λ m. take m bytes) all ∙ take_all (length bytes) bytes (omega arith)) in
     (read ∙ ap (λ q. Ok q) (λ i. (same i, all i)), same)
 
@@ -30,8 +28,8 @@ added store after cid c block same new made = subst (λ d. (has_cid store d ≡ 
   last false is n = (is, made ∙ (rw is refl))
   last true is n = absurd (cc)
 
-pub known : (store after : Blocks) (cid c block : List ℕ) → c ≡ cid → false ≡ not (has_cid store c) → after ≡ with_block store (c, block) → (has_cid store cid ≡ true) × (after ≡ store)
-known store after cid c block same old made = subst (λ d. (has_cid store d ≡ true) × (after ≡ store)) same (there (has_cid store c) refl old) where
+pub with_block-known : (store after : Blocks) (cid c block : List ℕ) → c ≡ cid → false ≡ not (has_cid store c) → after ≡ with_block store (c, block) → (has_cid store cid ≡ true) × (after ≡ store)
+with_block-known store after cid c block same old made = subst (λ d. (has_cid store d ≡ true) × (after ≡ store)) same (there (has_cid store c) refl old) where
   there : (b : Bool) → has_cid store c ≡ b → false ≡ not b → (has_cid store c ≡ true) × (after ≡ store)
   there true is n = (is, made ∙ (rw is refl))
   there false is n = absurd (cc)

@@ -1,11 +1,8 @@
 -- What is told of one job that runs alone.
-use Rattle.std.proofs.Common.{◌≡◌, ℕ, List, [], ◌∷◌, ◌++◌, refl, ap, subst, Vec, Global}
+use Rattle.std.proofs.Common.{◌≡◌, ℕ, List, [], ◌∷◌, ◌++◌, subst, Vec, Global}
 use Rattle.std.specs.Prelude.{Option, Some}
 use Rattle.ix_store.specs.Store.{Blocks}
 use Rattle.ix_walk.specs.JobMeaning.{JobMeaning}
-use Rattle.ix_archive.specs.declared.sink.End.TheVariants.{Done}
-use Rattle.ix_archive.specs.Archive.{archive_of}
-use Rattle.ix_archive.specs.Archived.{IsBeginning}
 use Rattle.ix_jobs.specs.declared.outcome.JobResult.{JobResult}
 use Rattle.ix_run.specs.Run.{IsRun, EachRun}
 use Rattle.ix_embedding.specs.Exporting.{IsRunOfOne}
@@ -30,11 +27,3 @@ of_one store job jobs empty befores afters front_w results front_r result archiv
       ones (r ∷ rs) [] er ew run = absurd run
       ones [] ws er ew run = absurd run
       ones (r ∷ []) (w ∷ v ∷ ws) er ew run = absurd run.1
-
-pub whole : (store : Blocks) (job : JobMeaning) (result : JobResult) (archive : Vec ℕ Global) → IsRunOfOne store job result archive → result.end ≡ Done → archive.items ≡ archive_of store 0 job
-whole store job result archive run done = some_same _ _ (run.2.whole (ap (λ l. Some l) run.1) done) where
-  some_same : (a b : List ℕ) → ◌≡◌ {A = Option (List ℕ)} (Some a) (Some b) → a ≡ b
-  some_same a b h = cc
-
-pub beginning : (store : Blocks) (job : JobMeaning) (result : JobResult) (archive : Vec ℕ Global) → IsRunOfOne store job result archive → IsBeginning archive.items (archive_of store 0 job)
-beginning store job result archive run = run.2.beginning (ap (λ l. Some l) run.1) archive.items refl

@@ -3,6 +3,7 @@ use Rattle.std.specs.Prelude.{◌≡◌, ℕ, zero, suc, ◌-◌, false, List, [
 use Rattle.std.specs.Prelude.{Option, Some, None, Result, Ok, Err}
 use Rattle.ix_cid.specs.Cid.{cid_at}
 use Rattle.ix_cid.specs.declared.fault.CidFault.{CidFault}
+pub use Rattle.ix_cid.specs.Results.{◌>>=◌}
 use Rattle.ix_cbor.specs.Data.{Data}
 use Rattle.ix_cbor.specs.Reading.{Fault, decoded}
 use Rattle.ix_selector.specs.Pattern.{Pattern}
@@ -14,12 +15,6 @@ use Rattle.ix_walk.specs.declared.fault.JobFault.{JobFault}
 use Rattle.ix_walk.specs.declared.fault.JobFault.TheVariants.{TooManyRoots}
 use Rattle.ix_embedding.specs.declared.job_parts.PartsFault.{PartsFault}
 use Rattle.ix_embedding.specs.declared.job_parts.PartsFault.TheVariants.{Root, Block, Selector, Job, Memory}
-
--- goes on with a value, or keeps the fault
-infixl 10 ◌>>=◌
-abbrev pub ◌>>=◌ : {A B : Type 0} → Result A PartsFault → (A → Result B PartsFault) → Result B PartsFault
-(Ok x) >>= f = f x
-(Err e) >>= f = Err e
 
 -- the CID at the front, and the bytes behind it
 abbrev pub root_at : List ℕ → Result (List ℕ × List ℕ) PartsFault

@@ -3,6 +3,7 @@ use Rattle.std.proofs.Common.{◌≡◌, ◌⊎◌, ℕ, zero, suc, ◌+◌, ◌
 use Rattle.std.proofs.lemmas.Bool.{cases_lt}
 use Rattle.std.proofs.lemmas.List.{take_more_set, drop_more}
 use Rattle.std.proofs.lemmas.Option.{slice_get_past}
+use Rattle.std.proofs.lemmas.List.Elements.{All-cons}
 use Rattle.ix_store.specs.Store.{Blocks}
 use Rattle.ix_walk.specs.JobMeaning.{JobMeaning}
 use Rattle.ix_walk.specs.Visits.{is_over_limit}
@@ -19,9 +20,8 @@ use Rattle.ix_flow.specs.declared.flowing.Outcome.{Outcome}
 use Rattle.ix_flow.specs.declared.shared.Task.{Task}
 use Rattle.ix_flow.specs.Closed.{EachClosed}
 use Rattle.ix_flow.specs.Flowing.{AreOfVisits, IsFlown}
-use Rattle.ix_flow.proofs.Lists.{all_cons}
 
-kept_set : {S : Type 0} (fact : Fact S) (ss ts : List S) (i : ℕ) (x y : S) → EachKept fact ss ts → x ≡ get_or ts i x → Keeps fact x y → EachKept fact ss (set ts i y)
+pub kept_set : {S : Type 0} (fact : Fact S) (ss ts : List S) (i : ℕ) (x y : S) → EachKept fact ss ts → x ≡ get_or ts i x → Keeps fact x y → EachKept fact ss (set ts i y)
 kept_set fact [] [] i x y h at keeps = tt
 kept_set {S = S} fact (s ∷ ss) (t ∷ ts) zero x y h at keeps = ((λ store job first p. keeps store job first (subst (λ (z : S). fact z store job first) (sym at) (h.0 store job first p))), h.1)
 kept_set fact (s ∷ ss) (t ∷ ts) (suc i) x y h at keeps = (h.0, kept_set fact ss ts i x y h.1 at keeps)
@@ -158,7 +158,7 @@ module _ {S : Type 0} (events : S → List Event) (failed : S → List Delivery)
   -- every job ended so
   pub all_ended : (es : List End) (ss : List S) → EachClosed events failed end es ss → All (λ e. e ≡ end) es
   all_ended [] [] h = λ k d lt. absurd (omega (arith, lt))
-  all_ended (e ∷ es) (s ∷ ss) h = let here = h.0 in all_cons (λ (x : End). x ≡ end) e es here.0 (all_ended es ss h.1)
+  all_ended (e ∷ es) (s ∷ ss) h = let here = h.0 in All-cons (λ (x : End). x ≡ end) e es here.0 (all_ended es ss h.1)
   all_ended es ss h = absurd h
 
   -- whatever pairs were checked, each that of a visit and once, are enough for them

@@ -1,6 +1,7 @@
 -- The seats of a new queue.
 use Rattle.std.proofs.Common.{◌≡◌, ℕ, zero, suc, List, [], ◌∷◌, All, length, map, replicate, sym, ◌∙◌, ap, subst, refl, arith}
 use Rattle.atomic_table.specs.Seated.{TableId}
+use Rattle.std.proofs.lemmas.List.Elements.{All-replicate}
 use Rattle.ix_store.specs.Store.{Blocks}
 use Rattle.ix_walk.specs.JobMeaning.{JobMeaning}
 use Rattle.ix_stages.specs.declared.course.JobVisits.{JobVisits}
@@ -8,7 +9,7 @@ use Rattle.ix_stages.specs.Course.{IsCourseOf, course_of}
 use Rattle.ix_stages.specs.Items.{count_up}
 use Rattle.ix_stages.specs.Seats.{JobView, SeatView, new_job, new_taker}
 use Rattle.ix_flow.specs.Ready.{IsReady}
-use Rattle.ix_flow.proofs.Lists.{all_count, all_same}
+use Rattle.ix_flow.proofs.Lists.{all_count}
 
 module _ (store : Blocks) (jobs : List JobMeaning) (t : TableId) (course : List JobVisits) (all : ℕ) (same : course ≡ course_of store jobs) where
   pub seats_ready : (n : ℕ) (seats : List JobView) → n ≡ length jobs → seats ≡ map (new_job t course all) (count_up 0 n) → All (IsReady store jobs t) seats
@@ -27,4 +28,4 @@ module _ (store : Blocks) (jobs : List JobMeaning) (t : TableId) (course : List 
   pub takers_ready : (n : ℕ) (takers : List SeatView) → IsCourseOf store (course_of store jobs) → takers ≡ replicate n (new_taker t course all) → All (λ s. (s.table ≡ t) × IsCourseOf store s.pass.course × (s.pass.taken ≡ [])) takers
   takers_ready n takers of is =
       let P : SeatView → Type 0 = λ s. (s.table ≡ t) × IsCourseOf store s.pass.course × (s.pass.taken ≡ []) in
-      subst (All P) (sym is) (all_same P (new_taker t course all) n (refl, subst (λ (k : List JobVisits). IsCourseOf store k) (sym same) of, refl))
+      subst (All P) (sym is) (All-replicate P n (new_taker t course all) (refl, subst (λ (k : List JobVisits). IsCourseOf store k) (sym same) of, refl))

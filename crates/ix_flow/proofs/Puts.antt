@@ -1,5 +1,6 @@
 -- What a walker puts is next in its job's course.
 use Rattle.std.proofs.Common.{◌≡◌, ℕ, List, ◌∷◌, drop, slice_get, Some, Result, sym, subst, ◌∙◌, eq-eqb}
+use Rattle.ix_cid.proofs.Lists.{next_at}
 use Rattle.ix_walk.specs.declared.visit.Visit.{Visit}
 use Rattle.ix_store.specs.Store.{Blocks}
 use Rattle.ix_walk.specs.JobMeaning.{JobMeaning}
@@ -13,7 +14,6 @@ use Rattle.ix_stages.specs.Course.{Allowed, course_of}
 use Rattle.ix_stages.specs.CourseLaws.{AllowsVisits, AllowsCloses}
 use Rattle.ix_stages.specs.Good.{IsCloseOf}
 use Rattle.ix_stages.specs.Seats.{IsNext, JobView}
-use Rattle.ix_flow.proofs.Lists.{next_at}
 
 pub visit_is_next : AllowsVisits → (store : Blocks) (jobs : List JobMeaning) (n : ℕ) (job : JobMeaning) (v : Visit) (rest : List Visit) (s : JobView)
     → slice_get jobs n ≡ Some job → s.job ≡ n → s.pass.course ≡ course_of store jobs → drop s.next (visits_of store n job) ≡ v ∷ rest → IsNext s (item.Visit v)

@@ -1,9 +1,8 @@
 -- A run of codes.
-use Rattle.std.proofs.Common.{◌≡◌, ℕ, zero, suc, ◌+◌, ◌<◌, ◌≤◌, Bool, true, false, List, [], ◌∷◌, ◌++◌, length, take, drop, get_or, refl, sym, ◌∙◌, ap, arith, add-one, append_assoc}
+use Rattle.std.proofs.Common.{◌≡◌, ℕ, zero, suc, ◌+◌, Bool, true, false, List, [], ◌∷◌, ◌++◌, take, drop, refl, sym, ◌∙◌, ap, arith, add-one, append_assoc}
 use Rattle.std.specs.Prelude.{Some, unwrap_or, ◌==◌, if◌then◌else◌}
 use Rattle.std.specs.List.{fold}
-use Rattle.std.proofs.lemmas.List.{length-append, take-append-drop}
-use Rattle.std.proofs.lemmas.List.Sums.{count_by-le-length, count_by_more_yes, count_by_more_no}
+use Rattle.std.proofs.lemmas.List.{take-append-drop}
 use Rattle.ix_inspect.specs.Counted.{if_any, times}
 
 pub if_any-more : (n : ℕ) → if_any (n + 1) ≡ Some (n + 1)
@@ -36,24 +35,10 @@ times-append code (x ∷ xs) ys =
     let more : times code (xs ++ ys) ≡ times code xs + times code ys = times-append code xs ys in
     omega (arith, all, front, more)
 
--- one more code of a run
-pub run-more : (code : ℕ) (codes : List ℕ) (i x : ℕ) → i < length codes → x ≡ get_or codes i x → x ≡ code → ((c : ℕ) → times c (take i codes) ≡ (if code == c then i else 0))
-    → (c : ℕ) → times c (take (i + 1) codes) ≡ (if code == c then i + 1 else 0)
-run-more code codes i x lt is same before c = on_same (code == c) refl (before c) where
-  here : (get_or codes i x == c) ≡ (code == c)
-  here = ap (λ (n : ℕ). n == c) (sym is ∙ same)
-
-  on_same : (yes : Bool) → (code == c) ≡ yes → times c (take i codes) ≡ (if yes then i else 0) → times c (take (i + 1) codes) ≡ (if yes then i + 1 else 0)
-  on_same true e so_far = count_by_more_yes (λ n. n == c) codes i x lt (here ∙ e) ∙ ap (λ (n : ℕ). n + 1) so_far
-  on_same false e so_far = count_by_more_no (λ n. n == c) codes i x lt (here ∙ e) ∙ so_far
-
-regrouped : (xs ys zs : List ℕ) → (xs ++ ys) ++ zs ≡ xs ++ (ys ++ zs)
-regrouped xs ys zs = simp append_assoc
-
 -- what is left behind a run
 pub run-behind : (done : List ℕ) (code : ℕ) (behind : List ℕ) (run : ℕ) (rest back codes : List ℕ) → rest ≡ code ∷ behind → back ≡ drop run behind → done ++ rest ≡ codes → (done ++ code ∷ take run behind) ++ back ≡ codes
 run-behind done code behind run rest back codes first cut whole =
-    regrouped done (code ∷ take run behind) back
+    append_assoc done (code ∷ take run behind) back
     ∙ ap (λ (l : List ℕ). done ++ code ∷ (take run behind ++ l)) cut
     ∙ ap (λ (l : List ℕ). done ++ code ∷ l) (take-append-drop run behind)
     ∙ ap (λ (l : List ℕ). done ++ l) (sym first) ∙ whole
@@ -65,7 +50,3 @@ times-run q done code behind run alike = times-append q done (code ∷ take run 
   on_same : (yes : Bool) → times q (take run behind) ≡ (if yes then run else 0) → (if yes then 1 else 0) + times q (take run behind) ≡ (if yes then run + 1 else 0)
   on_same true h = omega (arith, h)
   on_same false h = omega (arith, h)
-
--- codes that are counted are no more than there are
-pub times-few : (q : ℕ) (done rest codes : List ℕ) → done ++ rest ≡ codes → times q done + length rest ≤ length codes
-times-few q done rest codes whole = omega (arith, count_by-le-length (λ c. c == q) done, length-append done rest, ap length whole)

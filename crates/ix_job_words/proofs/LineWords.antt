@@ -8,6 +8,7 @@ use Rattle.std.proofs.lemmas.List.{take_all, take-append-le}
 use Rattle.std.proofs.lemmas.List.Elements.{All-nil, All-cons, All-append, All-get_or}
 use Rattle.std.proofs.lemmas.List.Folds.{list_all-append}
 use Rattle.std.proofs.lemmas.List.Splits.{slice_split_at, slice_split_none}
+use Rattle.std.proofs.lemmas.Bool.{and_parts, and_from, not-true}
 use mathlib.Core.Logic.{inr}
 use Rattle.ix_walk.specs.JobMeaning.{JobMeaning, is_name, is_name_byte}
 use Rattle.ix_notation.specs.declared.fault.NotationFault.{NotationFault}
@@ -18,36 +19,22 @@ use Rattle.ix_jobs.specs.Jobs.{◌>>=◌, is_ignored, is_text, line_job, fields_
 use Rattle.ix_job_words.specs.declared.line.LineFault.TheVariants.{Field}
 use Rattle.ix_job_words.specs.Line.{is_visible, is_word, line_of, IsRefusedBy}
 
-and-parts : (a b : Bool) → (a && b) ≡ true → (a ≡ true) × (b ≡ true)
-and-parts true b h = (refl, h)
-and-parts false b h = absurd cc
-
-and_true : (a b : Bool) → a ≡ true → b ≡ true → (a && b) ≡ true
-and_true a b h k = rw (h, k) refl
-
-not-true : (a : Bool) → not a ≡ true → a ≡ false
-not-true true h = absurd cc
-not-true false h = refl
-
 -- what no visible character is
 no_space : (b : ℕ) → is_visible b ≡ true → (b == 32) ≡ false
-no_space b h = let above : nat_lt 32 b ≡ true = (and-parts (nat_lt 32 b) (nat_le b 126) h).0 in grind (arith, nat_tests)
+no_space b h = let above : nat_lt 32 b ≡ true = (and_parts (nat_lt 32 b) (nat_le b 126) h).0 in grind (arith, nat_tests)
 
 no_end : (b : ℕ) → is_visible b ≡ true → (b == 10) ≡ false
-no_end b h = let above : nat_lt 32 b ≡ true = (and-parts (nat_lt 32 b) (nat_le b 126) h).0 in grind (arith, nat_tests)
+no_end b h = let above : nat_lt 32 b ≡ true = (and_parts (nat_lt 32 b) (nat_le b 126) h).0 in grind (arith, nat_tests)
 
 no_return : (b : ℕ) → is_visible b ≡ true → (b == 13) ≡ false
-no_return b h = let above : nat_lt 32 b ≡ true = (and-parts (nat_lt 32 b) (nat_le b 126) h).0 in grind (arith, nat_tests)
-
-is_printable : ℕ → Bool
-is_printable b = nat_le 32 b && nat_le b 126
+no_return b h = let above : nat_lt 32 b ≡ true = (and_parts (nat_lt 32 b) (nat_le b 126) h).0 in grind (arith, nat_tests)
 
 visible-printable : (b : ℕ) → is_visible b ≡ true → (nat_le 32 b && nat_le b 126) ≡ true
 visible-printable b h =
-    let parts = and-parts (nat_lt 32 b) (nat_le b 126) h in
+    let parts = and_parts (nat_lt 32 b) (nat_le b 126) h in
     let above : nat_lt 32 b ≡ true = parts.0 in
     let least : nat_le 32 b ≡ true = grind (arith, nat_tests) in
-    and_true (nat_le 32 b) (nat_le b 126) least parts.1
+    and_from (nat_le 32 b) (nat_le b 126) least parts.1
 
 -- a byte of a name
 of_name : (b : ℕ) → is_name_byte b ≡ true → (is_visible b ≡ true) × ((b == 35) ≡ false)
@@ -55,15 +42,15 @@ of_name b h = (grind (arith, nat_tests), grind (arith, nat_tests))
 
 All-visible : (P : ℕ → Type 0) → ((b : ℕ) → is_visible b ≡ true → P b) → (w : List ℕ) → list_all is_visible w ≡ true → All P w
 All-visible P f [] h = All-nil P
-All-visible P f (b ∷ bs) h = let parts = and-parts (is_visible b) (list_all is_visible bs) h in All-cons P b bs (f b parts.0) (All-visible P f bs parts.1)
+All-visible P f (b ∷ bs) h = let parts = and_parts (is_visible b) (list_all is_visible bs) h in All-cons P b bs (f b parts.0) (All-visible P f bs parts.1)
 
 text_of : (w : List ℕ) → list_all is_visible w ≡ true → is_text w ≡ true
 text_of [] h = refl
-text_of (b ∷ bs) h = let parts = and-parts (is_visible b) (list_all is_visible bs) h in and_true (nat_le 32 b && nat_le b 126) (is_text bs) (visible-printable b parts.0) (text_of bs parts.1)
+text_of (b ∷ bs) h = let parts = and_parts (is_visible b) (list_all is_visible bs) h in and_from (nat_le 32 b && nat_le b 126) (is_text bs) (visible-printable b parts.0) (text_of bs parts.1)
 
 name_visible : (w : List ℕ) → list_all is_name_byte w ≡ true → list_all is_visible w ≡ true
 name_visible [] h = refl
-name_visible (b ∷ bs) h = let parts = and-parts (is_name_byte b) (list_all is_name_byte bs) h in and_true (is_visible b) (list_all is_visible bs) (of_name b parts.0).0 (name_visible bs parts.1)
+name_visible (b ∷ bs) h = let parts = and_parts (is_name_byte b) (list_all is_name_byte bs) h in and_from (is_visible b) (list_all is_visible bs) (of_name b parts.0).0 (name_visible bs parts.1)
 
 -- what is known of a word
 pub record IsWord (w : List ℕ) : Type 0 where
@@ -72,13 +59,13 @@ pub record IsWord (w : List ℕ) : Type 0 where
 
 pub IsWord-word : (w : List ℕ) → is_word w ≡ true → IsWord w
 IsWord-word w h =
-    let parts = and-parts (not (length w == 0)) (list_all is_visible w) h in
+    let parts = and_parts (not (length w == 0)) (list_all is_visible w) h in
     record { visible = parts.1; some = not-true (length w == 0) parts.0 }
 
 name_word : (name : List ℕ) → is_name name ≡ true → IsWord name
 name_word [] h = absurd cc
 name_word (b ∷ bs) h =
-    let parts = and-parts (nat_le 1 (length (b ∷ bs)) && nat_le (length (b ∷ bs)) 64) (list_all is_name_byte (b ∷ bs)) h in
+    let parts = and_parts (nat_le 1 (length (b ∷ bs)) && nat_le (length (b ∷ bs)) 64) (list_all is_name_byte (b ∷ bs)) h in
     let many : 0 < length (b ∷ bs) = omega arith in
     record { visible = name_visible (b ∷ bs) parts.1; some = grind (arith, nat_tests) }
 
@@ -88,13 +75,13 @@ module _ (P : ℕ → Type 0) (visible : (b : ℕ) → is_visible b ≡ true →
   all_behind w rest is more = All-append P w (32 ∷ rest) (All-visible P visible w is.visible) (All-cons P 32 rest space more)
 
 text_behind : (w rest : List ℕ) → IsWord w → is_text rest ≡ true → is_text (w ++ 32 ∷ rest) ≡ true
-text_behind w rest is more = list_all-append (λ b. nat_le 32 b && nat_le b 126) w (32 ∷ rest) ∙ and_true (is_text w) (is_text rest) (text_of w is.visible) more
+text_behind w rest is more = list_all-append (λ b. nat_le 32 b && nat_le b 126) w (32 ∷ rest) ∙ and_from (is_text w) (is_text rest) (text_of w is.visible) more
 
 not_ignored : (name rest : List ℕ) → is_name name ≡ true → is_ignored (name ++ rest) ≡ false
 not_ignored [] rest h = absurd cc
 not_ignored (b ∷ bs) rest h =
-    let parts = and-parts (nat_le 1 (length (b ∷ bs)) && nat_le (length (b ∷ bs)) 64) (list_all is_name_byte (b ∷ bs)) h in
-    (of_name b (and-parts (is_name_byte b) (list_all is_name_byte bs) parts.1).0).1
+    let parts = and_parts (nat_le 1 (length (b ∷ bs)) && nat_le (length (b ∷ bs)) 64) (list_all is_name_byte (b ∷ bs)) h in
+    (of_name b (and_parts (is_name_byte b) (list_all is_name_byte bs) parts.1).0).1
 
 -- a job alone
 jobs_from-one : (r : Result JobMeaning JobsKind) → (at_line 1 (r >>= joined 1000 []) >>= (λ jobs. jobs_from 1000 (1 + 1) jobs ([] ∷ []))) ≡ (at_line 1 r >>= (λ j. Ok (j ∷ [])))

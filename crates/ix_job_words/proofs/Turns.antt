@@ -1,6 +1,6 @@
 -- The faults of the lines of a job file, one line after another.
-use Rattle.std.proofs.Common.{◌≡◌, ◌∙◌, sym, ap, refl, not, ℕ, ◌+◌, ◌<◌, ◌≤◌, Bool, ◌==◌, List, [], ◌∷◌, ◌++◌, length, append_assoc, arith, ⊎_elim}
-use Rattle.std.specs.Prelude.{Option, Some, None, Result, Ok, Err, nat_lt, filter, if◌then◌else◌, true, false}
+use Rattle.std.proofs.Common.{◌≡◌, ◌∙◌, sym, ap, not, ℕ, ◌+◌, ◌<◌, ◌≤◌, Bool, ◌==◌, List, [], ◌∷◌, ◌++◌, length, append_assoc, arith, ⊎_elim}
+use Rattle.std.specs.Prelude.{Option, Some, None, Ok, nat_lt, filter, if◌then◌else◌, true, false}
 use Rattle.std.specs.List.{slice_split, position_or_len, before_first, after_first, slice_get}
 use Rattle.std.proofs.lemmas.List.Elements.{filter-append}
 use Rattle.std.proofs.lemmas.List.Splits.{slice_split_first}
@@ -9,15 +9,12 @@ use Rattle.std.proofs.lemmas.List.{take_all, drop_all, append-nil}
 use Rattle.std.proofs.lemmas.List.Sums.{prefix_len-le-length}
 use Rattle.ix_walk.specs.JobMeaning.{JobMeaning}
 use Rattle.ix_jobs.specs.declared.fault.JobsKind.{JobsKind}
-use Rattle.ix_jobs.specs.declared.fault.JobsKind.TheVariants.{Memory, Repeated}
+use Rattle.ix_jobs.specs.declared.fault.JobsKind.TheVariants.{Repeated}
 use Rattle.ix_jobs.specs.declared.fault.JobsFault.{JobsFault}
-use Rattle.ix_jobs.specs.Jobs.{jobs_of}
-use Rattle.ix_jobs.specs.Gives.{FailsAs}
+use Rattle.ix_jobs.specs.Jobs.{jobs_of, is_taken}
 use Rattle.ix_jobs.proofs.Pieces.{slice_split_whole}
-use Rattle.ix_job_words.specs.Faults.{is_taken, fault_behind, jobs_behind, told, faults_from}
-
-abbrev is_end : ℕ → Bool
-is_end b = b == 10
+use Rattle.ix_jobs.proofs.LinesInTurn.{is_end}
+use Rattle.ix_job_words.specs.Faults.{fault_behind, jobs_behind, told, faults_from}
 
 -- what is told of a line and of those behind it
 abbrev in_turn : ℕ → List JobMeaning → List ℕ → List ℕ → List JobsFault
@@ -55,11 +52,6 @@ a_line_more first n before old new whole bs line rest kind some is_line is_rest 
 pub all_told : (first n : ℕ) (before : List JobMeaning) (all whole : List JobsFault) (rest : List ℕ) → length rest ≡ 0 → all ++ filter (λ f. nat_lt first f.line) (faults_from n before (slice_split (λ b. b == 10) rest)) ≡ whole → all ≡ whole
 all_told first n before all whole [] none so_far = sym (append-nil all) ∙ so_far
 all_told first n before all whole (b ∷ bs) none so_far = absurd (omega (arith, none))
-
--- a fault that isn't want of memory is that of the definition
-pub refused_as : (kind : JobsKind) (line : ℕ) (meant : Result (List JobMeaning) (JobsKind × ℕ)) → (kind ≡ Memory → ⊥) → FailsAs kind (kind, line) meant → meant ≡ Err (kind, line)
-refused_as Memory line meant other h = absurd (other refl)
-refused_as kind line meant other h = h
 
 first_of : (jobs : List JobMeaning) (job : JobMeaning) → Some job ≡ slice_get jobs 0 → (more : List JobMeaning) × (jobs ≡ job ∷ more)
 first_of [] job h = absurd cc

@@ -1,15 +1,11 @@
 -- The faults of a job file, of each faulty line its first.
-use Rattle.std.specs.Prelude.{◌≡◌, ℕ, ◌+◌, Bool, ◌==◌, List, [], ◌∷◌, ◌++◌, filter, nat_lt, if◌then◌else◌, bytes_eq, Option, Some, None, Result, Ok, Err}
-use Rattle.std.specs.List.{list_any, slice_split}
+use Rattle.std.specs.Prelude.{◌≡◌, ℕ, ◌+◌, ◌==◌, List, [], ◌∷◌, ◌++◌, filter, nat_lt, if◌then◌else◌, Option, Some, None, Result, Ok, Err}
+use Rattle.std.specs.List.{slice_split}
 use Rattle.ix_walk.specs.JobMeaning.{JobMeaning}
 use Rattle.ix_jobs.specs.declared.fault.JobsKind.{JobsKind}
 use Rattle.ix_jobs.specs.declared.fault.JobsKind.TheVariants.{Repeated}
 use Rattle.ix_jobs.specs.declared.fault.JobsFault.{JobsFault}
-use Rattle.ix_jobs.specs.Jobs.{jobs_of}
-
--- whether one of the jobs has the name
-abbrev pub is_taken : List JobMeaning → List ℕ → Bool
-is_taken jobs name = list_any (λ j. bytes_eq j.name name) jobs
+use Rattle.ix_jobs.specs.Jobs.{jobs_of, is_taken}
 
 -- why a line is faulty behind lines with these jobs: for what a file of this line alone has, or for its name
 abbrev pub fault_behind : List JobMeaning → Result (List JobMeaning) (JobsKind × ℕ) → Option JobsKind

@@ -1,7 +1,7 @@
 -- The job of words, with a selector of any kind.
-use Rattle.std.specs.Prelude.{◌≡◌, ℕ, Bool, true, List, [], ◌∷◌, ◌++◌, map, codes, if◌then◌else◌, String, string_bytes}
+use Rattle.std.specs.Prelude.{◌≡◌, ℕ, Bool, List, [], ◌∷◌, ◌++◌, codes, String, string_bytes}
 use Rattle.std.specs.Global.{Vec}
-use Rattle.ix_walk.specs.JobMeaning.{JobMeaning, going_in}
+use Rattle.ix_walk.specs.JobMeaning.{JobMeaning, walked}
 use Rattle.ix_notation.specs.declared.fault.NotationFault.{NotationFault}
 use Rattle.ix_notation.specs.Notation.{IsSelectorHex, IsJsonRefused}
 use Rattle.ix_jobs.specs.declared.fault.JobsKind.TheVariants as kinds
@@ -33,10 +33,6 @@ abbrev pub IsUnspelled : SelectorWord → LineFault → Type 0
 IsUnspelled selector (faults.Selector fault) = IsNoSelector selector fault
 IsUnspelled selector (faults.Field kinds.Memory) = Unit {0}
 IsUnspelled selector (faults.Field kind) = ⊥
-
--- jobs as they are, or each so that it goes into a CID once
-abbrev pub walked : Bool → List JobMeaning → List JobMeaning
-walked once jobs = if once then map (going_in true) jobs else jobs
 
 -- the job of a line that is made of the words, alone
 pub record AreJobsOf (words : JobWords) (once : Bool) (jobs : List JobMeaning) : Type 0 where

@@ -1,7 +1,8 @@
 //! The job of words, without a job file.
 
 ghost use Rattle.std.specs.Prelude.{◌≡◌, length, map, IfOk, IfErr};
-ghost use Rattle.ix_job_words.specs.Words.{walked, AreJobsOf, AreWordsRefused};
+ghost use Rattle.ix_walk.specs.JobMeaning.{walked};
+ghost use Rattle.ix_job_words.specs.Words.{AreJobsOf, AreWordsRefused};
 
 use crate::line::{LineFault, line_by, line_fault_words};
 use crate::selector::SelectorWord;

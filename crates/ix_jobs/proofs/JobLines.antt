@@ -1,7 +1,7 @@
 -- The lines of the jobs, one after another.
 use Rattle.std.proofs.Common.{◌≡◌, ◌∙◌, sym, ap, refl, not, ℕ, zero, suc, ◌+◌, ◌-◌, ◌<◌, ◌≤◌, leb, Bool, true, false, cond, ◌==◌, List, [], ◌∷◌, ◌++◌, length, length-append, get_or, arith, ⊎_elim}
-use Rattle.std.specs.Prelude.{Result, Ok, Err, bytes_eq}
-use Rattle.std.specs.List.{list_any, slice_split, position_or_len, before_first, after_first}
+use Rattle.std.specs.Prelude.{Result, Ok, Err}
+use Rattle.std.specs.List.{slice_split, position_or_len, before_first, after_first}
 use Rattle.std.specs.Str.Lines.{strip_carriage_return}
 use Rattle.std.proofs.lemmas.List.Splits.{slice_split_first}
 use Rattle.std.proofs.lemmas.Bool.{cases_lt}
@@ -11,7 +11,7 @@ use Rattle.ix_walk.specs.JobMeaning.{JobMeaning}
 use Rattle.ix_cid.proofs.Results.{ok_same}
 use Rattle.ix_jobs.specs.declared.fault.JobsKind.{JobsKind}
 use Rattle.ix_jobs.specs.declared.fault.JobsKind.TheVariants.{Repeated, TooMany}
-use Rattle.ix_jobs.specs.Jobs.{◌>>=◌, is_ignored, line_job, joined, with_line, at_line, jobs_from, jobs_up_to}
+use Rattle.ix_jobs.specs.Jobs.{◌>>=◌, is_ignored, line_job, joined, with_line, at_line, jobs_from, jobs_up_to, is_taken}
 use Rattle.ix_jobs.specs.Parts.{own_line, job_lines_from, job_lines}
 use Rattle.ix_jobs.proofs.Pieces.{slice_split_whole}
 use Rattle.ix_jobs.proofs.LinesInTurn.{is_end}
@@ -72,7 +72,7 @@ joined-more most before jobs job false false h = sym (ap length (ok_same (before
 
 line-more : (most n : ℕ) (before jobs : List JobMeaning) (ignored : Bool) (read : Result JobMeaning JobsKind) → cond ignored (Ok before) (read >>= joined most before) ≡ Ok jobs → length jobs ≡ length before + length (cond ignored [] (n ∷ []))
 line-more most n before jobs true read h = sym (ap length (ok_same before jobs h)) ∙ (let none : length before ≡ length before + 0 = omega arith in none)
-line-more most n before jobs false (Ok job) h = joined-more most before jobs job (list_any (λ j. bytes_eq j.name job.name) before) (leb most (length before)) h
+line-more most n before jobs false (Ok job) h = joined-more most before jobs job (is_taken before job.name) (leb most (length before)) h
 line-more most n before jobs false (Err kind) h = absurd cc
 
 behind-many : (most n : ℕ) (before jobs : List JobMeaning) (own : List ℕ) (ls : List (List ℕ)) (read : Result (List JobMeaning) JobsKind) → ((more : List JobMeaning) → jobs_from most (n + 1) more ls ≡ Ok jobs → length jobs ≡ length more + length (job_lines_from (n + 1) ls))

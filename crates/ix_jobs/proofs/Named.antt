@@ -1,16 +1,12 @@
 -- The set of names, with one job more.
 use Rattle.std.proofs.Common.{◌≡◌, ℕ, Bool, true, false, ◌||◌, cond, List, [], ◌∷◌, ◌++◌, refl, sym, ap, ◌∙◌}
 use Rattle.std.specs.Prelude.{String, bytes_eq, string_bytes, string_cmp}
-use Rattle.std.specs.List.{list_any}
 use Rattle.std.specs.BTreeSet.{BTreeSet, contains_text, Updates}
 use Rattle.std.proofs.lemmas.List.Folds.{list_any-append}
 use Rattle.std.proofs.lemmas.Map.Text.{btree_set_updates_text}
 use Rattle.ix_walk.specs.JobMeaning.{JobMeaning}
 use Rattle.ix_jobs.specs.Named.{HasNames}
-
--- whether a job has a name
-abbrev pub is_taken : List JobMeaning → List ℕ → Bool
-is_taken jobs name = list_any (λ j. bytes_eq j.name name) jobs
+use Rattle.ix_jobs.specs.Jobs.{is_taken}
 
 -- what a look-up in the set tells of the jobs
 pub taken-by_name : {Y : Type 0} (names : BTreeSet (String Y)) (jobs now : List JobMeaning) (name : List ℕ) (found : Bool) → HasNames names jobs → jobs ≡ now → found ≡ contains_text names name → found ≡ is_taken now name

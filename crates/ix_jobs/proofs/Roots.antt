@@ -1,9 +1,9 @@
 -- The roots of a line, read one after another.
-use Rattle.std.proofs.Common.{◌≡◌, ℕ, suc, ◌+◌, ◌<◌, ◌≤◌, ◌==◌, Bool, true, false, List, [], ◌∷◌, ◌++◌, length, take, drop, get_or, Result, Ok, Err, refl, sym, ◌∙◌, ap, subst, add-one, drop-cons, arith}
-use Rattle.std.specs.Prelude.{nat_lt, if◌then◌else◌}
-use Rattle.std.proofs.lemmas.Bool.Decides.{nat_tests}
+use Rattle.std.proofs.Common.{◌≡◌, ℕ, suc, ◌+◌, ◌<◌, ◌≤◌, ◌==◌, Bool, List, [], ◌∷◌, ◌++◌, length, take, drop, get_or, Result, Ok, Err, refl, sym, ◌∙◌, ap, subst, add-one, drop-cons, arith}
+use Rattle.std.specs.Prelude.{if◌then◌else◌}
 use Rattle.std.proofs.lemmas.List.Splits.{length-slice_split}
 use Rattle.std.proofs.lemmas.List.{take-append-drop}
+use Rattle.std.proofs.lemmas.Bool.{lt-ltb, le-ltb}
 use Rattle.ix_jobs.specs.declared.fault.JobsKind.{JobsKind}
 use Rattle.ix_jobs.specs.declared.fault.JobsKind.TheVariants.{Memory, Root}
 use Rattle.ix_jobs.specs.Jobs.{◌>>=◌, root_in, cids_in, root_texts, roots_in}
@@ -61,18 +61,12 @@ one_faulty parts ts n t cs Memory so_far lt here h k = tt
 one_faulty parts ts n t cs kind so_far lt here h k =
     ap cids_in (cut_at parts n t lt here) ∙ ap (λ (us : List (List ℕ)). cids_in (us ++ t ∷ drop (n + 1) parts)) (sym so_far) ∙ fails_at ts t (drop (n + 1) parts) cs kind h k
 
-nat_lt-above : (a n : ℕ) → a < n → nat_lt a n ≡ true
-nat_lt-above a n h = grind (arith, nat_tests)
-
-nat_lt-within : (a n : ℕ) → n ≤ a → nat_lt a n ≡ false
-nat_lt-within a n h = grind (arith, nat_tests)
-
 -- there are too many texts
 pub too_many : (text : List ℕ) (n : ℕ) → n ≡ length (root_texts text) → 64 < n → roots_in text ≡ Err Root
-too_many text n is many = ap (λ (b : Bool). if b then Err Root else cids_in (root_texts text)) (nat_lt-above 64 (length (root_texts text)) (subst (λ (m : ℕ). 64 < m) is many))
+too_many text n is many = ap (λ (b : Bool). if b then Err Root else cids_in (root_texts text)) (lt-ltb 64 (length (root_texts text)) (subst (λ (m : ℕ). 64 < m) is many))
 
 pub not_too_many : (text : List ℕ) (n : ℕ) → n ≡ length (root_texts text) → n ≤ 64 → roots_in text ≡ cids_in (root_texts text)
-not_too_many text n is few = ap (λ (b : Bool). if b then Err Root else cids_in (root_texts text)) (nat_lt-within 64 (length (root_texts text)) (subst (λ (m : ℕ). m ≤ 64) is few))
+not_too_many text n is few = ap (λ (b : Bool). if b then Err Root else cids_in (root_texts text)) (le-ltb 64 (length (root_texts text)) (subst (λ (m : ℕ). m ≤ 64) is few))
 
 -- there is one at least
 pub some_text : (text : List ℕ) → 1 ≤ length (root_texts text)

@@ -13,11 +13,6 @@ FailsAs kind fault meant = meant ≡ Err fault
 abbrev pub IsFaultOf : {A : Type 0} → JobsFault → Result A (JobsKind × ℕ) → Type 0
 IsFaultOf fault meant = FailsAs fault.kind (fault.kind, fault.line) meant
 
--- what a call that takes no memory answered, seen by view, is what the definition gives
-abbrev pub Reads : {X A : Type 0} → (X → A) → Result X JobsKind → Result A JobsKind → Type 0
-Reads view (Ok x) meant = meant ≡ Ok (view x)
-Reads view (Err kind) meant = meant ≡ Err kind
-
 -- the same of a call that takes memory, unless it ran out
 abbrev pub Gives : {X A : Type 0} → (X → A) → Result X JobsKind → Result A JobsKind → Type 0
 Gives view (Ok x) meant = meant ≡ Ok (view x)

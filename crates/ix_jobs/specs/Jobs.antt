@@ -88,10 +88,14 @@ fields_in text = four_fields (slice_split (λ b. b == 32) text)
 abbrev pub line_job : List ℕ → Result JobMeaning JobsKind
 line_job line = text_in line >>= (λ text. fields_in text >>= (λ f. job_of_fields f.0 f.1 f.2 f.3))
 
+-- whether one of the jobs has the name
+abbrev pub is_taken : List JobMeaning → List ℕ → Bool
+is_taken jobs name = list_any (λ j. bytes_eq j.name name) jobs
+
 -- the jobs, of which there may be so many, with one that may join them
 abbrev pub joined : ℕ → List JobMeaning → JobMeaning → Result (List JobMeaning) JobsKind
 joined most before job =
-    if list_any (λ j. bytes_eq j.name job.name) before then Err Repeated else (if nat_le most (length before) then Err TooMany else Ok (before ++ job ∷ []))
+    if is_taken before job.name then Err Repeated else (if nat_le most (length before) then Err TooMany else Ok (before ++ job ∷ []))
 
 -- the jobs with that of a line, if it isn't ignored
 abbrev pub with_line : ℕ → List JobMeaning → List ℕ → Result (List JobMeaning) JobsKind

@@ -1,8 +1,9 @@
 //! The roots, the limit and the selector of a job, as their fields.
 
 ghost use Rattle.std.specs.Prelude.{◌≤◌, length, IfOk};
+ghost use Rattle.ix_cid.specs.Results.{Reads};
 ghost use Rattle.ix_jobs.specs.Jobs.{root_in, roots_in, limit_in, bytes_in, data_in, selector_in};
-ghost use Rattle.ix_jobs.specs.Gives.{Gives, Reads};
+ghost use Rattle.ix_jobs.specs.Gives.{Gives};
 
 use crate::fault::JobsKind;
 use hex::FromHexError;

@@ -1,9 +1,9 @@
 //! The jobs of the lines so far.
 
-ghost use Rattle.std.specs.Prelude.{◌≡◌, [], ◌∷◌, ◌++◌, OnErr, bytes_eq};
-ghost use Rattle.std.specs.List.{list_any};
-ghost use Rattle.ix_jobs.specs.Jobs.{joined};
-ghost use Rattle.ix_jobs.specs.Gives.{Gives, Reads};
+ghost use Rattle.std.specs.Prelude.{◌≡◌, [], ◌∷◌, ◌++◌, OnErr};
+ghost use Rattle.ix_cid.specs.Results.{Reads};
+ghost use Rattle.ix_jobs.specs.Jobs.{is_taken, joined};
+ghost use Rattle.ix_jobs.specs.Gives.{Gives};
 
 use crate::fault::JobsKind;
 use ix_walk::Job;
@@ -77,7 +77,7 @@ impl JobList {
 
     // Whether a job has the name.
     fn is_taken(&self, name: &str) -> bool
-        ensures { result ≡ list_any (λ job. bytes_eq job.name name.now) self.now }
+        ensures { result ≡ is_taken self.now name.now }
     {
         self.names.contains(name)
     }

@@ -2,9 +2,10 @@
 
 ghost use Rattle.std.specs.Prelude.{◌≡◌};
 ghost use Rattle.std.specs.Str.Lines.{strip_carriage_return};
+ghost use Rattle.ix_cid.specs.Results.{Reads};
 ghost use Rattle.ix_jobs.specs.Jobs.{is_ignored, is_text, text_in, fields_in, job_of_fields, line_job, with_file_line};
 ghost use Rattle.ix_jobs.specs.LineParts.{pieces, first_field, last_field};
-ghost use Rattle.ix_jobs.specs.Gives.{Gives, Reads};
+ghost use Rattle.ix_jobs.specs.Gives.{Gives};
 
 use crate::fault::JobsKind;
 use crate::field::{limit_in, roots_in, selector_in};

@@ -1,31 +1,17 @@
 -- Entries in the order of their keys, and one put in at its place.
 use Rattle.std.proofs.Common.{◌≡◌, ℕ, zero, suc, ◌+◌, ◌<◌, ◌≤◌, List, [], ◌∷◌, length, get_or, refl, sym, ap, ◌∙◌, subst, arith}
 use Rattle.std.specs.Prelude.{insert}
-use Rattle.std.specs.Ordering.{ordering_then, ordering_index, ordering_reverse}
-use Rattle.std.specs.Cmp.{IsTotalOrder}
+use Rattle.std.specs.Ordering.{ordering_index, ordering_reverse}
 use Rattle.std.specs.declared.cmp.Ordering.{Ordering}
 use Rattle.std.specs.declared.cmp.Ordering.TheVariants.{Less, Equal, Greater}
 use Rattle.std.specs.Global.{Vec}
-use Rattle.std.proofs.lemmas.Cmp.{nat_list_cmp_total, nat_cmp_total, on_total, then_total}
-use Rattle.std.proofs.lemmas.Map.Lookups.{exact_bytes}
 use Rattle.json.specs.Strict.{keys, AreDistinct}
 use Rattle.json.specs.Value.{members_view}
 use Rattle.ix_cbor.specs.declared.node.Node.{Node}
 use Rattle.ix_cbor.specs.Spelling.{key_cmp}
+use Rattle.ix_cbor.proofs.Keys.{key_total, key_exact}
 use Rattle.ix_notation.proofs.Sayings.{Entry, Member}
 use Rattle.ix_notation.proofs.Unread.{key_at_place, length-keys}
-
-key_total : IsTotalOrder key_cmp
-key_total = then_total (on_total length nat_cmp_total) nat_list_cmp_total
-
-both_equal : (a b : Ordering) → ordering_then a b ≡ Equal → b ≡ Equal
-both_equal Less b e = absurd cc
-both_equal Equal b e = e
-both_equal Greater b e = absurd cc
-
--- keys that are equal by their order are one
-pub key_exact : (a b : List ℕ) → key_cmp a b ≡ Equal → a ≡ b
-key_exact a b e = exact_bytes a b (both_equal _ _ e)
 
 greater_back : (a b : List ℕ) → key_cmp a b ≡ Greater → key_cmp b a ≡ Less
 greater_back a b e = key_total.antisymm b a ∙ ap ordering_reverse e

@@ -1,14 +1,14 @@
 -- Why data isn't printed, from a part to the whole.
 use Rattle.std.proofs.Common.{◌≡◌, ℕ, zero, suc, ◌<◌, List, [], ◌∷◌, length, get_or, inl, inr, sym, subst, arith}
 use Rattle.std.specs.Str.{IsUtf8}
-use Rattle.std.specs.Global.{Vec}
 use Rattle.ix_cbor.specs.declared.node.Node.{Node}
 use Rattle.ix_cbor.specs.Data.{Data, data_of, node_items, node_entries}
 use Rattle.ix_notation.specs.declared.fault.NotationFault.{NotationFault}
 use Rattle.ix_notation.specs.declared.fault.NotationFault.TheVariants.{Json, Repeated, Number, Hex, Block, Selector, Name, Memory}
-use Rattle.ix_notation.specs.Notation.{IsSelectorOf, IsRefused, IsHexOf, IsHexRefused}
+use Rattle.ix_notation.specs.Notation.{IsSelectorOf, IsHexOf, IsHexRefused}
 use Rattle.ix_notation.proofs.Selectors.{selector_plain}
 use Rattle.ix_notation.specs.Printed.{HasBadText, ItemsHaveBadText, EntriesHaveBadText, HasOtherKind, ItemsHaveOtherKind, EntriesHaveOtherKind, IsUnprinted}
+use Rattle.ix_notation.proofs.Sayings.{Entry}
 
 -- the same refusal, where what it says of a part holds of the whole
 pub unprinted_weaker : {P Q R S : Type 0} (e : NotationFault) → (P → R) → (Q → S) → IsUnprinted P Q e → IsUnprinted R S e
@@ -36,9 +36,6 @@ pub member_unprinted : (nodes : List Node) (i : ℕ) (x : Node) (e : NotationFau
     → IsUnprinted (HasBadText (data_of x)) (HasOtherKind (data_of x)) e → IsUnprinted (ItemsHaveBadText (node_items nodes)) (ItemsHaveOtherKind (node_items nodes)) e
 member_unprinted nodes i x e l is h =
     unprinted_weaker e (λ b. bad_member nodes i x l (subst (λ y. HasBadText (data_of y)) is b)) (λ o. other_member nodes i x l (subst (λ y. HasOtherKind (data_of y)) is o)) h
-
-abbrev Entry : Type 0
-Entry = Vec ℕ × Node
 
 bad_key : (entries : List Entry) (i : ℕ) (d : Entry) → i < length entries → ¬ IsUtf8 (get_or entries i d).0.items → EntriesHaveBadText (node_entries entries)
 bad_key [] i d l h = absurd (omega arith)
@@ -68,17 +65,6 @@ pub value_unprinted : (entries : List Entry) (i : ℕ) (x : Entry) (e : Notation
 value_unprinted entries i x e l is h =
     unprinted_weaker e (λ b. bad_value entries i x l (subst (λ (y : Entry). HasBadText (data_of y.1)) is b))
     (λ o. other_value entries i x l (subst (λ (y : Entry). HasOtherKind (data_of y.1)) is o)) h
-
--- data of a block that is refused as a selector
-pub judged : (text : List ℕ) (d : Data) (e : NotationFault) → IsHexOf text d → IsRefused d e → IsHexRefused text e
-judged text d (Json p) spelled h = h
-judged text d Repeated spelled h = h
-judged text d Number spelled h = h
-judged text d Hex spelled h = absurd h
-judged text d (Block b) spelled h = absurd h
-judged text d (Selector s) spelled h = record { block_data = d; spelled = spelled; refused = h }
-judged text d Name spelled h = absurd h
-judged text d Memory spelled h = h
 
 -- a selector that is not printed
 pub unprinted : (text : List ℕ) (d : Data) (e : NotationFault) → IsHexOf text d → IsSelectorOf d → IsUnprinted (HasBadText d) (HasOtherKind d) e → IsHexRefused text e

@@ -3,21 +3,18 @@ use Rattle.std.proofs.Common.{◌≡◌, ℕ, zero, suc, ◌+◌, ◌<◌, ◌�
 use Rattle.std.specs.Prelude.{insert}
 use Rattle.std.specs.Borrow.{Bor}
 use Rattle.std.specs.Global.{Vec}
-use Rattle.std.proofs.lemmas.List.{drop_more, drop_all, append-nil, map_push, length-map}
+use Rattle.std.proofs.lemmas.List.{drop_all, append-nil, map_push, length-map}
 use Rattle.json.specs.declared.value.Value.{Value}
 use Rattle.json.specs.declared.value.Value as value
 use Rattle.json.specs.Json.{object}
 use Rattle.json.specs.Value.{value_view, items_view, members_view}
 use Rattle.json.proofs.Trees.{view-Object}
+use Rattle.ix_cid.proofs.Lists.{drop_read}
 use Rattle.ix_cbor.specs.declared.node.Node.{Node}
 use Rattle.ix_cbor.specs.declared.node.Node.TheVariants as variants
 use Rattle.ix_cbor.specs.Data.{Data, data_of, entry_of}
 use Rattle.ix_cbor.proofs.Fitting.{data_of-map}
 use Rattle.ix_notation.specs.Saying.{Says, ItemsSay, ArePut}
-
--- the rest of a list from an element on
-pub from_here : {A : Type 0} (xs : List A) (i : ℕ) (x : A) → i < length xs → x ≡ get_or xs i x → drop i xs ≡ x ∷ drop (i + 1) xs
-from_here xs i x l is = drop_more xs i x l ∙ ap (λ y. y ∷ drop (i + 1) xs) (sym is)
 
 -- what the rest of the items says, behind the nodes so far, all of them say
 abbrev pub ItemsSoFar : {A : Type 0} → List (Value A) → ℕ → List Node → Type 0
@@ -31,7 +28,7 @@ pub one_more_item : {A : Type 0} (values : List (Value A)) (i : ℕ) (x : Value 
     → Says (value_view x) (data_of n) → after ≡ nodes ++ n ∷ [] → ItemsSoFar values i nodes → ItemsSoFar values (i + 1) after
 one_more_item values i x nodes after n l is says pushed so_far more h =
     let here : ItemsSay (items_view (drop i values)) (data_of n ∷ more) =
-    subst (λ vs. ItemsSay (items_view vs) (data_of n ∷ more)) (sym (from_here values i x l is)) (data_of n, more, says, h, refl) in
+    subst (λ vs. ItemsSay (items_view vs) (data_of n ∷ more)) (sym (drop_read values i x l is)) (data_of n, more, says, h, refl) in
     let same : map data_of nodes ++ data_of n ∷ more ≡ map data_of after ++ more =
     shifted (map data_of nodes) (data_of n) more ∙ ap (λ ds. ds ++ more) (sym (map_push data_of nodes n) ∙ ap (map data_of) (sym pushed)) in
     subst (ItemsSay (items_view values)) same (so_far (data_of n ∷ more) here)
@@ -62,7 +59,7 @@ pub one_more_member : {A : Type 0} (values : List (Member A)) (i : ℕ) (x : Mem
 one_more_member values i x entries after place k n l is within named says put so_far more h =
     let same : map entry_of after ≡ insert (map entry_of entries) place (x.0.now, data_of n) =
     ap (map entry_of) put ∙ map-insert entry_of entries place (k, n) within ∙ ap (λ name. insert (map entry_of entries) place (name, data_of n)) named in
-    so_far more (subst (λ vs. ArePut (members_view vs) (map entry_of entries) more) (sym (from_here values i x l is))
+    so_far more (subst (λ vs. ArePut (members_view vs) (map entry_of entries) more) (sym (drop_read values i x l is))
     (data_of n, place, omega (arith, length-map entries entry_of), says, subst (λ es. ArePut (members_view (drop (i + 1) values)) es more) same h))
 
 pub all_members : {A : Type 0} (values : List (Member A)) (i : ℕ) (entries : List Entry) → length values ≤ i → MembersSoFar values i entries → ArePut (members_view values) [] (map entry_of entries)

@@ -1,8 +1,6 @@
 //! The command `selector`, from text to text.
 
-ghost use Rattle.std.specs.Prelude.{◌≡◌, Ok, IfOk, IfErr, string_bytes};
-ghost use Rattle.ix_cbor.specs.Spelling.{IsCanonical};
-ghost use Rattle.ix_selector.specs.Reading.{selector_of};
+ghost use Rattle.std.specs.Prelude.{Ok, IfOk, IfErr, string_bytes};
 ghost use Rattle.ix_notation.specs.Notation.{IsSelectorHex, IsSelectorJson, IsSelectorOf, IsRefused, IsHexRefused, IsJsonRefused};
 
 use crate::fault::NotationFault;

@@ -13,9 +13,12 @@ use Rattle.ix_archive.specs.Events.{Event, delivery, close}
 use Rattle.ix_archive.specs.Verified.{judged, judged_visits}
 use Rattle.ix_archive.specs.Faithful.{IsFaithful}
 use Rattle.ix_archive.specs.Archived.{IsArchived}
+use Rattle.ix_collect.proofs.Members.{cases_cons, none_in, has_got}
+use Rattle.ix_collect.proofs.Kept.{kept_same}
+use Rattle.ix_flow.proofs.Closings.{kept_set}
 use Rattle.ix_pipeline.specs.Progress.{pairs_of, IsExported, Exports}
 use Rattle.ix_pipeline.specs.Headline.{EachDelivered, EachArchived, EachFresh, Fact, Keeps, EachKept, IsCheckedOnce, NoneIsStart, visit_count}
-use Rattle.ix_pipeline.proofs.Pairs.{pairs_over, cases_cons, none_in, has_got, in_pairs, has_pair, once_over, over_push}
+use Rattle.ix_pipeline.proofs.Pairs.{pairs_over, in_pairs, has_pair, once_over, over_push}
 
 -- what is delivered of visits has the job's number, and a number among them
 delivered_at : (store : Blocks) (number start count : ℕ) (found : List Arrival) (d : Delivery)
@@ -153,25 +156,6 @@ module _ {S : Type 0} (events : S → List Event) (failed : S → List Delivery)
     all = λ walked job seq lt. all_of store jobs es ss ks job seq (slice_get jobs job) h (λ e. walked.0 (has_got es job Memory e)) refl lt;
   }
 
--- what each sink promised, it promises still
-pub kept_same : {S : Type 0} (fact : Fact S) (ss : List S) → EachKept fact ss ss
-kept_same fact [] = tt
-kept_same fact (s ∷ ss) = ((λ store job first h. h), kept_same fact ss)
-
--- there are as many sinks as before
-pub kept_length : {S : Type 0} (fact : Fact S) (ss ts : List S) → EachKept fact ss ts → length ss ≡ length ts
-kept_length fact [] [] h = refl
-kept_length fact (s ∷ ss) (t ∷ ts) h = ap suc (kept_length fact ss ts h.1)
-kept_length fact [] (t ∷ ts) h = absurd h
-kept_length fact (s ∷ ss) [] h = absurd h
-
-pub kept_set : {S : Type 0} (fact : Fact S) (ss ts : List S) (i : ℕ) (x y : S)
-    → EachKept fact ss ts → x ≡ get_or ts i x → Keeps fact x y → EachKept fact ss (set ts i y)
-kept_set fact [] [] i x y h at keeps = tt
-kept_set {S = S} fact (s ∷ ss) (t ∷ ts) zero x y h at keeps = ((λ store job first p. keeps store job first (subst (λ (z : S). fact z store job first) (sym at) (h.0 store job first p))), h.1)
-kept_set fact (s ∷ ss) (t ∷ ts) (suc i) x y h at keeps = (h.0, kept_set fact ss ts i x y h.1 at keeps)
-kept_set fact ss ts i x y h at keeps = absurd h
-
 rest_fresh : {S : Type 0} (events : S → List Event) (failed : S → List Delivery) (i : ℕ) (sinks : List S) (s : S) → i < length sinks → EachFresh events failed (drop i sinks) → EachFresh events failed (drop (i + 1) sinks)
 rest_fresh {S = S} events failed i sinks s lt h =
     let all : EachFresh events failed (get_or sinks i s ∷ drop (i + 1) sinks) = subst (λ (l : List S). EachFresh events failed l) (drop_more sinks i s lt) h in all.1
@@ -198,13 +182,6 @@ module _ {S : Type 0} (events : S → List Event) (failed : S → List Delivery)
     kept = kept_same fact first;
     checked = unused;
   }
-
-  -- the next sink is fresh
-  pub next_fresh : (i : ℕ) (es : List End) (first sinks : List S) (pairs : List (ℕ × ℕ)) (s : S) → IsThrough events failed fact store jobs i es first sinks pairs → i < length jobs → s ≡ get_or sinks i s → (events s ≡ []) × (failed s ≡ [])
-  next_fresh i es first sinks pairs s t lt at =
-      let within : i < length sinks = (let l : length sinks ≡ length jobs = t.lengths in omega arith) in
-      let all : EachFresh events failed (get_or sinks i s ∷ drop (i + 1) sinks) = subst (λ (l : List S). EachFresh events failed l) (drop_more sinks i s within) t.fresh in
-      subst (λ (x : S). (events x ≡ []) × (failed x ≡ [])) (sym at) all.0
 
   -- one job more
   pub through_more : (i : ℕ) (es more : List End) (first sinks : List S) (pairs after : List (ℕ × ℕ)) (j : JobMeaning) (e : End) (s new : S)

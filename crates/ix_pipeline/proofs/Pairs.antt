@@ -1,7 +1,7 @@
 -- The pairs that were checked: of a job, and of jobs in turn.
-use Rattle.std.proofs.Common.{◌≡◌, ◌⊎◌, ℕ, zero, suc, ◌+◌, ◌<◌, ◌≤◌, List, [], ◌∷◌, ◌++◌, length, slice_index_or, slice_get, Some, Contains, refl, sym, ◌∙◌, ap, subst, inl, inr, arith, append_assoc, append-nil}
-use Rattle.std.proofs.lemmas.List.Elements.{Contains-append_left, Contains-append_right, Contains-append_cases, Contains-push, Contains-push_cases}
-use Rattle.std.proofs.lemmas.Option.{slice_get_within, get_or_from_slice_get}
+use Rattle.std.proofs.Common.{◌≡◌, ◌⊎◌, ℕ, zero, suc, ◌+◌, ◌<◌, ◌≤◌, List, [], ◌∷◌, ◌++◌, length, Contains, refl, sym, ◌∙◌, ap, subst, inl, inr, arith, append_assoc, append-nil}
+use Rattle.std.proofs.lemmas.List.Elements.{Contains-append_left, Contains-append_cases, Contains-push, Contains-push_cases}
+use Rattle.ix_collect.proofs.Members.{cases_cons, none_in, has_first, has_rest}
 use Rattle.ix_pipeline.specs.Progress.{pairs_of}
 use Rattle.ix_pipeline.specs.Headline.{IsEachOnce}
 
@@ -9,28 +9,6 @@ use Rattle.ix_pipeline.specs.Headline.{IsEachOnce}
 abbrev pub pairs_over : ℕ → List ℕ → List (ℕ × ℕ)
 pairs_over n [] = []
 pairs_over n (k ∷ ks) = pairs_of n k ++ pairs_over (n + 1) ks
-
--- an element of a list is its first, or one of the rest
-cons_at : {X : Type 0} (y : X) (ys : List X) (x : X) (i : ℕ) → i < length (y ∷ ys) → slice_index_or (y ∷ ys) i x ≡ x → (y ≡ x) ⊎ Contains ys x
-cons_at y ys x zero lt e = inl e
-cons_at y ys x (suc i) lt e = inr (i, omega arith, e)
-
-pub cases_cons : {X : Type 0} (y : X) (ys : List X) (x : X) → Contains (y ∷ ys) x → (y ≡ x) ⊎ Contains ys x
-cases_cons y ys x h = cons_at y ys x h.0 h.1 h.2
-
-pub none_in : {X : Type 0} (x : X) → Contains [] x → ⊥
-none_in {X = X} x h = absurd (less h.0 h.1) where
-  less : (k : ℕ) → k < length (let none : List X = [] in none) → ⊥
-  less k lt = absurd (omega arith)
-
-pub has_first : {X : Type 0} (y : X) (ys : List X) → Contains (y ∷ ys) y
-has_first y ys = (0, omega arith, refl)
-
-pub has_got : {X : Type 0} (xs : List X) (i : ℕ) (x : X) → slice_get xs i ≡ Some x → Contains xs x
-has_got xs i x e = (i, slice_get_within xs i x e, get_or_from_slice_get xs i x x e)
-
-has_rest : {X : Type 0} (y : X) (ys : List X) (x : X) → Contains ys x → Contains (y ∷ ys) x
-has_rest y ys x h = Contains-append_right (y ∷ []) ys x h
 
 -- which pairs a job has
 pub in_pairs : (number k job seq : ℕ) → Contains (pairs_of number k) (job, seq) → (job ≡ number) × (seq < k)

@@ -1,9 +1,8 @@
 -- A job under way: what its walk has left, and what was told of it so far.
-use Rattle.std.proofs.Common.{◌≡◌, ◌⊎◌, ℕ, zero, suc, ◌<◌, ◌≤◌, false, List, [], ◌∷◌, ◌++◌, length, take, drop, map, Result, Ok, Err, Some, None, refl, sym, ◌∙◌, ap, subst, inl, inr, arith, append_assoc, append-nil}
+use Rattle.std.proofs.Common.{◌≡◌, ◌⊎◌, ℕ, zero, suc, ◌<◌, ◌≤◌, false, List, [], ◌∷◌, ◌++◌, length, take, drop, map, Ok, Err, Some, None, refl, sym, ◌∙◌, ap, subst, inl, inr, arith, append_assoc, append-nil}
 use Rattle.std.specs.declared.alloc.AllocError.{AllocError}
 use Rattle.std.proofs.lemmas.List.{map-append, drop-map, length-map}
 use Rattle.ix_walk.specs.declared.visit.Visit.{Visit}
-use Rattle.ix_walk.specs.declared.fault.WalkStop.{WalkStop}
 use Rattle.ix_walk.specs.declared.fault.WalkStop.TheVariants as reasons
 use Rattle.ix_store.specs.Store.{Blocks}
 use Rattle.ix_walk.specs.JobMeaning.{JobMeaning}
@@ -81,10 +80,6 @@ pub can_hand : (store : Blocks) (number : ℕ) (job : JobMeaning) (walk : WalkLe
 can_hand store number job walk Taking before told u =
     (subst (λ (l : List Event). IsOpen l) (sym u.on.0) (open_deliveries (take u.given (judged_visits store number job))), u.on.1)
 can_hand store number job walk Failed before told u = tt
-
--- what the walk gives is known
-pub given_is : (walk left : WalkLeft) (r s : Result Visit WalkStop) → GivesNext walk (Some r) left → r ≡ s → GivesNext walk (Some s) left
-given_is walk left r s g e = subst (λ (x : Result Visit WalkStop). GivesNext walk (Some x) left) e g
 
 -- how a walked job ends is known
 pub walked_as : (store : Blocks) (number : ℕ) (job : JobMeaning) (before : List (ℕ × ℕ)) (told : Told) (a b : End) → a ≡ b → IsWalked store number job a before told → IsWalked store number job b before told
@@ -240,8 +235,8 @@ all_given store number job walk state before told u none =
     omega arith
 
 -- the walk has ended
-pub ends : (store : Blocks) (number : ℕ) (job : JobMeaning) (walk left : WalkLeft) (state : SinkState) (before : List (ℕ × ℕ)) (told : Told) → IsUnderWay store number job walk state before told → GivesNext walk None left → IsWalked store number job (end_on state Done) before told
-ends store number job walk left state before told u g =
+pub walk-ends : (store : Blocks) (number : ℕ) (job : JobMeaning) (walk left : WalkLeft) (state : SinkState) (before : List (ℕ × ℕ)) (told : Told) → IsUnderWay store number job walk state before told → GivesNext walk None left → IsWalked store number job (end_on state Done) before told
+walk-ends store number job walk left state before told u g =
     on_end store number job state Done u.given before told u.on (all_given store number job walk state before told u g.0) u.pairs
     (λ (m : ℕ) all failed. (all, sym u.limited ∙ g.1, failed)) (λ (e : Done ≡ Start). cc)
 

@@ -3,6 +3,7 @@ use Rattle.std.proofs.Common.{◌≡◌, ℕ, zero, suc, ◌+◌, ◌-◌, ◌<�
 use Rattle.std.proofs.lemmas.Bool.{cases_lt}
 use Rattle.std.proofs.lemmas.Bool.Decides.{nat_tests}
 use Rattle.std.specs.Prelude.{slice_get, ◌==◌}
+use Rattle.std.specs.Option.{option_flatten}
 use Rattle.ix_ring.specs.Numbered.{Numbered, slot, entries_of, entry_at, found, IsFree, IsPlaced, IsPopped}
 
 module _ {T : Type 0} where
@@ -58,11 +59,7 @@ module _ {T : Type 0} where
     by_order (inl less) = absurd (let none : entry_at (entries_of n xs) k ≡ None = entry_none n k xs less in cc)
     by_order (inr more) = by_slot more (cases_lt (k - n) (length xs))
 
-abbrev pub flat : {T : Type 0} → Option (Option T) → Option T
-flat None = None
-flat (Some o) = o
-
-pub slot-get : {T : Type 0} (xs : List (Option T)) (k : ℕ) → slot xs k ≡ flat (slice_get xs k)
+pub slot-get : {T : Type 0} (xs : List (Option T)) (k : ℕ) → slot xs k ≡ option_flatten (slice_get xs k)
 slot-get [] k = refl
 slot-get (o ∷ xs) zero = refl
 slot-get (o ∷ xs) (suc k) = slot-get xs k

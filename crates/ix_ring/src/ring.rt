@@ -1,6 +1,6 @@
 //! Items by number, in a window that moves on.
 
-ghost use Rattle.std.specs.Prelude.{◌≡◌, ◌<◌, ◌≤◌, ◌+◌, ◌-◌, ℕ, [], length, slice_set, drop, IfOk, OnOk, OnErr, IfErr, MatchBool, None, Some};
+ghost use Rattle.std.specs.Prelude.{◌≡◌, ◌<◌, ◌≤◌, ◌+◌, ◌-◌, ℕ, [], length, slice_set, IfOk, OnOk, IfErr, MatchBool, None, Some};
 ghost use Rattle.ix_ring.specs.Numbered.{slot, IsTaken, ReachesNoFurther, IsHeldWithin, IsPlaced, Refuses, Pops};
 
 use crate::fault::RingFault;

@@ -1,20 +1,17 @@
 -- A job file has no more than 1,000 jobs.
 use Rattle.std.proofs.Common.{◌≡◌, ℕ, ◌+◌, ◌≤◌, List, [], ◌∷◌, ◌++◌, length, refl, sym, ap, subst, Bool, true, false, cond, arith, length-append, leb, eqb}
-use Rattle.std.specs.Prelude.{Result, Ok, Err, IfOk, bytes_eq}
+use Rattle.std.specs.Prelude.{Result, Ok, Err, IfOk}
 use Rattle.std.specs.Global.{Vec}
-use Rattle.std.specs.List.{list_any, slice_split}
+use Rattle.std.specs.List.{slice_split}
 use Rattle.std.specs.Str.Lines.{strip_carriage_return}
 use Rattle.std.proofs.lemmas.Bool.{leb-false}
-use Rattle.ix_walk.specs.JobMeaning.{JobMeaning, going_in}
+use Rattle.ix_walk.specs.JobMeaning.{JobMeaning, going_in, walked}
 use Rattle.ix_jobs.specs.declared.fault.JobsKind.{JobsKind}
 use Rattle.ix_jobs.specs.declared.fault.JobsFault.{JobsFault}
 use Rattle.ix_jobs.specs.declared.fault.JobsKind.TheVariants.{Repeated, TooMany}
-use Rattle.ix_run.specs.Choosing.{walked}
 use Rattle.std.proofs.lemmas.List.{length-map}
-use Rattle.ix_jobs.specs.Jobs.{◌>>=◌, is_ignored, line_job, joined, with_line, at_line, jobs_from, jobs_of}
-
-ok_same : {A E : Type 0} (x y : A) → ◌≡◌ {A = Result A E} (Ok x) (Ok y) → x ≡ y
-ok_same x y h = cc
+use Rattle.ix_cid.proofs.Results.{ok_same}
+use Rattle.ix_jobs.specs.Jobs.{◌>>=◌, is_ignored, line_job, joined, with_line, at_line, jobs_from, jobs_of, is_taken}
 
 module _ (before jobs : List JobMeaning) (few : length before ≤ 1000) where
   one_more : (job : JobMeaning) (full : Bool) → leb 1000 (length before) ≡ full → cond full (Err TooMany) (Ok (before ++ job ∷ [])) ≡ Ok jobs → length jobs ≤ 1000
@@ -28,7 +25,7 @@ module _ (before jobs : List JobMeaning) (few : length before ≤ 1000) where
   joined-few job false h = one_more job (leb 1000 (length before)) refl h
 
   read-few : (read : Result JobMeaning JobsKind) → (read >>= joined 1000 before) ≡ Ok jobs → length jobs ≤ 1000
-  read-few (Ok job) h = joined-few job (list_any (λ j. bytes_eq j.name job.name) before) h
+  read-few (Ok job) h = joined-few job (is_taken before job.name) h
   read-few (Err kind) h = absurd cc
 
   line-few : (ignored : Bool) (read : Result JobMeaning JobsKind) → cond ignored (Ok before) (read >>= joined 1000 before) ≡ Ok jobs → length jobs ≤ 1000

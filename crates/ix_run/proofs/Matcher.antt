@@ -1,6 +1,7 @@
 -- The matcher, as it is spelled.
 use Rattle.std.proofs.Common.{◌≡◌, List, [], ◌∷◌, ℕ, refl, sym, ◌∙◌, ap}
-use Rattle.std.specs.Prelude.{Result, Ok, codes}
+use Rattle.std.specs.Prelude.{Ok, codes}
+use Rattle.ix_cid.proofs.Results.{ok_same}
 use Rattle.ix_cbor.specs.Data.{Data, map, no_entries, entry}
 use Rattle.ix_cbor.specs.Reading.{item_at, decoded}
 use Rattle.ix_selector.specs.Pattern.{Pattern, matcher}
@@ -19,9 +20,6 @@ is_decoded = refl
 is_read : selector_of matcher_data ≡ Ok matcher
 unfolding selector_at
 is_read = refl
-
-ok_same : {A E : Type 0} (x y : A) → ◌≡◌ {A = Result A E} (Ok x) (Ok y) → x ≡ y
-ok_same x y h = cc
 
 -- what is read of the bytes is the matcher
 pub matcher_is_read : (d : Data) (s : Pattern) → decoded matcher_bytes ≡ Ok d → selector_of d ≡ Ok s → s ≡ matcher

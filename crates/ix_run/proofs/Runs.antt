@@ -4,7 +4,6 @@ use Rattle.std.specs.Prelude.{Option, Some, None}
 use Rattle.std.specs.Io.KnownBytes as known
 use Rattle.ix_store.specs.Store.{Blocks}
 use Rattle.ix_walk.specs.JobMeaning.{JobMeaning}
-use Rattle.ix_archive.specs.declared.sink.Delivery.{Delivery}
 use Rattle.ix_archive.specs.declared.sink.End.{End}
 use Rattle.ix_archive.specs.declared.sink.End.TheVariants as ends
 use Rattle.ix_archive.specs.Events.{delivery, close, deliveries_of}
@@ -15,8 +14,10 @@ use Rattle.ix_archive.specs.Report.{counts_of}
 use Rattle.ix_jobs.specs.declared.outcome.JobResult.{JobResult}
 use Rattle.ix_pipeline.specs.Headline.{EachDelivered, EachArchived, Keeps, EachKept, EachFresh, EachUnused}
 use Rattle.std.proofs.Math.Seq.{take-append_seam}
+use Rattle.std.proofs.lemmas.Option.{same_Some}
+use Rattle.ix_archive.proofs.Archives.{told-back, written-tells}
 use Rattle.ix_run.specs.Run.{IsEndOf, IsRun, EachRun, EachBegun, IsEnded, EachEnded}
-use Rattle.ix_run.proofs.Told.{deliveries_of-told, same_deliveries}
+use Rattle.ix_run.proofs.Told.{same_deliveries}
 
 -- an end that is told as done is that of a close with done
 done_is_done : (end told : End) → IsEndOf end told → told ≡ ends.Done → end ≡ ends.Done
@@ -27,24 +28,16 @@ done_is_done ends.Memory told h d = sym h ∙ d
 done_is_done ends.Write told h d = sym h ∙ d
 done_is_done ends.Start told h d = sym h ∙ d
 
-some_same : (a b : List ℕ) → ◌≡◌ {A = Option (List ℕ)} (Some a) (Some b) → a ≡ b
-some_same a b h = cc
-
 -- bytes that are told stay told
 keeps_told : (old new : Option (List ℕ)) (bytes : List ℕ) → known.Keeps old new → old ≡ Some bytes → new ≡ Some bytes
 keeps_told None new bytes h e = absurd cc
 keeps_told (Some xs) None bytes h e = absurd h
-keeps_told (Some xs) (Some ys) bytes h e = ap (λ l. Some l) (h ∙ some_same xs bytes e)
-
--- an archive's writer tells some bytes
-tells_some_bytes : (told : Option (List ℕ)) (store : Blocks) (roots : List (List ℕ)) (ds failed : List Delivery) → HasWritten told store roots ds failed → (bytes : List ℕ) × (told ≡ Some bytes)
-tells_some_bytes told store roots ds [] h = (_, h)
-tells_some_bytes told store roots ds (d ∷ more) h = (h.0, h.1)
+keeps_told (Some xs) (Some ys) bytes h e = ap (λ l. Some l) (h ∙ same_Some xs bytes e)
 
 -- the number of bytes is that of the bytes that are told in the end
 count_kept : (old new : Option (List ℕ)) (taken : ℕ) (bytes : List ℕ) → known.Keeps old new → old ≡ Some bytes → IsCountOf taken old → IsCountOf taken new
 count_kept old new taken bytes keeps e counts more h =
-    let same : bytes ≡ more = some_same bytes more (sym (keeps_told old new bytes keeps e) ∙ h) in
+    let same : bytes ≡ more = same_Some bytes more (sym (keeps_told old new bytes keeps e) ∙ h) in
     counts more (e ∙ ap (λ l. Some l) same)
 
 module _ {W : Type 0} (told : W → Option (List ℕ)) where
@@ -55,7 +48,7 @@ module _ {W : Type 0} (told : W → Option (List ℕ)) where
       let ds = last.deliveries in
       let same : ds ≡ _ = same_deliveries ds last.closed _ end faithful.told in
       let shown : events_of last ≡ map delivery ds ++ close end ∷ [] = faithful.told ∙ ap (λ l. map delivery l ++ close end ∷ []) (sym same) in
-      let of_events : deliveries_of (events_of last) ≡ ds = deliveries_of-told ds last.closed in
+      let of_events : deliveries_of (events_of last) ≡ ds = told-back ds last.closed in
       let fact : HasArchived told last store job (told before) = kept store job (told before) fresh in
       let wrote : (h : told before ≡ Some []) → HasWritten (told last.writer) store job.roots (deliveries_of (events_of last)) last.failed =
       λ h. subst (λ l. HasWritten (told last.writer) store job.roots l last.failed) (sym of_events) (fact.written h) in
@@ -69,16 +62,16 @@ module _ {W : Type 0} (told : W → Option (List ℕ)) where
         skips = ended.skips;
         counts = ended.counts ∙ ap (λ s. counts_of s ds last.taken) fact.same_store;
         counted = λ h.
-            let some = tells_some_bytes (told last.writer) store job.roots ds last.failed (fact.written h) in
+            let some = written-tells (told last.writer) store job.roots ds last.failed (fact.written h) in
             count_kept (told last.writer) (told after) last.taken some.0 ended.flushed some.1 (fact.counted h);
         written = λ h.
-            let some = tells_some_bytes (told last.writer) store job.roots ds last.failed (fact.written h) in
+            let some = written-tells (told last.writer) store job.roots ds last.failed (fact.written h) in
             let same_told : told last.writer ≡ told after = some.1 ∙ sym (keeps_told (told last.writer) (told after) some.0 ended.flushed some.1) in
             subst (λ o. HasWritten o store job.roots ds last.failed) same_told (fact.written h);
         whole = λ h done. keeps_told (told last.writer) (told after) _ ended.flushed (archived.whole (done_is_done end result.end ended.ended done) (told last.writer) (wrote h));
         beginning = λ h bytes shows.
-            let some = tells_some_bytes (told last.writer) store job.roots ds last.failed (fact.written h) in
-            let same_bytes : some.0 ≡ bytes = some_same some.0 bytes (sym (keeps_told (told last.writer) (told after) some.0 ended.flushed some.1) ∙ shows) in
+            let some = written-tells (told last.writer) store job.roots ds last.failed (fact.written h) in
+            let same_bytes : some.0 ≡ bytes = same_Some some.0 bytes (sym (keeps_told (told last.writer) (told after) some.0 ended.flushed some.1) ∙ shows) in
             archived.beginning bytes (subst (λ o. HasWritten o store job.roots (deliveries_of (events_of last)) last.failed) (some.1 ∙ ap (λ l. Some l) same_bytes) (wrote h));
       }
 

@@ -1,16 +1,11 @@
 -- The turns of a loop over two lists side by side.
 use Rattle.std.proofs.Common.{◌≡◌, ◌⊎◌, ◌+◌, ◌<◌, List, [], ◌∷◌, ◌++◌, length, map, sym, ◌∙◌, ap, arith, append_assoc, append-nil, length-append}
-use Rattle.std.specs.Prelude.{Result, Ok, Err, IfOk}
-use Rattle.std.proofs.lemmas.List.{length-map, map-append, nil_from_length}
-
--- what was taken, with one more
-pub taken_more : {A B : Type 0} (f : A → B) (ys : List A) (x : A) → map f (ys ++ x ∷ []) ≡ map f ys ++ f x ∷ []
-taken_more f ys x = map-append f ys (x ∷ [])
+use Rattle.std.proofs.lemmas.List.{length-map, nil_from_length, map_push}
 
 -- what was taken so far and what is left, after a turn
 pub turn : {A B : Type 0} (f : A → B) (all : List B) (ys : List A) (rest more : List B) (x : A) → all ≡ map f ys ++ rest → rest ≡ f x ∷ more → all ≡ map f (ys ++ x ∷ []) ++ more
 turn f all ys rest more x is step =
-    is ∙ ap (λ l. map f ys ++ l) step ∙ sym (append_assoc (map f ys) (f x ∷ []) more) ∙ ap (λ l. l ++ more) (sym (taken_more f ys x))
+    is ∙ ap (λ l. map f ys ++ l) step ∙ sym (append_assoc (map f ys) (f x ∷ []) more) ∙ ap (λ l. l ++ more) (sym (map_push f ys x))
 
 -- what was taken so far is shorter than the whole
 pub room : {A B : Type 0} (f : A → B) (all : List B) (ys : List A) (rest more : List B) (x : A) → all ≡ map f ys ++ rest → rest ≡ f x ∷ more → length ys < length all
@@ -26,8 +21,3 @@ all_taken f g all others ys rest left first second same ended =
     let none : length rest ≡ 0 = omega (arith, ended) in
     let nothing : length left ≡ 0 = omega (arith, ended) in
     (sym (first ∙ ap (λ l. map f ys ++ l) (nil_from_length rest none) ∙ append-nil (map f ys)), sym (second ∙ ap (λ l. map g ys ++ l) (nil_from_length left nothing) ∙ append-nil (map g ys)))
-
--- what follows from an answer follows where there is one
-pub if_ok : {A E : Type 0} (Q P : A → Type 0) (r : Result A E) → ((x : A) → Q x → P x) → IfOk r Q → IfOk r P
-if_ok Q P (Ok x) follows h = follows x h
-if_ok Q P (Err e) follows h = tt

@@ -1,6 +1,6 @@
 -- Which jobs of a job file are run, and how they are walked.
-use Rattle.std.specs.Prelude.{◌≡◌, ℕ, Bool, true, List, map, if◌then◌else◌, Option, Some, None, Result, Ok}
-use Rattle.ix_walk.specs.JobMeaning.{JobMeaning, going_in}
+use Rattle.std.specs.Prelude.{◌≡◌, ℕ, List, Option, Some, None, Result, Ok}
+use Rattle.ix_walk.specs.JobMeaning.{JobMeaning, walked}
 use Rattle.ix_jobs.specs.declared.fault.JobsKind.{JobsKind}
 use Rattle.ix_jobs.specs.declared.part.Part.{Part}
 use Rattle.ix_jobs.specs.Jobs.{jobs_of}
@@ -11,10 +11,6 @@ use Rattle.ix_run.specs.declared.loading.Choice.{Choice}
 abbrev pub jobs_in : Option Part → List ℕ → Result (List JobMeaning) (JobsKind × ℕ)
 jobs_in None b = jobs_of b
 jobs_in (Some part) b = part_jobs_of part.number part.of b
-
--- jobs as they are, or each so that it goes into a CID once
-abbrev pub walked : Bool → List JobMeaning → List JobMeaning
-walked once jobs = if once then map (going_in true) jobs else jobs
 
 -- these are the jobs that are run of a file
 abbrev pub AreChosen : Choice → List ℕ → List JobMeaning → Type 0

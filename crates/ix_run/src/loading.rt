@@ -2,10 +2,10 @@
 
 ghost use Rattle.std.specs.Prelude.{◌≡◌, IfOk, IfErr, Ok};
 ghost use Rattle.std.specs.Arc.{arc_value};
-ghost use Rattle.ix_walk.specs.JobMeaning.{AreFew};
+ghost use Rattle.ix_walk.specs.JobMeaning.{walked, AreFew};
 ghost use Rattle.ix_car.specs.Reading.{blocks_of};
 ghost use Rattle.ix_jobs.specs.Gives.{IsFaultOf};
-ghost use Rattle.ix_run.specs.Choosing.{jobs_in, walked, AreChosen};
+ghost use Rattle.ix_run.specs.Choosing.{jobs_in, AreChosen};
 ghost use Rattle.ix_run.specs.Prepare.{IsFilesRefusal};
 
 use crate::fault::RunFault;

@@ -63,7 +63,7 @@ cons-there spots x xs p h = record { pair = h.pair; among = (suc h.among.0, let 
 
 -- ---- the sequence of a recursion
 
-out_recursion : {d : Option ℕ} {s : Pattern} {e : List Frame} {p : Path} → Enters (recursive d s) e p → Enters s (record { sequence = s; depth = d } ∷ e) p
+pub out_recursion : {d : Option ℕ} {s : Pattern} {e : List Frame} {p : Path} → Enters (recursive d s) e p → Enters s (record { sequence = s; depth = d } ∷ e) p
 out_recursion (in_recursion h) = h
 
 module _ (spots : List Spot) (table : AreSpots 0 spots) (x : Pair) (is_pair : IsPair spots x) (d : Option ℕ) (k : ℕ) (is : Recursive d k ≡ get_or spots x.place (Recursive d k)) where
@@ -96,7 +96,7 @@ module _ (spots : List Spot) (table : AreSpots 0 spots) (x : Pair) (is_pair : Is
 
 -- ---- the members of a union
 
-out_union : {ss : Members} {e : List Frame} {p : Path} → Enters (union ss) e p → (s : Pattern) × IsMember s ss × Enters s e p
+pub out_union : {ss : Members} {e : List Frame} {p : Path} → Enters (union ss) e p → (s : Pattern) × IsMember s ss × Enters s e p
 out_union (in_union {s = s} is h) = (s, is, h)
 
 members_enter : (spots : List Spot) (x : Pair) (ks : List ℕ) (p : Path) → SomeEnter spots (members_at x ks) p

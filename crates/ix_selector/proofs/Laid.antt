@@ -1,7 +1,7 @@
 -- Places that are numbered one after another, as a table of them grows.
-use Rattle.std.proofs.Common.{◌≡◌, ℕ, ◌+◌, ◌<◌, ◌≤◌, ◌⊎◌, inl, inr, Bool, true, false, nat_lt, List, [], ◌∷◌, ◌++◌, map, get_or, length, refl, sym, ◌∙◌, ap, subst, arith}
+use Rattle.std.proofs.Common.{◌≡◌, ℕ, ◌+◌, ◌<◌, ◌≤◌, ◌⊎◌, inl, inr, List, [], ◌∷◌, ◌++◌, map, get_or, length, refl, sym, ◌∙◌, ap, subst, arith}
 use Rattle.std.specs.Global.{Vec}
-use Rattle.std.proofs.lemmas.Bool.{ltb-true, ltb-false}
+use Rattle.std.proofs.lemmas.Bool.{cases_lt}
 use Rattle.std.proofs.lemmas.List.{length-append, get_or_append_left, get_or_push}
 use Rattle.ix_selector.specs.declared.spot.Spot.{Spot}
 use Rattle.ix_selector.specs.declared.spot.Spot.TheVariants.{Matcher, All, Fields, Index, Range, Recursive, Union, Edge}
@@ -59,18 +59,12 @@ row-inside ps m Edge n h = omega arith
 
 -- ---- tables
 
-below_or_from : (a b : ℕ) → (a < b) ⊎ (b ≤ a)
-below_or_from a b = by (nat_lt a b) refl where
-  by : (t : Bool) → nat_lt a b ≡ t → (a < b) ⊎ (b ≤ a)
-  by true is = inl (ltb-true a b is)
-  by false is = inr (ltb-false a b is)
-
 laid_grown : (xs ys : List Spot) (n : ℕ) (x : Spot) → n ≤ length xs → IsLaid (places_of xs) n x → IsLaid (places_of (xs ++ ys)) n x
 laid_grown xs ys n x le h = record { first = h.first; row = row_grown xs ys h.first (numbers_of x) n le h.row }
 
 -- what was laid, and what was laid behind it
 pub laid-twice : (m : ℕ) (xs ys : List Spot) → Grows xs ys → AreLaidFrom m xs → AreLaidFrom (length xs) ys → AreLaidFrom m ys
-laid-twice m xs ys g old new = record { laid = λ n x above below is. by n x above below is (below_or_from n (length xs)) } where
+laid-twice m xs ys g old new = record { laid = λ n x above below is. by n x above below is (cases_lt n (length xs)) } where
   by : (n : ℕ) (x : Spot) → m ≤ n → n < length ys → x ≡ get_or ys n x → (n < length xs) ⊎ (length xs ≤ n) → IsLaid (places_of ys) n x
   by n x above below is (inl front) =
       let here : x ≡ get_or xs n x = is ∙ ap (λ l. get_or l n x) g.grown ∙ get_or_append_left xs g.more x n front in
@@ -79,7 +73,7 @@ laid-twice m xs ys g old new = record { laid = λ n x above below is. by n x abo
 
 -- a selector's own spot is put last
 pub laid-last : (m : ℕ) (xs : List Spot) (x : Spot) → AreLaidFrom m xs → AreRow (places_of xs) m (numbers_of x) (length xs) → AreLaidFrom m (xs ++ x ∷ [])
-laid-last m xs x old row = record { laid = λ n y above below is. by n y above (let long = length-append xs (x ∷ []) in omega arith) is (below_or_from n (length xs)) } where
+laid-last m xs x old row = record { laid = λ n y above below is. by n y above (let long = length-append xs (x ∷ []) in omega arith) is (cases_lt n (length xs)) } where
   by : (n : ℕ) (y : Spot) → m ≤ n → n < length xs + 1 → y ≡ get_or (xs ++ x ∷ []) n y → (n < length xs) ⊎ (length xs ≤ n) → IsLaid (places_of (xs ++ x ∷ [])) n y
   by n y above below is (inl front) =
       laid_grown xs (x ∷ []) n y (omega arith) (old.laid n y above front (is ∙ get_or_append_left xs (x ∷ []) y n front))

@@ -5,6 +5,7 @@ use Rattle.std.specs.Bool.{then_some}
 use Rattle.std.specs.Global.{Vec}
 use Rattle.std.specs.Int.Signed.{le_z_yes, lt_z_yes}
 use Rattle.std.proofs.lemmas.Bool.Decides.{Decides-int_eq}
+use Rattle.std.proofs.lemmas.Bool.{and_parts, and_from}
 use Rattle.ix_selector.specs.declared.spot.Spot.{Spot}
 use Rattle.ix_selector.specs.declared.spot.Spot.TheVariants.{Matcher, All as AllSpot, Fields as FieldsSpot, Index as IndexSpot, Range as RangeSpot, Recursive, Union, Edge}
 use Rattle.ix_selector.specs.declared.pair.Pair.{Pair}
@@ -16,9 +17,9 @@ use Rattle.ix_selector.specs.Places.{at, places_of, seen, AreNamedBelow, HasNumb
 use Rattle.ix_selector.specs.Standing.{IsBeside, in_same}
 use Rattle.ix_selector.specs.Named.{IsNumbered, HasName}
 use Rattle.ix_selector.specs.Pairs.{frames, selector_at, EntersAt, around, IsPair, Stands, Same, LeadsTo, LeadsNowhere}
-use Rattle.ix_selector.proofs.Decides.{and_parts, and_both, true-holds, holds-true}
+use Rattle.ix_selector.proofs.Decides.{true-holds, holds-true}
 
-out_all : {s : Pattern} {e : List Frame} {t : Step} {p : Path} → Enters (all s) e (t ∷ p) → Enters s e p
+pub out_all : {s : Pattern} {e : List Frame} {t : Step} {p : Path} → Enters (all s) e (t ∷ p) → Enters s e p
 out_all (below_all h) = h
 
 pub all_leads : (s : Pattern) (t : Step) → LeadsTo (all s) t s
@@ -38,7 +39,7 @@ pub index_nowhere : (i : ℤ) (s : Pattern) (t : Step) → is_at i t ≡ false �
 index_nowhere i s t is e p h = true≢false (sym (out_index h).0 ∙ is)
 
 out_range : {i j : ℤ} {s : Pattern} {e : List Frame} {t : Step} {p : Path} → Enters (range i j s) e (t ∷ p) → (is_within i j t ≡ true) × Enters s e p
-out_range (below_range {n = n} low high h) = (and_both _ _ (holds-true _ low.le) (holds-true _ high.lt), h)
+out_range (below_range {n = n} low high h) = (and_from _ _ (holds-true _ low.le) (holds-true _ high.lt), h)
 
 into_range : (i j : ℤ) (s : Pattern) (e : List Frame) (t : Step) (p : Path) → is_within i j t ≡ true → Enters s e p → Enters (range i j s) e (t ∷ p)
 into_range i j s e (key l) p is h = absurd (true≢false (sym is))

@@ -4,38 +4,26 @@ use Rattle.std.specs.Prelude.{nat_lt}
 use Rattle.std.specs.Global.{Vec}
 use Rattle.std.specs.List.{HoldsAt}
 use Rattle.std.specs.List.Sorted.{IsPartitionPoint, IsNonDecreasingBy, IsSortedBy}
-use Rattle.std.specs.Ordering.{is_lt, ordering_index, ordering_then, ordering_reverse, nat_cmp}
-use Rattle.std.specs.Cmp.Lexicographic.{slice_cmp}
+use Rattle.std.specs.Ordering.{is_lt, ordering_index, ordering_reverse}
 use Rattle.std.specs.declared.cmp.Ordering.{Ordering}
 use Rattle.std.specs.declared.cmp.Ordering.TheVariants.{Less, Equal, Greater}
 use Rattle.std.proofs.lemmas.Bool.{ltb-true, ltb-false}
 use Rattle.std.proofs.lemmas.Cmp.{tied_itself}
 use Rattle.std.proofs.lemmas.List.Sorted.{searchable_from_sorted}
-use Rattle.std.proofs.lemmas.Map.Lookups.{exact_bytes}
 use Rattle.ix_cbor.specs.Spelling.{key_cmp}
+use Rattle.ix_cbor.proofs.Keys.{key_total, key_exact, less_not_equal}
 use Rattle.ix_selector.specs.Pattern.{Pattern, fields, fields_of, Around, behind_step, AreGuarded, IsGuarded}
 use Rattle.ix_selector.specs.Enters.{Step, key, nth, Path, Frame, IsNamed, first, later, Enters, below_fields}
 use Rattle.ix_selector.specs.Places.{at, named_at, IsBefore, AreRising}
 use Rattle.ix_selector.specs.Named.{IsNumbered, IsUnnamed, HasName, HasNoName}
 use Rattle.ix_selector.specs.Pairs.{LeadsTo, LeadsNowhere}
-use Rattle.ix_selector.proofs.Ordered.{key_order}
 
 -- ---- keys that compare as equal are one key
 
-second_equal : (o q : Ordering) → ordering_then o q ≡ Equal → q ≡ Equal
-second_equal Less q h = absurd cc
-second_equal Equal q h = h
-second_equal Greater q h = absurd cc
-
-same_key : (a b : List ℕ) → key_cmp a b ≡ Equal → a ≡ b
-same_key a b h = exact_bytes a b (second_equal (nat_cmp (length a) (length b)) (slice_cmp nat_cmp a b) h)
-
 pub not_before : (a b : List ℕ) → key_cmp a b ≡ Less → a ≡ b → ⊥
 not_before a b h same =
-    let tied : key_cmp a b ≡ Equal = subst (λ c. key_cmp a c ≡ Equal) same (tied_itself key_order a) in
-    less_equal (sym h ∙ tied) where
-      less_equal : Less ≡ Equal → ⊥
-      less_equal e = absurd cc
+    let tied : key_cmp a b ≡ Equal = subst (λ c. key_cmp a c ≡ Equal) same (tied_itself key_total a) in
+    less_not_equal (sym h ∙ tied)
 
 -- ---- names that rise
 
@@ -46,7 +34,7 @@ next_rises (f ∷ g ∷ fs) zero d h within = h.0.0
 next_rises (f ∷ g ∷ fs) (suc k) d h within = next_rises (g ∷ fs) k d h.1 (omega arith)
 
 not_back : (a b : List ℕ) → key_cmp a b ≡ Less → is_lt (key_cmp b a) ≡ false
-not_back a b h = ap is_lt (key_order.antisymm b a ∙ ap ordering_reverse h)
+not_back a b h = ap is_lt (key_total.antisymm b a ∙ ap ordering_reverse h)
 
 sorted_names : (names : List (Vec ℕ × ℕ)) → AreRising names → IsSortedBy (λ (x y : Vec ℕ × ℕ). is_lt (key_cmp x.0.items y.0.items)) names
 sorted_names names h k d low within =
@@ -55,7 +43,7 @@ sorted_names names h k d low within =
 
 -- the comparisons with a key rise along them
 pub names_searchable : (names : List (Vec ℕ × ℕ)) (l : List ℕ) → AreRising names → IsNonDecreasingBy (λ (y : Vec ℕ × ℕ). ordering_index (key_cmp y.0.items l)) names
-names_searchable names l h = searchable_from_sorted key_order (λ (y : Vec ℕ × ℕ). y.0.items) names l (sorted_names names h)
+names_searchable names l h = searchable_from_sorted key_total (λ (y : Vec ℕ × ℕ). y.0.items) names l (sorted_names names h)
 
 -- ---- what the search answers
 
@@ -66,7 +54,7 @@ numbered_at (f ∷ fs) l (suc i) d within same = inr (numbered_at fs l i d (omeg
 
 pub found_name : (names : List (Vec ℕ × ℕ)) (l : List ℕ) (i : ℕ) (f : Vec ℕ × ℕ) → i < length names → f ≡ get_or names i f → HoldsAt (λ (y : Vec ℕ × ℕ). key_cmp y.0.items l ≡ Equal) names i → IsNumbered names l f.1
 found_name names l i f within is equal =
-    subst (λ (x : Vec ℕ × ℕ). IsNumbered names l x.1) (sym is) (numbered_at names l i f within (same_key _ _ (equal f)))
+    subst (λ (x : Vec ℕ × ℕ). IsNumbered names l x.1) (sym is) (numbered_at names l i f within (key_exact _ _ (equal f)))
 
 unnamed_by : (names : List (Vec ℕ × ℕ)) (l : List ℕ) → ((k : ℕ) (d : Vec ℕ × ℕ) → k < length names → (get_or names k d).0.items ≡ l → ⊥) → IsUnnamed names l
 unnamed_by [] l none = tt
@@ -79,7 +67,7 @@ greater_no_equal : (o : Ordering) → o ≡ Greater → o ≡ Equal → ⊥
 greater_no_equal o greater equal = absurd cc
 
 pub not_found : (names : List (Vec ℕ × ℕ)) (l : List ℕ) (i : ℕ) → IsPartitionPoint (λ (y : Vec ℕ × ℕ). key_cmp y.0.items l ≡ Less) (λ (y : Vec ℕ × ℕ). key_cmp y.0.items l ≡ Greater) names i → IsUnnamed names l
-not_found names l i parted = unnamed_by names l (λ k d within same. by k d within (subst (λ c. key_cmp c l ≡ Equal) (sym same) (tied_itself key_order l)) (nat_lt k i) refl) where
+not_found names l i parted = unnamed_by names l (λ k d within same. by k d within (subst (λ c. key_cmp c l ≡ Equal) (sym same) (tied_itself key_total l)) (nat_lt k i) refl) where
   by : (k : ℕ) (d : Vec ℕ × ℕ) → k < length names → key_cmp (get_or names k d).0.items l ≡ Equal → (b : Bool) → nat_lt k i ≡ b → ⊥
   by k d within tied true e = less_no_equal _ (parted.0 k d (omega arith) (ltb-true k i e)) tied
   by k d within tied false e = greater_no_equal _ (parted.1 k d (ltb-false k i e) within) tied

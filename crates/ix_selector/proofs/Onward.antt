@@ -3,17 +3,18 @@ use Rattle.std.proofs.Common.{◌≡◌, ℕ, ◌-◌, ◌<◌, ◌⊎◌, inl, 
 use Rattle.std.specs.Prelude.{◌↔◌, Option, Some, None, nat_le, if◌then◌else◌}
 use Rattle.std.specs.Option.{option_eq}
 use Rattle.std.specs.Cmp.Lexicographic.{pointwise}
-use Rattle.std.proofs.lemmas.Bool.{leb-true, le-leb, eqb-true}
+use Rattle.std.proofs.lemmas.Bool.{leb-true, le-leb, eqb-true, and_parts}
+use Rattle.std.specs.Cmp.{both_ways}
 use Rattle.ix_selector.specs.Pattern.{Pattern, matcher, all, fields, index, range, recursive, union, edge, outside, unguarded, IsGuarded, IsSelector}
 use Rattle.ix_selector.specs.Enters.{Step, Path, Enters, at_edge, at_edge_within}
 use Rattle.ix_selector.specs.IsEntered.{is_entered}
 use Rattle.ix_selector.specs.Residual.{Place, IsAmong, here, there, ResidualEnters, residual_enters}
 use Rattle.ix_selector.specs.Pairs.{deeper, Stands}
 use Rattle.ix_selector.specs.Behind.{leads, before, leads_from, all_lead, is_edge, standing, again, started, restarted, innermost, deeper_around, both, put, merged, leads_behind, leads_behind_from, all_lead_behind, residual_of, residual_behind, residual_along, residual_at, depths, same_place, same_residual}
-use Rattle.ix_selector.proofs.Decides.{FramesGuarded, and_parts, is_entered-decides}
+use Rattle.ix_selector.proofs.Decides.{FramesGuarded, is_entered-decides}
 use Rattle.ix_selector.proofs.Entering.{stands-enters, edge-inside, edge-inside_within, edge-nowhere, deeper-left, deeper-right, deeper-either}
 use Rattle.ix_selector.proofs.Inside.{guarded-later}
-use Rattle.ix_selector.proofs.Tested.{around_of, ArePlaces, residual_sound, residual_complete, same_tests}
+use Rattle.ix_selector.proofs.Tested.{around_of, ArePlaces, residual_sound, residual_complete}
 use Rattle.ix_selector.proofs.Merged.{put-below, put-above, put-beside, less-same-greater}
 use Rattle.ix_selector.proofs.Within.{Inner, itself, one-place}
 use Rattle.ix_selector.proofs.Rests.{Enter, iff_twice, iff_same, iff_back, either_iff, either-never, either-grouped, enter-append, enter_by, Each, each-append, leads-enter, IsLead, leads-lead, standing-each, standing-stands, leads-no_edge, no_edges, behind-enter, behind-lead, frames_in, number_in, around_in, Home, IsIn, leads-in, behind-in, before_is}
@@ -325,7 +326,7 @@ module _ (whole : Pattern) where
       let r = at-rest selector.edges p in
       let meant = iff_twice (iff_back (enter_among (residual_at whole p) q)) (r.1 q) in
       let test = is_entered-decides whole (p ++ q) selector in
-      same_tests _ _ (λ h. test.1 (meant.0 (residual_sound (residual_at whole p) q h))) (λ h. residual_complete (residual_at whole p) q (are_places (residual_at whole p) r.0.each) (meant.1 (test.0 h)))
+      both_ways _ _ (λ h. test.1 (meant.0 (residual_sound (residual_at whole p) q h))) (λ h. residual_complete (residual_at whole p) q (are_places (residual_at whole p) r.0.each) (meant.1 (test.0 h)))
 
   -- ---- the same rest
 

@@ -1,11 +1,10 @@
 -- The names of fields stand in the order of keys, since what is read has a spelling.
-use Rattle.std.proofs.Common.{◌≡◌, ℕ, zero, suc, Bool, true, false, List, length, refl, subst}
+use Rattle.std.proofs.Common.{◌≡◌, ℕ, zero, suc, Bool, true, false, List, refl, subst}
 use Rattle.std.specs.Prelude.{Result, Ok, Err, bytes_eq, codes, if◌then◌else◌}
 use Rattle.std.specs.declared.cmp.Ordering.TheVariants.{Less}
-use Rattle.std.specs.Cmp.{IsTotalOrder}
-use Rattle.std.proofs.lemmas.Cmp.{then_total, on_total, nat_cmp_total, nat_list_cmp_total}
 use Rattle.ix_cbor.specs.Data.{Data, Items, Entries, list, map, no_items, item, no_entries, entry}
 use Rattle.ix_cbor.specs.Spelling.{key_cmp, Rises, IsSpellable, AreSpellable, AreRising, IsCanonical}
+use Rattle.ix_cbor.proofs.Keys.{key_total}
 use Rattle.ix_selector.specs.declared.fault.SelFault.{SelFault}
 use Rattle.ix_selector.specs.declared.fault.SelFault.TheVariants.{NotMap, Keys, Unknown, Unsupported, Kind, EdgeOutside, EdgeUnguarded, Nesting}
 use Rattle.ix_selector.specs.declared.fault.Form.TheVariants.{StopAt, Conditional, InterpretAs}
@@ -13,10 +12,6 @@ use Rattle.ix_selector.specs.Pattern.{Pattern, Fields, Members, all, fields, ind
 use Rattle.ix_selector.specs.Ordered.{IsBeforeAll, IsOrdered, AreOrdered, EachOrdered}
 use Rattle.ix_selector.specs.Reading.{Reader, ◌>>=◌, matcher_of, integer_of, entries_of_map, one_of, two_of, three_of, fields_read, members_read, has_key, limit_of, all_read, fields_form, index_form, range_form, recursive_form, edge_form, union_form, form_of, read_with, selector_at, selector_of, without_envelope}
 use Rattle.ix_selector.proofs.Guarded.{err_no_ok, bind_ok, ok_same, by_test, matcher_only}
-
--- the order of keys is a total one
-pub key_order : IsTotalOrder key_cmp
-key_order = then_total (on_total length nat_cmp_total) nat_list_cmp_total
 
 -- ---- what stands inside what has a spelling has one
 
@@ -60,7 +55,7 @@ three-spellable first second third (entry k e more) d h is =
 
 rises-further : (k l : List ℕ) (es : Entries) → key_cmp k l ≡ Less → Rises l es → Rises k es
 rises-further k l no_entries before rises = tt
-rises-further k l (entry m d es) before rises = key_order.trans k l m before rises
+rises-further k l (entry m d es) before rises = key_total.trans k l m before rises
 
 before-all : (read : Data → Result Pattern SelFault) (k : List ℕ) (es : Entries) (fs : Fields) → fields_read read es ≡ Ok fs → Rises k es → AreRising es → IsBeforeAll k fs
 before-all read k no_entries fs h rises rising = subst (IsBeforeAll k) (ok_same no_fields fs h) tt

@@ -9,8 +9,8 @@ use Rattle.ix_selector.specs.Residual.{Place}
 use Rattle.ix_selector.specs.Pairs.{Stands}
 use Rattle.ix_selector.specs.Behind.{inside_of, leads, each_leads, before, is_edge, standing, named_lead, leads_behind}
 use Rattle.ix_selector.proofs.Entering.{inner_only}
-use Rattle.ix_selector.proofs.Inside.{guarded-later}
-use Rattle.ix_selector.proofs.Leading.{index_leads, index_nowhere, range_leads, range_nowhere, matcher_nowhere}
+use Rattle.ix_selector.proofs.Inside.{guarded-later, out_recursion, out_union}
+use Rattle.ix_selector.proofs.Leading.{index_leads, index_nowhere, range_leads, range_nowhere, matcher_nowhere, out_all}
 use Rattle.ix_selector.proofs.Adding.{standing-append}
 use Rattle.ix_selector.proofs.Within.{Inner, In, in_all, in_fields, in_index, in_range, in_recursive, in_union, InFields, in_field, later_field, InMembers, in_member, later_member}
 
@@ -62,12 +62,6 @@ each-append P [] ys a b = b
 each-append P (x ∷ xs) ys a b = (a.0, each-append P xs ys a.1 b)
 
 -- ---- where a selector leads, it enters
-
-out_recursion : {d : Option ℕ} {s : Pattern} {e : List Frame} {p : Path} → Enters (recursive d s) e p → Enters s (record { sequence = s; depth = d } ∷ e) p
-out_recursion (in_recursion h) = h
-
-out_union : {ss : Members} {e : List Frame} {p : Path} → Enters (union ss) e p → (s : Pattern) × IsMember s ss × Enters s e p
-out_union (in_union {s = s} is h) = (s, is, h)
 
 mutual
   pub leads-enter : (s : Pattern) (n : ℕ) (e : List Frame) (q : Option ℕ) (p : Path) → (Enter (leads s n e q) p ↔ Enters s e p)
@@ -186,9 +180,6 @@ named-enter (field l s fs) k n e q p =
         by : {m : List ℕ} {r : Pattern} → m ≡ k → IsNamed m r (field l s fs) → Enters r e p → ((l ≡ k) × Enters s e p) ⊎ ((r : Pattern) × IsNamed k r fs × Enters r e p)
         by same first h = inl (same, h)
         by same (later {s = r} n) h = inr (r, subst (λ m. IsNamed m r fs) same n, h)
-
-out_all : {s : Pattern} {e : List Frame} {t : Step} {p : Path} → Enters (all s) e (t ∷ p) → Enters s e p
-out_all (below_all h) = h
 
 out_fields : {fs : Fields} {e : List Frame} {k : List ℕ} {p : Path} → Enters (fields fs) e (key k ∷ p) → (s : Pattern) × IsNamed k s fs × Enters s e p
 out_fields (below_fields {s = s} named h) = (s, named, h)

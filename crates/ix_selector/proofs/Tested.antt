@@ -1,11 +1,13 @@
 -- The test of a residual decides what it enters, where its selectors keep the rules on edges.
-use Rattle.std.proofs.Common.{◌≡◌, ◌+◌, ◌≤◌, ⊎_elim, Bool, true, false, true≢false, List, [], ◌∷◌, length, refl, sym, ◌∙◌, arith}
+use Rattle.std.proofs.Common.{◌≡◌, ◌+◌, ◌≤◌, ⊎_elim, true, true≢false, List, [], ◌∷◌, length, sym, ◌∙◌, arith}
 use Rattle.std.specs.Prelude.{◌↔◌, Some, None}
+use Rattle.std.proofs.lemmas.Bool.{or_cases, or_left, or_right, false_from_ne_true}
+use Rattle.std.specs.Cmp.{both_ways}
 use Rattle.ix_selector.specs.Pattern.{Pattern, Around, outside, guarded, IsGuarded, IsSelector}
 use Rattle.ix_selector.specs.Enters.{Step, Path, Frame, Enters}
 use Rattle.ix_selector.specs.IsEntered.{entered_within, is_entered}
 use Rattle.ix_selector.specs.Residual.{Place, IsAmong, here, there, ResidualEnters, residual_enters, IsBehind}
-use Rattle.ix_selector.proofs.Decides.{or_parts, or_left, or_right, within_sound, within_is, entered-complete, edges, FramesGuarded, is_entered-decides}
+use Rattle.ix_selector.proofs.Decides.{within_sound, within_is, entered-complete, edges, FramesGuarded, is_entered-decides}
 
 -- what stands round a place
 abbrev pub around_of : List Frame → Around
@@ -26,7 +28,7 @@ residual_sound (x ∷ xs) p h =
     ⊎_elim
     (λ (y : entered_within (length p + 1) x.selector x.around p ≡ true). record { place = x; among = here; enters = within_sound (length p + 1) x.selector x.around p y })
     (λ (y : residual_enters xs p ≡ true). let more = residual_sound xs p y in record { place = more.place; among = there more.among; enters = more.enters })
-    (or_parts (entered_within (length p + 1) x.selector x.around p) (residual_enters xs p) h)
+    (or_cases (entered_within (length p + 1) x.selector x.around p) (residual_enters xs p) h)
 
 among_entered : {x : Place} {xs : List Place} (p : Path) → IsAmong x xs → ArePlaces xs → Enters x.selector x.around p → residual_enters xs p ≡ true
 among_entered p (here {x = x} {xs = xs}) g h =
@@ -36,28 +38,18 @@ among_entered p (there a) g h = or_right _ _ (among_entered p a g.1 h)
 pub residual_complete : (places : List Place) (p : Path) → ArePlaces places → ResidualEnters places p → residual_enters places p ≡ true
 residual_complete places p g h = among_entered p h.among g h.enters
 
--- two tests with one meaning are equal
-pub same_tests : (a b : Bool) → (a ≡ true → b ≡ true) → (b ≡ true → a ≡ true) → a ≡ b
-same_tests true b f g = sym (f refl)
-same_tests false true f g = g refl
-same_tests false false f g = refl
-
 -- a residual that enters what a selector does tests as the selector does
 pub start_tested : (places : List Place) (s : Pattern) → ArePlaces places → IsSelector s → ((p : Path) → (ResidualEnters places p ↔ Enters s [] p)) → (p : Path) → residual_enters places p ≡ is_entered s p
 start_tested places s g is same p =
-    same_tests _ _ (λ h. (is_entered-decides s p is).1 ((same p).0 (residual_sound places p h))) (λ h. residual_complete places p g ((same p).1 ((is_entered-decides s p is).0 h)))
+    both_ways _ _ (λ h. (is_entered-decides s p is).1 ((same p).0 (residual_sound places p h))) (λ h. residual_complete places p g ((same p).1 ((is_entered-decides s p is).0 h)))
 
 -- the clauses of a step give what the tests say
 pub step_tested_some : (places behind : List Place) (t : Step) → ArePlaces places → ArePlaces behind → ResidualEnters behind [] → ((p : Path) → (ResidualEnters behind p ↔ ResidualEnters places (t ∷ p))) → IsBehind places t (Some behind)
 step_tested_some places behind t g gs entered same = (
   residual_complete places (t ∷ []) g ((same []).0 entered),
   λ p.
-      same_tests _ _ (λ h. residual_complete places (t ∷ p) g ((same p).0 (residual_sound behind p h))) (λ h. residual_complete behind p gs ((same p).1 (residual_sound places (t ∷ p) h))),
+      both_ways _ _ (λ h. residual_complete places (t ∷ p) g ((same p).0 (residual_sound behind p h))) (λ h. residual_complete behind p gs ((same p).1 (residual_sound places (t ∷ p) h))),
 )
 
-false_from : (b : Bool) → (b ≡ true → ⊥) → b ≡ false
-false_from true h = absurd (h refl)
-false_from false h = refl
-
 pub step_tested_none : (places : List Place) (t : Step) → (ResidualEnters places (t ∷ []) → ⊥) → IsBehind places t None
-step_tested_none places t h = false_from (residual_enters places (t ∷ [])) (λ e. h (residual_sound places (t ∷ []) e))
+step_tested_none places t h = false_from_ne_true (residual_enters places (t ∷ [])) (λ e. h (residual_sound places (t ∷ []) e))

@@ -2,6 +2,7 @@
 use Rattle.std.proofs.Common.{◌≡◌, ℕ, ◌+◌, ◌<◌, ◌≤◌, nat_eq, nat_lt, if◌then◌else◌, refl, sym, ◌∙◌, ap, arith, eq-eqb}
 use Rattle.std.specs.Prelude.{Option, Some, None}
 use Rattle.std.proofs.lemmas.Bool.{lt-ltb, le-ltb, ne_eqb}
+use Rattle.std.proofs.lemmas.Option.{same_Some}
 use Rattle.ix_selector.specs.Pattern.{Pattern, Fields, Members, matcher, all, fields, index, range, recursive, union, edge, no_fields, field, no_members, member}
 use Rattle.ix_selector.specs.Behind.{inside_of, fields_size, members_size}
 
@@ -118,15 +119,12 @@ mutual
       let low = (member_bounds h).0 in
       ap (λ b. if b then find s n q (m + inside_of r) else find_member ss (n + (inside_of s + 1)) q (m + inside_of r)) (le-ltb (m + inside_of r) (n + (inside_of s + 1)) (omega arith)) ∙ found_member h
 
-some_same : {A : Type 0} (x y : A) → Some x ≡ Some y → x ≡ y
-some_same x y h = cc
-
 -- with one number there is one place
 pub one-place : {s : Pattern} {n : ℕ} {q : Inner} (r t : Pattern) (m l : ℕ) (w v : Inner) → In s n q r m w → In s n q t l v → m + inside_of r ≡ l + inside_of t → (r ≡ t) × (m ≡ l) × (w ≡ v)
 one-place {s = s} {n = n} {q = q} r t m l w v one other same =
     let here : Pattern × Inner = (r, w) in
     let there : Pattern × Inner = (t, v) in
-    let both : here ≡ there = some_same here there (sym (found one) ∙ ap (find s n q) same ∙ found other) in
+    let both : here ≡ there = same_Some here there (sym (found one) ∙ ap (find s n q) same ∙ found other) in
     let is : r ≡ t = ap (λ (p : Pattern × Inner). p.0) both in
     let size : inside_of r ≡ inside_of t = ap inside_of is in
     (is, omega arith, ap (λ (p : Pattern × Inner). p.1) both)

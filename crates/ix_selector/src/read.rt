@@ -1,11 +1,12 @@
 //! The parts of reading a selector.
 
 ghost use Rattle.std.specs.Prelude.{◌≡◌};
+ghost use Rattle.ix_cid.specs.Results.{Reads};
 ghost use Rattle.ix_cbor.specs.Data.{data_of};
 ghost use Rattle.ix_selector.specs.Pattern.{pattern_of, behind_step};
 ghost use Rattle.ix_selector.specs.Reading.{integer_of, entries_of_map, one_of, two_of, has_key, limit_of, matcher_of, all_read, fields_form, index_form, range_form, recursive_form, union_form, edge_form, read_with, selector_at, without_envelope, selector_of};
 ghost use Rattle.ix_selector.specs.Views.{seen_fields, seen_members};
-ghost use Rattle.ix_selector.specs.Gives.{Gives, Reads};
+ghost use Rattle.ix_selector.specs.Gives.{Gives};
 ghost use Rattle.ix_selector.specs.Shapes.{around_of, form_named, two_nodes, three_nodes, entries_data, in_map, none_limit, depth_limit, range_parts, selector_in, selector_above, fields_at, members_at, inside, Forms, FormsIn};
 
 use crate::fault::{Form, SelFault};

@@ -1,17 +1,9 @@
 -- Seats are joined one by one.
 use Rattle.std.proofs.Common.{◌≡◌, ℕ, suc, All, ◌+◌, ◌<◌, Bool, true, false, ◌||◌, cond, List, [], ◌∷◌, ◌++◌, sym, refl, ap, ◌∙◌, arith, length-append, append_assoc, append-nil}
+use Rattle.std.proofs.Math.Bool.{or-false, or_assoc}
 use Rattle.ix_stages.specs.declared.claim_rule.ClaimView.{ClaimView}
-use Rattle.ix_stages.specs.ClaimRule.{spent}
 use Rattle.ix_stages.specs.Claims.{ClaimsMeaning, SeatMeaning, all_places, some_ended}
 use Rattle.ix_stages.specs.ClaimsJoined.{with_seat, HasJoined}
-
-none_more : (b : Bool) → (b || false) ≡ b
-none_more true = refl
-none_more false = refl
-
-any_order : (a b c : Bool) → (a || (b || c)) ≡ ((a || b) || c)
-any_order true b c = refl
-any_order false b c = refl
 
 counts : (a b : Bool) (n : ℕ) → (a ≡ true → 0 < n) → (a || b) ≡ true → 0 < n + cond b 1 0
 counts true b n h e = let p = h refl in omega (arith, p)
@@ -24,11 +16,8 @@ module _ {T : Type 0} where
   all_places-snoc (x ∷ ss) s = ap (λ l. x.places ++ l) (all_places-snoc ss s) ∙ sym (append_assoc x.places (all_places ss) s.places)
 
   some_ended-snoc : (ss : List (SeatMeaning T)) (s : SeatMeaning T) → some_ended (ss ++ s ∷ []) ≡ (some_ended ss || s.ended)
-  some_ended-snoc [] s = none_more s.ended
-  some_ended-snoc (x ∷ ss) s = ap (λ b. x.ended || b) (some_ended-snoc ss s) ∙ any_order x.ended (some_ended ss) s.ended
-
-  pub joined_none : (c : ClaimsMeaning T) → HasJoined c [] spent
-  joined_none c = record { parts = refl; places = refl; known = λ h. absurd (omega (arith, h)); over = λ e. cc }
+  some_ended-snoc [] s = or-false s.ended
+  some_ended-snoc (x ∷ ss) s = ap (λ b. x.ended || b) (some_ended-snoc ss s) ∙ sym (or_assoc x.ended (some_ended ss) s.ended)
 
   pub joined_more : (c : ClaimsMeaning T) (ss : List (SeatMeaning T)) (v : ClaimView T) (s : SeatMeaning T) → s.of ≡ c → HasJoined c ss v → HasJoined c (ss ++ s ∷ []) (with_seat v s)
   joined_more c ss v s is h = record {

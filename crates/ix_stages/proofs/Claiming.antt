@@ -10,7 +10,8 @@ use Rattle.ix_stages.specs.declared.claim_rule.ClaimView.{ClaimView}
 use Rattle.ix_stages.specs.ClaimRule.{claimer, spent, one_less, one_seat, FitsClaimer, IsClaimed, gains, refused, Draws, Tells, Looks}
 use Rattle.ix_stages.specs.Claims.{times, once_below}
 use Rattle.ix_stages.specs.Totals.{total}
-use Rattle.ix_stages.proofs.Totals.{total_set, total_snoc, total_le, part_le, only, each_set, each_snoc, at_other}
+use Rattle.ix_stages.specs.Received.{point}
+use Rattle.ix_stages.proofs.Totals.{total_set, total_snoc, total_le, part_le, total_of-one, each_set, each_snoc, at_other}
 
 module _ {T : Type 0} where
   value_at : (l : List T) (i : ℕ) → i < length l → (x : T) × (slice_get l i ≡ Some x)
@@ -25,17 +26,14 @@ times-append x (y ∷ xs) ys = let ih = times-append x xs ys in omega arith
 times-snoc : (x n : ℕ) (xs : List ℕ) → times x (xs ++ n ∷ []) ≡ times x xs + cond (n == x) 1 0
 times-snoc x n xs = let a = times-append x xs (n ∷ []) in omega (arith, a)
 
-abbrev eq_one : ℕ → ℕ → ℕ
-eq_one n y = cond (n == y) 1 0
-
-below_more : (x w : ℕ) → once_below x (w + 1) ≡ once_below x w + eq_one w x
+below_more : (x w : ℕ) → once_below x (w + 1) ≡ once_below x w + point w x
 below_more x w = grind (arith, nat_tests)
 
-once_more : (x w m : ℕ) → w < m → once_below x (min (w + 1) m) ≡ once_below x (min w m) + eq_one w x
+once_more : (x w m : ℕ) → w < m → once_below x (min (w + 1) m) ≡ once_below x (min w m) + point w x
 once_more x w m h =
     let a : min (w + 1) m ≡ w + 1 = omega (arith, h) in
     let b : min w m ≡ w = omega (arith, h) in
-    ap (once_below x) a ∙ below_more x w ∙ ap (λ n. once_below x n + eq_one w x) (sym b)
+    ap (once_below x) a ∙ below_more x w ∙ ap (λ n. once_below x n + point w x) (sym b)
 
 once_same : (x w m : ℕ) → m ≤ w → once_below x (min (w + 1) m) ≡ once_below x (min w m)
 once_same x w m h = let e : min (w + 1) m ≡ min w m = omega (arith, h) in ap (once_below x) e
@@ -71,7 +69,7 @@ module _ {T : Type 0} (values : List T) (all slots id : ℕ) (me : Me (Option T)
         small = r.small;
         bound = (let a = total_set (λ v. v.refusals) s.views id v w at in let b = r.bound in let below' : r.word < length values = (let l = below in omega (arith, l, e)) in omega (arith, a, below'));
         counted = (let a = total_set (λ v. v.parts) s.views id v w at in let b = r.counted in omega (arith, a, b));
-        once = λ y. (let a = total_set (λ v. times y v.places) s.views id v w at in let b = r.once y in let t = times-snoc y k v.places in let o = once_more y r.word (length values) (let l = below in omega (arith, l, e)) in let q : cond (k == y) 1 0 ≡ eq_one r.word y = ap (λ (n : ℕ). eq_one n y) e in omega (arith, a, b, t, o, q));
+        once = λ y. (let a = total_set (λ v. times y v.places) s.views id v w at in let b = r.once y in let t = times-snoc y k v.places in let o = once_more y r.word (length values) (let l = below in omega (arith, l, e)) in let q : cond (k == y) 1 0 ≡ point r.word y = ap (λ (n : ℕ). point n y) e in omega (arith, a, b, t, o, q));
         homes = λ j y le get. (set_else s.homes k j none (λ same. (let l = le in absurd (omega (arith, l, same, e)))) ∙ r.homes j y (omega (arith, le)) get);
         fits = each_set (λ _. FitsClaimer values all (r.word + 1)) s.views id w
             (record { known = f.known; idle = λ z. absurd (omega (arith, part, z)); few = f.few; over = λ o. absurd (omega (arith, o, first)) })
@@ -126,7 +124,7 @@ view_tells_word {T} values all id v s r at part k e =
       once = λ x. (let a = sum x in let b = part_le (λ v. times x v.places) s.views id v at in omega (arith, a, b));
       all = λ every x. (let a = sum x in
           let c : total (λ v. v.parts) s.views ≡ v.parts = r.counted ∙ sym known.1 ∙ sym every in
-          let b = only (λ v. times x v.places) (λ v. v.parts) s.views id v at c (λ p u at none. ap (times x) ((r.fits p u at).idle none)) in
+          let b = total_of-one (λ v. times x v.places) (λ v. v.parts) s.views id v at c (λ p u at none. ap (times x) ((r.fits p u at).idle none)) in
           omega (arith, a, b));
       over = λ o. (let a = f.over o in let l : length v.values ≡ length values = ap length known.0 in omega (arith, a, l, e));
     }
@@ -158,8 +156,8 @@ fits_spent : {T : Type 0} (values : List T) (all word : ℕ) → FitsClaimer val
 fits_spent values all word = record { known = λ h. absurd (omega (arith, h)); idle = λ h. refl; few = omega arith; over = λ h. absurd (omega (arith, h)) }
 
 -- a new seat knows nothing
-pub begins : {T : Type 0} (values : List T) (all slots : ℕ) → Enters (IsClaimed values all) slots 0 (λ n w. ◌≡◌ {A = Me (Option T) (ClaimView T)} (w, []) (spent, []))
-begins {T} values all slots s r len below =
+pub claims-begin : {T : Type 0} (values : List T) (all slots : ℕ) → Enters (IsClaimed values all) slots 0 (λ n w. ◌≡◌ {A = Me (Option T) (ClaimView T)} (w, []) (spent, []))
+claims-begin {T} values all slots s r len below =
     let more : (f : ClaimView T → ℕ) → f spent ≡ 0 → total f (s.views ++ spent ∷ []) ≡ total f s.views = λ f none. (let a = total_snoc f s.views spent in omega (arith, a, none)) in (
       spent,
       record {

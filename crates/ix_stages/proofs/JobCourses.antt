@@ -3,6 +3,7 @@ use Rattle.std.proofs.Common.{◌≡◌, ℕ, zero, suc, ◌+◌, ◌≤◌, ◌
 use Rattle.std.specs.Prelude.{slice_get}
 use Rattle.std.proofs.lemmas.List.{length-map, length-take}
 use Rattle.std.proofs.lemmas.List.Elements.{All-nil, All-cons, All-head, All-tail, All-weaker}
+use Rattle.std.proofs.lemmas.Option.{slice_get_within}
 use Rattle.ix_walk.specs.declared.visit.Visit.{Visit}
 use Rattle.ix_store.specs.Store.{Blocks}
 use Rattle.ix_walk.specs.JobMeaning.{JobMeaning}
@@ -92,11 +93,6 @@ over_none store m [] n e = refl
 over_none store m (x ∷ jobs) zero e = cc
 over_none store m (x ∷ jobs) (suc n) e = over_none store (m + 1) jobs n e
 
-get_within : {X : Type 0} (xs : List X) (n : ℕ) (x : X) → slice_get xs n ≡ Some x → n < length xs
-get_within [] n x e = cc
-get_within (y ∷ ys) zero x e = omega arith
-get_within (y ∷ ys) (suc n) x e = let rest : n < length ys = get_within ys n x e in omega arith
-
 none_at : (k : ℕ) (v : Visit) → slice_get [] k ≡ Some v → ⊥
 none_at k v e = cc
 
@@ -145,7 +141,7 @@ module _ (store : Blocks) (jobs : List JobMeaning) where
 
   job_within : (n : ℕ) (v : Visit) (k : ℕ) (o : Option JobMeaning) → slice_get jobs n ≡ o → slice_get (course_visits (course_of store jobs) n) k ≡ Some v → n < length jobs
   job_within n v k None e is = absurd (none_at k v (sym (ap (λ (l : List Visit). slice_get l k) (none_from store 0 jobs n e)) ∙ is))
-  job_within n v k (Some job) e is = get_within jobs n job e
+  job_within n v k (Some job) e is = slice_get_within jobs n job e
 
   one_good : (x : Item) → Allowed (course_of store jobs) x → IsOfCourse store jobs x
   one_good (item.Visit v) a =
@@ -174,6 +170,6 @@ visit_allowed store jobs n k job v at is =
 
 pub close_allowed : (store : Blocks) (jobs : List JobMeaning) (n k : ℕ) (job : JobMeaning) (end : End) → slice_get jobs n ≡ Some job → IsCloseOf end k (visits_of store n job) (is_over_limit store job) → Allowed (course_of store jobs) (item.Close n k end)
 close_allowed store jobs n k job end at h =
-    let within : n < length jobs = get_within jobs n job at in
+    let within : n < length jobs = slice_get_within jobs n job at in
     let same = sized store jobs in
     (omega (arith, within, same), close_of end k (visits_of store n job) (course_visits (course_of store jobs) n) (is_over_limit store job) (course_over (course_of store jobs) n) (ap length (sym (visits_there store jobs n job at))) (sym (over_there store jobs n job at)) h)

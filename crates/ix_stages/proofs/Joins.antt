@@ -7,19 +7,19 @@ use mathlib.Core.Option.{some}
 use lib.ListN.{get_elem?}
 use Rattle.crossbeam_queue.specs.Fifo.{Merges, Learns}
 use Rattle.crossbeam_queue.proofs.Lists.{at_set, at_snoc}
+use Rattle.std.proofs.lemmas.Option.{none-some}
 use Rattle.ix_stages.specs.declared.item.Item.{Item}
 use Rattle.ix_stages.specs.declared.course.JobVisits.{JobVisits}
 use Rattle.ix_stages.specs.declared.pass_view.PassView.{PassView}
 use Rattle.ix_stages.specs.Items.{numbers, Rises, concat}
-use Rattle.ix_stages.specs.Received.{weigh}
 use Rattle.ix_stages.specs.Sent.{is_item, is_end}
 use Rattle.ix_stages.specs.Course.{Allowed, times, ends, IsWellTaken}
 use Rattle.ix_stages.specs.PassViews.{spent, after_join, all_put, all_taken}
 use Rattle.ix_stages.specs.QueueState.{Fits, Running, IsQueueState}
 use Rattle.ix_stages.specs.Totals.{total}
-use Rattle.ix_stages.proofs.Totals.{total_set, part_le, only, each_set}
-use Rattle.ix_stages.proofs.Numbers.{weigh-append, concat-snoc}
-use Rattle.ix_stages.proofs.Running.{runs, none_some, spent_fits}
+use Rattle.ix_stages.proofs.Totals.{total_set, part_le, total_of-one, each_set, total_append}
+use Rattle.ix_stages.proofs.Numbers.{concat-snoc}
+use Rattle.ix_stages.proofs.Running.{runs, spent_fits}
 
 -- a seat that may be joined: it took in no other
 pub record IsPlain (u : PassView) : Type 0 where
@@ -51,17 +51,17 @@ module _ (port : ℕ) (v : PassView) (other : ℕ) (u : PassView) (live : v.blan
         took = subst (λ (l : List Item). All (Allowed r.course) l) (sym join_taken) (All-append (Allowed r.course) (all_taken v) u.taken f.took (subst (λ (l : List Item). All (Allowed r.course) l) join_alone g.took));
       }
 
-  join_total : (h : Item → ℕ) → total (λ u. weigh h (all_put u)) (set (set views port (after_join v u)) other spent) ≡ total (λ u. weigh h (all_put u)) views
+  join_total : (h : Item → ℕ) → total (λ u. total h (all_put u)) (set (set views port (after_join v u)) other spent) ≡ total (λ u. total h (all_put u)) views
   join_total h =
       let b = after_join v u in
       let one : List PassView = set views port b in
-      let s = total_set (λ u. weigh h (all_put u)) views port v b at in
-      let s2 = total_set (λ u. weigh h (all_put u)) one other u spent at' in
-      let a = weigh-append h v.put (concat (v.puts ++ u.put ∷ [])) in
-      let a2 : weigh h (concat (v.puts ++ u.put ∷ [])) ≡ weigh h (concat v.puts ++ u.put) = ap (weigh h) (concat-snoc v.puts u.put) in
-      let a3 = weigh-append h (concat v.puts) u.put in
-      let a4 = weigh-append h v.put (concat v.puts) in
-      let a5 : weigh h (u.put ++ concat u.puts) ≡ weigh h u.put = ap (λ (l : List (List Item)). weigh h (u.put ++ concat l)) plain.lists.0 ∙ ap (weigh h) (append-nil u.put) in
+      let s = total_set (λ u. total h (all_put u)) views port v b at in
+      let s2 = total_set (λ u. total h (all_put u)) one other u spent at' in
+      let a = total_append h v.put (concat (v.puts ++ u.put ∷ [])) in
+      let a2 : total h (concat (v.puts ++ u.put ∷ [])) ≡ total h (concat v.puts ++ u.put) = ap (total h) (concat-snoc v.puts u.put) in
+      let a3 = total_append h (concat v.puts) u.put in
+      let a4 = total_append h v.put (concat v.puts) in
+      let a5 : total h (u.put ++ concat u.puts) ≡ total h u.put = ap (λ (l : List (List Item)). total h (u.put ++ concat l)) plain.lists.0 ∙ ap (total h) (append-nil u.put) in
       omega arith
 
   join_runs : Running items (set (set views port (after_join v u)) other spent)
@@ -78,20 +78,20 @@ module _ (port : ℕ) (v : PassView) (other : ℕ) (u : PassView) (live : v.blan
         ordered = r.ordered;
         counted = let s = total_set (λ u. u.parts) views port v b at in let t = total_set (λ u. u.parts) one other u spent at' in let p = r.counted in omega (arith, s, t, p);
         balanced = λ h.
-            (let s = total_set (λ u. weigh h (all_put u)) views port v b at in
-            let s2 = total_set (λ u. weigh h (all_put u)) one other u spent at' in
-            let t = total_set (λ u. weigh h (all_taken u)) views port v b at in
-            let t2 = total_set (λ u. weigh h (all_taken u)) one other u spent at' in
-            let a = weigh-append h v.put (concat (v.puts ++ u.put ∷ [])) in
-            let a2 : weigh h (concat (v.puts ++ u.put ∷ [])) ≡ weigh h (concat v.puts ++ u.put) = ap (weigh h) (concat-snoc v.puts u.put) in
-            let a3 = weigh-append h (concat v.puts) u.put in
-            let a4 = weigh-append h v.put (concat v.puts) in
-            let a5 : weigh h (u.put ++ concat u.puts) ≡ weigh h u.put = ap (λ (l : List (List Item)). weigh h (u.put ++ concat l)) plain.lists.0 ∙ ap (weigh h) (append-nil u.put) in
-            let c = weigh-append h v.taken (concat (v.takens ++ u.taken ∷ [])) in
-            let c2 : weigh h (concat (v.takens ++ u.taken ∷ [])) ≡ weigh h (concat v.takens ++ u.taken) = ap (weigh h) (concat-snoc v.takens u.taken) in
-            let c3 = weigh-append h (concat v.takens) u.taken in
-            let c4 = weigh-append h v.taken (concat v.takens) in
-            let c5 : weigh h (u.taken ++ concat u.takens) ≡ weigh h u.taken = ap (λ (l : List (List Item)). weigh h (u.taken ++ concat l)) plain.lists.1 ∙ ap (weigh h) (append-nil u.taken) in
+            (let s = total_set (λ u. total h (all_put u)) views port v b at in
+            let s2 = total_set (λ u. total h (all_put u)) one other u spent at' in
+            let t = total_set (λ u. total h (all_taken u)) views port v b at in
+            let t2 = total_set (λ u. total h (all_taken u)) one other u spent at' in
+            let a = total_append h v.put (concat (v.puts ++ u.put ∷ [])) in
+            let a2 : total h (concat (v.puts ++ u.put ∷ [])) ≡ total h (concat v.puts ++ u.put) = ap (total h) (concat-snoc v.puts u.put) in
+            let a3 = total_append h (concat v.puts) u.put in
+            let a4 = total_append h v.put (concat v.puts) in
+            let a5 : total h (u.put ++ concat u.puts) ≡ total h u.put = ap (λ (l : List (List Item)). total h (u.put ++ concat l)) plain.lists.0 ∙ ap (total h) (append-nil u.put) in
+            let c = total_append h v.taken (concat (v.takens ++ u.taken ∷ [])) in
+            let c2 : total h (concat (v.takens ++ u.taken ∷ [])) ≡ total h (concat v.takens ++ u.taken) = ap (total h) (concat-snoc v.takens u.taken) in
+            let c3 = total_append h (concat v.takens) u.taken in
+            let c4 = total_append h v.taken (concat v.takens) in
+            let c5 : total h (u.taken ++ concat u.takens) ≡ total h u.taken = ap (λ (l : List (List Item)). total h (u.taken ++ concat l)) plain.lists.1 ∙ ap (total h) (append-nil u.taken) in
             let e = r.balanced h in
             omega (arith, s, s2, t, t2, a, a2, a3, a4, a5, c, c2, c3, c4, c5, e));
         once = λ j n. (let s = join_total (is_item j n) in let o = r.once j n in omega (arith, s, o));
@@ -99,7 +99,7 @@ module _ (port : ℕ) (v : PassView) (other : ℕ) (u : PassView) (live : v.blan
             (let s = join_total (is_end j k) in
             let old = r.shut j k (omega (arith, s, lt)) in (
               old.0,
-              each_set (λ p w. w.job ≡ Some j → 0 < ends j k w.put) one other spent (λ e. absurd (none_some j e))
+              each_set (λ p w. w.job ≡ Some j → 0 < ends j k w.put) one other spent (λ e. absurd (none-some j e))
                   (λ p w _ e. each_set (λ p w. w.job ≡ Some j → 0 < ends j k w.put) views port b (old.1 port v at) (λ p w _ e. old.1 p w e) p w e),
             ));
         fresh = λ j n le. join_total (is_item j n) ∙ r.fresh j n le;
@@ -112,13 +112,13 @@ pub merges : (port : ℕ) (v : PassView) (other : ℕ) (u : PassView) → v.blan
 merges port v other u live part plain items views h at apart at' = inr (join_runs port v other u live part plain items views (runs items views port v h at live) at apart at')
 
 -- whoever has all parts knows what the queue holds
-pub learns_what_is_left : (port : ℕ) (v : PassView) → v.blank ≡ false → 0 < v.parts → Learns IsQueueState port v (λ items. v.parts ≡ v.all → (h : Item → ℕ) → weigh h (all_put v) ≡ weigh h (all_taken v) + weigh h items)
+pub learns_what_is_left : (port : ℕ) (v : PassView) → v.blank ≡ false → 0 < v.parts → Learns IsQueueState port v (λ items. v.parts ≡ v.all → (h : Item → ℕ) → total h (all_put v) ≡ total h (all_taken v) + total h items)
 learns_what_is_left port v live part items views q at whole h =
     let r = runs items views port v q at live in
     let f = r.fits port v at in
     let all : total (λ u. u.parts) views ≡ v.parts = r.counted ∙ (sym (f.course_is part).1 ∙ sym whole) in
-    let p = only (λ u. weigh h (all_put u)) (λ u. u.parts) views port v at all (λ p u e z. ap (weigh h) ((r.fits p u e).idle z).0) in
-    let t = only (λ u. weigh h (all_taken u)) (λ u. u.parts) views port v at all (λ p u e z. ap (weigh h) ((r.fits p u e).idle z).1) in
+    let p = total_of-one (λ u. total h (all_put u)) (λ u. u.parts) views port v at all (λ p u e z. ap (total h) ((r.fits p u e).idle z).0) in
+    let t = total_of-one (λ u. total h (all_taken u)) (λ u. u.parts) views port v at all (λ p u e z. ap (total h) ((r.fits p u e).idle z).1) in
     let b = r.balanced h in
     omega (arith, p, t, b)
 

@@ -6,29 +6,25 @@ use Rattle.std.specs.Prelude.{All}
 use mathlib.Core.Option.{some, some-ne-none, some-injective}
 use lib.ListN.{get_elem?}
 use Rattle.crossbeam_queue.specs.Fifo.{Forks}
+use Rattle.std.proofs.lemmas.Option.{none-some}
 use Rattle.ix_stages.specs.declared.item.Item.{Item}
 use Rattle.ix_stages.specs.declared.course.JobVisits.{JobVisits}
 use Rattle.ix_stages.specs.declared.pass_view.PassView.{PassView}
 use Rattle.ix_stages.specs.Items.{numbers, Rises, concat}
-use Rattle.ix_stages.specs.Received.{weigh}
 use Rattle.ix_stages.specs.Sent.{is_item}
 use Rattle.ix_stages.specs.Course.{Allowed, times, ends}
 use Rattle.ix_stages.specs.PassViews.{blank, spent, root, after_seat, job_pass, take_pass, all_put, all_taken}
 use Rattle.ix_stages.specs.QueueState.{Fits, Running, IsQueueState}
 use Rattle.ix_stages.specs.Totals.{total}
 use Rattle.ix_stages.proofs.Totals.{total_set, total_snoc, each_set, each_snoc}
-use Rattle.ix_stages.proofs.Running.{runs, none_some, spent_fits}
-
--- before anything was put or made, the course gets its name
-pub begins : IsQueueState [] (blank ∷ [])
-begins = inl (refl, refl)
+use Rattle.ix_stages.proofs.Running.{runs, spent_fits}
 
 root_fits : (c : List JobVisits) (n : ℕ) → Fits c n (λ _. 0) (λ _. 0) 2 0 (root c n)
 root_fits c n = record {
   named = refl;
   course_is = λ _. (refl, refl);
   idle = λ _. (refl, refl);
-  seat = λ j e. absurd (none_some j e);
+  seat = λ j e. absurd (none-some j e);
   maker = λ _. (refl, refl, λ j le. refl);
   rises = λ j. omega arith;
   joined = λ j k t e. absurd (some-ne-none t (sym e));
@@ -131,9 +127,9 @@ module _ (port : ℕ) (v w : PassView) (live : v.blank ≡ false) (makes : v.mak
   fork_total : (j n : ℕ) → total (λ u. times j n (all_put u)) (set views port (after_seat v) ++ w ∷ []) ≡ total (λ u. times j n (all_put u)) views
   fork_total j n =
       let h = is_item j n in
-      let s = total_set (λ u. weigh h (all_put u)) views port v (after_seat v) at in
-      let s2 = total_snoc (λ u. weigh h (all_put u)) (set views port (after_seat v)) w in
-      let z : weigh h (all_put w) ≡ 0 = ap (weigh h) fork_no_put in
+      let s = total_set (λ u. total h (all_put u)) views port v (after_seat v) at in
+      let s2 = total_snoc (λ u. total h (all_put u)) (set views port (after_seat v)) w in
+      let z : total h (all_put w) ≡ 0 = ap (total h) fork_no_put in
       omega arith
 
   fork_runs : Running items (set views port (after_seat v) ++ w ∷ [])
@@ -153,12 +149,12 @@ module _ (port : ℕ) (v w : PassView) (live : v.blank ≡ false) (makes : v.mak
         ordered = r.ordered;
         counted = let s = total_set (λ u. u.parts) views port v a at in let t = total_snoc (λ u. u.parts) (set views port a) w in let p = r.counted in let q = new.parts in omega (arith, s, t, p, q, part);
         balanced = λ h.
-            (let s = total_set (λ u. weigh h (all_put u)) views port v a at in
-            let s2 = total_snoc (λ u. weigh h (all_put u)) (set views port a) w in
-            let t = total_set (λ u. weigh h (all_taken u)) views port v a at in
-            let t2 = total_snoc (λ u. weigh h (all_taken u)) (set views port a) w in
-            let z : weigh h (all_put w) ≡ 0 = ap (weigh h) no_put in
-            let z2 : weigh h (all_taken w) ≡ 0 = ap (weigh h) no_taken in
+            (let s = total_set (λ u. total h (all_put u)) views port v a at in
+            let s2 = total_snoc (λ u. total h (all_put u)) (set views port a) w in
+            let t = total_set (λ u. total h (all_taken u)) views port v a at in
+            let t2 = total_snoc (λ u. total h (all_taken u)) (set views port a) w in
+            let z : total h (all_put w) ≡ 0 = ap (total h) no_put in
+            let z2 : total h (all_taken w) ≡ 0 = ap (total h) no_taken in
             let b = r.balanced h in
             omega (arith, s, s2, t, t2, b, z, z2));
         once = λ j n. (let s = fork_total j n in let o = r.once j n in omega (arith, s, o));
@@ -186,4 +182,4 @@ pub job_seat_is_new : (v : PassView) → IsNewSeat v (job_pass v)
 job_seat_is_new v = record { live = refl; parts = refl; course = (refl, refl); maker = refl; job = λ j e. (let is : v.made ≡ j = cc in sym is); lists = (refl, refl, refl, refl) }
 
 pub take_seat_is_new : (v : PassView) → IsNewSeat v (take_pass v)
-take_seat_is_new v = record { live = refl; parts = refl; course = (refl, refl); maker = refl; job = λ j e. absurd (none_some j e); lists = (refl, refl, refl, refl) }
+take_seat_is_new v = record { live = refl; parts = refl; course = (refl, refl); maker = refl; job = λ j e. absurd (none-some j e); lists = (refl, refl, refl, refl) }

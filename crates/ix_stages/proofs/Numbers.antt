@@ -2,7 +2,6 @@
 use Rattle.std.proofs.Common.{◌≡◌, ℕ, zero, suc, ◌+◌, ◌≤◌, true, false, cond, List, [], ◌∷◌, ◌++◌, sym, refl, ap, ◌∙◌, arith, append-nil, append_assoc}
 use Rattle.ix_stages.specs.declared.item.Item.{Item}
 use Rattle.ix_stages.specs.Items.{is_of, seq_of, numbers, count_up, Rises, concat}
-use Rattle.ix_stages.specs.Received.{weigh}
 
 -- 1 where the item is of the job
 abbrev pub held : ℕ → Item → ℕ
@@ -27,10 +26,6 @@ Rises-more lo hi top (x ∷ xs) le r = (r.0, Rises-more (suc x) hi top xs le r.1
 pub Rises-snoc : (lo hi x : ℕ) (xs : List ℕ) → Rises lo hi xs → hi ≤ x → Rises lo (suc x) (xs ++ x ∷ [])
 Rises-snoc lo hi x [] r le = (omega arith, omega arith)
 Rises-snoc lo hi x (y ∷ ys) r le = (r.0, Rises-snoc (suc y) hi x ys r.1 le)
-
-pub weigh-append : (h : Item → ℕ) (xs ys : List Item) → weigh h (xs ++ ys) ≡ weigh h xs + weigh h ys
-weigh-append h [] ys = omega arith
-weigh-append h (x ∷ xs) ys = let ih = weigh-append h xs ys in omega arith
 
 pub concat-snoc : (xss : List (List Item)) (ys : List Item) → concat (xss ++ ys ∷ []) ≡ concat xss ++ ys
 concat-snoc [] ys = append-nil ys

@@ -14,14 +14,13 @@ use Rattle.ix_walk.specs.declared.visit.Visit.{Visit}
 use Rattle.ix_stages.specs.declared.course.JobVisits.{JobVisits}
 use Rattle.ix_stages.specs.declared.pass_view.PassView.{PassView}
 use Rattle.ix_stages.specs.Items.{is_of, seq_of, numbers, count_up, concat}
-use Rattle.ix_stages.specs.Received.{weigh}
 use Rattle.ix_stages.specs.Sent.{is_item, is_end}
 use Rattle.ix_stages.specs.Course.{Allowed, IsPut, times, ends, opened, course_visits}
 use Rattle.ix_stages.specs.PassViews.{after_put, all_put, all_taken}
 use Rattle.ix_stages.specs.QueueState.{Fits, Running, IsQueueState}
 use Rattle.ix_stages.specs.Totals.{total}
-use Rattle.ix_stages.proofs.Totals.{total_set, at_below, each_set}
-use Rattle.ix_stages.proofs.Numbers.{held, numbers-append, count_up-snoc, weigh-append}
+use Rattle.ix_stages.proofs.Totals.{total_set, at_below, each_set, total_append}
+use Rattle.ix_stages.proofs.Numbers.{held, numbers-append, count_up-snoc}
 use Rattle.ix_stages.proofs.Running.{runs, one_if}
 
 mark_go : (k n t top : ℕ) → k ≡ top → (top ≤ n → t ≡ 0) → t ≤ 1 → t + cond (k == n) 1 0 ≤ 1
@@ -42,15 +41,6 @@ pub record MayPut (v : PassView) (x : Item) : Type 0 where
 opened_ends : (vs : List Visit) (j k : ℕ) → ends j k (map item.Visit vs) ≡ 0
 opened_ends [] j k = refl
 opened_ends (v ∷ vs) j k = let rest : ends j k (map item.Visit vs) ≡ 0 = opened_ends vs j k in omega arith
-
-is_end_item : (j k : ℕ) (x : Item) → is_end j k x ≤ is_item j k x
-is_end_item j k (item.Visit v) = omega arith
-is_end_item j k (item.Close i m e) = omega arith
-is_end_item j k item.Stop = omega arith
-
-ends_times : (j k : ℕ) (xs : List Item) → ends j k xs ≤ times j k xs
-ends_times j k [] = omega arith
-ends_times j k (x ∷ xs) = let one : is_end j k x ≤ is_item j k x = is_end_item j k x in let rest : ends j k xs ≤ times j k xs = ends_times j k xs in omega arith
 
 -- of an item of a job, whether it is the close n
 is_end_other : (j k : ℕ) (x : Item) → is_of j x ≡ false → is_end j k x ≡ 0
@@ -84,7 +74,7 @@ snoc_same (a ∷ xs) (b ∷ ys) x y e = let h : a ≡ b = cc in let t : xs ++ x 
 -- nothing is put behind a close
 no_put_behind : (c : List JobVisits) (j k : ℕ) (put : List Item) (x : Item) → IsPut c j (put ++ x ∷ []) → 0 < ends j k put → ⊥
 no_put_behind c j k put x (n, le, inl e) there =
-    let a : ends j k (put ++ x ∷ []) ≡ ends j k put + ends j k (x ∷ []) = weigh-append (is_end j k) put (x ∷ []) in
+    let a : ends j k (put ++ x ∷ []) ≡ ends j k put + ends j k (x ∷ []) = total_append (is_end j k) put (x ∷ []) in
     let z : ends j k (put ++ x ∷ []) ≡ 0 = ap (ends j k) e ∙ opened_ends (take n (course_visits c j)) j k in
     absurd (omega arith)
 no_put_behind c j k put x (n, le, inr w) there =
@@ -177,19 +167,19 @@ module _ (port : ℕ) (v : PassView) (x : Item) (may : MayPut v x) (items : List
   put_total : (j n : ℕ) → total (λ u. times j n (all_put u)) (set views port (after_put v x)) ≡ total (λ u. times j n (all_put u)) views + is_item j n x
   put_total j n =
       let h = is_item j n in
-      let s = total_set (λ u. weigh h (all_put u)) views port v (after_put v x) at in
-      let a = weigh-append h (v.put ++ x ∷ []) (concat v.puts) in
-      let a2 = weigh-append h v.put (x ∷ []) in
-      let a3 = weigh-append h v.put (concat v.puts) in
+      let s = total_set (λ u. total h (all_put u)) views port v (after_put v x) at in
+      let a = total_append h (v.put ++ x ∷ []) (concat v.puts) in
+      let a2 = total_append h v.put (x ∷ []) in
+      let a3 = total_append h v.put (concat v.puts) in
       omega arith
 
   put_ends : (j k : ℕ) → total (λ u. ends j k (all_put u)) (set views port (after_put v x)) ≡ total (λ u. ends j k (all_put u)) views + is_end j k x
   put_ends j k =
       let h = is_end j k in
-      let s = total_set (λ u. weigh h (all_put u)) views port v (after_put v x) at in
-      let a = weigh-append h (v.put ++ x ∷ []) (concat v.puts) in
-      let a2 = weigh-append h v.put (x ∷ []) in
-      let a3 = weigh-append h v.put (concat v.puts) in
+      let s = total_set (λ u. total h (all_put u)) views port v (after_put v x) at in
+      let a = total_append h (v.put ++ x ∷ []) (concat v.puts) in
+      let a2 = total_append h v.put (x ∷ []) in
+      let a3 = total_append h v.put (concat v.puts) in
       omega arith
 
   abbrev IsShut : (ℕ → ℕ) → ℕ → ℕ → List PassView → Type 0
@@ -214,7 +204,7 @@ module _ (port : ℕ) (v : PassView) (x : Item) (may : MayPut v x) (items : List
             let h : held j x ≡ 1 = ap (λ (b : Bool). cond b 1 0) is in
             let l : length v.put ≡ r.head j + r.left j = seat.1 in
             let m : seq_of x ≡ length v.put = o.1 in
-            let a : ends j k (v.put ++ x ∷ []) ≡ ends j k v.put + ends j k (x ∷ []) = weigh-append (is_end j k) v.put (x ∷ []) in (
+            let a : ends j k (v.put ++ x ∷ []) ≡ ends j k v.put + ends j k (x ∷ []) = total_append (is_end j k) v.put (x ∷ []) in (
               omega arith,
               each_set (λ p u. u.job ≡ Some j → 0 < ends j k u.put) views port (after_put v x) (λ e. omega arith)
                   (λ p u apart e is'. absurd (apart (((r.fits p u e).seat j is').0 ∙ sym seat.0))),
@@ -238,13 +228,13 @@ module _ (port : ℕ) (v : PassView) (x : Item) (may : MayPut v x) (items : List
         ordered = λ j. put_ordered_at j (is_of j x) refl;
         counted = let s = total_set (λ u. u.parts) views port v w at in let p = r.counted in omega (arith, s, p);
         balanced = λ h.
-            (let s = total_set (λ u. weigh h (all_put u)) views port v w at in
-            let t = total_set (λ u. weigh h (all_taken u)) views port v w at in
+            (let s = total_set (λ u. total h (all_put u)) views port v w at in
+            let t = total_set (λ u. total h (all_taken u)) views port v w at in
             let b = r.balanced h in
-            let a = weigh-append h (v.put ++ x ∷ []) (concat v.puts) in
-            let a2 = weigh-append h v.put (x ∷ []) in
-            let a3 = weigh-append h v.put (concat v.puts) in
-            let a4 = weigh-append h items (x ∷ []) in
+            let a = total_append h (v.put ++ x ∷ []) (concat v.puts) in
+            let a2 = total_append h v.put (x ∷ []) in
+            let a3 = total_append h v.put (concat v.puts) in
+            let a4 = total_append h items (x ∷ []) in
             omega (arith, s, t, b, a, a2, a3, a4));
         once = λ j n. subst (λ (m : ℕ). m ≤ 1) (sym (put_total j n)) (mark_at j n (is_of j x) (total (λ u. times j n (all_put u)) views) refl (r.fresh j n) (r.once j n));
         shut = λ j k lt. put_shut_at j k (is_of j x) refl (subst (λ (n : ℕ). 0 < n) (put_ends j k) lt);

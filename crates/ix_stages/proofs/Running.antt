@@ -1,6 +1,7 @@
 -- A queue that runs, and small facts of its views.
-use Rattle.std.proofs.Common.{◌≡◌, ℕ, zero, suc, Bool, false, true≢false, cond, List, refl, sym, ap, ◌∙◌, inl, inr, Some, None, arith}
+use Rattle.std.proofs.Common.{◌≡◌, ℕ, zero, suc, Bool, false, true≢false, cond, List, refl, sym, ap, ◌∙◌, inl, inr, arith}
 use Rattle.std.proofs.lemmas.List.Elements.{All-nil}
+use Rattle.std.proofs.lemmas.Option.{none-some}
 use mathlib.Core.Option.{some, some-ne-none, some-injective}
 use lib.ListN.{get_elem?}
 use Rattle.ix_stages.specs.declared.course.JobVisits.{JobVisits}
@@ -20,17 +21,13 @@ runs items views (suc p) v (inl b) at live = absurd (some-ne-none v (sym (ap (λ
 abbrev pub one_if : Bool → ℕ
 one_if b = cond b 1 0
 
--- no job is none
-pub none_some : (j : ℕ) → None ≡ Some j → ⊥
-none_some j e = cc
-
 -- a pass that was joined, or that has nothing yet, fits whatever was put
 pub spent_fits : (c : List JobVisits) (n : ℕ) (head left : ℕ → ℕ) (count port : ℕ) → Fits c n head left count port spent
 spent_fits c n head left count port = record {
   named = refl;
   course_is = λ z. absurd (omega (arith, z));
   idle = λ _. (refl, refl);
-  seat = λ j e. absurd (none_some j e);
+  seat = λ j e. absurd (none-some j e);
   maker = λ m. absurd (true≢false (sym m));
   rises = λ j. omega arith;
   joined = λ j k t e. absurd (some-ne-none t (sym e));

@@ -1,5 +1,5 @@
 -- What a seat may do, and what it is afterwards.
-use Rattle.std.proofs.Common.{◌≡◌, ℕ, zero, suc, ◌+◌, ◌<◌, ◌≤◌, true, false, true≢false, List, [], ◌∷◌, ◌++◌, length, take, map, replicate, sym, refl, ap, ◌∙◌, subst, inl, inr, arith, Some, None}
+use Rattle.std.proofs.Common.{◌≡◌, ℕ, zero, suc, ◌+◌, ◌<◌, ◌≤◌, true, false, true≢false, List, [], ◌∷◌, ◌++◌, length, take, map, sym, refl, ap, ◌∙◌, subst, inl, inr, arith, Some, None}
 use Rattle.std.specs.Prelude.{slice_get}
 use Rattle.std.proofs.lemmas.List.{map-append, length-map, length-take}
 use Rattle.std.proofs.lemmas.Bool.Decides.{nat_tests}
@@ -104,7 +104,3 @@ IsCourse-at (p ∷ ps) (suc j) h = IsCourse-at ps j (All-tail (λ p. length p.vi
 
 pub map-count_up : {A : Type 0} (f : ℕ → A) (k : ℕ) → map f (count_up 0 (k + 1)) ≡ map f (count_up 0 k) ++ f k ∷ []
 map-count_up f k = let e : 0 + k ≡ k = omega arith in ap (map f) (count_up-snoc 0 k) ∙ (map-append f (count_up 0 k) ((0 + k) ∷ []) ∙ ap (λ (m : ℕ). map f (count_up 0 k) ++ f m ∷ []) e)
-
-pub replicate-snoc : {A : Type 0} (x : A) (k : ℕ) → replicate (k + 1) x ≡ replicate k x ++ x ∷ []
-replicate-snoc x zero = refl
-replicate-snoc x (suc k) = let e : suc k + 1 ≡ suc (k + 1) = omega arith in ap (λ (m : ℕ). replicate m x) e ∙ ap (λ l. x ∷ l) (replicate-snoc x k)

@@ -10,13 +10,13 @@ use Rattle.ix_stages.specs.declared.item.Item.{Item}
 use Rattle.ix_stages.specs.declared.course.JobVisits.{JobVisits}
 use Rattle.ix_stages.specs.declared.pass_view.PassView.{PassView}
 use Rattle.ix_stages.specs.Items.{is_of, seq_of, numbers, count_up, Rises, concat}
-use Rattle.ix_stages.specs.Received.{weigh}
 use Rattle.ix_stages.specs.Course.{Allowed, times, ends}
 use Rattle.ix_stages.specs.Seats.{IsTake}
 use Rattle.ix_stages.specs.PassViews.{after_take, all_put, all_taken}
 use Rattle.ix_stages.specs.QueueState.{Fits, Running, IsQueueState}
-use Rattle.ix_stages.proofs.Totals.{total_set, each_set}
-use Rattle.ix_stages.proofs.Numbers.{held, numbers-append, Rises-more, Rises-snoc, weigh-append}
+use Rattle.ix_stages.specs.Totals.{total}
+use Rattle.ix_stages.proofs.Totals.{total_set, each_set, total_append}
+use Rattle.ix_stages.proofs.Numbers.{held, numbers-append, Rises-more, Rises-snoc}
 use Rattle.ix_stages.proofs.Running.{runs, one_if}
 
 -- one more that is taken
@@ -97,12 +97,12 @@ module _ (port : ℕ) (v : PassView) (x : Item) (live : v.blank ≡ false) (part
         ordered = λ j. (popped j).0;
         counted = let s = total_set (λ u. u.parts) views port v w at in let p = r.counted in omega (arith, s, p);
         balanced = λ h.
-            (let s = total_set (λ u. weigh h (all_put u)) views port v w at in
-            let t = total_set (λ u. weigh h (all_taken u)) views port v w at in
+            (let s = total_set (λ u. total h (all_put u)) views port v w at in
+            let t = total_set (λ u. total h (all_taken u)) views port v w at in
             let b = r.balanced h in
-            let a = weigh-append h (v.taken ++ x ∷ []) (concat v.takens) in
-            let a2 = weigh-append h v.taken (x ∷ []) in
-            let a3 = weigh-append h v.taken (concat v.takens) in
+            let a = total_append h (v.taken ++ x ∷ []) (concat v.takens) in
+            let a2 = total_append h v.taken (x ∷ []) in
+            let a3 = total_append h v.taken (concat v.takens) in
             omega (arith, s, t, b, a, a2, a3));
         once = λ j n. (let s = total_set (λ u. times j n (all_put u)) views port v w at in let o = r.once j n in omega (arith, s, o));
         shut = λ j k lt.

@@ -15,6 +15,10 @@ module _ {V : Type 0} where
   total_snoc f [] w = omega arith
   total_snoc f (x ∷ xs) w = let ih = total_snoc f xs w in omega arith
 
+  pub total_append : (f : V → ℕ) (xs ys : List V) → total f (xs ++ ys) ≡ total f xs + total f ys
+  total_append f [] ys = omega arith
+  total_append f (x ∷ xs) ys = let ih = total_append f xs ys in omega arith
+
   pub part_le : (f : V → ℕ) (views : List V) (port : ℕ) (v : V) → get_elem? views port ≡ some v → f v ≤ total f views
   part_le f [] port v e = absurd (some-ne-none v (sym e))
   part_le f (x ∷ xs) zero v e = let p : f x ≡ f v = ap f (some-injective x v e) in omega arith
@@ -41,18 +45,18 @@ module _ {V : Type 0} where
       omega arith
 
   -- where one view has all of g, it has all of f
-  pub only : (f g : V → ℕ) (views : List V) (port : ℕ) (v : V) → get_elem? views port ≡ some v → total g views ≡ g v → Each (λ p u. g u ≡ 0 → f u ≡ 0) views → total f views ≡ f v
-  only f g [] port v e all idle = absurd (some-ne-none v (sym e))
-  only f g (x ∷ xs) zero v e all idle =
+  pub total_of-one : (f g : V → ℕ) (views : List V) (port : ℕ) (v : V) → get_elem? views port ≡ some v → total g views ≡ g v → Each (λ p u. g u ≡ 0 → f u ≡ 0) views → total f views ≡ f v
+  total_of-one f g [] port v e all idle = absurd (some-ne-none v (sym e))
+  total_of-one f g (x ∷ xs) zero v e all idle =
       let p : g x ≡ g v = ap g (some-injective x v e) in
       let q : f x ≡ f v = ap f (some-injective x v e) in
       let rest = none_left f g xs (omega arith) (λ p u e. idle (suc p) u e) in
       omega arith
-  only f g (x ∷ xs) (suc i) v e all idle =
+  total_of-one f g (x ∷ xs) (suc i) v e all idle =
       let le = part_le g xs i v e in
       let here : g x ≡ 0 = omega arith in
       let mine : f x ≡ 0 = idle 0 x refl here in
-      let ih = only f g xs i v e (omega arith) (λ p u e. idle (suc p) u e) in
+      let ih = total_of-one f g xs i v e (omega arith) (λ p u e. idle (suc p) u e) in
       omega arith
 
   pub each_set : (F : ℕ → V → Type 0) (views : List V) (port : ℕ) (w : V) → F port w → ((j : ℕ) (u : V) → j ≢ port → get_elem? views j ≡ some u → F j u) → Each F (set views port w)

@@ -10,8 +10,8 @@ use Rattle.ix_stages.specs.declared.course.JobVisits.{JobVisits}
 use Rattle.ix_stages.specs.declared.item.Item.{Item}
 use Rattle.ix_stages.specs.declared.item.Item.TheVariants as item
 use Rattle.ix_stages.specs.Good.{IsCloseOf}
-use Rattle.ix_stages.specs.Received.{weigh}
 use Rattle.ix_stages.specs.Sent.{is_item, is_end}
+use Rattle.ix_stages.specs.Totals.{total}
 
 -- each job has at most a million visits
 abbrev pub IsCourse : List JobVisits → Type 0
@@ -49,11 +49,11 @@ IsPut course j put = (n : ℕ) × (n ≤ length (course_visits course j)) × ((p
 
 -- how often the visit or close n of job j stands in the list
 abbrev pub times : ℕ → ℕ → List Item → ℕ
-times j n items = weigh (is_item j n) items
+times j n items = total (is_item j n) items
 
 -- how often the close n of job j stands in the list
 abbrev pub ends : ℕ → ℕ → List Item → ℕ
-ends j n items = weigh (is_end j n) items
+ends j n items = total (is_end j n) items
 
 -- Each was allowed by the course, no number of a job stands twice, and none behind that of its close.
 pub record IsWellTaken (course : List JobVisits) (items : List Item) : Type 0 where

@@ -6,7 +6,6 @@ use Rattle.ix_stages.specs.declared.item.Item.{Item}
 use Rattle.ix_stages.specs.declared.course.JobVisits.{JobVisits}
 use Rattle.ix_stages.specs.declared.pass_view.PassView.{PassView}
 use Rattle.ix_stages.specs.Items.{numbers, count_up, Rises}
-use Rattle.ix_stages.specs.Received.{weigh}
 use Rattle.ix_stages.specs.Course.{Allowed, IsPut, times, ends}
 use Rattle.ix_stages.specs.PassViews.{blank, all_put, all_taken}
 use Rattle.ix_stages.specs.Totals.{total}
@@ -36,7 +35,7 @@ pub record Running (items : List Item) (views : List PassView) : Type 0 where
   pub ordered : (j : ℕ) → numbers j items ≡ count_up (head j) (left j)
   pub counted : total (λ v. v.parts) views ≡ all
   -- each item that was put is in the queue or was taken, as often as it was put
-  pub balanced : (h : Item → ℕ) → total (λ v. weigh h (all_put v)) views ≡ total (λ v. weigh h (all_taken v)) views + weigh h items
+  pub balanced : (h : Item → ℕ) → total (λ v. total h (all_put v)) views ≡ total (λ v. total h (all_taken v)) views + total h items
   -- no number of a job is put twice
   pub once : (j n : ℕ) → total (λ v. times j n (all_put v)) views ≤ 1
   pub fresh : (j n : ℕ) → head j + left j ≤ n → total (λ v. times j n (all_put v)) views ≡ 0

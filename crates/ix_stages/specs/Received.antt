@@ -2,11 +2,7 @@
 use Rattle.std.specs.Prelude.{◌≡◌, ℕ, ◌+◌, ◌==◌, cond, List, [], ◌∷◌, ◌++◌, Option, Some, None}
 use Rattle.ix_stages.specs.declared.verdicted.Verdicted.{Verdicted}
 use Rattle.ix_stages.specs.declared.verdicted.Verdicted.TheVariants.{Checked, Unchecked, Close, Last}
-
--- the sum of a weight over a list
-abbrev pub weigh : {X : Type 0} → (X → ℕ) → List X → ℕ
-weigh h [] = 0
-weigh h (x ∷ xs) = h x + weigh h xs
+use Rattle.ix_stages.specs.Totals.{total}
 
 -- 1 at the number k
 abbrev pub point : ℕ → ℕ → ℕ
@@ -49,7 +45,7 @@ pub record Tally : Type 0 where
 
 abbrev pub tally : ℕ → List Verdicted → Tally
 tally j got =
-    record { checked = λ n. weigh (is_checked j n) got; unchecked = λ n. weigh (is_unchecked j n) got; closes = λ n. weigh (is_close j n) got; count = weigh (is_of j) got }
+    record { checked = λ n. total (is_checked j n) got; unchecked = λ n. total (is_unchecked j n) got; closes = λ n. total (is_close j n) got; count = total (is_of j) got }
 
 -- how often the number n was received
 abbrev pub seen : Tally → ℕ → ℕ

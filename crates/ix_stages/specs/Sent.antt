@@ -10,8 +10,9 @@ use Rattle.ix_stages.specs.declared.item.Item.TheVariants as taken
 use Rattle.ix_stages.specs.declared.verdicted.Verdicted.{Verdicted}
 use Rattle.ix_stages.specs.declared.verdicted.Verdicted.TheVariants.{Checked, Unchecked, Close, Last}
 use Rattle.ix_stages.specs.Items.{is_of, seq_of}
-use Rattle.ix_stages.specs.Received.{weigh, point}
+use Rattle.ix_stages.specs.Received.{point}
 use Rattle.ix_stages.specs.Good.{judged_at, over_at, IsCloseOf}
+use Rattle.ix_stages.specs.Totals.{total}
 
 -- the visits of the job with this number, or none where there is no such job
 abbrev pub visits_at : Blocks → List JobMeaning → ℕ → List Visit
@@ -61,6 +62,6 @@ is_end j n taken.Stop = 0
 -- Each was allowed, no number of a job was taken twice, and none behind that of its close. Counts alone are named, so the order is left open.
 pub record IsGoodTaken (store : Blocks) (jobs : List JobMeaning) (items : List Item) : Type 0 where
   pub allowed : All (IsOfCourse store jobs) items
-  pub once : (j n : ℕ) → weigh (is_item j n) items ≤ 1
-  pub last : (j k n : ℕ) → 0 < weigh (is_end j k) items → k < n → weigh (is_item j n) items ≡ 0
+  pub once : (j n : ℕ) → total (is_item j n) items ≤ 1
+  pub last : (j k n : ℕ) → 0 < total (is_end j k) items → k < n → total (is_item j n) items ≡ 0
   pub small : (j : ℕ) → length (judged_at store jobs j) ≤ 1000000

@@ -5,8 +5,8 @@ use Rattle.ix_stages.specs.declared.item.Item.{Item}
 use Rattle.ix_stages.specs.declared.pass_view.PassView.{PassView}
 use Rattle.ix_stages.specs.PassViews.{after_join, all_put, all_taken}
 use Rattle.ix_stages.specs.Items.{concat}
-use Rattle.ix_stages.specs.Received.{weigh}
 use Rattle.ix_stages.specs.Seats.{JobView, SeatView}
+use Rattle.ix_stages.specs.Totals.{total}
 
 -- v took in these passes, in this order: their lists are kept apart
 pub record Settles (v : PassView) (passes : List PassView) (w : PassView) : Type 0 where
@@ -31,7 +31,7 @@ passes_of jobs takers = map (λ s. s.pass) jobs ++ map (λ s. s.pass) takers
 
 -- where all seats were joined, whatever was put was taken, as often as it was put
 abbrev pub IsAllTaken : PassView → Type 0
-IsAllTaken v = v.parts ≡ v.all → (h : Item → ℕ) → weigh h (all_put v) ≡ weigh h (all_taken v)
+IsAllTaken v = v.parts ≡ v.all → (h : Item → ℕ) → total h (all_put v) ≡ total h (all_taken v)
 
 -- what these seats have put, seat by seat
 abbrev pub put_by : List JobView → List Item

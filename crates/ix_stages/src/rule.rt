@@ -1,7 +1,6 @@
 //! The rule of the queue, the steps that seats make, and what the steps tell.
 
 ghost use Rattle.std.specs.Prelude.{◌≡◌, ◌+◌, ℕ, List, []};
-ghost use Rattle.ix_stages.specs.Received.{weigh};
 ghost use Rattle.ix_stages.specs.Course.{IsWellTaken};
 ghost use Rattle.ix_stages.specs.PassViews.{blank, spent, root, after_seat, job_pass, take_pass};
 ghost use Rattle.ix_stages.specs.PassViews.{after_put, after_join, all_put, all_taken};
@@ -9,6 +8,7 @@ ghost use Rattle.ix_stages.specs.QueueState.{IsQueueState};
 ghost use Rattle.ix_stages.specs.Seats.{IsTake};
 ghost use Rattle.ix_stages.specs.declared.course.JobVisits.{JobVisits};
 ghost use Rattle.ix_stages.specs.declared.item.Item.{Item};
+ghost use Rattle.ix_stages.specs.Totals.{total};
 
 use crate::item::Item;
 use crate::pass_view::PassView;
@@ -94,7 +94,7 @@ impl Outcome<Item, PassView> for Takes {
 }
 
 impl Lesson<Item, PassView> for Takes {
-    ghost fact = { λ v items. v.parts ≡ v.all → (h : Item → ℕ) → weigh h (all_put v) ≡ weigh h (all_taken v) + weigh h items };
+    ghost fact = { λ v items. v.parts ≡ v.all → (h : Item → ℕ) → total h (all_put v) ≡ total h (all_taken v) + total h items };
 }
 
 /// What was taken, with the seats that were joined, fits the course and holds nothing twice.

@@ -1,12 +1,11 @@
 -- An index in which the look-up of each entry comes to its place.
 use Rattle.std.proofs.Common.{◌≡◌, ◌⊎◌, ℕ, suc, ◌+◌, ◌-◌, ◌<◌, ◌≤◌, Bool, true, false, ◌&&◌, cond, eqb, List, [], ◌∷◌, length, drop, get_or, slice_get, Some, None, refl, sym, ap, subst, ◌∙◌, inl, inr, ⊎_elim, arith}
 use Rattle.std.specs.Prelude.{Option, bytes_eq}
-use Rattle.std.specs.Option.{is_some, unwrap_or}
+use Rattle.std.specs.Option.{is_some}
 use Rattle.std.proofs.lemmas.Bool.{cases_Bool, false≢true, false_from_ne_true, eq-eqb, ne_eqb}
 use Rattle.std.proofs.lemmas.List.{drop_more}
 use Rattle.std.proofs.Math.ListN.{drop_of_length-le}
 use Rattle.std.proofs.lemmas.Option.{none-some, slice_get_within}
-use Rattle.std.proofs.lemmas.Slice.Eq.{bytes_eq-Decides}
 use Rattle.ix_store.specs.Store.{Blocks, has_cid, HasDistinctCids, position_of}
 use Rattle.ix_store.specs.Index.{tail_of, mark_of, window_of, Has, IsFree, IsTaken, Leads, AreTaken, place_behind, IsIndexed, IsTrueBehind, is_cid_of, is_cid_at, sight_of}
 use Rattle.ix_store.specs.declared.index.Slot.{Slot}
@@ -14,7 +13,7 @@ use Rattle.ix_store.specs.declared.index.Sight.{Sight}
 use Rattle.ix_store.specs.declared.index.Sight.TheVariants.{At, Free, Full}
 use Rattle.ix_store.specs.declared.index.Index.{Index}
 use Rattle.ix_store.proofs.Stores.{is_some-position, position-at, pair-there}
-use Rattle.ix_store.proofs.Indexes.{free, Puts, put-keeps, leads-past}
+use Rattle.ix_store.proofs.Indexes.{free, Puts, leads-past}
 
 -- the place to which a look-up comes that sees this in its slots, and behind them what the tree has
 abbrev pub place_by : Sight → Option ℕ → Option ℕ
@@ -151,35 +150,11 @@ indexed-found index es found behind =
           position-at 0 p es at.0 c distinct at.1 at.2 ∙ ap Some (omega arith);
     }
 
--- one look-up more that comes to its place
-pub found-more : (index : Index) (es : Blocks) (n : ℕ) (x : List ℕ × List ℕ) → AreFound index es n → slice_get es n ≡ Some x → found_by index es x.0 ≡ Some n → AreFound index es (n + 1)
-found-more index es n x found at here k e less is =
-    ⊎_elim (λ before. found k e before is) (λ (same : k ≡ n).
-    let pair : Some x ≡ Some e = sym at ∙ ap (slice_get es) (sym same) ∙ is in
-    let xe : x ≡ e = cc in
-    ap (λ (y : List ℕ × List ℕ). found_by index es y.0) (sym xe) ∙ here ∙ ap Some (sym same)) (less-or-same k n less) where
-      less-or-same : (k n : ℕ) → k < n + 1 → (k < n) ⊎ (k ≡ n)
-      less-or-same k n h = grind arith
-
 -- a place that is found stays found if the tree keeps it
 pub place-keeps : (s : Sight) (b d : Option ℕ) (p : ℕ) → (b ≡ Some p → d ≡ Some p) → place_by s b ≡ Some p → place_by s d ≡ Some p
 place-keeps (At q) b d p keeps h = h
 place-keeps Free b d p keeps h = absurd (none-some p h)
 place-keeps Full b d p keeps h = keeps h
-
--- what is found stays found where the tree was given a place for a CID
-pub found-put : (index later : Index) (es : Blocks) (n : ℕ) (k : List ℕ) (s p : ℕ) → AreFound index es n → later.slots.items ≡ index.slots.items → Puts index later k s → s ≡ unwrap_or (place_behind index k) p → AreFound later es n
-found-put index later es n k s p found slots puts stood i x less at =
-    let c = x.0 in
-    place-keeps (sight_of es (window_of later.slots.items (tail_of c)) (mark_of (tail_of c)) c) (place_behind index c) (place_behind later c) i (put-keeps index later k c s p i puts stood)
-    (ap (λ (l : List Slot). place_by (sight_of es (window_of l (tail_of c)) (mark_of (tail_of c)) c) (place_behind index c)) slots ∙ found i x less at)
-
--- the CID for which it was
-pub found-behind : (index later : Index) (es : Blocks) (k : List ℕ) (s : ℕ) → sight_of es (window_of index.slots.items (tail_of k)) (mark_of (tail_of k)) k ≡ Full → later.slots.items ≡ index.slots.items → Puts index later k s → found_by later es k ≡ Some s
-found-behind index later es k s full slots puts =
-    ap (λ (l : List Slot). place_by (sight_of es (window_of l (tail_of k)) (mark_of (tail_of k)) k) (place_behind later k)) slots
-    ∙ ap (λ (v : Sight). place_by v (place_behind later k)) full
-    ∙ puts k ∙ ap (λ v. cond v (Some s) (place_behind index k)) ((bytes_eq-Decides k k).1 refl)
 
 -- the tree stays true if the place is one at which the CID stands
 pub true-put : (index later : Index) (es : Blocks) (k : List ℕ) (s : ℕ) (x : List ℕ × List ℕ) → IsTrueBehind index es → Puts index later k s → slice_get es s ≡ Some x → x.0 ≡ k → IsTrueBehind later es

@@ -1,5 +1,5 @@
 -- Many blocks, added one after the other.
-use Rattle.std.proofs.Common.{◌≡◌, ◌⊎◌, ℕ, zero, suc, ◌+◌, ◌<◌, ◌≤◌, true, false, cond, List, [], ◌∷◌, ◌++◌, length, take, drop, map, get_or, refl, sym, ap, subst, ◌∙◌, ⊎_elim, arith}
+use Rattle.std.proofs.Common.{◌≡◌, ℕ, zero, suc, ◌+◌, ◌<◌, ◌≤◌, true, false, cond, List, [], ◌∷◌, ◌++◌, length, take, drop, map, get_or, refl, sym, ap, subst, ◌∙◌, ⊎_elim, arith}
 use Rattle.std.specs.List.{swap}
 use Rattle.std.proofs.Math.ListN.{set, drop_of_length-le}
 use Rattle.std.proofs.lemmas.List.{map-append, drop_more, take_all, take_more_set, take-set-le, drop-set-lt, length-set, take-append-le, drop-append-le}
@@ -9,7 +9,8 @@ use Rattle.ix_store.specs.Store.{Blocks, has_cid, with_block, with_blocks, HasDi
 use Rattle.ix_store.specs.Index.{IsIndexed}
 use Rattle.ix_store.specs.declared.index.Index.{Index}
 use Rattle.ix_store.specs.declared.entry.Entry.{Entry}
-use Rattle.ix_store.proofs.Stores.{pair, entries-more, entries-before}
+use Rattle.ix_store.specs.Entry.{pair_of}
+use Rattle.ix_store.proofs.Stores.{entries-more, entries-before, less-or-same}
 
 -- one more behind them
 pub with_blocks-push : (store ps : Blocks) (p : List ℕ × List ℕ) → with_blocks store (ps ++ p ∷ []) ≡ with_block (with_blocks store ps) p
@@ -18,30 +19,30 @@ with_blocks-push store (q ∷ ps) p = with_blocks-push (with_block store q) ps p
 
 -- what the entries from a place on make of those before it
 abbrev pub made : ℕ → List Entry → Blocks
-made k entries = with_blocks (map pair (take k entries)) (map pair (drop k entries))
+made k entries = with_blocks (map pair_of (take k entries)) (map pair_of (drop k entries))
 
 -- a new CID is added
-pub made-entered : (entries : List Entry) (kept place : ℕ) (x : Entry) → place < length entries → x ≡ get_or entries place x → has_cid (map pair (take kept entries)) x.cid ≡ false
-    → with_blocks (map pair (take kept entries) ++ pair x ∷ []) (map pair (drop (place + 1) entries)) ≡ with_blocks (map pair (take kept entries)) (map pair (drop place entries))
+pub made-entered : (entries : List Entry) (kept place : ℕ) (x : Entry) → place < length entries → x ≡ get_or entries place x → has_cid (map pair_of (take kept entries)) x.cid ≡ false
+    → with_blocks (map pair_of (take kept entries) ++ pair_of x ∷ []) (map pair_of (drop (place + 1) entries)) ≡ with_blocks (map pair_of (take kept entries)) (map pair_of (drop place entries))
 made-entered entries kept place x within at new =
     let rest : drop place entries ≡ x ∷ drop (place + 1) entries = drop_more entries place x within ∙ ap (λ (y : Entry). y ∷ drop (place + 1) entries) (sym at) in
-    sym (ap (λ (l : List Entry). with_blocks (map pair (take kept entries)) (map pair l)) rest
-    ∙ ap (λ v. with_blocks (cond v (map pair (take kept entries)) (map pair (take kept entries) ++ pair x ∷ [])) (map pair (drop (place + 1) entries))) new)
+    sym (ap (λ (l : List Entry). with_blocks (map pair_of (take kept entries)) (map pair_of l)) rest
+    ∙ ap (λ v. with_blocks (cond v (map pair_of (take kept entries)) (map pair_of (take kept entries) ++ pair_of x ∷ [])) (map pair_of (drop (place + 1) entries))) new)
 
 -- one that is there isn't
-pub made-held : (entries : List Entry) (kept place : ℕ) (x : Entry) → place < length entries → x ≡ get_or entries place x → has_cid (map pair (take kept entries)) x.cid ≡ true
-    → with_blocks (map pair (take kept entries)) (map pair (drop (place + 1) entries)) ≡ with_blocks (map pair (take kept entries)) (map pair (drop place entries))
+pub made-held : (entries : List Entry) (kept place : ℕ) (x : Entry) → place < length entries → x ≡ get_or entries place x → has_cid (map pair_of (take kept entries)) x.cid ≡ true
+    → with_blocks (map pair_of (take kept entries)) (map pair_of (drop (place + 1) entries)) ≡ with_blocks (map pair_of (take kept entries)) (map pair_of (drop place entries))
 made-held entries kept place x within at held =
     let rest : drop place entries ≡ x ∷ drop (place + 1) entries = drop_more entries place x within ∙ ap (λ (y : Entry). y ∷ drop (place + 1) entries) (sym at) in
-    sym (ap (λ (l : List Entry). with_blocks (map pair (take kept entries)) (map pair l)) rest
-    ∙ ap (λ v. with_blocks (cond v (map pair (take kept entries)) (map pair (take kept entries) ++ pair x ∷ [])) (map pair (drop (place + 1) entries))) held)
+    sym (ap (λ (l : List Entry). with_blocks (map pair_of (take kept entries)) (map pair_of l)) rest
+    ∙ ap (λ v. with_blocks (cond v (map pair_of (take kept entries)) (map pair_of (take kept entries) ++ pair_of x ∷ [])) (map pair_of (drop (place + 1) entries))) held)
 
 -- where no CID stands twice, all are
-made-past : (entries : List Entry) (k : ℕ) → length entries ≤ k → made k entries ≡ map pair entries
+made-past : (entries : List Entry) (k : ℕ) → length entries ≤ k → made k entries ≡ map pair_of entries
 made-past entries k past =
-    ap (λ (l : List Entry). with_blocks (map pair (take k entries)) (map pair l)) (drop_of_length-le entries past) ∙ ap (λ (l : List Entry). map pair l) (take_all k entries past)
+    ap (λ (l : List Entry). with_blocks (map pair_of (take k entries)) (map pair_of l)) (drop_of_length-le entries past) ∙ ap (λ (l : List Entry). map pair_of l) (take_all k entries past)
 
-pub made-all : (more : ℕ) (entries : List Entry) (k : ℕ) → length entries ≤ k + more → HasDistinctCids (map pair entries) → made k entries ≡ map pair entries
+pub made-all : (more : ℕ) (entries : List Entry) (k : ℕ) → length entries ≤ k + more → HasDistinctCids (map pair_of entries) → made k entries ≡ map pair_of entries
 made-all zero entries k far h = made-past entries k (omega (arith, far))
 made-all (suc more) entries k far h =
     ⊎_elim
@@ -49,7 +50,7 @@ made-all (suc more) entries k far h =
     let x = here.0 in
     let at : x ≡ get_or entries k x = sym here.3 in
     sym (made-entered entries k k x here.1 at (entries-before entries k x here.1 at h))
-    ∙ ap (λ (l : Blocks). with_blocks l (map pair (drop (k + 1) entries))) (sym (entries-more entries k x here.1 at))
+    ∙ ap (λ (l : Blocks). with_blocks l (map pair_of (drop (k + 1) entries))) (sym (entries-more entries k x here.1 at))
     ∙ made-all more entries (k + 1) (omega (arith, far)) h)
     (λ past. made-past entries k (omega (arith, past.0)))
     (slice_get_cases entries k).1
@@ -58,12 +59,9 @@ made-all (suc more) entries k far h =
 pub take-swap : (xs : List Entry) (k p : ℕ) (d : Entry) → k ≤ p → p < length xs → take (k + 1) (swap xs k p) ≡ take k xs ++ get_or xs p d ∷ []
 take-swap xs k p d before within =
     ap (λ (l : List Entry). take (k + 1) l) (sym (swap_is xs k p d (omega (arith, before, within)) within)) ∙ ⊎_elim
-    (λ (less : k + 1 ≤ p). take-set-le (k + 1) (set xs k (get_or xs p d)) p (get_or xs k d) less ∙ take_more_set xs k (get_or xs p d) (omega (arith, before, within)))
+    (λ (less : k < p). take-set-le (k + 1) (set xs k (get_or xs p d)) p (get_or xs k d) (omega (arith, less)) ∙ take_more_set xs k (get_or xs p d) (omega (arith, before, within)))
     (λ (same : k ≡ p). subst (λ (q : ℕ). take (k + 1) (set (set xs k (get_or xs q d)) q (get_or xs k d)) ≡ take k xs ++ get_or xs q d ∷ []) same (at-itself (get_or xs k d)))
-    (less-or-same k p before) where
-      less-or-same : (k p : ℕ) → k ≤ p → (k + 1 ≤ p) ⊎ (k ≡ p)
-      less-or-same k p h = grind arith
-
+    (less-or-same k p (omega (arith, before))) where
       at-itself : (c : Entry) → take (k + 1) (set (set xs k c) k c) ≡ take k xs ++ c ∷ []
       at-itself c = take_more_set (set xs k c) k c (omega (arith, length-set xs k c, before, within)) ∙ ap (λ (l : List Entry). l ++ c ∷ []) (take-set-le k xs k c (omega arith))
 
@@ -78,31 +76,31 @@ drop-swap xs k p d before within =
 pub record InTurn (whole : Blocks) (count kept place : ℕ) (entries : List Entry) (index : Index) : Type 0 where
   pub before : kept ≤ place
   pub long : length entries ≡ count
-  pub indexed : IsIndexed index (map pair (take kept entries))
-  pub makes : with_blocks (map pair (take kept entries)) (map pair (drop place entries)) ≡ whole
+  pub indexed : IsIndexed index (map pair_of (take kept entries))
+  pub makes : with_blocks (map pair_of (take kept entries)) (map pair_of (drop place entries)) ≡ whole
 
 -- one of a new CID is put behind those that are kept
-pub in-turn-kept : (whole : Blocks) (count kept place : ℕ) (entries later : List Entry) (index next : Index) (x : Entry) → InTurn whole count kept place entries index → place < count → x ≡ get_or entries place x → has_cid (map pair (take kept entries)) x.cid ≡ false
-    → later ≡ swap entries kept place → IsIndexed next (map pair (take kept entries) ++ pair x ∷ []) → InTurn whole count (kept + 1) (place + 1) later next
+pub in-turn-kept : (whole : Blocks) (count kept place : ℕ) (entries later : List Entry) (index next : Index) (x : Entry) → InTurn whole count kept place entries index → place < count → x ≡ get_or entries place x → has_cid (map pair_of (take kept entries)) x.cid ≡ false
+    → later ≡ swap entries kept place → IsIndexed next (map pair_of (take kept entries) ++ pair_of x ∷ []) → InTurn whole count (kept + 1) (place + 1) later next
 in-turn-kept whole count kept place entries later index next x h less at new swapped indexed =
     let within : place < length entries = omega (arith, less, h.long) in
-    let more : map pair (take (kept + 1) later) ≡ map pair (take kept entries) ++ pair x ∷ [] =
-    ap (λ (l : List Entry). map pair (take (kept + 1) l)) swapped
-    ∙ ap (λ (l : List Entry). map pair l) (take-swap entries kept place x h.before within ∙ ap (λ (y : Entry). take kept entries ++ y ∷ []) (sym at))
-    ∙ map-append pair (take kept entries) (x ∷ []) in
+    let more : map pair_of (take (kept + 1) later) ≡ map pair_of (take kept entries) ++ pair_of x ∷ [] =
+    ap (λ (l : List Entry). map pair_of (take (kept + 1) l)) swapped
+    ∙ ap (λ (l : List Entry). map pair_of l) (take-swap entries kept place x h.before within ∙ ap (λ (y : Entry). take kept entries ++ y ∷ []) (sym at))
+    ∙ map-append pair_of (take kept entries) (x ∷ []) in
     record {
       before = omega (arith, h.before);
       long = ap (λ (l : List Entry). length l) swapped ∙ length-swap entries kept place ∙ h.long;
       indexed = subst (λ (l : Blocks). IsIndexed next l) (sym more) indexed;
-      makes = ap (λ (l : Blocks). with_blocks l (map pair (drop (place + 1) later))) more
-          ∙ ap (λ (l : List Entry). with_blocks (map pair (take kept entries) ++ pair x ∷ []) (map pair l)) (ap (λ (l : List Entry). drop (place + 1) l) swapped ∙ drop-swap entries kept place x h.before within)
+      makes = ap (λ (l : Blocks). with_blocks l (map pair_of (drop (place + 1) later))) more
+          ∙ ap (λ (l : List Entry). with_blocks (map pair_of (take kept entries) ++ pair_of x ∷ []) (map pair_of l)) (ap (λ (l : List Entry). drop (place + 1) l) swapped ∙ drop-swap entries kept place x h.before within)
           ∙ made-entered entries kept place x within at new
           ∙ h.makes;
     }
 
 -- one whose CID is kept is left out
-pub in-turn-held : (whole : Blocks) (count kept place : ℕ) (entries : List Entry) (index next : Index) (x : Entry) → InTurn whole count kept place entries index → place < count → x ≡ get_or entries place x → has_cid (map pair (take kept entries)) x.cid ≡ true
-    → IsIndexed next (map pair (take kept entries)) → InTurn whole count kept (place + 1) entries next
+pub in-turn-held : (whole : Blocks) (count kept place : ℕ) (entries : List Entry) (index next : Index) (x : Entry) → InTurn whole count kept place entries index → place < count → x ≡ get_or entries place x → has_cid (map pair_of (take kept entries)) x.cid ≡ true
+    → IsIndexed next (map pair_of (take kept entries)) → InTurn whole count kept (place + 1) entries next
 in-turn-held whole count kept place entries index next x h less at held indexed = record {
   before = omega (arith, h.before);
   long = h.long;
@@ -110,16 +108,11 @@ in-turn-held whole count kept place entries index next x h less at held indexed 
   makes = made-held entries kept place x (omega (arith, less, h.long)) at held ∙ h.makes;
 }
 
--- at the end those that are kept are the whole
-pub in-turn-end : (whole : Blocks) (count kept place : ℕ) (entries : List Entry) (index : Index) → InTurn whole count kept place entries index → count ≤ place → map pair (take kept entries) ≡ whole
-in-turn-end whole count kept place entries index h past =
-    ap (λ (l : List Entry). with_blocks (map pair (take kept entries)) (map pair l)) (sym (drop_of_length-le entries (omega (arith, past, h.long)))) ∙ h.makes
-
 -- the builder with one entry more
-pub made-push : (entries later : List Entry) (k : ℕ) (x : Entry) → k ≤ length entries → later ≡ entries ++ x ∷ [] → made k later ≡ with_block (made k entries) (pair x)
+pub made-push : (entries later : List Entry) (k : ℕ) (x : Entry) → k ≤ length entries → later ≡ entries ++ x ∷ [] → made k later ≡ with_block (made k entries) (pair_of x)
 made-push entries later k x within is =
     ap (λ (l : List Entry). made k l) is
-    ∙ ap (λ (l : List Entry). with_blocks (map pair l) (map pair (drop k (entries ++ x ∷ [])))) (take-append-le k entries (x ∷ []) within)
-    ∙ ap (λ (l : List Entry). with_blocks (map pair (take k entries)) (map pair l)) (drop-append-le k entries (x ∷ []) within)
-    ∙ ap (λ (l : Blocks). with_blocks (map pair (take k entries)) l) (map-append pair (drop k entries) (x ∷ []))
-    ∙ with_blocks-push (map pair (take k entries)) (map pair (drop k entries)) (pair x)
+    ∙ ap (λ (l : List Entry). with_blocks (map pair_of l) (map pair_of (drop k (entries ++ x ∷ [])))) (take-append-le k entries (x ∷ []) within)
+    ∙ ap (λ (l : List Entry). with_blocks (map pair_of (take k entries)) (map pair_of l)) (drop-append-le k entries (x ∷ []) within)
+    ∙ ap (λ (l : Blocks). with_blocks (map pair_of (take k entries)) l) (map-append pair_of (drop k entries) (x ∷ []))
+    ∙ with_blocks-push (map pair_of (take k entries)) (map pair_of (drop k entries)) (pair_of x)

@@ -6,6 +6,7 @@ use Rattle.std.specs.declared.alloc.AllocError.{AllocError}
 use Rattle.std.specs.Option.{unwrap_or}
 use Rattle.std.proofs.lemmas.Slice.Eq.{bytes_eq-Decides}
 use Rattle.std.proofs.lemmas.List.Elements.{All-contains, Contains-append_left, Contains-push}
+use Rattle.std.proofs.lemmas.Bool.{cases_lt}
 use Rattle.ix_store.specs.Store.{Blocks}
 use Rattle.ix_store.specs.Index.{place_behind, sight_in, AreSeen, AllSeen, IsBehind, HasAllOf}
 use Rattle.ix_store.specs.declared.index.Slot.{Slot}
@@ -14,9 +15,7 @@ use Rattle.ix_store.specs.declared.index.Sight.TheVariants.{At, Full}
 use Rattle.ix_store.specs.declared.index.Index.{Index}
 use Rattle.ix_store.proofs.Indexes.{Puts, put-keeps}
 use Rattle.ix_store.proofs.Found.{place_by, place-keeps, AreFound}
-
-less-or-same : (k n : ℕ) → k < n + 1 → (k < n) ⊎ (k ≡ n)
-less-or-same k n h = grind arith
+use Rattle.ix_store.proofs.Stores.{less-or-same}
 
 -- where the look-up of a pair comes to its place, or finds no slot free and these have its place
 abbrev IsSeen : List Slot → Blocks → ℕ → List ℕ → List ℕ → Type 0
@@ -60,9 +59,6 @@ found-keeps index later es n same has found k e less at =
     ap (λ (l : List Slot). place_by (sight_in l es c) (place_behind later c)) same
     ∙ place-keeps (sight_in index.slots.items es c) (place_behind index c) (place_behind later c) k (has c k) (found k e less at)
 
-less-or-more : (k n : ℕ) → (k < n) ⊎ (n ≤ k)
-less-or-more k n = grind arith
-
 -- a share that was seen is found too, once the tree has the places of those with no slot free
 pub found-share : (index later : Index) (es : Blocks) (n share : ℕ) (places : List ℕ) → later.slots.items ≡ index.slots.items → HasAllOf later index → AreFound index es n → AreSeen index.slots.items es n (n + share) places → All (λ p. IsBehind later es p) places → AreFound later es (n + share)
 found-share index later es n share places same has found seen behind k e less at =
@@ -75,7 +71,7 @@ found-share index later es n share places same has found seen behind k e less at
     (λ (there : sight_in index.slots.items es c ≡ At k). ap (λ (s : Sight). place_by s (place_behind later c)) there)
     (λ (full : (sight_in index.slots.items es c ≡ Full) × Contains places k). ap (λ (s : Sight). place_by s (place_behind later c)) full.0 ∙ All-contains (λ p. IsBehind later es p) places k behind full.1 e at)
     (seen k e from less at))
-    (less-or-more k n)
+    (cases_lt k n)
 
 -- a CID for which the tree was given a place stands behind there
 pub put-behind : (index later : Index) (es : Blocks) (x : List ℕ × List ℕ) (s p : ℕ) → Puts index later x.0 s → s ≡ p → slice_get es p ≡ Some x → IsBehind later es p

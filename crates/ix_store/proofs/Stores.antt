@@ -1,5 +1,5 @@
 -- A store with one pair more, and where its pairs stand.
-use Rattle.std.proofs.Common.{◌≡◌, ℕ, zero, suc, ◌+◌, Bool, true, false, ◌||◌, cond, List, [], ◌∷◌, ◌++◌, length, take, drop, ◌<◌, map, get_or, slice_get, option_map, Some, None, bytes_eq, refl, sym, ap, subst, ◌∙◌, zero-add, arith, inl, inr, ⊎_elim}
+use Rattle.std.proofs.Common.{◌≡◌, ◌⊎◌, ℕ, zero, suc, ◌+◌, Bool, true, false, ◌||◌, cond, List, [], ◌∷◌, ◌++◌, length, take, drop, ◌<◌, map, get_or, slice_get, option_map, Some, None, bytes_eq, refl, sym, ap, subst, ◌∙◌, zero-add, arith, inl, inr, ⊎_elim}
 use Rattle.std.specs.Prelude.{Result, Ok, Err, OnOk}
 use Rattle.std.specs.Result.{is_err}
 use Rattle.std.specs.Option.{is_some}
@@ -8,7 +8,7 @@ use Rattle.std.proofs.lemmas.Slice.Eq.{bytes_eq-Decides}
 use Rattle.std.proofs.lemmas.List.{length-map, map-append, take_more, drop_more, take-append-drop}
 use Rattle.std.proofs.lemmas.Option.{none-some, same_Some, get_or_from_slice_get, slice_get-map, slice_get-get_or, slice_get_read}
 use Rattle.std.proofs.Math.Bool.{or-true}
-use Rattle.ix_store.specs.Entry.{content}
+use Rattle.ix_store.specs.Entry.{content, pair_of}
 use Rattle.ix_store.proofs.Blocks.{some_behind, place_within, block_at}
 use Rattle.ix_store.specs.declared.entry.Entry.{Entry}
 use Rattle.ix_store.specs.Store.{Blocks, has_cid, with_block, HasDistinctCids, block_of, position_behind, position_of}
@@ -89,45 +89,41 @@ position-at n (suc i) (x ∷ es) e c h at same =
     let apart : bytes_eq x.0 c ≡ false = false_from_ne_true (bytes_eq x.0 c) (λ first. false≢true (sym h.0 ∙ has_cid-at i es e x.0 at ((bytes_eq-Decides e.0 x.0).1 ((bytes_eq-Decides e.0 c).0 same ∙ sym ((bytes_eq-Decides x.0 c).0 first))))) in
     ap (λ y. cond y (Some n) (position_behind (n + 1) es c)) apart ∙ position-at (n + 1) i es e c h.1 at same ∙ ap Some (omega arith)
 
--- an entry as a pair
-abbrev pub pair : Entry → List ℕ × List ℕ
-pair e = (e.cid, content e.block)
-
 -- the pairs of entries with one entry more
-pub pairs-push : (xs ys : List Entry) (e : Entry) → ys ≡ xs ++ e ∷ [] → map pair ys ≡ map pair xs ++ (e.cid, content e.block) ∷ []
-pairs-push xs ys e is = ap (λ (l : List Entry). map pair l) is ∙ map-append pair xs (e ∷ [])
+pub pairs-push : (xs ys : List Entry) (e : Entry) → ys ≡ xs ++ e ∷ [] → map pair_of ys ≡ map pair_of xs ++ (e.cid, content e.block) ∷ []
+pairs-push xs ys e is = ap (λ (l : List Entry). map pair_of l) is ∙ map-append pair_of xs (e ∷ [])
 
 -- the block of a pair
 abbrev pub block : List ℕ × List ℕ → List ℕ
 block p = p.1
 
 -- the pair of the entry at a place
-pub pair-at : (entries : List Entry) (now : Blocks) (place : ℕ) (e : Entry) → map pair entries ≡ now → place < length now → e ≡ get_or entries place e → slice_get now place ≡ Some (e.cid, content e.block)
+pub pair-at : (entries : List Entry) (now : Blocks) (place : ℕ) (e : Entry) → map pair_of entries ≡ now → place < length now → e ≡ get_or entries place e → slice_get now place ≡ Some (e.cid, content e.block)
 pair-at entries now place e is within at =
-    let lt : place < length entries = omega (arith, ap length is, length-map entries pair) in
+    let lt : place < length entries = omega (arith, ap length is, length-map entries pair_of) in
     ap (λ (l : Blocks). slice_get l place) (sym is)
-    ∙ slice_get-map pair entries place
-    ∙ ap (λ o. option_map pair o) (slice_get_read entries (length entries) place e refl lt at)
+    ∙ slice_get-map pair_of entries place
+    ∙ ap (λ o. option_map pair_of o) (slice_get_read entries (length entries) place e refl lt at)
 
 -- and what is asked of it
-pub asked-at : {X : Type 0} (f : List ℕ × List ℕ → X) (entries : List Entry) (now : Blocks) (place : ℕ) (e : Entry) (r : X) → map pair entries ≡ now → place < length now → e ≡ get_or entries place e → r ≡ f (e.cid, content e.block) → slice_get (map f now) place ≡ Some r
+pub asked-at : {X : Type 0} (f : List ℕ × List ℕ → X) (entries : List Entry) (now : Blocks) (place : ℕ) (e : Entry) (r : X) → map pair_of entries ≡ now → place < length now → e ≡ get_or entries place e → r ≡ f (e.cid, content e.block) → slice_get (map f now) place ≡ Some r
 asked-at f entries now place e r is within at same = slice_get-map f now place ∙ ap (λ o. option_map f o) (pair-at entries now place e is within at) ∙ ap Some (sym same)
 
 -- the block of the entry at a place
-pub block-at : (entries : List Entry) (now : Blocks) (place : ℕ) (e : Entry) (r : List ℕ) → map pair entries ≡ now → place < length now → e ≡ get_or entries place e → r ≡ content e.block → slice_get (map block now) place ≡ Some r
+pub block-at : (entries : List Entry) (now : Blocks) (place : ℕ) (e : Entry) (r : List ℕ) → map pair_of entries ≡ now → place < length now → e ≡ get_or entries place e → r ≡ content e.block → slice_get (map block now) place ≡ Some r
 block-at entries now place e r is within at same =
-    let lt : place < length entries = omega (arith, ap length is, length-map entries pair) in
-    let found : slice_get (map pair entries) place ≡ Some (pair e) = slice_get-map pair entries place ∙ ap (λ o. option_map pair o) (slice_get_read entries (length entries) place e refl lt at) in
+    let lt : place < length entries = omega (arith, ap length is, length-map entries pair_of) in
+    let found : slice_get (map pair_of entries) place ≡ Some (pair_of e) = slice_get-map pair_of entries place ∙ ap (λ o. option_map pair_of o) (slice_get_read entries (length entries) place e refl lt at) in
     ap (λ (l : Blocks). slice_get (map block l) place) (sym is)
-    ∙ slice_get-map block (map pair entries) place
+    ∙ slice_get-map block (map pair_of entries) place
     ∙ ap (λ o. option_map block o) found
     ∙ ap Some (sym same)
 
 -- the place of the CID of the entry there
-pub position-there : (entries : List Entry) (now : Blocks) (place : ℕ) (e : Entry) (c : List ℕ) → HasDistinctCids (map pair entries) → map pair entries ≡ now → slice_get entries place ≡ Some e → bytes_eq e.cid c ≡ true → position_of now c ≡ Some place
+pub position-there : (entries : List Entry) (now : Blocks) (place : ℕ) (e : Entry) (c : List ℕ) → HasDistinctCids (map pair_of entries) → map pair_of entries ≡ now → slice_get entries place ≡ Some e → bytes_eq e.cid c ≡ true → position_of now c ≡ Some place
 position-there entries now place e c h is at same =
     ap (λ (l : Blocks). position_of l c) (sym is)
-    ∙ position-at 0 place (map pair entries) (pair e) c h (slice_get-map pair entries place ∙ ap (λ o. option_map pair o) at) same
+    ∙ position-at 0 place (map pair_of entries) (pair_of e) c h (slice_get-map pair_of entries place ∙ ap (λ o. option_map pair_of o) at) same
     ∙ ap Some (zero-add place)
 
 -- the pair at the place of a CID has this CID
@@ -147,8 +143,8 @@ cid-at n (suc i) (x ∷ es) e c at is =
     cid-at (n + 1) i es e c at (sym (ap (λ b. cond b (Some n) (position_behind (n + 1) es c)) other) ∙ is ∙ ap Some on)) (cases_Bool (bytes_eq x.0 c))
 
 -- the CID of the entry at the place of a CID
-pub same-there : (entries : List Entry) (place : ℕ) (e : Entry) (c : List ℕ) → slice_get entries place ≡ Some e → position_of (map pair entries) c ≡ Some place → bytes_eq e.cid c ≡ true
-same-there entries place e c at is = cid-at 0 place (map pair entries) (pair e) c (slice_get-map pair entries place ∙ ap (λ o. option_map pair o) at) (is ∙ ap Some (sym (zero-add place)))
+pub same-there : (entries : List Entry) (place : ℕ) (e : Entry) (c : List ℕ) → slice_get entries place ≡ Some e → position_of (map pair_of entries) c ≡ Some place → bytes_eq e.cid c ≡ true
+same-there entries place e c at is = cid-at 0 place (map pair_of entries) (pair_of e) c (slice_get-map pair_of entries place ∙ ap (λ o. option_map pair_of o) at) (is ∙ ap Some (sym (zero-add place)))
 
 -- the pair at the place of a CID: this CID, and its block
 pub pair-there : (store : Blocks) (place : ℕ) (c : List ℕ) → Some place ≡ position_of store c → (b : List ℕ) × (slice_get store place ≡ Some (c, b)) × (block_of store c ≡ Some b)
@@ -177,16 +173,16 @@ has_cid-before (x ∷ xs) ys k b h =
     ap (λ v. v || has_cid xs k) (bytes-apart-back k x.0 (has_cid-midst xs ys k b x.0 h.0)) ∙ has_cid-before xs ys k b h.1
 
 -- entries up to one, and this one
-pub entries-more : (entries : List Entry) (place : ℕ) (e : Entry) → place < length entries → e ≡ get_or entries place e → map pair (take (place + 1) entries) ≡ map pair (take place entries) ++ (e.cid, content e.block) ∷ []
-entries-more entries place e within at = ap (λ (l : List Entry). map pair l) (take_more entries place e within ∙ ap (λ (x : Entry). take place entries ++ x ∷ []) (sym at)) ∙ map-append pair (take place entries) (e ∷ [])
+pub entries-more : (entries : List Entry) (place : ℕ) (e : Entry) → place < length entries → e ≡ get_or entries place e → map pair_of (take (place + 1) entries) ≡ map pair_of (take place entries) ++ (e.cid, content e.block) ∷ []
+entries-more entries place e within at = ap (λ (l : List Entry). map pair_of l) (take_more entries place e within ∙ ap (λ (x : Entry). take place entries ++ x ∷ []) (sym at)) ∙ map-append pair_of (take place entries) (e ∷ [])
 
 -- entries with distinct CIDs don't have that of one before it
-pub entries-before : (entries : List Entry) (place : ℕ) (e : Entry) → place < length entries → e ≡ get_or entries place e → HasDistinctCids (map pair entries) → has_cid (map pair (take place entries)) e.cid ≡ false
+pub entries-before : (entries : List Entry) (place : ℕ) (e : Entry) → place < length entries → e ≡ get_or entries place e → HasDistinctCids (map pair_of entries) → has_cid (map pair_of (take place entries)) e.cid ≡ false
 entries-before entries place e within at h =
     let parts : entries ≡ take place entries ++ e ∷ drop (place + 1) entries =
     sym (take-append-drop place entries) ∙ ap (λ (l : List Entry). take place entries ++ l) (drop_more entries place e within ∙ ap (λ (x : Entry). x ∷ drop (place + 1) entries) (sym at)) in
-    has_cid-before (map pair (take place entries)) (map pair (drop (place + 1) entries)) e.cid (content e.block)
-    (subst (λ (l : Blocks). HasDistinctCids l) (ap (λ (l : List Entry). map pair l) parts ∙ map-append pair (take place entries) (e ∷ drop (place + 1) entries)) h)
+    has_cid-before (map pair_of (take place entries)) (map pair_of (drop (place + 1) entries)) e.cid (content e.block)
+    (subst (λ (l : Blocks). HasDistinctCids l) (ap (λ (l : List Entry). map pair_of l) parts ∙ map-append pair_of (take place entries) (e ∷ drop (place + 1) entries)) h)
 
 -- a CID that isn't there has no place
 pub position-none : (n : ℕ) (es : Blocks) (c : List ℕ) → has_cid es c ≡ false → position_behind n es c ≡ None
@@ -195,7 +191,7 @@ position-none n (e ∷ es) c h =
     ap (λ v. cond v (Some n) (position_behind (n + 1) es c)) (or-left (bytes_eq e.0 c) (has_cid es c) h) ∙ position-none (n + 1) es c (or-right (bytes_eq e.0 c) (has_cid es c) h)
 
 -- where it isn't, the pair of one entry more is
-pub with-new : (entries kept later : List Entry) (now : Blocks) (e : Entry) → map pair entries ≡ now → kept ≡ entries → later ≡ kept ++ e ∷ [] → has_cid now e.cid ≡ false → map pair later ≡ with_block now (e.cid, content e.block)
+pub with-new : (entries kept later : List Entry) (now : Blocks) (e : Entry) → map pair_of entries ≡ now → kept ≡ entries → later ≡ kept ++ e ∷ [] → has_cid now e.cid ≡ false → map pair_of later ≡ with_block now (e.cid, content e.block)
 with-new entries kept later now e is same longer h =
     pairs-push entries later e (longer ∙ ap (λ (l : List Entry). l ++ e ∷ []) same)
     ∙ ap (λ (l : Blocks). l ++ (e.cid, content e.block) ∷ []) is
@@ -205,3 +201,7 @@ with-new entries kept later now e is same longer h =
 pub holds-at_ok : {T E P : Type 0} (r : Result T E) → OnOk r P → is_err r ≡ false → P
 holds-at_ok (Ok x) h fine = h
 holds-at_ok (Err e) h fine = absurd (false≢true (sym fine))
+
+-- a place before the next one is before this one, or this one
+pub less-or-same : (k n : ℕ) → k < n + 1 → (k < n) ⊎ (k ≡ n)
+less-or-same k n h = grind arith

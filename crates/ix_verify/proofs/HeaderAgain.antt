@@ -1,12 +1,12 @@
 -- The header of an archive is read where it stands.
 use Rattle.std.proofs.Common.{◌≡◌, ℕ, ◌+◌, ◌<◌, ◌≤◌, ◌^◌, Bool, true, List, [], ◌∷◌, ◌++◌, length, max, refl, ◌∙◌, ap, arith, length-append}
-use Rattle.std.specs.Prelude.{Option, Some, None, Result, Ok, Err, All, pos, codes}
+use Rattle.std.specs.Prelude.{Option, Some, Result, Ok, All, pos, codes}
 use Rattle.std.proofs.lemmas.List.Elements.{All-head, All-tail}
+use Rattle.std.specs.Result.{result_ok}
 use Rattle.ix_cid.specs.Cid.{IsCid}
 use Rattle.ix_cbor.specs.Data.{Data, integer}
 use Rattle.ix_cbor.specs.Spelling.{head_of, item_count, items_spelling, items_nesting, nesting_of, key_spelling, link_spelling, spelling_of, AreSpellable, IsCanonical}
-use Rattle.ix_cbor.specs.Reading.{decoded, data_at}
-use Rattle.ix_cbor.specs.Reading as readings
+use Rattle.ix_cbor.specs.Reading.{data_at}
 use Rattle.ix_cbor.proofs.Laws.{decoded-complete}
 use Rattle.ix_car.specs.Writing.{links_to, header_data, header_of}
 use Rattle.ix_car.specs.Reading.{Fault, ◌>>=◌, are_links, version_fault, header_fault, behind_header, header_at}
@@ -50,15 +50,10 @@ header_links : (roots : List (List ℕ)) → length (items_spelling (links_to ro
 header_links roots =
     links_within (head_of 5 2) (key_spelling (codes "roots")) (head_of 4 (item_count (links_to roots))) (items_spelling (links_to roots)) (key_spelling (codes "version") ++ (head_of 0 1 ++ []))
 
--- the data that was read, or none
-abbrev some_of : Result Data readings.Fault → Option Data
-some_of (Ok d) = Some d
-some_of (Err f) = None
-
 header_read : (roots : List (List ℕ)) → All IsCid roots → length (spelling_of (header_data roots)) < 2 ^ 63 → data_at (spelling_of (header_data roots)) ≡ Some (header_data roots)
 header_read roots are short =
     let d = header_data roots in
-    ap some_of (decoded-complete (spelling_of d) d (record { canonical = header_canonical roots are (omega (arith, short, header_links roots)); spelled = refl }))
+    ap result_ok (decoded-complete (spelling_of d) d (record { canonical = header_canonical roots are (omega (arith, short, header_links roots)); spelled = refl }))
 
 links-are_links : (roots : List (List ℕ)) → are_links (links_to roots) ≡ true
 links-are_links [] = refl

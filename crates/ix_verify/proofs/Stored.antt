@@ -3,6 +3,7 @@ use Rattle.std.proofs.Common.{◌≡◌, ℕ, Bool, true, false, ◌&&◌, List,
 use Rattle.std.specs.Prelude.{Option, Some, None, map, slice_get, option_map, bytes_eq, is_none, ◌==◌, if◌then◌else◌}
 use Rattle.std.proofs.lemmas.Option.{same_Some, slice_get-map}
 use Rattle.std.proofs.lemmas.Slice.Eq.{bytes_eq-Decides}
+use Rattle.std.proofs.Math.Bool.{and-false}
 use Rattle.ix_cid.specs.Cid.{parts_of, codec_of, digest_of, hash_function_of}
 use Rattle.ix_cid.specs.declared.hash_function.HashFunction.{HashFunction}
 use Rattle.ix_cid.specs.declared.hash_function.HashFunction.TheVariants.{Identity, Sha2_256, Sha2_512}
@@ -44,9 +45,5 @@ found-sound c block codec some agreed spelled =
 pub no-data-by : (c block : List ℕ) → (codec_of c == 0x71) ≡ false → is_no_data c block ≡ false
 no-data-by c block other = ap (λ (t : Bool). t && is_none (data_at block)) other
 
-and-none : (t : Bool) → (t && false) ≡ false
-and-none true = refl
-and-none false = refl
-
 pub spelled-by : (c block : List ℕ) → is_none (data_at block) ≡ false → is_no_data c block ≡ false
-spelled-by c block some = ap (λ (t : Bool). (codec_of c == 0x71) && t) some ∙ and-none (codec_of c == 0x71)
+spelled-by c block some = ap (λ (t : Bool). (codec_of c == 0x71) && t) some ∙ and-false (codec_of c == 0x71)

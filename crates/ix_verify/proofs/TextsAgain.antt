@@ -1,8 +1,9 @@
 -- Texts, CIDs and sections are read where they stand.
-use Rattle.std.proofs.Common.{◌≡◌, ℕ, ◌+◌, ◌-◌, ◌<◌, ◌^◌, Bool, false, cond, ltb, List, [], ◌∷◌, ◌++◌, length, take, drop, refl, sym, ◌∙◌, ap, arith, append_assoc, append-nil, length-append}
+use Rattle.std.proofs.Common.{◌≡◌, ℕ, ◌+◌, ◌-◌, ◌<◌, ◌^◌, Bool, false, cond, ltb, List, [], ◌++◌, length, take, drop, sym, ◌∙◌, ap, arith, append_assoc, append-nil, length-append}
 use Rattle.std.specs.Prelude.{Result, Ok}
 use Rattle.std.proofs.lemmas.Bool.{le-ltb}
 use Rattle.std.proofs.Math.Seq.{drop-append_seam, take-append_seam}
+use Rattle.std.proofs.lemmas.List.{nil_from_length}
 use Rattle.ix_cid.specs.Varint.{varint_at, varint_of}
 use Rattle.ix_cid.specs.Cid.{Parts, parts_at, cid_at, IsCid}
 use Rattle.ix_cid.specs.declared.fault.CidFault.{CidFault}
@@ -36,11 +37,6 @@ text_again text rest short =
     ap varint_at (append_assoc v text rest) ∙ varint_at-append v (length text) (text ++ rest) (IsVarint-varint_of (length text) short) in
     ap (text_behind ((v ++ text) ++ rest)) number ∙ behind_again v text rest
 
--- what has no length is empty
-none : (l : List ℕ) → length l ≡ 0 → l ≡ []
-none [] h = refl
-none (x ∷ l) h = absurd (omega (arith, h))
-
 -- a CID is read where it stands
 pub cid_again : (c rest : List ℕ) → IsCid c → cid_at (c ++ rest) ≡ Ok (c, length c)
 cid_again c rest is =
@@ -49,7 +45,7 @@ cid_again c rest is =
     let left = parts.0.1 in
     let size : length c - length left ≡ length c = ap (λ (r : List ℕ × ℕ). r.1) (ok_same (take (length c - length left) c, length c - length left) (c, length c) parts.2) in
     let front = parts_at-reads c parts.0.0 left parts.1 in
-    let all : left ≡ [] = none left (omega (arith, size, ap length front.whole, length-append front.front left)) in
+    let all : left ≡ [] = nil_from_length left (omega (arith, size, ap length front.whole, length-append front.front left)) in
     let whole : front.front ≡ c = sym (append-nil front.front) ∙ ap (λ (l : List ℕ). front.front ++ l) (sym all) ∙ sym front.whole in
     let b = c ++ rest in
     let of_parts : parts_at b ≡ Ok (parts.0.0, rest) = ap (λ (l : List ℕ). parts_at (l ++ rest)) (sym whole) ∙ front.again rest in

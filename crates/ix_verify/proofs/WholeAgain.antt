@@ -2,10 +2,11 @@
 use Rattle.std.proofs.Common.{◌≡◌, ℕ, zero, suc, ◌+◌, ◌<◌, ◌≤◌, Bool, true, false, ◌&&◌, ◌||◌, List, [], ◌∷◌, ◌++◌, length, refl, sym, ◌∙◌, ap, subst, arith, ltb}
 use Rattle.std.specs.Prelude.{Option, Some, None, map, filter, not, if◌then◌else◌, bytes_eq, option_and_then}
 use Rattle.std.specs.List.{AllByRecursion, list_any}
-use Rattle.std.proofs.lemmas.Bool.{le-ltb, ltb-false}
+use Rattle.std.proofs.lemmas.Bool.{le-ltb, ltb-false, or_right}
 use Rattle.std.proofs.lemmas.Slice.Eq.{bytes_eq-Decides}
 use Rattle.sha2.specs.Sha256.{sha256}
 use Rattle.sha2.specs.Sha512.{sha512}
+use Rattle.std.proofs.Math.Nat.{le_trans}
 use Rattle.ix_cid.specs.Cid.{parts_of, digest_of, hash_function_of}
 use Rattle.ix_cid.specs.declared.hash_function.HashFunction.{HashFunction}
 use Rattle.ix_cid.specs.declared.hash_function.HashFunction.TheVariants.{Identity, Sha2_256, Sha2_512}
@@ -14,6 +15,7 @@ use Rattle.ix_cbor.specs.Reading.{data_at}
 use Rattle.ix_selector.specs.Enters.{Path}
 use Rattle.ix_selector.specs.IsEntered.{is_entered}
 use Rattle.ix_selector.specs.Behind.{residual_at, same_residual}
+use Rattle.ix_selector.specs.Pattern.{everything}
 use Rattle.ix_store.specs.Store.{Blocks, has_cid, with_block, block_of, bytes_by, is_dag_cbor}
 use Rattle.ix_walk.specs.Arrivals.{Arrival, Inside, when_some}
 use Rattle.ix_walk.specs.Visits.{arrivals_of, visit_of, visits_from, is_over_limit}
@@ -30,7 +32,7 @@ use Rattle.ix_archive.specs.Report.{skips_of}
 use Rattle.ix_car.specs.Sections.{SectionMeaning, with_sections}
 use Rattle.ix_archive.specs.Verified.{judged, verified, judged_visits}
 use Rattle.ix_archive.proofs.Numbers.{kept-verified}
-use Rattle.ix_verify.specs.Found.{everything, job_below, root_job, skips_below, is_unfinished}
+use Rattle.ix_verify.specs.Found.{job_below, root_job, skips_below, is_unfinished}
 use Rattle.ix_verify.specs.Written.{section_where, sections_from, written_sections}
 
 -- ---- the store of an archive's sections
@@ -138,10 +140,6 @@ sound-among (d ∷ ds) c h = on_sound (is_sound d.verdict) (bytes_eq d.visit.cid
   on_sound true true is h more = ap (λ (b : Bool). b || is_among (filter (λ e. not (bytes_eq e.visit.cid d.visit.cid)) (first_sound ds)) c) is
   on_sound true false is h more = ap (λ (b : Bool). b || is_among (filter (λ e. not (bytes_eq e.visit.cid d.visit.cid)) (first_sound ds)) c) is ∙ others-among c d.visit.cid is (first_sound ds) (more h)
   on_sound false same is h more = more h
-
-or_right : (a b : Bool) → b ≡ true → (a || b) ≡ true
-or_right true b h = refl
-or_right false b h = h
 
 -- a CID is arrived at
 abbrev is_met : List Arrival → List ℕ → Bool
@@ -259,9 +257,6 @@ none-skipped store number n (x ∷ xs) h =
     let others = filter (λ d. not (passes d.verdict)) (map (judged store) (visits_from store number (n + 1) xs)) in
     ap (λ (b : Bool). map skip_of (if not b then judged store (visit_of store number n x) ∷ others else others)) h.0 ∙ none-skipped store number (n + 1) xs h.1
 
-le-twice : (a b c : ℕ) → a ≤ b → b ≤ c → a ≤ c
-le-twice a b c h k = omega (arith, h, k)
-
 -- ---- the archive of everything below a root
 
 module _ (store : Blocks) (number : ℕ) (name : List ℕ) (limit : ℕ) (root : List ℕ) (few : limit ≤ 1000000)
@@ -304,7 +299,7 @@ module _ (store : Blocks) (number : ℕ) (name : List ℕ) (limit : ℕ) (root :
       once-enough enters rest same_residual (sound_value kept_store) (suc limit) (suc 1000000) [] roots (omega (arith, few)) (omega (arith, met-few, ap length same)) ∙ same
 
   pub finished : is_unfinished kept_store root ≡ false
-  finished = subst (λ (xs : List Arrival). ltb 1000000 (length xs) ≡ false) (sym met-again) (le-ltb 1000000 (length met) (le-twice (length met) limit 1000000 met-few few))
+  finished = subst (λ (xs : List Arrival). ltb 1000000 (length xs) ≡ false) (sym met-again) (le-ltb 1000000 (length met) (le_trans met-few few))
 
   pub nothing-skipped : skips_below kept_store root ≡ []
   nothing-skipped =

@@ -1,7 +1,7 @@
 -- What is found of a file, as a function of its bytes.
-use Rattle.std.specs.Prelude.{◌≡◌, ℕ, Bool, true, not, ◌&&◌, ◌==◌, List, [], ◌∷◌, length, map, filter, codes, None, Ok}
+use Rattle.std.specs.Prelude.{◌≡◌, ℕ, Bool, true, not, ◌&&◌, ◌==◌, List, [], ◌∷◌, length, map, filter, codes, Ok}
 use Rattle.std.specs.List.{list_any, flat_map}
-use Rattle.ix_selector.specs.Pattern.{Pattern, recursive, all, edge}
+use Rattle.ix_selector.specs.Pattern.{everything}
 use Rattle.ix_walk.specs.JobMeaning.{JobMeaning}
 use Rattle.ix_store.specs.Store.{Blocks}
 use Rattle.ix_walk.specs.Visits.{is_over_limit}
@@ -23,10 +23,6 @@ told_of s = record { place = s.place; cid = s.cid; verdict = section_verdict s.c
 -- the sections that aren't sound
 abbrev pub unsound_of : List SectionMeaning → List Unsound
 unsound_of sections = filter (λ u. not (is_sound u.verdict)) (map told_of sections)
-
--- every link, at any depth
-abbrev pub everything : Pattern
-everything = recursive None (all edge)
 
 -- the job of everything below a root, each CID gone into once
 abbrev pub job_below : List ℕ → ℕ → List ℕ → JobMeaning

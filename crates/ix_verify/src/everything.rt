@@ -1,7 +1,8 @@
 //! The job of everything below a root.
 
 ghost use Rattle.std.specs.Prelude.{◌≡◌, IfOk};
-ghost use Rattle.ix_verify.specs.Found.{everything, root_job};
+ghost use Rattle.ix_selector.specs.Pattern.{everything};
+ghost use Rattle.ix_verify.specs.Found.{root_job};
 
 use ix_cbor::decode;
 use ix_cid::Cid;

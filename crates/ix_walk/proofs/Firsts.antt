@@ -2,6 +2,7 @@
 use Rattle.std.proofs.Common.{◌≡◌, ◌⊎◌, inl, inr, ℕ, Bool, true, false, not, ◌&&◌, ◌||◌, List, [], ◌∷◌, ◌++◌, filter, refl, sym, ap, subst, ◌∙◌}
 use Rattle.std.specs.Prelude.{if◌then◌else◌, bytes_eq}
 use Rattle.std.proofs.lemmas.Slice.Eq.{bytes_eq-Decides}
+use Rattle.std.proofs.lemmas.List.Elements.{filter_agree}
 use Rattle.ix_walk.specs.Once.{first_ones}
 
 -- a CID stands among these
@@ -43,9 +44,6 @@ in-filter p c (x ∷ xs) h =
       kept later passes (inl is) = (inl is, ap p (sym is) ∙ passes)
       kept later passes (inr i) = let r = later i in (inr r.0, r.1)
 
-filter-alike : {X : Type 0} (p q : X → Bool) → ((x : X) → p x ≡ q x) → (xs : List X) → filter p xs ≡ filter q xs
-filter-alike p q h xs = λ i. filter (λ x. h x i) xs
-
 filter-all : {X : Type 0} (xs : List X) → filter (λ (x : X). true) xs ≡ xs
 filter-all [] = refl
 filter-all (x ∷ xs) = ap (λ l. x ∷ l) (filter-all xs)
@@ -85,7 +83,7 @@ seen_anyway false s h = refl
 unseen-again : (seen : List ℕ → Bool) (c : List ℕ) (cs : List (List ℕ)) → seen c ≡ true → unseen seen (c ∷ cs) ≡ unseen seen cs
 unseen-again seen c cs was =
     unseen-cons seen c cs ∙ ap (λ b. if not b then c ∷ unseen (and_this c seen) cs else unseen (and_this c seen) cs) was
-    ∙ filter-alike (λ e. not (and_this c seen e)) (λ e. not (seen e)) (λ e. seen_anyway (bytes_eq e c) (seen e) (λ is. ap seen ((bytes_eq-Decides e c).0 is) ∙ was)) (first_ones cs)
+    ∙ filter_agree (λ e. not (and_this c seen e)) (λ e. not (seen e)) (λ e. seen_anyway (bytes_eq e c) (seen e) (λ is. ap seen ((bytes_eq-Decides e c).0 is) ∙ was)) (first_ones cs)
 
 -- what was seen already is passed over
 pub unseen-seen : (seen : List ℕ → Bool) (xs ys : List (List ℕ)) → ((c : List ℕ) → In c xs → seen c ≡ true) → unseen seen (xs ++ ys) ≡ unseen seen ys

@@ -5,6 +5,8 @@ use Rattle.std.proofs.Math.Path.{fun_ext}
 use Rattle.std.proofs.lemmas.Bool.Decides.{nat_tests}
 use Rattle.std.proofs.lemmas.Option.{same_Some, slice_get-map, slice_get-get_or}
 use Rattle.std.proofs.lemmas.Slice.Eq.{bytes_eq-Decides}
+use Rattle.std.specs.Cmp.{both_ways}
+use Rattle.std.proofs.lemmas.Bool.{eqb-true}
 use Rattle.ix_cid.specs.Cid.{parts_of, digest_of, hash_function_of}
 use Rattle.ix_cid.specs.declared.hash_function.HashFunction.{HashFunction}
 use Rattle.ix_cid.specs.declared.hash_function.HashFunction.TheVariants.{Sha2_256, Sha2_512}
@@ -20,13 +22,6 @@ use Rattle.ix_walk.specs.Gone.{has_gone, is_same_going, IsNoted, gone_of}
 use Rattle.ix_walk.specs.Arriving.{IsValue, Goes}
 use Rattle.ix_store.proofs.Blocks.{none_behind, some_behind, block_at, place_within}
 
--- two tests that hold of the same are one
-same_test : (a b : Bool) → (a ≡ true → b ≡ true) → (b ≡ true → a ≡ true) → a ≡ b
-same_test true true there back = refl
-same_test true false there back = sym (there refl)
-same_test false true there back = back refl
-same_test false false there back = refl
-
 bytes_same : (xs ys : List ℕ) → bytes_eq xs ys ≡ true → xs ≡ ys
 bytes_same xs ys e = (bytes_eq-Decides xs ys).0 e
 
@@ -36,7 +31,7 @@ bytes_are xs = (bytes_eq-Decides xs xs).1 refl
 -- ---- the block at a place
 
 -- CIDs with one place are one
-one_behind : (n place : ℕ) (store : Blocks) (c d : List ℕ) → position_behind n store c ≡ Some place → position_behind n store d ≡ Some place → c ≡ d
+pub one_behind : (n place : ℕ) (store : Blocks) (c d : List ℕ) → position_behind n store c ≡ Some place → position_behind n store d ≡ Some place → c ≡ d
 one_behind n place [] c d e f = absurd cc
 one_behind n place (x ∷ xs) c d e f = by (bytes_eq x.0 c) (bytes_eq x.0 d) refl refl e f (one_behind (n + 1) place xs c d) where
   by : (a b : Bool) → bytes_eq x.0 c ≡ a → bytes_eq x.0 d ≡ b → (if a then Some n else position_behind (n + 1) xs c) ≡ Some place → (if b then Some n else position_behind (n + 1) xs d) ≡ Some place
@@ -87,9 +82,6 @@ sound_absent store c h stored e absent = by stored (hash_function_of (parts_of c
 
 -- ---- what was gone into
 
-same_numbers : (m n : ℕ) → nat_eq m n ≡ true → m ≡ n
-same_numbers m n e = grind (arith, nat_tests)
-
 number_same : (n : ℕ) → nat_eq n n ≡ true
 number_same n = grind (arith, nat_tests)
 
@@ -106,8 +98,8 @@ going_at store c d places others (Some m) None p q = ap (λ (x : Bool). x && sam
   apart false same = refl
 going_at store c d places others (Some m) (Some n) p q =
     ap (λ (x : Bool). x && same_residual places others)
-    (same_test (nat_eq m n) (bytes_eq c d)
-    (λ e. subst (λ x. bytes_eq c x ≡ true) (one_behind 0 m store c d p (q ∙ ap (λ (k : ℕ). Some k) (sym (same_numbers m n e)))) (bytes_are c))
+    (both_ways (nat_eq m n) (bytes_eq c d)
+    (λ e. subst (λ x. bytes_eq c x ≡ true) (one_behind 0 m store c d p (q ∙ ap (λ (k : ℕ). Some k) (sym (eqb-true m n e)))) (bytes_are c))
     (λ e. subst (λ k. nat_eq m k ≡ true) (same_Some m n (sym p ∙ ap (position_of store) (bytes_same c d e) ∙ q)) (number_same m)))
 
 -- noted for the first time

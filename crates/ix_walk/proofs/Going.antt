@@ -13,6 +13,7 @@ use Rattle.std.specs.BTreeSet.{BTreeSet, contains, Updates, IsUnchanged}
 use Rattle.std.proofs.Math.Path.{fun_ext}
 use Rattle.std.proofs.lemmas.Bool.Decides.{nat_tests}
 use Rattle.std.proofs.lemmas.Map.Text.{is_eq-slice_cmp}
+use Rattle.std.proofs.Math.Bool.{and-false, and-true}
 use Rattle.ix_selector.specs.Residual.{Place}
 use Rattle.ix_selector.specs.Behind.{same_residual, residual_order}
 use Rattle.ix_selector.specs.Compared.{residual_equivalence, residual_total, residual_ties}
@@ -54,14 +55,6 @@ was : (b : Bool) → false ≡ not b → b ≡ true
 was true e = refl
 was false e = absurd cc
 
-and_false : (b : Bool) → (b && false) ≡ false
-and_false true = refl
-and_false false = refl
-
-and_true : (b : Bool) → (b && true) ≡ b
-and_true true = refl
-and_true false = refl
-
 -- ---- by the place of its block, where as much was left as at a root
 
 -- these places in place of those
@@ -74,8 +67,8 @@ pub noted_whole : (old : Gone) (set : PlaceSet) (n : ℕ) (c : List ℕ) (places
 noted_whole old set n c places all first more = (ap (λ (b : Bool). if b then contains_place old.places n else is_in n (get residual_order old.blocks places)) all ∙ first, here) where
   by : (m : ℕ) (others : List Place) (b : Bool) → same_residual places others ≡ b
       → (if b then contains_place set m else is_in m (get residual_order old.blocks others)) ≡ ((nat_eq n m && b) || (if b then contains_place old.places m else is_in m (get residual_order old.blocks others)))
-  by m others true e = more m ∙ ap (λ (b : Bool). b || contains_place old.places m) (sym (and_true (nat_eq n m)))
-  by m others false e = ap (λ (b : Bool). b || is_in m (get residual_order old.blocks others)) (sym (and_false (nat_eq n m)))
+  by m others true e = more m ∙ ap (λ (b : Bool). b || contains_place old.places m) (sym (and-true (nat_eq n m)))
+  by m others false e = ap (λ (b : Bool). b || is_in m (get residual_order old.blocks others)) (sym (and-false (nat_eq n m)))
 
   here : (b : Option ℕ) (d : List ℕ) (others : List Place) → has_gone (with_places old set) b d others ≡ (is_same_going (Some n) c places b d others || has_gone old b d others)
   here None d others = refl
@@ -119,12 +112,12 @@ pub noted_place : (old : Gone) (blocks : BTreeMap (List Place) (BTreeSet ℕ)) (
 noted_place old blocks n c places t other keeps first more = (ap (λ (b : Bool). if b then contains_place old.places n else is_in n (get residual_order old.blocks places)) other ∙ first, here) where
   by : (m : ℕ) (others : List Place) (b : Bool) → is_eq (residual_order places others) ≡ b → is_in m (cond b (Some t) (get residual_order old.blocks others)) ≡ ((nat_eq n m && b) || is_in m (get residual_order old.blocks others))
   by m others true e =
-      more m ∙ ap (λ (o : Option (BTreeSet ℕ)). nat_eq n m || is_in m o) (sym (found_same old.blocks places others e)) ∙ ap (λ (b : Bool). b || is_in m (get residual_order old.blocks others)) (sym (and_true (nat_eq n m)))
-  by m others false e = ap (λ (b : Bool). b || is_in m (get residual_order old.blocks others)) (sym (and_false (nat_eq n m)))
+      more m ∙ ap (λ (o : Option (BTreeSet ℕ)). nat_eq n m || is_in m o) (sym (found_same old.blocks places others e)) ∙ ap (λ (b : Bool). b || is_in m (get residual_order old.blocks others)) (sym (and-true (nat_eq n m)))
+  by m others false e = ap (λ (b : Bool). b || is_in m (get residual_order old.blocks others)) (sym (and-false (nat_eq n m)))
 
   at : (m : ℕ) (others : List Place) (b : Bool) → same_residual old.whole others ≡ b
       → (if b then contains_place old.places m else is_in m (get residual_order blocks others)) ≡ ((nat_eq n m && same_residual places others) || (if b then contains_place old.places m else is_in m (get residual_order old.blocks others)))
-  at m others true e = ap (λ (b : Bool). b || contains_place old.places m) (sym (and_false (nat_eq n m)) ∙ ap (λ (b : Bool). nat_eq n m && b) (sym (apart old.whole places others other e)))
+  at m others true e = ap (λ (b : Bool). b || contains_place old.places m) (sym (and-false (nat_eq n m)) ∙ ap (λ (b : Bool). nat_eq n m && b) (sym (apart old.whole places others other e)))
   at m others false e =
       ap (is_in m) (keeps.0 others) ∙ by m others (is_eq (residual_order places others)) refl
       ∙ ap (λ (b : Bool). (nat_eq n m && b) || is_in m (get residual_order old.blocks others)) (sym (residual_ties places others))

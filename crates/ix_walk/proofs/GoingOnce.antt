@@ -14,12 +14,12 @@ use Rattle.ix_walk.proofs.Firsts.{In, in-append, unseen, and_this, this_seen, st
 use Rattle.ix_walk.proofs.Links.{all-append, all-weaker, cid_of, links_at, tree_cids, tree-alike, Ends, ends-links, cids-opened, links-shorter, from-cids, roots-by_depth}
 
 -- the one that passes a test, with what holds of it
-pub found : {E : Type 0} (test : E → Bool) (P : E → Type 0) (gs : List E) → list_any test gs ≡ true → AllByRecursion P gs → (g : E) × P g × (test g ≡ true)
-found test P [] h all = absurd cc
-found test P (g ∷ gs) h all =
+pub list_any-found : {E : Type 0} (test : E → Bool) (P : E → Type 0) (gs : List E) → list_any test gs ≡ true → AllByRecursion P gs → (g : E) × P g × (test g ≡ true)
+list_any-found test P [] h all = absurd cc
+list_any-found test P (g ∷ gs) h all =
     (elim (test g) as (λ b. test g ≡ b → (b || list_any test gs) ≡ true → (g : _) × P g × (test g ≡ true)) [
       | true ↦ λ is _. (g, all.0, is)
-      | false ↦ λ _ e. found test P gs e all.1
+      | false ↦ λ _ e. list_any-found test P gs e all.1
     ])
     refl h
 
@@ -199,7 +199,7 @@ module _ {R : Type 0} (enters : Path → Bool) (rest : Path → R) (same : R →
         meets (gone_behind enters rest same inside (inside a.cid) a gone) (links a ++ more) (and_this a.cid seen) (all-append Fits (links a) more (ends-links enters inside bound a fits) all_fit) (entered_behind seen a more fits (inside a.cid) gone entered) short
         ∙ ap (unseen (and_this a.cid seen)) (flat_map-append whole (links a) more)
     meets_behind true is short =
-        let was = found (λ g. bytes_eq g.0 a.cid && same g.1 (rest a.path)) (Entered seen (a ∷ more)) gone is entered in
+        let was = list_any-found (λ g. bytes_eq g.0 a.cid && same g.1 (rest a.path)) (Entered seen (a ∷ more)) gone is entered in
         let all : (c : List ℕ) → In c (whole a) → seen c ≡ true = gone-seen seen a more fits was.0 was.1 was.2 in
         meets gone more (and_this a.cid seen) all_fit (all-weaker (Entered seen (a ∷ more)) (Entered (and_this a.cid seen) more) (passed seen a more fits all) gone entered) short
         ∙ sym (unseen-seen (and_this a.cid seen) (flat_map whole (links a)) (flat_map whole more)

@@ -2,6 +2,9 @@
 use Rattle.std.proofs.Common.{◌≡◌, ℕ, zero, suc, ◌+◌, ◌-◌, ◌<◌, ◌≤◌, Bool, true, false, List, [], ◌++◌, refl, sym, ◌∙◌, ap, subst, arith}
 use Rattle.std.specs.Prelude.{Option, Some, None, Result, Ok, Err, is_some, nat_lt, if◌then◌else◌, ◌==◌}
 use Rattle.std.proofs.lemmas.Bool.Decides.{nat_tests}
+use Rattle.std.proofs.lemmas.Option.{same_Some}
+use Rattle.std.proofs.lemmas.Bool.{ltb-false}
+use Rattle.std.specs.Result.{result_ok}
 use Rattle.ix_cbor.specs.Data.{Data, Items, Entries, item, entry, no_items, no_entries}
 use Rattle.ix_cbor.specs.Reading.{Fault, ◌>>=◌, item_at, items_at, entries_at, key_at}
 use Rattle.ix_cbor.proofs.Deeper.{entries_first}
@@ -11,30 +14,26 @@ use Rattle.ix_selector.specs.Residual.{Place}
 use Rattle.ix_walk.specs.declared.subtree.Children.{Children}
 use Rattle.ix_walk.specs.declared.subtree.Children.TheVariants.{Members, Values}
 use Rattle.ix_walk.specs.declared.subtree.Entered.{Entered}
-use Rattle.ix_walk.specs.Walking.{is_spent, links_in_items, Part, part_links, members, values, weight_of, part_weight, or_none, part_at}
+use Rattle.ix_walk.specs.Walking.{is_spent, links_in_items, Part, part_links, members, values, weight_of, part_weight, part_at}
 use Rattle.ix_walk.specs.Descent.{IsItem, IsKey, IsPart, child_links, IsChild, IsNext}
-use Rattle.ix_walk.proofs.Stands.{some_same}
 use Rattle.ix_walk.proofs.Parts.{members_here, values_here}
 
 -- ---- a part is read only where its items are
 
-some_read : {A : Type 0} (r : Result A Fault) (x : A) → or_none r ≡ Some x → r ≡ Ok x
-some_read (Ok y) x e = ap (λ z. Ok z) (some_same y x e)
+some_read : {A : Type 0} (r : Result A Fault) (x : A) → result_ok r ≡ Some x → r ≡ Ok x
+some_read (Ok y) x e = ap (λ z. Ok z) (same_Some y x e)
 some_read (Err f) x e = absurd cc
 
 no_part : {A : Type 0} (b : Bool) (o : Option A) (x : A) → (if b then None else o) ≡ Some x → (b ≡ false) × (o ≡ Some x)
 no_part true o x e = absurd cc
 no_part false o x e = (refl, e)
 
-not_below : (n k : ℕ) → nat_lt n k ≡ false → k ≤ n
-not_below n k h = grind (arith, nat_tests)
-
 pub members_read : (count left : ℕ) (b : List ℕ) (x : Part × List ℕ) → part_at (Members count left) b ≡ Some x
     → (ds : Items × List ℕ) × (items_at (item_at 512) left b ≡ Ok ds) × ((members (count - left) ds.0, ds.1) ≡ x) × (left ≤ count)
 members_read count left b x e =
     let p = no_part (nat_lt count left) _ x e in
     let m = bind_ok (items_at (item_at 512) left b) (λ ds. Ok (members (count - left) ds.0, ds.1)) x (some_read (items_at (item_at 512) left b >>= (λ ds. Ok (members (count - left) ds.0, ds.1))) x p.1) in
-    (m.0, m.1, ok_same (members (count - left) m.0.0, m.0.1) x m.2, not_below count left p.0)
+    (m.0, m.1, ok_same (members (count - left) m.0.0, m.0.1) x m.2, ltb-false count left p.0)
 
 pub values_read : (left : ℕ) (b : List ℕ) (x : Part × List ℕ) → part_at (Values left) b ≡ Some x → (es : Entries × List ℕ) × (entries_at (item_at 512) None left b ≡ Ok es) × ((values es.0, es.1) ≡ x)
 values_read left b x e =

@@ -1,10 +1,11 @@
 -- Items gone into, child by child.
 use Rattle.std.proofs.Common.{◌≡◌, ℕ, ◌-◌, ◌≤◌, false, List, [], ◌∷◌, refl, sym, ◌∙◌, ap, subst, arith}
 use Rattle.std.specs.Prelude.{Some, None, Ok, nat_lt, if◌then◌else◌}
-use Rattle.std.proofs.lemmas.Bool.Decides.{nat_tests}
+use Rattle.std.proofs.lemmas.Bool.{le-ltb}
+use Rattle.std.specs.Result.{result_ok}
 use Rattle.ix_cbor.specs.declared.front.Front.{Front}
 use Rattle.ix_cbor.specs.declared.front.Front.TheVariants as fronts
-use Rattle.ix_cbor.specs.Data.{Data, Items, Entries, null, boolean, integer, float, bytes, text, link, item, entry, no_items, no_entries}
+use Rattle.ix_cbor.specs.Data.{Data, Items, Entries, null, boolean, integer, float, bytes, text, link}
 use Rattle.ix_cbor.specs.Data as nodes
 use Rattle.ix_cbor.specs.Reading.{◌>>=◌, own_at, Own, item_at, items_at, entries_at, with_members}
 use Rattle.ix_cbor.specs.Fronts.{own_of_front}
@@ -17,7 +18,7 @@ use Rattle.ix_walk.specs.declared.subtree.Children.TheVariants.{Members, Values}
 use Rattle.ix_walk.specs.declared.subtree.Entered.TheVariants.{Link, Open}
 use Rattle.ix_walk.specs.declared.subtree.Found.{Found}
 use Rattle.ix_selector.specs.Behind.{residual_behind}
-use Rattle.ix_walk.specs.Walking.{when_entered, links_below, members, values, weight_of, or_none, part_at}
+use Rattle.ix_walk.specs.Walking.{when_entered, links_below, members, values, weight_of, part_at}
 use Rattle.ix_walk.specs.Descent.{may_hold_links, entered_by, Enters, child_links, IsNode, IsChild}
 
 -- ---- one item
@@ -25,14 +26,12 @@ use Rattle.ix_walk.specs.Descent.{may_hold_links, entered_by, Enters, child_link
 -- so many members stand here
 pub members_here : (count left : ℕ) (b rest : List ℕ) (ds : Items) → left ≤ count → items_at (item_at 512) left b ≡ Ok (ds, rest) → part_at (Members count left) b ≡ Some (members (count - left) ds, rest)
 members_here count left b rest ds h e =
-    let fits : nat_lt count left ≡ false = not_below count left h in
-    ap (λ t. if t then None else or_none (items_at (item_at 512) left b >>= (λ ds. Ok (members (count - left) ds.0, ds.1)))) fits
-    ∙ ap (λ r. or_none (r >>= (λ ds. Ok (members (count - left) ds.0, ds.1)))) e where
-      not_below : (n k : ℕ) → k ≤ n → nat_lt n k ≡ false
-      not_below n k h = grind (arith, nat_tests)
+    let fits : nat_lt count left ≡ false = le-ltb count left h in
+    ap (λ t. if t then None else result_ok (items_at (item_at 512) left b >>= (λ ds. Ok (members (count - left) ds.0, ds.1)))) fits
+    ∙ ap (λ r. result_ok (r >>= (λ ds. Ok (members (count - left) ds.0, ds.1)))) e
 
 pub values_here : (left : ℕ) (b rest : List ℕ) (es : Entries) → entries_at (item_at 512) None left b ≡ Ok (es, rest) → part_at (Values left) b ≡ Some (values es, rest)
-values_here left b rest es e = ap (λ r. or_none (r >>= (λ es. Ok (values es.0, es.1)))) e
+values_here left b rest es e = ap (λ r. result_ok (r >>= (λ es. Ok (values es.0, es.1)))) e
 
 -- an item by its front: what is read where it stands
 item_by_front : (f : Front) (at behind rest : List ℕ) (d : Data) → own_at at ≡ Ok (own_of_front f, behind) → item_at 512 at ≡ Ok (d, rest)
@@ -41,8 +40,8 @@ item_by_front f at behind rest d own e =
     ap (λ r. r >>= with_members (Some (item_at 511)) at) (sym own) ∙ sym (item_at-above 512 at (omega arith)) ∙ e
 
 -- what an item without members is
-whole : (x d : Data) (behind rest : List ℕ) (P : Data → List ℕ → Type 0) → ok_data (x, behind) ≡ ok_data (d, rest) → P x behind → P d rest
-whole x d behind rest P e p = subst (λ (y : Data × List ℕ). P y.0 y.1) (ok_same (x, behind) (d, rest) e) p
+ok_data-kept : (x d : Data) (behind rest : List ℕ) (P : Data → List ℕ → Type 0) → ok_data (x, behind) ≡ ok_data (d, rest) → P x behind → P d rest
+ok_data-kept x d behind rest P e p = subst (λ (y : Data × List ℕ). P y.0 y.1) (ok_same (x, behind) (d, rest) e) p
 
 -- a list whose members are read
 list_enters : (places : List Place) (depth n : ℕ) (behind rest : List ℕ) (d : Data) → (items_at (item_at 511) n behind >>= as_list) ≡ Ok (d, rest)
@@ -52,7 +51,7 @@ list_enters places depth n behind rest d e =
     let z : n - n ≡ 0 = omega arith in
     let here = members_here n n behind m.0.1 m.0.0 (omega arith) (items_also (item_at 511) (item_at 512) (item_deeper 511) n behind m.0 m.1) in
     let first : part_at (Members n n) behind ≡ Some (members 0 m.0.0, m.0.1) = here ∙ ap (λ k. Some (members k m.0.0, m.0.1)) z in
-    whole (nodes.list m.0.0) d m.0.1 rest
+    ok_data-kept (nodes.list m.0.0) d m.0.1 rest
     (λ x l. Enters (links_below places depth x) (weight_of x) l (Some (Open (record { residual = places; children = Members n n; depth = depth; back = None }))) behind) m.2
     (refl, members 0 m.0.0, first, record { reaches = refl; light = omega arith })
 
@@ -62,7 +61,7 @@ map_enters : (places : List Place) (depth n : ℕ) (behind rest : List ℕ) (d :
 map_enters places depth n behind rest d e =
     let m = bind_ok (entries_at (item_at 511) None n behind) as_map (d, rest) e in
     let here = values_here n behind m.0.1 m.0.0 (entries_also (item_at 511) (item_at 512) (item_deeper 511) None n behind m.0 m.1) in
-    whole (nodes.map m.0.0) d m.0.1 rest
+    ok_data-kept (nodes.map m.0.0) d m.0.1 rest
     (λ x l. Enters (links_below places depth x) (weight_of x) l (Some (Open (record { residual = places; children = Values n; depth = depth; back = None }))) behind) m.2
     (refl, values m.0.0, here, record { reaches = refl; light = omega arith })
 
@@ -70,7 +69,7 @@ map_enters places depth n behind rest d e =
 flat_enters : (places : List Place) (depth : ℕ) (x d : Data) (behind rest : List ℕ) → links_below places depth x ≡ [] → ok_data (x, behind) ≡ ok_data (d, rest)
     → Enters (links_below places depth d) (weight_of d) rest None behind
 flat_enters places depth x d behind rest nothing e =
-    whole x d behind rest (λ y l. Enters (links_below places depth y) (weight_of y) l None behind) e (refl, nothing)
+    ok_data-kept x d behind rest (λ y l. Enters (links_below places depth y) (weight_of y) l None behind) e (refl, nothing)
 
 by_front : (f : Front) (places : List Place) (depth : ℕ) (at behind rest : List ℕ) (d : Data) → with_members (Some (item_at 511)) at (own_of_front f, behind) ≡ Ok (d, rest)
     → Enters (links_below places depth d) (weight_of d) rest (entered_by places f depth) behind
@@ -81,7 +80,7 @@ by_front (fronts.Bits64 bits) places depth at behind rest d e = flat_enters plac
 by_front (fronts.Bytes b) places depth at behind rest d e = flat_enters places depth (bytes b.now) d behind rest refl e
 by_front (fronts.Text t) places depth at behind rest d e = flat_enters places depth (text t.now) d behind rest refl e
 by_front (fronts.Link c) places depth at behind rest d e =
-    whole (link c.now) d behind rest
+    ok_data-kept (link c.now) d behind rest
     (λ x l. Enters (links_below places depth x) (weight_of x) l (Some (Link (record { residual = places; cid = c.now; depth = depth }))) behind) e (refl, refl)
 by_front (fronts.List n) places depth at behind rest d e = list_enters places depth n behind rest d e
 by_front (fronts.Map n) places depth at behind rest d e = map_enters places depth n behind rest d e
@@ -120,7 +119,7 @@ when_flat (x ∷ xs) links e = e
 flat_child : (places : List Place) (t : Step) (depth : ℕ) (x d : Data) (behind rest : List ℕ) → ((r : List Place) → links_below r depth x ≡ []) → ok_data (x, behind) ≡ ok_data (d, rest)
     → Enters (child_links places t depth d) (weight_of d) rest None behind
 flat_child places t depth x d behind rest nothing e =
-    whole x d behind rest (λ y l. Enters (child_links places t depth y) (weight_of y) l None behind) e
+    ok_data-kept x d behind rest (λ y l. Enters (child_links places t depth y) (weight_of y) l None behind) e
     (refl, when_flat (residual_behind places t) (links_below (residual_behind places t) depth x) (nothing (residual_behind places t)))
 
 flat_front : (f : Front) (places : List Place) (t : Step) (depth : ℕ) (at behind rest : List ℕ) (d : Data) → may_hold_links f ≡ false → with_members (Some (item_at 511)) at (own_of_front f, behind) ≡ Ok (d, rest)

@@ -11,7 +11,7 @@ use Rattle.ix_walk.specs.Arrivals.{Arrival, Inside, when_some, arrivals_from}
 use Rattle.ix_walk.specs.Once.{roots_from, links_below, was_gone_into, gone_behind, once, once_from, TellsRests}
 use Rattle.ix_walk.proofs.Firsts.{In, in-append}
 use Rattle.ix_walk.proofs.Links.{all-append, all-left, all-right, all-weaker, all-both, flat_map-same, cid_of, Alike, links_at, tree_cids, tree-alike, cids-links, Ends, ends-links, cids-opened, links-shorter, from-cids}
-use Rattle.ix_walk.proofs.GoingOnce.{found}
+use Rattle.ix_walk.proofs.GoingOnce.{list_any-found}
 
 in-left : (c : List ℕ) (xs ys : List (List ℕ)) → In c xs → In c (xs ++ ys)
 in-left c [] ys h = absurd h
@@ -148,7 +148,7 @@ module _ {R : Type 0} (enters : Path → Bool) (rest : Path → R) (same : R →
     run-closed tells (suc n) gone (a ∷ more) short h entered =
         (elim (was_gone_into enters rest same inside gone a) as (λ b. was_gone_into enters rest same inside gone a ≡ b → length (run_behind n gone a more b) < n → AllByRecursion P (run_behind n gone a more b) → IsClosed a × AllByRecursion IsClosed (run_behind n gone a more b)) [
           | true ↦ λ is less all.
-              let was = found (λ g. bytes_eq g.0 a.cid && same g.1 (rest a.path)) WasEntered gone is entered in
+              let was = list_any-found (λ g. bytes_eq g.0 a.cid && same g.1 (rest a.path)) WasEntered gone is entered in
               (closed_by tells was.0 a was.1 was.2, run-closed tells n gone more less all entered)
           | false ↦ λ isnt less all.
               let now = gone_behind enters rest same inside (inside a.cid) a gone in

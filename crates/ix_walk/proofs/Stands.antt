@@ -2,22 +2,16 @@
 use Rattle.std.proofs.Common.{◌≡◌, ℕ, List, [], ◌∷◌, ◌++◌, reverse, refl, ◌∙◌, ap}
 use Rattle.std.specs.Prelude.{Option, Some, None, option_map, option_and_then}
 use Rattle.std.proofs.lemmas.List.{reverse-append}
+use Rattle.std.proofs.lemmas.Option.{same_Some}
 use Rattle.ix_walk.specs.declared.subtree.Opened.{Opened}
 use Rattle.ix_walk.specs.declared.subtree.Trail.{Trail}
 use Rattle.ix_store.specs.Ahead.{goes_on}
 use Rattle.ix_walk.specs.Walking.{Part, Subtree, opened, part_at, stands, with_next, trail_stands, subtrees, or_nil}
 
-abbrev pub given : {A : Type 0} → A → Option A
-given x = Some x
-
--- two that are there are one
-pub some_same : {A : Type 0} (x y : A) → given x ≡ given y → x ≡ y
-some_same x y e = cc
-
 -- what a value came from
 pub some_mapped : {A B : Type 0} (f : A → B) (o : Option A) (y : B) → option_map f o ≡ Some y → (x : A) × (o ≡ Some x) × (f x ≡ y)
 some_mapped f None y e = absurd cc
-some_mapped f (Some x) y e = (x, refl, some_same (f x) y e)
+some_mapped f (Some x) y e = (x, refl, same_Some (f x) y e)
 
 pub some_then : {A B : Type 0} (f : A → Option B) (o : Option A) (y : B) → option_and_then f o ≡ Some y → (x : A) × (o ≡ Some x) × (f x ≡ Some y)
 some_then f None y e = absurd cc

@@ -16,25 +16,21 @@ use Rattle.ix_walk.specs.Arrivals.{Arrival, behind}
 use Rattle.ix_store.specs.Store.{Blocks}
 use Rattle.ix_selector.specs.Behind.{residual_of, residual_behind, residual_along, residual_at, same_residual}
 use Rattle.ix_walk.specs.Once.{once_arrivals}
-use Rattle.ix_walk.specs.Visits.{believed, is_over_limit, visits_of, visits_from}
+use Rattle.ix_walk.specs.Visits.{believed, visits_from, whole_walk}
 use Rattle.ix_walk.specs.WalkLeft.{WalkLeft}
 use Rattle.ix_walk.specs.Walking.{waiting, first_arrivals, Subtree, or_nil, links_left, stands, with_next, trail_stands, walk_left, IsWalk, Going, nothing_gone}
 use Rattle.ix_walk.specs.Arriving.{trail_left}
 use Rattle.ix_walk.proofs.Reached.{forget, is_left, first_from, visits_forget, once_first}
 
--- a walk that has not begun has all the visits of its job
-abbrev pub all_left : Blocks → ℕ → JobMeaning → WalkLeft
-all_left store number job = record { visits = visits_of store number job; limited = is_over_limit store job; ended = false }
-
-left : (visits more : List Visit) (limited over : Bool) → visits ≡ more → limited ≡ over
+same_left : (visits more : List Visit) (limited over : Bool) → visits ≡ more → limited ≡ over
     → (let a : WalkLeft = record { visits = visits; limited = limited; ended = false } in a) ≡ record { visits = more; limited = over; ended = false }
-left visits more limited over e f =
+same_left visits more limited over e f =
     ap (λ (v : List Visit). let a : WalkLeft = record { visits = v; limited = limited; ended = false } in a) e
     ∙ ap (λ (b : Bool). let a : WalkLeft = record { visits = more; limited = b; ended = false } in a) f
 
 -- nothing is left on an empty trail
-pub begins : (t : Trail) → t.next ≡ None → t.stack.items ≡ [] → trail_stands t ≡ Some []
-begins t next empty =
+pub trail-begins : (t : Trail) → t.next ≡ None → t.stack.items ≡ [] → trail_stands t ≡ Some []
+trail-begins t next empty =
     ap (λ o. option_map (with_next o) (stands t.at (reverse t.stack.items))) next
     ∙ ap (λ (os : List Opened). option_map (with_next None) (stands t.at (reverse os))) empty
 
@@ -81,7 +77,7 @@ from_first : (store : Blocks) (number limit : ℕ) (gone : Option Going) (links 
     → walk_left store number limit 0 gone links false ≡ record { visits = visits_from store number 0 (take limit all); limited = nat_lt limit (length all); ended = false }
 from_first store number limit gone links all first =
     let z : limit - 0 ≡ limit = omega arith in
-    left _ _ _ _
+    same_left _ _ _ _
     (ap (λ (n : ℕ). visits_from store number 0 (take n (first_arrivals store gone (suc n) links))) z
     ∙ ap (λ (xs : List Arrival). visits_from store number 0 (take limit xs)) first
     ∙ ap (visits_from store number 0) (take-map forget limit all)
@@ -92,13 +88,13 @@ from_first store number limit gone links all first =
 
 -- where the roots wait, all that the job arrives at is left
 arrives_all : (store : Blocks) (number : ℕ) (job : JobMeaning) (b : Bool) → IsFollowed job.selector → job.once ≡ b
-    → walk_left store number job.limit 0 (gone_at_start b) (map (waiting (residual_of job.selector) 0) job.roots) false ≡ all_left store number job
+    → walk_left store number job.limit 0 (gone_at_start b) (map (waiting (residual_of job.selector) 0) job.roots) false ≡ whole_walk store number job
 arrives_all store number job true is once =
     let all = once_arrivals store job (residual_at job.selector) same_residual in
     from_first store number job.limit (Some nothing_gone) (map (waiting (residual_of job.selector) 0) job.roots) all
     (ap (λ r. first_arrivals store (Some nothing_gone) (suc job.limit) (map (waiting r 0) job.roots)) (sym is.starts)
     ∙ once_first (is_entered job.selector) (residual_at job.selector) is.stays is.goes store (suc job.limit) job.roots)
-    ∙ left _ _ _ _
+    ∙ same_left _ _ _ _
     (ap (λ (b : Bool). visits_from store number 0 (take job.limit (if b then all else believed store job))) (sym once))
     (ap (λ (b : Bool). nat_lt job.limit (length (if b then all else believed store job))) (sym once))
 arrives_all store number job false is once =
@@ -106,19 +102,19 @@ arrives_all store number job false is once =
     let all = believed store job in
     from_first store number limit None (map (waiting (residual_of job.selector) 0) job.roots) (take (suc limit) all)
     (ap (λ r. first_arrivals store None (suc limit) (map (waiting r 0) job.roots)) (sym is.starts) ∙ first_from (is_entered job.selector) (residual_at job.selector) is.stays is.goes store limit job.roots)
-    ∙ left _ _ _ _
+    ∙ same_left _ _ _ _
     (ap (visits_from store number 0) (take-take limit (suc limit) all (omega arith)) ∙ ap (λ (b : Bool). visits_from store number 0 (take limit (if b then once_arrivals store job (residual_at job.selector) same_residual else all))) (sym once))
     (ap (nat_lt limit) (length-take (suc limit) all) ∙ over limit (length all) ∙ ap (λ (b : Bool). nat_lt limit (length (if b then once_arrivals store job (residual_at job.selector) same_residual else all))) (sym once))
 
 -- at its beginning a walk has all its roots before it
 starts_walk : (store : Blocks) (number : ℕ) (job : JobMeaning) (t : Trail) (b : Bool) → IsFollowed job.selector → job.once ≡ b → trail_stands t ≡ Some []
-    → trail_left store number job.limit 0 (gone_at_start b) job.selector t job.roots ≡ all_left store number job
+    → trail_left store number job.limit 0 (gone_at_start b) job.selector t job.roots ≡ whole_walk store number job
 starts_walk store number job t b is once empty =
     ap (λ (o : Option (List Subtree)). walk_left store number job.limit 0 (gone_at_start b) (links_left job.selector (or_nil o) job.roots) false) empty ∙ arrives_all store number job b is once
 
 -- the same where its roots and what it has gone into have other names
 pub starts_from : (store : Blocks) (number : ℕ) (job : JobMeaning) (t : Trail) (b : Bool) (gone : Option Going) (roots : List (List ℕ)) → IsFollowed job.selector → job.once ≡ b → gone ≡ gone_at_start b → roots ≡ job.roots
-    → trail_stands t ≡ Some [] → trail_left store number job.limit 0 gone job.selector t roots ≡ all_left store number job
+    → trail_stands t ≡ Some [] → trail_left store number job.limit 0 gone job.selector t roots ≡ whole_walk store number job
 starts_from store number job t b had roots is once none same empty =
     ap (λ (g : Option Going). trail_left store number job.limit 0 g job.selector t roots) none ∙ ap (λ (cs : List (List ℕ)). trail_left store number job.limit 0 (gone_at_start b) job.selector t cs) same
     ∙ starts_walk store number job t b is once empty

@@ -2,6 +2,7 @@
 use Rattle.std.proofs.Common.{◌≡◌, ℕ, zero, suc, ◌+◌, ◌-◌, ◌<◌, ◌≤◌, false, List, [], ◌∷◌, ◌++◌, length, map, take, refl, sym, ◌∙◌, ap, subst, append_assoc, arith}
 use Rattle.std.specs.Prelude.{Option, Some, None, Ok, Err, nat_lt}
 use Rattle.std.proofs.lemmas.Bool.Decides.{nat_tests}
+use Rattle.std.proofs.lemmas.Bool.{le-ltb}
 use Rattle.ix_walk.specs.declared.subtree.Found.{Found}
 use Rattle.ix_walk.specs.declared.subtree.Trail.{Trail}
 use Rattle.ix_walk.specs.declared.visit.Visit.{Visit}
@@ -34,15 +35,12 @@ limit_with store number limit given had old f rest is e =
 end_with : (store : Blocks) (number limit given : ℕ) (had : Option Going) (old : List Found) → old ≡ [] → GivesNext (walk_left store number limit given had old false) None nothing_left
 end_with store number limit given had old e = (
   ap (λ (z : List Found). visits_from store number given (take (limit - given) (first_arrivals store had (suc (limit - given)) z))) e ∙ ap (visits_from store number given) (nothing (limit - given)),
-  ap (λ (z : List Found). nat_lt (limit - given) (length (first_arrivals store had (suc (limit - given)) z))) e ∙ not_below (limit - given),
+  ap (λ (z : List Found). nat_lt (limit - given) (length (first_arrivals store had (suc (limit - given)) z))) e ∙ le-ltb (limit - given) 0 (omega arith),
   refl,
 ) where
   nothing : (n : ℕ) → take {A = Arrival} n [] ≡ []
   nothing zero = refl
   nothing (suc n) = refl
-
-  not_below : (n : ℕ) → nat_lt n 0 ≡ false
-  not_below n = grind (arith, nat_tests)
 
 visit_with : (store : Blocks) (number limit given : ℕ) (had has : Option Going) (old links new : List Found) (f : Found) (v : Visit) → given < limit → v ≡ visit_of store number given (arrival f.depth f.cid) → old ≡ f ∷ links
     → has ≡ gone_behind (data_inside store had f) f had → new ≡ links_inside f.residual (f.depth + 1) (data_inside store had f) ++ links

@@ -1,8 +1,9 @@
 -- What a walk is about to give, from what it keeps.
-use Rattle.std.specs.Prelude.{◌≡◌, ℕ, zero, suc, ◌+◌, ◌-◌, ◌≤◌, Bool, true, false, List, [], ◌∷◌, ◌++◌, length, map, reverse, take, Option, Some, None, option_map, option_and_then, Result, Ok, Err, nat_lt, ◌==◌, ◌&&◌, ◌||◌, bytes_eq, if◌then◌else◌}
+use Rattle.std.specs.Prelude.{◌≡◌, ℕ, zero, suc, ◌+◌, ◌-◌, ◌≤◌, Bool, true, false, List, [], ◌∷◌, ◌++◌, length, map, reverse, take, Option, Some, None, option_map, option_and_then, Ok, nat_lt, ◌==◌, ◌&&◌, ◌||◌, bytes_eq, if◌then◌else◌}
+use Rattle.std.specs.Result.{result_ok}
 use Rattle.ix_cbor.specs.Data as nodes
 use Rattle.ix_cbor.specs.Data.{Data, Items, Entries, null, boolean, integer, float, bytes, text, list, link, no_items, item, no_entries, entry}
-use Rattle.ix_cbor.specs.Reading.{Fault, ◌>>=◌, item_at, items_at, entries_at}
+use Rattle.ix_cbor.specs.Reading.{◌>>=◌, item_at, items_at, entries_at}
 use Rattle.ix_selector.specs.Enters.{key, nth}
 use Rattle.ix_selector.specs.Pattern.{Pattern}
 use Rattle.ix_selector.specs.Residual.{Place}
@@ -157,15 +158,11 @@ abbrev pub is_spent : Children → Bool
 is_spent (Members count left) = left == 0
 is_spent (Values left) = left == 0
 
-abbrev pub or_none : {A : Type 0} → Result A Fault → Option A
-or_none (Ok x) = Some x
-or_none (Err f) = None
-
 -- what is left of an open list or map whose next child stands at the front of these bytes, and the bytes behind it
 abbrev pub part_at : Children → List ℕ → Option (Part × List ℕ)
 part_at (Members count left) b =
-    if nat_lt count left then None else or_none (items_at (item_at 512) left b >>= (λ ds. Ok (members (count - left) ds.0, ds.1)))
-part_at (Values left) b = or_none (entries_at (item_at 512) None left b >>= (λ es. Ok (values es.0, es.1)))
+    if nat_lt count left then None else result_ok (items_at (item_at 512) left b >>= (λ ds. Ok (members (count - left) ds.0, ds.1)))
+part_at (Values left) b = result_ok (entries_at (item_at 512) None left b >>= (λ es. Ok (values es.0, es.1)))
 
 abbrev pub opened : Opened → Part → Subtree
 opened o part = record { places = o.residual; part = part; depth = o.depth }

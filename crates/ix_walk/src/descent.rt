@@ -1,6 +1,6 @@
 //! Going through the bytes of a block, down to the next link.
 
-ghost use Rattle.std.specs.Prelude.{◌≡◌, IfOk, OnOk, Ok, None};
+ghost use Rattle.std.specs.Prelude.{◌≡◌, IfOk, Ok, None};
 ghost use Rattle.ix_cbor.specs.Reading.{own_at, key_at};
 ghost use Rattle.ix_cbor.specs.Fronts.{own_of_front, HasCid};
 ghost use Rattle.ix_selector.specs.Residual.{step_of};

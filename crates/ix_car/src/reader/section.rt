@@ -1,6 +1,6 @@
 //! Reading the parts of a CARv1 file: a text behind its length, and a section.
 
-ghost use Rattle.std.specs.Prelude.{◌≡◌, ◌<◌, ◌≤◌, ◌++◌, length, IfOk};
+ghost use Rattle.std.specs.Prelude.{◌≡◌, ◌<◌, ◌++◌, length, IfOk};
 ghost use Rattle.std.specs.Arc.{arc_value};
 ghost use Rattle.ix_car.specs.Reading.{text_at, section_at};
 ghost use Rattle.ix_car.specs.Reads.{Reads, ReadsOrRunsOut, IsEnd, StandsWithin};

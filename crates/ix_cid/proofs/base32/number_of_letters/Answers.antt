@@ -1,8 +1,9 @@
 use Rattle.std.proofs.Common.{◌≡◌, ◌≤◌, ◌<◌, ◌+◌, ◌*◌, ℕ, length, get_or, drop, take, map, sym, ap, ◌∙◌, subst, arith}
 use Rattle.std.proofs.lemmas.List.{length-map, get_or-map, take_all, drop_all}
 use Rattle.std.proofs.lemmas.List.Elements.{All-more, All-same}
+use Rattle.std.proofs.lemmas.Grind.{pow_more}
 use Rattle.ix_cid.specs.CidText.{number_in, bits_of_letter, IsLetter}
-use Rattle.ix_cid.proofs.Digits.{number_in-turn, pow-more, pow-least}
+use Rattle.ix_cid.proofs.Digits.{number_in-turn, pow-least}
 use Rattle.ix_cid.proofs.Base32Laws.{bits-below}
 use Rattle.ix_cid.proofs.base32.number_of_letters.Goals as goal
 use Rattle.ix_cid.proofs.base32.number_of_letters.Goals.{In_ok-number}
@@ -25,7 +26,7 @@ loop-letter-preserved c =
     let turn = number_in-turn 32 c.loop-letter.number (map bits_of_letter letters) i (omega (arith, length-map letters bits_of_letter)) in
     record {
       so_far = ap (λ (x : ℕ). number_in 32 (c.loop-letter.number * 32 + x) (drop (i + 1) (map bits_of_letter letters))) (sym bits) ∙ sym turn ∙ kept.so_far;
-      below = omega (arith, bits-fit c, pow-more 32 i);
+      below = omega (arith, bits-fit c, pow_more 32 i);
       alphabet = All-more IsLetter letters i 0 c.loop-letter-test.true kept.alphabet is.0;
     }
 

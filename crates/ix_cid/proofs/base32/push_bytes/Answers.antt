@@ -1,6 +1,6 @@
 use Rattle.std.proofs.Common.{◌≢◌, ◌%◌, length, arith}
 use Rattle.ix_cid.specs.CidText.{IsBase32}
-use Rattle.ix_cid.proofs.Base32Laws.{some_left, from_tests, refused-behind, pushed}
+use Rattle.ix_cid.proofs.Base32Laws.{some_left, from_tests, refused-behind, quantum-pushed}
 use Rattle.ix_cid.proofs.base32.push_bytes.Goals as goal
 use Rattle.ix_cid.proofs.base32.push_bytes.Goals.{In_ok-push_front, in-1, in_default-matches, then-matches-via-then-matches, then-matches-via-else-matches+then-number-left_over-ne0}
 
@@ -37,4 +37,4 @@ returns c =
     let number = c.in-Some.number in
     let spelled = c.in-Some.ensures in
     let is = from_tests letters number spelled.0 spelled.1 (counted (goal.at.returns c).In_ok-push_front) c.if-number-left_over-ne0.false in
-    pushed c.args.bytes.now.items c.push_front.new.bytes.items letters number c.requires is spelled.1 c.in_ok-push_front.ensures
+    quantum-pushed c.args.bytes.now.items c.push_front.new.bytes.items letters number c.requires is spelled.1 c.in_ok-push_front.ensures

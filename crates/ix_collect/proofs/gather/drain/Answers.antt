@@ -1,6 +1,7 @@
 use Rattle.std.proofs.Common.{refl, ◌++◌, sym, ◌∙◌}
 use Rattle.ix_stages.specs.Lanes.{received_by}
-use Rattle.ix_collect.proofs.Gathering.{inserts_mid, on_same, on_trans, lane_same, in_trans, same_trans}
+use Rattle.ix_stages.proofs.Passing.{same_again}
+use Rattle.ix_collect.proofs.Gathering.{inserts_mid, on_same, on_trans, lane_same, same_trans}
 use Rattle.ix_collect.proofs.gather.drain.Goals as goal
 
 pub loop-init : goal.loop-init
@@ -18,7 +19,7 @@ loop-preserved g c =
     record {
       lane = lane_same c.loop.sender c.lane_rest.new.sender c.loop.receiver c.lane_rest.new.receiver same.0 same.1 h.lane;
       same = (
-        in_trans c.args.sender.now c.loop.sender c.lane_rest.new.sender h.same.0 same.0,
+        same_again c.args.sender.now c.loop.sender c.lane_rest.new.sender h.same.0 same.0,
         same_trans c.args.receiver.now c.loop.receiver c.lane_rest.new.receiver h.same.1 same.1,
         same.2 ∙ h.same.2,
       );

@@ -2,8 +2,8 @@ use Rattle.std.proofs.Common.{rules, ◌≡◌, ◌∙◌, ◌+◌, [], ◌∷�
 use Rattle.std.specs.Prelude.{cond}
 use Rattle.ix_stages.specs.declared.verdicted.Verdicted.{Verdicted}
 use Rattle.ix_stages.specs.Lanes.{received_by}
+use Rattle.ix_stages.proofs.Totals.{total_append}
 use Rattle.ix_collect.specs.Collected.{IsCollected, is_last, last_count}
-use Rattle.ix_collect.proofs.Goodness.{weigh_append}
 use Rattle.ix_collect.proofs.Gathering.{inserts_mid, on_same, bool_one, one_at_most}
 use Rattle.ix_collect.proofs.gather.receive_one.Goals as goal
 
@@ -30,7 +30,7 @@ returns-clause-counted g c =
     let item = c.in-Some.item in
     let old = received_by c.args.lane.now in
     let gives : received_by c.try_recv.new.self ≡ old ++ item ∷ [] = search rules in
-    let counts : last_count (old ++ item ∷ []) ≡ last_count old + last_count (item ∷ []) = weigh_append is_last old (item ∷ []) in
+    let counts : last_count (old ++ item ∷ []) ≡ last_count old + last_count (item ∷ []) = total_append is_last old (item ∷ []) in
     let one : cond c.is_last-last.result 1 0 ≡ is_last item = c.is_last-last.ensures in
     let as_one : c.from-lasts.result ≡ cond c.is_last-last.result 1 0 = c.from-lasts.ensures ∙ bool_one c.is_last-last.result in
     let new : last_count (received_by c.try_recv.new.self) ≡ last_count (old ++ item ∷ []) = ap last_count gives in

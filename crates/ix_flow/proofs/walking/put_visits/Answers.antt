@@ -1,8 +1,8 @@
 use Rattle.std.proofs.Common.{◌∙◌, ℕ, drop, slice_get, Ok, sym, ap, arith}
+use Rattle.ix_cid.proofs.Lists.{next_at, all_past}
 use Rattle.ix_walk.specs.Visits.{visits_of}
 use Rattle.ix_stages.specs.declared.pass_view.PassView.{PassView}
 use Rattle.ix_archive.specs.declared.sink.End.TheVariants.{Done}
-use Rattle.ix_flow.proofs.Lists.{next_at, all_past}
 use Rattle.ix_flow.proofs.Puts.{visit_is_next, close_is_allowed, given_is}
 use Rattle.ix_flow.proofs.walking.put_visits.Goals as goal
 

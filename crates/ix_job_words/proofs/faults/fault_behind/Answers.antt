@@ -2,7 +2,8 @@ use Rattle.std.proofs.Common.{◌≡◌, [], ◌∷◌, ◌++◌, Some, true, fa
 use Rattle.std.specs.List.{slice_get}
 use Rattle.ix_walk.specs.JobMeaning.{JobMeaning}
 use Rattle.ix_jobs.specs.Named.{HasNames}
-use Rattle.ix_jobs.proofs.Named.{is_taken, taken-by_name, names-push}
+use Rattle.ix_jobs.specs.Jobs.{is_taken}
+use Rattle.ix_jobs.proofs.Named.{taken-by_name, names-push}
 use Rattle.ix_job_words.proofs.Turns.{behind-taken, behind-free}
 use Rattle.ix_job_words.proofs.faults.fault_behind.Goals as goal
 

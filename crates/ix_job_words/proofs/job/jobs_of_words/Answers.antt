@@ -1,6 +1,6 @@
 use Rattle.std.proofs.Common.{◌∙◌, ap}
 use Rattle.std.specs.Prelude.{string_bytes}
-use Rattle.ix_job_words.specs.Words.{walked}
+use Rattle.ix_walk.specs.JobMeaning.{walked}
 use Rattle.ix_job_words.proofs.job.jobs_of_words.Goals as goal
 
 pub returns-clause-jobs : goal.returns-clause-jobs

@@ -4,8 +4,9 @@ use Rattle.std.specs.Global.{Vec}
 use Rattle.ix_store.specs.Store.{Blocks}
 use Rattle.ix_walk.specs.JobMeaning.{JobMeaning}
 use Rattle.ix_walk.specs.declared.job.Job.{Job}
+use Rattle.ix_collect.proofs.Kept.{kept_same}
 use Rattle.ix_pipeline.specs.Headline.{EachDelivered}
-use Rattle.ix_pipeline.proofs.Exported.{kept_same, archived_of_delivered}
+use Rattle.ix_pipeline.proofs.Exported.{archived_of_delivered}
 use Rattle.ix_pipeline.proofs.exporting.export.Goals as goal
 
 pub returns-in_default-clause-facts : goal.returns-in_default-clause-facts

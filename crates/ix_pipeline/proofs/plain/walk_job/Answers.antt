@@ -2,8 +2,9 @@ use Rattle.std.proofs.Common.{rules, Ok, Err, refl, sym, ◌∙◌, ap}
 use Rattle.std.proofs.lemmas.Result.{err_from_is_err_and}
 use Rattle.ix_walk.specs.declared.fault.WalkStop.TheVariants as reasons
 use Rattle.ix_archive.specs.declared.sink.End.TheVariants.{Limit, Memory}
+use Rattle.ix_flow.proofs.Puts.{given_is}
 use Rattle.ix_pipeline.specs.Progress.{end_on, end_of}
-use Rattle.ix_pipeline.proofs.UnderWay.{starts, can_hand, next_of_store, hands, hands_none, given_is, walked_as, limits, stops, ends}
+use Rattle.ix_pipeline.proofs.UnderWay.{starts, can_hand, next_of_store, hands, hands_none, walked_as, limits, stops, walk-ends}
 use Rattle.ix_pipeline.proofs.plain.walk_job.Goals as goal
 
 pub loop-item-init : goal.loop-item-init
@@ -77,7 +78,7 @@ returns-clause-walked g c =
     walked_as c.args.store.now c.args.number c.args.job.now (g.C.Check.checked c.args.check.now)
     (record { events = g.S.Sink.events c.loop-item.sink; failed = g.S.Sink.failed c.loop-item.sink; pairs = g.C.Check.checked c.loop-item.check })
     _ _ (sym c.end-2.ensures)
-    (ends c.args.store.now c.args.number c.args.job.now c.loop-item.item-iterator c.next.new.self c.loop-item.state (g.C.Check.checked c.args.check.now)
+    (walk-ends c.args.store.now c.args.number c.args.job.now c.loop-item.item-iterator c.next.new.self c.loop-item.state (g.C.Check.checked c.args.check.now)
     (record { events = g.S.Sink.events c.loop-item.sink; failed = g.S.Sink.failed c.loop-item.sink; pairs = g.C.Check.checked c.loop-item.check })
     c.loop-item.invariant.under c.in-None.ensures.steps)
 

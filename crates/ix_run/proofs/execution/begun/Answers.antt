@@ -1,11 +1,11 @@
 use Rattle.std.proofs.Common.{◌≡◌, ◌⊎◌, ◌<◌, length, map, sym, ◌∙◌, ap, subst, Bor, inl, inr, arith}
-use Rattle.std.proofs.lemmas.List.{length-map}
+use Rattle.std.proofs.lemmas.List.{length-map, map_push}
 use Rattle.std.specs.Slice.Iter.{iter_rest}
 use Rattle.std.specs.Vec.Iter.{into_iter_items}
 use Rattle.ix_walk.specs.JobMeaning.{JobMeaning}
 use Rattle.ix_run.specs.Run.{EachBegun}
 use Rattle.ix_run.proofs.Runs.{EachBegun-more, begun-length}
-use Rattle.ix_run.proofs.Turns.{taken_more, turn, room, all_taken}
+use Rattle.ix_run.proofs.Turns.{turn, room, all_taken}
 use Rattle.ix_run.proofs.execution.begun.Goals as goal
 
 pub loop-job-preserved : goal.loop-job-preserved
@@ -22,7 +22,7 @@ loop-job-preserved g c =
       jobs = turn job_of c.args.jobs.now ys (iter_rest c.loop-job.job-iterator.a) (iter_rest c.next.new.self.a) x was.jobs steps.0;
       writers = turn writer_of c.args.writers.items ys (into_iter_items c.loop-job.job-iterator.b) (into_iter_items c.next.new.self.b) x was.writers steps.1.0;
       sized = let fewer = ap length steps.1.0 in let size = was.sized in omega (arith, steps.1.1);
-      begun = rw (taken_more job_of ys x, taken_more writer_of ys x) (rw c.in_ok-push-in-Ok.ensures.items (rw c.new-in-Ok.ensures more));
+      begun = rw (map_push job_of ys x, map_push writer_of ys x) (rw c.in_ok-push-in-Ok.ensures.items (rw c.new-in-Ok.ensures more));
     }
 
 -- an archive for each job that was taken, and a job is there that wasn't

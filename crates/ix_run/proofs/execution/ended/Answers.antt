@@ -2,11 +2,12 @@ use Rattle.std.proofs.Common.{◌≡◌, ◌⊎◌, length, map, sym, ◌∙◌,
 use Rattle.std.specs.Io.KnownBytes.{Keeps}
 use Rattle.std.specs.Slice.Iter.{iter_rest}
 use Rattle.std.specs.Vec.Iter.{into_iter_items}
+use Rattle.std.proofs.lemmas.List.{map_push}
 use Rattle.ix_archive.specs.declared.sink.End.{End}
 use Rattle.ix_archive.specs.ArchiveMeaning.{ArchiveMeaning}
 use Rattle.ix_run.specs.Run.{IsEnded, EachEnded}
 use Rattle.ix_run.proofs.Runs.{EachEnded-more}
-use Rattle.ix_run.proofs.Turns.{taken_more, turn, all_taken}
+use Rattle.ix_run.proofs.Turns.{turn, all_taken}
 use Rattle.ix_run.proofs.execution.ended.Goals as goal
 
 pub loop-archive-preserved : goal.loop-archive-preserved
@@ -30,7 +31,7 @@ loop-archive-preserved g c =
       archives = turn archive_of c.args.archives.items ys (into_iter_items c.loop-archive.archive-iterator.a) (into_iter_items c.next.new.self.a) x was.archives steps.0.0;
       ends = turn end_of c.args.ends.now ys (iter_rest c.loop-archive.archive-iterator.b) (iter_rest c.next.new.self.b) x was.ends steps.1;
       sized = let fewer = ap length steps.0.0 in let size = was.sized in omega (arith, steps.0.1);
-      ended = rw (taken_more archive_of ys x, taken_more end_of ys x) (rw c.in_ok-push.ensures.items (rw c.in_ok-push-2.ensures.items more));
+      ended = rw (map_push archive_of ys x, map_push end_of ys x) (rw c.in_ok-push.ensures.items (rw c.in_ok-push-2.ensures.items more));
     }
 
 pub returns : goal.returns

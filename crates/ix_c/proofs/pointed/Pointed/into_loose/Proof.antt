@@ -1,6 +1,6 @@
 -- `into_loose` keeps the pointer, and what it owned, where something is held.
 use Rattle.std.proofs.Common.{◌≡◌, List, [], ◌∷◌, ◌++◌, refl, sym, ap, ◌∙◌, subst}
-use Rattle.std.specs.Prelude.{Some, true}
+use Rattle.std.specs.Prelude.{Some, true, is_some}
 use mir.Val.{Val, vptr}
 use base.Logic.{SProp, ent, emp, id⊢}
 use base.Fml.{ftrue}
@@ -18,7 +18,6 @@ use denote.Steps.{nothing, heard}
 use denote.Triple.Walked.{Stays, stay_dropped, Goes-dropped, walk_of}
 use Rattle.std.proofs.raw_atomic.Walks.{proved_at, leaves}
 use Rattle.std_heap.proofs.Handle.{heap_val}
-use Rattle.ix_c.specs.Holding.{is_some}
 use Rattle.ix_c.proofs.Values.{both}
 use Rattle.ix_c.proofs.Pointing.{Pointed, Global, one, pointed_out, some_out, global_out, loose_in}
 use Rattle.ix_c.specs.contracts.pointed.Pointed.into_loose as f

@@ -1,8 +1,9 @@
 use Rattle.std.proofs.Common.{◌≡◌, ◌<◌, ◌++◌, ◌∷◌, ◌-◌, [], ℕ, List, length, map, arith, rules}
 use Rattle.std.proofs.lemmas.Result.{err_from_is_err_and}
+use Rattle.std.proofs.lemmas.List.{map_push}
 use Rattle.ix_car.specs.Sections.{placed, sections_behind}
 use Rattle.ix_car.specs.SectionView.{section_of}
-use Rattle.ix_car.proofs.SectionLists.{ListGoesOn-first, ListGoesOn-more, ListGoesOn-fails, ListGoesOn-last, FailsAs-of, map_push}
+use Rattle.ix_car.proofs.SectionLists.{ListGoesOn-first, ListGoesOn-more, ListGoesOn-fails, ListGoesOn-last, FailsAs-of}
 use Rattle.ix_car.proofs.reader.sections.sections_behind.Goals as goal
 
 pub loop-rest-init : goal.loop-rest-init

@@ -1,9 +1,9 @@
 use Rattle.std.proofs.Common.{◌≡◌, ◌∷◌, ℕ, Ok, Err, sym, ap, subst, ◌∙◌, arith}
 use Rattle.std.proofs.lemmas.Result.{err_from_is_err_and}
-use Rattle.ix_cid.specs.Cid.{IsCid}
+use Rattle.ix_cid.specs.Cid.{IsCid, numbered_length_at}
 use Rattle.ix_cid.specs.CidText.{cid_of_text}
 use Rattle.ix_cid.specs.Held.{content}
-use Rattle.ix_cid.proofs.Texts.{length_at, text-fails, text-rest, text-whole}
+use Rattle.ix_cid.proofs.Texts.{text-fails, text-rest, text-whole}
 use Rattle.ix_cid.proofs.cid.Cid.from_text.Goals as goal
 use Rattle.ix_cid.proofs.cid.Cid.from_text.Goals.{In-Some-eq98-default, In_ok-held}
 
@@ -18,7 +18,7 @@ returns-in_err-numbered_length c =
     let bytes = c.in_ok-bytes.bytes.items in
     let fault = c.in_err-numbered_length.field-0.0 in
     let failed = err_from_is_err_and c.from_residual-in_err-numbered_length.result c.from_residual-in_err-numbered_length.ensures.1 in
-    let fails : length_at bytes ≡ Err fault = ap length_at (sym c.as_slice.ensures.value) ∙ c.in_err-numbered_length.ensures.exact in
+    let fails : numbered_length_at bytes ≡ Err fault = ap numbered_length_at (sym c.as_slice.ensures.value) ∙ c.in_err-numbered_length.ensures.exact in
     record {
       exact = rw (failed.1, failed.2) (text-fails c.args.text.now c.in-Some-eq98-default.letters.now bytes (text_begins (goal.at.returns-in_err-numbered_length c).In-Some-eq98-default) c.in_ok-bytes.ensures fault fails);
     }
@@ -27,7 +27,7 @@ pub returns-then-branch-len : goal.returns-then-branch-len
 returns-then-branch-len c =
     let bytes = c.in_ok-bytes.bytes.items in
     let n = c.in_ok-numbered_length.field-0 in
-    let size : length_at bytes ≡ Ok n = ap length_at (sym c.as_slice.ensures.value) ∙ c.in_ok-numbered_length.ensures.exact in
+    let size : numbered_length_at bytes ≡ Ok n = ap numbered_length_at (sym c.as_slice.ensures.value) ∙ c.in_ok-numbered_length.ensures.exact in
     record {
       exact = text-rest c.args.text.now c.in-Some-eq98-default.letters.now bytes (text_begins (goal.at.returns-then-branch-len c).In-Some-eq98-default) c.in_ok-bytes.ensures n size (omega (arith, c.in_ok-bytes.bytes.ok));
     }
@@ -37,7 +37,7 @@ whole : (c : In_ok-held) → IsCid (content c.in_ok-held.held) × (cid_of_text c
 whole c =
     let bytes = c.in_ok-bytes.bytes.items in
     let n = c.in_ok-numbered_length.field-0 in
-    let size : length_at bytes ≡ Ok n = ap length_at (sym c.as_slice.ensures.value) ∙ c.in_ok-numbered_length.ensures.exact in
+    let size : numbered_length_at bytes ≡ Ok n = ap numbered_length_at (sym c.as_slice.ensures.value) ∙ c.in_ok-numbered_length.ensures.exact in
     let found = text-whole c.args.text.now c.in-Some-eq98-default.letters.now bytes (text_begins (goal.at.invariant_of-result c).In-Some-eq98-default) c.in_ok-bytes.ensures n size (omega (arith, c.in_ok-bytes.bytes.ok)) in
     subst (λ b. IsCid b × (cid_of_text c.args.text.now ≡ Ok b)) (sym c.in_ok-held.ensures) found
 

@@ -2,9 +2,10 @@ use Rattle.std.specs.Prelude.{false}
 use Rattle.std.proofs.lemmas.List.{set-get_or}
 use Rattle.ix_collect.specs.Collected.{IsStray}
 use Rattle.std.proofs.Common.{inl, inr, ℕ, arith, subst, set, rules, ◌≡◌, ◌<◌, ◌≤◌, refl, sym, ◌∙◌, Some, length, get_or, ap, length-set}
+use Rattle.std.proofs.lemmas.Bool.{or_left}
 use Rattle.ix_collect.proofs.Kept.{kept_set, kept_same}
 use Rattle.ix_stages.specs.Received.{job_of}
-use Rattle.ix_collect.proofs.Collecting.{safe_at, safe_set, collected_none, collected_unknown, collected_one, ended_set, closed_at, misplaced_at, stays_noted, is_noted_then, not_fine}
+use Rattle.ix_collect.proofs.Collecting.{safe_at, safe_set, collected_none, collected_unknown, collected_one, ended_set, closed_at, misplaced_at, is_noted_then, not_fine}
 use Rattle.ix_collect.proofs.collector.Collector.receive.Goals as goal
 
 pub returns-in_default-clause-kept : goal.returns-in_default-clause-kept
@@ -55,7 +56,7 @@ returns-then-job-len-clause-collected g c =
     λ store jobs got more i h good len. absurd (collected_unknown store jobs c.args.item got more c.in-Some.job (length c.args.self.now.jobs.items) i (sym c.job_of.ensures ∙ c.in-Some.is) past len good)
 
 pub returns-clause-stays : goal.returns-clause-stays
-returns-clause-stays g c = λ e. stays_noted c.args.self.now.stray _ e
+returns-clause-stays g c = λ e. or_left c.args.self.now.stray _ e
 
 pub returns-clause-guarded : goal.returns-clause-guarded
 returns-clause-guarded g c =

@@ -1,6 +1,7 @@
 use Rattle.std.proofs.Common.{rules, ◌≡◌, refl, true}
+use Rattle.std.proofs.lemmas.Bool.{or_right}
 use Rattle.ix_archive.specs.declared.sink.End.TheVariants.{Memory}
-use Rattle.ix_collect.proofs.Closes.{close_arrives, no_second_close, or_stays}
+use Rattle.ix_collect.proofs.Closes.{close_arrives, no_second_close}
 use Rattle.ix_collect.proofs.Arrivals.{stays_or, counts_up}
 use Rattle.ix_collect.proofs.job_progress.JobProgress.note_close.Goals as goal
 
@@ -12,5 +13,5 @@ returns-clause-noted c = λ all over t u events failed fine a w.
     let equal : c.args.end ≡ Memory → c.eq.result ≡ true = search rules in (
       refl,
       close_arrives all over t u c.args.seq c.args.end c.args.self.now c.saturating_add-self.result _ events failed fine a w (counts_up c.args.self.now.arrived c.saturating_add-self.result c.saturating_add-self.ensures)
-          (stays_or c.args.self.now.out_of_memory c.eq.result) (λ e. or_stays c.args.self.now.out_of_memory c.eq.result (equal e)),
+          (stays_or c.args.self.now.out_of_memory c.eq.result) (λ e. or_right c.args.self.now.out_of_memory c.eq.result (equal e)),
     )

@@ -1,12 +1,13 @@
 use Rattle.std.proofs.Common.{rules, ◌≡◌, ◌≤◌, List, All, length, map, vec_len, ap, sym, subst, refl, ◌∙◌, arith}
-use Rattle.std.proofs.lemmas.List.Elements.{All-weaker}
+use Rattle.std.proofs.lemmas.List.Elements.{All-weaker, All-replicate}
+use Rattle.std.proofs.lemmas.List.{length-replicate}
 use Rattle.ix_walk.specs.JobMeaning.{IsJob}
 use Rattle.ix_stages.specs.Course.{course_of}
 use Rattle.ix_stages.specs.Claims.{SeatMeaning}
 use Rattle.ix_stages.specs.Queue.{table_of}
 use Rattle.ix_stages.specs.Seats.{JobView}
 use Rattle.ix_flow.specs.Ready.{IsReady}
-use Rattle.ix_flow.proofs.Lists.{length_count, length_same, all_same}
+use Rattle.ix_flow.proofs.Lists.{length_count}
 use Rattle.ix_flow.proofs.Makes.{seats_ready, seats_each, takers_ready}
 use Rattle.ix_flow.proofs.preparing.Prepared.new.Goals as goal
 
@@ -25,7 +26,7 @@ returns-clause-prepared g c =
     let jobs = c.args.jobs.now.items in
     let t = table_of c.in_ok-parts.parts.queue in
     let same : course_of c.of.result.value c.of-2.result.value.items ≡ course_of store jobs = λ i. course_of (c.of.ensures i) (c.of-2.ensures i).items in
-    let takers : vec_len c.in_ok-parts.parts.takers ≡ verifiers = c.in_ok-parts.parts.takers.ok.0 ∙ (ap length c.in_ok-parts.ensures.takers ∙ length_same _ verifiers) in
+    let takers : vec_len c.in_ok-parts.parts.takers ≡ verifiers = c.in_ok-parts.parts.takers.ok.0 ∙ (ap length c.in_ok-parts.ensures.takers ∙ length-replicate verifiers _) in
     let many : c.len-count.result ≡ length jobs = c.len-count.ensures ∙ c.args.jobs.now.ok.0 in
     let seats : All (IsReady store jobs t) c.in_ok-parts.parts.jobs.items = seats_ready store jobs t _ _ same c.len-count.result c.in_ok-parts.parts.jobs.items many c.in_ok-parts.ensures.jobs in
     let stop = c.in_ok-parts.ensures.stop in
@@ -37,7 +38,7 @@ returns-clause-prepared g c =
       running = c.in_ok-running.ensures;
       seats = subst (λ (l : List JobView). All (IsReady store jobs t) l) (sym c.in_ok-claims.ensures.claims.0) seats;
       each = ap (λ (l : List JobView). map (λ s. s.job) l) c.in_ok-claims.ensures.claims.0 ∙ seats_each store jobs t _ _ same c.len-count.result c.in_ok-parts.parts.jobs.items many c.in_ok-parts.ensures.jobs;
-      claimers = subst (λ (l : List (SeatMeaning JobView)). All (λ s. s.of ≡ claims) l) (sym c.in_ok-claims.ensures.seats) (all_same (λ (s : SeatMeaning JobView). s.of ≡ claims) _ c.args.plan.walkers refl);
+      claimers = subst (λ (l : List (SeatMeaning JobView)). All (λ s. s.of ≡ claims) l) (sym c.in_ok-claims.ensures.seats) (All-replicate (λ (s : SeatMeaning JobView). s.of ≡ claims) c.args.plan.walkers _ refl);
       caller = record {
         limits = All-weaker IsJob (λ job. job.limit ≤ 1000000) (λ job is. is.bounded) jobs (subst (All IsJob) c.deref.ensures.value c.each_is_job.ensures);
         stop = (search rules, search rules);
@@ -48,4 +49,4 @@ returns-clause-prepared g c =
     }
 
 pub returns-clause-walkers : goal.returns-clause-walkers
-returns-clause-walkers g c = c.in_ok-claims.claimers.ok.0 ∙ (ap length c.in_ok-claims.ensures.seats ∙ length_same _ c.args.plan.walkers)
+returns-clause-walkers g c = c.in_ok-claims.claimers.ok.0 ∙ (ap length c.in_ok-claims.ensures.seats ∙ length-replicate c.args.plan.walkers _)

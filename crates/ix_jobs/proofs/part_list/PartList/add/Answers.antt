@@ -1,6 +1,7 @@
 use Rattle.std.proofs.Common.{◌≡◌, ◌<◌, ◌≤◌, [], ◌∷◌, ◌++◌, length, length-append, true, false, refl, sym, ap, ◌∙◌, arith}
+use Rattle.ix_jobs.specs.Jobs.{is_taken}
 use mathlib.Core.Logic.{◌⊎◌, inl, inr}
-use Rattle.ix_jobs.proofs.Named.{is_taken, taken-by_name, names-push}
+use Rattle.ix_jobs.proofs.Named.{taken-by_name, names-push}
 use Rattle.ix_jobs.proofs.PartLists.{joined-taken, joined-full, joined-free, window-grows, window-stays}
 use Rattle.ix_jobs.proofs.part_list.PartList.add.Goals as goal
 use Rattle.ix_jobs.proofs.part_list.PartList.add.Goals.{then-number-self-via-then-number-self, then-number-self-via-else-number-self+then-self-number}

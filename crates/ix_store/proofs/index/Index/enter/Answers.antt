@@ -7,7 +7,8 @@ use Rattle.std.proofs.lemmas.Result.{err_from_is_err_and}
 use Rattle.std.proofs.Math.Dec.{eqb}
 use Rattle.ix_store.specs.Index.{tail_of, mark_of, Has, place_behind}
 use Rattle.ix_store.specs.Store.{has_cid}
-use Rattle.ix_store.proofs.Stores.{pair, position-none}
+use Rattle.ix_store.specs.Entry.{pair_of}
+use Rattle.ix_store.proofs.Stores.{position-none}
 use Rattle.ix_store.proofs.Indexes.{free-at, indexed-slot, indexed-behind, indexed-same, has-by, stood-answer, put-same}
 use Rattle.ix_store.proofs.index.Index.enter.Goals as goal
 
@@ -33,7 +34,7 @@ returns-in-Open-clause-entered c _ b =
     let k = c.args.cid.now in
     let first = free-at c.args.self.now.slots.items (tail_of k) c.in-Open.slot c.in-Open.ensures.1.1 in
     let x = c.taken.result in
-    let has : Has x (mark_of (tail_of k)) (length (map pair entries)) = subst (λ (n : ℕ). Has x (mark_of (tail_of k)) n) (sym (length-map entries pair)) (subst (λ (t : ℕ). Has x (mark_of t) (length entries)) c.tail_of.ensures c.taken.ensures) in
+    let has : Has x (mark_of (tail_of k)) (length (map pair_of entries)) = subst (λ (n : ℕ). Has x (mark_of (tail_of k)) n) (sym (length-map entries pair_of)) (subst (λ (t : ℕ). Has x (mark_of t) (length entries)) c.tail_of.ensures c.taken.ensures) in
     indexed-slot c.args.self.now _ _ k b c.in-Open.slot x c.requires c.in-Open.ensures.0 first has refl refl
 
 pub returns-in_ok-stood-in-Behind-clause-answer : goal.returns-in_ok-stood-in-Behind-clause-answer
@@ -41,20 +42,20 @@ returns-in_ok-stood-in-Behind-clause-answer c =
     let entries = c.args.entries.now in
     let index = c.args.self.now in
     let k = c.args.cid.now in
-    let n : length entries ≡ length (map pair entries) = sym (length-map entries pair) in
+    let n : length entries ≡ length (map pair_of entries) = sym (length-map entries pair_of) in
     ap (λ (m : ℕ). eqb c.in_ok-stood-in-Behind.stood m) n
-    ∙ stood-answer index (map pair entries) k c.in_ok-stood-in-Behind.stood c.requires c.in-Behind.ensures.1 (c.in_ok-stood-in-Behind.ensures.stood ∙ ap (unwrap_or (place_behind index k)) n)
+    ∙ stood-answer index (map pair_of entries) k c.in_ok-stood-in-Behind.stood c.requires c.in-Behind.ensures.1 (c.in_ok-stood-in-Behind.ensures.stood ∙ ap (unwrap_or (place_behind index k)) n)
 
 pub returns-in_ok-stood-in-Behind-clause-entered : goal.returns-in_ok-stood-in-Behind-clause-entered
 returns-in_ok-stood-in-Behind-clause-entered c entered b =
     let entries = c.args.entries.now in
     let index = c.args.self.now in
     let k = c.args.cid.now in
-    let n : length entries ≡ length (map pair entries) = sym (length-map entries pair) in
+    let n : length entries ≡ length (map pair_of entries) = sym (length-map entries pair_of) in
     let stood = c.in_ok-stood-in-Behind.ensures.stood ∙ ap (unwrap_or (place_behind index k)) n in
-    let answer = stood-answer index (map pair entries) k c.in_ok-stood-in-Behind.stood c.requires c.in-Behind.ensures.1 stood in
-    let new : has_cid (map pair entries) k ≡ false = not-true (has_cid (map pair entries) k) (sym answer ∙ ap (λ (m : ℕ). eqb c.in_ok-stood-in-Behind.stood m) (sym n) ∙ entered) in
-    indexed-behind index c.put_behind.new.self (map pair entries) k b c.in_ok-stood-in-Behind.stood c.requires (position-none 0 (map pair entries) k new) c.in-Behind.ensures.0
+    let answer = stood-answer index (map pair_of entries) k c.in_ok-stood-in-Behind.stood c.requires c.in-Behind.ensures.1 stood in
+    let new : has_cid (map pair_of entries) k ≡ false = not-true (has_cid (map pair_of entries) k) (sym answer ∙ ap (λ (m : ℕ). eqb c.in_ok-stood-in-Behind.stood m) (sym n) ∙ entered) in
+    indexed-behind index c.put_behind.new.self (map pair_of entries) k b c.in_ok-stood-in-Behind.stood c.requires (position-none 0 (map pair_of entries) k new) c.in-Behind.ensures.0
     (ap (λ s. s.items) c.in_ok-stood-in-Behind.ensures.slots) c.in_ok-stood-in-Behind.ensures.put stood
 
 pub returns-in_ok-stood-in-Behind-clause-held : goal.returns-in_ok-stood-in-Behind-clause-held
@@ -62,9 +63,9 @@ returns-in_ok-stood-in-Behind-clause-held c held =
     let entries = c.args.entries.now in
     let index = c.args.self.now in
     let k = c.args.cid.now in
-    let n : length entries ≡ length (map pair entries) = sym (length-map entries pair) in
+    let n : length entries ≡ length (map pair_of entries) = sym (length-map entries pair_of) in
     let stood = c.in_ok-stood-in-Behind.ensures.stood ∙ ap (unwrap_or (place_behind index k)) n in
-    let answer = stood-answer index (map pair entries) k c.in_ok-stood-in-Behind.stood c.requires c.in-Behind.ensures.1 stood in
-    let there : has_cid (map pair entries) k ≡ true = not-false (has_cid (map pair entries) k) (sym answer ∙ ap (λ (m : ℕ). eqb c.in_ok-stood-in-Behind.stood m) (sym n) ∙ held) in
-    put-same index c.put_behind.new.self (map pair entries) k c.in_ok-stood-in-Behind.stood c.requires c.in-Behind.ensures.1 there
+    let answer = stood-answer index (map pair_of entries) k c.in_ok-stood-in-Behind.stood c.requires c.in-Behind.ensures.1 stood in
+    let there : has_cid (map pair_of entries) k ≡ true = not-false (has_cid (map pair_of entries) k) (sym answer ∙ ap (λ (m : ℕ). eqb c.in_ok-stood-in-Behind.stood m) (sym n) ∙ held) in
+    put-same index c.put_behind.new.self (map pair_of entries) k c.in_ok-stood-in-Behind.stood c.requires c.in-Behind.ensures.1 there
     (ap (λ s. s.items) c.in_ok-stood-in-Behind.ensures.slots) c.in_ok-stood-in-Behind.ensures.put stood

@@ -5,7 +5,7 @@ use Rattle.std.proofs.lemmas.List.{take_all}
 use Rattle.std.specs.Option.{option_map}
 use Rattle.std.proofs.lemmas.List.Elements.{All-more}
 use Rattle.ix_store.specs.Index.{IsBehind, HasAllOf}
-use Rattle.ix_store.proofs.Stores.{pair}
+use Rattle.ix_store.specs.Entry.{pair_of}
 use Rattle.ix_store.proofs.Found.{true-put}
 use Rattle.ix_store.proofs.Seen.{all-put, all-of-both, all-behind, put-behind}
 use Rattle.ix_store.proofs.index.Index.put_each_behind.Goals as goal
@@ -13,15 +13,15 @@ use Rattle.ix_store.proofs.index.Index.put_each_behind.Goals as goal
 pub loop-place-preserved : goal.loop-place-preserved
 loop-place-preserved c =
     let entries = c.args.entries.now in
-    let es = map pair entries in
+    let es = map pair_of entries in
     let index = c.loop-place.self in
     let later = c.put_behind.new.self in
     let said = c.in_ok-stood.ensures in
     let n = c.loop-place.place-index in
     let place = get_or c.args.places.now n 0 in
-    let x = pair c.in-Some.entry.now in
+    let x = pair_of c.in-Some.entry.now in
     let held : slice_get entries place ≡ Some c.in-Some.entry.now = slice_get_read entries (length entries) place c.in-Some.entry.now refl (ltb-true place (length entries) (sym c.in-Some.ensures.lookup.0)) c.in-Some.ensures.lookup.1 in
-    let at : slice_get es place ≡ Some x = slice_get-map pair entries place ∙ ap (λ o. option_map pair o) held in
+    let at : slice_get es place ≡ Some x = slice_get-map pair_of entries place ∙ ap (λ o. option_map pair_of o) held in
     let same : c.in_ok-stood.stood ≡ place = c.if-stood-place.false in
     let has : HasAllOf later index = all-put index later x.0 c.in_ok-stood.stood place said.put said.stood in (
       said.slots ∙ c.loop-place.invariant.0,
@@ -33,4 +33,4 @@ loop-place-preserved c =
 pub returns-clause-put : goal.returns-clause-put
 returns-clause-put c _ =
     let places = c.args.places.now in
-    subst (λ (l : List ℕ). All (λ p. IsBehind c.loop-place.self (map pair c.args.entries.now) p) l) (take_all c.loop-place.place-index places c.loop-place-test.false) c.loop-place.invariant.3
+    subst (λ (l : List ℕ). All (λ p. IsBehind c.loop-place.self (map pair_of c.args.entries.now) p) l) (take_all c.loop-place.place-index places c.loop-place-test.false) c.loop-place.invariant.3

@@ -3,13 +3,13 @@ use Rattle.std.proofs.lemmas.List.{length-map, length-take, take_all}
 use Rattle.std.proofs.lemmas.Option.{slice_get_read}
 use Rattle.std.proofs.lemmas.Slice.Eq.{bytes_eq-Decides}
 use Rattle.std.proofs.Math.ListN.{set}
-use Rattle.ix_store.specs.Entry.{content}
+use Rattle.ix_store.specs.Entry.{content, pair_of}
 use Rattle.ix_store.specs.Index.{tail_of, mark_of, place_behind, Has, Comes, IsFreeSlot, GoesBehind, AreLedTo, IsIndexed}
 use Rattle.ix_store.specs.Store.{Blocks, position_of}
 use Rattle.ix_store.specs.declared.entry.Entry.{Entry}
 use Rattle.ix_store.specs.declared.index.Index.{Index}
 use Rattle.ix_store.specs.declared.index.Slot.{Slot}
-use Rattle.ix_store.proofs.Stores.{pair, entries-more, entries-before, position-none, position-there}
+use Rattle.ix_store.proofs.Stores.{entries-more, entries-before, position-none, position-there}
 use Rattle.ix_store.proofs.Indexes.{free-at, indexed-same, indexed-put, led-slot, led-behind, led-put, behind-put}
 use Rattle.ix_store.proofs.index.Index.table_of.Goals.{in-Some, in-None+in_ok-put_behind-in-None, in-None+else-has_place}
 use Rattle.ix_store.proofs.index.Index.table_of.Goals as goal
@@ -32,22 +32,22 @@ loop-place-preserved c =
     let t = c.tail_of-tail.result in
     let index = c.loop-place.self in
     let slots = c.loop-place.slots.items in
-    let before = map pair (take place entries) in
-    let indexed : IsIndexed index (map pair entries) = c.loop-place.invariant.0 in
+    let before = map pair_of (take place entries) in
+    let indexed : IsIndexed index (map pair_of entries) = c.loop-place.invariant.0 in
     let led : AreLedTo slots index before = c.loop-place.invariant.1 in
     let new : position_of before e.cid ≡ None = position-none 0 before e.cid (entries-before entries place e c.loop-place-test.true c.index-entries-place.is indexed.distinct) in
-    let few : place ≡ length before = omega (arith, c.loop-place-test.true, length-map (take place entries) pair, length-take place entries) in
-    let more : map pair (take (place + 1) entries) ≡ before ++ (e.cid, content e.block) ∷ [] = entries-more entries place e c.loop-place-test.true c.index-entries-place.is in
-    let there : position_of (map pair entries) e.cid ≡ Some place = position-there entries (map pair entries) place e e.cid indexed.distinct refl (slice_get_read entries (length entries) place e refl c.loop-place-test.true c.index-entries-place.is) ((bytes_eq-Decides e.cid e.cid).1 refl) in
+    let few : place ≡ length before = omega (arith, c.loop-place-test.true, length-map (take place entries) pair_of, length-take place entries) in
+    let more : map pair_of (take (place + 1) entries) ≡ before ++ (e.cid, content e.block) ∷ [] = entries-more entries place e c.loop-place-test.true c.index-entries-place.is in
+    let there : position_of (map pair_of entries) e.cid ≡ Some place = position-there entries (map pair_of entries) place e e.cid indexed.distinct refl (slice_get_read entries (length entries) place e refl c.loop-place-test.true c.index-entries-place.is) ((bytes_eq-Decides e.cid e.cid).1 refl) in
     elim c.match-free_slot.branch [
       | in-Some w ↦
           let free : IsFreeSlot slots (tail_of e.cid) w.in-Some.slot = subst (λ (n : ℕ). IsFreeSlot slots n w.in-Some.slot) c.tail_of-tail.ensures (subst (λ (r : List Slot). IsFreeSlot r t w.in-Some.slot) c.as_slice.ensures.value w.in-Some.ensures.1) in
           let x = w.taken.result in
           let has : Has x (mark_of (tail_of e.cid)) (length before) = subst (λ (n : ℕ). Has x (mark_of n) (length before)) c.tail_of-tail.ensures (subst (λ (n : ℕ). Has x (mark_of t) n) few w.taken.ensures) in
           let here : AreLedTo (set slots w.in-Some.slot x) index (before ++ (e.cid, content e.block) ∷ []) = led-slot slots index before e.cid (content e.block) w.in-Some.slot x led new (free-at slots (tail_of e.cid) w.in-Some.slot free) has in (
-            subst (λ (i : Index). IsIndexed i (map pair entries)) (sym w.self-is) indexed,
-            subst (λ (i : Index). AreLedTo c.match-free_slot.slots.items i (map pair (take (place + 1) entries))) (sym w.self-is)
-                (subst (λ (l : List Slot). AreLedTo l index (map pair (take (place + 1) entries))) (sym (ap (λ v. v.items) w.slots-is))
+            subst (λ (i : Index). IsIndexed i (map pair_of entries)) (sym w.self-is) indexed,
+            subst (λ (i : Index). AreLedTo c.match-free_slot.slots.items i (map pair_of (take (place + 1) entries))) (sym w.self-is)
+                (subst (λ (l : List Slot). AreLedTo l index (map pair_of (take (place + 1) entries))) (sym (ap (λ v. v.items) w.slots-is))
                 (subst (λ (es : Blocks). AreLedTo (set slots w.in-Some.slot x) index es) (sym more) here)),
           )
       | in-None+in_ok-put_behind-in-None w ↦
@@ -55,11 +55,11 @@ loop-place-preserved c =
           let later = w.put_behind.new.self in
           let s = w.in_ok-put_behind-in-None.ensures in
           let led-later = led-put slots index later before e.cid _ place led s.put s.stood in
-          let at_e = behind-put index later (map pair entries) e.cid _ place indexed there s.put s.stood in
+          let at_e = behind-put index later (map pair_of entries) e.cid _ place indexed there s.put s.stood in
           let here : AreLedTo slots later (before ++ (e.cid, content e.block) ∷ []) = led-behind slots later before e.cid (content e.block) led-later new full (at_e ∙ ap Some few) in (
-            subst (λ (i : Index). IsIndexed i (map pair entries)) (sym w.self-is) (indexed-put index later (map pair entries) e.cid _ place indexed there (ap (λ v. v.items) s.slots) s.put s.stood),
-            subst (λ (i : Index). AreLedTo c.match-free_slot.slots.items i (map pair (take (place + 1) entries))) (sym w.self-is)
-                (subst (λ (l : List Slot). AreLedTo l later (map pair (take (place + 1) entries))) (sym (ap (λ v. v.items) w.slots-is))
+            subst (λ (i : Index). IsIndexed i (map pair_of entries)) (sym w.self-is) (indexed-put index later (map pair_of entries) e.cid _ place indexed there (ap (λ v. v.items) s.slots) s.put s.stood),
+            subst (λ (i : Index). AreLedTo c.match-free_slot.slots.items i (map pair_of (take (place + 1) entries))) (sym w.self-is)
+                (subst (λ (l : List Slot). AreLedTo l later (map pair_of (take (place + 1) entries))) (sym (ap (λ v. v.items) w.slots-is))
                 (subst (λ (es : Blocks). AreLedTo slots later es) (sym more) here)),
           )
       | in-None+else-has_place w ↦
@@ -68,13 +68,13 @@ loop-place-preserved c =
           let at_e : place_behind index e.cid ≡ Some place = w.has_place.ensures w.if-has_place.false (place_behind index e.cid)
           (subst (λ (n : ℕ). Comes index.slots.items (place_behind index e.cid) n place) (sym c.tail_of-tail.ensures) old) in
           let here : AreLedTo slots index (before ++ (e.cid, content e.block) ∷ []) = led-behind slots index before e.cid (content e.block) led new full (at_e ∙ ap Some few) in (
-            subst (λ (i : Index). IsIndexed i (map pair entries)) (sym w.self-is) indexed,
-            subst (λ (i : Index). AreLedTo c.match-free_slot.slots.items i (map pair (take (place + 1) entries))) (sym w.self-is)
-                (subst (λ (l : List Slot). AreLedTo l index (map pair (take (place + 1) entries))) (sym (ap (λ v. v.items) w.slots-is))
+            subst (λ (i : Index). IsIndexed i (map pair_of entries)) (sym w.self-is) indexed,
+            subst (λ (i : Index). AreLedTo c.match-free_slot.slots.items i (map pair_of (take (place + 1) entries))) (sym w.self-is)
+                (subst (λ (l : List Slot). AreLedTo l index (map pair_of (take (place + 1) entries))) (sym (ap (λ v. v.items) w.slots-is))
                 (subst (λ (es : Blocks). AreLedTo slots index es) (sym more) here)),
           )
     ]
 
 pub returns-clause-table : goal.returns-clause-table
 returns-clause-table c =
-    subst (λ (l : List Entry). AreLedTo c.loop-place.slots.items c.loop-place.self (map pair l)) (take_all c.loop-place.place c.args.entries.now c.loop-place-test.false) c.loop-place.invariant.1
+    subst (λ (l : List Entry). AreLedTo c.loop-place.slots.items c.loop-place.self (map pair_of l)) (take_all c.loop-place.place c.args.entries.now c.loop-place-test.false) c.loop-place.invariant.1

@@ -4,7 +4,7 @@ use Rattle.ix_selector.specs.Pattern.{IsSelector}
 use Rattle.ix_walk.specs.Gone.{going_of}
 use Rattle.ix_walk.specs.Walking.{Going}
 use Rattle.ix_walk.proofs.Goes.{none_gone}
-use Rattle.ix_walk.proofs.Starts.{begins, followed, starts_from, starts_within}
+use Rattle.ix_walk.proofs.Starts.{trail-begins, followed, starts_from, starts_within}
 use Rattle.ix_walk.proofs.walk.Walk.new.Goals.{then-goes_once+in_ok-new, else-goes_once}
 use Rattle.ix_walk.proofs.walk.Walk.new.Goals as goal
 
@@ -13,7 +13,7 @@ returns c =
     let store = c.args.store.now in
     let job = c.args.job.now in
     let is = followed job.selector (λ p. c.residual_is_the_rest.ensures.left job.selector p (subst IsSelector c.selector-2.ensures c.selector_is_one.ensures)) in
-    let start = begins c.new-2.result c.new-2.ensures.next c.new-2.ensures.stack in
+    let start = trail-begins c.new-2.result c.new-2.ensures.next c.new-2.ensures.stack in
     elim c.if-goes_once.branch [
       | then-goes_once+in_ok-new w ↦ starts_from store c.args.number job c.new-2.result true (going_of store c.if-goes_once.gone) c.roots.result.now is (sym c.goes_once.ensures ∙ w.if-goes_once.true)
           (ap (going_of store) w.gone-is ∙ ap (λ (g : Going). Some g) (none_gone store w.in_ok-new.field-0 w.in_ok-new.ensures)) c.roots.ensures start
@@ -22,4 +22,4 @@ returns c =
     ]
 
 pub invariant_of-result : goal.invariant_of-result
-invariant_of-result c = starts_within c.args.job.now.limit c.new-2.result (begins c.new-2.result c.new-2.ensures.next c.new-2.ensures.stack)
+invariant_of-result c = starts_within c.args.job.now.limit c.new-2.result (trail-begins c.new-2.result c.new-2.ensures.next c.new-2.ensures.stack)
