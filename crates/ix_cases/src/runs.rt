@@ -94,7 +94,7 @@ fn run_by<R: Threads + Wait + Sync>(
 {
     let car = example.car()?;
     match prepare(alloc, car.as_slice(), example.jobs.as_bytes()) {
-        Ok((store, jobs)) => run_prepared(rt, alloc, example, &store, &jobs, verifiers, plan),
+        Ok(prepared) => run_prepared(rt, alloc, example, &prepared, verifiers, plan),
         Err(fault) => line_of_fault(alloc, &fault),
     }
 }
@@ -104,14 +104,14 @@ fn run_prepared<R: Threads + Wait + Sync>(
     rt: &R,
     alloc: Global,
     example: &Example,
-    store: &Arc<Store>,
-    jobs: &Arc<Vec<Job>>,
+    prepared: &(Arc<Store>, Arc<Vec<Job>>),
     verifiers: u32,
     plan: Plan,
 ) -> Result<String>
-    requires jobs { AreFew (arc_value jobs.now).items }
+    requires jobs { AreFew (arc_value prepared.now.1).items }
     requires plan { IsPlan plan verifiers }
 {
+    let (store, jobs) = prepared;
     let writers = writers_of(alloc, example, jobs.len())?;
     if writers.len() != jobs.len() {
         bail!("a writer for each job was wanted");

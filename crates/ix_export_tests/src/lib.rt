@@ -6,11 +6,11 @@
 //! test is as
 //!
 //! ```rust
-//! let (store, jobs) = chain(alloc, 2)?;
+//! let Work { store, jobs } = chain(alloc, 2)?;
 //! let mut sinks = [Log::new(alloc, 9)?, Log::new(alloc, 9)?];
 //! let checks = vec![in alloc; ShaCheck::new(alloc)]?;
 //! let plan = plan_of(1, 256, 64);
-//! let out = exported(&rt, alloc, &store, &jobs, &mut sinks, checks, &Open, plan)?;
+//! let out = started(export(&rt, alloc, &store, &jobs, &mut sinks, checks, &Open, plan))?;
 //! assert!(rt; out.ends.as_slice() == [End::Done, End::Done].as_slice());
 //! ```
 #![tactic(auto)]

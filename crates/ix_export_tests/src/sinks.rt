@@ -4,11 +4,11 @@ ghost use Rattle.std.specs.Prelude.{◌≡◌, ◌≤◌, [], length, vec_len};
 ghost use Rattle.std.specs.Arc.{arc_value};
 ghost use Rattle.ix_pipeline.specs.Headline.{EachUnused};
 
-use crate::exporting::{exported, list, plan_of};
+use crate::exporting::{Work, list, plan_of, started};
 use ix_archive::End;
 use ix_check::{ShaCheck, Verdict};
 use ix_fixtures::{ABC_SECTION, ALL, Log, ONE_LINK, ONE_LINK_SECTION, job_of, store_of};
-use ix_pipeline::{Open, export_plain};
+use ix_pipeline::{Open, export, export_plain};
 use ix_store::Store;
 use ix_walk::Job;
 use std::alloc::Global;
@@ -104,14 +104,14 @@ fn export_three<R: Threads + Wait + Sync>(
         Log::new(alloc, 9)?,
     ];
     let plan = plan_of(walkers, 1, 1);
-    let out = exported(rt, alloc, store, jobs, &mut logs, checks, &Open, plan)?;
+    let out = started(export(rt, alloc, store, jobs, &mut logs, checks, &Open, plan))?;
     Ok(are_told(&logs, out.ends.as_slice()))
 }
 
 #[test]
 fn three_equal_jobs(rt: HostRuntime) -> Result<(), Fail> {
     let alloc = rt.alloc();
-    let (store, jobs) = list(alloc, 3)?;
+    let Work { store, jobs } = list(alloc, 3)?;
     let four = vec![in alloc;
         ShaCheck::new(alloc),
         ShaCheck::new(alloc),

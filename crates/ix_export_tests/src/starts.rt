@@ -4,10 +4,10 @@
 //! refuses them: bit i of `REFUSE_THREADS` for the thread start with number i, verifiers before walkers.
 //! Without it all threads are started.
 
-use crate::exporting::{exported, list, plan_of};
+use crate::exporting::{Work, list, plan_of, started};
 use ix_archive::End;
 use ix_fixtures::{Before, CheckAfter, Log};
-use ix_pipeline::Open;
+use ix_pipeline::{Open, export};
 use ix_walk::Visit;
 use std::alloc::AllocError;
 use std::env;
@@ -58,7 +58,7 @@ fn checked_by(checks: &[CheckAfter<Number>]) -> usize {
 #[test]
 fn checks_of_verifiers_that_started(rt: HostRuntime) -> Result<(), Fail> {
     let alloc = rt.alloc();
-    let (store, jobs) = list(alloc, 3)?;
+    let Work { store, jobs } = list(alloc, 3)?;
     let mut sinks = [
         Log::new(alloc, 9)?,
         Log::new(alloc, 9)?,
@@ -70,7 +70,7 @@ fn checks_of_verifiers_that_started(rt: HostRuntime) -> Result<(), Fail> {
         CheckAfter::new(alloc, Number(2)),
     ]?;
     let plan = plan_of(2, 1, 1);
-    let out = exported(&rt, alloc, &store, &jobs, &mut sinks, checks, &Open, plan)?;
+    let out = started(export(&rt, alloc, &store, &jobs, &mut sinks, checks, &Open, plan))?;
     let refused = refused_starts(&rt);
     let is_idle = refused & VERIFIERS == VERIFIERS || refused & WALKERS == WALKERS;
     let (end, visits) = if is_idle {

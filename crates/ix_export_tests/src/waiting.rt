@@ -4,7 +4,7 @@
 ghost use Rattle.std.specs.Prelude.{◌≡◌, []};
 
 use crate::archives::{Left, archived};
-use crate::exporting::{chain, exported, list, plan_of};
+use crate::exporting::{Work, chain, list, plan_of, started};
 use ix_archive::{Counts, End, Sink, SinkFault};
 use ix_check::{ShaCheck, Verdict};
 use ix_cid::Cid;
@@ -12,7 +12,7 @@ use ix_fixtures::{
     ABC, ABC_SECTION, ALL, Awaited, Before, CheckAfter, Log, TURNS, archive_with, bytes_of, job_at,
     sections_of, store_of,
 };
-use ix_pipeline::{Gate, Open};
+use ix_pipeline::{Gate, Open, export};
 use ix_store::Store;
 use ix_walk::Visit;
 use sha2::{Digest, Sha256};
@@ -148,14 +148,14 @@ impl Gate for OneHeld<'_> {
 #[test]
 fn delivery_begins_before_checking_has_ended(rt: HostRuntime) -> Result<(), Fail> {
     let alloc = rt.alloc();
-    let (store, jobs) = chain(alloc, 1)?;
+    let Work { store, jobs } = chain(alloc, 1)?;
     let begun = Awaited::new(1);
     let log = Log::new(alloc, 9)?;
     let mut sinks = [Telling { log, begun: &begun }];
     let held = LastHeld { begun: &begun };
     let checks = vec![in alloc; CheckAfter::new(alloc, held)]?;
     let plan = plan_of(1, 256, 64);
-    let out = exported(&rt, alloc, &store, &jobs, &mut sinks, checks, &Open, plan)?;
+    let out = started(export(&rt, alloc, &store, &jobs, &mut sinks, checks, &Open, plan))?;
     assert!(rt;
         begun.is_met(),
         "no check waited, or nothing was delivered meanwhile"
@@ -168,14 +168,14 @@ fn delivery_begins_before_checking_has_ended(rt: HostRuntime) -> Result<(), Fail
 #[test]
 fn checking_before_the_walk_ends(rt: HostRuntime) -> Result<(), Fail> {
     let alloc = rt.alloc();
-    let (store, jobs) = chain(alloc, 1)?;
+    let Work { store, jobs } = chain(alloc, 1)?;
     let begun = Awaited::new(1);
     let mut sinks = [Log::new(alloc, 9)?];
     let telling = CheckTelling { begun: &begun };
     let checks = vec![in alloc; CheckAfter::new(alloc, telling)]?;
     let gate = SecondHeld { begun: &begun };
     let plan = plan_of(1, 256, 64);
-    let out = exported(&rt, alloc, &store, &jobs, &mut sinks, checks, &gate, plan)?;
+    let out = started(export(&rt, alloc, &store, &jobs, &mut sinks, checks, &gate, plan))?;
     assert!(rt;
         begun.is_met(),
         "no walk waited, or nothing was checked meanwhile"
@@ -189,7 +189,7 @@ fn checking_before_the_walk_ends(rt: HostRuntime) -> Result<(), Fail> {
 fn no_walker_has_a_fixed_share(rt: HostRuntime) -> Result<(), Fail> {
     let alloc = rt.alloc();
     for job in 0..3 {
-        let (store, jobs) = list(alloc, 3)?;
+        let Work { store, jobs } = list(alloc, 3)?;
         let begun = Awaited::new(2);
         let mut sinks = [
             Log::new(alloc, 9)?,
@@ -199,7 +199,7 @@ fn no_walker_has_a_fixed_share(rt: HostRuntime) -> Result<(), Fail> {
         let checks = vec![in alloc; ShaCheck::new(alloc)]?;
         let gate = OneHeld { job, begun: &begun };
         let plan = plan_of(2, 256, 64);
-        let out = exported(&rt, alloc, &store, &jobs, &mut sinks, checks, &gate, plan)?;
+        let out = started(export(&rt, alloc, &store, &jobs, &mut sinks, checks, &gate, plan))?;
         assert!(rt;
             begun.is_met(),
             "no job waited, or one for another that nobody walked"
@@ -265,13 +265,14 @@ fn slow_verifier(rt: HostRuntime) -> Result<(), Fail> {
     let (store, root, archive) = layers(alloc)?;
     let store = Arc::new(alloc, store)?;
     let jobs = Arc::new(alloc, vec![in alloc; job_at(alloc, root, ALL, LIMIT)?]?)?;
+    let work = Work { store, jobs };
     let begun = Awaited::new(100);
     let checks = vec![in alloc;
         check_of(alloc, &begun, true),
         check_of(alloc, &begun, false),
     ]?;
     let plan = plan_of(1, 1, 1);
-    let (all_left, out) = archived(&rt, alloc, &store, &jobs, checks, &Open, plan)?;
+    let (all_left, out) = archived(&rt, alloc, &work, checks, &Open, plan)?;
     assert!(rt;
         !begun.is_missed(),
         "one verifier waited, and the other had nothing to check"

@@ -1,4 +1,4 @@
-use Rattle.std.proofs.Common.{◌≡◌, ◌≤◌, false, length, drop}
+use Rattle.std.proofs.Common.{◌≡◌, ◌≤◌, length, drop}
 use Rattle.ix_walk.specs.Visits.{visits_of, is_over_limit}
 use Rattle.ix_stage_tests.specs.Walkers.{IsOpenAsBefore}
 use Rattle.ix_stage_tests.proofs.queue.put_visits.Given as goal
