@@ -7,7 +7,7 @@ ghost use Rattle.ix_archive.specs.Laws.{GoodIsSound, OnceIsUncut, OnceIsWithin, 
 ghost use Rattle.ix_archive.specs.Laws.{OnceArchivesTheEnded, OnceBeginsTheEnded, OnceArchivesTheReached};
 ghost use Rattle.ix_archive.specs.Laws.{FaithfulIsArchived, HasWholeArchive, HasBegunArchive};
 
-use ix_selector::law::residual_is_the_rest;
+use ix_selector::law;
 use std::io::Write;
 
 /// What is kept of a job's visits, cut by depth, is the traversal that goes in only where the
@@ -39,7 +39,7 @@ pub fn going_in_once_writes_the_same()
     ensures beginning { OnceBeginsTheEnded }
     ensures sections { OnceArchivesTheReached }
 {
-    residual_is_the_rest();
+    law::residual_is_the_rest();
 }
 
 /// The archive of a sink that was faithful to its job is that of the job where it was done, and else

@@ -10,8 +10,7 @@ ghost use Rattle.ix_flow.specs.Verifiers.{EachBack, HasJoinRoom};
 use crate::shared::Shared;
 use crate::verifying::{Began, Verifier};
 use ix_check::Check;
-use ix_collect::law;
-use ix_stages::{LaneIn, StopSeat, TakeSeat, well_taken_is_good};
+use ix_stages::{LaneIn, StopSeat, TakeSeat};
 use std::alloc::Global;
 use std::thread::{PromisedHandle, Threads};
 
@@ -65,6 +64,6 @@ pub(crate) fn settle<G>(
     ensures { IsAnsweredWell shared.now (taken_by takers.items) }
 {
     drop(shared.queue.settle(Vec::new(alloc), stop, takers));
-    well_taken_is_good();
-    law::sent_for_good();
+    ix_stages::law::well_taken_is_good();
+    ix_collect::law::sent_for_good();
 }

@@ -19,6 +19,7 @@ mod collecting;
 mod flowing;
 mod gate;
 mod joining;
+mod law;
 mod plan;
 mod preparing;
 mod shared;

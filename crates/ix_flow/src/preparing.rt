@@ -1,21 +1,21 @@
 //! What is made before the first thread.
 
-ghost use Rattle.std.specs.Prelude.{◌≡◌, ◌<◌, ◌≤◌, [], All, vec_len, vec_capacity, IfOk};
-ghost use Rattle.ix_walk.specs.JobMeaning.{AreFew, IsJob};
+ghost use Rattle.std.specs.Prelude.{◌≡◌, ◌<◌, ◌≤◌, [], vec_len, vec_capacity, IfOk};
+ghost use Rattle.ix_walk.specs.JobMeaning.{AreFew};
 ghost use Rattle.ix_archive.specs.Headline.{EachUnused};
 ghost use Rattle.ix_flow.specs.Prepared.{AreSlotsOf, AreUnstartedIn, IsPrepared, walker_count};
 ghost use Rattle.ix_flow.specs.Verifiers.{HasJoinRoom, HasRunningRoom};
 
 use crate::flowing::CallerState;
 use crate::joining::Joined;
+use crate::law;
 use crate::plan::Plan;
 use crate::verifying::{RunningVerifiers, UnstartedVerifier, Verifier};
 use ix_archive::End;
 use ix_check::Check;
 use ix_collect::Collector;
 use ix_stages::{
-    ClaimSeat, Claims, Course, JobSeat, LaneIn, LaneOut, QueueParts, TakeSeat, VisitQueue,
-    course_of_jobs, lane,
+    ClaimSeat, Claims, Course, JobSeat, LaneIn, LaneOut, QueueParts, TakeSeat, VisitQueue, lane,
 };
 use ix_store::Store;
 use ix_walk::Job;
@@ -54,11 +54,6 @@ pub struct Prepared<C: Check + Drop> {
     pub(crate) running: RunningVerifiers<C>,
     pub(crate) caller: CallerState<C>,
 }
-
-// Each of the jobs is one: its type says what every `Job` keeps, so there is nothing to look at.
-fn each_is_job(jobs: &[Job])
-    ensures { All IsJob jobs.now }
-{}
 
 // A lane for each seat.
 fn make_slots(
@@ -147,8 +142,8 @@ impl<C: Check + Drop> Prepared<C> {
         ensures prepared { IfOk result (λ p. IsPrepared store.now jobs.now.items verifiers p) }
         ensures walkers { IfOk result (λ p. walker_count p ≡ plan.walkers) }
     {
-        course_of_jobs();
-        each_is_job(jobs);
+        ix_stages::law::course_of_jobs();
+        law::each_is_job(jobs);
         let course = JobCourse {
             store: Snapshot::of(store),
             jobs: Snapshot::of(jobs),

@@ -8,7 +8,7 @@ ghost use Rattle.ix_flow.specs.Flowing.{IsReadyIn, AreReady, CanClaim};
 use crate::gate::Gate;
 use crate::shared::Shared;
 use ix_archive::End;
-use ix_stages::{ClaimSeat, Item, JobSeat, course_of_jobs};
+use ix_stages::{ClaimSeat, Item, JobSeat, law};
 use ix_walk::{Job, Walk, WalkStop};
 use std::alloc::Global;
 use std::sync::Wait;
@@ -27,7 +27,7 @@ fn put_visits<R: Wait, G: Gate>(
     ensures same { (seat.new.table ≡ seat.old.table) × (seat.new.closed ≡ false) }
     ensures close { Allowed seat.new.pass.course (Item.Close seat.new.job seat.new.next result) }
 {
-    course_of_jobs();
+    law::course_of_jobs();
     let number = seat.job();
     let Ok(walk) = Walk::new(alloc, shared.task.store, job, number) else {
         return End::Memory;

@@ -1,12 +1,8 @@
 -- The seats of a queue of walks.
-use Rattle.std.specs.Prelude.{◌≡◌, ℕ, false, List, All, Option, IfSome}
-use Rattle.ix_store.specs.Store.{Blocks}
-use Rattle.ix_walk.specs.JobMeaning.{JobMeaning}
-use Rattle.ix_walk.specs.Visits.{visits_of, is_over_limit}
-use Rattle.ix_archive.specs.declared.sink.End.{End}
+use Rattle.std.specs.Prelude.{◌≡◌, false, List, All, Result, IfOk}
+use Rattle.std.specs.declared.alloc.AllocError.{AllocError}
 use Rattle.ix_stages.specs.declared.item.Item.{Item}
 use Rattle.ix_stages.specs.declared.parts.QueueParts.{QueueParts}
-use Rattle.ix_stages.specs.Good.{IsCloseOf}
 use Rattle.ix_stages.specs.declared.course.JobVisits.{JobVisits}
 use Rattle.ix_stages.specs.declared.queue.VisitQueue.{VisitQueue}
 use Rattle.ix_stages.specs.Queue.{table_of}
@@ -23,10 +19,6 @@ CanAllWalk parts course = All (CanWalk parts.queue course) parts.jobs.items
 -- the same seat of the same job, which is not closed
 abbrev pub IsOpenAsBefore : JobView → JobView → Type 0
 IsOpenAsBefore old new = (new.table ≡ old.table) × (new.job ≡ old.job) × (new.closed ≡ false) × (new.pass.course ≡ old.pass.course)
-
--- the walk of a job, which has this number, may end so behind so many visits
-abbrev pub EndsWalk : Blocks → ℕ → JobMeaning → ℕ → End → Type 0
-EndsWalk store number job given end = IsCloseOf end given (visits_of store number job) (is_over_limit store job)
 
 -- an open seat of the queue, whose next item this is
 abbrev pub CanClose : VisitQueue → JobView → Item → Type 0
@@ -47,8 +39,8 @@ pub record CanRun (queue : VisitQueue) (course : List JobVisits) (one two three 
   pub stop : stopper.table ≡ table_of queue
 
 -- what they come back as is of the same queue
-pub record HasRun (queue : VisitQueue) (one two three : Option JobView) (stopper : SeatView) : Type 0 where
-  pub first : IfSome one (IsWalker queue)
-  pub second : IfSome two (IsWalker queue)
-  pub third : IfSome three (IsWalker queue)
+pub record HasRun (queue : VisitQueue) (one two three : Result JobView AllocError) (stopper : SeatView) : Type 0 where
+  pub first : IfOk one (IsWalker queue)
+  pub second : IfOk two (IsWalker queue)
+  pub third : IfOk three (IsWalker queue)
   pub stop : stopper.table ≡ table_of queue

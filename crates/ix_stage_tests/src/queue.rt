@@ -1,19 +1,19 @@
 //! The visit queue and a verifier: a chain through both on one thread, and walks on three threads
 //! through a queue with room for one.
 
-ghost use Rattle.std.specs.Prelude.{◌≡◌, ◌≤◌, ◌<◌, false, All, Some, IfOk, OnOk, IfSome, length, slice_get};
-ghost use Rattle.ix_stages.specs.Course.{course_of};
+ghost use Rattle.std.specs.Prelude.{◌≡◌, ◌≤◌, ◌<◌, false, All, Some, IfOk, IfSome, length, slice_get};
+ghost use Rattle.ix_stages.specs.Course.{course_of, MayClose};
 ghost use Rattle.ix_stages.specs.Making.{IsNewQueue};
 ghost use Rattle.ix_stages.specs.Queue.{table_of};
-ghost use Rattle.ix_stage_tests.specs.Walkers.{CanWalk, CanAllWalk, IsOpenAsBefore, EndsWalk, CanClose, IsWalker, IsTaker, CanRun, HasRun};
+ghost use Rattle.ix_stage_tests.specs.Walkers.{CanWalk, CanAllWalk, IsOpenAsBefore, CanClose, IsWalker, IsTaker, CanRun, HasRun};
 ghost use Rattle.ix_stages.specs.Seats.{IsNext};
 
 use ix_archive::End;
 use ix_check::{ShaCheck, Verdict};
 use ix_fixtures::{INNER_BLOCK, ONE_LINK, OUTER, TURNS, chain_of, jobs_of, store_of};
 use ix_stages::{
-    Course, Item, JobSeat, LaneOut, QueueParts, StopSeat, TakeSeat, Verdicted, VisitQueue,
-    course_of_jobs, lane, verify,
+    Course, Item, JobSeat, LaneOut, QueueParts, StopSeat, TakeSeat, Verdicted, VisitQueue, lane,
+    law, verify,
 };
 use ix_store::Store;
 use ix_walk::{Job, Walk, WalkStop};
@@ -49,28 +49,36 @@ fn queue_of(
     ensures walkers { IfOk result (λ q. CanAllWalk q (course_of store.now jobs.now)) }
     ensures tables { IfOk result (λ q. All (IsTaker q.queue) q.takers.items) }
 {
-    course_of_jobs();
+    law::course_of_jobs();
     let course = Walks { store, jobs };
     let parts = VisitQueue::new(alloc, &course, capacity, jobs.len() as u32, takers)?;
     Ok(parts)
 }
 
-// Puts the visits of a job, and says how the walk ended.
+// The seat's job.
+fn job_of_seat<'a>(jobs: &'a [Job], seat: &JobSeat) -> Option<&'a Job>
+    ensures { IfSome result (λ job. slice_get jobs.now seat.now.job ≡ Some job.now) }
+{
+    jobs.get(seat.job() as usize)
+}
+
+// Puts the visits of the seat's job, and says how the walk ended.
 fn put_visits<R: Wait>(
     rt: &R,
     alloc: Global,
     store: &Store,
-    job: &Job,
-    _jobs: &[Job],
+    jobs: &[Job],
     queue: &VisitQueue,
     seat: &mut JobSeat,
 ) -> Result<End, AllocError>
-    requires seat { CanWalk queue.now (course_of store.now _jobs.now) seat.old }
-    requires job { slice_get _jobs.now seat.old.job ≡ Some job.now }
+    requires seat { CanWalk queue.now (course_of store.now jobs.now) seat.old }
     ensures same { IsOpenAsBefore seat.old seat.new }
-    ensures end { IfOk result (λ end. EndsWalk store.now seat.old.job job.now seat.new.next end) }
+    ensures end { IfOk result (MayClose seat.new.pass.course seat.new.job seat.new.next) }
 {
-    course_of_jobs();
+    law::course_of_jobs();
+    let Some(job) = job_of_seat(jobs, seat) else {
+        return Err(AllocError);
+    };
     for item in Walk::new(alloc, store, job, seat.job())? {
         match item {
             Ok(visit) => queue.put(rt, seat, Item::Visit(visit)),
@@ -79,13 +87,6 @@ fn put_visits<R: Wait>(
         }
     }
     Ok(End::Done)
-}
-
-// The seat's job.
-fn job_of_seat<'a>(jobs: &'a [Job], seat: &JobSeat) -> Option<&'a Job>
-    ensures { IfSome result (λ job. slice_get jobs.now seat.now.job ≡ Some job.now) }
-{
-    jobs.get(seat.job() as usize)
 }
 
 // Puts the visits of the seat's job, and gives its close.
@@ -101,11 +102,7 @@ fn put_job<R: Wait>(
     ensures table { seat.new.table ≡ seat.old.table }
     ensures next { IfOk result (λ close. (seat.new.closed ≡ false) × IsNext seat.new close) }
 {
-    course_of_jobs();
-    let Some(job) = job_of_seat(jobs, seat) else {
-        return Err(AllocError);
-    };
-    let end = put_visits(rt, alloc, store, job, jobs, queue, seat)?;
+    let end = put_visits(rt, alloc, store, jobs, queue, seat)?;
     Ok(Item::Close {
         job: seat.job(),
         seq: seat.next(),
@@ -150,7 +147,7 @@ fn gives_chain(rt: &impl Abort, lane: &mut LaneOut) {
     assert!(rt; lane.try_recv().is_none());
 }
 
-// A walker: it puts the walk of its seat's job. None where memory runs out.
+// A walker: it puts the walk of its seat's job.
 fn walker<R: Wait>(
     rt: &R,
     alloc: Global,
@@ -158,15 +155,13 @@ fn walker<R: Wait>(
     jobs: &[Job],
     queue: &VisitQueue,
     seat: JobSeat,
-) -> Option<JobSeat>
+) -> Result<JobSeat, AllocError>
     requires { CanWalk queue.now (course_of store.now jobs.now) seat }
-    ensures { IfSome result (IsWalker queue.now) }
+    ensures { IfOk result (IsWalker queue.now) }
 {
     let mut seat = seat;
-    match put_walk(rt, alloc, store, jobs, queue, &mut seat) {
-        Ok(()) => Some(seat),
-        Err(AllocError) => None,
-    }
+    put_walk(rt, alloc, store, jobs, queue, &mut seat)?;
+    Ok(seat)
 }
 
 // What a taker took: the job and number of each visit and each close.
@@ -176,10 +171,15 @@ struct Taken {
     numbers: Vec<(u32, u32)>,
 }
 
-// A taker: it takes until a Stop. None where memory runs out.
-fn taker<R: Wait>(rt: &R, alloc: Global, queue: &VisitQueue, seat: TakeSeat) -> Option<Taken>
+// A taker: it takes until a Stop.
+fn taker<R: Wait>(
+    rt: &R,
+    alloc: Global,
+    queue: &VisitQueue,
+    seat: TakeSeat,
+) -> Result<Taken, AllocError>
     requires { IsTaker queue.now seat }
-    ensures { IfSome result (λ t. IsTaker queue.now t.seat) }
+    ensures { IfOk result (λ t. IsTaker queue.now t.seat) }
 {
     let mut seat = seat;
     let mut numbers = Vec::new(alloc);
@@ -187,11 +187,9 @@ fn taker<R: Wait>(rt: &R, alloc: Global, queue: &VisitQueue, seat: TakeSeat) -> 
         let number = match queue.take(rt, &mut seat) {
             Item::Visit(visit) => (visit.job, visit.seq),
             Item::Close { job, seq, .. } => (job, seq),
-            Item::Stop => return Some(Taken { seat, numbers }),
+            Item::Stop => return Ok(Taken { seat, numbers }),
         };
-        if numbers.push(number).is_err() {
-            return None;
-        }
+        numbers.push(number)?;
     }
     unreachable!()
 }
@@ -210,58 +208,6 @@ fn put_stop<R: Wait>(rt: &R, queue: &VisitQueue, stop: &mut StopSeat) -> bool
     false
 }
 
-// The last of the seats.
-fn next_walker(
-    _store: &Store,
-    _jobs: &[Job],
-    _queue: &VisitQueue,
-    seats: &mut Vec<JobSeat>,
-) -> Option<JobSeat>
-    requires { All (CanWalk _queue.now (course_of _store.now _jobs.now)) seats.old.items }
-    ensures seat { IfSome result (CanWalk _queue.now (course_of _store.now _jobs.now)) }
-    ensures rest { All (CanWalk _queue.now (course_of _store.now _jobs.now)) seats.new.items }
-{
-    seats.pop()
-}
-
-fn next_taker(_queue: &VisitQueue, seats: &mut Vec<TakeSeat>) -> Option<TakeSeat>
-    requires { All (IsTaker _queue.now) seats.old.items }
-    ensures seat { IfSome result (IsTaker _queue.now) }
-    ensures rest { All (IsTaker _queue.now) seats.new.items }
-{
-    seats.pop()
-}
-
-// Keeps a seat that came back.
-fn keep_walker(
-    _queue: &VisitQueue,
-    seats: &mut Vec<JobSeat>,
-    seat: Option<JobSeat>,
-) -> Result<(), AllocError>
-    requires seats { All (IsWalker _queue.now) seats.old.items }
-    requires seat { IfSome seat (IsWalker _queue.now) }
-    ensures { OnOk result (All (IsWalker _queue.now) seats.new.items) }
-{
-    let Some(seat) = seat else {
-        return Err(AllocError);
-    };
-    seats.push(seat)?;
-    Ok(())
-}
-
-fn keep_taker(
-    _queue: &VisitQueue,
-    seats: &mut Vec<TakeSeat>,
-    seat: TakeSeat,
-) -> Result<(), AllocError>
-    requires seats { All (IsTaker _queue.now) seats.old.items }
-    requires seat { IsTaker _queue.now seat }
-    ensures { OnOk result (All (IsTaker _queue.now) seats.new.items) }
-{
-    seats.push(seat)?;
-    Ok(())
-}
-
 // Two walkers.
 fn walk_two<R: Threads + Wait + Sync>(
     rt: &R,
@@ -269,14 +215,14 @@ fn walk_two<R: Threads + Wait + Sync>(
     store: &Store,
     jobs: &[Job],
     queue: &VisitQueue,
-    first: JobSeat,
-    second: JobSeat,
-) -> (Option<JobSeat>, Option<JobSeat>)
-    requires first { CanWalk queue.now (course_of store.now jobs.now) first }
-    requires second { CanWalk queue.now (course_of store.now jobs.now) second }
-    ensures first { IfSome result.0 (IsWalker queue.now) }
-    ensures second { IfSome result.1 (IsWalker queue.now) }
+    seats: (JobSeat, JobSeat),
+) -> (Result<JobSeat, AllocError>, Result<JobSeat, AllocError>)
+    requires first { CanWalk queue.now (course_of store.now jobs.now) seats.0 }
+    requires second { CanWalk queue.now (course_of store.now jobs.now) seats.1 }
+    ensures first { IfOk result.0 (IsWalker queue.now) }
+    ensures second { IfOk result.1 (IsWalker queue.now) }
 {
+    let (first, second) = seats;
     thread::join(
         rt,
         || walker(rt, alloc, store, jobs, queue, first),
@@ -286,7 +232,7 @@ fn walk_two<R: Threads + Wait + Sync>(
 
 // The seats of three walkers, and the seat for Stops.
 #[derive(Drop)]
-struct Seats {
+struct Walkers {
     first: JobSeat,
     second: JobSeat,
     third: JobSeat,
@@ -296,9 +242,9 @@ struct Seats {
 // What they come back as, and whether two Stops were put.
 #[derive(Drop)]
 struct Walked {
-    first: Option<JobSeat>,
-    second: Option<JobSeat>,
-    third: Option<JobSeat>,
+    first: Result<JobSeat, AllocError>,
+    second: Result<JobSeat, AllocError>,
+    third: Result<JobSeat, AllocError>,
     stop: StopSeat,
     is_stopped: bool,
 }
@@ -310,25 +256,25 @@ fn walk_three<R: Threads + Wait + Sync>(
     store: &Store,
     jobs: &[Job],
     queue: &VisitQueue,
-    seats: Seats,
+    walkers: Walkers,
 ) -> Walked
     requires { CanRun queue.now (course_of store.now jobs.now)
-        seats.first seats.second seats.third seats.stop }
+        walkers.first walkers.second walkers.third walkers.stop }
     ensures { HasRun queue.now result.first result.second result.third result.stop }
 {
-    let Seats {
+    let Walkers {
         first,
         second,
         third,
         mut stop,
-    } = seats;
+    } = walkers;
     let (first, (second, third)) = thread::join(
         rt,
         || walker(rt, alloc, store, jobs, queue, first),
-        || -> (Option<JobSeat>, Option<JobSeat>)
+        || -> (Result<JobSeat, AllocError>, Result<JobSeat, AllocError>)
             requires second { CanWalk queue.now (course_of store.now jobs.now) second }
             requires third { CanWalk queue.now (course_of store.now jobs.now) third }
-        { walk_two(rt, alloc, store, jobs, queue, second, third) },
+        { walk_two(rt, alloc, store, jobs, queue, (second, third)) },
     );
     let one = put_stop(rt, queue, &mut stop);
     let two = put_stop(rt, queue, &mut stop);
@@ -348,17 +294,25 @@ fn take_two<R: Threads + Wait + Sync>(
     queue: &VisitQueue,
     first: TakeSeat,
     second: TakeSeat,
-) -> (Option<Taken>, Option<Taken>)
+) -> (Result<Taken, AllocError>, Result<Taken, AllocError>)
     requires first { IsTaker queue.now first }
     requires second { IsTaker queue.now second }
-    ensures first { IfSome result.0 (λ t. IsTaker queue.now t.seat) }
-    ensures second { IfSome result.1 (λ t. IsTaker queue.now t.seat) }
+    ensures first { IfOk result.0 (λ t. IsTaker queue.now t.seat) }
+    ensures second { IfOk result.1 (λ t. IsTaker queue.now t.seat) }
 {
     thread::join(
         rt,
         || taker(rt, alloc, queue, first),
         || taker(rt, alloc, queue, second),
     )
+}
+
+// The seats of three walkers and two takers.
+#[derive(Drop)]
+struct Seats {
+    walkers: Walkers,
+    first: TakeSeat,
+    second: TakeSeat,
 }
 
 // Three walkers beside two takers.
@@ -368,25 +322,31 @@ fn run_five<R: Threads + Wait + Sync>(
     store: &Store,
     jobs: &[Job],
     queue: &VisitQueue,
-    walkers: Seats,
-    first: TakeSeat,
-    second: TakeSeat,
-) -> (Walked, (Option<Taken>, Option<Taken>))
+    seats: Seats,
+) -> (
+    Walked,
+    (Result<Taken, AllocError>, Result<Taken, AllocError>),
+)
     requires walkers { CanRun queue.now (course_of store.now jobs.now)
-        walkers.first walkers.second walkers.third walkers.stop }
-    requires first { IsTaker queue.now first }
-    requires second { IsTaker queue.now second }
+        seats.walkers.first seats.walkers.second seats.walkers.third seats.walkers.stop }
+    requires first { IsTaker queue.now seats.first }
+    requires second { IsTaker queue.now seats.second }
     ensures walked { HasRun queue.now result.0.first result.0.second result.0.third result.0.stop }
-    ensures first { IfSome result.1.0 (λ t. IsTaker queue.now t.seat) }
-    ensures second { IfSome result.1.1 (λ t. IsTaker queue.now t.seat) }
+    ensures first { IfOk result.1.0 (λ t. IsTaker queue.now t.seat) }
+    ensures second { IfOk result.1.1 (λ t. IsTaker queue.now t.seat) }
 {
+    let Seats {
+        walkers,
+        first,
+        second,
+    } = seats;
     thread::join(
         rt,
         || -> Walked
             requires { CanRun queue.now (course_of store.now jobs.now)
                 walkers.first walkers.second walkers.third walkers.stop }
         { walk_three(rt, alloc, store, jobs, queue, walkers) },
-        || -> (Option<Taken>, Option<Taken>)
+        || -> (Result<Taken, AllocError>, Result<Taken, AllocError>)
             requires first { IsTaker queue.now first }
             requires second { IsTaker queue.now second }
         { take_two(rt, alloc, queue, first, second) },
@@ -465,7 +425,7 @@ fn chain_through_queue_and_lane(rt: HostRuntime) -> Result<(), Fail> {
     let alloc = rt.alloc();
     let store = chain_of(alloc)?;
     let jobs = jobs_of(alloc, OUTER, 1, 100)?;
-    course_of_jobs();
+    law::course_of_jobs();
     let QueueParts {
         queue,
         jobs: seats,
@@ -497,74 +457,42 @@ fn chain_through_queue_and_lane(rt: HostRuntime) -> Result<(), Fail> {
     Ok(())
 }
 
-// The seats of three walkers, and that for Stops.
-fn three_walkers(
-    store: &Store,
-    jobs: &[Job],
-    queue: &VisitQueue,
-    seats: Vec<JobSeat>,
-    stop: StopSeat,
-) -> Option<Seats>
-    requires seats { All (CanWalk queue.now (course_of store.now jobs.now)) seats.items }
-    requires stop { stop.table ≡ table_of queue.now }
-    ensures { IfSome result (λ w. CanRun queue.now (course_of store.now jobs.now)
-        w.first w.second w.third w.stop) }
+// A queue with room for one, and the seats of three walkers and two takers.
+fn room_for_one(alloc: Global, store: &Store, jobs: &[Job]) -> Result<(VisitQueue, Seats), Fail>
+    requires jobs { All (λ job. job.limit ≤ 1000000) jobs.now × (length jobs.now < 1000) }
+    ensures walkers { IfOk result (λ r. CanRun r.0 (course_of store.now jobs.now)
+        r.1.walkers.first r.1.walkers.second r.1.walkers.third r.1.walkers.stop) }
+    ensures takers { IfOk result (λ r. IsTaker r.0 r.1.first × IsTaker r.0 r.1.second) }
 {
-    let mut seats = seats;
-    let third = next_walker(store, jobs, queue, &mut seats)?;
-    let second = next_walker(store, jobs, queue, &mut seats)?;
-    let first = next_walker(store, jobs, queue, &mut seats)?;
-    Some(Seats {
-        first,
-        second,
+    let QueueParts {
+        queue,
+        jobs: mut walkers,
+        mut takers,
+        stop,
+    } = queue_of(alloc, store, jobs, 1, 2)?;
+    let (Some(third), Some(two)) = (walkers.pop(), walkers.pop()) else {
+        return Err("three seats were wanted".into());
+    };
+    let Some(one) = walkers.pop() else {
+        return Err("three seats were wanted".into());
+    };
+    let (Some(second), Some(first)) = (takers.pop(), takers.pop()) else {
+        return Err("two takers were wanted".into());
+    };
+    let walkers = Walkers {
+        first: one,
+        second: two,
         third,
         stop,
-    })
-}
-
-// The seats with which three walkers came back.
-fn walkers_back(
-    alloc: Global,
-    queue: &VisitQueue,
-    first: Option<JobSeat>,
-    second: Option<JobSeat>,
-    third: Option<JobSeat>,
-) -> Result<Vec<JobSeat>, AllocError>
-    requires first { IfSome first (IsWalker queue.now) }
-    requires second { IfSome second (IsWalker queue.now) }
-    requires third { IfSome third (IsWalker queue.now) }
-    ensures { IfOk result (λ seats. All (IsWalker queue.now) seats.items) }
-{
-    let mut seats = Vec::new(alloc);
-    keep_walker(queue, &mut seats, first)?;
-    keep_walker(queue, &mut seats, second)?;
-    keep_walker(queue, &mut seats, third)?;
-    Ok(seats)
-}
-
-// The seats with which two takers came back, whose numbers are looked at.
-fn takers_back(
-    rt: &impl Abort,
-    alloc: Global,
-    queue: &VisitQueue,
-    first: Option<Taken>,
-    second: Option<Taken>,
-) -> Result<Vec<TakeSeat>, AllocError>
-    requires first { IfSome first (λ t. IsTaker queue.now t.seat) }
-    requires second { IfSome second (λ t. IsTaker queue.now t.seat) }
-    ensures { IfOk result (λ seats. All (IsTaker queue.now) seats.items) }
-{
-    let Some(first) = first else {
-        return Err(AllocError);
     };
-    let Some(second) = second else {
-        return Err(AllocError);
-    };
-    each_once(rt, first.numbers.as_slice(), second.numbers.as_slice());
-    let mut takers = Vec::new(alloc);
-    keep_taker(queue, &mut takers, first.seat)?;
-    keep_taker(queue, &mut takers, second.seat)?;
-    Ok(takers)
+    Ok((
+        queue,
+        Seats {
+            walkers,
+            first,
+            second,
+        },
+    ))
 }
 
 #[test]
@@ -573,88 +501,15 @@ fn three_walks_through_room_for_one(rt: HostRuntime) -> Result<(), Fail> {
     // A block that links to itself, as far as its CID says.
     let store = store_of(alloc, [("4e", ONE_LINK, INNER_BLOCK)].as_slice())?;
     let jobs = jobs_of(alloc, ONE_LINK, 3, 100)?;
-    let QueueParts {
-        queue,
-        jobs: seats,
-        mut takers,
-        stop,
-    } = queue_of(alloc, &store, &jobs, 1, 2)?;
-    let Some(walkers) = three_walkers(&store, &jobs, &queue, seats, stop) else {
-        return Err("three seats were wanted".into());
-    };
-    let Some(second) = next_taker(&queue, &mut takers) else {
-        return Err("two takers were wanted".into());
-    };
-    let Some(first) = next_taker(&queue, &mut takers) else {
-        return Err("two takers were wanted".into());
-    };
-    let (walked, taken) = run_five(&rt, alloc, &store, &jobs, &queue, walkers, first, second);
+    let (queue, seats) = room_for_one(alloc, &store, &jobs)?;
+    let (walked, (first, second)) = run_five(&rt, alloc, &store, &jobs, &queue, seats);
     assert!(rt; walked.is_stopped, "a full queue stayed full");
-    let seats = walkers_back(alloc, &queue, walked.first, walked.second, walked.third)?;
-    let takers = takers_back(&rt, alloc, &queue, taken.0, taken.1)?;
-    let mut rest = queue.settle(seats, walked.stop, takers);
+    let (first, second) = (first?, second?);
+    each_once(&rt, first.numbers.as_slice(), second.numbers.as_slice());
+    let walkers = vec![in alloc; walked.first?, walked.second?, walked.third?]?;
+    let takers = vec![in alloc; first.seat, second.seat]?;
+    let mut rest = queue.settle(walkers, walked.stop, takers);
     assert!(rt; queue.take_rest(&rt, &mut rest).is_none());
-    Ok(())
-}
-
-// Whether the first visit of the seat's job fills a queue with room for one, so that the second
-// comes back, and then the first is taken and nothing behind it.
-fn has_room_for_one<R: Wait>(
-    rt: &R,
-    alloc: Global,
-    store: &Store,
-    jobs: &[Job],
-    queue: &VisitQueue,
-    seat: &mut JobSeat,
-    taker: &mut TakeSeat,
-) -> Result<bool, AllocError>
-    requires seat { CanWalk queue.now (course_of store.now jobs.now) seat.old }
-    requires taker { taker.old.table ≡ table_of queue.now }
-{
-    course_of_jobs();
-    let Some(job) = job_of_seat(jobs, seat) else {
-        return Ok(false);
-    };
-    let mut walk = Walk::new(alloc, store, job, seat.job())?;
-    let Some(Ok(first)) = walk.next() else {
-        return Ok(false);
-    };
-    let Some(Ok(second)) = walk.next() else {
-        return Ok(false);
-    };
-    let Ok(()) = queue.try_put(rt, seat, Item::Visit(first)) else {
-        return Ok(false);
-    };
-    let Err(Item::Visit(back)) = queue.try_put(rt, seat, Item::Visit(second)) else {
-        return Ok(false);
-    };
-    let Some(Item::Visit(taken)) = queue.try_take(rt, taker) else {
-        return Ok(false);
-    };
-    Ok(taken.seq == 0 && back.seq == 1 && queue.try_take(rt, taker).is_none())
-}
-
-// The visits of the seat's job fill the queue, whose close and Stop find room once it is emptied.
-fn fills_and_empties<R: Abort + Wait>(
-    rt: &R,
-    alloc: Global,
-    store: &Store,
-    jobs: &[Job],
-    queue: &VisitQueue,
-    seat: &mut JobSeat,
-    taker: &mut TakeSeat,
-    stop: &mut StopSeat,
-) -> Result<(), AllocError>
-    requires seat { CanWalk queue.now (course_of store.now jobs.now) seat.old }
-    requires taker { taker.old.table ≡ table_of queue.now }
-    requires stop { stop.old.table ≡ table_of queue.now }
-{
-    let close = put_job(rt, alloc, store, jobs, queue, seat)?;
-    assert!(rt; !queue.try_stop(rt, stop), "a Stop in a full queue");
-    assert!(rt; close_at_full(rt, queue, seat, taker, close));
-    assert_eq!(rt; count_left(rt, queue, taker), 4);
-    assert!(rt; queue.try_stop(rt, stop), "no Stop in an empty queue");
-    assert!(rt; matches!(queue.try_take(rt, taker), Some(Item::Stop)));
     Ok(())
 }
 
@@ -683,10 +538,7 @@ fn one_of_each(alloc: Global, capacity: u32) -> Result<OneEach, Fail>
         mut takers,
         stop,
     } = queue_of(alloc, &store, &jobs, capacity, 1)?;
-    let (Some(taker), Some(seat)) = (
-        next_taker(&queue, &mut takers),
-        next_walker(&store, &jobs, &queue, &mut seats),
-    ) else {
+    let (Some(taker), Some(seat)) = (takers.pop(), seats.pop()) else {
         return Err("a seat and a taker were wanted".into());
     };
     Ok(OneEach {
@@ -699,38 +551,69 @@ fn one_of_each(alloc: Global, capacity: u32) -> Result<OneEach, Fail>
     })
 }
 
+// Whether the first visit of the job fills a queue with room for one, so that the second comes
+// back, and then the first is taken and nothing behind it.
+fn has_room_for_one<R: Wait>(rt: &R, alloc: Global, each: OneEach) -> Result<bool, AllocError>
+    requires seat { CanWalk each.queue (course_of each.store each.jobs.items) each.seat }
+    requires taker { IsTaker each.queue each.taker }
+{
+    law::course_of_jobs();
+    let OneEach {
+        store,
+        jobs,
+        queue,
+        mut seat,
+        mut taker,
+        ..
+    } = each;
+    let Some(job) = job_of_seat(&jobs, &seat) else {
+        return Ok(false);
+    };
+    let mut walk = Walk::new(alloc, &store, job, seat.job())?;
+    let Some(Ok(first)) = walk.next() else {
+        return Ok(false);
+    };
+    let Some(Ok(second)) = walk.next() else {
+        return Ok(false);
+    };
+    let Ok(()) = queue.try_put(rt, &mut seat, Item::Visit(first)) else {
+        return Ok(false);
+    };
+    let Err(Item::Visit(back)) = queue.try_put(rt, &mut seat, Item::Visit(second)) else {
+        return Ok(false);
+    };
+    let Some(Item::Visit(taken)) = queue.try_take(rt, &mut taker) else {
+        return Ok(false);
+    };
+    Ok(taken.seq == 0 && back.seq == 1 && queue.try_take(rt, &mut taker).is_none())
+}
+
 // None of the contracts says when a queue is full or empty.
 #[test]
 fn queue(rt: HostRuntime) -> Result<(), Fail> {
     let alloc = rt.alloc();
-    let mut each = one_of_each(alloc, 1)?;
-    let has_room = has_room_for_one(
-        &rt,
-        alloc,
-        &each.store,
-        &each.jobs,
-        &each.queue,
-        &mut each.seat,
-        &mut each.taker,
-    )?;
-    assert!(rt; has_room);
+    let each = one_of_each(alloc, 1)?;
+    assert!(rt; has_room_for_one(&rt, alloc, each)?);
     Ok(())
 }
 
-// The chain's four visits fill the queue.
+// The chain's four visits fill the queue, whose close and Stop find room once it is emptied.
 #[test]
 fn close_and_stop_at_a_full_queue(rt: HostRuntime) -> Result<(), Fail> {
     let alloc = rt.alloc();
-    let mut each = one_of_each(alloc, 4)?;
-    fills_and_empties(
-        &rt,
-        alloc,
-        &each.store,
-        &each.jobs,
-        &each.queue,
-        &mut each.seat,
-        &mut each.taker,
-        &mut each.stop,
-    )?;
+    let OneEach {
+        store,
+        jobs,
+        queue,
+        mut seat,
+        mut taker,
+        mut stop,
+    } = one_of_each(alloc, 4)?;
+    let close = put_job(&rt, alloc, &store, &jobs, &queue, &mut seat)?;
+    assert!(rt; !queue.try_stop(&rt, &mut stop), "a Stop in a full queue");
+    assert!(rt; close_at_full(&rt, &queue, &mut seat, &mut taker, close));
+    assert_eq!(rt; count_left(&rt, &queue, &mut taker), 4);
+    assert!(rt; queue.try_stop(&rt, &mut stop), "no Stop in an empty queue");
+    assert!(rt; matches!(queue.try_take(&rt, &mut taker), Some(Item::Stop)));
     Ok(())
 }

@@ -21,6 +21,7 @@ mod claims;
 mod course;
 mod item;
 mod lanes;
+pub mod law;
 mod parts;
 mod pass_view;
 mod queue;
@@ -32,7 +33,7 @@ mod verifier;
 mod waiting;
 
 pub use claims::{ClaimSeat, Claims};
-pub use course::{Course, course_of_jobs, well_taken_is_good};
+pub use course::Course;
 pub use item::Item;
 pub use lanes::{LaneIn, LaneOut, lane, lane_rest};
 pub use parts::QueueParts;

@@ -10,7 +10,7 @@ use crate::job::Job;
 use crate::state::WalkState;
 use crate::subtree::Trail;
 use crate::visit::Visit;
-use ix_selector::law::{residual_is_the_rest, selector_is_one};
+use ix_selector::law;
 use ix_store::Store;
 use std::alloc::{AllocError, Global};
 use std::marker::Model;
@@ -57,8 +57,8 @@ impl<'a> Walk<'a> {
         } else {
             None
         };
-        residual_is_the_rest();
-        selector_is_one(job.selector());
+        law::residual_is_the_rest();
+        law::selector_is_one(job.selector());
         Ok(Walk {
             alloc,
             store,

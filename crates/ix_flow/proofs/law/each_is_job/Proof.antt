@@ -19,9 +19,9 @@ use denote.Triple.Walked.{Stays, walk_of, says, stay_dropped, Goes-dropped, ends
 use Rattle.ix_walk.specs.JobMeaning.{IsJob}
 use Rattle.ix_walk.specs.contracts.job.Job.{the_row as R}
 use Rattle.ix_flow.proofs.JobsKnown.{job_known, is_job}
-use Rattle.ix_flow.specs.contracts.preparing.each_is_job as f
-use Rattle.ix_flow.proofs.preparing.each_is_job.Statement.{statement}
-use Rattle.ix_flow.proofs.preparing.each_is_job.Code as code
+use Rattle.ix_flow.specs.contracts.law.each_is_job as f
+use Rattle.ix_flow.proofs.law.each_is_job.Statement.{statement}
+use Rattle.ix_flow.proofs.law.each_is_job.Code as code
 
 abbrev stayed : Stays f.ended.signature.params f.ended.kept
 stayed = (stay_dropped _ yes, tt)
