@@ -8,7 +8,7 @@ ghost use Rattle.ix_archive.specs.ArchiveMeaning.{events_of};
 ghost use Rattle.ix_pipeline.specs.Headline.{EachFresh, EachUnused};
 ghost use Rattle.ix_pipeline.specs.Planned.{IsPlan};
 
-use crate::exporting::{Work, chain, list, plan_of, started};
+use crate::exporting::{ExportInput, chain, list, plan_of, started};
 use ix_archive::{Archive, Counts, End, Skip};
 use ix_check::{Check, ShaCheck};
 use ix_fixtures::{Awaited, Before, CheckAfter, Refusing, TURNS, chain_archive, list_archive};
@@ -128,7 +128,7 @@ pub struct Left {
 pub fn archived<C, G, R>(
     rt: &R,
     alloc: Global,
-    work: &Work,
+    input: &ExportInput,
     checks: Vec<C>,
     gate: &G,
     plan: Plan,
@@ -138,10 +138,10 @@ where
     G: Gate + Sync,
     R: Threads + Wait + Sync,
     requires unused { EachUnused C.checked checks.items }
-    requires jobs { AreFew (arc_value work.now.jobs).items }
+    requires jobs { AreFew (arc_value input.now.jobs).items }
     requires plan { IsPlan plan (vec_len checks) }
 {
-    let Work { store, jobs } = work;
+    let ExportInput { store, jobs } = input;
     let mut archives = archives_of(alloc, store, jobs.as_slice())?;
     let sinks = archives.as_mut_slice();
     let out = started(export(rt, alloc, store, jobs, sinks, checks, gate, plan))?;
@@ -170,14 +170,14 @@ fn are_done(alloc: Global, all_left: &[Left], ends: &[End], count: usize) -> Res
 #[test]
 fn held_verifiers(rt: HostRuntime) -> Result<(), Fail> {
     let alloc = rt.alloc();
-    let work = chain(alloc, 1)?;
+    let input = chain(alloc, 1)?;
     let meeting = Meeting::new();
     let checks = vec![in alloc;
         check_of(alloc, &meeting, true),
         check_of(alloc, &meeting, false),
     ]?;
     let plan = plan_of(1, 256, 64);
-    let (all_left, out) = archived(&rt, alloc, &work, checks, &Open, plan)?;
+    let (all_left, out) = archived(&rt, alloc, &input, checks, &Open, plan)?;
     assert!(rt;
         meeting.is_met(),
         "a check didn't begin while the other waited"
@@ -189,13 +189,13 @@ fn held_verifiers(rt: HostRuntime) -> Result<(), Fail> {
 #[test]
 fn held_walkers(rt: HostRuntime) -> Result<(), Fail> {
     let alloc = rt.alloc();
-    let work = chain(alloc, 2)?;
+    let input = chain(alloc, 2)?;
     let checks = vec![in alloc; ShaCheck::new(alloc)]?;
     let gate = HeldGate {
         meeting: Meeting::new(),
     };
     let plan = plan_of(2, 256, 64);
-    let (all_left, out) = archived(&rt, alloc, &work, checks, &gate, plan)?;
+    let (all_left, out) = archived(&rt, alloc, &input, checks, &gate, plan)?;
     assert!(rt;
         gate.meeting.is_met(),
         "a walk didn't begin while the other waited"
@@ -222,13 +222,13 @@ fn has_begun(rt: &impl Abort, left: &Left, sections: u32, bytes: u64, whole: &[u
 #[test]
 fn refused_memory(rt: HostRuntime) -> Result<(), Fail> {
     let alloc = rt.alloc();
-    let work = chain(alloc, 2)?;
+    let input = chain(alloc, 2)?;
     let checks = vec![in alloc;
         CheckAfter::new(alloc, Refusing),
         CheckAfter::new(alloc, Refusing),
     ]?;
     let plan = plan_of(2, 256, 64);
-    let (all_left, out) = archived(&rt, alloc, &work, checks, &Open, plan)?;
+    let (all_left, out) = archived(&rt, alloc, &input, checks, &Open, plan)?;
     assert!(rt; out.ends.as_slice() == [End::Memory, End::Done].as_slice());
     assert_eq!(rt; all_left.len(), 2);
     let whole = chain_archive(alloc)?;
@@ -253,11 +253,11 @@ fn says_what_was_written(rt: &impl Abort, end: End, written: &[u8], whole: &[u8]
 #[test]
 fn ends_say_what_was_written(rt: HostRuntime) -> Result<(), Fail> {
     let alloc = rt.alloc();
-    let work = list(alloc, 3)?;
+    let input = list(alloc, 3)?;
     let whole = list_archive(alloc)?;
     let checks = vec![in alloc; ShaCheck::new(alloc), ShaCheck::new(alloc)]?;
     let plan = plan_of(2, 256, 64);
-    let (all_left, out) = archived(&rt, alloc, &work, checks, &Open, plan)?;
+    let (all_left, out) = archived(&rt, alloc, &input, checks, &Open, plan)?;
     assert_eq!(rt; all_left.len(), 3);
     for (left, end) in all_left.iter().zip(out.ends.iter()) {
         says_what_was_written(&rt, *end, left.bytes.as_slice(), whole.as_slice());

@@ -14,29 +14,29 @@ use std::test::Fail;
 
 /// A store, and jobs over it.
 #[derive(Drop)]
-pub struct Work {
+pub struct ExportInput {
     pub store: Arc<Store>,
     pub jobs: Arc<Vec<Job>>,
 }
 
 /// The chain, and so many jobs of four visits over it.
-pub fn chain(alloc: Global, count: u32) -> Result<Work, Fail>
-    ensures { IfOk result (λ work. length (arc_value work.jobs).items ≡ count) }
+pub fn chain(alloc: Global, count: u32) -> Result<ExportInput, Fail>
+    ensures { IfOk result (λ input. length (arc_value input.jobs).items ≡ count) }
 {
     let jobs = jobs_of(alloc, OUTER, count, 100)?;
     let store = Arc::new(alloc, chain_of(alloc)?)?;
     let jobs = Arc::new(alloc, jobs)?;
-    Ok(Work { store, jobs })
+    Ok(ExportInput { store, jobs })
 }
 
 /// The damaged list, and so many jobs of five visits over it.
-pub fn list(alloc: Global, count: u32) -> Result<Work, Fail>
-    ensures { IfOk result (λ work. length (arc_value work.jobs).items ≡ count) }
+pub fn list(alloc: Global, count: u32) -> Result<ExportInput, Fail>
+    ensures { IfOk result (λ input. length (arc_value input.jobs).items ≡ count) }
 {
     let jobs = jobs_of(alloc, LIST, count, 100)?;
     let store = Arc::new(alloc, list_of(alloc)?)?;
     let jobs = Arc::new(alloc, jobs)?;
-    Ok(Work { store, jobs })
+    Ok(ExportInput { store, jobs })
 }
 
 /// So many walkers, and so much room in the queue and in each lane.

@@ -6,7 +6,7 @@
 //! test is as
 //!
 //! ```rust
-//! let Work { store, jobs } = chain(alloc, 2)?;
+//! let ExportInput { store, jobs } = chain(alloc, 2)?;
 //! let mut sinks = [Log::new(alloc, 9)?, Log::new(alloc, 9)?];
 //! let checks = vec![in alloc; ShaCheck::new(alloc)]?;
 //! let plan = plan_of(1, 256, 64);

@@ -4,7 +4,7 @@ ghost use Rattle.std.specs.Prelude.{◌≡◌, ◌≤◌, [], length, vec_len};
 ghost use Rattle.std.specs.Arc.{arc_value};
 ghost use Rattle.ix_pipeline.specs.Headline.{EachUnused};
 
-use crate::exporting::{Work, list, plan_of, started};
+use crate::exporting::{ExportInput, list, plan_of, started};
 use ix_archive::End;
 use ix_check::{ShaCheck, Verdict};
 use ix_fixtures::{ABC_SECTION, ALL, Log, ONE_LINK, ONE_LINK_SECTION, job_of, store_of};
@@ -111,7 +111,7 @@ fn export_three<R: Threads + Wait + Sync>(
 #[test]
 fn three_equal_jobs(rt: HostRuntime) -> Result<(), Fail> {
     let alloc = rt.alloc();
-    let Work { store, jobs } = list(alloc, 3)?;
+    let ExportInput { store, jobs } = list(alloc, 3)?;
     let four = vec![in alloc;
         ShaCheck::new(alloc),
         ShaCheck::new(alloc),

@@ -4,7 +4,7 @@
 //! refuses them: bit i of `REFUSE_THREADS` for the thread start with number i, verifiers before walkers.
 //! Without it all threads are started.
 
-use crate::exporting::{Work, list, plan_of, started};
+use crate::exporting::{ExportInput, list, plan_of, started};
 use ix_archive::End;
 use ix_fixtures::{Before, CheckAfter, Log};
 use ix_pipeline::{Open, export};
@@ -58,7 +58,7 @@ fn checked_by(checks: &[CheckAfter<Number>]) -> usize {
 #[test]
 fn checks_of_verifiers_that_started(rt: HostRuntime) -> Result<(), Fail> {
     let alloc = rt.alloc();
-    let Work { store, jobs } = list(alloc, 3)?;
+    let ExportInput { store, jobs } = list(alloc, 3)?;
     let mut sinks = [
         Log::new(alloc, 9)?,
         Log::new(alloc, 9)?,

@@ -4,7 +4,7 @@
 ghost use Rattle.std.specs.Prelude.{◌≡◌, []};
 
 use crate::archives::{Left, archived};
-use crate::exporting::{Work, chain, list, plan_of, started};
+use crate::exporting::{ExportInput, chain, list, plan_of, started};
 use ix_archive::{Counts, End, Sink, SinkFault};
 use ix_check::{ShaCheck, Verdict};
 use ix_cid::Cid;
@@ -148,7 +148,7 @@ impl Gate for OneHeld<'_> {
 #[test]
 fn delivery_begins_before_checking_has_ended(rt: HostRuntime) -> Result<(), Fail> {
     let alloc = rt.alloc();
-    let Work { store, jobs } = chain(alloc, 1)?;
+    let ExportInput { store, jobs } = chain(alloc, 1)?;
     let begun = Awaited::new(1);
     let log = Log::new(alloc, 9)?;
     let mut sinks = [Telling { log, begun: &begun }];
@@ -168,7 +168,7 @@ fn delivery_begins_before_checking_has_ended(rt: HostRuntime) -> Result<(), Fail
 #[test]
 fn checking_before_the_walk_ends(rt: HostRuntime) -> Result<(), Fail> {
     let alloc = rt.alloc();
-    let Work { store, jobs } = chain(alloc, 1)?;
+    let ExportInput { store, jobs } = chain(alloc, 1)?;
     let begun = Awaited::new(1);
     let mut sinks = [Log::new(alloc, 9)?];
     let telling = CheckTelling { begun: &begun };
@@ -189,7 +189,7 @@ fn checking_before_the_walk_ends(rt: HostRuntime) -> Result<(), Fail> {
 fn no_walker_has_a_fixed_share(rt: HostRuntime) -> Result<(), Fail> {
     let alloc = rt.alloc();
     for job in 0..3 {
-        let Work { store, jobs } = list(alloc, 3)?;
+        let ExportInput { store, jobs } = list(alloc, 3)?;
         let begun = Awaited::new(2);
         let mut sinks = [
             Log::new(alloc, 9)?,
@@ -265,14 +265,14 @@ fn slow_verifier(rt: HostRuntime) -> Result<(), Fail> {
     let (store, root, archive) = layers(alloc)?;
     let store = Arc::new(alloc, store)?;
     let jobs = Arc::new(alloc, vec![in alloc; job_at(alloc, root, ALL, LIMIT)?]?)?;
-    let work = Work { store, jobs };
+    let input = ExportInput { store, jobs };
     let begun = Awaited::new(100);
     let checks = vec![in alloc;
         check_of(alloc, &begun, true),
         check_of(alloc, &begun, false),
     ]?;
     let plan = plan_of(1, 1, 1);
-    let (all_left, out) = archived(&rt, alloc, &work, checks, &Open, plan)?;
+    let (all_left, out) = archived(&rt, alloc, &input, checks, &Open, plan)?;
     assert!(rt;
         !begun.is_missed(),
         "one verifier waited, and the other had nothing to check"
