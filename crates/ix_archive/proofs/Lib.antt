@@ -12,3 +12,4 @@ pub mod Numbers
 pub mod Archives
 pub mod GoingOnce
 pub mod Prefixes
+pub mod Each

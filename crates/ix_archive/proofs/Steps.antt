@@ -1,5 +1,5 @@
 -- What single calls do.
-use Rattle.std.proofs.Common.{◌≡◌, Bool, true, false, [], sym, ◌∙◌}
+use Rattle.std.proofs.Common.{◌≡◌, Bool, true, false, sym, ◌∙◌}
 use Rattle.std.specs.Prelude.{Result, Ok, Err, OnOk, OnErr, is_err}
 use Rattle.std.proofs.lemmas.Bool.{false≢true}
 

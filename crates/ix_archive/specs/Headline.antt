@@ -1,5 +1,6 @@
 -- What an export leaves: each sink's events, archives and checks.
 use Rattle.std.specs.Prelude.{◌≡◌, ◌⊎◌, ℕ, ◌+◌, ◌<◌, List, [], ◌∷◌, ◌++◌, length, Option, Some, None, slice_get, Contains, All}
+use Rattle.std.specs.List.{AllByRecursion}
 use Rattle.ix_store.specs.Store.{Blocks}
 use Rattle.ix_walk.specs.JobMeaning.{JobMeaning}
 use Rattle.ix_walk.specs.Visits.{visits_of}
@@ -29,8 +30,7 @@ module _ {S : Type 0} (events : S → List Event) (failed : S → List Delivery)
 
   -- nothing was delivered or failed so far
   abbrev pub EachFresh : List S → Type 0
-  EachFresh [] = Unit {0}
-  EachFresh (s ∷ ss) = ((events s ≡ []) × (failed s ≡ [])) × EachFresh ss
+  EachFresh sinks = AllByRecursion (λ s. (events s ≡ []) × (failed s ≡ [])) sinks
 
 -- what a sink may promise of itself for good: over a store, a job and the bytes that its writer told at first
 abbrev pub Fact : Type 0 → Type 1
@@ -47,8 +47,7 @@ EachKept fact ss ts = ⊥
 
 -- no check has checked anything so far
 abbrev pub EachUnused : {C : Type 0} → (C → List (ℕ × ℕ)) → List C → Type 0
-EachUnused checked [] = Unit {0}
-EachUnused checked (c ∷ cs) = (checked c ≡ []) × EachUnused checked cs
+EachUnused checked checks = AllByRecursion (λ c. checked c ≡ []) checks
 
 -- the pairs that checks have checked, put together
 abbrev pub checked_by : {C : Type 0} → (C → List (ℕ × ℕ)) → List C → List (ℕ × ℕ)

@@ -11,9 +11,10 @@ use Rattle.ix_collect.specs.declared.collector.Collector.{Collector}
 use Rattle.ix_stages.specs.Received.{Tally, tally, Inserts, job_of}
 use Rattle.ix_stages.specs.Good.{judged_at, over_at, IsAllowed, IsGood}
 use Rattle.std.specs.Prelude.{not, ◌||◌}
-use Rattle.ix_collect.specs.JobProgress.{IsNew, IsFine, IsItem, IsSafe, IsCome, IsEnded, IsMisplaced}
+use Rattle.ix_collect.specs.JobProgress.{IsFine, IsItem, IsSafe, IsCome, IsEnded, IsMisplaced}
 use Rattle.std.proofs.lemmas.List.{take_more}
-use Rattle.ix_collect.specs.Collected.{AllNew, EachSafe, EachCome, IsCollected, AllEnded, IsClosedAt, IsMisplacedAt}
+use Rattle.ix_collect.specs.Collected.{EachSafe, EachCome, IsCollected, AllEnded, IsClosedAt, IsMisplacedAt}
+use Rattle.ix_archive.proofs.Each.{each_push}
 use Rattle.ix_collect.proofs.Goodness.{tally_same, fine_of, item_of, good_before}
 
 -- the job of an item that may be sent is there
@@ -27,17 +28,9 @@ job_known store jobs Last j a e = cc
 pub collected_unknown : (store : Blocks) (jobs : List JobMeaning) (x : Verdicted) (got more : List Verdicted) (j size : ℕ) → Inserts x got more → job_of x ≡ Some j → size ≤ j → size ≡ length jobs → IsGood store jobs more → ⊥
 collected_unknown store jobs x got more j size i of past len good = let lt : j < length jobs = job_known store jobs x j ((good_before store jobs x got more i good).1) of in absurd (omega arith)
 
-pub new_push : (ps : List JobProgress) (p : JobProgress) → AllNew ps → IsNew p → AllNew (ps ++ p ∷ [])
-new_push [] p h n = (n, tt)
-new_push (x ∷ ps) p h n = (h.0, new_push ps p h.1 n)
-
-ended_push : (ps : List JobProgress) (p : JobProgress) → AllEnded ps → IsEnded p → AllEnded (ps ++ p ∷ [])
-ended_push [] p h e = (e, tt)
-ended_push (x ∷ ps) p h e = (h.0, ended_push ps p h.1 e)
-
 pub ended_more : (ps : List JobProgress) (i : ℕ) (p : JobProgress) → p ≡ get_or ps i p → i < length ps → AllEnded (take i ps) → IsEnded p → AllEnded (take (i + 1) ps)
 ended_more ps i p at lt h e =
-    subst AllEnded (sym (take_more ps i p lt ∙ ap (λ (x : JobProgress). take i ps ++ x ∷ []) (sym at))) (ended_push (take i ps) p h e)
+    subst AllEnded (sym (take_more ps i p lt ∙ ap (λ (x : JobProgress). take i ps ++ x ∷ []) (sym at))) (each_push IsEnded (take i ps) p h e)
 
 pub ended_at : (ps : List JobProgress) (i : ℕ) (p : JobProgress) → p ≡ get_or ps i p → i < length ps → AllEnded ps → IsEnded p
 ended_at [] i p at lt h = absurd (omega arith)

@@ -1,5 +1,6 @@
 -- What a collector has made of what it received.
 use Rattle.std.specs.Prelude.{◌≡◌, ◌≤◌, ◌⊎◌, ℕ, zero, suc, ◌+◌, Bool, false, List, [], ◌∷◌, length, Some}
+use Rattle.std.specs.List.{AllByRecursion}
 use Rattle.ix_store.specs.Store.{Blocks}
 use Rattle.ix_walk.specs.JobMeaning.{JobMeaning}
 use Rattle.ix_archive.specs.declared.sink.Delivery.{Delivery}
@@ -15,12 +16,10 @@ use Rattle.ix_stages.specs.Totals.{total}
 use Rattle.ix_collect.specs.JobProgress.{IsNew, IsSafe, IsCome, IsEnded, IsMisplaced}
 
 abbrev pub AllNew : List JobProgress → Type 0
-AllNew [] = Unit {0}
-AllNew (p ∷ ps) = IsNew p × AllNew ps
+AllNew ps = AllByRecursion IsNew ps
 
 abbrev pub AllEnded : List JobProgress → Type 0
-AllEnded [] = Unit {0}
-AllEnded (p ∷ ps) = IsEnded p × AllEnded ps
+AllEnded ps = AllByRecursion IsEnded ps
 
 -- the sink of the job with this number was closed
 abbrev pub IsClosedAt : List JobProgress → ℕ → Type 0

@@ -12,7 +12,7 @@ use Rattle.ix_archive.specs.ArchiveMeaning.{ArchiveMeaning, HasArchived, HasWrit
 use Rattle.ix_archive.specs.Archived.{IsArchived}
 use Rattle.ix_archive.specs.Report.{counts_of}
 use Rattle.ix_jobs.specs.declared.outcome.JobResult.{JobResult}
-use Rattle.ix_pipeline.specs.Headline.{EachDelivered, EachArchived, Keeps, EachKept, EachFresh, EachUnused}
+use Rattle.ix_pipeline.specs.Headline.{EachDelivered, EachArchived, Keeps, EachKept, EachFresh}
 use Rattle.std.proofs.Math.Seq.{take-append_seam}
 use Rattle.std.proofs.lemmas.Option.{same_Some}
 use Rattle.ix_archive.proofs.Archives.{told-back, written-tells}
@@ -209,8 +209,3 @@ ended_sinks told at store listed jobs before after archives first sinks n es giv
     let begun_so = subst (λ s. EachBegun told s jobs before archives) same_store (subst (λ l. EachBegun told at l before archives) same_jobs begun) in
     runs told store 0 jobs before after archives sinks es results begun_so delivered archived (subst (λ xs. EachKept (HasArchived told) xs sinks) same kept)
     (subst (λ l. EachEnded told sinks l results after) ends_are (subst (λ xs. EachEnded told xs given results after) again ended))
-
--- one check more that has checked nothing
-pub unused_push : {C : Type 0} (checked : C → List (ℕ × ℕ)) (cs : List C) (c : C) → EachUnused checked cs → checked c ≡ [] → EachUnused checked (cs ++ c ∷ [])
-unused_push checked [] c h is = (is, tt)
-unused_push checked (d ∷ cs) c h is = (h.0, unused_push checked cs c h.1 is)

@@ -1,5 +1,6 @@
 -- What is left of a selector behind a path enters what the selector enters from there.
 use Rattle.std.proofs.Common.{◌≡◌, ℕ, ◌+◌, ◌⊎◌, inl, inr, ⊎_elim, Bool, true, false, true≢false, List, [], ◌∷◌, ◌++◌, refl, sym, ◌∙◌, subst, arith}
+use Rattle.std.specs.List.{AllByRecursion}
 use Rattle.std.specs.Prelude.{◌↔◌, Option, Some, None, if◌then◌else◌, bytes_eq}
 use Rattle.std.proofs.lemmas.Slice.Eq.{bytes_eq-Decides}
 use Rattle.ix_selector.specs.Pattern.{Pattern, Fields, Members, matcher, all, fields, index, range, recursive, union, edge, no_fields, field, no_members, member, Around, outside, unguarded, guarded, behind_step, MayStand, IsGuarded, AreGuarded, EachGuarded}
@@ -54,8 +55,7 @@ enter_by xs ys p same = (λ h. subst (λ l. Enter l p) same h, λ h. subst (λ l
 
 -- each of them is such
 abbrev pub Each : (Place → Type 0) → List Place → Type 0
-Each P [] = Unit {0}
-Each P (x ∷ xs) = P x × Each P xs
+Each P xs = AllByRecursion P xs
 
 pub each-append : (P : Place → Type 0) (xs ys : List Place) → Each P xs → Each P ys → Each P (xs ++ ys)
 each-append P [] ys a b = b
