@@ -1,5 +1,5 @@
 -- A visit of a job comes.
-use Rattle.std.proofs.Common.{◌≡◌, ℕ, ◌+◌, ◌<◌, ◌≤◌, Bool, true, false, List, [], length, Option, Some, None, refl, sym, ◌∙◌, subst, inl, inr, arith}
+use Rattle.std.proofs.Common.{◌≡◌, ℕ, ◌+◌, ◌<◌, ◌≤◌, Bool, true, false, List, length, Option, Some, None, refl, sym, ◌∙◌, subst, inl, inr, arith}
 use Rattle.std.specs.Prelude.{is_some, not, min, ◌||◌}
 use Rattle.std.proofs.lemmas.Bool.{cases_lt, cases_Bool}
 use Rattle.std.proofs.lemmas.Option.{slice_get_within}
@@ -12,7 +12,7 @@ use Rattle.ix_collect.specs.declared.job_progress.Stage.{Stage}
 use Rattle.ix_collect.specs.declared.job_progress.Stage.TheVariants.{Delivering, Failed, Stopped}
 use Rattle.ix_collect.specs.declared.job_progress.WalkEnd.{WalkEnd}
 use Rattle.ix_ring.specs.Numbered.{Numbered, found, IsPlaced, IsRefused, IsMemory}
-use Rattle.ix_stages.specs.Received.{Tally, seen, point}
+use Rattle.ix_handover.specs.Received.{Tally, seen, point}
 use Rattle.ix_collect.specs.JobProgress.{IsFine, Adds, none_of, IsArrival, IsHeld, IsWaiting, IsOn, IsCloseKnown, IsUnderWay}
 use Rattle.ix_collect.proofs.Counting.{point_here, point_else, few_items}
 

@@ -10,8 +10,8 @@ use Rattle.ix_collect.specs.declared.job_progress.JobProgress.{JobProgress}
 use Rattle.ix_collect.specs.declared.job_progress.Stage.{Stage}
 use Rattle.ix_collect.specs.declared.job_progress.WalkEnd.{WalkEnd}
 use Rattle.ix_ring.specs.Numbered.{Numbered, found}
-use Rattle.ix_stages.specs.Received.{tally}
-use Rattle.ix_stages.specs.Good.{judged_at, over_at}
+use Rattle.ix_handover.specs.Received.{tally}
+use Rattle.ix_handover.specs.Good.{judged_at, over_at}
 use Rattle.ix_collect.specs.JobProgress.{IsNew, IsSafe, IsSafeAt, IsUnderWay, IsCalm, IsCome, IsComeTo, IsOn, IsCloseKnown}
 use Rattle.ix_collect.specs.Collected.{AllNew, EachSafe, EachCome}
 

@@ -3,10 +3,10 @@ use Rattle.std.proofs.Common.{◌≡◌, ℕ, zero, suc, ◌+◌, ◌<◌, ◌�
 use Rattle.std.specs.Prelude.{cond}
 use Rattle.std.specs.Int.{from_bool}
 use Rattle.std.proofs.lemmas.List.{take_more_set, drop_more}
-use Rattle.ix_stages.specs.declared.verdicted.Verdicted.{Verdicted}
-use Rattle.ix_stages.specs.declared.lanes.LaneOut.{LaneOut}
-use Rattle.ix_stages.specs.Received.{Inserts}
-use Rattle.ix_stages.specs.declared.lanes.LaneIn.{LaneIn}
+use Rattle.ix_handover.specs.declared.verdicted.Verdicted.{Verdicted}
+use Rattle.ix_handover.specs.declared.lanes.LaneOut.{LaneOut}
+use Rattle.ix_handover.specs.Received.{Inserts}
+use Rattle.ix_handover.specs.declared.lanes.LaneIn.{LaneIn}
 use Rattle.ix_archive.specs.declared.sink.Delivery.{Delivery}
 use Rattle.ix_archive.specs.Events.{Event}
 use Rattle.ix_archive.specs.Headline.{Fact}
@@ -14,8 +14,8 @@ use Rattle.ix_collect.specs.declared.collector.Collector.{Collector}
 use Rattle.ix_collect.specs.Collected.{is_last, last_count}
 use Rattle.ix_collect.specs.Collecting.{CanCollect, GoesOn}
 use Rattle.ix_collect.proofs.Kept.{kept_same, kept_trans}
-use Rattle.ix_stages.specs.Lanes.{received_by, sent_by, all_sent, EachLane, IsLane, SameIn, SameOut, EachSameOut, all_received}
-use Rattle.ix_stages.proofs.Totals.{total_append}
+use Rattle.ix_handover.specs.Lanes.{received_by, sent_by, all_sent, EachLane, IsLane, SameIn, SameOut, EachSameOut, all_received}
+use Rattle.ix_handover.proofs.Totals.{total_append}
 
 module _ {S : Type 0} (events : S → List Event) (failed : S → List Delivery) (fact : Fact S) where
   -- the collector goes on by no step, and by one step more

@@ -6,8 +6,8 @@ use Rattle.ix_archive.specs.declared.sink.Delivery.{Delivery}
 use Rattle.ix_archive.specs.declared.sink.End.{End}
 use Rattle.ix_archive.specs.Events.{Event}
 use Rattle.ix_archive.specs.Headline.{EachDelivered, EachKept, Fact, IsCheckedOnce, NoneIsStart}
-use Rattle.ix_stages.specs.declared.verdicted.Verdicted.{Verdicted}
-use Rattle.ix_stages.specs.Received.{Inserts, job_of, pairs_of}
+use Rattle.ix_handover.specs.declared.verdicted.Verdicted.{Verdicted}
+use Rattle.ix_handover.specs.Received.{Inserts, job_of, pairs_of}
 use Rattle.ix_collect.specs.declared.collector.Collector.{Collector}
 use Rattle.ix_collect.specs.Collected.{job_count, has_stray, IsDone, IsStray, MayTell, IsCollected, IsCollectedFrom}
 

@@ -1,6 +1,6 @@
 -- What came from the lanes.
 use Rattle.std.specs.Prelude.{◌≡◌, ◌+◌, List, length}
-use Rattle.ix_stages.specs.declared.verdicted.Verdicted.{Verdicted}
+use Rattle.ix_handover.specs.declared.verdicted.Verdicted.{Verdicted}
 use Rattle.ix_collect.specs.declared.gather.Received.{Received}
 use Rattle.ix_collect.specs.Collected.{last_count}
 

@@ -3,8 +3,8 @@ use Rattle.std.specs.Prelude.{◌≡◌, Bool, true, List, Option, None}
 use Rattle.ix_archive.specs.declared.sink.Delivery.{Delivery}
 use Rattle.ix_archive.specs.Events.{Event}
 use Rattle.ix_archive.specs.Headline.{Fact, Keeps}
-use Rattle.ix_stages.specs.declared.verdicted.Verdicted.{Verdicted}
-use Rattle.ix_stages.specs.Received.{Tally}
+use Rattle.ix_handover.specs.declared.verdicted.Verdicted.{Verdicted}
+use Rattle.ix_handover.specs.Received.{Tally}
 use Rattle.ix_collect.specs.declared.job_progress.JobProgress.{JobProgress}
 use Rattle.ix_collect.specs.JobProgress.{IsFine, IsItem, IsUnderWay, IsPoppedUnderWay, IsCalm, IsCome, IsSafe}
 

@@ -2,13 +2,13 @@
 
 ghost use Rattle.std.specs.Prelude.{◌≡◌, ◌≤◌, [], length, IfOk, IsTrue, ◌↔◌, vec_capacity, true, false};
 ghost use Rattle.ix_archive.specs.Headline.{EachKept};
-ghost use Rattle.ix_stages.specs.Received.{job_of};
+ghost use Rattle.ix_handover.specs.Received.{job_of};
 ghost use Rattle.ix_collect.specs.Collected.{job_count, has_stray, IsUnused, IsDone, MayTell, HasEnds};
 ghost use Rattle.ix_collect.specs.Collecting.{CollectsItem, IfStray};
 
 use crate::job_progress::JobProgress;
 use ix_archive::{End, Sink};
-use ix_stages::Verdicted;
+use ix_handover::Verdicted;
 use std::alloc::{AllocError, Global};
 
 /// Receives what the verifiers send, in whatever order, and tells each job's sink.

@@ -1,15 +1,15 @@
 //! The collector takes from all lanes.
 
 ghost use Rattle.std.specs.Prelude.{◌≡◌, ◌≤◌, length, cond};
-ghost use Rattle.ix_stages.specs.Lanes.{sent_by, received_by, all_received, all_sent};
-ghost use Rattle.ix_stages.specs.Lanes.{IsLane, IsSameLane, SameOut, EachSameOut, EachLane};
+ghost use Rattle.ix_handover.specs.Lanes.{sent_by, received_by, all_received, all_sent};
+ghost use Rattle.ix_handover.specs.Lanes.{IsLane, IsSameLane, SameOut, EachSameOut, EachLane};
 ghost use Rattle.ix_collect.specs.Collected.{is_last};
 ghost use Rattle.ix_collect.specs.Received.{HasCounted};
 ghost use Rattle.ix_collect.specs.Collecting.{CanCollect, CollectsAmong, CollectsBehind, GoesOn};
 
 use crate::collector::Collector;
 use ix_archive::Sink;
-use ix_stages::{LaneIn, LaneOut, Verdicted, lane_rest};
+use ix_handover::{LaneIn, LaneOut, Verdicted, lane_rest};
 use std::alloc::Global;
 use std::sync::Wait;
 

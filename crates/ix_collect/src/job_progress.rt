@@ -10,8 +10,8 @@ ghost use Rattle.ix_collect.specs.Steps.{HasCome, HasDelivered, HasFinished, IsH
 ghost use Rattle.ix_collect.specs.Steps.{IsOpenFor, IsSafeFor, KeepsOpen, KeepsSafe, LeavesSink};
 
 use ix_archive::{Delivery, End, Sink, SinkFault};
+use ix_handover::Verdicted;
 use ix_ring::Ring;
-use ix_stages::Verdicted;
 use std::alloc::{AllocError, Global};
 
 /// What becomes of the visits of a job that are next.

@@ -17,7 +17,7 @@ use Rattle.ix_archive.specs.Headline.{EachDelivered, EachFresh, Fact, Keeps, Eac
 use Rattle.ix_collect.proofs.Members.{cases_cons, none_in}
 use Rattle.ix_collect.proofs.Kept.{kept_same}
 use Rattle.ix_flow.specs.declared.flowing.Outcome.{Outcome}
-use Rattle.ix_flow.specs.declared.shared.Task.{Task}
+use Rattle.ix_stages.specs.declared.shared.Task.{Task}
 use Rattle.ix_flow.specs.Closed.{EachClosed}
 use Rattle.ix_flow.specs.Flowing.{AreOfVisits, IsFlown}
 

@@ -1,9 +1,9 @@
 -- The ends of lanes.
 use Rattle.std.proofs.Common.{◌≡◌, suc, List, [], ◌∷◌, ◌++◌, length, ap, refl}
 use Rattle.std.specs.declared.thread.PromisedHandle.{PromisedHandle}
-use Rattle.ix_stages.specs.declared.lanes.LaneIn.{LaneIn}
-use Rattle.ix_stages.specs.declared.lanes.LaneOut.{LaneOut}
-use Rattle.ix_stages.specs.Lanes.{IsLane, SameIn, EachSameOut, EachLane}
+use Rattle.ix_handover.specs.declared.lanes.LaneIn.{LaneIn}
+use Rattle.ix_handover.specs.declared.lanes.LaneOut.{LaneOut}
+use Rattle.ix_handover.specs.Lanes.{IsLane, SameIn, EachSameOut, EachLane}
 use Rattle.ix_collect.proofs.Gathering.{lane_same}
 use Rattle.ix_flow.specs.declared.verifying.Verifier.{Verifier}
 use Rattle.ix_flow.specs.declared.verifying.Began.{Began}

@@ -3,8 +3,8 @@ use Rattle.std.proofs.Common.{List, []}
 use Rattle.ix_archive.specs.declared.sink.Delivery.{Delivery}
 use Rattle.ix_archive.specs.Events.{Event}
 use Rattle.ix_archive.specs.Headline.{Fact}
-use Rattle.ix_stages.specs.declared.lanes.LaneOut.{LaneOut}
-use Rattle.ix_stages.specs.Lanes.{EachSameOut, all_received}
+use Rattle.ix_handover.specs.declared.lanes.LaneOut.{LaneOut}
+use Rattle.ix_handover.specs.Lanes.{EachSameOut, all_received}
 use Rattle.ix_collect.specs.declared.collector.Collector.{Collector}
 use Rattle.ix_collect.specs.Collecting.{CollectsBehind, GoesOn}
 use Rattle.ix_collect.proofs.Gathering.{each_same_trans, on_same, on_trans, same_self}

@@ -2,13 +2,13 @@
 use Rattle.std.proofs.Common.{◌≡◌, ℕ, List, [], ◌∷◌, ◌++◌, ap, sym, subst, ◌∙◌, append_assoc, append-nil}
 use Rattle.ix_store.specs.Store.{Blocks}
 use Rattle.ix_archive.specs.Headline.{checked_by}
-use Rattle.ix_stages.specs.declared.item.Item.{Item}
-use Rattle.ix_stages.specs.declared.verdicted.Verdicted.{Verdicted}
-use Rattle.ix_stages.specs.declared.pass_view.PassView.{PassView}
-use Rattle.ix_stages.specs.Received.{pairs_of}
-use Rattle.ix_stages.specs.Seats.{SeatView}
-use Rattle.ix_stages.specs.Sent.{SentFor}
-use Rattle.ix_stages.specs.Settled.{taken_by}
+use Rattle.ix_handover.specs.declared.item.Item.{Item}
+use Rattle.ix_handover.specs.declared.verdicted.Verdicted.{Verdicted}
+use Rattle.ix_handover.specs.declared.pass_view.PassView.{PassView}
+use Rattle.ix_handover.specs.Received.{pairs_of}
+use Rattle.ix_handover.specs.Seats.{SeatView}
+use Rattle.ix_handover.specs.Sent.{SentFor}
+use Rattle.ix_handover.specs.Settled.{taken_by}
 use Rattle.ix_stages.specs.Verified.{IsVerified}
 use Rattle.ix_collect.proofs.Sending.{sent_append, pairs_append}
 

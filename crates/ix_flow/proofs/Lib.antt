@@ -1,7 +1,6 @@
 pub mod Ends
 pub mod Gathering
 pub mod Lists
-pub mod Puts
 pub mod Starts
 pub mod Joins
 pub mod Closings

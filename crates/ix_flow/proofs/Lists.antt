@@ -1,11 +1,11 @@
 -- Elements of lists, and lists put end to end.
 use Rattle.std.proofs.Common.{◌≡◌, ◌<◌, ◌≤◌, ◌+◌, ℕ, zero, suc, List, [], ◌∷◌, ◌++◌, All, length, map, arith, ap, sym, refl, ◌∙◌, append_assoc, append-nil}
 use Rattle.std.proofs.lemmas.List.Elements.{All-cons}
-use Rattle.ix_stages.specs.declared.verdicted.Verdicted.{Verdicted}
-use Rattle.ix_stages.specs.declared.lanes.LaneOut.{LaneOut}
-use Rattle.ix_stages.specs.declared.lanes.LaneIn.{LaneIn}
-use Rattle.ix_stages.specs.Items.{count_up}
-use Rattle.ix_stages.specs.Lanes.{received_by, sent_by, all_received, all_sent}
+use Rattle.ix_handover.specs.declared.verdicted.Verdicted.{Verdicted}
+use Rattle.ix_handover.specs.declared.lanes.LaneOut.{LaneOut}
+use Rattle.ix_handover.specs.declared.lanes.LaneIn.{LaneIn}
+use Rattle.ix_handover.specs.Items.{count_up}
+use Rattle.ix_handover.specs.Lanes.{received_by, sent_by, all_received, all_sent}
 
 module _ {X : Type 0} where
   pub all_count : (P : X → Type 0) (f : ℕ → X) (n k top : ℕ) → n + k ≤ top → ((j : ℕ) → j < top → P (f j)) → All P (map f (count_up n k))

@@ -4,11 +4,11 @@ use Rattle.atomic_table.specs.Seated.{TableId}
 use Rattle.std.proofs.lemmas.List.Elements.{All-replicate}
 use Rattle.ix_store.specs.Store.{Blocks}
 use Rattle.ix_walk.specs.JobMeaning.{JobMeaning}
-use Rattle.ix_stages.specs.declared.course.JobVisits.{JobVisits}
-use Rattle.ix_stages.specs.Course.{IsCourseOf, course_of}
-use Rattle.ix_stages.specs.Items.{count_up}
-use Rattle.ix_stages.specs.Seats.{JobView, SeatView, new_job, new_taker}
-use Rattle.ix_flow.specs.Ready.{IsReady}
+use Rattle.ix_handover.specs.declared.course.JobVisits.{JobVisits}
+use Rattle.ix_handover.specs.Course.{IsCourseOf, course_of}
+use Rattle.ix_handover.specs.Items.{count_up}
+use Rattle.ix_handover.specs.Seats.{JobView, SeatView, new_job, new_taker}
+use Rattle.ix_stages.specs.Walking.{IsReady}
 use Rattle.ix_flow.proofs.Lists.{all_count}
 
 module _ (store : Blocks) (jobs : List JobMeaning) (t : TableId) (course : List JobVisits) (all : ℕ) (same : course ≡ course_of store jobs) where

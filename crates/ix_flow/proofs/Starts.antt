@@ -3,7 +3,7 @@ use Rattle.std.proofs.Common.{ℕ, List, ap, sym, subst, ◌∙◌}
 use Rattle.std.specs.declared.thread.PromisedHandle.{PromisedHandle}
 use Rattle.atomic_table.specs.Seated.{TableId}
 use Rattle.ix_store.specs.Store.{Blocks}
-use Rattle.ix_stages.specs.Lanes.{sent_by, IsLane}
+use Rattle.ix_handover.specs.Lanes.{sent_by, IsLane}
 use Rattle.ix_flow.specs.declared.verifying.Verifier.{Verifier}
 use Rattle.ix_flow.specs.declared.verifying.Began.{Began}
 use Rattle.ix_flow.specs.declared.verifying.UnstartedVerifier.{UnstartedVerifier}

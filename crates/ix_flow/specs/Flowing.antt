@@ -7,21 +7,20 @@ use Rattle.ix_walk.specs.JobMeaning.{JobMeaning}
 use Rattle.ix_archive.specs.declared.sink.Delivery.{Delivery}
 use Rattle.ix_archive.specs.Events.{Event}
 use Rattle.ix_archive.specs.Headline.{EachDelivered, EachFresh, EachKept, Fact, IsCheckedOnce, NoneOrAllStart, checked_by, visit_count}
-use Rattle.ix_stages.specs.Claims.{SeatMeaning}
-use Rattle.ix_stages.specs.Course.{course_of}
-use Rattle.ix_stages.specs.Seats.{JobView}
+use Rattle.ix_handover.specs.Claims.{IsOfClaims}
+use Rattle.ix_handover.specs.Course.{course_of}
+use Rattle.ix_stages.specs.declared.shared.Shared.{Shared}
+use Rattle.ix_stages.specs.declared.shared.Task.{Task}
+use Rattle.ix_stages.specs.Shared.{store_of, jobs_of, queue_of}
+use Rattle.ix_stages.specs.Walking.{AreReady}
 use Rattle.ix_collect.specs.Collected.{job_count, IsUnused}
 use Rattle.ix_flow.specs.declared.flowing.Outcome.{Outcome}
 use Rattle.ix_flow.specs.declared.flowing.CallerState.{CallerState}
 use Rattle.ix_flow.specs.declared.flowing.Inputs.{Inputs}
 use Rattle.ix_flow.specs.declared.flowing.FlowResult.{FlowResult}
-use Rattle.ix_flow.specs.declared.shared.Shared.{Shared}
-use Rattle.ix_flow.specs.declared.shared.Task.{Task}
 use Rattle.ix_flow.specs.declared.verifying.Began.{Began}
 use Rattle.ix_flow.specs.declared.verifying.UnstartedVerifier.{UnstartedVerifier}
 use Rattle.ix_flow.specs.declared.verifying.Verifier.{Verifier}
-use Rattle.ix_flow.specs.Ready.{IsReady}
-use Rattle.ix_flow.specs.Shared.{store_of, jobs_of, queue_of}
 use Rattle.ix_flow.specs.Verifiers.{IsUnstarted, IsBegan, HasRunningRoom, HasJoinRoom}
 
 module _ {S C G : Type 0} (events : S → List Event) (failed : S → List Delivery) (fact : Fact S) (checked : C → List (ℕ × ℕ)) (x : Task G) (first sinks : List S) where
@@ -63,25 +62,12 @@ module _ {G : Type 0} (x : Shared G) where
   abbrev pub IsCallerIn : {C : Type 0} → ℕ → CallerState C → Type 0
   IsCallerIn verifiers d = IsCaller (store_of x) (jobs_of x) (queue_of x) verifiers d
 
-  -- a seat of one of the jobs
-  abbrev pub IsReadyIn : JobView → Type 0
-  IsReadyIn s = IsReady (store_of x) (jobs_of x) (queue_of x) s
-
-  -- what is claimed are such seats
-  abbrev pub AreReady : Type 0
-  AreReady = All IsReadyIn x.claims.now.values
-
-  -- the seat claims them
-  pub record CanClaim (s : SeatMeaning JobView) : Type 0 where
-    pub seats : AreReady
-    pub claimer : s.of ≡ x.claims.now
-
 -- what the threads are handed, and what the caller keeps
 pub record CanFlow {C G : Type 0} (checked : C → List (ℕ × ℕ)) (x : Shared G) (w : Inputs C) : Type 0 where
   pub unstarted : AllUnstarted checked x w.unstarted.items
   pub running : HasRunningRoom (vec_len w.unstarted) w.running
   pub seats : AreReady x
-  pub claimers : All (λ s. s.of ≡ x.claims.now) w.claimers.items
+  pub claimers : All (IsOfClaims x.claims.now) w.claimers.items
   pub caller : IsCallerIn x (vec_len w.unstarted) w.caller
 
 -- the same, with sinks that were told nothing

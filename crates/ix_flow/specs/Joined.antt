@@ -4,10 +4,15 @@ use Rattle.std.specs.declared.thread.PromisedHandle.{PromisedHandle}
 use Rattle.atomic_table.specs.Seated.{TableId}
 use Rattle.ix_store.specs.Store.{Blocks}
 use Rattle.ix_archive.specs.Headline.{checked_by}
-use Rattle.ix_stages.specs.Lanes.{all_sent}
-use Rattle.ix_stages.specs.Received.{pairs_of}
-use Rattle.ix_stages.specs.Sent.{SentFor}
-use Rattle.ix_stages.specs.Settled.{taken_by}
+use Rattle.ix_handover.specs.declared.item.Item.{Item}
+use Rattle.ix_handover.specs.declared.verdicted.Verdicted.{Verdicted}
+use Rattle.ix_handover.specs.Good.{IsGood}
+use Rattle.ix_handover.specs.Lanes.{all_sent}
+use Rattle.ix_handover.specs.Received.{pairs_of}
+use Rattle.ix_handover.specs.Sent.{SentFor}
+use Rattle.ix_handover.specs.Settled.{taken_by}
+use Rattle.ix_stages.specs.declared.shared.Shared.{Shared}
+use Rattle.ix_stages.specs.Shared.{store_of, jobs_of}
 use Rattle.ix_flow.specs.declared.joining.Joined.{Joined}
 use Rattle.ix_flow.specs.declared.verifying.Began.{Began}
 use Rattle.ix_flow.specs.declared.verifying.Verifier.{Verifier}
@@ -23,3 +28,7 @@ module _ {C : Type 0} (checked : C → List (ℕ × ℕ)) where
   -- it is what the verifiers gave back that were started so, whatever queue and store they were started with
   abbrev pub AreJoined : List (PromisedHandle (Verifier C) (Began C)) → Joined C → Type 0
   AreJoined handles j = (store : Blocks) (t : TableId) → All (IsBegan checked store t) handles → IsJoined store t j
+
+-- whatever is sent for these items is good
+abbrev pub IsAnsweredWell : {G : Type 0} → Shared G → List Item → Type 0
+IsAnsweredWell x taken = (sent : List Verdicted) → SentFor (store_of x) taken sent → IsGood (store_of x) (jobs_of x) sent

@@ -1,9 +1,8 @@
-pub mod Ready
+pub mod Idle
 pub mod Working
 pub mod Verifiers
 pub mod Joined
 pub mod Stopping
-pub mod Shared
 pub mod Gathered
 pub mod Closed
 pub mod Flowing

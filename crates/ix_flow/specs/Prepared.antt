@@ -3,15 +3,16 @@ use Rattle.std.specs.Prelude.{◌≡◌, ℕ, ◌≤◌, List, [], All, length, 
 use Rattle.atomic_table.specs.Seated.{TableId}
 use Rattle.ix_store.specs.Store.{Blocks}
 use Rattle.ix_walk.specs.JobMeaning.{JobMeaning}
-use Rattle.ix_stages.specs.Course.{IsCourseOf}
-use Rattle.ix_stages.specs.Items.{count_up}
-use Rattle.ix_stages.specs.Lanes.{sent_by, received_by, IsLane}
-use Rattle.ix_stages.specs.Queue.{table_of}
-use Rattle.ix_stages.specs.Seats.{SeatView}
+use Rattle.ix_handover.specs.Course.{IsCourseOf}
+use Rattle.ix_handover.specs.Items.{count_up}
+use Rattle.ix_handover.specs.Lanes.{sent_by, received_by, IsLane}
+use Rattle.ix_handover.specs.Queue.{table_of}
+use Rattle.ix_handover.specs.Seats.{SeatView}
 use Rattle.ix_flow.specs.declared.preparing.VerifierSlot.{VerifierSlot}
 use Rattle.ix_flow.specs.declared.preparing.Prepared.{Prepared}
 use Rattle.ix_flow.specs.declared.verifying.UnstartedVerifier.{UnstartedVerifier}
-use Rattle.ix_flow.specs.Ready.{IsIdle, IsReady}
+use Rattle.ix_stages.specs.Walking.{IsReady}
+use Rattle.ix_flow.specs.Idle.{IsIdle}
 use Rattle.ix_flow.specs.Verifiers.{HasRunningRoom, IsUnstarted}
 use Rattle.ix_flow.specs.Flowing.{IsCaller}
 

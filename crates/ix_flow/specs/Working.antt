@@ -2,8 +2,8 @@
 use Rattle.std.specs.Prelude.{◌≡◌, ℕ, List}
 use Rattle.atomic_table.specs.Seated.{TableId}
 use Rattle.ix_store.specs.Store.{Blocks}
-use Rattle.ix_stages.specs.Course.{IsCourseOf}
-use Rattle.ix_stages.specs.Lanes.{SameIn}
+use Rattle.ix_handover.specs.Course.{IsCourseOf}
+use Rattle.ix_handover.specs.Lanes.{SameIn}
 use Rattle.ix_stages.specs.Verified.{HasVerified}
 use Rattle.ix_flow.specs.declared.verifying.Verifier.{Verifier}
 

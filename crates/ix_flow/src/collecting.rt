@@ -3,8 +3,8 @@
 
 ghost use Rattle.std.specs.Prelude.{◌≡◌, [], length};
 ghost use Rattle.ix_archive.specs.Headline.{EachFresh};
-ghost use Rattle.ix_stages.specs.Lanes.{EachLane, all_received, all_sent};
-ghost use Rattle.ix_stages.specs.Queue.{table_of};
+ghost use Rattle.ix_handover.specs.Lanes.{EachLane, all_received, all_sent};
+ghost use Rattle.ix_handover.specs.Queue.{IsOfQueue};
 ghost use Rattle.ix_collect.specs.Collected.{job_count, IsDone, IsUnused};
 ghost use Rattle.ix_collect.specs.Collecting.{GoesOn, HasCollected};
 ghost use Rattle.ix_flow.specs.Gathered.{Gathers, IsTold};
@@ -68,7 +68,7 @@ fn put_stops<R: Wait>(
     stops: usize,
     verifiers: usize,
 ) -> usize
-    requires { seat.old.table ≡ table_of queue.now }
+    requires { IsOfQueue queue.now seat.old.table }
     ensures { IsSeatOf seat.old seat.new }
 {
     for put in stops..verifiers {

@@ -2,23 +2,21 @@
 
 ghost use Rattle.std.specs.Prelude.{◌≡◌, [], length, vec_len};
 ghost use Rattle.ix_archive.specs.Headline.{EachFresh, EachUnused};
-ghost use Rattle.ix_stages.specs.Lanes.{all_received};
+ghost use Rattle.ix_handover.specs.Lanes.{all_received};
 ghost use Rattle.ix_flow.specs.Flowing.{AllBegan, IsFlown, IsFlownTo, CanFlowTo, IsCallerIn};
 ghost use Rattle.ix_flow.specs.Verifiers.{EachOut};
 ghost use Rattle.ix_flow.specs.Prepared.{IsPrepared};
 
 use crate::closing::unexported;
 use crate::collecting::{Stopper, gather, receive_rest, stop_idle};
-use crate::gate::Gate;
 use crate::joining::{Joined, join_verifiers, settle};
 use crate::preparing::{Prepared, assign_checks};
-use crate::shared::{Shared, Task};
 use crate::verifying::{Began, RunningVerifiers, UnstartedVerifier, Verifier, start_verifiers};
 use crate::walking::start_walkers;
 use ix_archive::{End, Sink};
 use ix_check::Check;
 use ix_collect::{Collector, law};
-use ix_stages::{ClaimSeat, JobSeat, StopSeat};
+use ix_stages::{ClaimSeat, Gate, JobSeat, Shared, StopSeat, Task};
 use std::alloc::Global;
 use std::sync::Wait;
 use std::thread;

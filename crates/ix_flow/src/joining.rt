@@ -1,16 +1,15 @@
 //! The joins: what the verifiers took and sent is known.
 
 ghost use Rattle.std.specs.Prelude.{◌≡◌, ◌≤◌, All, vec_len};
-ghost use Rattle.ix_stages.specs.Course.{course_of};
-ghost use Rattle.ix_stages.specs.Settled.{taken_by};
-ghost use Rattle.ix_flow.specs.Joined.{AreJoined};
-ghost use Rattle.ix_flow.specs.Shared.{store_of, jobs_of, queue_of, IsAnsweredWell};
+ghost use Rattle.ix_handover.specs.Course.{course_of};
+ghost use Rattle.ix_handover.specs.Settled.{taken_by};
+ghost use Rattle.ix_stages.specs.Shared.{store_of, jobs_of, queue_of};
+ghost use Rattle.ix_flow.specs.Joined.{AreJoined, IsAnsweredWell};
 ghost use Rattle.ix_flow.specs.Verifiers.{EachBack, HasJoinRoom};
 
-use crate::shared::Shared;
 use crate::verifying::{Began, Verifier};
 use ix_check::Check;
-use ix_stages::{LaneIn, StopSeat, TakeSeat};
+use ix_stages::{LaneIn, Shared, StopSeat, TakeSeat};
 use std::alloc::Global;
 use std::thread::{PromisedHandle, Threads};
 
@@ -64,6 +63,6 @@ pub(crate) fn settle<G>(
     ensures { IsAnsweredWell shared.now (taken_by takers.items) }
 {
     drop(shared.queue.settle(Vec::new(alloc), stop, takers));
-    ix_stages::law::well_taken_is_good();
+    ix_handover::law::well_taken_is_good();
     ix_collect::law::sent_for_good();
 }

@@ -17,17 +17,14 @@
 mod closing;
 mod collecting;
 mod flowing;
-mod gate;
 mod joining;
 mod law;
 mod plan;
 mod preparing;
-mod shared;
 mod verifying;
 mod walking;
 
 pub use flowing::{Outcome, flow};
-pub use gate::{Gate, Open};
+pub use ix_stages::{Gate, Open, Task};
 pub use plan::Plan;
 pub use preparing::Prepared;
-pub use shared::Task;

@@ -11,7 +11,6 @@ use crate::joining::Joined;
 use crate::law;
 use crate::plan::Plan;
 use crate::verifying::{RunningVerifiers, UnstartedVerifier, Verifier};
-use ix_archive::End;
 use ix_check::Check;
 use ix_collect::Collector;
 use ix_stages::{
@@ -30,7 +29,7 @@ struct JobCourse {
 }
 
 impl Course for JobCourse {
-    ghost use Rattle.ix_stages.specs.Course.{course_of};
+    ghost use Rattle.ix_handover.specs.Course.{course_of};
 
     ghost plan = { λ c. course_of c.store.value c.jobs.value.items };
 }
@@ -142,7 +141,7 @@ impl<C: Check + Drop> Prepared<C> {
         ensures prepared { IfOk result (λ p. IsPrepared store.now jobs.now.items verifiers p) }
         ensures walkers { IfOk result (λ p. walker_count p ≡ plan.walkers) }
     {
-        ix_stages::law::course_of_jobs();
+        ix_handover::law::course_of_jobs();
         law::each_is_job(jobs);
         let course = JobCourse {
             store: Snapshot::of(store),

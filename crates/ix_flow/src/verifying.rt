@@ -1,15 +1,14 @@
 //! The verifiers' threads, and what they promise.
 
 ghost use Rattle.std.specs.Prelude.{◌≡◌, ◌≤◌, [], vec_len, IfSome};
-ghost use Rattle.ix_stages.specs.Lanes.{all_received};
-ghost use Rattle.ix_stages.specs.Queue.{table_of};
+ghost use Rattle.ix_handover.specs.Lanes.{all_received};
+ghost use Rattle.ix_handover.specs.Queue.{table_of};
 ghost use Rattle.ix_flow.specs.Flowing.{AllBegan, AllUnstarted};
 ghost use Rattle.ix_flow.specs.Verifiers.{EachOut, HasRunningRoom, IsStartOf};
 ghost use Rattle.ix_flow.specs.Working.{CanWork, HasWorked};
 
-use crate::shared::Shared;
 use ix_check::Check;
-use ix_stages::{LaneIn, LaneOut, TakeSeat, VisitQueue, verify};
+use ix_stages::{LaneIn, LaneOut, Shared, TakeSeat, VisitQueue, verify};
 use ix_store::Store;
 use std::alloc::Global;
 use std::snapshot::Snapshot;

@@ -1,84 +1,13 @@
-//! Walkers: each claims jobs, one after the other, and puts their visits.
+//! The walkers' threads.
 
-ghost use Rattle.std.specs.Prelude.{◌≡◌, false, All, Some, slice_get};
-ghost use Rattle.ix_stages.specs.declared.item.Item.{Item};
-ghost use Rattle.ix_stages.specs.Course.{Allowed};
-ghost use Rattle.ix_flow.specs.Flowing.{IsReadyIn, AreReady, CanClaim};
+ghost use Rattle.std.specs.Prelude.{All};
+ghost use Rattle.ix_handover.specs.Claims.{IsOfClaims};
+ghost use Rattle.ix_stages.specs.Walking.{AreReady, CanClaim};
 
-use crate::gate::Gate;
-use crate::shared::Shared;
-use ix_archive::End;
-use ix_stages::{ClaimSeat, Item, JobSeat, law};
-use ix_walk::{Job, Walk, WalkStop};
+use ix_stages::{ClaimSeat, Gate, JobSeat, Shared, walk_jobs};
 use std::alloc::Global;
 use std::sync::Wait;
 use std::thread::{Scope, Threads};
-
-// Puts the visits of the seat's job, each once it has passed the gate, and says how the walk ended.
-fn put_visits<R: Wait, G: Gate>(
-    rt: &R,
-    alloc: Global,
-    shared: &Shared<'_, G>,
-    job: &Job,
-    seat: &mut JobSeat,
-) -> End
-    requires ready { IsReadyIn shared.now seat.old }
-    requires job { slice_get shared.now.task.now.jobs.now seat.old.job ≡ Some job.now }
-    ensures same { (seat.new.table ≡ seat.old.table) × (seat.new.closed ≡ false) }
-    ensures close { Allowed seat.new.pass.course (Item.Close seat.new.job seat.new.next result) }
-{
-    law::course_of_jobs();
-    let number = seat.job();
-    let Ok(walk) = Walk::new(alloc, shared.task.store, job, number) else {
-        return End::Memory;
-    };
-    for item in walk {
-        match item {
-            Ok(visit) => {
-                shared.task.gate.pass(number, visit.seq);
-                shared.queue.put(rt, seat, Item::Visit(visit));
-            }
-            Err(WalkStop::Limit) => return End::Limit,
-            Err(WalkStop::Memory) => return End::Memory,
-        }
-    }
-    End::Done
-}
-
-// Walks the seat's job: puts its visits, and then the close.
-fn walk_job<R: Wait, G: Gate>(rt: &R, alloc: Global, shared: &Shared<'_, G>, seat: JobSeat)
-    requires { IsReadyIn shared.now seat }
-{
-    let mut seat = seat;
-    let number = seat.job() as usize;
-    let job = &shared.task.jobs[number];
-    let end = put_visits(rt, alloc, shared, job, &mut seat);
-    let close = Item::Close {
-        job: seat.job(),
-        seq: seat.next(),
-        end,
-    };
-    shared.queue.put(rt, &mut seat, close);
-}
-
-// Claims jobs and walks them, until all are claimed.
-fn walk_claimed<R: Wait, G: Gate>(
-    rt: &R,
-    alloc: Global,
-    shared: &Shared<'_, G>,
-    claimer: ClaimSeat<JobSeat>,
-)
-    requires { CanClaim shared.now claimer }
-{
-    let mut claimer = claimer;
-    for _ in rt.forever() {
-        let Some((_, seat)) = shared.claims.claim(&mut claimer) else {
-            return;
-        };
-        walk_job(rt, alloc, shared, seat);
-    }
-    unreachable!()
-}
 
 // Starts one walker. False is that no thread could be made.
 fn start_walker<'s, 'e, R: Threads + Wait + Sync + 'e, G: Gate + Sync + 'e>(
@@ -94,7 +23,7 @@ fn start_walker<'s, 'e, R: Threads + Wait + Sync + 'e, G: Gate + Sync + 'e>(
         .spawn(
             move ||
                 requires { CanClaim shared.now claimer }
-            { walk_claimed(rt, alloc, shared, claimer) },
+            { walk_jobs(rt, alloc, shared, claimer) },
         )
         .is_ok()
 }
@@ -108,7 +37,7 @@ pub(crate) fn start_walkers<'s, 'e, R: Threads + Wait + Sync + 'e, G: Gate + Syn
     claimers: Vec<ClaimSeat<JobSeat>>,
 ) -> bool
     requires seats { AreReady shared.now }
-    requires claimers { All (λ s. s.of ≡ shared.now.claims.now) claimers.items }
+    requires claimers { All (IsOfClaims shared.now.claims.now) claimers.items }
 {
     let mut started = false;
     for claimer in claimers {

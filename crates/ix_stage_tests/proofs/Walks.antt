@@ -5,12 +5,12 @@ use Rattle.std.proofs.lemmas.Option.{slice_get_within}
 use Rattle.ix_store.specs.Store.{Blocks}
 use Rattle.ix_walk.specs.JobMeaning.{JobMeaning}
 use Rattle.ix_archive.specs.declared.sink.End.{End}
-use Rattle.ix_stages.specs.Course.{MayClose, course_of}
-use Rattle.ix_stages.specs.CourseLaws.{IsSized}
-use Rattle.ix_stages.specs.declared.course.JobVisits.{JobVisits}
-use Rattle.ix_stages.specs.declared.queue.VisitQueue.{VisitQueue}
-use Rattle.ix_stages.specs.Queue.{table_of}
-use Rattle.ix_stages.specs.Seats.{JobView, new_job, new_taker}
+use Rattle.ix_handover.specs.Course.{MayClose, course_of}
+use Rattle.ix_handover.specs.CourseLaws.{IsSized}
+use Rattle.ix_handover.specs.declared.course.JobVisits.{JobVisits}
+use Rattle.ix_handover.specs.declared.queue.VisitQueue.{VisitQueue}
+use Rattle.ix_handover.specs.Queue.{table_of}
+use Rattle.ix_handover.specs.Seats.{JobView, new_job, new_taker}
 use Rattle.ix_stage_tests.specs.Walkers.{CanWalk, IsTaker}
 
 pub new_jobs-walk : (queue : VisitQueue) (course : List JobVisits) (all : ℕ) (numbers : List ℕ) → All (CanWalk queue course) (map (new_job (table_of queue) course all) numbers)

@@ -1,12 +1,12 @@
 -- The seats of a queue of walks.
 use Rattle.std.specs.Prelude.{◌≡◌, false, List, All, Result, IfOk}
 use Rattle.std.specs.declared.alloc.AllocError.{AllocError}
-use Rattle.ix_stages.specs.declared.item.Item.{Item}
-use Rattle.ix_stages.specs.declared.parts.QueueParts.{QueueParts}
-use Rattle.ix_stages.specs.declared.course.JobVisits.{JobVisits}
-use Rattle.ix_stages.specs.declared.queue.VisitQueue.{VisitQueue}
-use Rattle.ix_stages.specs.Queue.{table_of}
-use Rattle.ix_stages.specs.Seats.{JobView, SeatView, IsNext}
+use Rattle.ix_handover.specs.declared.item.Item.{Item}
+use Rattle.ix_handover.specs.declared.parts.QueueParts.{QueueParts}
+use Rattle.ix_handover.specs.declared.course.JobVisits.{JobVisits}
+use Rattle.ix_handover.specs.declared.queue.VisitQueue.{VisitQueue}
+use Rattle.ix_handover.specs.Queue.{table_of}
+use Rattle.ix_handover.specs.Seats.{JobView, SeatView, IsNext}
 
 -- a seat of the queue, of which nothing was put so far
 abbrev pub CanWalk : VisitQueue → List JobVisits → JobView → Type 0

@@ -1,7 +1,7 @@
 //! A collector that receives what verifiers send, in mixed order.
 
 ghost use Rattle.std.specs.Prelude.{◌≡◌, length, IfOk};
-ghost use Rattle.ix_stages.specs.Lanes.{IsLane};
+ghost use Rattle.ix_handover.specs.Lanes.{IsLane};
 ghost use Rattle.ix_collect.specs.Collected.{job_count, MayTell};
 
 use ix_archive::{End, Sink};

@@ -1,7 +1,8 @@
 //! Lanes and claims, in one thread and among several. What receives, sends or claims is passed no
 //! runtime, or one that can't wait.
 
-ghost use Rattle.std.specs.Prelude.{◌≡◌, All, IfOk};
+ghost use Rattle.std.specs.Prelude.{All, IfOk};
+ghost use Rattle.ix_handover.specs.Claims.{IsOfClaims};
 
 use ix_fixtures::{Awaited, TURNS};
 use ix_stages::{ClaimSeat, Claims, LaneIn, LaneOut, Verdicted, lane_rest};
@@ -124,7 +125,7 @@ fn settle_one(
     claims: &Claims<&'static str>,
     seat: ClaimSeat<&'static str>,
 ) -> Result<u32, AllocError>
-    requires { seat.of ≡ claims.now }
+    requires { IsOfClaims claims.now seat }
 {
     Ok(claims.settle(vec![in alloc; seat]?))
 }
@@ -163,8 +164,8 @@ fn claim_all(
     start: &Awaited,
     seat: ClaimSeat<u32>,
 ) -> Result<Claimed, AllocError>
-    requires { seat.of ≡ claims.now }
-    ensures { IfOk result (λ c. c.seat.of ≡ claims.now) }
+    requires { IsOfClaims claims.now seat }
+    ensures { IfOk result (λ c. IsOfClaims claims.now c.seat) }
 {
     let mut seat = seat;
     let mut found = Vec::new(alloc);
@@ -187,15 +188,15 @@ fn claim_in_threads<R: Threads + Sync>(
     start: &Awaited,
     seats: Vec<ClaimSeat<u32>>,
 ) -> Result<Vec<Result<Claimed, AllocError>>, AllocError>
-    requires { All (λ s. s.of ≡ claims.now) seats.items }
-    ensures { IfOk result (λ all. All (λ c. IfOk c (λ d. d.seat.of ≡ claims.now)) all.items) }
+    requires { All (IsOfClaims claims.now) seats.items }
+    ensures { IfOk result (λ all. All (λ c. IfOk c (λ d. IsOfClaims claims.now d.seat)) all.items) }
 {
     thread::map_vec(
         rt,
         seats,
         &|seat: ClaimSeat<u32>| -> Result<Claimed, AllocError>
-            requires { seat.of ≡ claims.now }
-            ensures { IfOk result (λ c. c.seat.of ≡ claims.entry.now) }
+            requires { IsOfClaims claims.now seat }
+            ensures { IfOk result (λ c. IsOfClaims claims.entry.now c.seat) }
         { claim_all(alloc, claims, start, seat) },
     )
 }
@@ -206,8 +207,8 @@ fn gather(
     claims: &Claims<u32>,
     all: Vec<Result<Claimed, AllocError>>,
 ) -> Result<(Vec<ClaimSeat<u32>>, Vec<(u32, u32)>), AllocError>
-    requires { All (λ c. IfOk c (λ d. d.seat.of ≡ claims.now)) all.items }
-    ensures { IfOk result (λ r. All (λ s. s.of ≡ claims.now) r.0.items) }
+    requires { All (λ c. IfOk c (λ d. IsOfClaims claims.now d.seat)) all.items }
+    ensures { IfOk result (λ r. All (IsOfClaims claims.now) r.0.items) }
 {
     let mut seats = Vec::new(alloc);
     let mut places = Vec::new(alloc);

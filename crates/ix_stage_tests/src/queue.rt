@@ -2,18 +2,19 @@
 //! through a queue with room for one.
 
 ghost use Rattle.std.specs.Prelude.{◌≡◌, ◌≤◌, ◌<◌, false, All, Some, IfOk, IfSome, length, slice_get};
-ghost use Rattle.ix_stages.specs.Course.{course_of, MayClose};
-ghost use Rattle.ix_stages.specs.Making.{IsNewQueue};
-ghost use Rattle.ix_stages.specs.Queue.{table_of};
+ghost use Rattle.ix_handover.specs.Course.{course_of, MayClose};
+ghost use Rattle.ix_handover.specs.Making.{IsNewQueue};
+ghost use Rattle.ix_handover.specs.Queue.{table_of};
 ghost use Rattle.ix_stage_tests.specs.Walkers.{CanWalk, CanAllWalk, IsOpenAsBefore, CanClose, IsWalker, IsTaker, CanRun, HasRun};
-ghost use Rattle.ix_stages.specs.Seats.{IsNext};
+ghost use Rattle.ix_handover.specs.Seats.{IsNext};
 
 use ix_archive::End;
 use ix_check::{ShaCheck, Verdict};
 use ix_fixtures::{INNER_BLOCK, ONE_LINK, OUTER, TURNS, chain_of, jobs_of, store_of};
+use ix_handover::law;
 use ix_stages::{
     Course, Item, JobSeat, LaneOut, QueueParts, StopSeat, TakeSeat, Verdicted, VisitQueue, lane,
-    law, verify,
+    verify,
 };
 use ix_store::Store;
 use ix_walk::{Job, Walk, WalkStop};

@@ -5,19 +5,17 @@ use Rattle.std.proofs.lemmas.List.Elements.{All-nil, All-head, All-tail, All-pus
 use Rattle.ix_walk.specs.declared.visit.Visit.{Visit}
 use Rattle.ix_store.specs.Store.{Blocks}
 use Rattle.ix_check.specs.Visits.{IsVisitOf}
-use Rattle.ix_stages.specs.declared.course.JobVisits.{JobVisits}
-use Rattle.ix_stages.specs.declared.item.Item.{Item}
-use Rattle.ix_stages.specs.declared.item.Item.TheVariants as item
-use Rattle.ix_stages.specs.declared.verdicted.Verdicted.{Verdicted}
-use Rattle.ix_stages.specs.declared.verdicted.Verdicted.TheVariants.{Checked, Unchecked, Close, Last}
-use Rattle.ix_stages.specs.declared.pass_view.PassView.{PassView}
-use Rattle.ix_stages.specs.PassViews.{after_take}
-use Rattle.ix_stages.specs.Course.{Allowed, IsCourseOf, course_visits}
-use Rattle.ix_stages.specs.declared.lanes.LaneIn.{LaneIn}
-use Rattle.ix_stages.specs.Lanes.{SameIn}
-use Rattle.ix_stages.specs.Received.{pairs_of}
-use Rattle.ix_stages.specs.Seats.{IsTake}
-use Rattle.ix_stages.specs.Sent.{Answers, SentFor}
+use Rattle.ix_handover.specs.declared.course.JobVisits.{JobVisits}
+use Rattle.ix_handover.specs.declared.item.Item.{Item}
+use Rattle.ix_handover.specs.declared.item.Item.TheVariants as item
+use Rattle.ix_handover.specs.declared.verdicted.Verdicted.{Verdicted}
+use Rattle.ix_handover.specs.declared.verdicted.Verdicted.TheVariants.{Checked, Unchecked, Close, Last}
+use Rattle.ix_handover.specs.declared.pass_view.PassView.{PassView}
+use Rattle.ix_handover.specs.PassViews.{after_take}
+use Rattle.ix_handover.specs.Course.{Allowed, IsCourseOf, course_visits}
+use Rattle.ix_handover.specs.Received.{pairs_of}
+use Rattle.ix_handover.specs.Seats.{IsTake}
+use Rattle.ix_handover.specs.Sent.{Answers, SentFor}
 use Rattle.ix_stages.specs.Verified.{IsItemOf, IsStop, took, Passed, IsVerified}
 
 -- ---- what the course allows has the block and the malformed of the store
@@ -62,9 +60,6 @@ took_none v = ap (put_taken v) (sym (append-nil v.taken))
 pub took_more : (v : PassView) (t : List Item) (x : Item) → after_take (took v t) x ≡ took v (t ++ x ∷ [])
 unfolding put_taken
 took_more v t x = ap (put_taken v) (append_assoc v.taken t (x ∷ []))
-
-pub same_again : (a b c : LaneIn) → SameIn a b → SameIn b c → SameIn a c
-same_again a b c l s = ((s.0.0 ∙ l.0.0, s.0.1 ∙ l.0.1, s.0.2 ∙ l.0.2, s.0.3 ∙ l.0.3), s.1 ∙ l.1)
 
 -- ---- what a verifier has done, and one item more
 

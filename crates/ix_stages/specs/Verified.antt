@@ -2,16 +2,16 @@
 use Rattle.std.specs.Prelude.{◌≡◌, ℕ, List, [], ◌∷◌, ◌++◌, All}
 use Rattle.ix_store.specs.Store.{Blocks}
 use Rattle.ix_check.specs.Visits.{IsVisitOf}
-use Rattle.ix_stages.specs.declared.item.Item.{Item}
-use Rattle.ix_stages.specs.declared.item.Item.TheVariants as item
-use Rattle.ix_stages.specs.declared.verdicted.Verdicted.{Verdicted}
-use Rattle.ix_stages.specs.declared.pass_view.PassView.{PassView}
-use Rattle.ix_stages.specs.declared.lanes.LaneIn.{LaneIn}
-use Rattle.ix_stages.specs.Lanes.{sent_by}
-use Rattle.ix_stages.specs.Received.{pairs_of}
-use Rattle.ix_stages.specs.Seats.{SeatView}
-use Rattle.ix_stages.specs.Sent.{SentFor}
-use Rattle.ix_stages.specs.Course.{Allowed}
+use Rattle.ix_handover.specs.declared.item.Item.{Item}
+use Rattle.ix_handover.specs.declared.item.Item.TheVariants as item
+use Rattle.ix_handover.specs.declared.verdicted.Verdicted.{Verdicted}
+use Rattle.ix_handover.specs.declared.pass_view.PassView.{PassView}
+use Rattle.ix_handover.specs.declared.lanes.LaneIn.{LaneIn}
+use Rattle.ix_handover.specs.Lanes.{sent_by}
+use Rattle.ix_handover.specs.Received.{pairs_of}
+use Rattle.ix_handover.specs.Seats.{SeatView}
+use Rattle.ix_handover.specs.Sent.{SentFor}
+use Rattle.ix_handover.specs.Course.{Allowed}
 
 -- a visit has the block and the malformed of the store
 abbrev pub IsItemOf : Blocks → Item → Type 0

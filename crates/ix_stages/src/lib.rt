@@ -1,44 +1,27 @@
-//! The visit queue, lanes and claims: what the threads of an export meet through.
+//! What the threads of an export do: walkers put the visits of jobs into the queue, and verifiers
+//! take them, check them and send their verdicts.
 //!
-//! In every schedule: no value is claimed twice; what is taken from the queue is what a job's
-//! course allows, nothing twice, and in the end all that was put; what is received from a lane is
-//! the beginning of what was sent into it. A verifier sends one answer for each item that it takes.
-//! That a call that waits returns is not promised.
+//! In every schedule a walker puts nothing but what its job's course allows, and a verifier sends one
+//! answer for each item that it takes, and checks each visit once. What these threads meet through
+//! (the queue, lanes, claims) stands in `ix_handover`, and is handed on here. That a call that waits
+//! returns is not promised.
 //!
 //! ```rust
-//! let values = Vec::from_array(alloc, ["x", "y"])?;
-//! let (claims, mut seats) = Claims::new(alloc, values, 1)?;
-//! if let Some(mut seat) = seats.pop() {
-//!     assert!(rt; claims.claim(&mut seat) == Some((0, "x")));
-//!     assert!(rt; claims.claim(&mut seat) == Some((1, "y")));
-//!     assert!(rt; claims.claim(&mut seat).is_none());
-//! }
+//! walk_jobs(rt, alloc, &shared, claimer);
+//! verify(rt, alloc, &store, &queue, &mut seat, &mut lane, &mut check);
 //! ```
 #![tactic(auto)]
 
-mod claim_rule;
-mod claims;
-mod course;
-mod item;
-mod lanes;
-pub mod law;
-mod parts;
-mod pass_view;
-mod queue;
-mod rule;
-mod seats;
-mod settle;
-mod verdicted;
+mod gate;
+mod shared;
 mod verifier;
-mod waiting;
+mod walker;
 
-pub use claims::{ClaimSeat, Claims};
-pub use course::Course;
-pub use item::Item;
-pub use lanes::{LaneIn, LaneOut, lane, lane_rest};
-pub use parts::QueueParts;
-pub use queue::VisitQueue;
-pub use seats::{JobSeat, Rest, StopSeat, TakeSeat};
-pub use verdicted::Verdicted;
+pub use gate::{Gate, Open};
+pub use ix_handover::{
+    ClaimSeat, Claims, Course, Item, JobSeat, LaneIn, LaneOut, QueueParts, Rest, StopSeat,
+    TakeSeat, Verdicted, VisitQueue, Waiting, lane, lane_rest,
+};
+pub use shared::{Shared, Task};
 pub use verifier::verify;
-pub use waiting::Waiting;
+pub use walker::walk_jobs;

@@ -1,20 +1,15 @@
 //! A verifier: takes visits, checks them and sends their verdicts.
 
 ghost use Rattle.std.specs.Prelude.{◌≡◌, [], ◌∷◌, ◌++◌, IsTrue, ◌↔◌};
-ghost use Rattle.ix_stages.specs.Course.{IsCourseOf};
-ghost use Rattle.ix_stages.specs.Lanes.{sent_by, SameIn};
-ghost use Rattle.ix_stages.specs.Queue.{table_of};
-ghost use Rattle.ix_stages.specs.Received.{pairs_of};
-ghost use Rattle.ix_stages.specs.Sent.{Answers};
+ghost use Rattle.ix_handover.specs.Course.{IsCourseOf};
+ghost use Rattle.ix_handover.specs.Lanes.{sent_by, SameIn};
+ghost use Rattle.ix_handover.specs.Queue.{IsOfQueue};
+ghost use Rattle.ix_handover.specs.Received.{pairs_of};
+ghost use Rattle.ix_handover.specs.Sent.{Answers};
 ghost use Rattle.ix_stages.specs.Verified.{IsItemOf, IsStop, HasVerified};
 
-use crate::item::Item;
-use crate::lanes::LaneIn;
-use crate::queue::VisitQueue;
-use crate::seats::TakeSeat;
-use crate::verdicted::Verdicted;
-use crate::waiting::Waiting;
 use ix_check::Check;
+use ix_handover::{Item, LaneIn, TakeSeat, Verdicted, VisitQueue, Waiting};
 use ix_store::Store;
 use std::alloc::{AllocError, Global};
 use std::sync::Wait;
@@ -73,7 +68,7 @@ pub fn verify<R: Wait, C: Check>(
     lane: &mut LaneIn,
     check: &mut C,
 )
-    requires queue { seat.old.table ≡ table_of queue.now }
+    requires queue { IsOfQueue queue.now seat.old.table }
     requires course { IsCourseOf store.now seat.old.pass.course }
     ensures same { (seat.new.table ≡ seat.old.table) × SameIn lane.old lane.new }
     ensures verified { HasVerified C.checked store.now seat.old seat.new lane.old lane.new check.old check.new }

@@ -1,6 +1,6 @@
 use Rattle.std.proofs.Common.{refl, ◌++◌, sym, ◌∙◌}
-use Rattle.ix_stages.specs.Lanes.{received_by}
-use Rattle.ix_stages.proofs.Passing.{same_again}
+use Rattle.ix_handover.specs.Lanes.{received_by}
+use Rattle.ix_handover.proofs.LaneEnds.{same_again}
 use Rattle.ix_collect.proofs.Gathering.{inserts_mid, on_same, on_trans, lane_same, same_trans}
 use Rattle.ix_collect.proofs.gather.drain.Goals as goal
 

@@ -1,4 +1,4 @@
-use Rattle.ix_stages.specs.Lanes.{received_by, IsLane, IsSameLane}
+use Rattle.ix_handover.specs.Lanes.{received_by, IsLane, IsSameLane}
 use Rattle.ix_collect.specs.Collecting.{CollectsAmong, GoesOn}
 use Rattle.ix_collect.proofs.gather.drain.Given as goal
 

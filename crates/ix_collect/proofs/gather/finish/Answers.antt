@@ -1,8 +1,8 @@
 use Rattle.std.proofs.Common.{◌++◌, rules, refl, ◌≡◌, ◌+◌, ◌<◌, ◌≤◌, List, length, get_or, take, drop, set, ap, sym, ◌∙◌, subst, length-set, drop-set-lt, arith}
-use Rattle.ix_stages.specs.declared.verdicted.Verdicted.{Verdicted}
-use Rattle.ix_stages.specs.declared.lanes.LaneIn.{LaneIn}
-use Rattle.ix_stages.specs.declared.lanes.LaneOut.{LaneOut}
-use Rattle.ix_stages.specs.Lanes.{EachLane, sent_by, received_by, all_sent, all_received}
+use Rattle.ix_handover.specs.declared.verdicted.Verdicted.{Verdicted}
+use Rattle.ix_handover.specs.declared.lanes.LaneIn.{LaneIn}
+use Rattle.ix_handover.specs.declared.lanes.LaneOut.{LaneOut}
+use Rattle.ix_handover.specs.Lanes.{EachLane, sent_by, received_by, all_sent, all_received}
 use Rattle.ix_collect.specs.Collected.{IsCollected}
 use Rattle.ix_collect.proofs.Gathering.{front_mid, on_same, on_trans, sent_set, lanes_from, before_drain, after_drain, all_drained}
 use Rattle.ix_collect.proofs.gather.finish.Goals as goal

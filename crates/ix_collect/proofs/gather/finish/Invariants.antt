@@ -1,5 +1,5 @@
 use Rattle.std.proofs.Common.{◌≡◌, ◌++◌, length, take, drop}
-use Rattle.ix_stages.specs.Lanes.{EachLane, all_received, all_sent}
+use Rattle.ix_handover.specs.Lanes.{EachLane, all_received, all_sent}
 use Rattle.ix_collect.specs.Collecting.{CollectsBehind, GoesOn}
 use Rattle.ix_collect.proofs.gather.finish.Given as goal
 

@@ -1,8 +1,8 @@
 use Rattle.std.proofs.Common.{rules, ◌≡◌, ◌∙◌, ◌+◌, [], ◌∷◌, ◌++◌, List, ap, arith, subst, sym, length, length-append}
 use Rattle.std.specs.Prelude.{cond}
-use Rattle.ix_stages.specs.declared.verdicted.Verdicted.{Verdicted}
-use Rattle.ix_stages.specs.Lanes.{received_by}
-use Rattle.ix_stages.proofs.Totals.{total_append}
+use Rattle.ix_handover.specs.declared.verdicted.Verdicted.{Verdicted}
+use Rattle.ix_handover.specs.Lanes.{received_by}
+use Rattle.ix_handover.proofs.Totals.{total_append}
 use Rattle.ix_collect.specs.Collected.{IsCollected, is_last, last_count}
 use Rattle.ix_collect.proofs.Gathering.{inserts_mid, on_same, bool_one, one_at_most}
 use Rattle.ix_collect.proofs.gather.receive_one.Goals as goal

@@ -1,7 +1,7 @@
 use Rattle.std.proofs.Common.{◌++◌, ◌+◌, arith, set, rules, refl, ◌≡◌, ◌<◌, List, length, get_or, ap, sym, ◌∙◌, subst, length-set}
-use Rattle.ix_stages.specs.declared.verdicted.Verdicted.{Verdicted}
-use Rattle.ix_stages.specs.declared.lanes.LaneOut.{LaneOut}
-use Rattle.ix_stages.specs.Lanes.{received_by, all_received}
+use Rattle.ix_handover.specs.declared.verdicted.Verdicted.{Verdicted}
+use Rattle.ix_handover.specs.declared.lanes.LaneOut.{LaneOut}
+use Rattle.ix_handover.specs.Lanes.{received_by, all_received}
 use Rattle.ix_collect.specs.Collected.{IsCollected, last_count}
 use Rattle.ix_collect.proofs.Gathering.{front_mid, on_same, on_trans, lasts_set, length_set, among, same_self, same_set}
 use Rattle.ix_collect.proofs.gather.round.Goals as goal

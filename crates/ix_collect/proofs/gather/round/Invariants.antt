@@ -1,5 +1,5 @@
 use Rattle.std.proofs.Common.{◌≡◌, ◌≤◌, ◌+◌, length}
-use Rattle.ix_stages.specs.Lanes.{EachSameOut, all_received}
+use Rattle.ix_handover.specs.Lanes.{EachSameOut, all_received}
 use Rattle.ix_collect.specs.Collected.{last_count}
 use Rattle.ix_collect.specs.Collecting.{CollectsBehind, GoesOn}
 use Rattle.ix_collect.proofs.gather.round.Given as goal

@@ -1,5 +1,5 @@
 use Rattle.std.proofs.Common.{List, sym, subst}
-use Rattle.ix_stages.specs.declared.verdicted.Verdicted.{Verdicted}
+use Rattle.ix_handover.specs.declared.verdicted.Verdicted.{Verdicted}
 use Rattle.ix_collect.specs.Collecting.{HasCollected}
 use Rattle.ix_flow.proofs.Gathering.{gathers_trans}
 use Rattle.ix_flow.proofs.collecting.gather.Goals as goal

@@ -1,6 +1,6 @@
 use Rattle.std.proofs.Common.{[], List, length, ap, sym, subst, ◌∙◌}
-use Rattle.ix_stages.specs.declared.verdicted.Verdicted.{Verdicted}
-use Rattle.ix_stages.specs.Lanes.{all_sent}
+use Rattle.ix_handover.specs.declared.verdicted.Verdicted.{Verdicted}
+use Rattle.ix_handover.specs.Lanes.{all_sent}
 use Rattle.ix_collect.specs.Collected.{IsCollected}
 use Rattle.ix_flow.proofs.Ends.{lanes_long}
 use Rattle.ix_flow.proofs.collecting.receive_rest.Goals as goal

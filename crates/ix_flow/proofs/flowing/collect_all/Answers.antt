@@ -1,12 +1,12 @@
 use Rattle.std.proofs.Common.{ℕ, List, sym, subst, inl, ◌∙◌}
 use Rattle.ix_archive.specs.Headline.{IsCheckedOnce}
 use Rattle.ix_collect.proofs.Kept.{kept_trans}
-use Rattle.ix_stages.specs.declared.lanes.LaneOut.{LaneOut}
-use Rattle.ix_stages.specs.Good.{IsGood}
-use Rattle.ix_stages.specs.Lanes.{EachSameOut, all_sent}
+use Rattle.ix_handover.specs.declared.lanes.LaneOut.{LaneOut}
+use Rattle.ix_handover.specs.Good.{IsGood}
+use Rattle.ix_handover.specs.Lanes.{EachSameOut, all_sent}
 use Rattle.ix_collect.specs.Collected.{IsCollectedFrom}
 use Rattle.ix_flow.proofs.Ends.{lanes_back}
-use Rattle.ix_flow.specs.Shared.{store_of, jobs_of, queue_of}
+use Rattle.ix_stages.specs.Shared.{store_of, jobs_of, queue_of}
 use Rattle.ix_flow.proofs.flowing.collect_all.Goals as goal
 
 pub settle-requires-clause-takers : goal.settle-requires-clause-takers

@@ -1,5 +1,5 @@
 use Rattle.std.proofs.Common.{rules, All}
-use Rattle.ix_stages.specs.Queue.{table_of}
+use Rattle.ix_handover.specs.Queue.{table_of}
 use Rattle.ix_flow.specs.Verifiers.{IsUnstarted}
 use Rattle.ix_flow.proofs.flowing.flow.Goals as goal
 

@@ -1,10 +1,10 @@
 use Rattle.std.proofs.Common.{ℕ, List, Contains, sym, subst}
 use Rattle.std.specs.Global.{Vec}
 use Rattle.ix_archive.specs.Headline.{IsEachOnce, checked_by}
-use Rattle.ix_stages.specs.Good.{IsGood}
-use Rattle.ix_stages.specs.Lanes.{all_sent}
+use Rattle.ix_handover.specs.Good.{IsGood}
+use Rattle.ix_handover.specs.Lanes.{all_sent}
 use Rattle.ix_flow.specs.Flowing.{AreOfVisits}
-use Rattle.ix_flow.specs.Shared.{store_of, jobs_of, queue_of}
+use Rattle.ix_stages.specs.Shared.{store_of, jobs_of, queue_of}
 use Rattle.ix_flow.proofs.Closings.{flown_of_closed}
 use Rattle.ix_flow.proofs.flowing.stop_early.Goals as goal
 

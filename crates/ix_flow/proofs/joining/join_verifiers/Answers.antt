@@ -4,10 +4,10 @@ use Rattle.std.proofs.lemmas.List.Elements.{All-push}
 use Rattle.std.specs.Vec.Iter.{into_iter_items}
 use Rattle.std.specs.declared.thread.PromisedHandle.{PromisedHandle}
 use Rattle.ix_store.specs.Store.{Blocks}
-use Rattle.ix_stages.specs.declared.lanes.LaneIn.{LaneIn}
-use Rattle.ix_stages.specs.Lanes.{sent_by, all_sent}
-use Rattle.ix_stages.specs.Seats.{SeatView}
-use Rattle.ix_stages.specs.Settled.{taken_by}
+use Rattle.ix_handover.specs.declared.lanes.LaneIn.{LaneIn}
+use Rattle.ix_handover.specs.Lanes.{sent_by, all_sent}
+use Rattle.ix_handover.specs.Seats.{SeatView}
+use Rattle.ix_handover.specs.Settled.{taken_by}
 use Rattle.ix_stages.specs.Verified.{IsVerified}
 use Rattle.ix_archive.specs.Headline.{checked_by}
 use Rattle.ix_flow.specs.declared.verifying.Verifier.{Verifier}

@@ -1,8 +1,8 @@
 use Rattle.std.proofs.Common.{List, subst}
-use Rattle.ix_stages.specs.declared.course.JobVisits.{JobVisits}
-use Rattle.ix_stages.specs.Course.{IsWellTaken}
-use Rattle.ix_stages.specs.Settled.{taken_by}
-use Rattle.ix_flow.specs.Shared.{store_of, jobs_of}
+use Rattle.ix_handover.specs.declared.course.JobVisits.{JobVisits}
+use Rattle.ix_handover.specs.Course.{IsWellTaken}
+use Rattle.ix_handover.specs.Settled.{taken_by}
+use Rattle.ix_stages.specs.Shared.{store_of, jobs_of}
 use Rattle.ix_flow.proofs.joining.settle.Goals as goal
 
 pub returns : goal.returns

@@ -2,10 +2,10 @@ use Rattle.std.proofs.Common.{◌≡◌, ◌++◌, [], ◌∷◌, List, length, 
 use Rattle.std.proofs.lemmas.List.{nil_from_length}
 use Rattle.std.proofs.lemmas.List.Elements.{All-push}
 use Rattle.std.specs.Vec.Iter.{into_iter_items}
-use Rattle.ix_stages.specs.Seats.{SeatView}
+use Rattle.ix_handover.specs.Seats.{SeatView}
 use Rattle.ix_flow.specs.declared.preparing.VerifierSlot.{VerifierSlot}
 use Rattle.ix_flow.specs.Prepared.{AreSlotsOf, IsSlot}
-use Rattle.ix_flow.specs.Ready.{IsIdle}
+use Rattle.ix_flow.specs.Idle.{IsIdle}
 use Rattle.ix_flow.proofs.Lists.{all_front, all_last}
 use Rattle.ix_flow.proofs.preparing.make_slots.Goals as goal
 

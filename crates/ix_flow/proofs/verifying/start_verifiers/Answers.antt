@@ -2,13 +2,13 @@ use Rattle.std.proofs.Common.{[], ◌∷◌, ◌++◌, List, All, length, ap, sy
 use Rattle.std.proofs.lemmas.List.Elements.{All-head, All-tail, All-push}
 use Rattle.std.specs.Vec.Iter.{into_iter_items}
 use Rattle.std.specs.declared.thread.PromisedHandle.{PromisedHandle}
-use Rattle.ix_stages.specs.declared.lanes.LaneOut.{LaneOut}
-use Rattle.ix_stages.specs.declared.verdicted.Verdicted.{Verdicted}
-use Rattle.ix_stages.specs.Lanes.{received_by, all_received}
+use Rattle.ix_handover.specs.declared.lanes.LaneOut.{LaneOut}
+use Rattle.ix_handover.specs.declared.verdicted.Verdicted.{Verdicted}
+use Rattle.ix_handover.specs.Lanes.{received_by, all_received}
 use Rattle.ix_flow.specs.declared.verifying.Verifier.{Verifier}
 use Rattle.ix_flow.specs.declared.verifying.Began.{Began}
 use Rattle.ix_flow.specs.declared.verifying.UnstartedVerifier.{UnstartedVerifier}
-use Rattle.ix_flow.specs.Shared.{store_of, queue_of}
+use Rattle.ix_stages.specs.Shared.{store_of, queue_of}
 use Rattle.ix_flow.specs.Verifiers.{IsUnstarted, IsBegan, EachOut}
 use Rattle.ix_flow.proofs.Ends.{out_push}
 use Rattle.ix_flow.proofs.Lists.{received_push}

@@ -1,6 +1,6 @@
 use Rattle.std.proofs.Common.{◌≡◌, ◌≤◌, ◌+◌, [], length, vec_len, vec_capacity}
 use Rattle.std.specs.Vec.Iter.{into_iter_items}
-use Rattle.ix_stages.specs.Lanes.{all_received}
+use Rattle.ix_handover.specs.Lanes.{all_received}
 use Rattle.ix_flow.specs.Flowing.{AllUnstarted, AllBegan}
 use Rattle.ix_flow.specs.Verifiers.{EachOut}
 use Rattle.ix_flow.proofs.verifying.start_verifiers.Given as goal

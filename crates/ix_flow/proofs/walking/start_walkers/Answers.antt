@@ -1,8 +1,8 @@
 use Rattle.std.proofs.Common.{◌≡◌, List, All, subst}
 use Rattle.std.proofs.lemmas.List.Elements.{All-tail}
 use Rattle.std.specs.Vec.Iter.{into_iter_items}
-use Rattle.ix_stages.specs.Claims.{SeatMeaning}
-use Rattle.ix_stages.specs.Seats.{JobView}
+use Rattle.ix_handover.specs.Claims.{SeatMeaning}
+use Rattle.ix_handover.specs.Seats.{JobView}
 use Rattle.ix_flow.proofs.walking.start_walkers.Goals as goal
 
 pub loop-claimer-preserved : goal.loop-claimer-preserved

@@ -5,10 +5,10 @@ use Rattle.ix_walk.specs.declared.fault.WalkStop.{WalkStop}
 use Rattle.ix_walk.specs.JobMeaning.{JobMeaning}
 use Rattle.ix_walk.specs.Visits.{visits_of}
 use Rattle.ix_walk.specs.WalkLeft.{WalkLeft, GivesNext}
-use Rattle.ix_stages.specs.declared.course.JobVisits.{JobVisits}
-use Rattle.ix_stages.specs.declared.pass_view.PassView.{PassView}
-use Rattle.ix_stages.specs.declared.item.Item.TheVariants as item
-use Rattle.ix_stages.specs.Course.{Allowed}
+use Rattle.ix_handover.specs.declared.course.JobVisits.{JobVisits}
+use Rattle.ix_handover.specs.declared.pass_view.PassView.{PassView}
+use Rattle.ix_handover.specs.declared.item.Item.TheVariants as item
+use Rattle.ix_handover.specs.Course.{Allowed}
 use Rattle.ix_stage_tests.proofs.queue.has_room_for_one.Goals as goal
 
 pub try_put-requires-clause-next : goal.try_put-requires-clause-next

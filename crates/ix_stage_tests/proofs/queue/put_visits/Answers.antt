@@ -5,10 +5,10 @@ use Rattle.ix_walk.specs.declared.visit.Visit.{Visit}
 use Rattle.ix_walk.specs.declared.fault.WalkStop.{WalkStop}
 use Rattle.ix_walk.specs.declared.fault.WalkStop.TheVariants.{Limit as Limited}
 use Rattle.ix_walk.specs.WalkLeft.{GivesNext}
-use Rattle.ix_stages.specs.declared.course.JobVisits.{JobVisits}
-use Rattle.ix_stages.specs.declared.pass_view.PassView.{PassView}
-use Rattle.ix_stages.specs.declared.item.Item.TheVariants as item
-use Rattle.ix_stages.specs.Course.{Allowed, course_visits}
+use Rattle.ix_handover.specs.declared.course.JobVisits.{JobVisits}
+use Rattle.ix_handover.specs.declared.pass_view.PassView.{PassView}
+use Rattle.ix_handover.specs.declared.item.Item.TheVariants as item
+use Rattle.ix_handover.specs.Course.{Allowed, course_visits}
 use Rattle.ix_stage_tests.proofs.Walks.{closes_as, job_is_there}
 use Rattle.ix_stage_tests.proofs.queue.put_visits.Goals as goal
 

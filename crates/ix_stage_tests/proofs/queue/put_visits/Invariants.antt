@@ -1,5 +1,5 @@
 use Rattle.std.proofs.Common.{◌≡◌, ◌≤◌, length, drop}
-use Rattle.ix_stages.specs.Course.{course_visits, course_over}
+use Rattle.ix_handover.specs.Course.{course_visits, course_over}
 use Rattle.ix_stage_tests.specs.Walkers.{IsOpenAsBefore}
 use Rattle.ix_stage_tests.proofs.queue.put_visits.Given as goal
 

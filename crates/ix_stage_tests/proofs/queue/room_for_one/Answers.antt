@@ -1,7 +1,7 @@
 use Rattle.std.proofs.Common.{IfSome, ap, subst}
 use Rattle.std.proofs.lemmas.List.Elements.{All-pop}
-use Rattle.ix_stages.specs.Course.{course_of}
-use Rattle.ix_stages.specs.Seats.{SeatView}
+use Rattle.ix_handover.specs.Course.{course_of}
+use Rattle.ix_handover.specs.Seats.{SeatView}
 use Rattle.ix_stage_tests.specs.Walkers.{CanWalk}
 use Rattle.ix_stage_tests.proofs.queue.room_for_one.Goals as goal
 

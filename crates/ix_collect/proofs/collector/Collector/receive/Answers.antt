@@ -4,7 +4,7 @@ use Rattle.ix_collect.specs.Collected.{IsStray}
 use Rattle.std.proofs.Common.{inl, inr, ℕ, arith, subst, set, rules, ◌≡◌, ◌<◌, ◌≤◌, refl, sym, ◌∙◌, Some, length, get_or, ap, length-set}
 use Rattle.std.proofs.lemmas.Bool.{or_left}
 use Rattle.ix_collect.proofs.Kept.{kept_set, kept_same}
-use Rattle.ix_stages.specs.Received.{job_of}
+use Rattle.ix_handover.specs.Received.{job_of}
 use Rattle.ix_collect.proofs.Collecting.{safe_at, safe_set, collected_none, collected_unknown, collected_one, ended_set, closed_at, misplaced_at, is_noted_then, not_fine}
 use Rattle.ix_collect.proofs.collector.Collector.receive.Goals as goal
 

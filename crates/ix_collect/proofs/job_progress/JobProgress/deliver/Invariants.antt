@@ -2,7 +2,7 @@ use Rattle.std.proofs.Common.{◌≡◌, ◌-◌, None, List}
 use Rattle.std.specs.Prelude.{Bool}
 use Rattle.ix_archive.specs.Headline.{Keeps}
 use Rattle.ix_archive.specs.declared.sink.Delivery.{Delivery}
-use Rattle.ix_stages.specs.Received.{Tally}
+use Rattle.ix_handover.specs.Received.{Tally}
 use Rattle.ix_collect.specs.JobProgress.{IsUnderWay, IsSafe}
 use Rattle.ix_collect.proofs.job_progress.JobProgress.deliver.Given as goal
 

@@ -1,5 +1,5 @@
 use Rattle.std.proofs.Common.{subst}
-use Rattle.ix_stages.specs.declared.verdicted.Verdicted.{Verdicted}
+use Rattle.ix_handover.specs.declared.verdicted.Verdicted.{Verdicted}
 use Rattle.ix_collect.specs.JobProgress.{IsItem}
 use Rattle.ix_collect.proofs.job_progress.JobProgress.note.Goals as goal
 

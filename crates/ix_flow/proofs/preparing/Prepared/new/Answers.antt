@@ -2,11 +2,11 @@ use Rattle.std.proofs.Common.{rules, ◌≡◌, ◌≤◌, List, All, length, ma
 use Rattle.std.proofs.lemmas.List.Elements.{All-weaker, All-replicate}
 use Rattle.std.proofs.lemmas.List.{length-replicate}
 use Rattle.ix_walk.specs.JobMeaning.{IsJob}
-use Rattle.ix_stages.specs.Course.{course_of}
-use Rattle.ix_stages.specs.Claims.{SeatMeaning}
-use Rattle.ix_stages.specs.Queue.{table_of}
-use Rattle.ix_stages.specs.Seats.{JobView}
-use Rattle.ix_flow.specs.Ready.{IsReady}
+use Rattle.ix_handover.specs.Course.{course_of}
+use Rattle.ix_handover.specs.Claims.{SeatMeaning}
+use Rattle.ix_handover.specs.Queue.{table_of}
+use Rattle.ix_handover.specs.Seats.{JobView}
+use Rattle.ix_stages.specs.Walking.{IsReady}
 use Rattle.ix_flow.proofs.Lists.{length_count}
 use Rattle.ix_flow.proofs.Makes.{seats_ready, seats_each, takers_ready}
 use Rattle.ix_flow.proofs.preparing.Prepared.new.Goals as goal

@@ -1,0 +1,13 @@
+pub mod Totals
+pub mod Claiming
+pub mod ClaimSettling
+pub mod Numbers
+pub mod Running
+pub mod Puts
+pub mod Takes
+pub mod NewSeats
+pub mod Joins
+pub mod SeatMoves
+pub mod Settling
+pub mod LaneEnds
+pub mod JobCourses

@@ -1,0 +1,17 @@
+pub mod Items
+pub mod Received
+pub mod Good
+pub mod Sent
+pub mod Course
+pub mod PassViews
+pub mod Totals
+pub mod QueueState
+pub mod Seats
+pub mod Queue
+pub mod Making
+pub mod Settled
+pub mod Lanes
+pub mod Claims
+pub mod ClaimRule
+pub mod ClaimsJoined
+pub mod CourseLaws

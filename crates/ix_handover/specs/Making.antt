@@ -1,0 +1,39 @@
+-- How the seats of a queue are made: the pass that makes them, and what it makes.
+use Rattle.std.specs.Prelude.{◌≡◌, ◌<◌, ℕ, false, List, Option, map, replicate}
+use Rattle.crossbeam_queue.specs.declared.array_queue.Doing.{Doing}
+use Rattle.crossbeam_queue.specs.declared.array_queue.Slotted.{Slotted}
+use Rattle.crossbeam_queue.specs.Passes.{Pass, view, IsPassOf}
+use Rattle.ix_handover.specs.declared.course.JobVisits.{JobVisits}
+use Rattle.ix_handover.specs.declared.pass_view.PassView.{PassView}
+use Rattle.ix_handover.specs.declared.item.Item.{Item}
+use Rattle.ix_handover.specs.declared.parts.QueueParts.{QueueParts}
+use Rattle.ix_handover.specs.Items.{count_up}
+use Rattle.ix_handover.specs.Queue.{table_of}
+use Rattle.ix_handover.specs.Seats.{JobView, SeatView, maker_pass, new_job, new_taker, new_stop, seat_count}
+
+-- the same course, and so many seats made
+abbrev pub HasMade : Pass Item PassView → Pass Item PassView → ℕ → Type 0
+HasMade old new made = view new ≡ maker_pass (view old).course (view old).all made
+
+module _ {Q A : Type 0} (line : Slotted (Option Item) (Doing Item PassView) Q A) (p : Pass Item PassView) where
+  -- the pass makes the seats of the queue, and has made so many
+  abbrev pub IsMaker : ℕ → Type 0
+  IsMaker made = IsPassOf line p × HasMade p p made
+
+  -- the seat of the job with this number, as it makes it
+  abbrev pub job_made : ℕ → JobView
+  job_made job = new_job line.table.shared.table_id (view p).course (view p).all job
+
+  -- a seat that takes, as it makes it
+  abbrev pub taker_made : SeatView
+  taker_made = new_taker line.table.shared.table_id (view p).course (view p).all
+
+  -- a pass of the queue that stands for one seat at least
+  abbrev pub IsLivePass : Type 0
+  IsLivePass = IsPassOf line p × ((view p).blank ≡ false) × (0 < (view p).parts)
+
+-- a queue with its seats, none of which has put or taken anything: one for each job of the course, in their order, so many that take, and one that stops them
+pub record IsNewQueue (course : List JobVisits) (count verifiers : ℕ) (q : QueueParts) : Type 0 where
+  pub jobs : q.jobs.items ≡ map (new_job (table_of q.queue) course (seat_count count verifiers)) (count_up 0 count)
+  pub takers : q.takers.items ≡ replicate verifiers (new_taker (table_of q.queue) course (seat_count count verifiers))
+  pub stop : q.stop ≡ new_stop (table_of q.queue) course (seat_count count verifiers)

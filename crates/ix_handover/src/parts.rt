@@ -1,0 +1,145 @@
+//! How a queue and its seats are made.
+
+ghost use Rattle.std.specs.Prelude.{◌≡◌, ◌<◌, ◌≤◌, ◌+◌, ◌^◌, length, map, replicate, IfOk, OnOk};
+ghost use Rattle.crossbeam_queue.specs.Passes.{view, IsPassOf, IsSamePass};
+ghost use Rattle.ix_handover.specs.Items.{count_up};
+ghost use Rattle.ix_handover.specs.Course.{IsCourse, course_visits};
+ghost use Rattle.ix_handover.specs.PassViews.{blank};
+ghost use Rattle.ix_handover.specs.Making.{IsMaker, HasMade, IsNewQueue, job_made, taker_made};
+ghost use Rattle.ix_handover.specs.Seats.{maker_pass};
+
+use crate::course::Course;
+use crate::item::Item;
+use crate::pass_view::PassView;
+use crate::queue::{Line, VisitQueue};
+use crate::rule::{ForJob, ForTaker, Names, Naming};
+use crate::seats::{JobSeat, StopSeat, TakeSeat};
+use crossbeam_queue::Pass;
+use std::alloc::{AllocError, Global};
+use std::marker::Brand;
+use std::snapshot::Snapshot;
+
+/// A queue with all its seats.
+#[derive(Drop)]
+pub struct QueueParts {
+    pub queue: VisitQueue,
+    pub jobs: Vec<JobSeat>,
+    pub takers: Vec<TakeSeat>,
+    pub stop: StopSeat,
+}
+
+// Gives the course its name: from here on each view carries it.
+fn name_course<N: Naming, K: Course>(
+    line: &Line,
+    pass: &mut Pass<Item, PassView>,
+    course: Snapshot<K>,
+    seats: Snapshot<u64>,
+)
+    requires pass { IsPassOf line.now pass.old × (view pass.old ≡ blank) }
+    requires name { (N.course ≡ K.plan course.value) × (N.seats ≡ seats.value) }
+    ensures same { IsSamePass pass.old pass.new }
+    ensures named { view pass.new ≡ maker_pass (K.plan course.value) seats.value 0 }
+{
+    line.another::<Names<N>>(pass);
+}
+
+// The seat of the next job.
+fn job_seat(line: &Line, pass: &mut Pass<Item, PassView>, job: u32) -> JobSeat
+    requires pass { IsMaker line.now pass.old job }
+    requires parts { job + 1 < (view pass.old).all }
+    requires course { length (course_visits (view pass.old).course job) ≤ 1000000 }
+    ensures same { IsSamePass pass.old pass.new }
+    ensures made { HasMade pass.old pass.new (job + 1) }
+    ensures seat { result ≡ job_made line.now pass.old job }
+{
+    JobSeat {
+        pass: line.another::<ForJob>(pass),
+        job,
+        next: 0,
+        closed: false,
+    }
+}
+
+// One seat that takes.
+fn take_seat(line: &Line, pass: &mut Pass<Item, PassView>) -> TakeSeat
+    requires pass { IsMaker line.now pass.old (view pass.old).made }
+    requires parts { (view pass.old).made + 1 < (view pass.old).all }
+    ensures same { IsSamePass pass.old pass.new }
+    ensures made { HasMade pass.old pass.new ((view pass.old).made + 1) }
+    ensures seat { result ≡ taker_made line.now pass.old }
+{
+    TakeSeat {
+        pass: line.another::<ForTaker>(pass),
+    }
+}
+
+// One seat for each job.
+fn job_seats(
+    line: &Line,
+    pass: &mut Pass<Item, PassView>,
+    alloc: Global,
+    jobs: u32,
+) -> Result<Vec<JobSeat>, AllocError>
+    requires pass { IsMaker line.now pass.old 0 }
+    requires parts { jobs < (view pass.old).all }
+    requires course { IsCourse (view pass.old).course }
+    ensures same { OnOk result (IsSamePass pass.old pass.new × HasMade pass.old pass.new jobs) }
+    ensures seats { IfOk result (λ s.
+        s.items ≡ map (job_made line.now pass.old) (count_up 0 jobs)) }
+{
+    let mut seats = Vec::new(alloc);
+    for job in 0..jobs {
+        seats.push(job_seat(line, pass, job))?;
+    }
+    Ok(seats)
+}
+
+// So many seats that take.
+fn take_seats(
+    line: &Line,
+    pass: &mut Pass<Item, PassView>,
+    alloc: Global,
+    jobs: u32,
+    takers: u32,
+) -> Result<Vec<TakeSeat>, AllocError>
+    requires pass { IsMaker line.now pass.old jobs }
+    requires parts { (jobs + takers < (view pass.old).all) × (jobs + takers < 2 ^ 32) }
+    ensures same { OnOk result (IsSamePass pass.old pass.new
+        × HasMade pass.old pass.new (jobs + takers)) }
+    ensures seats { IfOk result (λ s. s.items ≡ replicate takers (taker_made line.now pass.old)) }
+{
+    let mut seats = Vec::new(alloc);
+    for _ in 0..takers {
+        seats.push(take_seat(line, pass))?;
+    }
+    Ok(seats)
+}
+
+impl VisitQueue {
+    /// A queue with room for so many items, one seat for each job of the course, so many that take
+    /// and one that stops the takers.
+    pub fn new<K: Course>(
+        alloc: Global,
+        course: &K,
+        capacity: u32,
+        jobs: u32,
+        takers: u32,
+    ) -> Result<QueueParts, AllocError>
+        requires capacity { 0 < capacity }
+        requires course { IsCourse (K.plan course.now) × (length (K.plan course.now) ≡ jobs) }
+        requires seats { jobs + takers < 2 ^ 32 }
+        ensures { IfOk result (IsNewQueue (K.plan course.now) jobs takers) }
+    {
+        let (line, mut pass) = Line::ruled(alloc, capacity as usize)?;
+        let seats = u64::from(jobs) + u64::from(takers) + 1;
+        name_course::<Brand, K>(&line, &mut pass, Snapshot::of(course), Snapshot::of(&seats));
+        let jobs_made = job_seats(&line, &mut pass, alloc, jobs)?;
+        let takers_made = take_seats(&line, &mut pass, alloc, jobs, takers)?;
+        Ok(QueueParts {
+            queue: VisitQueue { line },
+            jobs: jobs_made,
+            takers: takers_made,
+            stop: StopSeat { pass },
+        })
+    }
+}

@@ -1,0 +1,116 @@
+//! The queue: bounded, shared by all walkers and verifiers, under the rule of `specs/QueueState.antt`.
+
+ghost use Rattle.std.specs.Prelude.{◌≡◌, false, OnOk, IfErr, IfSome, IfNone};
+ghost use Rattle.std.specs.Bool.{OnTrue, OnFalse};
+ghost use Rattle.ix_handover.specs.declared.item.Item.{Item};
+ghost use Rattle.ix_handover.specs.PassViews.{after_put};
+ghost use Rattle.ix_handover.specs.Seats.{IsNext, IsSameSeat, HasPut, HasTaken, IsTake, closed_after};
+ghost use Rattle.ix_handover.specs.Queue.{IsOfQueue};
+
+use crate::item::Item;
+use crate::pass_view::PassView;
+use crate::rule::{Puts, Takes, VisitRule};
+use crate::seats::{JobSeat, StopSeat, TakeSeat};
+use crate::waiting::Waiting;
+use crossbeam_queue::RuledArrayQueue;
+use std::sync::Wait;
+
+pub(crate) type Line = RuledArrayQueue<Item, PassView, VisitRule>;
+
+/// A queue of visits, closes and Stops.
+#[derive(Drop)]
+pub struct VisitQueue {
+    pub(crate) line: Line,
+}
+
+// Whether it closes its job.
+fn is_close(item: &Item) -> bool
+    ensures { result ≡ closed_after item.now }
+{
+    match item {
+        Item::Close { .. } => true,
+        _ => false,
+    }
+}
+
+impl VisitQueue {
+    /// Puts the next item of the seat's job. It comes back only where the queue was full.
+    pub fn try_put<R: Wait>(&self, rt: &R, seat: &mut JobSeat, item: Item) -> Result<(), Item>
+        requires queue { IsOfQueue self.now seat.old.table }
+        requires next { (seat.old.closed ≡ false) × IsNext seat.old item }
+        ensures same { IsSameSeat seat.old seat.new }
+        ensures put { OnOk result (HasPut seat.old item seat.new) }
+        ensures full { IfErr result (λ back. (back ≡ item) × (seat.new ≡ seat.old)) }
+    {
+        let closes = is_close(&item);
+        match self.line.push_as::<Puts, R>(rt, &mut seat.pass, item) {
+            Ok(()) => {
+                if closes {
+                    seat.closed = true;
+                } else {
+                    seat.next += 1;
+                }
+                Ok(())
+            }
+            Err(back) => Err(back),
+        }
+    }
+
+    /// Takes the item at the front, where there is one.
+    pub fn try_take<R: Wait>(&self, rt: &R, seat: &mut TakeSeat) -> Option<Item>
+        requires { IsOfQueue self.now seat.old.table }
+        ensures same { seat.new.table ≡ seat.old.table }
+        ensures taken { IfSome result (λ x. IsTake seat.old.pass x seat.new.pass) }
+        ensures none { IfNone result (seat.new.pass ≡ seat.old.pass) }
+    {
+        self.line.pop_as::<Takes, R>(rt, &mut seat.pass)
+    }
+}
+
+impl VisitQueue {
+    /// Puts the item, and waits for room.
+    pub fn put<R: Wait>(&self, rt: &R, seat: &mut JobSeat, item: Item)
+        requires queue { IsOfQueue self.now seat.old.table }
+        requires next { (seat.old.closed ≡ false) × IsNext seat.old item }
+        ensures same { IsSameSeat seat.old seat.new }
+        ensures put { HasPut seat.old item seat.new }
+    {
+        let mut item = item;
+        let mut waiting = Waiting::new();
+        for _ in rt.forever() {
+            match self.try_put(rt, seat, item) {
+                Ok(()) => return,
+                Err(back) => item = back,
+            }
+            waiting.pause(rt);
+        }
+        unreachable!()
+    }
+
+    /// Takes an item, and waits for one.
+    pub fn take<R: Wait>(&self, rt: &R, seat: &mut TakeSeat) -> Item
+        requires { IsOfQueue self.now seat.old.table }
+        ensures taken { HasTaken seat.old result seat.new }
+    {
+        let mut waiting = Waiting::new();
+        for _ in rt.forever() {
+            if let Some(item) = self.try_take(rt, seat) {
+                return item;
+            }
+            waiting.pause(rt);
+        }
+        unreachable!()
+    }
+
+    /// Puts one Stop. False only where the queue was full.
+    pub fn try_stop<R: Wait>(&self, rt: &R, seat: &mut StopSeat) -> bool
+        requires { IsOfQueue self.now seat.old.table }
+        ensures same { seat.new.table ≡ seat.old.table }
+        ensures put { OnTrue result (seat.new.pass ≡ after_put seat.old.pass Item.Stop) }
+        ensures full { OnFalse result (seat.new.pass ≡ seat.old.pass) }
+    {
+        self.line
+            .push_as::<Puts, R>(rt, &mut seat.pass, Item::Stop)
+            .is_ok()
+    }
+}

@@ -1,0 +1,105 @@
+//! The rule of the queue, the steps that seats make, and what the steps tell.
+
+ghost use Rattle.std.specs.Prelude.{◌≡◌, ◌+◌, ℕ, List, []};
+ghost use Rattle.ix_handover.specs.Course.{IsWellTaken};
+ghost use Rattle.ix_handover.specs.PassViews.{blank, spent, root, after_seat, job_pass, take_pass};
+ghost use Rattle.ix_handover.specs.PassViews.{after_put, after_join, all_put, all_taken};
+ghost use Rattle.ix_handover.specs.QueueState.{IsQueueState};
+ghost use Rattle.ix_handover.specs.Seats.{IsTake};
+ghost use Rattle.ix_handover.specs.declared.course.JobVisits.{JobVisits};
+ghost use Rattle.ix_handover.specs.declared.item.Item.{Item};
+ghost use Rattle.ix_handover.specs.Totals.{total};
+
+use crate::item::Item;
+use crate::pass_view::PassView;
+use crossbeam_queue::protocol::{Join, Lesson, Outcome, Protocol, Split};
+use std::marker::{Brand, PhantomData};
+
+/// The rule of a visit queue, for any number of seats.
+pub struct VisitRule;
+
+impl Protocol<Item, PassView> for VisitRule {
+    ghost holds = { IsQueueState };
+
+    ghost first = { blank };
+}
+
+/// A course and a number of seats, which the proof of a call picks.
+pub trait Naming {
+    ghost course: { List JobVisits };
+
+    ghost seats: { ℕ };
+}
+
+impl Naming for Brand {
+    ghost course = { [] };
+
+    ghost seats = { 0 };
+}
+
+/// The course gets its name.
+pub struct Names<N> {
+    of: PhantomData<N>,
+}
+
+impl<N: Naming> Split<PassView> for Names<N> {
+    ghost left = { λ v. root N.course N.seats };
+
+    ghost right = { λ v. spent };
+}
+
+/// The seat of the next job is made.
+pub struct ForJob;
+
+impl Split<PassView> for ForJob {
+    ghost left = { after_seat };
+
+    ghost right = { job_pass };
+}
+
+/// A seat that takes is made.
+pub struct ForTaker;
+
+impl Split<PassView> for ForTaker {
+    ghost left = { after_seat };
+
+    ghost right = { take_pass };
+}
+
+/// A seat is joined, and its lists are kept apart.
+pub struct Joins;
+
+impl Join<PassView> for Joins {
+    ghost both = { after_join };
+
+    ghost spent = { spent };
+}
+
+/// An item is put.
+pub struct Puts;
+
+impl Outcome<Item, PassView> for Puts {
+    ghost then = { λ v x w. w ≡ after_put v x };
+}
+
+impl Lesson<Item, PassView> for Puts {
+    ghost fact = { λ v items. Unit {0} };
+}
+
+/// An item is taken. Whoever has all parts knows what the queue holds.
+pub struct Takes;
+
+impl Outcome<Item, PassView> for Takes {
+    ghost then = { IsTake };
+}
+
+impl Lesson<Item, PassView> for Takes {
+    ghost fact = { λ v items. v.parts ≡ v.all → (h : Item → ℕ) → total h (all_put v) ≡ total h (all_taken v) + total h items };
+}
+
+/// What was taken, with the seats that were joined, fits the course and holds nothing twice.
+pub struct Learns;
+
+impl Lesson<Item, PassView> for Learns {
+    ghost fact = { λ v items. IsWellTaken v.course (all_taken v) };
+}

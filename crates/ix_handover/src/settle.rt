@@ -1,0 +1,115 @@
+//! How the seats are joined, and what is left is taken.
+
+ghost use Rattle.std.specs.Prelude.{◌≡◌, ◌++◌, [], All, map, IfSome, IfNone};
+ghost use Rattle.ix_handover.specs.Course.{IsWellTaken};
+ghost use Rattle.ix_handover.specs.PassViews.{all_put, all_taken};
+ghost use Rattle.ix_handover.specs.Seats.{IsTake};
+ghost use Rattle.ix_handover.specs.Making.{IsLivePass};
+ghost use Rattle.ix_handover.specs.Settled.{Absorbs, AbsorbsAll, Settles, IsAllTaken};
+ghost use Rattle.ix_handover.specs.Settled.{passes_of, put_by, taken_by};
+ghost use Rattle.ix_handover.specs.Queue.{IsOfQueue};
+
+use crate::item::Item;
+use crate::pass_view::PassView;
+use crate::queue::{Line, VisitQueue};
+use crate::rule::{Joins, Learns, Takes};
+use crate::seats::{JobSeat, Rest, StopSeat, TakeSeat};
+use crossbeam_queue::Pass;
+use std::sync::Wait;
+
+// Joins the seat of a job, which has taken nothing.
+fn join_job(line: &Line, pass: &mut Pass<Item, PassView>, seat: JobSeat)
+    requires pass { IsLivePass line.now pass.old }
+    requires seat { seat.table ≡ line.now.table.shared.table_id }
+    ensures joined { Absorbs pass.old seat.pass pass.new }
+    ensures part { seat.pass.parts ≡ 1 }
+    ensures taken { seat.pass.taken ≡ [] }
+{
+    // Each field is named, with its type: a seat has no lock.
+    let JobSeat {
+        pass: other,
+        job,
+        next,
+        closed,
+    } = seat;
+    let (_, _, _): (u32, u32, bool) = (job, next, closed);
+    let other: Pass<Item, PassView> = other;
+    line.absorb::<Joins>(pass, other);
+}
+
+// Joins a seat that takes, which has put nothing.
+fn join_taker(line: &Line, pass: &mut Pass<Item, PassView>, seat: TakeSeat)
+    requires pass { IsLivePass line.now pass.old }
+    requires seat { seat.table ≡ line.now.table.shared.table_id }
+    ensures joined { Absorbs pass.old seat.pass pass.new }
+    ensures part { seat.pass.parts ≡ 1 }
+    ensures put { seat.pass.put ≡ [] }
+{
+    let TakeSeat { pass: other } = seat;
+    let other: Pass<Item, PassView> = other;
+    line.absorb::<Joins>(pass, other);
+}
+
+// Joins the seats of jobs.
+fn join_jobs(line: &Line, pass: &mut Pass<Item, PassView>, seats: Vec<JobSeat>)
+    requires pass { IsLivePass line.now pass.old }
+    requires seats { All (λ s. s.table ≡ line.now.table.shared.table_id) seats.items }
+    ensures joined { AbsorbsAll pass.old (map (λ s. s.pass) seats.items) pass.new }
+    ensures taken { All (λ s. s.pass.taken ≡ []) seats.items }
+{
+    for seat in seats {
+        join_job(line, pass, seat);
+    }
+}
+
+// Joins the seats that take.
+fn join_takers(line: &Line, pass: &mut Pass<Item, PassView>, seats: Vec<TakeSeat>)
+    requires pass { IsLivePass line.now pass.old }
+    requires seats { All (λ s. s.table ≡ line.now.table.shared.table_id) seats.items }
+    ensures joined { AbsorbsAll pass.old (map (λ s. s.pass) seats.items) pass.new }
+    ensures put { All (λ s. s.pass.put ≡ []) seats.items }
+{
+    for seat in seats {
+        join_taker(line, pass, seat);
+    }
+}
+
+impl VisitQueue {
+    /// Joins seats, all or some. What they took was allowed by the course, with no visit and no
+    /// close twice, and nothing of a job behind its close. Their lists are kept apart, and the rest
+    /// has taken nothing of its own.
+    pub fn settle(&self, jobs: Vec<JobSeat>, stop: StopSeat, takers: Vec<TakeSeat>) -> Rest
+        requires stop { IsOfQueue self.now stop.table }
+        requires jobs { All (λ s. IsOfQueue self.now s.table) jobs.items }
+        requires takers { All (λ s. IsOfQueue self.now s.table) takers.items }
+        ensures table { IsOfQueue self.now result.table }
+        ensures joined { Settles stop.pass (passes_of jobs.items takers.items) result.pass }
+        ensures put { all_put result.pass ≡ stop.pass.put ++ put_by jobs.items }
+        ensures taken { all_taken result.pass ≡ taken_by takers.items }
+        ensures own { result.pass.taken ≡ [] }
+        ensures good { IsWellTaken stop.pass.course (taken_by takers.items) }
+    {
+        let StopSeat { pass } = stop;
+        let mut pass: Pass<Item, PassView> = pass;
+        join_jobs(&self.line, &mut pass, jobs);
+        join_takers(&self.line, &mut pass, takers);
+        self.line.learn_as::<Learns>(&mut pass);
+        Rest { pass }
+    }
+
+    /// Takes the item at the front of what is left. At `None` where all seats were joined, whatever
+    /// was put was taken, as often as it was put.
+    pub fn take_rest<R: Wait>(&self, rt: &R, rest: &mut Rest) -> Option<Item>
+        requires { IsOfQueue self.now rest.old.table }
+        ensures table { rest.new.table ≡ rest.old.table }
+        ensures some { IfSome result (λ x. IsTake rest.old.pass x rest.new.pass) }
+        ensures none { IfNone result ((rest.new.pass ≡ rest.old.pass) × IsAllTaken rest.old.pass) }
+    {
+        // A queue is one ruled queue and nothing else, and what is left of its seats one pass.
+        let VisitQueue { line } = self;
+        let line: &Line = line;
+        let Rest { pass } = rest;
+        let pass: &mut Pass<Item, PassView> = pass;
+        line.pop_as::<Takes, R>(rt, pass)
+    }
+}
