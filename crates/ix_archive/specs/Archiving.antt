@@ -1,5 +1,5 @@
 -- What an archive keeps beside its deliveries, and what one delivery does to it.
-use Rattle.std.specs.Prelude.{◌≡◌, ℕ, ◌+◌, Bool, ◌&&◌, List, [], ◌∷◌, ◌++◌, length, Option, Some, None, Result, Ok, Err, if◌then◌else◌, bytes_eq}
+use Rattle.std.specs.Prelude.{◌≡◌, ℕ, ◌+◌, Bool, false, ◌&&◌, List, [], ◌∷◌, ◌++◌, length, Option, Some, None, Result, Ok, Err, if◌then◌else◌, bytes_eq}
 use Rattle.std.specs.List.{list_any}
 use Rattle.std.specs.Io.KnownBytes.{Appends}
 use Rattle.ix_check.specs.Verdict.{passes}
@@ -84,6 +84,10 @@ IsDelivered told d text before (Err fault) after = IsRefused told d text before 
 -- what a delivery with the text that is due does to it
 abbrev pub IsDeliveredDue : {W T : Type 0} → (W → Option (List ℕ)) → Delivery → ArchiveMeaning W → Result T SinkFault → ArchiveMeaning W → Type 0
 IsDeliveredDue told d before result after = IsDelivered told d (text_due before.store before.deliveries d) before result after
+
+-- an archive at which nothing failed keeps a delivery at this depth: it isn't cut off
+abbrev pub KeepsAt : {W : Type 0} → ArchiveMeaning W → ℕ → Type 0
+KeepsAt a depth = (a.failed ≡ []) × (is_cut_off a.deliveries depth ≡ false)
 
 -- where the block stands of the section that a kept delivery writes into an archive
 abbrev pub section_due : {W : Type 0} → ArchiveMeaning W → Delivery → Option ℕ

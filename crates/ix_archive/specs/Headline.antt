@@ -45,9 +45,13 @@ EachKept fact [] [] = Unit {0}
 EachKept fact (s ∷ ss) (t ∷ ts) = Keeps fact s t × EachKept fact ss ts
 EachKept fact ss ts = ⊥
 
+-- a check has checked nothing so far
+abbrev pub IsUnusedCheck : {C : Type 0} → (C → List (ℕ × ℕ)) → C → Type 0
+IsUnusedCheck checked c = checked c ≡ []
+
 -- no check has checked anything so far
 abbrev pub EachUnused : {C : Type 0} → (C → List (ℕ × ℕ)) → List C → Type 0
-EachUnused checked checks = AllByRecursion (λ c. checked c ≡ []) checks
+EachUnused checked checks = AllByRecursion (λ c. IsUnusedCheck checked c) checks
 
 -- the pairs that checks have checked, put together
 abbrev pub checked_by : {C : Type 0} → (C → List (ℕ × ℕ)) → List C → List (ℕ × ℕ)

@@ -5,7 +5,7 @@ ghost use Rattle.std.specs.Prelude.{◌≡◌, ◌+◌, true, false, None, Some,
 ghost use Rattle.ix_check.specs.Verdict.{passes};
 ghost use Rattle.ix_archive.specs.Archive.{is_sound};
 ghost use Rattle.ix_archive.specs.ArchiveMeaning.{HasArchived, IsBegun};
-ghost use Rattle.ix_archive.specs.Archiving.{is_cut_off, section_due, counts_in, IsAdded, IsDelivered, IsDeliveredDue};
+ghost use Rattle.ix_archive.specs.Archiving.{is_cut_off, section_due, counts_in, IsAdded, IsDelivered, IsDeliveredDue, KeepsAt};
 ghost use Rattle.ix_archive.specs.Report.{at_most, skips_of};
 ghost use Rattle.ix_archive.specs.ArchiveNew.{IsNoArchive};
 
@@ -211,8 +211,7 @@ impl<'a, W: Write> Archive<'a, W> {
 
     // Adds a kept delivery that doesn't pass.
     fn add_skip(&mut self, delivery: Delivery) -> Result<(), SinkFault>
-        requires unfailed { self.old.failed ≡ [] }
-        requires uncut { is_cut_off self.old.deliveries delivery.visit.depth ≡ false }
+        requires kept { KeepsAt self.old delivery.visit.depth }
         requires refused { passes delivery.verdict ≡ false }
         ensures { IsDelivered W.contents delivery [] self.old result self.new }
     {
@@ -233,8 +232,7 @@ impl<'a, W: Write> Archive<'a, W> {
 
     // Adds a kept delivery that passes and writes no section.
     fn add_without_section(&mut self, delivery: &Delivery)
-        requires unfailed { self.old.failed ≡ [] }
-        requires uncut { is_cut_off self.old.deliveries delivery.now.visit.depth ≡ false }
+        requires kept { KeepsAt self.old delivery.now.visit.depth }
         requires passing { passes delivery.now.verdict ≡ true }
         requires none_due { section_due self.old delivery.now ≡ None }
         ensures { IsAdded W.contents delivery.now [] self.old self.new }
@@ -247,8 +245,7 @@ impl<'a, W: Write> Archive<'a, W> {
 
     // Adds a kept delivery with its section, whose block stands at this place.
     fn add_section(&mut self, delivery: Delivery, place: usize) -> Result<(), SinkFault>
-        requires unfailed { self.old.failed ≡ [] }
-        requires uncut { is_cut_off self.old.deliveries delivery.visit.depth ≡ false }
+        requires kept { KeepsAt self.old delivery.visit.depth }
         requires due { section_due self.old delivery ≡ Some place }
         ensures { IsDeliveredDue W.contents delivery self.old result self.new }
     {

@@ -21,3 +21,7 @@ IsEnd end bytes = (n : ℕ) × (end ≡ drop n bytes)
 -- the place of the fault stands within these bytes, if there is one
 abbrev pub StandsWithin : {X : Type 0} → Result X FaultAt → List ℕ → Type 0
 StandsWithin result bytes = IfErr result (λ fault. fault.left ≤ length bytes)
+
+-- a part that takes memory reads what the definition gives of these bytes, and the place of a fault stands within them
+abbrev pub ReadsFrom : {X A : Type 0} → (X → A) → (List ℕ → Result A Fault) → List ℕ → Result X FaultAt → Type 0
+ReadsFrom view meaning bytes result = ReadsOrRunsOut view result (meaning bytes) × StandsWithin result bytes

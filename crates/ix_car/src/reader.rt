@@ -4,7 +4,7 @@ ghost use Rattle.std.specs.Prelude.{[], length};
 ghost use Rattle.std.specs.Arc.{arc_value};
 ghost use Rattle.ix_car.specs.Reading.{blocks_in, blocks_of};
 ghost use Rattle.ix_car.specs.Gives.{Gives};
-ghost use Rattle.ix_car.specs.Reads.{ReadsOrRunsOut, IsEnd, StandsWithin};
+ghost use Rattle.ix_car.specs.Reads.{ReadsFrom, IsEnd};
 
 mod by_threads;
 mod header;
@@ -70,8 +70,7 @@ pub fn load_car(alloc: Global, bytes: Vec<u8>) -> Result<Store, CarFault>
 
 // The blocks of a file, of which what is found will be kept.
 fn store_of_file(alloc: Global, file: &Arc<Vec<u8>>) -> Result<Store, FaultAt>
-    ensures reads { ReadsOrRunsOut (λ store. store) result (blocks_of (arc_value file.now).items) }
-    ensures within { StandsWithin result (arc_value file.now).items }
+    ensures { ReadsFrom (λ store. store) blocks_of (arc_value file.now).items result }
 {
     let sections = header_at(alloc, file.as_slice())?;
     let mut store = store_of_sections(alloc, file, sections)?;
@@ -87,8 +86,7 @@ fn store_of_file(alloc: Global, file: &Arc<Vec<u8>>) -> Result<Store, FaultAt>
 // The blocks of the sections at the end of a file.
 fn store_of_sections(alloc: Global, file: &Arc<Vec<u8>>, sections: &[u8]) -> Result<Store, FaultAt>
     requires { IsEnd sections.now (arc_value file.now).items }
-    ensures reads { ReadsOrRunsOut (λ store. store) result (blocks_in sections.now) }
-    ensures within { StandsWithin result sections.now }
+    ensures { ReadsFrom (λ store. store) blocks_in sections.now result }
 {
     let mut rest = sections;
     let mut store = Store::new(alloc);

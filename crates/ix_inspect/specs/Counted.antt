@@ -26,12 +26,12 @@ if_any zero = None
 if_any (suc n) = Some (suc n)
 
 -- how often a code comes
-abbrev pub times : ℕ → List ℕ → ℕ
-times code codes = count_by (λ c. c == code) codes
+abbrev pub code_count : ℕ → List ℕ → ℕ
+code_count code codes = count_by (λ c. c == code) codes
 
 -- each code that comes stands in the tally with how often it comes, and no other does
 abbrev pub IsTallyOf : List ℕ → BTreeMap ℕ ℕ → Type 0
-IsTallyOf codes tally = (code : ℕ) → get nat_cmp tally code ≡ if_any (times code codes)
+IsTallyOf codes tally = (code : ℕ) → get nat_cmp tally code ≡ if_any (code_count code codes)
 
 -- a CID is one of these
 abbrev pub has_stood : List (List ℕ) → List ℕ → Bool

@@ -4,6 +4,7 @@
 //! together, and each thread counts those of its own.
 
 ghost use Rattle.std.specs.Prelude.{◌≡◌, ◌<◌, [], length, vec_len, if◌then◌else◌, IfOk, OnOk};
+ghost use Rattle.std.specs.NonZero.{non_zero_usize_get};
 ghost use Rattle.ix_store.specs.Store.{has_cid, with_block};
 ghost use Rattle.ix_inspect.specs.Counted.{cids_of, repeats, share_of, in_share, AreCounted};
 
@@ -11,6 +12,7 @@ use ix_car::Section;
 use ix_cid::CidRef;
 use ix_store::Store;
 use std::alloc::{AllocError, Global};
+use std::num::NonZeroUsize;
 use std::thread::{Threads, map_indices};
 
 // How many shares there are at most: the last byte tells no more apart.
@@ -28,7 +30,8 @@ pub(crate) fn repeats_of<R: Threads + Sync>(
 ) -> Result<usize, AllocError>
     ensures { IfOk result (λ n. n ≡ repeats (cids_of sections.now)) }
 {
-    let counts = counts_of(rt, alloc, sections, threads.clamp(1, MOST_SHARES))?;
+    let shares = NonZeroUsize::new(threads.min(MOST_SHARES)).unwrap_or(NonZeroUsize::MIN);
+    let counts = counts_of(rt, alloc, sections, shares)?;
     sum_of(sections, counts.as_slice())
 }
 
@@ -37,16 +40,16 @@ fn counts_of<R: Threads + Sync>(
     rt: &R,
     alloc: Global,
     sections: &[Section<'_>],
-    shares: usize,
+    shares: NonZeroUsize,
 ) -> Result<Vec<Count>, AllocError>
-    requires { 0 < shares }
-    ensures len { IfOk result (λ counts. vec_len counts ≡ shares) }
-    ensures counted { IfOk result (λ counts. AreCounted shares (cids_of sections.now) counts.items) }
+    ensures len { IfOk result (λ counts. vec_len counts ≡ non_zero_usize_get shares) }
+    ensures counted { IfOk result (λ counts.
+        AreCounted (non_zero_usize_get shares) (cids_of sections.now) counts.items) }
 {
     map_indices(
         rt,
         alloc,
-        shares,
+        shares.get(),
         &|share| repeats_in(alloc, sections, shares, share),
     )
 }
@@ -65,9 +68,9 @@ fn sum_of(sections: &[Section<'_>], counts: &[Count]) -> Result<usize, AllocErro
 }
 
 // Of those that fall into a share, how many have a CID that has stood before.
-fn repeats_in(alloc: Global, sections: &[Section<'_>], shares: usize, share: usize) -> Count
-    requires { 0 < shares }
-    ensures { IfOk result (λ n. n ≡ repeats (in_share shares share (cids_of sections.now))) }
+fn repeats_in(alloc: Global, sections: &[Section<'_>], shares: NonZeroUsize, share: usize) -> Count
+    ensures { IfOk result (λ n.
+        n ≡ repeats (in_share (non_zero_usize_get shares) share (cids_of sections.now))) }
 {
     let mut seen = Store::new(alloc);
     let mut repeats = 0usize;
@@ -89,12 +92,11 @@ fn repeats_with(alloc: Global, seen: &mut Store, cid: &CidRef<'_>) -> Result<usi
 }
 
 // Into which of so many shares a CID falls.
-fn share_of(cid: &CidRef<'_>, shares: usize) -> usize
-    requires { 0 < shares }
-    ensures { result ≡ share_of shares cid.now }
+fn share_of(cid: &CidRef<'_>, shares: NonZeroUsize) -> usize
+    ensures { result ≡ share_of (non_zero_usize_get shares) cid.now }
 {
     match cid.as_bytes().last() {
-        Some(byte) => usize::from(*byte) % shares,
+        Some(byte) => usize::from(*byte) % shares.get(),
         None => 0,
     }
 }

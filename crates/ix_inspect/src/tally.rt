@@ -1,7 +1,7 @@
 //! How often codes come.
 
 ghost use Rattle.std.specs.Prelude.{◌≡◌, ℕ, ◌≤◌, ◌==◌, length, take, if◌then◌else◌, IfOk};
-ghost use Rattle.ix_inspect.specs.Counted.{IsTallyOf, times};
+ghost use Rattle.ix_inspect.specs.Counted.{IsTallyOf, code_count};
 
 use std::alloc::{AllocError, Global};
 use std::collections::BTreeMap;
@@ -27,7 +27,7 @@ pub(crate) fn tally_of(alloc: Global, codes: &[u64]) -> Result<Tally, AllocError
 // How many codes at the front are this one.
 fn run_of(code: u64, codes: &[u64]) -> usize
     ensures within { result ≤ length codes.now }
-    ensures alike { (c : ℕ) → times c (take result codes.now) ≡ (if code == c then result else 0) }
+    ensures alike { (c : ℕ) → code_count c (take result codes.now) ≡ (if code == c then result else 0) }
 {
     for place in 0..codes.len() {
         if codes[place] != code {

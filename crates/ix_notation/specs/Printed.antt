@@ -1,10 +1,16 @@
--- What JSON can't tell of data: a text that is not UTF-8, and a float, a byte string or a link.
-use Rattle.std.specs.Prelude.{◌⊎◌}
+-- What is printed of data, and what JSON can't tell of it: a text that is not UTF-8, and a float, a byte string or a link.
+use Rattle.std.specs.Prelude.{◌≡◌, ◌⊎◌, List, ◌++◌, Result, OnOk}
 use Rattle.std.specs.Str.{IsUtf8}
+use Rattle.json.specs.Token.{Token}
+use Rattle.json.specs.Written.{Written}
 use Rattle.ix_cbor.specs.Data.{Data, Items, Entries, no_items, item, no_entries, entry}
 use Rattle.ix_cbor.specs.Data as data_model
 use Rattle.ix_notation.specs.declared.fault.NotationFault.{NotationFault}
 use Rattle.ix_notation.specs.declared.fault.NotationFault.TheVariants.{Json, Repeated, Number, Hex, Block, Selector, Name, Memory}
+
+-- a writer has these tokens behind those that it had, unless that fails; what stood before its tokens stays
+abbrev pub Pushes : {T : Type 0} → Written → Written → List Token → Result T NotationFault → Type 0
+Pushes old new tokens result = OnOk result (new.tokens ≡ old.tokens ++ tokens) × (new.before ≡ old.before)
 
 abbrev mutual
   -- some text or key of the data is not UTF-8

@@ -1,11 +1,11 @@
 //! Data as JSON.
 
-ghost use Rattle.std.specs.Prelude.{◌≡◌, ◌++◌, OnOk, IfOk, IfErr};
+ghost use Rattle.std.specs.Prelude.{◌≡◌, IfOk, IfErr};
 ghost use Rattle.std.specs.Str.{IsUtf8};
 ghost use Rattle.json.specs.Print.{print};
 ghost use Rattle.ix_cbor.specs.Data.{data_of, node_items, node_entries};
 ghost use Rattle.ix_notation.specs.Notation.{integer_tokens, tokens_of, items_tokens, entries_tokens};
-ghost use Rattle.ix_notation.specs.Printed.{IsDataUnprinted, AreItemsUnprinted, AreEntriesUnprinted};
+ghost use Rattle.ix_notation.specs.Printed.{Pushes, IsDataUnprinted, AreItemsUnprinted, AreEntriesUnprinted};
 
 use crate::fault::NotationFault;
 use ix_cbor::Node;
@@ -28,8 +28,7 @@ pub(crate) fn text_of(alloc: Global, node: &Node) -> Result<Vec<u8>, NotationFau
 // Appends the tokens of a node.
 #[cycle(push_node)]
 fn push_node(alloc: Global, out: &mut Writer, node: &Node) -> Result<(), NotationFault>
-    ensures ok { OnOk result (out.new.tokens ≡ out.old.tokens ++ tokens_of (data_of node.now)) }
-    ensures before { out.new.before ≡ out.old.before }
+    ensures pushes { Pushes out.old out.new (tokens_of (data_of node.now)) result }
     ensures refused { IfErr result (IsDataUnprinted (data_of node.now)) }
 {
     match node {
@@ -54,8 +53,7 @@ fn push_node(alloc: Global, out: &mut Writer, node: &Node) -> Result<(), Notatio
 // Appends the members of a list and the closing bracket.
 #[cycle(push_node)]
 fn push_members(alloc: Global, out: &mut Writer, members: &[Node]) -> Result<(), NotationFault>
-    ensures ok { OnOk result (out.new.tokens ≡ out.old.tokens ++ items_tokens (node_items members.now)) }
-    ensures before { out.new.before ≡ out.old.before }
+    ensures pushes { Pushes out.old out.new (items_tokens (node_items members.now)) result }
     ensures refused { IfErr result (AreItemsUnprinted (node_items members.now)) }
 {
     for member in members {
@@ -71,8 +69,7 @@ fn push_entries(
     out: &mut Writer,
     entries: &[(Vec<u8>, Node)],
 ) -> Result<(), NotationFault>
-    ensures ok { OnOk result (out.new.tokens ≡ out.old.tokens ++ entries_tokens (node_entries entries.now)) }
-    ensures before { out.new.before ≡ out.old.before }
+    ensures pushes { Pushes out.old out.new (entries_tokens (node_entries entries.now)) result }
     ensures refused { IfErr result (AreEntriesUnprinted (node_entries entries.now)) }
 {
     for (key, value) in entries {
@@ -84,8 +81,7 @@ fn push_entries(
 
 // Appends an integer in decimal.
 fn push_integer(alloc: Global, out: &mut Writer, integer: i128) -> Result<(), NotationFault>
-    ensures ok { OnOk result (out.new.tokens ≡ out.old.tokens ++ integer_tokens integer) }
-    ensures before { out.new.before ≡ out.old.before }
+    ensures pushes { Pushes out.old out.new (integer_tokens integer) result }
     ensures refused { IfErr result (λ e. e ≡ NotationFault.Memory) }
 {
     let digits = format!(in alloc; "{integer}")?;

@@ -100,8 +100,9 @@ impl Index {
         }
     }
 
-    // The index of these entries, whose slots several threads fill. There is none where two entries have one CID, or
-    // where more than a few find no free slot: no thread serves the tree.
+    // The index of these entries: several threads fill its slots, and then see that the look-up of each entry comes to its
+    // place. What finds none of its slots free goes to the tree. There is no index where two entries have one CID, or where
+    // more than a few find no free slot: no thread serves the tree.
     pub(crate) fn by_threads<R: Threads + Sync>(
         rt: &R,
         alloc: Global,
@@ -115,25 +116,10 @@ impl Index {
             slots,
             behind: BTreeMap::new(alloc),
         };
-        index.covering(rt, alloc, entries, threads)
-    }
-
-    // The same index, once threads saw that the look-up of each entry comes to its place. What finds none of its slots
-    // free goes to the tree.
-    fn covering<R: Threads + Sync>(
-        mut self,
-        rt: &R,
-        alloc: Global,
-        entries: &[Entry],
-        threads: usize,
-    ) -> Result<Option<Index>, AllocError>
-        requires { (c : List ℕ) → place_behind self c ≡ None }
-        ensures { MayIndex (pairs_of entries.now) result }
-    {
         let threads = threads.max(1);
         let share = entries.len().div_ceil(threads);
-        let shares = see_shares(rt, alloc, self.slots.as_slice(), entries, share, threads)?;
-        self.cover(alloc, entries, share, shares.as_slice())
+        let shares = see_shares(rt, alloc, index.slots.as_slice(), entries, share, threads)?;
+        index.cover(alloc, entries, share, shares.as_slice())
     }
 
     // The same index, once threads saw the shares of the entries.

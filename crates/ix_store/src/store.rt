@@ -1,11 +1,11 @@
 //! Blocks under their CIDs.
 
-ghost use Rattle.std.specs.Prelude.{◌≡◌, ◌<◌, [], length, map, slice_get, Some, ◌==◌};
+ghost use Rattle.std.specs.Prelude.{◌≡◌, [], length, map, slice_get, Some, ◌==◌};
 ghost use Rattle.std.specs.Arc.{arc_value};
 ghost use Rattle.ix_store.specs.Entry.{content, part_of, pairs_of};
 ghost use Rattle.ix_store.specs.Index.{IsIndexed};
 ghost use Rattle.ix_store.specs.Mark.{agrees, is_faulty};
-ghost use Rattle.ix_store.specs.Store.{Adds, position_of};
+ghost use Rattle.ix_store.specs.Store.{Adds, IsPlaceIn, position_of};
 
 use crate::ahead::Ahead;
 use crate::entry::{Block, Entry};
@@ -143,7 +143,7 @@ impl Store {
 
     /// The block at a place.
     pub fn bytes(&self, place: usize) -> &[u8]
-        requires { place < length self.now }
+        requires { IsPlaceIn self.now place }
         ensures { slice_get (map (λ e. e.1) self.now) place ≡ Some result.now }
     {
         self.entries[place].block.bytes()
@@ -151,7 +151,7 @@ impl Store {
 
     /// The block at a place, as bytes that are ahead: with where it ends in shared ones.
     pub fn ahead(&self, place: usize) -> Ahead<'_>
-        requires { place < length self.now }
+        requires { IsPlaceIn self.now place }
         ensures { slice_get (map (λ e. e.1) self.now) place ≡ Some result }
     {
         self.entries[place].block.ahead()
@@ -161,7 +161,7 @@ impl Store {
     /// SHA-512 (FIPS 180-4), or the block itself under identity, and never under another function. A settled store
     /// computes it once for all threads.
     pub fn agrees(&self, place: usize) -> bool
-        requires { place < length self.now }
+        requires { IsPlaceIn self.now place }
         ensures { slice_get (map agrees self.now) place ≡ Some result }
     {
         let entry = &self.entries[place];
@@ -174,7 +174,7 @@ impl Store {
     /// Whether the block at a place spells no data (DAG-CBOR, RFC 8949). A settled store computes it once for
     /// all threads.
     pub fn is_faulty(&self, place: usize) -> bool
-        requires { place < length self.now }
+        requires { IsPlaceIn self.now place }
         ensures { slice_get (map is_faulty self.now) place ≡ Some result }
     {
         let entry = &self.entries[place];

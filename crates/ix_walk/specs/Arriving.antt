@@ -10,12 +10,16 @@ use Rattle.ix_walk.specs.declared.subtree.Found.{Found}
 use Rattle.ix_walk.specs.declared.subtree.Trail.{Trail}
 use Rattle.ix_walk.specs.declared.visit.Visit.{Visit}
 use Rattle.ix_walk.specs.declared.fault.WalkStop.{WalkStop}
-use Rattle.ix_store.specs.Store.{Blocks, value_of}
+use Rattle.ix_store.specs.Store.{Blocks, position_of, value_of}
 use Rattle.ix_walk.specs.JobMeaning.{JobMeaning}
 use Rattle.ix_walk.specs.Visits.{is_malformed, visit_of}
 use Rattle.ix_walk.specs.Gone.{going_of}
 use Rattle.ix_walk.specs.Walking.{arrival, waiting, Going, data_inside, gone_behind, links_inside, Subtree, all_links, found_links, trail_stands, subtrees, links_left, walk_left, NoDeeper, IsWalk}
 use Rattle.ix_walk.specs.WalkLeft.{WalkLeft, GivesNext, nothing_left}
+
+-- this is where the block of a CID stands, if it is there
+abbrev pub IsPositionOf : Blocks → List ℕ → Option ℕ → Type 0
+IsPositionOf store c block = block ≡ position_of store c
 
 -- the bytes spell the data of a CID, or there are none
 abbrev pub IsValue : Option Data → Option (List ℕ) → Type 0

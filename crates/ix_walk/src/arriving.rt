@@ -2,10 +2,10 @@
 
 ghost use Rattle.std.specs.Prelude.{◌≡◌, ◌+◌, ◌<◌, ◌^◌, IfOk, IfSome, OnOk, None, option_map, is_none};
 ghost use Rattle.ix_cbor.specs.Reading.{data_at};
-ghost use Rattle.ix_store.specs.Store.{position_of, bytes_of, value_of};
+ghost use Rattle.ix_store.specs.Store.{bytes_of, value_of};
 ghost use Rattle.ix_walk.specs.Once.{is_sound};
 ghost use Rattle.ix_walk.specs.Descent.{IsItem};
-ghost use Rattle.ix_walk.specs.Arriving.{IsValue, IsReading, GoesInto, Roots, Arrives, FindsNext, TakesNext};
+ghost use Rattle.ix_walk.specs.Arriving.{IsPositionOf, IsValue, IsReading, GoesInto, Roots, Arrives, FindsNext, TakesNext};
 ghost use Rattle.ix_walk.specs.Walking.{IsStanding, IsWalk};
 
 use crate::descent::{next_found, node_at};
@@ -27,7 +27,7 @@ fn bytes_of<'a>(
     cid: &CidRef<'a>,
     block: Option<usize>,
 ) -> Option<(Ahead<'a>, bool)>
-    requires { block ≡ position_of store.now cid.now }
+    requires { IsPositionOf store.now cid.now block }
     ensures bytes { option_map (λ b. b.0) result ≡ bytes_of store.now cid.now }
     ensures fault { IfSome result (λ b. b.1 ≡ is_none (data_at b.0)) }
 {
@@ -50,7 +50,7 @@ fn read_block<'a>(
     cid: &CidRef<'a>,
     block: Option<usize>,
 ) -> (Option<Ahead<'a>>, bool)
-    requires { block ≡ position_of store.now cid.now }
+    requires { IsPositionOf store.now cid.now block }
     ensures reading { IsReading store.now cid.now result.0 result.1 }
     ensures item { IfSome result.0 (λ b. IsItem b) }
 {
@@ -64,18 +64,18 @@ fn read_block<'a>(
     }
 }
 
-// Whether the bytes that a CID names are true to it: those that it holds itself, and those of a block that has its digest.
-fn is_sound(store: &Store, cid: &Cid, block: Option<usize>) -> bool
-    requires { block ≡ position_of store.now cid.now }
-    ensures { result ≡ is_sound store.now cid.now }
+// Whether the bytes that the CID of a visit names are true to it: those that it holds itself, and those of a block that has its digest.
+fn is_sound(store: &Store, visit: &Visit) -> bool
+    requires { IsPositionOf store.now visit.now.cid visit.now.block }
+    ensures { result ≡ is_sound store.now visit.now.cid }
 {
-    let parts = cid.parts();
+    let parts = visit.cid.parts();
     let Some(function) = parts.hash_function() else {
         return false;
     };
     match function {
         HashFunction::Identity => true,
-        HashFunction::Sha2_256 | HashFunction::Sha2_512 => match block {
+        HashFunction::Sha2_256 | HashFunction::Sha2_512 => match visit.block {
             None => false,
             Some(place) => store.agrees(place),
         },
@@ -92,7 +92,7 @@ fn goes_into<'a>(
     residual: &Residual<'a>,
     bytes: Option<Ahead<'a>>,
 ) -> Result<Option<Ahead<'a>>, AllocError>
-    requires block { visit.now.block ≡ position_of store.now visit.now.cid }
+    requires block { IsPositionOf store.now visit.now.cid visit.now.block }
     requires value { IsValue (value_of store.now visit.now.cid) bytes }
     requires item { IfSome bytes (λ b. IsItem b) }
     ensures goes { IfOk result (λ b. GoesInto store.now residual.now visit.now.cid gone.old b gone.new) }
@@ -104,7 +104,7 @@ fn goes_into<'a>(
     let Some(bytes) = bytes else {
         return Ok(None);
     };
-    if !is_sound(store, &visit.cid, visit.block) {
+    if !is_sound(store, visit) {
         return Ok(None);
     }
     let is_first = gone.note(alloc, &visit.cid, visit.block, residual)?;

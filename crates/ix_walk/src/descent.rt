@@ -266,13 +266,19 @@ fn leave_spent(trail: &mut Trail<'_>)
     }
 }
 
-// The next link in the lists and maps that are open, in the order of the traversal.
-fn next_below<'a>(alloc: Global, trail: &mut Trail<'a>) -> Result<Option<Found<'a>>, AllocError>
-    requires next { trail.old.next ≡ None }
-    requires standing { IsStanding trail.old }
+// The next link, in the order of the traversal: the one at which the trail arrives first, or the first in the lists and maps
+// that are open.
+pub(crate) fn next_found<'a>(
+    alloc: Global,
+    trail: &mut Trail<'a>,
+) -> Result<Option<Found<'a>>, AllocError>
+    requires { IsStanding trail.old }
     ensures next { IfOk result (λ _. trail.new.next ≡ None) }
     ensures found { IfOk result (λ o. Finds trail.old o trail.new) }
 {
+    if let Some(found) = trail.next.take() {
+        return Ok(Some(found));
+    }
     while let Some(mut opened) = trail.stack.pop() {
         match next_child(alloc, &mut opened, &mut trail.at)? {
             Some(Entered::Link(found)) => {
@@ -288,19 +294,4 @@ fn next_below<'a>(alloc: Global, trail: &mut Trail<'a>) -> Result<Option<Found<'
         }
     }
     Ok(None)
-}
-
-// The next link, in the order of the traversal.
-pub(crate) fn next_found<'a>(
-    alloc: Global,
-    trail: &mut Trail<'a>,
-) -> Result<Option<Found<'a>>, AllocError>
-    requires { IsStanding trail.old }
-    ensures next { IfOk result (λ _. trail.new.next ≡ None) }
-    ensures found { IfOk result (λ o. Finds trail.old o trail.new) }
-{
-    match trail.next.take() {
-        Some(found) => Ok(Some(found)),
-        None => next_below(alloc, trail),
-    }
 }

@@ -4,7 +4,7 @@ ghost use Rattle.std.specs.Prelude.{[]};
 ghost use Rattle.std.specs.Arc.{arc_value};
 ghost use Rattle.ix_car.specs.Reading.{blocks_in, blocks_of};
 ghost use Rattle.ix_car.specs.Gives.{Gives};
-ghost use Rattle.ix_car.specs.Reads.{ReadsOrRunsOut, IsEnd, StandsWithin};
+ghost use Rattle.ix_car.specs.Reads.{ReadsFrom, IsEnd};
 
 use crate::fault::{CarFault, CarKind};
 use crate::reader::header::header_at;
@@ -58,8 +58,7 @@ fn store_by_threads<R: Threads + Sync>(
     file: &Arc<Vec<u8>>,
     threads: usize,
 ) -> Result<Store, FaultAt>
-    ensures reads { ReadsOrRunsOut (λ store. store) result (blocks_of (arc_value file.now).items) }
-    ensures within { StandsWithin result (arc_value file.now).items }
+    ensures { ReadsFrom (λ store. store) blocks_of (arc_value file.now).items result }
 {
     let sections = header_at(alloc, file.as_slice())?;
     let builder = blocks_of_sections(rt, alloc, file, sections, threads)?;
@@ -87,8 +86,7 @@ fn blocks_of_sections<R: Threads + Sync>(
     threads: usize,
 ) -> Result<StoreBuilder, FaultAt>
     requires { IsEnd sections.now (arc_value file.now).items }
-    ensures reads { ReadsOrRunsOut (λ builder. builder) result (blocks_in sections.now) }
-    ensures within { StandsWithin result sections.now }
+    ensures { ReadsFrom (λ builder. builder) blocks_in sections.now result }
 {
     let mut rest = sections;
     let mut builder = StoreBuilder::new(alloc);

@@ -5,7 +5,7 @@ ghost use Rattle.ix_cbor.specs.Data.{data_of, items_of, entry_of, entries_of};
 ghost use Rattle.ix_cbor.specs.Reading.{data_at};
 ghost use Rattle.ix_car.specs.declared.fault.CarKind.TheVariants.{Memory};
 ghost use Rattle.ix_car.specs.Reading.{value_at, are_links, has_roots, version_fault, header_fault, header_at};
-ghost use Rattle.ix_car.specs.Reads.{ReadsOrRunsOut, IsEnd, StandsWithin};
+ghost use Rattle.ix_car.specs.Reads.{ReadsFrom, IsEnd};
 ghost use Rattle.ix_car.specs.Sections.{links_in, links_of, roots_in, roots_of};
 
 use crate::fault::CarKind;
@@ -16,10 +16,9 @@ use std::alloc::{AllocError, Global};
 
 // The bytes behind the header.
 pub(super) fn header_at(alloc: Global, bytes: &[u8]) -> Result<&[u8], FaultAt>
-    ensures reads { ReadsOrRunsOut (λ rest. rest.now) result (header_at bytes.now) }
+    ensures reads { ReadsFrom (λ rest. rest.now) header_at bytes.now result }
     ensures shorter { IfOk result (λ rest. length rest.now < length bytes.now) }
     ensures end { IfOk result (λ rest. IsEnd rest.now bytes.now) }
-    ensures within { StandsWithin result bytes.now }
 {
     let (text, rest) = text_at(bytes)?;
     let Ok(tree) = tree_of(alloc, text) else {

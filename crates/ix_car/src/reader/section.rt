@@ -3,7 +3,7 @@
 ghost use Rattle.std.specs.Prelude.{◌≡◌, ◌<◌, ◌++◌, length, IfOk};
 ghost use Rattle.std.specs.Arc.{arc_value};
 ghost use Rattle.ix_car.specs.Reading.{text_at, section_at};
-ghost use Rattle.ix_car.specs.Reads.{Reads, ReadsOrRunsOut, IsEnd, StandsWithin};
+ghost use Rattle.ix_car.specs.Reads.{Reads, ReadsFrom, IsEnd, StandsWithin};
 
 use crate::fault::CarKind;
 use ix_cid::{Cid, CidRef, VarintFault, read_varint};
@@ -58,10 +58,9 @@ pub(super) fn section_at<'a>(
     bytes: &'a [u8],
 ) -> Result<(Cid, &'a [u8], &'a [u8]), FaultAt>
     requires { IsEnd bytes.now (arc_value file.now).items }
-    ensures reads { ReadsOrRunsOut (λ r. ((r.0, r.1.now), r.2.now)) result (section_at bytes.now) }
+    ensures reads { ReadsFrom (λ r. ((r.0, r.1.now), r.2.now)) section_at bytes.now result }
     ensures shorter { IfOk result (λ r. length r.2.now < length bytes.now) }
     ensures end { IfOk result (λ r. IsEnd (r.1.now ++ r.2.now) bytes.now) }
-    ensures within { StandsWithin result bytes.now }
 {
     let (section, rest) = text_at(bytes)?;
     let Ok(length) = Cid::length_at(section) else {

@@ -3,7 +3,7 @@
 ghost use Rattle.std.specs.Prelude.{◌≡◌, ◌<◌, ◌≤◌, length, IfOk};
 ghost use Rattle.ix_car.specs.Reading.{section_at};
 ghost use Rattle.ix_car.specs.Gives.{Gives};
-ghost use Rattle.ix_car.specs.Reads.{Reads, ReadsOrRunsOut, StandsWithin};
+ghost use Rattle.ix_car.specs.Reads.{Reads, ReadsFrom, StandsWithin};
 ghost use Rattle.ix_car.specs.Sections.{section_list, sections_in, roots_of};
 ghost use Rattle.ix_car.specs.SectionView.{views_of};
 
@@ -49,9 +49,8 @@ pub fn read_sections(alloc: Global, bytes: &[u8]) -> Result<CarFile<'_>, CarFaul
 
 // The same, with the place of a fault from the end.
 fn sections_of(alloc: Global, bytes: &[u8]) -> Result<CarFile<'_>, FaultAt>
-    ensures sections { ReadsOrRunsOut (λ s. views_of s.sections) result (section_list bytes.now) }
+    ensures sections { ReadsFrom (λ s. views_of s.sections) section_list bytes.now result }
     ensures roots { IfOk result (λ s. s.roots.items ≡ roots_of bytes.now) }
-    ensures within { StandsWithin result bytes.now }
 {
     let rest = header_at(alloc, bytes)?;
     let roots = roots_at(alloc, bytes)?;
@@ -66,8 +65,7 @@ fn sections_behind<'a>(
     bytes: &'a [u8],
 ) -> Result<Vec<Section<'a>>, FaultAt>
     requires { length bytes.now ≤ size }
-    ensures reads { ReadsOrRunsOut (λ v. views_of v) result (sections_in size bytes.now) }
-    ensures within { StandsWithin result bytes.now }
+    ensures { ReadsFrom (λ v. views_of v) (sections_in size) bytes.now result }
 {
     let mut rest = bytes;
     let mut sections = Vec::new(alloc);

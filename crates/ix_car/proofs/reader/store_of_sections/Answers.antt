@@ -11,13 +11,13 @@ use Rattle.ix_car.proofs.reader.store_of_sections.Goals as goal
 pub loop-rest-init : goal.loop-rest-init
 loop-rest-init c = record { within = omega arith; end = c.requires; goes_on = rw c.new-store.ensures (GoesOn-first c.args.sections.now) }
 
-pub returns-in_err-cid-clause-reads : goal.returns-in_err-cid-clause-reads
-returns-in_err-cid-clause-reads c =
+pub returns-in_err-cid : goal.returns-in_err-cid
+returns-in_err-cid c =
     let p = err_from_is_err_and c.from_residual.result c.from_residual.ensures.1 in
     let whole = sections_at (length c.args.sections.now) [] c.args.sections.now in
     let some : 0 < length c.loop-rest.rest.now = search rules in
     rw (p.1, p.2)
-    (FailsAs-along c.in_err-cid.field-0.0.kind c.in_err-cid.field-0.0.left (section_at c.loop-rest.rest.now) whole (GoesOn-fails c.loop-rest.store c.loop-rest.rest.now whole some c.loop-rest.invariant.goes_on) c.in_err-cid.ensures.reads)
+    (FailsAs-along c.in_err-cid.field-0.0.kind c.in_err-cid.field-0.0.left (section_at c.loop-rest.rest.now) whole (GoesOn-fails c.loop-rest.store c.loop-rest.rest.now whole some c.loop-rest.invariant.goes_on) c.in_err-cid.ensures.reads.0, omega (arith, c.in_err-cid.ensures.reads.1, c.loop-rest.invariant.within))
 
 pub overflow_sub-start-in-loop-rest : goal.overflow_sub-start-in-loop-rest
 overflow_sub-start-in-loop-rest c =
@@ -41,11 +41,11 @@ loop-rest-preserved c =
     record {
       within = omega (arith, c.in_ok-cid.ensures.shorter);
       end = end-behind c.in_ok-cid.block.now c.in_ok-cid.after.now file lies;
-      goes_on = rw added (GoesOn-more c.loop-rest.store c.loop-rest.rest.now whole s some c.in_ok-cid.ensures.reads c.loop-rest.invariant.goes_on);
+      goes_on = rw added (GoesOn-more c.loop-rest.store c.loop-rest.rest.now whole s some c.in_ok-cid.ensures.reads.0 c.loop-rest.invariant.goes_on);
     }
 
-pub returns-clause-reads : goal.returns-clause-reads
-returns-clause-reads c =
+pub returns : goal.returns
+returns c =
     let whole = sections_at (length c.args.sections.now) [] c.args.sections.now in
     let none : length c.loop-rest.rest.now ≡ 0 = search rules in
-    GoesOn-last c.loop-rest.store c.loop-rest.rest.now whole none c.loop-rest.invariant.goes_on
+    (GoesOn-last c.loop-rest.store c.loop-rest.rest.now whole none c.loop-rest.invariant.goes_on, tt)

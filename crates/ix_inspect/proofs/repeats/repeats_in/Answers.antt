@@ -1,5 +1,6 @@
 use Rattle.std.proofs.Common.{◌≡◌, ℕ, ◌+◌, ◌<◌, true, false, sym, ◌∙◌, ap, length, get_or, arith}
 use Rattle.std.specs.Prelude.{◌==◌}
+use Rattle.std.specs.NonZero.{non_zero_usize_get}
 use Rattle.std.proofs.lemmas.List.{length-map}
 use Rattle.std.proofs.lemmas.Bool.{eq-eqb, ne_eqb}
 use Rattle.ix_car.specs.declared.reader.sections.Section.{Section}
@@ -11,7 +12,7 @@ use Rattle.ix_inspect.proofs.repeats.repeats_in.Goals.{then-share_of-share+in_ok
 
 pub loop-section-preserved : goal.loop-section-preserved
 loop-section-preserved c =
-    let n = c.args.shares in
+    let n = non_zero_usize_get c.args.shares in
     let t = c.args.share in
     let cids = cids_of c.args.sections.now in
     let i = c.loop-section.section-index in

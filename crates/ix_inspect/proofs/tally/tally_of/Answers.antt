@@ -1,6 +1,6 @@
 use Rattle.std.proofs.Common.{◌∷◌, ◌++◌, take, arith}
 use Rattle.std.proofs.lemmas.Grind.{common_steps}
-use Rattle.ix_inspect.proofs.Runs.{if_any-more, unwrap-if_any, run-behind, times-run}
+use Rattle.ix_inspect.proofs.Runs.{if_any-more, unwrap-if_any, run-behind, code_count-run}
 use Rattle.ix_inspect.proofs.tally.tally_of.Goals as goal
 
 pub loop-code-preserved : goal.loop-code-preserved
@@ -11,5 +11,5 @@ loop-code-preserved c =
     let run = c.run_of-run.result in (
       done ++ code ∷ take run behind,
       run-behind done code behind run _ _ _ c.in-Some.ensures.cases.0 c.split_at.ensures.back c.loop-code.invariant.1,
-      λ q. grind (arith, common_steps, if_any-more, unwrap-if_any, times-run q done code behind run c.run_of-run.ensures.alike, c.loop-code.invariant.2 q),
+      λ q. grind (arith, common_steps, if_any-more, unwrap-if_any, code_count-run q done code behind run c.run_of-run.ensures.alike, c.loop-code.invariant.2 q),
     )

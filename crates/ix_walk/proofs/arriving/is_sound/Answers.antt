@@ -5,13 +5,13 @@ use Rattle.ix_walk.proofs.Goes.{sound_absent, sound_stored}
 use Rattle.ix_walk.proofs.arriving.is_sound.Goals as goal
 
 pub agrees-requires : goal.agrees-requires
-agrees-requires c = place_within c.in-Some-block.place c.args.store.now c.args.cid.now (sym c.in-Some-block.is ∙ c.requires)
+agrees-requires c = place_within c.in-Some-block.place c.args.store.now c.args.visit.now.cid (sym c.in-Some-block.is ∙ c.requires)
 
 pub returns-in-None : goal.returns-in-None
 returns-in-None c =
-    sound_absent c.args.store.now c.args.cid.now c.in-Some.function c.in-Sha2_256.is (sym c.in-Some.is ∙ c.hash_function.ensures ∙ ap hash_function_of c.parts-parts.ensures) (sym c.in-None.is ∙ c.requires)
+    sound_absent c.args.store.now c.args.visit.now.cid c.in-Some.function c.in-Sha2_256.is (sym c.in-Some.is ∙ c.hash_function.ensures ∙ ap hash_function_of c.parts-parts.ensures) (sym c.in-None.is ∙ c.requires)
 
 pub returns-in-Some-block : goal.returns-in-Some-block
 returns-in-Some-block c =
-    sound_stored c.args.store.now c.args.cid.now c.in-Some.function c.in-Some-block.place c.agrees.result c.in-Sha2_256.is (sym c.in-Some.is ∙ c.hash_function.ensures ∙ ap hash_function_of c.parts-parts.ensures)
+    sound_stored c.args.store.now c.args.visit.now.cid c.in-Some.function c.in-Some-block.place c.agrees.result c.in-Sha2_256.is (sym c.in-Some.is ∙ c.hash_function.ensures ∙ ap hash_function_of c.parts-parts.ensures)
     (sym c.in-Some-block.is ∙ c.requires) c.agrees.ensures

@@ -33,7 +33,7 @@ returns-then-taken-length g c =
     let d = c.args.delivery in
     let head = c.as_slice-head.result.now in
     let block = c.bytes-block.result.now in
-    let text : head ++ block ≡ text_due a.store.now a.deliveries d = section-text a.store.now a.deliveries d c.args.place head block (subst (λ v. is_below (cut_behind v.deliveries) d.visit.depth ≡ false) (sym c.self.view_is) c.requires.uncut)
+    let text : head ++ block ≡ text_due a.store.now a.deliveries d = section-text a.store.now a.deliveries d c.args.place head block (subst (λ v. is_below (cut_behind v.deliveries) d.visit.depth ≡ false) (sym c.self.view_is) c.requires.kept.1)
     (subst (λ v. place_due v.store (kept v.deliveries) d ≡ Some c.args.place) (sym c.self.view_is) c.requires.due) c.bytes-block.ensures
     (c.as_slice-head.ensures.value ∙ at-ok c.set_section_head.result c.is_err.result c.set_section_head.ensures c.is_err.ensures.value c.if-is_err.false) in
     let short : c.write_section-taken.result < length (head ++ block) = omega (arith, length-append head block, c.if-taken-length.true) in
@@ -45,7 +45,7 @@ invariant_of-self-2 g c =
     let d = c.args.delivery in
     let within : c.saturating_add-self-inside.result ≤ 2 ^ 64 - 1 = omega (arith, c.saturating_add-self-inside.ensures) in
     tally-section a.store.now a.deliveries c.note.new.self (option_to_list a.failed) (option_to_list a.closed) d a.cut a.counts c.one_more-self-inside.result c.one_more-self-inside-2.result c.one_more-self-inside-3.result c.saturating_add-self-inside.result c.args.place a.written c.insert.new.self a.skips.items c.self.invariant
-    (subst (λ v. is_below (cut_behind v.deliveries) d.visit.depth ≡ false) (sym c.self.view_is) c.requires.uncut)
+    (subst (λ v. is_below (cut_behind v.deliveries) d.visit.depth ≡ false) (sym c.self.view_is) c.requires.kept.1)
     (subst (λ v. place_due v.store (kept v.deliveries) d ≡ Some c.args.place) (sym c.self.view_is) c.requires.due)
     (at-ok c.insert.result c.is_err-2.result c.insert.ensures.inserted c.is_err-2.ensures.value c.if-is_err-2.false)
     c.note.ensures c.one_more-self-inside.ensures c.one_more-self-inside-2.ensures c.one_more-self-inside-3.ensures within
@@ -56,10 +56,10 @@ returns g c =
     let d = c.args.delivery in
     let head = c.as_slice-head.result.now in
     let block = c.bytes-block.result.now in
-    let text : head ++ block ≡ text_due a.store.now a.deliveries d = section-text a.store.now a.deliveries d c.args.place head block (subst (λ v. is_below (cut_behind v.deliveries) d.visit.depth ≡ false) (sym c.self.view_is) c.requires.uncut)
+    let text : head ++ block ≡ text_due a.store.now a.deliveries d = section-text a.store.now a.deliveries d c.args.place head block (subst (λ v. is_below (cut_behind v.deliveries) d.visit.depth ≡ false) (sym c.self.view_is) c.requires.kept.1)
     (subst (λ v. place_due v.store (kept v.deliveries) d ≡ Some c.args.place) (sym c.self.view_is) c.requires.due) c.bytes-block.ensures
     (c.as_slice-head.ensures.value ∙ at-ok c.set_section_head.result c.is_err.result c.set_section_head.ensures c.is_err.ensures.value c.if-is_err.false) in
     let within : c.write_section-taken.result ≤ length (head ++ block) = omega (arith, length-append head block, c.write_section-taken.ensures.within) in
     let whole : length (head ++ block) ≤ c.write_section-taken.result = omega (arith, length-append head block, c.if-taken-length.false) in
     rw (← c.self.view_is) (adds-section g.W.Write.contents d a.store.now a.job.value.roots a.deliveries c.note.new.self (option_to_list a.failed) (option_to_list a.closed) a.counts.bytes c.saturating_add-self-inside.result c.write_section-taken.result a.writer c.write_section-taken.new.writer (head ++ block) (text_due a.store.now a.deliveries d)
-    (subst (λ v. v.failed ≡ []) (sym c.self.view_is) c.requires.unfailed) c.note.ensures text within whole c.write_section-taken.ensures.grown c.saturating_add-self-inside.ensures)
+    (subst (λ v. v.failed ≡ []) (sym c.self.view_is) c.requires.kept.0) c.note.ensures text within whole c.write_section-taken.ensures.grown c.saturating_add-self-inside.ensures)

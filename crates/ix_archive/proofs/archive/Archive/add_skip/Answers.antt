@@ -14,7 +14,7 @@ invariant_of-self-2 g c =
     let skip : Skip = record { seq = d.visit.seq; cid = d.visit.cid; verdict = d.verdict } in
     let skipped : c.push_reserved.new.self.items ≡ a.skips.items ++ skip ∷ [] = ◌∙◌ {A = List Skip} c.push_reserved.ensures.items (ap (λ (l : List Skip). l ++ skip ∷ []) c.reserve.ensures.items) in
     tally-skip a.store.now a.deliveries c.note.new.self (option_to_list a.failed) (option_to_list a.closed) d a.cut a.counts c.one_more-self-inside.result c.one_more-self-inside-2.result a.written a.skips.items c.push_reserved.new.self.items c.self.invariant
-    (subst (λ v. is_below (cut_behind v.deliveries) d.visit.depth ≡ false) (sym c.self.view_is) c.requires.uncut)
+    (subst (λ v. is_below (cut_behind v.deliveries) d.visit.depth ≡ false) (sym c.self.view_is) c.requires.kept.1)
     c.requires.refused
     c.note.ensures skipped c.one_more-self-inside.ensures c.one_more-self-inside-2.ensures
 
@@ -24,4 +24,4 @@ returns g c =
     let d = c.args.delivery in
     let within : a.counts.bytes ≤ 2 ^ 64 - 1 = omega arith in
     rw (← c.self.view_is) (adds-nothing g.W.Write.contents d a.store.now a.job.value.roots a.deliveries c.note.new.self (option_to_list a.failed) (option_to_list a.closed) a.counts.bytes a.writer
-    (subst (λ v. v.failed ≡ []) (sym c.self.view_is) c.requires.unfailed) within c.note.ensures)
+    (subst (λ v. v.failed ≡ []) (sym c.self.view_is) c.requires.kept.0) within c.note.ensures)

@@ -10,7 +10,7 @@ invariant_of-self g c =
     let a = c.self.inside in
     let d = c.args.delivery.now in
     tally-repeat a.store.now a.deliveries c.note.new.self (option_to_list a.failed) (option_to_list a.closed) d a.cut a.counts c.one_more-self-inside.result c.one_more-self-inside-2.result a.written a.skips.items c.self.invariant
-    (subst (λ v. is_below (cut_behind v.deliveries) d.visit.depth ≡ false) (sym c.self.view_is) c.requires.uncut)
+    (subst (λ v. is_below (cut_behind v.deliveries) d.visit.depth ≡ false) (sym c.self.view_is) c.requires.kept.1)
     c.requires.passing
     (subst (λ v. place_due v.store (kept v.deliveries) d ≡ None) (sym c.self.view_is) c.requires.none_due)
     c.note.ensures c.one_more-self-inside.ensures c.one_more-self-inside-2.ensures

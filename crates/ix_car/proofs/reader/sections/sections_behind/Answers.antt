@@ -9,14 +9,16 @@ use Rattle.ix_car.proofs.reader.sections.sections_behind.Goals as goal
 pub loop-rest-init : goal.loop-rest-init
 loop-rest-init c = record { within = omega arith; goes_on = rw c.new-sections.ensures.items (ListGoesOn-first c.args.size c.args.bytes.now) }
 
-pub returns-in_err-cid-clause-reads : goal.returns-in_err-cid-clause-reads
-returns-in_err-cid-clause-reads c =
+pub returns-in_err-cid : goal.returns-in_err-cid
+returns-in_err-cid c =
     let p = err_from_is_err_and c.from_residual.result c.from_residual.ensures.1 in
     let whole = sections_behind c.args.size (length c.args.bytes.now) [] c.args.bytes.now in
     let some : 0 < length c.loop-rest.rest.now = search rules in
-    rw (p.1, p.2)
-    (FailsAs-of c.in_err-cid.field-0.0.kind c.in_err-cid.field-0.0.left whole
-    (ListGoesOn-fails c.args.size (map section_of c.loop-rest.sections.items) c.loop-rest.rest.now whole some c.loop-rest.invariant.goes_on _ c.in_err-cid.ensures.reads))
+    rw (p.1, p.2) (
+      FailsAs-of c.in_err-cid.field-0.0.kind c.in_err-cid.field-0.0.left whole
+          (ListGoesOn-fails c.args.size (map section_of c.loop-rest.sections.items) c.loop-rest.rest.now whole some c.loop-rest.invariant.goes_on _ c.in_err-cid.ensures.reads),
+      omega (arith, c.in_err-cid.ensures.within, c.loop-rest.invariant.within),
+    )
 
 pub loop-rest-preserved : goal.loop-rest-preserved
 loop-rest-preserved c =
@@ -29,8 +31,8 @@ loop-rest-preserved c =
       goes_on = rw e (ListGoesOn-more c.args.size (map section_of c.loop-rest.sections.items) c.loop-rest.rest.now whole s some c.in_ok-cid.ensures.reads c.loop-rest.invariant.goes_on);
     }
 
-pub returns-clause-reads : goal.returns-clause-reads
-returns-clause-reads c =
+pub returns : goal.returns
+returns c =
     let whole = sections_behind c.args.size (length c.args.bytes.now) [] c.args.bytes.now in
     let none : length c.loop-rest.rest.now ≡ 0 = search rules in
-    ListGoesOn-last c.args.size (map section_of c.loop-rest.sections.items) c.loop-rest.rest.now whole none c.loop-rest.invariant.goes_on
+    (ListGoesOn-last c.args.size (map section_of c.loop-rest.sections.items) c.loop-rest.rest.now whole none c.loop-rest.invariant.goes_on, tt)
