@@ -7,9 +7,9 @@ use ix_cbor::{CborKind, Node, Tree, decode};
 use ix_jobs::JobsKind;
 use std::alloc::Global;
 
-// What stands at a place of the data of a selector.
+// What a part of a selector's data is.
 #[derive(Debug, Drop, Clone, Copy, PartialEq, Eq)]
-enum Place {
+enum SelectorPart {
     Selector,
     // Behind `a`, `i` and `r`: a map in which a selector stands behind `>`.
     Step,
@@ -39,7 +39,7 @@ struct Seen {
 pub fn lacks_an_edge(alloc: Global, selector: &SelectorWord<'_>) -> Result<bool, LineFault> {
     let line = hex_line(alloc, selector)?;
     let tree = tree_of(alloc, line.as_str().trim_end())?;
-    Ok(seen_in(tree.root(), Place::Selector).lacks_edge)
+    Ok(seen_in(tree.root(), SelectorPart::Selector).lacks_edge)
 }
 
 // The tree of a block in hexadecimal.
@@ -56,49 +56,51 @@ fn tree_of(alloc: Global, text: &str) -> Result<Tree, LineFault> {
     }
 }
 
-// What is seen of the data at a place.
-fn seen_in(node: &Node, place: Place) -> Seen {
+// What is seen of the data that this part is.
+fn seen_in(node: &Node, part: SelectorPart) -> Seen {
     let mut seen = Seen {
-        has_edge: place == Place::Edge,
+        has_edge: part == SelectorPart::Edge,
         lacks_edge: false,
     };
     match node {
         Node::Map(entries) => {
             for (key, value) in entries {
-                seen = seen.and(seen_in(value, place.behind(key.as_slice())));
+                seen = seen.and(seen_in(value, part.behind(key.as_slice())));
             }
         }
         Node::List(members) => {
             for member in members {
-                seen = seen.and(seen_in(member, place.of_members()));
+                seen = seen.and(seen_in(member, part.of_members()));
             }
         }
         _ => {}
     }
-    seen.from_outside(place)
+    seen.from_outside(part)
 }
 
-impl Place {
-    // What stands behind a key of a map at this place.
-    fn behind(self, key: &[u8]) -> Place {
+impl SelectorPart {
+    // The part behind a key of this one, where it is a map.
+    fn behind(self, key: &[u8]) -> SelectorPart {
         match (self, key) {
-            (Place::Selector, b"a" | b"i" | b"r") => Place::Step,
-            (Place::Selector, b"f") => Place::Fields,
-            (Place::Selector, b"R") => Place::Recursion,
-            (Place::Selector, b"|") => Place::Members,
-            (Place::Selector, b"@") => Place::Edge,
-            (Place::Selector, b"selector") => Place::Selector,
-            (Place::Step, b">") | (Place::Recursion, b":>") | (Place::Names, _) => Place::Selector,
-            (Place::Fields, b"f>") => Place::Names,
-            _ => Place::Other,
+            (SelectorPart::Selector, b"a" | b"i" | b"r") => SelectorPart::Step,
+            (SelectorPart::Selector, b"f") => SelectorPart::Fields,
+            (SelectorPart::Selector, b"R") => SelectorPart::Recursion,
+            (SelectorPart::Selector, b"|") => SelectorPart::Members,
+            (SelectorPart::Selector, b"@") => SelectorPart::Edge,
+            (SelectorPart::Selector, b"selector") => SelectorPart::Selector,
+            (SelectorPart::Step, b">")
+            | (SelectorPart::Recursion, b":>")
+            | (SelectorPart::Names, _) => SelectorPart::Selector,
+            (SelectorPart::Fields, b"f>") => SelectorPart::Names,
+            _ => SelectorPart::Other,
         }
     }
 
-    // What a member of a list at this place is.
-    fn of_members(self) -> Place {
+    // The part that each member of this one is, where it is a list.
+    fn of_members(self) -> SelectorPart {
         match self {
-            Place::Members => Place::Selector,
-            _ => Place::Other,
+            SelectorPart::Members => SelectorPart::Selector,
+            _ => SelectorPart::Other,
         }
     }
 }
@@ -112,10 +114,10 @@ impl Seen {
         }
     }
 
-    // What is seen of a part at a place from outside of it: the edges inside a recursion are its own.
-    fn from_outside(self, place: Place) -> Seen {
-        match place {
-            Place::Recursion => Seen {
+    // What is seen of a part from outside of it: the edges inside a recursion are its own.
+    fn from_outside(self, part: SelectorPart) -> Seen {
+        match part {
+            SelectorPart::Recursion => Seen {
                 has_edge: false,
                 lacks_edge: self.lacks_edge || !self.has_edge,
             },

@@ -22,8 +22,8 @@ use Rattle.ix_run.specs.declared.fault.RunFault.TheVariants.{Hex, Root, Car, Job
 use Rattle.ix_run.specs.declared.execution.RunOut.{RunOut}
 
 -- a run can be begun: there is a writer for each job, and there are at most 1,000
-abbrev pub CanRun : {W : Type 0} → Arc (Vec JobMeaning) Global → List W → Type 0
-CanRun jobs writers = (length writers ≡ length (arc_value jobs).items) × AreFew (arc_value jobs).items
+abbrev pub CanRun : {W : Type 0} → List JobMeaning → List W → Type 0
+CanRun jobs writers = (length writers ≡ length jobs) × AreFew jobs
 
 -- The end that is told of a job: that of its close, or a failed write, where the last bytes of a whole archive couldn't be flushed.
 abbrev pub IsEndOf : End → End → Type 0

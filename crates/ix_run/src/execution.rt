@@ -1,10 +1,9 @@
 //! A run: every job's archive, the report and the status.
 
-ghost use Rattle.std.specs.Prelude.{◌≡◌, [], length, map, vec_len, IfOk, IfErr};
+ghost use Rattle.std.specs.Prelude.{◌≡◌, length, map, vec_len, IfOk, IfErr};
 ghost use Rattle.std.specs.Arc.{arc_value};
 ghost use Rattle.std.specs.Io.KnownBytes.{Keeps};
-ghost use Rattle.ix_walk.specs.JobMeaning.{AreFew};
-ghost use Rattle.ix_pipeline.specs.Headline.{EachUnused};
+ghost use Rattle.ix_archive.specs.Headline.{EachUnused, IsUnusedCheck};
 ghost use Rattle.ix_pipeline.specs.Planned.{IsPlan};
 ghost use Rattle.ix_run.specs.Run.{
   CanRun,
@@ -55,7 +54,7 @@ pub fn run<R: Threads + Wait + Sync, W: Write + Drop>(
     verifiers: u32,
     plan: Plan,
 ) -> Result<RunOut<W>, RunFault>
-    requires run { CanRun jobs.now writers.items }
+    requires run { CanRun (arc_value jobs.now).items writers.items }
     requires plan { IsPlan plan verifiers }
     ensures ran { RunsTo W.contents store.now jobs.now writers.items result }
     ensures refused { IfErr result (λ fault. IsRunRefusal (arc_value jobs.now).items fault) }
@@ -88,7 +87,7 @@ pub fn run_watched<R: Threads + Wait + Sync, W: Write + Drop, V: Watch>(
     writers: Vec<W>,
     watch: &V,
 ) -> Result<RunOut<W>, RunFault>
-    requires run { CanRun input.jobs.now writers.items }
+    requires run { CanRun (arc_value input.jobs.now).items writers.items }
     requires plan { IsPlan input.plan input.verifiers }
     ensures ran { RunsTo W.contents
         input.entry.store.now input.entry.jobs.now writers.items result }
@@ -161,9 +160,8 @@ pub fn run_jobs<W: Write + Drop, C: Check>(
     writers: Vec<W>,
     check: &mut C,
 ) -> Result<(Vec<JobResult>, Vec<W>), RunFault>
-    requires unused { C.checked check.old ≡ [] }
-    requires writers { length writers.items ≡ length jobs.now }
-    requires jobs { AreFew jobs.now }
+    requires unused { IsUnusedCheck C.checked check.old }
+    requires run { CanRun jobs.now writers.items }
     ensures ran { IfOk result (λ out. HaveRun W.contents store.now jobs.now writers.items out) }
     ensures refused { IfErr result (λ fault. IsRunRefusal jobs.now fault) }
 {
@@ -181,8 +179,7 @@ fn begun<'a, W: Write + Drop, V: Watch>(
     writers: Vec<W>,
     watch: &'a V,
 ) -> Result<Vec<Watched<'a, W, V>>, RunFault>
-    requires writers { length writers.items ≡ length jobs.now }
-    requires jobs { AreFew jobs.now }
+    requires { CanRun jobs.now writers.items }
     ensures begun { IfOk result (λ archives.
         EachBegun W.contents store.now jobs.now writers.items archives.items) }
     ensures refused { IfErr result (λ fault. IsRunRefusal jobs.now fault) }

@@ -92,24 +92,17 @@ fn judge_each<R: Threads + Sync>(
     );
 }
 
-// The verdict on the section at a place.
+// The verdict on the section at a place. Where there is a store, it may stand at that place there too.
 fn judge_at(alloc: Global, store: Option<&Store>, sections: &[Section<'_>], place: usize) -> Verdict
     requires { place < length sections.now }
     ensures { slice_get (map verdict_in sections.now) place ≡ Some result }
 {
     let section = &sections[place];
-    match store {
-        Some(store) => judge_in(alloc, store, place, section),
-        None => judge(section),
-    }
-}
-
-// The verdict on a section, which may stand at this place of a store.
-fn judge_in(alloc: Global, store: &Store, guess: usize, section: &Section<'_>) -> Verdict
-    ensures { result ≡ verdict_in section.now }
-{
-    match place_in(alloc, store, guess, section) {
-        Some(place) => judge_stored(store, place, section),
+    let Some(store) = store else {
+        return judge(section);
+    };
+    match place_in(alloc, store, place, section) {
+        Some(stored) => judge_stored(store, stored, section),
         None => judge(section),
     }
 }

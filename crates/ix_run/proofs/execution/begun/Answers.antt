@@ -35,7 +35,7 @@ overflow_cast-result g c =
     let writer_of = λ (p : Bor JobMeaning × g.row.W.Denot). p.1 in
     let many : length c.loop-job.archives.items ≡ length ys = begun-length g.W.Write.contents c.args.store.now (map job_of ys) (map writer_of ys) c.loop-job.archives.items was.begun ∙ length-map ys job_of in
     let within : length ys < length c.args.jobs.now = room job_of c.args.jobs.now ys (iter_rest c.loop-job.job-iterator.a) (iter_rest c.next.new.self.a) x was.jobs c.in-Some.ensures.steps.0 in
-    omega (arith, c.loop-job.archives.ok.0, c.len.ensures, c.requires.jobs)
+    omega (arith, c.loop-job.archives.ok.0, c.len.ensures, c.requires.1)
 
 pub returns-in-Err-Write-clause-refused : goal.returns-in-Err-Write-clause-refused
 returns-in-Err-Write-clause-refused g c =
@@ -57,6 +57,6 @@ returns-clause-begun g c =
     let left = iter_rest c.loop-job.job-iterator.a in
     let writers_left = into_iter_items c.loop-job.job-iterator.b in
     let over : (length left ≡ 0) ⊎ (length writers_left ≡ 0) = elim c.in-None.ensures.steps as (λ _. (length left ≡ 0) ⊎ (length writers_left ≡ 0)) [ inl h ↦ inl h.1.0 | inr h ↦ inr (sym was.sized ∙ h.1.0) ] in
-    let all = all_taken job_of writer_of c.args.jobs.now c.args.writers.items ys left writers_left was.jobs was.writers (sym c.requires.writers) over in
+    let all = all_taken job_of writer_of c.args.jobs.now c.args.writers.items ys left writers_left was.jobs was.writers (sym c.requires.0) over in
     subst (λ l. EachBegun g.W.Write.contents c.args.store.now l c.args.writers.items c.loop-job.archives.items) all.0
     (subst (λ l. EachBegun g.W.Write.contents c.args.store.now (map job_of ys) l c.loop-job.archives.items) all.1 was.begun)
