@@ -6,7 +6,7 @@ use Rattle.ix_store.specs.Store.{Blocks}
 use Rattle.ix_walk.specs.JobMeaning.{JobMeaning}
 use Rattle.ix_archive.specs.declared.sink.Delivery.{Delivery}
 use Rattle.ix_archive.specs.Events.{Event}
-use Rattle.ix_archive.specs.Headline.{EachDelivered, EachFresh, EachKept, Fact, IsCheckedOnce, NoneOrAllStart, checked_by, visit_count}
+use Rattle.ix_archive.specs.Headline.{EachDelivered, EachKept, Fact, IsCheckedOnce, NoneOrAllStart, checked_by, visit_count}
 use Rattle.ix_handover.specs.Claims.{IsOfClaims}
 use Rattle.ix_handover.specs.Course.{course_of}
 use Rattle.ix_stages.specs.declared.shared.Shared.{Shared}
@@ -21,6 +21,7 @@ use Rattle.ix_flow.specs.declared.flowing.FlowResult.{FlowResult}
 use Rattle.ix_flow.specs.declared.verifying.Began.{Began}
 use Rattle.ix_flow.specs.declared.verifying.UnstartedVerifier.{UnstartedVerifier}
 use Rattle.ix_flow.specs.declared.verifying.Verifier.{Verifier}
+use Rattle.ix_flow.specs.Sinks.{AreFreshSinks}
 use Rattle.ix_flow.specs.Verifiers.{IsUnstarted, IsBegan, HasRunningRoom, HasJoinRoom}
 
 module _ {S C G : Type 0} (events : S → List Event) (failed : S → List Delivery) (fact : Fact S) (checked : C → List (ℕ × ℕ)) (x : Task G) (first sinks : List S) where
@@ -73,5 +74,4 @@ pub record CanFlow {C G : Type 0} (checked : C → List (ℕ × ℕ)) (x : Share
 -- the same, with sinks that were told nothing
 pub record CanFlowTo {S C G : Type 0} (events : S → List Event) (failed : S → List Delivery) (checked : C → List (ℕ × ℕ)) (x : Shared G) (sinks : List S) (w : Inputs C) : Type 0 where
   pub can : CanFlow checked x w
-  pub sized : length sinks ≡ length (jobs_of x)
-  pub fresh : EachFresh events failed sinks
+  pub fresh : AreFreshSinks events failed (length (jobs_of x)) sinks

@@ -5,5 +5,6 @@ pub mod Joined
 pub mod Stopping
 pub mod Gathered
 pub mod Closed
+pub mod Sinks
 pub mod Flowing
 pub mod Prepared

@@ -1,17 +1,17 @@
 //! Exports of which nothing is delivered, since no thread could be started.
 
-ghost use Rattle.std.specs.Prelude.{◌≡◌, ◌≤◌, [], length, vec_capacity};
+ghost use Rattle.std.specs.Prelude.{◌≡◌};
 ghost use Rattle.ix_archive.specs.declared.sink.End.TheVariants.{Start};
-ghost use Rattle.ix_archive.specs.Headline.{EachFresh, EachKept};
+ghost use Rattle.ix_archive.specs.Headline.{EachKept};
 ghost use Rattle.ix_flow.specs.Closed.{EachClosed};
+ghost use Rattle.ix_flow.specs.Sinks.{CanCloseAll};
 
 use crate::flowing::Outcome;
 use ix_archive::{End, Sink};
 
 // Closes every sink with one end.
 fn close_all<S: Sink>(sinks: &mut [S], end: End, ends: Vec<End>) -> Vec<End>
-    requires room { (ends.items ≡ []) × (length sinks.old ≤ vec_capacity ends) }
-    requires fresh { EachFresh S.events S.failed sinks.old }
+    requires { CanCloseAll S.events S.failed sinks.old ends }
     ensures closed { EachClosed S.events S.failed end result.items sinks.new }
     ensures facts { EachKept S.fact sinks.old sinks.new }
 {
@@ -25,8 +25,7 @@ fn close_all<S: Sink>(sinks: &mut [S], end: End, ends: Vec<End>) -> Vec<End>
 
 /// Closes every sink with Start.
 pub(crate) fn unexported<S: Sink, C>(sinks: &mut [S], checks: Vec<C>, ends: Vec<End>) -> Outcome<C>
-    requires room { (ends.items ≡ []) × (length sinks.old ≤ vec_capacity ends) }
-    requires fresh { EachFresh S.events S.failed sinks.old }
+    requires { CanCloseAll S.events S.failed sinks.old ends }
     ensures closed { EachClosed S.events S.failed Start result.ends.items sinks.new }
     ensures checks { result.checks ≡ checks }
     ensures facts { EachKept S.fact sinks.old sinks.new }

@@ -1,13 +1,13 @@
 //! The caller's part: it receives while the threads run, stops the verifiers, and receives what is
 //! left.
 
-ghost use Rattle.std.specs.Prelude.{◌≡◌, [], length};
-ghost use Rattle.ix_archive.specs.Headline.{EachFresh};
+ghost use Rattle.std.specs.Prelude.{◌≡◌, []};
 ghost use Rattle.ix_handover.specs.Lanes.{EachLane, all_received, all_sent};
 ghost use Rattle.ix_handover.specs.Queue.{IsOfQueue};
 ghost use Rattle.ix_collect.specs.Collected.{job_count, IsDone, IsUnused};
 ghost use Rattle.ix_collect.specs.Collecting.{GoesOn, HasCollected};
 ghost use Rattle.ix_flow.specs.Gathered.{Gathers, IsTold};
+ghost use Rattle.ix_flow.specs.Sinks.{AreFreshSinks};
 ghost use Rattle.ix_flow.specs.Stopping.{CanStop, IsSeatOf};
 
 use ix_archive::Sink;
@@ -126,9 +126,8 @@ pub(crate) fn gather<R: Wait, S: Sink>(
     sinks: &mut [S],
 ) -> StopSeat
     requires stop { CanStop stopper }
-    requires jobs { length sinks.old ≡ job_count collector.old }
+    requires sinks { AreFreshSinks S.events S.failed (job_count collector.old) sinks.old }
     requires unused { IsUnused collector.old × (all_received outs.old ≡ []) }
-    requires fresh { EachFresh S.events S.failed sinks.old }
     ensures stop { IsSeatOf stopper.entry.seat result }
     ensures on { Gathers S.events S.failed S.fact
         collector.old collector.new outs.old outs.new sinks.old sinks.new }

@@ -1,11 +1,12 @@
 //! The flow: threads in a scope, and the caller collects while they run.
 
 ghost use Rattle.std.specs.Prelude.{◌≡◌, [], length, vec_len};
-ghost use Rattle.ix_archive.specs.Headline.{EachFresh, EachUnused};
+ghost use Rattle.ix_archive.specs.Headline.{EachUnused};
 ghost use Rattle.ix_handover.specs.Lanes.{all_received};
 ghost use Rattle.ix_flow.specs.Flowing.{AllBegan, IsFlown, IsFlownTo, CanFlowTo, IsCallerIn};
 ghost use Rattle.ix_flow.specs.Verifiers.{EachOut};
 ghost use Rattle.ix_flow.specs.Prepared.{IsPrepared};
+ghost use Rattle.ix_flow.specs.Sinks.{AreFreshSinks};
 
 use crate::closing::unexported;
 use crate::collecting::{Stopper, gather, receive_rest, stop_idle};
@@ -66,8 +67,7 @@ fn stop_early<R: Threads + Wait, S: Sink, C: Check + Drop, G>(
 ) -> Outcome<C>
     requires began { AllBegan C.checked shared.now handles.items }
     requires caller { IsCallerIn shared.now (vec_len handles) caller }
-    requires sinks { length sinks.old ≡ length shared.now.task.now.jobs.now }
-    requires fresh { EachFresh S.events S.failed sinks.old }
+    requires sinks { AreFreshSinks S.events S.failed (length shared.now.task.now.jobs.now) sinks.old }
     ensures { IsFlown S.events S.failed S.fact C.checked shared.now.task.now
         sinks.old sinks.new result }
 {
@@ -108,8 +108,7 @@ fn collect_all<R: Threads + Wait, S: Sink, C: Check + Drop, G>(
     requires lanes { EachOut running.handles.items running.outs.items }
     requires none { all_received running.outs.items ≡ [] }
     requires caller { IsCallerIn shared.now (vec_len running.handles) caller }
-    requires sinks { length sinks.old ≡ length shared.now.task.now.jobs.now }
-    requires fresh { EachFresh S.events S.failed sinks.old }
+    requires sinks { AreFreshSinks S.events S.failed (length shared.now.task.now.jobs.now) sinks.old }
     ensures { IsFlown S.events S.failed S.fact C.checked shared.now.task.now
         sinks.old sinks.new result }
 {
@@ -229,8 +228,7 @@ where
     R: Threads + Wait + Sync,
     requires prepared { IsPrepared task.now.store.now task.now.jobs.now (vec_len checks) prepared }
     requires unused { EachUnused C.checked checks.items }
-    requires sinks { length sinks.old ≡ length task.now.jobs.now }
-    requires fresh { EachFresh S.events S.failed sinks.old }
+    requires sinks { AreFreshSinks S.events S.failed (length task.now.jobs.now) sinks.old }
     ensures { IsFlown S.events S.failed S.fact C.checked task.now sinks.old sinks.new result }
 {
     let Prepared {

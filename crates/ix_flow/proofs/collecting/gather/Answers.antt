@@ -11,8 +11,8 @@ collect-requires g c =
     let sinks = c.args.sinks.now in
     let unused = c.requires.unused.0 in
     record {
-      can = record { sinks = c.requires.jobs; may = law.may collector sinks c.requires.jobs unused c.requires.fresh };
-      collected = subst (λ (got : List Verdicted). HasCollected g.S.Sink.events g.S.Sink.failed got collector sinks) (sym c.requires.unused.1) (law.collected collector sinks c.requires.jobs unused c.requires.fresh);
+      can = record { sinks = c.requires.sinks.sized; may = law.may collector sinks c.requires.sinks.sized unused c.requires.sinks.fresh };
+      collected = subst (λ (got : List Verdicted). HasCollected g.S.Sink.events g.S.Sink.failed got collector sinks) (sym c.requires.unused.1) (law.collected collector sinks c.requires.sinks.sized unused c.requires.sinks.fresh);
     }
 
 pub returns-clause-on : goal.returns-clause-on

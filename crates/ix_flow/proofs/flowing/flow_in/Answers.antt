@@ -13,4 +13,4 @@ returns-then-is_empty g c =
     let none : c.unexported.result.checks.items ≡ [] = search rules in
     let once = subst (λ (cs : List g.row.C.Denot). IsEachOnce (checked_by checked cs)) (sym none) tt in
     let within = subst (λ (cs : List g.row.C.Denot). AreOfVisits checked task cs) (sym none) (λ job seq h. absurd (none_in (job, seq) h)) in
-    flown_of_closed g.S.Sink.events g.S.Sink.failed g.S.Sink.fact checked task c.args.sinks.now c.unexported.new.sinks c.unexported.result c.requires.sized e.closed e.facts once within
+    flown_of_closed g.S.Sink.events g.S.Sink.failed g.S.Sink.fact checked task c.args.sinks.now c.unexported.new.sinks c.unexported.result c.requires.fresh.sized e.closed e.facts once within

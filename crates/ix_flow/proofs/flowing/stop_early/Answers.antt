@@ -24,5 +24,5 @@ returns g c =
     let once : IsEachOnce (checked_by g.C.Check.checked checks) = subst (λ (ps : List (ℕ × ℕ)). IsEachOnce ps) (sym joined.checks) (c.good_is_checked_once.ensures.once store jobs got good) in
     let within : AreOfVisits g.C.Check.checked shared.task.now checks = λ job seq h. c.good_is_checked_once.ensures.within store jobs got job seq good (subst (λ (ps : List (ℕ × ℕ)). Contains ps (job, seq)) joined.checks h) in
     let e = c.unexported.ensures in
-    flown_of_closed g.S.Sink.events g.S.Sink.failed g.S.Sink.fact g.C.Check.checked shared.task.now c.args.sinks.now c.unexported.new.sinks c.unexported.result c.requires.sinks e.closed e.facts
+    flown_of_closed g.S.Sink.events g.S.Sink.failed g.S.Sink.fact g.C.Check.checked shared.task.now c.args.sinks.now c.unexported.new.sinks c.unexported.result c.requires.sinks.sized e.closed e.facts
     (subst (λ (cs : Vec g.row.C.Denot). IsEachOnce (checked_by g.C.Check.checked cs.items)) (sym e.checks) once) (subst (λ (cs : Vec g.row.C.Denot). AreOfVisits g.C.Check.checked shared.task.now cs.items) (sym e.checks) within)
