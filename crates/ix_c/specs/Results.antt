@@ -13,7 +13,7 @@ use Rattle.ix_embedding.specs.declared.held.Part.{Part}
 use Rattle.ix_embedding.specs.declared.held.Part.TheVariants as parts
 use Rattle.ix_embedding.specs.Parts.{part_of}
 use Rattle.ix_c.specs.declared.results.Counts.{Counts}
-use Rattle.ix_c.specs.declared.results.Place.{Place}
+use Rattle.ix_c.specs.declared.results.BytesPlace.{BytesPlace}
 use Rattle.ix_c.specs.declared.results.SkipPlace.{SkipPlace}
 use Rattle.ix_c.specs.declared.results.SkipTold.{SkipTold}
 use Rattle.ix_c.specs.declared.status.Status.{Status}
@@ -110,7 +110,7 @@ abbrev pub IsLeft : {A : Type 0} → A → A → Status → Type 0
 IsLeft before after status = status ≢ Done → after ≡ before
 
 -- where bytes stand that were found, known by how many they are; where a skip does, known by what is told of it too
-abbrev pub IsPlaced : Result (List ℕ) Status → Result Place Status → Type 0
+abbrev pub IsPlaced : Result (List ℕ) Status → Result BytesPlace Status → Type 0
 IsPlaced found place = of_found (λ p. p.length) place ≡ of_found length found
 
 abbrev pub IsSkipPlaced : Result Skip Status → Result SkipPlace Status → Type 0

@@ -111,16 +111,16 @@ fn part_numbered(number: u32) -> Option<Part>
 
 // Where bytes begin, and how many they are.
 #[derive(Drop)]
-struct Place {
+struct BytesPlace {
     start: *const u8,
     length: usize,
 }
 
-fn place_of(bytes: &[u8]) -> Place
+fn place_of(bytes: &[u8]) -> BytesPlace
     ensures start { result.start ≡ block_ptr bytes.entry.ref_ptr.0 bytes.entry.ref_ptr.1 }
     ensures length { result.length ≡ length bytes.now }
 {
-    Place {
+    BytesPlace {
         start: start_of(bytes),
         length: bytes.len(),
     }
@@ -130,7 +130,7 @@ fn place_of(bytes: &[u8]) -> Place
 #[derive(Drop)]
 struct SkipPlace {
     told: SkipTold,
-    cid: Place,
+    cid: BytesPlace,
 }
 
 // Has what is told stand where it is wanted, or leaves that, and answers what came of it.
@@ -147,7 +147,11 @@ fn tell<T: Drop>(told: Result<T, Status>, wanted: &mut T) -> Status
 }
 
 // The same of where bytes begin and how many they are.
-fn tell_place(found: Result<Place, Status>, start: &mut *const u8, length: &mut usize) -> Status
+fn tell_place(
+    found: Result<BytesPlace, Status>,
+    start: &mut *const u8,
+    length: &mut usize,
+) -> Status
     ensures told { IsTold (of_found (λ place. place.length) found) length.old length.new result }
     ensures left { IsLeft start.old start.new result }
 {
@@ -199,7 +203,7 @@ pub(crate) fn part_bytes(
 }
 
 // Where the bytes of a part begin and how many they are, if there is such a one.
-fn bytes_of(held: &Held, part: Part) -> Result<Place, Status>
+fn bytes_of(held: &Held, part: Part) -> Result<BytesPlace, Status>
     ensures { IsPlaced (bytes_of part held.now) result }
 {
     match held.bytes(part) {

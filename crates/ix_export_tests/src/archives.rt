@@ -5,7 +5,7 @@ ghost use Rattle.std.specs.Prelude.{◌≡◌, [], length, vec_len, IfOk};
 ghost use Rattle.std.specs.Arc.{arc_value};
 ghost use Rattle.ix_walk.specs.JobMeaning.{AreFew};
 ghost use Rattle.ix_archive.specs.ArchiveMeaning.{events_of};
-ghost use Rattle.ix_pipeline.specs.Headline.{EachFresh, EachUnused};
+ghost use Rattle.ix_archive.specs.Headline.{EachFresh, EachUnused, IsUnusedCheck};
 ghost use Rattle.ix_pipeline.specs.Planned.{IsPlan};
 
 use crate::exporting::{ExportInput, chain, list, plan_of, started};
@@ -70,7 +70,7 @@ impl Before for Held<'_> {
 
 // A check of one side.
 fn check_of<'a>(alloc: Global, meeting: &'a Meeting, is_first: bool) -> CheckAfter<Held<'a>>
-    ensures { result.check ≡ [] }
+    ensures { IsUnusedCheck (λ c. c.check) result }
 {
     CheckAfter::new(alloc, Held { meeting, is_first })
 }

@@ -1,8 +1,9 @@
 //! Runs with a check that finds no memory, and with a writer of a test's own.
 
-ghost use Rattle.std.specs.Prelude.{◌≡◌, [], length, IfOk};
+ghost use Rattle.std.specs.Prelude.{◌≡◌, length, IfOk};
 ghost use Rattle.std.specs.Arc.{arc_value};
-ghost use Rattle.ix_walk.specs.JobMeaning.{AreFew};
+ghost use Rattle.ix_archive.specs.Headline.{IsUnusedCheck};
+ghost use Rattle.ix_run.specs.Run.{CanRun};
 
 use crate::input::{CHAIN_JOBS, chain_car};
 use ix_check::{Check, ShaCheck};
@@ -65,9 +66,8 @@ fn run_two<W: Write + Drop, C: Check>(
     writers: Vec<W>,
     check: &mut C,
 ) -> Result<Ran<W>, Fail>
-    requires unused { C.checked check.old ≡ [] }
-    requires writers { length writers.items ≡ length jobs.now }
-    requires jobs { AreFew jobs.now }
+    requires unused { IsUnusedCheck C.checked check.old }
+    requires run { CanRun jobs.now writers.items }
 {
     let (results, writers) = run_jobs(alloc, store, jobs, writers, check)?;
     let report = report_of(alloc, jobs, results.as_slice())?;

@@ -1,7 +1,7 @@
 //! Exports in which one stage waits for another: delivery goes on while visits are checked, checks
 //! while jobs are walked, and any walker takes any job.
 
-ghost use Rattle.std.specs.Prelude.{◌≡◌, []};
+ghost use Rattle.ix_archive.specs.Headline.{IsUnusedCheck};
 
 use crate::archives::{Left, archived};
 use crate::exporting::{ExportInput, chain, list, plan_of, started};
@@ -106,7 +106,7 @@ impl Before for Paced<'_> {
 
 // A check of one side.
 fn check_of<'a>(alloc: Global, begun: &'a Awaited, is_slow: bool) -> CheckAfter<Paced<'a>>
-    ensures { result.check ≡ [] }
+    ensures { IsUnusedCheck (λ c. c.check) result }
 {
     CheckAfter::new(alloc, Paced { begun, is_slow })
 }

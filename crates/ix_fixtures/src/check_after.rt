@@ -1,6 +1,6 @@
 //! A check before which something else is done, and one that finds no memory for one visit.
 
-ghost use Rattle.std.specs.Prelude.{◌≡◌, []};
+ghost use Rattle.ix_archive.specs.Headline.{IsUnusedCheck};
 
 use ix_check::{Check, ShaCheck, Verdict};
 use ix_store::Store;
@@ -25,7 +25,7 @@ pub struct CheckAfter<B> {
 impl<B> CheckAfter<B> {
     /// A check that has checked nothing so far.
     pub fn new(alloc: Global, first: B) -> CheckAfter<B>
-        ensures { result.check ≡ [] }
+        ensures { IsUnusedCheck (λ c. c.check) result }
     {
         CheckAfter {
             first,
