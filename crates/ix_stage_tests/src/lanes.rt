@@ -136,8 +136,8 @@ fn claim_four(
     claims: &Claims<&'static str>,
     seat: &mut ClaimSeat<&'static str>,
 ) -> [Option<(u32, &'static str)>; 4]
-    requires { seat.old.of ≡ claims.now }
-    ensures { seat.new.of ≡ claims.now }
+    requires { IsOfClaims claims.now seat.old }
+    ensures { IsOfClaims claims.now seat.new }
 {
     [
         claims.claim(seat),
