@@ -14,6 +14,7 @@ use ix_walk::Visit;
 use std::alloc::{AllocError, Global};
 use std::io;
 use std::io::{ErrorKind, Write};
+use std::process::Abort;
 use std::test::Fail;
 
 // The CID of the raw block without bytes.
@@ -156,6 +157,35 @@ struct Outcome {
     fault: Option<SinkFault>,
 }
 
+// What comes of an archive that could not be begun.
+fn not_begun(alloc: Global, fault: ArchiveNew<Narrow>) -> Result<Outcome, Fail> {
+    match fault {
+        ArchiveNew::Memory(_) => Err(Fail::from(AllocError)),
+        ArchiveNew::Write(writer) => Ok(Outcome {
+            bytes: writer.bytes,
+            skips: Vec::new(alloc),
+            counts: None,
+            fault: None,
+        }),
+    }
+}
+
+// What comes of an archive that was told nothing so far.
+fn outcome_of(alloc: Global, archive: Archive<'_, Narrow>, deliveries: Vec<Delivery>) -> Outcome
+    requires unclosed { IsOpen (events_of archive) }
+    requires unfailed { archive.failed ≡ [] }
+{
+    let mut archive = archive;
+    let fault = deliver_all(alloc, &mut archive, deliveries).err();
+    let (writer, skips, counts) = archive.into_parts();
+    Outcome {
+        bytes: writer.bytes,
+        skips,
+        counts: Some(counts),
+        fault,
+    }
+}
+
 // The archive of visits, the first of which is the root.
 fn archive_through(
     alloc: Global,
@@ -165,26 +195,10 @@ fn archive_through(
 ) -> Result<Outcome, Fail> {
     let store = store_of(alloc, BLOCKS.as_slice())?;
     let job = job_of(alloc, root, MATCHER, 100)?;
-    let mut archive = match Archive::new(alloc, &store, &job, writer) {
-        Ok(archive) => archive,
-        Err(ArchiveNew::Memory(_)) => return Err(Fail::from(AllocError)),
-        Err(ArchiveNew::Write(writer)) => {
-            return Ok(Outcome {
-                bytes: writer.bytes,
-                skips: Vec::new(alloc),
-                counts: None,
-                fault: None,
-            });
-        }
-    };
-    let fault = deliver_all(alloc, &mut archive, deliveries).err();
-    let (writer, skips, counts) = archive.into_parts();
-    Ok(Outcome {
-        bytes: writer.bytes,
-        skips,
-        counts: Some(counts),
-        fault,
-    })
+    match Archive::new(alloc, &store, &job, writer) {
+        Ok(archive) => Ok(outcome_of(alloc, archive, deliveries)),
+        Err(fault) => not_begun(alloc, fault),
+    }
 }
 
 fn counted(visits: u32, kept: u32, sections: u32, bytes: u64) -> Option<Counts> {
@@ -235,6 +249,24 @@ fn writes_nothing_where_the_store_has_no_block(rt: HostRuntime) -> Result<(), Fa
     Ok(())
 }
 
+// What came of a writer with so much room: as much of the whole archive, and a fault where that isn't all.
+fn is_cut_at(rt: &impl Abort, got: &Outcome, room: usize, whole: &[u8]) {
+    assert_eq!(rt; got.bytes.len(), room);
+    assert!(rt; whole.starts_with(got.bytes.as_slice()));
+    let taken = got.counts.map(|counts| counts.bytes);
+    if room < 59 {
+        assert_eq!(rt; taken, None, "at {room}");
+    } else {
+        let want = if room < 178 {
+            Some(SinkFault::Write)
+        } else {
+            None
+        };
+        assert_eq!(rt; got.fault, want, "at {room}");
+        assert_eq!(rt; taken, Some(room as u64));
+    }
+}
+
 #[test]
 fn tells_where_a_writer_fails(rt: HostRuntime) -> Result<(), Fail> {
     let alloc = rt.alloc();
@@ -243,20 +275,7 @@ fn tells_where_a_writer_fails(rt: HostRuntime) -> Result<(), Fail> {
     for room in 0..179usize {
         let deliveries = deliveries_of(alloc, ONE_LINK_VISITS.as_slice())?;
         let got = archive_through(alloc, ONE_LINK, deliveries, writer_of(alloc, room, 50))?;
-        assert_eq!(rt; got.bytes.len(), room);
-        assert!(rt; whole.as_slice().starts_with(got.bytes.as_slice()));
-        let taken = got.counts.map(|counts| counts.bytes);
-        if room < 59 {
-            assert_eq!(rt; taken, None, "at {room}");
-        } else {
-            let want = if room < 178 {
-                Some(SinkFault::Write)
-            } else {
-                None
-            };
-            assert_eq!(rt; got.fault, want, "at {room}");
-            assert_eq!(rt; taken, Some(room as u64));
-        }
+        is_cut_at(&rt, &got, room, whole.as_slice());
     }
     Ok(())
 }

@@ -6,6 +6,7 @@ ghost use Rattle.std.specs.Prelude.{◌≡◌, All, IfOk};
 use ix_fixtures::{Awaited, TURNS};
 use ix_stages::{ClaimSeat, Claims, LaneIn, LaneOut, Verdicted, lane_rest};
 use std::alloc::{AllocError, Global};
+use std::process::Abort;
 use std::test::Fail;
 use std::thread::{self, Threads};
 
@@ -129,6 +130,22 @@ fn settle_one(
     Ok(claims.settle(vec![in alloc; seat]?))
 }
 
+// Claims four times through a seat.
+fn claim_four(
+    claims: &Claims<&'static str>,
+    seat: &mut ClaimSeat<&'static str>,
+) -> [Option<(u32, &'static str)>; 4]
+    requires { seat.old.of ≡ claims.now }
+    ensures { seat.new.of ≡ claims.now }
+{
+    [
+        claims.claim(seat),
+        claims.claim(seat),
+        claims.claim(seat),
+        claims.claim(seat),
+    ]
+}
+
 #[test]
 fn claims(rt: HostRuntime) -> Result<(), Fail> {
     let alloc = rt.alloc();
@@ -136,12 +153,8 @@ fn claims(rt: HostRuntime) -> Result<(), Fail> {
     let (claims, seats) = Claims::new(alloc, values, 1)?;
     assert_eq!(rt; seats.len(), 1);
     for mut seat in seats {
-        let first = claims.claim(&mut seat);
-        let second = claims.claim(&mut seat);
-        let third = claims.claim(&mut seat);
-        let fourth = claims.claim(&mut seat);
         assert_eq!(rt;
-            [first, second, third, fourth],
+            claim_four(&claims, &mut seat),
             [Some((0, "x")), Some((1, "y")), None, None]
         );
         assert_eq!(rt; settle_one(alloc, &claims, seat)?, 2);
@@ -219,13 +232,27 @@ fn gather(
     Ok((seats, places))
 }
 
-#[test]
-fn four_threads_claim_each_place_once(rt: HostRuntime) -> Result<(), Fail> {
-    let alloc = rt.alloc();
+// The values 5000, 4999 and so on, at the places 0 to 999.
+fn values_of_places(alloc: Global) -> Result<Vec<u32>, AllocError> {
     let mut values = Vec::with_capacity(alloc, 1000)?;
     for n in 0..1000 {
         values.push(5000 - n)?;
     }
+    Ok(values)
+}
+
+// Each of these places was claimed once, with its value.
+fn are_each_once(rt: &impl Abort, places: &[(u32, u32)]) {
+    assert_eq!(rt; places.len(), 1000);
+    for (number, (place, value)) in places.iter().enumerate() {
+        assert_eq!(rt; (*place as usize, *value), (number, 5000 - number as u32));
+    }
+}
+
+#[test]
+fn four_threads_claim_each_place_once(rt: HostRuntime) -> Result<(), Fail> {
+    let alloc = rt.alloc();
+    let values = values_of_places(alloc)?;
     assert_eq!(rt; values.len(), 1000);
     let (claims, seats) = Claims::new(alloc, values, 4)?;
     let start = Awaited::new(4);
@@ -235,9 +262,6 @@ fn four_threads_claim_each_place_once(rt: HostRuntime) -> Result<(), Fail> {
     assert_eq!(rt; back.len(), 4);
     assert_eq!(rt; claims.settle(back), 1000);
     places.sort()?;
-    assert_eq!(rt; places.len(), 1000);
-    for (number, (place, value)) in places.iter().enumerate() {
-        assert_eq!(rt; (*place as usize, *value), (number, 5000 - number as u32));
-    }
+    are_each_once(&rt, places.as_slice());
     Ok(())
 }
