@@ -1,6 +1,6 @@
 //! The words of the command `get`.
 
-use crate::words::{flag_argument, number_argument, text_argument};
+use crate::words::{flag_argument, number_argument, refusal, text_argument};
 use clap::error::ErrorKind;
 use clap::{Arg, ArgAction, ArgMatches, Command};
 use ix_files::STANDARD_INPUT;
@@ -40,34 +40,43 @@ const NAME: &str = "get";
 
 /// The command's words.
 pub(crate) fn get_command<'a>(alloc: Global) -> Result<Command<'a>, AllocError> {
-    let mut options = job_options(alloc)?;
-    options.push(free_argument(
-        alloc,
-        "out",
-        "FILE",
-        "Where the archive goes; standard output without it",
-    ))?;
-    options.push(number_argument(alloc, "walkers", "How many threads walk, 1 to 64"))?;
-    options.push(number_argument(alloc, "verifiers", "How many threads hash, 1 to 64"))?;
-    options.push(flag_argument(
-        alloc,
-        "sync",
-        "The archive is on the disk before it gets its name",
-    ))?;
-    options.push(flag_argument(
-        alloc,
-        "progress",
-        "Tells on standard error how the run goes on",
-    ))?;
-    options.push(flag_argument(
-        alloc,
-        "quiet",
-        "Tells nothing of that, on a terminal either",
-    ))?;
+    let job = job_options(alloc)?;
+    let run = run_options(alloc)?;
     Command::new(alloc, "get")
         .about(ABOUT)
         .after_help(HELP)
-        .args(options)
+        .args(job)?
+        .args(run)
+}
+
+// The options that say how it is exported, and to where.
+fn run_options<'a>(alloc: Global) -> Result<Vec<Arg<'a>>, AllocError> {
+    let options = vec![in alloc;
+        free_argument(
+            alloc,
+            "out",
+            "FILE",
+            "Where the archive goes; standard output without it"
+        ),
+        number_argument(alloc, "walkers", "How many threads walk, 1 to 64"),
+        number_argument(alloc, "verifiers", "How many threads hash, 1 to 64"),
+        flag_argument(
+            alloc,
+            "sync",
+            "The archive is on the disk before it gets its name"
+        ),
+        flag_argument(
+            alloc,
+            "progress",
+            "Tells on standard error how the run goes on"
+        ),
+        flag_argument(
+            alloc,
+            "quiet",
+            "Tells nothing of that, on a terminal either"
+        ),
+    ]?;
+    Ok(options)
 }
 
 // The options that say what is exported.
@@ -143,8 +152,10 @@ pub(crate) fn output_of<'a>(words: &ArgMatches<'a>) -> Option<&'a str> {
 
 /// What is told where the archive would go to a terminal.
 pub(crate) fn refused_terminal(alloc: Global) -> Result<clap::Error, AllocError> {
-    let mut command = get_command(alloc)?.bin_name("ix_export get")?;
-    let message =
-        "the archive would go to a terminal: give '--out <FILE>', or send standard output elsewhere";
-    command.error(ErrorKind::MissingRequiredArgument, message)
+    refusal(
+        get_command(alloc)?,
+        "ix_export get",
+        ErrorKind::MissingRequiredArgument,
+        "the archive would go to a terminal: give '--out <FILE>', or send standard output elsewhere",
+    )
 }

@@ -40,10 +40,11 @@ pub fn inspect_command<'a>(alloc: Global) -> Result<Command<'a>, AllocError> {
         .help("A CARv1 file; - is standard input")
         .required(true);
     let list = flag_argument(alloc, "list", "A line for each section: PLACE SIZE CID");
+    let words = vec![in alloc; file, list]?;
     Command::new(alloc, "inspect")
         .about(ABOUT)
         .after_help(HELP)
-        .args(vec![in alloc; file, list]?)
+        .args(words)
 }
 
 /// Does what the words say, and answers the status.

@@ -107,15 +107,29 @@ pub fn command_line<'a>(alloc: Global) -> Result<Command<'a>, AllocError> {
 // The commands that stand behind the program's name.
 fn commands<'a>(alloc: Global) -> Result<Vec<Command<'a>>, AllocError> {
     let mut commands = Vec::new(alloc);
-    commands.push(get_command(alloc)?)?;
-    commands.push(jobs_command(alloc)?)?;
-    commands.push(job_command(alloc)?)?;
-    commands.push(check_jobs_command(alloc)?)?;
-    commands.push(selector_command(alloc)?)?;
-    commands.push(root_command(alloc)?)?;
-    commands.push(inspect_command(alloc)?)?;
-    commands.push(verify_command(alloc)?)?;
+    push_commands(alloc, &mut commands)?;
     Ok(commands)
+}
+
+// Adds each of them, with no command to let go of where it ends early.
+fn push_commands<'a>(alloc: Global, commands: &mut Vec<Command<'a>>) -> Result<(), AllocError> {
+    push_command(commands, get_command(alloc))?;
+    push_command(commands, jobs_command(alloc))?;
+    push_command(commands, job_command(alloc))?;
+    push_command(commands, check_jobs_command(alloc))?;
+    push_command(commands, selector_command(alloc))?;
+    push_command(commands, root_command(alloc))?;
+    push_command(commands, inspect_command(alloc))?;
+    push_command(commands, verify_command(alloc))
+}
+
+// Adds a command, where there was memory for it.
+fn push_command<'a>(
+    commands: &mut Vec<Command<'a>>,
+    command: Result<Command<'a>, AllocError>,
+) -> Result<(), AllocError> {
+    commands.push(command?)?;
+    Ok(())
 }
 
 fn root_command<'a>(alloc: Global) -> Result<Command<'a>, AllocError> {
@@ -186,10 +200,11 @@ fn selector_command<'a>(alloc: Global) -> Result<Command<'a>, AllocError> {
     let json = Arg::new(alloc, "json")
         .value_name("JSON")
         .help("The selector as JSON");
+    let words = vec![in alloc; json, hex]?;
     Command::new(alloc, "selector")
         .about(SELECTOR_ABOUT)
         .after_help(SELECTOR_HELP)
-        .args(vec![in alloc; json, hex]?)
+        .args(words)
 }
 
 /// An option with a text that must be given.
@@ -214,11 +229,30 @@ fn part_argument<'a>(alloc: Global) -> Arg<'a> {
 /// Refuses standard input for both the blocks and the job file.
 pub fn judge_inputs(alloc: Global, inputs: [&str; 2]) -> Result<(), clap::Error> {
     if inputs[0] == STANDARD_INPUT && inputs[1] == STANDARD_INPUT {
-        let mut command = jobs_command(alloc)?.bin_name("ix_export jobs")?;
-        let message = "standard input is given for '--blocks <FILE>' and for '--jobs <FILE>'";
-        return Err(command.error(ErrorKind::ArgumentConflict, message)?);
+        return Err(refused_inputs(alloc)?);
     }
     Ok(())
+}
+
+// What is told of standard input for both.
+fn refused_inputs(alloc: Global) -> Result<clap::Error, AllocError> {
+    refusal(
+        jobs_command(alloc)?,
+        "ix_export jobs",
+        ErrorKind::ArgumentConflict,
+        "standard input is given for '--blocks <FILE>' and for '--jobs <FILE>'",
+    )
+}
+
+/// What is told of words of a command that are refused.
+pub fn refusal<'a>(
+    command: Command<'a>,
+    name: &str,
+    kind: ErrorKind,
+    message: &str,
+) -> Result<clap::Error, AllocError> {
+    let mut command = command.bin_name(name)?;
+    command.error(kind, message)
 }
 
 /// The part of the job file that the words of the command `jobs` ask for, or the whole.
@@ -243,8 +277,12 @@ fn refused_part<'a>(alloc: Global, text: &str) -> Result<clap::Error, AllocError
     let message = format!(in alloc;
         "invalid value '{text}' for '--part <K/N>': K is from 1 to N, and N from 1 to 1000000"
     )?;
-    let mut command = jobs_command(alloc)?.bin_name("ix_export jobs")?;
-    command.error(ErrorKind::ValueValidation, message.as_str())
+    refusal(
+        jobs_command(alloc)?,
+        "ix_export jobs",
+        ErrorKind::ValueValidation,
+        message.as_str(),
+    )
 }
 
 /// An option with a number from 1 to 64, which is 4 where it is left out.

@@ -1,6 +1,6 @@
 use Rattle.ix_archive.proofs.Delivered.{open-at_first}
 use Rattle.ix_stage_tests.proofs.archives.archive_through.Goals as goal
 
-pub deliver_all-requires : goal.deliver_all-requires
-deliver_all-requires c =
+pub outcome_of-requires : goal.outcome_of-requires
+outcome_of-requires c =
     let begun = c.in-Ok.ensures.begun in record { unclosed = open-at_first c.in-Ok.archive begun.no_deliveries begun.not_closed; unfailed = begun.no_failure }
