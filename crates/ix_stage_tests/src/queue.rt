@@ -554,47 +554,47 @@ fn one_of_each(alloc: Global, capacity: u32) -> Result<OneEach, Fail>
 
 // Whether the first visit of the job fills a queue with room for one, so that the second comes
 // back, and then the first is taken and nothing behind it.
-fn has_room_for_one<R: Wait>(rt: &R, alloc: Global, each: OneEach) -> Result<bool, AllocError>
-    requires seat { CanWalk each.queue (course_of each.store each.jobs.items) each.seat }
-    requires taker { IsTaker each.queue each.taker }
+fn has_room_for_one<R: Wait>(rt: &R, alloc: Global, each: &mut OneEach) -> Result<bool, AllocError>
+    requires seat { CanWalk each.old.queue (course_of each.old.store each.old.jobs.items) each.old.seat }
+    requires taker { IsTaker each.old.queue each.old.taker }
 {
     law::course_of_jobs();
     let OneEach {
         store,
         jobs,
         queue,
-        mut seat,
-        mut taker,
+        seat,
+        taker,
         ..
     } = each;
-    let Some(job) = job_of_seat(&jobs, &seat) else {
+    let Some(job) = job_of_seat(jobs, seat) else {
         return Ok(false);
     };
-    let mut walk = Walk::new(alloc, &store, job, seat.job())?;
+    let mut walk = Walk::new(alloc, store, job, seat.job())?;
     let Some(Ok(first)) = walk.next() else {
         return Ok(false);
     };
     let Some(Ok(second)) = walk.next() else {
         return Ok(false);
     };
-    let Ok(()) = queue.try_put(rt, &mut seat, Item::Visit(first)) else {
+    let Ok(()) = queue.try_put(rt, seat, Item::Visit(first)) else {
         return Ok(false);
     };
-    let Err(Item::Visit(back)) = queue.try_put(rt, &mut seat, Item::Visit(second)) else {
+    let Err(Item::Visit(back)) = queue.try_put(rt, seat, Item::Visit(second)) else {
         return Ok(false);
     };
-    let Some(Item::Visit(taken)) = queue.try_take(rt, &mut taker) else {
+    let Some(Item::Visit(taken)) = queue.try_take(rt, taker) else {
         return Ok(false);
     };
-    Ok(taken.seq == 0 && back.seq == 1 && queue.try_take(rt, &mut taker).is_none())
+    Ok(taken.seq == 0 && back.seq == 1 && queue.try_take(rt, taker).is_none())
 }
 
 // None of the contracts says when a queue is full or empty.
 #[test]
 fn queue(rt: HostRuntime) -> Result<(), Fail> {
     let alloc = rt.alloc();
-    let each = one_of_each(alloc, 1)?;
-    assert!(rt; has_room_for_one(&rt, alloc, each)?);
+    let mut each = one_of_each(alloc, 1)?;
+    assert!(rt; has_room_for_one(&rt, alloc, &mut each)?);
     Ok(())
 }
 

@@ -13,9 +13,9 @@ use Rattle.ix_stage_tests.proofs.queue.has_room_for_one.Goals as goal
 
 pub try_put-requires-clause-next : goal.try_put-requires-clause-next
 try_put-requires-clause-next g c =
-    let seat = c.args.each.seat in
-    let store = c.args.each.store in
-    let jobs = c.args.each.jobs.items in
+    let seat = c.args.each.now.seat in
+    let store = c.args.each.now.store in
+    let jobs = c.args.each.now.jobs.items in
     let v = c.in-Some-Ok.first in
     let steps = subst (λ (r : Result Visit WalkStop). GivesNext c.in_ok-walk.walk (Some r) c.next.new.self) c.in-Some-Ok.field-0-is c.in-Some-Ok.ensures.steps in
     let all = visits_of store seat.job c.in-Some.job.now in
@@ -27,9 +27,9 @@ try_put-requires-clause-next g c =
 
 pub try_put-requires-2-clause-next : goal.try_put-requires-2-clause-next
 try_put-requires-2-clause-next g c =
-    let seat = c.args.each.seat in
-    let store = c.args.each.store in
-    let jobs = c.args.each.jobs.items in
+    let seat = c.args.each.now.seat in
+    let store = c.args.each.now.store in
+    let jobs = c.args.each.now.jobs.items in
     let put = c.in-Ok.ensures.put in
     let same = c.try_put.ensures.same in
     let w = c.in-Some-Ok-next.second in
