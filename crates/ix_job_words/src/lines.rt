@@ -7,7 +7,22 @@ use std::collections::BTreeMap;
 use std::str;
 
 // What the fields of a line are called.
-const FIELDS: [&str; 4] = ["NAME", "ROOT", "LIMIT", "SELECTOR"];
+const NAME: &str = "NAME";
+
+const ROOT: &str = "ROOT";
+
+const LIMIT: &str = "LIMIT";
+
+const SELECTOR: &str = "SELECTOR";
+
+const FIELDS: [&str; 4] = [NAME, ROOT, LIMIT, SELECTOR];
+
+// Said of a job behind the most that a run takes.
+const MANY_WORDS: &str =
+    "behind 1000 jobs, which is all that a run takes; jobs --part runs a part of more";
+
+// Said of a space that parts the roots of a job.
+const COMMA_WORDS: &str = "a space behind a comma, and none is wanted";
 
 /// The faults of a job file in words, a line each: `line N, FIELD: what is wrong`, or `line N: what is
 /// wrong`, and what would be right. The faults stand in the order of their lines, one a line at most;
@@ -74,14 +89,26 @@ fn push_fault(
         JobsKind::Fields => push_fields_fault(text, number, str::from_utf8(line).unwrap_or("")),
         JobsKind::Repeated => match names.get(first_field(line)) {
             Some(first) => writeln!(text, "line {number}, NAME: stands in line {first} too"),
-            None => writeln!(text, "line {number}, NAME: stands in an earlier line too"),
+            None => push_of_field(text, number, NAME, "stands in an earlier line too"),
         },
-        JobsKind::TooMany => writeln!(
-            text,
-            "line {number}: behind 1000 jobs, which is all that a run takes; jobs --part runs a part of more"
-        ),
+        JobsKind::TooMany => push_of_line(text, number, MANY_WORDS),
         _ => push_each_fault(alloc, text, number, str::from_utf8(line).unwrap_or("")),
     }
+}
+
+// Appends what is wrong with a line, and with none of its fields.
+fn push_of_line(text: &mut String, number: u64, words: &str) -> Result<(), AllocError> {
+    writeln!(text, "line {number}: {words}")
+}
+
+// Appends what is wrong with a field of a line.
+fn push_of_field(
+    text: &mut String,
+    number: u64,
+    field: &str,
+    words: &str,
+) -> Result<(), AllocError> {
+    writeln!(text, "line {number}, {field}: {words}")
 }
 
 // A line without the carriage return at its end.
@@ -101,16 +128,16 @@ fn push_each_fault(
 ) -> Result<(), AllocError> {
     let mut fields = line.split(' ');
     if let Some(words) = name_fault(fields.next().unwrap_or("")) {
-        writeln!(text, "line {number}, NAME: {words}")?;
+        push_of_field(text, number, NAME, words)?;
     }
     if let Some(words) = roots_fault(alloc, fields.next().unwrap_or(""))? {
-        writeln!(text, "line {number}, ROOT: {words}")?;
+        push_of_field(text, number, ROOT, &words)?;
     }
     if let Some(words) = limit_fault(fields.next().unwrap_or("")) {
-        writeln!(text, "line {number}, LIMIT: {words}")?;
+        push_of_field(text, number, LIMIT, words)?;
     }
     if let Some(words) = selector_fault(alloc, fields.next().unwrap_or(""))? {
-        writeln!(text, "line {number}, SELECTOR: {words}")?;
+        push_of_field(text, number, SELECTOR, &words)?;
     }
     Ok(())
 }
@@ -121,25 +148,30 @@ fn push_bytes_fault(text: &mut String, number: u64, line: &[u8]) -> Result<(), A
         return Ok(());
     };
     let (before, behind) = line.split_at(place);
+    if let Some(words) = bytes_words(before, behind) {
+        return push_of_line(text, number, words);
+    }
     let field = FIELDS[spaces(before).min(3)];
     match behind {
-        [b'\t'] => writeln!(text, "line {number}: a trailing tab"),
-        [b'\t', ..] if before.is_empty() => writeln!(text, "line {number}: a tab before NAME"),
-        [b'\t', ..] => writeln!(text, "line {number}: a tab and not a space behind {field}"),
-        [0xef, 0xbb, 0xbf, ..] if before.is_empty() => {
-            writeln!(text, "line {number}: a byte order mark, and none is wanted")
-        }
-        [0xc2, 0xa0, ..] => {
-            writeln!(
-                text,
-                "line {number}: a no-break space, and a space is wanted"
-            )
-        }
+        [b'\t', ..] => { writeln!(text, "line {number}: a tab and not a space behind {field}") }
         [byte, ..] => writeln!(
             text,
             "line {number}, {field}: a byte {byte:02x}, and ASCII text alone is wanted"
         ),
         [] => Ok(()),
+    }
+}
+
+// What stands behind so many bytes of text, where that has a name whatever field it is in.
+fn bytes_words(before: &[u8], behind: &[u8]) -> Option<&'static str> {
+    match behind {
+        [b'\t'] => Some("a trailing tab"),
+        [b'\t', ..] if before.is_empty() => Some("a tab before NAME"),
+        [0xef, 0xbb, 0xbf, ..] if before.is_empty() => {
+            Some("a byte order mark, and none is wanted")
+        }
+        [0xc2, 0xa0, ..] => Some("a no-break space, and a space is wanted"),
+        _ => None,
     }
 }
 
@@ -150,26 +182,16 @@ fn spaces(line: &[u8]) -> usize {
 
 // Appends why a line of text doesn't have four fields with one space between.
 fn push_fields_fault(text: &mut String, number: u64, line: &str) -> Result<(), AllocError> {
+    if field_at(line, 3).starts_with('{') {
+        return push_of_field(text, number, SELECTOR, JSON_WORDS);
+    }
+    if field_at(line, 1).ends_with(',') {
+        return push_of_field(text, number, ROOT, COMMA_WORDS);
+    }
     let count = line.split(' ').count();
-    let empty = line.split(' ').position(|field| field.is_empty());
-    if line
-        .split(' ')
-        .skip(3)
-        .next()
-        .unwrap_or("")
-        .starts_with('{')
-    {
-        return writeln!(text, "line {number}, SELECTOR: {JSON_WORDS}");
-    }
-    if line.split(' ').skip(1).next().unwrap_or("").ends_with(',') {
-        return writeln!(
-            text,
-            "line {number}, ROOT: a space behind a comma, and none is wanted"
-        );
-    }
-    match empty {
-        Some(0) => writeln!(text, "line {number}: a space before NAME"),
-        Some(place) if place >= count - 1 => writeln!(text, "line {number}: trailing space"),
+    match line.split(' ').position(|field| field.is_empty()) {
+        Some(0) => push_of_line(text, number, "a space before NAME"),
+        Some(place) if place >= count - 1 => push_of_line(text, number, "trailing space"),
         Some(place) => {
             let field = FIELDS[(place - 1).min(3)];
             writeln!(
@@ -185,4 +207,9 @@ fn push_fields_fault(text: &mut String, number: u64, line: &str) -> Result<(), A
             )
         }
     }
+}
+
+// The field behind so many spaces of a line, or none.
+fn field_at(line: &str, place: usize) -> &str {
+    line.split(' ').skip(place).next().unwrap_or("")
 }
