@@ -7,9 +7,16 @@ use crate::node::Node;
 use std::marker::Model;
 
 /// A node that has a spelling, seen as data.
-#[derive(Drop)]
 pub struct Tree {
     node: Node,
+}
+
+// Written out and not derived: what is derived is put into each function that lets go of one, at each of its ends.
+impl Drop for Tree {
+    fn drop(self) {
+        let Tree { node } = self;
+        drop(node);
+    }
 }
 
 impl Model for Tree {
@@ -69,6 +76,7 @@ impl Tree {
         ensures root { data_of result ≡ self }
         ensures canonical { IsCanonical self }
     {
-        self.node
+        let Tree { node: root } = self;
+        root
     }
 }

@@ -20,9 +20,16 @@ use std::sync::Arc;
 /// A CID (multiformats CID), of any version, codec and hash. Contracts see its bytes; equality, order
 /// and hashing are those of the bytes. One of at most 36 bytes holds them itself, and a longer one is a share
 /// of bytes in which it stands.
-#[derive(Drop)]
 pub struct Cid {
     pub(crate) held: Held,
+}
+
+// Written out and not derived: what is derived is put into each function that lets go of one, at each of its ends.
+impl Drop for Cid {
+    fn drop(self) {
+        let Cid { held } = self;
+        drop(held);
+    }
 }
 
 impl Model for Cid {

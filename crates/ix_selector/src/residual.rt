@@ -18,10 +18,17 @@ use std::marker::Model;
 
 /// What is left of a selector at a place, seen as a set of selectors inside recursions. No two of
 /// them stand at one place of the selector, so it has at most as many as the selector has places.
-#[derive(Drop)]
 pub struct Residual<'s> {
     spots: &'s [Spot],
     pairs: Pairs,
+}
+
+// Written out and not derived: what is derived is put into each function that lets go of one, at each of its ends.
+impl<'s> Drop for Residual<'s> {
+    fn drop(self) {
+        let Residual { spots: _, pairs } = self;
+        drop(pairs);
+    }
 }
 
 impl<'s> Model for Residual<'s> {

@@ -16,10 +16,18 @@ use std::marker::Model;
 
 /// A selector in which every edge stands in a recursion with a step between, and which nests at
 /// most 128 deep.
-#[derive(Debug, Drop)]
+#[derive(Debug)]
 pub struct Selector {
     spots: Vec<Spot>,
     root: usize,
+}
+
+// Written out and not derived: what is derived is put into each function that lets go of one, at each of its ends.
+impl Drop for Selector {
+    fn drop(self) {
+        let Selector { spots, root: _ } = self;
+        drop(spots);
+    }
 }
 
 impl Model for Selector {

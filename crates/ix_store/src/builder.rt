@@ -29,13 +29,26 @@ const MANY: usize = 100_000;
 /// builder.index_due(rt, threads)?;
 /// let store = builder.build(rt, threads)?;
 /// ```
-#[derive(Drop)]
 pub struct StoreBuilder {
     alloc: Global,
     entries: Vec<Entry>,
     // The index of the first entries, as many as are indexed. The CIDs of the others may stand there twice.
     index: Index,
     indexed: usize,
+}
+
+// Written out and not derived: what is derived is put into each function that lets go of one, at each of its ends.
+impl Drop for StoreBuilder {
+    fn drop(self) {
+        let StoreBuilder {
+            alloc: _,
+            entries,
+            index,
+            indexed: _,
+        } = self;
+        drop(entries);
+        drop(index);
+    }
 }
 
 impl Model for StoreBuilder {

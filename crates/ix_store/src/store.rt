@@ -17,7 +17,6 @@ use std::marker::Model;
 use std::sync::Arc;
 
 /// Blocks under their CIDs, seen as the list of pairs in the order of adding.
-#[derive(Drop)]
 pub struct Store {
     alloc: Global,
     entries: Vec<Entry>,
@@ -25,6 +24,21 @@ pub struct Store {
     index: Index,
     // What is known of the blocks, once the store was settled and as long as none is added.
     marks: Option<Marks>,
+}
+
+// Written out and not derived: what is derived is put into each function that lets go of one, at each of its ends.
+impl Drop for Store {
+    fn drop(self) {
+        let Store {
+            alloc: _,
+            entries,
+            index,
+            marks,
+        } = self;
+        drop(entries);
+        drop(index);
+        drop(marks);
+    }
 }
 
 impl Model for Store {

@@ -19,13 +19,28 @@ pub const GREATEST_LIMIT: u32 = 1_000_000;
 pub const MOST_ROOTS: usize = 64;
 
 /// A name, roots, a selector and a limit of visits.
-#[derive(Drop)]
 pub struct Job {
     name: String,
     roots: Vec<Cid>,
     selector: Selector,
     limit: u32,
     once: bool,
+}
+
+// Written out and not derived: what is derived is put into each function that lets go of one, at each of its ends.
+impl Drop for Job {
+    fn drop(self) {
+        let Job {
+            name,
+            roots,
+            selector,
+            limit: _,
+            once: _,
+        } = self;
+        drop(name);
+        drop(roots);
+        drop(selector);
+    }
 }
 
 impl Model for Job {
@@ -83,7 +98,9 @@ impl Job {
     pub fn once(self) -> Job
         ensures { result ≡ going_in true self }
     {
-        Job { once: true, ..self }
+        let mut job = self;
+        job.once = true;
+        job
     }
 
     /// The name.

@@ -16,7 +16,6 @@ use std::alloc::{AllocError, Global};
 use std::marker::Model;
 
 /// The visits of a job, then Limit where there are more.
-#[derive(Drop)]
 pub struct Walk<'a> {
     alloc: Global,
     store: &'a Store,
@@ -25,6 +24,22 @@ pub struct Walk<'a> {
     given: u32,
     state: WalkState<'a>,
     ended: bool,
+}
+
+// Written out and not derived: what is derived is put into each function that lets go of one, at each of its ends.
+impl<'a> Drop for Walk<'a> {
+    fn drop(self) {
+        let Walk {
+            alloc: _,
+            store: _,
+            job: _,
+            number: _,
+            given: _,
+            state,
+            ended: _,
+        } = self;
+        drop(state);
+    }
 }
 
 impl<'a> Model for Walk<'a> {

@@ -13,13 +13,3 @@ loop-opened-preserved-else-not-is_spent c =
     let items : loop.stack.items ≡ rest ++ last ∷ [] = last_popped loop.stack.items rest c.deref.result.now last _ c.deref.ensures.value c.deref.ensures.len c.pop.ensures.rest c.in-Some.ensures.item.0 c.in-Some.ensures.item.1 in
     steps_kept c.args.trail.now loop new c.loop-opened.invariant
     (step_spent loop new last rest c.loop-opened.invariant.next c.loop-opened.invariant.next items refl (sym c.is_spent.ensures ∙ c.if-not-is_spent.false) c.go_on.ensures)
-
-pub loop-opened-preserved-else-not-is_spent-2 : goal.loop-opened-preserved-else-not-is_spent-2
-loop-opened-preserved-else-not-is_spent-2 c =
-    let loop = c.loop-opened.trail in
-    let last = c.in-Some.opened.now in
-    let rest : List Opened = c.pop.new.self.items in
-    let new : Trail = record { at = c.go_on.new.self; next = loop.next; stack = c.pop.new.self } in
-    let items : loop.stack.items ≡ rest ++ last ∷ [] = last_popped loop.stack.items rest c.deref.result.now last _ c.deref.ensures.value c.deref.ensures.len c.pop.ensures.rest c.in-Some.ensures.item.0 c.in-Some.ensures.item.1 in
-    steps_kept c.args.trail.now loop new c.loop-opened.invariant
-    (step_spent loop new last rest c.loop-opened.invariant.next c.loop-opened.invariant.next items refl (sym c.is_spent.ensures ∙ c.if-not-is_spent.false) c.go_on.ensures)

@@ -40,22 +40,6 @@ loop-opened-smaller-in-Continue-branch-6 c =
     (c.in_ok-push-in-Some-Open-2.ensures.items ∙ ap (λ (l : List Opened). l ++ c.in-Some-Open.inner ∷ []) c.in_ok-push-in-Some-Open.ensures.items)
     (c.in-Some-Open.is ∙ ap (λ x. Some x) c.in-Some-Open.field-0-is) c.in_ok-found.ensures.next c.in_ok-found.ensures.same)
 
-pub loop-opened-preserved-in-None : goal.loop-opened-preserved-in-None
-loop-opened-preserved-in-None c =
-    let new : Trail = record { at = c.go_on.new.self; next = c.loop-opened.trail.next; stack = c.pop.new.self } in
-    let next = c.loop-opened.invariant.next in
-    steps_kept c.args.trail.now c.loop-opened.trail new c.loop-opened.invariant
-    (step_none c.loop-opened.trail new c.in-Some-pop.opened c.next_child.new.opened _ c.next_child.new.at c.pop.new.self.items next next c.in-Some-pop.ensures.items refl c.in-None.is c.in_ok-found.ensures.next
-    c.in_ok-found.ensures.same c.go_on.ensures)
-
-pub loop-opened-smaller-in-None : goal.loop-opened-smaller-in-None
-loop-opened-smaller-in-None c =
-    let new : Trail = record { at = c.go_on.new.self; next = c.loop-opened.trail.next; stack = c.pop.new.self } in
-    let next = c.loop-opened.invariant.next in
-    steps_lighter c.args.trail.now c.loop-opened.trail new c.requires c.loop-opened.invariant
-    (step_none c.loop-opened.trail new c.in-Some-pop.opened c.next_child.new.opened _ c.next_child.new.at c.pop.new.self.items next next c.in-Some-pop.ensures.items refl c.in-None.is c.in_ok-found.ensures.next
-    c.in_ok-found.ensures.same c.go_on.ensures)
-
 pub loop-opened-preserved : goal.loop-opened-preserved
 loop-opened-preserved c =
     let new : Trail = record { at = c.go_on.new.self; next = c.loop-opened.trail.next; stack = c.pop.new.self } in
