@@ -1,8 +1,10 @@
 //! A collector that receives what verifiers send, in mixed order.
 
-ghost use Rattle.std.specs.Prelude.{◌≡◌, ◌≤◌, length, IfOk};
+ghost use Rattle.std.specs.Prelude.{◌≡◌, ◌≤◌, IfOk};
 ghost use Rattle.ix_handover.specs.Lanes.{IsLane};
-ghost use Rattle.ix_collect.specs.Collected.{job_count, MayTell};
+ghost use Rattle.ix_collect.specs.Collected.{job_count};
+ghost use Rattle.ix_collect.specs.Collecting.{CanCollect};
+ghost use Rattle.ix_stage_tests.specs.Collected.{HasAsManyJobs};
 
 use ix_archive::{End, Sink};
 use ix_check::Verdict;
@@ -73,11 +75,9 @@ fn receive_all<S: Sink>(
     sinks: &mut [S],
     items: &[Sent],
 ) -> Result<(), Fail>
-    requires sinks { length sinks.old ≡ job_count collector.old }
-    requires may { MayTell S.events S.failed collector.old sinks.old }
-    ensures sinks { length sinks.new ≡ job_count collector.new }
-    ensures jobs { job_count collector.new ≡ job_count collector.old }
-    ensures may { MayTell S.events S.failed collector.new sinks.new }
+    requires { CanCollect S.events S.failed collector.old sinks.old }
+    ensures jobs { HasAsManyJobs collector.old collector.new }
+    ensures goes { CanCollect S.events S.failed collector.new sinks.new }
 {
     for sent in items {
         let item = item_of(alloc, sent)?;
@@ -133,8 +133,7 @@ fn receive_four_jobs<S: Sink>(
     sinks: &mut [S],
 ) -> Result<(), Fail>
     requires jobs { job_count collector.old ≡ 4 }
-    requires sinks { length sinks.old ≡ job_count collector.old }
-    requires may { MayTell S.events S.failed collector.old sinks.old }
+    requires sinks { CanCollect S.events S.failed collector.old sinks.old }
 {
     let (before, last) = FOUR_JOBS.split_at(11);
     receive_all(alloc, collector, sinks, before)?;
@@ -211,11 +210,9 @@ fn three_rounds<S: Sink>(
     collector: &mut Collector,
     sinks: &mut [S],
 ) -> Result<[Received; 3], Fail>
-    requires sinks { length sinks.old ≡ job_count collector.old }
-    requires may { MayTell S.events S.failed collector.old sinks.old }
-    ensures sinks { length sinks.new ≡ job_count collector.new }
-    ensures jobs { job_count collector.new ≡ job_count collector.old }
-    ensures may { MayTell S.events S.failed collector.new sinks.new }
+    requires { CanCollect S.events S.failed collector.old sinks.old }
+    ensures jobs { HasAsManyJobs collector.old collector.new }
+    ensures goes { CanCollect S.events S.failed collector.new sinks.new }
 {
     let (_sender, receiver) = lane_of(alloc, 2, &[Sent::Checked(0, 1), Sent::Last])?;
     let mut lanes = [receiver];
@@ -233,11 +230,9 @@ fn drain_one<R: Wait, S: Sink>(
     collector: &mut Collector,
     sinks: &mut [S],
 ) -> Result<(), Fail>
-    requires sinks { length sinks.old ≡ job_count collector.old }
-    requires may { MayTell S.events S.failed collector.old sinks.old }
-    ensures sinks { length sinks.new ≡ job_count collector.new }
-    ensures jobs { job_count collector.new ≡ job_count collector.old }
-    ensures may { MayTell S.events S.failed collector.new sinks.new }
+    requires { CanCollect S.events S.failed collector.old sinks.old }
+    ensures jobs { HasAsManyJobs collector.old collector.new }
+    ensures goes { CanCollect S.events S.failed collector.new sinks.new }
 {
     let (mut sender, mut receiver) = lane_of(alloc, 1, &[Sent::Checked(0, 0)])?;
     drain(rt, alloc, collector, &mut sender, &mut receiver, sinks);
@@ -251,11 +246,9 @@ fn finish_two<R: Wait, S: Sink>(
     collector: &mut Collector,
     sinks: &mut [S],
 ) -> Result<(), Fail>
-    requires sinks { length sinks.old ≡ job_count collector.old }
-    requires may { MayTell S.events S.failed collector.old sinks.old }
-    ensures sinks { length sinks.new ≡ job_count collector.new }
-    ensures jobs { job_count collector.new ≡ job_count collector.old }
-    ensures may { MayTell S.events S.failed collector.new sinks.new }
+    requires { CanCollect S.events S.failed collector.old sinks.old }
+    ensures jobs { HasAsManyJobs collector.old collector.new }
+    ensures goes { CanCollect S.events S.failed collector.new sinks.new }
 {
     let (first_in, first_out) = lane_of(alloc, 2, &[Sent::Closed(0, 3, End::Done), Sent::Last])?;
     let (second_in, second_out) = lane_of(alloc, 3, &[Sent::Checked(0, 2), Sent::Last])?;
@@ -273,8 +266,7 @@ fn receive_lanes<R: Abort + Wait, S: Sink>(
     sinks: &mut [S],
 ) -> Result<(), Fail>
     requires jobs { job_count collector.old ≡ 1 }
-    requires sinks { length sinks.old ≡ job_count collector.old }
-    requires may { MayTell S.events S.failed collector.old sinks.old }
+    requires sinks { CanCollect S.events S.failed collector.old sinks.old }
 {
     let rounds = three_rounds(alloc, collector, sinks)?;
     assert!(rt; rounds.map(|round| (round.items, round.lasts)) == [(1, 0), (1, 1), (0, 0)]);
