@@ -1,12 +1,29 @@
 -- The seats of a queue of walks.
-use Rattle.std.specs.Prelude.{◌≡◌, false, List, All, Result, IfOk}
-use Rattle.std.specs.declared.alloc.AllocError.{AllocError}
+use Rattle.std.specs.Prelude.{◌≡◌, ◌≤◌, ◌<◌, ℕ, false, List, All, IfOk, Some, length, drop, slice_get}
+use Rattle.atomic_table.specs.Seated.{TableId}
+use Rattle.ix_walk.specs.declared.visit.Visit.{Visit}
+use Rattle.ix_walk.specs.JobMeaning.{JobMeaning}
+use Rattle.ix_walk.specs.WalkLeft.{WalkLeft}
 use Rattle.ix_handover.specs.declared.item.Item.{Item}
 use Rattle.ix_handover.specs.declared.parts.QueueParts.{QueueParts}
 use Rattle.ix_handover.specs.declared.course.JobVisits.{JobVisits}
 use Rattle.ix_handover.specs.declared.queue.VisitQueue.{VisitQueue}
+use Rattle.ix_handover.specs.Course.{course_visits, course_over}
 use Rattle.ix_handover.specs.Queue.{table_of}
 use Rattle.ix_handover.specs.Seats.{JobView, SeatView, IsNext}
+use Rattle.ix_stage_tests.specs.declared.queue.Walked.{Walked}
+
+-- each job's limit is at most a million
+abbrev pub AreSmall : List JobMeaning → Type 0
+AreSmall jobs = All (λ job. job.limit ≤ 1000000) jobs
+
+-- there is one job, with such a limit
+abbrev pub IsOneJob : List JobMeaning → Type 0
+IsOneJob jobs = AreSmall jobs × (length jobs ≡ 1)
+
+-- the seat is still of the same queue
+abbrev pub IsSameTable : TableId → TableId → Type 0
+IsSameTable old new = new ≡ old
 
 -- a seat of the queue, of which nothing was put so far
 abbrev pub CanWalk : VisitQueue → List JobVisits → JobView → Type 0
@@ -16,9 +33,25 @@ CanWalk queue course s = (s.table ≡ table_of queue) × (s.pass.course ≡ cour
 abbrev pub CanAllWalk : QueueParts → List JobVisits → Type 0
 CanAllWalk parts course = All (CanWalk parts.queue course) parts.jobs.items
 
--- the same seat of the same job, which is not closed
-abbrev pub IsOpenAsBefore : JobView → JobView → Type 0
-IsOpenAsBefore old new = (new.table ≡ old.table) × (new.job ≡ old.job) × (new.closed ≡ false) × (new.pass.course ≡ old.pass.course)
+-- each visit has the number of the job, and its own
+abbrev pub AreNumbered : ℕ → List Visit → Type 0
+AreNumbered job visits = (n : ℕ) (v : Visit) → slice_get visits n ≡ Some v → (v.job ≡ job) × (v.seq ≡ n)
+
+-- the walk has left what the course has of the job from its visit n on
+pub record HasLeft (course : List JobVisits) (job n : ℕ) (w : WalkLeft) : Type 0 where
+  pub job_is_there : job < length course
+  pub numbered : AreNumbered job (course_visits course job)
+  pub within : n ≤ length (course_visits course job)
+  pub left : drop n (course_visits course job) ≡ w.visits
+  pub limited : w.limited ≡ course_over course job
+
+-- what the seat has not put so far
+abbrev pub IsLeft : JobView → WalkLeft → Type 0
+IsLeft s w = HasLeft s.pass.course s.job s.next w
+
+-- an open seat of the queue, and the walk of what it has not put so far
+abbrev pub CanGoOn : VisitQueue → JobView → WalkLeft → Type 0
+CanGoOn queue s w = (s.table ≡ table_of queue) × (s.closed ≡ false) × IsLeft s w
 
 -- an open seat of the queue, whose next item this is
 abbrev pub CanClose : VisitQueue → JobView → Item → Type 0
@@ -31,16 +64,7 @@ IsWalker queue s = s.table ≡ table_of queue
 abbrev pub IsTaker : VisitQueue → SeatView → Type 0
 IsTaker queue s = s.table ≡ table_of queue
 
--- three walkers may begin, and Stops be put
-pub record CanRun (queue : VisitQueue) (course : List JobVisits) (one two three : JobView) (stopper : SeatView) : Type 0 where
-  pub first : CanWalk queue course one
-  pub second : CanWalk queue course two
-  pub third : CanWalk queue course three
-  pub stop : stopper.table ≡ table_of queue
-
--- what they come back as is of the same queue
-pub record HasRun (queue : VisitQueue) (one two three : Result JobView AllocError) (stopper : SeatView) : Type 0 where
-  pub first : IfOk one (IsWalker queue)
-  pub second : IfOk two (IsWalker queue)
-  pub third : IfOk three (IsWalker queue)
-  pub stop : stopper.table ≡ table_of queue
+-- what walkers come back as is of the same queue
+pub record HasWalked (queue : VisitQueue) (walked : Walked) : Type 0 where
+  pub seats : IfOk walked.seats (λ all. All (IsWalker queue) all.items)
+  pub stop : walked.stop.table ≡ table_of queue

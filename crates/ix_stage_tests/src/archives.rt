@@ -4,13 +4,14 @@ ghost use Rattle.std.specs.Prelude.{◌≡◌, []};
 ghost use Rattle.ix_archive.specs.Events.{IsOpen};
 ghost use Rattle.ix_archive.specs.ArchiveMeaning.{events_of};
 
-use ix_archive::{Archive, ArchiveNew, Counts, Delivery, End, Sink, SinkFault, Skip};
+use ix_archive::{Archive, ArchiveNew, Counts, End, Sink, SinkFault, Skip};
 use ix_check::Verdict;
 use ix_fixtures::{
     ABC, ABC_SECTION, DAMAGED, DAMAGED_SECTION, LIST, LIST_SECTION, ONE_LINK, ONE_LINK_SECTION,
     Section, archive_of, cid_of, job_of, list_archive, store_of,
 };
-use ix_walk::Visit;
+use ix_store::Store;
+use ix_walk::{Job, Visit};
 use std::alloc::{AllocError, Global};
 use std::io;
 use std::io::{ErrorKind, Write};
@@ -41,8 +42,11 @@ const BLOCKS: [Section; 5] = [
     TWICE_SECTION,
 ];
 
+// A visit that is delivered: its CID, its depth and its verdict.
+type Delivered = (&'static str, u32, Verdict);
+
 // The damaged list, with what is below DAMAGED.
-const LIST_VISITS: [(&str, u32, Verdict); 5] = [
+const LIST_VISITS: [Delivered; 5] = [
     (LIST, 0, Verdict::Sound),
     (DAMAGED, 1, Verdict::Damaged),
     (ABC, 2, Verdict::Sound),
@@ -51,7 +55,7 @@ const LIST_VISITS: [(&str, u32, Verdict); 5] = [
 ];
 
 // A map with two links to one block, and the sections of its archive.
-const TWICE_VISITS: [(&str, u32, Verdict); 4] = [
+const TWICE_VISITS: [Delivered; 4] = [
     (TWICE, 0, Verdict::Sound),
     (ONE_LINK, 1, Verdict::Sound),
     (ONE_LINK, 1, Verdict::Sound),
@@ -61,10 +65,7 @@ const TWICE_VISITS: [(&str, u32, Verdict); 4] = [
 const TWICE_SECTIONS: [Section; 3] = [TWICE_SECTION, ONE_LINK_SECTION, ABC_SECTION];
 
 // A list of one link, and the sections of its archive.
-const ONE_LINK_VISITS: [(&str, u32, Verdict); 2] = [
-    (ONE_LINK, 0, Verdict::Sound),
-    (ABC, 1, Verdict::Sound),
-];
+const ONE_LINK_VISITS: [Delivered; 2] = [(ONE_LINK, 0, Verdict::Sound), (ABC, 1, Verdict::Sound)];
 
 const ONE_LINK_SECTIONS: [Section; 2] = [ONE_LINK_SECTION, ABC_SECTION];
 
@@ -102,50 +103,37 @@ fn writer_of(alloc: Global, room: usize, width: usize) -> Narrow {
     }
 }
 
-fn delivery(
-    alloc: Global,
-    seq: u32,
-    cid: &str,
-    depth: u32,
-    verdict: Verdict,
-) -> Result<Delivery, Fail> {
-    let visit = Visit {
+// A visit of this CID.
+fn visit_of(alloc: Global, seq: u32, cid: &str, depth: u32) -> Result<Visit, Fail> {
+    Ok(Visit {
         job: 0,
         seq,
         depth,
         cid: cid_of(alloc, cid)?,
         block: None,
         malformed: false,
-    };
-    Ok(Delivery { visit, verdict })
+    })
 }
 
-// Visits of these CIDs at these depths, with their verdicts.
-fn deliveries_of(alloc: Global, visits: &[(&str, u32, Verdict)]) -> Result<Vec<Delivery>, Fail> {
-    let mut deliveries = Vec::new(alloc);
-    let mut seq = 0u32;
-    for (cid, depth, verdict) in visits {
-        let next = delivery(alloc, seq, cid, *depth, *verdict)?;
-        deliveries.push(next).map_err(AllocError::from)?;
-        seq = seq.saturating_add(1);
-    }
-    Ok(deliveries)
-}
-
-// Delivers up to the first fault, and closes where there is none.
+// Delivers visits up to the first fault, which it answers, and closes where there is none.
 fn deliver_all<W: Write>(
     alloc: Global,
     archive: &mut Archive<'_, W>,
-    deliveries: Vec<Delivery>,
-) -> Result<(), SinkFault>
+    visits: &[Delivered],
+) -> Result<Option<SinkFault>, Fail>
     requires unclosed { IsOpen (events_of archive.old) }
     requires unfailed { archive.old.failed ≡ [] }
 {
-    for delivery in deliveries {
-        archive.deliver(alloc, delivery.visit, delivery.verdict)?;
+    let mut seq = 0u32;
+    for (cid, depth, verdict) in visits {
+        let visit = visit_of(alloc, seq, cid, *depth)?;
+        match archive.deliver(alloc, visit, *verdict) {
+            Ok(()) => seq = seq.saturating_add(1),
+            Err(fault) => return Ok(Some(fault)),
+        }
     }
     archive.close(End::Done);
-    Ok(())
+    Ok(None)
 }
 
 // What comes of an archive: no counts where none could be begun.
@@ -171,34 +159,51 @@ fn not_begun(alloc: Global, fault: ArchiveNew<Narrow>) -> Result<Outcome, Fail> 
 }
 
 // What comes of an archive that was told nothing so far.
-fn outcome_of(alloc: Global, archive: Archive<'_, Narrow>, deliveries: Vec<Delivery>) -> Outcome
+fn outcome_of(
+    alloc: Global,
+    archive: Archive<'_, Narrow>,
+    visits: &[Delivered],
+) -> Result<Outcome, Fail>
     requires unclosed { IsOpen (events_of archive) }
     requires unfailed { archive.failed ≡ [] }
 {
     let mut archive = archive;
-    let fault = deliver_all(alloc, &mut archive, deliveries).err();
+    let fault = deliver_all(alloc, &mut archive, visits)?;
     let (writer, skips, counts) = archive.into_parts();
-    Outcome {
+    Ok(Outcome {
         bytes: writer.bytes,
         skips,
         counts: Some(counts),
         fault,
+    })
+}
+
+// The archive of a job's visits.
+fn archive_over(
+    alloc: Global,
+    store: &Store,
+    job: &Job,
+    visits: &[Delivered],
+    writer: Narrow,
+) -> Result<Outcome, Fail> {
+    match Archive::new(alloc, store, job, writer) {
+        Ok(archive) => outcome_of(alloc, archive, visits),
+        Err(fault) => not_begun(alloc, fault),
     }
 }
 
-// The archive of visits, the first of which is the root.
+// The archive of visits, the first of which is the root, through a writer with so much room and of
+// so much width.
 fn archive_through(
     alloc: Global,
+    visits: &[Delivered],
     root: &str,
-    deliveries: Vec<Delivery>,
-    writer: Narrow,
+    room: usize,
+    width: usize,
 ) -> Result<Outcome, Fail> {
     let store = store_of(alloc, BLOCKS.as_slice())?;
     let job = job_of(alloc, root, MATCHER, 100)?;
-    match Archive::new(alloc, &store, &job, writer) {
-        Ok(archive) => Ok(outcome_of(alloc, archive, deliveries)),
-        Err(fault) => not_begun(alloc, fault),
-    }
+    archive_over(alloc, &store, &job, visits, writer_of(alloc, room, width))
 }
 
 fn counted(visits: u32, kept: u32, sections: u32, bytes: u64) -> Option<Counts> {
@@ -210,18 +215,32 @@ fn counted(visits: u32, kept: u32, sections: u32, bytes: u64) -> Option<Counts> 
     })
 }
 
+// How many visits were skipped, and the number of the first with its verdict.
+fn skipped(got: &Outcome) -> (usize, Option<(u32, Verdict)>) {
+    let first = got.skips.first().map(|skip| (skip.seq, skip.verdict));
+    (got.skips.len(), first)
+}
+
+// These bytes came, counted and skipped so.
+fn is_whole(
+    rt: &impl Abort,
+    got: &Outcome,
+    bytes: &[u8],
+    counts: Option<Counts>,
+    skips: (usize, Option<(u32, Verdict)>),
+) {
+    assert_eq!(rt; (got.counts, skipped(got)), (counts, skips));
+    assert_eq!(rt; got.bytes.as_slice(), bytes);
+}
+
 #[test]
 fn writes_the_damaged_list(rt: HostRuntime) -> Result<(), Fail> {
     let alloc = rt.alloc();
     let want = list_archive(alloc)?;
+    let skips = (1, Some((1, Verdict::Damaged)));
     for width in [1usize, 1000] {
-        let deliveries = deliveries_of(alloc, LIST_VISITS.as_slice())?;
-        let got = archive_through(alloc, LIST, deliveries, writer_of(alloc, 1000, width))?;
-        assert_eq!(rt; got.counts, counted(5, 4, 3, 298));
-        assert_eq!(rt; got.bytes.as_slice(), want.as_slice());
-        assert_eq!(rt; got.skips.len(), 1);
-        assert_eq!(rt; got.skips[0].seq, 1);
-        assert_eq!(rt; got.skips[0].verdict, Verdict::Damaged);
+        let got = archive_through(alloc, LIST_VISITS.as_slice(), LIST, 1000, width)?;
+        is_whole(&rt, &got, want.as_slice(), counted(5, 4, 3, 298), skips);
     }
     Ok(())
 }
@@ -230,41 +249,33 @@ fn writes_the_damaged_list(rt: HostRuntime) -> Result<(), Fail> {
 fn writes_once_what_is_entered_twice(rt: HostRuntime) -> Result<(), Fail> {
     let alloc = rt.alloc();
     let want = archive_of(alloc, TWICE, TWICE_SECTIONS.as_slice())?;
-    let deliveries = deliveries_of(alloc, TWICE_VISITS.as_slice())?;
-    let got = archive_through(alloc, TWICE, deliveries, writer_of(alloc, 1000, 1000))?;
-    assert_eq!(rt; got.counts, counted(4, 4, 3, 302));
-    assert_eq!(rt; got.bytes.as_slice(), want.as_slice());
-    assert_eq!(rt; got.skips.len(), 0);
+    let got = archive_through(alloc, TWICE_VISITS.as_slice(), TWICE, 1000, 1000)?;
+    is_whole(&rt, &got, want.as_slice(), counted(4, 4, 3, 302), (0, None));
     Ok(())
 }
 
 #[test]
 fn writes_nothing_where_the_store_has_no_block(rt: HostRuntime) -> Result<(), Fail> {
-    let alloc = rt.alloc();
     let visits = [(EMPTY, 0, Verdict::Sound)];
-    let deliveries = deliveries_of(alloc, visits.as_slice())?;
-    let got = archive_through(alloc, EMPTY, deliveries, writer_of(alloc, 1000, 1000))?;
-    assert_eq!(rt; got.counts, counted(1, 1, 0, 59));
-    assert_eq!(rt; got.bytes.len(), 59);
+    let got = archive_through(rt.alloc(), visits.as_slice(), EMPTY, 1000, 1000)?;
+    assert_eq!(rt; (got.counts, got.bytes.len()), (counted(1, 1, 0, 59), 59));
     Ok(())
 }
 
 // What came of a writer with so much room: as much of the whole archive, and a fault where that isn't all.
 fn is_cut_at(rt: &impl Abort, got: &Outcome, room: usize, whole: &[u8]) {
-    assert_eq!(rt; got.bytes.len(), room);
     assert!(rt; whole.starts_with(got.bytes.as_slice()));
     let taken = got.counts.map(|counts| counts.bytes);
-    if room < 59 {
-        assert_eq!(rt; taken, None, "at {room}");
-    } else {
-        let want = if room < 178 {
-            Some(SinkFault::Write)
-        } else {
-            None
-        };
-        assert_eq!(rt; got.fault, want, "at {room}");
-        assert_eq!(rt; taken, Some(room as u64));
-    }
+    let is_begun = room >= 59;
+    assert_eq!(rt;
+        (got.bytes.len(), taken, got.fault),
+        (
+            room,
+            is_begun.then_some(room as u64),
+            (is_begun && room < 178).then_some(SinkFault::Write)
+        ),
+        "at {room}"
+    );
 }
 
 #[test]
@@ -273,8 +284,7 @@ fn tells_where_a_writer_fails(rt: HostRuntime) -> Result<(), Fail> {
     let whole = archive_of(alloc, ONE_LINK, ONE_LINK_SECTIONS.as_slice())?;
     assert_eq!(rt; whole.len(), 178);
     for room in 0..179usize {
-        let deliveries = deliveries_of(alloc, ONE_LINK_VISITS.as_slice())?;
-        let got = archive_through(alloc, ONE_LINK, deliveries, writer_of(alloc, room, 50))?;
+        let got = archive_through(alloc, ONE_LINK_VISITS.as_slice(), ONE_LINK, room, 50)?;
         is_cut_at(&rt, &got, room, whole.as_slice());
     }
     Ok(())

@@ -1,17 +1,20 @@
 //! A collector that receives what verifiers send, in mixed order.
 
-ghost use Rattle.std.specs.Prelude.{◌≡◌, length, IfOk};
+ghost use Rattle.std.specs.Prelude.{◌≡◌, ◌≤◌, IfOk};
 ghost use Rattle.ix_handover.specs.Lanes.{IsLane};
-ghost use Rattle.ix_collect.specs.Collected.{job_count, MayTell};
+ghost use Rattle.ix_collect.specs.Collected.{job_count};
+ghost use Rattle.ix_collect.specs.Collecting.{CanCollect};
+ghost use Rattle.ix_stage_tests.specs.Collected.{HasAsManyJobs};
 
 use ix_archive::{End, Sink};
 use ix_check::Verdict;
-use ix_collect::{Collector, drain, finish, law, round};
+use ix_collect::{Collector, Received, drain, finish, law, round};
 use ix_fixtures::{ABC, Log, cid_of};
 use ix_stages::{LaneIn, LaneOut, Verdicted, lane};
 use ix_walk::Visit;
 use std::alloc::{AllocError, Global};
 use std::process::Abort;
+use std::sync::Wait;
 use std::test::Fail;
 
 // What is sent, of a job: a visit, with a verdict or without, or the close, each with its number.
@@ -72,11 +75,9 @@ fn receive_all<S: Sink>(
     sinks: &mut [S],
     items: &[Sent],
 ) -> Result<(), Fail>
-    requires sinks { length sinks.old ≡ job_count collector.old }
-    requires may { MayTell S.events S.failed collector.old sinks.old }
-    ensures sinks { length sinks.new ≡ job_count collector.new }
-    ensures jobs { job_count collector.new ≡ job_count collector.old }
-    ensures may { MayTell S.events S.failed collector.new sinks.new }
+    requires { CanCollect S.events S.failed collector.old sinks.old }
+    ensures jobs { HasAsManyJobs collector.old collector.new }
+    ensures goes { CanCollect S.events S.failed collector.new sinks.new }
 {
     for sent in items {
         let item = item_of(alloc, sent)?;
@@ -98,31 +99,52 @@ fn lane_of(alloc: Global, capacity: u32, items: &[Sent]) -> Result<(LaneIn, Lane
     Ok((sender, receiver))
 }
 
-// A round over the lanes gives so many items, of which so many are a verifier's last.
-fn round_gives<S: Sink>(
-    rt: &impl Abort,
-    alloc: Global,
-    collector: &mut Collector,
-    lanes: &mut [LaneOut],
-    sinks: &mut [S],
-    wanted: (usize, usize),
-)
-    requires sinks { length sinks.old ≡ job_count collector.old }
-    requires may { MayTell S.events S.failed collector.old sinks.old }
-    ensures sinks { length sinks.new ≡ job_count collector.new }
-    ensures jobs { job_count collector.new ≡ job_count collector.old }
-    ensures may { MayTell S.events S.failed collector.new sinks.new }
-{
-    let received = round(alloc, collector, lanes, sinks);
-    assert!(rt; (received.items, received.lasts) == wanted);
+// Whether the deliveries come in the order of their numbers.
+fn is_in_order(log: &Log) -> bool {
+    let mut numbered = log.deliveries.iter().enumerate();
+    numbered.all(|(number, delivery)| delivery.visit.seq as usize == number)
 }
 
 // The log has so many deliveries, in the order of their numbers.
 fn has_in_order(rt: &impl Abort, log: &Log, count: usize) {
-    assert_eq!(rt; log.deliveries.len(), count);
-    for (number, delivery) in log.deliveries.iter().enumerate() {
-        assert!(rt; delivery.visit.seq as usize == number);
-    }
+    assert_eq!(rt; (log.deliveries.len(), is_in_order(log)), (count, true));
+}
+
+// Every sink was closed, and the jobs ended so.
+fn has_ended(
+    rt: &impl Abort,
+    alloc: Global,
+    collector: &Collector,
+    wanted: &[End],
+) -> Result<(), Fail>
+    requires { job_count collector.now ≤ 4 }
+{
+    assert!(rt; collector.is_done());
+    let ends = collector.ends(Vec::with_capacity(alloc, 4)?);
+    assert!(rt; ends.as_slice() == wanted);
+    Ok(())
+}
+
+// The collector isn't done before the last item of the four jobs.
+fn receive_four_jobs<S: Sink>(
+    rt: &impl Abort,
+    alloc: Global,
+    collector: &mut Collector,
+    sinks: &mut [S],
+) -> Result<(), Fail>
+    requires jobs { job_count collector.old ≡ 4 }
+    requires sinks { CanCollect S.events S.failed collector.old sinks.old }
+{
+    let (before, last) = FOUR_JOBS.split_at(11);
+    receive_all(alloc, collector, sinks, before)?;
+    assert!(rt; !collector.is_done());
+    receive_all(alloc, collector, sinks, last)?;
+    has_ended(
+        rt,
+        alloc,
+        collector,
+        &[End::Done, End::Write, End::Memory, End::Memory],
+    )
 }
 
 #[test]
@@ -136,13 +158,7 @@ fn ends_of_four_jobs(rt: HostRuntime) -> Result<(), Fail> {
     ];
     let mut collector = Collector::new(alloc, 4)?;
     law::unused_has_collected_nothing::<Log>();
-    let (before, last) = FOUR_JOBS.split_at(11);
-    receive_all(alloc, &mut collector, &mut logs, before)?;
-    assert!(rt; !collector.is_done());
-    receive_all(alloc, &mut collector, &mut logs, last)?;
-    assert!(rt; collector.is_done());
-    let ends = collector.ends(Vec::with_capacity(alloc, 4)?);
-    assert!(rt; ends.as_slice() == [End::Done, End::Write, End::Memory, End::Memory].as_slice());
+    receive_four_jobs(&rt, alloc, &mut collector, &mut logs)?;
     for (log, count) in logs.iter().zip([3, 1, 0, 0]) {
         has_in_order(&rt, log, count);
     }
@@ -151,79 +167,122 @@ fn ends_of_four_jobs(rt: HostRuntime) -> Result<(), Fail> {
 
 // Items of which the last can't come: a number that was passed, one that is taken, one too far above
 // the next, a second close, an item behind the close of the sink, and one of a job that isn't there.
-const STRAYS: [&[Sent]; 6] = [
-    &[Sent::Checked(0, 0), Sent::Checked(0, 0)],
-    &[Sent::Checked(0, 1), Sent::Unchecked(0, 1)],
-    &[Sent::Checked(0, 1), Sent::Checked(0, 1_048_576)],
-    &[Sent::Closed(0, 1, End::Done), Sent::Closed(0, 1, End::Done)],
-    &[Sent::Closed(0, 0, End::Done), Sent::Checked(0, 0)],
-    &[Sent::Checked(0, 1), Sent::Checked(1, 0)],
+const STRAYS: [[Sent; 2]; 6] = [
+    [Sent::Checked(0, 0), Sent::Checked(0, 0)],
+    [Sent::Checked(0, 1), Sent::Unchecked(0, 1)],
+    [Sent::Checked(0, 1), Sent::Checked(0, 1_048_576)],
+    [Sent::Closed(0, 1, End::Done), Sent::Closed(0, 1, End::Done)],
+    [Sent::Closed(0, 0, End::Done), Sent::Checked(0, 0)],
+    [Sent::Checked(0, 1), Sent::Checked(1, 0)],
 ];
 
-// A collector for one job notes the last of these items, and none before it, and its sink is told no
+// What a log was told so far: how many deliveries, and the close.
+fn told(log: &Log) -> (usize, Option<End>) {
+    (log.deliveries.len(), log.closed)
+}
+
+// A collector for one job notes the second of these items, and not the first, and its sink is told no
 // more by it.
-fn notes_the_last(rt: &impl Abort, alloc: Global, items: &[Sent]) -> Result<(), Fail> {
+fn notes_the_second(rt: &impl Abort, alloc: Global, items: &[Sent; 2]) -> Result<(), Fail> {
     let mut logs = [Log::new(alloc, 9)?];
     let mut collector = Collector::new(alloc, 1)?;
     law::unused_has_collected_nothing::<Log>();
-    let Some((last, before)) = items.split_last() else {
-        return Err("an item was wanted".into());
-    };
-    receive_all(alloc, &mut collector, &mut logs, before)?;
-    assert!(rt; !collector.has_stray());
-    let told = (logs[0].deliveries.len(), logs[0].closed);
-    let item = item_of(alloc, last)?;
-    collector.receive(alloc, item, &mut logs);
-    assert!(rt; collector.has_stray());
-    assert!(rt; (logs[0].deliveries.len(), logs[0].closed) == told);
+    let (first, second) = items.split_at(1);
+    receive_all(alloc, &mut collector, &mut logs, first)?;
+    let before = (collector.has_stray(), told(&logs[0]));
+    receive_all(alloc, &mut collector, &mut logs, second)?;
+    let after = (collector.has_stray(), told(&logs[0]));
+    assert_eq!(rt; (before.0, after), (false, (true, before.1)));
     Ok(())
 }
 
 #[test]
 fn strays_are_noted(rt: HostRuntime) -> Result<(), Fail> {
     for items in &STRAYS {
-        notes_the_last(&rt, rt.alloc(), *items)?;
+        notes_the_second(&rt, rt.alloc(), items)?;
     }
     Ok(())
 }
 
-// One lane is read in rounds, one is drained, and two are finished.
-#[test]
-fn lanes_into_one_sink(rt: HostRuntime) -> Result<(), Fail> {
-    let alloc = rt.alloc();
+// What three rounds over a lane give.
+fn three_rounds<S: Sink>(
+    alloc: Global,
+    collector: &mut Collector,
+    sinks: &mut [S],
+) -> Result<[Received; 3], Fail>
+    requires { CanCollect S.events S.failed collector.old sinks.old }
+    ensures jobs { HasAsManyJobs collector.old collector.new }
+    ensures goes { CanCollect S.events S.failed collector.new sinks.new }
+{
     let (_sender, receiver) = lane_of(alloc, 2, &[Sent::Checked(0, 1), Sent::Last])?;
-    let mut read = [receiver];
+    let mut lanes = [receiver];
+    Ok([
+        round(alloc, collector, &mut lanes, sinks),
+        round(alloc, collector, &mut lanes, sinks),
+        round(alloc, collector, &mut lanes, sinks),
+    ])
+}
+
+// Drains a lane.
+fn drain_one<R: Wait, S: Sink>(
+    rt: &R,
+    alloc: Global,
+    collector: &mut Collector,
+    sinks: &mut [S],
+) -> Result<(), Fail>
+    requires { CanCollect S.events S.failed collector.old sinks.old }
+    ensures jobs { HasAsManyJobs collector.old collector.new }
+    ensures goes { CanCollect S.events S.failed collector.new sinks.new }
+{
     let (mut sender, mut receiver) = lane_of(alloc, 1, &[Sent::Checked(0, 0)])?;
+    drain(rt, alloc, collector, &mut sender, &mut receiver, sinks);
+    Ok(())
+}
+
+// Finishes two lanes.
+fn finish_two<R: Wait, S: Sink>(
+    rt: &R,
+    alloc: Global,
+    collector: &mut Collector,
+    sinks: &mut [S],
+) -> Result<(), Fail>
+    requires { CanCollect S.events S.failed collector.old sinks.old }
+    ensures jobs { HasAsManyJobs collector.old collector.new }
+    ensures goes { CanCollect S.events S.failed collector.new sinks.new }
+{
     let (first_in, first_out) = lane_of(alloc, 2, &[Sent::Closed(0, 3, End::Done), Sent::Last])?;
     let (second_in, second_out) = lane_of(alloc, 3, &[Sent::Checked(0, 2), Sent::Last])?;
     let mut senders = [first_in, second_in];
     let mut receivers = [first_out, second_out];
+    finish(rt, alloc, collector, &mut senders, &mut receivers, sinks);
+    Ok(())
+}
+
+// One lane is read in rounds, one is drained, and two are finished.
+fn receive_lanes<R: Abort + Wait, S: Sink>(
+    rt: &R,
+    alloc: Global,
+    collector: &mut Collector,
+    sinks: &mut [S],
+) -> Result<(), Fail>
+    requires jobs { job_count collector.old ≡ 1 }
+    requires sinks { CanCollect S.events S.failed collector.old sinks.old }
+{
+    let rounds = three_rounds(alloc, collector, sinks)?;
+    assert!(rt; rounds.map(|round| (round.items, round.lasts)) == [(1, 0), (1, 1), (0, 0)]);
+    drain_one(rt, alloc, collector, sinks)?;
+    assert!(rt; !collector.is_done());
+    finish_two(rt, alloc, collector, sinks)?;
+    has_ended(rt, alloc, collector, &[End::Done])
+}
+
+#[test]
+fn lanes_into_one_sink(rt: HostRuntime) -> Result<(), Fail> {
+    let alloc = rt.alloc();
     let mut logs = [Log::new(alloc, 9)?];
     let mut collector = Collector::new(alloc, 1)?;
     law::unused_has_collected_nothing::<Log>();
-    round_gives(&rt, alloc, &mut collector, &mut read, &mut logs, (1, 0));
-    round_gives(&rt, alloc, &mut collector, &mut read, &mut logs, (1, 1));
-    round_gives(&rt, alloc, &mut collector, &mut read, &mut logs, (0, 0));
-    drain(
-        &rt,
-        alloc,
-        &mut collector,
-        &mut sender,
-        &mut receiver,
-        &mut logs,
-    );
-    assert!(rt; !collector.is_done());
-    finish(
-        &rt,
-        alloc,
-        &mut collector,
-        &mut senders,
-        &mut receivers,
-        &mut logs,
-    );
-    assert!(rt; collector.is_done());
-    let ends = collector.ends(Vec::with_capacity(alloc, 1)?);
-    assert!(rt; ends.as_slice() == [End::Done].as_slice());
+    receive_lanes(&rt, alloc, &mut collector, &mut logs)?;
     has_in_order(&rt, &logs[0], 3);
     Ok(())
 }

@@ -3,6 +3,7 @@
 
 ghost use Rattle.std.specs.Prelude.{All, IfOk};
 ghost use Rattle.ix_handover.specs.Claims.{IsOfClaims};
+ghost use Rattle.ix_handover.specs.Lanes.{IsLane, IsSameLane, SameIn};
 
 use ix_fixtures::{Awaited, TURNS};
 use ix_stages::{ClaimSeat, Claims, LaneIn, LaneOut, Verdicted, lane_rest};
@@ -25,13 +26,31 @@ fn seq_of(item: &Verdicted) -> Option<u32> {
     }
 }
 
+// Sends an item, or answers the number of the one that comes back.
+fn send_one(sender: &mut LaneIn, seq: u32) -> Result<(), Option<u32>>
+    ensures { SameIn sender.old sender.new }
+{
+    sender.try_send(item(seq)).map_err(|back| seq_of(&back))
+}
+
+// Receives an item, and answers its number.
+fn receive_one(receiver: &mut LaneOut) -> Option<Option<u32>> {
+    receiver.try_recv().as_ref().map(seq_of)
+}
+
+// The same where both ends are here.
+fn rest_one(sender: &mut LaneIn, receiver: &mut LaneOut) -> Option<Option<u32>>
+    requires { IsLane sender.old receiver.old }
+    ensures { IsSameLane sender.old sender.new receiver.old receiver.new }
+{
+    lane_rest(sender, receiver).as_ref().map(seq_of)
+}
+
 // Sends an item once there is room, and says whether there ever was.
 fn send(sender: &mut LaneIn, seq: u32) -> bool {
-    let mut next = item(seq);
     for _ in 0..TURNS {
-        match sender.try_send(next) {
-            Ok(()) => return true,
-            Err(back) => next = back,
+        if send_one(sender, seq).is_ok() {
+            return true;
         }
         thread::yield_now();
     }
@@ -41,8 +60,8 @@ fn send(sender: &mut LaneIn, seq: u32) -> bool {
 // Receives the next item once there is one, if there ever is.
 fn receive(receiver: &mut LaneOut) -> Option<u32> {
     for _ in 0..TURNS {
-        if let Some(next) = receiver.try_recv() {
-            return seq_of(&next);
+        if let Some(next) = receive_one(receiver) {
+            return next;
         }
         thread::yield_now();
     }
@@ -77,37 +96,28 @@ fn pass_all<R: Threads>(rt: &R, sender: LaneIn, receiver: LaneOut) -> (bool, boo
 #[test]
 fn lane(rt: HostRuntime) -> Result<(), Fail> {
     let (mut sender, mut receiver) = ix_stages::lane(rt.alloc(), 1)?;
-    assert!(rt; sender.try_send(item(0)).is_ok());
-    assert!(rt;
-        matches!(
-            sender.try_send(item(1)),
-            Err(Verdicted::Unchecked { job: 0, seq: 1 })
-        )
+    let sent = [send_one(&mut sender, 0), send_one(&mut sender, 1)];
+    let received = [receive_one(&mut receiver), receive_one(&mut receiver)];
+    assert_eq!(rt;
+        (sent, received),
+        ([Ok(()), Err(Some(1))], [Some(Some(0)), None])
     );
-    assert!(rt;
-        matches!(
-            receiver.try_recv(),
-            Some(Verdicted::Unchecked { job: 0, seq: 0 })
-        )
-    );
-    assert!(rt; receiver.try_recv().is_none());
     Ok(())
 }
 
 #[test]
 fn rest_of_a_lane(rt: HostRuntime) -> Result<(), Fail> {
     let (mut sender, mut receiver) = ix_stages::lane(rt.alloc(), 2)?;
-    let sent = [
-        sender.try_send(item(0)).is_ok(),
-        sender.try_send(item(1)).is_ok(),
+    let sent = [send_one(&mut sender, 0), send_one(&mut sender, 1)];
+    let rest = [
+        rest_one(&mut sender, &mut receiver),
+        rest_one(&mut sender, &mut receiver),
+        rest_one(&mut sender, &mut receiver),
     ];
-    let first = lane_rest(&mut sender, &mut receiver);
-    let second = lane_rest(&mut sender, &mut receiver);
-    let third = lane_rest(&mut sender, &mut receiver);
-    assert_eq!(rt; sent, [true, true]);
-    assert_eq!(rt; first.as_ref().and_then(seq_of), Some(0));
-    assert_eq!(rt; second.as_ref().and_then(seq_of), Some(1));
-    assert!(rt; third.is_none());
+    assert_eq!(rt;
+        (sent, rest),
+        ([Ok(()), Ok(())], [Some(Some(0)), Some(Some(1)), None])
+    );
     Ok(())
 }
 
@@ -118,17 +128,6 @@ fn items_in_order_through_a_lane_of_one(rt: HostRuntime) -> Result<(), Fail> {
     assert!(rt; sent, "the lane stayed full");
     assert!(rt; received, "the lane stayed empty, or gave another item");
     Ok(())
-}
-
-// Settles one seat.
-fn settle_one(
-    alloc: Global,
-    claims: &Claims<&'static str>,
-    seat: ClaimSeat<&'static str>,
-) -> Result<u32, AllocError>
-    requires { IsOfClaims claims.now seat }
-{
-    Ok(claims.settle(vec![in alloc; seat]?))
 }
 
 // Claims four times through a seat.
@@ -147,18 +146,33 @@ fn claim_four(
     ]
 }
 
+// A seat claims "x" and "y" and then nothing, and two places are claimed when it is settled.
+fn claims_both(
+    rt: &impl Abort,
+    alloc: Global,
+    claims: &Claims<&'static str>,
+    seat: ClaimSeat<&'static str>,
+) -> Result<(), AllocError>
+    requires { IsOfClaims claims.now seat }
+{
+    let mut seat = seat;
+    let found = claim_four(claims, &mut seat);
+    let settled = claims.settle(vec![in alloc; seat]?);
+    assert_eq!(rt;
+        (found, settled),
+        ([Some((0, "x")), Some((1, "y")), None, None], 2)
+    );
+    Ok(())
+}
+
 #[test]
 fn claims(rt: HostRuntime) -> Result<(), Fail> {
     let alloc = rt.alloc();
     let values = Vec::from_array(alloc, ["x", "y"])?;
     let (claims, seats) = Claims::new(alloc, values, 1)?;
     assert_eq!(rt; seats.len(), 1);
-    for mut seat in seats {
-        assert_eq!(rt;
-            claim_four(&claims, &mut seat),
-            [Some((0, "x")), Some((1, "y")), None, None]
-        );
-        assert_eq!(rt; settle_one(alloc, &claims, seat)?, 2);
+    for seat in seats {
+        claims_both(&rt, alloc, &claims, seat)?;
     }
     Ok(())
 }
@@ -214,14 +228,21 @@ fn claim_in_threads<R: Threads + Sync>(
     )
 }
 
-// The seats, and what was claimed through them.
-fn gather(
+// What all seats claimed together.
+#[derive(Drop)]
+struct Total {
+    seats: usize,
+    settled: u32,
+    places: Vec<(u32, u32)>,
+}
+
+// Settles the seats, and sorts what was claimed through them.
+fn settle_all(
     alloc: Global,
     claims: &Claims<u32>,
     all: Vec<Result<Claimed, AllocError>>,
-) -> Result<(Vec<ClaimSeat<u32>>, Vec<(u32, u32)>), AllocError>
+) -> Result<Total, AllocError>
     requires { All (λ c. IfOk c (λ d. IsOfClaims claims.now d.seat)) all.items }
-    ensures { IfOk result (λ r. All (IsOfClaims claims.now) r.0.items) }
 {
     let mut seats = Vec::new(alloc);
     let mut places = Vec::new(alloc);
@@ -230,7 +251,12 @@ fn gather(
         seats.push(seat)?;
         places.append(&mut found)?;
     }
-    Ok((seats, places))
+    places.sort()?;
+    Ok(Total {
+        seats: seats.len(),
+        settled: claims.settle(seats),
+        places,
+    })
 }
 
 // The values 5000, 4999 and so on, at the places 0 to 999.
@@ -259,10 +285,8 @@ fn four_threads_claim_each_place_once(rt: HostRuntime) -> Result<(), Fail> {
     let start = Awaited::new(4);
     let all = claim_in_threads(&rt, alloc, &claims, &start, seats)?;
     assert!(rt; !start.is_missed(), "fewer than four threads began");
-    let (back, mut places) = gather(alloc, &claims, all)?;
-    assert_eq!(rt; back.len(), 4);
-    assert_eq!(rt; claims.settle(back), 1000);
-    places.sort()?;
-    are_each_once(&rt, places.as_slice());
+    let total = settle_all(alloc, &claims, all)?;
+    assert_eq!(rt; (total.seats, total.settled), (4, 1000));
+    are_each_once(&rt, total.places.as_slice());
     Ok(())
 }

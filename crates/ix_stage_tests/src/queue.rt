@@ -1,12 +1,14 @@
 //! The visit queue and a verifier: a chain through both on one thread, and walks on three threads
 //! through a queue with room for one.
 
-ghost use Rattle.std.specs.Prelude.{◌≡◌, ◌≤◌, ◌<◌, false, All, Some, IfOk, IfSome, length, slice_get};
-ghost use Rattle.ix_handover.specs.Course.{course_of, MayClose};
+ghost use Rattle.std.specs.Prelude.{◌≡◌, ◌<◌, None, Some, false, All, IfOk, IfSome, length, slice_get};
+ghost use Rattle.ix_handover.specs.Course.{IsCourseOf, course_of};
 ghost use Rattle.ix_handover.specs.Making.{IsNewQueue};
+ghost use Rattle.ix_handover.specs.declared.item.Item.{Item};
 ghost use Rattle.ix_handover.specs.Queue.{table_of};
-ghost use Rattle.ix_stage_tests.specs.Walkers.{CanWalk, CanAllWalk, IsOpenAsBefore, CanClose, IsWalker, IsTaker, CanRun, HasRun};
-ghost use Rattle.ix_handover.specs.Seats.{IsNext};
+ghost use Rattle.ix_handover.specs.Seats.{IsNext, closed_after, next_after};
+ghost use Rattle.ix_stage_tests.specs.Walkers.{CanWalk, CanAllWalk, CanGoOn, CanClose, HasLeft, IsLeft};
+ghost use Rattle.ix_stage_tests.specs.Walkers.{AreSmall, IsOneJob, IsSameTable, IsWalker, IsTaker, HasWalked};
 
 use ix_archive::End;
 use ix_check::{ShaCheck, Verdict};
@@ -36,23 +38,22 @@ impl Course for Walks<'_> {
     ghost plan = { λ w. course_of w.store.now w.jobs.now };
 }
 
-// The queue of these jobs.
+// The queue of these walks.
 fn queue_of(
     alloc: Global,
-    store: &Store,
-    jobs: &[Job],
+    walks: &Walks<'_>,
     capacity: u32,
     takers: u32,
 ) -> Result<QueueParts, AllocError>
-    requires jobs { All (λ job. job.limit ≤ 1000000) jobs.now × (length jobs.now < 1000) }
+    requires jobs { AreSmall walks.now.jobs.now × (length walks.now.jobs.now < 1000) }
     requires room { (0 < capacity) × (takers < 1000) }
-    ensures made { IfOk result (IsNewQueue (course_of store.now jobs.now) (length jobs.now) takers) }
-    ensures walkers { IfOk result (λ q. CanAllWalk q (course_of store.now jobs.now)) }
+    ensures made { IfOk result (IsNewQueue
+        (course_of walks.now.store.now walks.now.jobs.now) (length walks.now.jobs.now) takers) }
+    ensures walkers { IfOk result (λ q. CanAllWalk q (course_of walks.now.store.now walks.now.jobs.now)) }
     ensures tables { IfOk result (λ q. All (IsTaker q.queue) q.takers.items) }
 {
     law::course_of_jobs();
-    let course = Walks { store, jobs };
-    let parts = VisitQueue::new(alloc, &course, capacity, jobs.len() as u32, takers)?;
+    let parts = VisitQueue::new(alloc, walks, capacity, walks.jobs.len() as u32, takers)?;
     Ok(parts)
 }
 
@@ -63,106 +64,204 @@ fn job_of_seat<'a>(jobs: &'a [Job], seat: &JobSeat) -> Option<&'a Job>
     jobs.get(seat.job() as usize)
 }
 
-// Puts the visits of the seat's job, and says how the walk ended.
-fn put_visits<R: Wait>(
-    rt: &R,
-    alloc: Global,
-    store: &Store,
-    jobs: &[Job],
-    queue: &VisitQueue,
-    seat: &mut JobSeat,
-) -> Result<End, AllocError>
-    requires seat { CanWalk queue.now (course_of store.now jobs.now) seat.old }
-    ensures same { IsOpenAsBefore seat.old seat.new }
-    ensures end { IfOk result (MayClose seat.new.pass.course seat.new.job seat.new.next) }
+// The walk of the seat's job.
+fn walk_of<'a>(alloc: Global, walks: &Walks<'a>, seat: &JobSeat) -> Result<Walk<'a>, AllocError>
+    requires { (seat.now.pass.course ≡ course_of walks.now.store.now walks.now.jobs.now) × (seat.now.next ≡ 0) }
+    ensures { IfOk result (IsLeft seat.now) }
 {
     law::course_of_jobs();
-    let Some(job) = job_of_seat(jobs, seat) else {
-        return Err(AllocError);
-    };
-    for item in Walk::new(alloc, store, job, seat.job())? {
-        match item {
-            Ok(visit) => queue.put(rt, seat, Item::Visit(visit)),
-            Err(WalkStop::Limit) => return Ok(End::Limit),
-            Err(WalkStop::Memory) => return Err(AllocError),
-        }
+    match job_of_seat(walks.jobs, seat) {
+        Some(job) => Walk::new(alloc, walks.store, job, seat.job()),
+        None => Err(AllocError),
     }
-    Ok(End::Done)
+}
+
+// The close of the seat's job, which ended so.
+fn close_of(seat: &JobSeat, end: End) -> Item
+    ensures { result ≡ Item.Close seat.now.job seat.now.next end }
+{
+    Item::Close {
+        job: seat.job(),
+        seq: seat.next(),
+        end,
+    }
+}
+
+// What the seat is to put next: the walk's next visit, or the close once it has ended.
+fn next_item(seat: &JobSeat, walk: &mut Walk<'_>) -> Result<Item, AllocError>
+    requires { IsLeft seat.now walk.old }
+    ensures next { IfOk result (IsNext seat.now) }
+    ensures left { IfOk result (λ x. closed_after x ≡ false
+        → HasLeft seat.now.pass.course seat.now.job (next_after seat.now.next x) walk.new) }
+{
+    match walk.next() {
+        Some(Ok(visit)) => Ok(Item::Visit(visit)),
+        Some(Err(WalkStop::Limit)) => Ok(close_of(seat, End::Limit)),
+        Some(Err(WalkStop::Memory)) => Err(AllocError),
+        None => Ok(close_of(seat, End::Done)),
+    }
+}
+
+// Whether it closes its job.
+fn is_close(item: &Item) -> bool
+    ensures { result ≡ closed_after item.now }
+{
+    matches!(item, Item::Close { .. })
+}
+
+// Puts what is left of the walk, and gives the close.
+fn put_visits<R: Wait>(
+    rt: &R,
+    queue: &VisitQueue,
+    seat: &mut JobSeat,
+    walk: &mut Walk<'_>,
+) -> Result<Item, AllocError>
+    requires { CanGoOn queue.now seat.old walk.old }
+    ensures table { IsSameTable seat.old.table seat.new.table }
+    ensures close { IfOk result (CanClose queue.now seat.new) }
+{
+    for _ in rt.forever() {
+        let item = next_item(seat, walk)?;
+        if is_close(&item) {
+            return Ok(item);
+        }
+        queue.put(rt, seat, item);
+    }
+    unreachable!()
 }
 
 // Puts the visits of the seat's job, and gives its close.
 fn put_job<R: Wait>(
     rt: &R,
     alloc: Global,
-    store: &Store,
-    jobs: &[Job],
+    walks: &Walks<'_>,
     queue: &VisitQueue,
     seat: &mut JobSeat,
 ) -> Result<Item, AllocError>
-    requires seat { CanWalk queue.now (course_of store.now jobs.now) seat.old }
-    ensures table { seat.new.table ≡ seat.old.table }
-    ensures next { IfOk result (λ close. (seat.new.closed ≡ false) × IsNext seat.new close) }
+    requires seat { CanWalk queue.now (course_of walks.now.store.now walks.now.jobs.now) seat.old }
+    ensures table { IsSameTable seat.old.table seat.new.table }
+    ensures close { IfOk result (CanClose queue.now seat.new) }
 {
-    let end = put_visits(rt, alloc, store, jobs, queue, seat)?;
-    Ok(Item::Close {
-        job: seat.job(),
-        seq: seat.next(),
-        end,
-    })
+    let mut walk = walk_of(alloc, walks, seat)?;
+    put_visits(rt, queue, seat, &mut walk)
 }
 
-// Puts them and the close.
+// Puts them and the close. The seat stays open where memory is wanting.
 fn put_walk<R: Wait>(
     rt: &R,
     alloc: Global,
-    store: &Store,
-    jobs: &[Job],
+    walks: &Walks<'_>,
     queue: &VisitQueue,
     seat: &mut JobSeat,
-) -> Result<(), AllocError>
-    requires seat { CanWalk queue.now (course_of store.now jobs.now) seat.old }
-    ensures { seat.new.table ≡ seat.old.table }
+)
+    requires seat { CanWalk queue.now (course_of walks.now.store.now walks.now.jobs.now) seat.old }
+    ensures { IsSameTable seat.old.table seat.new.table }
 {
-    let close = put_job(rt, alloc, store, jobs, queue, seat)?;
-    queue.put(rt, seat, close);
-    Ok(())
+    if let Ok(close) = put_job(rt, alloc, walks, queue, seat) {
+        queue.put(rt, seat, close);
+    }
 }
 
-// Whether the lane gives these next: the visits of the chain, all Sound, their close and Last.
+// What a lane gives, without what a visit holds.
+#[derive(Drop)]
+enum Given {
+    Sound(u32, u32),
+    Closed(u32, u32, End),
+    Last,
+    Other,
+}
+
+fn given_of(item: &Verdicted) -> Given {
+    match item {
+        Verdicted::Checked {
+            visit,
+            verdict: Verdict::Sound,
+        } => Given::Sound(visit.job, visit.seq),
+        Verdicted::Close { job, seq, end } => Given::Closed(*job, *seq, *end),
+        Verdicted::Last => Given::Last,
+        _ => Given::Other,
+    }
+}
+
+// What the lane gives next.
+fn next_given(lane: &mut LaneOut) -> Option<Given> {
+    lane.try_recv().as_ref().map(given_of)
+}
+
+// The lane gives these next: the visits of the chain, all Sound, their close and Last.
 fn gives_chain(rt: &impl Abort, lane: &mut LaneOut) {
     for number in 0..4 {
-        let sound = match lane.try_recv() {
-            Some(Verdicted::Checked { visit, verdict }) => {
-                visit.job == 0 && visit.seq == number && verdict == Verdict::Sound
-            }
+        let is_sound = match next_given(lane) {
+            Some(Given::Sound(job, seq)) => job == 0 && seq == number,
             _ => false,
         };
-        assert!(rt; sound, "no Sound visit {number}");
+        assert!(rt; is_sound, "no Sound visit {number}");
     }
-    let closed = match lane.try_recv() {
-        Some(Verdicted::Close { job, seq, end }) => job == 0 && seq == 4 && end == End::Done,
-        _ => false,
-    };
-    assert!(rt; closed, "no close of four visits");
-    assert!(rt; matches!(lane.try_recv(), Some(Verdicted::Last)), "no Last");
-    assert!(rt; lane.try_recv().is_none());
+    let is_closed = matches!(next_given(lane), Some(Given::Closed(0, 4, End::Done)));
+    assert!(rt; is_closed, "no close of four visits");
+    assert!(rt; matches!(next_given(lane), Some(Given::Last)), "no Last");
+    assert!(rt; next_given(lane).is_none());
+}
+
+// An item, without what a visit holds.
+#[derive(Drop)]
+enum Brief {
+    Visit(u32, u32),
+    Close(u32, u32),
+    Stop,
+}
+
+fn brief_of(item: &Item) -> Brief {
+    match item {
+        Item::Visit(visit) => Brief::Visit(visit.job, visit.seq),
+        Item::Close { job, seq, .. } => Brief::Close(*job, *seq),
+        Item::Stop => Brief::Stop,
+    }
+}
+
+// Takes the item at the front, where there is one.
+fn try_take<R: Wait>(rt: &R, queue: &VisitQueue, taker: &mut TakeSeat) -> Option<Brief>
+    requires { IsTaker queue.now taker.old }
+    ensures { IsSameTable taker.old.table taker.new.table }
+{
+    queue.try_take(rt, taker).as_ref().map(brief_of)
 }
 
 // A walker: it puts the walk of its seat's job.
 fn walker<R: Wait>(
     rt: &R,
     alloc: Global,
-    store: &Store,
-    jobs: &[Job],
+    walks: &Walks<'_>,
     queue: &VisitQueue,
     seat: JobSeat,
-) -> Result<JobSeat, AllocError>
-    requires { CanWalk queue.now (course_of store.now jobs.now) seat }
-    ensures { IfOk result (IsWalker queue.now) }
+) -> JobSeat
+    requires { CanWalk queue.now (course_of walks.now.store.now walks.now.jobs.now) seat }
+    ensures { IsWalker queue.now result }
 {
     let mut seat = seat;
-    put_walk(rt, alloc, store, jobs, queue, &mut seat)?;
-    Ok(seat)
+    put_walk(rt, alloc, walks, queue, &mut seat);
+    seat
+}
+
+// A walker for each seat, in a thread of its own.
+fn walk_all<R: Threads + Wait + Sync>(
+    rt: &R,
+    alloc: Global,
+    walks: &Walks<'_>,
+    queue: &VisitQueue,
+    seats: Vec<JobSeat>,
+) -> Result<Vec<JobSeat>, AllocError>
+    requires { All (CanWalk queue.now (course_of walks.now.store.now walks.now.jobs.now)) seats.items }
+    ensures { IfOk result (λ all. All (IsWalker queue.now) all.items) }
+{
+    thread::map_vec(
+        rt,
+        seats,
+        &|seat: JobSeat| -> JobSeat
+            requires { CanWalk queue.now (course_of walks.now.store.now walks.now.jobs.now) seat }
+            ensures { IsWalker queue.entry.now result }
+        { walker(rt, alloc, walks, queue, seat) },
+    )
 }
 
 // What a taker took: the job and number of each visit and each close.
@@ -172,27 +271,35 @@ struct Taken {
     numbers: Vec<(u32, u32)>,
 }
 
-// A taker: it takes until a Stop.
-fn taker<R: Wait>(
+// Takes an item and notes its job and number. False where it is a Stop, or memory is wanting.
+fn take_number<R: Wait>(
     rt: &R,
-    alloc: Global,
     queue: &VisitQueue,
-    seat: TakeSeat,
-) -> Result<Taken, AllocError>
+    seat: &mut TakeSeat,
+    numbers: &mut Vec<(u32, u32)>,
+) -> bool
+    requires { IsTaker queue.now seat.old }
+    ensures { IsSameTable seat.old.table seat.new.table }
+{
+    match brief_of(&queue.take(rt, seat)) {
+        Brief::Visit(job, seq) | Brief::Close(job, seq) => numbers.push((job, seq)).is_ok(),
+        Brief::Stop => false,
+    }
+}
+
+// A taker: it takes until a Stop.
+fn taker<R: Wait>(rt: &R, alloc: Global, queue: &VisitQueue, seat: TakeSeat) -> Taken
     requires { IsTaker queue.now seat }
-    ensures { IfOk result (λ t. IsTaker queue.now t.seat) }
+    ensures { IsTaker queue.now result.seat }
 {
     let mut seat = seat;
     let mut numbers = Vec::new(alloc);
     for _ in rt.forever() {
-        let number = match queue.take(rt, &mut seat) {
-            Item::Visit(visit) => (visit.job, visit.seq),
-            Item::Close { job, seq, .. } => (job, seq),
-            Item::Stop => return Ok(Taken { seat, numbers }),
-        };
-        numbers.push(number)?;
+        if !take_number(rt, queue, &mut seat, &mut numbers) {
+            break;
+        }
     }
-    unreachable!()
+    Taken { seat, numbers }
 }
 
 // Puts a Stop, once there is room. False where there is none for long.
@@ -209,80 +316,33 @@ fn put_stop<R: Wait>(rt: &R, queue: &VisitQueue, stop: &mut StopSeat) -> bool
     false
 }
 
-// Two walkers.
-fn walk_two<R: Threads + Wait + Sync>(
-    rt: &R,
-    alloc: Global,
-    store: &Store,
-    jobs: &[Job],
-    queue: &VisitQueue,
-    seats: (JobSeat, JobSeat),
-) -> (Result<JobSeat, AllocError>, Result<JobSeat, AllocError>)
-    requires first { CanWalk queue.now (course_of store.now jobs.now) seats.0 }
-    requires second { CanWalk queue.now (course_of store.now jobs.now) seats.1 }
-    ensures first { IfOk result.0 (IsWalker queue.now) }
-    ensures second { IfOk result.1 (IsWalker queue.now) }
-{
-    let (first, second) = seats;
-    thread::join(
-        rt,
-        || walker(rt, alloc, store, jobs, queue, first),
-        || walker(rt, alloc, store, jobs, queue, second),
-    )
-}
-
-// The seats of three walkers, and the seat for Stops.
-#[derive(Drop)]
-struct Walkers {
-    first: JobSeat,
-    second: JobSeat,
-    third: JobSeat,
-    stop: StopSeat,
-}
-
-// What they come back as, and whether two Stops were put.
+// What walkers come back as, with the seat for Stops, and whether two Stops were put.
 #[derive(Drop)]
 struct Walked {
-    first: Result<JobSeat, AllocError>,
-    second: Result<JobSeat, AllocError>,
-    third: Result<JobSeat, AllocError>,
+    seats: Result<Vec<JobSeat>, AllocError>,
     stop: StopSeat,
     is_stopped: bool,
 }
 
-// Three walkers, and then two Stops.
-fn walk_three<R: Threads + Wait + Sync>(
+// The walkers, and then two Stops.
+fn walk_and_stop<R: Threads + Wait + Sync>(
     rt: &R,
     alloc: Global,
-    store: &Store,
-    jobs: &[Job],
+    walks: &Walks<'_>,
     queue: &VisitQueue,
-    walkers: Walkers,
+    seats: Vec<JobSeat>,
+    stop: StopSeat,
 ) -> Walked
-    requires { CanRun queue.now (course_of store.now jobs.now)
-        walkers.first walkers.second walkers.third walkers.stop }
-    ensures { HasRun queue.now result.first result.second result.third result.stop }
+    requires seats { All (CanWalk queue.now (course_of walks.now.store.now walks.now.jobs.now)) seats.items }
+    requires stop { stop.table ≡ table_of queue.now }
+    ensures { HasWalked queue.now result }
 {
-    let Walkers {
-        first,
-        second,
-        third,
-        mut stop,
-    } = walkers;
-    let (first, (second, third)) = thread::join(
-        rt,
-        || walker(rt, alloc, store, jobs, queue, first),
-        || -> (Result<JobSeat, AllocError>, Result<JobSeat, AllocError>)
-            requires second { CanWalk queue.now (course_of store.now jobs.now) second }
-            requires third { CanWalk queue.now (course_of store.now jobs.now) third }
-        { walk_two(rt, alloc, store, jobs, queue, (second, third)) },
-    );
+    let mut stop = stop;
+    let seats = walk_all(rt, alloc, walks, queue, seats);
     let one = put_stop(rt, queue, &mut stop);
     let two = put_stop(rt, queue, &mut stop);
     Walked {
-        first,
-        second,
-        third,
+        seats,
         stop,
         is_stopped: one && two,
     }
@@ -295,11 +355,11 @@ fn take_two<R: Threads + Wait + Sync>(
     queue: &VisitQueue,
     first: TakeSeat,
     second: TakeSeat,
-) -> (Result<Taken, AllocError>, Result<Taken, AllocError>)
+) -> (Taken, Taken)
     requires first { IsTaker queue.now first }
     requires second { IsTaker queue.now second }
-    ensures first { IfOk result.0 (λ t. IsTaker queue.now t.seat) }
-    ensures second { IfOk result.1 (λ t. IsTaker queue.now t.seat) }
+    ensures first { IsTaker queue.now result.0.seat }
+    ensures second { IsTaker queue.now result.1.seat }
 {
     thread::join(
         rt,
@@ -308,46 +368,45 @@ fn take_two<R: Threads + Wait + Sync>(
     )
 }
 
-// The seats of three walkers and two takers.
+// The seats of walkers and of two takers, and the seat for Stops.
 #[derive(Drop)]
 struct Seats {
-    walkers: Walkers,
+    walkers: Vec<JobSeat>,
+    stop: StopSeat,
     first: TakeSeat,
     second: TakeSeat,
 }
 
-// Three walkers beside two takers.
-fn run_five<R: Threads + Wait + Sync>(
+// The walkers beside the takers.
+fn run_all<R: Threads + Wait + Sync>(
     rt: &R,
     alloc: Global,
-    store: &Store,
-    jobs: &[Job],
+    walks: &Walks<'_>,
     queue: &VisitQueue,
     seats: Seats,
-) -> (
-    Walked,
-    (Result<Taken, AllocError>, Result<Taken, AllocError>),
-)
-    requires walkers { CanRun queue.now (course_of store.now jobs.now)
-        seats.walkers.first seats.walkers.second seats.walkers.third seats.walkers.stop }
+) -> (Walked, (Taken, Taken))
+    requires walkers { All (CanWalk queue.now (course_of walks.now.store.now walks.now.jobs.now)) seats.walkers.items }
+    requires stop { seats.stop.table ≡ table_of queue.now }
     requires first { IsTaker queue.now seats.first }
     requires second { IsTaker queue.now seats.second }
-    ensures walked { HasRun queue.now result.0.first result.0.second result.0.third result.0.stop }
-    ensures first { IfOk result.1.0 (λ t. IsTaker queue.now t.seat) }
-    ensures second { IfOk result.1.1 (λ t. IsTaker queue.now t.seat) }
+    ensures walked { HasWalked queue.now result.0 }
+    ensures first { IsTaker queue.now result.1.0.seat }
+    ensures second { IsTaker queue.now result.1.1.seat }
 {
     let Seats {
         walkers,
+        stop,
         first,
         second,
     } = seats;
+    let (store, jobs) = (walks.store, walks.jobs);
     thread::join(
         rt,
         || -> Walked
-            requires { CanRun queue.now (course_of store.now jobs.now)
-                walkers.first walkers.second walkers.third walkers.stop }
-        { walk_three(rt, alloc, store, jobs, queue, walkers) },
-        || -> (Result<Taken, AllocError>, Result<Taken, AllocError>)
+            requires walkers { All (CanWalk queue.now (course_of store.now jobs.now)) walkers.items }
+            requires stop { stop.table ≡ table_of queue.now }
+        { walk_and_stop(rt, alloc, &Walks { store, jobs }, queue, walkers, stop) },
+        || -> (Taken, Taken)
             requires first { IsTaker queue.now first }
             requires second { IsTaker queue.now second }
         { take_two(rt, alloc, queue, first, second) },
@@ -365,21 +424,19 @@ fn close_at_full<R: Wait>(
 ) -> bool
     requires seat { CanClose queue.now seat.old close }
     requires taker { taker.old.table ≡ table_of queue.now }
-    ensures { taker.new.table ≡ taker.old.table }
+    ensures { IsSameTable taker.old.table taker.new.table }
 {
     let Err(back) = queue.try_put(rt, seat, close) else {
         return false;
     };
-    match queue.try_take(rt, taker) {
-        Some(Item::Visit(visit)) => visit.seq == 0 && queue.try_put(rt, seat, back).is_ok(),
-        _ => false,
-    }
+    let is_first = matches!(try_take(rt, queue, taker), Some(Brief::Visit(_, 0)));
+    is_first && queue.try_put(rt, seat, back).is_ok()
 }
 
 // Takes until the queue is empty, eight items at most, and counts them.
 fn count_left<R: Wait>(rt: &R, queue: &VisitQueue, taker: &mut TakeSeat) -> u32
     requires { taker.old.table ≡ table_of queue.now }
-    ensures { taker.new.table ≡ taker.old.table }
+    ensures { IsSameTable taker.old.table taker.new.table }
 {
     for count in 0..8 {
         if queue.try_take(rt, taker).is_none() {
@@ -421,79 +478,98 @@ fn each_once(rt: &impl Abort, first: &[(u32, u32)], second: &[(u32, u32)]) {
     }
 }
 
+// The lane to which a verifier sends what it takes gives the chain.
+fn verifies_chain<R: Abort + Wait>(
+    rt: &R,
+    alloc: Global,
+    store: &Store,
+    queue: &VisitQueue,
+    taker: &mut TakeSeat,
+) -> Result<(), AllocError>
+    requires taker { IsTaker queue.now taker.old }
+    requires course { IsCourseOf store.now taker.old.pass.course }
+{
+    let (mut sender, mut receiver) = lane(alloc, 8)?;
+    let mut check = ShaCheck::new(alloc);
+    verify(rt, alloc, store, queue, taker, &mut sender, &mut check);
+    gives_chain(rt, &mut receiver);
+    Ok(())
+}
+
+// The chain goes through a queue, and from there into a lane.
+fn puts_chain<R: Abort + Wait>(rt: &R, alloc: Global, walks: &Walks<'_>) -> Result<(), AllocError>
+    requires { IsOneJob walks.now.jobs.now }
+{
+    law::course_of_jobs();
+    let QueueParts {
+        queue,
+        jobs: mut seats,
+        mut takers,
+        mut stop,
+    } = queue_of(alloc, walks, 8, 1)?;
+    put_walk(rt, alloc, walks, &queue, &mut seats[0]);
+    assert!(rt; seats[0].closed() && seats[0].next() == 4);
+    assert!(rt; queue.try_stop(rt, &mut stop));
+    verifies_chain(rt, alloc, walks.store, &queue, &mut takers[0])
+}
+
 #[test]
 fn chain_through_queue_and_lane(rt: HostRuntime) -> Result<(), Fail> {
     let alloc = rt.alloc();
     let store = chain_of(alloc)?;
     let jobs = jobs_of(alloc, OUTER, 1, 100)?;
-    law::course_of_jobs();
-    let QueueParts {
-        queue,
-        jobs: seats,
-        takers,
-        mut stop,
-    } = queue_of(alloc, &store, &jobs, 8, 1)?;
-    let (mut seats, mut takers) = (seats, takers);
-    put_walk(&rt, alloc, &store, &jobs, &queue, &mut seats[0])?;
-    assert!(rt; seats[0].closed() && seats[0].next() == 4);
-    assert!(rt; queue.try_stop(&rt, &mut stop));
-    let (mut sender, mut receiver) = lane(alloc, 8)?;
-    let mut check = ShaCheck::new(alloc);
-    verify(
-        &rt,
-        alloc,
-        &store,
-        &queue,
-        &mut takers[0],
-        &mut sender,
-        &mut check,
-    );
-    gives_chain(&rt, &mut receiver);
-    assert_eq!(rt;
-        check.receipts(),
-        [(0, 0), (0, 1), (0, 2), (0, 3)].as_slice()
-    );
-    let mut rest = queue.settle(seats, stop, takers);
-    assert!(rt; queue.take_rest(&rt, &mut rest).is_none());
+    let (store, jobs) = (&store, jobs.as_slice());
+    puts_chain(&rt, alloc, &Walks { store, jobs })?;
     Ok(())
 }
 
-// A queue with room for one, and the seats of three walkers and two takers.
-fn room_for_one(alloc: Global, store: &Store, jobs: &[Job]) -> Result<(VisitQueue, Seats), Fail>
-    requires jobs { All (λ job. job.limit ≤ 1000000) jobs.now × (length jobs.now < 1000) }
-    ensures walkers { IfOk result (λ r. CanRun r.0 (course_of store.now jobs.now)
-        r.1.walkers.first r.1.walkers.second r.1.walkers.third r.1.walkers.stop) }
-    ensures takers { IfOk result (λ r. IsTaker r.0 r.1.first × IsTaker r.0 r.1.second) }
+// Each number was taken once, and nothing is left in the queue.
+fn settle<R: Abort + Wait>(
+    rt: &R,
+    alloc: Global,
+    queue: &VisitQueue,
+    walked: Walked,
+    first: Taken,
+    second: Taken,
+) -> Result<(), AllocError>
+    requires walked { HasWalked queue.now walked }
+    requires first { IsTaker queue.now first.seat }
+    requires second { IsTaker queue.now second.seat }
+{
+    assert!(rt; walked.is_stopped, "a full queue stayed full");
+    each_once(rt, first.numbers.as_slice(), second.numbers.as_slice());
+    let takers = vec![in alloc; first.seat, second.seat]?;
+    let mut rest = queue.settle(walked.seats?, walked.stop, takers);
+    assert!(rt; queue.take_rest(rt, &mut rest).is_none());
+    Ok(())
+}
+
+// Walks go through a queue with room for one to two takers.
+fn walks_to_two<R: Abort + Threads + Wait + Sync>(
+    rt: &R,
+    alloc: Global,
+    walks: &Walks<'_>,
+) -> Result<(), Fail>
+    requires { AreSmall walks.now.jobs.now × (length walks.now.jobs.now ≡ 3) }
 {
     let QueueParts {
         queue,
-        jobs: mut walkers,
+        jobs: walkers,
         mut takers,
         stop,
-    } = queue_of(alloc, store, jobs, 1, 2)?;
-    let (Some(third), Some(two)) = (walkers.pop(), walkers.pop()) else {
-        return Err("three seats were wanted".into());
-    };
-    let Some(one) = walkers.pop() else {
-        return Err("three seats were wanted".into());
-    };
+    } = queue_of(alloc, walks, 1, 2)?;
     let (Some(second), Some(first)) = (takers.pop(), takers.pop()) else {
         return Err("two takers were wanted".into());
     };
-    let walkers = Walkers {
-        first: one,
-        second: two,
-        third,
+    let seats = Seats {
+        walkers,
         stop,
+        first,
+        second,
     };
-    Ok((
-        queue,
-        Seats {
-            walkers,
-            first,
-            second,
-        },
-    ))
+    let (walked, (first, second)) = run_all(rt, alloc, walks, &queue, seats);
+    settle(rt, alloc, &queue, walked, first, second)?;
+    Ok(())
 }
 
 #[test]
@@ -502,99 +578,129 @@ fn three_walks_through_room_for_one(rt: HostRuntime) -> Result<(), Fail> {
     // A block that links to itself, as far as its CID says.
     let store = store_of(alloc, [("4e", ONE_LINK, INNER_BLOCK)].as_slice())?;
     let jobs = jobs_of(alloc, ONE_LINK, 3, 100)?;
-    let (queue, seats) = room_for_one(alloc, &store, &jobs)?;
-    let (walked, (first, second)) = run_five(&rt, alloc, &store, &jobs, &queue, seats);
-    assert!(rt; walked.is_stopped, "a full queue stayed full");
-    let (first, second) = (first?, second?);
-    each_once(&rt, first.numbers.as_slice(), second.numbers.as_slice());
-    let walkers = vec![in alloc; walked.first?, walked.second?, walked.third?]?;
-    let takers = vec![in alloc; first.seat, second.seat]?;
-    let mut rest = queue.settle(walkers, walked.stop, takers);
-    assert!(rt; queue.take_rest(&rt, &mut rest).is_none());
-    Ok(())
+    let (store, jobs) = (&store, jobs.as_slice());
+    walks_to_two(&rt, alloc, &Walks { store, jobs })
 }
 
-// A queue of one job over the chain, with the seat of the job, one that takes and that for Stops.
-#[derive(Drop)]
-struct OneEach {
-    store: Store,
-    jobs: Vec<Job>,
-    queue: VisitQueue,
-    seat: JobSeat,
-    taker: TakeSeat,
-    stop: StopSeat,
-}
-
-fn one_of_each(alloc: Global, capacity: u32) -> Result<OneEach, Fail>
-    requires { 0 < capacity }
-    ensures seat { IfOk result (λ q. CanWalk q.queue (course_of q.store q.jobs.items) q.seat) }
-    ensures taker { IfOk result (λ q. IsTaker q.queue q.taker) }
-    ensures stop { IfOk result (λ q. q.stop.table ≡ table_of q.queue) }
+// Puts the walk's next item where there is room, and says what came back.
+fn try_next<R: Wait>(
+    rt: &R,
+    queue: &VisitQueue,
+    seat: &mut JobSeat,
+    walk: &mut Walk<'_>,
+) -> Result<Option<Brief>, AllocError>
+    requires { CanGoOn queue.now seat.old walk.old }
+    ensures { IfOk result (λ back. back ≡ None → seat.new.closed ≡ false
+        → CanGoOn queue.now seat.new walk.new) }
 {
-    let store = chain_of(alloc)?;
-    let jobs = jobs_of(alloc, OUTER, 1, 100)?;
+    let item = next_item(seat, walk)?;
+    match queue.try_put(rt, seat, item) {
+        Ok(()) => Ok(None),
+        Err(back) => Ok(Some(brief_of(&back))),
+    }
+}
+
+// Whether the walk's first visit fills a queue with room for one, so that the second comes back,
+// and then the first is taken and nothing behind it.
+fn fits_one<R: Wait>(
+    rt: &R,
+    queue: &VisitQueue,
+    seat: &mut JobSeat,
+    taker: &mut TakeSeat,
+    walk: &mut Walk<'_>,
+) -> Result<bool, AllocError>
+    requires seat { CanGoOn queue.now seat.old walk.old }
+    requires taker { IsTaker queue.now taker.old }
+{
+    let first = try_next(rt, queue, seat, walk)?;
+    if first.is_some() || seat.closed() {
+        return Ok(false);
+    }
+    let second = try_next(rt, queue, seat, walk)?;
+    let taken = try_take(rt, queue, taker);
+    let is_empty = try_take(rt, queue, taker).is_none();
+    Ok(
+        is_empty
+            && matches!(taken, Some(Brief::Visit(_, 0)))
+            && matches!(second, Some(Brief::Visit(_, 1))),
+    )
+}
+
+// The same of the seat's job.
+fn has_room_for_one<R: Wait>(
+    rt: &R,
+    alloc: Global,
+    walks: &Walks<'_>,
+    queue: &VisitQueue,
+    seat: &mut JobSeat,
+    taker: &mut TakeSeat,
+) -> Result<bool, AllocError>
+    requires seat { CanWalk queue.now (course_of walks.now.store.now walks.now.jobs.now) seat.old }
+    requires taker { IsTaker queue.now taker.old }
+{
+    let mut walk = walk_of(alloc, walks, seat)?;
+    fits_one(rt, queue, seat, taker, &mut walk)
+}
+
+// A queue of one job has room for one.
+fn makes_room_for_one<R: Abort + Wait>(
+    rt: &R,
+    alloc: Global,
+    walks: &Walks<'_>,
+) -> Result<(), AllocError>
+    requires { IsOneJob walks.now.jobs.now }
+{
     let QueueParts {
         queue,
         jobs: mut seats,
         mut takers,
-        stop,
-    } = queue_of(alloc, &store, &jobs, capacity, 1)?;
-    let (Some(taker), Some(seat)) = (takers.pop(), seats.pop()) else {
-        return Err("a seat and a taker were wanted".into());
-    };
-    Ok(OneEach {
-        store,
-        jobs,
-        queue,
-        seat,
-        taker,
-        stop,
-    })
-}
-
-// Whether the first visit of the job fills a queue with room for one, so that the second comes
-// back, and then the first is taken and nothing behind it.
-fn has_room_for_one<R: Wait>(rt: &R, alloc: Global, each: &mut OneEach) -> Result<bool, AllocError>
-    requires seat { CanWalk each.old.queue (course_of each.old.store each.old.jobs.items) each.old.seat }
-    requires taker { IsTaker each.old.queue each.old.taker }
-{
-    law::course_of_jobs();
-    let OneEach {
-        store,
-        jobs,
-        queue,
-        seat,
-        taker,
         ..
-    } = each;
-    let Some(job) = job_of_seat(jobs, seat) else {
-        return Ok(false);
-    };
-    let mut walk = Walk::new(alloc, store, job, seat.job())?;
-    let Some(Ok(first)) = walk.next() else {
-        return Ok(false);
-    };
-    let Some(Ok(second)) = walk.next() else {
-        return Ok(false);
-    };
-    let Ok(()) = queue.try_put(rt, seat, Item::Visit(first)) else {
-        return Ok(false);
-    };
-    let Err(Item::Visit(back)) = queue.try_put(rt, seat, Item::Visit(second)) else {
-        return Ok(false);
-    };
-    let Some(Item::Visit(taken)) = queue.try_take(rt, taker) else {
-        return Ok(false);
-    };
-    Ok(taken.seq == 0 && back.seq == 1 && queue.try_take(rt, taker).is_none())
+    } = queue_of(alloc, walks, 1, 1)?;
+    let has_room = has_room_for_one(rt, alloc, walks, &queue, &mut seats[0], &mut takers[0])?;
+    assert!(rt; has_room);
+    Ok(())
 }
 
 // None of the contracts says when a queue is full or empty.
 #[test]
 fn queue(rt: HostRuntime) -> Result<(), Fail> {
     let alloc = rt.alloc();
-    let mut each = one_of_each(alloc, 1)?;
-    assert!(rt; has_room_for_one(&rt, alloc, &mut each)?);
+    let store = chain_of(alloc)?;
+    let jobs = jobs_of(alloc, OUTER, 1, 100)?;
+    let (store, jobs) = (&store, jobs.as_slice());
+    makes_room_for_one(&rt, alloc, &Walks { store, jobs })?;
+    Ok(())
+}
+
+// Four items are left in the queue, and a Stop finds room once they are taken.
+fn stops_once_empty<R: Abort + Wait>(
+    rt: &R,
+    queue: &VisitQueue,
+    taker: &mut TakeSeat,
+    stop: &mut StopSeat,
+)
+    requires taker { IsTaker queue.now taker.old }
+    requires stop { stop.old.table ≡ table_of queue.now }
+{
+    assert_eq!(rt; count_left(rt, queue, taker), 4);
+    assert!(rt; queue.try_stop(rt, stop), "no Stop in an empty queue");
+    assert!(rt; matches!(try_take(rt, queue, taker), Some(Brief::Stop)));
+}
+
+// The visits of one job fill the queue.
+fn fills_queue<R: Abort + Wait>(rt: &R, alloc: Global, walks: &Walks<'_>) -> Result<(), AllocError>
+    requires { IsOneJob walks.now.jobs.now }
+{
+    let QueueParts {
+        queue,
+        jobs: mut seats,
+        mut takers,
+        mut stop,
+    } = queue_of(alloc, walks, 4, 1)?;
+    let close = put_job(rt, alloc, walks, &queue, &mut seats[0])?;
+    assert!(rt; !queue.try_stop(rt, &mut stop), "a Stop in a full queue");
+    assert!(rt; close_at_full(rt, &queue, &mut seats[0], &mut takers[0], close));
+    stops_once_empty(rt, &queue, &mut takers[0], &mut stop);
     Ok(())
 }
 
@@ -602,19 +708,9 @@ fn queue(rt: HostRuntime) -> Result<(), Fail> {
 #[test]
 fn close_and_stop_at_a_full_queue(rt: HostRuntime) -> Result<(), Fail> {
     let alloc = rt.alloc();
-    let OneEach {
-        store,
-        jobs,
-        queue,
-        mut seat,
-        mut taker,
-        mut stop,
-    } = one_of_each(alloc, 4)?;
-    let close = put_job(&rt, alloc, &store, &jobs, &queue, &mut seat)?;
-    assert!(rt; !queue.try_stop(&rt, &mut stop), "a Stop in a full queue");
-    assert!(rt; close_at_full(&rt, &queue, &mut seat, &mut taker, close));
-    assert_eq!(rt; count_left(&rt, &queue, &mut taker), 4);
-    assert!(rt; queue.try_stop(&rt, &mut stop), "no Stop in an empty queue");
-    assert!(rt; matches!(queue.try_take(&rt, &mut taker), Some(Item::Stop)));
+    let store = chain_of(alloc)?;
+    let jobs = jobs_of(alloc, OUTER, 1, 100)?;
+    let (store, jobs) = (&store, jobs.as_slice());
+    fills_queue(&rt, alloc, &Walks { store, jobs })?;
     Ok(())
 }

@@ -3,5 +3,5 @@ use Rattle.ix_archive.specs.Events.{IsOpen}
 use Rattle.ix_archive.specs.ArchiveMeaning.{events_of}
 use Rattle.ix_stage_tests.proofs.archives.deliver_all.Given as goal
 
-abbrev pub invariant-loop-delivery : goal.invariant-loop-delivery
-invariant-loop-delivery g l = IsOpen (events_of l.archive) × (l.archive.failed ≡ [])
+abbrev pub invariant-loop-cid : goal.invariant-loop-cid
+invariant-loop-cid g l = IsOpen (events_of l.archive) × (l.archive.failed ≡ [])

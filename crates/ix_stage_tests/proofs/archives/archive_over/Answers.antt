@@ -1,5 +1,5 @@
 use Rattle.ix_archive.proofs.Delivered.{open-at_first}
-use Rattle.ix_stage_tests.proofs.archives.archive_through.Goals as goal
+use Rattle.ix_stage_tests.proofs.archives.archive_over.Goals as goal
 
 pub outcome_of-requires : goal.outcome_of-requires
 outcome_of-requires c =

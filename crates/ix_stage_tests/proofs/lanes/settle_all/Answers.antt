@@ -4,7 +4,7 @@ use Rattle.std.proofs.lemmas.List.Elements.{All-push}
 use Rattle.ix_handover.specs.Claims.{SeatMeaning}
 use Rattle.ix_handover.proofs.ClaimSettling.{all_behind}
 use Rattle.ix_stage_tests.specs.declared.lanes.Claimed.{Claimed}
-use Rattle.ix_stage_tests.proofs.lanes.gather.Goals as goal
+use Rattle.ix_stage_tests.proofs.lanes.settle_all.Goals as goal
 
 pub loop-claimed-preserved : goal.loop-claimed-preserved
 loop-claimed-preserved c =
