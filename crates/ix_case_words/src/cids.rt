@@ -1,7 +1,7 @@
 //! Varints and CIDs.
 
 use crate::texts::{bytes_of_hex, hex_of, two_words};
-use anyhow::{Result, bail, ensure};
+use anyhow::{Error, Result, bail, ensure};
 use ix_cid::{Cid, push_varint, read_varint};
 use std::alloc::{AllocError, Global};
 use std::cmp::Ordering;
@@ -50,15 +50,15 @@ pub fn hex_of_cids(alloc: Global, cids: &[Cid]) -> Result<String> {
     for cid in cids {
         texts.push(hex_of(alloc, cid.as_bytes())?)?;
     }
-    Ok(texts.join(alloc, ",")?)
+    texts.join(alloc, ",").map_err(Error::from)
 }
 
 /// `varint HEX = NUMBER LENGTH`
 pub fn varint(alloc: Global, input: &str) -> Result<String> {
     let bytes = bytes_of_hex(alloc, input)?;
     match read_varint(bytes.as_slice()) {
-        Ok((number, length)) => Ok(format!(in alloc; "{number} {length}")?),
-        Err(fault) => Ok(format!(in alloc; "{fault:?}")?),
+        Ok((number, length)) => format!(in alloc; "{number} {length}").map_err(Error::from),
+        Err(fault) => format!(in alloc; "{fault:?}").map_err(Error::from),
     }
 }
 
@@ -80,7 +80,7 @@ pub fn cid(alloc: Global, input: &str) -> Result<String> {
     let bytes = bytes_of_hex(alloc, input)?;
     match Cid::read(alloc, bytes.as_slice()) {
         Ok((cid, length)) => parts_of(alloc, bytes.as_slice(), &cid, length),
-        Err(fault) => Ok(fault.to_string(alloc)?),
+        Err(fault) => fault.to_string(alloc).map_err(Error::from),
     }
 }
 
@@ -94,7 +94,7 @@ pub fn cid_within(alloc: Global, input: &str) -> Result<String> {
             let (_, behind) = bytes.split_at(start.min(bytes.len()));
             parts_of(alloc, behind, &cid, length)
         }
-        Err(fault) => Ok(fault.to_string(alloc)?),
+        Err(fault) => fault.to_string(alloc).map_err(Error::from),
     }
 }
 
@@ -109,7 +109,7 @@ fn parts_of(alloc: Global, bytes: &[u8], cid: &Cid, length: usize) -> Result<Str
     let codec = cid.codec();
     let hash_code = cid.hash_code();
     let digest = hex_of(alloc, cid.digest())?;
-    Ok(format!(in alloc; "{version} {codec} {hash_code} {digest} {length}")?)
+    format!(in alloc; "{version} {codec} {hash_code} {digest} {length}").map_err(Error::from)
 }
 
 // Whether a copy of a CID is equal to it.
@@ -123,7 +123,7 @@ pub fn compared_cids(alloc: Global, input: &str) -> Result<String> {
     let (first, second) = two_words(input)?;
     let first = cid_of(alloc, first)?;
     let order = order_of_word(alloc, &first, second)?;
-    Ok(String::from_str(alloc, word_of(order))?)
+    String::from_str(alloc, word_of(order)).map_err(Error::from)
 }
 
 // The order of a CID and one in hexadecimal.
@@ -168,6 +168,6 @@ pub fn text(alloc: Global, input: &str) -> Result<String> {
 pub fn cid_of_text(alloc: Global, input: &str) -> Result<String> {
     match Cid::from_text(alloc, input) {
         Ok(cid) => hex_of(alloc, cid.as_bytes()),
-        Err(fault) => Ok(fault.to_string(alloc)?),
+        Err(fault) => fault.to_string(alloc).map_err(Error::from),
     }
 }

@@ -2,7 +2,7 @@
 
 use crate::cids::cid_of;
 use crate::texts::{bytes_of_hex, unescaped};
-use anyhow::{Context, Result, bail};
+use anyhow::{Context, Error, Result, bail};
 use ix_cbor::Node;
 use std::alloc::Global;
 
@@ -67,8 +67,10 @@ fn read_word(
     word: &str,
 ) -> Result<()> {
     match word {
-        "[" => Ok(open.push(Open::List(Vec::new(alloc)))?),
-        "{" => Ok(open.push(Open::Map(Vec::new(alloc), None))?),
+        "[" => open.push(Open::List(Vec::new(alloc))).map_err(Error::from),
+        "{" => open
+            .push(Open::Map(Vec::new(alloc), None))
+            .map_err(Error::from),
         "]" | "}" => close(open, whole),
         word => place_word(alloc, open, whole, word),
     }

@@ -2,7 +2,7 @@
 
 use crate::nodes::node_of;
 use crate::texts::{bytes_of_hex, two_words};
-use anyhow::{Result, bail};
+use anyhow::{Error, Result, bail};
 use ix_cbor::{Tree, decode};
 use ix_notation::{NotationFault, fault_line, hex_of_json, json_of_hex};
 use ix_selector::{Residual, SelFault, Selector, Step};
@@ -35,7 +35,7 @@ fn tree_of(alloc: Global, text: &str) -> Result<Tree> {
 /// `selector SELECTOR = ok` or the fault
 pub fn selector(alloc: Global, input: &str) -> Result<String> {
     let tree = tree_of(alloc, input)?;
-    Ok(text_of_reading(alloc, &tree)?)
+    text_of_reading(alloc, &tree).map_err(Error::from)
 }
 
 // `ok` where a tree stands for a selector, else the fault
@@ -65,10 +65,10 @@ pub fn notation_of(alloc: Global, input: &str) -> Result<String> {
 fn line_of(alloc: Global, printed: Result<String, NotationFault>) -> Result<String> {
     match printed {
         Ok(line) => match line.as_str().strip_suffix('\n') {
-            Some(line) => Ok(String::from_str(alloc, line)?),
+            Some(line) => String::from_str(alloc, line).map_err(Error::from),
             None => bail!("no line end"),
         },
-        Err(fault) => Ok(fault_line(alloc, &fault)?),
+        Err(fault) => fault_line(alloc, &fault).map_err(Error::from),
     }
 }
 
@@ -79,7 +79,11 @@ pub fn steps(alloc: Global, input: &str) -> Result<String> {
     let selector = selector_of(alloc, selector)?;
     let mut answer = String::new(alloc);
     push_steps(alloc, &mut answer, &selector, path)?;
-    Ok(answer.as_str().trim_end().to_string(alloc)?)
+    answer
+        .as_str()
+        .trim_end()
+        .to_string(alloc)
+        .map_err(Error::from)
 }
 
 // Appends whether each step of a path is entered, up to the first that isn't, with a space behind it.

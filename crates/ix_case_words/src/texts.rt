@@ -1,6 +1,6 @@
 //! Bytes as texts, and texts as bytes.
 
-use anyhow::{Context, Result, bail};
+use anyhow::{Context, Error, Result, bail};
 use std::alloc::Global;
 
 /// The bytes that a text gives in hexadecimal; `-` and an empty text are no bytes.
@@ -14,9 +14,9 @@ pub fn bytes_of_hex(alloc: Global, text: &str) -> Result<Vec<u8>> {
 /// Bytes in hexadecimal, where `-` are none.
 pub fn hex_of(alloc: Global, bytes: &[u8]) -> Result<String> {
     if bytes.is_empty() {
-        return Ok(String::from_str(alloc, "-")?);
+        return String::from_str(alloc, "-").map_err(Error::from);
     }
-    Ok(hex::encode(alloc, bytes)?)
+    hex::encode(alloc, bytes).map_err(Error::from)
 }
 
 /// The bytes of a text in which `\n`, `\r` and `\t` are a line end, a carriage return and a tab, and

@@ -3,7 +3,7 @@
 use crate::nodes::node_of;
 use crate::notation::written;
 use crate::texts::{bytes_of_hex, hex_of, two_words};
-use anyhow::{Result, bail, ensure};
+use anyhow::{Error, Result, bail, ensure};
 use ix_cbor::{CborFault, Major, Node, Tree, push_head};
 use std::alloc::{AllocError, Global};
 
@@ -19,7 +19,7 @@ pub fn decode(alloc: Global, input: &str) -> Result<String> {
 // A tree that these bytes spell, in diagnostic notation.
 fn text_of_tree(alloc: Global, tree: &Tree, bytes: &[u8]) -> Result<String> {
     ensure!(is_spelled(alloc, tree, bytes)?, "it is not spelled again");
-    Ok(written(alloc, tree.root())?)
+    written(alloc, tree.root()).map_err(Error::from)
 }
 
 // Whether these bytes spell a tree.
@@ -32,7 +32,7 @@ fn is_spelled(alloc: Global, tree: &Tree, bytes: &[u8]) -> Result<bool, AllocErr
 fn text_of_fault(alloc: Global, fault: CborFault) -> Result<String> {
     let kind = fault.kind;
     let place = fault.place;
-    Ok(format!(in alloc; "{kind:?} at {place}")?)
+    format!(in alloc; "{kind:?} at {place}").map_err(Error::from)
 }
 
 /// `tree NODE = HEX` or `handed back`
@@ -60,7 +60,7 @@ fn hex_of_root(alloc: Global, tree: &Tree, text: &str) -> Result<String> {
 // The answer for a node that is no tree and is written as this text.
 fn handed_back(alloc: Global, node: &Node, text: &str) -> Result<String> {
     ensure_written(alloc, node, text)?;
-    Ok(String::from_str(alloc, "handed back")?)
+    String::from_str(alloc, "handed back").map_err(Error::from)
 }
 
 // Fails where a node isn't written as this text.

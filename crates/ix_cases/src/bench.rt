@@ -2,7 +2,7 @@
 
 use crate::answers::answer;
 use crate::example::Example;
-use anyhow::{Context, Result};
+use anyhow::{Context, Error, Result};
 use ix_case_words::Names;
 use std::alloc::{AllocError, Global};
 use std::sync::Wait;
@@ -76,12 +76,19 @@ impl Bench {
     // Names or sets up what a line says, and answers whether it is such a line.
     fn set(&mut self, line: &str) -> Result<bool> {
         let (word, rest) = line.split_once(' ').unwrap_or((line, ""));
-        match word {
-            "let" => self.names.give(rest)?,
-            "example" => self.example = Example::new(self.alloc, rest)?,
+        let set = match word {
+            "let" => self.names.give(rest),
+            "example" => self.begin(rest),
             _ => return self.example.set(word, rest),
-        }
+        };
+        set?;
         Ok(true)
+    }
+
+    // Begins an example.
+    fn begin(&mut self, name: &str) -> Result<()> {
+        self.example = Example::new(self.alloc, name)?;
+        Ok(())
     }
 
     // Compares what a case answers with what is wanted.
@@ -89,7 +96,7 @@ impl Bench {
         let (call, wanted) = line.split_once(" = ").context("no ` = `")?;
         let (word, input) = call.split_once(' ').unwrap_or((call, ""));
         let answer = answer(rt, self.alloc, &mut self.example, word, input)?;
-        Ok(outcome_of_answer(self.alloc, call, wanted, answer.as_str())?)
+        outcome_of_answer(self.alloc, call, wanted, answer.as_str()).map_err(Error::from)
     }
 }
 

@@ -1,7 +1,7 @@
 //! What the lines of an example set up for the calls behind them.
 
 use crate::walks::{MATCHER, job_of};
-use anyhow::{Context, Result, bail};
+use anyhow::{Context, Error, Result, bail};
 use ix_archive::{Counts, End, Skip};
 use ix_case_words::cids::cid_of;
 use ix_case_words::texts::{bytes_of_hex, two_words};
@@ -72,18 +72,24 @@ impl Example {
     /// LINE`, `report LINE`, `status NUMBER`, `room NUMBER`, `archive HEADER NUMBER ..` (the numbers
     /// of sections, from 0), `result NAME END VISITS KEPT SECTIONS BYTES`, `skip SEQ VERDICT CID`.
     pub fn set(&mut self, word: &str, rest: &str) -> Result<bool> {
-        match word {
-            "section" => self.add_section(rest)?,
-            "job" => push_line(&mut self.jobs, rest)?,
-            "report" => push_line(&mut self.report, rest)?,
-            "status" => self.status.push_str(rest)?,
-            "room" => self.rooms.push(rest.parse::<usize>()?)?,
-            "archive" => self.add_archive(rest)?,
-            "result" => self.add_result(rest)?,
-            "skip" => self.add_skip(rest)?,
+        let set = match word {
+            "section" => self.add_section(rest),
+            "job" => push_line(&mut self.jobs, rest),
+            "report" => push_line(&mut self.report, rest),
+            "status" => self.status.push_str(rest).map_err(Error::from),
+            "room" => self.add_room(rest),
+            "archive" => self.add_archive(rest),
+            "result" => self.add_result(rest),
+            "skip" => self.add_skip(rest),
             _ => return Ok(false),
-        }
+        };
+        set?;
         Ok(true)
+    }
+
+    // Adds how many bytes a job's writer takes.
+    fn add_room(&mut self, room: &str) -> Result<()> {
+        self.rooms.push(room.parse::<usize>()?).map_err(Error::from)
     }
 
     // Adds a section to the file.
@@ -138,7 +144,12 @@ impl Example {
 // The name of a job, and what is told of it.
 fn result_of(alloc: Global, line: &str) -> Result<(&str, JobResult)> {
     let words: Vec<&str> = line.split(' ').collect(alloc)?;
-    let [name, end, visits, kept, sections, bytes] = words.as_slice() else {
+    result_of_words(alloc, words.as_slice())
+}
+
+// The same of the words of the line.
+fn result_of_words<'a>(alloc: Global, words: &[&'a str]) -> Result<(&'a str, JobResult)> {
+    let [name, end, visits, kept, sections, bytes] = words else {
         bail!("six words are wanted");
     };
     let counts = counts_of(visits, kept, sections, bytes)?;

@@ -1,6 +1,6 @@
 //! Job files, what a run needs, and the archive of one root.
 
-use anyhow::Result;
+use anyhow::{Error, Result};
 use ix_case_words::cids::{cid_of, text_of_cids};
 use ix_case_words::texts::{bytes_of_hex, escaped, hex_of, two_words, unescaped};
 use ix_jobs::{JobsFault, read_jobs};
@@ -39,7 +39,7 @@ fn push_job(alloc: Global, answer: &mut String, job: &Job) -> Result<(), AllocEr
 fn text_of_fault(alloc: Global, fault: JobsFault) -> Result<String> {
     let kind = fault.kind;
     let line = fault.line;
-    Ok(format!(in alloc; "{kind} at line {line}")?)
+    format!(in alloc; "{kind} at line {line}").map_err(Error::from)
 }
 
 /// `prepare HEX TEXT = COUNT blocks, COUNT jobs` or the line of the fault
@@ -55,12 +55,12 @@ pub fn prepared(alloc: Global, input: &str) -> Result<String> {
 
 // `COUNT blocks, COUNT jobs`
 fn text_of_counts(alloc: Global, blocks: usize, jobs: usize) -> Result<String> {
-    Ok(format!(in alloc; "{blocks} blocks, {jobs} jobs")?)
+    format!(in alloc; "{blocks} blocks, {jobs} jobs").map_err(Error::from)
 }
 
 /// The line of a fault.
 pub fn line_of_fault(alloc: Global, fault: &RunFault) -> Result<String> {
-    Ok(fault_line(alloc, fault)?)
+    fault_line(alloc, fault).map_err(Error::from)
 }
 
 /// `root HEX CID = HEX` or the line of the fault

@@ -53,22 +53,22 @@ fn try_files<R: AllocGlobal + Env + Eprint + Files + Print + Threads + Wait + Sy
 fn tally_of_files<R: AllocGlobal + Env + Eprint + Files + Threads + Wait + Sync>(
     rt: &R,
 ) -> Result<Tally> {
-    let mut bench = Bench::new(rt.alloc())?;
-    let mut tally = Tally::new();
-    count_files(rt, &mut bench, &mut tally)?;
-    Ok(tally)
+    match Bench::new(rt.alloc()) {
+        Ok(mut bench) => count_files(rt, &mut bench),
+        Err(error) => Err(error),
+    }
 }
 
-// Adds the cases of these files to a tally.
+// Counts the cases of these files, each behind what those before have set up.
 fn count_files<R: AllocGlobal + Env + Eprint + Files + Threads + Wait + Sync>(
     rt: &R,
     bench: &mut Bench,
-    tally: &mut Tally,
-) -> Result<()> {
+) -> Result<Tally> {
+    let mut tally = Tally::new();
     for path in env::args(rt)?.skip(1) {
-        count_file(rt, bench, path.as_str(), tally)?;
+        count_file(rt, bench, path.as_str(), &mut tally)?;
     }
-    Ok(())
+    Ok(tally)
 }
 
 // Counts the file with this path, and its cases.
@@ -93,10 +93,23 @@ fn try_file<R: AllocGlobal + Eprint + Threads + Wait + Sync>(
     tally: &mut Tally,
 ) -> Result<()> {
     for (number, line) in (1u64..).zip(text.lines()) {
-        let outcome = bench.outcome_of(rt, line)?;
-        tell_difference(rt, path, number, bench.example_name(), &outcome)?;
-        tally.count(&outcome);
+        try_line(rt, bench, path, number, line, tally)?;
     }
+    Ok(())
+}
+
+// Answers a line, tells of it where it differs, and counts it.
+fn try_line<R: AllocGlobal + Eprint + Threads + Wait + Sync>(
+    rt: &R,
+    bench: &mut Bench,
+    path: &str,
+    number: u64,
+    line: &str,
+    tally: &mut Tally,
+) -> Result<()> {
+    let outcome = bench.outcome_of(rt, line)?;
+    tell_difference(rt, path, number, bench.example_name(), &outcome)?;
+    tally.count(&outcome);
     Ok(())
 }
 

@@ -7,7 +7,7 @@ ghost use Rattle.ix_pipeline.specs.Planned.{IsPlan};
 
 use crate::example::Example;
 use crate::jobs::line_of_fault;
-use anyhow::{Result, bail};
+use anyhow::{Error, Result, bail};
 use ix_case_words::texts::{escaped, hex_of};
 use ix_jobs::{report, status};
 use ix_pipeline::Plan;
@@ -152,7 +152,7 @@ fn difference(
     if report != example.report.as_bytes() {
         return Ok(Some(escaped(alloc, report)?));
     }
-    Ok(difference_of_status(alloc, example.status.as_str(), status)?)
+    difference_of_status(alloc, example.status.as_str(), status).map_err(Error::from)
 }
 
 // A status that isn't the one that is wanted.
@@ -178,7 +178,7 @@ fn compared_archives(alloc: Global, writers: &[Narrow], archives: &[Vec<u8>]) ->
             return hex_of(alloc, writer.bytes.as_slice());
         }
     }
-    Ok(String::from_str(alloc, AS_WRITTEN)?)
+    String::from_str(alloc, AS_WRITTEN).map_err(Error::from)
 }
 
 /// `tell = as written`, where the report and the status of what is told of the jobs are as the
@@ -190,7 +190,7 @@ pub fn told(alloc: Global, example: &Example) -> Result<String> {
     }
     let report = report(alloc, example.told.as_slice(), results)?;
     let difference = difference(alloc, example, report.as_slice(), status(results))?;
-    Ok(or_as_written(alloc, difference)?)
+    or_as_written(alloc, difference).map_err(Error::from)
 }
 
 // What differs, or that all is as written.

@@ -1,7 +1,7 @@
 //! The store of an example, and CARv1 files.
 
 use crate::example::Example;
-use anyhow::{Result, bail};
+use anyhow::{Error, Result, bail};
 use ix_car::{CarFault, read_car};
 use ix_case_words::cids::cid_of;
 use ix_case_words::texts::{bytes_of_hex, hex_of, two_words};
@@ -12,7 +12,7 @@ use std::alloc::Global;
 pub fn add(alloc: Global, store: &mut Store, input: &str) -> Result<String> {
     let (cid, block) = two_words(input)?;
     let added = store.add(cid_of(alloc, cid)?, bytes_of_hex(alloc, block)?)?;
-    Ok(added.to_string(alloc)?)
+    added.to_string(alloc).map_err(Error::from)
 }
 
 /// `add_copy CID HEX = true` or `false`
@@ -20,15 +20,16 @@ pub fn add_copy(alloc: Global, store: &mut Store, input: &str) -> Result<String>
     let (cid, block) = two_words(input)?;
     let block = bytes_of_hex(alloc, block)?;
     let added = store.add_copy(cid_of(alloc, cid)?, block.as_slice())?;
-    Ok(added.to_string(alloc)?)
+    added.to_string(alloc).map_err(Error::from)
 }
 
 /// `find CID = PLACE` or `none`, which a search near any place gives too
 pub fn find(alloc: Global, store: &Store, input: &str) -> Result<String> {
     match found(alloc, store, input)? {
-        Some(place) => Ok(place.to_string(alloc)?),
-        None => Ok(String::from_str(alloc, "none")?),
+        Some(place) => place.to_string(alloc),
+        None => String::from_str(alloc, "none"),
     }
+    .map_err(Error::from)
 }
 
 // The place of a CID, which a search near any place has to give too.
@@ -47,33 +48,35 @@ pub fn bytes(alloc: Global, store: &Store, input: &str) -> Result<String> {
     if place < store.len() {
         hex_of(alloc, store.bytes(place))
     } else {
-        Ok(String::from_str(alloc, "none")?)
+        String::from_str(alloc, "none").map_err(Error::from)
     }
 }
 
 /// `blocks = COUNT`, where no block is an empty store
 pub fn blocks(alloc: Global, store: &Store) -> Result<String> {
     if store.is_empty() {
-        return Ok(String::from_str(alloc, "none")?);
+        String::from_str(alloc, "none")
+    } else {
+        store.len().to_string(alloc)
     }
-    Ok(store.len().to_string(alloc)?)
+    .map_err(Error::from)
 }
 
 /// `settle = COUNT` of blocks of which what is found is kept from here on
 pub fn settle(alloc: Global, store: &mut Store) -> Result<String> {
     store.settle()?;
-    Ok(store.len().to_string(alloc)?)
+    store.len().to_string(alloc).map_err(Error::from)
 }
 
 /// `found PLACE = AGREES FAULTY`: whether the block has its CID's digest, and whether it spells no data; or `none`
 pub fn found_of_block(alloc: Global, store: &Store, input: &str) -> Result<String> {
     let place = input.parse::<usize>()?;
     if place >= store.len() {
-        return Ok(String::from_str(alloc, "none")?);
+        return String::from_str(alloc, "none").map_err(Error::from);
     }
     let agrees = store.agrees(place);
     let is_faulty = store.is_faulty(place);
-    Ok(format!(in alloc; "{agrees} {is_faulty}")?)
+    format!(in alloc; "{agrees} {is_faulty}").map_err(Error::from)
 }
 
 /// `car HEX = COUNT` of blocks, which are the store behind it, or `KIND at PLACE`; `car = ..` reads
@@ -84,7 +87,7 @@ pub fn car(alloc: Global, example: &mut Example, input: &str) -> Result<String> 
         Ok(read) => {
             let count = read.len();
             example.store = read;
-            Ok(count.to_string(alloc)?)
+            count.to_string(alloc).map_err(Error::from)
         }
         Err(fault) => text_of_fault(alloc, fault),
     }
@@ -103,5 +106,5 @@ fn car_bytes(alloc: Global, example: &Example, input: &str) -> Result<Vec<u8>> {
 fn text_of_fault(alloc: Global, fault: CarFault) -> Result<String> {
     let kind = fault.kind;
     let place = fault.place;
-    Ok(format!(in alloc; "{kind} at {place}")?)
+    format!(in alloc; "{kind} at {place}").map_err(Error::from)
 }

@@ -2,7 +2,7 @@
 
 ghost use Rattle.ix_check.specs.Visits.{IsVisitOf};
 
-use anyhow::{Result, bail, ensure};
+use anyhow::{Error, Result, bail, ensure};
 use ix_case_words::cids::{cids_of, hex_of_cids};
 use ix_case_words::selectors::selector_of;
 use ix_case_words::texts::two_words;
@@ -38,7 +38,7 @@ pub fn new_job(alloc: Global, input: &str) -> Result<String> {
     let (roots, name) = rest.split_once(' ').unwrap_or((rest, ""));
     match job_or_fault(alloc, limit.parse::<u32>()?, roots, name)? {
         Ok(job) => text_of_job(alloc, &job),
-        Err(fault) => Ok(format!(in alloc; "{fault:?}")?),
+        Err(fault) => format!(in alloc; "{fault:?}").map_err(Error::from),
     }
 }
 
@@ -59,7 +59,7 @@ fn text_of_job(alloc: Global, job: &Job) -> Result<String> {
     let name = job.name();
     let roots = hex_of_cids(alloc, job.roots())?;
     let limit = job.limit();
-    Ok(format!(in alloc; "{name} {roots} {limit}")?)
+    format!(in alloc; "{name} {roots} {limit}").map_err(Error::from)
 }
 
 /// `walk NUMBER ROOTS LIMIT SELECTOR = VISIT VISIT .. STOP`, each visit as the job's number, its own
@@ -67,8 +67,15 @@ fn text_of_job(alloc: Global, job: &Job) -> Result<String> {
 /// stands behind a malformed one
 pub fn walk(alloc: Global, store: &Store, input: &str) -> Result<String> {
     let (number, rest) = two_words(input)?;
-    let job = job_of_words(alloc, rest)?;
-    let mut walk = Walk::new(alloc, store, &job, number.parse::<u32>()?)?;
+    match job_of_words(alloc, rest) {
+        Ok(job) => text_of_numbered(alloc, store, &job, number),
+        Err(error) => Err(error),
+    }
+}
+
+// The same of a job and its number.
+fn text_of_numbered(alloc: Global, store: &Store, job: &Job, number: &str) -> Result<String> {
+    let mut walk = Walk::new(alloc, store, job, number.parse::<u32>()?)?;
     text_of_walk(alloc, store, &mut walk)
 }
 
@@ -94,12 +101,21 @@ fn text_of_visits(alloc: Global, store: &Store, walk: &mut Walk<'_>) -> Result<S
 // Appends what a walk gives up to its end, with a space behind each.
 fn push_visits(answer: &mut String, store: &Store, walk: &mut Walk<'_>) -> Result<(), AllocError> {
     for item in walk {
-        match item {
-            Ok(visit) => push_visit(answer, store, &visit)?,
-            Err(stop) => write!(answer, "{stop:?} ")?,
-        }
+        push_item(answer, store, &item)?;
     }
     Ok(())
+}
+
+// Appends a visit, or the stop of a walk, and a space.
+fn push_item(
+    answer: &mut String,
+    store: &Store,
+    item: &Result<Visit, WalkStop>,
+) -> Result<(), AllocError> {
+    match item {
+        Ok(visit) => push_visit(answer, store, visit),
+        Err(stop) => write!(answer, "{stop:?} "),
+    }
 }
 
 // Appends a visit and a space.
@@ -147,8 +163,8 @@ fn counted(walk: Walk<'_>) -> (u32, Option<WalkStop>) {
 // How many visits a job has, and the stop behind the count.
 fn text_of_count(alloc: Global, store: &Store, job: &Job) -> Result<String> {
     match counted(Walk::new(alloc, store, job, 0)?) {
-        (count, Some(stop)) => Ok(format!(in alloc; "{count} {stop:?}")?),
-        (count, None) => Ok(count.to_string(alloc)?),
+        (count, Some(stop)) => format!(in alloc; "{count} {stop:?}").map_err(Error::from),
+        (count, None) => count.to_string(alloc).map_err(Error::from),
     }
 }
 
@@ -161,7 +177,7 @@ pub fn verdict(alloc: Global, store: &Store, input: &str) -> Result<String> {
 // The verdict of a job's first visit, as text.
 fn text_of_verdict(alloc: Global, store: &Store, job: &Job) -> Result<String> {
     let verdict = verdict_of_first(alloc, store, job)?;
-    Ok(verdict.to_string(alloc)?)
+    verdict.to_string(alloc).map_err(Error::from)
 }
 
 // The verdict of a job's first visit.

@@ -1,10 +1,10 @@
 //! The command `get`: the archive of one job without a job file.
 
-ghost use Rattle.std.specs.Prelude.{◌≡◌, length};
+ghost use Rattle.std.specs.Prelude.{◌≡◌, length, IfOk};
 ghost use Rattle.std.specs.Arc.{arc_value};
 
 use crate::get_words::{job_words, output_of, refused_terminal};
-use crate::{STANDARD_INPUT_FILE, Terminals, leave_to_the_system, loaders, run_by_words, telling};
+use crate::{Terminals, file_at, leave_to_the_system, loaders, run_by_words, telling};
 use clap::ArgMatches;
 use ix_car::load_car_by;
 use ix_files::{
@@ -44,12 +44,24 @@ pub(crate) fn get<
         return Err(Failure::from(refused_terminal(rt.alloc())?));
     }
     let job = job_words(words);
-    let jobs = match jobs_of_words(rt.alloc(), &job, !words.get_flag("every-arrival")) {
-        Ok(jobs) => jobs,
-        Err(fault) => return refuse(rt, &job, &fault),
+    match jobs_of_words(rt.alloc(), &job, !words.get_flag("every-arrival")) {
+        Ok(jobs) => get_told(rt, words, jobs, terminals.errors),
+        Err(fault) => refuse(rt, &job, &fault),
+    }
+}
+
+// Loads the blocks, and exports the one job, and tells how it goes on.
+fn get_told<
+    'a,
+    R: AllocGlobal + Clock + Eprint + Files<File = File> + Input + Print + Threads + Wait + Sync,
+>(rt: &R, words: &ArgMatches<'a>, jobs: Vec<Job>, is_terminal: bool) -> Result<u8, Failure>
+    requires { length jobs.items ≡ 1 }
+{
+    let progress = Progress::new(rt, telling(words, is_terminal));
+    let status = match load_blocks(rt, words, &progress) {
+        Ok(store) => get_below(rt, words, store, jobs, &progress),
+        Err(failure) => Err(failure),
     };
-    let progress = Progress::new(rt, telling(words, terminals.errors));
-    let status = get_jobs(rt, words, jobs, &progress);
     progress.end();
     status
 }
@@ -66,28 +78,43 @@ fn refuse<R: AllocGlobal + Eprint>(
     Ok(REFUSED)
 }
 
-// Loads the blocks, and exports the one job. What stands in for closed streams comes behind the input, so
-// that standard input that is closed can't be read as one without bytes.
-fn get_jobs<
-    'a,
-    R: AllocGlobal + Clock + Eprint + Files<File = File> + Input + Print + Threads + Wait + Sync,
->(rt: &R, words: &ArgMatches<'a>, jobs: Vec<Job>, progress: &Progress<R>) -> Result<u8, Failure>
-    requires { length jobs.items ≡ 1 }
-{
-    let alloc = rt.alloc();
+// The blocks that the words name.
+fn load_blocks<'a, R: AllocGlobal + Clock + Eprint + Files + Input + Threads + Sync>(
+    rt: &R,
+    words: &ArgMatches<'a>,
+    progress: &Progress<R>,
+) -> Result<Arc<Store>, Failure> {
     let input = words.get_str("blocks").unwrap_or(STANDARD_INPUT);
     let car = load_input(rt, input, progress)?;
-    let blocks = load_car_by(rt, alloc, car, loaders(rt, words)).map_err(RunFault::from)?;
-    let store = Arc::new(alloc, blocks)?;
-    let jobs = Arc::new(alloc, jobs)?;
+    match load_car_by(rt, rt.alloc(), car, loaders(rt, words)) {
+        Ok(blocks) => Arc::new(rt.alloc(), blocks).map_err(Failure::from),
+        Err(fault) => Err(Failure::from(RunFault::from(fault))),
+    }
+}
+
+// Exports the one job out of these blocks. What stands in for closed streams comes behind the input, so
+// that standard input that is closed can't be read as one without bytes.
+fn get_below<
+    'a,
+    R: AllocGlobal + Clock + Eprint + Files<File = File> + Print + Threads + Wait + Sync,
+>(
+    rt: &R,
+    words: &ArgMatches<'a>,
+    store: Arc<Store>,
+    jobs: Vec<Job>,
+    progress: &Progress<R>,
+) -> Result<u8, Failure>
+    requires { length jobs.items ≡ 1 }
+{
+    let jobs = Arc::new(rt.alloc(), jobs)?;
     let standing = stand_in(rt);
     let status = match output_of(words) {
-        Some(path) => get_file(rt, words, path, &store, &jobs, progress)?,
-        None => get_stream(rt, words, &store, &jobs, progress)?,
+        Some(path) => get_file(rt, words, path, &store, &jobs, progress),
+        None => get_stream(rt, words, &store, &jobs, progress),
     };
     leave_to_the_system(store);
     drop(standing);
-    Ok(status)
+    status
 }
 
 // Exports to a file, which gets its name where it has all that was asked for.
@@ -104,30 +131,50 @@ fn get_file<
 ) -> Result<u8, Failure>
     requires { length (arc_value jobs.now).items ≡ 1 }
 {
-    // Room comes first, so that a file that is made is written.
-    let mut writers = Vec::with_capacity(rt.alloc(), 1)?;
-    writers.push(make_output(rt, path, input_file(words))?)?;
+    let writers = file_writers(rt, words, path)?;
     let ran = run_by_words(rt, words, store, jobs, writers, progress);
     progress.end();
-    let out = match ran {
-        Ok(out) => out,
+    match ran {
+        Ok(out) => name_and_tell(rt, words, path, jobs.as_slice(), &out),
         Err(fault) => {
             remove_output(rt, path);
-            return Err(refusal(rt, path, fault));
+            Err(refusal(rt, path, fault))
         }
-    };
-    let named = name_file(rt, words, path, jobs.as_slice(), &out);
-    tell(rt, words, jobs.as_slice(), &out);
-    named?;
-    Ok(out.status)
+    }
+}
+
+// The one writer, to the file that it makes. Room comes first, so that a file that is made is written.
+fn file_writers<'a, R: AllocGlobal + Files<File = File>>(
+    rt: &R,
+    words: &ArgMatches<'a>,
+    path: &str,
+) -> Result<Vec<BufWriter<R::File>>, Failure>
+    ensures { IfOk result (λ writers. length writers.items ≡ 1) }
+{
+    let mut writers = Vec::with_capacity(rt.alloc(), 1)?;
+    writers.push(make_output(rt, path, input_file(words))?)?;
+    Ok(writers)
+}
+
+// Gives the file its name, and tells the report behind that, whatever came of it.
+fn name_and_tell<'a, R: AllocGlobal + Eprint + Files<File = File>>(
+    rt: &R,
+    words: &ArgMatches<'a>,
+    path: &str,
+    jobs: &[Job],
+    out: &RunOut<BufWriter<R::File>>,
+) -> Result<u8, Failure> {
+    let named = name_file(rt, words, path, jobs, out);
+    tell(rt, words, jobs, out);
+    match named {
+        Ok(_) => Ok(out.status),
+        Err(failure) => Err(failure),
+    }
 }
 
 // The file that has the blocks, also where it is standard input.
 fn input_file<'a>(words: &ArgMatches<'a>) -> &'a str {
-    match words.get_str("blocks") {
-        Some(path) if path != STANDARD_INPUT => path,
-        _ => STANDARD_INPUT_FILE,
-    }
+    file_at(words.get_str("blocks").unwrap_or(STANDARD_INPUT))
 }
 
 // Gives the file its name, or tells why it gets none; answered is which.

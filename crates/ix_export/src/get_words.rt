@@ -1,8 +1,10 @@
 //! The words of the command `get`.
 
-use crate::words::{flag_argument, number_argument, refusal, text_argument};
+use crate::commands::{
+    BLOCKS, CommandWords, Given, PROGRESS, QUIET, VERIFIERS, WALKERS, Word, refusal,
+};
+use clap::ArgMatches;
 use clap::error::ErrorKind;
-use clap::{Arg, ArgAction, ArgMatches, Command};
 use ix_files::STANDARD_INPUT;
 use ix_job_words::{JobWords, SelectorWord};
 use std::alloc::{AllocError, Global};
@@ -38,92 +40,54 @@ are refused, with a line on standard error.";
 // The name of the one job in the report.
 const NAME: &str = "get";
 
-/// The command's words.
-pub(crate) fn get_command<'a>(alloc: Global) -> Result<Command<'a>, AllocError> {
-    let job = job_options(alloc)?;
-    let run = run_options(alloc)?;
-    Command::new(alloc, "get")
-        .about(ABOUT)
-        .after_help(HELP)
-        .args(job)?
-        .args(run)
-}
-
-// The options that say how it is exported, and to where.
-fn run_options<'a>(alloc: Global) -> Result<Vec<Arg<'a>>, AllocError> {
-    let options = vec![in alloc;
-        free_argument(
-            alloc,
-            "out",
-            "FILE",
-            "Where the archive goes; standard output without it"
-        ),
-        number_argument(alloc, "walkers", "How many threads walk, 1 to 64"),
-        number_argument(alloc, "verifiers", "How many threads hash, 1 to 64"),
-        flag_argument(
-            alloc,
-            "sync",
-            "The archive is on the disk before it gets its name"
-        ),
-        flag_argument(
-            alloc,
-            "progress",
-            "Tells on standard error how the run goes on"
-        ),
-        flag_argument(
-            alloc,
-            "quiet",
-            "Tells nothing of that, on a terminal either"
-        ),
-    ]?;
-    Ok(options)
-}
-
-// The options that say what is exported.
-fn job_options<'a>(alloc: Global) -> Result<Vec<Arg<'a>>, AllocError> {
-    let limit = free_argument(alloc, "limit", "N", "Most arrivals, 1 to 1000000").default_value(
-        "1000000",
-    );
-    let selector = free_argument(
-        alloc,
-        "selector",
-        "JSON",
-        "Which ways it goes; everything without it",
-    )
-    .conflicts_with("selector-hex")?;
-    let options = vec![in alloc;
-        text_argument(
-            alloc,
-            "blocks",
-            "FILE",
-            "The blocks: a CARv1 file, or - for standard input"
-        ),
-        text_argument(
-            alloc,
-            "root",
-            "CID[,CID..]",
-            "1 to 64 CIDv1s in base32, with one comma between"
-        ),
-        selector,
-        free_argument(alloc, "selector-hex", "HEX", "The same in hexadecimal"),
-        limit,
-        flag_argument(
-            alloc,
-            "every-arrival",
-            "Goes into what is shared at every arrival, not once",
-        ),
-    ]?;
-    Ok(options)
-}
-
-// An option with a text that may be left out.
-fn free_argument<'a>(alloc: Global, name: &'a str, value: &'a str, help: &'a str) -> Arg<'a> {
-    Arg::new(alloc, name)
-        .long(name)
-        .value_name(value)
-        .help(help)
-        .action(ArgAction::Set)
-}
+/// The command: which job it is, and then how it is exported, and to where.
+pub(crate) static GET: CommandWords = CommandWords {
+    name: "get",
+    about: ABOUT,
+    help: HELP,
+    words: &[
+        BLOCKS,
+        Word {
+            name: "root",
+            given: Given::Needed("CID[,CID..]"),
+            help: "1 to 64 CIDv1s in base32, with one comma between",
+        },
+        Word {
+            name: "selector",
+            given: Given::Without("JSON", "selector-hex"),
+            help: "Which ways it goes; everything without it",
+        },
+        Word {
+            name: "selector-hex",
+            given: Given::Free("HEX"),
+            help: "The same in hexadecimal",
+        },
+        Word {
+            name: "limit",
+            given: Given::Or("N", "1000000"),
+            help: "Most arrivals, 1 to 1000000",
+        },
+        Word {
+            name: "every-arrival",
+            given: Given::Flag,
+            help: "Goes into what is shared at every arrival, not once",
+        },
+        Word {
+            name: "out",
+            given: Given::Free("FILE"),
+            help: "Where the archive goes; standard output without it",
+        },
+        WALKERS,
+        VERIFIERS,
+        Word {
+            name: "sync",
+            given: Given::Flag,
+            help: "The archive is on the disk before it gets its name",
+        },
+        PROGRESS,
+        QUIET,
+    ],
+};
 
 /// The words of the job.
 pub(crate) fn job_words<'a>(words: &ArgMatches<'a>) -> JobWords<'a> {
@@ -153,7 +117,8 @@ pub(crate) fn output_of<'a>(words: &ArgMatches<'a>) -> Option<&'a str> {
 /// What is told where the archive would go to a terminal.
 pub(crate) fn refused_terminal(alloc: Global) -> Result<clap::Error, AllocError> {
     refusal(
-        get_command(alloc)?,
+        alloc,
+        &GET,
         "ix_export get",
         ErrorKind::MissingRequiredArgument,
         "the archive would go to a terminal: give '--out <FILE>', or send standard output elsewhere",

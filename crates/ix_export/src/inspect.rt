@@ -1,8 +1,8 @@
 //! The command `inspect`: what stands in a CARv1 file, or what a file is that is none.
 
 use crate::at_most_processors;
-use crate::words::flag_argument;
-use clap::{Arg, ArgMatches, Command};
+use crate::commands::{CommandWords, Given, Word};
+use clap::ArgMatches;
 use ix_car::{CarFault, CarFile, CarKind, Section, read_sections};
 use ix_files::{Failure, STANDARD_INPUT, read_input};
 use ix_inspect::{Kind, Summary, codec_name, hash_name, kind_of, summary_of};
@@ -33,19 +33,24 @@ of one that ends early, how its whole sections are kept.\n\
 \n\
 Status: 0, or 2 where the words or the file are refused.";
 
-/// The command's words.
-pub fn inspect_command<'a>(alloc: Global) -> Result<Command<'a>, AllocError> {
-    let file = Arg::new(alloc, "file")
-        .value_name("FILE")
-        .help("A CARv1 file; - is standard input")
-        .required(true);
-    let list = flag_argument(alloc, "list", "A line for each section: PLACE SIZE CID");
-    let words = vec![in alloc; file, list]?;
-    Command::new(alloc, "inspect")
-        .about(ABOUT)
-        .after_help(HELP)
-        .args(words)
-}
+/// The command.
+pub(crate) static INSPECT: CommandWords = CommandWords {
+    name: "inspect",
+    about: ABOUT,
+    help: HELP,
+    words: &[
+        Word {
+            name: "file",
+            given: Given::Place("FILE"),
+            help: "A CARv1 file; - is standard input",
+        },
+        Word {
+            name: "list",
+            given: Given::Flag,
+            help: "A line for each section: PLACE SIZE CID",
+        },
+    ],
+};
 
 /// Does what the words say, and answers the status.
 pub fn inspect<'a, R: AllocGlobal + Eprint + Files + Input + Print + Threads + Sync>(
@@ -54,18 +59,36 @@ pub fn inspect<'a, R: AllocGlobal + Eprint + Files + Input + Print + Threads + S
 ) -> Result<u8, Failure> {
     let path = words.get_str("file").unwrap_or(STANDARD_INPUT);
     let car = read_input(rt, path)?;
-    match read_sections(rt.alloc(), car.as_slice()) {
-        Ok(file) if words.get_flag("list") => list(rt, file.sections.as_slice()),
+    inspect_car(rt, path, car.as_slice(), words.get_flag("list"))
+}
+
+// The same with the bytes of the file.
+fn inspect_car<R: AllocGlobal + Eprint + Print + Threads + Sync>(
+    rt: &R,
+    path: &str,
+    car: &[u8],
+    is_listed: bool,
+) -> Result<u8, Failure> {
+    match read_sections(rt.alloc(), car) {
+        Ok(file) if is_listed => list(rt, file.sections.as_slice()),
         Ok(file) => summarize(rt, &file, car.len()),
-        Err(fault) => refuse(rt, path, car.as_slice(), fault),
+        Err(fault) => refuse(rt, path, car, fault),
     }
 }
 
 // A line for each section.
 fn list<R: AllocGlobal + Print>(rt: &R, sections: &[Section<'_>]) -> Result<u8, Failure> {
-    let mut output = BufWriter::new(rt.alloc(), io::writer(rt)).map_err(|_| Failure::Fault(
-        RunFault::Memory,
-    ))?;
+    match BufWriter::new(rt.alloc(), io::writer(rt)) {
+        Ok(mut output) => list_to(rt, &mut output, sections),
+        Err(_) => Err(Failure::Fault(RunFault::Memory)),
+    }
+}
+
+fn list_to<R: AllocGlobal, W: Write>(
+    rt: &R,
+    output: &mut W,
+    sections: &[Section<'_>],
+) -> Result<u8, Failure> {
     for section in sections {
         let line = line_of(rt.alloc(), section)?;
         if let Err(error) = output.write_all(line.as_bytes()) {
@@ -81,8 +104,14 @@ fn list<R: AllocGlobal + Print>(rt: &R, sections: &[Section<'_>]) -> Result<u8, 
 fn line_of(alloc: Global, section: &Section<'_>) -> Result<String, AllocError> {
     let place = section.place;
     let size = section.block.len();
-    let cid = section.cid.to_cid(alloc)?.text(alloc)?;
+    let cid = cid_of(alloc, section)?;
     format!(in alloc; "{place} {size} {cid}\n")
+}
+
+// The CID of a section, as in a job file.
+fn cid_of(alloc: Global, section: &Section<'_>) -> Result<String, AllocError> {
+    let cid = section.cid.to_cid(alloc)?;
+    cid.text(alloc)
 }
 
 // Where nobody reads on, nothing is left to be told.
@@ -102,24 +131,40 @@ fn summarize<R: AllocGlobal + Print + Threads + Sync>(
     let alloc = rt.alloc();
     let threads = at_most_processors(rt, LOADERS);
     let summary = summary_of(rt, alloc, file.sections.as_slice(), threads)?;
-    let mut text = format!(in alloc; "version 1\nroots {}\n", file.roots.len())?;
-    for root in &file.roots {
-        let cid = root.text(alloc)?;
-        writeln!(text, "root {cid}")?;
-    }
-    push_summary(&mut text, &summary, bytes)?;
+    let text = text_of(alloc, file, &summary, bytes)?;
     match io::writer(rt).write_all(text.as_bytes()) {
         Ok(()) => Ok(0),
         Err(error) => answer_of(rt, &error),
     }
 }
 
+// What is told of a file of so many bytes.
+fn text_of(
+    alloc: Global,
+    file: &CarFile<'_>,
+    summary: &Summary,
+    bytes: usize,
+) -> Result<String, AllocError> {
+    let mut text = String::new(alloc);
+    push_roots(alloc, &mut text, file)?;
+    push_summary(&mut text, summary, bytes)?;
+    Ok(text)
+}
+
+fn push_roots(alloc: Global, text: &mut String, file: &CarFile<'_>) -> Result<(), AllocError> {
+    writeln!(text, "version 1\nroots {}", file.roots.len())?;
+    for root in &file.roots {
+        push_root(text, root.text(alloc))?;
+    }
+    Ok(())
+}
+
+fn push_root(text: &mut String, root: Result<String, AllocError>) -> Result<(), AllocError> {
+    writeln!(text, "root {}", root?)
+}
+
 fn push_summary(text: &mut String, summary: &Summary, bytes: usize) -> Result<(), AllocError> {
-    let (sections, repeated) = (summary.sections, summary.repeated);
-    writeln!(
-        text,
-        "bytes {bytes}\nsections {sections}\nrepeated {repeated}"
-    )?;
+    push_numbers(text, bytes, summary.sections, summary.repeated)?;
     for (code, count) in summary.codecs.iter() {
         push_count(text, "codec", codec_name(*code), *code, *count)?;
     }
@@ -127,6 +172,18 @@ fn push_summary(text: &mut String, summary: &Summary, bytes: usize) -> Result<()
         push_count(text, "hash", hash_name(*code), *code, *count)?;
     }
     push_sizes(text, summary)
+}
+
+fn push_numbers(
+    text: &mut String,
+    bytes: usize,
+    sections: usize,
+    repeated: usize,
+) -> Result<(), AllocError> {
+    writeln!(
+        text,
+        "bytes {bytes}\nsections {sections}\nrepeated {repeated}"
+    )
 }
 
 // A line for a code, by its name where it has one.
@@ -169,20 +226,28 @@ fn refuse<R: AllocGlobal + Eprint>(
     if kind == CarKind::Memory {
         return Err(Failure::Fault(RunFault::Memory));
     }
-    let told = if place > 0 && kind == CarKind::Truncated {
-        eprintln!(rt;
-            "{path}: {kind} at {place}: its whole sections are its first {place} bytes (head -c {place})"
-        )
-    } else if place > 0 {
-        eprintln!(rt;
-            "{path}: {kind} at {place}: the sections before are its first {place} bytes (head -c {place})"
-        )
+    if place == 0 {
+        tell_kind(rt, path, fault, words_of(kind_of(car)));
+    } else if kind == CarKind::Truncated {
+        tell_kept(rt, path, fault, "its whole sections are");
     } else {
-        eprintln!(rt; "{path}: {kind} at 0: {}", words_of(kind_of(car)))
-    };
-    // Where standard error can't be written there is nobody to tell.
-    let _ = told;
+        tell_kept(rt, path, fault, "the sections before are");
+    }
     Ok(2)
+}
+
+// Tells what a file is. Where standard error can't be written there is nobody to tell.
+fn tell_kind<R: Eprint>(rt: &R, path: &str, fault: CarFault, words: &str) {
+    let kind = fault.kind;
+    let _ = eprintln!(rt; "{path}: {kind} at 0: {words}");
+}
+
+// Tells which bytes in front of a fault are kept, and how.
+fn tell_kept<R: Eprint>(rt: &R, path: &str, fault: CarFault, words: &str) {
+    let CarFault { kind, place } = fault;
+    let _ = eprintln!(rt;
+        "{path}: {kind} at {place}: {words} its first {place} bytes (head -c {place})"
+    );
 }
 
 // What a file is that is no CARv1 file.

@@ -1,12 +1,12 @@
 //! The commands `job` and `check-jobs`.
 
-use crate::print_all;
+use crate::{print_all, print_answer, word};
 use clap::ArgMatches;
 use ix_files::{Failure, STANDARD_INPUT, read_all, read_input};
-use ix_job_words::{fault_lines, job_faults, job_line, line_fault_words};
+use ix_job_words::{LineFault, fault_lines, job_faults, job_line, line_fault_words};
 use ix_jobs::JobsFault;
 use ix_run::{RunFault, fault_line};
-use std::alloc::AllocError;
+use std::alloc::{AllocError, Global};
 use std::rt::Files;
 
 // The status of words that are those of no job, and of a job file that is refused.
@@ -17,28 +17,51 @@ pub(crate) fn print_job<'a, R: AllocGlobal + Eprint + Input + Print>(
     rt: &R,
     words: &ArgMatches<'a>,
 ) -> Result<u8, Failure> {
-    let alloc = rt.alloc();
-    let [name, roots, limit, json] = ["name", "roots", "limit", "json"].map(|word| words
-        .get_str(word)
-        .unwrap_or(""));
-    let line = if json == STANDARD_INPUT {
-        let input = read_all(alloc, rt.reader(), 0, STANDARD_INPUT)?;
-        job_line(alloc, name, roots, limit, input.as_slice())
-    } else {
-        job_line(alloc, name, roots, limit, json.as_bytes())
-    };
-    match line {
-        Ok(line) => {
-            print_all(rt, line.as_bytes())?;
-            Ok(0)
-        }
-        Err(fault) => {
-            let told = line_fault_words(alloc, &fault, name, roots, limit)?;
-            // Where standard error can't be written there is nobody to tell.
-            let _ = rt.eprintln(told.as_str());
-            Ok(REFUSED)
-        }
+    match line_of_words(rt, words)? {
+        Ok(line) => print_answer(rt, Ok(line)),
+        Err(fault) => refuse_words(rt, words, &fault),
     }
+}
+
+// The line of the job that the words say, or why there is none.
+fn line_of_words<'a, R: AllocGlobal + Input>(
+    rt: &R,
+    words: &ArgMatches<'a>,
+) -> Result<Result<String, LineFault>, Failure> {
+    let json = word(words, "json");
+    if json != STANDARD_INPUT {
+        return Ok(line_with(rt.alloc(), words, json.as_bytes()));
+    }
+    let input = read_all(rt.alloc(), rt.reader(), 0, STANDARD_INPUT)?;
+    Ok(line_with(rt.alloc(), words, input.as_slice()))
+}
+
+// The same with this selector.
+fn line_with<'a>(alloc: Global, words: &ArgMatches<'a>, json: &[u8]) -> Result<String, LineFault> {
+    job_line(
+        alloc,
+        word(words, "name"),
+        word(words, "roots"),
+        word(words, "limit"),
+        json,
+    )
+}
+
+// Tells why words are those of no job.
+fn refuse_words<'a, R: AllocGlobal + Eprint>(
+    rt: &R,
+    words: &ArgMatches<'a>,
+    fault: &LineFault,
+) -> Result<u8, Failure> {
+    let [name, roots, limit] = [
+        word(words, "name"),
+        word(words, "roots"),
+        word(words, "limit"),
+    ];
+    let told = line_fault_words(rt.alloc(), fault, name, roots, limit)?;
+    // Where standard error can't be written there is nobody to tell.
+    let _ = rt.eprintln(told.as_str());
+    Ok(REFUSED)
 }
 
 /// The command `check-jobs`: prints nothing where the command `jobs` would take the file, else the line
@@ -47,16 +70,31 @@ pub(crate) fn check_jobs<'a, R: AllocGlobal + Files + Input + Print>(
     rt: &R,
     words: &ArgMatches<'a>,
 ) -> Result<u8, Failure> {
-    let alloc = rt.alloc();
-    let file = read_input(rt, words.get_str("file").unwrap_or(""))?;
-    let faults = job_faults(alloc, file.as_slice())?;
+    let file = read_input(rt, word(words, "file"))?;
+    let faults = job_faults(rt.alloc(), file.as_slice())?;
+    tell_faults(rt, file.as_slice(), faults.as_slice())
+}
+
+// Prints what is wrong with a job file that has these faults.
+fn tell_faults<R: AllocGlobal + Print>(
+    rt: &R,
+    file: &[u8],
+    faults: &[JobsFault],
+) -> Result<u8, Failure> {
     let Some(first) = faults.first() else {
         return Ok(0);
     };
-    print_all(rt, refusal(rt, first)?.as_bytes())?;
-    let lines = fault_lines(alloc, file.as_slice(), faults.as_slice())?;
-    print_all(rt, lines.as_bytes())?;
+    print_text(rt, refusal(rt, first))?;
+    print_text(rt, fault_lines(rt.alloc(), file, faults))?;
     Ok(REFUSED)
+}
+
+// Prints a text, where there was memory for it.
+fn print_text<R: AllocGlobal + Print>(
+    rt: &R,
+    text: Result<String, AllocError>,
+) -> Result<(), Failure> {
+    print_all(rt, text?.as_bytes())
 }
 
 // The line with which the command `jobs` refuses a file with this fault.

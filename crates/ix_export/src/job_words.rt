@@ -1,7 +1,6 @@
 //! The words of the commands `job` and `check-jobs`.
 
-use clap::{Arg, Command};
-use std::alloc::{AllocError, Global};
+use crate::commands::{CommandWords, Given, Word};
 
 const JOB_ABOUT: &str = "Prints the line of a job for a job file";
 
@@ -24,51 +23,42 @@ faulty, in which field, what is wrong there and what would be right.\n\
 Status: 0 where the command `jobs` takes the file, 2 where it doesn't.";
 
 /// The command `job`.
-pub(crate) fn job_command<'a>(alloc: Global) -> Result<Command<'a>, AllocError> {
-    let words = vec![in alloc;
-        word(alloc, "name", "NAME", "1 to 64 of a to z, 0 to 9, - and _"),
-        word(
-            alloc,
-            "roots",
-            "ROOT[,ROOT..]",
-            "1 to 64 CIDv1s in base32, with one comma between"
-        ),
-        word(
-            alloc,
-            "limit",
-            "LIMIT",
-            "How many arrivals at blocks there may be, 1 to 1000000"
-        ),
-        word(
-            alloc,
-            "json",
-            "JSON",
-            "The selector as JSON, or - for standard input"
-        ),
-    ]?;
-    Command::new(alloc, "job")
-        .about(JOB_ABOUT)
-        .after_help(JOB_HELP)
-        .args(words)
-}
+pub(crate) static JOB: CommandWords = CommandWords {
+    name: "job",
+    about: JOB_ABOUT,
+    help: JOB_HELP,
+    words: &[
+        Word {
+            name: "name",
+            given: Given::Place("NAME"),
+            help: "1 to 64 of a to z, 0 to 9, - and _",
+        },
+        Word {
+            name: "roots",
+            given: Given::Place("ROOT[,ROOT..]"),
+            help: "1 to 64 CIDv1s in base32, with one comma between",
+        },
+        Word {
+            name: "limit",
+            given: Given::Place("LIMIT"),
+            help: "How many arrivals at blocks there may be, 1 to 1000000",
+        },
+        Word {
+            name: "json",
+            given: Given::Place("JSON"),
+            help: "The selector as JSON, or - for standard input",
+        },
+    ],
+};
 
 /// The command `check-jobs`.
-pub(crate) fn check_jobs_command<'a>(alloc: Global) -> Result<Command<'a>, AllocError> {
-    Command::new(alloc, "check-jobs")
-        .about(CHECK_JOBS_ABOUT)
-        .after_help(CHECK_JOBS_HELP)
-        .arg(word(
-            alloc,
-            "file",
-            "FILE",
-            "The job file, or - for standard input",
-        ))
-}
-
-// A word that must be given.
-fn word<'a>(alloc: Global, name: &'a str, value: &'a str, help: &'a str) -> Arg<'a> {
-    Arg::new(alloc, name)
-        .value_name(value)
-        .help(help)
-        .required(true)
-}
+pub(crate) static CHECK_JOBS: CommandWords = CommandWords {
+    name: "check-jobs",
+    about: CHECK_JOBS_ABOUT,
+    help: CHECK_JOBS_HELP,
+    words: &[Word {
+        name: "file",
+        given: Given::Place("FILE"),
+        help: "The job file, or - for standard input",
+    }],
+};

@@ -10,6 +10,7 @@
 //! ```
 #![tactic(auto)]
 
+mod commands;
 mod get;
 mod get_words;
 mod inspect;
@@ -18,8 +19,9 @@ mod job_words;
 mod verify;
 mod words;
 
-ghost use Rattle.std.specs.Prelude.{◌≡◌, ◌≤◌, length, IfOk};
+ghost use Rattle.std.specs.Prelude.{◌≤◌, IfOk};
 ghost use Rattle.std.specs.Arc.{arc_value};
+ghost use Rattle.ix_run.specs.Run.{CanRun};
 ghost use Rattle.ix_walk.specs.JobMeaning.{AreFew};
 
 use crate::job_file::{check_jobs, print_job};
@@ -89,7 +91,14 @@ fn obey<
         + Sync,
 >(rt: &R, terminals: Terminals) -> Result<u8, Failure> {
     let words = words_of(rt)?;
-    match command_line(rt.alloc())?.try_get_matches_from(words.as_slice()) {
+    obey_words(rt, words.as_slice(), terminals)
+}
+
+// Does what these words say.
+fn obey_words<
+    R: AllocGlobal + Clock + Eprint + Files<File = File> + Input + Print + Threads + Wait + Sync,
+>(rt: &R, words: &[String], terminals: Terminals) -> Result<u8, Failure> {
+    match command_line(rt.alloc())?.try_get_matches_from(words) {
         Ok(matches) => obey_command(rt, &matches, terminals),
         Err(error) => print_help(rt, error),
     }
@@ -112,29 +121,17 @@ fn obey_command<
     'a,
     R: AllocGlobal + Clock + Eprint + Files<File = File> + Input + Print + Threads + Wait + Sync,
 >(rt: &R, matches: &ArgMatches<'a>, terminals: Terminals) -> Result<u8, Failure> {
-    if let Some(words) = matches.subcommand_matches("get") {
-        return get::get(rt, words, terminals);
+    match matches.subcommand() {
+        Some(("get", words)) => get::get(rt, words, terminals),
+        Some(("jobs", words)) => export_jobs(rt, words, terminals.errors),
+        Some(("selector", words)) => convert_selector(rt, words),
+        Some(("job", words)) => print_job(rt, words),
+        Some(("check-jobs", words)) => check_jobs(rt, words),
+        Some(("inspect", words)) => inspect::inspect(rt, words),
+        Some(("verify", words)) => verify::verify_files(rt, words),
+        Some((_, words)) => export_one(rt, word(words, "cid")),
+        None => export_one(rt, ""),
     }
-    if let Some(words) = matches.subcommand_matches("jobs") {
-        return export_jobs(rt, words, terminals.errors);
-    }
-    if let Some(words) = matches.subcommand_matches("selector") {
-        return convert_selector(rt, words);
-    }
-    if let Some(words) = matches.subcommand_matches("job") {
-        return print_job(rt, words);
-    }
-    if let Some(words) = matches.subcommand_matches("check-jobs") {
-        return check_jobs(rt, words);
-    }
-    if let Some(words) = matches.subcommand_matches("inspect") {
-        return inspect::inspect(rt, words);
-    }
-    if let Some(words) = matches.subcommand_matches("verify") {
-        return verify::verify_files(rt, words);
-    }
-    let root = matches.subcommand_matches("root");
-    export_one(rt, root.and_then(|root| root.get_str("cid")).unwrap_or(""))
 }
 
 // The command `selector`: from JSON to hexadecimal, or back.
@@ -142,27 +139,38 @@ fn convert_selector<'a, R: AllocGlobal + Input + Print>(
     rt: &R,
     words: &ArgMatches<'a>,
 ) -> Result<u8, Failure> {
-    let alloc = rt.alloc();
     let line = match (words.get_str("hex"), words.get_str("json")) {
-        (Some(text), _) => json_of_hex(alloc, text)?,
-        (None, Some(text)) if text != STANDARD_INPUT => hex_of_json(alloc, text.as_bytes())?,
-        _ => hex_of_json(
-            alloc,
-            read_all(alloc, rt.reader(), 0, STANDARD_INPUT)?.as_slice(),
-        )?,
+        (Some(text), _) => json_of_hex(rt.alloc(), text),
+        (None, Some(text)) if text != STANDARD_INPUT => hex_of_json(rt.alloc(), text.as_bytes()),
+        _ => return print_answer(rt, hex_of_input(rt)),
     };
-    print_all(rt, line.as_bytes())?;
-    Ok(0)
+    print_answer(rt, line.map_err(Failure::from))
+}
+
+// The selector of which the JSON is standard input, in hexadecimal.
+fn hex_of_input<R: AllocGlobal + Input>(rt: &R) -> Result<String, Failure> {
+    let input = read_all(rt.alloc(), rt.reader(), 0, STANDARD_INPUT)?;
+    hex_of_json(rt.alloc(), input.as_slice()).map_err(Failure::from)
 }
 
 // The command `root`: its faults come in the order text, standard input, hexadecimal, CAR.
 fn export_one<R: AllocGlobal + Input + Print>(rt: &R, text: &str) -> Result<u8, Failure> {
-    let alloc = rt.alloc();
-    let root = root_of_text(alloc, text)?;
-    let input = read_all(alloc, rt.reader(), 0, "-")?;
-    let printed = printed_root(alloc, root, input.as_slice())?;
-    print_all(rt, printed.as_bytes())?;
-    Ok(0)
+    print_answer(rt, archive_of_one(rt, text))
+}
+
+// What it prints.
+fn archive_of_one<R: AllocGlobal + Input>(rt: &R, text: &str) -> Result<String, Failure> {
+    let root = root_of_text(rt.alloc(), text)?;
+    let input = read_all(rt.alloc(), rt.reader(), 0, "-")?;
+    printed_root(rt.alloc(), root, input.as_slice()).map_err(Failure::from)
+}
+
+// Prints a text that is all the answer, where there is one.
+fn print_answer<R: AllocGlobal + Print>(
+    rt: &R,
+    text: Result<String, Failure>,
+) -> Result<u8, Failure> {
+    print_all(rt, text?.as_bytes()).map(|()| 0)
 }
 
 // The command `jobs`: its faults come in the order blocks, job file, what they hold, outputs. A run
@@ -191,8 +199,7 @@ fn telling<'a>(words: &ArgMatches<'a>, is_terminal: bool) -> Telling {
     }
 }
 
-// The same, which tells how it goes on. What stands in for closed streams comes behind the inputs, so
-// that standard input that is closed can't be read as one without bytes.
+// The same, which tells how it goes on.
 fn export_told<
     'a,
     R: AllocGlobal + Clock + Eprint + Files<File = File> + Input + Print + Threads + Wait + Sync,
@@ -201,14 +208,39 @@ fn export_told<
         part: part_of(rt.alloc(), words)?,
         once: words.get_flag("once"),
     };
-    let inputs = ["blocks", "jobs"].map(|name| words.get_str(name).unwrap_or(""));
+    let inputs = [word(words, "blocks"), word(words, "jobs")];
     judge_inputs(rt.alloc(), inputs)?;
-    let (store, jobs) = load_files(rt, inputs, choice, loaders(rt, words), progress)?;
+    match load_files(rt, inputs, choice, loaders(rt, words), progress) {
+        Ok((store, jobs)) => export_files(rt, words, inputs, store, &jobs, progress),
+        Err(failure) => Err(failure),
+    }
+}
+
+// The word with this name, which the command line has let be left out nowhere.
+fn word<'a>(words: &ArgMatches<'a>, name: &str) -> &'a str {
+    words.get_str(name).unwrap_or("")
+}
+
+// The same of what these files hold. What stands in for closed streams comes behind the inputs, so that
+// standard input that is closed can't be read as one without bytes.
+fn export_files<
+    'a,
+    R: AllocGlobal + Clock + Eprint + Files<File = File> + Print + Threads + Wait + Sync,
+>(
+    rt: &R,
+    words: &ArgMatches<'a>,
+    inputs: [&str; 2],
+    store: Arc<Store>,
+    jobs: &Arc<Vec<Job>>,
+    progress: &Progress<R>,
+) -> Result<u8, Failure>
+    requires { AreFew (arc_value jobs.now).items }
+{
     let standing = stand_in(rt);
-    let status = export_loaded(rt, words, inputs, &store, &jobs, progress)?;
+    let status = export_loaded(rt, words, inputs, &store, jobs, progress);
     leave_to_the_system(store);
     drop(standing);
-    Ok(status)
+    status
 }
 
 // Doesn't free the blocks, since nothing but the status is left to do: the system takes all memory back at the end of the
@@ -229,7 +261,10 @@ fn load_files<R: AllocGlobal + Clock + Eprint + Files + Input + Threads + Sync>(
 {
     let car = load_input(rt, inputs[0], progress)?;
     let file = read_input(rt, inputs[1])?;
-    Ok(load_by(rt, rt.alloc(), car, file.as_slice(), choice, loaders)?)
+    match load_by(rt, rt.alloc(), car, file.as_slice(), choice, loaders) {
+        Ok(loaded) => Ok(loaded),
+        Err(fault) => Err(Failure::from(fault)),
+    }
 }
 
 // Runs the jobs of these files, and makes and names their outputs, or removes them where the run is
@@ -247,12 +282,8 @@ fn export_loaded<
 ) -> Result<u8, Failure>
     requires { AreFew (arc_value jobs.now).items }
 {
-    let folder = words.get_str("out").unwrap_or("");
-    let files = inputs.map(|path| if path == STANDARD_INPUT {
-        STANDARD_INPUT_FILE
-    } else {
-        path
-    });
+    let folder = word(words, "out");
+    let files = [file_at(inputs[0]), file_at(inputs[1])];
     let writers = make_outputs(rt, folder, jobs.as_slice(), files)?;
     let ran = run_by_words(rt, words, store, jobs, writers, progress);
     progress.end();
@@ -265,6 +296,15 @@ fn export_loaded<
     }
 }
 
+// The file at the path of an input, also where that is standard input.
+pub(crate) fn file_at(path: &str) -> &str {
+    if path == STANDARD_INPUT {
+        STANDARD_INPUT_FILE
+    } else {
+        path
+    }
+}
+
 // Names the outputs of a run, and prints its report.
 fn name_and_report<'a, R: AllocGlobal + Eprint + Files<File = File> + Print>(
     rt: &R,
@@ -273,16 +313,28 @@ fn name_and_report<'a, R: AllocGlobal + Eprint + Files<File = File> + Print>(
     jobs: &[Job],
     out: &RunOut<BufWriter<R::File>>,
 ) -> Result<u8, Failure> {
+    let named = name_by_words(rt, words, folder, jobs, out);
+    match print_all(rt, out.report.as_slice()).and(named) {
+        Ok(()) => Ok(out.status),
+        Err(failure) => Err(failure),
+    }
+}
+
+// Names the outputs that the words want to be named.
+fn name_by_words<'a, R: AllocGlobal + Eprint + Files<File = File>>(
+    rt: &R,
+    words: &ArgMatches<'a>,
+    folder: &str,
+    jobs: &[Job],
+    out: &RunOut<BufWriter<R::File>>,
+) -> Result<(), Failure> {
     let sync = words.get_flag("sync");
     let outputs = out.writers.as_slice();
-    let named = if words.get_flag("complete") {
+    if words.get_flag("complete") {
         name_complete_outputs(rt, folder, jobs, out.results.as_slice(), outputs, sync)
     } else {
         name_outputs(rt, folder, jobs, out.ends.as_slice(), outputs, sync)
-    };
-    print_all(rt, out.report.as_slice())?;
-    named?;
-    Ok(out.status)
+    }
 }
 
 // Runs the jobs by as many threads as the words say, and tells how it goes on where they ask for that.
@@ -294,8 +346,7 @@ fn run_by_words<'a, R: AllocGlobal + Clock + Eprint + Threads + Wait + Sync, W: 
     writers: Vec<W>,
     progress: &Progress<R>,
 ) -> Result<RunOut<W>, RunFault>
-    requires writers { length writers.items ≡ length (arc_value jobs.now).items }
-    requires jobs { AreFew (arc_value jobs.now).items }
+    requires { CanRun (arc_value jobs.now).items writers.items }
 {
     let alloc = rt.alloc();
     let verifiers = threads(words, "verifiers");

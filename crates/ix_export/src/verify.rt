@@ -1,12 +1,12 @@
 //! The command `verify`: whether CARv1 files are sound.
 
-use crate::words::{flag_argument, number_argument};
+use crate::commands::{CommandWords, Given, VERIFIERS, Word};
 use crate::{print_all, threads};
-use clap::{Arg, ArgAction, ArgMatches, Command};
+use clap::ArgMatches;
 use ix_car::{CarFault, CarKind};
 use ix_files::{Failure, read_input};
 use ix_run::RunFault;
-use ix_verify::{Findings, Reach, verify};
+use ix_verify::{Findings, Reach, Unsound, verify};
 use std::alloc::{AllocError, Global};
 use std::fmt::Write;
 use std::num::NonZeroUsize;
@@ -41,24 +41,25 @@ without roots calls for nothing.\n\
 Status: 0 where all is sound, 3 where something isn't, 2 where the words or a\n\
 file are refused.";
 
-/// The command's words.
-pub fn verify_command<'a>(alloc: Global) -> Result<Command<'a>, AllocError> {
-    let files = Arg::new(alloc, "file")
-        .value_name("FILE")
-        .help("CARv1 files; - is standard input")
-        .required(true)
-        .num_args(1..)
-        .action(ArgAction::Append);
-    let options = vec![in alloc;
-        files,
-        flag_argument(alloc, "blocks-only", "Judges the sections alone"),
-        number_argument(alloc, "verifiers", "How many threads hash, 1 to 64"),
-    ]?;
-    Command::new(alloc, "verify")
-        .about(ABOUT)
-        .after_help(HELP)
-        .args(options)
-}
+/// The command.
+pub(crate) static VERIFY: CommandWords = CommandWords {
+    name: "verify",
+    about: ABOUT,
+    help: HELP,
+    words: &[
+        Word {
+            name: "file",
+            given: Given::Places("FILE"),
+            help: "CARv1 files; - is standard input",
+        },
+        Word {
+            name: "blocks-only",
+            given: Given::Flag,
+            help: "Judges the sections alone",
+        },
+        VERIFIERS,
+    ],
+};
 
 /// Does what the words say, and answers the status. Behind a file that is refused the others are verified.
 pub fn verify_files<'a, R: AllocGlobal + Eprint + Files + Input + Print + Threads + Sync>(
@@ -101,13 +102,21 @@ fn verify_file<'a, R: AllocGlobal + Eprint + Files + Input + Print + Threads + S
         NonZeroUsize::MIN,
     );
     match verify(rt, alloc, car, threads, reach) {
-        Ok(found) => {
-            let text = lines_of(alloc, path, bytes, &found)?;
-            print_all(rt, text.as_bytes())?;
-            Ok(if found.is_sound() { 0 } else { BROKEN })
-        }
+        Ok(found) => tell_findings(rt, path, bytes, &found),
         Err(fault) => refuse(rt, path, fault),
     }
+}
+
+// Prints what was found in a file of so many bytes, and answers the status.
+fn tell_findings<R: AllocGlobal + Print>(
+    rt: &R,
+    path: &str,
+    bytes: usize,
+    found: &Findings,
+) -> Result<u8, Failure> {
+    let text = lines_of(rt.alloc(), path, bytes, found)?;
+    print_all(rt, text.as_bytes())?;
+    Ok(if found.is_sound() { 0 } else { BROKEN })
 }
 
 // Tells why a file is refused.
@@ -143,17 +152,31 @@ fn lines_of(
 // A line for each section and link that isn't sound, and one for a walk that ended at its limit.
 fn push_findings(alloc: Global, text: &mut String, found: &Findings) -> Result<(), AllocError> {
     for section in &found.unsound {
-        let cid = section.cid.text(alloc)?;
-        let (place, verdict) = (section.place, section.verdict);
-        writeln!(text, "  section {place} {verdict} {cid}")?;
+        push_section(text, section, section.cid.text(alloc))?;
     }
+    push_links(alloc, text, found)?;
+    if found.is_over_limit {
+        text.push_str("  limit\n")?;
+    }
+    Ok(())
+}
+
+// A line for a section with this CID.
+fn push_section(
+    text: &mut String,
+    section: &Unsound,
+    cid: Result<String, AllocError>,
+) -> Result<(), AllocError> {
+    let (place, verdict, cid) = (section.place, section.verdict, cid?);
+    writeln!(text, "  section {place} {verdict} {cid}")
+}
+
+// A line for each link that leads to nothing sound.
+fn push_links(alloc: Global, text: &mut String, found: &Findings) -> Result<(), AllocError> {
     for skip in &found.skips {
         let cid = skip.cid.text(alloc)?;
         let verdict = skip.verdict;
         writeln!(text, "  link {verdict} {cid}")?;
-    }
-    if found.is_over_limit {
-        text.push_str("  limit\n")?;
     }
     Ok(())
 }

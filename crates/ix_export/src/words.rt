@@ -1,11 +1,14 @@
 //! The words of the command line.
 
-use crate::get_words::get_command;
-use crate::inspect::inspect_command;
-use crate::job_words::{check_jobs_command, job_command};
-use crate::verify::verify_command;
+use crate::commands::{
+    BLOCKS, CommandWords, Given, PROGRESS, QUIET, VERIFIERS, WALKERS, Word, command_of, refusal,
+};
+use crate::get_words::GET;
+use crate::inspect::INSPECT;
+use crate::job_words::{CHECK_JOBS, JOB};
+use crate::verify::VERIFY;
 use clap::error::ErrorKind;
-use clap::{Arg, ArgAction, ArgMatches, Command, value_parser};
+use clap::{ArgMatches, Command};
 use ix_files::STANDARD_INPUT;
 use ix_jobs::Part;
 use std::alloc::{AllocError, Global};
@@ -113,14 +116,20 @@ fn commands<'a>(alloc: Global) -> Result<Vec<Command<'a>>, AllocError> {
 
 // Adds each of them, with no command to let go of where it ends early.
 fn push_commands<'a>(alloc: Global, commands: &mut Vec<Command<'a>>) -> Result<(), AllocError> {
-    push_command(commands, get_command(alloc))?;
-    push_command(commands, jobs_command(alloc))?;
-    push_command(commands, job_command(alloc))?;
-    push_command(commands, check_jobs_command(alloc))?;
-    push_command(commands, selector_command(alloc))?;
-    push_command(commands, root_command(alloc))?;
-    push_command(commands, inspect_command(alloc))?;
-    push_command(commands, verify_command(alloc))
+    let tables = [
+        &GET,
+        &JOBS,
+        &JOB,
+        &CHECK_JOBS,
+        &SELECTOR,
+        &ROOT,
+        &INSPECT,
+        &VERIFY,
+    ];
+    for table in tables {
+        push_command(commands, command_of(alloc, table))?;
+    }
+    Ok(())
 }
 
 // Adds a command, where there was memory for it.
@@ -128,103 +137,86 @@ fn push_command<'a>(
     commands: &mut Vec<Command<'a>>,
     command: Result<Command<'a>, AllocError>,
 ) -> Result<(), AllocError> {
-    commands.push(command?)?;
-    Ok(())
+    match command {
+        Ok(command) => commands.push(command).map_err(AllocError::from),
+        Err(error) => Err(error),
+    }
 }
 
-fn root_command<'a>(alloc: Global) -> Result<Command<'a>, AllocError> {
-    let cid = text_argument(alloc, "cid", "TEXT", "The CID of the root");
-    Command::new(alloc, "root")
-        .about(ROOT_ABOUT)
-        .after_help(ROOT_HELP)
-        .arg(cid)
-}
+// The command `root`.
+static ROOT: CommandWords = CommandWords {
+    name: "root",
+    about: ROOT_ABOUT,
+    help: ROOT_HELP,
+    words: &[Word {
+        name: "cid",
+        given: Given::Needed("TEXT"),
+        help: "The CID of the root",
+    }],
+};
 
-fn jobs_command<'a>(alloc: Global) -> Result<Command<'a>, AllocError> {
-    let options = vec![in alloc;
-        text_argument(
-            alloc,
-            "blocks",
-            "FILE",
-            "The blocks: a CARv1 file, or - for standard input"
-        ),
-        text_argument(
-            alloc,
-            "jobs",
-            "FILE",
-            "The job file, or - for standard input"
-        ),
-        text_argument(alloc, "out", "DIR", "Where the archives go"),
-        part_argument(alloc),
-        number_argument(alloc, "walkers", "How many threads walk, 1 to 64"),
-        number_argument(alloc, "verifiers", "How many threads hash, 1 to 64"),
-        flag_argument(
-            alloc,
-            "once",
-            "Goes into what is shared once, not at every arrival",
-        ),
-        flag_argument(
-            alloc,
-            "sync",
-            "Each archive is on the disk before it gets its name",
-        ),
-        flag_argument(
-            alloc,
-            "complete",
-            "Names only archives of done jobs with all their roots",
-        ),
-        flag_argument(
-            alloc,
-            "progress",
-            "Tells on standard error how the run goes on",
-        ),
-        flag_argument(
-            alloc,
-            "quiet",
-            "Tells nothing of that, on a terminal either"
-        ),
-    ]?;
-    Command::new(alloc, "jobs")
-        .about(JOBS_ABOUT)
-        .after_help(JOBS_HELP)
-        .args(options)
-}
+// The command `jobs`.
+static JOBS: CommandWords = CommandWords {
+    name: "jobs",
+    about: JOBS_ABOUT,
+    help: JOBS_HELP,
+    words: &[
+        BLOCKS,
+        Word {
+            name: "jobs",
+            given: Given::Needed("FILE"),
+            help: "The job file, or - for standard input",
+        },
+        Word {
+            name: "out",
+            given: Given::Needed("DIR"),
+            help: "Where the archives go",
+        },
+        Word {
+            name: "part",
+            given: Given::Free("K/N"),
+            help: "The K-th of N parts of the jobs, N up to 1000000",
+        },
+        WALKERS,
+        VERIFIERS,
+        Word {
+            name: "once",
+            given: Given::Flag,
+            help: "Goes into what is shared once, not at every arrival",
+        },
+        Word {
+            name: "sync",
+            given: Given::Flag,
+            help: "Each archive is on the disk before it gets its name",
+        },
+        Word {
+            name: "complete",
+            given: Given::Flag,
+            help: "Names only archives of done jobs with all their roots",
+        },
+        PROGRESS,
+        QUIET,
+    ],
+};
 
-fn selector_command<'a>(alloc: Global) -> Result<Command<'a>, AllocError> {
-    let hex = Arg::new(alloc, "hex")
-        .long("hex")
-        .value_name("TEXT")
-        .help("The selector in hexadecimal, to be printed as JSON")
-        .action(ArgAction::Set)
-        .conflicts_with("json")?;
-    let json = Arg::new(alloc, "json")
-        .value_name("JSON")
-        .help("The selector as JSON");
-    let words = vec![in alloc; json, hex]?;
-    Command::new(alloc, "selector")
-        .about(SELECTOR_ABOUT)
-        .after_help(SELECTOR_HELP)
-        .args(words)
-}
-
-/// An option with a text that must be given.
-pub fn text_argument<'a>(alloc: Global, name: &'a str, value: &'a str, help: &'a str) -> Arg<'a> {
-    Arg::new(alloc, name)
-        .long(name)
-        .value_name(value)
-        .help(help)
-        .required(true)
-        .action(ArgAction::Set)
-}
-
-// The part of the job file, which is all of it where the option is left out.
-fn part_argument<'a>(alloc: Global) -> Arg<'a> {
-    Arg::new(alloc, "part")
-        .long("part")
-        .value_name("K/N")
-        .help("The K-th of N parts of the jobs, N up to 1000000")
-        .action(ArgAction::Set)
-}
+// The command `selector`.
+static SELECTOR: CommandWords = CommandWords {
+    name: "selector",
+    about: SELECTOR_ABOUT,
+    help: SELECTOR_HELP,
+    words: &[
+        Word {
+            name: "json",
+            given: Given::FreePlace("JSON"),
+            help: "The selector as JSON",
+        },
+        Word {
+            name: "hex",
+            given: Given::Without("TEXT", "json"),
+            help: "The selector in hexadecimal, to be printed as JSON",
+        },
+    ],
+};
 
 /// Refuses standard input for both the blocks and the job file.
 pub fn judge_inputs(alloc: Global, inputs: [&str; 2]) -> Result<(), clap::Error> {
@@ -237,22 +229,12 @@ pub fn judge_inputs(alloc: Global, inputs: [&str; 2]) -> Result<(), clap::Error>
 // What is told of standard input for both.
 fn refused_inputs(alloc: Global) -> Result<clap::Error, AllocError> {
     refusal(
-        jobs_command(alloc)?,
+        alloc,
+        &JOBS,
         "ix_export jobs",
         ErrorKind::ArgumentConflict,
         "standard input is given for '--blocks <FILE>' and for '--jobs <FILE>'",
     )
-}
-
-/// What is told of words of a command that are refused.
-pub fn refusal<'a>(
-    command: Command<'a>,
-    name: &str,
-    kind: ErrorKind,
-    message: &str,
-) -> Result<clap::Error, AllocError> {
-    let mut command = command.bin_name(name)?;
-    command.error(kind, message)
 }
 
 /// The part of the job file that the words of the command `jobs` ask for, or the whole.
@@ -278,28 +260,10 @@ fn refused_part<'a>(alloc: Global, text: &str) -> Result<clap::Error, AllocError
         "invalid value '{text}' for '--part <K/N>': K is from 1 to N, and N from 1 to 1000000"
     )?;
     refusal(
-        jobs_command(alloc)?,
+        alloc,
+        &JOBS,
         "ix_export jobs",
         ErrorKind::ValueValidation,
         message.as_str(),
     )
-}
-
-/// An option with a number from 1 to 64, which is 4 where it is left out.
-pub fn number_argument<'a>(alloc: Global, name: &'a str, help: &'a str) -> Arg<'a> {
-    Arg::new(alloc, name)
-        .long(name)
-        .value_name("N")
-        .help(help)
-        .value_parser(value_parser!(u32).range(1..65))
-        .default_value("4")
-        .action(ArgAction::Set)
-}
-
-/// An option without a value.
-pub fn flag_argument<'a>(alloc: Global, name: &'a str, help: &'a str) -> Arg<'a> {
-    Arg::new(alloc, name)
-        .long(name)
-        .help(help)
-        .action(ArgAction::SetTrue)
 }
