@@ -478,7 +478,7 @@ fn each_once(rt: &impl Abort, first: &[(u32, u32)], second: &[(u32, u32)]) {
     }
 }
 
-// The lane to which a verifier sends what it takes gives the chain.
+// The lane to which a verifier sends what it takes gives the chain, and each visit was checked once.
 fn verifies_chain<R: Abort + Wait>(
     rt: &R,
     alloc: Global,
@@ -488,15 +488,20 @@ fn verifies_chain<R: Abort + Wait>(
 ) -> Result<(), AllocError>
     requires taker { IsTaker queue.now taker.old }
     requires course { IsCourseOf store.now taker.old.pass.course }
+    ensures { IsSameTable taker.old.table taker.new.table }
 {
     let (mut sender, mut receiver) = lane(alloc, 8)?;
     let mut check = ShaCheck::new(alloc);
     verify(rt, alloc, store, queue, taker, &mut sender, &mut check);
     gives_chain(rt, &mut receiver);
+    assert_eq!(rt;
+        check.receipts(),
+        [(0, 0), (0, 1), (0, 2), (0, 3)].as_slice()
+    );
     Ok(())
 }
 
-// The chain goes through a queue, and from there into a lane.
+// The chain goes through a queue, and from there into a lane, and nothing is left in the queue.
 fn puts_chain<R: Abort + Wait>(rt: &R, alloc: Global, walks: &Walks<'_>) -> Result<(), AllocError>
     requires { IsOneJob walks.now.jobs.now }
 {
@@ -510,7 +515,10 @@ fn puts_chain<R: Abort + Wait>(rt: &R, alloc: Global, walks: &Walks<'_>) -> Resu
     put_walk(rt, alloc, walks, &queue, &mut seats[0]);
     assert!(rt; seats[0].closed() && seats[0].next() == 4);
     assert!(rt; queue.try_stop(rt, &mut stop));
-    verifies_chain(rt, alloc, walks.store, &queue, &mut takers[0])
+    verifies_chain(rt, alloc, walks.store, &queue, &mut takers[0])?;
+    let mut rest = queue.settle(seats, stop, takers);
+    assert!(rt; queue.take_rest(rt, &mut rest).is_none());
+    Ok(())
 }
 
 #[test]
