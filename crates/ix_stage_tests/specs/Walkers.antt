@@ -1,5 +1,7 @@
 -- The seats of a queue of walks.
-use Rattle.std.specs.Prelude.{◌≡◌, ◌≤◌, ◌<◌, ℕ, false, List, All, IfOk, Some, length, drop, slice_get}
+use Rattle.std.specs.Prelude.{◌≡◌, ◌≤◌, ◌<◌, ℕ, false, List, All, Result, IfOk, Some, length, drop, slice_get}
+use Rattle.std.specs.Global.{Vec}
+use Rattle.std.specs.declared.alloc.AllocError.{AllocError}
 use Rattle.atomic_table.specs.Seated.{TableId}
 use Rattle.ix_walk.specs.declared.visit.Visit.{Visit}
 use Rattle.ix_walk.specs.JobMeaning.{JobMeaning}
@@ -11,7 +13,6 @@ use Rattle.ix_handover.specs.declared.queue.VisitQueue.{VisitQueue}
 use Rattle.ix_handover.specs.Course.{course_visits, course_over}
 use Rattle.ix_handover.specs.Queue.{table_of}
 use Rattle.ix_handover.specs.Seats.{JobView, SeatView, IsNext}
-use Rattle.ix_stage_tests.specs.declared.queue.Walked.{Walked}
 
 -- each job's limit is at most a million
 abbrev pub AreSmall : List JobMeaning → Type 0
@@ -65,6 +66,6 @@ abbrev pub IsTaker : VisitQueue → SeatView → Type 0
 IsTaker queue s = s.table ≡ table_of queue
 
 -- what walkers come back as is of the same queue
-pub record HasWalked (queue : VisitQueue) (walked : Walked) : Type 0 where
-  pub seats : IfOk walked.seats (λ all. All (IsWalker queue) all.items)
-  pub stop : walked.stop.table ≡ table_of queue
+pub record HasWalked (queue : VisitQueue) (seats : Result (Vec JobView) AllocError) (stopper : SeatView) : Type 0 where
+  pub walkers : IfOk seats (λ all. All (IsWalker queue) all.items)
+  pub stop : stopper.table ≡ table_of queue

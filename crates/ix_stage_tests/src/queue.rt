@@ -335,7 +335,7 @@ fn walk_and_stop<R: Threads + Wait + Sync>(
 ) -> Walked
     requires seats { All (CanWalk queue.now (course_of walks.now.store.now walks.now.jobs.now)) seats.items }
     requires stop { stop.table ≡ table_of queue.now }
-    ensures { HasWalked queue.now result }
+    ensures { HasWalked queue.now result.seats result.stop }
 {
     let mut stop = stop;
     let seats = walk_all(rt, alloc, walks, queue, seats);
@@ -389,7 +389,7 @@ fn run_all<R: Threads + Wait + Sync>(
     requires stop { seats.stop.table ≡ table_of queue.now }
     requires first { IsTaker queue.now seats.first }
     requires second { IsTaker queue.now seats.second }
-    ensures walked { HasWalked queue.now result.0 }
+    ensures walked { HasWalked queue.now result.0.seats result.0.stop }
     ensures first { IsTaker queue.now result.1.0.seat }
     ensures second { IsTaker queue.now result.1.1.seat }
 {
@@ -540,7 +540,7 @@ fn settle<R: Abort + Wait>(
     first: Taken,
     second: Taken,
 ) -> Result<(), AllocError>
-    requires walked { HasWalked queue.now walked }
+    requires walked { HasWalked queue.now walked.seats walked.stop }
     requires first { IsTaker queue.now first.seat }
     requires second { IsTaker queue.now second.seat }
 {
