@@ -1,20 +1,21 @@
 -- The table of places while fields and members are put into it.
-use Rattle.std.proofs.Common.{◌≡◌, ℕ, zero, suc, ◌+◌, ◌<◌, List, [], ◌∷◌, ◌++◌, map, take, get_or, length, sym, ◌∙◌, ap, subst, arith, ◌≤◌}
+use Rattle.std.proofs.Common.{◌≡◌, ℕ, zero, suc, ◌+◌, ◌<◌, ◌≤◌, inl, inr, ⊎_elim, List, [], ◌∷◌, ◌++◌, map, take, get_or, length, refl, sym, ◌∙◌, ap, subst, arith}
 use Rattle.std.specs.Global.{Vec}
 use Rattle.std.specs.declared.cmp.Ordering.TheVariants.{Less}
-use Rattle.std.proofs.lemmas.List.{map_push, take_more, length-append}
+use Rattle.std.proofs.lemmas.List.{map_push, take_more, length-append, append-nil}
 use Rattle.ix_cbor.specs.Spelling.{key_cmp}
 use Rattle.ix_selector.specs.declared.sel.Sel.{Sel}
 use Rattle.ix_selector.specs.declared.spot.Spot.{Spot}
+use Rattle.ix_selector.specs.declared.spot.Spot.TheVariants.{Matcher, All, Fields, Index, Range, Recursive, Union, Edge}
 use Rattle.ix_selector.specs.Pattern.{Pattern, pattern_of, fields_of, members_of}
 use Rattle.ix_selector.specs.Views.{seen_field}
 use Rattle.ix_selector.specs.Ordered.{IsBeforeAll, IsOrdered, AreOrdered, EachOrdered}
-use Rattle.ix_selector.specs.Places.{at, named_at, places_of, seen, IsBefore, AreRising, AreBelow, AreNamedBelow, IsSpot, Names, IsNumber, HasNumber, IsFreeFrom}
-use Rattle.ix_selector.specs.Grown.{Grows}
+use Rattle.ix_selector.specs.Places.{at, named_at, places_of, IsBefore, AreRising, AreBelow, AreNamedBelow, Names, IsNumber, HasNumber, IsFreeFrom, IsSpotOf}
+use Rattle.ix_selector.specs.Grown.{Grows, CanPut}
 use Rattle.ix_selector.specs.Behind.{inside_of}
-use Rattle.ix_selector.specs.Laid.{number_of, AreRow, AreLaidFrom}
-use Rattle.ix_selector.proofs.Laid.{row-push, row-kept, laid-twice}
-use Rattle.ix_selector.proofs.Spots.{at-last, grows-one, grows-twice, length-grows, map-kept, named-kept, below-more, named_below-more, below-push, named_below-push, numbers-free, names-free}
+use Rattle.ix_selector.specs.Laid.{number_of, numbers_of, AreRow, AreLaidFrom, GrowsInOrder, GrowsBy, IsNumberBehind}
+use Rattle.ix_selector.proofs.Laid.{row-one, row-push, row-kept, laid-twice, laid-last}
+use Rattle.ix_selector.proofs.Spots.{at-last, one-free, grows-one, grows-twice, length-grows, map-kept, named-kept, below-more, named_below-more, below-push, named_below-push, numbers-free, names-free}
 
 -- so many fields were put
 pub record FieldsPut (old new : List Spot) (names : List (Vec ℕ × ℕ)) (done : List (Vec ℕ × Sel)) : Type 0 where
@@ -97,9 +98,58 @@ rising-put ps (n ∷ names) (f ∷ fs) h ordered =
     let both = first_of (named_at ps n) (seen_field f) _ _ h in
     (subst (λ l. IsBefore l names) (sym (ap (λ (p : List ℕ × Pattern). p.0) both.0)) (before-put ps f.0.items names fs both.1 ordered.0), rising-put ps names fs both.1 ordered.2)
 
+-- ---- which places are named by what was put
+
+names_numbers : (fs : List (Vec ℕ × ℕ)) (k : ℕ) → HasNumber fs k → IsNumber (map number_of fs) k
+names_numbers [] k h = h
+names_numbers (f ∷ fs) k h = ⊎_elim (λ (here : f.1 ≡ k). inl here) (λ (there : HasNumber fs k). inr (names_numbers fs k there)) h
+
+numbers_names : (fs : List (Vec ℕ × ℕ)) (k : ℕ) → IsNumber (map number_of fs) k → HasNumber fs k
+numbers_names [] k h = h
+numbers_names (f ∷ fs) k h = ⊎_elim (λ (here : f.1 ≡ k). inl here) (λ (there : IsNumber (map number_of fs) k). inr (numbers_names fs k there)) h
+
+named_numbers : (x : Spot) (k : ℕ) → Names x k → IsNumber (numbers_of x) k
+named_numbers Matcher k h = h
+named_numbers (All j) k h = inl h
+named_numbers (Fields names) k h = names_numbers names.items k h
+named_numbers (Index i j) k h = inl h
+named_numbers (Range i l j) k h = inl h
+named_numbers (Recursive limit j) k h = inl h
+named_numbers (Union js) k h = h
+named_numbers Edge k h = h
+
+-- nothing was put
+pub none-grown : (spots : Vec Spot) (s : Pattern) → CanPut spots.items s → GrowsBy spots spots []
+none-grown spots s can = record {
+  grows = (record { more = []; grown = sym (append-nil spots.items); from = tt; spots = can.spots; once = can.once }, record { laid = λ n x above below is. absurd (omega arith) });
+  free = λ k h. absurd h;
+  row = refl;
+}
+
+-- one selector was put, with what is inside it
+pub one-grown : (old new : Vec Spot) (s : Pattern) (n : ℕ) → GrowsInOrder old.items new.items → at (places_of new.items) n ≡ s → n + 1 ≡ length new.items → length old.items ≤ n → IsNumberBehind old.items s n → GrowsBy old new (n ∷ [])
+one-grown old new s n grows there last behind number = record {
+  grows = grows;
+  free = λ k h. ⊎_elim (λ (here : n ≡ k). one-free old.items new.items n behind last grows.0.spots k here) (λ (there : ⊥). absurd there) h;
+  row = row-one (places_of new.items) (length old.items) n (length new.items) s there number last;
+}
+
+-- fields were put, and members
+pub fields-grown : (old new : Vec Spot) (names : List (Vec ℕ × ℕ)) (done : List (Vec ℕ × Sel)) → FieldsPut old.items new.items names done → GrowsBy old new (map number_of names)
+fields-grown old new names done put = record { grows = (put.grows, put.laid); free = λ k h. put.free k (numbers_names names k h); row = put.row }
+
+pub members-grown : (old new : Vec Spot) (numbers : List ℕ) (done : List Sel) → MembersPut old.items new.items numbers done → GrowsBy old new numbers
+members-grown old new numbers done put = record { grows = (put.grows, put.laid); free = put.free; row = put.row }
+
 -- the selector's own spot is put last
-pub last-put : (old mid : List Spot) (x : Spot) (s : Pattern) → Grows old mid → IsSpot (length mid) x → ((k : ℕ) → Names x k → IsFreeFrom (length old) mid k) → seen (places_of mid) x ≡ s
-    → Grows old (mid ++ x ∷ []) × (length mid < length (mid ++ x ∷ [])) × (at (places_of (mid ++ x ∷ [])) (length mid) ≡ s)
-last-put old mid x s grows one free is = (grows-one old mid x grows one free, below, at-last mid x ∙ is) where
-  below : length mid < length (mid ++ x ∷ [])
-  below = let n = length-append mid (x ∷ []) in omega arith
+pub last-put : (old mid : Vec Spot) (x : Spot) (s : Pattern) → IsSpotOf mid.items s x → GrowsBy old mid (numbers_of x)
+    → GrowsInOrder old.items (mid.items ++ x ∷ []) × (length mid.items < length (mid.items ++ x ∷ [])) × (at (places_of (mid.items ++ x ∷ [])) (length mid.items) ≡ s)
+last-put old mid x s is grown = ((grows, laid), below, at-last mid.items x ∙ is.1) where
+  grows : Grows old.items (mid.items ++ x ∷ [])
+  grows = grows-one old.items mid.items x grown.grows.0 is.0 (λ k h. grown.free k (named_numbers x k h))
+
+  laid : AreLaidFrom (length old.items) (mid.items ++ x ∷ [])
+  laid = laid-last (length old.items) mid.items x grown.grows.1 grown.row
+
+  below : length mid.items < length (mid.items ++ x ∷ [])
+  below = let n = length-append mid.items (x ∷ []) in omega arith

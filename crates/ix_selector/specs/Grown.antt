@@ -1,7 +1,16 @@
 -- How the table of a selector's places grows.
 use Rattle.std.specs.Prelude.{◌≡◌, ◌++◌, List, length}
 use Rattle.ix_selector.specs.declared.spot.Spot.{Spot}
+use Rattle.ix_selector.specs.Pattern.{Pattern}
+use Rattle.ix_selector.specs.Ordered.{IsOrdered}
 use Rattle.ix_selector.specs.Places.{AreSpots, AreNamedOnce, AreFrom}
+
+-- the places of a selector, whose names rise, can be put behind these spots: each names places before it alone, and no two
+-- name one place
+pub record CanPut (old : List Spot) (s : Pattern) : Type 0 where
+  pub ordered : IsOrdered s
+  pub spots : AreSpots 0 old
+  pub once : AreNamedOnce old
 
 -- spots were put behind those that were there: they name places before them alone, none of those that were there,
 -- and none that another names

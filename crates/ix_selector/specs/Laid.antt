@@ -4,7 +4,7 @@ use Rattle.std.specs.Global.{Vec}
 use Rattle.ix_selector.specs.declared.spot.Spot.{Spot}
 use Rattle.ix_selector.specs.declared.spot.Spot.TheVariants.{Matcher, All, Fields, Index, Range, Recursive, Union, Edge}
 use Rattle.ix_selector.specs.Pattern.{Pattern, IsSelector}
-use Rattle.ix_selector.specs.Places.{at, places_of, AreSpots, AreNamedOnce}
+use Rattle.ix_selector.specs.Places.{at, places_of, AreSpots, AreNamedOnce, IsNumber, IsFreeFrom}
 use Rattle.ix_selector.specs.Grown.{Grows}
 use Rattle.ix_selector.specs.Behind.{inside_of}
 
@@ -40,9 +40,12 @@ pub record AreLaidFrom (m : ℕ) (spots : List Spot) : Type 0 where
 abbrev pub GrowsInOrder : List Spot → List Spot → Type 0
 GrowsInOrder old new = Grows old new × AreLaidFrom (length old) new
 
--- the selectors at these places, and all that is inside them, are the places that were put behind those that were there
-abbrev pub AreRowBehind : Vec Spot → Vec Spot → List ℕ → Type 0
-AreRowBehind old new ks = AreRow (places_of new.items) (length old.items) ks (length new.items)
+-- what was put behind those that were there, in order, are the selectors at these places, which no spot names yet, and all
+-- that is inside them
+pub record GrowsBy (old new : Vec Spot) (numbers : List ℕ) : Type 0 where
+  pub grows : GrowsInOrder old.items new.items
+  pub free : (k : ℕ) → IsNumber numbers k → IsFreeFrom (length old.items) new.items k
+  pub row : AreRow (places_of new.items) (length old.items) numbers (length new.items)
 
 -- the number of a selector whose places are put behind these
 abbrev pub IsNumberBehind : List Spot → Pattern → ℕ → Type 0

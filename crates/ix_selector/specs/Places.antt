@@ -101,10 +101,6 @@ abbrev pub AreNamedOnce : List Spot → Type 0
 AreNamedOnce [] = Unit {0}
 AreNamedOnce (x ∷ xs) = ((k : ℕ) → Names x k → IsFree xs k) × AreNamedOnce xs
 
--- spots behind which more may be put: each names places before it alone, and no two name one place
-abbrev pub AreOwnSpots : List Spot → Type 0
-AreOwnSpots spots = AreSpots 0 spots × AreNamedOnce spots
-
 -- the spots name places from a number on
 abbrev pub AreFrom : ℕ → List Spot → Type 0
 AreFrom m [] = Unit {0}
@@ -132,7 +128,3 @@ AreFieldsAt spots fs names =
 -- the numbers are the places of these members
 abbrev pub AreMembersAt : List Spot → List Sel → List ℕ → Type 0
 AreMembersAt spots ss ks = AreBelow (length spots) ks × (map (at (places_of spots)) ks ≡ map pattern_of ss)
-
--- the places that are named were put behind those that were there, and no spot names them
-abbrev pub AreFreeBehind : Vec Spot → Vec Spot → (ℕ → Type 0) → Type 0
-AreFreeBehind old new Named = (k : ℕ) → Named k → IsFreeFrom (length old.items) new.items k

@@ -12,7 +12,7 @@ use Rattle.ix_selector.specs.Laid.{IsTable}
 use Rattle.ix_selector.specs.declared.step.Step.{Step as RustStep}
 use Rattle.ix_selector.specs.Residual.{Place, step_of}
 use Rattle.ix_selector.specs.Pairs.{lowered, place_of, seen_pairs, IsPair, IsStanding, HasNoEdge, Stands, EntersAt, SomeEnter, ReachedEnters, Same, Joins, LeadsTo, LeadsNowhere}
-use Rattle.ix_selector.specs.Behind.{inside_of, leads, leads_from, all_lead, standing, again, entering, leads_behind, leads_behind_from, residual_behind}
+use Rattle.ix_selector.specs.Behind.{inside_of, leads, leads_from, all_lead, standing, again, entering, leads_behind, residual_behind}
 
 -- the members of a union, in the recursion round it
 abbrev pub members_at : Pair → List ℕ → List Pair
@@ -63,10 +63,6 @@ EntersPair spots x old new = Joins (ReachedEnters spots new) (ReachedEnters spot
 abbrev pub EntersEach : List Spot → Pair → List ℕ → Reached → Reached → Type 0
 EntersEach spots x ks old new = Joins (ReachedEnters spots new) (ReachedEnters spots old) (SomeEnter spots (members_at x ks))
 
--- those that a pair enters behind a step
-abbrev pub EntersStep : List Spot → Pair → RustStep → Reached → Reached → Type 0
-EntersStep spots x t old new = Joins (ReachedEnters spots new) (ReachedEnters spots old) (λ p. EntersAt spots x (step_of t ∷ p))
-
 -- to what was reached is added where a pair leads without a step
 abbrev pub AddsPair : List Spot → Pair → Reached → Reached → Type 0
 AddsPair spots x old new = Adds spots old new (leads_from (place_of spots x))
@@ -74,10 +70,6 @@ AddsPair spots x old new = Adds spots old new (leads_from (place_of spots x))
 -- where each of the members of a union leads
 abbrev pub AddsEach : List Spot → Pair → List ℕ → Reached → Reached → Type 0
 AddsEach spots x ks old new = Adds spots old new (all_lead (seen_pairs spots (members_at x ks)))
-
--- where a pair leads behind a step
-abbrev pub AddsStep : List Spot → Pair → RustStep → Reached → Reached → Type 0
-AddsStep spots x t old new = Adds spots old new (leads_behind_from (place_of spots x) (step_of t))
 
 -- a pair without an edge adds no sequence
 abbrev pub PairKeeps : List Spot → Pair → Reached → Reached → Type 0

@@ -1,11 +1,12 @@
 //! The places of a selector: itself and the selectors inside it, by number.
 
 ghost use Rattle.std.specs.Prelude.{◌≡◌, ◌+◌, ◌≤◌, map, length, IfOk};
+ghost use Rattle.ix_selector.specs.Pattern as patterns;
 ghost use Rattle.ix_selector.specs.Pattern.{pattern_of};
-ghost use Rattle.ix_selector.specs.Ordered.{IsOrdered, AreOrdered, EachOrdered};
 ghost use Rattle.ix_selector.specs.Views.{seen_fields, seen_members};
-ghost use Rattle.ix_selector.specs.Places.{AreOwnSpots, IsAtPlace, IsSpotOf, AreFieldsAt, AreMembersAt, AreFreeBehind, IsNumber, HasNumber, Names};
-ghost use Rattle.ix_selector.specs.Laid.{number_of, numbers_of, GrowsInOrder, IsNumberBehind, AreRowBehind};
+ghost use Rattle.ix_selector.specs.Places.{IsAtPlace, IsSpotOf, AreFieldsAt, AreMembersAt};
+ghost use Rattle.ix_selector.specs.Grown.{CanPut};
+ghost use Rattle.ix_selector.specs.Laid.{number_of, numbers_of, GrowsInOrder, GrowsBy, IsNumberBehind};
 
 use crate::sel::Sel;
 use std::alloc::{AllocError, Global};
@@ -32,8 +33,7 @@ pub(crate) fn push_spots(
     sel: &Sel,
     spots: &mut Vec<Spot>,
 ) -> Result<usize, AllocError>
-    requires ordered { IsOrdered (pattern_of sel.now) }
-    requires spots { AreOwnSpots spots.old.items }
+    requires { CanPut spots.old.items (pattern_of sel.now) }
     ensures grows { IfOk result (λ _. GrowsInOrder spots.old.items spots.new.items) }
     ensures place { IfOk result (IsAtPlace spots.new.items (pattern_of sel.now)) }
     ensures last { IfOk result (λ n. n + 1 ≡ length spots.new.items) }
@@ -49,12 +49,9 @@ pub(crate) fn push_spots(
 // What stands at a selector's place. The places inside it are put behind those that are there.
 #[cycle(spots)]
 fn spot_of(alloc: Global, sel: &Sel, spots: &mut Vec<Spot>) -> Result<Spot, AllocError>
-    requires ordered { IsOrdered (pattern_of sel.now) }
-    requires spots { AreOwnSpots spots.old.items }
-    ensures grows { IfOk result (λ _. GrowsInOrder spots.old.items spots.new.items) }
+    requires { CanPut spots.old.items (pattern_of sel.now) }
     ensures spot { IfOk result (IsSpotOf spots.new.items (pattern_of sel.now)) }
-    ensures free { IfOk result (λ x. AreFreeBehind spots.old spots.new (Names x)) }
-    ensures row { IfOk result (λ x. AreRowBehind spots.old spots.new (numbers_of x)) }
+    ensures grown { IfOk result (λ x. GrowsBy spots.old spots.new (numbers_of x)) }
 {
     match sel {
         Sel::Matcher => Ok(Spot::Matcher),
@@ -79,12 +76,9 @@ fn push_fields(
     fields: &[(Vec<u8>, Sel)],
     spots: &mut Vec<Spot>,
 ) -> Result<Vec<(Vec<u8>, usize)>, AllocError>
-    requires ordered { AreOrdered (seen_fields fields.now) }
-    requires spots { AreOwnSpots spots.old.items }
-    ensures grows { IfOk result (λ _. GrowsInOrder spots.old.items spots.new.items) }
+    requires { CanPut spots.old.items (patterns.fields (seen_fields fields.now)) }
     ensures named { IfOk result (λ r. AreFieldsAt spots.new.items fields.now r.items) }
-    ensures free { IfOk result (λ r. AreFreeBehind spots.old spots.new (HasNumber r.items)) }
-    ensures row { IfOk result (λ r. AreRowBehind spots.old spots.new (map number_of r.items)) }
+    ensures grown { IfOk result (λ r. GrowsBy spots.old spots.new (map number_of r.items)) }
 {
     let mut names = Vec::new(alloc);
     for (name, sel) in fields {
@@ -101,12 +95,9 @@ fn push_members(
     members: &[Sel],
     spots: &mut Vec<Spot>,
 ) -> Result<Vec<usize>, AllocError>
-    requires ordered { EachOrdered (seen_members members.now) }
-    requires spots { AreOwnSpots spots.old.items }
-    ensures grows { IfOk result (λ _. GrowsInOrder spots.old.items spots.new.items) }
+    requires { CanPut spots.old.items (patterns.union (seen_members members.now)) }
     ensures members { IfOk result (λ r. AreMembersAt spots.new.items members.now r.items) }
-    ensures free { IfOk result (λ r. AreFreeBehind spots.old spots.new (IsNumber r.items)) }
-    ensures row { IfOk result (λ r. AreRowBehind spots.old spots.new r.items) }
+    ensures grown { IfOk result (λ r. GrowsBy spots.old spots.new r.items) }
 {
     let mut numbers = Vec::new(alloc);
     for sel in members {

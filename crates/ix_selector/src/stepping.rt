@@ -1,11 +1,11 @@
 //! Steps from the places of a selector to those behind them.
 
-ghost use Rattle.std.specs.Prelude.{◌<◌, ◌≤◌, length, IfOk, OnOk, IfSome, IfNone};
+ghost use Rattle.std.specs.Prelude.{◌<◌, ◌≤◌, length, IfOk, IfSome, IfNone};
 ghost use Rattle.ix_selector.specs.Places.{places_of, AreRising};
 ghost use Rattle.ix_selector.specs.Standing.{IsBeside};
 ghost use Rattle.ix_selector.specs.Named.{HasName, HasNoName};
-ghost use Rattle.ix_selector.specs.Pairs.{IsPair, IsStanding, AreStandingPairs};
-ghost use Rattle.ix_selector.specs.Reaching.{AreReached, EntersStep, AddsStep, EnterAsReached, EnterBehind, AreLeft, AreLeftBehind, LeadsBeside, StandsAtEnd, LeadsAs, LeadsToNone};
+ghost use Rattle.ix_selector.specs.Pairs.{AreStandingPairs};
+ghost use Rattle.ix_selector.specs.Reaching.{AreReached, EnterAsReached, EnterBehind, AreLeft, AreLeftBehind, LeadsBeside, StandsAtEnd, LeadsAs, LeadsToNone};
 ghost use Rattle.ix_selector.specs.Laid.{IsTable};
 ghost use Rattle.ix_selector.specs.Residual.{step_of};
 
@@ -53,28 +53,6 @@ fn behind(spots: &[Spot], place: usize, step: &Step) -> Option<usize>
     }
 }
 
-// Adds what a pair enters behind a step.
-fn step_from(
-    spots: &[Spot],
-    pair: Pair,
-    step: &Step,
-    reached: &mut Reached,
-) -> Result<(), AllocError>
-    requires pair { IsPair spots.now pair × IsStanding spots.now pair }
-    requires reached { AreReached spots.now reached.old }
-    ensures reached { OnOk result (AreReached spots.now reached.new) }
-    ensures enters { OnOk result (EntersStep spots.now pair step.now reached.old reached.new) }
-    ensures exact { OnOk result (AddsStep spots.now pair step.now reached.old reached.new) }
-{
-    match behind(spots, pair.place, step) {
-        Some(place) => {
-            let recursion = pair.recursion;
-            reach(spots, Pair { place, recursion }, reached)
-        }
-        None => Ok(()),
-    }
-}
-
 // The places that stand, where the sequences that edges enter again are reached too.
 fn entered_again(alloc: Global, spots: &[Spot], reached: Reached) -> Result<Pairs, AllocError>
     requires reached { AreReached spots.now reached }
@@ -111,7 +89,10 @@ pub(crate) fn stepped(
 {
     let mut reached = Reached::new(alloc);
     for pair in pairs {
-        step_from(spots, *pair, step, &mut reached)?;
+        if let Some(place) = behind(spots, pair.place, step) {
+            let recursion = pair.recursion;
+            reach(spots, Pair { place, recursion }, &mut reached)?;
+        }
     }
     entered_again(alloc, spots, reached)
 }

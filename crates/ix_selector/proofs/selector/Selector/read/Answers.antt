@@ -9,9 +9,12 @@ use Rattle.ix_selector.proofs.Guarded.{reads_selector}
 use Rattle.ix_selector.proofs.Ordered.{reads_ordered}
 use Rattle.ix_selector.proofs.selector.Selector.read.Goals as goal
 
-pub push_spots-requires-clause-ordered : goal.push_spots-requires-clause-ordered
-push_spots-requires-clause-ordered c =
-    reads_ordered (data_of c.root.result.now) (pattern_of c.in_ok-sel.sel) (subst IsCanonical (sym c.root.ensures.root) c.root.ensures.canonical) c.in_ok-sel.ensures
+pub push_spots-requires : goal.push_spots-requires
+push_spots-requires c = record {
+  ordered = reads_ordered (data_of c.root.result.now) (pattern_of c.in_ok-sel.sel) (subst IsCanonical (sym c.root.ensures.root) c.root.ensures.canonical) c.in_ok-sel.ensures;
+  spots = search rules;
+  once = search rules;
+}
 
 pub invariant_of-result : goal.invariant_of-result
 invariant_of-result c =
