@@ -3,7 +3,9 @@ use Rattle.std.specs.Prelude.{◌≡◌, ℕ, ◌+◌, ◌<◌, ◌≤◌, Bool,
 use Rattle.ix_cbor.specs.declared.front.Front.{Front}
 use Rattle.ix_cbor.specs.declared.front.Front.TheVariants as fronts
 use Rattle.ix_cbor.specs.Data.{Data}
-use Rattle.ix_cbor.specs.Reading.{item_at, key_at}
+use Rattle.ix_cbor.specs.Reading.{item_at, own_at, key_at}
+use Rattle.ix_cbor.specs.Fronts.{own_of_front, HasCid}
+use Rattle.ix_store.specs.Ahead.{EndsWith, LinkBefore}
 use Rattle.ix_selector.specs.Enters.{Step}
 use Rattle.ix_selector.specs.Residual.{Place}
 use Rattle.ix_walk.specs.declared.subtree.Children.{Children}
@@ -19,6 +21,15 @@ use Rattle.ix_walk.specs.Walking.{when_entered, links_below, Part, part_links, p
 -- an item can be read here
 abbrev pub IsItem : List ℕ → Type 0
 IsItem b = (x : Data × List ℕ) × (item_at 512 b ≡ Ok x)
+
+-- An item can be read here; this is its front, and with these bytes, which are behind the front, those here end. A link's
+-- front has a CID, which stands right before them.
+pub record HasFront (at : List ℕ) (front : Front) (behind : List ℕ) : Type 0 where
+  pub item : IsItem at
+  pub exact : own_at at ≡ Ok (own_of_front front, behind)
+  pub cid : HasCid front
+  pub end : EndsWith at behind
+  pub link : LinkBefore at front behind
 
 -- the bytes behind the item that stands here
 abbrev pub IsBehindItem : List ℕ → List ℕ → Type 0

@@ -1,12 +1,12 @@
 //! Going through the bytes of a block, down to the next link.
 
 ghost use Rattle.std.specs.Prelude.{◌≡◌, IfOk, Ok, None};
-ghost use Rattle.ix_cbor.specs.Reading.{own_at, key_at};
-ghost use Rattle.ix_cbor.specs.Fronts.{own_of_front, HasCid};
+ghost use Rattle.ix_cbor.specs.Reading.{key_at};
+ghost use Rattle.ix_cbor.specs.Fronts.{HasCid};
 ghost use Rattle.ix_selector.specs.Residual.{step_of};
 ghost use Rattle.ix_walk.specs.declared.subtree.Children.TheVariants as children;
 ghost use Rattle.ix_walk.specs.Walking.{with_children, IsStanding};
-ghost use Rattle.ix_walk.specs.Descent.{IsItem, IsBehindItem, IsKey, IsPart, may_hold_links, entered_by, IsNode, IsChild, IsNextMember, IsNextValue, IsNextChild, Finds, Leaves};
+ghost use Rattle.ix_walk.specs.Descent.{IsItem, HasFront, IsBehindItem, IsKey, IsPart, may_hold_links, entered_by, IsNode, IsChild, IsNextMember, IsNextValue, IsNextChild, Finds, Leaves};
 ghost use Rattle.ix_store.specs.Ahead.{EndsWith, LinkBefore};
 
 use crate::subtree::{Children, Entered, Found, Opened, Trail};
@@ -18,10 +18,7 @@ use std::alloc::{AllocError, Global};
 // The front of the item that stands here, and the bytes behind it.
 fn front_at(at: &[u8]) -> (Front<'_>, &[u8])
     requires { IsItem at.now }
-    ensures exact { own_at at.now ≡ Ok (own_of_front result.0, result.1.now) }
-    ensures cid { HasCid result.0 }
-    ensures end { EndsWith at.now result.1.now }
-    ensures link { LinkBefore at.now result.0 result.1.now }
+    ensures { HasFront at.now result.0 result.1.now }
 {
     match read_front(at) {
         Ok(read) => read,
@@ -43,9 +40,7 @@ fn skipped(at: &[u8]) -> &[u8]
 
 // Where the item ends that stands here, from its front and the bytes behind that.
 fn end_of<'a>(at: &'a [u8], front: Front<'_>, behind: &'a [u8]) -> &'a [u8]
-    requires item { IsItem at.now }
-    requires front { own_at at.now ≡ Ok (own_of_front front, behind.now) }
-    requires end { EndsWith at.now behind.now }
+    requires { HasFront at.now front behind.now }
     ensures exact { IsBehindItem at.now result.now }
     ensures end { EndsWith at.now result.now }
 {
@@ -126,11 +121,7 @@ fn step_into<'a>(
     read: (Front<'a>, &'a [u8]),
     depth: u32,
 ) -> Result<Option<Entered<'a>>, AllocError>
-    requires item { IsItem at.old }
-    requires front { own_at at.old ≡ Ok (own_of_front read.0, read.1.now) }
-    requires cid { HasCid read.0 }
-    requires end { EndsWith at.old read.1.now }
-    requires link { LinkBefore at.old read.0 read.1.now }
+    requires { HasFront at.old read.0 read.1.now }
     ensures { IfOk result (λ o. IsChild residual.now (step_of step.now) at.old depth o at.new) }
 {
     let (front, behind) = read;

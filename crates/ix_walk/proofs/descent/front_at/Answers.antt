@@ -8,8 +8,11 @@ pub unreachable-requires : goal.unreachable-requires
 unreachable-requires c =
     let own = item_has_front c.args.at.now c.requires.0 c.requires.1 in no_ok _ own.0 (sym c.in-Err.ensures.exact.1 ∙ own.1)
 
-pub returns-clause-end : goal.returns-clause-end
-returns-clause-end c = front_end c.in-Ok.read.0 c.args.at.now c.in-Ok.read.1.now (λ i. omega (arith, c.type_inv.at i)) c.in-Ok.ensures.exact
-
-pub returns-clause-link : goal.returns-clause-link
-returns-clause-link c = link_end c.in-Ok.read.0 c.args.at.now c.in-Ok.read.1.now (λ i. omega (arith, c.type_inv.at i)) c.in-Ok.ensures.exact
+pub returns : goal.returns
+returns c = record {
+  item = c.requires;
+  exact = c.in-Ok.ensures.exact;
+  cid = c.in-Ok.ensures.cid;
+  end = front_end c.in-Ok.read.0 c.args.at.now c.in-Ok.read.1.now (λ i. omega (arith, c.type_inv.at i)) c.in-Ok.ensures.exact;
+  link = link_end c.in-Ok.read.0 c.args.at.now c.in-Ok.read.1.now (λ i. omega (arith, c.type_inv.at i)) c.in-Ok.ensures.exact;
+}

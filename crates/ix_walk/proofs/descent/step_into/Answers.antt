@@ -16,7 +16,7 @@ returns-in-Some c =
     let behind = c.args.read.1.now in
     subst (λ (l : List ℕ). IsChild places step at c.args.depth c.entered_by-entered.result l) (sym c.go_to.ensures)
     (subst (λ o. IsChild places step at c.args.depth o behind) (sym c.entered_by-entered.ensures)
-    (child_entered c.args.read.0 places c.in-Some.residual step c.args.depth at behind c.requires.front (some_entered c.in-Some.residual (subst (λ o. IfSome o (λ r. ResidualEnters r [])) c.in-Some.is c.in_ok-residual.ensures.entered))
+    (child_entered c.args.read.0 places c.in-Some.residual step c.args.depth at behind c.requires.exact (some_entered c.in-Some.residual (subst (λ o. IfSome o (λ r. ResidualEnters r [])) c.in-Some.is c.in_ok-residual.ensures.entered))
     (subst (λ o. IfSome o (λ r. r ≡ residual_behind places step)) c.in-Some.is c.in_ok-residual.ensures.exact)))
 
 pub returns-in-None : goal.returns-in-None
