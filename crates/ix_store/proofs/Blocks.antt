@@ -2,7 +2,7 @@
 use Rattle.std.proofs.Common.{◌≡◌, ℕ, suc, ◌+◌, ◌-◌, ◌<◌, ◌≤◌, Bool, true, false, List, [], ◌∷◌, length, map, get_or, option_map, refl, sym, ◌∙◌, ap, arith}
 use Rattle.std.specs.Prelude.{Some, None, Result, Ok, Err, bytes_eq, slice_get, is_none, if◌then◌else◌}
 use Rattle.std.specs.Result.{is_err}
-use Rattle.std.proofs.lemmas.Option.{same_Some, slice_get-map, slice_get-get_or}
+use Rattle.std.proofs.lemmas.Option.{same_Some, get_or_from_slice_get, slice_get-map, slice_get-get_or}
 use Rattle.ix_cbor.specs.declared.fault.CborFault.{CborFault}
 use Rattle.ix_cbor.specs.Data.{Data}
 use Rattle.ix_cbor.specs.Reading.{Fault, ◌>>=◌, decoded, data_at}
@@ -56,9 +56,9 @@ fault_is b (Ok t) h = let d = bind_ok (decoded b) (λ d. Ok tt) tt h in sym (fau
 fault_is b (Err e) h = let g = unspelled (decoded b) _ h.1 in sym (faulty_yes b g.0 g.1)
 
 -- whether the block at a place is faulty
-pub fault_of : (store : Blocks) (place : ℕ) (b : List ℕ) (r : Bool) → place < length store → slice_get (map (λ e. e.1) store) place ≡ Some b → slice_get (map is_faulty store) place ≡ Some r → r ≡ is_none (data_at b)
+pub fault_of : (store : Blocks) (place : ℕ) (b : List ℕ) (r : Bool) → place < length store → slice_get (map (λ e. e.1) store) place ≡ Some b → r ≡ get_or (map is_faulty store) place false → r ≡ is_none (data_at b)
 fault_of store place b r within at asked =
     let p : List ℕ × List ℕ = get_or store place ([], []) in
     let there : slice_get store place ≡ Some p = slice_get-get_or store place ([], []) within in
     let same : p.1 ≡ b = same_Some p.1 b (ap (option_map (λ (e : List ℕ × List ℕ). e.1)) (sym there) ∙ sym (slice_get-map (λ (e : List ℕ × List ℕ). e.1) store place) ∙ at) in
-    same_Some r (is_faulty p) (sym asked ∙ slice_get-map is_faulty store place ∙ ap (option_map is_faulty) there) ∙ ap (λ (l : List ℕ). is_none (data_at l)) same
+    asked ∙ get_or_from_slice_get (map is_faulty store) place (is_faulty p) false (slice_get-map is_faulty store place ∙ ap (option_map is_faulty) there) ∙ ap (λ (l : List ℕ). is_none (data_at l)) same

@@ -3,10 +3,11 @@ use Rattle.std.proofs.Common.{◌≡◌, ◌⊎◌, ℕ, zero, suc, ◌+◌, Boo
 use Rattle.std.specs.Prelude.{Result, Ok, Err, OnOk}
 use Rattle.std.specs.Result.{is_err}
 use Rattle.std.specs.Option.{is_some}
-use Rattle.std.proofs.lemmas.Bool.{false≢true, cases_Bool, false_from_ne_true}
+use Rattle.std.proofs.lemmas.Bool.{false≢true, cases_Bool, false_from_ne_true, ltb-true}
+use lib.Dec.{ltb}
 use Rattle.std.proofs.lemmas.Slice.Eq.{bytes_eq-Decides}
 use Rattle.std.proofs.lemmas.List.{length-map, map-append, take_more, drop_more, take-append-drop}
-use Rattle.std.proofs.lemmas.Option.{none-some, same_Some, get_or_from_slice_get, slice_get-map, slice_get-get_or, slice_get_read}
+use Rattle.std.proofs.lemmas.Option.{none-some, get_or_from_slice_get, slice_get-map, slice_get-get_or, slice_get_read}
 use Rattle.std.proofs.Math.Bool.{or-true}
 use Rattle.ix_store.specs.Entry.{content, pair_of}
 use Rattle.ix_store.proofs.Blocks.{some_behind, place_within, block_at}
@@ -105,9 +106,12 @@ pair-at entries now place e is within at =
     ∙ slice_get-map pair_of entries place
     ∙ ap (λ o. option_map pair_of o) (slice_get_read entries (length entries) place e refl lt at)
 
--- and what is asked of it
-pub asked-at : {X : Type 0} (f : List ℕ × List ℕ → X) (entries : List Entry) (now : Blocks) (place : ℕ) (e : Entry) (r : X) → map pair_of entries ≡ now → place < length now → e ≡ get_or entries place e → r ≡ f (e.cid, content e.block) → slice_get (map f now) place ≡ Some r
-asked-at f entries now place e r is within at same = slice_get-map f now place ∙ ap (λ o. option_map f o) (pair-at entries now place e is within at) ∙ ap Some (sym same)
+-- and what is asked of it, where it was looked for
+pub asked-of : {X : Type 0} (f : List ℕ × List ℕ → X) (entries : List Entry) (now : Blocks) (place : ℕ) (e : Entry) (r d : X) → map pair_of entries ≡ now → true ≡ ltb place (length entries) → e ≡ get_or entries place e → r ≡ f (e.cid, content e.block) → r ≡ get_or (map f now) place d
+asked-of f entries now place e r d is found at same =
+    let lt : place < length entries = ltb-true place (length entries) (sym found) in
+    let within : place < length now = omega (arith, lt, ap length is, length-map entries pair_of) in
+    same ∙ sym (get_or_from_slice_get (map f now) place (f (pair_of e)) d (slice_get-map f now place ∙ ap (λ o. option_map f o) (pair-at entries now place e is within at)))
 
 -- the block of the entry at a place
 pub block-at : (entries : List Entry) (now : Blocks) (place : ℕ) (e : Entry) (r : List ℕ) → map pair_of entries ≡ now → place < length now → e ≡ get_or entries place e → r ≡ content e.block → slice_get (map block now) place ≡ Some r
@@ -155,11 +159,11 @@ pair-there store place c e =
     (p.1, at ∙ ap (λ (k : List ℕ). Some (k, p.1)) same, block_at place store c p.1 e (slice_get-map block store place ∙ ap (λ o. option_map block o) at))
 
 -- what is asked of it
-pub asked-there : {X : Type 0} (f : List ℕ × List ℕ → X) (store : Blocks) (place : ℕ) (c : List ℕ) (r : X) → Some place ≡ position_of store c → slice_get (map f store) place ≡ Some r
+pub asked-there : {X : Type 0} (f : List ℕ × List ℕ → X) (store : Blocks) (place : ℕ) (c : List ℕ) (r d : X) → Some place ≡ position_of store c → r ≡ get_or (map f store) place d
     → (b : List ℕ) × (block_of store c ≡ Some b) × (r ≡ f (c, b))
-asked-there f store place c r e asked =
+asked-there f store place c r d e asked =
     let found = pair-there store place c e in
-    (found.0, found.2, same_Some r (f (c, found.0)) (sym asked ∙ slice_get-map f store place ∙ ap (λ o. option_map f o) found.1))
+    (found.0, found.2, asked ∙ get_or_from_slice_get (map f store) place (f (c, found.0)) d (slice_get-map f store place ∙ ap (λ o. option_map f o) found.1))
 
 -- a CID in the midst differs from the others
 has_cid-midst : (xs ys : Blocks) (k b c : List ℕ) → has_cid (xs ++ (k, b) ∷ ys) c ≡ false → bytes_eq k c ≡ false

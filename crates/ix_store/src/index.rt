@@ -174,31 +174,17 @@ impl Index {
         Ok(true)
     }
 
-    // The index with room for one entry more: its table is doubled where half of its slots may be taken.
+    // The index with room for one entry more: its table is doubled where half of its slots may be taken. The
+    // entries that find no free slot there go to the tree, unless they stand there.
     pub(crate) fn make_room(&mut self, alloc: Global, entries: &[Entry]) -> Result<(), AllocError>
         requires { IsIndexed self.old (pairs_of entries.now) }
         ensures { IsIndexed self.new (pairs_of entries.now) }
     {
         let starts = self.slots.len().saturating_sub(PROBES - 1);
-        if entries.len() >= starts / 2 {
-            let more = starts.saturating_mul(2).max(LEAST_STARTS);
-            self.slots = self.table_of(alloc, entries, more)?;
+        if entries.len() < starts / 2 {
+            return Ok(());
         }
-        Ok(())
-    }
-
-    // A table of these entries for this index, in which look-ups begin at so many slots. The entries that find no
-    // free slot there go to the tree, unless they stand there.
-    fn table_of(
-        &mut self,
-        alloc: Global,
-        entries: &[Entry],
-        starts: usize,
-    ) -> Result<Vec<Slot>, AllocError>
-        requires { IsIndexed self.old (pairs_of entries.now) }
-        ensures same { IsIndexed self.new (pairs_of entries.now) }
-        ensures table { IfOk result (λ slots. AreLedTo slots.items self.new (pairs_of entries.now)) }
-    {
+        let starts = starts.saturating_mul(2).max(LEAST_STARTS);
         let mut slots = vec![in alloc; Slot::FREE; starts.saturating_add(PROBES - 1)]?;
         for (place, entry) in entries.iter().enumerate() {
             let tail = tail_of(&entry.cid);
@@ -210,7 +196,8 @@ impl Index {
                 None => {}
             }
         }
-        Ok(slots)
+        self.slots = slots;
+        Ok(())
     }
 
     // Whether the look-up of a number goes through a slot with this place. Where it doesn't, only the tree can

@@ -1,6 +1,7 @@
 //! Blocks under their CIDs.
 
-ghost use Rattle.std.specs.Prelude.{◌≡◌, [], length, map, slice_get, Some, ◌==◌};
+ghost use Rattle.std.specs.Prelude.{◌≡◌, [], false, length, map, slice_get, Some, ◌==◌};
+ghost use Rattle.std.specs.Prelude.{get_or};
 ghost use Rattle.std.specs.Arc.{arc_value};
 ghost use Rattle.ix_store.specs.Entry.{content, part_of, pairs_of};
 ghost use Rattle.ix_store.specs.Index.{IsIndexed};
@@ -171,27 +172,29 @@ impl Store {
         self.entries[place].block.ahead()
     }
 
-    /// Whether the digest of the CID at a place is that of the block there, by the CID's hash function: SHA-256 or
-    /// SHA-512 (FIPS 180-4), or the block itself under identity, and never under another function. A settled store
-    /// computes it once for all threads.
+    /// Whether a block stands at this place and the digest of its CID is that of the block, by the CID's hash
+    /// function: SHA-256 or SHA-512 (FIPS 180-4), or the block itself under identity, and never under another
+    /// function. A settled store computes it once for all threads.
     pub fn agrees(&self, place: usize) -> bool
-        requires { IsPlaceIn self.now place }
-        ensures { slice_get (map agrees self.now) place ≡ Some result }
+        ensures { result ≡ get_or (map agrees self.now) place false }
     {
-        let entry = &self.entries[place];
+        let Some(entry) = self.entries.get(place) else {
+            return false;
+        };
         match &self.marks {
             Some(marks) => marks.agrees(place, entry),
             None => entry.agrees(),
         }
     }
 
-    /// Whether the block at a place spells no data (DAG-CBOR, RFC 8949). A settled store computes it once for
-    /// all threads.
+    /// Whether a block stands at this place and spells no data (DAG-CBOR, RFC 8949). A settled store computes it
+    /// once for all threads.
     pub fn is_faulty(&self, place: usize) -> bool
-        requires { IsPlaceIn self.now place }
-        ensures { slice_get (map is_faulty self.now) place ≡ Some result }
+        ensures { result ≡ get_or (map is_faulty self.now) place false }
     {
-        let entry = &self.entries[place];
+        let Some(entry) = self.entries.get(place) else {
+            return false;
+        };
         match &self.marks {
             Some(marks) => marks.is_faulty(place, entry),
             None => entry.is_faulty(),

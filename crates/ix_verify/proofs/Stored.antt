@@ -1,7 +1,7 @@
 -- What a store finds of a section whose block it has.
-use Rattle.std.proofs.Common.{◌≡◌, ℕ, Bool, true, false, ◌&&◌, List, refl, sym, ◌∙◌, ap}
+use Rattle.std.proofs.Common.{◌≡◌, ℕ, Bool, true, false, ◌&&◌, List, get_or, refl, sym, ◌∙◌, ap}
 use Rattle.std.specs.Prelude.{Option, Some, None, map, slice_get, option_map, bytes_eq, is_none, ◌==◌, if◌then◌else◌}
-use Rattle.std.proofs.lemmas.Option.{same_Some, slice_get-map}
+use Rattle.std.proofs.lemmas.Option.{same_Some, get_or_from_slice_get, slice_get-map}
 use Rattle.std.proofs.lemmas.Slice.Eq.{bytes_eq-Decides}
 use Rattle.std.proofs.Math.Bool.{and-false}
 use Rattle.ix_cid.specs.Cid.{parts_of, codec_of, digest_of, hash_function_of}
@@ -23,8 +23,8 @@ pair-here store place k c b block there named at same =
     pair.1 ∙ ap (λ (x : List ℕ). Some (x, pair.0)) named ∙ ap (λ (x : List ℕ). Some (c, x)) (bytes ∙ (bytes_eq-Decides b block).0 same)
 
 -- what is asked of the pair at a place
-pub asked-here : {X : Type 0} (f : List ℕ × List ℕ → X) (store : Blocks) (place : ℕ) (p : List ℕ × List ℕ) (r : X) → slice_get store place ≡ Some p → slice_get (map f store) place ≡ Some r → r ≡ f p
-asked-here f store place p r at asked = same_Some r (f p) (sym asked ∙ slice_get-map f store place ∙ ap (λ o. option_map f o) at)
+pub asked-here : {X : Type 0} (f : List ℕ × List ℕ → X) (store : Blocks) (place : ℕ) (p : List ℕ × List ℕ) (r d : X) → slice_get store place ≡ Some p → r ≡ get_or (map f store) place d → r ≡ f p
+asked-here f store place p r d at asked = asked ∙ get_or_from_slice_get (map f store) place (f p) d (slice_get-map f store place ∙ ap (λ o. option_map f o) at)
 
 -- by the digest, and then by the data
 by-function : (f : Option HashFunction) (c block : List ℕ) → is_none f ≡ false → (if agrees_by f (digest_of c) block then (if is_no_data c block then Malformed else Sound) else Damaged) ≡ verdict_by_hash f c block

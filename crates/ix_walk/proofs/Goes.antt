@@ -3,7 +3,7 @@ use Rattle.std.proofs.Common.{◌≡◌, ◌⊎◌, inl, inr, ℕ, suc, ◌+◌,
 use Rattle.std.specs.Prelude.{Option, Some, None, option_map, nat_eq, ◌&&◌, ◌||◌, if◌then◌else◌, bytes_eq, slice_get}
 use Rattle.std.proofs.Math.Path.{fun_ext}
 use Rattle.std.proofs.lemmas.Bool.Decides.{nat_tests}
-use Rattle.std.proofs.lemmas.Option.{same_Some, slice_get-map, slice_get-get_or}
+use Rattle.std.proofs.lemmas.Option.{same_Some, get_or_from_slice_get, slice_get-map, slice_get-get_or}
 use Rattle.std.proofs.lemmas.Slice.Eq.{bytes_eq-Decides}
 use Rattle.std.specs.Cmp.{both_ways}
 use Rattle.std.proofs.lemmas.Bool.{eqb-true}
@@ -56,7 +56,7 @@ cid_behind n place (x ∷ xs) c p e at = by (bytes_eq x.0 c) refl e (cid_behind 
       let s : place - n ≡ suc (place - (n + 1)) = omega arith in more e (ap (λ (k : ℕ). slice_get (x ∷ xs) k) (sym s) ∙ at)
 
 -- whether the block at a place is sound
-pub sound_stored : (store : Blocks) (c : List ℕ) (h : HashFunction) (place : ℕ) (r : Bool) → (h ≡ Sha2_256) ⊎ (h ≡ Sha2_512) → Some h ≡ hash_function_of (parts_of c) → Some place ≡ position_of store c → slice_get (map agrees store) place ≡ Some r
+pub sound_stored : (store : Blocks) (c : List ℕ) (h : HashFunction) (place : ℕ) (r : Bool) → (h ≡ Sha2_256) ⊎ (h ≡ Sha2_512) → Some h ≡ hash_function_of (parts_of c) → Some place ≡ position_of store c → r ≡ get_or (map agrees store) place false
     → r ≡ is_sound_by (hash_function_of (parts_of c)) (digest_of c) (block_of store c)
 sound_stored store c h place r stored e there asked =
     let p : List ℕ × List ℕ = get_or store place ([], []) in
@@ -64,7 +64,8 @@ sound_stored store c h place r stored e there asked =
     let z : place - 0 ≡ place = omega arith in
     let named : p.0 ≡ c = cid_behind 0 place store c p there (ap (slice_get store) z ∙ at) in
     let block : block_of store c ≡ Some p.1 = block_at place store c p.1 there (slice_get-map (λ (q : List ℕ × List ℕ). q.1) store place ∙ ap (option_map (λ (q : List ℕ × List ℕ). q.1)) at) in
-    same_Some r (agrees p) (sym asked ∙ slice_get-map agrees store place ∙ ap (option_map agrees) at)
+    asked
+    ∙ get_or_from_slice_get (map agrees store) place (agrees p) false (slice_get-map agrees store place ∙ ap (option_map agrees) at)
     ∙ ap (λ (d : List ℕ). agrees_by (hash_function_of (parts_of d)) (digest_of d) p.1) named
     ∙ sound_by stored (hash_function_of (parts_of c)) e (digest_of c) p.1
     ∙ ap (is_sound_by (hash_function_of (parts_of c)) (digest_of c)) (sym block) where

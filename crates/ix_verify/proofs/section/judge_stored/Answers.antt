@@ -16,9 +16,9 @@ returns-else-parts-eq-DAG_CBOR c =
     let named : codec_of cid ≡ c.parts-parts.result.codec = search rules in
     let codec : has_codec cid ≡ true = ap is_codec named ∙ sym c.is_codec.ensures ∙ c.if-not-is_codec.false in
     let some : is_none (hash_function_of (parts_of cid)) ≡ false = search rules in
-    let agreed : agrees (section_pair c.args.section.now) ≡ true = sym (asked-here agrees c.args.store.now c.args.place (section_pair c.args.section.now) c.agrees.result c.requires c.agrees.ensures) ∙ c.if-not-agrees.false in
+    let agreed : agrees (section_pair c.args.section.now) ≡ true = sym (asked-here agrees c.args.store.now c.args.place (section_pair c.args.section.now) c.agrees.result false c.requires c.agrees.ensures) ∙ c.if-not-agrees.false in
     found-sound cid block codec some agreed (elim c.else-parts-eq-DAG_CBOR.branch [
       | else-parts-eq-DAG_CBOR-via-then-parts-eq-DAG_CBOR+else-is_faulty w ↦
-          spelled-by cid block (sym (asked-here is_faulty c.args.store.now c.args.place (section_pair c.args.section.now) w.is_faulty.result c.requires w.is_faulty.ensures) ∙ w.if-is_faulty.false)
+          spelled-by cid block (sym (asked-here is_faulty c.args.store.now c.args.place (section_pair c.args.section.now) w.is_faulty.result false c.requires w.is_faulty.ensures) ∙ w.if-is_faulty.false)
       | else-parts-eq-DAG_CBOR-via-else-parts-eq-DAG_CBOR w ↦ no-data-by cid block (ap (λ (n : ℕ). n == 0x71) named ∙ ne_eqb _ _ w.if-parts-eq-DAG_CBOR.false)
     ])

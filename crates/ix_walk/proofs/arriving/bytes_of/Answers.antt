@@ -13,9 +13,6 @@ returns-in_err-place-in-Sha2_256 c = rw c.from_residual-in_err-place-in-Sha2_256
 pub ahead-requires : goal.ahead-requires
 ahead-requires c = place_within c.in_ok-place-in-Sha2_256.place c.args.store.now c.args.cid.now (sym c.in_ok-place-in-Sha2_256.was ∙ c.requires)
 
-pub is_faulty-requires : goal.is_faulty-requires
-is_faulty-requires c = place_within c.in_ok-place-in-Sha2_256.place c.args.store.now c.args.cid.now (sym c.in_ok-place-in-Sha2_256.was ∙ c.requires)
-
 pub returns-in_ok-place-in-Sha2_256 : goal.returns-in_ok-place-in-Sha2_256
 returns-in_ok-place-in-Sha2_256 c =
     let place = c.in_ok-place-in-Sha2_256.place in

@@ -1,11 +1,7 @@
 use Rattle.std.proofs.Common.{sym, ◌∙◌, ap}
 use Rattle.ix_cid.specs.Cid.{hash_function_of}
-use Rattle.ix_store.proofs.Blocks.{place_within}
 use Rattle.ix_walk.proofs.Goes.{sound_absent, sound_stored}
 use Rattle.ix_walk.proofs.arriving.is_sound.Goals as goal
-
-pub agrees-requires : goal.agrees-requires
-agrees-requires c = place_within c.in-Some-block.place c.args.store.now c.args.visit.now.cid (sym c.in-Some-block.is ∙ c.requires)
 
 pub returns-in-None : goal.returns-in-None
 returns-in-None c =

@@ -11,8 +11,8 @@ use Rattle.ix_store.specs.declared.index.Index.{Index}
 use Rattle.ix_store.specs.declared.index.Slot.{Slot}
 use Rattle.ix_store.proofs.Stores.{entries-more, entries-before, position-none, position-there}
 use Rattle.ix_store.proofs.Indexes.{free-at, indexed-same, indexed-put, led-slot, led-behind, led-put, behind-put}
-use Rattle.ix_store.proofs.index.Index.table_of.Goals.{in-Some, in-None+in_ok-put_behind-in-None, in-None+else-has_place}
-use Rattle.ix_store.proofs.index.Index.table_of.Goals as goal
+use Rattle.ix_store.proofs.index.Index.make_room.Goals.{in-Some, in-None+in_ok-put_behind-in-None, in-None+else-has_place}
+use Rattle.ix_store.proofs.index.Index.make_room.Goals as goal
 
 pub index_mut-requires : goal.index_mut-requires
 index_mut-requires c =
@@ -20,8 +20,8 @@ index_mut-requires c =
     let first = free-at items c.tail_of-tail.result c.in-Some.slot (subst (λ (r : List Slot). IsFreeSlot r c.tail_of-tail.result c.in-Some.slot) c.as_slice.ensures.value c.in-Some.ensures.1) in
     omega (arith, first.within, c.loop-place.slots.ok.0)
 
-pub returns-in_err-put_behind-in-None-clause-same : goal.returns-in_err-put_behind-in-None-clause-same
-returns-in_err-put_behind-in-None-clause-same c =
+pub returns-in_err-put_behind-in-None : goal.returns-in_err-put_behind-in-None
+returns-in_err-put_behind-in-None c =
     indexed-same c.loop-place.self c.put_behind.new.self _ c.loop-place.invariant.0 (ap (λ s. s.items) c.in_err-put_behind-in-None.ensures.slots) c.in_err-put_behind-in-None.ensures.err
 
 pub loop-place-preserved : goal.loop-place-preserved
@@ -75,6 +75,11 @@ loop-place-preserved c =
           )
     ]
 
-pub returns-clause-table : goal.returns-clause-table
-returns-clause-table c =
-    subst (λ (l : List Entry). AreLedTo c.loop-place.slots.items c.loop-place.self (map pair_of l)) (take_all c.loop-place.place c.args.entries.now c.loop-place-test.false) c.loop-place.invariant.1
+pub returns : goal.returns
+returns c =
+    let h = c.loop-place.invariant in
+    record {
+      distinct = h.0.distinct;
+      leads = subst (λ (l : List Entry). AreLedTo c.loop-place.slots.items c.loop-place.self (map pair_of l)) (take_all c.loop-place.place c.args.entries.now c.loop-place-test.false) h.1;
+      true_behind = h.0.true_behind;
+    }
