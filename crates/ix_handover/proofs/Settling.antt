@@ -1,12 +1,13 @@
 -- Joining one list of seats, and then another.
-use Rattle.std.proofs.Common.{◌≡◌, ℕ, ◌+◌, List, [], ◌∷◌, ◌++◌, map, All, sym, refl, ap, ◌∙◌, subst, arith, append_assoc, append-nil, length-append}
+use Rattle.std.proofs.Common.{◌≡◌, ℕ, ◌+◌, ◌<◌, false, List, [], ◌∷◌, ◌++◌, map, All, sym, refl, ap, ◌∙◌, subst, arith, append_assoc, append-nil, length-append}
 use Rattle.std.proofs.lemmas.List.{map-append}
 use Rattle.std.proofs.lemmas.List.Elements.{All-head, All-tail}
+use Rattle.crossbeam_queue.specs.Passes.{Pass, view}
 use Rattle.ix_handover.specs.declared.item.Item.{Item}
 use Rattle.ix_handover.specs.declared.pass_view.PassView.{PassView}
 use Rattle.ix_handover.specs.Items.{concat}
 use Rattle.ix_handover.specs.PassViews.{after_join, all_put, all_taken}
-use Rattle.ix_handover.specs.Settled.{Settles, put_by, taken_by}
+use Rattle.ix_handover.specs.Settled.{Absorbs, AbsorbsAll, Settles, put_by, taken_by}
 use Rattle.ix_handover.specs.Seats.{JobView, SeatView}
 
 pub Settles-append : (v : PassView) (xs ys : List PassView) (w u : PassView) → Settles v xs w → Settles w ys u → Settles v (xs ++ ys) u
@@ -23,9 +24,20 @@ settles_one : (w u : PassView) → u.parts ≡ 1 → Settles w (u ∷ []) (after
 settles_one w u one = record { live = refl; parts = ap (λ (n : ℕ). w.parts + n) one; course = (refl, refl); own = (refl, refl); puts = refl; takens = refl }
 
 -- one seat more
-pub settles_more : {S : Type 0} (f : S → PassView) (v w w' : PassView) (xs : List S) (x : S) → (f x).parts ≡ 1 → w' ≡ after_join w (f x) → Settles v (map f xs) w → Settles v (map f (xs ++ x ∷ [])) w'
+settles_more : {S : Type 0} (f : S → PassView) (v w w' : PassView) (xs : List S) (x : S) → (f x).parts ≡ 1 → w' ≡ after_join w (f x) → Settles v (map f xs) w → Settles v (map f (xs ++ x ∷ [])) w'
 settles_more f v w w' xs x one is h =
     subst (λ (p : List PassView × PassView). Settles v p.0 p.1) (λ i. (sym (map-append f xs (x ∷ [])) i, sym is i)) (Settles-append v (map f xs) (f x ∷ []) w (after_join w (f x)) h (settles_one w (f x) one))
+
+-- one pass more was joined
+pub absorbs_more : {S : Type 0} (f : S → PassView) (old then now : Pass Item PassView) (xs : List S) (x : S) → (f x).parts ≡ 1 → AbsorbsAll old (map f xs) then → Absorbs then (f x) now → AbsorbsAll old (map f (xs ++ x ∷ [])) now
+absorbs_more f old then now xs x one h joined =
+    let before = h.0 in
+    let same = joined.0 in
+    ((same.0 ∙ before.0, same.1 ∙ before.1, same.2 ∙ before.2), settles_more f (view old) (view then) (view now) xs x one joined.1 h.1)
+
+-- a pass that has joined others is live as before
+pub settled_live : (v w : PassView) (us : List PassView) → Settles v us w → v.blank ≡ false → 0 < v.parts → (w.blank ≡ false) × (0 < w.parts)
+settled_live v w us h live some = (h.live ∙ live, (let parts = h.parts in omega (arith, parts, some)))
 
 map_map : {A B C : Type 0} (f : A → B) (g : B → C) (xs : List A) → map g (map f xs) ≡ map (λ x. g (f x)) xs
 map_map f g [] = refl

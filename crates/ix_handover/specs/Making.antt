@@ -2,7 +2,7 @@
 use Rattle.std.specs.Prelude.{◌≡◌, ◌<◌, ℕ, false, List, Option, map, replicate}
 use Rattle.crossbeam_queue.specs.declared.array_queue.Doing.{Doing}
 use Rattle.crossbeam_queue.specs.declared.array_queue.Slotted.{Slotted}
-use Rattle.crossbeam_queue.specs.Passes.{Pass, view, IsPassOf}
+use Rattle.crossbeam_queue.specs.Passes.{Pass, view, IsPassOf, IsSamePass}
 use Rattle.ix_handover.specs.declared.course.JobVisits.{JobVisits}
 use Rattle.ix_handover.specs.declared.pass_view.PassView.{PassView}
 use Rattle.ix_handover.specs.declared.item.Item.{Item}
@@ -11,14 +11,14 @@ use Rattle.ix_handover.specs.Items.{count_up}
 use Rattle.ix_handover.specs.Queue.{table_of}
 use Rattle.ix_handover.specs.Seats.{JobView, SeatView, maker_pass, new_job, new_taker, new_stop, seat_count}
 
--- the same course, and so many seats made
+-- the same pass with the same course, and so many seats made
 abbrev pub HasMade : Pass Item PassView → Pass Item PassView → ℕ → Type 0
-HasMade old new made = view new ≡ maker_pass (view old).course (view old).all made
+HasMade old new made = IsSamePass old new × (view new ≡ maker_pass (view old).course (view old).all made)
 
 module _ {Q A : Type 0} (line : Slotted (Option Item) (Doing Item PassView) Q A) (p : Pass Item PassView) where
   -- the pass makes the seats of the queue, and has made so many
   abbrev pub IsMaker : ℕ → Type 0
-  IsMaker made = IsPassOf line p × HasMade p p made
+  IsMaker made = IsPassOf line p × (view p ≡ maker_pass (view p).course (view p).all made)
 
   -- the seat of the job with this number, as it makes it
   abbrev pub job_made : ℕ → JobView

@@ -48,7 +48,6 @@ fn job_seat(line: &Line, pass: &mut Pass<Item, PassView>, job: u32) -> JobSeat
     requires pass { IsMaker line.now pass.old job }
     requires parts { job + 1 < (view pass.old).all }
     requires course { length (course_visits (view pass.old).course job) ≤ 1000000 }
-    ensures same { IsSamePass pass.old pass.new }
     ensures made { HasMade pass.old pass.new (job + 1) }
     ensures seat { result ≡ job_made line.now pass.old job }
 {
@@ -64,7 +63,6 @@ fn job_seat(line: &Line, pass: &mut Pass<Item, PassView>, job: u32) -> JobSeat
 fn take_seat(line: &Line, pass: &mut Pass<Item, PassView>) -> TakeSeat
     requires pass { IsMaker line.now pass.old (view pass.old).made }
     requires parts { (view pass.old).made + 1 < (view pass.old).all }
-    ensures same { IsSamePass pass.old pass.new }
     ensures made { HasMade pass.old pass.new ((view pass.old).made + 1) }
     ensures seat { result ≡ taker_made line.now pass.old }
 {
@@ -83,7 +81,7 @@ fn job_seats(
     requires pass { IsMaker line.now pass.old 0 }
     requires parts { jobs < (view pass.old).all }
     requires course { IsCourse (view pass.old).course }
-    ensures same { OnOk result (IsSamePass pass.old pass.new × HasMade pass.old pass.new jobs) }
+    ensures made { OnOk result (HasMade pass.old pass.new jobs) }
     ensures seats { IfOk result (λ s.
         s.items ≡ map (job_made line.now pass.old) (count_up 0 jobs)) }
 {
@@ -104,8 +102,7 @@ fn take_seats(
 ) -> Result<Vec<TakeSeat>, AllocError>
     requires pass { IsMaker line.now pass.old jobs }
     requires parts { (jobs + takers < (view pass.old).all) × (jobs + takers < 2 ^ 32) }
-    ensures same { OnOk result (IsSamePass pass.old pass.new
-        × HasMade pass.old pass.new (jobs + takers)) }
+    ensures made { OnOk result (HasMade pass.old pass.new (jobs + takers)) }
     ensures seats { IfOk result (λ s. s.items ≡ replicate takers (taker_made line.now pass.old)) }
 {
     let mut seats = Vec::new(alloc);

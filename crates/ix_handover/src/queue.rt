@@ -1,11 +1,11 @@
 //! The queue: bounded, shared by all walkers and verifiers, under the rule of `specs/QueueState.antt`.
 
-ghost use Rattle.std.specs.Prelude.{◌≡◌, false, OnOk, IfErr, IfSome, IfNone};
+ghost use Rattle.std.specs.Prelude.{◌≡◌, OnOk, IfErr, IfSome, IfNone};
 ghost use Rattle.std.specs.Bool.{OnTrue, OnFalse};
 ghost use Rattle.ix_handover.specs.declared.item.Item.{Item};
 ghost use Rattle.ix_handover.specs.PassViews.{after_put};
-ghost use Rattle.ix_handover.specs.Seats.{IsNext, IsSameSeat, HasPut, HasTaken, IsTake, closed_after};
-ghost use Rattle.ix_handover.specs.Queue.{IsOfQueue};
+ghost use Rattle.ix_handover.specs.Seats.{IsSameSeat, HasPut, HasTaken, IsTake, closed_after};
+ghost use Rattle.ix_handover.specs.Queue.{IsOfQueue, MayPut};
 
 use crate::item::Item;
 use crate::pass_view::PassView;
@@ -36,8 +36,7 @@ fn is_close(item: &Item) -> bool
 impl VisitQueue {
     /// Puts the next item of the seat's job. It comes back only where the queue was full.
     pub fn try_put<R: Wait>(&self, rt: &R, seat: &mut JobSeat, item: Item) -> Result<(), Item>
-        requires queue { IsOfQueue self.now seat.old.table }
-        requires next { (seat.old.closed ≡ false) × IsNext seat.old item }
+        requires { MayPut self.now seat.old item }
         ensures same { IsSameSeat seat.old seat.new }
         ensures put { OnOk result (HasPut seat.old item seat.new) }
         ensures full { IfErr result (λ back. (back ≡ item) × (seat.new ≡ seat.old)) }
@@ -57,21 +56,20 @@ impl VisitQueue {
     }
 
     /// Takes the item at the front, where there is one.
-    pub fn try_take<R: Wait>(&self, rt: &R, seat: &mut TakeSeat) -> Option<Item>
-        requires { IsOfQueue self.now seat.old.table }
-        ensures same { seat.new.table ≡ seat.old.table }
-        ensures taken { IfSome result (λ x. IsTake seat.old.pass x seat.new.pass) }
-        ensures none { IfNone result (seat.new.pass ≡ seat.old.pass) }
+    pub fn try_take<R: Wait>(&self, rt: &R, taker: &mut TakeSeat) -> Option<Item>
+        requires { IsOfQueue self.now taker.old.table }
+        ensures same { taker.new.table ≡ taker.old.table }
+        ensures taken { IfSome result (λ x. IsTake taker.old.pass x taker.new.pass) }
+        ensures none { IfNone result (taker.new.pass ≡ taker.old.pass) }
     {
-        self.line.pop_as::<Takes, R>(rt, &mut seat.pass)
+        self.line.pop_as::<Takes, R>(rt, &mut taker.pass)
     }
 }
 
 impl VisitQueue {
     /// Puts the item, and waits for room.
     pub fn put<R: Wait>(&self, rt: &R, seat: &mut JobSeat, item: Item)
-        requires queue { IsOfQueue self.now seat.old.table }
-        requires next { (seat.old.closed ≡ false) × IsNext seat.old item }
+        requires { MayPut self.now seat.old item }
         ensures same { IsSameSeat seat.old seat.new }
         ensures put { HasPut seat.old item seat.new }
     {
@@ -88,13 +86,13 @@ impl VisitQueue {
     }
 
     /// Takes an item, and waits for one.
-    pub fn take<R: Wait>(&self, rt: &R, seat: &mut TakeSeat) -> Item
-        requires { IsOfQueue self.now seat.old.table }
-        ensures taken { HasTaken seat.old result seat.new }
+    pub fn take<R: Wait>(&self, rt: &R, taker: &mut TakeSeat) -> Item
+        requires { IsOfQueue self.now taker.old.table }
+        ensures taken { HasTaken taker.old result taker.new }
     {
         let mut waiting = Waiting::new();
         for _ in rt.forever() {
-            if let Some(item) = self.try_take(rt, seat) {
+            if let Some(item) = self.try_take(rt, taker) {
                 return item;
             }
             waiting.pause(rt);
@@ -103,14 +101,14 @@ impl VisitQueue {
     }
 
     /// Puts one Stop. False only where the queue was full.
-    pub fn try_stop<R: Wait>(&self, rt: &R, seat: &mut StopSeat) -> bool
-        requires { IsOfQueue self.now seat.old.table }
-        ensures same { seat.new.table ≡ seat.old.table }
-        ensures put { OnTrue result (seat.new.pass ≡ after_put seat.old.pass Item.Stop) }
-        ensures full { OnFalse result (seat.new.pass ≡ seat.old.pass) }
+    pub fn try_stop<R: Wait>(&self, rt: &R, stop: &mut StopSeat) -> bool
+        requires { IsOfQueue self.now stop.old.table }
+        ensures same { stop.new.table ≡ stop.old.table }
+        ensures put { OnTrue result (stop.new.pass ≡ after_put stop.old.pass Item.Stop) }
+        ensures full { OnFalse result (stop.new.pass ≡ stop.old.pass) }
     {
         self.line
-            .push_as::<Puts, R>(rt, &mut seat.pass, Item::Stop)
+            .push_as::<Puts, R>(rt, &mut stop.pass, Item::Stop)
             .is_ok()
     }
 }

@@ -17,40 +17,7 @@ use crate::seats::{JobSeat, Rest, StopSeat, TakeSeat};
 use crossbeam_queue::Pass;
 use std::sync::Wait;
 
-// Joins the seat of a job, which has taken nothing.
-fn join_job(line: &Line, pass: &mut Pass<Item, PassView>, seat: JobSeat)
-    requires pass { IsLivePass line.now pass.old }
-    requires seat { seat.table ≡ line.now.table.shared.table_id }
-    ensures joined { Absorbs pass.old seat.pass pass.new }
-    ensures part { seat.pass.parts ≡ 1 }
-    ensures taken { seat.pass.taken ≡ [] }
-{
-    // Each field is named, with its type: a seat has no lock.
-    let JobSeat {
-        pass: other,
-        job,
-        next,
-        closed,
-    } = seat;
-    let (_, _, _): (u32, u32, bool) = (job, next, closed);
-    let other: Pass<Item, PassView> = other;
-    line.absorb::<Joins>(pass, other);
-}
-
-// Joins a seat that takes, which has put nothing.
-fn join_taker(line: &Line, pass: &mut Pass<Item, PassView>, seat: TakeSeat)
-    requires pass { IsLivePass line.now pass.old }
-    requires seat { seat.table ≡ line.now.table.shared.table_id }
-    ensures joined { Absorbs pass.old seat.pass pass.new }
-    ensures part { seat.pass.parts ≡ 1 }
-    ensures put { seat.pass.put ≡ [] }
-{
-    let TakeSeat { pass: other } = seat;
-    let other: Pass<Item, PassView> = other;
-    line.absorb::<Joins>(pass, other);
-}
-
-// Joins the seats of jobs.
+// Joins the seats of jobs, which have taken nothing.
 fn join_jobs(line: &Line, pass: &mut Pass<Item, PassView>, seats: Vec<JobSeat>)
     requires pass { IsLivePass line.now pass.old }
     requires seats { All (λ s. s.table ≡ line.now.table.shared.table_id) seats.items }
@@ -58,11 +25,20 @@ fn join_jobs(line: &Line, pass: &mut Pass<Item, PassView>, seats: Vec<JobSeat>)
     ensures taken { All (λ s. s.pass.taken ≡ []) seats.items }
 {
     for seat in seats {
-        join_job(line, pass, seat);
+        // Each field is named, with its type: a seat has no lock.
+        let JobSeat {
+            pass: other,
+            job,
+            next,
+            closed,
+        } = seat;
+        let (_, _, _): (u32, u32, bool) = (job, next, closed);
+        let other: Pass<Item, PassView> = other;
+        line.absorb::<Joins>(pass, other);
     }
 }
 
-// Joins the seats that take.
+// Joins the seats that take, which have put nothing.
 fn join_takers(line: &Line, pass: &mut Pass<Item, PassView>, seats: Vec<TakeSeat>)
     requires pass { IsLivePass line.now pass.old }
     requires seats { All (λ s. s.table ≡ line.now.table.shared.table_id) seats.items }
@@ -70,7 +46,9 @@ fn join_takers(line: &Line, pass: &mut Pass<Item, PassView>, seats: Vec<TakeSeat
     ensures put { All (λ s. s.pass.put ≡ []) seats.items }
 {
     for seat in seats {
-        join_taker(line, pass, seat);
+        let TakeSeat { pass: other } = seat;
+        let other: Pass<Item, PassView> = other;
+        line.absorb::<Joins>(pass, other);
     }
 }
 

@@ -23,7 +23,7 @@ loop-job-preserved c =
     let n : (view c.loop-job.pass).all ≡ v.all = ap (λ (v : PassView). v.all) h.1 in
     let seat : c.job_seat.result ≡ new_job t v.course v.all j = e.seat ∙ (λ i. new_job t (k i) (n i) j) in
     let items : c.push.new.self.items ≡ c.loop-job.seats.items ++ c.job_seat.result ∷ [] = c.in_ok-push.ensures.items in (
-      (e.same.0 ∙ h.0.0, e.same.1 ∙ h.0.1, e.same.2 ∙ h.0.2),
-      (e.made ∙ (λ i. maker_pass (k i) (n i) (j + 1))),
+      (e.made.0.0 ∙ h.0.0, e.made.0.1 ∙ h.0.1, e.made.0.2 ∙ h.0.2),
+      (e.made.1 ∙ (λ i. maker_pass (k i) (n i) (j + 1))),
       items ∙ ((λ i. h.2 i ++ seat i ∷ []) ∙ sym (map-count_up (new_job t v.course v.all) j)),
     )

@@ -1,12 +1,10 @@
 use Rattle.std.proofs.Common.{◌≡◌, [], map, ◌++◌, All}
 use Rattle.std.specs.Vec.Iter.{into_iter_items}
-use Rattle.crossbeam_queue.specs.Passes.{view, IsSamePass}
-use Rattle.ix_handover.specs.Settled.{Settles}
+use Rattle.ix_handover.specs.Settled.{AbsorbsAll}
 use Rattle.ix_handover.proofs.settle.join_takers.Given as goal
 
 abbrev pub invariant-loop-seat : goal.invariant-loop-seat
 invariant-loop-seat l =
-    IsSamePass l.fn.pass l.pass
-    × Settles (view l.fn.pass) (map (λ s. s.pass) l.yielded) (view l.pass)
+    AbsorbsAll l.fn.pass (map (λ s. s.pass) l.yielded) l.pass
     × (l.fn.seats.items ≡ l.yielded ++ into_iter_items l.seat-iterator)
     × All (λ s. s.pass.put ≡ []) l.yielded

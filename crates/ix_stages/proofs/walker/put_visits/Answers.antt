@@ -1,4 +1,4 @@
-use Rattle.std.proofs.Common.{◌∙◌, ℕ, drop, slice_get, Ok, sym, ap, arith}
+use Rattle.std.proofs.Common.{rules, ◌∙◌, ℕ, drop, slice_get, Ok, sym, ap, arith}
 use Rattle.ix_cid.proofs.Lists.{next_at, all_past}
 use Rattle.ix_walk.specs.Visits.{visits_of}
 use Rattle.ix_handover.specs.declared.pass_view.PassView.{PassView}
@@ -6,15 +6,17 @@ use Rattle.ix_archive.specs.declared.sink.End.TheVariants.{Done}
 use Rattle.ix_stages.proofs.Puts.{visit_is_next, close_is_allowed, given_is}
 use Rattle.ix_stages.proofs.walker.put_visits.Goals as goal
 
-pub put-requires-clause-next : goal.put-requires-clause-next
-put-requires-clause-next g c =
+pub put-requires : goal.put-requires
+put-requires g c =
     let h = c.loop-item.invariant in
     let number = c.job-number.ensures in
-    let gives = given_is c.loop-item.item-iterator c.next.new.self c.in-Some.item (Ok c.in-Ok-item.visit) c.in-Some.ensures.steps c.in-Ok-item.is in (
-      h.going,
-      visit_is_next c.course_of_jobs.ensures.visit c.args.shared.now.task.now.store.now c.args.shared.now.task.now.jobs.now c.job-number.result c.args.job.now c.in-Ok-item.visit c.next.new.self.visits c.loop-item.seat
-          (ap (λ (n : ℕ). slice_get c.args.shared.now.task.now.jobs.now n) number ∙ c.requires.job) h.job (h.course ∙ c.requires.ready.course) (sym h.left ∙ gives.1),
-    )
+    let gives = given_is c.loop-item.item-iterator c.next.new.self c.in-Some.item (Ok c.in-Ok-item.visit) c.in-Some.ensures.steps c.in-Ok-item.is in
+    record {
+      queue = search rules;
+      going = h.going;
+      next = visit_is_next c.course_of_jobs.ensures.visit c.args.shared.now.task.now.store.now c.args.shared.now.task.now.jobs.now c.job-number.result c.args.job.now c.in-Ok-item.visit c.next.new.self.visits c.loop-item.seat
+          (ap (λ (n : ℕ). slice_get c.args.shared.now.task.now.jobs.now n) number ∙ c.requires.job) h.job (h.course ∙ c.requires.ready.course) (sym h.left ∙ gives.1);
+    }
 
 pub loop-item-preserved : goal.loop-item-preserved
 loop-item-preserved g c =

@@ -2,4 +2,4 @@ use Rattle.std.proofs.Common.{◌≡◌}
 use Rattle.ix_handover.proofs.queue.VisitQueue.take.Given as goal
 
 abbrev pub invariant-loop : goal.invariant-loop
-invariant-loop g l = (l.seat.table ≡ l.fn.seat.table) × (l.seat.pass ≡ l.fn.seat.pass)
+invariant-loop g l = (l.taker.table ≡ l.fn.taker.table) × (l.taker.pass ≡ l.fn.taker.pass)

@@ -10,8 +10,8 @@ use Rattle.ix_handover.proofs.queue.VisitQueue.try_put.Goals as goal
 pub push_as-requires-clause-rule : goal.push_as-requires-clause-rule
 push_as-requires-clause-rule g c =
     let s = c.seat.inside in
-    let shut : s.closed ≡ false = ap (λ (v : JobView). v.closed) c.seat.view_is ∙ c.requires.next.0 in
-    let next : IsNext (record { table = s.pass.table_id; pass = view s.pass; job = s.job; next = s.next; closed = s.closed }) c.args.item = subst (λ (v : JobView). IsNext v c.args.item) (sym c.seat.view_is) c.requires.next.1 in
+    let shut : s.closed ≡ false = ap (λ (v : JobView). v.closed) c.seat.view_is ∙ c.requires.going in
+    let next : IsNext (record { table = s.pass.table_id; pass = view s.pass; job = s.job; next = s.next; closed = s.closed }) c.args.item = subst (λ (v : JobView). IsNext v c.args.item) (sym c.seat.view_is) c.requires.next in
     let pass : IsJobPass (view s.pass) s.job s.next false = subst (λ (b : Bool). IsJobPass (view s.pass) s.job s.next b) shut c.seat.invariant.1 in
     (puts _ _ _ _ (may_put (view s.pass) s.job s.next c.args.item pass next.0 next.1 next.2), λ items views h at. tt)
 
@@ -19,8 +19,8 @@ pub invariant_of-seat-else-closes : goal.invariant_of-seat-else-closes
 invariant_of-seat-else-closes g c =
     let s = c.seat.inside in
     let x = c.args.item in
-    let shut : s.closed ≡ false = ap (λ (v : JobView). v.closed) c.seat.view_is ∙ c.requires.next.0 in
-    let next : IsNext (record { table = s.pass.table_id; pass = view s.pass; job = s.job; next = s.next; closed = s.closed }) x = subst (λ (v : JobView). IsNext v x) (sym c.seat.view_is) c.requires.next.1 in
+    let shut : s.closed ≡ false = ap (λ (v : JobView). v.closed) c.seat.view_is ∙ c.requires.going in
+    let next : IsNext (record { table = s.pass.table_id; pass = view s.pass; job = s.job; next = s.next; closed = s.closed }) x = subst (λ (v : JobView). IsNext v x) (sym c.seat.view_is) c.requires.next in
     let pass : IsJobPass (view s.pass) s.job s.next false = subst (λ (b : Bool). IsJobPass (view s.pass) s.job s.next b) shut c.seat.invariant.1 in
     let stays : closed_after x ≡ false = sym c.is_close-closes.ensures ∙ c.if-closes.false in
     let after = next_pass (view s.pass) s.job s.next x pass next.0 next.1 next.2 in

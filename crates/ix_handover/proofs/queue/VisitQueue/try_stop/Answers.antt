@@ -6,6 +6,6 @@ use Rattle.ix_handover.proofs.queue.VisitQueue.try_stop.Goals as goal
 
 pub push_as-requires-clause-rule : goal.push_as-requires-clause-rule
 push_as-requires-clause-rule g c =
-    let h = c.seat.invariant.1 in
-    let p : 0 < (view c.seat.inside.pass).parts = (let q = h.part in omega (arith, q)) in
+    let h = c.stop.invariant.1 in
+    let p : 0 < (view c.stop.inside.pass).parts = (let q = h.part in omega (arith, q)) in
     (puts _ _ _ _ (may_stop _ h.alone.live p h.job), λ items views b at. tt)

@@ -6,6 +6,6 @@ use Rattle.ix_handover.proofs.queue.VisitQueue.try_take.Goals as goal
 
 pub pop_as-requires-clause-rule : goal.pop_as-requires-clause-rule
 pop_as-requires-clause-rule g c =
-    let h = c.seat.invariant.1 in
-    let p : 0 < (view c.seat.inside.pass).parts = (let q = h.part in omega (arith, q)) in
+    let h = c.taker.invariant.1 in
+    let p : 0 < (view c.taker.inside.pass).parts = (let q = h.part in omega (arith, q)) in
     (takes _ _ h.alone.live p, learns_what_is_left _ _ h.alone.live p)
