@@ -120,6 +120,13 @@ sent_set [] i l m at e = refl
 sent_set (y ∷ ls) zero l m at e = ap (λ (k : List Verdicted). k ++ all_sent ls) (e ∙ ap sent_by at)
 sent_set (y ∷ ls) (suc i) l m at e = ap (λ (k : List Verdicted). sent_by y ++ k) (sent_set ls i l m at e)
 
+-- as many senders as receivers
+pub lanes_long : (is : List LaneIn) (os : List LaneOut) → EachLane is os → length os ≡ length is
+lanes_long [] [] h = refl
+lanes_long [] (o ∷ os) h = absurd h
+lanes_long (i ∷ is) [] h = absurd h
+lanes_long (i ∷ is) (o ∷ os) h = ap suc (lanes_long is os h.1)
+
 -- the lane at a place, and those behind it
 pub lanes_from : (is : List LaneIn) (os : List LaneOut) (k : ℕ) (i : LaneIn) (o : LaneOut) → k < length is → k < length os → EachLane (drop k is) (drop k os) → IsLane (get_or is k i) (get_or os k o) × EachLane (drop (k + 1) is) (drop (k + 1) os)
 lanes_from is os k i o li lo h =

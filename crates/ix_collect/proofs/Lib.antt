@@ -10,4 +10,5 @@ pub mod Collecting
 pub mod Beginning
 pub mod Finished
 pub mod Gathering
+pub mod Rounds
 pub mod Sending

@@ -6,7 +6,10 @@ use Rattle.ix_archive.specs.declared.sink.Delivery.{Delivery}
 use Rattle.ix_archive.specs.declared.sink.End.{End}
 use Rattle.ix_archive.specs.Events.{Event}
 use Rattle.ix_archive.specs.Headline.{EachDelivered, EachKept, Fact, IsCheckedOnce, NoneIsStart}
+use Rattle.ix_handover.specs.declared.lanes.LaneIn.{LaneIn}
+use Rattle.ix_handover.specs.declared.lanes.LaneOut.{LaneOut}
 use Rattle.ix_handover.specs.declared.verdicted.Verdicted.{Verdicted}
+use Rattle.ix_handover.specs.Lanes.{EachLane}
 use Rattle.ix_handover.specs.Received.{Inserts, job_of, pairs_of}
 use Rattle.ix_collect.specs.declared.collector.Collector.{Collector}
 use Rattle.ix_collect.specs.Collected.{job_count, has_stray, IsDone, IsStray, MayTell, IsCollected, IsCollectedFrom}
@@ -20,6 +23,11 @@ module _ {S : Type 0} (events : S → List Event) (failed : S → List Delivery)
   pub record CanCollect (c : Collector) (ss : List S) : Type 0 where
     pub sinks : length ss ≡ job_count c
     pub may : MayTell events failed c ss
+
+  -- what is left can be collected in lanes of which both ends are here
+  pub record CanFinish (senders : List LaneIn) (receivers : List LaneOut) (c : Collector) (ss : List S) : Type 0 where
+    pub lanes : EachLane senders receivers
+    pub can : CanCollect c ss
 
   -- the collector went on from c to d: it can still collect for as many jobs, what the sinks promised is kept, and what was done is done
   pub record GoesOn (fact : Fact S) (c d : Collector) (first last : List S) : Type 0 where
@@ -37,13 +45,15 @@ module _ {S : Type 0} (events : S → List Event) (failed : S → List Delivery)
   abbrev pub CollectsItem : Verdicted → Collector → Collector → List S → List S → Type 0
   CollectsItem x c d first sinks = (store : Blocks) (jobs : List JobMeaning) (got more : List Verdicted) → Inserts x got more → IsCollected events failed store jobs got c first → IsCollected events failed store jobs more d sinks
 
-  -- of one lane all this was collected, where that was before; what other lanes gave stands before and behind it
-  abbrev pub CollectsAmong : List Verdicted → List Verdicted → Collector → Collector → List S → List S → Type 0
-  CollectsAmong old new c d first sinks = (store : Blocks) (jobs : List JobMeaning) (before after : List Verdicted) → IsCollected events failed store jobs (before ++ old ++ after) c first → IsCollected events failed store jobs (before ++ new ++ after) d sinks
+  -- the collector went on, and of one lane all this was collected, where that was before; what other lanes gave stands before and behind it
+  pub record CollectsAmong (fact : Fact S) (old new : List Verdicted) (c d : Collector) (first last : List S) : Type 0 where
+    pub on : GoesOn fact c d first last
+    pub collected : (store : Blocks) (jobs : List JobMeaning) (before after : List Verdicted) → IsCollected events failed store jobs (before ++ old ++ after) c first → IsCollected events failed store jobs (before ++ new ++ after) d last
 
   -- the same of all lanes; what was received from elsewhere stands before it
-  abbrev pub CollectsBehind : List Verdicted → List Verdicted → Collector → Collector → List S → List S → Type 0
-  CollectsBehind old new c d first sinks = (store : Blocks) (jobs : List JobMeaning) (before : List Verdicted) → IsCollected events failed store jobs (before ++ old) c first → IsCollected events failed store jobs (before ++ new) d sinks
+  pub record CollectsBehind (fact : Fact S) (old new : List Verdicted) (c d : Collector) (first last : List S) : Type 0 where
+    pub on : GoesOn fact c d first last
+    pub collected : (store : Blocks) (jobs : List JobMeaning) (before : List Verdicted) → IsCollected events failed store jobs (before ++ old) c first → IsCollected events failed store jobs (before ++ new) d last
 
   -- what follows of these items, of these jobs: none was noted, each sink was told what its job calls for, and each visit was checked as often as it is to be
   pub record IsExported (store : Blocks) (jobs : List JobMeaning) (got : List Verdicted) (c : Collector) (sinks : List S) (ends : List End) : Type 0 where

@@ -6,6 +6,7 @@ use Rattle.ix_archive.specs.Headline.{Fact, Keeps}
 use Rattle.ix_handover.specs.declared.verdicted.Verdicted.{Verdicted}
 use Rattle.ix_handover.specs.Received.{Tally}
 use Rattle.ix_collect.specs.declared.job_progress.JobProgress.{JobProgress}
+use Rattle.ix_collect.specs.declared.job_progress.Stage.TheVariants.{Delivering}
 use Rattle.ix_collect.specs.JobProgress.{IsFine, IsItem, IsUnderWay, IsPoppedUnderWay, IsCalm, IsCome, IsSafe}
 
 -- a sink that was safe before is safe now
@@ -16,9 +17,10 @@ StaysSafe p q = (events : List Event) (failed : List Delivery) → IsSafe p even
 abbrev pub LeavesSink : JobProgress → JobProgress → Type 0
 LeavesSink p q = (q.end ≡ p.end) × StaysSafe p q
 
--- an arrival that fits is noted: the job is under way with it
-abbrev pub IsNoted : (List Delivery → Bool → Tally → Tally → Type 0) → JobProgress → Bool → JobProgress → Type 0
-IsNoted arrival p result q = (all : List Delivery) (over : Bool) (t u : Tally) (events : List Event) (failed : List Delivery) → IsFine all u → arrival all over t u → IsUnderWay all over t p events failed → (result ≡ true) × IsUnderWay all over u q events failed
+-- an arrival is noted: the sink is told nothing, and where the arrival fits, the job is under way with it
+pub record IsNoted (arrival : List Delivery → Bool → Tally → Tally → Type 0) (p : JobProgress) (result : Bool) (q : JobProgress) : Type 0 where
+  pub sink : LeavesSink p q
+  pub under_way : (all : List Delivery) (over : Bool) (t u : Tally) (events : List Event) (failed : List Delivery) → IsFine all u → arrival all over t u → IsUnderWay all over t p events failed → (result ≡ true) × IsUnderWay all over u q events failed
 
 module _ {S : Type 0} (events : S → List Event) (failed : S → List Delivery) where
   -- the sink may be told what comes next
@@ -28,6 +30,11 @@ module _ {S : Type 0} (events : S → List Event) (failed : S → List Delivery)
   -- the sink isn't closed, and may be told what comes next
   abbrev pub IsOpenFor : JobProgress → S → Type 0
   IsOpenFor p s = (p.end ≡ None) × IsSafeFor p s
+
+  -- the same of a job whose visits are delivered
+  pub record IsDeliveringTo (p : JobProgress) (s : S) : Type 0 where
+    pub sink : IsOpenFor p s
+    pub stage : p.stage ≡ Delivering
 
   -- the sink may be told what comes next, and keeps what it promised before
   abbrev pub KeepsSafe : Fact S → JobProgress → S → S → Type 0

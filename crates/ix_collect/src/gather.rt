@@ -1,11 +1,11 @@
 //! The collector takes from all lanes.
 
-ghost use Rattle.std.specs.Prelude.{◌≡◌, ◌≤◌, length, cond};
+ghost use Rattle.std.specs.Prelude.{◌≡◌, cond};
 ghost use Rattle.ix_handover.specs.Lanes.{sent_by, received_by, all_received, all_sent};
-ghost use Rattle.ix_handover.specs.Lanes.{IsLane, IsSameLane, SameOut, EachSameOut, EachLane};
+ghost use Rattle.ix_handover.specs.Lanes.{IsLane, IsSameLane, EachSameOut};
 ghost use Rattle.ix_collect.specs.Collected.{is_last};
 ghost use Rattle.ix_collect.specs.Received.{HasCounted};
-ghost use Rattle.ix_collect.specs.Collecting.{CanCollect, CollectsAmong, CollectsBehind, GoesOn};
+ghost use Rattle.ix_collect.specs.Collecting.{CanCollect, CanFinish, CollectsAmong, CollectsBehind};
 
 use crate::collector::Collector;
 use ix_archive::Sink;
@@ -29,31 +29,6 @@ pub struct Received {
     pub lasts: usize,
 }
 
-// Receives an item from a lane, if it has one. What other lanes gave stands before and behind it.
-fn receive_one<S: Sink>(
-    alloc: Global,
-    collector: &mut Collector,
-    lane: &mut LaneOut,
-    sinks: &mut [S],
-) -> Received
-    requires { CanCollect S.events S.failed collector.old sinks.old }
-    ensures lane { SameOut lane.old lane.new }
-    ensures one { (result.items ≤ 1) × (result.lasts ≤ 1) }
-    ensures counted { HasCounted (received_by lane.old) (received_by lane.new) result }
-    ensures on { GoesOn S.events S.failed S.fact collector.old collector.new sinks.old sinks.new }
-    ensures collected { CollectsAmong S.events S.failed
-        (received_by lane.old) (received_by lane.new) collector.old collector.new
-        sinks.old sinks.new }
-{
-    let Some(item) = lane.try_recv() else {
-        return Received { items: 0, lasts: 0 };
-    };
-    let last = is_last(&item);
-    let lasts = usize::from(last);
-    collector.receive(alloc, item, sinks);
-    Received { items: 1, lasts }
-}
-
 /// Receives one item from each lane that has one, and says how many came. What was received from
 /// elsewhere stands before what the lanes gave.
 pub fn round<S: Sink>(
@@ -63,19 +38,20 @@ pub fn round<S: Sink>(
     sinks: &mut [S],
 ) -> Received
     requires { CanCollect S.events S.failed collector.old sinks.old }
-    ensures on { GoesOn S.events S.failed S.fact collector.old collector.new sinks.old sinks.new }
     ensures lanes { EachSameOut lanes.old lanes.new }
     ensures counted { HasCounted (all_received lanes.old) (all_received lanes.new) result }
-    ensures collected { CollectsBehind S.events S.failed
+    ensures collected { CollectsBehind S.events S.failed S.fact
         (all_received lanes.old) (all_received lanes.new) collector.old collector.new
         sinks.old sinks.new }
 {
     let mut items = 0;
     let mut lasts = 0;
     for i in 0..lanes.len() {
-        let received = receive_one(alloc, collector, &mut lanes[i], sinks);
-        items += received.items;
-        lasts += received.lasts;
+        if let Some(item) = lanes[i].try_recv() {
+            items += 1;
+            lasts += usize::from(is_last(&item));
+            collector.receive(alloc, item, sinks);
+        }
     }
     Received { items, lasts }
 }
@@ -93,8 +69,7 @@ pub fn drain<R: Wait, S: Sink>(
     requires lane { IsLane sender.old receiver.old }
     requires collector { CanCollect S.events S.failed collector.old sinks.old }
     ensures lane { IsSameLane sender.old sender.new receiver.old receiver.new }
-    ensures on { GoesOn S.events S.failed S.fact collector.old collector.new sinks.old sinks.new }
-    ensures collected { CollectsAmong S.events S.failed
+    ensures collected { CollectsAmong S.events S.failed S.fact
         (received_by receiver.old) (sent_by sender.old) collector.old collector.new
         sinks.old sinks.new }
 {
@@ -117,12 +92,9 @@ pub fn finish<R: Wait, S: Sink>(
     receivers: &mut [LaneOut],
     sinks: &mut [S],
 )
-    requires size { length receivers.old ≡ length senders.old }
-    requires lanes { EachLane senders.old receivers.old }
-    requires collector { CanCollect S.events S.failed collector.old sinks.old }
+    requires { CanFinish S.events S.failed senders.old receivers.old collector.old sinks.old }
     ensures sent { all_sent senders.new ≡ all_sent senders.old }
-    ensures on { GoesOn S.events S.failed S.fact collector.old collector.new sinks.old sinks.new }
-    ensures collected { CollectsBehind S.events S.failed
+    ensures collected { CollectsBehind S.events S.failed S.fact
         (all_received receivers.old) (all_sent senders.new) collector.old collector.new
         sinks.old sinks.new }
 {

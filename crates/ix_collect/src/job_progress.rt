@@ -7,7 +7,7 @@ ghost use Rattle.ix_collect.specs.declared.job_progress.WalkEnd.{WalkEnd};
 ghost use Rattle.ix_ring.specs.Numbered.{IsFree};
 ghost use Rattle.ix_collect.specs.JobProgress.{IsArrival, IsCloseArrival, IsItem, IsNew, IsEnded, IsMisplaced, end_of};
 ghost use Rattle.ix_collect.specs.Steps.{HasCome, HasDelivered, HasFinished, IsHandedOn, IsNoted};
-ghost use Rattle.ix_collect.specs.Steps.{IsOpenFor, IsSafeFor, KeepsOpen, KeepsSafe, LeavesSink};
+ghost use Rattle.ix_collect.specs.Steps.{IsDeliveringTo, IsOpenFor, IsSafeFor, KeepsOpen, KeepsSafe};
 
 use ix_archive::{Delivery, End, Sink, SinkFault};
 use ix_handover::Verdicted;
@@ -73,7 +73,6 @@ impl JobProgress {
     // A visit came: with its verdict, or without where the check found no memory. False is a number
     // that can't be.
     fn take(&mut self, seq: u32, judged: Option<Delivery>) -> bool
-        ensures sink { LeavesSink self.old self.new }
         ensures misplaced { self.old.stage ≡ Delivering → (IsFree self.old.ring seq → ⊥) → result ≡ false }
         ensures taken { IsNoted (λ all over. IsArrival all seq judged) self.old result self.new }
     {
@@ -95,7 +94,6 @@ impl JobProgress {
 
     // The close of the job's walk came. False is a second one.
     fn note_close(&mut self, seq: u32, end: End) -> bool
-        ensures sink { LeavesSink self.old self.new }
         ensures second { (w : WalkEnd) → self.old.close ≡ Some w → result ≡ false }
         ensures noted { IsNoted (λ all over. IsCloseArrival all over seq end) self.old result self.new }
     {
@@ -110,8 +108,7 @@ impl JobProgress {
 
     // Delivers the visit that came out of the ring, or stops at one without a verdict.
     fn hand_on<S: Sink>(&mut self, alloc: Global, judged: Option<Delivery>, sink: &mut S)
-        requires open { IsOpenFor S.events S.failed self.old sink.old }
-        requires stage { self.old.stage ≡ Delivering }
+        requires { IsDeliveringTo S.events S.failed self.old sink.old }
         ensures ring { self.new.ring ≡ self.old.ring }
         ensures kept { KeepsOpen S.events S.failed S.fact self.new sink.old sink.new }
         ensures handed { IsHandedOn S.events S.failed judged self.old sink.old self.new sink.new }
@@ -211,7 +208,6 @@ impl JobProgress {
 
     // Notes an item, whether or not it is next.
     fn note(&mut self, item: Verdicted) -> bool
-        ensures sink { LeavesSink self.old self.new }
         ensures misplaced { IsMisplaced self.old item → result ≡ false }
         ensures noted { IsNoted (λ all over. IsItem all over item) self.old result self.new }
     {

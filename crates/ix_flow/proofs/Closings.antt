@@ -13,13 +13,13 @@ use Rattle.ix_archive.specs.declared.sink.End.TheVariants.{Memory, Start}
 use Rattle.ix_archive.specs.Events.{Event, delivery, close}
 use Rattle.ix_archive.specs.Verified.{judged_visits}
 use Rattle.ix_archive.specs.Faithful.{IsFaithful, EndFits}
-use Rattle.ix_archive.specs.Headline.{EachDelivered, EachFresh, Fact, Keeps, EachKept, IsCheckedOnce, IsEachOnce, AllWalked, IsWalkedAt, visit_count, checked_by}
+use Rattle.ix_archive.specs.Headline.{EachDelivered, EachFresh, Fact, Keeps, EachKept, IsCheckedOnce, IsEachOnce, AllWalked, IsWalkedAt, visit_count}
 use Rattle.ix_collect.proofs.Members.{cases_cons, none_in}
 use Rattle.ix_collect.proofs.Kept.{kept_same}
 use Rattle.ix_flow.specs.declared.flowing.Outcome.{Outcome}
 use Rattle.ix_stages.specs.declared.shared.Task.{Task}
 use Rattle.ix_flow.specs.Closed.{EachClosed}
-use Rattle.ix_flow.specs.Flowing.{AreOfVisits, IsFlown}
+use Rattle.ix_flow.specs.Flowing.{AreVisitsOnce, IsFlown}
 
 pub kept_set : {S : Type 0} (fact : Fact S) (ss ts : List S) (i : ℕ) (x y : S) → EachKept fact ss ts → x ≡ get_or ts i x → Keeps fact x y → EachKept fact ss (set ts i y)
 kept_set fact [] [] i x y h at keeps = tt
@@ -174,13 +174,13 @@ module _ {S : Type 0} (events : S → List Event) (failed : S → List Delivery)
 
 -- where every sink was closed with Start and told nothing else, the flow has left what it is to leave
 pub flown_of_closed : {S C G : Type 0} (events : S → List Event) (failed : S → List Delivery) (fact : Fact S) (checked : C → List (ℕ × ℕ)) (task : Task G) (first sinks : List S) (out : Outcome C)
-    → length first ≡ length task.jobs.now → EachClosed events failed Start out.ends.items sinks → EachKept fact first sinks → IsEachOnce (checked_by checked out.checks.items) → AreOfVisits checked task out.checks.items
+    → length first ≡ length task.jobs.now → EachClosed events failed Start out.ends.items sinks → EachKept fact first sinks → AreVisitsOnce checked task out.checks.items
     → IsFlown events failed fact checked task first sinks out
-flown_of_closed events failed fact checked task first sinks out sized closed kept once within =
+flown_of_closed events failed fact checked task first sinks out sized closed kept checks =
     let same : length task.jobs.now ≡ length sinks = sym sized ∙ kept_length fact first sinks kept in
     record {
       delivered = delivered_of_closed events failed Start task.store.now task.jobs.now out.ends.items sinks closed same (inl refl);
       kept = kept;
-      checks = closed_checked events failed Start task.store.now task.jobs.now out.ends.items sinks _ closed same (inl refl) once within;
+      checks = closed_checked events failed Start task.store.now task.jobs.now out.ends.items sinks _ closed same (inl refl) checks.once checks.within;
       started = inr (all_ended events failed Start out.ends.items sinks closed);
     }

@@ -1,5 +1,5 @@
 -- The ends of lanes.
-use Rattle.std.proofs.Common.{◌≡◌, suc, List, [], ◌∷◌, ◌++◌, length, ap, refl}
+use Rattle.std.proofs.Common.{List, [], ◌∷◌, ◌++◌}
 use Rattle.std.specs.declared.thread.PromisedHandle.{PromisedHandle}
 use Rattle.ix_handover.specs.declared.lanes.LaneIn.{LaneIn}
 use Rattle.ix_handover.specs.declared.lanes.LaneOut.{LaneOut}
@@ -32,9 +32,3 @@ module _ {C : Type 0} where
   back_push [] (j ∷ is) x i h l = absurd h
   back_push (y ∷ hs) [] x i h l = absurd h
   back_push (y ∷ hs) (j ∷ is) x i h l = (h.0, back_push hs is x i h.1 l)
-
-pub lanes_long : (is : List LaneIn) (os : List LaneOut) → EachLane is os → length os ≡ length is
-lanes_long [] [] h = refl
-lanes_long [] (o ∷ os) h = absurd h
-lanes_long (i ∷ is) [] h = absurd h
-lanes_long (i ∷ is) (o ∷ os) h = ap suc (lanes_long is os h.1)

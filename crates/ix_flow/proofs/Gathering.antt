@@ -6,7 +6,7 @@ use Rattle.ix_archive.specs.Headline.{Fact}
 use Rattle.ix_handover.specs.declared.lanes.LaneOut.{LaneOut}
 use Rattle.ix_handover.specs.Lanes.{EachSameOut, all_received}
 use Rattle.ix_collect.specs.declared.collector.Collector.{Collector}
-use Rattle.ix_collect.specs.Collecting.{CollectsBehind, GoesOn}
+use Rattle.ix_collect.specs.Collecting.{CollectsBehind}
 use Rattle.ix_collect.proofs.Gathering.{each_same_trans, on_same, on_trans, same_self}
 use Rattle.ix_flow.specs.Gathered.{Gathers, IsTold}
 
@@ -17,11 +17,11 @@ module _ {S : Type 0} (events : S → List Event) (failed : S → List Delivery)
 
   -- one round more
   pub gathers_more : (a b c : Collector) (outs next last : List LaneOut) (first then sinks : List S)
-      → Gathers events failed fact a b outs next first then → GoesOn events failed fact b c then sinks → CollectsBehind events failed (all_received next) (all_received last) b c then sinks
+      → Gathers events failed fact a b outs next first then → CollectsBehind events failed fact (all_received next) (all_received last) b c then sinks
       → EachSameOut next last → Gathers events failed fact a c outs last first sinks
-  gathers_more a b c outs next last first then sinks h on more lanes = record {
-    collector = on_trans events failed fact a b c first then sinks h.collector on;
-    collected = λ store jobs. more store jobs [] (h.collected store jobs);
+  gathers_more a b c outs next last first then sinks h more lanes = record {
+    collector = on_trans events failed fact a b c first then sinks h.collector more.on;
+    collected = λ store jobs. more.collected store jobs [] (h.collected store jobs);
     lanes = each_same_trans outs next last h.lanes lanes;
   }
 

@@ -6,7 +6,7 @@ use Rattle.ix_store.specs.Store.{Blocks}
 use Rattle.ix_walk.specs.JobMeaning.{JobMeaning}
 use Rattle.ix_archive.specs.declared.sink.Delivery.{Delivery}
 use Rattle.ix_archive.specs.Events.{Event}
-use Rattle.ix_archive.specs.Headline.{EachDelivered, EachKept, Fact, IsCheckedOnce, NoneOrAllStart, checked_by, visit_count}
+use Rattle.ix_archive.specs.Headline.{EachDelivered, EachKept, Fact, IsCheckedOnce, NoneOrAllStart, IsEachOnce, checked_by, visit_count}
 use Rattle.ix_handover.specs.Claims.{IsOfClaims}
 use Rattle.ix_handover.specs.Course.{course_of}
 use Rattle.ix_stages.specs.declared.shared.Shared.{Shared}
@@ -38,9 +38,10 @@ module _ {S C G : Type 0} (events : S → List Event) (failed : S → List Deliv
     pub slot : r.outcome ≡ Some outcome
     pub is : IsFlown outcome
 
--- each pair that was checked is that of a visit
-abbrev pub AreOfVisits : {C G : Type 0} → (C → List (ℕ × ℕ)) → Task G → List C → Type 0
-AreOfVisits checked x checks = (job seq : ℕ) → Contains (checked_by checked checks) (job, seq) → seq < visit_count x.store.now x.jobs.now job
+-- each pair that was checked is that of a visit, and was checked once
+pub record AreVisitsOnce {C G : Type 0} (checked : C → List (ℕ × ℕ)) (x : Task G) (checks : List C) : Type 0 where
+  pub once : IsEachOnce (checked_by checked checks)
+  pub within : (job seq : ℕ) → Contains (checked_by checked checks) (job, seq) → seq < visit_count x.store.now x.jobs.now job
 
 -- what the caller keeps, for so many verifiers
 pub record IsCaller {C : Type 0} (store : Blocks) (jobs : List JobMeaning) (t : TableId) (verifiers : ℕ) (d : CallerState C) : Type 0 where

@@ -79,44 +79,9 @@ fn put_stops<R: Wait>(
     verifiers
 }
 
-// Puts a Stop for each verifier, and receives on, so that nobody waits for ever at a full queue or
-// lane, until each has sent its last item. Gives the seat back.
-fn stop_verifiers<R: Wait, S: Sink>(
-    rt: &R,
-    alloc: Global,
-    stopper: Stopper<'_>,
-    collector: &mut Collector,
-    outs: &mut [LaneOut],
-    sinks: &mut [S],
-) -> StopSeat
-    requires stop { CanStop stopper }
-    requires told { IsTold S.events S.failed (all_received outs.old) collector.old sinks.old }
-    ensures stop { IsSeatOf stopper.entry.seat result }
-    ensures on { Gathers S.events S.failed S.fact
-        collector.old collector.new outs.old outs.new sinks.old sinks.new }
-{
-    let Stopper {
-        queue,
-        mut seat,
-        verifiers,
-    } = stopper;
-    let mut waiting = Waiting::new();
-    let mut stops = 0usize;
-    let mut lasts = 0usize;
-    for _ in rt.forever() {
-        if lasts >= verifiers {
-            return seat;
-        }
-        stops = put_stops(rt, queue, &mut seat, stops, verifiers);
-        let received = round(alloc, collector, outs, sinks);
-        lasts = lasts.saturating_add(received.lasts);
-        wait_on(rt, &mut waiting, received.items > 0);
-    }
-    unreachable!()
-}
-
-/// Collects from the first item to the verifiers' last: until every sink was closed, and the verifiers
-/// were stopped. Gives the seat that stops them back.
+/// Collects from the first item to the verifiers' last: until every sink was closed. It then puts a Stop
+/// for each verifier, and receives on, so that nobody waits for ever at a full queue or lane, until each
+/// has sent its last item. Gives the seat that stops them back.
 pub(crate) fn gather<R: Wait, S: Sink>(
     rt: &R,
     alloc: Global,
@@ -135,7 +100,24 @@ pub(crate) fn gather<R: Wait, S: Sink>(
 {
     law::unused_has_collected_nothing::<S>();
     collect(rt, alloc, collector, outs, sinks);
-    stop_verifiers(rt, alloc, stopper, collector, outs, sinks)
+    let Stopper {
+        queue,
+        mut seat,
+        verifiers,
+    } = stopper;
+    let mut waiting = Waiting::new();
+    let mut stops = 0usize;
+    let mut lasts = 0usize;
+    for _ in rt.forever() {
+        if lasts >= verifiers {
+            return seat;
+        }
+        stops = put_stops(rt, queue, &mut seat, stops, verifiers);
+        let received = round(alloc, collector, outs, sinks);
+        lasts = lasts.saturating_add(received.lasts);
+        wait_on(rt, &mut waiting, received.items > 0);
+    }
+    unreachable!()
 }
 
 /// Puts a Stop for each verifier, where no walker has put anything: each takes one, and its lane has

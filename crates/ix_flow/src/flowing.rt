@@ -3,7 +3,7 @@
 ghost use Rattle.std.specs.Prelude.{◌≡◌, [], length, vec_len};
 ghost use Rattle.ix_archive.specs.Headline.{EachUnused};
 ghost use Rattle.ix_handover.specs.Lanes.{all_received};
-ghost use Rattle.ix_flow.specs.Flowing.{AllBegan, IsFlown, IsFlownTo, CanFlowTo, IsCallerIn};
+ghost use Rattle.ix_flow.specs.Flowing.{AllBegan, AreVisitsOnce, IsFlown, IsFlownTo, CanFlowTo, IsCallerIn};
 ghost use Rattle.ix_flow.specs.Verifiers.{EachOut};
 ghost use Rattle.ix_flow.specs.Prepared.{IsPrepared};
 ghost use Rattle.ix_flow.specs.Sinks.{AreFreshSinks};
@@ -56,20 +56,19 @@ pub(crate) struct FlowResult<C> {
     pub outcome: Option<Outcome<C>>,
 }
 
-// Stops verifiers that have nothing to check, and closes every sink with Start.
-fn stop_early<R: Threads + Wait, S: Sink, C: Check + Drop, G>(
+// Stops and joins verifiers that have nothing to check. Gives back their checks, and the caller's room for
+// ends.
+fn stop_early<R: Threads + Wait, C: Check + Drop, G>(
     rt: &R,
     alloc: Global,
     shared: &Shared<'_, G>,
-    sinks: &mut [S],
     handles: Vec<PromisedHandle<Verifier<C>, Began<C>>>,
     caller: CallerState<C>,
-) -> Outcome<C>
+) -> (Vec<C>, Vec<End>)
     requires began { AllBegan C.checked shared.now handles.items }
     requires caller { IsCallerIn shared.now (vec_len handles) caller }
-    requires sinks { AreFreshSinks S.events S.failed (length shared.now.task.now.jobs.now) sinks.old }
-    ensures { IsFlown S.events S.failed S.fact C.checked shared.now.task.now
-        sinks.old sinks.new result }
+    ensures checks { AreVisitsOnce C.checked shared.now.task.now result.0.items }
+    ensures ends { result.1 ≡ caller.ends }
 {
     let CallerState {
         stop,
@@ -92,7 +91,7 @@ fn stop_early<R: Threads + Wait, S: Sink, C: Check + Drop, G>(
     } = join_verifiers(rt, handles, joined);
     settle(alloc, shared, stop, takers);
     law::good_is_checked_once();
-    unexported(sinks, checks, ends)
+    (checks, ends)
 }
 
 // Collects while the threads run, stops and joins the verifiers, and receives what is left.
@@ -168,7 +167,8 @@ where
         return unexported(sinks, checks, caller.ends);
     }
     if !start_walkers(scope, rt, alloc, shared, claimers) {
-        return stop_early(rt, alloc, shared, sinks, running.handles, caller);
+        let (checks, ends) = stop_early(rt, alloc, shared, running.handles, caller);
+        return unexported(sinks, checks, ends);
     }
     collect_all(rt, alloc, shared, sinks, running, caller)
 }

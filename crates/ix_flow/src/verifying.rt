@@ -50,26 +50,6 @@ pub(crate) struct RunningVerifiers<C: Check + Drop> {
     pub outs: Vec<LaneOut>,
 }
 
-// What a verifier's thread does.
-fn run_verifier<R: Wait, C: Check>(
-    rt: &R,
-    alloc: Global,
-    store: &Store,
-    queue: &VisitQueue,
-    verifier: Verifier<C>,
-) -> Verifier<C>
-    requires { CanWork store.now (table_of queue.now) verifier }
-    ensures { HasWorked C.checked store.now verifier result }
-{
-    let Verifier {
-        mut seat,
-        mut lane,
-        mut check,
-    } = verifier;
-    verify(rt, alloc, store, queue, &mut seat, &mut lane, &mut check);
-    Verifier { seat, lane, check }
-}
-
 // Starts one verifier. Where no thread can be made, what it was handed is lost.
 fn start_verifier<'s, 'e, R: Threads + Wait + Sync + 'e, C: Check + Send + Drop + 'e>(
     scope: &'s Scope<'s, &'e ()>,
@@ -92,7 +72,12 @@ fn start_verifier<'s, 'e, R: Threads + Wait + Sync + 'e, C: Check + Send + Drop 
             move || -> Verifier<C>
                 requires { CanWork store.now (table_of queue.now) verifier }
                 ensures { HasWorked C.checked store.entry.now verifier result }
-            { run_verifier(rt, alloc, store, queue, verifier) },
+            {
+                let mut verifier = verifier;
+                let Verifier { seat, lane, check } = &mut verifier;
+                verify(rt, alloc, store, queue, seat, lane, check);
+                verifier
+            },
         )
         .ok()
 }

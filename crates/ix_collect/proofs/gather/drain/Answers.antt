@@ -8,8 +8,7 @@ pub loop-init : goal.loop-init
 loop-init g c = record {
   lane = c.requires.lane;
   same = (((refl, refl, refl, refl), refl), ((refl, refl, refl, refl), refl), refl);
-  on = on_same g.S.Sink.events g.S.Sink.failed g.S.Sink.fact c.args.collector.now c.args.sinks.now c.requires.collector;
-  collected = λ store jobs before after h. h;
+  collected = record { on = on_same g.S.Sink.events g.S.Sink.failed g.S.Sink.fact c.args.collector.now c.args.sinks.now c.requires.collector; collected = λ store jobs before after h. h };
 }
 
 pub loop-preserved : goal.loop-preserved
@@ -23,10 +22,12 @@ loop-preserved g c =
         same_trans c.args.receiver.now c.loop.receiver c.lane_rest.new.receiver h.same.1 same.1,
         same.2 ∙ h.same.2,
       );
-      on = (let e = c.receive.ensures in
-          on_trans g.S.Sink.events g.S.Sink.failed g.S.Sink.fact c.args.collector.now c.loop.collector c.receive.new.self c.args.sinks.now c.loop.sinks c.receive.new.sinks h.on
-          (record { sinks = e.sinks ∙ h.on.sinks ∙ sym e.jobs; jobs = e.jobs; may = e.may; kept = e.kept; done = e.done }));
-      collected = λ store jobs before after begun.
-          c.receive.ensures.collected store jobs (before ++ received_by c.loop.receiver ++ after) (before ++ received_by c.lane_rest.new.receiver ++ after)
-          (inserts_mid before (received_by c.loop.receiver) (received_by c.lane_rest.new.receiver) after c.in-Some-lane_rest.item c.in-Some-lane_rest.ensures.some) (h.collected store jobs before after begun);
+      collected = record {
+        on = (let e = c.receive.ensures in
+            on_trans g.S.Sink.events g.S.Sink.failed g.S.Sink.fact c.args.collector.now c.loop.collector c.receive.new.self c.args.sinks.now c.loop.sinks c.receive.new.sinks h.collected.on
+            (record { sinks = e.sinks ∙ h.collected.on.sinks ∙ sym e.jobs; jobs = e.jobs; may = e.may; kept = e.kept; done = e.done }));
+        collected = λ store jobs before after begun.
+            c.receive.ensures.collected store jobs (before ++ received_by c.loop.receiver ++ after) (before ++ received_by c.lane_rest.new.receiver ++ after)
+            (inserts_mid before (received_by c.loop.receiver) (received_by c.lane_rest.new.receiver) after c.in-Some-lane_rest.item c.in-Some-lane_rest.ensures.some) (h.collected.collected store jobs before after begun);
+      };
     }

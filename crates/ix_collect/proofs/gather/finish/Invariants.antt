@@ -1,6 +1,6 @@
 use Rattle.std.proofs.Common.{◌≡◌, ◌++◌, length, take, drop}
 use Rattle.ix_handover.specs.Lanes.{EachLane, all_received, all_sent}
-use Rattle.ix_collect.specs.Collecting.{CollectsBehind, GoesOn}
+use Rattle.ix_collect.specs.Collecting.{CollectsBehind}
 use Rattle.ix_collect.proofs.gather.finish.Given as goal
 
 abbrev pub invariant-loop-i : goal.invariant-loop-i
@@ -9,6 +9,5 @@ invariant-loop-i g l = record {
   other : length l.receivers ≡ length l.initial.senders;
   lanes : EachLane (drop l.i l.senders) (drop l.i l.receivers);
   sent : all_sent l.senders ≡ all_sent l.initial.senders;
-  on : GoesOn g.S.Sink.events g.S.Sink.failed g.S.Sink.fact l.fn.collector l.collector l.initial.sinks l.sinks;
-  collected : CollectsBehind g.S.Sink.events g.S.Sink.failed (all_received l.initial.receivers) (all_sent (take l.i l.senders) ++ all_received (drop l.i l.receivers)) l.fn.collector l.collector l.initial.sinks l.sinks;
+  collected : CollectsBehind g.S.Sink.events g.S.Sink.failed g.S.Sink.fact (all_received l.initial.receivers) (all_sent (take l.i l.senders) ++ all_received (drop l.i l.receivers)) l.fn.collector l.collector l.initial.sinks l.sinks;
 }

@@ -1,20 +1,17 @@
-use Rattle.std.proofs.Common.{◌++◌, ◌+◌, arith, set, rules, refl, ◌≡◌, ◌<◌, List, length, get_or, ap, sym, ◌∙◌, subst, length-set}
-use Rattle.ix_handover.specs.declared.verdicted.Verdicted.{Verdicted}
+use Rattle.std.proofs.Common.{arith, rules, refl, ◌≡◌, ◌<◌, ◌++◌, ◌∷◌, [], length, get_or, ap, sym, ◌∙◌, length-set}
+use Rattle.std.specs.Prelude.{cond}
 use Rattle.ix_handover.specs.declared.lanes.LaneOut.{LaneOut}
-use Rattle.ix_handover.specs.Lanes.{received_by, all_received}
-use Rattle.ix_collect.specs.Collected.{IsCollected, last_count}
-use Rattle.ix_collect.proofs.Gathering.{front_mid, on_same, on_trans, lasts_set, length_set, among, same_self, same_set}
+use Rattle.ix_handover.specs.Lanes.{received_by}
+use Rattle.ix_collect.proofs.Gathering.{bool_one, one_at_most}
+use Rattle.ix_collect.proofs.Rounds.{given_as, given_none, given_more, gives_none, gives_one}
+use Rattle.ix_collect.proofs.gather.round.Goals.{in-Some, in_default}
 use Rattle.ix_collect.proofs.gather.round.Goals as goal
 
 pub loop-i-init : goal.loop-i-init
 loop-i-init g c = record {
   size = refl;
-  on = on_same g.S.Sink.events g.S.Sink.failed g.S.Sink.fact c.args.collector.now c.args.sinks.now c.requires;
   few = (omega arith, omega arith);
-  lasts = omega arith;
-  items = omega arith;
-  same = same_self c.args.lanes.now;
-  collected = λ store jobs before h. h;
+  given = given_none g.S.Sink.events g.S.Sink.failed g.S.Sink.fact c.args.lanes.now c.args.collector.now c.args.sinks.now c.requires;
 }
 
 pub loop-i-preserved : goal.loop-i-preserved
@@ -23,28 +20,35 @@ loop-i-preserved g c =
     let lane = get_or c.loop-i.lanes c.loop-i.i c.index-lanes-i.result in
     let at : lane ≡ get_or c.loop-i.lanes c.loop-i.i lane = ap (λ (l : LaneOut). get_or c.loop-i.lanes c.loop-i.i l) c.index-lanes-i.is in
     let lt : c.loop-i.i < length c.loop-i.lanes = search rules in
-    let there = among c.loop-i.lanes c.loop-i.i lane c.receive_one-received.new.lane at lt in
-    record {
-      few = (let low = c.receive_one-received.ensures.one in let less = h.few in let items_low = low.0 in let lasts_low = low.1 in let items_less = less.0 in let lasts_less = less.1 in (omega (arith, items_low, items_less), omega (arith, lasts_low, lasts_less)));
-      items = (let was : length (all_received c.loop-i.lanes) ≡ c.loop-i.items + length (all_received c.args.lanes.now) = h.items in
-          let old = ap (λ (l : List Verdicted). length l) there.old_is in
-          let new = ap (λ (l : List Verdicted). length l) there.new_is in
-          let set_is = length_set there.before (received_by lane) (received_by c.receive_one-received.new.lane) there.after c.receive_one-received.result.items c.receive_one-received.ensures.counted.items in
-          omega arith);
-      lasts = (let was : last_count (all_received c.loop-i.lanes) ≡ c.loop-i.lasts + last_count (all_received c.args.lanes.now) = h.lasts in
-          let old = ap last_count there.old_is in
-          let new = ap last_count there.new_is in
-          let set_is = lasts_set there.before (received_by lane) (received_by c.receive_one-received.new.lane) there.after c.receive_one-received.result.lasts c.receive_one-received.ensures.counted.lasts in
-          omega arith);
-      size = length-set c.loop-i.lanes c.loop-i.i c.receive_one-received.new.lane ∙ h.size;
-      on = on_trans g.S.Sink.events g.S.Sink.failed g.S.Sink.fact c.args.collector.now c.loop-i.collector c.receive_one-received.new.collector c.args.sinks.now c.loop-i.sinks c.receive_one-received.new.sinks h.on c.receive_one-received.ensures.on;
-      same = same_set c.args.lanes.now c.loop-i.lanes c.loop-i.i lane c.receive_one-received.new.lane h.same at c.receive_one-received.ensures.lane;
-      collected = λ store jobs front begun.
-          let old : front ++ all_received c.loop-i.lanes ≡ (front ++ there.before) ++ received_by lane ++ there.after = ap (λ (l : List Verdicted). front ++ l) there.old_is ∙ front_mid front there.before (received_by lane) there.after in
-          let new : front ++ all_received (set c.loop-i.lanes c.loop-i.i c.receive_one-received.new.lane) ≡ (front ++ there.before) ++ received_by c.receive_one-received.new.lane ++ there.after =
-          ap (λ (l : List Verdicted). front ++ l) there.new_is ∙ front_mid front there.before (received_by c.receive_one-received.new.lane) there.after
-          in
-          subst (λ (l : List Verdicted). IsCollected g.S.Sink.events g.S.Sink.failed store jobs l c.receive_one-received.new.collector c.receive_one-received.new.sinks) (sym new)
-          (c.receive_one-received.ensures.collected store jobs (front ++ there.before) there.after
-          (subst (λ (l : List Verdicted). IsCollected g.S.Sink.events g.S.Sink.failed store jobs l c.loop-i.collector c.loop-i.sinks) old (h.collected store jobs front begun)));
-    }
+    let size = length-set c.loop-i.lanes c.loop-i.i c.try_recv.new.self ∙ h.size in
+    elim c.match-try_recv.branch [
+      | in-Some w ↦
+          let e = w.receive.ensures in
+          let on = h.given.collected.on in
+          let item = w.in-Some.item in
+          let one : w.from-lasts.result ≡ cond w.is_last.result 1 0 = w.from-lasts.ensures ∙ bool_one w.is_last.result in
+          let most = one_at_most w.is_last.result in
+          let received : received_by c.try_recv.new.self ≡ received_by lane ++ item ∷ [] = search rules in
+          let gives = gives_one g.S.Sink.events g.S.Sink.failed g.S.Sink.fact lane c.try_recv.new.self item w.from-lasts.result c.loop-i.collector w.receive.new.self c.loop-i.sinks w.receive.new.sinks c.try_recv.ensures.same received
+          (one ∙ w.is_last.ensures) (record { sinks = e.sinks ∙ on.sinks ∙ sym e.jobs; jobs = e.jobs; may = e.may; kept = e.kept; done = e.done }) e.collected in
+          record {
+            size = size;
+            few = (let few = h.few.0 in let is = w.items-is in omega (arith, few, is), let few = h.few.1 in let is = w.lasts-is in omega (arith, few, is, one, most));
+            given = given_as g.S.Sink.events g.S.Sink.failed g.S.Sink.fact c.args.lanes.now _ _ c.match-try_recv.items _ c.match-try_recv.lasts c.args.collector.now _ c.match-try_recv.collector c.args.sinks.now _ c.match-try_recv.sinks
+                w.items-is w.lasts-is w.collector-is w.sinks-is
+                (given_more g.S.Sink.events g.S.Sink.failed g.S.Sink.fact c.args.lanes.now c.loop-i.lanes c.loop-i.i lane c.try_recv.new.self c.loop-i.items c.loop-i.lasts 1 w.from-lasts.result c.args.collector.now c.loop-i.collector w.receive.new.self
+                c.args.sinks.now c.loop-i.sinks w.receive.new.sinks h.given at lt gives);
+          }
+      | in_default w ↦
+          let on = h.given.collected.on in
+          let same : received_by c.try_recv.new.self ≡ received_by lane = search rules in
+          let gives = gives_none g.S.Sink.events g.S.Sink.failed g.S.Sink.fact lane c.try_recv.new.self c.loop-i.collector c.loop-i.sinks (record { sinks = on.sinks; may = on.may }) c.try_recv.ensures.same same in
+          record {
+            size = size;
+            few = (let few = h.few.0 in let is = w.items-is in omega (arith, few, is), let few = h.few.1 in let is = w.lasts-is in omega (arith, few, is));
+            given = given_as g.S.Sink.events g.S.Sink.failed g.S.Sink.fact c.args.lanes.now _ _ c.match-try_recv.items _ c.match-try_recv.lasts c.args.collector.now _ c.match-try_recv.collector c.args.sinks.now _ c.match-try_recv.sinks
+                (let is = w.items-is in omega (arith, is)) (let is = w.lasts-is in omega (arith, is)) w.collector-is w.sinks-is
+                (given_more g.S.Sink.events g.S.Sink.failed g.S.Sink.fact c.args.lanes.now c.loop-i.lanes c.loop-i.i lane c.try_recv.new.self c.loop-i.items c.loop-i.lasts 0 0 c.args.collector.now c.loop-i.collector c.loop-i.collector
+                c.args.sinks.now c.loop-i.sinks c.loop-i.sinks h.given at lt gives);
+          }
+    ]

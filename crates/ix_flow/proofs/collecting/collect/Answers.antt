@@ -8,4 +8,4 @@ pub loop-preserved : goal.loop-preserved
 loop-preserved g c =
     let e = c.round-received.ensures in
     gathers_more g.S.Sink.events g.S.Sink.failed g.S.Sink.fact c.args.collector.now c.loop.collector c.round-received.new.collector c.args.outs.now c.loop.outs c.round-received.new.lanes
-    c.args.sinks.now c.loop.sinks c.round-received.new.sinks c.loop.invariant e.on e.collected e.lanes
+    c.args.sinks.now c.loop.sinks c.round-received.new.sinks c.loop.invariant e.collected e.lanes

@@ -1,7 +1,7 @@
-use Rattle.std.proofs.Common.{List, sym, subst}
+use Rattle.std.proofs.Common.{List, refl, sym, subst, ◌∙◌}
 use Rattle.ix_handover.specs.declared.verdicted.Verdicted.{Verdicted}
 use Rattle.ix_collect.specs.Collecting.{HasCollected}
-use Rattle.ix_flow.proofs.Gathering.{gathers_trans}
+use Rattle.ix_flow.proofs.Gathering.{gathers_none, gathers_more, gathers_trans}
 use Rattle.ix_flow.proofs.collecting.gather.Goals as goal
 
 pub collect-requires : goal.collect-requires
@@ -15,7 +15,27 @@ collect-requires g c =
       collected = subst (λ (got : List Verdicted). HasCollected g.S.Sink.events g.S.Sink.failed got collector sinks) (sym c.requires.unused.1) (law.collected collector sinks c.requires.sinks.sized unused c.requires.sinks.fresh);
     }
 
-pub returns-clause-on : goal.returns-clause-on
-returns-clause-on g c =
-    gathers_trans g.S.Sink.events g.S.Sink.failed g.S.Sink.fact c.args.collector.now c.collect.new.collector c.stop_verifiers.new.collector c.args.outs.now c.collect.new.outs c.stop_verifiers.new.outs
-    c.args.sinks.now c.collect.new.sinks c.stop_verifiers.new.sinks c.collect.ensures.on c.stop_verifiers.ensures.on
+pub loop-init : goal.loop-init
+loop-init g c =
+    let on = c.collect.ensures.on in
+    record {
+      stop = (refl, refl);
+      gathered = gathers_none g.S.Sink.events g.S.Sink.failed g.S.Sink.fact c.collect.new.collector c.collect.new.outs c.collect.new.sinks (record { can = record { sinks = on.collector.sinks; may = on.collector.may }; collected = on.collected });
+    }
+
+pub loop-preserved : goal.loop-preserved
+loop-preserved g c =
+    let h = c.loop.invariant in
+    let e = c.round-received.ensures in
+    let s = c.put_stops-stops.ensures in
+    record {
+      stop = (s.0 ∙ h.stop.0, s.1 ∙ h.stop.1);
+      gathered =
+          gathers_more g.S.Sink.events g.S.Sink.failed g.S.Sink.fact c.collect.new.collector c.loop.collector c.round-received.new.collector c.collect.new.outs c.loop.outs c.round-received.new.lanes
+          c.collect.new.sinks c.loop.sinks c.round-received.new.sinks h.gathered e.collected e.lanes;
+    }
+
+pub returns-then-lasts-verifiers-clause-on : goal.returns-then-lasts-verifiers-clause-on
+returns-then-lasts-verifiers-clause-on g c =
+    gathers_trans g.S.Sink.events g.S.Sink.failed g.S.Sink.fact c.args.collector.now c.collect.new.collector c.loop.collector c.args.outs.now c.collect.new.outs c.loop.outs c.args.sinks.now c.collect.new.sinks c.loop.sinks
+    c.collect.ensures.on c.loop.invariant.gathered

@@ -7,8 +7,8 @@ use Rattle.ix_collect.proofs.job_progress.JobProgress.hand_on.Goals as goal
 pub returns-in-Ok-clause-kept : goal.returns-in-Ok-clause-kept
 returns-in-Ok-clause-kept g c = (
   (
-    c.requires.open.0,
-    safe_on c.args.self.now (g.S.Sink.events c.args.sink.now) (g.S.Sink.events c.deliver.new.self) (g.S.Sink.failed c.args.sink.now) (g.S.Sink.failed c.deliver.new.self) c.in-Some.field-0 c.requires.open.0 c.requires.open.1 c.in-Ok.ensures.ok
+    c.requires.sink.0,
+    safe_on c.args.self.now (g.S.Sink.events c.args.sink.now) (g.S.Sink.events c.deliver.new.self) (g.S.Sink.failed c.args.sink.now) (g.S.Sink.failed c.deliver.new.self) c.in-Some.field-0 c.requires.sink.0 c.requires.sink.1 c.in-Ok.ensures.ok
         c.in-Ok.ensures.ok_failed,
   ),
   c.deliver.ensures.kept,

@@ -4,10 +4,19 @@ use Rattle.ix_collect.specs.JobProgress.{IsItem}
 use Rattle.ix_collect.proofs.job_progress.JobProgress.note.Goals as goal
 
 pub returns-in-Checked-clause-noted : goal.returns-in-Checked-clause-noted
-returns-in-Checked-clause-noted c = λ all over t u events failed fine i w. c.take.ensures.taken all over t u events failed fine (subst (λ (x : Verdicted). IsItem all over x t u) c.in-Checked.is i) w
+returns-in-Checked-clause-noted c = record {
+  sink = c.take.ensures.taken.sink;
+  under_way = λ all over t u events failed fine i w. c.take.ensures.taken.under_way all over t u events failed fine (subst (λ (x : Verdicted). IsItem all over x t u) c.in-Checked.is i) w;
+}
 
 pub returns-in-Unchecked-clause-noted : goal.returns-in-Unchecked-clause-noted
-returns-in-Unchecked-clause-noted c = λ all over t u events failed fine i w. c.take-in-Unchecked.ensures.taken all over t u events failed fine (subst (λ (x : Verdicted). IsItem all over x t u) c.in-Unchecked.is i) w
+returns-in-Unchecked-clause-noted c = record {
+  sink = c.take-in-Unchecked.ensures.taken.sink;
+  under_way = λ all over t u events failed fine i w. c.take-in-Unchecked.ensures.taken.under_way all over t u events failed fine (subst (λ (x : Verdicted). IsItem all over x t u) c.in-Unchecked.is i) w;
+}
 
 pub returns-in-Close-clause-noted : goal.returns-in-Close-clause-noted
-returns-in-Close-clause-noted c = λ all over t u events failed fine i w. c.note_close.ensures.noted all over t u events failed fine (subst (λ (x : Verdicted). IsItem all over x t u) c.in-Close.is i) w
+returns-in-Close-clause-noted c = record {
+  sink = c.note_close.ensures.noted.sink;
+  under_way = λ all over t u events failed fine i w. c.note_close.ensures.noted.under_way all over t u events failed fine (subst (λ (x : Verdicted). IsItem all over x t u) c.in-Close.is i) w;
+}
