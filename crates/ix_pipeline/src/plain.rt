@@ -3,7 +3,7 @@
 ghost use Rattle.std.specs.Prelude.{◌≡◌, [], length, IfOk, OnErr};
 ghost use Rattle.ix_walk.specs.JobMeaning.{AreFew};
 ghost use Rattle.ix_check.specs.Visits.{IsVisitOf};
-ghost use Rattle.ix_pipeline.specs.Progress.{told_by, CanHand, HandsOn, Delivers, IsWalked, Exports, end_of};
+ghost use Rattle.ix_pipeline.specs.Progress.{told_by, CanHand, HandsOnTo, DeliversTo, IsWalked, Exports, end_of};
 ghost use Rattle.ix_pipeline.specs.Headline.{EachDelivered, EachArchived, Keeps, EachKept, EachFresh};
 ghost use Rattle.ix_pipeline.specs.Headline.{IsCheckedOnce, NoneIsStart};
 
@@ -106,10 +106,8 @@ fn hand_on<S: Sink, C: Check>(
 ) -> Result<SinkState, AllocError>
     requires visit { IsVisitOf store.now visit }
     requires can { CanHand state (S.events sink.old) (S.failed sink.old) }
-    ensures handed { HandsOn store.now visit state
-        (told_by S.events S.failed C.checked sink.old check.old) result
-        (told_by S.events S.failed C.checked sink.new check.new) }
-    ensures kept { Keeps S.fact sink.old sink.new }
+    ensures { HandsOnTo S.events S.failed S.fact C.checked store.now visit state
+        sink.old check.old result sink.new check.new }
 {
     let verdict = check.check(alloc, store, &visit)?;
     deliver_one(alloc, visit, verdict, state, sink)
@@ -125,9 +123,8 @@ fn deliver_one<S: Sink>(
     sink: &mut S,
 ) -> Result<SinkState, AllocError>
     requires can { CanHand state (S.events sink.old) (S.failed sink.old) }
-    ensures delivered { Delivers (record { visit = visit; verdict = verdict }) state
-        (S.events sink.old) (S.failed sink.old) result (S.events sink.new) (S.failed sink.new) }
-    ensures kept { Keeps S.fact sink.old sink.new }
+    ensures { DeliversTo S.events S.failed S.fact (record { visit = visit; verdict = verdict }) state
+        sink.old result sink.new }
 {
     if state == SinkState::Failed {
         return Ok(state);
