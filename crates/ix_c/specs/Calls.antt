@@ -83,13 +83,16 @@ Freezes before after = HasFrozen (content before) (content after)
 abbrev pub MakesOnce : Handle → Handle → Status → Type 0
 MakesOnce before after = HasOnce (content before) (content after)
 
--- fills another handle with the frozen store of the first
-abbrev pub SharesWith : Handle → Handle → Handle → Status → Type 0
-SharesWith store before after = HasShared (content store) (content before) (content after)
+-- fills another handle with the frozen store of the first, which holds what it held
+pub record SharesWith (store store_after other other_after : Handle) (status : Status) : Type 0 where
+  pub shared : HasShared (content store) (content other) (content other_after) status
+  pub store_stays : Stays store store_after
 
--- fills a handle with what an export of a job over a frozen store leaves
-abbrev pub ExportsTo : Handle → Handle → Handle → Handle → Status → Type 0
-ExportsTo store job before after = IsExported (content store) (content job) (content before) (content after)
+-- fills a handle with what an export of a job over a frozen store leaves; the handles of those hold what they held
+pub record ExportsTo (store store_after job job_after out out_after : Handle) (status : Status) : Type 0 where
+  pub exported : IsExported (content store) (content job) (content out) (content out_after) status
+  pub store_stays : Stays store store_after
+  pub job_stays : Stays job job_after
 
 -- tells of what is found in a handle, which holds what it held
 abbrev pub Tells : {A : Type 0} → (Option Held → Result A Status) → Handle → Handle → A → A → Status → Type 0

@@ -1,7 +1,7 @@
 //! An export.
 
 ghost use Rattle.ix_c.specs.Answers.{IsExportedOf};
-ghost use Rattle.ix_c.specs.Calls.{ExportsTo, Stays};
+ghost use Rattle.ix_c.specs.Calls.{ExportsTo};
 
 use crate::filling::fill;
 use crate::handle::Handle;
@@ -16,9 +16,7 @@ pub(crate) fn export_into(
     job: &mut Handle,
     out: &mut Handle,
 ) -> Status
-    ensures exported { ExportsTo store.old job.old out.old out.new result }
-    ensures store { Stays store.old store.new }
-    ensures job { Stays job.old job.new }
+    ensures { ExportsTo store.old store.new job.old job.new out.old out.new result }
 {
     let Some(blocks) = store.take(alloc) else {
         return Status::Handle;

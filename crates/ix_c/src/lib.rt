@@ -46,7 +46,7 @@ mod status;
 mod stores;
 
 use crate::handle::Handle;
-use crate::results::{Counts, SkipTold};
+use crate::results::{Counts, SkipTold, part_numbered};
 use ix_embedding::Part;
 use std::alloc::Global;
 
@@ -125,8 +125,7 @@ pub extern "C" fn ix_store_freeze(alloc: Global, store: &mut Handle) -> u32
 /// Fills another handle with the same frozen store, for another thread.
 #[unsafe(no_mangle)]
 pub extern "C" fn ix_store_share(alloc: Global, store: &mut Handle, other: &mut Handle) -> u32
-    ensures shared { Told (SharesWith store.old other.old other.new) result }
-    ensures kept { Stays store.old store.new }
+    ensures { Told (SharesWith store.old store.new other.old other.new) result }
 {
     stores::share(alloc, store, other).code()
 }
@@ -178,9 +177,7 @@ pub extern "C" fn ix_export(
     job: &mut Handle,
     out: &mut Handle,
 ) -> u32
-    ensures exported { Told (ExportsTo store.old job.old out.old out.new) result }
-    ensures store { Stays store.old store.new }
-    ensures job { Stays job.old job.new }
+    ensures { Told (ExportsTo store.old store.new job.old job.new out.old out.new) result }
 {
     exporting::export_into(alloc, store, job, out).code()
 }
@@ -212,7 +209,7 @@ pub extern "C" fn ix_result_archive(
     ensures told { Told (TellsArchiveLength handle.old handle.new length.old length.new) result }
     ensures left { Told (IsLeft archive.old archive.new) result }
 {
-    results::part_bytes(alloc, handle, Part::Archive, archive, length).code()
+    results::bytes(alloc, handle, Some(Part::Archive), archive, length).code()
 }
 
 /// A skip of a result by its number, from 0, and where its CID begins and how long it is.
@@ -243,7 +240,7 @@ pub extern "C" fn ix_result_report(
     ensures told { Told (TellsReportLength handle.old handle.new length.old length.new) result }
     ensures left { Told (IsLeft report.old report.new) result }
 {
-    results::part_bytes(alloc, handle, Part::Report, report, length).code()
+    results::bytes(alloc, handle, Some(Part::Report), report, length).code()
 }
 
 /// Where the line of a refusal begins and how long it is.
@@ -257,7 +254,7 @@ pub extern "C" fn ix_fault_line(
     ensures told { Told (TellsTextLength handle.old handle.new length.old length.new) result }
     ensures left { Told (IsLeft line.old line.new) result }
 {
-    results::part_bytes(alloc, handle, Part::Text, line, length).code()
+    results::bytes(alloc, handle, Some(Part::Text), line, length).code()
 }
 
 /// Where a part of what a handle holds begins and how long it is: the archive, the report, or a text.
@@ -272,7 +269,7 @@ pub extern "C" fn ix_bytes(
     ensures told { Told (TellsPartLength part handle.old handle.new length.old length.new) result }
     ensures left { Told (IsLeft start.old start.new) result }
 {
-    results::bytes(alloc, handle, part, start, length).code()
+    results::bytes(alloc, handle, part_numbered(part), start, length).code()
 }
 
 /// Copies a part of what a handle holds into a buffer, from a place on and as far as there is room.

@@ -7,7 +7,6 @@ ghost use Rattle.ix_c.specs.Calls.{
   TellsEnd,
   TellsCounts,
   TellsLength,
-  TellsPartLength,
   TellsSkip,
   TellsCidLength,
   IsCounted,
@@ -97,8 +96,8 @@ fn why_code(verdict: Verdict) -> u32
     }
 }
 
-// The part that has this number in C.
-fn part_numbered(number: u32) -> Option<Part>
+/// The part that has this number in C.
+pub(crate) fn part_numbered(number: u32) -> Option<Part>
     ensures { result ≡ part_numbered number }
 {
     match number {
@@ -166,35 +165,21 @@ fn tell_place(
     }
 }
 
-/// Where the bytes of the part with a number begin and how many they are. They stay there until the handle is
-/// filled or freed.
+/// Where the bytes of a part begin and how many they are, if there is such a part. They stay there until the
+/// handle is filled or freed.
 pub(crate) fn bytes(
     alloc: Global,
     handle: &mut Handle,
-    part: u32,
+    part: Option<Part>,
     start: &mut *const u8,
     length: &mut usize,
 ) -> Status
-    ensures told { TellsPartLength part handle.old handle.new length.old length.new result }
+    ensures told { TellsLength part handle.old handle.new length.old length.new result }
     ensures left { IsLeft start.old start.new result }
 {
-    match part_numbered(part) {
-        Some(part) => part_bytes(alloc, handle, part, start, length),
-        None => Status::Range,
-    }
-}
-
-/// The same of a part.
-pub(crate) fn part_bytes(
-    alloc: Global,
-    handle: &mut Handle,
-    part: Part,
-    start: &mut *const u8,
-    length: &mut usize,
-) -> Status
-    ensures told { TellsLength (Some part) handle.old handle.new length.old length.new result }
-    ensures left { IsLeft start.old start.new result }
-{
+    let Some(part) = part else {
+        return Status::Range;
+    };
     tell_place(
         handle.read(alloc, |held| bytes_of(held, part)),
         start,

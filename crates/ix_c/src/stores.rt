@@ -2,7 +2,7 @@
 
 ghost use Rattle.std.specs.Prelude.{Some};
 ghost use Rattle.ix_c.specs.Answers.{HasAddedTo, HasFrozen, IsOwnerOf};
-ghost use Rattle.ix_c.specs.Calls.{Adds, Freezes, SharesWith, Stays};
+ghost use Rattle.ix_c.specs.Calls.{Adds, Freezes, SharesWith};
 
 use crate::filling::fill;
 use crate::handle::Handle;
@@ -68,8 +68,7 @@ fn frozen_of(alloc: Global, held: Held) -> (Held, Status)
 
 /// Fills a handle with one more owner of a frozen store.
 pub(crate) fn share(alloc: Global, store: &mut Handle, other: &mut Handle) -> Status
-    ensures shared { SharesWith store.old other.old other.new result }
-    ensures kept { Stays store.old store.new }
+    ensures { SharesWith store.old store.new other.old other.new result }
 {
     let Some(held) = store.take(alloc) else {
         return Status::Handle;
