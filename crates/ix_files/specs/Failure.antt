@@ -1,5 +1,6 @@
 -- What the program says of a refusal that comes from below.
-use Rattle.std.specs.Prelude.{◌≡◌, ◌≢◌, ℕ, ◌≤◌, List, ◌++◌, length, String, ◌⊎◌, string_bytes, codes, Contains, Result, Ok, Err, IfErr}
+use Rattle.std.specs.Prelude.{◌≡◌, ◌≢◌, ℕ, ◌≤◌, List, ◌++◌, length, String, ◌⊎◌, string_bytes, codes, Contains}
+use Rattle.std.specs.Prelude.{Option, IfSome, Result, Ok, Err, IfOk, IfErr}
 use Rattle.std.specs.Global.{Global, Vec}
 use Rattle.std.specs.IoError.{error_kind}
 use Rattle.std.specs.declared.io.Error as io
@@ -50,6 +51,11 @@ abbrev pub IsRead : List ℕ → Result (Vec ℕ) Failure → Type 0
 IsRead path (Ok input) = length input.items ≤ 1073741824
 IsRead path (Err failure) = IsInputFailure path failure
 
+-- the same of what a reader gives: all that it has, where that is known
+pub record IsReadFrom (known : Option (List ℕ)) (path : List ℕ) (result : Result (Vec ℕ) Failure) : Type 0 where
+  pub whole : IfOk result (λ input. IfSome known (λ bytes. input.items ≡ bytes))
+  pub read : IsRead path result
+
 -- the output of a job of this name
 abbrev pub output_path : List ℕ → List ℕ → List ℕ
 output_path folder name = folder ++ (codes "/" ++ (name ++ codes ".car"))
@@ -83,6 +89,11 @@ RefusesOutputOf folder job result = IfErr result (IsFailureOf folder job)
 -- the output of one of these jobs
 abbrev pub RefusesOutputs : {A : Type 0} → List ℕ → List JobMeaning → Result A Failure → Type 0
 RefusesOutputs folder jobs result = IfErr result (IsOutputFailure folder jobs)
+
+-- an output is made for each of these jobs, or that of one of them is refused
+pub record MakesOutputs {A : Type 0} (folder : List ℕ) (jobs : List JobMeaning) (result : Result (Vec A) Failure) : Type 0 where
+  pub each : IfOk result (λ outputs. length outputs.items ≡ length jobs)
+  pub refused : RefusesOutputs folder jobs result
 
 -- nobody asked for this text: it is no help and no version
 abbrev pub IsMistake : Error → Type 0

@@ -3,16 +3,16 @@
 ghost use Rattle.std.specs.Prelude.{◌≡◌, IfOk};
 ghost use Rattle.ix_run.specs.Complete.{is_complete};
 ghost use Rattle.ix_files.specs.Complete.{met_roots_alone};
-ghost use Rattle.ix_files.specs.Failure.{RefusesOutputOf, RefusesOutputs, RefusesPath};
+ghost use Rattle.ix_files.specs.Failure.{RefusesOutputs, RefusesPath};
 
 use crate::fault::Failure;
-use crate::outputs::{name_job, name_output, path_of};
+use crate::outputs::{at_output, name_output};
 use ix_archive::End;
 use ix_jobs::JobResult;
 use ix_run::{is_complete, is_root};
 use ix_walk::Job;
 use std::alloc::AllocError;
-use std::io::BufWriter;
+use std::io::{self, BufWriter};
 use std::rt::Files;
 
 /// Gives its name to each archive whose job is done with all its roots written, as `name_outputs` does.
@@ -27,29 +27,15 @@ pub fn name_complete_outputs<R: AllocGlobal + Eprint + Files>(
 ) -> Result<(), Failure>
     ensures refused { RefusesOutputs folder.now jobs.now result }
 {
+    let alloc = rt.alloc();
     let mut told = Ok(());
     for ((job, outcome), output) in jobs.iter().zip(results).zip(outputs) {
-        told = told.and(name_or_leave(rt, folder, job, outcome, output, sync));
+        let named = at_output(alloc, folder, job, |path| {
+            name_or_leave(rt, path, job, outcome, output, sync).map(|_| ())
+        });
+        told = told.and(named);
     }
     told
-}
-
-// Gives an archive its name, or tells why it gets none.
-fn name_or_leave<R: AllocGlobal + Eprint + Files>(
-    rt: &R,
-    folder: &str,
-    job: &Job,
-    outcome: &JobResult,
-    output: &BufWriter<R::File>,
-    sync: bool,
-) -> Result<(), Failure>
-    ensures refused { RefusesOutputOf folder.now job.now result }
-{
-    if is_complete(job, outcome) {
-        return name_job(rt, folder, job, output, sync);
-    }
-    let path = path_of(rt.alloc(), folder, job)?;
-    Ok(tell_left(rt, path.as_str(), job, outcome)?)
 }
 
 /// The same of the one archive that was written for a path: it gets its name where its job is done with
@@ -64,6 +50,24 @@ pub fn name_complete_output<R: AllocGlobal + Eprint + Files>(
 ) -> Result<bool, Failure>
     ensures named { IfOk result (λ named. named ≡ is_complete job.now outcome.now) }
     ensures refused { RefusesPath path.now result }
+{
+    match name_or_leave(rt, path, job, outcome, output, sync) {
+        Ok(named) => Ok(named),
+        Err(error) => Err(Failure::cannot_write(rt.alloc(), path, &error)),
+    }
+}
+
+// Gives an archive its name where its job is done with all its roots written, which is answered, or tells
+// why it gets none.
+fn name_or_leave<R: AllocGlobal + Eprint + Files>(
+    rt: &R,
+    path: &str,
+    job: &Job,
+    outcome: &JobResult,
+    output: &BufWriter<R::File>,
+    sync: bool,
+) -> io::Result<bool>
+    ensures { IfOk result (λ named. named ≡ is_complete job.now outcome.now) }
 {
     let named = is_complete(job, outcome);
     if named {

@@ -1,6 +1,6 @@
 //! Why the program ends early, and what it tells the user.
 
-ghost use Rattle.std.specs.Prelude.{◌≡◌, ◌↔◌, IsTrue};
+ghost use Rattle.std.specs.Prelude.{◌≡◌, IsNone, IfSome, string_bytes};
 ghost use Rattle.ix_files.specs.declared.fault.Failure.TheVariants.{CannotRead, TooLarge, CannotWrite};
 ghost use Rattle.ix_files.specs.Failure.{IsWordsOf, Names, NamesFile, WantsMemory};
 
@@ -37,10 +37,9 @@ impl Failure {
     pub fn of_words(error: &io::Error) -> Failure
         ensures { IsWordsOf (WantsMemory error.now) result }
     {
-        if is_want_of_memory(error) {
-            Failure::Fault(RunFault::Memory)
-        } else {
-            Failure::Words
+        match error.kind() {
+            ErrorKind::OutOfMemory => Failure::Fault(RunFault::Memory),
+            _ => Failure::Words,
         }
     }
 
@@ -48,9 +47,9 @@ impl Failure {
     pub fn cannot_read(alloc: Global, path: &str, error: &io::Error) -> Failure
         ensures { NamesFile CannotRead path.now (WantsMemory error.now) result }
     {
-        match String::from_str(alloc, path) {
-            Ok(path) if !is_want_of_memory(error) => Failure::CannotRead(path),
-            _ => Failure::Fault(RunFault::Memory),
+        match name_of(alloc, path, error) {
+            Some(path) => Failure::CannotRead(path),
+            None => Failure::Fault(RunFault::Memory),
         }
     }
 
@@ -58,9 +57,9 @@ impl Failure {
     pub fn cannot_write(alloc: Global, path: &str, error: &io::Error) -> Failure
         ensures { NamesFile CannotWrite path.now (WantsMemory error.now) result }
     {
-        match String::from_str(alloc, path) {
-            Ok(path) if !is_want_of_memory(error) => Failure::CannotWrite(path),
-            _ => Failure::Fault(RunFault::Memory),
+        match name_of(alloc, path, error) {
+            Some(path) => Failure::CannotWrite(path),
+            None => Failure::Fault(RunFault::Memory),
         }
     }
 
@@ -99,10 +98,15 @@ impl Failure {
     }
 }
 
-fn is_want_of_memory(error: &io::Error) -> bool
-    ensures { IsTrue result ↔ WantsMemory error.now }
+// The path that is named where an error is told, unless there is no memory.
+fn name_of(alloc: Global, path: &str, error: &io::Error) -> Option<String>
+    ensures named { IfSome result (λ name. string_bytes name ≡ path.now) }
+    ensures memory { WantsMemory error.now → IsNone result }
 {
-    matches!(error.kind(), ErrorKind::OutOfMemory)
+    match error.kind() {
+        ErrorKind::OutOfMemory => None,
+        _ => String::from_str(alloc, path).ok(),
+    }
 }
 
 impl From<AllocError> for Failure {

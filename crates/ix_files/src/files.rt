@@ -1,7 +1,7 @@
 //! Files, as they are read.
 
-ghost use Rattle.std.specs.Prelude.{◌≡◌, IfOk, IfErr, IfSome};
-ghost use Rattle.ix_files.specs.Failure.{IsInputFailure, IsRead};
+ghost use Rattle.std.specs.Prelude.{IfErr};
+ghost use Rattle.ix_files.specs.Failure.{IsInputFailure, IsRead, IsReadFrom};
 
 use crate::fault::Failure;
 use crate::progress::{Loading, Progress};
@@ -38,15 +38,15 @@ pub fn stand_in<R: Files>(rt: &R) -> StandIns<R::File> {
     }
 }
 
-/// The bytes of a file, or of standard input where the path is `-`.
+/// The bytes of a file, whose size is judged before it is read, or of standard input where the path is `-`.
 pub fn read_input<R: AllocGlobal + Files + Input>(rt: &R, path: &str) -> Result<Vec<u8>, Failure>
     ensures { IsRead path.now result }
 {
     if path == STANDARD_INPUT {
-        read_all(rt.alloc(), rt.reader(), 0, path)
-    } else {
-        read_file(rt, path)
+        return read_all(rt.alloc(), rt.reader(), 0, path);
     }
+    let (file, size) = open_file(rt, path)?;
+    read_all(rt.alloc(), file, size, path)
 }
 
 /// The same, of which it is told how it goes on.
@@ -63,14 +63,6 @@ pub fn load_input<R: AllocGlobal + Clock + Eprint + Files + Input>(
     let (file, size) = open_file(rt, path)?;
     progress.expect(size as u64);
     read_all(rt.alloc(), Loading::new(file, progress), size, path)
-}
-
-/// The bytes of a file, whose size is judged before it is read.
-pub fn read_file<R: Files + AllocGlobal>(rt: &R, path: &str) -> Result<Vec<u8>, Failure>
-    ensures { IsRead path.now result }
-{
-    let (file, size) = open_file(rt, path)?;
-    read_all(rt.alloc(), file, size, path)
 }
 
 // A file and its size, which isn't too large.
@@ -100,8 +92,7 @@ pub fn read_all<R: Read + Drop>(
     expected: usize,
     path: &str,
 ) -> Result<Vec<u8>, Failure>
-    ensures whole { IfOk result (λ input. IfSome (R.remaining reader) (λ bytes. input.items ≡ bytes)) }
-    ensures read { IsRead path.now result }
+    ensures { IsReadFrom (R.remaining reader) path.now result }
 {
     let mut input = Vec::with_capacity(alloc, expected)?;
     match reader.take(LARGEST_INPUT + 1).read_to_end(&mut input) {

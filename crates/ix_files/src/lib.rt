@@ -8,8 +8,8 @@
 //! contract says what files hold.
 //!
 //! ```rust
-//! let car = read_file(rt, "library.car")?;
-//! let file = read_file(rt, "library.jobs")?;
+//! let car = read_input(rt, "library.car")?;
+//! let file = read_input(rt, "library.jobs")?;
 //! let (store, jobs) = load(alloc, car, file.as_slice())?;
 //! let inputs = ["library.car", "library.jobs"];
 //! let writers = make_outputs(rt, "out", jobs.as_slice(), inputs)?;
@@ -28,7 +28,7 @@ mod report;
 
 pub use complete::{met_roots_alone, name_complete_output, name_complete_outputs};
 pub use fault::Failure;
-pub use files::{STANDARD_INPUT, StandIns, load_input, read_all, read_file, read_input, stand_in};
+pub use files::{STANDARD_INPUT, StandIns, load_input, read_all, read_input, stand_in};
 pub use help::Help;
 pub use outputs::{make_output, make_outputs, name_outputs, remove_output, remove_outputs};
 pub use progress::{Progress, Telling};

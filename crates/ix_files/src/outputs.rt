@@ -6,12 +6,11 @@
 //! until it has its name the file is locked, by the advisory lock of its system that goes with the
 //! process, so that no other run takes it for one that was left there.
 
-ghost use Rattle.std.specs.Prelude.{◌≡◌, length, IfOk, string_bytes};
-ghost use Rattle.ix_files.specs.Failure.{output_path, RefusesOutputOf, RefusesOutputs, RefusesPath};
+ghost use Rattle.std.specs.Prelude.{◌≡◌, IfOk, string_bytes};
+ghost use Rattle.ix_files.specs.Failure.{output_path, MakesOutputs, RefusesOutputOf, RefusesOutputs, RefusesPath};
 
 use crate::fault::Failure;
 use ix_archive::End;
-use ix_run::RunFault;
 use ix_walk::Job;
 use std::alloc::{AllocError, Global};
 use std::fs::{self, File, Metadata, OpenFile};
@@ -22,12 +21,29 @@ use std::rt::Files;
 // How many bytes of an output wait in memory.
 const BUFFER: usize = 16 * 1024;
 
-/// The path of a job's archive.
-pub(crate) fn path_of(alloc: Global, folder: &str, job: &Job) -> Result<String, AllocError>
+// The path of a job's archive.
+fn path_of(alloc: Global, folder: &str, job: &Job) -> Result<String, AllocError>
     ensures { IfOk result (λ path. string_bytes path ≡ output_path folder.now job.now.name) }
 {
     let name = job.name();
     format!(in alloc; "{folder}/{name}.car")
+}
+
+/// Does what is to be done at the path of a job's archive, which a failure names.
+pub(crate) fn at_output<T: Drop, F: FnOnce(&str) -> io::Result<T>>(
+    alloc: Global,
+    folder: &str,
+    job: &Job,
+    does: F,
+) -> Result<T, Failure>
+    requires { F.IsAlwaysCallable does }
+    ensures { RefusesOutputOf folder.now job.now result }
+{
+    let path = path_of(alloc, folder, job)?;
+    match does(path.as_str()) {
+        Ok(done) => Ok(done),
+        Err(error) => Err(Failure::cannot_write(alloc, path.as_str(), &error)),
+    }
 }
 
 // Where what gets this path in the end is written before.
@@ -61,14 +77,16 @@ pub fn make_outputs<R: Files<File = File> + AllocGlobal>(
     jobs: &[Job],
     inputs: [&str; 2],
 ) -> Result<Vec<BufWriter<R::File>>, Failure>
-    ensures each { IfOk result (λ outputs. length outputs.items ≡ length jobs.now) }
-    ensures refused { RefusesOutputs folder.now jobs.now result }
+    ensures { MakesOutputs folder.now jobs.now result }
 {
     let alloc = rt.alloc();
-    judge_outputs(rt, folder, jobs, inputs)?;
+    let inputs = [file_id(rt, inputs[0]), file_id(rt, inputs[1])];
+    for job in jobs {
+        at_output(alloc, folder, job, |path| judge_output(rt, path, inputs))?;
+    }
     let mut outputs = Vec::with_capacity(alloc, jobs.len())?;
     for job in jobs {
-        match make_job(rt, folder, job) {
+        match at_output(alloc, folder, job, |path| make_part(rt, path)) {
             Ok(output) => outputs.push(output)?,
             Err(failure) => {
                 let made = outputs.len();
@@ -92,13 +110,22 @@ pub fn make_output<R: Files<File = File> + AllocGlobal>(
 ) -> Result<BufWriter<R::File>, Failure>
     ensures refused { RefusesPath path.now result }
 {
+    judge_file(rt, path, input)
+        .and_then(|_| make_part(rt, path))
+        .map_err(|error| Failure::cannot_write(rt.alloc(), path, &error))
+}
+
+// Refuses an output of one path where something other than a file stands, or that `judge_output` refuses.
+fn judge_file<R: Files<File = File> + AllocGlobal>(
+    rt: &R,
+    path: &str,
+    input: &str,
+) -> io::Result<()> {
     if is_no_file(rt, path) {
-        let error = io::Error::from(ErrorKind::AlreadyExists);
-        return Err(Failure::cannot_write(rt.alloc(), path, &error));
+        return Err(io::Error::from(ErrorKind::AlreadyExists));
     }
     let input = file_id(rt, input);
-    judge_output(rt, path, [input, input])?;
-    make_part(rt, path)
+    judge_output(rt, path, [input, input])
 }
 
 // Whether something other than a file stands at a path.
@@ -145,27 +172,17 @@ pub fn name_outputs<R: Files + AllocGlobal>(
 ) -> Result<(), Failure>
     ensures refused { RefusesOutputs folder.now jobs.now result }
 {
+    let alloc = rt.alloc();
     let mut told = Ok(());
     for ((job, end), output) in jobs.iter().zip(ends).zip(outputs) {
         if matches!(end, End::Done | End::Limit) {
-            told = told.and(name_job(rt, folder, job, output, sync));
+            let named = at_output(alloc, folder, job, |path| {
+                name_output(rt, path, output, sync)
+            });
+            told = told.and(named);
         }
     }
     told
-}
-
-/// Gives the archive of a job its name.
-pub(crate) fn name_job<R: Files + AllocGlobal>(
-    rt: &R,
-    folder: &str,
-    job: &Job,
-    output: &BufWriter<R::File>,
-    sync: bool,
-) -> Result<(), Failure>
-    ensures refused { RefusesOutputOf folder.now job.now result }
-{
-    let path = path_of(rt.alloc(), folder, job)?;
-    name_output(rt, path.as_str(), output, sync)
 }
 
 /// Gives what was written for one path its name; where `sync` is set, its bytes are on the disk before.
@@ -175,77 +192,34 @@ pub(crate) fn name_output<R: Files + AllocGlobal>(
     path: &str,
     output: &BufWriter<R::File>,
     sync: bool,
-) -> Result<(), Failure>
-    ensures refused { RefusesPath path.now result }
-{
-    let alloc = rt.alloc();
-    let part = part_of(alloc, path)?;
+) -> io::Result<()> {
+    let part = part_of(rt.alloc(), path)?;
     if sync {
-        if let Err(error) = output.get_ref().sync_all() {
-            return Err(Failure::cannot_write(alloc, path, &error));
-        }
+        output.get_ref().sync_all()?;
     }
     if !stands_under(rt, output.get_ref(), part.as_str()) {
-        let error = io::Error::from(ErrorKind::NotFound);
-        return Err(Failure::cannot_write(alloc, path, &error));
+        return Err(io::Error::from(ErrorKind::NotFound));
     }
-    match fs::rename(rt, part.as_str(), path) {
-        Ok(()) => Ok(()),
-        Err(error) => Err(Failure::cannot_write(alloc, path, &error)),
-    }
+    fs::rename(rt, part.as_str(), path)
 }
 
 // Refuses an output that is a folder or an input, or that another run writes.
-fn judge_outputs<R: Files<File = File> + AllocGlobal>(
-    rt: &R,
-    folder: &str,
-    jobs: &[Job],
-    inputs: [&str; 2],
-) -> Result<(), Failure>
-    ensures refused { RefusesOutputs folder.now jobs.now result }
-{
-    let inputs = [file_id(rt, inputs[0]), file_id(rt, inputs[1])];
-    for job in jobs {
-        judge_job(rt, folder, job, inputs)?;
-    }
-    Ok(())
-}
-
-// The same of the output of one job.
-fn judge_job<R: Files<File = File> + AllocGlobal>(
-    rt: &R,
-    folder: &str,
-    job: &Job,
-    inputs: [Option<FileId>; 2],
-) -> Result<(), Failure>
-    ensures refused { RefusesOutputOf folder.now job.now result }
-{
-    let path = path_of(rt.alloc(), folder, job)?;
-    judge_output(rt, path.as_str(), inputs)
-}
-
-// The same of the output of one path.
 fn judge_output<R: Files<File = File> + AllocGlobal>(
     rt: &R,
     path: &str,
     inputs: [Option<FileId>; 2],
-) -> Result<(), Failure>
-    ensures refused { RefusesPath path.now result }
-{
-    let alloc = rt.alloc();
-    let part = part_of(alloc, path)?;
+) -> io::Result<()> {
+    let part = part_of(rt.alloc(), path)?;
     let part = part.as_str();
     let is_folder = match fs::metadata(rt, path) {
         Ok(metadata) => metadata.is_dir(),
         Err(_) => false,
     };
     if is_folder || is_input(rt, path, inputs) || is_input(rt, part, inputs) {
-        let error = io::Error::from(ErrorKind::AlreadyExists);
-        return Err(Failure::cannot_write(alloc, path, &error));
+        return Err(io::Error::from(ErrorKind::AlreadyExists));
     }
     if is_left(rt, part) && lock_left(rt, part).is_none() {
-        let error = io::Error::from(ErrorKind::WouldBlock);
-        return Err(Failure::cannot_write(alloc, path, &error));
+        return Err(io::Error::from(ErrorKind::WouldBlock));
     }
     Ok(())
 }
@@ -277,47 +251,23 @@ fn remove_left<R: Files<File = File>>(rt: &R, part: &str) {
     }
 }
 
-// Makes the file to which the archive of a job is written.
-fn make_job<R: Files<File = File> + AllocGlobal>(
-    rt: &R,
-    folder: &str,
-    job: &Job,
-) -> Result<BufWriter<R::File>, Failure>
-    ensures refused { RefusesOutputOf folder.now job.now result }
-{
-    let path = path_of(rt.alloc(), folder, job)?;
-    make_part(rt, path.as_str())
-}
-
 // Makes the file to which the output of one path is written, in place of one that was left there, and
 // locks it.
 fn make_part<R: Files<File = File> + AllocGlobal>(
     rt: &R,
     path: &str,
-) -> Result<BufWriter<R::File>, Failure>
-    ensures refused { RefusesPath path.now result }
-{
+) -> io::Result<BufWriter<R::File>> {
     let alloc = rt.alloc();
     let part = part_of(alloc, path)?;
     let part = part.as_str();
     // What can't be removed can't be made.
     remove_left(rt, part);
-    let file = match File::create_new(rt, part) {
-        Ok(file) => file,
-        Err(error) => return Err(Failure::cannot_write(alloc, path, &error)),
-    };
+    let file = File::create_new(rt, part)?;
     // A run that begins at the same time may have locked it first, and taken it away.
     if file.try_lock().is_err() || !stands_under(rt, &file, part) {
-        let error = io::Error::from(ErrorKind::WouldBlock);
-        return Err(Failure::cannot_write(alloc, path, &error));
+        return Err(io::Error::from(ErrorKind::WouldBlock));
     }
-    match BufWriter::with_capacity(alloc, BUFFER, file) {
-        Ok(output) => Ok(output),
-        Err(_) => {
-            remove_left(rt, part);
-            Err(Failure::Fault(RunFault::Memory))
-        }
-    }
+    BufWriter::with_capacity(alloc, BUFFER, file).inspect_err(|_| remove_left(rt, part))
 }
 
 // Whether an open file is the one that stands at a path.

@@ -22,7 +22,7 @@ loop-job-preserved-then-matches g c =
       can_next = ((tt, tt), tt);
       finite = tt;
       left = next.1;
-      told = first_told c.args.folder.now c.args.jobs.now job c.loop-job.told c.name_job.result c.and-told.result c.and-told.ensures next.0 was.told c.name_job.ensures.refused;
+      told = first_told c.args.folder.now c.args.jobs.now job c.loop-job.told c.at_output-named.result c.and-told.result c.and-told.ensures next.0 was.told c.at_output-named.ensures;
     }
 
 pub loop-job-preserved : goal.loop-job-preserved

@@ -3,5 +3,5 @@ use Rattle.ix_files.specs.declared.fault.Failure.TheVariants.{CannotRead}
 use Rattle.ix_files.proofs.Failures.{named_file}
 use Rattle.ix_files.proofs.fault.Failure.cannot_read.Goals as goal
 
-pub returns-in-Ok : goal.returns-in-Ok
-returns-in-Ok c = named_file (λ x. CannotRead x) c.args.path.now c.in-Ok.path _ c.in-Ok.ensures.ok (search rules)
+pub returns-in-Some : goal.returns-in-Some
+returns-in-Some c = named_file (λ x. CannotRead x) c.args.path.now c.in-Some.path _ c.in-Some.ensures.named (search rules)
