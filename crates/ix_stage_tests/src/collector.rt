@@ -1,10 +1,8 @@
 //! A collector that receives what verifiers send, in mixed order.
 
-ghost use Rattle.std.specs.Prelude.{◌≡◌, ◌≤◌, IfOk};
+ghost use Rattle.std.specs.Prelude.{◌<◌, IfOk};
+ghost use Rattle.ix_archive.specs.Headline.{EachFresh};
 ghost use Rattle.ix_handover.specs.Lanes.{IsLane};
-ghost use Rattle.ix_collect.specs.Collected.{job_count};
-ghost use Rattle.ix_collect.specs.Collecting.{CanCollect};
-ghost use Rattle.ix_stage_tests.specs.Collected.{HasAsManyJobs};
 
 use ix_archive::{End, Sink};
 use ix_check::Verdict;
@@ -13,6 +11,7 @@ use ix_fixtures::{ABC, Log, cid_of};
 use ix_stages::{LaneIn, LaneOut, Verdicted, lane};
 use ix_walk::Visit;
 use std::alloc::{AllocError, Global};
+use std::marker::Model;
 use std::process::Abort;
 use std::sync::Wait;
 use std::test::Fail;
@@ -69,23 +68,6 @@ fn item_of(alloc: Global, sent: &Sent) -> Result<Verdicted, Fail> {
     })
 }
 
-fn receive_all<S: Sink>(
-    alloc: Global,
-    collector: &mut Collector,
-    sinks: &mut [S],
-    items: &[Sent],
-) -> Result<(), Fail>
-    requires { CanCollect S.events S.failed collector.old sinks.old }
-    ensures jobs { HasAsManyJobs collector.old collector.new }
-    ensures goes { CanCollect S.events S.failed collector.new sinks.new }
-{
-    for sent in items {
-        let item = item_of(alloc, sent)?;
-        collector.receive(alloc, item, sinks);
-    }
-    Ok(())
-}
-
 // A lane with room for so many items, into which these were sent.
 fn lane_of(alloc: Global, capacity: u32, items: &[Sent]) -> Result<(LaneIn, LaneOut), Fail>
     ensures { IfOk result (λ l. IsLane l.0 l.1) }
@@ -97,6 +79,84 @@ fn lane_of(alloc: Global, capacity: u32, items: &[Sent]) -> Result<(LaneIn, Lane
         }
     }
     Ok((sender, receiver))
+}
+
+// A collector, and a log for each of its jobs, which may be told what comes next.
+#[derive(Drop)]
+struct Gathering<const N: usize> {
+    collector: Collector,
+    logs: [Log; N],
+}
+
+impl<const N: usize> Model for Gathering<N> {
+    ghost use Rattle.std.specs.Prelude.{ℕ};
+    ghost use Rattle.ix_collect.specs.Collected.{job_count};
+    ghost use Rattle.ix_collect.specs.Collecting.{CanCollect};
+
+    ghost Value = { ℕ };
+
+    ghost view = { λ g. job_count g.collector };
+
+    ghost invariant = { λ g. CanCollect ⟦<Log as Sink>⟧.events ⟦<Log as Sink>⟧.failed g.collector g.logs };
+}
+
+impl<const N: usize> Gathering<N> {
+    // Nothing was received so far.
+    fn new(alloc: Global, logs: [Log; N]) -> Result<Gathering<N>, AllocError>
+        requires count { N < 1000 }
+        requires fresh { EachFresh ⟦<Log as Sink>⟧.events ⟦<Log as Sink>⟧.failed logs }
+    {
+        let collector = Collector::new(alloc, N as u32)?;
+        law::unused_has_collected_nothing::<Log>();
+        Ok(Gathering { collector, logs })
+    }
+
+    fn receive(&mut self, alloc: Global, sent: &Sent) -> Result<(), Fail> {
+        let item = item_of(alloc, sent)?;
+        self.collector.receive(alloc, item, &mut self.logs);
+        Ok(())
+    }
+
+    fn receive_all(&mut self, alloc: Global, items: &[Sent]) -> Result<(), Fail> {
+        for sent in items {
+            self.receive(alloc, sent)?;
+        }
+        Ok(())
+    }
+
+    // What three rounds over a lane give.
+    fn three_rounds(&mut self, alloc: Global) -> Result<[Received; 3], Fail> {
+        let (_sender, receiver) = lane_of(alloc, 2, &[Sent::Checked(0, 1), Sent::Last])?;
+        let mut lanes = [receiver];
+        Ok([
+            round(alloc, &mut self.collector, &mut lanes, &mut self.logs),
+            round(alloc, &mut self.collector, &mut lanes, &mut self.logs),
+            round(alloc, &mut self.collector, &mut lanes, &mut self.logs),
+        ])
+    }
+
+    // Drains a lane.
+    fn drain_one<R: Wait>(&mut self, rt: &R, alloc: Global) -> Result<(), Fail> {
+        let (mut sender, mut receiver) = lane_of(alloc, 1, &[Sent::Checked(0, 0)])?;
+        let Gathering { collector, logs } = self;
+        drain(rt, alloc, collector, &mut sender, &mut receiver, logs);
+        Ok(())
+    }
+
+    // Finishes two lanes.
+    fn finish_two<R: Wait>(&mut self, rt: &R, alloc: Global) -> Result<(), Fail> {
+        let (first_in, first_out) = lane_of(
+            alloc,
+            2,
+            &[Sent::Closed(0, 3, End::Done), Sent::Last],
+        )?;
+        let (second_in, second_out) = lane_of(alloc, 3, &[Sent::Checked(0, 2), Sent::Last])?;
+        let mut senders = [first_in, second_in];
+        let mut receivers = [first_out, second_out];
+        let Gathering { collector, logs } = self;
+        finish(rt, alloc, collector, &mut senders, &mut receivers, logs);
+        Ok(())
+    }
 }
 
 // Whether the deliveries come in the order of their numbers.
@@ -111,38 +171,33 @@ fn has_in_order(rt: &impl Abort, log: &Log, count: usize) {
 }
 
 // Every sink was closed, and the jobs ended so.
-fn has_ended(
+fn has_ended<const N: usize>(
     rt: &impl Abort,
     alloc: Global,
-    collector: &Collector,
+    gathering: &Gathering<N>,
     wanted: &[End],
-) -> Result<(), Fail>
-    requires { job_count collector.now ≤ 4 }
-{
+) -> Result<(), Fail> {
+    let collector = &gathering.collector;
     assert!(rt; collector.is_done());
-    let ends = collector.ends(Vec::with_capacity(alloc, 4)?);
+    let ends = collector.ends(Vec::with_capacity(alloc, N)?);
     assert!(rt; ends.as_slice() == wanted);
     Ok(())
 }
 
 // The collector isn't done before the last item of the four jobs.
-fn receive_four_jobs<S: Sink>(
+fn receive_four_jobs(
     rt: &impl Abort,
     alloc: Global,
-    collector: &mut Collector,
-    sinks: &mut [S],
-) -> Result<(), Fail>
-    requires jobs { job_count collector.old ≡ 4 }
-    requires sinks { CanCollect S.events S.failed collector.old sinks.old }
-{
+    gathering: &mut Gathering<4>,
+) -> Result<(), Fail> {
     let (before, last) = FOUR_JOBS.split_at(11);
-    receive_all(alloc, collector, sinks, before)?;
-    assert!(rt; !collector.is_done());
-    receive_all(alloc, collector, sinks, last)?;
+    gathering.receive_all(alloc, before)?;
+    assert!(rt; !gathering.collector.is_done());
+    gathering.receive_all(alloc, last)?;
     has_ended(
         rt,
         alloc,
-        collector,
+        gathering,
         &[End::Done, End::Write, End::Memory, End::Memory],
     )
 }
@@ -150,16 +205,15 @@ fn receive_four_jobs<S: Sink>(
 #[test]
 fn ends_of_four_jobs(rt: HostRuntime) -> Result<(), Fail> {
     let alloc = rt.alloc();
-    let mut logs = [
+    let logs = [
         Log::new(alloc, 9)?,
         Log::new(alloc, 1)?,
         Log::new(alloc, 9)?,
         Log::new(alloc, 9)?,
     ];
-    let mut collector = Collector::new(alloc, 4)?;
-    law::unused_has_collected_nothing::<Log>();
-    receive_four_jobs(&rt, alloc, &mut collector, &mut logs)?;
-    for (log, count) in logs.iter().zip([3, 1, 0, 0]) {
+    let mut gathering = Gathering::new(alloc, logs)?;
+    receive_four_jobs(&rt, alloc, &mut gathering)?;
+    for (log, count) in gathering.logs.iter().zip([3, 1, 0, 0]) {
         has_in_order(&rt, log, count);
     }
     Ok(())
@@ -176,22 +230,23 @@ const STRAYS: [[Sent; 2]; 6] = [
     [Sent::Checked(0, 1), Sent::Checked(1, 0)],
 ];
 
-// What a log was told so far: how many deliveries, and the close.
-fn told(log: &Log) -> (usize, Option<End>) {
-    (log.deliveries.len(), log.closed)
+// Whether a stray was noted, and what the only log was told so far: how many deliveries, and the close.
+fn noted_and_told(gathering: &Gathering<1>) -> (bool, (usize, Option<End>)) {
+    let log = &gathering.logs[0];
+    (
+        gathering.collector.has_stray(),
+        (log.deliveries.len(), log.closed),
+    )
 }
 
 // A collector for one job notes the second of these items, and not the first, and its sink is told no
 // more by it.
 fn notes_the_second(rt: &impl Abort, alloc: Global, items: &[Sent; 2]) -> Result<(), Fail> {
-    let mut logs = [Log::new(alloc, 9)?];
-    let mut collector = Collector::new(alloc, 1)?;
-    law::unused_has_collected_nothing::<Log>();
-    let (first, second) = items.split_at(1);
-    receive_all(alloc, &mut collector, &mut logs, first)?;
-    let before = (collector.has_stray(), told(&logs[0]));
-    receive_all(alloc, &mut collector, &mut logs, second)?;
-    let after = (collector.has_stray(), told(&logs[0]));
+    let mut gathering = Gathering::new(alloc, [Log::new(alloc, 9)?])?;
+    gathering.receive(alloc, &items[0])?;
+    let before = noted_and_told(&gathering);
+    gathering.receive(alloc, &items[1])?;
+    let after = noted_and_told(&gathering);
     assert_eq!(rt; (before.0, after), (false, (true, before.1)));
     Ok(())
 }
@@ -204,85 +259,25 @@ fn strays_are_noted(rt: HostRuntime) -> Result<(), Fail> {
     Ok(())
 }
 
-// What three rounds over a lane give.
-fn three_rounds<S: Sink>(
-    alloc: Global,
-    collector: &mut Collector,
-    sinks: &mut [S],
-) -> Result<[Received; 3], Fail>
-    requires { CanCollect S.events S.failed collector.old sinks.old }
-    ensures jobs { HasAsManyJobs collector.old collector.new }
-    ensures goes { CanCollect S.events S.failed collector.new sinks.new }
-{
-    let (_sender, receiver) = lane_of(alloc, 2, &[Sent::Checked(0, 1), Sent::Last])?;
-    let mut lanes = [receiver];
-    Ok([
-        round(alloc, collector, &mut lanes, sinks),
-        round(alloc, collector, &mut lanes, sinks),
-        round(alloc, collector, &mut lanes, sinks),
-    ])
-}
-
-// Drains a lane.
-fn drain_one<R: Wait, S: Sink>(
-    rt: &R,
-    alloc: Global,
-    collector: &mut Collector,
-    sinks: &mut [S],
-) -> Result<(), Fail>
-    requires { CanCollect S.events S.failed collector.old sinks.old }
-    ensures jobs { HasAsManyJobs collector.old collector.new }
-    ensures goes { CanCollect S.events S.failed collector.new sinks.new }
-{
-    let (mut sender, mut receiver) = lane_of(alloc, 1, &[Sent::Checked(0, 0)])?;
-    drain(rt, alloc, collector, &mut sender, &mut receiver, sinks);
-    Ok(())
-}
-
-// Finishes two lanes.
-fn finish_two<R: Wait, S: Sink>(
-    rt: &R,
-    alloc: Global,
-    collector: &mut Collector,
-    sinks: &mut [S],
-) -> Result<(), Fail>
-    requires { CanCollect S.events S.failed collector.old sinks.old }
-    ensures jobs { HasAsManyJobs collector.old collector.new }
-    ensures goes { CanCollect S.events S.failed collector.new sinks.new }
-{
-    let (first_in, first_out) = lane_of(alloc, 2, &[Sent::Closed(0, 3, End::Done), Sent::Last])?;
-    let (second_in, second_out) = lane_of(alloc, 3, &[Sent::Checked(0, 2), Sent::Last])?;
-    let mut senders = [first_in, second_in];
-    let mut receivers = [first_out, second_out];
-    finish(rt, alloc, collector, &mut senders, &mut receivers, sinks);
-    Ok(())
-}
-
 // One lane is read in rounds, one is drained, and two are finished.
-fn receive_lanes<R: Abort + Wait, S: Sink>(
+fn receive_lanes<R: Abort + Wait>(
     rt: &R,
     alloc: Global,
-    collector: &mut Collector,
-    sinks: &mut [S],
-) -> Result<(), Fail>
-    requires jobs { job_count collector.old ≡ 1 }
-    requires sinks { CanCollect S.events S.failed collector.old sinks.old }
-{
-    let rounds = three_rounds(alloc, collector, sinks)?;
+    gathering: &mut Gathering<1>,
+) -> Result<(), Fail> {
+    let rounds = gathering.three_rounds(alloc)?;
     assert!(rt; rounds.map(|round| (round.items, round.lasts)) == [(1, 0), (1, 1), (0, 0)]);
-    drain_one(rt, alloc, collector, sinks)?;
-    assert!(rt; !collector.is_done());
-    finish_two(rt, alloc, collector, sinks)?;
-    has_ended(rt, alloc, collector, &[End::Done])
+    gathering.drain_one(rt, alloc)?;
+    assert!(rt; !gathering.collector.is_done());
+    gathering.finish_two(rt, alloc)?;
+    has_ended(rt, alloc, gathering, &[End::Done])
 }
 
 #[test]
 fn lanes_into_one_sink(rt: HostRuntime) -> Result<(), Fail> {
     let alloc = rt.alloc();
-    let mut logs = [Log::new(alloc, 9)?];
-    let mut collector = Collector::new(alloc, 1)?;
-    law::unused_has_collected_nothing::<Log>();
-    receive_lanes(&rt, alloc, &mut collector, &mut logs)?;
-    has_in_order(&rt, &logs[0], 3);
+    let mut gathering = Gathering::new(alloc, [Log::new(alloc, 9)?])?;
+    receive_lanes(&rt, alloc, &mut gathering)?;
+    has_in_order(&rt, &gathering.logs[0], 3);
     Ok(())
 }

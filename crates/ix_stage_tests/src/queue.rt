@@ -21,6 +21,7 @@ use ix_stages::{
 use ix_store::Store;
 use ix_walk::{Job, Walk, WalkStop};
 use std::alloc::{AllocError, Global};
+use std::marker::Model;
 use std::process::Abort;
 use std::sync::Wait;
 use std::test::Fail;
@@ -36,6 +37,41 @@ struct Walks<'a> {
 
 impl Course for Walks<'_> {
     ghost plan = { λ w. course_of w.store.now w.jobs.now };
+}
+
+// One job of everything below the chain, over its store.
+#[derive(Drop)]
+struct Chain {
+    store: Store,
+    jobs: Vec<Job>,
+}
+
+impl Model for Chain {
+    ghost use Rattle.std.specs.Prelude.{ℕ, length};
+    ghost use Rattle.ix_stage_tests.specs.Walkers.{IsOneJob};
+
+    ghost Value = { ℕ };
+
+    ghost view = { λ c. length c.jobs.items };
+
+    ghost invariant = { λ c. IsOneJob c.jobs.items };
+}
+
+impl Chain {
+    fn new(alloc: Global) -> Result<Chain, Fail> {
+        let store = chain_of(alloc)?;
+        let jobs = jobs_of(alloc, OUTER, 1, 100)?;
+        Ok(Chain { store, jobs })
+    }
+
+    fn walks(&self) -> Walks<'_>
+        ensures { IsOneJob result.jobs.now }
+    {
+        Walks {
+            store: &self.store,
+            jobs: self.jobs.as_slice(),
+        }
+    }
 }
 
 // The queue of these walks.
@@ -109,27 +145,6 @@ fn is_close(item: &Item) -> bool
     matches!(item, Item::Close { .. })
 }
 
-// Puts what is left of the walk, and gives the close.
-fn put_visits<R: Wait>(
-    rt: &R,
-    queue: &VisitQueue,
-    seat: &mut JobSeat,
-    walk: &mut Walk<'_>,
-) -> Result<Item, AllocError>
-    requires { CanGoOn queue.now seat.old walk.old }
-    ensures table { IsSameTable seat.old.table seat.new.table }
-    ensures close { IfOk result (CanClose queue.now seat.new) }
-{
-    for _ in rt.forever() {
-        let item = next_item(seat, walk)?;
-        if is_close(&item) {
-            return Ok(item);
-        }
-        queue.put(rt, seat, item);
-    }
-    unreachable!()
-}
-
 // Puts the visits of the seat's job, and gives its close.
 fn put_job<R: Wait>(
     rt: &R,
@@ -138,28 +153,19 @@ fn put_job<R: Wait>(
     queue: &VisitQueue,
     seat: &mut JobSeat,
 ) -> Result<Item, AllocError>
-    requires seat { CanWalk queue.now (course_of walks.now.store.now walks.now.jobs.now) seat.old }
+    requires { CanWalk queue.now (course_of walks.now.store.now walks.now.jobs.now) seat.old }
     ensures table { IsSameTable seat.old.table seat.new.table }
     ensures close { IfOk result (CanClose queue.now seat.new) }
 {
     let mut walk = walk_of(alloc, walks, seat)?;
-    put_visits(rt, queue, seat, &mut walk)
-}
-
-// Puts them and the close. The seat stays open where memory is wanting.
-fn put_walk<R: Wait>(
-    rt: &R,
-    alloc: Global,
-    walks: &Walks<'_>,
-    queue: &VisitQueue,
-    seat: &mut JobSeat,
-)
-    requires seat { CanWalk queue.now (course_of walks.now.store.now walks.now.jobs.now) seat.old }
-    ensures { IsSameTable seat.old.table seat.new.table }
-{
-    if let Ok(close) = put_job(rt, alloc, walks, queue, seat) {
-        queue.put(rt, seat, close);
+    for _ in rt.forever() {
+        let item = next_item(seat, &mut walk)?;
+        if is_close(&item) {
+            return Ok(item);
+        }
+        queue.put(rt, seat, item);
     }
+    unreachable!()
 }
 
 // What a lane gives, without what a visit holds.
@@ -219,31 +225,57 @@ fn brief_of(item: &Item) -> Brief {
     }
 }
 
-// Takes the item at the front, where there is one.
-fn try_take<R: Wait>(rt: &R, queue: &VisitQueue, taker: &mut TakeSeat) -> Option<Brief>
-    requires { IsTaker queue.now taker.old }
-    ensures { IsSameTable taker.old.table taker.new.table }
-{
-    queue.try_take(rt, taker).as_ref().map(brief_of)
+// A queue, and a seat of it that takes.
+#[derive(Drop)]
+struct QueueOut<'a> {
+    queue: &'a VisitQueue,
+    seat: TakeSeat,
 }
 
-// A walker: it puts the walk of its seat's job.
-fn walker<R: Wait>(
-    rt: &R,
-    alloc: Global,
-    walks: &Walks<'_>,
-    queue: &VisitQueue,
-    seat: JobSeat,
-) -> JobSeat
-    requires { CanWalk queue.now (course_of walks.now.store.now walks.now.jobs.now) seat }
-    ensures { IsWalker queue.now result }
-{
-    let mut seat = seat;
-    put_walk(rt, alloc, walks, queue, &mut seat);
-    seat
+impl<'a> Model for QueueOut<'a> {
+    ghost use Rattle.ix_handover.specs.Seats.{SeatView};
+    ghost use Rattle.ix_stage_tests.specs.Walkers.{IsTaker};
+
+    ghost Value = { SeatView };
+
+    ghost view = { λ o. o.seat };
+
+    ghost invariant = { λ o. IsTaker o.queue.now o.seat };
 }
 
-// A walker for each seat, in a thread of its own.
+impl QueueOut<'_> {
+    // Takes the item at the front, where there is one.
+    fn try_take<R: Wait>(&mut self, rt: &R) -> Option<Brief> {
+        self.queue
+            .try_take(rt, &mut self.seat)
+            .as_ref()
+            .map(brief_of)
+    }
+
+    // Takes until the queue is empty, eight items at most, and counts them.
+    fn count_left<R: Wait>(&mut self, rt: &R) -> u32 {
+        for count in 0..8 {
+            if self.try_take(rt).is_none() {
+                return count;
+            }
+        }
+        8
+    }
+}
+
+// The queue, and the last of these seats.
+fn out_of<'a>(queue: &'a VisitQueue, takers: Vec<TakeSeat>) -> Result<QueueOut<'a>, Fail>
+    requires { All (IsTaker queue.now) takers.items }
+{
+    let mut takers = takers;
+    match takers.pop() {
+        Some(seat) => Ok(QueueOut { queue, seat }),
+        None => Err("a taker was wanted".into()),
+    }
+}
+
+// A walker for each seat, in a thread of its own: it puts the visits of the seat's job, and the close.
+// The seat stays open where memory is wanting.
 fn walk_all<R: Threads + Wait + Sync>(
     rt: &R,
     alloc: Global,
@@ -260,7 +292,13 @@ fn walk_all<R: Threads + Wait + Sync>(
         &|seat: JobSeat| -> JobSeat
             requires { CanWalk queue.now (course_of walks.now.store.now walks.now.jobs.now) seat }
             ensures { IsWalker queue.entry.now result }
-        { walker(rt, alloc, walks, queue, seat) },
+        {
+            let mut seat = seat;
+            if let Ok(close) = put_job(rt, alloc, walks, queue, &mut seat) {
+                queue.put(rt, &mut seat, close);
+            }
+            seat
+        },
     )
 }
 
@@ -419,31 +457,16 @@ fn close_at_full<R: Wait>(
     rt: &R,
     queue: &VisitQueue,
     seat: &mut JobSeat,
-    taker: &mut TakeSeat,
+    out: &mut QueueOut<'_>,
     close: Item,
 ) -> bool
-    requires seat { CanClose queue.now seat.old close }
-    requires taker { taker.old.table ≡ table_of queue.now }
-    ensures { IsSameTable taker.old.table taker.new.table }
+    requires { CanClose queue.now seat.old close }
 {
     let Err(back) = queue.try_put(rt, seat, close) else {
         return false;
     };
-    let is_first = matches!(try_take(rt, queue, taker), Some(Brief::Visit(_, 0)));
+    let is_first = matches!(out.try_take(rt), Some(Brief::Visit(_, 0)));
     is_first && queue.try_put(rt, seat, back).is_ok()
-}
-
-// Takes until the queue is empty, eight items at most, and counts them.
-fn count_left<R: Wait>(rt: &R, queue: &VisitQueue, taker: &mut TakeSeat) -> u32
-    requires { taker.old.table ≡ table_of queue.now }
-    ensures { IsSameTable taker.old.table taker.new.table }
-{
-    for count in 0..8 {
-        if queue.try_take(rt, taker).is_none() {
-            return count;
-        }
-    }
-    8
 }
 
 // Whether the numbers of each of three jobs rise.
@@ -502,17 +525,17 @@ fn verifies_chain<R: Abort + Wait>(
 }
 
 // The chain goes through a queue, and from there into a lane, and nothing is left in the queue.
-fn puts_chain<R: Abort + Wait>(rt: &R, alloc: Global, walks: &Walks<'_>) -> Result<(), AllocError>
-    requires { IsOneJob walks.now.jobs.now }
-{
+fn puts_chain<R: Abort + Wait>(rt: &R, alloc: Global, chain: &Chain) -> Result<(), AllocError> {
+    let walks = chain.walks();
     law::course_of_jobs();
     let QueueParts {
         queue,
         jobs: mut seats,
         mut takers,
         mut stop,
-    } = queue_of(alloc, walks, 8, 1)?;
-    put_walk(rt, alloc, walks, &queue, &mut seats[0]);
+    } = queue_of(alloc, &walks, 8, 1)?;
+    let close = put_job(rt, alloc, &walks, &queue, &mut seats[0])?;
+    queue.put(rt, &mut seats[0], close);
     assert!(rt; seats[0].closed() && seats[0].next() == 4);
     assert!(rt; queue.try_stop(rt, &mut stop));
     verifies_chain(rt, alloc, walks.store, &queue, &mut takers[0])?;
@@ -524,10 +547,7 @@ fn puts_chain<R: Abort + Wait>(rt: &R, alloc: Global, walks: &Walks<'_>) -> Resu
 #[test]
 fn chain_through_queue_and_lane(rt: HostRuntime) -> Result<(), Fail> {
     let alloc = rt.alloc();
-    let store = chain_of(alloc)?;
-    let jobs = jobs_of(alloc, OUTER, 1, 100)?;
-    let (store, jobs) = (&store, jobs.as_slice());
-    puts_chain(&rt, alloc, &Walks { store, jobs })?;
+    puts_chain(&rt, alloc, &Chain::new(alloc)?)?;
     Ok(())
 }
 
@@ -614,19 +634,18 @@ fn fits_one<R: Wait>(
     rt: &R,
     queue: &VisitQueue,
     seat: &mut JobSeat,
-    taker: &mut TakeSeat,
+    out: &mut QueueOut<'_>,
     walk: &mut Walk<'_>,
 ) -> Result<bool, AllocError>
-    requires seat { CanGoOn queue.now seat.old walk.old }
-    requires taker { IsTaker queue.now taker.old }
+    requires { CanGoOn queue.now seat.old walk.old }
 {
     let first = try_next(rt, queue, seat, walk)?;
     if first.is_some() || seat.closed() {
         return Ok(false);
     }
     let second = try_next(rt, queue, seat, walk)?;
-    let taken = try_take(rt, queue, taker);
-    let is_empty = try_take(rt, queue, taker).is_none();
+    let taken = out.try_take(rt);
+    let is_empty = out.try_take(rt).is_none();
     Ok(
         is_empty
             && matches!(taken, Some(Brief::Visit(_, 0)))
@@ -641,30 +660,25 @@ fn has_room_for_one<R: Wait>(
     walks: &Walks<'_>,
     queue: &VisitQueue,
     seat: &mut JobSeat,
-    taker: &mut TakeSeat,
+    out: &mut QueueOut<'_>,
 ) -> Result<bool, AllocError>
-    requires seat { CanWalk queue.now (course_of walks.now.store.now walks.now.jobs.now) seat.old }
-    requires taker { IsTaker queue.now taker.old }
+    requires { CanWalk queue.now (course_of walks.now.store.now walks.now.jobs.now) seat.old }
 {
     let mut walk = walk_of(alloc, walks, seat)?;
-    fits_one(rt, queue, seat, taker, &mut walk)
+    fits_one(rt, queue, seat, out, &mut walk)
 }
 
 // A queue of one job has room for one.
-fn makes_room_for_one<R: Abort + Wait>(
-    rt: &R,
-    alloc: Global,
-    walks: &Walks<'_>,
-) -> Result<(), AllocError>
-    requires { IsOneJob walks.now.jobs.now }
-{
+fn makes_room_for_one<R: Abort + Wait>(rt: &R, alloc: Global, chain: &Chain) -> Result<(), Fail> {
+    let walks = chain.walks();
     let QueueParts {
         queue,
         jobs: mut seats,
-        mut takers,
+        takers,
         ..
-    } = queue_of(alloc, walks, 1, 1)?;
-    let has_room = has_room_for_one(rt, alloc, walks, &queue, &mut seats[0], &mut takers[0])?;
+    } = queue_of(alloc, &walks, 1, 1)?;
+    let mut out = out_of(&queue, takers)?;
+    let has_room = has_room_for_one(rt, alloc, &walks, &queue, &mut seats[0], &mut out)?;
     assert!(rt; has_room);
     Ok(())
 }
@@ -673,42 +687,37 @@ fn makes_room_for_one<R: Abort + Wait>(
 #[test]
 fn queue(rt: HostRuntime) -> Result<(), Fail> {
     let alloc = rt.alloc();
-    let store = chain_of(alloc)?;
-    let jobs = jobs_of(alloc, OUTER, 1, 100)?;
-    let (store, jobs) = (&store, jobs.as_slice());
-    makes_room_for_one(&rt, alloc, &Walks { store, jobs })?;
-    Ok(())
+    makes_room_for_one(&rt, alloc, &Chain::new(alloc)?)
 }
 
 // Four items are left in the queue, and a Stop finds room once they are taken.
 fn stops_once_empty<R: Abort + Wait>(
     rt: &R,
     queue: &VisitQueue,
-    taker: &mut TakeSeat,
+    out: &mut QueueOut<'_>,
     stop: &mut StopSeat,
 )
-    requires taker { IsTaker queue.now taker.old }
-    requires stop { stop.old.table ≡ table_of queue.now }
+    requires { stop.old.table ≡ table_of queue.now }
 {
-    assert_eq!(rt; count_left(rt, queue, taker), 4);
+    assert_eq!(rt; out.count_left(rt), 4);
     assert!(rt; queue.try_stop(rt, stop), "no Stop in an empty queue");
-    assert!(rt; matches!(try_take(rt, queue, taker), Some(Brief::Stop)));
+    assert!(rt; matches!(out.try_take(rt), Some(Brief::Stop)));
 }
 
 // The visits of one job fill the queue.
-fn fills_queue<R: Abort + Wait>(rt: &R, alloc: Global, walks: &Walks<'_>) -> Result<(), AllocError>
-    requires { IsOneJob walks.now.jobs.now }
-{
+fn fills_queue<R: Abort + Wait>(rt: &R, alloc: Global, chain: &Chain) -> Result<(), Fail> {
+    let walks = chain.walks();
     let QueueParts {
         queue,
         jobs: mut seats,
-        mut takers,
+        takers,
         mut stop,
-    } = queue_of(alloc, walks, 4, 1)?;
-    let close = put_job(rt, alloc, walks, &queue, &mut seats[0])?;
+    } = queue_of(alloc, &walks, 4, 1)?;
+    let mut out = out_of(&queue, takers)?;
+    let close = put_job(rt, alloc, &walks, &queue, &mut seats[0])?;
     assert!(rt; !queue.try_stop(rt, &mut stop), "a Stop in a full queue");
-    assert!(rt; close_at_full(rt, &queue, &mut seats[0], &mut takers[0], close));
-    stops_once_empty(rt, &queue, &mut takers[0], &mut stop);
+    assert!(rt; close_at_full(rt, &queue, &mut seats[0], &mut out, close));
+    stops_once_empty(rt, &queue, &mut out, &mut stop);
     Ok(())
 }
 
@@ -716,9 +725,5 @@ fn fills_queue<R: Abort + Wait>(rt: &R, alloc: Global, walks: &Walks<'_>) -> Res
 #[test]
 fn close_and_stop_at_a_full_queue(rt: HostRuntime) -> Result<(), Fail> {
     let alloc = rt.alloc();
-    let store = chain_of(alloc)?;
-    let jobs = jobs_of(alloc, OUTER, 1, 100)?;
-    let (store, jobs) = (&store, jobs.as_slice());
-    fills_queue(&rt, alloc, &Walks { store, jobs })?;
-    Ok(())
+    fills_queue(&rt, alloc, &Chain::new(alloc)?)
 }
