@@ -1,7 +1,7 @@
 #!/usr/bin/env bash
-# Tests ./ix_export, .ci/build, .ci/dist and .ci/compare in a small tree with a toolchain that only pretends: which program is
-# taken, when one is built, what is refused, and that no failure costs the program that is there. It proves nothing, and
-# takes some seconds. Ends with status 1 at the first that is wrong.
+# Tests ./ix_export, .ci/build, .ci/dist, .ci/compare and .ci/passed in a small tree with a toolchain that only pretends: which
+# program is taken, when one is built, what is refused, that no failure costs the program that is there, and what the gate notes.
+# It proves nothing, and takes some seconds. Ends with status 1 at the first that is wrong.
 set -Eeuo pipefail
 export LC_ALL=C
 
@@ -416,13 +416,20 @@ title='there is no program in dist/'
 rm "dist/$name"
 compared 0 'no program to compare'
 
+# dist_refused: the gate hasn't built what is to go into dist/, and one line says what to do.
+dist_refused() {
+  status=0
+  here .ci/dist >"$scratch/stdout" 2>"$scratch/stderr" || status=$?
+  answers 1 ''
+  expect_lines 'standard error' ".ci/dist: build/ hasn't the program that the gate built of these sources: run .ci/run first" \
+    "$scratch/stderr"
+}
+
 tree 'dist/ is made of the gate'"'"'s own build alone'
 rm -r dist
+dist_refused
 run --prove
-status=0
-here .ci/dist >"$scratch/stdout" 2>"$scratch/stderr" || status=$?
-answers 1 ''
-says 'run .ci/run first'
+dist_refused
 cp build/SHA256SUMS build/gate
 here .ci/dist >"$scratch/stdout" 2>"$scratch/stderr"
 expect_folder dist KIT SHA256SUMS "$name" sources
@@ -431,5 +438,35 @@ rm -r build
 run a
 answers 0 'built: a'
 silent
+
+# passed TREE: what the gate has noted of the commit, the files, the kit and the time.
+passed() {
+  here .ci/passed end
+  expect_lines 'note of the gate' "commit $(git rev-parse HEAD)
+tree $1
+kit $kit
+time a time" <(sed 's/^time [0-9-]*T[0-9:]*Z$/time a time/' build/passed)
+}
+
+tree 'the gate notes which commit it has passed'
+mkdir build
+echo build/ >.git/info/exclude
+git add . && git -c user.name=a -c user.email=a commit -q -m a
+here .ci/passed begin
+passed clean
+title='a file was changed while the gate ran'
+printf x >>crates/ix_low/src/lib.rt
+passed changed
+title='a file was changed before it'
+here .ci/passed begin
+[ ! -e build/passed ] || fail 'note, which is of an earlier run' /dev/null build/passed
+passed changed
+title='another commit came while it ran'
+git -c user.name=a -c user.email=a commit -q -a -m b
+before=$(git rev-parse HEAD)
+here .ci/passed begin
+git -c user.name=a -c user.email=a commit -q --allow-empty -m c
+here .ci/passed end
+grep -q -e "^commit $before$" build/passed && grep -q '^tree changed$' build/passed || fail 'note' /dev/null build/passed
 
 echo "tests/door.sh: $cases cases passed"
