@@ -16,7 +16,7 @@
  *  - malloc, realloc and free are those of one allocator, which aligns a block to each power of two up to 16
  *    that divides its size. No call comes from a signal handler, nor from a forked child of a process with
  *    threads.
- *  - A thread that exports has a stack of 1 MiB. */
+ *  - A thread that calls has a stack of IX_STACK bytes (1 MiB). */
 #ifndef IX_EXPORT_H
 #define IX_EXPORT_H
 
@@ -35,6 +35,9 @@ typedef struct ix_handle {
 } ix_handle;
 
 #define IX_EMPTY {false, NULL}
+
+/* How much stack a thread needs, in bytes. */
+#define IX_STACK (1 << 20)
 
 /* Statuses. */
 enum {

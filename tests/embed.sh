@@ -1,12 +1,13 @@
 #!/usr/bin/env bash
-# Tests the library for C: its header against its source; calls with answers from the formats, sixty-four threads over one
-# store, and each request for memory refused in turn, with nothing left behind; the worked examples of jobs; and the examples
-# in C, Rust and Python, where their compilers are, and the program of docs/EMBEDDING.md over an installed library. Ends with
-# status 1 at the first that is wrong.
+# Tests the library for C: its header against its source; calls with answers from the formats, what nests as deep as it may on
+# a small stack, sixty-four threads over one store, and each request for memory refused in turn, with nothing left behind; the
+# worked examples of jobs; and the examples in C, Rust and Python, where their compilers are, and the program of
+# docs/EMBEDDING.md over an installed library. Ends with status 1 at the first that is wrong.
 #
 # usage: tests/embed.sh [--only PART] [LIBRARY.a | --of-gate]
 #   a library that is built, or else .ci/library makes it, in the gate's way or its own
-#   PART is calls, threads, memory, cases, c, python, rust or installed; with it the status is 2 where the part couldn't be run
+#   PART is calls, threads, memory, cases, c, python, rust or installed, or stack, which prints how much stack the calls take
+#   whose input may nest; with a PART the status is 2 where it couldn't be run
 set -Eeuo pipefail
 export LC_ALL=C PYTHONDONTWRITEBYTECODE=1
 
@@ -85,6 +86,13 @@ run_calls() {
   ran="$ran, calls${told:+, $told}"
 }
 
+# Not under valgrind, which doesn't leave stacks as they were painted.
+run_stack() {
+  build "$top/tests/embed/calls.c" calls -Wl,--wrap=malloc,--wrap=realloc,--wrap=free
+  ./calls stack || fail 'calls stack'
+  ran="$ran, stack"
+}
+
 run_c() {
   build "$top/examples/c/export.c" export
   mkdir out
@@ -100,13 +108,20 @@ run_cases() {
   ran="$ran, $told"
 }
 
+# The example in Python, over a job file and its report. Each archive's line goes into `sums`.
+run_python_on() {
+  python3 "$top/examples/python/export.py" ./libix_export.so "$top/examples/library.car" "$1" >told || fail 'the example in Python'
+  grep -v '^  archive ' told | cmp - "$2" || fail "the report of the example in Python, over $1"
+  sed -n 's/^  archive //p' told | sort >sums
+}
+
 run_python() {
   share
-  python3 "$top/examples/python/export.py" ./libix_export.so "$top/examples/library.car" "$top/examples/library.jobs" >told ||
-    fail 'the example in Python'
-  grep -v '^  archive ' told >report
-  cmp report report.wanted || fail 'the report of the example in Python'
-  sed -n 's/^  archive //p' told | sort >sums
+  # A job may be called like the line with the sums.
+  sed 's/^front /total /' "$top/examples/library.jobs" >total.jobs
+  sed 's/^front /total /' report.wanted >total.wanted
+  run_python_on total.jobs total.wanted
+  run_python_on "$top/examples/library.jobs" report.wanted
   sha256sum "$top"/examples/expected/*.car | cut -d' ' -f1 | sort | cmp - sums || fail 'the archives of the example in Python'
   ran="$ran, in Python"
 }
@@ -159,7 +174,7 @@ ran=
 if [ -n "$only" ]; then
   case $only in
     calls | threads | memory) run_calls "$only" ;;
-    cases | c | python | rust | installed) "run_$only" ;;
+    stack | cases | c | python | rust | installed) "run_$only" ;;
     *) exit 2 ;;
   esac
 else

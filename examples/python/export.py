@@ -75,7 +75,8 @@ def main(path, car, jobs):
             continue
         job = library.job(line)
         out = library.export(store, job)
-        print(library.report(out).decode().split("total ")[0], end="")
+        # The last line has the sums; a job may be called "total" too.
+        print(*library.report(out).decode().splitlines()[:-1], sep="\n")
         print("  archive", hashlib.sha256(library.archive(out)).hexdigest())
         library.free(job, out)
     library.free(store)

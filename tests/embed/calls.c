@@ -1,5 +1,6 @@
-/* The calls of the library, with answers from the formats; sixty-four threads over one store; and each request for memory
- * refused in turn. The linker gives the library the allocator that is below (--wrap), which counts what is held. */
+/* The calls of the library, with answers from the formats; what nests as deep as it may, on a small stack; sixty-four threads
+ * over one store; and each request for memory refused in turn. The linker gives the library the allocator that is below
+ * (--wrap), which counts what is held. */
 #include <ix_export.h>
 #include <pthread.h>
 #include <stdatomic.h>
@@ -276,6 +277,7 @@ static void leaves_what_it_does_not_fill(void) {
   EXPECT(ix_store_share(&job, &text) == IX_HANDLE && ix_store_share(&empty, &text) == IX_HANDLE);
   EXPECT_PART(&text, IX_TEXT, "a1612ea0");
   EXPECT(ix_export(&store, &job, &out) == IX_DONE);
+  EXPECT_LEFT(IX_HANDLE, ix_fault_line(&text, &it.start, &it.length));
   expect_no_result(&empty), expect_no_result(&store), expect_no_result(&job), expect_no_result(&text);
   expect_no_text(&empty), expect_no_text(&store), expect_no_text(&job), expect_no_text(&out);
   EXPECT_LEFT(IX_RANGE, ix_result_skip(&out, 1, &it.skip, &it.start, &it.length));
@@ -389,6 +391,152 @@ static ix_handle job_of(const wanted *it) {
   return job;
 }
 
+/* What nests as deep as it may: 512 lists and maps in a block, in the header of a file, in a selector's block and in JSON, and
+ * 128 selectors, of which each but the matcher inside takes two maps. */
+enum { LEVELS = 512, SELECTORS = 128 };
+
+#define FIELD "\xa1\x61\x66\xa1\x62\x66>\xa1\x61x"
+#define FIELD_HEX "a16166a162663ea16178"
+#define FIELD_JSON "{\"f\":{\"f>\":{\"x\":"
+
+/* 512 lists in one another round a link to abc. */
+#define DEEP_CID \
+  "\x01\x71\x12\x20\xc8\xfc\x9d\x91\x2a\x03\x64\xdd\xa3\xb3\x07\x49\xe6\x0c\xb8\x6d\x57\xdc\x04\x67\x3d\x32\x17\xc0" \
+  "\x50\x38\xc2\x0a\xc8\xf5\x72\x7d"
+
+typedef struct text {
+  char bytes[8192];
+  size_t length;
+} text;
+
+static void add(text *it, const char *bytes, size_t length) {
+  EXPECT(it->length + length <= sizeof it->bytes);
+  memcpy(it->bytes + it->length, bytes, length);
+  it->length += length;
+}
+
+/* Adds so many of one text, what is inside, and as many of another. */
+static void add_nested(text *it, unsigned count, const char *open, const char *inside, size_t length, const char *close) {
+  for (unsigned i = 0; i < count; i++) add(it, open, strlen(open));
+  add(it, inside, length);
+  for (unsigned i = 0; i < count; i++) add(it, close, strlen(close));
+}
+
+#define ADD_NESTED(it, count, open, inside, close) add_nested(it, count, open, inside, sizeof(inside) - 1, close)
+#define TEXT(it) bytes((it).bytes), (it).length
+
+static void does_nothing(void) {}
+
+/* A file of a header with a key that says nothing, under which so many lists and maps nest, the header's map included. */
+static uint32_t read_header(ix_handle *store, unsigned levels) {
+  static text file;
+  static const char ends[] = "\x65roots\x80\x67version\x01";
+  size_t length = 3 + (levels - 1) + sizeof ends - 1;
+  file.length = 0;
+  add(&file, (char[]){(char)(length % 128 + 128), (char)(length / 128)}, 2), add(&file, "\xa3\x61x", 3);
+  ADD_NESTED(&file, levels - 2, "\x81", "\x80", ""), add(&file, ends, sizeof ends - 1);
+  return ix_store_read_car(store, TEXT(file));
+}
+
+static void reads_a_deep_header(void) {
+  ix_handle store = IX_EMPTY;
+  EXPECT(read_header(&store, LEVELS) == IX_DONE && read_header(&store, LEVELS + 1) == IX_REFUSED);
+  ix_free(&store);
+}
+
+static void makes_a_deep_job(void) {
+  static text deep, lists, more;
+  ix_handle job = IX_EMPTY;
+  deep.length = lists.length = more.length = 0;
+  ADD_NESTED(&deep, SELECTORS - 1, FIELD, MATCHER, "");
+  ADD_NESTED(&lists, LEVELS - 1, "\x81", "\x80", ""), ADD_NESTED(&more, LEVELS, "\x81", "\x80", "");
+  EXPECT(ix_job_new(&job, BYTES(ABC_CID), TEXT(deep), 1) == IX_DONE);
+  expect_no_job(&job, ABC_CID, 36, lists.bytes, lists.length, 1, "selector: no map where a selector should stand");
+  expect_no_job(&job, ABC_CID, 36, more.bytes, more.length, 1, "selector: nested too deep at 512");
+  ix_free(&job);
+}
+
+static void reads_a_deep_line(void) {
+  static const char front[] = "a bafkreif2pall7dybz7vecqka3zo24irdwabwdi4wc55jznaq75q7eaavvu 1 ";
+  static text line;
+  ix_handle job = IX_EMPTY;
+  line.length = 0, add(&line, front, sizeof front - 1), ADD_NESTED(&line, SELECTORS - 1, FIELD_HEX, "a1612ea0", "");
+  EXPECT(ix_job_from_line(&job, TEXT(line)) == IX_DONE);
+  line.length = sizeof front - 1, ADD_NESTED(&line, LEVELS - 1, "81", "80", "");
+  EXPECT(ix_job_from_line(&job, TEXT(line)) == IX_REFUSED);
+  EXPECT_PART(&job, IX_TEXT, "jobs: selector at line 1");
+  ix_free(&job);
+}
+
+static void reads_deep_json(void) {
+  static text deep, wanted;
+  ix_handle handle = IX_EMPTY;
+  const uint8_t *hex = NULL;
+  size_t length = 0;
+  deep.length = wanted.length = 0;
+  ADD_NESTED(&deep, SELECTORS - 1, FIELD_JSON, "{\".\":{}}", "}}}"), ADD_NESTED(&wanted, SELECTORS - 1, FIELD_HEX, "a1612ea0", "");
+  EXPECT(ix_selector_from_json(&handle, TEXT(deep)) == IX_DONE && ix_bytes(&handle, IX_TEXT, &hex, &length) == IX_DONE);
+  EXPECT(length == wanted.length && !memcmp(hex, wanted.bytes, length));
+  deep.length = 0, ADD_NESTED(&deep, LEVELS, "[", "", "]");
+  EXPECT(ix_selector_from_json(&handle, TEXT(deep)) == IX_REFUSED);
+  EXPECT_NAMED(ix_fault_line, &handle, "selector: no map where a selector should stand");
+  ix_free(&handle);
+}
+
+static void exports_a_deep_block(void) {
+  static text deep;
+  ix_handle store = store_of_abc(), job = IX_EMPTY, out = IX_EMPTY;
+  ix_counts counts;
+  deep.length = 0, ADD_NESTED(&deep, LEVELS, "\x81", LINK_TO(ABC_CID), "");
+  EXPECT(ix_store_add(&store, BYTES(DEEP_CID), TEXT(deep)) == IX_DONE && ix_store_freeze(&store) == IX_DONE);
+  EXPECT(ix_job_new(&job, BYTES(DEEP_CID), BYTES(ALL), 9) == IX_DONE && ix_export(&store, &job, &out) == IX_DONE);
+  EXPECT(ix_result_counts(&out, &counts) == IX_DONE && counts.end == IX_END_DONE && counts.sections == 2);
+  ix_free(&store), ix_free(&job), ix_free(&out);
+}
+
+static const struct deep {
+  const char *call;
+  void (*run)(void);
+} deep[] = {{"nothing", does_nothing},
+            {"ix_store_read_car", reads_a_deep_header},
+            {"ix_job_new", makes_a_deep_job},
+            {"ix_job_from_line", reads_a_deep_line},
+            {"ix_selector_from_json", reads_deep_json},
+            {"ix_export", exports_a_deep_block}};
+
+enum { DEEP = sizeof deep / sizeof *deep };
+
+static void *run_deep(void *given) {
+  ((const struct deep *)given)->run();
+  return NULL;
+}
+
+/* Each on a thread with the stack that the header asks for. */
+static void nests_on_a_small_stack(void) {
+  pthread_t thread;
+  pthread_attr_t small;
+  EXPECT(!pthread_attr_init(&small) && !pthread_attr_setstacksize(&small, IX_STACK));
+  for (unsigned i = 0; i < DEEP; i++)
+    EXPECT(!pthread_create(&thread, &small, run_deep, (void *)&deep[i]) && !pthread_join(thread, NULL));
+  pthread_attr_destroy(&small);
+}
+
+/* Prints how much of its stack each takes, in KiB: what isn't as it was painted. */
+static void measures_stacks(void) {
+  static _Alignas(65536) uint8_t stack[4 << 20];
+  pthread_t thread;
+  pthread_attr_t painted;
+  EXPECT(!pthread_attr_init(&painted) && !pthread_attr_setstack(&painted, stack, sizeof stack));
+  for (unsigned i = 0; i < DEEP; i++) {
+    size_t left = 0;
+    memset(stack, 0xa5, sizeof stack);
+    EXPECT(!pthread_create(&thread, &painted, run_deep, (void *)&deep[i]) && !pthread_join(thread, NULL));
+    while (left < sizeof stack && stack[left] == 0xa5) left++;
+    printf("%-22s %4zu KiB\n", deep[i].call, (sizeof stack - left + 1023) / 1024);
+  }
+  pthread_attr_destroy(&painted);
+}
+
 /* Each job on one thread. */
 static void exports_each_job(void) {
   ix_handle store = store_of_four();
@@ -404,7 +552,7 @@ static void exports_each_job(void) {
 }
 
 /* The same by sixty-four threads at once over one store whose blocks nobody has judged, each its own job again and again, with
- * handles of its own and a stack of 1 MiB. */
+ * handles of its own and the stack that the header asks for. */
 static pthread_barrier_t all_there;
 
 typedef struct worker {
@@ -430,7 +578,7 @@ static void *export_often(void *given) {
 static void shares_a_store(void) {
   static worker workers[JOBS];
   pthread_attr_t small;
-  EXPECT(!pthread_attr_init(&small) && !pthread_attr_setstacksize(&small, 1 << 20));
+  EXPECT(!pthread_attr_init(&small) && !pthread_attr_setstacksize(&small, IX_STACK));
   EXPECT(!pthread_barrier_init(&all_there, NULL, JOBS));
   ix_handle store = store_of_four();
   for (unsigned i = 0; i < JOBS; i++) {
@@ -516,7 +664,7 @@ static unsigned long refuses_each_request(void) {
   return told;
 }
 
-/* A word names the one part that is run: calls, threads or memory. */
+/* A word names the one part that is run: calls, threads or memory; with `stack` it measures stacks alone. */
 int main(int count, char **words) {
   const char *only = count > 1 ? words[1] : NULL;
   if (!only || !strcmp(only, "calls")) {
@@ -527,6 +675,7 @@ int main(int count, char **words) {
     tells_a_skip();
     tells_refusals();
     leaves_what_it_does_not_fill();
+    nests_on_a_small_stack();
     exports_each_job();
     EXPECT(blocks_held == 0);
   }
@@ -539,5 +688,6 @@ int main(int count, char **words) {
     EXPECT(told > 80);
     printf("%lu refused requests\n", told);
   }
+  if (only && !strcmp(only, "stack")) measures_stacks();
   return 0;
 }

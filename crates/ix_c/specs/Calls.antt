@@ -3,7 +3,7 @@ use Rattle.std.specs.Prelude.{◌≡◌, ℕ, List, [], length, Option, Some, No
 use Rattle.ix_embedding.specs.declared.failure.Failure.{Failure}
 use Rattle.ix_embedding.specs.declared.held.Held.{Held}
 use Rattle.ix_embedding.specs.declared.held.Part.{Part}
-use Rattle.ix_embedding.specs.declared.held.Part.TheVariants.{Archive, Report, Text}
+use Rattle.ix_embedding.specs.declared.held.Part.TheVariants.{Archive, Report}
 use Rattle.ix_embedding.specs.Failures.{IsStoreFailure, IsJobFailure, IsPartsFailure, IsSelectorFailure}
 use Rattle.ix_c.specs.declared.handle.Handle.{Handle}
 use Rattle.ix_c.specs.declared.results.Counts.{Counts}
@@ -32,6 +32,7 @@ use Rattle.ix_c.specs.Results.{
   export_in,
   skip_in,
   bytes_in,
+  line_in,
   of_found,
   IsTold,
   count_copied,
@@ -106,7 +107,7 @@ TellsEnd = Tells (λ content. of_found end_of (export_in content))
 abbrev pub TellsCounts : Handle → Handle → Counts → Counts → Status → Type 0
 TellsCounts = Tells (λ content. of_found counts_of (export_in content))
 
--- how long a part is: the archive, the report, the text or line, and the part with a number
+-- how long a part is: the archive, the report, and the part with a number
 abbrev pub TellsLength : Option Part → Handle → Handle → ℕ → ℕ → Status → Type 0
 TellsLength part = Tells (λ content. of_found length (bytes_in part content))
 
@@ -116,11 +117,12 @@ TellsArchiveLength = TellsLength (Some Archive)
 abbrev pub TellsReportLength : Handle → Handle → ℕ → ℕ → Status → Type 0
 TellsReportLength = TellsLength (Some Report)
 
-abbrev pub TellsTextLength : Handle → Handle → ℕ → ℕ → Status → Type 0
-TellsTextLength = TellsLength (Some Text)
-
 abbrev pub TellsPartLength : ℕ → Handle → Handle → ℕ → ℕ → Status → Type 0
 TellsPartLength number = TellsLength (part_numbered number)
+
+-- how long the line of a refusal is
+abbrev pub TellsLineLength : Handle → Handle → ℕ → ℕ → Status → Type 0
+TellsLineLength = Tells (λ content. of_found length (line_in content))
 
 -- a skip by its number, and how long its CID is
 abbrev pub TellsSkip : ℕ → Handle → Handle → SkipTold → SkipTold → Status → Type 0

@@ -94,6 +94,11 @@ bytes_in None content = Err Range
 bytes_in (Some part) None = Err Handle
 bytes_in (Some part) (Some content) = bytes_of part content
 
+-- the line of a refusal, and no other text
+abbrev pub line_in : Option Held → Result (List ℕ) Status
+line_in (Some (held.Refusal line)) = Ok line.items
+line_in content = Err Handle
+
 -- what is told of what was found
 abbrev pub of_found : {X A : Type 0} → (X → A) → Result X Status → Result A Status
 of_found tell (Ok found) = Ok (tell found)

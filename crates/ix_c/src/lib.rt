@@ -24,8 +24,8 @@ ghost use Rattle.ix_c.specs.Calls.{
   TellsCounts,
   TellsArchiveLength,
   TellsReportLength,
-  TellsTextLength,
   TellsPartLength,
+  TellsLineLength,
   TellsSkip,
   TellsCidLength,
   IsCounted,
@@ -251,10 +251,10 @@ pub extern "C" fn ix_fault_line(
     line: &mut *const u8,
     length: &mut usize,
 ) -> u32
-    ensures told { Told (TellsTextLength handle.old handle.new length.old length.new) result }
+    ensures told { Told (TellsLineLength handle.old handle.new length.old length.new) result }
     ensures left { Told (IsLeft line.old line.new) result }
 {
-    results::bytes(alloc, handle, Some(Part::Text), line, length).code()
+    results::fault_line(alloc, handle, line, length).code()
 }
 
 /// Where a part of what a handle holds begins and how long it is: the archive, the report, or a text.

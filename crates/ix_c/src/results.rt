@@ -7,6 +7,7 @@ ghost use Rattle.ix_c.specs.Calls.{
   TellsEnd,
   TellsCounts,
   TellsLength,
+  TellsLineLength,
   TellsSkip,
   TellsCidLength,
   IsCounted,
@@ -23,6 +24,7 @@ ghost use Rattle.ix_c.specs.Results.{
   export_in,
   skip_in,
   bytes_of,
+  line_in,
   of_found,
   IsTold,
   IsLeft,
@@ -194,6 +196,29 @@ fn bytes_of(held: &Held, part: Part) -> Result<BytesPlace, Status>
     match held.bytes(part) {
         Some(bytes) => Ok(place_of(bytes)),
         None => Err(Status::Handle),
+    }
+}
+
+/// Where the line of a refusal begins and how long it is. A handle that holds another text has none.
+pub(crate) fn fault_line(
+    alloc: Global,
+    handle: &mut Handle,
+    line: &mut *const u8,
+    length: &mut usize,
+) -> Status
+    ensures told { TellsLineLength handle.old handle.new length.old length.new result }
+    ensures left { IsLeft line.old line.new result }
+{
+    tell_place(handle.read(alloc, line_of), line, length)
+}
+
+// Where the line of a refusal begins and how long it is, if this is one.
+fn line_of(held: &Held) -> Result<BytesPlace, Status>
+    ensures { IsPlaced (line_in (Some held.now)) result }
+{
+    match held {
+        Held::Refusal(line) => Ok(place_of(line.as_slice())),
+        _ => Err(Status::Handle),
     }
 }
 

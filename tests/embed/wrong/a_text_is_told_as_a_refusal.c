@@ -1,0 +1,7 @@
+/* The text of a selector is told as the line of a refusal. */
+/* Fails: calls */
+#include <ix_export.h>
+
+uint32_t ix_fault_line(ix_handle *handle, const uint8_t **line, size_t *length) {
+  return ix_bytes(handle, IX_TEXT, line, length);
+}
