@@ -16,7 +16,7 @@
  *  - malloc, realloc and free are those of one allocator, which aligns a block to each power of two up to 16
  *    that divides its size. No call comes from a signal handler, nor from a forked child of a process with
  *    threads.
- *  - A thread that calls has a stack of IX_STACK bytes (1 MiB). */
+ *  - A thread that reads a file, a job or a selector, or exports, has a stack of IX_STACK bytes (1 MiB). */
 #ifndef IX_EXPORT_H
 #define IX_EXPORT_H
 
@@ -36,7 +36,9 @@ typedef struct ix_handle {
 
 #define IX_EMPTY {false, NULL}
 
-/* How much stack a thread needs, in bytes. */
+/* How many bytes of stack a thread needs for its calls. Where input nests as deep as it may, ix_store_read_car takes 312 KiB,
+ * ix_job_new and ix_job_from_line 311, ix_selector_from_json 278 and ix_export 132 (measured on 27 November 2026 with kit 13f,
+ * on an Intel Xeon at 2.50 GHz); on less such input ends the process by SIGSEGV. */
 #define IX_STACK (1 << 20)
 
 /* Statuses. */
