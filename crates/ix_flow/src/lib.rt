@@ -7,7 +7,7 @@
 //! Memory.
 //!
 //! ```rust
-//! let plan = Plan { walkers: 4, queue: 256, lane: 64 };
+//! let plan = Plan { walkers: 4, queue: 1024, lane: 256 };
 //! let prepared = Prepared::new(alloc, &store, &jobs, plan, checks.len())?;
 //! let task = Task { store: &store, jobs: jobs.as_slice(), gate: &Open };
 //! let outcome = flow(rt, alloc, &task, &mut sinks, checks, prepared);

@@ -6,7 +6,7 @@
 //! nothing was started, sinks and checks are as they were.
 //!
 //! ```rust
-//! let plan = Plan { walkers: 4, queue: 256, lane: 64 };
+//! let plan = Plan { walkers: 4, queue: 1024, lane: 256 };
 //! match export(rt, alloc, &store, &jobs, &mut sinks, checks, &Open, plan) {
 //!     Ok(outcome) => println!(rt; "{} jobs", outcome.ends.len())?,
 //!     Err(_) => println!(rt; "no memory")?,

@@ -11,7 +11,7 @@
 //! for _ in 0..jobs.len() {
 //!     writers.push(Vec::new(alloc))?;
 //! }
-//! let plan = Plan { walkers: 4, queue: 256, lane: 64 };
+//! let plan = Plan { walkers: 4, queue: 1024, lane: 256 };
 //! let out = run(rt, alloc, &store, &jobs, writers, 4, plan)?;
 //! println!(rt; "{} bytes of report, status {}", out.report.len(), out.status)?;
 //! ```
