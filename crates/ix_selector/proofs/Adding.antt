@@ -101,8 +101,8 @@ stands_leads edge n e q h = absurd h
 
 module _ (spots : List Spot) (table : AreSpots 0 spots) (laid : AreLaidFrom 0 spots) (x : Pair) (within : x.place < length spots) where
   -- a place that stands leads to itself
-  leads_itself : (y : Spot) → y ≡ get_or spots x.place y → Stands (selector_at spots x) → leads_from (place_of spots x) ≡ place_of spots x ∷ []
-  leads_itself y is stands =
+  pub leads-itself : (y : Spot) → y ≡ get_or spots x.place y → Stands (selector_at spots x) → leads_from (place_of spots x) ≡ place_of spots x ∷ []
+  leads-itself y is stands =
       let here = first-of spots x.place y table laid within is in
       leads_at spots x (selector_at spots x) here.first refl here.inside
       ∙ (stands_leads (selector_at spots x) here.first (frames (places_of spots) x.recursion) (sequence_of x.recursion) stands).0
@@ -111,7 +111,7 @@ module _ (spots : List Spot) (table : AreSpots 0 spots) (laid : AreLaidFrom 0 sp
   pub standing-adds : (y : Spot) → y ≡ get_or spots x.place y → Stands (selector_at spots x) → (old new : Reached) → new.standing.items ≡ old.standing.items ++ x ∷ [] → new.again ≡ old.again
       → Adds spots old new (leads_from (place_of spots x))
   standing-adds y is stands old new more same =
-      let itself = leads_itself y is stands in
+      let itself = leads-itself y is stands in
       let no_edge = (stands_leads (selector_at spots x) 0 [] None stands).1 in
       subst (Adds spots old new) (sym itself) (
         ap (seen_pairs spots) more ∙ seen-append spots old.standing.items (x ∷ []) ∙ ap (λ b. seen_pairs spots old.standing.items ++ (if b then [] else place_of spots x ∷ [])) (sym no_edge),
@@ -156,6 +156,15 @@ module _ (spots : List Spot) (table : AreSpots 0 spots) (laid : AreLaidFrom 0 sp
       ∙ sym (leads_at spots x s here.first there (row-inside (places_of spots) here.first (Union ks) x.place here.row))
 
   -- ---- an edge
+
+  -- it leads to itself
+  pub edge-itself : Edge ≡ get_or spots x.place Edge → leads_from (place_of spots x) ≡ place_of spots x ∷ []
+  edge-itself is =
+      let there : at (places_of spots) x.place ≡ edge = place-is spots x.place Edge table within is in
+      let e = frames (places_of spots) x.recursion in
+      let q = sequence_of x.recursion in
+      let whole : x.place + 0 ≡ x.place = omega arith in
+      leads_at spots x edge x.place there (omega arith) ∙ (λ i. record { selector = sym there i; around = e; number = whole i; sequence = q } ∷ [])
 
   pub edge-adds : Edge ≡ get_or spots x.place Edge → (old new : Reached) → new.standing ≡ old.standing → new.again.items ≡ old.again.items ++ entered_again x.recursion → Adds spots old new (leads_from (place_of spots x))
   edge-adds is old new same more =
@@ -227,20 +236,6 @@ adds-next spots old mid new xs x so_far one =
 -- the next of some
 next_of : (xs : List Pair) (i : ℕ) (x : Pair) → i < length xs → x ≡ get_or xs i x → take (i + 1) xs ≡ take i xs ++ x ∷ []
 next_of xs i x within is = take_more xs i x within ∙ ap (λ y. take i xs ++ y ∷ []) (sym is)
-
-pub adds-take : (spots : List Spot) (old mid new : Reached) (xs : List Pair) (i : ℕ) (x : Pair) → i < length xs → x ≡ get_or xs i x → Adds spots old mid (all_lead (seen_pairs spots (take i xs)))
-    → Adds spots mid new (leads_from (place_of spots x)) → Adds spots old new (all_lead (seen_pairs spots (take (i + 1) xs)))
-adds-take spots old mid new xs i x within is so_far one =
-    subst (λ l. Adds spots old new (all_lead (seen_pairs spots l))) (sym (next_of xs i x within is)) (adds-next spots old mid new (take i xs) x so_far one)
-
--- the sequences that are entered again, all reached
-pub entered-exact : (spots : List Spot) (given start last : Reached) (xs rs : List Pair) → start.standing.items ≡ given.standing.items → AreMerged xs given.again.items → Adds spots start last (all_lead (seen_pairs spots xs)) → AreMerged rs last.standing.items
-    → AreLeft spots given rs
-entered-exact spots given start last xs rs same first adds second =
-    second spots
-    ∙ ap merged adds.0
-    ∙ ap (λ l. merged (seen_pairs spots l ++ standing (all_lead (seen_pairs spots xs)))) same
-    ∙ ap (λ l. merged (seen_pairs spots given.standing.items ++ standing (all_lead l))) (first spots)
 
 -- ---- behind a step
 

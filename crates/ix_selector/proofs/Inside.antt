@@ -263,10 +263,18 @@ member-below n [] i below within = absurd (omega arith)
 member-below n (k ∷ ks) zero below within = below.0
 member-below n (k ∷ ks) (suc i) below within = member-below n ks i below.1 (omega arith)
 
-pub member-pair : (spots : List Spot) (x : Pair) (ks : List ℕ) (i : ℕ) → All (IsPair spots) (members_at x ks) → i < length ks → IsPair spots (record { place = get_or ks i 0; recursion = x.recursion })
-member-pair spots x [] i every within = absurd (omega arith)
-member-pair spots x (k ∷ ks) zero every within = All-head (IsPair spots) (record { place = k; recursion = x.recursion }) (members_at x ks) every
-member-pair spots x (k ∷ ks) (suc i) every within = member-pair spots x ks i (All-tail (IsPair spots) (record { place = k; recursion = x.recursion }) (members_at x ks) every) (omega arith)
+-- what all members are, each is, and the first of them are
+pub member-such : (P : Pair → Type 0) (x : Pair) (ks : List ℕ) (i : ℕ) → All P (members_at x ks) → i < length ks → P (record { place = get_or ks i 0; recursion = x.recursion })
+member-such P x [] i every within = absurd (omega arith)
+member-such P x (k ∷ ks) zero every within = All-head P (record { place = k; recursion = x.recursion }) (members_at x ks) every
+member-such P x (k ∷ ks) (suc i) every within = member-such P x ks i (All-tail P (record { place = k; recursion = x.recursion }) (members_at x ks) every) (omega arith)
+
+pub members-first : (P : Pair → Type 0) (x : Pair) (ks : List ℕ) (i : ℕ) → All P (members_at x ks) → All P (members_at x (take i ks))
+members-first P x ks zero every = All-nil P
+members-first P x [] (suc i) every = All-nil P
+members-first P x (k ∷ ks) (suc i) every =
+    let y : Pair = record { place = k; recursion = x.recursion } in
+    All-cons P y (members_at x (take i ks)) (All-head P y (members_at x ks) every) (members-first P x ks i (All-tail P y (members_at x ks) every))
 
 -- what is no recursion, no union and no edge stands
 stands_default : (ps : List Pattern) (y : Spot) → ((d : Option ℕ) (k : ℕ) → y ≡ Recursive d k → ⊥) → ((ks : _) → y ≡ Union ks → ⊥) → (y ≡ Edge → ⊥) → Stands (seen ps y)

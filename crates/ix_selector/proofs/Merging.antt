@@ -74,7 +74,7 @@ recursion_at (Some a) None c d = absurd d
 recursion_at (Some a) (Some b) None d = absurd d
 recursion_at (Some a) (Some b) (Some c) d = ap Some d.1
 
-joined-at : (a b c : Pair) → IsJoined a b c → IsAt a c
+pub joined-at : (a b c : Pair) → IsJoined a b c → IsAt a c
 joined-at a b c is = record { place = is.1; sequence = recursion_at a.recursion b.recursion c.recursion is.2 }
 
 -- in the joined recursion is entered what is entered in either

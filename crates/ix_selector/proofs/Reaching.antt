@@ -1,8 +1,7 @@
 -- What pairs enter, and what is added where one more is reached.
-use Rattle.std.proofs.Common.{◌≡◌, ℕ, ◌+◌, ◌<◌, ◌⊎◌, inl, inr, ⊎_elim, List, [], ◌∷◌, ◌++◌, take, get_or, length, sym, ◌∙◌, ap, subst, arith}
+use Rattle.std.proofs.Common.{◌≡◌, ◌⊎◌, inl, inr, ⊎_elim, List, [], ◌∷◌, ◌++◌, sym, ◌∙◌, subst, arith}
 use Rattle.std.specs.List.{All, Contains}
 use Rattle.std.specs.List.Sorted.{IsPermutation}
-use Rattle.std.proofs.lemmas.List.{take_more}
 use Rattle.std.proofs.lemmas.List.Elements.{Contains-append_left, Contains-append_right, Contains-append_cases, Contains-push, Contains-push_cases, All-contains, All-weaker, All-contains_itself}
 use Rattle.std.proofs.lemmas.List.Sorted.{Contains-permutation, IsPermutation-sym}
 use Rattle.ix_selector.specs.declared.spot.Spot.{Spot}
@@ -89,7 +88,7 @@ standing-more spots old new x more same p =
     )
 
 -- pairs of two lists
-some-append : (spots : List Spot) (xs ys : List Pair) → Joins (SomeEnter spots (xs ++ ys)) (SomeEnter spots xs) (SomeEnter spots ys)
+pub some-append : (spots : List Spot) (xs ys : List Pair) → Joins (SomeEnter spots (xs ++ ys)) (SomeEnter spots xs) (SomeEnter spots ys)
 some-append spots xs ys p = (
   λ h.
       ⊎_elim
@@ -145,10 +144,3 @@ reaches-more spots old mid new xs x so_far is enters again = record {
       again (All-contains (HasNoEdge spots) (xs ++ x ∷ []) x h (Contains-push xs x))
       ∙ so_far.again (All-weaker (Contains xs) (HasNoEdge spots) (λ y among. All-contains (HasNoEdge spots) (xs ++ x ∷ []) y h (Contains-append_left xs (x ∷ []) y among)) xs (All-contains_itself xs));
 }
-
--- the next of some pairs
-pub reaches-next : (spots : List Spot) (old mid new : Reached) (xs : List Pair) (i : ℕ) (x : Pair) → i < length xs → x ≡ get_or xs i x → Reaches spots old mid (take i xs) → AreReached spots new
-    → Joins (ReachedEnters spots new) (ReachedEnters spots mid) (EntersAt spots x) → (HasNoEdge spots x → new.again.items ≡ mid.again.items) → Reaches spots old new (take (i + 1) xs)
-reaches-next spots old mid new xs i x within is so_far reached enters again =
-    let more : take (i + 1) xs ≡ take i xs ++ x ∷ [] = take_more xs i x within ∙ ap (λ y. take i xs ++ y ∷ []) (sym is) in
-    subst (Reaches spots old new) (sym more) (reaches-more spots old mid new (take i xs) x so_far reached enters again)

@@ -21,7 +21,7 @@ use Rattle.ix_selector.specs.Pairs.{frames, place_of, selector_at, EntersAt, Som
 use Rattle.ix_selector.proofs.Decides.{FramesGuarded}
 use Rattle.ix_selector.proofs.Entering.{stands-enters}
 use Rattle.ix_selector.proofs.Tested.{around_of, ArePlaces, start_tested, step_tested_some, step_tested_none}
-use Rattle.ix_selector.proofs.Reaching.{none-enter, some-push, Reaches}
+use Rattle.ix_selector.proofs.Reaching.{none-enter, some-push}
 use Rattle.ix_selector.proofs.Merging.{pairs-of}
 use Rattle.ix_selector.proofs.Inside.{some-cons, cons-here, cons-there}
 
@@ -111,32 +111,6 @@ stepped-more spots t old new xs i x within is so_far reached enters =
             λ h. (enters p).1 (⊎_elim (λ (o : SomeEnter spots front (t ∷ p)). inl ((so_far.enters p).1 o)) (λ (e : EntersAt spots x (t ∷ p)). inr e) (push.0 h)),
           );
     })
-
--- ---- sequences that are entered again
-
-module _ (spots : List Spot) (given start last : Reached) (xs : List Pair) (same : start.standing.items ≡ given.standing.items) (none : start.again.items ≡ []) (all : Reaches spots start last xs)
-    (merged : EnterSame xs given.again.items) (no_edge : All (HasNoEdge spots) xs) where
-  pub again-done : Same (SomeEnter spots last.standing.items) (ReachedEnters spots given)
-  again-done p = (
-    λ h.
-        ⊎_elim
-        (λ (o : ReachedEnters spots start p).
-        ⊎_elim
-        (λ (s : SomeEnter spots start.standing.items p). inl (subst (λ l. SomeEnter spots l p) same s))
-        (λ (a : SomeEnter spots start.again.items p). absurd (none-enter spots p (subst (λ l. SomeEnter spots l p) none a)))
-        o)
-        (λ (m : SomeEnter spots xs p). inr ((merged spots p).0 m))
-        ((all.enters p).0 (inl h)),
-    λ h.
-        ⊎_elim
-        (λ (s : SomeEnter spots last.standing.items p). s)
-        (λ (a : SomeEnter spots last.again.items p). absurd (none-enter spots p (subst (λ l. SomeEnter spots l p) (all.again no_edge ∙ none) a)))
-        ((all.enters p).1
-        (⊎_elim
-        (λ (s : SomeEnter spots given.standing.items p). inl (inl (subst (λ l. SomeEnter spots l p) (sym same) s)))
-        (λ (a : SomeEnter spots given.again.items p). inr ((merged spots p).1 a))
-        h)),
-  )
 
 pub same-twice : (A B C : Path → Type 0) → Same A B → Same B C → Same A C
 same-twice A B C s t p = (λ h. (t p).0 ((s p).0 h), λ h. (s p).1 ((t p).1 h))

@@ -23,6 +23,7 @@ pub mod Pairs
 pub mod Reaching
 pub mod Behind
 pub mod Merging
+pub mod Reentering
 pub mod Laid
 pub mod Compared
 pub mod Laws

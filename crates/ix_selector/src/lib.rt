@@ -15,6 +15,7 @@
 //! ```
 #![tactic(auto)]
 
+mod again;
 mod fault;
 pub mod law;
 mod merge;

@@ -9,6 +9,7 @@ ghost use Rattle.ix_selector.specs.Reaching.{AreReached, EnterAsReached, EnterBe
 ghost use Rattle.ix_selector.specs.Laid.{IsTable};
 ghost use Rattle.ix_selector.specs.Residual.{step_of};
 
+use crate::again::reenter;
 use crate::merge::merged;
 use crate::pair::{Pair, Pairs};
 use crate::reached::{Reached, reach};
@@ -63,12 +64,9 @@ fn entered_again(alloc: Global, spots: &[Spot], reached: Reached) -> Result<Pair
 {
     let Reached { standing, again } = reached;
     let again = merged(alloc, again)?;
-    let mut reached = Reached {
-        standing,
-        again: SmallVec::new(alloc),
-    };
-    for pair in again.as_slice() {
-        reach(spots, *pair, &mut reached)?;
+    let mut reached = Reached { standing, again };
+    while let Some(pair) = reached.again.pop() {
+        reenter(spots, pair, &mut reached)?;
     }
     merged(alloc, reached.standing)
 }

@@ -7,7 +7,7 @@ use Rattle.ix_selector.specs.Pairs.{IsPair, HasNoEdge, EntersAt, SomeEnter, Reac
 use Rattle.ix_selector.specs.Places.{AreBelow}
 use Rattle.ix_selector.specs.Reaching.{AreReached, members_at}
 use Rattle.ix_selector.proofs.Reaching.{Reaches, reaches-more, joins-same}
-use Rattle.ix_selector.proofs.Inside.{sequence-before, sequence-pair, sequence-enters, sequence-no_edge, members-before, members-pairs, members-enter, members-no_edge, edge-reached, edge-enters, edge-some, standing-reached, standing-enters, default-stands, members-more, member-below, member-pair}
+use Rattle.ix_selector.proofs.Inside.{sequence-before, sequence-pair, sequence-enters, sequence-no_edge, members-before, members-pairs, members-enter, members-no_edge, edge-reached, edge-enters, edge-some, standing-reached, standing-enters, default-stands, members-more, member-below, member-such}
 use Rattle.ix_selector.specs.declared.pair.Pair.{Pair}
 use Rattle.ix_selector.specs.Pairs.{seen_pairs}
 use Rattle.ix_selector.specs.Reaching.{Adds}
@@ -86,7 +86,7 @@ pub reach_each-reach-requires : goal.reach_each-reach-requires
 reach_each-reach-requires t c =
     let n = c.loop-member.member-index in
     let below = member-below c.args.pair.place c.args.members.now n c.requires.members c.loop-member-test.true in
-    (omega arith, (member-pair c.args.spots.now c.args.pair c.args.members.now n c.requires.pairs c.loop-member-test.true, c.loop-member.invariant.0.reached))
+    (omega arith, (member-such (IsPair c.args.spots.now) c.args.pair c.args.members.now n c.requires.pairs c.loop-member-test.true, c.loop-member.invariant.0.reached))
 
 pub reach_each-loop-member-preserved : goal.reach_each-loop-member-preserved
 reach_each-loop-member-preserved t c =
