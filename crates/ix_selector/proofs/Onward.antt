@@ -16,6 +16,7 @@ use Rattle.ix_selector.proofs.Entering.{stands-enters, edge-inside, edge-inside_
 use Rattle.ix_selector.proofs.Inside.{guarded-later}
 use Rattle.ix_selector.proofs.Tested.{around_of, ArePlaces, residual_sound, residual_complete}
 use Rattle.ix_selector.proofs.Merged.{put-below, put-above, put-beside, less-same-greater}
+use Rattle.ix_selector.proofs.Same.{depth-equal}
 use Rattle.ix_selector.proofs.Within.{Inner, itself, one-place}
 use Rattle.ix_selector.proofs.Rests.{Enter, iff_twice, iff_same, iff_back, either_iff, either-never, either-grouped, enter-append, enter_by, Each, each-append, leads-enter, IsLead, leads-lead, standing-each, standing-stands, leads-no_edge, no_edges, behind-enter, behind-lead, frames_in, number_in, around_in, Home, IsIn, leads-in, behind-in, before_is}
 
@@ -332,12 +333,7 @@ module _ (whole : Pattern) where
 
   same_depth : (q : Inner) (d e : Option ℕ) → pointwise (option_eq nat_eq) (depths (frames_in q d)) (depths (frames_in q e)) ≡ true → frames_in q d ≡ frames_in q e
   same_depth None d e h = refl
-  same_depth (Some c) d e h = ap (λ n. record { sequence = c.1; depth = n } ∷ []) (limits d e (and_parts (option_eq nat_eq d e) true h).0) where
-    limits : (d e : Option ℕ) → option_eq nat_eq d e ≡ true → d ≡ e
-    limits None None h = refl
-    limits None (Some e) h = absurd (true≢false (sym h))
-    limits (Some d) None h = absurd (true≢false (sym h))
-    limits (Some d) (Some e) h = ap Some (eqb-true d e h)
+  same_depth (Some c) d e h = ap (λ n. record { sequence = c.1; depth = n } ∷ []) (depth-equal d e (and_parts (option_eq nat_eq d e) true h).0)
 
   one_same : (x y : Place) → IsIn whole x → IsIn whole y → same_place x y ≡ true → x ≡ y
   one_same x y a b h =

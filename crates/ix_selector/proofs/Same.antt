@@ -1,6 +1,7 @@
 -- Pairs that are compared, as places.
-use Rattle.std.proofs.Common.{◌≡◌, Bool, true, false, ◌&&◌, nat_eq, List, [], ◌∷◌, refl, ap, Ordering, Less, Equal, Greater, nat_cmp}
+use Rattle.std.proofs.Common.{◌≡◌, ℕ, sym, true≢false, Bool, true, false, ◌&&◌, nat_eq, List, [], ◌∷◌, refl, ap, Ordering, Less, Equal, Greater, nat_cmp}
 use Rattle.std.specs.Prelude.{Option, Some, None}
+use Rattle.std.proofs.lemmas.Bool.{eqb-true, and_parts}
 use Rattle.std.specs.Option.{option_eq, option_cmp}
 use Rattle.std.specs.Ordering.{ordering_then}
 use Rattle.std.specs.Cmp.Lexicographic.{pointwise, slice_cmp}
@@ -59,3 +60,34 @@ order-pairs spots others [] [] = refl
 order-pairs spots others [] (y ∷ ys) = refl
 order-pairs spots others (x ∷ xs) [] = refl
 order-pairs spots others (x ∷ xs) (y ∷ ys) = λ i. ordering_then (pair_order spots others x y i) (order-pairs spots others xs ys i)
+
+-- ---- what is told to be the same
+
+pub depth-equal : (d e : Option ℕ) → option_eq nat_eq d e ≡ true → d ≡ e
+depth-equal None None h = refl
+depth-equal None (Some e) h = absurd (true≢false (sym h))
+depth-equal (Some d) None h = absurd (true≢false (sym h))
+depth-equal (Some d) (Some e) h = ap Some (eqb-true d e h)
+
+recursion_equal : (a b : Option Recursion) → option_eq recursions.eq-value.it a b ≡ true → a ≡ b
+recursion_equal None None h = refl
+recursion_equal None (Some b) h = absurd (true≢false (sym h))
+recursion_equal (Some a) None h = absurd (true≢false (sym h))
+recursion_equal (Some a) (Some b) h =
+    let parts = and_parts (nat_eq a.sequence b.sequence) (option_eq nat_eq a.depth b.depth) h in
+    let sequence : a.sequence ≡ b.sequence = eqb-true a.sequence b.sequence parts.0 in
+    let depth : a.depth ≡ b.depth = depth-equal a.depth b.depth parts.1 in
+    λ i. Some (record { sequence = sequence i; depth = depth i })
+
+-- pairs that compare as equal are the same
+pub pairs-equal : (xs ys : List Pair) → pointwise pairs.eq-value.it xs ys ≡ true → xs ≡ ys
+pairs-equal [] [] h = refl
+pairs-equal [] (y ∷ ys) h = absurd (true≢false (sym h))
+pairs-equal (x ∷ xs) [] h = absurd (true≢false (sym h))
+pairs-equal (x ∷ xs) (y ∷ ys) h =
+    let parts = and_parts (pairs.eq-value.it x y) (pointwise pairs.eq-value.it xs ys) h in
+    let inside = and_parts (nat_eq x.place y.place) (option_eq recursions.eq-value.it x.recursion y.recursion) parts.0 in
+    let place : x.place ≡ y.place = eqb-true x.place y.place inside.0 in
+    let recursion : x.recursion ≡ y.recursion = recursion_equal x.recursion y.recursion inside.1 in
+    let rest : xs ≡ ys = pairs-equal xs ys parts.1 in
+    λ i. record { place = place i; recursion = recursion i } ∷ rest i

@@ -24,6 +24,7 @@ pub mod Reaching
 pub mod Behind
 pub mod Merging
 pub mod Reentering
+pub mod Kept
 pub mod Laid
 pub mod Compared
 pub mod Laws

@@ -17,6 +17,7 @@
 
 mod again;
 mod fault;
+mod kept;
 pub mod law;
 mod merge;
 mod pair;

@@ -4,23 +4,24 @@ ghost use Rattle.std.specs.Prelude.{◌≡◌, [], IfOk, IfSome, IfNone};
 ghost use Rattle.ix_selector.specs.Residual.{ResidualEnters, EntersAs, IsTestedAs, EntersBehind, LeavesOut, step_of, IsBehind};
 ghost use Rattle.ix_selector.specs.Behind.{residual_of, IsLeftBehind, NothingIsLeftBehind, same_residual, residual_order};
 
+use crate::kept::Kept;
 use crate::merge::merged;
-use crate::pair::{Pair, Pairs};
+use crate::pair::Pair;
 use crate::reached::{Reached, reach};
 use crate::selector::Selector;
 use crate::spot::Spot;
 use crate::step::Step;
 use crate::stepping::stepped;
-use smallvec::SmallVec;
 use std::alloc::{AllocError, Global};
 use std::cmp::Ordering;
 use std::marker::Model;
 
 /// What is left of a selector at a place, seen as a set of selectors inside recursions. No two of
-/// them stand at one place of the selector, so it has at most as many as the selector has places.
+/// them stand at one place of the selector, so it has at most as many as the selector has places. Behind a step that leaves the
+/// same it shares them.
 pub struct Residual<'s> {
     spots: &'s [Spot],
-    pairs: Pairs,
+    pairs: Kept,
 }
 
 // Written out and not derived: what is derived is put into each function that lets go of one, at each of its ends.
@@ -36,14 +37,15 @@ impl<'s> Model for Residual<'s> {
     ghost use Rattle.ix_selector.specs.Pairs.{place_of};
     ghost use Rattle.ix_selector.specs.Residual.{Place, coded_places};
     ghost use Rattle.ix_selector.specs.Reaching.{AreLeftIn};
+    ghost use Rattle.ix_selector.specs.Kept.{kept_pairs};
 
     ghost Value = { List Place };
 
     ghost coded = { coded_places };
 
-    ghost view = { λ r. map (place_of r.spots.now) r.pairs.items };
+    ghost view = { λ r. map (place_of r.spots.now) (kept_pairs r.pairs) };
 
-    ghost invariant = { λ r. AreLeftIn r.spots.now r.pairs.items };
+    ghost invariant = { λ r. AreLeftIn r.spots.now (kept_pairs r.pairs) };
 }
 
 impl<'s> Residual<'s> {
@@ -61,6 +63,7 @@ impl<'s> Residual<'s> {
         };
         reach(spots, root, &mut reached)?;
         let pairs = merged(alloc, reached.standing)?;
+        let pairs = Kept::new(alloc, pairs)?;
         Ok(Residual { spots, pairs })
     }
 
@@ -78,6 +81,7 @@ impl<'s> Residual<'s> {
         if pairs.is_empty() {
             return Ok(None);
         }
+        let pairs = self.pairs.or_shared(alloc, pairs)?;
         Ok(Some(Residual { spots, pairs }))
     }
 
@@ -85,7 +89,7 @@ impl<'s> Residual<'s> {
     pub fn try_clone(&self, alloc: Global) -> Result<Residual<'s>, AllocError>
         ensures same { IfOk result (λ r. r ≡ self.now) }
     {
-        let pairs = SmallVec::from_slice(alloc, self.pairs.as_slice())?;
+        let pairs = self.pairs.try_clone(alloc)?;
         Ok(Residual {
             spots: self.spots,
             pairs,

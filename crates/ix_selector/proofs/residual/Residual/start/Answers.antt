@@ -1,3 +1,7 @@
+use Rattle.std.proofs.Common.{sym, subst, ap, ◌∙◌}
+use Rattle.ix_selector.specs.Pairs.{seen_pairs}
+use Rattle.ix_selector.specs.Reaching.{AreLeftIn}
+use Rattle.ix_selector.specs.Residual.{EntersAs, IsTestedAs}
 use Rattle.ix_selector.proofs.Residues.{root-pair, start-entered, start-tested}
 use Rattle.ix_selector.proofs.Merging.{pairs-agree, pairs-of, standing-of, few-pairs}
 use Rattle.ix_selector.proofs.Adding.{start-exact}
@@ -15,19 +19,23 @@ invariant_of-result c =
     let reached = c.in_ok-reach.ensures.reached in
     let among = c.in_ok-pairs.ensures.among in
     let pairs = pairs-of spots c.reach.new.reached.standing.items c.in_ok-pairs.pairs.items among reached.pairs in
+    subst (AreLeftIn spots) (sym c.in_ok-pairs-2.ensures)
     (c.places-place.ensures.table, pairs, standing-of spots c.reach.new.reached.standing.items c.in_ok-pairs.pairs.items among reached.standing, few-pairs spots c.in_ok-pairs.pairs.items c.in_ok-pairs.ensures.rising pairs)
 
 pub returns-clause-entered : goal.returns-clause-entered
 returns-clause-entered c =
-    start-entered c.places-place.result.0.now c.places-place.result.1 c.args.selector.now c.places-place.ensures.root.1 c.places-place.ensures.selector c.new-reached.result c.reach.new.reached c.new-reached.ensures.0 c.new-reached.ensures.1
-    c.in_ok-reach.ensures.reached c.in_ok-reach.ensures.enters c.in_ok-reach.ensures.again c.in_ok-pairs.pairs.items c.in_ok-pairs.ensures.enters c.in_ok-pairs.ensures.among
+    subst (λ l. EntersAs c.args.selector.now (seen_pairs c.places-place.result.0.now l)) (sym c.in_ok-pairs-2.ensures)
+    (start-entered c.places-place.result.0.now c.places-place.result.1 c.args.selector.now c.places-place.ensures.root.1 c.places-place.ensures.selector c.new-reached.result c.reach.new.reached c.new-reached.ensures.0 c.new-reached.ensures.1
+    c.in_ok-reach.ensures.reached c.in_ok-reach.ensures.enters c.in_ok-reach.ensures.again c.in_ok-pairs.pairs.items c.in_ok-pairs.ensures.enters c.in_ok-pairs.ensures.among)
 
 pub returns-clause-tested : goal.returns-clause-tested
 returns-clause-tested c =
-    start-tested c.places-place.result.0.now c.places-place.result.1 c.args.selector.now c.places-place.ensures.root.1 c.places-place.ensures.selector c.new-reached.result c.reach.new.reached c.new-reached.ensures.0 c.new-reached.ensures.1
-    c.in_ok-reach.ensures.reached c.in_ok-reach.ensures.enters c.in_ok-reach.ensures.again c.in_ok-pairs.pairs.items c.in_ok-pairs.ensures.enters c.in_ok-pairs.ensures.among
+    subst (λ l. IsTestedAs c.args.selector.now (seen_pairs c.places-place.result.0.now l)) (sym c.in_ok-pairs-2.ensures)
+    (start-tested c.places-place.result.0.now c.places-place.result.1 c.args.selector.now c.places-place.ensures.root.1 c.places-place.ensures.selector c.new-reached.result c.reach.new.reached c.new-reached.ensures.0 c.new-reached.ensures.1
+    c.in_ok-reach.ensures.reached c.in_ok-reach.ensures.enters c.in_ok-reach.ensures.again c.in_ok-pairs.pairs.items c.in_ok-pairs.ensures.enters c.in_ok-pairs.ensures.among)
 
 pub returns-clause-exact : goal.returns-clause-exact
 returns-clause-exact c =
-    start-exact c.places-place.result.0.now c.places-place.result.1 c.args.selector.now c.places-place.ensures.root.1 c.places-place.ensures.whole c.new-reached.result c.reach.new.reached c.in_ok-pairs.pairs.items c.new-reached.ensures.0
+    ap (seen_pairs c.places-place.result.0.now) c.in_ok-pairs-2.ensures
+    ∙ start-exact c.places-place.result.0.now c.places-place.result.1 c.args.selector.now c.places-place.ensures.root.1 c.places-place.ensures.whole c.new-reached.result c.reach.new.reached c.in_ok-pairs.pairs.items c.new-reached.ensures.0
     c.in_ok-reach.ensures.exact c.in_ok-pairs.ensures.exact

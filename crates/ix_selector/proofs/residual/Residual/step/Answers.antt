@@ -1,5 +1,5 @@
-use Rattle.std.proofs.Common.{sym, ap, ◌∙◌}
-use Rattle.ix_selector.specs.Residual.{step_of}
+use Rattle.std.proofs.Common.{sym, subst, ap, ◌∙◌, [], Some}
+use Rattle.ix_selector.specs.Residual.{step_of, ResidualEnters, EntersBehind, IsBehind}
 use Rattle.ix_selector.proofs.Residues.{places-read, step-below, step-entered, step-none, step-tested, step-tested_none, nothing-left, something-left}
 use Rattle.ix_selector.specs.Pairs.{seen_pairs}
 use Rattle.ix_selector.specs.Behind.{residual_behind}
@@ -15,15 +15,18 @@ returns-then-is_empty-clause-tested c =
 
 pub returns-clause-entered : goal.returns-clause-entered
 returns-clause-entered c =
-    step-entered c.self.inside.spots.now _ c.as_slice.result.now c.in_ok-pairs.pairs.items (step_of c.args.step.now) c.args.self.now c.self.view_is c.as_slice.ensures c.self.invariant.1 c.in_ok-pairs.ensures.pairs.0 c.in_ok-pairs.ensures.pairs.1 c.in_ok-pairs.ensures.enters (something-left c.in_ok-pairs.pairs.items (sym c.if-is_empty.ensures))
+    subst (λ l. ResidualEnters (seen_pairs c.self.inside.spots.now l) []) (sym c.in_ok-pairs-2.ensures)
+    (step-entered c.self.inside.spots.now _ c.as_slice.result.now c.in_ok-pairs.pairs.items (step_of c.args.step.now) c.args.self.now c.self.view_is c.as_slice.ensures c.self.invariant.1 c.in_ok-pairs.ensures.pairs.0 c.in_ok-pairs.ensures.pairs.1 c.in_ok-pairs.ensures.enters (something-left c.in_ok-pairs.pairs.items (sym c.if-is_empty.ensures)))
 
 pub returns-clause-below : goal.returns-clause-below
 returns-clause-below c =
-    step-below c.self.inside.spots.now _ c.as_slice.result.now c.in_ok-pairs.pairs.items (step_of c.args.step.now) c.args.self.now c.self.view_is c.as_slice.ensures c.self.invariant.1 c.in_ok-pairs.ensures.pairs.0 c.in_ok-pairs.ensures.pairs.1 c.in_ok-pairs.ensures.enters
+    subst (λ l. EntersBehind c.args.self.now (step_of c.args.step.now) (seen_pairs c.self.inside.spots.now l)) (sym c.in_ok-pairs-2.ensures)
+    (step-below c.self.inside.spots.now _ c.as_slice.result.now c.in_ok-pairs.pairs.items (step_of c.args.step.now) c.args.self.now c.self.view_is c.as_slice.ensures c.self.invariant.1 c.in_ok-pairs.ensures.pairs.0 c.in_ok-pairs.ensures.pairs.1 c.in_ok-pairs.ensures.enters)
 
 pub returns-clause-tested : goal.returns-clause-tested
 returns-clause-tested c =
-    step-tested c.self.inside.spots.now _ c.as_slice.result.now c.in_ok-pairs.pairs.items (step_of c.args.step.now) c.args.self.now c.self.view_is c.as_slice.ensures c.self.invariant.1 c.in_ok-pairs.ensures.pairs.0 c.in_ok-pairs.ensures.pairs.1 c.in_ok-pairs.ensures.enters (something-left c.in_ok-pairs.pairs.items (sym c.if-is_empty.ensures))
+    subst (λ l. IsBehind c.args.self.now (step_of c.args.step.now) (Some (seen_pairs c.self.inside.spots.now l))) (sym c.in_ok-pairs-2.ensures)
+    (step-tested c.self.inside.spots.now _ c.as_slice.result.now c.in_ok-pairs.pairs.items (step_of c.args.step.now) c.args.self.now c.self.view_is c.as_slice.ensures c.self.invariant.1 c.in_ok-pairs.ensures.pairs.0 c.in_ok-pairs.ensures.pairs.1 c.in_ok-pairs.ensures.enters (something-left c.in_ok-pairs.pairs.items (sym c.if-is_empty.ensures)))
 
 pub returns-then-is_empty-clause-stays_out : goal.returns-then-is_empty-clause-stays_out
 returns-then-is_empty-clause-stays_out c =
@@ -37,4 +40,4 @@ returns-clause-exact c =
     let spots = c.self.inside.spots.now in
     let t = step_of c.args.step.now in
     let from = places-read spots _ c.as_slice.result.now c.args.self.now c.self.view_is c.as_slice.ensures in
-    c.in_ok-pairs.ensures.exact ∙ ap (λ l. residual_behind l t) (sym from)
+    ap (seen_pairs spots) c.in_ok-pairs-2.ensures ∙ c.in_ok-pairs.ensures.exact ∙ ap (λ l. residual_behind l t) (sym from)
