@@ -509,6 +509,57 @@ def long_inline(runner):
     in_few_kib(runner, (2, 4), 4)
 
 
+def recursion(members):
+    """A recursion without a limit over a union."""
+    return bytes.fromhex("a16152a2616ca1646e6f6e65a0623a3ea1617c") + list_of(members)
+
+
+def done_in(runner, blocks, job, seconds, kib):
+    """Runs one job that reaches all of the blocks in these bytes, within so many seconds and so many KiB of address space;
+    answers the seconds."""
+    line, visits, selector = job
+    root = cid(DAG_CBOR, line)
+    jobs = f"a {text(root)} 1000000 {selector.hex()}\n".encode()
+    runner.put(NO_ROOTS + blocks, jobs)
+    told = runner.measure(1, kib)
+    report = (runner.room / "report").read_text()
+    if told["status"] != 0 or not report.startswith(f"a done visits={visits} kept={visits} sections={visits} "):
+        raise Wrong(f"with a selector of {len(selector)} bytes: status {told['status']}, {told['error'][:80]!r}, {report[:80]!r}")
+    if told["seconds"] > seconds:
+        raise Wrong(f"{len(blocks)} bytes of blocks and a selector of {len(selector)} bytes took {told['seconds']:.2f} seconds")
+    return told["seconds"]
+
+
+def many_recursions(runner):
+    """A list of 5,000 empty lists, and a union of 1,000 members inside 30 and inside 60 recursions, each with an edge of its
+    own, so that each child enters all of them again: the time doesn't grow with the recursions times the members."""
+    edge, member = bytes.fromhex("a16161a1613ea16140a0"), bytes.fromhex("a16161a1613e" + MATCHER)
+    block = list_of([b"\x80"] * 5_000)
+    blocks = section(cid(DAG_CBOR, block), block)
+    times = []
+    for levels in (30, 60):
+        selector = recursion([edge] + [member] * 1_000)
+        for _ in range(levels - 1):
+            selector = recursion([edge, selector])
+        times.append(done_in(runner, blocks, (block, 1, selector), 3, KIB_A_RUN))
+    if times[1] > 2 * times[0] + 0.5:
+        raise Wrong(f"30 recursions took {times[0]:.2f} seconds, 60 took {times[1]:.2f}")
+
+
+def many_open(runner):
+    """500 lists inside one another, and 500 blocks each of which links to the next before its end, by a selector that is
+    left with 10,000 places in each: they are kept once, and not for each list that is open."""
+    selector = recursion([bytes.fromhex("a16161a1613ea16140a0")] * 10_000)
+    nested = b"\x81" * 499 + b"\x80"
+    done_in(runner, section(cid(DAG_CBOR, nested), nested), (nested, 1, selector), SECONDS_A_RUN, 100_000)
+    block, sections = b"\x80", []
+    for _ in range(500):
+        sections.append(section(cid(DAG_CBOR, block), block))
+        block = list_of([link(cid(DAG_CBOR, block)), b"\0"])
+    sections.append(section(cid(DAG_CBOR, block), block))
+    done_in(runner, b"".join(sections), (block, 501, selector), SECONDS_A_RUN, 100_000)
+
+
 def mutated(chance, data, words):
     """The bytes with some changes: bits, bytes, cuts, and pieces that come twice or elsewhere."""
     data = bytearray(data)
@@ -584,6 +635,8 @@ PARTS = (
     cut_selectors,
     cut_jobs,
     several_roots,
+    many_recursions,
+    many_open,
 )
 
 
