@@ -25,6 +25,7 @@ pub mod Behind
 pub mod Merging
 pub mod Reentering
 pub mod Kept
+pub mod Alike
 pub mod Laid
 pub mod Compared
 pub mod Laws

@@ -62,4 +62,9 @@ impl Kept {
             Kept::Shared(pairs) => Ok(Kept::Shared(Arc::try_clone(pairs)?)),
         }
     }
+
+    /// Whether they are shared: they are many.
+    pub(crate) fn is_shared(&self) -> bool {
+        matches!(self, Kept::Shared(_))
+    }
 }

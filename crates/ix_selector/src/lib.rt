@@ -29,8 +29,10 @@ mod selector;
 mod spot;
 mod step;
 mod stepping;
+mod steps;
 
 pub use fault::{Form, SelFault};
 pub use residual::Residual;
 pub use selector::Selector;
 pub use step::Step;
+pub use steps::Steps;

@@ -2,6 +2,8 @@
 
 ghost use Rattle.std.specs.Prelude.{◌≡◌, [], IfOk, IfSome, IfNone};
 ghost use Rattle.ix_selector.specs.Residual.{ResidualEnters, EntersAs, IsTestedAs, EntersBehind, LeavesOut, step_of, IsBehind};
+ghost use Rattle.std.specs.Bool.{OnTrue};
+ghost use Rattle.ix_selector.specs.Alike.{LookAtNoStep};
 ghost use Rattle.ix_selector.specs.Behind.{residual_of, IsLeftBehind, NothingIsLeftBehind, same_residual, residual_order};
 
 use crate::kept::Kept;
@@ -11,7 +13,7 @@ use crate::reached::{Reached, reach};
 use crate::selector::Selector;
 use crate::spot::Spot;
 use crate::step::Step;
-use crate::stepping::stepped;
+use crate::stepping::{look_at_no_step, stepped};
 use std::alloc::{AllocError, Global};
 use std::cmp::Ordering;
 use std::marker::Model;
@@ -94,6 +96,18 @@ impl<'s> Residual<'s> {
             spots: self.spots,
             pairs,
         })
+    }
+
+    /// Whether its pairs can be shared.
+    pub(crate) fn is_shared(&self) -> bool {
+        self.pairs.is_shared()
+    }
+
+    /// Whether each step leaves the same, since no selector looks at it.
+    pub(crate) fn looks_at_no_step(&self) -> bool
+        ensures { OnTrue result (LookAtNoStep self.now) }
+    {
+        look_at_no_step(self.spots, self.pairs.as_slice())
     }
 
     /// Whether the same is left at both places: the same places of the selector, in the same

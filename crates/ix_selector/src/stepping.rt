@@ -1,11 +1,14 @@
 //! Steps from the places of a selector to those behind them.
 
 ghost use Rattle.std.specs.Prelude.{◌<◌, ◌≤◌, length, IfOk, IfSome, IfNone};
+ghost use Rattle.std.specs.Bool.{OnTrue, OnFalse};
+ghost use Rattle.std.specs.List.{All};
+ghost use Rattle.ix_selector.specs.Alike.{SpotLooksAtNoStep, PairLooksAtNoStep};
 ghost use Rattle.ix_selector.specs.Places.{places_of, AreRising};
 ghost use Rattle.ix_selector.specs.Standing.{IsBeside};
 ghost use Rattle.ix_selector.specs.Named.{HasName, HasNoName};
 ghost use Rattle.ix_selector.specs.Pairs.{AreStandingPairs};
-ghost use Rattle.ix_selector.specs.Reaching.{AreReached, EnterAsReached, EnterBehind, AreLeft, AreLeftBehind, LeadsBeside, StandsAtEnd, LeadsAs, LeadsToNone};
+ghost use Rattle.ix_selector.specs.Reaching.{AreReached, AreLeftIn, EnterAsReached, EnterBehind, AreLeft, AreLeftBehind, LeadsBeside, StandsAtEnd, LeadsAs, LeadsToNone};
 ghost use Rattle.ix_selector.specs.Laid.{IsTable};
 ghost use Rattle.ix_selector.specs.Residual.{step_of};
 
@@ -93,4 +96,28 @@ pub(crate) fn stepped(
         }
     }
     entered_again(alloc, spots, reached)
+}
+
+/// Whether none of the pairs looks at a step: each goes on to all children alike, or to none.
+pub(crate) fn look_at_no_step(spots: &[Spot], pairs: &[Pair]) -> bool
+    requires { AreLeftIn spots.now pairs.now }
+    ensures { OnTrue result (All (PairLooksAtNoStep spots.now) pairs.now) }
+{
+    for pair in pairs {
+        let looks = looks_at_a_step(&spots[pair.place]);
+        if looks {
+            return false;
+        }
+    }
+    true
+}
+
+// Whether what stands at a place goes on to some children alone.
+fn looks_at_a_step(spot: &Spot) -> bool
+    ensures { OnFalse result (SpotLooksAtNoStep spot.now) }
+{
+    match spot {
+        Spot::All(_) | Spot::Matcher => false,
+        _ => true,
+    }
 }

@@ -11,7 +11,7 @@ ghost use Rattle.ix_store.specs.Ahead.{EndsWith, LinkBefore};
 
 use crate::subtree::{Children, Entered, Found, Opened, Trail};
 use ix_cbor::{Front, read_front, read_key, skip_item};
-use ix_selector::{Residual, Step};
+use ix_selector::{Residual, Step, Steps};
 use ix_store::Ahead;
 use std::alloc::{AllocError, Global};
 
@@ -80,7 +80,7 @@ fn entered_by<'a>(
         | Front::Text(_) => return None,
     };
     Some(Entered::Open(Opened {
-        residual,
+        residual: Steps::of(residual),
         children,
         depth,
         back: None,
@@ -115,14 +115,15 @@ pub(crate) fn node_at<'a>(
 #[inline(never)]
 fn step_into<'a>(
     alloc: Global,
-    residual: &Residual<'a>,
+    residual: &mut Steps<'a>,
     step: &Step,
     at: &mut Ahead<'a>,
     read: (Front<'a>, &'a [u8]),
     depth: u32,
 ) -> Result<Option<Entered<'a>>, AllocError>
     requires { HasFront at.old read.0 read.1.now }
-    ensures { IfOk result (λ o. IsChild residual.now (step_of step.now) at.old depth o at.new) }
+    ensures { IfOk result (λ o. IsChild residual.old (step_of step.now) at.old depth o at.new
+        × (residual.new ≡ residual.old)) }
 {
     let (front, behind) = read;
     match residual.step(alloc, step)? {
@@ -143,13 +144,14 @@ fn step_into<'a>(
 // its front, or behind all of it where it isn't entered.
 fn child_at<'a>(
     alloc: Global,
-    residual: &Residual<'a>,
+    residual: &mut Steps<'a>,
     step: &Step,
     at: &mut Ahead<'a>,
     depth: u32,
 ) -> Result<Option<Entered<'a>>, AllocError>
     requires { IsItem at.old }
-    ensures { IfOk result (λ o. IsChild residual.now (step_of step.now) at.old depth o at.new) }
+    ensures { IfOk result (λ o. IsChild residual.old (step_of step.now) at.old depth o at.new
+        × (residual.new ≡ residual.old)) }
 {
     let read = front_at(at.bytes());
     if may_hold_links(read.0) {
@@ -162,14 +164,15 @@ fn child_at<'a>(
 // The next member of a list that is entered and may hold a link; how many are then left, and where the walk stands.
 fn next_member<'a>(
     alloc: Global,
-    residual: &Residual<'a>,
+    residual: &mut Steps<'a>,
     depth: u32,
     count: u64,
     left: &mut u64,
     at: &mut Ahead<'a>,
 ) -> Result<Option<Entered<'a>>, AllocError>
     requires { IsPart (children.Members count left.old) at.old }
-    ensures { IfOk result (λ o. IsNextMember residual.now depth count left.old at.old o left.new at.new) }
+    ensures { IfOk result (λ o. IsNextMember residual.old depth count left.old at.old o left.new at.new
+        × (residual.new ≡ residual.old)) }
 {
     while *left > 0 {
         let place = Step::Pos(count - *left);
@@ -197,13 +200,14 @@ fn key_at(at: &[u8]) -> (&[u8], &[u8])
 // The next value of a map that is entered and may hold a link; how many are then left, and where the walk stands.
 fn next_value<'a>(
     alloc: Global,
-    residual: &Residual<'a>,
+    residual: &mut Steps<'a>,
     depth: u32,
     left: &mut u64,
     at: &mut Ahead<'a>,
 ) -> Result<Option<Entered<'a>>, AllocError>
     requires { IsPart (children.Values left.old) at.old }
-    ensures { IfOk result (λ o. IsNextValue residual.now depth left.old at.old o left.new at.new) }
+    ensures { IfOk result (λ o. IsNextValue residual.old depth left.old at.old o left.new at.new
+        × (residual.new ≡ residual.old)) }
 {
     while *left > 0 {
         let (key, value) = key_at(at.bytes());

@@ -4,7 +4,7 @@ ghost use Rattle.std.specs.Prelude.{◌≡◌, None, []};
 ghost use Rattle.ix_walk.specs.Walking.{is_spent};
 
 use ix_cid::CidRef;
-use ix_selector::Residual;
+use ix_selector::{Residual, Steps};
 use ix_store::Ahead;
 use std::alloc::Global;
 
@@ -20,7 +20,7 @@ pub(crate) enum Children {
 // A list or map that is gone through.
 #[derive(Drop)]
 pub(crate) struct Opened<'a> {
-    pub residual: Residual<'a>,
+    pub residual: Steps<'a>,
     pub children: Children,
     pub depth: u32,
     // Where the walk goes on behind it, where that isn't behind its last child: in the block that the walk came from.
