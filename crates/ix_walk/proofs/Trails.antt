@@ -1,5 +1,5 @@
 -- A stack of open lists and maps, gone on with.
-use Rattle.std.proofs.Common.{◌≡◌, ℕ, ◌+◌, ◌-◌, ◌<◌, true, List, [], ◌∷◌, ◌++◌, length, take, get_or, reverse, refl, sym, ◌∙◌, ap, subst, append_assoc, arith}
+use Rattle.std.proofs.Common.{◌≡◌, ℕ, ◌+◌, ◌-◌, ◌<◌, true, List, [], ◌∷◌, ◌++◌, length, zero, suc, take, get_or, set, reverse, refl, sym, ◌∙◌, ap, subst, append_assoc, arith}
 use Rattle.std.specs.Prelude.{Option, Some, None, option_map, nat_lt}
 use Rattle.std.proofs.lemmas.Bool.Decides.{nat_tests}
 use Rattle.std.proofs.lemmas.List.{take_more, take_all}
@@ -11,7 +11,7 @@ use Rattle.ix_walk.specs.declared.subtree.Trail.{Trail}
 use Rattle.ix_walk.specs.declared.subtree.Found.{Found}
 use Rattle.ix_store.specs.Ahead.{goes_on}
 use Rattle.ix_walk.specs.Walking.{is_spent, with_children, Part, to_cid, members, values, part_links, part_weight, Subtree, opened, all_links, all_weight, part_at, stands, with_next, trail_stands, subtrees, IsStanding}
-use Rattle.ix_walk.specs.Descent.{IsNext, IsFound, Leaves, Finds, trail_weight}
+use Rattle.ix_walk.specs.Descent.{IsPart, IsNext, IsFound, Leaves, Finds, trail_weight}
 use Rattle.ix_walk.proofs.Openings.{spent_part}
 use Rattle.ix_walk.proofs.Stands.{some_mapped, open_apart, open_on, reversed_push, subtrees_are, trail_without}
 
@@ -186,3 +186,48 @@ last_popped xs ys ds o n same len is some last =
     sym (take_all (n - 1 + 1) xs (omega (arith, k))) ∙ take_more xs (n - 1) o (omega (arith, long, m)) ∙ ap (λ (l : List Opened). l ++ get_or xs (n - 1) o ∷ []) (sym is) ∙ ap (λ (p : Opened). ys ++ p ∷ []) (sym here) where
       holds : (n : ℕ) → nat_lt 0 n ≡ true → 0 < n
       holds n h = grind (arith, nat_tests)
+
+-- the last of a stack, and what stands there once another is written over it
+last_put : (xs : List Opened) (i : ℕ) (n : Opened) → i + 1 ≡ length xs → set xs i n ≡ take i xs ++ n ∷ []
+last_put [] i n e = absurd (omega arith)
+last_put (z ∷ []) zero n e = refl
+last_put (z ∷ y ∷ xs) zero n e = absurd (omega arith)
+last_put (z ∷ xs) (suc i) n e = ap (λ l. z ∷ l) (last_put xs i n (omega arith))
+
+pub record IsLast (xs : List Opened) (len : ℕ) (o n : Opened) : Type 0 where
+  pub was : xs ≡ take (len - 1) xs ++ o ∷ []
+  pub is : set xs (len - 1) n ≡ take (len - 1) xs ++ n ∷ []
+
+pub last_written : (xs : List Opened) (len : ℕ) (o n : Opened) → len ≡ length xs → (true ≡ nat_lt 0 (length xs)) → o ≡ get_or xs (len - 1) o → IsLast xs len o n
+last_written xs len o n long some last =
+    let here : o ≡ get_or xs (length xs - 1) o = last ∙ ap (λ k. get_or xs (k - 1) o) long in
+    let some_there : 0 < length xs = holds (length xs) (sym some) in
+    record { was = last_popped xs (take (len - 1) xs) xs o len refl (sym long) refl some here; is = last_put xs (len - 1) n (omega (arith, some_there, long)) } where
+      holds : (n : ℕ) → nat_lt 0 n ≡ true → 0 < n
+      holds n h = grind (arith, nat_tests)
+
+-- two lists with one behind each
+last_same : (xs ys : List Opened) (x y : Opened) → xs ++ x ∷ [] ≡ ys ++ y ∷ [] → (xs ≡ ys) × (x ≡ y)
+last_same [] [] x y h = (refl, cc)
+last_same [] (b ∷ []) x y h = absurd cc
+last_same [] (b ∷ c ∷ ys) x y h = absurd cc
+last_same (a ∷ []) [] x y h = absurd cc
+last_same (a ∷ b ∷ xs) [] x y h = absurd cc
+last_same (a ∷ xs) (b ∷ ys) x y h =
+    let first : a ≡ b = cc in
+    let others : xs ++ x ∷ [] ≡ ys ++ y ∷ [] = cc in
+    let rest = last_same xs ys x y others in
+    (λ i. first i ∷ rest.0 i, rest.1)
+
+-- where another was written over the last and then taken, those before it are left
+pub last_taken : (xs ys : List Opened) (len : ℕ) (o n p : Opened) → IsLast xs len o n → set xs (len - 1) n ≡ ys ++ p ∷ [] → (xs ≡ ys ++ o ∷ []) × (n ≡ p)
+last_taken xs ys len o n p last popped =
+    let same = last_same (take (len - 1) xs) ys n p (sym last.is ∙ popped) in
+    (last.was ∙ ap (λ l. l ++ o ∷ []) same.0, same.1)
+
+-- a part is left of the last of a stack
+pub last_part : (first loop : Trail) (o : Opened) (rest : List Opened) → IsStanding first → IsKept first loop → loop.stack.items ≡ rest ++ o ∷ [] → IsPart o.children loop.at
+last_part first loop o rest standing kept items =
+    let k = kept.keeps standing.0 standing.1 in
+    let a = open_apart loop.at o (reverse rest) k.0 (above loop o rest k.0 kept.next items k.1) in
+    ((a.part, a.rest), a.here)

@@ -274,18 +274,20 @@ pub(crate) fn next_found<'a>(
     if let Some(found) = trail.next.take() {
         return Ok(Some(found));
     }
-    while let Some(mut opened) = trail.stack.pop() {
-        match next_child(alloc, &mut opened, &mut trail.at)? {
+    while let Some(opened) = trail.stack.last_mut() {
+        match next_child(alloc, opened, &mut trail.at)? {
             Some(Entered::Link(found)) => {
-                trail.stack.push(opened)?;
                 leave_spent(trail);
                 return Ok(Some(found));
             }
             Some(Entered::Open(inner)) => {
-                trail.stack.push(opened)?;
                 trail.stack.push(inner)?;
             }
-            None => trail.at.go_on(&opened.back),
+            None => {
+                if let Some(ended) = trail.stack.pop() {
+                    trail.at.go_on(&ended.back);
+                }
+            }
         }
     }
     Ok(None)
