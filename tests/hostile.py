@@ -1,7 +1,8 @@
 #!/usr/bin/env python3
 """Runs the built program on input that is made to hurt it: files cut at each byte, with each byte changed, selectors
 and job files cut at each byte, roots of a job cut and changed, blocks with many links, CIDs chosen for one place of the
-index, long ones that are alike or are visited often, identity CIDs inside one another, and mutations by chance.
+index, long ones that are alike or are visited often, identity CIDs inside one another, selectors with many recursions or
+many places over many lists that are open, and mutations by chance.
 Ends with status 1 at the first run that is wrong.
 
 No run may end by a signal or take a minute. Where a file is refused, it is one line of the known ones. Where the run
