@@ -1,7 +1,10 @@
 -- What was made of items and members has a spelling.
-use Rattle.std.proofs.Common.{◌≡◌, ℕ, zero, suc, ◌^◌, ◌<◌, ◌≤◌, List, [], ◌∷◌, ◌++◌, length, get_or, sym, ap, ◌∙◌, subst, arith}
-use Rattle.std.specs.Prelude.{insert, None}
+use Rattle.std.proofs.Common.{◌≡◌, ℕ, suc, ◌^◌, ◌<◌, ◌≤◌, List, [], ◌∷◌, ◌++◌, length, get_or, sym, ap, ◌∙◌, subst, arith}
+use Rattle.std.specs.Prelude.{None}
+use Rattle.std.specs.List.{All}
 use Rattle.std.specs.Global.{Vec}
+use Rattle.std.proofs.lemmas.List.Elements.{All-head, All-tail, All-push}
+use Rattle.std.proofs.lemmas.List.Sorted.{All-permutation}
 use Rattle.json.specs.Json.{object, array}
 use Rattle.json.specs.declared.value.Value.{Value}
 use Rattle.json.specs.declared.value.Value as value
@@ -15,9 +18,9 @@ use Rattle.ix_cbor.specs.Data as data_model
 use Rattle.ix_cbor.specs.Spelling.{Rises, item_count, entry_count}
 use Rattle.ix_cbor.specs.Fits.{Fits, ItemsFit, EntriesFit}
 use Rattle.ix_cbor.proofs.Fitting.{item_count-nodes, entry_count-nodes, data_of-list, data_of-map}
-use Rattle.ix_notation.specs.Saying.{AreIntegers, ItemsAreIntegers, MembersAreIntegers}
+use Rattle.ix_notation.specs.Saying.{AreIntegers, ItemsAreIntegers, MembersAreIntegers, AreInOrder, key_of}
 use Rattle.ix_notation.proofs.Sayings.{Entry, Member}
-use Rattle.ix_notation.proofs.KeyOrder.{IsBelow, AreSorted}
+use Rattle.ix_notation.proofs.KeyOrder.{IsBelow, AreSorted, sorted_from_rise}
 use Rattle.ix_notation.proofs.Unread.{item_integers, item_within, member_integers, member_within}
 
 fits_deeper : (m n : ℕ) (d : Data) → m ≤ n → Fits m d → Fits n d
@@ -56,38 +59,36 @@ array_fits x items v values is same small fits =
       within : (n : ℕ) (ds : data_model.Items) → item_count ds < 2 ^ 64 → ItemsFit n ds → Fits (suc n) (list ds)
       within n ds count h = record { parts = (count, h.parts); nesting = omega (arith, h.nesting) }
 
--- each key is short enough, and each value has a spelling and nests at most n deep
-abbrev pub EntriesFitEach : ℕ → List Entry → Type 0
-EntriesFitEach n [] = Unit {0}
-EntriesFitEach n (e ∷ es) = (length e.0.items < 2 ^ 64) × Fits n (data_of e.1) × EntriesFitEach n es
-
-each_insert : (n : ℕ) (es : List Entry) (i : ℕ) (x : Entry) → i ≤ length es → length x.0.items < 2 ^ 64 → Fits n (data_of x.1) → EntriesFitEach n es → EntriesFitEach n (insert es i x)
-each_insert n [] zero x l small fits h = (small, fits, tt)
-each_insert n [] (suc i) x l small fits h = absurd (omega arith)
-each_insert n (e ∷ es) zero x l small fits h = (small, fits, h)
-each_insert n (e ∷ es) (suc i) x l small fits h = (h.0, h.1, each_insert n es i x (omega arith) small fits h.2)
+-- the key is short enough, and the value has a spelling and nests at most n deep
+abbrev pub EntryFits : ℕ → Entry → Type 0
+EntryFits n e = (length (key_of e) < 2 ^ 64) × Fits n (data_of e.1)
 
 abbrev pub MembersFitSoFar : {A : Type 0} → List (Member A) → List Entry → Type 0
-MembersFitSoFar values entries = MembersAreIntegers (members_view values) → EntriesFitEach (members_depth (members_view values)) entries
+MembersFitSoFar values entries = MembersAreIntegers (members_view values) → All (EntryFits (members_depth (members_view values))) entries
 
-pub one_more_entry_fits : {A : Type 0} (values : List (Member A)) (i : ℕ) (x : Member A) (entries after : List Entry) (place : ℕ) (k : Vec ℕ) (n : Node)
-    → i < length values → x ≡ get_or values i x → place ≤ length entries → length k.items < 2 ^ 64 → (AreIntegers (value_view x.1) → Fits (depth (value_view x.1)) (data_of n))
-    → after ≡ insert entries place (k, n) → MembersFitSoFar values entries → MembersFitSoFar values after
-one_more_entry_fits {A} values i x entries after place k n l is within small fits put so_far integers =
+pub one_more_entry_fits : {A : Type 0} (values : List (Member A)) (i : ℕ) (x : Member A) (entries after : List Entry) (k : Vec ℕ) (n : Node)
+    → i < length values → x ≡ get_or values i x → length k.items < 2 ^ 64 → (AreIntegers (value_view x.1) → Fits (depth (value_view x.1)) (data_of n))
+    → after ≡ entries ++ (k, n) ∷ [] → MembersFitSoFar values entries → MembersFitSoFar values after
+one_more_entry_fits {A} values i x entries after k n l is small fits pushed so_far integers =
     let D = members_depth (members_view values) in
     let mine : AreIntegers (value_view x.1) = subst (λ (y : Member A). AreIntegers (value_view y.1)) (sym is) (member_integers values i x l integers) in
     let deep : depth (value_view x.1) ≤ D = subst (λ (y : Member A). depth (value_view y.1) ≤ D) (sym is) (member_within values i x l) in
-    subst (EntriesFitEach D) (sym put) (each_insert D entries place (k, n) within small (fits_deeper _ D (data_of n) deep (fits mine)) (so_far integers))
+    subst (All (EntryFits D)) (sym pushed) (All-push (EntryFits D) entries (k, n) (so_far integers) (small, fits_deeper _ D (data_of n) deep (fits mine)))
 
 rises_first : (k : List ℕ) (es : List Entry) → IsBelow k es → Rises k (node_entries es)
 rises_first k [] h = tt
 rises_first k (e ∷ es) h = h.0
 
-pub entries_fit : (n : ℕ) (es : List Entry) → AreSorted es → EntriesFitEach n es → EntriesFit n None (node_entries es)
+entries_fit : (n : ℕ) (es : List Entry) → AreSorted es → All (EntryFits n) es → EntriesFit n None (node_entries es)
 entries_fit n [] sorted h = record { parts = tt; nesting = omega arith; above = tt }
 entries_fit n (e ∷ es) sorted h =
-    let more = entries_fit n es sorted.1 h.2 in
-    record { parts = (h.0, h.1.parts, rises_first e.0.items es sorted.0, more.parts); nesting = omega (arith, h.1.nesting, more.nesting); above = tt }
+    let mine = All-head (EntryFits n) e es h in
+    let more = entries_fit n es sorted.1 (All-tail (EntryFits n) e es h) in
+    record { parts = (mine.0, mine.1.parts, rises_first (key_of e) es sorted.0, more.parts); nesting = omega (arith, mine.1.nesting, more.nesting); above = tt }
+
+-- entries in the order of their keys fit where they do in another
+pub sorted_fit : (n : ℕ) (entries sorted : List Entry) → AreInOrder entries sorted → All (EntryFits n) entries → EntriesFit n None (node_entries sorted)
+sorted_fit n entries sorted order fits = entries_fit n sorted (sorted_from_rise sorted order.rise) (All-permutation (EntryFits n) entries sorted order.same fits)
 
 -- an object's node fits where its entries do
 pub object_fits : {A : Type 0} (x : Value A) (members : _) (v : Vec Entry) (values : List (Member A)) → x ≡ value.Object members → values ≡ members.items → length v.items < 2 ^ 64

@@ -2,7 +2,7 @@
 use Rattle.std.proofs.Common.{◌≡◌, ℕ, zero, suc, ◌<◌, ◌≤◌, List, [], ◌∷◌, length, get_or, sym, ap, ◌∙◌, subst, arith}
 use Rattle.json.specs.declared.value.Value.{Value}
 use Rattle.json.specs.declared.value.Value as value
-use Rattle.json.specs.Json.{object}
+use Rattle.json.specs.Json.{object, Members}
 use Rattle.json.specs.Strict.{keys, AreDistinct, HasUniqueKeys, ItemsHaveUniqueKeys, MembersHaveUniqueKeys}
 use Rattle.json.specs.Tree.{depth, items_depth, members_depth}
 use Rattle.json.specs.Value.{value_view, items_view, members_view}
@@ -76,12 +76,8 @@ object_unread x members values e is same h =
     let seen : value_view x ≡ object (members_view values) = ap value_view is ∙ view-Object members ∙ ap (λ ms. object (members_view ms)) (sym same) in
     subst (λ j. IsUnread (AreIntegers j) (HasUniqueKeys j) e) (sym seen) h
 
--- the key at a place is the member's there
-pub key_at_place : {A : Type 0} (values : List (Member A)) (i : ℕ) (d : Member A) (none : List ℕ) → i < length values → get_or (keys (members_view values)) i none ≡ (get_or values i d).0.now
-key_at_place [] i d none l = absurd (omega arith)
-key_at_place (v ∷ values) zero d none l = λ k. v.0.now
-key_at_place (v ∷ values) (suc i) d none l = key_at_place values i d none (omega arith)
-
-pub length-keys : {A : Type 0} (values : List (Member A)) → length (keys (members_view values)) ≡ length values
-length-keys [] = λ k. 0
-length-keys (v ∷ values) = omega (arith, length-keys values)
+-- members of which two have one key
+pub repeated_unread : (ms : Members) (e : NotationFault) → e ≡ Repeated → ¬ AreDistinct (keys ms)
+    → IsUnread (MembersAreIntegers ms) (AreDistinct (keys ms) × MembersHaveUniqueKeys ms) e
+repeated_unread ms e is twice =
+    subst (IsUnread (MembersAreIntegers ms) (AreDistinct (keys ms) × MembersHaveUniqueKeys ms)) (sym is) (λ u. twice u.0)

@@ -1,5 +1,8 @@
 -- Which data a JSON value says, whatever the order of its keys, and when it says none that a block has.
-use Rattle.std.specs.Prelude.{◌≡◌, ◌⊎◌, ℕ, ℤ, ◌≤◌, List, [], ◌∷◌, length, insert, Option, Some, None, option_and_then}
+use Rattle.std.specs.Prelude.{◌≡◌, ◌⊎◌, ℕ, ℤ, List, [], ◌∷◌, length, IsPermutation, Option, Some, None, option_and_then}
+use Rattle.std.specs.List.{AllAdjacentBelow}
+use Rattle.std.specs.Global.{Vec}
+use Rattle.std.specs.declared.cmp.Ordering.TheVariants.{Less}
 use Rattle.std.specs.Str.{IsUtf8}
 use Rattle.std.specs.Str.Lossy.{utf8_valid_len}
 use Rattle.std.specs.Str.Parse.{IsNumeral, without_leading_sign, signed_digits_value}
@@ -10,7 +13,8 @@ use Rattle.json.specs.Strict.{keys, AreDistinct, HasUniqueKeys, ItemsHaveUniqueK
 use Rattle.json.specs.Tree.{depth, items_depth, members_depth}
 use Rattle.ix_cbor.specs.Data.{Data, Items, Entries, items_of, entries_of}
 use Rattle.ix_cbor.specs.Data as data_model
-use Rattle.ix_cbor.specs.Spelling.{IsSpellable}
+use Rattle.ix_cbor.specs.declared.node.Node.{Node}
+use Rattle.ix_cbor.specs.Spelling.{IsSpellable, key_cmp}
 use Rattle.ix_cbor.specs.Fits.{Fits, ItemsFit, EntriesFit}
 use Rattle.ix_notation.specs.declared.fault.NotationFault.{NotationFault}
 use Rattle.ix_notation.specs.declared.fault.NotationFault.TheVariants.{Json as NoJson, Repeated, Number, Hex, Block, Selector, Name, Memory}
@@ -25,25 +29,30 @@ pub record IsInteger (digits : List ℕ) (n : ℤ) : Type 0 where
   pub same : n ≡ signed_digits_value 10 digits
 
 abbrev mutual
-  -- null, truth values, integers, texts, arrays and objects stand for themselves
+  -- null, truth values, integers, texts, arrays and objects stand for themselves, an object's keys in any order
   pub Says : Json → Data → Type 0
   Says json_model.null d = d ≡ data_model.null
   Says (json_model.boolean b) d = d ≡ data_model.boolean b
   Says (json_model.number digits) d = (n : ℤ) × IsInteger digits n × (d ≡ data_model.integer n)
   Says (json_model.string s) d = d ≡ data_model.text s
   Says (json_model.array js) d = (ds : List Data) × ItemsSay js ds × (d ≡ data_model.list (items_of ds))
-  Says (json_model.object ms) d = (es : List (List ℕ × Data)) × ArePut ms [] es × (d ≡ data_model.map (entries_of es))
+  Says (json_model.object ms) d =
+      (es : List (List ℕ × Data)) × (said : List (List ℕ × Data)) × MembersSay ms said × IsPermutation said es × (d ≡ data_model.map (entries_of es))
 
   -- each item says the data at its place
   pub ItemsSay : json_model.Items → List Data → Type 0
   ItemsSay json_model.no_items ds = ds ≡ []
   ItemsSay (json_model.item j js) ds = (d : Data) × (more : List Data) × Says j d × ItemsSay js more × (ds ≡ d ∷ more)
 
-  -- the entries are those before, and for each member its key with what its value says, put in at some place
-  pub ArePut : json_model.Members → List (List ℕ × Data) → List (List ℕ × Data) → Type 0
-  ArePut json_model.no_members before after = after ≡ before
-  ArePut (json_model.member k j ms) before after =
-      (d : Data) × (place : ℕ) × (place ≤ length before) × Says j d × ArePut ms (insert before place (k, d)) after
+  -- each member says its key with what its value says, at its place
+  pub MembersSay : json_model.Members → List (List ℕ × Data) → Type 0
+  MembersSay json_model.no_members es = es ≡ []
+  MembersSay (json_model.member k j ms) es =
+      (d : Data) × (more : List (List ℕ × Data)) × Says j d × MembersSay ms more × (es ≡ (k, d) ∷ more)
+
+-- the entries are what the members say, in any order
+abbrev pub EntriesSay : json_model.Members → List (List ℕ × Data) → Type 0
+EntriesSay ms es = (said : List (List ℕ × Data)) × MembersSay ms said × IsPermutation said es
 
 abbrev mutual
   -- each number is an integer in decimal digits alone, from -2^64 to 2^64 - 1
@@ -115,3 +124,12 @@ ValuesFit js ds = ItemsAreIntegers js → ItemsFit (items_depth js) ds
 
 abbrev pub MembersFit : json_model.Members → Entries → Type 0
 MembersFit ms es = MembersAreIntegers ms → EntriesFit (members_depth ms) None es
+
+-- the key of an entry in the program
+abbrev pub key_of : Vec ℕ × Node → List ℕ
+key_of e = e.0.items
+
+-- the same entries, each key below the next
+pub record AreInOrder (entries sorted : List (Vec ℕ × Node)) : Type 0 where
+  pub same : IsPermutation entries sorted
+  pub rise : AllAdjacentBelow (λ a b. key_cmp (key_of a) (key_of b) ≡ Less) sorted (length sorted)

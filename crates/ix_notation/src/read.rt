@@ -1,11 +1,14 @@
 //! Data out of JSON.
 
-ghost use Rattle.std.specs.Prelude.{◌≡◌, [], IfOk, IfErr, map};
+ghost use Rattle.std.specs.Prelude.{◌≡◌, IfOk, IfErr, map};
+ghost use Rattle.std.specs.Ordering.{is_lt};
+ghost use Rattle.json.specs.Strict.{AreDistinct};
 ghost use Rattle.json.specs.Value.{value_view, items_view, members_view};
 ghost use Rattle.ix_cbor.specs.Data.{data_of, entry_of, node_items, node_entries};
 ghost use Rattle.ix_cbor.specs.Spelling.{key_cmp};
-ghost use Rattle.ix_notation.specs.Saying.{Says, ItemsSay, ArePut, ValueFits, ValuesFit, MembersFit, IsJsonOf, IsValueUnread, AreItemsUnread, AreMembersUnread};
+ghost use Rattle.ix_notation.specs.Saying.{Says, ItemsSay, EntriesSay, AreInOrder, key_of, ValueFits, ValuesFit, MembersFit, IsJsonOf, IsValueUnread, AreItemsUnread, AreMembersUnread};
 ghost use Rattle.ix_notation.specs.Notation.{IsJsonRefused};
+ghost use Rattle.ix_notation.specs.declared.fault.NotationFault.TheVariants.{Repeated};
 
 use crate::fault::NotationFault;
 use ix_cbor::{Node, Tree, compare_keys};
@@ -71,7 +74,7 @@ fn members_of(alloc: Global, values: &[Value<'_>]) -> Result<Vec<Node>, Notation
     ensures fits { IfOk result (λ v. ValuesFit (items_view values.now) (node_items v.items)) }
     ensures refused { IfErr result (AreItemsUnread (items_view values.now)) }
 {
-    let mut members = Vec::new(alloc);
+    let mut members = Vec::with_capacity(alloc, values.len())?;
     for value in values {
         members.push(node_of(alloc, value)?)?;
     }
@@ -84,23 +87,36 @@ fn entries_of(
     alloc: Global,
     values: &[(&str, Value<'_>)],
 ) -> Result<Vec<(Vec<u8>, Node)>, NotationFault>
-    ensures says { IfOk result (λ v. ArePut (members_view values.now) [] (map entry_of v.items)) }
+    ensures says { IfOk result (λ v. EntriesSay (members_view values.now) (map entry_of v.items)) }
     ensures fits { IfOk result (λ v. MembersFit (members_view values.now) (node_entries v.items)) }
     ensures refused { IfErr result (AreMembersUnread (members_view values.now)) }
 {
-    let mut entries: Vec<(Vec<u8>, Node)> = Vec::new(alloc);
+    let mut entries = Vec::with_capacity(alloc, values.len())?;
     for (name, value) in values {
         let node = node_of(alloc, value)?;
-        let name = name.as_bytes();
-        let found = entries.as_slice().binary_search_by(
-            |entry: &(Vec<u8>, Node)| -> Ordering
-                ensures { result ≡ key_cmp entry.now.0.items name.entry.now }
-            { compare_keys(entry.0.as_slice(), name) },
-        );
-        match found {
-            Ok(_) => return Err(NotationFault::Repeated),
-            Err(place) => entries.insert(place, (Vec::from_slice(alloc, name)?, node))?,
-        }
+        entries.push((Vec::from_slice(alloc, name.as_bytes())?, node))?;
     }
-    Ok(entries)
+    in_order(entries)
+}
+
+// The same entries in the order of their keys, unless two have one key.
+fn in_order(mut entries: Vec<(Vec<u8>, Node)>) -> Result<Vec<(Vec<u8>, Node)>, NotationFault>
+    ensures sorted { IfOk result (λ v. AreInOrder entries.items v.items) }
+    ensures refused { IfErr result (λ e. (e ≡ Repeated) × ¬ AreDistinct (map key_of entries.items)) }
+{
+    entries.sort_unstable_by(
+        |one, other| -> Ordering
+            ensures { result ≡ key_cmp one.now.0.items other.now.0.items }
+        { compare_keys(one.0.as_slice(), other.0.as_slice()) },
+    );
+    let rise = entries.as_slice().is_sorted_by(
+        |one, other| -> bool
+            ensures { result ≡ is_lt (key_cmp one.now.0.items other.now.0.items) }
+        { compare_keys(one.0.as_slice(), other.0.as_slice()).is_lt() },
+    );
+    if rise {
+        Ok(entries)
+    } else {
+        Err(NotationFault::Repeated)
+    }
 }

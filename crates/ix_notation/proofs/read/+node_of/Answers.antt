@@ -1,14 +1,10 @@
-use Rattle.std.proofs.Common.{rules, ◌≡◌, ◌<◌, ◌≤◌, List, length, get_or, sym, ◌∙◌, subst}
-use Rattle.std.specs.Prelude.{Ok, Err}
-use Rattle.std.specs.List.Sorted.{IsBinarySearchResult}
-use Rattle.std.specs.declared.cmp.Ordering.TheVariants.{Less, Greater}
-use Rattle.std.proofs.lemmas.Result.{err_from_is_err_and}
-use Rattle.std.proofs.lemmas.Fn.{always_returns_same}
-use Rattle.ix_cbor.specs.Spelling.{key_cmp}
-use Rattle.ix_notation.proofs.KeyOrder.{AreSorted, search_rises, sorted_insert, one_more_among, found_twice}
-use Rattle.ix_notation.proofs.Sayings.{Entry, one_more_item, all_items, one_more_member, all_members, object_says}
-use Rattle.ix_notation.proofs.Spelled.{one_more_fits, all_items_fit, array_fits, one_more_entry_fits, entries_fit, object_fits}
-use Rattle.ix_notation.proofs.Unread.{item_unread, member_unread, object_unread}
+use Rattle.std.proofs.Common.{rules, ◌≡◌, ◌∙◌, subst}
+use Rattle.std.proofs.lemmas.Result.{err_from_is_err_and, IfOk-weaker, IfErr-weaker}
+use Rattle.json.specs.Strict.{AreDistinct}
+use Rattle.json.specs.Value.{members_view}
+use Rattle.ix_notation.proofs.Sayings.{one_more_item, all_items, one_more_member, all_members, entries_keys, say_in_order, object_says}
+use Rattle.ix_notation.proofs.Spelled.{one_more_fits, all_items_fit, array_fits, one_more_entry_fits, sorted_fit, object_fits}
+use Rattle.ix_notation.proofs.Unread.{item_unread, member_unread, repeated_unread, object_unread}
 use Rattle.ix_notation.proofs.read.+node_of.Goals as goal
 
 pub node_of-returns-in_ok-members_of-in-Array-clause-fits : goal.node_of-returns-in_ok-members_of-in-Array-clause-fits
@@ -36,29 +32,28 @@ members_of-returns-clause-fits t c = λ integers. all_items_fit _ c.loop-value.m
 
 pub members_of-returns-in_err-node_of-clause-refused : goal.members_of-returns-in_err-node_of-clause-refused
 members_of-returns-in_err-node_of-clause-refused t c =
-    let p = err_from_is_err_and c.from_residual.result c.from_residual.ensures.1 in
+    let p = err_from_is_err_and c.from_residual-in_err-node_of.result c.from_residual-in_err-node_of.ensures.1 in
     rw (p.1, p.2) (item_unread c.args.values.now c.loop-value.value-index c.value-item.result _ c.loop-value-test.true c.value-item.is c.in_err-node_of.ensures.refused)
 
 pub entries_of-returns-clause-says : goal.entries_of-returns-clause-says
-entries_of-returns-clause-says t c = all_members c.args.values.now c.loop-name.name-index c.loop-name.entries.items c.loop-name-test.false c.loop-name.invariant.says
+entries_of-returns-clause-says t c =
+    let said = all_members c.args.values.now c.loop-name.name-index c.loop-name.entries.items c.loop-name-test.false c.loop-name.invariant.says in
+    IfOk-weaker c.in_order.result _ _ (λ v order. say_in_order (members_view c.args.values.now) c.loop-name.entries.items v.items said order.same) c.in_order.ensures.sorted
 
 pub entries_of-returns-clause-fits : goal.entries_of-returns-clause-fits
-entries_of-returns-clause-fits t c = λ integers. entries_fit _ c.loop-name.entries.items c.loop-name.invariant.sorted (c.loop-name.invariant.fits integers)
+entries_of-returns-clause-fits t c =
+    IfOk-weaker c.in_order.result _ _ (λ v order integers. sorted_fit _ c.loop-name.entries.items v.items order (c.loop-name.invariant.fits integers)) c.in_order.ensures.sorted
+
+pub entries_of-returns-clause-refused : goal.entries_of-returns-clause-refused
+entries_of-returns-clause-refused t c =
+    let ms = members_view c.args.values.now in
+    let said = all_members c.args.values.now c.loop-name.name-index c.loop-name.entries.items c.loop-name-test.false c.loop-name.invariant.says in
+    IfErr-weaker c.in_order.result _ _ (λ e h. repeated_unread ms e h.0 (subst (λ ks. ¬ AreDistinct ks) (entries_keys ms c.loop-name.entries.items said) h.1)) c.in_order.ensures.refused
 
 pub entries_of-returns-in_err-node-clause-refused : goal.entries_of-returns-in_err-node-clause-refused
 entries_of-returns-in_err-node-clause-refused t c =
-    let p = err_from_is_err_and c.from_residual.result c.from_residual.ensures.1 in
+    let p = err_from_is_err_and c.from_residual-in_err-node.result c.from_residual-in_err-node.ensures.1 in
     rw (p.1, p.2) (member_unread c.args.values.now c.loop-name.name-index c.loop-name-item.result _ c.loop-name-test.true c.loop-name-item.is c.in_err-node.ensures.refused)
-
-pub entries_of-returns-in-Ok-clause-refused : goal.entries_of-returns-in-Ok-clause-refused
-entries_of-returns-in-Ok-clause-refused t c =
-    let name = c.as_bytes-name.result.now in
-    let entries = c.loop-name.entries.items in
-    let found : IsBinarySearchResult (λ (e : Entry). key_cmp e.0.items name) c.as_slice.result.now (Ok c.in-Ok.field-0) =
-    c.in-Ok.ensures.position (λ (e : Entry). key_cmp e.0.items name) (always_returns_same _ _ _ (λ a r f called. search rules)) in
-    let within : c.in-Ok.field-0 < length entries = search rules in
-    λ unique. found_twice c.args.values.now c.loop-name.name-index c.loop-name-item.result entries c.in-Ok.field-0 name c.loop-name-test.true c.loop-name-item.is within c.as_bytes-name.ensures.value
-    (subst (λ (es : List Entry). IsBinarySearchResult (λ (e : Entry). key_cmp e.0.items name) es (Ok c.in-Ok.field-0)) c.as_slice.ensures.value found) c.loop-name.invariant.among unique.0
 
 pub members_of-loop-value-preserved : goal.members_of-loop-value-preserved
 members_of-loop-value-preserved t c = record {
@@ -70,28 +65,15 @@ members_of-loop-value-preserved t c = record {
 
 pub entries_of-loop-name-preserved : goal.entries_of-loop-name-preserved
 entries_of-loop-name-preserved t c =
-    let name = c.as_bytes-name.result.now in
-    let key = c.in_ok-from_slice-in-Err.field-0 in
-    let place = c.in-Err.place in
+    let key = c.in_ok-from_slice.field-0 in
     let entries = c.loop-name.entries.items in
     let values = c.args.values.now in
-    let after = c.insert.new.self.items in
-    let within : place ≤ length entries = search rules in
-    let named : key.items ≡ c.loop-name-item.result.0.now = c.in_ok-from_slice-in-Err.ensures.items ∙ c.as_bytes-name.ensures.value in
-    let put = c.in_ok-insert-in-Err.ensures.items in
-    let found : IsBinarySearchResult (λ (e : Entry). key_cmp e.0.items name) c.as_slice.result.now (Err place) =
-    c.in-Err.ensures.position (λ (e : Entry). key_cmp e.0.items name) (always_returns_same _ _ _ (λ a r f called. search rules)) in
-    let at_place = subst (λ (es : List Entry). IsBinarySearchResult (λ (e : Entry). key_cmp e.0.items name) es (Err place)) c.as_slice.ensures.value found in
-    let parted = at_place (search_rises name entries c.loop-name.invariant.sorted) in
-    let same : name ≡ key.items = sym c.in_ok-from_slice-in-Err.ensures.items in
+    let after = c.push.new.self.items in
+    let named : key.items ≡ c.loop-name-item.result.0.now = c.in_ok-from_slice.ensures.items ∙ c.as_bytes.ensures.value in
+    let pushed = c.in_ok-push.ensures.items in
     record {
-      says = one_more_member values c.loop-name.name-index c.loop-name-item.result entries after place key c.in_ok-node.node
-          c.loop-name-test.true c.loop-name-item.is within named c.in_ok-node.ensures.says put c.loop-name.invariant.says;
-      sorted = subst AreSorted (sym put) (sorted_insert entries place (key, c.in_ok-node.node) within
-          (λ j d a m. subst (λ k. key_cmp (get_or entries j d).0.items k ≡ Less) same (parted.0 j d a m))
-          (λ j d a m. subst (λ k. key_cmp (get_or entries j d).0.items k ≡ Greater) same (parted.1 j d a m)) c.loop-name.invariant.sorted);
-      among = one_more_among values c.loop-name.name-index c.loop-name-item.result entries after place key c.in_ok-node.node
-          c.loop-name-test.true c.loop-name-item.is within named put c.loop-name.invariant.among;
-      fits = one_more_entry_fits values c.loop-name.name-index c.loop-name-item.result entries after place key c.in_ok-node.node
-          c.loop-name-test.true c.loop-name-item.is within (search rules) c.in_ok-node.ensures.fits put c.loop-name.invariant.fits;
+      says = one_more_member values c.loop-name.name-index c.loop-name-item.result entries after key c.in_ok-node.node
+          c.loop-name-test.true c.loop-name-item.is named c.in_ok-node.ensures.says pushed c.loop-name.invariant.says;
+      fits = one_more_entry_fits values c.loop-name.name-index c.loop-name-item.result entries after key c.in_ok-node.node
+          c.loop-name-test.true c.loop-name-item.is (search rules) c.in_ok-node.ensures.fits pushed c.loop-name.invariant.fits;
     }

@@ -1,6 +1,3 @@
-use Rattle.json.specs.Strict.{keys}
-use Rattle.json.specs.Value.{members_view}
-use Rattle.ix_notation.proofs.KeyOrder.{AreSorted, AreAmong}
 use Rattle.ix_notation.proofs.Sayings.{ItemsSoFar, MembersSoFar}
 use Rattle.ix_notation.proofs.Spelled.{ItemsFitSoFar, MembersFitSoFar}
 use Rattle.ix_notation.proofs.read.+node_of.Given as goal
@@ -8,8 +5,6 @@ use Rattle.ix_notation.proofs.read.+node_of.Given as goal
 abbrev pub invariant-entries_of-loop-name : goal.invariant-entries_of-loop-name
 invariant-entries_of-loop-name l = record {
   says : MembersSoFar l.values l.name-index l.entries.items;
-  sorted : AreSorted l.entries.items;
-  among : AreAmong (keys (members_view l.values)) l.name-index l.entries.items;
   fits : MembersFitSoFar l.values l.entries.items;
 }
 
