@@ -6,3 +6,4 @@ pub mod SectionView
 pub mod Writing
 pub mod FaultWords
 pub mod Examples
+pub mod Standing

@@ -1,65 +1,66 @@
-//! Reading the header of a CARv1 file.
+//! Reading the header of a CARv1 file, where it stands.
+//!
+//! A header is looked at without a tree of it: it is gone over once to see that it decodes, and then its keys and
+//! values are passed up to those that are wanted. So a key that is ignored takes no memory, however long its value.
 
-ghost use Rattle.std.specs.Prelude.{◌≡◌, ◌<◌, ◌≤◌, map, length, option_map, IfOk, IfErr, Some};
-ghost use Rattle.ix_cbor.specs.Data.{data_of, items_of, entry_of, entries_of};
+ghost use Rattle.std.specs.Prelude.{◌≡◌, ◌<◌, ◌≤◌, ◌++◌, length, option_map, Option, IfOk, IfErr, OnOk, Some};
+ghost use Rattle.ix_cbor.specs.Data.{Data, Items, Entries, integer};
 ghost use Rattle.ix_cbor.specs.Reading.{data_at};
+ghost use Rattle.ix_cbor.specs.Fronts.{own_of_front, HasCid};
 ghost use Rattle.ix_car.specs.declared.fault.CarKind.TheVariants.{Memory};
 ghost use Rattle.ix_car.specs.Reading.{value_at, are_links, has_roots, version_fault, header_fault, header_at};
 ghost use Rattle.ix_car.specs.Reads.{ReadsFrom, IsEnd};
 ghost use Rattle.ix_car.specs.Sections.{links_in, links_of, roots_in, roots_of};
+ghost use Rattle.ix_car.specs.Standing.{StandsAt, EntriesStandAt, MembersStandAt, ValueStandsAt, IsMapAt, IsListAt, integer_in, own_integer, own_map, own_list, own_is_link, own_links};
 
 use crate::fault::CarKind;
 use crate::reader::section::{FaultAt, text_at};
-use ix_cbor::{CborKind, Node, Tree, decode};
-use ix_cid::Cid;
+use ix_cbor::{Front, check, read_front, read_key, skip_item};
+use ix_cid::{Cid, CidRef};
 use std::alloc::{AllocError, Global};
 
 // The bytes behind the header.
-pub(super) fn header_at(alloc: Global, bytes: &[u8]) -> Result<&[u8], FaultAt>
+pub(super) fn header_at(_alloc: Global, bytes: &[u8]) -> Result<&[u8], FaultAt>
     ensures reads { ReadsFrom (λ rest. rest.now) header_at bytes.now result }
     ensures shorter { IfOk result (λ rest. length rest.now < length bytes.now) }
     ensures end { IfOk result (λ rest. IsEnd rest.now bytes.now) }
 {
     let (text, rest) = text_at(bytes)?;
-    let Ok(tree) = tree_of(alloc, text) else {
-        return Err(FaultAt::at(CarKind::Memory, bytes));
-    };
-    match fault_of_header(&tree) {
+    match fault_of_header(text) {
         None => Ok(rest),
         Some(kind) => Err(FaultAt::at(kind, bytes)),
     }
 }
 
 // What is wrong with a header, if anything.
-fn fault_of_header(header: &Option<Tree>) -> Option<CarKind>
-    ensures { result ≡ header_fault header.now }
+fn fault_of_header(text: &[u8]) -> Option<CarKind>
+    ensures { result ≡ header_fault (data_at text.now) }
 {
-    match header {
-        Some(tree) => fault_of_root(tree.root()),
-        None => Some(CarKind::Header),
+    match check(text) {
+        Ok(()) => fault_of_block(text),
+        Err(_) => Some(CarKind::Header),
     }
 }
 
-fn fault_of_root(root: &Node) -> Option<CarKind>
-    ensures { result ≡ header_fault (Some (data_of root.now)) }
+// The same of a block that decodes.
+fn fault_of_block(block: &[u8]) -> Option<CarKind>
+    ensures { (d : Data) → StandsAt 512 block.now d → result ≡ header_fault (Some d) }
 {
-    let Node::Map(entries) = root else {
+    let Some((count, entries)) = map_at(block) else {
         return Some(CarKind::Header);
     };
-    let version = value_at(entries.as_slice(), b"version");
-    let roots = value_at(entries.as_slice(), b"roots");
-    fault_of_version(version, has_roots(roots))
+    let version = integer_at(value_at(b"version", count, entries));
+    let has_roots = has_roots(value_at(b"roots", count, entries));
+    fault_of_version(version, has_roots)
 }
 
 // What is wrong with a header's version, or with its roots behind a good one.
-fn fault_of_version(version: Option<&Node>, has_roots: bool) -> Option<CarKind>
-    ensures { result
-        ≡ version_fault (option_map (λ node. data_of node.now) version.entry) has_roots }
+fn fault_of_version(version: Option<i128>, has_roots: bool) -> Option<CarKind>
+    ensures { result ≡ version_fault (option_map integer version) has_roots }
 {
-    let Some(Node::Int(version)) = version else {
+    let Some(version) = version else {
         return Some(CarKind::Header);
     };
-    let version = *version;
     if version != 1 {
         Some(CarKind::Version(version))
     } else if has_roots {
@@ -69,51 +70,126 @@ fn fault_of_version(version: Option<&Node>, has_roots: bool) -> Option<CarKind>
     }
 }
 
-// Whether a value is a list of links.
-fn has_roots(value: Option<&Node>) -> bool
-    ensures { result ≡ has_roots (option_map (λ node. data_of node.now) value.entry) }
+// How many keys and values a block that is a map has, and where the first begins.
+fn map_at(block: &[u8]) -> Option<(u64, &[u8])>
+    ensures { (d : Data) → StandsAt 512 block.now d → IsMapAt result d }
 {
-    match value {
-        Some(Node::List(nodes)) => are_links(nodes.as_slice()),
-        _ => false,
+    let Ok((front, rest)) = read_front(block) else {
+        return None;
+    };
+    match map_count(front) {
+        Some(count) => Some((count, rest)),
+        None => None,
     }
 }
 
-fn are_links(nodes: &[Node]) -> bool
-    ensures { result ≡ are_links (items_of (map data_of nodes.now)) }
+fn map_count(front: Front<'_>) -> Option<u64>
+    ensures { result ≡ own_map (own_of_front front.entry) }
 {
-    for node in nodes {
-        let Node::Link(_) = node else {
-            return false;
+    match front {
+        Front::Map(count) => Some(count),
+        _ => None,
+    }
+}
+
+// Where the value of a key begins, among so many keys and values of a map.
+fn value_at<'a>(key: &[u8], count: u64, entries: &'a [u8]) -> Option<&'a [u8]>
+    ensures { (es : Entries) → EntriesStandAt count entries.now es
+        → ValueStandsAt result (value_at key.now es) }
+{
+    let mut rest = entries;
+    let mut before = None;
+    for _ in 0..count {
+        let Ok((name, value)) = read_key(before, rest) else {
+            return None;
         };
-    }
-    true
-}
-
-// The value of a key.
-fn value_at<'a>(entries: &'a [(Vec<u8>, Node)], key: &[u8]) -> Option<&'a Node>
-    ensures { option_map (λ node. data_of node.now) result
-        ≡ value_at key.now (entries_of (map entry_of entries.now)) }
-{
-    for (other, node) in entries {
-        if other.as_slice() == key {
-            return Some(node);
+        if name == key {
+            return Some(value);
         }
+        let Ok(next) = skip_item(value) else {
+            return None;
+        };
+        rest = next;
+        before = Some(name);
     }
     None
 }
 
-// The tree that a block spells, if it spells one.
-fn tree_of(alloc: Global, block: &[u8]) -> Result<Option<Tree>, AllocError>
-    ensures { IfOk result (λ tree. tree ≡ data_at block.now) }
+// The integer that a value is.
+fn integer_at(value: Option<&[u8]>) -> Option<i128>
+    ensures { (d : Option Data) → ValueStandsAt value.entry d → result ≡ integer_in d }
 {
-    match decode(alloc, block) {
-        Ok(tree) => Ok(Some(tree)),
-        Err(fault) => match fault.kind {
-            CborKind::Memory => Err(AllocError),
-            _ => Ok(None),
-        },
+    let Ok((front, _)) = read_front(value?) else {
+        return None;
+    };
+    integer_of(front)
+}
+
+fn integer_of(front: Front<'_>) -> Option<i128>
+    ensures { result ≡ own_integer (own_of_front front.entry) }
+{
+    match front {
+        Front::Int(number) => Some(number),
+        _ => None,
     }
+}
+
+// Whether a value is a list of links.
+fn has_roots(value: Option<&[u8]>) -> bool
+    ensures { (d : Option Data) → ValueStandsAt value.entry d → result ≡ has_roots d }
+{
+    let Some(value) = value else {
+        return false;
+    };
+    match list_at(value) {
+        Some((count, members)) => are_links(count, members),
+        None => false,
+    }
+}
+
+// How many members a value that is a list has, and where the first begins.
+fn list_at(value: &[u8]) -> Option<(u64, &[u8])>
+    ensures { (d : Data) → StandsAt 511 value.now d → IsListAt result d }
+{
+    let Ok((front, rest)) = read_front(value) else {
+        return None;
+    };
+    match list_count(front) {
+        Some(count) => Some((count, rest)),
+        None => None,
+    }
+}
+
+fn list_count(front: Front<'_>) -> Option<u64>
+    ensures { result ≡ own_list (own_of_front front.entry) }
+{
+    match front {
+        Front::List(count) => Some(count),
+        _ => None,
+    }
+}
+
+// Whether each of so many members of a list is a link.
+fn are_links(count: u64, members: &[u8]) -> bool
+    ensures { (ds : Items) → MembersStandAt count members.now ds → result ≡ are_links ds }
+{
+    let mut rest = members;
+    for _ in 0..count {
+        let Ok((front, next)) = read_front(rest) else {
+            return false;
+        };
+        if !is_link(front) {
+            return false;
+        }
+        rest = next;
+    }
+    true
+}
+
+fn is_link(front: Front<'_>) -> bool
+    ensures { result ≡ own_is_link (own_of_front front.entry) }
+{
+    matches!(front, Front::Link(_))
 }
 
 // The roots of a file whose header is good.
@@ -134,39 +210,64 @@ pub(super) fn roots_at(alloc: Global, bytes: &[u8]) -> Result<Vec<Cid>, FaultAt>
 fn roots_of_header(alloc: Global, text: &[u8]) -> Result<Vec<Cid>, AllocError>
     ensures { IfOk result (λ roots. roots.items ≡ roots_in (data_at text.now)) }
 {
-    match tree_of(alloc, text)? {
-        Some(tree) => roots_of_root(alloc, tree.root()),
+    match check(text) {
+        Ok(()) => roots_of_block(alloc, text),
+        Err(_) => Ok(Vec::new(alloc)),
+    }
+}
+
+// The same of a block that decodes.
+fn roots_of_block(alloc: Global, block: &[u8]) -> Result<Vec<Cid>, AllocError>
+    ensures { IfOk result
+        (λ roots. (d : Data) → StandsAt 512 block.now d → roots.items ≡ roots_in (Some d)) }
+{
+    match map_at(block) {
+        Some((count, entries)) => links_of(alloc, value_at(b"roots", count, entries)),
         None => Ok(Vec::new(alloc)),
     }
 }
 
-fn roots_of_root(alloc: Global, root: &Node) -> Result<Vec<Cid>, AllocError>
-    ensures { IfOk result (λ roots. roots.items ≡ roots_in (Some (data_of root.now))) }
-{
-    match root {
-        Node::Map(entries) => links_of(alloc, value_at(entries.as_slice(), b"roots")),
-        _ => Ok(Vec::new(alloc)),
-    }
-}
-
 // The CIDs of the links in a value that is a list.
-fn links_of(alloc: Global, value: Option<&Node>) -> Result<Vec<Cid>, AllocError>
-    ensures { IfOk result (λ links. links.items ≡ links_of (option_map (λ node. data_of node.now) value.entry)) }
+fn links_of(alloc: Global, value: Option<&[u8]>) -> Result<Vec<Cid>, AllocError>
+    ensures { IfOk result
+        (λ links. (d : Option Data) → ValueStandsAt value.entry d → links.items ≡ links_of d) }
 {
-    match value {
-        Some(Node::List(nodes)) => links_in(alloc, nodes.as_slice()),
-        _ => Ok(Vec::new(alloc)),
+    let Some(value) = value else {
+        return Ok(Vec::new(alloc));
+    };
+    match list_at(value) {
+        Some((count, members)) => links_in(alloc, count, members),
+        None => Ok(Vec::new(alloc)),
     }
 }
 
-fn links_in(alloc: Global, nodes: &[Node]) -> Result<Vec<Cid>, AllocError>
-    ensures { IfOk result (λ links. links.items ≡ links_in (items_of (map data_of nodes.now))) }
+// The CIDs of the links among so many members of a list.
+fn links_in(alloc: Global, count: u64, members: &[u8]) -> Result<Vec<Cid>, AllocError>
+    ensures { IfOk result
+        (λ links. (ds : Items) → MembersStandAt count members.now ds → links.items ≡ links_in ds) }
 {
     let mut links = Vec::new(alloc);
-    for node in nodes {
-        if let Node::Link(cid) = node {
-            links.push(cid.try_clone(alloc)?)?;
-        }
+    let mut rest = members;
+    for _ in 0..count {
+        let Ok((front, _)) = read_front(rest) else {
+            return Ok(links);
+        };
+        let Ok(next) = skip_item(rest) else {
+            return Ok(links);
+        };
+        push_link(alloc, &mut links, front)?;
+        rest = next;
     }
     Ok(links)
+}
+
+// Appends the CID of an item that is a link.
+fn push_link(alloc: Global, links: &mut Vec<Cid>, front: Front<'_>) -> Result<(), AllocError>
+    requires { HasCid front }
+    ensures { OnOk result (links.new.items ≡ links.old.items ++ own_links (own_of_front front.entry)) }
+{
+    if let Front::Link(cid) = front {
+        links.push(CidRef::of(cid).to_cid(alloc)?)?;
+    }
+    Ok(())
 }
