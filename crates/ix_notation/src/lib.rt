@@ -2,7 +2,8 @@
 //!
 //! Both ways go through the same data: JSON of a selector becomes the hexadecimal of its one
 //! spelling and a line end, and that becomes JSON again. What is refused has a reason, each its own
-//! fault, and `fault_line` is the line that the program prints for it.
+//! fault, and `fault_line` is the line that the program prints for it; `json_fault_line` and
+//! `hex_fault_line` say the part of a selector that is refused too.
 //!
 //! ```rust
 //! let line = hex_of_json(alloc, b"{\".\":{}}")?;
@@ -12,9 +13,13 @@
 #![tactic(auto)]
 
 mod command;
+mod explain;
 mod fault;
+mod place;
 mod print;
 mod read;
+mod spot;
 
 pub use command::{hex_of_json, json_of_hex};
+pub use explain::{hex_fault_line, json_fault_line};
 pub use fault::{NotationFault, fault_line};

@@ -1,0 +1,175 @@
+//! A part of data that is refused, in words.
+
+ghost use Rattle.std.specs.Prelude.{◌≡◌, ◌++◌, List, ℕ, IfOk, string_bytes};
+
+use ix_cbor::Node;
+use std::alloc::{AllocError, Global};
+
+// How many characters of a key are shown.
+const MOST_SHOWN: usize = 40;
+
+/// What is wrong with a part, beside the words for its kind.
+#[derive(Drop, Clone, Copy)]
+pub(crate) enum Wrong<'t> {
+    /// The value that stands there.
+    Value,
+    /// A map that is to have a key has none.
+    NoKey,
+    /// The second key of a map that is to have one.
+    Second(&'t [u8], &'t [u8]),
+    /// A key that its map is not to have.
+    Extra(&'t [u8]),
+    /// A key that its map lacks.
+    Missing(&'static [u8]),
+    /// A key that names nothing.
+    Unknown(&'t [u8]),
+    /// The value of this key.
+    Field(&'t [u8]),
+}
+
+/// Where data is refused: the words for what is wrong with the part, and its place as a JSON Pointer
+/// (RFC 6901), which is empty for the whole.
+#[derive(Drop)]
+pub(crate) struct Spot {
+    words: String,
+    path: String,
+}
+
+impl<'t> Wrong<'t> {
+    /// What is wrong with a map that is to have one key, and hasn't.
+    pub(crate) fn of_one(entries: &'t [(Vec<u8>, Node)]) -> Wrong<'t> {
+        match entries {
+            [(first, _), (second, _), ..] => Wrong::Second(first.as_slice(), second.as_slice()),
+            _ => Wrong::NoKey,
+        }
+    }
+
+    /// What is wrong with a map that is to have exactly these keys, if anything.
+    pub(crate) fn of_keys(
+        entries: &'t [(Vec<u8>, Node)],
+        keys: &[&'static [u8]],
+    ) -> Option<Wrong<'t>> {
+        for (name, _) in entries {
+            if !keys.iter().any(|key| *key == name.as_slice()) {
+                return Some(Wrong::Extra(name.as_slice()));
+            }
+        }
+        for key in keys {
+            if !entries.iter().any(|(name, _)| name.as_slice() == *key) {
+                return Some(Wrong::Missing(*key));
+            }
+        }
+        None
+    }
+
+    // The words for it, behind those for its kind.
+    fn words(self, alloc: Global) -> Result<String, AllocError> {
+        match self {
+            Wrong::Value | Wrong::Field(_) => Ok(String::new(alloc)),
+            Wrong::NoKey => String::from_str(alloc, " (no key)"),
+            Wrong::Second(first, second) => {
+                let first = quoted(alloc, first)?;
+                let second = quoted(alloc, second)?;
+                format!(in alloc; " ({second} beside {first})")
+            }
+            Wrong::Extra(key) => {
+                let key = quoted(alloc, key)?;
+                format!(in alloc; " ({key})")
+            }
+            Wrong::Missing(key) => {
+                let key = quoted(alloc, key)?;
+                format!(in alloc; " (no {key})")
+            }
+            Wrong::Unknown(key) => {
+                let key = quoted(alloc, key)?;
+                format!(in alloc; " {key}")
+            }
+        }
+    }
+}
+
+impl Spot {
+    /// What is wrong at a path.
+    pub(crate) fn new(alloc: Global, path: &str, wrong: Wrong<'_>) -> Result<Spot, AllocError> {
+        let mut path = String::from_str(alloc, path)?;
+        if let Wrong::Field(key) = wrong {
+            push_segment(alloc, &mut path, key)?;
+        }
+        Ok(Spot {
+            words: wrong.words(alloc)?,
+            path,
+        })
+    }
+
+    /// The same part, of data that stands behind a path.
+    pub(crate) fn behind(self, alloc: Global, path: &str) -> Result<Spot, AllocError> {
+        let Spot { words, path: inner } = self;
+        Ok(Spot {
+            words,
+            path: format!(in alloc; "{path}{inner}")?,
+        })
+    }
+
+    /// The same part, of data that stands behind a key.
+    pub(crate) fn behind_key(self, alloc: Global, key: &[u8]) -> Result<Spot, AllocError> {
+        let mut path = String::new(alloc);
+        push_segment(alloc, &mut path, key)?;
+        self.behind(alloc, path.as_str())
+    }
+
+    /// A line that says what is wrong, with the part and its place behind it.
+    pub(crate) fn told(&self, alloc: Global, line: &str) -> Result<String, AllocError>
+        ensures { IfOk result
+            (λ told. (more : List ℕ) × (string_bytes told ≡ line.now ++ more)) }
+    {
+        let words = self.words.as_str();
+        let path = self.path.as_str();
+        if path.is_empty() {
+            format!(in alloc; "{line}{words}")
+        } else {
+            format!(in alloc; "{line}{words} at {path}")
+        }
+    }
+}
+
+// Appends a key to a path, as a segment of a JSON Pointer.
+fn push_segment(alloc: Global, path: &mut String, key: &[u8]) -> Result<(), AllocError> {
+    path.push('/')?;
+    push_shown(alloc, path, key, true)
+}
+
+// A key in quotes.
+fn quoted(alloc: Global, key: &[u8]) -> Result<String, AllocError> {
+    let mut text = String::from_str(alloc, "\"")?;
+    push_shown(alloc, &mut text, key, false)?;
+    text.push('"')?;
+    Ok(text)
+}
+
+// Appends the characters of a key, of a long one the first. What could write over a terminal is escaped as in
+// JSON, and a byte that is no text is told by its number.
+fn push_shown(
+    alloc: Global,
+    text: &mut String,
+    key: &[u8],
+    is_segment: bool,
+) -> Result<(), AllocError> {
+    let Ok(key) = str::from_utf8(key) else {
+        let digits = hex::encode(alloc, &key[..key.len().min(MOST_SHOWN)])?;
+        return write!(text, "bytes {digits}");
+    };
+    for (count, c) in key.chars().enumerate() {
+        if count == MOST_SHOWN {
+            return text.push_str("..");
+        }
+        match c {
+            '~' if is_segment => text.push_str("~0")?,
+            '/' if is_segment => text.push_str("~1")?,
+            '"' | '\\' if !is_segment => write!(text, "\\{c}")?,
+            ' '..='~' => text.push(c)?,
+            _ if c.is_alphanumeric() => text.push(c)?,
+            _ => write!(text, "\\u{:04x}", c as u32)?,
+        }
+    }
+    Ok(())
+}
