@@ -1,5 +1,5 @@
 -- The words for why a text is no selector.
-use Rattle.std.specs.Prelude.{◌≡◌, ℕ, List, ◌++◌, codes, String, string_bytes}
+use Rattle.std.specs.Prelude.{◌≡◌, ℕ, List, ◌++◌, codes}
 use Rattle.std.specs.Fmt.{decimal}
 use Rattle.ix_cbor.specs.declared.fault.CborKind.{CborKind}
 use Rattle.ix_cbor.specs.declared.fault.CborKind.TheVariants as block
@@ -52,6 +52,6 @@ line_of (Selector fault) = codes "selector: " ++ selector_words fault
 line_of Name = codes "selector: a name is not UTF-8"
 line_of Memory = codes "memory"
 
--- the line for a refusal, and more behind it
-abbrev pub SaysMore : {Y : Type 0} → NotationFault → String Y → Type 0
-SaysMore fault line = (more : List ℕ) × (string_bytes line ≡ line_of fault ++ more)
+-- the text begins with the line
+abbrev pub Continues : List ℕ → List ℕ → Type 0
+Continues line text = (more : List ℕ) × (text ≡ line ++ more)

@@ -1,7 +1,7 @@
 //! The line of a refusal, with the part of the selector that is refused.
 
-ghost use Rattle.std.specs.Prelude.{◌≡◌, ◌++◌, IfOk, string_bytes};
-ghost use Rattle.ix_notation.specs.FaultWords.{SaysMore};
+ghost use Rattle.std.specs.Prelude.{IfOk, string_bytes};
+ghost use Rattle.ix_notation.specs.FaultWords.{line_of, Continues};
 
 use crate::fault::{NotationFault, fault_line};
 use crate::place::first_fault;
@@ -17,11 +17,12 @@ pub fn json_fault_line(
     fault: &NotationFault,
     text: &[u8],
 ) -> Result<String, AllocError>
-    ensures { IfOk result (SaysMore fault.now) }
+    ensures { IfOk result (λ line. Continues (line_of fault.now) (string_bytes line)) }
 {
+    let line = fault_line(alloc, fault)?;
     match (fault, tree_of(alloc, text)) {
-        (NotationFault::Selector(_), Ok(tree)) => told(alloc, fault, &tree),
-        _ => fault_line(alloc, fault),
+        (NotationFault::Selector(_), Ok(tree)) => with_place(alloc, line, &tree),
+        _ => Ok(line),
     }
 }
 
@@ -31,22 +32,22 @@ pub fn hex_fault_line(
     fault: &NotationFault,
     text: &str,
 ) -> Result<String, AllocError>
-    ensures { IfOk result (SaysMore fault.now) }
+    ensures { IfOk result (λ line. Continues (line_of fault.now) (string_bytes line)) }
 {
+    let line = fault_line(alloc, fault)?;
     let (NotationFault::Selector(_), Ok(bytes)) = (fault, hex::decode(alloc, text)) else {
-        return fault_line(alloc, fault);
+        return Ok(line);
     };
     match decode(alloc, bytes.as_slice()) {
-        Ok(tree) => told(alloc, fault, &tree),
-        Err(_) => fault_line(alloc, fault),
+        Ok(tree) => with_place(alloc, line, &tree),
+        Err(_) => Ok(line),
     }
 }
 
-// The line for a refusal of a tree.
-fn told(alloc: Global, fault: &NotationFault, tree: &Tree) -> Result<String, AllocError>
-    ensures { IfOk result (SaysMore fault.now) }
+// The line for the refusal of a tree, with the part that is refused.
+fn with_place(alloc: Global, line: String, tree: &Tree) -> Result<String, AllocError>
+    ensures { IfOk result (λ told. Continues (string_bytes line) (string_bytes told)) }
 {
-    let line = fault_line(alloc, fault)?;
     match first_fault(alloc, tree.root())? {
         Some(spot) => spot.told(alloc, line.as_str()),
         None => Ok(line),

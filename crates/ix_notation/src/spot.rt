@@ -1,6 +1,7 @@
 //! A part of data that is refused, in words.
 
-ghost use Rattle.std.specs.Prelude.{◌≡◌, ◌++◌, List, ℕ, IfOk, string_bytes};
+ghost use Rattle.std.specs.Prelude.{IfOk, string_bytes};
+ghost use Rattle.ix_notation.specs.FaultWords.{Continues};
 
 use ix_cbor::Node;
 use std::alloc::{AllocError, Global};
@@ -119,8 +120,7 @@ impl Spot {
 
     /// A line that says what is wrong, with the part and its place behind it.
     pub(crate) fn told(&self, alloc: Global, line: &str) -> Result<String, AllocError>
-        ensures { IfOk result
-            (λ told. (more : List ℕ) × (string_bytes told ≡ line.now ++ more)) }
+        ensures { IfOk result (λ told. Continues line.now (string_bytes told)) }
     {
         let words = self.words.as_str();
         let path = self.path.as_str();
