@@ -64,7 +64,7 @@ IsNoWord IsSpelled name roots limit kinds.Memory = ⊥
 
 -- why the words are those of no job, where this is known of a selector that has no hexadecimal, or memory ran out
 abbrev pub IsRefusedBy : (List ℕ → Type 0) → (NotationFault → Type 0) → List ℕ → List ℕ → List ℕ → LineFault → Type 0
-IsRefusedBy IsSpelled IsUnspelled name roots limit (Selector fault) = IsUnspelled fault
+IsRefusedBy IsSpelled IsUnspelled name roots limit (Selector fault told) = IsUnspelled fault
 IsRefusedBy IsSpelled IsUnspelled name roots limit (Field kinds.Memory) = Unit {0}
 IsRefusedBy IsSpelled IsUnspelled name roots limit (Field kind) = IsNoWord IsSpelled name roots limit kind ⊎ IsNoJob IsSpelled name roots limit kind
 

@@ -30,7 +30,7 @@ IsNoSelector (Hex text) fault = ⊥
 
 -- the same, or memory ran out
 abbrev pub IsUnspelled : SelectorWord → LineFault → Type 0
-IsUnspelled selector (faults.Selector fault) = IsNoSelector selector fault
+IsUnspelled selector (faults.Selector fault told) = IsNoSelector selector fault
 IsUnspelled selector (faults.Field kinds.Memory) = Unit {0}
 IsUnspelled selector (faults.Field kind) = ⊥
 

@@ -4,7 +4,7 @@ ghost use Rattle.std.specs.Prelude.{◌≡◌, length, map, IfOk, IfErr};
 ghost use Rattle.ix_walk.specs.JobMeaning.{walked};
 ghost use Rattle.ix_job_words.specs.Words.{AreJobsOf, AreWordsRefused};
 
-use crate::line::{LineFault, line_by, line_fault_words};
+use crate::line::{LineFault, OPTION_FIELDS, fault_words, line_by};
 use crate::selector::SelectorWord;
 use crate::words::selector_fault;
 use ix_jobs::JobsKind;
@@ -43,8 +43,8 @@ fn walked(alloc: Global, jobs: Vec<Job>, once: bool) -> Result<Vec<Job>, AllocEr
     }
 }
 
-/// Tells why words are those of no job: `NAME: what is wrong, and what would be right`, and of a
-/// selector in JSON the line of the command `selector`.
+/// Tells why words are those of no job: `--limit: what is wrong, and what would be right`, since they are typed
+/// as options, and of a selector in JSON the line of the command `selector`, with the part that is refused.
 pub fn job_fault_words(
     alloc: Global,
     fault: &LineFault,
@@ -52,11 +52,15 @@ pub fn job_fault_words(
 ) -> Result<String, AllocError> {
     match (fault, words.selector) {
         (LineFault::Field(JobsKind::Hex | JobsKind::Selector), SelectorWord::Hex(text)) => {
+            let field = OPTION_FIELDS.selector;
             match selector_fault(alloc, text)? {
-                Some(words) => format!(in alloc; "SELECTOR: {words}"),
-                None => String::from_str(alloc, "SELECTOR: no selector"),
+                Some(words) => format!(in alloc; "{field}: {words}"),
+                None => format!(in alloc; "{field}: no selector"),
             }
         }
-        _ => line_fault_words(alloc, fault, words.name, words.roots, words.limit),
+        _ => {
+            let typed = [words.name, words.roots, words.limit];
+            fault_words(alloc, fault, &OPTION_FIELDS, typed)
+        }
     }
 }

@@ -17,8 +17,9 @@ use std::alloc::{AllocError, Global};
 pub enum LineFault {
     /// The name, the roots or the limit, as a job file would be refused for it; or `Memory`.
     Field(JobsKind),
-    /// The text that is no selector.
-    Selector(NotationFault),
+    /// The text that is no selector, and the line that tells so with the part that is refused, where there
+    /// was memory for it.
+    Selector(NotationFault, Option<String>),
 }
 
 /// The line of a job file for the job of a name, the texts of its roots with one comma between, its
@@ -93,7 +94,7 @@ fn without_end(line: &[u8]) -> &[u8]
 }
 
 /// Tells why words are those of no job: `NAME: what is wrong, and what would be right`, and of a
-/// selector the line of the command `selector`.
+/// selector the line of the command `selector`, with the part that is refused.
 pub fn line_fault_words(
     alloc: Global,
     fault: &LineFault,
@@ -101,21 +102,62 @@ pub fn line_fault_words(
     roots: &str,
     limit: &str,
 ) -> Result<String, AllocError> {
+    fault_words(alloc, fault, &LINE_FIELDS, [name, roots, limit])
+}
+
+/// What the fields of a job are called where they are typed.
+pub(crate) struct FieldNames {
+    pub name: &'static str,
+    pub roots: &'static str,
+    pub limit: &'static str,
+    pub selector: &'static str,
+}
+
+/// In a line of a job file.
+pub(crate) static LINE_FIELDS: FieldNames = FieldNames {
+    name: "NAME",
+    roots: "ROOT",
+    limit: "LIMIT",
+    selector: "SELECTOR",
+};
+
+/// As options of a command.
+pub(crate) static OPTION_FIELDS: FieldNames = FieldNames {
+    name: "--name",
+    roots: "--root",
+    limit: "--limit",
+    selector: "--selector-hex",
+};
+
+/// The same words for a name, roots and a limit that are called so.
+pub(crate) fn fault_words(
+    alloc: Global,
+    fault: &LineFault,
+    called: &FieldNames,
+    typed: [&str; 3],
+) -> Result<String, AllocError> {
+    let [name, roots, limit] = typed;
     match fault {
         LineFault::Field(JobsKind::Name) => {
+            let field = called.name;
             let words = name_fault(name).unwrap_or("no name");
-            format!(in alloc; "NAME: {words}")
+            format!(in alloc; "{field}: {words}")
         }
-        LineFault::Field(JobsKind::Root) => match roots_fault(alloc, roots)? {
-            Some(words) => format!(in alloc; "ROOT: {words}"),
-            None => String::from_str(alloc, "ROOT: no CID"),
-        },
+        LineFault::Field(JobsKind::Root) => {
+            let field = called.roots;
+            match roots_fault(alloc, roots)? {
+                Some(words) => format!(in alloc; "{field}: {words}"),
+                None => format!(in alloc; "{field}: no CID"),
+            }
+        }
         LineFault::Field(JobsKind::Limit) => {
+            let field = called.limit;
             let words = limit_fault(limit).unwrap_or("no limit");
-            format!(in alloc; "LIMIT: {words}")
+            format!(in alloc; "{field}: {words}")
         }
         LineFault::Field(kind) => format!(in alloc; "{kind}"),
-        LineFault::Selector(fault) => fault_line(alloc, fault),
+        LineFault::Selector(_, Some(line)) => String::from_str(alloc, line.as_str()),
+        LineFault::Selector(fault, None) => fault_line(alloc, fault),
     }
 }
 
@@ -128,16 +170,5 @@ impl From<AllocError> for LineFault {
 
     fn from(_error: AllocError) -> LineFault {
         LineFault::Field(JobsKind::Memory)
-    }
-}
-
-impl From<NotationFault> for LineFault {
-    ghost use Rattle.std.specs.Prelude.{◌≡◌};
-    ghost use Rattle.ix_job_words.specs.declared.line.LineFault.TheVariants.{Selector};
-
-    ghost from_gives = { λ fault told. told ≡ Selector fault };
-
-    fn from(fault: NotationFault) -> LineFault {
-        LineFault::Selector(fault)
     }
 }

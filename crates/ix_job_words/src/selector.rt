@@ -4,7 +4,7 @@ ghost use Rattle.std.specs.Prelude.{◌<◌, length, IfOk, IfErr, string_bytes};
 ghost use Rattle.ix_job_words.specs.Words.{IsSpelledBy, IsUnspelled};
 
 use crate::line::LineFault;
-use ix_notation::hex_of_json;
+use ix_notation::{hex_of_json, json_fault_line};
 use std::alloc::Global;
 
 // The selector of everything, `{"R":{"l":{"none":{}},":>":{"a":{">":{"@":{}}}}}}`, as DAG-CBOR in
@@ -30,7 +30,13 @@ pub(crate) fn hex_line(alloc: Global, selector: &SelectorWord<'_>) -> Result<Str
 {
     match selector {
         SelectorWord::Everything => Ok(format!(in alloc; "{EVERYTHING}\n")?),
-        SelectorWord::Json(text) => Ok(hex_of_json(alloc, text)?),
+        SelectorWord::Json(text) => match hex_of_json(alloc, text) {
+            Ok(line) => Ok(line),
+            Err(fault) => {
+                let told = json_fault_line(alloc, &fault, text).ok();
+                Err(LineFault::Selector(fault, told))
+            }
+        },
         SelectorWord::Hex(text) => Ok(format!(in alloc; "{text}\n")?),
     }
 }

@@ -1,9 +1,12 @@
 //! What is wrong with a field of a job's line, in words, and what would be right.
 
 use ix_cid::{Cid, CidFault};
-use ix_notation::{NotationFault, fault_line, json_of_hex};
+use ix_notation::{NotationFault, hex_fault_line, json_of_hex};
 use ix_walk::{GREATEST_LIMIT, MOST_ROOTS, is_name};
 use std::alloc::{AllocError, Global};
+
+// The digits of base32 (RFC 4648, section 6) in lower case.
+const BASE32: [u8; 32] = *b"abcdefghijklmnopqrstuvwxyz234567";
 
 // How many bytes a name may have.
 const LONGEST_NAME: usize = 64;
@@ -50,7 +53,11 @@ fn root_words(
     if fault == CidFault::Memory {
         return Err(AllocError);
     }
-    let words = form_words(root).unwrap_or(cid_words(fault));
+    let words = match form_words(root) {
+        Some(words) => words,
+        None if fault == CidFault::Base32 => base32_words(alloc, root)?,
+        None => cid_words(fault),
+    };
     if root.is_empty() {
         let words = "no text beside a comma, and CIDs with one comma between are wanted";
         String::from_str(alloc, words)
@@ -120,6 +127,48 @@ fn cid_words(fault: CidFault) -> &'static str {
     }
 }
 
+// What is wrong with a text behind b that is no base32: a character of it, or where it ends.
+fn base32_words(alloc: Global, root: &str) -> Result<&'static str, AllocError> {
+    let Some(whole) = whole_bytes(alloc, root)? else {
+        return Ok(cid_words(CidFault::Base32));
+    };
+    match Cid::from_text(alloc, whole.as_str()) {
+        Err(CidFault::Memory) => Err(AllocError),
+        Ok(_) | Err(CidFault::Rest | CidFault::Base32) => {
+            Ok("a CID with a character too many, or with another at its end")
+        }
+        Err(fault) => Ok(cid_words(fault)),
+    }
+}
+
+// The text of the whole bytes that a text of base32 begins with, unless it has another character.
+fn whole_bytes(alloc: Global, root: &str) -> Result<Option<String>, AllocError> {
+    let mut text = String::new(alloc);
+    let Some((_, digits)) = root.as_bytes().split_first() else {
+        return Ok(None);
+    };
+    let count = digits.len() - usize::from(matches!(digits.len() % 8, 1 | 3 | 6));
+    // Which bits of the last digit are those of the last byte.
+    let mask = match count % 8 {
+        2 => 0b11100,
+        4 => 0b10000,
+        5 => 0b11110,
+        7 => 0b11000,
+        _ => 0b11111,
+    };
+    text.push('b')?;
+    for (at, digit) in digits.iter().enumerate() {
+        let Some(value) = BASE32.iter().position(|other| other == digit) else {
+            return Ok(None);
+        };
+        let kept = if at + 1 == count { value & mask } else { value };
+        if at < count {
+            text.push(char::from(BASE32[kept % 32]))?;
+        }
+    }
+    Ok(Some(text))
+}
+
 /// What is wrong with a limit, if anything.
 pub(crate) fn limit_fault(limit: &str) -> Option<&'static str> {
     let digits = limit.as_bytes();
@@ -151,7 +200,7 @@ pub(crate) fn selector_fault(alloc: Global, text: &str) -> Result<Option<String>
             String::from_str(alloc, hex_words(text)).map(|words| Some(words))
         }
         Err(fault) => {
-            let line = fault_line(alloc, &fault)?;
+            let line = hex_fault_line(alloc, &fault, text)?;
             let reason = line.as_str().strip_prefix("selector: ").unwrap_or("");
             format!(in alloc; "no selector: {reason}").map(|words| Some(words))
         }
