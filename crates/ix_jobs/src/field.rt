@@ -57,8 +57,7 @@ pub(crate) fn limit_in(text: &str) -> Result<u32, JobsKind>
 pub(crate) fn selector_in(alloc: Global, text: &str) -> Result<Selector, JobsKind>
     ensures { Gives (λ selector. selector) result (selector_in text.now) }
 {
-    let bytes = bytes_in(alloc, text)?;
-    let tree = tree_in(alloc, bytes.as_slice())?;
+    let tree = tree_in(alloc, bytes_in(alloc, text)?)?;
     match Selector::read(alloc, &tree) {
         Ok(selector) => Ok(selector),
         Err(SelFault::Memory) => Err(JobsKind::Memory),
@@ -77,11 +76,11 @@ fn bytes_in(alloc: Global, text: &str) -> Result<Vec<u8>, JobsKind>
     }
 }
 
-// The tree that bytes spell.
-fn tree_in(alloc: Global, bytes: &[u8]) -> Result<Tree, JobsKind>
-    ensures { Gives (λ tree. tree) result (data_in bytes.now) }
+// The tree that bytes spell, which are let go of before it is read as a selector.
+fn tree_in(alloc: Global, bytes: Vec<u8>) -> Result<Tree, JobsKind>
+    ensures { Gives (λ tree. tree) result (data_in bytes.items) }
 {
-    match decode(alloc, bytes) {
+    match decode(alloc, bytes.as_slice()) {
         Ok(tree) => Ok(tree),
         Err(fault) => match fault.kind {
             CborKind::Memory => Err(JobsKind::Memory),
