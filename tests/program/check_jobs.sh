@@ -33,7 +33,7 @@ checked jobs.txt 'jobs: root at line 2' \
   'line 5, NAME: stands in line 1 too' \
   'line 6, NAME: upper case, and a to z, 0 to 9, - and _ are wanted' \
   'line 7, LIMIT: a leading zero, and 1 to 1000000 is wanted without one' \
-  'line 8, SELECTOR: no selector: a value of another kind' \
+  'line 8, SELECTOR: no selector: a value of another kind at /.' \
   'line 10: two spaces behind NAME, and one is wanted' \
   'line 11: trailing space' \
   'line 12: 3 fields, and the four NAME ROOTS LIMIT SELECTOR are wanted' \
@@ -58,7 +58,7 @@ checked jobs.txt 'jobs: root at line 1' \
   'line 4, ROOT: an ipfs:// address, and the CID alone is wanted' \
   'line 5, ROOT: a path of /ipfs/, and the CID alone is wanted' \
   "line 6, ROOT: f$abc_cid is hexadecimal, and base32 beginning with b is wanted: ipfs cid base32 converts it" \
-  'line 7, ROOT: no base32: behind b stand a to z and 2 to 7, in lower case' \
+  'line 7, ROOT: a CID that ends early' \
   'line 8, ROOT: no text beside a comma, and CIDs with one comma between are wanted' \
   'line 9, ROOT: 66 texts, and 1 to 64 are wanted' \
   'line 10, ROOT: base36, and base32 beginning with b is wanted: ipfs cid base32 converts it' \
@@ -122,4 +122,6 @@ job_refused 'ROOT: base58, and base32 beginning with b is wanted: ipfs cid base3
 job_refused 'ROOT: no CID: a CIDv1 in base32, beginning with b, is wanted' a ' ' 1 '{".":{}}'
 job_refused 'LIMIT: greater than 1000000, and 1 to 1000000 is wanted' a "$abc_text" 1000001 '{".":{}}'
 job_refused 'LIMIT: no number in decimal digits alone, and 1 to 1000000 is wanted' a "$abc_text" '1 1' '{".":{}}'
-job_refused 'selector: unknown key' a "$abc_text" 1 '{"x":{}}'
+job_refused 'selector: unknown key "x"' a "$abc_text" 1 '{"x":{}}'
+job_refused 'ROOT: a CID with a character too many, or with another at its end' a "${abc_text}a" 1 '{".":{}}'
+job_refused 'ROOT: no base32: behind b stand a to z and 2 to 7, in lower case' a "${abc_text%?}0" 1 '{".":{}}'

@@ -123,7 +123,7 @@ for selector in '{"R":{"l":{"none":{}},":>":{"a":{">":{".":{}}}}}}' \
 $no_edge" "$one_archive"
 done
 run "${get_one[@]}" --selector '{"|":[{"f":{"f>":{"R":{".":{}}}}},{"selector":{".":{}}}]}'
-refused 'selector: unknown key'
+refused 'selector: unknown key "selector" at /|/1'
 run "${get_one[@]}" --selector '{"|":[{"f":{"f>":{"R":{".":{}},"@":{".":{}}}}},{"a":{">":{".":{}}}}]}'
 got 0 "$get_report" "$one_archive"
 run "${get_one[@]}" --selector '{"R":{"l":{"none":{}},":>":{"f":{"f>":{"@":{".":{}}}}}}}'
@@ -148,7 +148,7 @@ base58='base58 of a CIDv0, which names UnixFS, and a CIDv1 in base32 beginning w
 other=', and base32 beginning with b is wanted: ipfs cid base32 converts it'
 upper='base32 in upper case, and lower case is wanted, beginning with b'
 while read -r root line; do
-  get_refused "ROOT: $line" get --blocks none --root "$root" --out out/a.car
+  get_refused "--root: $line" get --blocks none --root "$root" --out out/a.car
 done <<END
 QmdfTbBqBPQ7VNxZEYEj14VmRuZBkqFbiwReogJgS1zR1n $base58
 zb2rhe5P4gXftAwvA4eXQ5HJwsER2owDyS9sKaQRRVQPn93bA base58$other
@@ -159,13 +159,13 @@ ipfs://$abc_text an ipfs:// address, and the CID alone is wanted
 /ipfs/$abc_text a path of /ipfs/, and the CID alone is wanted
 $abc_text,f01 f01 is hexadecimal$other
 END
-get_refused 'LIMIT: 0, and 1 to 1000000 is wanted' "${get_one[@]}" --limit 0
-get_refused 'LIMIT: greater than 1000000, and 1 to 1000000 is wanted' "${get_one[@]}" --limit 1000001
-get_refused 'selector: unknown key' "${get_one[@]}" --selector '{"x":{}}'
+get_refused '--limit: 0, and 1 to 1000000 is wanted' "${get_one[@]}" --limit 0
+get_refused '--limit: greater than 1000000, and 1 to 1000000 is wanted' "${get_one[@]}" --limit 1000001
+get_refused 'selector: unknown key "x" at /f/f>/album' "${get_one[@]}" --selector '{"f":{"f>":{"album":{"x":{}}}}}'
 get_refused 'selector: no JSON at 0' "${get_one[@]}" --selector ''
-get_refused 'SELECTOR: no selector: unknown key' "${get_one[@]}" --selector-hex a16178a0
-get_refused 'SELECTOR: no hexadecimal: the line of ix_export selector is wanted' "${get_one[@]}" --selector-hex xy
-get_refused 'SELECTOR: JSON, made hexadecimal by ix_export selector' "${get_one[@]}" --selector-hex '{".":{}}'
+get_refused '--selector-hex: no selector: unknown key "x"' "${get_one[@]}" --selector-hex a16178a0
+get_refused '--selector-hex: no hexadecimal: the line of ix_export selector is wanted' "${get_one[@]}" --selector-hex xy
+get_refused '--selector-hex: JSON, made hexadecimal by ix_export selector' "${get_one[@]}" --selector-hex '{".":{}}'
 
 # get_usage WORD..: words that the command line itself refuses.
 get_usage() {
