@@ -47,13 +47,41 @@ selector_refused() {
   refused "$line"
 }
 
-selector_refused 'selector: edge outside a recursion' '{"a":{">":{"@":{}}}}'
-selector_refused 'selector: edge outside a recursion' --hex a16161a1613ea16140a0
+selector_refused 'selector: edge outside a recursion at /a/>' '{"a":{">":{"@":{}}}}'
+selector_refused 'selector: edge outside a recursion at /a/>' --hex a16161a1613ea16140a0
 selector_refused 'selector: interpret-as is not supported' '{"~":{}}'
 selector_refused 'selector: repeated key' '{".":{},".":{}}'
-selector_refused 'selector: unknown key' '{"x":{}}'
+selector_refused 'selector: unknown key "x"' '{"x":{}}'
 selector_refused 'selector: no JSON at 0' ''
 selector_refused 'selector: hex' --hex a1612e0
+
+
+# The part of a selector that is refused first, whatever the order of the keys, by its JSON Pointer (RFC 6901).
+while read -r selector line; do
+  selector_refused "selector: $line" "$selector"
+done <<'END'
+[] no map where a selector should stand
+{} wrong keys (no key)
+{"i":{},"a":{}} wrong keys ("i" beside "a")
+{"a":{">":{".":{}},"x":0}} wrong keys ("x") at /a
+{"R":{"l":{"none":{}}}} wrong keys (no ":>") at /R
+{"R":{":>":{"x":{}},"l":{"deep":3}}} unknown key "deep" at /R/l
+{"R":{":>":{"x":{}},"l":{"none":{"y":1}}}} wrong keys ("y") at /R/l/none
+{"R":{":>":{"x":{}},"l":{"depth":"3"}}} a value of another kind at /R/l/depth
+{"R":{":>":{"x":{}},"l":{"depth":4294967296}}} depth out of range at /R/l/depth
+{"R":{"!":{},"l":0}} stop-at is not supported at /R/!
+{"R":{"l":{"none":{}},":>":{"|":[{"a":{">":{"@":{}}}},{"@":{}}]}}} edge without a step in its recursion at /R/:>/|/1
+{"f":{"f>":{"b":{"x":{}},"album":{"y":{}}}}} unknown key "x" at /f/f>/b
+{"f":{"f>":{"a/b~":{"i":{">":{".":{}},"i":"0"}}}}} a value of another kind at /f/f>/a~1b~0/i/i
+{"r":{"^":"1",">":{"x":{}},"$":"2"}} a value of another kind at /r/^
+{"f":{"f>":[]}} a value of another kind at /f/f>
+{".":{"label":1}} a value of another kind at /./label
+{".":{"subset":{}}} a matcher has no field but label at /./subset
+{"selector":{"|":{}}} a value of another kind at /selector/|
+{"selector":{"a":{">":{"~":{}}}}} interpret-as is not supported at /selector/a/>
+{"\u001b[2J\"\u202e":{}} unknown key "\u001b[2J\"\u202e"
+{"0123456789012345678901234567890123456789x":{}} unknown key "0123456789012345678901234567890123456789.."
+END
 
 begin 'selector: standard input is closed'
 run selector <&-

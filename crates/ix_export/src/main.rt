@@ -30,13 +30,14 @@ use ix_files::{
     Failure, Help, Progress, STANDARD_INPUT, Telling, load_input, make_outputs,
     name_complete_outputs, name_outputs, read_all, read_input, remove_outputs, stand_in,
 };
-use ix_notation::{hex_of_json, json_of_hex};
+use ix_notation::{hex_fault_line, hex_of_json, json_fault_line, json_of_hex};
 use ix_pipeline::Plan;
 use ix_run::{
     Choice, RunFault, RunInput, RunOut, load_by, printed_root, root_of_text, run, run_watched,
 };
 use ix_store::Store;
 use ix_walk::Job;
+use std::alloc::AllocError;
 use std::fs::File;
 use std::io::{BufWriter, IsTerminal, Write};
 use std::mem::ManuallyDrop;
@@ -55,6 +56,9 @@ const LANE: u32 = 256;
 
 // After so many milliseconds a terminal is told how a run goes on, whether that was asked for or not.
 const SHORT_RUN: u64 = 2_000;
+
+// The status of a text that is no selector.
+const REFUSED: u8 = 2;
 
 // Where standard input stands among the files.
 const STANDARD_INPUT_FILE: &str = "/dev/stdin";
@@ -135,22 +139,40 @@ fn obey_command<
 }
 
 // The command `selector`: from JSON to hexadecimal, or back.
-fn convert_selector<'a, R: AllocGlobal + Input + Print>(
+fn convert_selector<'a, R: AllocGlobal + Eprint + Input + Print>(
     rt: &R,
     words: &ArgMatches<'a>,
 ) -> Result<u8, Failure> {
-    let line = match (words.get_str("hex"), words.get_str("json")) {
-        (Some(text), _) => json_of_hex(rt.alloc(), text),
-        (None, Some(text)) if text != STANDARD_INPUT => hex_of_json(rt.alloc(), text.as_bytes()),
-        _ => return print_answer(rt, hex_of_input(rt)),
-    };
-    print_answer(rt, line.map_err(Failure::from))
+    match (words.get_str("hex"), words.get_str("json")) {
+        (Some(text), _) => match json_of_hex(rt.alloc(), text) {
+            Ok(line) => print_answer(rt, Ok(line)),
+            Err(fault) => refuse_selector(rt, hex_fault_line(rt.alloc(), &fault, text)),
+        },
+        (None, Some(text)) if text != STANDARD_INPUT => convert_json(rt, text.as_bytes()),
+        _ => {
+            let input = read_all(rt.alloc(), rt.reader(), 0, STANDARD_INPUT)?;
+            convert_json(rt, input.as_slice())
+        }
+    }
 }
 
-// The selector of which the JSON is standard input, in hexadecimal.
-fn hex_of_input<R: AllocGlobal + Input>(rt: &R) -> Result<String, Failure> {
-    let input = read_all(rt.alloc(), rt.reader(), 0, STANDARD_INPUT)?;
-    hex_of_json(rt.alloc(), input.as_slice()).map_err(Failure::from)
+// Prints the selector of a JSON text in hexadecimal, or tells why there is none.
+fn convert_json<R: AllocGlobal + Eprint + Print>(rt: &R, text: &[u8]) -> Result<u8, Failure> {
+    match hex_of_json(rt.alloc(), text) {
+        Ok(line) => print_answer(rt, Ok(line)),
+        Err(fault) => refuse_selector(rt, json_fault_line(rt.alloc(), &fault, text)),
+    }
+}
+
+// Tells why a text is no selector.
+fn refuse_selector<R: AllocGlobal + Eprint>(
+    rt: &R,
+    told: Result<String, AllocError>,
+) -> Result<u8, Failure> {
+    let told = told?;
+    // Where standard error can't be written there is nobody to tell.
+    let _ = rt.eprintln(told.as_str());
+    Ok(REFUSED)
 }
 
 // The command `root`: its faults come in the order text, standard input, hexadecimal, CAR.
