@@ -37,6 +37,8 @@ run selector --hex "$deep_hex"
 expect 0 "$deep{\".\":{}}$(repeated 127 '}}')" ''
 run selector "{\"a\":{\">\":$deep{\".\":{}}$(repeated 128 '}}')"
 refused 'selector: nested too deep'
+run selector "{\"|\":[$deep{\"a\":{\">\":{\".\":{}}}}$(repeated 127 '}}'),{\"x\":{}}]}"
+refused 'selector: nested too deep'
 
 # selector_refused LINE WORD..
 selector_refused() {

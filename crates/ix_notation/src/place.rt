@@ -60,7 +60,7 @@ fn in_selector(
     levels: u32,
 ) -> Result<Option<Spot>, AllocError> {
     if levels == 0 {
-        return Ok(None);
+        return Ok(Some(Spot::new(alloc, "", Wrong::Deep)?));
     }
     match part_of(node, around) {
         Part::Leaf => Ok(None),

@@ -26,14 +26,16 @@ pub(crate) enum Wrong<'t> {
     Unknown(&'t [u8]),
     /// The value of this key.
     Field(&'t [u8]),
+    /// That it stands too deep, for which no place is told.
+    Deep,
 }
 
 /// Where data is refused: the words for what is wrong with the part, and its place as a JSON Pointer
-/// (RFC 6901), which is empty for the whole.
+/// (RFC 6901), which is empty for the whole, or none where it isn't told.
 #[derive(Drop)]
 pub(crate) struct Spot {
     words: String,
-    path: String,
+    path: Option<String>,
 }
 
 impl<'t> Wrong<'t> {
@@ -66,7 +68,7 @@ impl<'t> Wrong<'t> {
     // The words for it, behind those for its kind.
     fn words(self, alloc: Global) -> Result<String, AllocError> {
         match self {
-            Wrong::Value | Wrong::Field(_) => Ok(String::new(alloc)),
+            Wrong::Value | Wrong::Field(_) | Wrong::Deep => Ok(String::new(alloc)),
             Wrong::NoKey => String::from_str(alloc, " (no key)"),
             Wrong::Second(first, second) => {
                 let first = quoted(alloc, first)?;
@@ -92,23 +94,27 @@ impl<'t> Wrong<'t> {
 impl Spot {
     /// What is wrong at a path.
     pub(crate) fn new(alloc: Global, path: &str, wrong: Wrong<'_>) -> Result<Spot, AllocError> {
+        let words = wrong.words(alloc)?;
         let mut path = String::from_str(alloc, path)?;
-        if let Wrong::Field(key) = wrong {
-            push_segment(alloc, &mut path, key)?;
+        match wrong {
+            Wrong::Deep => return Ok(Spot { words, path: None }),
+            Wrong::Field(key) => push_segment(alloc, &mut path, key)?,
+            _ => {}
         }
         Ok(Spot {
-            words: wrong.words(alloc)?,
-            path,
+            words,
+            path: Some(path),
         })
     }
 
     /// The same part, of data that stands behind a path.
     pub(crate) fn behind(self, alloc: Global, path: &str) -> Result<Spot, AllocError> {
         let Spot { words, path: inner } = self;
-        Ok(Spot {
-            words,
-            path: format!(in alloc; "{path}{inner}")?,
-        })
+        let path = match inner {
+            Some(inner) => Some(format!(in alloc; "{path}{inner}")?),
+            None => None,
+        };
+        Ok(Spot { words, path })
     }
 
     /// The same part, of data that stands behind a key.
@@ -123,7 +129,10 @@ impl Spot {
         ensures { IfOk result (λ told. Continues line.now (string_bytes told)) }
     {
         let words = self.words.as_str();
-        let path = self.path.as_str();
+        let path = match &self.path {
+            Some(path) => path.as_str(),
+            None => "",
+        };
         if path.is_empty() {
             format!(in alloc; "{line}{words}")
         } else {
