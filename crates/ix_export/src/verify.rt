@@ -1,14 +1,14 @@
 //! The command `verify`: whether CARv1 files are sound.
 
 use crate::commands::{CommandWords, Given, VERIFIERS, Word};
-use crate::{print_all, threads};
+use crate::threads;
 use clap::ArgMatches;
 use ix_car::{CarFault, CarKind};
-use ix_files::{Failure, read_input};
+use ix_files::{Failure, STANDARD_INPUT, read_input};
 use ix_run::RunFault;
 use ix_verify::{Findings, Reach, Unsound, verify};
 use std::alloc::{AllocError, Global};
-use std::fmt::Write;
+use std::io::{self, BufWriter, ErrorKind, Write};
 use std::num::NonZeroUsize;
 use std::rt::Files;
 use std::thread::Threads;
@@ -18,28 +18,40 @@ const BROKEN: u8 = 3;
 
 const REFUSED: u8 = 2;
 
+// How many findings of a file are printed without `--all`.
+const FIRST: usize = 20;
+
 const ABOUT: &str = "Tells whether CARv1 files are sound: sections, and all below roots";
 
-const HELP: &str = "Each FILE is a CARv1 file; - is standard input. Each section is judged by its\n\
+const HELP: &str =
+    "Each FILE is a CARv1 file; - is standard input. Each section is checked by its\n\
 own bytes: whether the hash of its block is the digest of its CID, and whether\n\
-DAG-CBOR is such. Then everything below each root of the header is walked. With\n\
---blocks-only that is left out.\n\
+DAG-CBOR decodes. Then all links are followed from the roots of the header, in\n\
+one walk: a root that is named twice counts once, and a block is expanded once.\n\
+With --blocks-only nothing is followed.\n\
 \n\
-A line tells of each file\n\
+One line is printed for each file:\n\
 \n\
-  FILE sound sections=N bytes=B\n\
-  FILE broken sections=N bytes=B unsound=U skips=S\n\
+\x20 FILE sound sections=N bytes=B\n\
+\x20 FILE broken sections=N bytes=B unsound=U skips=S\n\
 \n\
-Behind the second stand a line for each section that isn't sound, `section\n\
-PLACE WORD CID` with the byte at which its length stands, and one for each link\n\
-that leads to nothing sound, `link WORD CID`. The words are codec (neither raw\n\
-nor DAG-CBOR), hash (neither SHA-256, SHA-512 nor identity), missing, damaged\n\
-and malformed. A walk from a root arrives at most 1000000 times; where more is\n\
-below, the file isn't called sound, and a line `limit` says so. A header\n\
-without roots calls for nothing.\n\
+The second is followed by the file's findings: a line `section PLACE VERDICT CID`\n\
+for each section that isn't sound, PLACE being the byte at which its length\n\
+begins, and then a line `link VERDICT CID` for each link that leads to nothing\n\
+sound. The verdicts are codec (neither raw nor DAG-CBOR), hash (neither SHA-256,\n\
+SHA-512 nor identity), missing, damaged and malformed. U and S count all of\n\
+them; the first 20 lines are printed, and how many more there are. With --all\n\
+each is printed, and the line of the file after them.\n\
 \n\
-Status: 0 where all is sound, 3 where something isn't, 2 where the words or a\n\
-file are refused.";
+The walk follows at most 1000000 links, counting the roots. If there are more,\n\
+the file isn't called sound, and a line `limit` says so. A header without roots\n\
+has nothing to follow.\n\
+\n\
+\x20 ix_export verify out/*.car\n\
+\x20 ix_export verify --all library.car | grep ' link missing '\n\
+\n\
+Status: 0 if all is sound, 3 if something isn't, 2 if the arguments or a file\n\
+are refused.";
 
 /// The command.
 pub(crate) static VERIFY: CommandWords = CommandWords {
@@ -57,11 +69,16 @@ pub(crate) static VERIFY: CommandWords = CommandWords {
             given: Given::Flag,
             help: "Judges the sections alone",
         },
+        Word {
+            name: "all",
+            given: Given::Flag,
+            help: "Prints every finding, the line of the file last",
+        },
         VERIFIERS,
     ],
 };
 
-/// Does what the words say, and answers the status. Behind a file that is refused the others are verified.
+/// Does what the words say, and answers the status. After a file that is refused the others are verified.
 pub fn verify_files<'a, R: AllocGlobal + Eprint + Files + Input + Print + Threads + Sync>(
     rt: &R,
     words: &ArgMatches<'a>,
@@ -101,82 +118,152 @@ fn verify_file<'a, R: AllocGlobal + Eprint + Files + Input + Print + Threads + S
     let threads = NonZeroUsize::new(threads(words, "verifiers") as usize).unwrap_or(
         NonZeroUsize::MIN,
     );
-    match verify(rt, alloc, car, threads, reach) {
-        Ok(found) => tell_findings(rt, path, bytes, &found),
+    let prints_all = words.get_flag("all");
+    let most = if prints_all { usize::MAX } else { FIRST };
+    match verify(rt, alloc, car, threads, reach, most) {
+        Ok(found) => print_report(
+            rt,
+            &Report {
+                path,
+                bytes,
+                found: &found,
+                most,
+                prints_all,
+            },
+        ),
         Err(fault) => refuse(rt, path, fault),
     }
 }
 
-// Prints what was found in a file of so many bytes, and answers the status.
-fn tell_findings<R: AllocGlobal + Print>(
-    rt: &R,
-    path: &str,
-    bytes: usize,
-    found: &Findings,
-) -> Result<u8, Failure> {
-    let text = lines_of(rt.alloc(), path, bytes, found)?;
-    print_all(rt, text.as_bytes())?;
-    Ok(if found.is_sound() { 0 } else { BROKEN })
-}
-
-// Tells why a file is refused.
+// Prints why a file is refused.
 fn refuse<R: Eprint>(rt: &R, path: &str, fault: CarFault) -> Result<u8, Failure> {
     let CarFault { kind, place } = fault;
     if kind == CarKind::Memory {
         return Err(Failure::Fault(RunFault::Memory));
     }
-    // Where standard error can't be written there is nobody to tell.
+    // If standard error can't be written, nobody can be told.
     let _ = eprintln!(rt; "{path}: {kind} at {place}");
     Ok(REFUSED)
 }
 
-// What is told of a file.
-fn lines_of(
-    alloc: Global,
-    path: &str,
+// What is printed of a file.
+#[derive(Drop)]
+struct Report<'a> {
+    path: &'a str,
     bytes: usize,
-    found: &Findings,
-) -> Result<String, AllocError> {
-    let sections = found.sections;
-    if found.is_sound() {
-        return format!(in alloc; "{path} sound sections={sections} bytes={bytes}\n");
-    }
-    let (unsound, skips) = (found.unsound.len(), found.skips.len());
-    let mut text = format!(in alloc;
-        "{path} broken sections={sections} bytes={bytes} unsound={unsound} skips={skips}\n"
-    )?;
-    push_findings(alloc, &mut text, found)?;
-    Ok(text)
+    found: &'a Findings,
+    // How many findings are printed at most, and whether these are all, with the line of the file after them.
+    most: usize,
+    prints_all: bool,
 }
 
-// A line for each section and link that isn't sound, and one for a walk that ended at its limit.
-fn push_findings(alloc: Global, text: &mut String, found: &Findings) -> Result<(), AllocError> {
-    for section in &found.unsound {
-        push_section(text, section, section.cid.text(alloc))?;
+// Why a report isn't printed whole.
+#[derive(Drop)]
+enum Stop {
+    Memory,
+    Output(io::Error),
+}
+
+impl From<AllocError> for Stop {
+    fn from(_error: AllocError) -> Stop {
+        Stop::Memory
     }
-    push_links(alloc, text, found)?;
+}
+
+impl From<io::Error> for Stop {
+    fn from(error: io::Error) -> Stop {
+        Stop::Output(error)
+    }
+}
+
+// Prints the report on a file, and answers its status. If the reader closed the pipe, the rest isn't wanted.
+fn print_report<R: AllocGlobal + Print>(rt: &R, report: &Report<'_>) -> Result<u8, Failure> {
+    let status = if report.found.is_sound() { 0 } else { BROKEN };
+    match write_report(rt, report) {
+        Ok(()) => Ok(status),
+        Err(Stop::Output(error)) if error.kind() == ErrorKind::BrokenPipe => Ok(status),
+        Err(Stop::Output(error)) => {
+            Err(Failure::cannot_write(rt.alloc(), STANDARD_INPUT, &error))
+        }
+        Err(Stop::Memory) => Err(Failure::Fault(RunFault::Memory)),
+    }
+}
+
+fn write_report<R: AllocGlobal + Print>(rt: &R, report: &Report<'_>) -> Result<(), Stop> {
+    let alloc = rt.alloc();
+    let mut output = BufWriter::new(alloc, io::writer(rt))?;
+    if report.prints_all {
+        write_findings(alloc, &mut output, report)?;
+        write_summary(alloc, &mut output, report)?;
+    } else {
+        write_summary(alloc, &mut output, report)?;
+        write_findings(alloc, &mut output, report)?;
+    }
+    output.flush()?;
+    Ok(())
+}
+
+// The line of the file.
+fn write_summary<W: Write>(alloc: Global, output: &mut W, report: &Report<'_>) -> Result<(), Stop> {
+    let Report {
+        path,
+        bytes,
+        found,
+        ..
+    } = report;
+    let sections = found.sections;
+    let line = if found.is_sound() {
+        format!(in alloc; "{path} sound sections={sections} bytes={bytes}\n")?
+    } else {
+        let (unsound, skips) = (found.unsound.count, found.skips.count);
+        format!(in alloc;
+            "{path} broken sections={sections} bytes={bytes} unsound={unsound} skips={skips}\n"
+        )?
+    };
+    output.write_all(line.as_bytes())?;
+    Ok(())
+}
+
+// A line for each finding, no more than so many, and how many more there are; whether the walk ended at its limit.
+fn write_findings<W: Write>(
+    alloc: Global,
+    output: &mut W,
+    report: &Report<'_>,
+) -> Result<(), Stop> {
+    let found = report.found;
+    for section in &found.unsound.first {
+        write_section(output, section, section.cid.text(alloc))?;
+    }
+    // The sections that were kept are no more than may be printed.
+    let sections = found.unsound.first.len();
+    let links = found
+        .skips
+        .first
+        .len()
+        .min(report.most.saturating_sub(sections));
+    for skip in found.skips.first.iter().take(links) {
+        let (verdict, cid) = (skip.verdict, skip.cid.text(alloc)?);
+        writeln!(output, "  link {verdict} {cid}")?;
+    }
+    let findings = found.unsound.count.saturating_add(found.skips.count);
+    let more = findings.saturating_sub(sections.saturating_add(links));
+    if more > 0 {
+        let line = format!(in alloc; "  and {more} more (--all prints each)\n")?;
+        output.write_all(line.as_bytes())?;
+    }
     if found.is_over_limit {
-        text.push_str("  limit\n")?;
+        output.write_all(b"  limit\n")?;
     }
     Ok(())
 }
 
 // A line for a section with this CID.
-fn push_section(
-    text: &mut String,
+fn write_section<W: Write>(
+    output: &mut W,
     section: &Unsound,
     cid: Result<String, AllocError>,
-) -> Result<(), AllocError> {
+) -> Result<(), Stop> {
     let (place, verdict, cid) = (section.place, section.verdict, cid?);
-    writeln!(text, "  section {place} {verdict} {cid}")
-}
-
-// A line for each link that leads to nothing sound.
-fn push_links(alloc: Global, text: &mut String, found: &Findings) -> Result<(), AllocError> {
-    for skip in &found.skips {
-        let cid = skip.cid.text(alloc)?;
-        let verdict = skip.verdict;
-        writeln!(text, "  link {verdict} {cid}")?;
-    }
+    writeln!(output, "  section {place} {verdict} {cid}")?;
     Ok(())
 }

@@ -10,7 +10,6 @@ use Rattle.ix_cid.proofs.GroupLaws.{some_group}
 use Rattle.ix_cbor.specs.Spelling.{spelling_of}
 use Rattle.ix_store.specs.Store.{Blocks, block_of}
 use Rattle.ix_check.specs.declared.verdict.Verdict.{Verdict}
-use Rattle.ix_archive.specs.declared.archive.Skip.{Skip}
 use Rattle.ix_archive.specs.declared.sink.Delivery.{Delivery}
 use Rattle.ix_car.specs.Writing.{with_length, header_data, header_of, section_with}
 use Rattle.ix_archive.specs.Archive.{is_sound, first_sound, section_of, archive_with}
@@ -20,6 +19,7 @@ use Rattle.ix_car.proofs.SectionLists.{with_next, ListGoesOn, ListGoesOn-first, 
 use Rattle.ix_verify.specs.declared.found.Findings.{Findings}
 use Rattle.ix_verify.specs.declared.found.Unsound.{Unsound}
 use Rattle.ix_verify.specs.Judged.{IsSoundSection}
+use Rattle.ix_verify.specs.Noting.{IsNoted}
 use Rattle.ix_verify.specs.Found.{told_of, unsound_of, is_sound_file, HasSoundSections}
 use Rattle.ix_verify.specs.Written.{section_where, sections_from, written_sections, IsArchivable, IsJudged, IsSoundByItself}
 use Rattle.ix_verify.proofs.TextsAgain.{section_again}
@@ -118,12 +118,12 @@ archive-found store roots ds sections written judged read =
     (same, ap unsound_of same ∙ none-unsound (written_sections store roots ds) (written-sound store roots ds judged))
 
 -- what is found of a file is sound where nothing else is found
-pub found-sound : (f : Findings) → f.unsound.items ≡ [] → f.skips.items ≡ [] → f.is_over_limit ≡ false → is_sound_file f ≡ true
-found-sound f unsound skips over =
-    ap (λ (l : List Unsound). (length l == 0) && ((length f.skips.items == 0) && not f.is_over_limit)) unsound
-    ∙ ap (λ (l : List Skip). (length l == 0) && not f.is_over_limit) skips
+pub found-sound : (most : ℕ) (f : Findings) → IsNoted most [] f.unsound → IsNoted most [] f.skips → f.is_over_limit ≡ false → is_sound_file f ≡ true
+found-sound most f unsound skips over =
+    ap (λ (n : ℕ). (n == 0) && ((f.skips.count == 0) && not f.is_over_limit)) unsound.count
+    ∙ ap (λ (n : ℕ). (n == 0) && not f.is_over_limit) skips.count
     ∙ ap not over
 
 pub archive-verifies : (store : Blocks) (roots : List (List ℕ)) (ds : List Delivery) → IsArchivable store roots ds → All (IsJudged store) ds → HasSoundSections (archive_with store roots ds)
-archive-verifies store roots ds written judged f found =
-    found-sound f (found.unsound ∙ (archive-found store roots ds found.sections written judged found.read).1) found.reached.skipped found.reached.unfinished
+archive-verifies store roots ds written judged most f found =
+    found-sound most f (subst (λ (l : List Unsound). IsNoted most l f.unsound) (archive-found store roots ds found.sections written judged found.read).1 found.unsound) found.reached.skipped found.reached.unfinished

@@ -10,6 +10,7 @@ use Rattle.ix_archive.specs.declared.archive.Skip.{Skip}
 use Rattle.std.specs.Prelude.{Bool}
 use Rattle.ix_car.proofs.Sections.{FailsAs-along}
 use Rattle.ix_car.proofs.SectionLists.{blocks-of_sections}
+use Rattle.ix_verify.specs.declared.noted.Noted.{Noted}
 use Rattle.ix_verify.specs.Found.{IsReached}
 
 same_fault : (r : Result (List SectionMeaning) Fault) (f : Fault) → first_of_each r ≡ Err f → r ≡ Err f
@@ -31,8 +32,7 @@ one_store store other h = cc
 pub store-is : (b : List ℕ) (store : Blocks) (sections : List SectionMeaning) → blocks_of b ≡ Ok store → section_list b ≡ Ok sections → store ≡ with_sections [] sections
 store-is b store sections stored read = one_store store (with_sections [] sections) (sym stored ∙ store-of_sections b sections read)
 
--- what is met from a file's roots on in the store that was read of it
-pub reached-in : (b : List ℕ) (store : Blocks) (sections : List SectionMeaning) (roots named : List (List ℕ)) (skips : List Skip) (over : Bool) → blocks_of b ≡ Ok store → section_list b ≡ Ok sections → roots ≡ named
-    → IsReached store roots skips over → IsReached (with_sections [] sections) named skips over
-reached-in b store sections roots named skips over stored read same reached =
-    subst (λ (s : Blocks). IsReached s named skips over) (store-is b store sections stored read) (subst (λ (rs : List (List ℕ)). IsReached store rs skips over) same reached)
+-- what is met from roots on in the store that was read of a file
+pub reached-in : (b : List ℕ) (store : Blocks) (sections : List SectionMeaning) (roots : List (List ℕ)) (most : ℕ) (skips : Noted Skip) (over : Bool) → blocks_of b ≡ Ok store → section_list b ≡ Ok sections
+    → IsReached store roots most skips over → IsReached (with_sections [] sections) roots most skips over
+reached-in b store sections roots most skips over stored read reached = subst (λ (s : Blocks). IsReached s roots most skips over) (store-is b store sections stored read) reached

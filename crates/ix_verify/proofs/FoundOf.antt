@@ -1,37 +1,40 @@
 -- What is found of a file, by what is found of its sections and what is met from its roots on.
-use Rattle.std.proofs.Common.{◌≡◌, ℕ, Bool, false, List, [], sym, subst}
+use Rattle.std.proofs.Common.{◌≡◌, ℕ, List, [], sym, ap, subst}
 use Rattle.std.specs.Prelude.{Ok}
-use Rattle.std.specs.Global.{Vec}
 use Rattle.ix_store.specs.Store.{Blocks}
+use Rattle.ix_walk.specs.Once.{first_ones}
 use Rattle.ix_car.specs.Reading.{blocks_of}
-use Rattle.ix_car.specs.Sections.{roots_of}
-use Rattle.ix_archive.specs.declared.archive.Skip.{Skip}
+use Rattle.ix_car.specs.Sections.{roots_of, with_sections}
 use Rattle.ix_verify.specs.declared.file.Judged.{Judged}
+use Rattle.ix_verify.specs.declared.reach.Reached.{Reached}
 use Rattle.ix_verify.specs.declared.found.Findings.{Findings}
 use Rattle.ix_verify.specs.declared.found.Reach.TheVariants.{Blocks as OfBlocks, Roots as OfRoots}
 use Rattle.ix_verify.specs.Counted.{IsJudgedOf, findings_of}
 use Rattle.ix_verify.specs.Found.{IsReached, IsFoundOf}
+use Rattle.ix_verify.specs.Walked.{IsReachedFrom, IsReachedFromNone}
 use Rattle.ix_verify.proofs.FileFaults.{reached-in}
 
--- by the sections alone
-pub found-blocks : (b : List ℕ) (j : Judged) (f : Findings) (skips : Vec Skip) (over : Bool) → IsJudgedOf b j → f ≡ findings_of j skips over → skips.items ≡ [] → over ≡ false → IsFoundOf b OfBlocks f
-found-blocks b j f skips over judged is none within =
-    subst (λ (x : Findings). IsFoundOf b OfBlocks x) (sym is) (record {
-      sections = judged.sections;
-      read = judged.read;
-      count = judged.count;
-      unsound = judged.unsound;
-      reached = record { skipped = none; unfinished = within };
-    })
+module _ (b : List ℕ) (most : ℕ) (j : Judged) (f : Findings) (r : Reached) (judged : IsJudgedOf b most j) (is : f ≡ findings_of j r) where
+  -- by the sections alone
+  pub found-blocks : IsReachedFromNone r → IsFoundOf b OfBlocks most f
+  found-blocks none =
+      subst (λ (x : Findings). IsFoundOf b OfBlocks most x) (sym is) (record {
+        sections = judged.sections;
+        read = judged.read;
+        count = judged.count;
+        unsound = judged.unsound;
+        reached = none (with_sections [] judged.sections) most;
+      })
 
--- and from the roots on
-pub found-roots : (b : List ℕ) (j : Judged) (f : Findings) (store : Blocks) (skips : Vec Skip) (over : Bool) → IsJudgedOf b j → f ≡ findings_of j skips over → blocks_of b ≡ Ok store → IsReached store j.roots.items skips.items over
-    → IsFoundOf b OfRoots f
-found-roots b j f store skips over judged is stored reached =
-    subst (λ (x : Findings). IsFoundOf b OfRoots x) (sym is) (record {
-      sections = judged.sections;
-      read = judged.read;
-      count = judged.count;
-      unsound = judged.unsound;
-      reached = reached-in b store judged.sections j.roots.items (roots_of b) skips.items over stored judged.read judged.roots reached;
-    })
+  -- and from the roots on
+  pub found-roots : (store : Blocks) → blocks_of b ≡ Ok store → IsReachedFrom store j.roots.items most r → IsFoundOf b OfRoots most f
+  found-roots store stored reached =
+      subst (λ (x : Findings). IsFoundOf b OfRoots most x) (sym is) (record {
+        sections = judged.sections;
+        read = judged.read;
+        count = judged.count;
+        unsound = judged.unsound;
+        reached =
+            reached-in b store judged.sections (first_ones (roots_of b)) most r.skips r.is_over_limit stored judged.read
+            (subst (λ (roots : List (List ℕ)). IsReached store roots most r.skips r.is_over_limit) (ap first_ones judged.roots) reached);
+      })

@@ -1,11 +1,12 @@
 pub mod SelectorOfAll
-pub mod Walked
+pub mod Notes
+pub mod Walking
 pub mod SoundSections
 pub mod ToldSections
 pub mod Stored
 pub mod FileFaults
 pub mod FoundOf
-pub mod RootsLeft
+pub mod Distinct
 pub mod TextsAgain
 pub mod HeaderAgain
 pub mod ArchivesAgain

@@ -1,8 +1,9 @@
--- The archive of everything below a root, of which nothing was skipped, has all that its root calls for.
-use Rattle.std.proofs.Common.{◌≡◌, ℕ, zero, suc, ◌+◌, ◌<◌, ◌≤◌, Bool, true, false, ◌&&◌, ◌||◌, List, [], ◌∷◌, ◌++◌, length, refl, sym, ◌∙◌, ap, subst, arith, ltb}
+-- The archive of everything below roots, of which nothing was skipped, has all that its roots call for.
+use Rattle.std.proofs.Common.{◌≡◌, ℕ, zero, suc, ◌+◌, ◌<◌, ◌≤◌, Bool, true, false, ◌&&◌, ◌||◌, List, [], ◌∷◌, ◌++◌, length, take, codes, refl, sym, ◌∙◌, ap, subst, arith, ltb}
 use Rattle.std.specs.Prelude.{Option, Some, None, map, filter, not, if◌then◌else◌, bytes_eq, option_and_then}
 use Rattle.std.specs.List.{AllByRecursion, list_any}
-use Rattle.std.proofs.lemmas.Bool.{le-ltb, ltb-false, or_right}
+use Rattle.std.proofs.lemmas.List.{take_all}
+use Rattle.std.proofs.lemmas.Bool.{le-leb, le-ltb, ltb-false, or_right}
 use Rattle.std.proofs.lemmas.Slice.Eq.{bytes_eq-Decides}
 use Rattle.sha2.specs.Sha256.{sha256}
 use Rattle.sha2.specs.Sha512.{sha512}
@@ -17,6 +18,7 @@ use Rattle.ix_selector.specs.IsEntered.{is_entered}
 use Rattle.ix_selector.specs.Behind.{residual_at, same_residual}
 use Rattle.ix_selector.specs.Pattern.{everything}
 use Rattle.ix_store.specs.Store.{Blocks, has_cid, with_block, block_of, bytes_by, is_dag_cbor}
+use Rattle.ix_walk.specs.JobMeaning.{JobMeaning}
 use Rattle.ix_walk.specs.Arrivals.{Arrival, Inside, when_some}
 use Rattle.ix_walk.specs.Visits.{arrivals_of, visit_of, visits_from, is_over_limit}
 use Rattle.ix_walk.specs.Once.{links_below, roots_from, was_gone_into, gone_into_at, gone_behind, once, is_sound_by, sound_value}
@@ -32,7 +34,8 @@ use Rattle.ix_archive.specs.Report.{skips_of}
 use Rattle.ix_car.specs.Sections.{SectionMeaning, with_sections}
 use Rattle.ix_archive.specs.Verified.{judged, verified, judged_visits}
 use Rattle.ix_archive.proofs.Numbers.{kept-verified}
-use Rattle.ix_verify.specs.Found.{job_below, root_job, skips_below, is_unfinished}
+use Rattle.ix_verify.specs.Roots.{holder_of}
+use Rattle.ix_verify.specs.Found.{job_below, roots_job, skip_of, skips_below}
 use Rattle.ix_verify.specs.Written.{section_where, sections_from, written_sections}
 
 -- ---- the store of an archive's sections
@@ -234,10 +237,6 @@ module _ {R : Type 0} (enters : Path → Bool) (rest : Path → R) (same : R →
 
 -- ---- skips
 
--- what is told of a delivery that doesn't pass
-abbrev skip_of : Delivery → Skip
-skip_of d = record { seq = d.visit.seq; cid = d.visit.cid; verdict = d.verdict }
-
 abbrev skips_among : Blocks → ℕ → ℕ → List Arrival → List Skip
 skips_among store number n xs = map skip_of (filter (λ d. not (passes d.verdict)) (map (judged store) (visits_from store number n xs)))
 
@@ -257,28 +256,28 @@ none-skipped store number n (x ∷ xs) h =
     let others = filter (λ d. not (passes d.verdict)) (map (judged store) (visits_from store number (n + 1) xs)) in
     ap (λ (b : Bool). map skip_of (if not b then judged store (visit_of store number n x) ∷ others else others)) h.0 ∙ none-skipped store number (n + 1) xs h.1
 
--- ---- the archive of everything below a root
+-- ---- the archive of everything below roots
 
-module _ (store : Blocks) (number : ℕ) (name : List ℕ) (limit : ℕ) (root : List ℕ) (few : limit ≤ 1000000)
-    (within : is_over_limit store (job_below name limit root) ≡ false) (none : skips_of (judged_visits store number (job_below name limit root)) ≡ []) where
+module _ (store : Blocks) (number : ℕ) (name : List ℕ) (limit : ℕ) (roots : List (List ℕ)) (short : length roots ≤ 64) (few : limit ≤ 1000000)
+    (within : is_over_limit store (job_below name limit roots) ≡ false) (none : skips_of (judged_visits store number (job_below name limit roots)) ≡ []) where
   abbrev told : List Delivery
-  told = verified store number (job_below name limit root)
+  told = verified store number (job_below name limit roots)
 
   abbrev met : List Arrival
-  met = arrivals_of store (job_below name limit root)
+  met = arrivals_of store (job_below name limit roots)
 
   -- the store of the archive's sections
   abbrev kept_store : Blocks
-  kept_store = with_sections [] (written_sections store (root ∷ []) told)
+  kept_store = with_sections [] (written_sections store roots told)
 
   pass-each : AllByRecursion (λ a. passes (verdict_of store a.cid) ≡ true) met
-  pass-each = all-pass store number 0 met (ap (λ (ds : List Delivery). map skip_of (filter (λ d. not (passes d.verdict)) ds)) (sym (kept-verified store number (job_below name limit root) within)) ∙ none)
+  pass-each = all-pass store number 0 met (ap (λ (ds : List Delivery). map skip_of (filter (λ d. not (passes d.verdict)) ds)) (sym (kept-verified store number (job_below name limit roots) within)) ∙ none)
 
   same-at : (c : List ℕ) → passes (verdict_of store c) ≡ true → is_met met c ≡ true → (verdict_of kept_store c ≡ verdict_of store c) × (sound_value kept_store c ≡ sound_value store c)
   same-at c pass h =
       same-by (hash_function_of (parts_of c)) c (block_of store c) (block_of kept_store c) pass
-      (λ block there sound. block-sections [] (written_sections store (root ∷ []) told) c
-      ∙ block-written store c block there (first_sound told) (length (header_of (root ∷ []))) (sound-among told c (met-sound store number 0 met c sound h)))
+      (λ block there sound. block-sections [] (written_sections store roots told) c
+      ∙ block-written store c block there (first_sound told) (length (header_of roots)) (sound-among told c (met-sound store number 0 met c sound h)))
 
   each-same : AllByRecursion (λ a. (verdict_of kept_store a.cid ≡ verdict_of store a.cid) × (sound_value kept_store a.cid ≡ sound_value store a.cid)) met
   each-same =
@@ -288,23 +287,34 @@ module _ (store : Blocks) (number : ℕ) (name : List ℕ) (limit : ℕ) (root :
   met-few : length met ≤ limit
   met-few = ltb-false limit (length met) within
 
-  met-again : arrivals_of kept_store (root_job root) ≡ met
+  -- the job that verifies, with the roots as they are
+  abbrev again : JobMeaning
+  again = job_below (codes "verify") 1000000 roots
+
+  met-again : arrivals_of kept_store again ≡ met
   met-again =
       let enters = is_entered everything in
       let rest = residual_at everything in
-      let roots = roots_from 0 (root ∷ []) in
-      let same : once enters rest same_residual (sound_value kept_store) (suc limit) [] roots ≡ met =
-      once-inside enters rest same_residual (sound_value store) (sound_value kept_store) (suc limit) [] roots
+      let starts = roots_from 0 roots in
+      let same : once enters rest same_residual (sound_value kept_store) (suc limit) [] starts ≡ met =
+      once-inside enters rest same_residual (sound_value store) (sound_value kept_store) (suc limit) [] starts
       (all-weaker (λ a. (verdict_of kept_store a.cid ≡ verdict_of store a.cid) × (sound_value kept_store a.cid ≡ sound_value store a.cid)) (λ a. sound_value kept_store a.cid ≡ sound_value store a.cid) (λ a h. h.1) met each-same) in
-      once-enough enters rest same_residual (sound_value kept_store) (suc limit) (suc 1000000) [] roots (omega (arith, few)) (omega (arith, met-few, ap length same)) ∙ same
+      once-enough enters rest same_residual (sound_value kept_store) (suc limit) (suc 1000000) [] starts (omega (arith, few)) (omega (arith, met-few, ap length same)) ∙ same
 
-  pub finished : is_unfinished kept_store root ≡ false
-  finished = subst (λ (xs : List Arrival). ltb 1000000 (length xs) ≡ false) (sym met-again) (le-ltb 1000000 (length met) (le_trans met-few few))
+  -- no more roots than a job may have are taken as they are
+  as-they-are : roots_job roots ≡ again
+  as-they-are = ap (λ (t : Bool). job_below (codes "verify") 1000000 (if t then roots else holder_of roots ∷ [])) (le-leb (length roots) 64 short)
 
-  pub nothing-skipped : skips_below kept_store root ≡ []
+  pub finished : is_over_limit kept_store (roots_job roots) ≡ false
+  finished =
+      ap (is_over_limit kept_store) as-they-are
+      ∙ subst (λ (xs : List Arrival). ltb 1000000 (length xs) ≡ false) (sym met-again) (le-ltb 1000000 (length met) (le_trans met-few few))
+
+  pub nothing-skipped : skips_below kept_store (roots_job roots) ≡ []
   nothing-skipped =
-      ap (λ (ds : List Delivery). map skip_of (filter (λ d. not (passes d.verdict)) ds)) (kept-verified kept_store 0 (root_job root) finished)
-      ∙ ap (λ (xs : List Arrival). skips_among kept_store 0 0 xs) met-again
+      ap (skips_below kept_store) as-they-are
+      ∙ ap (λ (xs : List Arrival). skips_among kept_store 0 0 (take 1000000 xs)) met-again
+      ∙ ap (λ (xs : List Arrival). skips_among kept_store 0 0 xs) (take_all 1000000 met (le_trans met-few few))
       ∙ none-skipped kept_store 0 0 met
       (all-weaker (λ a. ((verdict_of kept_store a.cid ≡ verdict_of store a.cid) × (sound_value kept_store a.cid ≡ sound_value store a.cid)) × (passes (verdict_of store a.cid) ≡ true)) (λ a. passes (verdict_of kept_store a.cid) ≡ true)
       (λ a h. ap passes h.0.0 ∙ h.1) met (all-both (λ a. (verdict_of kept_store a.cid ≡ verdict_of store a.cid) × (sound_value kept_store a.cid ≡ sound_value store a.cid)) (λ a. passes (verdict_of store a.cid) ≡ true) met each-same pass-each))

@@ -1,12 +1,12 @@
 -- What is told of sections, one by one.
-use Rattle.std.specs.Prelude.{◌≡◌, ℕ, Bool, List, [], ◌∷◌, ◌++◌, length, if◌then◌else◌, Ok}
-use Rattle.std.specs.Global.{Vec}
+use Rattle.std.specs.Prelude.{◌≡◌, ℕ, List, [], ◌∷◌, ◌++◌, length, if◌then◌else◌, Ok}
 use Rattle.ix_check.specs.declared.verdict.Verdict.{Verdict}
-use Rattle.ix_archive.specs.declared.archive.Skip.{Skip}
 use Rattle.ix_car.specs.declared.reader.sections.Section.{Section}
 use Rattle.ix_archive.specs.Archive.{is_sound}
 use Rattle.ix_car.specs.Sections.{SectionMeaning, section_list, roots_of}
+use Rattle.ix_verify.specs.Noting.{IsNoted}
 use Rattle.ix_verify.specs.Found.{unsound_of}
+use Rattle.ix_verify.specs.declared.reach.Reached.{Reached}
 use Rattle.ix_verify.specs.declared.found.Unsound.{Unsound}
 use Rattle.ix_verify.specs.declared.found.Findings.{Findings}
 use Rattle.ix_verify.specs.declared.file.Judged.{Judged}
@@ -22,13 +22,13 @@ told_among (s ∷ ss) [] = []
 told_among (s ∷ ss) (v ∷ vs) = told_if s v ++ told_among ss vs
 
 -- what is found of the sections of a file, and its roots
-pub record IsJudgedOf (b : List ℕ) (j : Judged) : Type 0 where
+pub record IsJudgedOf (b : List ℕ) (most : ℕ) (j : Judged) : Type 0 where
   pub sections : List SectionMeaning
   pub read : section_list b ≡ Ok sections
   pub count : j.sections ≡ length sections
-  pub unsound : j.unsound.items ≡ unsound_of sections
+  pub unsound : IsNoted most (unsound_of sections) j.unsound
   pub roots : j.roots.items ≡ roots_of b
 
 -- what is found of the sections of a file, and what was met from its roots on
-abbrev pub findings_of : Judged → Vec Skip → Bool → Findings
-findings_of j skips over = record { sections = j.sections; unsound = j.unsound; skips = skips; is_over_limit = over }
+abbrev pub findings_of : Judged → Reached → Findings
+findings_of j r = record { sections = j.sections; unsound = j.unsound; skips = r.skips; is_over_limit = r.is_over_limit }

@@ -1,16 +1,20 @@
 -- What is found of a file, as a function of its bytes.
-use Rattle.std.specs.Prelude.{◌≡◌, ℕ, Bool, true, not, ◌&&◌, ◌==◌, List, [], ◌∷◌, length, map, filter, codes, Ok}
-use Rattle.std.specs.List.{list_any, flat_map}
+use Rattle.std.specs.Prelude.{◌≡◌, ℕ, Bool, true, not, ◌&&◌, ◌==◌, List, [], length, map, filter, codes, Ok}
 use Rattle.ix_selector.specs.Pattern.{everything}
 use Rattle.ix_walk.specs.JobMeaning.{JobMeaning}
 use Rattle.ix_store.specs.Store.{Blocks}
 use Rattle.ix_walk.specs.Visits.{is_over_limit}
+use Rattle.ix_walk.specs.Once.{first_ones}
+use Rattle.ix_check.specs.Verdict.{passes}
 use Rattle.ix_archive.specs.declared.archive.Skip.{Skip}
+use Rattle.ix_archive.specs.declared.sink.Delivery.{Delivery}
 use Rattle.ix_archive.specs.Archive.{is_sound}
 use Rattle.ix_archive.specs.Verified.{judged_visits}
-use Rattle.ix_archive.specs.Report.{skips_of}
 use Rattle.ix_car.specs.Sections.{SectionMeaning, section_list, roots_of, with_sections}
 use Rattle.ix_verify.specs.Judged.{section_verdict}
+use Rattle.ix_verify.specs.Roots.{few_roots}
+use Rattle.ix_verify.specs.Noting.{IsNoted}
+use Rattle.ix_verify.specs.declared.noted.Noted.{Noted}
 use Rattle.ix_verify.specs.declared.found.Reach.{Reach}
 use Rattle.ix_verify.specs.declared.found.Reach.TheVariants.{Blocks as OfBlocks, Roots as OfRoots}
 use Rattle.ix_verify.specs.declared.found.Unsound.{Unsound}
@@ -24,48 +28,52 @@ told_of s = record { place = s.place; cid = s.cid; verdict = section_verdict s.c
 abbrev pub unsound_of : List SectionMeaning → List Unsound
 unsound_of sections = filter (λ u. not (is_sound u.verdict)) (map told_of sections)
 
--- the job of everything below a root, each CID gone into once
-abbrev pub job_below : List ℕ → ℕ → List ℕ → JobMeaning
-job_below name limit root = record { name = name; roots = root ∷ []; selector = everything; limit = limit; once = true }
+-- the job of everything below roots, each CID gone into once
+abbrev pub job_below : List ℕ → ℕ → List (List ℕ) → JobMeaning
+job_below name limit roots = record { name = name; roots = roots; selector = everything; limit = limit; once = true }
 
--- the job of a root that is verified: no more than 1000000 visits
-abbrev pub root_job : List ℕ → JobMeaning
-root_job root = job_below (codes "verify") 1000000 root
+-- the job of roots that are verified, however many: no more than 1000000 visits
+abbrev pub roots_job : List (List ℕ) → JobMeaning
+roots_job roots = job_below (codes "verify") 1000000 (few_roots roots)
 
--- what is skipped below a root
-abbrev pub skips_below : Blocks → List ℕ → List Skip
-skips_below store root = skips_of (judged_visits store 0 (root_job root))
+-- what is told of a visit whose verdict isn't good
+abbrev pub skip_of : Delivery → Skip
+skip_of d = record { seq = d.visit.seq; cid = d.visit.cid; verdict = d.verdict }
 
--- the walk from a root ends at its limit
-abbrev pub is_unfinished : Blocks → List ℕ → Bool
-is_unfinished store root = is_over_limit store (root_job root)
+-- what is told of the visits of a job
+abbrev pub skips_below : Blocks → JobMeaning → List Skip
+skips_below store job = map skip_of (filter (λ d. not (passes d.verdict)) (judged_visits store 0 job))
 
--- the roots from which a walk goes
+-- the roots from which a walk goes: each of a file's, where it is named first
 abbrev pub roots_to_walk : Reach → List (List ℕ) → List (List ℕ)
 roots_to_walk OfBlocks roots = []
-roots_to_walk OfRoots roots = roots
+roots_to_walk OfRoots roots = first_ones roots
 
--- what is skipped below roots, and whether more is below one of them than its walk arrives at
-pub record IsReached (store : Blocks) (roots : List (List ℕ)) (skips : List Skip) (over : Bool) : Type 0 where
-  pub skipped : skips ≡ flat_map (skips_below store) roots
-  pub unfinished : over ≡ list_any (is_unfinished store) roots
+-- what a walk of a job comes to: what is skipped, and whether it ends at its limit
+pub record IsWalkOf (store : Blocks) (job : JobMeaning) (most : ℕ) (skips : Noted Skip) (over : Bool) : Type 0 where
+  pub skipped : IsNoted most (skips_below store job) skips
+  pub unfinished : over ≡ is_over_limit store job
 
--- what is found of a file: of each section by its own bytes, and from its roots on in the store of its first sections
-pub record IsFoundOf (b : List ℕ) (reach : Reach) (f : Findings) : Type 0 where
+-- what the one walk from these roots comes to
+abbrev pub IsReached : Blocks → List (List ℕ) → ℕ → Noted Skip → Bool → Type 0
+IsReached store roots most skips over = IsWalkOf store (roots_job roots) most skips over
+
+-- what is found of a file: of each section by its own bytes, and below its roots in the store of its first sections
+pub record IsFoundOf (b : List ℕ) (reach : Reach) (most : ℕ) (f : Findings) : Type 0 where
   pub sections : List SectionMeaning
   pub read : section_list b ≡ Ok sections
   pub count : f.sections ≡ length sections
-  pub unsound : f.unsound.items ≡ unsound_of sections
-  pub reached : IsReached (with_sections [] sections) (roots_to_walk reach (roots_of b)) f.skips.items f.is_over_limit
+  pub unsound : IsNoted most (unsound_of sections) f.unsound
+  pub reached : IsReached (with_sections [] sections) (roots_to_walk reach (roots_of b)) most f.skips f.is_over_limit
 
 -- no section is unsound, nothing is skipped, and no walk ends at its limit
 abbrev pub is_sound_file : Findings → Bool
-is_sound_file f = (length f.unsound.items == 0) && ((length f.skips.items == 0) && not f.is_over_limit)
+is_sound_file f = (f.unsound.count == 0) && ((f.skips.count == 0) && not f.is_over_limit)
 
 -- whatever is found of a file of which the sections alone are verified, it is sound
 abbrev pub HasSoundSections : List ℕ → Type 0
-HasSoundSections file = (found : Findings) → IsFoundOf file OfBlocks found → is_sound_file found ≡ true
+HasSoundSections file = (most : ℕ) (found : Findings) → IsFoundOf file OfBlocks most found → is_sound_file found ≡ true
 
 -- whatever is found of a file, with what its roots call for, it is sound
 abbrev pub IsSoundFile : List ℕ → Type 0
-IsSoundFile file = (found : Findings) → IsFoundOf file OfRoots found → is_sound_file found ≡ true
+IsSoundFile file = (most : ℕ) (found : Findings) → IsFoundOf file OfRoots most found → is_sound_file found ≡ true

@@ -1,8 +1,9 @@
 -- The laws of what is verified.
-use Rattle.std.specs.Prelude.{◌≡◌, ℕ, ◌≤◌, false, List, [], ◌∷◌, Some, Ok, All}
+use Rattle.std.specs.Prelude.{◌≡◌, ℕ, ◌≤◌, false, List, [], length, Some, Ok, All}
 use Rattle.ix_walk.specs.JobMeaning.{JobMeaning}
 use Rattle.ix_store.specs.Store.{Blocks, block_of}
 use Rattle.ix_walk.specs.Visits.{is_over_limit}
+use Rattle.ix_walk.specs.Once.{first_ones}
 use Rattle.ix_check.specs.Verdict.{verdict_of}
 use Rattle.ix_check.specs.declared.verdict.Verdict.TheVariants.{Sound}
 use Rattle.ix_archive.specs.declared.sink.Delivery.{Delivery}
@@ -57,12 +58,13 @@ JobsHaveSoundSections =
     (store : Blocks) (number : ℕ) (job : JobMeaning) → IsArchivable store job.roots (verified store number job)
     → HasSoundSections (archive_of store number job)
 
--- where a job took everything below one root, going into each CID once, within its limit and without a skip, the whole of its
--- archive is, with all that its root calls for
+-- where a job took everything below its roots, none of which is named twice, going into each CID once, within its limit and
+-- without a skip, the whole of its archive is, with all that its roots call for
 abbrev pub WholeArchivesAreSound : Type 0
 WholeArchivesAreSound =
-    (store : Blocks) (number : ℕ) (name : List ℕ) (limit : ℕ) (root : List ℕ)
-    → IsArchivable store (root ∷ []) (verified store number (job_below name limit root))
-    → limit ≤ 1000000 → is_over_limit store (job_below name limit root) ≡ false
-    → skips_of (judged_visits store number (job_below name limit root)) ≡ []
-    → IsSoundFile (archive_of store number (job_below name limit root))
+    (store : Blocks) (number : ℕ) (name : List ℕ) (limit : ℕ) (roots : List (List ℕ))
+    → IsArchivable store roots (verified store number (job_below name limit roots))
+    → first_ones roots ≡ roots → length roots ≤ 64
+    → limit ≤ 1000000 → is_over_limit store (job_below name limit roots) ≡ false
+    → skips_of (judged_visits store number (job_below name limit roots)) ≡ []
+    → IsSoundFile (archive_of store number (job_below name limit roots))

@@ -1,7 +1,9 @@
 pub use Rattle.ix_car.specs.Sections
 pub mod Judged
+pub mod Noting
+pub mod Roots
 pub mod Found
-pub mod Told
+pub mod Walked
 pub mod Counted
 pub mod Written
 pub mod Laws

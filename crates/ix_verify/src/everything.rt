@@ -1,30 +1,60 @@
-//! The job of everything below a root.
+//! The job of everything below roots.
 
 ghost use Rattle.std.specs.Prelude.{◌≡◌, IfOk};
 ghost use Rattle.ix_selector.specs.Pattern.{everything};
-ghost use Rattle.ix_verify.specs.Found.{root_job};
+ghost use Rattle.ix_verify.specs.Roots.{holder_of, few_roots};
+ghost use Rattle.ix_verify.specs.Found.{roots_job};
 
+use ix_car::header_of;
 use ix_cbor::decode;
 use ix_cid::Cid;
 use ix_selector::Selector;
-use ix_walk::{GREATEST_LIMIT, Job};
+use ix_walk::{GREATEST_LIMIT, Job, MOST_ROOTS};
 use std::alloc::{AllocError, Global};
 
 // The selector of everything, `{"R":{"l":{"none":{}},":>":{"a":{">":{"@":{}}}}}}`, in DAG-CBOR.
 const EVERYTHING: &[u8; 26] =
     b"\xa1\x61R\xa2\x61l\xa1\x64none\xa0\x62:>\xa1\x61a\xa1\x61>\xa1\x61@\xa0";
 
-// The job of everything below a root, whose walk goes into each CID once.
-pub(crate) fn root_job(alloc: Global, root: Cid) -> Result<Job, AllocError>
-    ensures { IfOk result (λ job. job ≡ root_job root) }
+// A CIDv1 of DAG-CBOR that holds its block itself (identity), up to the block's length.
+const HOLDER: &[u8; 3] = b"\x01\x71\x00";
+
+// The job of everything below roots, of which there is one at least: its walk goes into each CID once.
+pub(crate) fn roots_job(alloc: Global, roots: Vec<Cid>) -> Result<Job, AllocError>
+    ensures { IfOk result (λ job. job ≡ roots_job roots.items) }
 {
     let name = String::from_str(alloc, "verify")?;
-    let roots = vec![in alloc; root]?;
     let selector = everything(alloc)?;
-    // The name, the one root and the limit are those of a job.
-    match Job::new(name, roots, selector, GREATEST_LIMIT) {
+    let few = few_roots(alloc, roots)?;
+    // The name, the number of roots and the limit are those of a job.
+    match Job::new(name, few, selector, GREATEST_LIMIT) {
         Ok(job) => Ok(job.once()),
         Err(_) => Err(AllocError),
+    }
+}
+
+// Roots as a job takes them: more than it may have are held by one.
+fn few_roots(alloc: Global, roots: Vec<Cid>) -> Result<Vec<Cid>, AllocError>
+    ensures { IfOk result (λ few. few.items ≡ few_roots roots.items) }
+{
+    if roots.len() <= MOST_ROOTS {
+        return Ok(roots);
+    }
+    let holder = holder_of(alloc, roots.as_slice())?;
+    Ok(vec![in alloc; holder]?)
+}
+
+// A CID that holds the header with these roots itself, so that a walk from it goes on to each of them.
+fn holder_of(alloc: Global, roots: &[Cid]) -> Result<Cid, AllocError>
+    ensures { IfOk result (λ cid. cid ≡ holder_of roots.now) }
+{
+    let header = header_of(alloc, roots)?;
+    let mut bytes = Vec::from_slice(alloc, HOLDER)?;
+    bytes.extend_from_slice(header.as_slice())?;
+    // The bytes are a CID, so only memory can be refused.
+    match Cid::read(alloc, bytes.as_slice()) {
+        Ok((cid, _)) if cid.as_bytes() == bytes.as_slice() => Ok(cid),
+        _ => Err(AllocError),
     }
 }
 

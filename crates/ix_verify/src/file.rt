@@ -1,16 +1,19 @@
 //! Files, verified.
 
-ghost use Rattle.std.specs.Prelude.{◌≡◌, ◌++◌, map, IfOk, IfErr, OnOk};
+ghost use Rattle.std.specs.Prelude.{◌≡◌, ◌+◌, ◌^◌, ◌<◌, map, length, IfOk, IfErr, OnOk};
 ghost use Rattle.std.specs.Arc.{arc_value};
 ghost use Rattle.ix_car.specs.declared.fault.CarKind.TheVariants.{Memory};
 ghost use Rattle.ix_car.specs.Gives.{IsFaultOf};
 ghost use Rattle.ix_car.specs.SectionView.{section_of};
 ghost use Rattle.ix_car.specs.Sections.{section_list};
+ghost use Rattle.ix_archive.specs.Archive.{is_sound};
 ghost use Rattle.ix_verify.specs.declared.found.Reach.TheVariants.{Blocks as OfBlocks, Roots as OfRoots};
+ghost use Rattle.ix_verify.specs.Noting.{NotesMore};
 ghost use Rattle.ix_verify.specs.Found.{unsound_of, IsFoundOf};
 ghost use Rattle.ix_verify.specs.Counted.{told_if, told_among, findings_of, IsJudgedOf};
 
 use crate::found::{Findings, Reach, Unsound};
+use crate::noted::Noted;
 use crate::reach::{Reached, walk_roots};
 use crate::section::judge_beside;
 use ix_car::{CarFault, CarFile, CarKind, Section, load_shared_by, read_sections};
@@ -23,24 +26,27 @@ use std::sync::Arc;
 use std::thread::Threads;
 
 /// What is found of a CARv1 file whose sections are hashed by at most so many threads, or the file's first
-/// fault, which is that of `read_car`.
+/// fault, which is that of `read_car`. Of the sections that aren't sound, and of the links that lead to nothing sound, at
+/// most so many are kept, the first ones; all are counted.
 ///
-/// Every section is judged by its own bytes. Where the roots are to be walked from, everything below each of them is
-/// looked at, root after root, as far as a walk of 1,000,000 arrivals comes.
+/// Every section is judged by its own bytes. Where the roots are to be walked from, everything below them is looked at by
+/// one walk: it begins at each root where it is named first, goes into each block once, and ends at 1,000,000 visits. A
+/// visit is an arrival at a root or by a link; where there are more than 64 roots, one is spent on the list of them.
 pub fn verify<R: Threads + Sync>(
     rt: &R,
     alloc: Global,
     car: Vec<u8>,
     threads: NonZeroUsize,
     reach: Reach,
+    most: usize,
 ) -> Result<Findings, CarFault>
-    ensures found { IfOk result (IsFoundOf car.items reach) }
+    ensures found { IfOk result (IsFoundOf car.items reach most) }
     ensures refused { IfErr result (λ fault. IsFaultOf car.items fault (section_list car.items)) }
 {
     match reach {
-        Reach::Blocks => verify_blocks(rt, alloc, car.as_slice(), threads),
+        Reach::Blocks => verify_blocks(rt, alloc, car.as_slice(), threads, most),
         Reach::Roots => match Arc::new(alloc, car) {
-            Ok(file) => verify_all(rt, alloc, &file, threads),
+            Ok(file) => verify_all(rt, alloc, &file, threads, most),
             Err(_) => Err(no_memory()),
         },
     }
@@ -52,11 +58,12 @@ fn verify_blocks<R: Threads + Sync>(
     alloc: Global,
     car: &[u8],
     threads: NonZeroUsize,
+    most: usize,
 ) -> Result<Findings, CarFault>
-    ensures found { IfOk result (IsFoundOf car.now OfBlocks) }
+    ensures found { IfOk result (IsFoundOf car.now OfBlocks most) }
     ensures refused { IfErr result (λ fault. IsFaultOf car.now fault (section_list car.now)) }
 {
-    let judged = judge_file(rt, alloc, None, car, threads)?;
+    let judged = judge_file(rt, alloc, None, car, threads, most)?;
     Ok(judged.with(Reached::nothing(alloc)))
 }
 
@@ -67,8 +74,9 @@ fn verify_all<R: Threads + Sync>(
     alloc: Global,
     file: &Arc<Vec<u8>>,
     threads: NonZeroUsize,
+    most: usize,
 ) -> Result<Findings, CarFault>
-    ensures found { IfOk result (IsFoundOf (arc_value file.now).items OfRoots) }
+    ensures found { IfOk result (IsFoundOf (arc_value file.now).items OfRoots most) }
     ensures refused { IfErr result (λ fault. IsFaultOf (arc_value file.now).items fault
         (section_list (arc_value file.now).items)) }
 {
@@ -76,8 +84,8 @@ fn verify_all<R: Threads + Sync>(
         Ok(store) => store,
         Err(fault) => return Err(fault),
     };
-    let judged = judge_file(rt, alloc, Some(&store), file.as_slice(), threads)?;
-    match walk_roots(alloc, &store, judged.roots.as_slice()) {
+    let judged = judge_file(rt, alloc, Some(&store), file.as_slice(), threads, most)?;
+    match walk_roots(alloc, &store, judged.roots.as_slice(), most) {
         Ok(reached) => Ok(judged.with(reached)),
         Err(_) => Err(no_memory()),
     }
@@ -88,13 +96,13 @@ fn verify_all<R: Threads + Sync>(
 struct Judged {
     roots: Vec<Cid>,
     sections: usize,
-    unsound: Vec<Unsound>,
+    unsound: Noted<Unsound>,
 }
 
 impl Judged {
     // The same, and what was met from roots on.
     fn with(self, reached: Reached) -> Findings
-        ensures { result ≡ findings_of self reached.skips reached.is_over_limit }
+        ensures { result ≡ findings_of self reached }
     {
         Findings {
             sections: self.sections,
@@ -112,15 +120,25 @@ fn judge_file<R: Threads + Sync>(
     store: Option<&Store>,
     car: &[u8],
     threads: NonZeroUsize,
+    most: usize,
 ) -> Result<Judged, CarFault>
-    ensures judged { IfOk result (IsJudgedOf car.now) }
+    ensures judged { IfOk result (IsJudgedOf car.now most) }
     ensures refused { IfErr result (λ fault. IsFaultOf car.now fault (section_list car.now)) }
 {
     let CarFile { roots, sections } = read_sections(alloc, car)?;
-    match judge_sections(rt, alloc, store, sections.as_slice(), threads) {
-        Ok(unsound) => Ok(Judged {
+    let count = sections.len();
+    let mut unsound = Noted::new(alloc);
+    match judge_sections(
+        rt,
+        alloc,
+        (store, threads),
+        sections.as_slice(),
+        most,
+        &mut unsound,
+    ) {
+        Ok(()) => Ok(Judged {
             roots,
-            sections: sections.len(),
+            sections: count,
             unsound,
         }),
         Err(_) => Err(no_memory()),
@@ -136,50 +154,67 @@ fn no_memory() -> CarFault
     }
 }
 
-// The sections that aren't sound.
+// Notes the sections that aren't sound.
 fn judge_sections<R: Threads + Sync>(
     rt: &R,
     alloc: Global,
-    store: Option<&Store>,
+    beside: (Option<&Store>, NonZeroUsize),
     sections: &[Section<'_>],
-    threads: NonZeroUsize,
-) -> Result<Vec<Unsound>, AllocError>
-    ensures { IfOk result (λ unsound. unsound.items ≡ unsound_of (map section_of sections.now)) }
+    most: usize,
+    unsound: &mut Noted<Unsound>,
+) -> Result<(), AllocError>
+    requires { unsound.old.count + length sections.now < 2 ^ 63 }
+    ensures { OnOk result (NotesMore most (unsound_of (map section_of sections.now)) unsound.old unsound.new) }
 {
+    let (store, threads) = beside;
     let verdicts = judge_beside(rt, alloc, store, sections, threads)?;
-    unsound_among(alloc, sections, verdicts.as_slice())
+    note_sections(alloc, sections, verdicts.as_slice(), most, unsound)
 }
 
-fn unsound_among(
+fn note_sections(
     alloc: Global,
     sections: &[Section<'_>],
     verdicts: &[Verdict],
-) -> Result<Vec<Unsound>, AllocError>
-    ensures { IfOk result (λ unsound. unsound.items ≡ told_among sections.now verdicts.now) }
+    most: usize,
+    unsound: &mut Noted<Unsound>,
+) -> Result<(), AllocError>
+    requires { unsound.old.count + length sections.now < 2 ^ 63 }
+    ensures { OnOk result (NotesMore most (told_among sections.now verdicts.now) unsound.old unsound.new) }
 {
-    let mut unsound = Vec::new(alloc);
     for (section, verdict) in sections.iter().zip(verdicts) {
-        push_unsound(alloc, &mut unsound, section, *verdict)?;
+        note_section(alloc, section, *verdict, most, unsound)?;
     }
-    Ok(unsound)
+    Ok(())
 }
 
-// Appends a section, unless it is sound.
-fn push_unsound(
+// Notes a section, unless it is sound.
+fn note_section(
     alloc: Global,
-    unsound: &mut Vec<Unsound>,
     section: &Section<'_>,
     verdict: Verdict,
+    most: usize,
+    unsound: &mut Noted<Unsound>,
 ) -> Result<(), AllocError>
-    ensures { OnOk result (unsound.new.items ≡ unsound.old.items ++ told_if section.now verdict) }
+    requires { unsound.old.count + 1 < 2 ^ 64 }
+    ensures { OnOk result (NotesMore most (told_if section.now verdict) unsound.old unsound.new) }
 {
-    if verdict == Verdict::Sound {
+    if is_sound(verdict) {
         return Ok(());
     }
-    unsound.push(Unsound {
+    if !unsound.has_room(most) {
+        unsound.count(most);
+        return Ok(());
+    }
+    let told = Unsound {
         place: section.place,
         cid: section.cid.to_cid(alloc)?,
         verdict,
-    })?;
-    Ok(())
+    };
+    unsound.note(most, told)
+}
+
+fn is_sound(verdict: Verdict) -> bool
+    ensures { result ≡ is_sound verdict }
+{
+    verdict == Verdict::Sound
 }

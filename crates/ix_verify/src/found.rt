@@ -3,6 +3,7 @@
 ghost use Rattle.std.specs.Prelude.{◌≡◌};
 ghost use Rattle.ix_verify.specs.Found.{is_sound_file};
 
+use crate::noted::Noted;
 use ix_archive::Skip;
 use ix_check::Verdict;
 use ix_cid::Cid;
@@ -31,11 +32,11 @@ pub struct Findings {
     /// How many sections it has.
     pub sections: usize,
     /// Those that aren't sound, in their order.
-    pub unsound: Vec<Unsound>,
-    /// The links from the roots on behind which nothing sound stands, root after root; none where no
-    /// root was to be walked from.
-    pub skips: Vec<Skip>,
-    /// More is below some root than a walk arrives at, which is 1,000,000 times.
+    pub unsound: Noted<Unsound>,
+    /// The links below the roots that lead to nothing sound, in the order of the walk; none where no root was to be
+    /// walked from.
+    pub skips: Noted<Skip>,
+    /// The walk from the roots comes to more than the 1,000,000 links and roots at which it ends.
     pub is_over_limit: bool,
 }
 
@@ -44,6 +45,6 @@ impl Findings {
     pub fn is_sound(&self) -> bool
         ensures { result ≡ is_sound_file self.now }
     {
-        self.unsound.is_empty() && self.skips.is_empty() && !self.is_over_limit
+        self.unsound.count == 0 && self.skips.count == 0 && !self.is_over_limit
     }
 }

@@ -1,15 +1,15 @@
 //! Whether a CARv1 file is sound: each section by its own bytes, and what its roots call for.
 //!
-//! `verify` judges every section of the file, those too whose CID has stood before, and then walks
-//! everything below each root that the header names. What is found is a function of the bytes, however
-//! many threads hash.
+//! `verify` judges every section of the file, those too whose CID occurred before, and then follows all links from the
+//! roots that the header names, in one walk. What is found is a function of the bytes, however many threads hash. All
+//! findings are counted, and as many of the first are kept as the caller asks for.
 //!
 //! ```rust
-//! let found = verify(rt, alloc, car, threads, Reach::Roots)?;
-//! for section in &found.unsound {
+//! let found = verify(rt, alloc, car, threads, Reach::Roots, 20)?;
+//! for section in &found.unsound.first {
 //!     println!(rt; "{} {}", section.place, section.verdict)?;
 //! }
-//! println!(rt; "sound: {}", found.is_sound())?;
+//! println!(rt; "{} in all, sound: {}", found.unsound.count, found.is_sound())?;
 //! ```
 #![tactic(auto)]
 
@@ -17,9 +17,11 @@ mod everything;
 mod file;
 mod found;
 pub mod law;
+mod noted;
 mod reach;
 mod section;
 
 pub use file::verify;
 pub use found::{Findings, Reach, Unsound};
+pub use noted::Noted;
 pub use section::{judge, judge_all};

@@ -1,106 +1,125 @@
 //! What the roots of a file call for.
 
-ghost use Rattle.std.specs.Prelude.{◌≡◌, ◌++◌, ◌||◌, [], false, IfOk, OnOk};
-ghost use Rattle.ix_walk.specs.Visits.{is_over_limit};
-ghost use Rattle.ix_archive.specs.Verified.{judged_visits};
-ghost use Rattle.ix_archive.specs.Report.{skips_of};
-ghost use Rattle.ix_verify.specs.Found.{skips_below, is_unfinished, IsReached};
-ghost use Rattle.ix_verify.specs.Told.{IsToldOf};
+ghost use Rattle.std.specs.Prelude.{◌≡◌, ◌≤◌, IfOk, OnOk};
+ghost use Rattle.ix_walk.specs.Once.{first_ones};
+ghost use Rattle.ix_check.specs.Visits.{IsVisitOf};
+ghost use Rattle.ix_check.specs.Verdict.{verdict_of};
+ghost use Rattle.ix_verify.specs.Noting.{NotesMore};
+ghost use Rattle.ix_verify.specs.Walked.{skip_at, IsReachedBy, IsReachedFrom, IsReachedFromNone};
 
-use crate::everything::root_job;
-use ix_archive::{End, Skip};
-use ix_check::ShaCheck;
+use crate::everything::roots_job;
+use crate::noted::Noted;
+use ix_archive::Skip;
+use ix_check::{Check, ShaCheck, Verdict};
 use ix_cid::Cid;
-use ix_jobs::JobResult;
-use ix_run::run_jobs;
 use ix_store::Store;
-use ix_walk::Job;
+use ix_walk::{Job, Visit, Walk, WalkStop};
 use std::alloc::{AllocError, Global};
-use std::{io, slice};
 
 // What was met on the way from roots.
 #[derive(Drop)]
 pub(crate) struct Reached {
-    pub(crate) skips: Vec<Skip>,
+    pub(crate) skips: Noted<Skip>,
     pub(crate) is_over_limit: bool,
 }
 
 impl Reached {
     // Nothing, from no root.
     pub(crate) fn nothing(alloc: Global) -> Reached
-        ensures skips { result.skips.items ≡ [] }
-        ensures limit { result.is_over_limit ≡ false }
+        ensures { IsReachedFromNone result }
     {
         Reached {
-            skips: Vec::new(alloc),
+            skips: Noted::new(alloc),
             is_over_limit: false,
         }
     }
-
-    // Appends what was met from another root.
-    fn join(&mut self, mut more: Reached) -> Result<(), AllocError>
-        ensures skips { OnOk result (self.new.skips.items ≡ self.old.skips.items ++ more.skips.items) }
-        ensures limit { OnOk result (self.new.is_over_limit ≡ (self.old.is_over_limit || more.is_over_limit)) }
-    {
-        self.skips.append(&mut more.skips)?;
-        self.is_over_limit = self.is_over_limit || more.is_over_limit;
-        Ok(())
-    }
 }
 
-// What is met from these roots on, root after root.
-pub(crate) fn walk_roots(alloc: Global, store: &Store, roots: &[Cid]) -> Result<Reached, AllocError>
-    ensures { IfOk result (λ r. IsReached store.now roots.now r.skips.items r.is_over_limit) }
+// What is met from these roots on, by one walk. So many links that lead to nothing sound are kept at most.
+pub(crate) fn walk_roots(
+    alloc: Global,
+    store: &Store,
+    roots: &[Cid],
+    most: usize,
+) -> Result<Reached, AllocError>
+    ensures { IfOk result (IsReachedFrom store.now roots.now most) }
 {
-    let mut reached = Reached::nothing(alloc);
+    let distinct = distinct_roots(alloc, roots)?;
+    if distinct.is_empty() {
+        return Ok(Reached::nothing(alloc));
+    }
+    let job = roots_job(alloc, distinct)?;
+    walk_job(alloc, store, &job, most)
+}
+
+// Each root where it is named first.
+fn distinct_roots(alloc: Global, roots: &[Cid]) -> Result<Vec<Cid>, AllocError>
+    ensures { IfOk result (λ distinct. distinct.items ≡ first_ones roots.now) }
+{
+    let mut seen = Store::new(alloc);
+    let mut distinct = Vec::new(alloc);
     for root in roots {
-        let more = walk_root(alloc, store, root)?;
-        reached.join(more)?;
+        let is_new = seen.add(root.try_clone(alloc)?, Vec::new(alloc))?;
+        if is_new {
+            distinct.push(root.try_clone(alloc)?)?;
+        }
     }
-    Ok(reached)
+    Ok(distinct)
 }
 
-// What is met from one root on. Here the walk is chosen: it is that of a job whose archive nobody keeps.
-fn walk_root(alloc: Global, store: &Store, root: &Cid) -> Result<Reached, AllocError>
-    ensures skips { IfOk result (λ r. r.skips.items ≡ skips_below store.now root.now) }
-    ensures limit { IfOk result (λ r. r.is_over_limit ≡ is_unfinished store.now root.now) }
+// What is met on the walk of a job.
+fn walk_job(alloc: Global, store: &Store, job: &Job, most: usize) -> Result<Reached, AllocError>
+    ensures { IfOk result (IsReachedBy store.now job.now most) }
 {
-    let job = root_job(alloc, root.try_clone(alloc)?)?;
-    walk_job(alloc, store, &job)
-}
-
-// What is met on the walk of a job that runs alone.
-fn walk_job(alloc: Global, store: &Store, job: &Job) -> Result<Reached, AllocError>
-    ensures skips { IfOk result (λ r. r.skips.items ≡ skips_of (judged_visits store.now 0 job.now)) }
-    ensures limit { IfOk result (λ r. r.is_over_limit ≡ is_over_limit store.now job.now) }
-{
-    let result = run_alone(alloc, store, job)?;
-    match result.end {
-        End::Done => Ok(Reached {
-            skips: result.skips,
-            is_over_limit: false,
-        }),
-        End::Limit => Ok(Reached {
-            skips: result.skips,
-            is_over_limit: true,
-        }),
-        End::Memory | End::Write | End::Start => Err(AllocError),
+    let mut skips = Noted::new(alloc);
+    for item in Walk::new(alloc, store, job, 0)? {
+        match item {
+            Ok(visit) => note_visit(alloc, store, visit, most, &mut skips)?,
+            Err(WalkStop::Limit) => {
+                return Ok(Reached {
+                    skips,
+                    is_over_limit: true,
+                });
+            }
+            Err(WalkStop::Memory) => return Err(AllocError),
+        }
     }
+    Ok(Reached {
+        skips,
+        is_over_limit: false,
+    })
 }
 
-// What is told of a job that runs alone. Where it ends otherwise than by its walk memory ran out: the writer takes
-// everything.
-fn run_alone(alloc: Global, store: &Store, job: &Job) -> Result<JobResult, AllocError>
-    ensures { IfOk result (IsToldOf store.now job.now) }
+// Notes a visit whose verdict isn't good.
+fn note_visit(
+    alloc: Global,
+    store: &Store,
+    visit: Visit,
+    most: usize,
+    skips: &mut Noted<Skip>,
+) -> Result<(), AllocError>
+    requires visit { IsVisitOf store.now visit }
+    requires count { skips.old.count ≤ visit.seq }
+    ensures { OnOk result (NotesMore most (skip_at store.now visit) skips.old skips.new) }
 {
-    let writers = vec![in alloc; io::sink()]?;
-    let mut check = ShaCheck::new(alloc);
-    let jobs = slice::from_ref(job);
-    let Ok((mut results, _)) = run_jobs(alloc, store, jobs, writers, &mut check) else {
-        return Err(AllocError);
+    let verdict = verdict_of(alloc, store, &visit)?;
+    if verdict.passes() {
+        return Ok(());
+    }
+    let skip = Skip {
+        seq: visit.seq,
+        cid: visit.cid,
+        verdict,
     };
-    match results.pop() {
-        Some(result) => Ok(result),
-        None => Err(AllocError),
-    }
+    skips.note(most, skip)
+}
+
+// The verdict on a visit.
+fn verdict_of(alloc: Global, store: &Store, visit: &Visit) -> Result<Verdict, AllocError>
+    requires { IsVisitOf store.now visit.now }
+    ensures { IfOk result (λ verdict. verdict ≡ verdict_of store.now visit.now.cid) }
+{
+    // The check notes each visit, so it is kept no longer than for one.
+    let mut check = ShaCheck::new(alloc);
+    check.check(alloc, store, &visit)
 }

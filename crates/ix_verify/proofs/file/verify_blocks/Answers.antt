@@ -3,4 +3,4 @@ use Rattle.ix_verify.proofs.file.verify_blocks.Goals as goal
 
 pub returns-clause-found : goal.returns-clause-found
 returns-clause-found g c =
-    found-blocks c.args.car.now c.in_ok-judged.judged c.with.result c.nothing.result.skips c.nothing.result.is_over_limit c.in_ok-judged.ensures.judged c.with.ensures c.nothing.ensures.skips c.nothing.ensures.limit
+    found-blocks c.args.car.now c.args.most c.in_ok-judged.judged c.with.result c.nothing.result c.in_ok-judged.ensures.judged c.with.ensures c.nothing.ensures

@@ -1,14 +1,20 @@
-use Rattle.std.proofs.Common.{◌<◌, length, arith}
-use Rattle.ix_verify.specs.Found.{skips_below, is_unfinished}
-use Rattle.ix_verify.proofs.RootsLeft.{skips-more, limit-more}
+use Rattle.std.proofs.Common.{◌≡◌, ℕ, List, [], length, sym, ◌∙◌, ap, subst, rules}
+use Rattle.std.specs.Prelude.{IfOk}
+use Rattle.std.proofs.lemmas.List.{nil_from_length}
+use Rattle.ix_walk.specs.JobMeaning.{JobMeaning}
+use Rattle.ix_verify.specs.Found.{roots_job, IsReached}
+use Rattle.ix_verify.specs.Walked.{IsReachedBy}
 use Rattle.ix_verify.proofs.reach.walk_roots.Goals as goal
 
-pub loop-root-preserved : goal.loop-root-preserved
-loop-root-preserved c =
-    let store = c.args.store.now in
-    let i = c.loop-root.root-index in
-    let lt : c.loop-root.root-index < length c.args.roots.now = omega arith in
-    record {
-      skips = skips-more (skips_below store) c.args.roots.now i c.root-item.result _ _ _ _ lt c.root-item.is c.in_ok-more.ensures.skips c.in_ok-join.ensures.skips c.loop-root.invariant.skips;
-      limit = limit-more (is_unfinished store) c.args.roots.now i c.root-item.result _ _ _ _ lt c.root-item.is c.in_ok-more.ensures.limit c.in_ok-join.ensures.limit c.loop-root.invariant.limit;
-    }
+pub returns-then-is_empty : goal.returns-then-is_empty
+returns-then-is_empty c =
+    let distinct = c.in_ok-distinct.distinct.items in
+    let zero : length distinct ≡ 0 = search rules in
+    let none : distinct ≡ [] = nil_from_length distinct zero in
+    subst (λ (roots : List (List ℕ)). IsReached c.args.store.now roots c.args.most c.nothing.result.skips c.nothing.result.is_over_limit)
+    (sym none ∙ c.in_ok-distinct.ensures) (c.nothing.ensures c.args.store.now c.args.most)
+
+pub returns : goal.returns
+returns c =
+    subst (λ (job : JobMeaning). IfOk c.walk_job.result (IsReachedBy c.args.store.now job c.args.most))
+    (c.in_ok-job.ensures ∙ ap roots_job c.in_ok-distinct.ensures) c.walk_job.ensures

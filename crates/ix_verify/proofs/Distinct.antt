@@ -1,0 +1,81 @@
+-- A turn of the loop that keeps each root where it is named first.
+use Rattle.std.proofs.Common.{◌≡◌, ℕ, ◌+◌, ◌<◌, Bool, true, false, not, ◌||◌, ◌&&◌, inl, inr, List, [], ◌∷◌, ◌++◌, length, drop, filter, get_or, refl, sym, ◌∙◌, ap, append_assoc}
+use Rattle.std.specs.Prelude.{bytes_eq, if◌then◌else◌}
+use Rattle.std.proofs.lemmas.Slice.Eq.{bytes_eq-Decides}
+use Rattle.std.proofs.Math.Bool.{or-false}
+use Rattle.ix_cid.proofs.Lists.{drop_read}
+use Rattle.ix_store.specs.Store.{Blocks, has_cid, with_block}
+use Rattle.ix_walk.specs.Once.{first_ones}
+use Rattle.ix_walk.proofs.Firsts.{filter-both, unseen, unseen-seen, unseen-none}
+
+has_cid-push : (store : Blocks) (p : List ℕ × List ℕ) (c : List ℕ) → has_cid (store ++ p ∷ []) c ≡ (has_cid store c || bytes_eq p.0 c)
+has_cid-push [] p c = or-false (bytes_eq p.0 c)
+has_cid-push (e ∷ store) p c = on_first (bytes_eq e.0 c) (has_cid-push store p c) where
+  on_first : (same : Bool) → has_cid (store ++ p ∷ []) c ≡ (has_cid store c || bytes_eq p.0 c) → (same || has_cid (store ++ p ∷ []) c) ≡ ((same || has_cid store c) || bytes_eq p.0 c)
+  on_first true more = refl
+  on_first false more = more
+
+alike : (c e : List ℕ) → bytes_eq c e ≡ bytes_eq e c
+alike c e = on_tests (bytes_eq c e) (bytes_eq e c) refl refl where
+  on_tests : (here there : Bool) → bytes_eq c e ≡ here → bytes_eq e c ≡ there → here ≡ there
+  on_tests true true h t = refl
+  on_tests false false h t = refl
+  on_tests true false h t = let same : bytes_eq e c ≡ true = (bytes_eq-Decides e c).1 (sym ((bytes_eq-Decides c e).0 h)) in cc
+  on_tests false true h t = let same : bytes_eq c e ≡ true = (bytes_eq-Decides c e).1 (sym ((bytes_eq-Decides e c).0 t)) in cc
+
+-- neither this CID nor one that was seen
+neither-here : (there same : Bool) → (not same && not there) ≡ not (there || same)
+neither-here true true = refl
+neither-here true false = refl
+neither-here false true = refl
+neither-here false false = refl
+
+-- a CID that wasn't seen comes first, and is seen from then on
+unseen-new : (seen : Blocks) (c b : List ℕ) (cs : List (List ℕ)) → has_cid seen c ≡ false → unseen (has_cid seen) (c ∷ cs) ≡ c ∷ unseen (has_cid (seen ++ (c, b) ∷ [])) cs
+unseen-new seen c b cs isnt =
+    let others = filter (λ e. not (has_cid seen e)) (filter (λ e. not (bytes_eq e c)) (first_ones cs)) in
+    ap (λ (t : Bool). if not t then c ∷ others else others) isnt
+    ∙ ap (λ (l : List (List ℕ)). c ∷ l)
+    (filter-both (λ e. not (has_cid seen e)) (λ e. not (bytes_eq e c)) (λ e. not (has_cid (seen ++ (c, b) ∷ []) e))
+    (λ e. neither-here (has_cid seen e) (bytes_eq e c) ∙ ap (λ (t : Bool). not (has_cid seen e || t)) (alike e c) ∙ ap not (sym (has_cid-push seen (c, b) e)))
+    (first_ones cs))
+
+-- those so far, and the first ones of those that are left, are all
+abbrev pub AreFirst : List (List ℕ) → Blocks → ℕ → List (List ℕ) → Type 0
+AreFirst roots seen i distinct = distinct ++ unseen (has_cid seen) (drop i roots) ≡ first_ones roots
+
+pub first-none : (roots : List (List ℕ)) → AreFirst roots [] 0 []
+first-none roots = unseen-none roots
+
+-- one that wasn't named before
+pub first-new : (roots : List (List ℕ)) (seen later : Blocks) (i : ℕ) (x : List ℕ) (old new : List (List ℕ)) → i < length roots → x ≡ get_or roots i x → true ≡ not (has_cid seen x) → later ≡ with_block seen (x, []) → new ≡ old ++ x ∷ []
+    → AreFirst roots seen i old → AreFirst roots later (i + 1) new
+first-new roots seen later i x old new lt is fresh added pushed so_far =
+    let isnt : has_cid seen x ≡ false = not-true (has_cid seen x) fresh in
+    let now : later ≡ seen ++ (x, []) ∷ [] = added ∙ ap (λ (t : Bool). if t then seen else seen ++ (x, []) ∷ []) isnt in
+    let rest = unseen (has_cid (seen ++ (x, []) ∷ [])) (drop (i + 1) roots) in
+    ap (λ (s : Blocks). new ++ unseen (has_cid s) (drop (i + 1) roots)) now
+    ∙ ap (λ (l : List (List ℕ)). l ++ rest) pushed
+    ∙ append_assoc old (x ∷ []) rest
+    ∙ ap (λ (l : List (List ℕ)). old ++ l) (sym (unseen-new seen x [] (drop (i + 1) roots) isnt))
+    ∙ ap (λ (l : List (List ℕ)). old ++ unseen (has_cid seen) l) (sym (drop_read roots i x lt is))
+    ∙ so_far
+  where
+    not-true : (t : Bool) → true ≡ not t → t ≡ false
+    not-true true h = cc
+    not-true false h = refl
+
+-- one that was
+pub first-again : (roots : List (List ℕ)) (seen later : Blocks) (i : ℕ) (x : List ℕ) (distinct : List (List ℕ)) → i < length roots → x ≡ get_or roots i x → false ≡ not (has_cid seen x) → later ≡ with_block seen (x, [])
+    → AreFirst roots seen i distinct → AreFirst roots later (i + 1) distinct
+first-again roots seen later i x distinct lt is named added so_far =
+    let there : has_cid seen x ≡ true = not-false (has_cid seen x) named in
+    let now : later ≡ seen = added ∙ ap (λ (t : Bool). if t then seen else seen ++ (x, []) ∷ []) there in
+    ap (λ (s : Blocks). distinct ++ unseen (has_cid s) (drop (i + 1) roots)) now
+    ∙ ap (λ (l : List (List ℕ)). distinct ++ l) (sym (unseen-seen (has_cid seen) (x ∷ []) (drop (i + 1) roots) (λ c at. elim at [ inl e ↦ ap (has_cid seen) (sym e) ∙ there | inr h ↦ absurd h ])))
+    ∙ ap (λ (l : List (List ℕ)). distinct ++ unseen (has_cid seen) l) (sym (drop_read roots i x lt is))
+    ∙ so_far
+  where
+    not-false : (t : Bool) → false ≡ not t → t ≡ true
+    not-false true h = refl
+    not-false false h = cc
