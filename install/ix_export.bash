@@ -37,7 +37,7 @@ _ix_export() {
     selector) it='--hex --help' ;;
     root) it='--cid --help' ;;
     inspect) it='--list --help' ;;
-    verify) it='--blocks-only --verifiers --help' ;;
+    verify) it='--blocks-only --all --verifiers --help' ;;
     *) it='get jobs job check-jobs selector root inspect verify --help --version' ;;
   esac
   case $command in

@@ -55,5 +55,6 @@ complete -c ix_export -n '__fish_seen_subcommand_from inspect' -F
 
 complete -c ix_export -n '__fish_seen_subcommand_from verify' -s h -l help -d 'Print the help'
 complete -c ix_export -n '__fish_seen_subcommand_from verify' -l blocks-only -d 'Judge the sections alone'
+complete -c ix_export -n '__fish_seen_subcommand_from verify' -l all -d 'Print every finding'
 complete -c ix_export -n '__fish_seen_subcommand_from verify' -l verifiers -x -d 'How many threads hash, 1 to 64'
 complete -c ix_export -n '__fish_seen_subcommand_from verify' -F

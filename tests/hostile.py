@@ -1,7 +1,8 @@
 #!/usr/bin/env python3
 """Runs the built program on input that is made to hurt it: files cut at each byte, with each byte changed, selectors
 and job files cut at each byte, roots of a job cut and changed, blocks with many links, CIDs chosen for one place of the
-index, long ones that are alike or are visited often, identity CIDs inside one another, and mutations by chance.
+index, long ones that are alike or are visited often, identity CIDs inside one another, headers that name one root often or many roots of
+one graph, and mutations by chance.
 Ends with status 1 at the first run that is wrong.
 
 No run may end by a signal or take a minute. Where a file is refused, it is one line of the known ones. Where the run
@@ -53,12 +54,12 @@ REFUSALS = re.compile(
 )
 JOB = re.compile(r"^(\S+) (done|limit|memory|write|start) visits=\d+ kept=\d+ sections=(\d+) bytes=(\d+)$")
 SECONDS_A_RUN = 60
+# Of the processor; a tenth is usual.
+SECONDS_TO_VERIFY = 5
 MIB = 1 << 20
 # Of address space: more than any run takes, and so few that some runs find no memory, or none for their threads.
 KIB_A_RUN = 4_000_000
 FEW_KIB = (20_000, 40_000, 300_000)
-# Of memory, for each byte of a selector in JSON: its data as a tree, and beside that the selector that is read of it.
-BYTES_A_BYTE_OF_JSON = 28
 # Three to four is usual; a busy machine may add half of that to what it measures.
 MOST_TIMES_HONEST = 6
 
@@ -511,64 +512,38 @@ def long_inline(runner):
     in_few_kib(runner, (2, 4), 4)
 
 
-def measured_words(runner, words, given=b""):
-    """Runs the program with these words and this standard input; answers how it ended and what it took. Where it ended with a
-    line on standard error, that is told too."""
-    runner.runs += 1
-    (runner.room / "given").write_bytes(given)
-    command = [sys.executable, TOP / "tests/hostile/measure.py", "measured", str(KIB_A_RUN), str(SECONDS_A_RUN), PROGRAM, *words]
-    with open(runner.room / "given", "rb") as stdin, open(runner.room / "error", "wb") as error:
-        subprocess.run(command, cwd=runner.room, stdin=stdin, stdout=subprocess.DEVNULL, stderr=error, check=True)
+def verified(runner, car, status, line):
+    """The command `verify` ends with this status, the first of at most 22 lines says this of the file, and it takes no more
+    memory than the file and 64 MiB, and few seconds of the processor."""
+    (runner.room / "verified.car").write_bytes(car)
+    words = [sys.executable, TOP / "tests/hostile/measure.py", "measured", str(KIB_A_RUN), str(SECONDS_A_RUN)]
+    with open(runner.room / "report", "wb") as report:
+        subprocess.run(words + [PROGRAM, "verify", "verified.car"], cwd=runner.room, stdout=report, check=True)
     told = json.loads((runner.room / "measured").read_text())
-    told["error"] = (runner.room / "error").read_text()
-    return told
+    with open(runner.room / "report") as report:
+        lines = report.read(1 << 16).splitlines()
+    if told["status"] != status or lines[0] != f"verified.car {line}" or len(lines) > 22:
+        raise Wrong(f"verify ends with status {told['status']} and {len(lines)} lines, the first {lines[0]!r}")
+    if told["peak"] > len(car) + 64 * MIB or told["seconds"] > SECONDS_TO_VERIFY:
+        raise Wrong(f"{len(car)} bytes took {told['peak']} of memory and {told['seconds']} seconds of the processor")
 
 
-def json_of_fields(count, order=1):
-    """A selector in JSON of so many fields with keys that rise, or that fall where the order is -1."""
-    return ('{"f":{"f>":{' + ",".join([f'"{number:08}":{{".":{{}}}}' for number in range(count)][::order]) + "}}}").encode()
+def root_named_often(runner):
+    """A header that names one root 3,000 times, a list of links to 3,000 blocks that are missing."""
+    block = list_of([link(cid(RAW, b"%d" % number)) for number in range(3_000)])
+    root = cid(DAG_CBOR, block)
+    car = header([root] * 3_000) + section(root, block)
+    verified(runner, car, 3, f"broken sections=1 bytes={len(car)} unsound=0 skips=3000")
 
 
-def keys_in_any_order(runner):
-    """Selectors in JSON of 1.9 MB with keys that rise and that fall: either takes less than a second, and a key that comes
-    twice is refused wherever it stands."""
-    for order in (1, -1):
-        told = measured_words(runner, ["selector", "-"], json_of_fields(90_000, order))
-        if told["status"] != 0 or told["seconds"] > 1:
-            raise Wrong(f"90,000 keys, status {told['status']}, took {told['seconds']:.2f} seconds in the order {order}")
-    twice = json_of_fields(90_000, -1).replace(b'"00000000"', b'"00089999"')
-    told = measured_words(runner, ["selector", "-"], twice)
-    if told["status"] != 2 or told["error"] != "selector: repeated key\n" or told["seconds"] > 1:
-        raise Wrong(f"a key that comes twice: {told}")
-
-
-def ignored_keys(runner):
-    """A header with a key that is ignored, of which the value has 10,000,000 members: it takes little more than the file. One
-    whose ignored value doesn't decode is refused, and so is one whose version stands inside of that value."""
-    version, roots = b"\x67version\x01", b"\x65roots\x80"
-    many = b"\x9a" + (10_000_000).to_bytes(4, "big") + b"\x80" * 10_000_000
-    for value, end, line in (
-        (many, roots + version, None),
-        (many[:-1] + b"\xff", roots + version, "header"),
-        (b"\xa2" + roots + version, roots, "header"),
-    ):
-        body = head(5, 2 if end == roots else 3) + b"\x61x" + value + end
-        car = varint(len(body)) + body
-        (runner.room / "blocks.car").write_bytes(car)
-        told = measured_words(runner, ["jobs", "--blocks", "blocks.car", "--jobs", "/dev/null", "--out", "."])
-        wanted_end = (2, f"blocks: {line} at 0\n") if line else (0, "")
-        if (told["status"], told["error"]) != wanted_end:
-            raise Wrong(f"a header of {len(body)} bytes: {told}")
-        if told["peak"] > len(car) + 64 * MIB:
-            raise Wrong(f"a header of {len(body)} bytes took {told['peak']} of memory")
-
-
-def long_selector(runner):
-    """A selector of a million fields as JSON of 20 MB: what is taken is bounded by the text."""
-    given = json_of_fields(1_000_000)
-    told = measured_words(runner, ["selector", "-"], given)
-    if told["status"] != 0 or told["peak"] > BYTES_A_BYTE_OF_JSON * len(given) + 32 * MIB:
-        raise Wrong(f"JSON of {len(given)} bytes, status {told['status']}, took {told['peak']} of memory")
+def roots_with_one_graph(runner):
+    """10,000 roots, each a list with a link to one list of 100,000 links: each link is followed once."""
+    leaf = cid(RAW, b"abc")
+    shared = list_of([link(leaf)] * 100_000)
+    blocks = [list_of([link(cid(DAG_CBOR, shared)), head(0, number)]) for number in range(10_000)]
+    car = header([cid(DAG_CBOR, block) for block in blocks]) + section(leaf, b"abc") + section(cid(DAG_CBOR, shared), shared)
+    car += b"".join(section(cid(DAG_CBOR, block), block) for block in blocks)
+    verified(runner, car, 0, f"sound sections=10002 bytes={len(car)}")
 
 
 def mutated(chance, data, words):
@@ -646,9 +621,8 @@ PARTS = (
     cut_selectors,
     cut_jobs,
     several_roots,
-    keys_in_any_order,
-    ignored_keys,
-    long_selector,
+    root_named_often,
+    roots_with_one_graph,
 )
 
 

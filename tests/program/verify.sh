@@ -64,6 +64,61 @@ run verify blocks.car
 expect 3 "blocks.car broken sections=1 bytes=$(wc -c <blocks.car) unsound=0 skips=1
   link missing $(text "$one_cid")" ''
 
+# A root that is named twice is walked from once, and what two roots link to is listed once.
+begin 'verify: repeated roots, and roots that share what is below them'
+other=82$(link "$one_cid")$(link "$one_cid")
+other_cid=$(cbor "$other")
+bytes "$(header "$one_cid" "$one_cid" "$other_cid" "$one_cid")$(section "$one_cid" "$one")$(section "$other_cid" "$other")" >blocks.car
+run verify blocks.car
+expect 3 "blocks.car broken sections=2 bytes=$(wc -c <blocks.car) unsound=0 skips=1
+  link missing $abc_text" ''
+
+# 70 roots, the last of which links to a block that is missing.
+begin 'verify: more roots than a job may have'
+roots=()
+sections=
+for number in $(seq 10 79); do
+  roots+=("$(raw "$number")")
+  sections+=$(section "$(raw "$number")" "$number")
+done
+bytes "$(header "${roots[@]}" "$one_cid")$sections$(section "$one_cid" "$one")" >blocks.car
+run verify blocks.car
+expect 3 "blocks.car broken sections=71 bytes=$(wc -c <blocks.car) unsound=0 skips=1
+  link missing $abc_text" ''
+
+# 15 sections that are damaged, and a list of 10 links to blocks that are missing. A damaged section has 38 bytes.
+begin 'verify: the first 20 findings, and all'
+sections= links= lines=()
+place=$(($(bytes "$(header "$one_cid")" | wc -c)))
+for number in $(seq 10 24); do
+  sections+=$(section "$(raw "$number")" ff)
+  lines+=("  section $place damaged $(text "$(raw "$number")")")
+  place=$((place + 38))
+done
+for number in $(seq 50 59); do
+  links+=$(link "$(raw "$number")")
+  lines+=("  link missing $(text "$(raw "$number")")")
+done
+list=8a$links
+list_cid=$(cbor "$list")
+bytes "$(header "$list_cid")$sections$(section "$list_cid" "$list")" >blocks.car
+summary="blocks.car broken sections=16 bytes=$(wc -c <blocks.car) unsound=15 skips=10"
+run verify blocks.car
+expect 3 "$(printf '%s\n' "$summary" "${lines[@]:0:20}" '  and 5 more (--all prints each)')" ''
+run verify --all blocks.car
+expect 3 "$(printf '%s\n' "${lines[@]}" "$summary")" ''
+run verify --blocks-only blocks.car
+expect 3 "$(printf '%s\n' "${summary/skips=10/skips=0}" "${lines[@]:0:15}")" ''
+
+# The same file 100 times, of which the report is longer than a pipe holds.
+begin 'verify: a pipe that closes early'
+bytes "$(header "$list_cid")$sections$(section "$list_cid" "$list")" >blocks.car
+paths=()
+for _ in $(seq 100); do paths+=(blocks.car); done
+{ run_bare verify "${paths[@]}" 2>"$scratch/stderr"; echo "$status" >ended; } | head -n 1 >"$scratch/stdout"
+status=$(cat ended)
+expect 3 "$summary" ''
+
 # A chain of lists, each with two links to the one before: 21 of them have 2^22 - 1 ways down, and each is gone into once.
 begin 'verify: many ways to one block'
 cid=$abc_cid

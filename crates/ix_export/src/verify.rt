@@ -35,13 +35,13 @@ One line is printed for each file:\n\
 \x20 FILE sound sections=N bytes=B\n\
 \x20 FILE broken sections=N bytes=B unsound=U skips=S\n\
 \n\
-The second is followed by the file's findings: a line `section PLACE VERDICT CID`\n\
-for each section that isn't sound, PLACE being the byte at which its length\n\
-begins, and then a line `link VERDICT CID` for each link that leads to nothing\n\
-sound. The verdicts are codec (neither raw nor DAG-CBOR), hash (neither SHA-256,\n\
-SHA-512 nor identity), missing, damaged and malformed. U and S count all of\n\
-them; the first 20 lines are printed, and how many more there are. With --all\n\
-each is printed, and the line of the file after them.\n\
+The second is followed by the findings: `section PLACE VERDICT CID` for each\n\
+section that isn't sound, PLACE being the byte at which its length begins, and\n\
+`link VERDICT CID` for each link that leads to nothing sound. The verdicts are\n\
+codec (neither raw nor DAG-CBOR), hash (neither SHA-256, SHA-512 nor identity),\n\
+missing, damaged and malformed. U and S count all of them; the first 20 lines\n\
+are printed, and how many more there are. With --all each is printed, and the\n\
+line of the file after them.\n\
 \n\
 The walk follows at most 1000000 links, counting the roots. If there are more,\n\
 the file isn't called sound, and a line `limit` says so. A header without roots\n\
