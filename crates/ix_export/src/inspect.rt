@@ -71,7 +71,7 @@ fn inspect_car<R: AllocGlobal + Eprint + Print + Threads + Sync>(
 ) -> Result<u8, Failure> {
     match read_sections(rt.alloc(), car) {
         Ok(file) if is_listed => list(rt, file.sections.as_slice()),
-        Ok(file) => summarize(rt, &file, car.len()),
+        Ok(file) => summarize(rt, file, car.len()),
         Err(fault) => refuse(rt, path, car, fault),
     }
 }
@@ -125,29 +125,29 @@ fn answer_of<R: AllocGlobal>(rt: &R, error: &io::Error) -> Result<u8, Failure> {
 // What is counted of a file of so many bytes.
 fn summarize<R: AllocGlobal + Print + Threads + Sync>(
     rt: &R,
-    file: &CarFile<'_>,
+    file: CarFile<'_>,
     bytes: usize,
 ) -> Result<u8, Failure> {
-    let alloc = rt.alloc();
-    let threads = at_most_processors(rt, LOADERS);
-    let summary = summary_of(rt, alloc, file.sections.as_slice(), threads)?;
-    let text = text_of(alloc, file, &summary, bytes)?;
+    let text = text_of(rt, file, bytes)?;
     match io::writer(rt).write_all(text.as_bytes()) {
         Ok(()) => Ok(0),
         Err(error) => answer_of(rt, &error),
     }
 }
 
-// What is told of a file of so many bytes.
-fn text_of(
-    alloc: Global,
-    file: &CarFile<'_>,
-    summary: &Summary,
+// What is printed of a file of so many bytes.
+fn text_of<R: AllocGlobal + Threads + Sync>(
+    rt: &R,
+    file: CarFile<'_>,
     bytes: usize,
 ) -> Result<String, AllocError> {
+    let alloc = rt.alloc();
     let mut text = String::new(alloc);
-    push_roots(alloc, &mut text, file)?;
-    push_summary(&mut text, summary, bytes)?;
+    push_roots(alloc, &mut text, &file)?;
+    let CarFile { roots: _, sections } = file;
+    let threads = at_most_processors(rt, LOADERS);
+    let summary = summary_of(rt, alloc, sections, threads)?;
+    push_summary(&mut text, &summary, bytes)?;
     Ok(text)
 }
 

@@ -1,6 +1,6 @@
 -- CIDs one by one, those of a share.
-use Rattle.std.proofs.Common.{◌≡◌, ℕ, zero, suc, ◌+◌, ◌<◌, ◌≤◌, Bool, true, false, ◌||◌, List, [], ◌∷◌, ◌++◌, length, take, drop, get_or, refl, sym, ◌∙◌, ap, subst, arith}
-use Rattle.std.specs.Prelude.{bytes_eq, map, ◌==◌, if◌then◌else◌}
+use Rattle.std.proofs.Common.{◌≡◌, ℕ, ◌+◌, ◌<◌, ◌≤◌, Bool, true, false, ◌||◌, List, [], ◌∷◌, ◌++◌, length, take, drop, get_or, refl, sym, ◌∙◌, ap, subst, arith}
+use Rattle.std.specs.Prelude.{bytes_eq, ◌==◌, if◌then◌else◌}
 use Rattle.std.proofs.lemmas.List.Elements.{filter-append}
 use Rattle.std.proofs.lemmas.List.{append-nil, take_more}
 use Rattle.std.proofs.lemmas.List.Folds.{list_any-append}
@@ -80,14 +80,6 @@ so-far-more n t cids i x store new count one lt is here told added h =
       counted = omega (arith, h.counted, stood, rest, whole);
       few = omega (arith, h.few, stood, at-most-one (has_stood before x));
     }
-
--- an element of a list whose elements were changed
-pub get_or-mapped : {A B : Type 0} (f : A → B) (xs : List A) (i : ℕ) (x : A) → x ≡ get_or xs i x → f x ≡ get_or (map f xs) i (f x)
-get_or-mapped f xs i x is = ap f is ∙ through f xs i x where
-  through : {A B : Type 0} (f : A → B) (xs : List A) (i : ℕ) (d : A) → f (get_or xs i d) ≡ get_or (map f xs) i (f d)
-  through f [] i d = refl
-  through f (y ∷ ys) zero d = refl
-  through f (y ∷ ys) (suc i) d = through f ys i d
 
 -- what a turn of the loop leaves
 pub same-so-far : (n t : ℕ) (cids : List (List ℕ)) (i : ℕ) (store new : Blocks) (count more : ℕ) → new ≡ store → more ≡ count → IsSoFar n t cids i store count → IsSoFar n t cids i new more

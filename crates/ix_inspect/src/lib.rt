@@ -2,7 +2,7 @@
 //!
 //! ```rust
 //! match read_sections(alloc, bytes) {
-//!     Ok(file) => println!(rt; "{} sections", summary_of(rt, alloc, file.sections.as_slice(), 4)?.sections)?,
+//!     Ok(file) => println!(rt; "{} sections", summary_of(rt, alloc, file.sections, 4)?.sections)?,
 //!     Err(_) => println!(rt; "{:?}", kind_of(bytes))?,
 //! }
 //! ```

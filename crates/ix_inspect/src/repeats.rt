@@ -1,4 +1,4 @@
-//! How many sections have a CID that has stood before.
+//! How many CIDs occurred before.
 //!
 //! The CIDs fall into shares, each by its last byte: alike ones into one. So the repeats of all are those of each share
 //! together, and each thread counts those of its own.
@@ -6,9 +6,8 @@
 ghost use Rattle.std.specs.Prelude.{◌≡◌, ◌<◌, [], length, vec_len, if◌then◌else◌, IfOk, OnOk};
 ghost use Rattle.std.specs.NonZero.{non_zero_usize_get};
 ghost use Rattle.ix_store.specs.Store.{has_cid, with_block};
-ghost use Rattle.ix_inspect.specs.Counted.{cids_of, repeats, share_of, in_share, AreCounted};
+ghost use Rattle.ix_inspect.specs.Counted.{repeats, share_of, in_share, AreCounted};
 
-use ix_car::Section;
 use ix_cid::CidRef;
 use ix_store::Store;
 use std::alloc::{AllocError, Global};
@@ -21,44 +20,44 @@ const MOST_SHARES: usize = 256;
 // The repeats of a share.
 type Count = Result<usize, AllocError>;
 
-// How many have a CID that has stood before, counted by so many threads.
+// How many occurred before, counted by so many threads.
 pub(crate) fn repeats_of<R: Threads + Sync>(
     rt: &R,
     alloc: Global,
-    sections: &[Section<'_>],
+    cids: &[CidRef<'_>],
     threads: usize,
 ) -> Result<usize, AllocError>
-    ensures { IfOk result (λ n. n ≡ repeats (cids_of sections.now)) }
+    ensures { IfOk result (λ n. n ≡ repeats cids.now) }
 {
     let shares = NonZeroUsize::new(threads.min(MOST_SHARES)).unwrap_or(NonZeroUsize::MIN);
-    let counts = counts_of(rt, alloc, sections, shares)?;
-    sum_of(sections, counts.as_slice())
+    let counts = counts_of(rt, alloc, cids, shares)?;
+    sum_of(cids, counts.as_slice())
 }
 
 // The repeats of each of so many shares.
 fn counts_of<R: Threads + Sync>(
     rt: &R,
     alloc: Global,
-    sections: &[Section<'_>],
+    cids: &[CidRef<'_>],
     shares: NonZeroUsize,
 ) -> Result<Vec<Count>, AllocError>
     ensures len { IfOk result (λ counts. vec_len counts ≡ non_zero_usize_get shares) }
     ensures counted { IfOk result (λ counts.
-        AreCounted (non_zero_usize_get shares) (cids_of sections.now) counts.items) }
+        AreCounted (non_zero_usize_get shares) cids.now counts.items) }
 {
     map_indices(
         rt,
         alloc,
         shares.get(),
-        &|share| repeats_in(alloc, sections, shares, share),
+        &|share| repeats_in(alloc, cids, shares, share),
     )
 }
 
-// The sum of what was counted of the shares of sections, which are no more than these.
-fn sum_of(sections: &[Section<'_>], counts: &[Count]) -> Result<usize, AllocError>
+// The sum of what was counted of the shares of CIDs, which are no more than these.
+fn sum_of(cids: &[CidRef<'_>], counts: &[Count]) -> Result<usize, AllocError>
     requires some { 0 < length counts.now }
-    requires counted { AreCounted (length counts.now) (cids_of sections.now) counts.now }
-    ensures { IfOk result (λ n. n ≡ repeats (cids_of sections.now)) }
+    requires counted { AreCounted (length counts.now) cids.now counts.now }
+    ensures { IfOk result (λ n. n ≡ repeats cids.now) }
 {
     let mut repeats = 0usize;
     for count in counts {
@@ -67,16 +66,16 @@ fn sum_of(sections: &[Section<'_>], counts: &[Count]) -> Result<usize, AllocErro
     Ok(repeats)
 }
 
-// Of those that fall into a share, how many have a CID that has stood before.
-fn repeats_in(alloc: Global, sections: &[Section<'_>], shares: NonZeroUsize, share: usize) -> Count
+// Of those that fall into a share, how many occurred before.
+fn repeats_in(alloc: Global, cids: &[CidRef<'_>], shares: NonZeroUsize, share: usize) -> Count
     ensures { IfOk result (λ n.
-        n ≡ repeats (in_share (non_zero_usize_get shares) share (cids_of sections.now))) }
+        n ≡ repeats (in_share (non_zero_usize_get shares) share cids.now)) }
 {
     let mut seen = Store::new(alloc);
     let mut repeats = 0usize;
-    for section in sections {
-        if share_of(&section.cid, shares) == share {
-            repeats += repeats_with(alloc, &mut seen, &section.cid)?;
+    for cid in cids {
+        if share_of(cid, shares) == share {
+            repeats += repeats_with(alloc, &mut seen, cid)?;
         }
     }
     Ok(repeats)

@@ -7,6 +7,7 @@ ghost use Rattle.ix_inspect.specs.Counted.{cids_of, codecs_of, hash_codes_of, si
 use crate::repeats::repeats_of;
 use crate::tally::{Tally, tally_of};
 use ix_car::Section;
+use ix_cid::CidRef;
 use std::alloc::{AllocError, Global};
 use std::thread::Threads;
 
@@ -48,28 +49,59 @@ impl Summary {
 }
 
 /// What is counted of sections, whose CIDs so many threads look up. Nothing is hashed.
+///
+/// The CIDs are kept without the sections while they are looked up, which takes the most memory.
 pub fn summary_of<R: Threads + Sync>(
     rt: &R,
     alloc: Global,
-    sections: &[Section<'_>],
+    sections: Vec<Section<'_>>,
     threads: usize,
 ) -> Result<Summary, AllocError>
-    ensures sections { IfOk result (λ s. s.sections ≡ length sections.now) }
-    ensures repeated { IfOk result (λ s. s.repeated ≡ repeats (cids_of sections.now)) }
-    ensures codecs { IfOk result (λ s. IsTallyOf (codecs_of sections.now) s.codecs) }
-    ensures hashes { IfOk result (λ s. IsTallyOf (hash_codes_of sections.now) s.hashes) }
-    ensures sizes { IfOk result (λ s. IsPermutation (sizes_of sections.now) s.sizes.items) }
+    ensures sections { IfOk result (λ s. s.sections ≡ length sections.entry.items) }
+    ensures repeated { IfOk result (λ s. s.repeated ≡ repeats (cids_of sections.entry.items)) }
+    ensures codecs { IfOk result (λ s. IsTallyOf (codecs_of sections.entry.items) s.codecs) }
+    ensures hashes { IfOk result (λ s. IsTallyOf (hash_codes_of sections.entry.items) s.hashes) }
+    ensures sizes { IfOk result (λ s. IsPermutation (sizes_of sections.entry.items) s.sizes.items) }
     ensures sorted { IfOk result (λ s. IsSorted nat_cmp s.sizes.items) }
 {
-    let codecs = codecs_of(alloc, sections)?;
-    let hashes = hashes_of(alloc, sections)?;
+    let count = sections.len();
+    let codecs = codec_tally(alloc, sections.as_slice())?;
+    let hashes = hash_tally(alloc, sections.as_slice())?;
+    let sizes = sizes_of(alloc, sections.as_slice())?;
+    let cids = cids_of(alloc, sections)?;
     Ok(Summary {
-        sections: sections.len(),
-        repeated: repeats_of(rt, alloc, sections, threads)?,
-        codecs: tally_of(alloc, codecs.as_slice())?,
-        hashes: tally_of(alloc, hashes.as_slice())?,
-        sizes: sizes_of(alloc, sections)?,
+        sections: count,
+        repeated: repeats_of(rt, alloc, cids.as_slice(), threads)?,
+        codecs,
+        hashes,
+        sizes,
     })
+}
+
+// How many sections there are of each codec.
+fn codec_tally(alloc: Global, sections: &[Section<'_>]) -> Result<Tally, AllocError>
+    ensures { IfOk result (IsTallyOf (codecs_of sections.now)) }
+{
+    let codecs = codecs_of(alloc, sections)?;
+    tally_of(alloc, codecs.as_slice())
+}
+
+// How many there are of each hash function.
+fn hash_tally(alloc: Global, sections: &[Section<'_>]) -> Result<Tally, AllocError>
+    ensures { IfOk result (IsTallyOf (hash_codes_of sections.now)) }
+{
+    let hashes = hashes_of(alloc, sections)?;
+    tally_of(alloc, hashes.as_slice())
+}
+
+// The CID of each.
+fn cids_of(alloc: Global, sections: Vec<Section<'_>>) -> Result<Vec<CidRef<'_>>, AllocError>
+    ensures { IfOk result (λ cids. cids.items ≡ cids_of sections.entry.items) }
+{
+    sections
+        .into_iter()
+        .map(|section| section.cid)
+        .collect(alloc)
 }
 
 // The codec of each.

@@ -2,26 +2,21 @@
 use Rattle.std.proofs.Common.{◌≡◌, ℕ, ◌+◌, ◌<◌, Bool, true, false, not, ◌||◌, ◌&&◌, inl, inr, List, [], ◌∷◌, ◌++◌, length, drop, filter, get_or, refl, sym, ◌∙◌, ap, append_assoc}
 use Rattle.std.specs.Prelude.{bytes_eq, if◌then◌else◌}
 use Rattle.std.proofs.lemmas.Slice.Eq.{bytes_eq-Decides}
+use Rattle.std.proofs.lemmas.Bool.Decides.{same_from_decides}
 use Rattle.std.proofs.Math.Bool.{or-false}
 use Rattle.ix_cid.proofs.Lists.{drop_read}
 use Rattle.ix_store.specs.Store.{Blocks, has_cid, with_block}
 use Rattle.ix_walk.specs.Once.{first_ones}
 use Rattle.ix_walk.proofs.Firsts.{filter-both, unseen, unseen-seen, unseen-none}
 
-has_cid-push : (store : Blocks) (p : List ℕ × List ℕ) (c : List ℕ) → has_cid (store ++ p ∷ []) c ≡ (has_cid store c || bytes_eq p.0 c)
-has_cid-push [] p c = or-false (bytes_eq p.0 c)
-has_cid-push (e ∷ store) p c = on_first (bytes_eq e.0 c) (has_cid-push store p c) where
-  on_first : (same : Bool) → has_cid (store ++ p ∷ []) c ≡ (has_cid store c || bytes_eq p.0 c) → (same || has_cid (store ++ p ∷ []) c) ≡ ((same || has_cid store c) || bytes_eq p.0 c)
+-- a CID is the one that was added, or it was there
+has_cid-added : (seen : Blocks) (c b e : List ℕ) → has_cid (seen ++ (c, b) ∷ []) e ≡ (has_cid seen e || bytes_eq e c)
+has_cid-added [] c b e =
+    or-false (bytes_eq c e) ∙ same_from_decides (bytes_eq c e) (bytes_eq e c) (bytes_eq-Decides c e) (λ h. sym ((bytes_eq-Decides e c).0 h), λ same. (bytes_eq-Decides e c).1 (sym same))
+has_cid-added (p ∷ seen) c b e = on_first (bytes_eq p.0 e) (has_cid-added seen c b e) where
+  on_first : (same : Bool) → has_cid (seen ++ (c, b) ∷ []) e ≡ (has_cid seen e || bytes_eq e c) → (same || has_cid (seen ++ (c, b) ∷ []) e) ≡ ((same || has_cid seen e) || bytes_eq e c)
   on_first true more = refl
   on_first false more = more
-
-alike : (c e : List ℕ) → bytes_eq c e ≡ bytes_eq e c
-alike c e = on_tests (bytes_eq c e) (bytes_eq e c) refl refl where
-  on_tests : (here there : Bool) → bytes_eq c e ≡ here → bytes_eq e c ≡ there → here ≡ there
-  on_tests true true h t = refl
-  on_tests false false h t = refl
-  on_tests true false h t = let same : bytes_eq e c ≡ true = (bytes_eq-Decides e c).1 (sym ((bytes_eq-Decides c e).0 h)) in cc
-  on_tests false true h t = let same : bytes_eq c e ≡ true = (bytes_eq-Decides c e).1 (sym ((bytes_eq-Decides e c).0 t)) in cc
 
 -- neither this CID nor one that was seen
 neither-here : (there same : Bool) → (not same && not there) ≡ not (there || same)
@@ -37,7 +32,7 @@ unseen-new seen c b cs isnt =
     ap (λ (t : Bool). if not t then c ∷ others else others) isnt
     ∙ ap (λ (l : List (List ℕ)). c ∷ l)
     (filter-both (λ e. not (has_cid seen e)) (λ e. not (bytes_eq e c)) (λ e. not (has_cid (seen ++ (c, b) ∷ []) e))
-    (λ e. neither-here (has_cid seen e) (bytes_eq e c) ∙ ap (λ (t : Bool). not (has_cid seen e || t)) (alike e c) ∙ ap not (sym (has_cid-push seen (c, b) e)))
+    (λ e. neither-here (has_cid seen e) (bytes_eq e c) ∙ ap not (sym (has_cid-added seen c b e)))
     (first_ones cs))
 
 -- those so far, and the first ones of those that are left, are all

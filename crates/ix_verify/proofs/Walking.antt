@@ -1,9 +1,10 @@
 -- The walk of a job, visit by visit.
 use Rattle.std.proofs.Common.{◌≡◌, ℕ, ◌+◌, ◌≤◌, Bool, true, false, not, List, [], ◌∷◌, ◌++◌, length, drop, filter, map, refl, sym, ◌∙◌, ap, subst, arith}
-use Rattle.std.specs.Prelude.{Some, Ok, Result, if◌then◌else◌}
+use Rattle.std.specs.Prelude.{Some, Ok, Err, Result, if◌then◌else◌}
 use Rattle.ix_cid.proofs.Lists.{next_at}
 use Rattle.ix_walk.specs.declared.visit.Visit.{Visit}
 use Rattle.ix_walk.specs.declared.fault.WalkStop.{WalkStop}
+use Rattle.ix_walk.specs.declared.fault.WalkStop.TheVariants.{Limit}
 use Rattle.ix_store.specs.Store.{Blocks}
 use Rattle.ix_walk.specs.JobMeaning.{JobMeaning}
 use Rattle.ix_walk.specs.WalkLeft.{WalkLeft, GivesNext}
@@ -30,9 +31,12 @@ skips-cons store v vs = on_pass (passes (verdict_of store v.cid)) where
   on_pass true = refl
   on_pass false = refl
 
--- what a walk gives next is known
-pub given_is : (walk left : WalkLeft) (r s : Result Visit WalkStop) → GivesNext walk (Some r) left → r ≡ s → GivesNext walk (Some s) left
-given_is walk left r s g e = subst (λ (x : Result Visit WalkStop). GivesNext walk (Some x) left) e g
+-- what a walk gives next is a visit, or that there are more
+pub gives-visit : (walk left : WalkLeft) (r : Result Visit WalkStop) (v : Visit) → GivesNext walk (Some r) left → r ≡ Ok v → GivesNext walk (Some (Ok v)) left
+gives-visit walk left r v gives is = subst (λ (x : Result Visit WalkStop). GivesNext walk (Some x) left) is gives
+
+pub gives-limit : (walk left : WalkLeft) (r : Result Visit WalkStop) → GivesNext walk (Some r) left → r ≡ Err Limit → GivesNext walk (Some (Err Limit)) left
+gives-limit walk left r gives is = subst (λ (x : Result Visit WalkStop). GivesNext walk (Some x) left) is gives
 
 -- So many visits were given, and what is told of them was noted.
 pub record IsOnWalk (store : Blocks) (job : JobMeaning) (most : ℕ) (walk : WalkLeft) (start skips : Noted Skip) : Type 0 where

@@ -1,30 +1,27 @@
 use Rattle.std.proofs.Common.{◌≡◌, ℕ, ◌+◌, ◌<◌, true, false, sym, ◌∙◌, ap, length, get_or, arith}
 use Rattle.std.specs.Prelude.{◌==◌}
 use Rattle.std.specs.NonZero.{non_zero_usize_get}
-use Rattle.std.proofs.lemmas.List.{length-map}
 use Rattle.std.proofs.lemmas.Bool.{eq-eqb, ne_eqb}
-use Rattle.ix_car.specs.declared.reader.sections.Section.{Section}
 use Rattle.ix_inspect.specs.Counted.{share_of}
-use Rattle.ix_inspect.proofs.Counting.{get_or-mapped, so-far-more, so-far-other, same-so-far}
-use Rattle.ix_inspect.proofs.repeats.repeats_in.Invariants.{cids_of}
+use Rattle.ix_inspect.proofs.Counting.{so-far-more, so-far-other, same-so-far}
 use Rattle.ix_inspect.proofs.repeats.repeats_in.Goals as goal
 use Rattle.ix_inspect.proofs.repeats.repeats_in.Goals.{then-share_of-share+in_ok-repeats, else-share_of-share}
 
-pub loop-section-preserved : goal.loop-section-preserved
-loop-section-preserved c =
+pub loop-cid-preserved : goal.loop-cid-preserved
+loop-cid-preserved c =
     let n = non_zero_usize_get c.args.shares in
     let t = c.args.share in
-    let cids = cids_of c.args.sections.now in
-    let i = c.loop-section.section-index in
-    let x = c.section-item.result.cid in
-    let lt : i < length cids = omega (arith, length-map c.args.sections.now (λ (s : Section). s.cid), c.loop-section-test.true) in
-    let is : x ≡ get_or cids i x = get_or-mapped (λ (s : Section). s.cid) c.args.sections.now i c.section-item.result c.section-item.is in
+    let cids = c.args.cids.now in
+    let i = c.loop-cid.cid-index in
+    let x = c.cid-item.result in
+    let lt : i < length cids = omega arith in
+    let is : x ≡ get_or cids i x = c.cid-item.is in
     elim c.if-share_of-share.branch [
       | then-share_of-share+in_ok-repeats w ↦
           let here : (share_of n x == t) ≡ true = ap (λ (k : ℕ). k == t) (sym c.share_of.ensures) ∙ eq-eqb _ _ w.if-share_of-share.true in
           same-so-far n t cids (i + 1) _ _ _ _ w.seen-is w.repeats-is
-          (so-far-more n t cids i x c.loop-section.seen _ c.loop-section.repeats w.in_ok-repeats.field-0 lt is here w.in_ok-repeats.ensures.counted w.in_ok-repeats.ensures.added c.loop-section.invariant)
+          (so-far-more n t cids i x c.loop-cid.seen _ c.loop-cid.repeats w.in_ok-repeats.field-0 lt is here w.in_ok-repeats.ensures.counted w.in_ok-repeats.ensures.added c.loop-cid.invariant)
       | else-share_of-share w ↦
           let other : (share_of n x == t) ≡ false = ap (λ (k : ℕ). k == t) (sym c.share_of.ensures) ∙ ne_eqb _ _ w.if-share_of-share.false in
-          same-so-far n t cids (i + 1) _ _ _ _ w.seen-is w.repeats-is (so-far-other n t cids i x c.loop-section.seen c.loop-section.repeats lt is other c.loop-section.invariant)
+          same-so-far n t cids (i + 1) _ _ _ _ w.seen-is w.repeats-is (so-far-other n t cids i x c.loop-cid.seen c.loop-cid.repeats lt is other c.loop-cid.invariant)
     ]

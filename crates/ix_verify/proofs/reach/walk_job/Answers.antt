@@ -1,6 +1,5 @@
-use Rattle.std.proofs.Common.{true, false, rules, Ok, Err, ◌∙◌}
-use Rattle.ix_walk.specs.declared.fault.WalkStop.TheVariants as reasons
-use Rattle.ix_verify.proofs.Walking.{walk-starts, next-visit, walk-on, walk-through, given_is}
+use Rattle.std.proofs.Common.{true, false, rules, ◌∙◌}
+use Rattle.ix_verify.proofs.Walking.{walk-starts, next-visit, walk-on, walk-through, gives-visit, gives-limit}
 use Rattle.ix_verify.proofs.reach.walk_job.Goals as goal
 
 pub loop-item-init : goal.loop-item-init
@@ -11,21 +10,21 @@ loop-item-init c =
 pub note_visit-requires-clause-visit : goal.note_visit-requires-clause-visit
 note_visit-requires-clause-visit c =
     (next-visit c.args.store.now c.args.job.now c.args.most c.new-skips.result c.loop-item.item-iterator c.next.new.self c.loop-item.skips c.in-Ok.visit c.loop-item.invariant
-    (given_is c.loop-item.item-iterator c.next.new.self c.in-Some.item (Ok c.in-Ok.visit) c.in-Some.ensures.steps c.in-Ok.is)).0
+    (gives-visit c.loop-item.item-iterator c.next.new.self c.in-Some.item c.in-Ok.visit c.in-Some.ensures.steps c.in-Ok.is)).0
 
 pub note_visit-requires-clause-count : goal.note_visit-requires-clause-count
 note_visit-requires-clause-count c =
     (next-visit c.args.store.now c.args.job.now c.args.most c.new-skips.result c.loop-item.item-iterator c.next.new.self c.loop-item.skips c.in-Ok.visit c.loop-item.invariant
-    (given_is c.loop-item.item-iterator c.next.new.self c.in-Some.item (Ok c.in-Ok.visit) c.in-Some.ensures.steps c.in-Ok.is)).1
+    (gives-visit c.loop-item.item-iterator c.next.new.self c.in-Some.item c.in-Ok.visit c.in-Some.ensures.steps c.in-Ok.is)).1
 
 pub loop-item-preserved : goal.loop-item-preserved
 loop-item-preserved c =
     walk-on c.args.store.now c.args.job.now c.args.most c.new-skips.result c.loop-item.item-iterator c.next.new.self c.loop-item.skips c.note_visit.new.skips c.in-Ok.visit c.loop-item.invariant
-    (given_is c.loop-item.item-iterator c.next.new.self c.in-Some.item (Ok c.in-Ok.visit) c.in-Some.ensures.steps c.in-Ok.is) c.in_ok-note_visit-in-Ok.ensures
+    (gives-visit c.loop-item.item-iterator c.next.new.self c.in-Some.item c.in-Ok.visit c.in-Some.ensures.steps c.in-Ok.is) c.in_ok-note_visit-in-Ok.ensures
 
 pub returns-in-Err-Limit : goal.returns-in-Err-Limit
 returns-in-Err-Limit c =
-    let gives = given_is c.loop-item.item-iterator c.next.new.self c.in-Some.item (Err reasons.Limit) c.in-Some.ensures.steps (search rules) in
+    let gives = gives-limit c.loop-item.item-iterator c.next.new.self c.in-Some.item c.in-Some.ensures.steps (search rules) in
     walk-through c.args.store.now c.args.job.now c.args.most c.new-skips.result c.loop-item.item-iterator c.loop-item.skips true (c.new-skips.ensures c.args.most) c.loop-item.invariant gives.1 gives.2
 
 pub returns : goal.returns
