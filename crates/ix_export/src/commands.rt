@@ -34,6 +34,8 @@ pub(crate) enum Given {
     Number,
     /// By an option without a value.
     Flag,
+    /// By an option without a value that isn't there together with the word of this name.
+    FlagWithout(&'static str),
     /// By its place, where something must stand.
     Place(&'static str),
     /// By its place, where nothing may stand.
@@ -62,17 +64,18 @@ pub(crate) const VERIFIERS: Word = Word {
     help: "How many threads hash, 1 to 64",
 };
 
-/// Whether it is told how a run goes on.
+/// Whether progress is shown.
 pub(crate) const PROGRESS: Word = Word {
     name: "progress",
     given: Given::Flag,
-    help: "Tells on standard error how the run goes on",
+    help: "Shows progress on standard error",
 };
 
-pub(crate) const QUIET: Word = Word {
-    name: "quiet",
+/// Whether the cause of an error is printed where an error has one line.
+pub(crate) const VERBOSE: Word = Word {
+    name: "verbose",
     given: Given::Flag,
-    help: "Tells nothing of that, on a terminal either",
+    help: "Prints the cause of an error on a second line",
 };
 
 /// The command of a table.
@@ -132,6 +135,7 @@ fn argument_of<'a>(alloc: Global, word: &'static Word) -> Result<Arg<'a>, AllocE
         Given::Without(value, other) => option(alloc, word, value).conflicts_with(other),
         Given::Number => Ok(number(alloc, word)),
         Given::Flag => Ok(flag(alloc, word)),
+        Given::FlagWithout(other) => flag(alloc, word).conflicts_with(other),
         Given::Place(value) => Ok(place(alloc, word, value).required(true)),
         Given::FreePlace(value) => Ok(place(alloc, word, value)),
         Given::Places(value) => Ok(places(alloc, word, value)),

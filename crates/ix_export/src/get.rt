@@ -1,20 +1,26 @@
 //! The command `get`: the archive of one job without a job file.
 
-ghost use Rattle.std.specs.Prelude.{◌≡◌, length, IfOk};
+ghost use Rattle.std.specs.Prelude.{◌≡◌, length, IfOk, if◌then◌else◌};
 ghost use Rattle.std.specs.Arc.{arc_value};
+ghost use Rattle.ix_run.specs.Complete.{is_complete};
 
-use crate::get_words::{job_words, output_of, refused_terminal};
-use crate::{Terminals, file_at, leave_to_the_system, loaders, run_by_words, telling};
+use crate::get_words::{job_words, output_of, refused_output, refused_terminal};
+use crate::{
+    Terminals, explained, leave_to_the_system, loaders, run_by_words, tell_notes, telling,
+};
 use clap::ArgMatches;
 use ix_car::load_car_by;
 use ix_files::{
-    Failure, Progress, STANDARD_INPUT, load_input, make_output, met_roots_alone,
-    name_complete_output, remove_output, stand_in, tell_report,
+    Failure, Noted, Output, Progress, STANDARD_INPUT, WriteErrors, Writing, failed_write,
+    load_input, make_output, met_roots_alone, name_complete_output, remove_output, stand_in,
+    tell_report,
 };
+use ix_inspect::kind_of;
 use ix_job_words::{
     JobWords, LineFault, SelectorWord, job_fault_words, jobs_of_words, lacks_an_edge,
 };
-use ix_run::{RunFault, RunOut};
+use ix_jobs::JobResult;
+use ix_run::{RunFault, RunOut, is_complete};
 use ix_store::Store;
 use ix_walk::Job;
 use std::fs::File;
@@ -25,6 +31,9 @@ use std::thread::Threads;
 
 // The status of words that are those of no job.
 const REFUSED: u8 = 2;
+
+// The status of a job that ended otherwise than done with all its roots.
+const INCOMPLETE: u8 = 4;
 
 // How many bytes for standard output wait in memory.
 const BUFFER: usize = 16 * 1024;
@@ -40,8 +49,10 @@ pub(crate) fn get<
     'a,
     R: AllocGlobal + Clock + Eprint + Files<File = File> + Input + Print + Threads + Wait + Sync,
 >(rt: &R, words: &ArgMatches<'a>, terminals: Terminals) -> Result<u8, Failure> {
-    if terminals.output && output_of(words).is_none() {
-        return Err(Failure::from(refused_terminal(rt.alloc())?));
+    match output_of(words) {
+        Some("") => return Err(Failure::from(refused_output(rt.alloc())?)),
+        None if terminals.output => return Err(Failure::from(refused_terminal(rt.alloc())?)),
+        _ => {}
     }
     let job = job_words(words);
     match jobs_of_words(rt.alloc(), &job, !words.get_flag("every-arrival")) {
@@ -86,9 +97,10 @@ fn load_blocks<'a, R: AllocGlobal + Clock + Eprint + Files + Input + Threads + S
 ) -> Result<Arc<Store>, Failure> {
     let input = words.get_str("blocks").unwrap_or(STANDARD_INPUT);
     let car = load_input(rt, input, progress)?;
+    let kind = kind_of(car.as_slice());
     match load_car_by(rt, rt.alloc(), car, loaders(rt, words)) {
         Ok(blocks) => Arc::new(rt.alloc(), blocks).map_err(Failure::from),
-        Err(fault) => Err(Failure::from(RunFault::from(fault))),
+        Err(fault) => Err(explained(rt, RunFault::from(fault), kind)),
     }
 }
 
@@ -107,13 +119,12 @@ fn get_below<
     requires { length jobs.items ≡ 1 }
 {
     let jobs = Arc::new(rt.alloc(), jobs)?;
-    let standing = stand_in(rt);
-    let status = match output_of(words) {
-        Some(path) => get_file(rt, words, path, &store, &jobs, progress),
-        None => get_stream(rt, words, &store, &jobs, progress),
+    let status = match (stand_in(rt), output_of(words)) {
+        (Err(failure), _) => Err(failure),
+        (Ok(_streams), Some(path)) => get_file(rt, words, path, &store, &jobs, progress),
+        (Ok(_streams), None) => get_stream(rt, words, &store, &jobs, progress),
     };
     leave_to_the_system(store);
-    drop(standing);
     status
 }
 
@@ -131,66 +142,68 @@ fn get_file<
 ) -> Result<u8, Failure>
     requires { length (arc_value jobs.now).items ≡ 1 }
 {
-    let writers = file_writers(rt, words, path)?;
+    let errors = WriteErrors::new();
+    let writers = file_writers(rt, words, path, &errors)?;
     let ran = run_by_words(rt, words, store, jobs, writers, progress);
     progress.end();
     match ran {
-        Ok(out) => name_and_tell(rt, words, path, jobs.as_slice(), &out),
+        Ok(out) => name_and_tell(rt, words, path, jobs.as_slice(), &out, &errors),
         Err(fault) => {
             remove_output(rt, path);
-            Err(refusal(rt, path, fault))
+            Err(refusal(rt, path, fault, &errors))
         }
     }
 }
 
 // The one writer, to the file that it makes. Room comes first, so that a file that is made is written.
-fn file_writers<'a, R: AllocGlobal + Files<File = File>>(
+fn file_writers<'a, 'o, R: AllocGlobal + Files<File = File>>(
     rt: &R,
     words: &ArgMatches<'a>,
     path: &str,
-) -> Result<Vec<BufWriter<R::File>>, Failure>
+    errors: &'o WriteErrors,
+) -> Result<Vec<Output<'o, File>>, Failure>
     ensures { IfOk result (λ writers. length writers.items ≡ 1) }
 {
+    let writing = Writing {
+        is_synced: !words.get_flag("no-sync"),
+        errors,
+    };
+    let input = words.get_str("blocks").unwrap_or(STANDARD_INPUT);
     let mut writers = Vec::with_capacity(rt.alloc(), 1)?;
-    writers.push(make_output(rt, path, input_file(words))?)?;
+    writers.push(make_output(rt, path, input, writing)?)?;
     Ok(writers)
 }
 
-// Gives the file its name, and tells the report behind that, whatever came of it.
-fn name_and_tell<'a, R: AllocGlobal + Eprint + Files<File = File>>(
+// Gives the file its name, and then reports, whatever came of it.
+fn name_and_tell<'a, 'o, R: AllocGlobal + Eprint + Files<File = File>>(
     rt: &R,
     words: &ArgMatches<'a>,
     path: &str,
     jobs: &[Job],
-    out: &RunOut<BufWriter<R::File>>,
+    out: &RunOut<Output<'o, File>>,
+    errors: &WriteErrors,
 ) -> Result<u8, Failure> {
-    let named = name_file(rt, words, path, jobs, out);
-    tell(rt, words, jobs, out);
-    match named {
-        Ok(_) => Ok(out.status),
+    let left = name_file(rt, path, jobs, out);
+    if let Ok(Some(line)) = &left {
+        let _ = rt.eprint(line.as_str());
+    }
+    let status = tell(rt, words, path, jobs, out, errors);
+    match left {
+        Ok(_) => Ok(status),
         Err(failure) => Err(failure),
     }
 }
 
-// The file that has the blocks, also where it is standard input.
-fn input_file<'a>(words: &ArgMatches<'a>) -> &'a str {
-    file_at(words.get_str("blocks").unwrap_or(STANDARD_INPUT))
-}
-
-// Gives the file its name, or tells why it gets none; answered is which.
-fn name_file<'a, R: AllocGlobal + Eprint + Files<File = File>>(
+// Gives the file its name, or returns why it gets none.
+fn name_file<'o, R: AllocGlobal + Files<File = File>>(
     rt: &R,
-    words: &ArgMatches<'a>,
     path: &str,
     jobs: &[Job],
-    out: &RunOut<BufWriter<R::File>>,
-) -> Result<bool, Failure> {
-    let sync = words.get_flag("sync");
+    out: &RunOut<Output<'o, File>>,
+) -> Result<Option<String>, Failure> {
     match (jobs.first(), out.results.first(), out.writers.first()) {
-        (Some(job), Some(told), Some(output)) => {
-            name_complete_output(rt, path, job, told, output, sync)
-        }
-        _ => Ok(false),
+        (Some(job), Some(told), Some(output)) => name_complete_output(rt, path, job, told, output),
+        _ => Ok(None),
     }
 }
 
@@ -205,47 +218,66 @@ fn get_stream<'a, R: AllocGlobal + Clock + Eprint + Print + Threads + Wait + Syn
     requires { length (arc_value jobs.now).items ≡ 1 }
 {
     let alloc = rt.alloc();
-    let Ok(output) = BufWriter::with_capacity(alloc, BUFFER, io::writer(rt)) else {
+    let errors = WriteErrors::new();
+    let Ok(output) = BufWriter::with_capacity(alloc, BUFFER, Noted::new(io::writer(rt), &errors))
+    else {
         return Err(Failure::Fault(RunFault::Memory));
     };
     let writers = vec![in alloc; output]?;
     let ran = run_by_words(rt, words, store, jobs, writers, progress);
     progress.end();
     match ran {
-        Ok(out) => {
-            tell(rt, words, jobs.as_slice(), &out);
-            Ok(out.status)
-        }
-        Err(fault) => Err(refusal(rt, "-", fault)),
+        Ok(out) => Ok(tell(rt, words, "-", jobs.as_slice(), &out, &errors)),
+        Err(fault) => Err(refusal(rt, "-", fault, &errors)),
     }
 }
 
 // A refusal of the run: an archive that can't be begun is an output that can't be written.
-fn refusal<R: AllocGlobal>(rt: &R, path: &str, fault: RunFault) -> Failure {
+fn refusal<R: AllocGlobal>(rt: &R, path: &str, fault: RunFault, errors: &WriteErrors) -> Failure {
     match fault {
         RunFault::Write(_) => {
-            let error = io::Error::from(ErrorKind::WriteZero);
+            let unknown = io::Error::from(ErrorKind::WriteZero);
+            let error = errors.first().unwrap_or(unknown);
             Failure::cannot_write(rt.alloc(), path, &error)
         }
         fault => Failure::from(fault),
     }
 }
 
-// The report and the notes behind it, on standard error. Where that can't be written, or no memory is
-// left, there is nobody to tell.
+// The report and the notes after it, on standard error, and the status. Where standard error can't be
+// written, or no memory is left, there is nobody to report to.
 fn tell<'a, R: AllocGlobal + Eprint, W>(
     rt: &R,
     words: &ArgMatches<'a>,
+    path: &str,
     jobs: &[Job],
     out: &RunOut<W>,
-) {
-    tell_report(rt, out.report.as_slice());
-    if let (Some(job), Some(told)) = (jobs.first(), out.results.first()) {
-        if met_roots_alone(job, told) {
-            let _ = rt.eprintln(NOTHING_BELOW);
-        }
+    errors: &WriteErrors,
+) -> u8 {
+    let (Some(job), Some(told)) = (jobs.first(), out.results.first()) else {
+        return INCOMPLETE;
+    };
+    let status = status_of(job, told, out.status);
+    tell_notes(rt, failed_write(rt.alloc(), path, told, errors));
+    if status != 0 || !words.get_flag("quiet") {
+        tell_report(rt, out.report.as_slice());
+    }
+    if met_roots_alone(job, told) {
+        let _ = rt.eprintln(NOTHING_BELOW);
     }
     if let Ok(true) = lacks_an_edge(rt.alloc(), &job_words(words).selector) {
         let _ = rt.eprintln(NO_EDGE);
+    }
+    status
+}
+
+// The status of a job that has this one in a report: that of one that ended otherwise, where a root of it was skipped.
+fn status_of(job: &Job, told: &JobResult, status: u8) -> u8
+    ensures { result ≡ (if is_complete job.now told.now then status else 4) }
+{
+    if is_complete(job, told) {
+        status
+    } else {
+        INCOMPLETE
     }
 }

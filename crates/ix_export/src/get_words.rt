@@ -1,8 +1,7 @@
 //! The words of the command `get`.
 
-use crate::commands::{
-    BLOCKS, CommandWords, Given, PROGRESS, QUIET, VERIFIERS, WALKERS, Word, refusal,
-};
+use crate::commands::{BLOCKS, CommandWords, Given, PROGRESS, VERIFIERS, WALKERS, Word, refusal};
+use crate::words::refused_value;
 use clap::ArgMatches;
 use clap::error::ErrorKind;
 use ix_files::STANDARD_INPUT;
@@ -13,8 +12,8 @@ const ABOUT: &str = "Writes the archive of what is below a root, without a job f
 
 const HELP: &str = "Everything below the root, over all links:\n\
 \n\
-  ix_export get --blocks library.car --out album.car \\\n\
-    --root bafyreif4cx2fmzgnlynimiv5s5pmkhdcciunwtqscgjd2tvhr5yqjh7u4i\n\
+\x20 ix_export get --blocks library.car --out album.car \\\n\
+\x20   --root bafyreif4cx2fmzgnlynimiv5s5pmkhdcciunwtqscgjd2tvhr5yqjh7u4i\n\
 \n\
 Which ways it goes a selector says, as JSON with the keys of the IPLD Selectors\n\
 specification (docs/SELECTORS.md) or as DAG-CBOR in hexadecimal, which the\n\
@@ -24,18 +23,20 @@ there is --every-arrival, which changes how many arrivals are counted, and not\n
 the archive of a job within its limit.\n\
 \n\
 The archive is written to FILE.part, which is named FILE where the job is done\n\
-and each root has its block in it, in place of a file that is there. Otherwise\n\
-it stays as FILE.part, FILE stays as it was, and a line on standard error says\n\
-why. Without --out, or where FILE is -, the archive goes to standard output,\n\
-which may not be a terminal.\n\
+and no root was skipped, in place of a file that is there. Otherwise it stays\n\
+as FILE.part, FILE stays as it was, and a line on standard error says why. It\n\
+is on the disk before it gets its name, unless there is --no-sync. Without\n\
+--out, or where FILE is -, the archive goes to standard output, which may not\n\
+be a terminal.\n\
 \n\
 The report is that of the command `jobs`, for the one job `get`, and goes to\n\
 standard error. A note behind it tells where nothing was met below the roots,\n\
 and where a recursion of the selector has no edge {\"@\":{}}.\n\
 \n\
 Status: 0 where the job is done and nothing was skipped, 3 where it is done and\n\
-something was skipped, 4 where it ended otherwise, 2 where the words or a file\n\
-are refused, with a line on standard error.";
+something was skipped below the roots, 4 where it ended otherwise or a root was\n\
+skipped, 2 where the words or a file are refused, with a line on standard error\n\
+that has the cause.";
 
 // The name of the one job in the report.
 const NAME: &str = "get";
@@ -81,11 +82,20 @@ pub(crate) static GET: CommandWords = CommandWords {
         VERIFIERS,
         Word {
             name: "sync",
+            given: Given::FlagWithout("no-sync"),
+            help: "FILE is on the disk before it gets its name [default]",
+        },
+        Word {
+            name: "no-sync",
             given: Given::Flag,
-            help: "The archive is on the disk before it gets its name",
+            help: "FILE gets its name without waiting for the disk",
         },
         PROGRESS,
-        QUIET,
+        Word {
+            name: "quiet",
+            given: Given::Flag,
+            help: "No progress, and no report where the status is 0",
+        },
     ],
 };
 
@@ -112,6 +122,11 @@ pub(crate) fn output_of<'a>(words: &ArgMatches<'a>) -> Option<&'a str> {
         Some(path) if path != STANDARD_INPUT => Some(path),
         _ => None,
     }
+}
+
+/// What is reported of an output without a name.
+pub(crate) fn refused_output(alloc: Global) -> Result<clap::Error, AllocError> {
+    refused_value(alloc, &GET, "ix_export get", "--out <FILE>")
 }
 
 /// What is told where the archive would go to a terminal.

@@ -251,7 +251,7 @@ fn tell_kept<R: Eprint>(rt: &R, path: &str, fault: CarFault, words: &str) {
 }
 
 // What a file is that is no CARv1 file.
-fn words_of(kind: Kind) -> &'static str {
+pub(crate) fn words_of(kind: Kind) -> &'static str {
     match kind {
         Kind::Car2 => {
             "a CARv2 file; its data can be taken out by car extract, or by the offset in its header"

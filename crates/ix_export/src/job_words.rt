@@ -6,9 +6,9 @@ const JOB_ABOUT: &str = "Prints the line of a job for a job file";
 
 const JOB_HELP: &str = "Lines of jobs are put together into a job file:\n\
 \n\
-  ix_export job photos \\\n\
-    bafkreif2pall7dybz7vecqka3zo24irdwabwdi4wc55jznaq75q7eaavvu 1000 \\\n\
-    '{\"R\":{\"l\":{\"none\":{}},\":>\":{\"a\":{\">\":{\"@\":{}}}}}}' >>photos.jobs\n\
+\x20 ix_export job photos \\\n\
+\x20   bafkreif2pall7dybz7vecqka3zo24irdwabwdi4wc55jznaq75q7eaavvu 1000 \\\n\
+\x20   '{\"R\":{\"l\":{\"none\":{}},\":>\":{\"a\":{\">\":{\"@\":{}}}}}}' >>photos.jobs\n\
 \n\
 Status: 0 where a line was printed, 2 where the words are those of no job, with\n\
 a line on standard error that says why.";

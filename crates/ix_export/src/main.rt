@@ -26,10 +26,13 @@ ghost use Rattle.ix_walk.specs.JobMeaning.{AreFew};
 
 use crate::job_file::{check_jobs, print_job};
 use clap::ArgMatches;
+use ix_car::CarKind;
 use ix_files::{
-    Failure, Help, Progress, STANDARD_INPUT, Telling, load_input, make_outputs,
-    name_complete_outputs, name_outputs, read_all, read_input, remove_outputs, stand_in,
+    Causes, Failure, Help, Naming, Output, Progress, STANDARD_INPUT, Telling, WriteErrors, Writing,
+    failed_writes, load_input, make_outputs, name_outputs, read_all, read_input, remove_outputs,
+    stand_in,
 };
+use ix_inspect::{Kind, kind_of};
 use ix_notation::{hex_fault_line, hex_of_json, json_fault_line, json_of_hex};
 use ix_pipeline::Plan;
 use ix_run::{
@@ -39,14 +42,14 @@ use ix_store::Store;
 use ix_walk::Job;
 use std::alloc::AllocError;
 use std::fs::File;
-use std::io::{BufWriter, IsTerminal, Write};
+use std::io::{IsTerminal, Write};
 use std::mem::ManuallyDrop;
 use std::process::ExitCode;
 use std::rt::{Clock, Env, Files};
 use std::sync::{Arc, Wait};
 use std::thread::Threads;
-use std::{env, io, thread};
-use words::{command_line, judge_inputs, part_of};
+use std::{io, thread};
+use words::{arguments, command_line, judge_inputs, judge_output, part_of};
 
 // How many visits wait between the walkers and the verifiers, and how many verdicts behind each
 // verifier: about as many as come while a thread that waits sleeps a few times.
@@ -60,9 +63,6 @@ const SHORT_RUN: u64 = 2_000;
 // The status of a text that is no selector.
 const REFUSED: u8 = 2;
 
-// Where standard input stands among the files.
-const STANDARD_INPUT_FILE: &str = "/dev/stdin";
-
 // Which of the standard streams that are written are terminals.
 #[derive(Clone, Copy)]
 struct Terminals {
@@ -75,13 +75,10 @@ fn main(rt: HostRuntime) -> ExitCode {
         output: rt.stdout().is_terminal(),
         errors: rt.stderr().is_terminal(),
     };
-    match obey(&rt, terminals) {
-        Ok(status) => ExitCode::from(status),
-        Err(failure) => ExitCode::from(failure.report(&rt)),
-    }
+    ExitCode::from(obey(&rt, terminals))
 }
 
-// Does what the words say, and answers the status.
+// Does what the arguments say, and returns the status.
 fn obey<
     R: AllocGlobal
         + Clock
@@ -93,48 +90,70 @@ fn obey<
         + Threads
         + Wait
         + Sync,
->(rt: &R, terminals: Terminals) -> Result<u8, Failure> {
-    let words = words_of(rt)?;
-    obey_words(rt, words.as_slice(), terminals)
-}
-
-// Does what these words say.
-fn obey_words<
-    R: AllocGlobal + Clock + Eprint + Files<File = File> + Input + Print + Threads + Wait + Sync,
->(rt: &R, words: &[String], terminals: Terminals) -> Result<u8, Failure> {
-    match command_line(rt.alloc())?.try_get_matches_from(words) {
-        Ok(matches) => obey_command(rt, &matches, terminals),
-        Err(error) => print_help(rt, error),
+>(rt: &R, terminals: Terminals) -> u8 {
+    match arguments(rt) {
+        Ok(words) => obey_words(rt, words.as_slice(), terminals),
+        Err(failure) => failure.report(rt, Causes::Hidden),
     }
 }
 
-// Prints the help or the version, where the words asked for it.
+// Does what these arguments say.
+fn obey_words<
+    R: AllocGlobal + Clock + Eprint + Files<File = File> + Input + Print + Threads + Wait + Sync,
+>(rt: &R, words: &[String], terminals: Terminals) -> u8 {
+    let Ok(commands) = command_line(rt.alloc()) else {
+        return Failure::Fault(RunFault::Memory).report(rt, Causes::Hidden);
+    };
+    match commands.try_get_matches_from(words) {
+        Ok(matches) => obey_command(rt, &matches, terminals),
+        Err(error) => status_of(rt, print_help(rt, error), Causes::Hidden),
+    }
+}
+
+// The status of a command, whose failure is reported.
+fn status_of<R: AllocGlobal + Eprint + Print>(
+    rt: &R,
+    outcome: Result<u8, Failure>,
+    causes: Causes,
+) -> u8 {
+    match outcome {
+        Ok(status) => status,
+        Err(failure) => failure.report(rt, causes),
+    }
+}
+
+// Prints the help or the version, where the arguments asked for it.
 fn print_help<R: AllocGlobal + Eprint + Print>(rt: &R, error: clap::Error) -> Result<u8, Failure> {
     Help::asked_for(error)?.print(rt)?;
     Ok(0)
 }
 
-// The words that the program was started with.
-fn words_of<R: AllocGlobal + Env>(rt: &R) -> Result<Vec<String>, Failure> {
-    let arguments = env::args(rt).map_err(|error| Failure::of_words(&error))?;
-    Ok(arguments.collect(rt.alloc())?)
-}
-
-// Does what the command says that the words name.
+// Does what the command says that the arguments name. With `jobs` and `root` a failure has one line, and
+// its cause where that is asked for.
 fn obey_command<
     'a,
     R: AllocGlobal + Clock + Eprint + Files<File = File> + Input + Print + Threads + Wait + Sync,
->(rt: &R, matches: &ArgMatches<'a>, terminals: Terminals) -> Result<u8, Failure> {
-    match matches.subcommand() {
-        Some(("get", words)) => get::get(rt, words, terminals),
-        Some(("jobs", words)) => export_jobs(rt, words, terminals.errors),
-        Some(("selector", words)) => convert_selector(rt, words),
-        Some(("job", words)) => print_job(rt, words),
-        Some(("check-jobs", words)) => check_jobs(rt, words),
-        Some(("inspect", words)) => inspect::inspect(rt, words),
-        Some(("verify", words)) => verify::verify_files(rt, words),
-        Some((_, words)) => export_one(rt, word(words, "cid")),
-        None => export_one(rt, ""),
+>(rt: &R, matches: &ArgMatches<'a>, terminals: Terminals) -> u8 {
+    let (result, causes) = match matches.subcommand() {
+        Some(("get", words)) => (get::get(rt, words, terminals), Causes::Beside),
+        Some(("jobs", words)) => (export_jobs(rt, words, terminals.errors), causes_of(words)),
+        Some(("selector", words)) => (convert_selector(rt, words), Causes::Beside),
+        Some(("job", words)) => (print_job(rt, words), Causes::Beside),
+        Some(("check-jobs", words)) => (check_jobs(rt, words), Causes::Beside),
+        Some(("inspect", words)) => (inspect::inspect(rt, words), Causes::Beside),
+        Some(("verify", words)) => (verify::verify_files(rt, words), Causes::Beside),
+        Some((_, words)) => (export_one(rt, word(words, "cid")), causes_of(words)),
+        None => (export_one(rt, ""), Causes::Hidden),
+    };
+    status_of(rt, result, causes)
+}
+
+// Whether the cause of a failure is reported.
+fn causes_of<'a>(words: &ArgMatches<'a>) -> Causes {
+    if words.get_flag("verbose") {
+        Causes::Below
+    } else {
+        Causes::Hidden
     }
 }
 
@@ -232,6 +251,7 @@ fn export_told<
     };
     let inputs = [word(words, "blocks"), word(words, "jobs")];
     judge_inputs(rt.alloc(), inputs)?;
+    judge_output(rt.alloc(), word(words, "out"))?;
     match load_files(rt, inputs, choice, loaders(rt, words), progress) {
         Ok((store, jobs)) => export_files(rt, words, inputs, store, &jobs, progress),
         Err(failure) => Err(failure),
@@ -258,17 +278,18 @@ fn export_files<
 ) -> Result<u8, Failure>
     requires { AreFew (arc_value jobs.now).items }
 {
-    let standing = stand_in(rt);
-    let status = export_loaded(rt, words, inputs, &store, jobs, progress);
+    let status = match stand_in(rt) {
+        Ok(_streams) => export_loaded(rt, words, inputs, &store, jobs, progress),
+        Err(failure) => Err(failure),
+    };
     leave_to_the_system(store);
-    drop(standing);
     status
 }
 
 // Doesn't free the blocks, since nothing but the status is left to do: the system takes all memory back at the end of the
 // process, in less time than a million blocks take to be freed.
 fn leave_to_the_system(store: Arc<Store>) {
-    let _left = unsafe { ManuallyDrop::new_unchecked(store) };
+    let _left = ManuallyDrop::new(store);
 }
 
 // What the file of blocks and the job file hold, of which these jobs are chosen. So many threads index the blocks.
@@ -282,10 +303,25 @@ fn load_files<R: AllocGlobal + Clock + Eprint + Files + Input + Threads + Sync>(
     ensures { IfOk result (λ loaded. AreFew (arc_value loaded.1).items) }
 {
     let car = load_input(rt, inputs[0], progress)?;
+    let kind = kind_of(car.as_slice());
     let file = read_input(rt, inputs[1])?;
     match load_by(rt, rt.alloc(), car, file.as_slice(), choice, loaders) {
         Ok(loaded) => Ok(loaded),
-        Err(fault) => Err(Failure::from(fault)),
+        Err(fault) => Err(explained(rt, fault, kind)),
+    }
+}
+
+// A fault of files, with what is known of a file of this kind that is no CARv1 file.
+pub(crate) fn explained<R: AllocGlobal>(rt: &R, fault: RunFault, kind: Kind) -> Failure {
+    let why = match &fault {
+        RunFault::Car(found) if found.kind == CarKind::Memory => return Failure::from(fault),
+        RunFault::Car(found) if found.place == 0 => inspect::words_of(kind),
+        RunFault::Car(_) => "the command inspect says how the sections before are kept",
+        _ => return Failure::from(fault),
+    };
+    match String::from_str(rt.alloc(), why) {
+        Ok(why) => Failure::Explained(fault, why),
+        Err(_) => Failure::from(fault),
     }
 }
 
@@ -305,12 +341,16 @@ fn export_loaded<
     requires { AreFew (arc_value jobs.now).items }
 {
     let folder = word(words, "out");
-    let files = [file_at(inputs[0]), file_at(inputs[1])];
-    let writers = make_outputs(rt, folder, jobs.as_slice(), files)?;
+    let errors = WriteErrors::new();
+    let writing = Writing {
+        is_synced: words.get_flag("sync"),
+        errors: &errors,
+    };
+    let writers = make_outputs(rt, folder, jobs.as_slice(), inputs, writing)?;
     let ran = run_by_words(rt, words, store, jobs, writers, progress);
     progress.end();
     match ran {
-        Ok(out) => name_and_report(rt, words, folder, jobs.as_slice(), &out),
+        Ok(out) => name_and_report(rt, words, jobs.as_slice(), &out, &errors),
         Err(fault) => {
             remove_outputs(rt, folder, jobs.as_slice(), jobs.len());
             Err(Failure::from(fault))
@@ -318,44 +358,38 @@ fn export_loaded<
     }
 }
 
-// The file at the path of an input, also where that is standard input.
-pub(crate) fn file_at(path: &str) -> &str {
-    if path == STANDARD_INPUT {
-        STANDARD_INPUT_FILE
-    } else {
-        path
-    }
-}
-
-// Names the outputs of a run, and prints its report.
-fn name_and_report<'a, R: AllocGlobal + Eprint + Files<File = File> + Print>(
+// Names the outputs of a run, prints its report, and then says what else the user should know.
+fn name_and_report<'a, 'o, R: AllocGlobal + Eprint + Files<File = File> + Print>(
     rt: &R,
     words: &ArgMatches<'a>,
-    folder: &str,
     jobs: &[Job],
-    out: &RunOut<BufWriter<R::File>>,
+    out: &RunOut<Output<'o, File>>,
+    errors: &WriteErrors,
 ) -> Result<u8, Failure> {
-    let named = name_by_words(rt, words, folder, jobs, out);
-    match print_all(rt, out.report.as_slice()).and(named) {
-        Ok(()) => Ok(out.status),
-        Err(failure) => Err(failure),
+    let folder = word(words, "out");
+    let (results, outputs) = (out.results.as_slice(), out.writers.as_slice());
+    let named = name_outputs(rt, folder, jobs, results, outputs, naming(words));
+    print_all(rt, out.report.as_slice())?;
+    let notes = named?;
+    tell_notes(rt, Ok(notes));
+    tell_notes(rt, failed_writes(rt.alloc(), folder, jobs, results, errors));
+    Ok(out.status)
+}
+
+// Says on standard error what the user should know besides the report. Where that can't be written, or no
+// memory is left, there is nobody to say it to.
+pub(crate) fn tell_notes<R: Eprint>(rt: &R, notes: Result<String, AllocError>) {
+    if let Ok(notes) = notes {
+        let _ = rt.eprint(notes.as_str());
     }
 }
 
-// Names the outputs that the words want to be named.
-fn name_by_words<'a, R: AllocGlobal + Eprint + Files<File = File>>(
-    rt: &R,
-    words: &ArgMatches<'a>,
-    folder: &str,
-    jobs: &[Job],
-    out: &RunOut<BufWriter<R::File>>,
-) -> Result<(), Failure> {
-    let sync = words.get_flag("sync");
-    let outputs = out.writers.as_slice();
+// Which outputs get names.
+fn naming<'a>(words: &ArgMatches<'a>) -> Naming {
     if words.get_flag("complete") {
-        name_complete_outputs(rt, folder, jobs, out.results.as_slice(), outputs, sync)
+        Naming::Complete
     } else {
-        name_outputs(rt, folder, jobs, out.ends.as_slice(), outputs, sync)
+        Naming::Ended
     }
 }
 

@@ -4,7 +4,7 @@ use crate::commands::{CommandWords, Given, VERIFIERS, Word};
 use crate::threads;
 use clap::ArgMatches;
 use ix_car::{CarFault, CarKind};
-use ix_files::{Failure, STANDARD_INPUT, read_input};
+use ix_files::{Causes, Failure, STANDARD_INPUT, read_input};
 use ix_run::RunFault;
 use ix_verify::{Findings, Reach, Unsound, verify};
 use std::alloc::{AllocError, Global};
@@ -87,7 +87,7 @@ pub fn verify_files<'a, R: AllocGlobal + Eprint + Files + Input + Print + Thread
     for path in words.get_strs("file").unwrap_or(&[]) {
         let told = match verify_file(rt, words, path) {
             Ok(told) => told,
-            Err(failure) => failure.report(rt),
+            Err(failure) => failure.report(rt, Causes::Beside),
         };
         status = worse(status, told);
     }

@@ -1,7 +1,7 @@
 //! The words of the command line.
 
 use crate::commands::{
-    BLOCKS, CommandWords, Given, PROGRESS, QUIET, VERIFIERS, WALKERS, Word, command_of, refusal,
+    BLOCKS, CommandWords, Given, PROGRESS, VERBOSE, VERIFIERS, WALKERS, Word, command_of, refusal,
 };
 use crate::get_words::GET;
 use crate::inspect::INSPECT;
@@ -9,9 +9,12 @@ use crate::job_words::{CHECK_JOBS, JOB};
 use crate::verify::VERIFY;
 use clap::error::ErrorKind;
 use clap::{ArgMatches, Command};
-use ix_files::STANDARD_INPUT;
+use ix_files::{Failure, STANDARD_INPUT};
 use ix_jobs::Part;
 use std::alloc::{AllocError, Global};
+use std::env::{self, FillError};
+use std::fmt::Write;
+use std::rt::Env;
 
 // The program's version, and the logic of the toolchain in which it is proved.
 const VERSION: &str = "1.0.0, proved in Rattle's logic dac8208d650f15bf";
@@ -30,7 +33,8 @@ const ROOT_HELP: &str = "The archive has the root's block alone, where it is the
 \n\
 Standard input is a CARv1 file in hexadecimal; spaces, tabs and line ends are\n\
 skipped. Status: 0 where an archive was printed, 2 where the words or the input\n\
-are refused.";
+are refused, with a line on standard error and, with --verbose, the cause on\n\
+another.";
 
 const JOBS_ABOUT: &str = "Writes an archive for each job of a job file, and a report";
 
@@ -38,14 +42,14 @@ const JOBS_HELP: &str =
     "Each line of the job file is a job, NAME ROOTS LIMIT SELECTOR with one space\n\
 between:\n\
 \n\
-  photos bafkreif2pall7dybz7vecqka3zo24irdwabwdi4wc55jznaq75q7eaavvu 9 a1612ea0\n\
+\x20 photos bafkreif2pall7dybz7vecqka3zo24irdwabwdi4wc55jznaq75q7eaavvu 9 a1612ea0\n\
 \n\
 NAME is 1 to 64 of a to z, 0 to 9, - and _, ROOTS are the texts of 1 to 64\n\
 CIDv1s (base32) with one comma between, LIMIT is how many arrivals at blocks\n\
 there may be from all roots together, 1 to 1000000, and SELECTOR is an IPLD\n\
 selector as DAG-CBOR in hexadecimal, which the command `selector` makes of\n\
 JSON. A block that is linked twice is arrived at twice: it counts twice, and is\n\
-checked twice. Empty lines and lines that begin with # are ignored. There are\n\
+hashed once. Empty lines and lines that begin with # are ignored. There are\n\
 at most 1000 jobs.\n\
 \n\
 With --part K/N the K-th of N parts of the jobs is run: of J jobs, numbered\n\
@@ -72,9 +76,13 @@ same rest of its selector, and only where the block is sound. Later arrivals\n\
 count as visits, with nothing below them. So a graph has about as many visits\n\
 as links, and the archive is the same where both ways are within the limit.\n\
 \n\
-With --complete only the archives of jobs that are done, with all their roots\n\
-written, get their names; the others stay as .part, and a line on standard\n\
-error says why.\n\
+With --complete only the archives of jobs that are done, with no root skipped,\n\
+get their names; the others stay as .part, and a line on standard error says\n\
+why. Without it a file that is there is replaced by an archive that\n\
+lacks something too, and a line on standard error warns of that.\n\
+\n\
+With --sync each archive is on the disk before its job counts as done: a disk\n\
+that is full or fails only then ends the job with write.\n\
 \n\
 With --progress standard error is told how many jobs of all are closed, how\n\
 many visits were delivered and how much of archives was written: a terminal in\n\
@@ -83,19 +91,59 @@ two seconds, and a file in lines, one a second at most.\n\
 \n\
 Status: 0 where every job is done and nothing was skipped, 3 where every job is\n\
 done and something was skipped, 4 where a job ended otherwise, 2 where the\n\
-words or a file are refused, with a line on standard error. A file has at most\n\
-1073741824 bytes.";
+words or a file are refused, with a line on standard error, and with --verbose\n\
+the cause on another. A file has at most 1073741824 bytes.";
 
 const SELECTOR_ABOUT: &str = "Turns a selector from JSON into hexadecimal, or back";
 
 const SELECTOR_HELP: &str =
     "JSON has the keys of the IPLD Selectors specification. All below a root is\n\
 \n\
-  {\"R\":{\"l\":{\"none\":{}},\":>\":{\"a\":{\">\":{\"@\":{}}}}}}\n\
+\x20 {\"R\":{\"l\":{\"none\":{}},\":>\":{\"a\":{\">\":{\"@\":{}}}}}}\n\
 \n\
 Without JSON and --hex, or where JSON is -, it is read from standard input.\n\
 docs/SELECTORS.md has the forms and recipes. Status: 0 where a line was\n\
 printed, 2 where it is no selector, with a line that says why.";
+
+/// The arguments of the process, of which the first is the program's name.
+pub fn arguments<R: AllocGlobal + Env>(rt: &R) -> Result<Vec<String>, Failure> {
+    match env::args(rt) {
+        Ok(arguments) => arguments.collect(rt.alloc()).map_err(Failure::from),
+        Err(error) => Err(Failure::of_words(&error, first_other_than_utf8(rt)?)),
+    }
+}
+
+// The first argument that isn't UTF-8, its bytes escaped where they are no printed ASCII. A longer one than
+// there is room for is only named.
+fn first_other_than_utf8<R: AllocGlobal + Env>(rt: &R) -> Result<String, AllocError> {
+    let mut room = [0u8; 1024];
+    for number in 0..usize::MAX {
+        match rt.arg(number, &mut room) {
+            Ok(length) => {
+                let argument = &room[..length];
+                if str::from_utf8(argument).is_err() {
+                    return quoted(rt.alloc(), number, argument);
+                }
+            }
+            Err(FillError::TooLong) => {}
+            Err(FillError::NotPresent) => break,
+        }
+    }
+    String::from_str(rt.alloc(), "one of over 1024 bytes")
+}
+
+// An argument as it is reported, with its number.
+fn quoted(alloc: Global, number: usize, argument: &[u8]) -> Result<String, AllocError> {
+    let mut text = format!(in alloc; "number {number}, '")?;
+    for byte in argument {
+        match byte {
+            b' '..=b'~' => text.push(char::from(*byte))?,
+            _ => write!(text, "\\x{byte:02x}")?,
+        }
+    }
+    text.push('\'')?;
+    Ok(text)
+}
 
 /// The command line, of which the help is made.
 pub fn command_line<'a>(alloc: Global) -> Result<Command<'a>, AllocError> {
@@ -148,11 +196,14 @@ static ROOT: CommandWords = CommandWords {
     name: "root",
     about: ROOT_ABOUT,
     help: ROOT_HELP,
-    words: &[Word {
-        name: "cid",
-        given: Given::Needed("TEXT"),
-        help: "The CID of the root",
-    }],
+    words: &[
+        Word {
+            name: "cid",
+            given: Given::Needed("TEXT"),
+            help: "The CID of the root",
+        },
+        VERBOSE,
+    ],
 };
 
 // The command `jobs`.
@@ -187,15 +238,20 @@ static JOBS: CommandWords = CommandWords {
         Word {
             name: "sync",
             given: Given::Flag,
-            help: "Each archive is on the disk before it gets its name",
+            help: "Each archive is on the disk before its job is done",
         },
         Word {
             name: "complete",
             given: Given::Flag,
-            help: "Names only archives of done jobs with all their roots",
+            help: "Names only archives of done jobs with no root skipped",
         },
         PROGRESS,
-        QUIET,
+        Word {
+            name: "quiet",
+            given: Given::Flag,
+            help: "No progress, not on a terminal either",
+        },
+        VERBOSE,
     ],
 };
 
@@ -234,6 +290,31 @@ fn refused_inputs(alloc: Global) -> Result<clap::Error, AllocError> {
         "ix_export jobs",
         ErrorKind::ArgumentConflict,
         "standard input is given for '--blocks <FILE>' and for '--jobs <FILE>'",
+    )
+}
+
+/// Rejects an output folder without a name, which would be the root folder.
+pub fn judge_output(alloc: Global, folder: &str) -> Result<(), clap::Error> {
+    if folder.is_empty() {
+        return Err(refused_value(alloc, &JOBS, "ix_export jobs", "--out <DIR>")?);
+    }
+    Ok(())
+}
+
+/// What is reported of an option that is given without a value.
+pub(crate) fn refused_value(
+    alloc: Global,
+    table: &'static CommandWords,
+    name: &str,
+    option: &str,
+) -> Result<clap::Error, AllocError> {
+    let message = format!(in alloc; "a value is required for '{option}' but none was supplied")?;
+    refusal(
+        alloc,
+        table,
+        name,
+        ErrorKind::InvalidValue,
+        message.as_str(),
     )
 }
 

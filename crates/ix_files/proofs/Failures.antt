@@ -2,11 +2,14 @@
 use Rattle.std.proofs.Common.{◌≡◌, refl, ℕ, List, inr}
 use Rattle.std.specs.Prelude.{String, string_bytes}
 use Rattle.std.specs.Global.{Global}
+use Rattle.std.specs.declared.io.Error as io
 use Rattle.ix_files.specs.declared.fault.Failure.{Failure}
-use Rattle.ix_files.specs.Failure.{Names, NamesFile}
+use Rattle.ix_files.specs.Failure.{Names, NamesFile, WantsMemory}
 
-pub named : (told : String Global → Failure) (path : List ℕ) (name : String Global) → string_bytes name ≡ path → Names told path (told name)
-named told path name same = inr (record { name = name; named = same; told_is = refl })
+-- it names its path, which is that of its text
+pub named : (told : String Global → io.Error → Failure) (path : List ℕ) (name : String Global) (cause : io.Error) → string_bytes name ≡ path → Names told path (told name cause)
+named told path name cause same = inr (record { name = name; cause = cause; named = same; told_is = refl })
 
-pub named_file : (told : String Global → Failure) (path : List ℕ) (name : String Global) (P : Type 0) → string_bytes name ≡ path → (P → ⊥) → NamesFile told path P (told name)
-named_file told path name P same none = record { names = named told path name same; memory = λ p. absurd (none p) }
+-- the same of an error that is no want of memory, where what is told has one cause
+pub named_file : (told : String Global → io.Error → Failure) (path : List ℕ) (name : String Global) (error : io.Error) → string_bytes name ≡ path → (WantsMemory error → ⊥) → ((other : String Global) (cause : io.Error) → told name error ≡ told other cause → cause ≡ error) → NamesFile told path error (told name error)
+named_file told path name error same none one = record { names = named told path name error same; memory = λ p. absurd (none p); caused = one }

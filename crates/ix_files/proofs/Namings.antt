@@ -1,11 +1,12 @@
 -- What is told where outputs get their names, one job after another.
-use Rattle.std.proofs.Common.{◌≡◌, ℕ, List, ◌∷◌, All, subst, sym, inr}
+use Rattle.std.proofs.Common.{◌≡◌, ℕ, List, ◌∷◌, All, subst, sym, inl, inr}
 use Rattle.std.proofs.lemmas.List.Elements.{All-head, All-tail}
-use Rattle.std.specs.Prelude.{Result, Ok, Err, Contains}
-use Rattle.std.specs.Result.{result_and}
+use Rattle.std.specs.Prelude.{Result, Ok, Err, Option, String, Contains}
+use Rattle.std.specs.Global.{Global}
 use Rattle.ix_walk.specs.JobMeaning.{JobMeaning}
 use Rattle.ix_files.specs.declared.fault.Failure.{Failure}
 use Rattle.ix_files.specs.Failure.{IsFailureOf, IsOutputFailure, RefusesOutputOf, RefusesOutputs}
+use Rattle.ix_files.specs.Naming.{Joins}
 
 -- the first of what is left is one of the jobs, and so is each behind it
 pub next_of : (jobs left more : List JobMeaning) (job : JobMeaning) → All (Contains jobs) left → left ≡ job ∷ more → Contains jobs job × All (Contains jobs) more
@@ -18,11 +19,9 @@ module _ (folder : List ℕ) (jobs : List JobMeaning) (job : JobMeaning) where
   pub failure_of_one : (failure : Failure) → Contains jobs job → IsFailureOf folder job failure → IsOutputFailure folder jobs failure
   failure_of_one failure among names = inr (record { job = job; among = among; names = names })
 
-  told_and : (told named : Result (Unit {0}) Failure) → Contains jobs job → RefusesOutputs folder jobs told → RefusesOutputOf folder job named → RefusesOutputs folder jobs (result_and told named)
-  told_and (Ok _) (Ok _) among before now = tt
-  told_and (Ok _) (Err failure) among before now = failure_of_one failure among now
-  told_and (Err _) _ among before now = before
-
-  -- what was told before, or else what is told of this job
-  pub first_told : (told named both : Result (Unit {0}) Failure) → both ≡ result_and told named → Contains jobs job → RefusesOutputs folder jobs told → RefusesOutputOf folder job named → RefusesOutputs folder jobs both
-  first_told told named both is among before now = subst (RefusesOutputs folder jobs) (sym is) (told_and told named among before now)
+  -- what was refused before, or else what is refused of this job, or memory that runs out
+  pub joined_refuses : (notes : Result (String Global) Failure) (note : Result (Option (String Global)) Failure) (both : Result (String Global) Failure) → Joins notes note both → Contains jobs job → RefusesOutputs folder jobs notes → RefusesOutputOf folder job note → RefusesOutputs folder jobs both
+  joined_refuses (Err failure) note both is among before now = subst (RefusesOutputs folder jobs) (sym is) before
+  joined_refuses (Ok _) (Err failure) both is among before now = subst (RefusesOutputs folder jobs) (sym is) (failure_of_one failure among now)
+  joined_refuses (Ok _) (Ok _) (Ok _) is among before now = tt
+  joined_refuses (Ok _) (Ok _) (Err failure) is among before now = inl is

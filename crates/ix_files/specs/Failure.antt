@@ -9,8 +9,10 @@ use Rattle.clap.specs.Values.{kind_of}
 use Rattle.clap.specs.declared.error.Error.{Error}
 use Rattle.clap.specs.declared.error.kind.ErrorKind.TheVariants.{OutOfMemory, DisplayHelp, DisplayVersion}
 use Rattle.ix_walk.specs.JobMeaning.{JobMeaning}
+use Rattle.ix_run.specs.FaultLine as run_lines
+use Rattle.ix_notation.specs.FaultWords as selector_lines
 use Rattle.ix_files.specs.declared.fault.Failure.{Failure}
-use Rattle.ix_files.specs.declared.fault.Failure.TheVariants.{Usage, Words, Fault, CannotRead, TooLarge, CannotWrite}
+use Rattle.ix_files.specs.declared.fault.Failure.TheVariants.{Usage, Words, Fault, Explained, Selector, CannotRead, TooLarge, CannotWrite}
 use Rattle.ix_run.specs.declared.fault.RunFault.TheVariants.{Memory}
 
 -- an error on a file that is want of memory
@@ -22,29 +24,40 @@ pub record IsUsageOf (error : Error) (failure : Failure) : Type 0 where
   pub memory : kind_of error ≡ OutOfMemory → failure ≡ Fault Memory
   pub usage : kind_of error ≢ OutOfMemory → failure ≡ Usage error
 
--- words that can't be read are no UTF-8, but for want of memory
-pub record IsWordsOf (wants_memory : Type 0) (failure : Failure) : Type 0 where
+-- arguments that can't be read have one that is no UTF-8, but where memory ran out
+pub record IsWordsOf (wants_memory : Type 0) (argument : String Global) (failure : Failure) : Type 0 where
   pub memory : wants_memory → failure ≡ Fault Memory
-  pub words : (wants_memory → ⊥) → failure ≡ Words
+  pub words : (wants_memory → ⊥) → failure ≡ Words argument
 
--- the failure names this path
-pub record NamesPath (told : String Global → Failure) (path : List ℕ) (failure : Failure) : Type 0 where
+-- the failure names this path, with some cause
+pub record NamesPath (told : String Global → io.Error → Failure) (path : List ℕ) (failure : Failure) : Type 0 where
   pub name : String Global
+  pub cause : io.Error
   pub named : string_bytes name ≡ path
-  pub told_is : failure ≡ told name
+  pub told_is : failure ≡ told name cause
 
--- a failure that names a path, or want of memory
-abbrev pub Names : (String Global → Failure) → List ℕ → Failure → Type 0
+-- a failure that names a path, or memory ran out
+abbrev pub Names : (String Global → io.Error → Failure) → List ℕ → Failure → Type 0
 Names told path failure = (failure ≡ Fault Memory) ⊎ NamesPath told path failure
 
--- the same of an error on a file, whose want of memory is told as such
-pub record NamesFile (told : String Global → Failure) (path : List ℕ) (wants_memory : Type 0) (failure : Failure) : Type 0 where
+-- the same of an error on a file, which is its cause, unless memory ran out
+pub record NamesFile (told : String Global → io.Error → Failure) (path : List ℕ) (error : io.Error) (failure : Failure) : Type 0 where
   pub names : Names told path failure
-  pub memory : wants_memory → failure ≡ Fault Memory
+  pub memory : WantsMemory error → failure ≡ Fault Memory
+  pub caused : (name : String Global) (cause : io.Error) → failure ≡ told name cause → cause ≡ error
+
+-- the failure names this path as that of an input that is too large, or memory ran out
+pub record NamesLarge (path : List ℕ) (failure : Failure) : Type 0 where
+  pub name : String Global
+  pub named : string_bytes name ≡ path
+  pub told_is : failure ≡ TooLarge name
+
+abbrev pub IsTooLarge : List ℕ → Failure → Type 0
+IsTooLarge path failure = (failure ≡ Fault Memory) ⊎ NamesLarge path failure
 
 -- an input at this path can't be read or is too large, or memory ran out
 abbrev pub IsInputFailure : List ℕ → Failure → Type 0
-IsInputFailure path failure = Names CannotRead path failure ⊎ NamesPath TooLarge path failure
+IsInputFailure path failure = Names CannotRead path failure ⊎ IsTooLarge path failure
 
 -- what is read of this path is no larger than the greatest input, or else it is refused so
 abbrev pub IsRead : List ℕ → Result (Vec ℕ) Failure → Type 0
@@ -94,6 +107,17 @@ RefusesOutputs folder jobs result = IfErr result (IsOutputFailure folder jobs)
 pub record MakesOutputs {A : Type 0} (folder : List ℕ) (jobs : List JobMeaning) (result : Result (Vec A) Failure) : Type 0 where
   pub each : IfOk result (λ outputs. length outputs.items ≡ length jobs)
   pub refused : RefusesOutputs folder jobs result
+
+-- the line that is reported of a failure; usage has clap's text in its place
+abbrev pub IsLineOf : Failure → List ℕ → Type 0
+IsLineOf (Usage error) line = Unit {0}
+IsLineOf (Words argument) line = line ≡ codes "error: an argument is not UTF-8: " ++ string_bytes argument
+IsLineOf (Fault fault) line = line ≡ run_lines.line_of fault
+IsLineOf (Explained fault cause) line = line ≡ run_lines.line_of fault
+IsLineOf (Selector fault) line = line ≡ selector_lines.line_of fault
+IsLineOf (CannotRead name cause) line = line ≡ codes "cannot read " ++ string_bytes name
+IsLineOf (TooLarge name) line = line ≡ codes "too large " ++ string_bytes name
+IsLineOf (CannotWrite name cause) line = line ≡ codes "cannot write " ++ string_bytes name
 
 -- nobody asked for this text: it is no help and no version
 abbrev pub IsMistake : Error → Type 0

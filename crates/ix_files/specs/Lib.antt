@@ -1,3 +1,3 @@
-pub mod Complete
 pub mod Failure
+pub mod Naming
 pub mod Progress

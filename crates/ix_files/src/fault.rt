@@ -1,8 +1,8 @@
-//! Why the program ends early, and what it tells the user.
+//! Why the program ends early, and what it reports to the user.
 
-ghost use Rattle.std.specs.Prelude.{◌≡◌, IsNone, IfSome, string_bytes};
+ghost use Rattle.std.specs.Prelude.{◌≡◌, IsNone, IfOk, IfSome, string_bytes};
 ghost use Rattle.ix_files.specs.declared.fault.Failure.TheVariants.{CannotRead, TooLarge, CannotWrite};
-ghost use Rattle.ix_files.specs.Failure.{IsWordsOf, Names, NamesFile, WantsMemory};
+ghost use Rattle.ix_files.specs.Failure.{IsWordsOf, IsTooLarge, NamesFile, WantsMemory, IsLineOf};
 
 use clap::error::ErrorKind as UsageKind;
 use ix_notation::NotationFault;
@@ -10,62 +10,83 @@ use ix_run::{RunFault, fault_line};
 use std::alloc::{AllocError, AllocFailed, Global};
 use std::io::{self, ErrorKind};
 
-// The status of usage, of an input that is refused, and of an output that can't be made.
+// The status of usage, of an input that is rejected, and of an output that can't be made.
 const REFUSED: u8 = 2;
+
+// What the system answers where a process has as many files open as it may, or the whole system has.
+const FILES_OF_PROCESS: i32 = 24;
+
+const FILES_OF_SYSTEM: i32 = 23;
+
+// What it answers where a part of a path isn't there.
+const NO_ENTRY: i32 = 2;
 
 /// Why the program ends early.
 #[derive(Debug, Drop)]
 pub enum Failure {
-    /// The words are no command; the text is clap's.
+    /// The arguments are no command; the text is clap's.
     Usage(clap::Error),
-    /// A word is not UTF-8.
-    Words,
-    /// What the library refuses, and want of memory.
+    /// An argument is not UTF-8: its number and its bytes, as they are reported.
+    Words(String),
+    /// What the library rejects, and memory that runs out.
     Fault(RunFault),
+    /// What the library rejects, and what is known of its cause.
+    Explained(RunFault, String),
     /// A text that is no selector.
     Selector(NotationFault),
-    /// An input that can't be read: its path, where standard input is `-`.
-    CannotRead(String),
+    /// An input that can't be read: its path, where standard input is `-`, and the cause.
+    CannotRead(String, io::Error),
     /// An input of more than 1 GiB: its path.
     TooLarge(String),
-    /// An output that can't be made or written: its path, where standard output is `-`.
-    CannotWrite(String),
+    /// An output that can't be made or written: its path, where standard output is `-`, and the cause.
+    CannotWrite(String, io::Error),
+}
+
+/// How the cause of a failure is reported, where it is known.
+#[derive(Debug, Drop, Clone, Copy, PartialEq, Eq)]
+pub enum Causes {
+    /// Not at all: the failure has one line.
+    Hidden,
+    /// On a line of its own, after that of the failure.
+    Below,
+    /// At the end of the failure's line.
+    Beside,
 }
 
 impl Failure {
-    /// The arguments of the process can't be read.
-    pub fn of_words(error: &io::Error) -> Failure
-        ensures { IsWordsOf (WantsMemory error.now) result }
+    /// The arguments of the process can't be read: this one, as it is reported, is not UTF-8.
+    pub fn of_words(error: &io::Error, argument: String) -> Failure
+        ensures { IsWordsOf (WantsMemory error.now) argument result }
     {
         match error.kind() {
             ErrorKind::OutOfMemory => Failure::Fault(RunFault::Memory),
-            _ => Failure::Words,
+            _ => Failure::Words(argument),
         }
     }
 
     /// An input can't be read.
     pub fn cannot_read(alloc: Global, path: &str, error: &io::Error) -> Failure
-        ensures { NamesFile CannotRead path.now (WantsMemory error.now) result }
+        ensures { NamesFile (λ name cause. CannotRead name cause) path.now error.now result }
     {
         match name_of(alloc, path, error) {
-            Some(path) => Failure::CannotRead(path),
+            Some(path) => Failure::CannotRead(path, *error),
             None => Failure::Fault(RunFault::Memory),
         }
     }
 
     /// An output can't be made or written.
     pub fn cannot_write(alloc: Global, path: &str, error: &io::Error) -> Failure
-        ensures { NamesFile CannotWrite path.now (WantsMemory error.now) result }
+        ensures { NamesFile (λ name cause. CannotWrite name cause) path.now error.now result }
     {
         match name_of(alloc, path, error) {
-            Some(path) => Failure::CannotWrite(path),
+            Some(path) => Failure::CannotWrite(path, *error),
             None => Failure::Fault(RunFault::Memory),
         }
     }
 
     /// An input is too large.
     pub fn too_large(alloc: Global, path: &str) -> Failure
-        ensures { Names TooLarge path.now result }
+        ensures { IsTooLarge path.now result }
     {
         match String::from_str(alloc, path) {
             Ok(path) => Failure::TooLarge(path),
@@ -73,32 +94,96 @@ impl Failure {
         }
     }
 
-    /// Tells the user, and answers the status.
-    pub fn report<R: AllocGlobal + Eprint + Print>(&self, rt: &R) -> u8
+    /// Reports to the user, with the cause as it is asked for, and returns the status.
+    pub fn report<R: AllocGlobal + Eprint + Print>(&self, rt: &R, causes: Causes) -> u8
         ensures { result ≡ 2 }
     {
-        let told = match self {
+        // Where standard error can't be written there is nobody to report to.
+        let _ = match self {
             Failure::Usage(error) => error.print(rt),
-            Failure::Words => rt.eprintln("error: a word of the command is not UTF-8"),
-            Failure::Fault(fault) => match fault_line(rt.alloc(), fault) {
-                Ok(line) => rt.eprintln(line.as_str()),
+            _ => match self.text(rt.alloc(), causes) {
+                Ok(text) => rt.eprintln(text.as_str()),
                 Err(_) => rt.eprintln("memory"),
             },
-            Failure::Selector(fault) => match ix_notation::fault_line(rt.alloc(), fault) {
-                Ok(line) => rt.eprintln(line.as_str()),
-                Err(_) => rt.eprintln("memory"),
-            },
-            Failure::CannotRead(path) => eprintln!(rt; "cannot read {path}"),
-            Failure::TooLarge(path) => eprintln!(rt; "too large {path}"),
-            Failure::CannotWrite(path) => eprintln!(rt; "cannot write {path}"),
         };
-        // Where standard error can't be written there is nobody to tell.
-        let _ = told;
         REFUSED
+    }
+
+    // The line of a failure, and its cause as it is asked for.
+    fn text(&self, alloc: Global, causes: Causes) -> Result<String, AllocError> {
+        let line = self.line(alloc)?;
+        if causes == Causes::Hidden {
+            return Ok(line);
+        }
+        match self.cause(alloc)? {
+            None => Ok(line),
+            Some(cause) if causes == Causes::Below => format!(in alloc; "{line}\n{cause}"),
+            Some(cause) => format!(in alloc; "{line}: {cause}"),
+        }
+    }
+
+    /// The line that is reported, without its end. Usage has clap's text in its place.
+    pub fn line(&self, alloc: Global) -> Result<String, AllocError>
+        ensures { IfOk result (λ line. IsLineOf self.now (string_bytes line)) }
+    {
+        match self {
+            Failure::Usage(_) => Ok(String::new(alloc)),
+            Failure::Words(argument) => {
+                format!(in alloc; "error: an argument is not UTF-8: {argument}")
+            }
+            Failure::Fault(fault) | Failure::Explained(fault, _) => fault_line(alloc, fault),
+            Failure::Selector(fault) => ix_notation::fault_line(alloc, fault),
+            Failure::CannotRead(path, _) => format!(in alloc; "cannot read {path}"),
+            Failure::TooLarge(path) => format!(in alloc; "too large {path}"),
+            Failure::CannotWrite(path, _) => format!(in alloc; "cannot write {path}"),
+        }
+    }
+
+    // What is known of the cause, and what to do.
+    fn cause(&self, alloc: Global) -> Result<Option<String>, AllocError> {
+        match self {
+            Failure::CannotRead(_, error) => Ok(Some(cause_of(alloc, error, "")?)),
+            Failure::CannotWrite(_, error) => {
+                Ok(Some(cause_of(alloc, error, "; its folder must be there")?))
+            }
+            Failure::TooLarge(_) => {
+                Ok(Some(String::from_str(alloc, "an input has at most 1073741824 bytes")?))
+            }
+            Failure::Explained(_, cause) => Ok(Some(cause.clone()?)),
+            Failure::Fault(fault) => cause_of_fault(alloc, fault),
+            Failure::Usage(_) | Failure::Words(_) | Failure::Selector(_) => Ok(None),
+        }
     }
 }
 
-// The path that is named where an error is told, unless there is no memory.
+/// The cause of an error of the system in its words, and what to do about it; where a part of the path
+/// isn't there, the last text says that.
+pub(crate) fn cause_of(
+    alloc: Global,
+    error: &io::Error,
+    no_entry: &str,
+) -> Result<String, AllocError> {
+    let advice = match error.raw_os_error() {
+        Some(FILES_OF_PROCESS) => "; ulimit -n says how many files may be open at once",
+        Some(FILES_OF_SYSTEM) => "; the whole system has too many files open",
+        Some(NO_ENTRY) => no_entry,
+        _ => "",
+    };
+    format!(in alloc; "{error}{advice}")
+}
+
+// What is to be done about a fault that the library finds, where its line doesn't say it.
+fn cause_of_fault(alloc: Global, fault: &RunFault) -> Result<Option<String>, AllocError> {
+    let cause = match fault {
+        RunFault::Hex => "it has an odd number of digits, or a character that is none",
+        RunFault::Jobs(_) => "the command check-jobs says of each line what is wrong",
+        RunFault::Write(_) => "its header could not be written: is the disk full?",
+        _ => return Ok(None),
+    };
+    Ok(Some(String::from_str(alloc, cause)?))
+}
+
+// The path that is named where an error is reported, unless there is no memory.
 fn name_of(alloc: Global, path: &str, error: &io::Error) -> Option<String>
     ensures named { IfSome result (λ name. string_bytes name ≡ path.now) }
     ensures memory { WantsMemory error.now → IsNone result }

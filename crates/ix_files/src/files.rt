@@ -13,30 +13,8 @@ use std::rt::{Clock, Files};
 // The greatest input, in bytes.
 const LARGEST_INPUT: u64 = 1 << 30;
 
-// A file that is always there, and has no bytes.
-const NOTHING: &str = "/dev/null";
-
 /// The path that names standard input.
 pub const STANDARD_INPUT: &str = "-";
-
-/// What stands in for the standard streams that are closed.
-#[derive(Drop)]
-pub struct StandIns<F> {
-    _input: Option<F>,
-    _output: Option<F>,
-    _error: Option<F>,
-}
-
-/// Stands in for the standard streams that are closed. A file that is opened takes the lowest number
-/// that is free, so without this what is printed could end in an output. What stands in can't be
-/// written, so a stream that is closed stays one that refuses what is printed.
-pub fn stand_in<R: Files>(rt: &R) -> StandIns<R::File> {
-    StandIns {
-        _input: fs::open(rt, NOTHING).ok(),
-        _output: fs::open(rt, NOTHING).ok(),
-        _error: fs::open(rt, NOTHING).ok(),
-    }
-}
 
 /// The bytes of a file, whose size is judged before it is read, or of standard input where the path is `-`.
 pub fn read_input<R: AllocGlobal + Files + Input>(rt: &R, path: &str) -> Result<Vec<u8>, Failure>

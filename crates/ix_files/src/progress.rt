@@ -99,9 +99,9 @@ impl<'a, R: AllocGlobal + Clock + Eprint> Progress<'a, R> {
         if self.is_due(false) {
             let (loaded, size) = (mebibytes(self.loaded.get()), mebibytes(self.size.get()));
             let _ = if self.size.get() == 0 {
-                eprint!(self.rt; "\rloading {loaded} MiB\u{1b}[K")
+                eprint!(self.rt; "\r\u{1b}[?7lloading {loaded} MiB\u{1b}[K\u{1b}[?7h")
             } else {
-                eprint!(self.rt; "\rloading {loaded} of {size} MiB\u{1b}[K")
+                eprint!(self.rt; "\r\u{1b}[?7lloading {loaded} of {size} MiB\u{1b}[K\u{1b}[?7h")
             };
         }
     }
@@ -144,9 +144,10 @@ impl<'a, R: AllocGlobal + Clock + Eprint> Progress<'a, R> {
         let (jobs, closed) = (self.jobs.get(), self.closed.get());
         let (visits, written) = (self.visits.get(), mebibytes(self.bytes.get()));
         let rate = a_second(visits, now(self.rt).saturating_sub(self.run_start.get()));
-        // Where standard error can't be written there is nobody to tell.
+        // The terminal cuts a line that is too long for it, where it would else go on in the next one. Where
+        // standard error can't be written there is nobody to tell.
         let _ = eprint!(self.rt;
-            "\r{closed} of {jobs} jobs closed, {written} MiB, {visits} visits, {rate} a second\u{1b}[K"
+            "\r\u{1b}[?7l{closed} of {jobs} jobs closed, {written} MiB, {visits} visits, {rate} a second\u{1b}[K\u{1b}[?7h"
         );
     }
 

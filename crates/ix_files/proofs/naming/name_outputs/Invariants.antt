@@ -2,12 +2,12 @@ use Rattle.std.proofs.Common.{All}
 use Rattle.std.specs.Prelude.{Contains}
 use Rattle.std.specs.Slice.Iter.{iter_rest}
 use Rattle.ix_files.specs.Failure.{RefusesOutputs}
-use Rattle.ix_files.proofs.outputs.name_outputs.Given as goal
+use Rattle.ix_files.proofs.naming.name_outputs.Given as goal
 
 abbrev pub invariant-loop-job : goal.invariant-loop-job
 invariant-loop-job g l = record {
   can_next : (goal.iterator-loop-job g).can_next l.job-iterator;
   finite : (goal.iterator-loop-job g).is_finite l.job-iterator;
   left : All (Contains l.fn.jobs) (iter_rest l.job-iterator.a.a);
-  told : RefusesOutputs l.fn.folder l.fn.jobs l.told;
+  refuses : RefusesOutputs l.fn.folder l.fn.jobs l.notes;
 }

@@ -2,8 +2,8 @@ use Rattle.std.proofs.Common.{◌≡◌, All, rules, subst, sym}
 use Rattle.std.proofs.lemmas.List.Elements.{All-contains_itself}
 use Rattle.std.specs.Prelude.{Contains}
 use Rattle.std.specs.Slice.Iter.{iter_rest}
-use Rattle.ix_files.proofs.Namings.{next_of, first_told}
-use Rattle.ix_files.proofs.complete.name_complete_outputs.Goals as goal
+use Rattle.ix_files.proofs.Namings.{next_of, joined_refuses}
+use Rattle.ix_files.proofs.naming.name_outputs.Goals as goal
 
 pub loop-job-init : goal.loop-job-init
 loop-job-init g c =
@@ -11,7 +11,7 @@ loop-job-init g c =
       can_next = ((tt, tt), tt);
       finite = tt;
       left = subst (All (Contains c.args.jobs.now)) (sym rest) (All-contains_itself c.args.jobs.now);
-      told = tt;
+      refuses = tt;
     }
 
 pub loop-job-preserved : goal.loop-job-preserved
@@ -22,5 +22,5 @@ loop-job-preserved g c =
       can_next = ((tt, tt), tt);
       finite = tt;
       left = next.1;
-      told = first_told c.args.folder.now c.args.jobs.now job c.loop-job.told c.at_output-named.result c.and-told.result c.and-told.ensures next.0 was.told c.at_output-named.ensures;
+      refuses = joined_refuses c.args.folder.now c.args.jobs.now job c.loop-job.notes c.at_output-note.result c.joined-notes.result c.joined-notes.ensures next.0 was.refuses c.at_output-note.ensures;
     }

@@ -1,0 +1,226 @@
+//! The file in which an output is written before it gets its name.
+//!
+//! What gets the name `PATH` in the end is written to `PATH.part`. From when that is made until it has its
+//! name, the file is locked by the advisory lock of its system that goes with the process, so that no
+//! other run takes it for one that was left there. Where a file system has no locks, runs go on without.
+
+use crate::output::{Output, Writing, file_of, output_to};
+use std::alloc::{AllocError, Global};
+use std::fs::{self, File, Metadata, OpenFile, OpenOptions, Permissions, TryLockError};
+use std::io::{self, ErrorKind};
+use std::os::unix::fs::{MetadataExt, PermissionsExt};
+use std::rt::Files;
+
+// What the system answers where a file system has no locks: ENOLCK, ENOSYS, EOPNOTSUPP.
+const NO_LOCKS: [i32; 3] = [37, 38, 95];
+
+// How often a file that was just made is locked, where another run has locked it for a moment.
+const LOCK_TRIES: u32 = 1_000;
+
+// Who may read, write and run a file.
+const PERMISSION_BITS: u32 = 0o777;
+
+/// Where what gets this path in the end is written before.
+pub(crate) fn part_path(alloc: Global, path: &str) -> Result<String, AllocError> {
+    format!(in alloc; "{path}.part")
+}
+
+/// A file apart from its names: its device, and its number there.
+#[derive(Clone, Copy, PartialEq, Eq)]
+pub(crate) struct FileId {
+    device: u64,
+    number: u64,
+}
+
+impl FileId {
+    /// The file of which this is known.
+    pub(crate) fn of(metadata: &Metadata) -> FileId {
+        FileId {
+            device: metadata.dev(),
+            number: metadata.ino(),
+        }
+    }
+}
+
+// What is at a path at which a part is written.
+enum Left {
+    Nothing,
+    // A file, which some run may still write.
+    Stale,
+    // A link, a folder or a device, which no run makes.
+    Other,
+}
+
+// What was left at a path, where links aren't followed.
+fn left_at<R: Files>(rt: &R, part: &str) -> io::Result<Left> {
+    match fs::symlink_metadata(rt, part) {
+        Ok(metadata) if metadata.is_file() => Ok(Left::Stale),
+        Ok(_) => Ok(Left::Other),
+        Err(error) if error.kind() == ErrorKind::NotFound => Ok(Left::Nothing),
+        Err(error) => Err(error),
+    }
+}
+
+/// Refuses an output where its part is written by another run, or can't be.
+pub(crate) fn check_part<R: Files<File = File>>(rt: &R, part: &str) -> io::Result<()> {
+    match left_at(rt, part)? {
+        Left::Nothing => Ok(()),
+        Left::Stale => lock_stale(rt, part).map(|_| ()),
+        Left::Other => Err(other_than_file()),
+    }
+}
+
+// The file that was left at a path, locked, unless another run writes it.
+fn lock_stale<R: Files<File = File>>(rt: &R, part: &str) -> io::Result<File> {
+    let file = open_stale(rt, part)?;
+    lock(&file)?;
+    if is_at(rt, &file, part) {
+        Ok(file)
+    } else {
+        Err(in_use())
+    }
+}
+
+// Over NFS only a file that is open for writing can be locked so that nobody else is. One that may not be
+// written is opened for reading.
+fn open_stale<R: Files<File = File>>(rt: &R, part: &str) -> io::Result<File> {
+    match OpenOptions::new().read(true).write(true).open(rt, part) {
+        Err(error) if error.kind() == ErrorKind::PermissionDenied => fs::open(rt, part),
+        opened => opened,
+    }
+}
+
+// Locks a file, where its file system has locks, unless another run has locked it.
+fn lock(file: &File) -> io::Result<()> {
+    match file.try_lock() {
+        Ok(()) => Ok(()),
+        Err(TryLockError::WouldBlock) => Err(in_use()),
+        Err(TryLockError::Error(error)) if has_no_locks(&error) => Ok(()),
+        Err(TryLockError::Error(error)) => Err(error),
+    }
+}
+
+fn has_no_locks(error: &io::Error) -> bool {
+    match error.raw_os_error() {
+        Some(code) => NO_LOCKS.contains(&code),
+        None => false,
+    }
+}
+
+// Another run writes the output.
+fn in_use() -> io::Error {
+    io::Error::new(ErrorKind::WouldBlock, "another run is writing it")
+}
+
+fn other_than_file() -> io::Error {
+    io::Error::new(
+        ErrorKind::AlreadyExists,
+        "something other than a file is at its .part: remove that",
+    )
+}
+
+/// Removes what was left at the part of an output, unless another run writes it. It is locked from when it
+/// was seen until it is gone, so nothing is removed but what was seen. What can't be removed stays.
+pub(crate) fn remove_stale<R: Files<File = File>>(rt: &R, part: &str) -> io::Result<()> {
+    match left_at(rt, part)? {
+        Left::Nothing => Ok(()),
+        Left::Stale => {
+            let locked = lock_stale(rt, part)?;
+            let removed = fs::remove_file(rt, part);
+            drop(locked);
+            removed
+        }
+        Left::Other => Err(other_than_file()),
+    }
+}
+
+/// Makes the file to which the output of one path is written, in place of one that was left there, and
+/// locks it. Where anything fails after that, the file is removed.
+pub(crate) fn make_part<'a, R: Files<File = File> + AllocGlobal>(
+    rt: &R,
+    path: &str,
+    writing: Writing<'a>,
+) -> io::Result<Output<'a, File>> {
+    let alloc = rt.alloc();
+    let part = part_path(alloc, path)?;
+    let part = part.as_str();
+    remove_stale(rt, part)?;
+    let file = match File::create_new(rt, part) {
+        Err(error) if error.kind() == ErrorKind::AlreadyExists => return Err(in_use()),
+        made => made?,
+    };
+    lock_made(rt, &file, part)?;
+    output_to(alloc, file, writing).inspect_err(|_| remove_made(rt, part))
+}
+
+// Locks a file that was just made at a path, or removes it. A run that begins at the same time may have
+// locked it first, to look at it or to take it away.
+fn lock_made<R: Files<File = File>>(rt: &R, file: &File, part: &str) -> io::Result<()> {
+    match lock_again(file) {
+        Ok(()) if is_at(rt, file, part) => Ok(()),
+        Ok(()) => Err(in_use()),
+        Err(error) => {
+            // Where it isn't another run that has the lock, nobody can lock it.
+            if error.kind() != ErrorKind::WouldBlock && is_at(rt, file, part) {
+                let _ = fs::remove_file(rt, part);
+            }
+            Err(error)
+        }
+    }
+}
+
+// Locks a file that another run may have locked for a moment.
+fn lock_again(file: &File) -> io::Result<()> {
+    for _ in 1..LOCK_TRIES {
+        match lock(file) {
+            Err(error) if error.kind() == ErrorKind::WouldBlock => {}
+            locked => return locked,
+        }
+    }
+    lock(file)
+}
+
+// Removes a file that was made and is closed.
+fn remove_made<R: Files<File = File>>(rt: &R, part: &str) {
+    let _ = remove_stale(rt, part);
+}
+
+/// Gives what was written for a path its name, with the permission bits of the file that it replaces, and
+/// says whether something was there. It gets none where its file is no longer where it was made.
+pub(crate) fn publish<'a, R: Files<File = File> + AllocGlobal>(
+    rt: &R,
+    path: &str,
+    output: &Output<'a, File>,
+) -> io::Result<bool> {
+    let part = part_path(rt.alloc(), path)?;
+    let file = file_of(output);
+    if !is_at(rt, file, part.as_str()) {
+        return Err(io::Error::new(
+            ErrorKind::NotFound,
+            "its .part is no longer the file that was written",
+        ));
+    }
+    let replaced = fs::symlink_metadata(rt, path);
+    if let Ok(replaced) = &replaced {
+        keep_permissions(file, replaced)?;
+    }
+    fs::rename(rt, part.as_str(), path)?;
+    Ok(replaced.is_ok())
+}
+
+// Gives a file the permission bits of the file that it replaces, where it has others.
+fn keep_permissions(file: &File, replaced: &Metadata) -> io::Result<()> {
+    let wanted = replaced.permissions().mode() & PERMISSION_BITS;
+    if !replaced.is_file() || file.metadata()?.permissions().mode() & PERMISSION_BITS == wanted {
+        return Ok(());
+    }
+    file.set_permissions(Permissions::from_mode(wanted))
+}
+
+// Whether an open file is the one at a path.
+fn is_at<R: Files>(rt: &R, file: &R::File, path: &str) -> bool {
+    match (file.metadata(), fs::symlink_metadata(rt, path)) {
+        (Ok(open), Ok(named)) => FileId::of(&open) == FileId::of(&named),
+        _ => false,
+    }
+}
