@@ -2,6 +2,12 @@
 _ix_export() {
   local word=${COMP_WORDS[COMP_CWORD]} before=${COMP_WORDS[COMP_CWORD - 1]} command= it
   COMPREPLY=()
+  # Bash splits a word at `=`: of --blocks=FILE what is completed is FILE.
+  if [ "$word" = = ]; then
+    word=
+  elif [ "$before" = = ]; then
+    before=${COMP_WORDS[COMP_CWORD - 2]}
+  fi
   for it in "${COMP_WORDS[@]:1:COMP_CWORD-1}"; do
     case $it in
       get | jobs | job | check-jobs | selector | root | inspect | verify)
@@ -30,12 +36,12 @@ _ix_export() {
     --root | --selector | --selector-hex | --limit | --cid | --hex | --part) return ;;
   esac
   case $command in
-    get) it='--blocks --root --selector --selector-hex --limit --every-arrival --out --walkers --verifiers --sync --progress --quiet --help' ;;
-    jobs) it='--blocks --jobs --out --part --walkers --verifiers --once --sync --complete --progress --quiet --help' ;;
+    get) it='--blocks --root --selector --selector-hex --limit --every-arrival --out --walkers --verifiers --sync --no-sync --progress --quiet --help' ;;
+    jobs) it='--blocks --jobs --out --part --walkers --verifiers --once --sync --complete --progress --quiet --verbose --help' ;;
     job) it='--help' ;;
     check-jobs) it='--help' ;;
     selector) it='--hex --help' ;;
-    root) it='--cid --help' ;;
+    root) it='--cid --verbose --help' ;;
     inspect) it='--list --help' ;;
     verify) it='--blocks-only --all --verifiers --help' ;;
     *) it='get jobs job check-jobs selector root inspect verify --help --version' ;;

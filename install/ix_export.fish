@@ -21,9 +21,10 @@ complete -c ix_export -n '__fish_seen_subcommand_from get' -l every-arrival -d '
 complete -c ix_export -n '__fish_seen_subcommand_from get' -l out -r -F -d 'Where the archive goes'
 complete -c ix_export -n '__fish_seen_subcommand_from get' -l walkers -x -d 'How many threads walk, 1 to 64'
 complete -c ix_export -n '__fish_seen_subcommand_from get' -l verifiers -x -d 'How many threads hash, 1 to 64'
-complete -c ix_export -n '__fish_seen_subcommand_from get' -l sync -d 'The archive is on the disk before it gets its name'
-complete -c ix_export -n '__fish_seen_subcommand_from get' -l progress -d 'Tell on standard error how the run goes on'
-complete -c ix_export -n '__fish_seen_subcommand_from get' -l quiet -d 'Tell nothing of that'
+complete -c ix_export -n '__fish_seen_subcommand_from get' -l sync -d 'FILE is on the disk before it gets its name'
+complete -c ix_export -n '__fish_seen_subcommand_from get' -l no-sync -d 'FILE gets its name without waiting for the disk'
+complete -c ix_export -n '__fish_seen_subcommand_from get' -l progress -d 'Show progress on standard error'
+complete -c ix_export -n '__fish_seen_subcommand_from get' -l quiet -d 'No progress, and no report where the status is 0'
 
 complete -c ix_export -n '__fish_seen_subcommand_from jobs' -s h -l help -d 'Print the help'
 complete -c ix_export -n '__fish_seen_subcommand_from jobs' -l blocks -r -F -d 'The blocks: a CARv1 file'
@@ -33,10 +34,11 @@ complete -c ix_export -n '__fish_seen_subcommand_from jobs' -l part -x -d 'The K
 complete -c ix_export -n '__fish_seen_subcommand_from jobs' -l walkers -x -d 'How many threads walk, 1 to 64'
 complete -c ix_export -n '__fish_seen_subcommand_from jobs' -l verifiers -x -d 'How many threads hash, 1 to 64'
 complete -c ix_export -n '__fish_seen_subcommand_from jobs' -l once -d 'Go into what is shared once, not at every arrival'
-complete -c ix_export -n '__fish_seen_subcommand_from jobs' -l sync -d 'Each archive is on the disk before it gets its name'
-complete -c ix_export -n '__fish_seen_subcommand_from jobs' -l complete -d 'Name only archives of done jobs with all their roots'
-complete -c ix_export -n '__fish_seen_subcommand_from jobs' -l progress -d 'Tell on standard error how the run goes on'
-complete -c ix_export -n '__fish_seen_subcommand_from jobs' -l quiet -d 'Tell nothing of that'
+complete -c ix_export -n '__fish_seen_subcommand_from jobs' -l sync -d 'Each archive is on the disk before its job is done'
+complete -c ix_export -n '__fish_seen_subcommand_from jobs' -l complete -d 'Name only archives of done jobs with no root skipped'
+complete -c ix_export -n '__fish_seen_subcommand_from jobs' -l progress -d 'Show progress on standard error'
+complete -c ix_export -n '__fish_seen_subcommand_from jobs' -l quiet -d 'No progress, not on a terminal either'
+complete -c ix_export -n '__fish_seen_subcommand_from jobs' -l verbose -d 'Print the cause of an error on a second line'
 
 complete -c ix_export -n '__fish_seen_subcommand_from job' -s h -l help -d 'Print the help'
 
@@ -48,6 +50,7 @@ complete -c ix_export -n '__fish_seen_subcommand_from selector' -l hex -x -d 'Th
 
 complete -c ix_export -n '__fish_seen_subcommand_from root' -s h -l help -d 'Print the help'
 complete -c ix_export -n '__fish_seen_subcommand_from root' -l cid -x -d 'The CID of the root'
+complete -c ix_export -n '__fish_seen_subcommand_from root' -l verbose -d 'Print the cause of an error on a second line'
 
 complete -c ix_export -n '__fish_seen_subcommand_from inspect' -s h -l help -d 'Print the help'
 complete -c ix_export -n '__fish_seen_subcommand_from inspect' -l list -d 'A line for each section'
