@@ -1,8 +1,9 @@
 #!/usr/bin/env python3
 """Runs the built program on input that is made to hurt it: files cut at each byte, with each byte changed, selectors
 and job files cut at each byte, roots of a job cut and changed, blocks with many links, CIDs chosen for one place of the
-index, long ones that are alike or are visited often, identity CIDs inside one another, headers that name one root often or many roots of
-one graph, and mutations by chance.
+index, long ones that are alike or are visited often, identity CIDs inside one another, selectors with many recursions or
+many places over many lists that are open, headers that name one root often or many roots of one graph, and mutations by
+chance.
 Ends with status 1 at the first run that is wrong.
 
 No run may end by a signal or take a minute. Where a file is refused, it is one line of the known ones. Where the run
@@ -60,6 +61,8 @@ MIB = 1 << 20
 # Of address space: more than any run takes, and so few that some runs find no memory, or none for their threads.
 KIB_A_RUN = 4_000_000
 FEW_KIB = (20_000, 40_000, 300_000)
+# Of memory, for each byte of a selector in JSON: its data as a tree, and beside that the selector that is read of it.
+BYTES_A_BYTE_OF_JSON = 28
 # Three to four is usual; a busy machine may add half of that to what it measures.
 MOST_TIMES_HONEST = 6
 
@@ -512,6 +515,117 @@ def long_inline(runner):
     in_few_kib(runner, (2, 4), 4)
 
 
+def recursion(members):
+    """A recursion without a limit over a union."""
+    return bytes.fromhex("a16152a2616ca1646e6f6e65a0623a3ea1617c") + list_of(members)
+
+
+def done_in(runner, blocks, job, seconds, kib):
+    """Runs one job that reaches all of the blocks in these bytes, within so many seconds and so many KiB of address space;
+    answers the seconds."""
+    line, visits, selector = job
+    root = cid(DAG_CBOR, line)
+    jobs = f"a {text(root)} 1000000 {selector.hex()}\n".encode()
+    runner.put(NO_ROOTS + blocks, jobs)
+    told = runner.measure(1, kib)
+    report = (runner.room / "report").read_text()
+    if told["status"] != 0 or not report.startswith(f"a done visits={visits} kept={visits} sections={visits} "):
+        raise Wrong(f"with a selector of {len(selector)} bytes: status {told['status']}, {told['error'][:80]!r}, {report[:80]!r}")
+    if told["seconds"] > seconds:
+        raise Wrong(f"{len(blocks)} bytes of blocks and a selector of {len(selector)} bytes took {told['seconds']:.2f} seconds")
+    return told["seconds"]
+
+
+def many_recursions(runner):
+    """A list of 5,000 empty lists, and a union of 1,000 members inside 30 and inside 60 recursions, each with an edge of its
+    own, so that each child enters all of them again: the time doesn't grow with the recursions times the members."""
+    edge, member = bytes.fromhex("a16161a1613ea16140a0"), bytes.fromhex("a16161a1613e" + MATCHER)
+    block = list_of([b"\x80"] * 5_000)
+    blocks = section(cid(DAG_CBOR, block), block)
+    times = []
+    for levels in (30, 60):
+        selector = recursion([edge] + [member] * 1_000)
+        for _ in range(levels - 1):
+            selector = recursion([edge, selector])
+        times.append(done_in(runner, blocks, (block, 1, selector), 3, KIB_A_RUN))
+    if times[1] > 2 * times[0] + 0.5:
+        raise Wrong(f"30 recursions took {times[0]:.2f} seconds, 60 took {times[1]:.2f}")
+
+
+def many_open(runner):
+    """500 lists inside one another, and 500 blocks each of which links to the next before its end, by a selector that is
+    left with 10,000 places in each: they are kept once, and not for each list that is open."""
+    selector = recursion([bytes.fromhex("a16161a1613ea16140a0")] * 10_000)
+    nested = b"\x81" * 499 + b"\x80"
+    done_in(runner, section(cid(DAG_CBOR, nested), nested), (nested, 1, selector), SECONDS_A_RUN, 100_000)
+    block, sections = b"\x80", []
+    for _ in range(500):
+        sections.append(section(cid(DAG_CBOR, block), block))
+        block = list_of([link(cid(DAG_CBOR, block)), b"\0"])
+    sections.append(section(cid(DAG_CBOR, block), block))
+    done_in(runner, b"".join(sections), (block, 501, selector), SECONDS_A_RUN, 100_000)
+
+
+def measured_words(runner, words, given=b""):
+    """Runs the program with these words and this standard input; answers how it ended and what it took. Where it ended with a
+    line on standard error, that is told too."""
+    runner.runs += 1
+    (runner.room / "given").write_bytes(given)
+    command = [sys.executable, TOP / "tests/hostile/measure.py", "measured", str(KIB_A_RUN), str(SECONDS_A_RUN), PROGRAM, *words]
+    with open(runner.room / "given", "rb") as stdin, open(runner.room / "error", "wb") as error:
+        subprocess.run(command, cwd=runner.room, stdin=stdin, stdout=subprocess.DEVNULL, stderr=error, check=True)
+    told = json.loads((runner.room / "measured").read_text())
+    told["error"] = (runner.room / "error").read_text()
+    return told
+
+
+def json_of_fields(count, order=1):
+    """A selector in JSON of so many fields with keys that rise, or that fall where the order is -1."""
+    return ('{"f":{"f>":{' + ",".join([f'"{number:08}":{{".":{{}}}}' for number in range(count)][::order]) + "}}}").encode()
+
+
+def keys_in_any_order(runner):
+    """Selectors in JSON of 1.9 MB with keys that rise and that fall: either takes less than a second, and a key that comes
+    twice is refused wherever it stands."""
+    for order in (1, -1):
+        told = measured_words(runner, ["selector", "-"], json_of_fields(90_000, order))
+        if told["status"] != 0 or told["seconds"] > 1:
+            raise Wrong(f"90,000 keys, status {told['status']}, took {told['seconds']:.2f} seconds in the order {order}")
+    twice = json_of_fields(90_000, -1).replace(b'"00000000"', b'"00089999"')
+    told = measured_words(runner, ["selector", "-"], twice)
+    if told["status"] != 2 or told["error"] != "selector: repeated key\n" or told["seconds"] > 1:
+        raise Wrong(f"a key that comes twice: {told}")
+
+
+def ignored_keys(runner):
+    """A header with a key that is ignored, of which the value has 10,000,000 members: it takes little more than the file. One
+    whose ignored value doesn't decode is refused, and so is one whose version stands inside of that value."""
+    version, roots = b"\x67version\x01", b"\x65roots\x80"
+    many = b"\x9a" + (10_000_000).to_bytes(4, "big") + b"\x80" * 10_000_000
+    for value, end, line in (
+        (many, roots + version, None),
+        (many[:-1] + b"\xff", roots + version, "header"),
+        (b"\xa2" + roots + version, roots, "header"),
+    ):
+        body = head(5, 2 if end == roots else 3) + b"\x61x" + value + end
+        car = varint(len(body)) + body
+        (runner.room / "blocks.car").write_bytes(car)
+        told = measured_words(runner, ["jobs", "--blocks", "blocks.car", "--jobs", "/dev/null", "--out", "."])
+        wanted_end = (2, f"blocks: {line} at 0\n") if line else (0, "")
+        if (told["status"], told["error"]) != wanted_end:
+            raise Wrong(f"a header of {len(body)} bytes: {told}")
+        if told["peak"] > len(car) + 64 * MIB:
+            raise Wrong(f"a header of {len(body)} bytes took {told['peak']} of memory")
+
+
+def long_selector(runner):
+    """A selector of a million fields as JSON of 20 MB: what is taken is bounded by the text."""
+    given = json_of_fields(1_000_000)
+    told = measured_words(runner, ["selector", "-"], given)
+    if told["status"] != 0 or told["peak"] > BYTES_A_BYTE_OF_JSON * len(given) + 32 * MIB:
+        raise Wrong(f"JSON of {len(given)} bytes, status {told['status']}, took {told['peak']} of memory")
+
+
 def verified(runner, car, status, line):
     """The command `verify` ends with this status, the first of at most 22 lines says this of the file, and it takes no more
     memory than the file and 64 MiB, and few seconds of the processor."""
@@ -621,6 +735,11 @@ PARTS = (
     cut_selectors,
     cut_jobs,
     several_roots,
+    many_recursions,
+    many_open,
+    keys_in_any_order,
+    ignored_keys,
+    long_selector,
     root_named_often,
     roots_with_one_graph,
 )

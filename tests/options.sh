@@ -77,6 +77,29 @@ for command in '' $commands; do
   done
 done
 
+# bash_completes WANTED WORD..: what bash completes as the last word is this, in a folder with the file library.car.
+bash_completes() {
+  local wanted=$1 came
+  came=$(cd "$files" && bash -c '
+    source "$1"; shift
+    COMP_WORDS=("$@") COMP_CWORD=$(($# - 1))
+    _ix_export
+    printf "%s " "${COMPREPLY[@]}"' bash "$completions" "${@:2}")
+  [ "$wanted " = "$came" ] && return
+  failed=1
+  printf 'tests/options.sh: FAILED: bash completes `%s` to %s\n' "${*:2}" "$came" >&2
+}
+
+completions=$PWD/install/ix_export.bash
+files=$(mktemp -d)
+touch "$files/library.car"
+bash_completes library.car ix_export get --blocks li
+bash_completes library.car ix_export get --blocks = li
+bash_completes library.car ix_export get --blocks =
+bash_completes library.car ix_export get --out = li
+bash_completes --blocks ix_export get --blo
+rm -r "$files"
+
 # installed FILE..: what stands in the folder, each with its mode.
 installed() {
   local came

@@ -200,3 +200,42 @@ expect_lines 'standard output' '' "$scratch/stdout"
 grep -qxE 'cannot write out/j[0-9]+\.car' "$scratch/stderr" || fail 'standard error' /dev/null "$scratch/stderr"
 expect_folder out $(seq -f 'j%g.car' 100 | sort)
 expect_text 'digests of the archives' "$(digest "$one_archive")" "$(sha256sum out/* | cut -c 1-64 | uniq)"
+
+# verbose LINE CAUSE COMMAND: the run over good files that the command changed is refused with the line, and with --verbose
+# with the cause on a second line.
+verbose() {
+  begin "the cause of '$1'"
+  good_files
+  eval "$3"
+  run_jobs
+  refused "$1"
+  run jobs --blocks blocks.car --jobs jobs.txt --out out --verbose
+  refused "$1
+$2"
+}
+
+verbose 'cannot read blocks.car' 'Is a directory (os error 21)' 'rm blocks.car; mkdir blocks.car'
+verbose 'cannot read jobs.txt' 'No such file or directory (os error 2)' 'rm jobs.txt'
+verbose 'too large blocks.car' 'an input has at most 1073741824 bytes' "truncate -s $((greatest + 1)) blocks.car"
+verbose 'blocks: truncated at 0' 'packed by gzip' 'bytes 1f8b0800 >blocks.car'
+verbose 'jobs: fields at line 1' 'the command check-jobs says of each line what is wrong' 'echo b >jobs.txt'
+verbose 'cannot write out/a.car' 'No such file or directory (os error 2); its folder must be there' 'rmdir out'
+verbose 'cannot write out/a.car' 'it is an input: give another output' 'ln blocks.car out/a.car'
+verbose 'cannot write out/a.car' 'a folder is there' 'mkdir out/a.car'
+exec {held}>"$scratch/held"
+verbose 'cannot write out/a.car' 'another run is writing it' 'flock "$held"; ln "$scratch/held" out/a.car.part'
+exec {held}>&-
+
+begin 'the cause of too many files that are open'
+write_blocks "$one_blocks"
+seq -f "j%g $one_job" 100 >jobs.txt
+(ulimit -n 64 && run jobs --blocks blocks.car --jobs jobs.txt --out out --verbose && exit "$status") && status=0 || status=$?
+expect_text 'exit status' 2 "$status"
+expect_text 'the second line' 'Too many open files (os error 24); ulimit -n says how many files may be open at once' \
+  "$(sed -n 2p "$scratch/stderr")"
+
+begin 'root: the cause of an input that is no hexadecimal'
+printf x >input
+run root --cid "$abc_text" --verbose <input
+refused 'input: hex
+it has an odd number of digits, or a character that is none'

@@ -89,18 +89,29 @@ begin 'get: a root that is missing, damaged, or of another codec names nothing'
 write_blocks "$(section "$with_zero_cid" "$with_one")" "$(section "$abc_cid" "$abc")"
 missing=$(text "$(raw 6d)")
 run get --blocks blocks.car --root "$abc_text,$missing" --out out/a.car
-expect 3 '' "left out/a.car.part: its root $missing is missing
+expect 4 '' "left out/a.car.part: its root $missing is missing
 get done visits=2 kept=2 sections=1 bytes=$((1 + 58 + 41 + 40))
   1 missing $missing
 total jobs=1 done=1 skips=1"
 expect_folder out a.car.part
 run get --blocks blocks.car --root "$(text "$with_zero_cid")" --out out/a.car
 expect_text 'the first line' "left out/a.car.part: its root $(text "$with_zero_cid") is damaged" "$(head -n 1 "$scratch/stderr")"
-expect_text 'exit status' 3 "$status"
+expect_text 'exit status' 4 "$status"
 pb_text=$(text "01701220$(digest "$abc")")
 run get --blocks blocks.car --root "$pb_text" --out out/a.car
 expect_text 'the first line' "left out/a.car.part: its root $pb_text is codec" "$(head -n 1 "$scratch/stderr")"
+expect_text 'exit status' 4 "$status"
 expect_folder out a.car.part
+title='get: and so where it goes to standard output'
+run get --blocks blocks.car --root "$abc_text,$missing"
+got 4 "get done visits=2 kept=2 sections=1 bytes=$((1 + 58 + 41 + 40))
+  1 missing $missing
+total jobs=1 done=1 skips=1" "$(header "$abc_cid" "$(raw 6d)")" "$(section "$abc_cid" "$abc")"
+title='get: an identity CID is a root without a section'
+run get --blocks blocks.car --root "$(text "$(raw_inline "$abc")")" --out out/a.car
+expect 0 '' "get done visits=1 kept=1 sections=0 bytes=$(bytes "$(header "$(raw_inline "$abc")")" | wc -c)
+total jobs=1 done=1 skips=0
+$nothing_below"
 
 begin 'get: what is skipped below a root leaves its archive whole'
 write_blocks "$(section "$fork_cid" "$fork")" "$(section "$with_zero_cid" "$with_one")" "$one_blocks"
@@ -181,38 +192,47 @@ title='get: no root'
 get_usage get --blocks blocks.car
 title='get: no blocks'
 get_usage get --root "$one_text"
+title='get: an output without a name'
+get_usage "${get_one[@]}" --out ''
+expect_text 'the first line' "error: a value is required for '--out <FILE>' but none was supplied" "$(head -n 1 "$scratch/stderr")"
+expect_folder . blocks.car out
+title='get: on the disk, and not'
+get_usage "${get_one[@]}" --out out/a.car --sync --no-sync
 
 begin 'get: blocks from standard input'
 write_blocks "$one_blocks"
 run get --blocks - --root "$one_text" <blocks.car
 got 0 "$get_report" "$one_archive"
 run get --blocks - --root "$one_text" <&-
-refused 'cannot read -'
+refused 'cannot read -: Bad file descriptor (os error 9)'
 run get --blocks - --root "$one_text" --out blocks.car <blocks.car
-refused 'cannot write blocks.car'
+refused 'cannot write blocks.car: it is an input: give another output'
 
 begin 'get: blocks that are refused'
 write_blocks "$one_blocks"
 run get --blocks none --root "$one_text" --out out/a.car
-refused 'cannot read none'
+refused 'cannot read none: No such file or directory (os error 2)'
 bytes "$no_roots" 05 >blocks.car
 run "${get_one[@]}" --out out/a.car
-refused 'blocks: truncated at 18'
+refused 'blocks: truncated at 18: the command inspect says how the sections before are kept'
+printf 'some text' >blocks.car
+run "${get_one[@]}" --out out/a.car
+refused 'blocks: truncated at 0: a text'
 expect_folder out
 
 begin 'get: an output that can not be made'
 write_blocks "$one_blocks"
-get_refused 'cannot write none/a.car' "${get_one[@]}" --out none/a.car
-get_refused 'cannot write out' "${get_one[@]}" --out out
-get_refused 'cannot write blocks.car' "${get_one[@]}" --out blocks.car
+get_refused 'cannot write none/a.car: No such file or directory (os error 2); its folder must be there' "${get_one[@]}" --out none/a.car
+get_refused 'cannot write out: a folder is there' "${get_one[@]}" --out out
+get_refused 'cannot write blocks.car: it is an input: give another output' "${get_one[@]}" --out blocks.car
 ln -s /dev/null device
-get_refused 'cannot write device' "${get_one[@]}" --out device
+get_refused 'cannot write device: it is no regular file' "${get_one[@]}" --out device
 expect_folder . blocks.car device out
 title='get: another run writes it'
 exec {held}>out/a.car.part
 flock "$held"
 run "${get_one[@]}" --out out/a.car
-refused 'cannot write out/a.car'
+refused 'cannot write out/a.car: another run is writing it'
 exec {held}>&-
 
 begin 'get: an archive that finds no room'
@@ -222,6 +242,7 @@ write_blocks "$(section "$long_cid" "$long")"
 bytes ff >out/a.car
 run_with_room 16 get --blocks blocks.car --root "$(text "$long_cid")" --out out/a.car
 expect 4 '' 'left out/a.car.part: its job ended with write
+cannot write out/a.car: File too large (os error 27)
 get write visits=0 kept=0 sections=0 bytes=16384
 total jobs=1 done=0 skips=0'
 expect_folder out a.car a.car.part
@@ -229,30 +250,38 @@ expect_bytes out/a.car ff
 title='get: standard output is full'
 run_bare get --blocks blocks.car --root "$(text "$long_cid")" >/dev/full 2>"$scratch/stderr"
 expect_text 'exit status' 4 "$status"
-expect_text 'the report' 'get write' "$(head -n 1 "$scratch/stderr" | cut -d' ' -f1,2)"
+expect_text 'the cause' 'cannot write -: No space left on device (os error 28)' "$(head -n 1 "$scratch/stderr")"
+expect_text 'the report' 'get write' "$(sed -n 2p "$scratch/stderr" | cut -d' ' -f1,2)"
 title='get: standard output is closed'
 run_bare get --blocks blocks.car --root "$(text "$long_cid")" >&- 2>"$scratch/stderr"
 expect_text 'exit status' 4 "$status"
-expect_text 'the report' 'get write' "$(head -n 1 "$scratch/stderr" | cut -d' ' -f1,2)"
+expect_text 'the cause' 'cannot write -: Bad file descriptor (os error 9)' "$(head -n 1 "$scratch/stderr")"
+expect_text 'the report' 'get write' "$(sed -n 2p "$scratch/stderr" | cut -d' ' -f1,2)"
 
 begin 'get: a header that finds no room: nothing is left'
 long_cid=01551e$(varint 60000)$(repeated 60000 64)
 write_blocks "$one_blocks"
 bytes ff >out/a.car
 run_with_room 16 get --blocks blocks.car --root "$(text "$long_cid")" --out out/a.car
-refused 'cannot write out/a.car'
+refused 'cannot write out/a.car: File too large (os error 27)'
 expect_folder out a.car
 run_bare get --blocks blocks.car --root "$(text "$long_cid")" >/dev/full 2>"$scratch/stderr"
 : >"$scratch/stdout"
-refused 'cannot write -'
+refused 'cannot write -: No space left on device (os error 28)'
 
 begin 'get: how it goes on is told before the report'
 write_blocks "$one_blocks"
 run "${get_one[@]}" --out out/a.car --progress
 expect 0 '' "progress: 1 of 1 jobs closed, 2 visits delivered, 178 bytes written
 $get_report"
+title='get: --quiet leaves progress out, and the report where nothing was skipped'
 run "${get_one[@]}" --out out/a.car --progress --quiet
-expect 0 '' "$get_report"
+expect 0 '' ''
+expect_bytes out/a.car "$one_archive"
+run "${get_one[@]}" --limit 1 --quiet --out out/b.car
+expect 4 '' "left out/b.car.part: its job ended with limit
+get limit visits=1 kept=1 sections=1 bytes=138
+total jobs=1 done=0 skips=0"
 
 if command -v script >/dev/null; then
   begin 'get: an archive for a terminal is refused, and a file is not'

@@ -156,8 +156,8 @@ begin 'what an interrupted run left is replaced'
 write_blocks "$one_blocks"
 write_jobs "a $one_job" "b $one_job"
 bytes "$(repeated 1000 ff)" >out/a.car.part
-bytes ff >elsewhere
-ln -s ../elsewhere out/b.car.part
+bytes "$(repeated 1000 ff)" >out/b.car.part
+chmod 444 out/b.car.part
 run_jobs
 expect 0 "a $one_line
 b $one_line
@@ -165,7 +165,60 @@ total jobs=2 done=2 skips=0" ''
 expect_folder out a.car b.car
 expect_bytes out/a.car "$one_archive"
 expect_bytes out/b.car "$one_archive"
+
+# No run makes a link there, and none can be locked, so none is removed.
+begin 'a link where an archive is written: it stays, and what it names too'
+write_blocks "$one_blocks"
+write_jobs "a $one_job" "b $one_job"
+bytes ff >elsewhere
+ln -s ../elsewhere out/b.car.part
+run_jobs
+refused 'cannot write out/b.car'
+expect_folder out b.car.part
 expect_bytes elsewhere ff
+run jobs --blocks blocks.car --jobs jobs.txt --out out --verbose
+refused 'cannot write out/b.car
+something other than a file is at its .part: remove that'
+
+begin 'a file that replaces one keeps its permission bits; a new one has those of new files'
+write_blocks "$one_blocks"
+write_jobs "a $one_job" "b $one_job" "c $one_job"
+bytes ff >out/a.car
+bytes ff >out/b.car
+chmod 600 out/a.car
+chmod 664 out/b.car
+(umask 022 && run_jobs && exit "$status") && status=0 || status=$?
+expect_text 'exit status' 0 "$status"
+expect_text 'permission bits' '600 664 644' "$(stat -c %a out/a.car out/b.car out/c.car | xargs)"
+expect_bytes out/a.car "$one_archive"
+
+# replaced NAME WHY: the warning of an archive that lacks something, in the place of a file.
+replaced() {
+  echo "warning: out/$1.car replaced the file that was there: $2"
+}
+
+begin 'a file that is replaced by an archive that lacks something: a warning'
+write_blocks "$one_blocks"
+write_jobs "a $one_job" "short $(text "$one_cid") 1 $all" "gone $(text "$(raw 6d)") 9 $all" "new $(text "$(raw 6d)") 9 $all"
+for name in a short gone; do bytes "$one_archive" >"out/$name.car"; done
+run_jobs
+expect_text 'exit status' 4 "$status"
+expect_lines 'standard error' "$(replaced short 'its job ended with limit')
+$(replaced gone "its root $(text "$(raw 6d)") is missing")" "$scratch/stderr"
+expect_bytes out/gone.car "$(header "$(raw 6d)")"
+title='no warning where the status is 2'
+for name in a short gone; do bytes "$one_archive" >"out/$name.car"; done
+run_bare jobs --blocks blocks.car --jobs jobs.txt --out out >/dev/full 2>"$scratch/stderr"
+: >"$scratch/stdout"
+refused 'cannot write -'
+
+begin 'an output folder without a name'
+write_blocks "$one_blocks"
+write_jobs "a $one_job"
+run jobs --blocks blocks.car --jobs jobs.txt --out ''
+expect_text 'exit status' 2 "$status"
+expect_text 'the first line' "error: a value is required for '--out <DIR>' but none was supplied" "$(head -n 1 "$scratch/stderr")"
+expect_folder . blocks.car jobs.txt out
 
 begin 'a link in the place of an archive is replaced, and not what it names'
 write_blocks "$one_blocks"

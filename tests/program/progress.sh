@@ -49,7 +49,7 @@ total jobs=1 done=1 skips=0" ''
 on_terminal() {
   status=0
   script -qec "$(printf '%q ' "$top/ix_export" jobs "${inputs[@]}" --out out "$@")" /dev/null </dev/null >"$scratch/terminal" || status=$?
-  tr '\r' '\n' <"$scratch/terminal" | sed $'s/\x1b\\[K$//' | grep -v '^$' >"$scratch/stdout" || true
+  tr '\r' '\n' <"$scratch/terminal" | sed $'s/\x1b\\[?7l//; s/\x1b\\[K\x1b\\[?7h$//' | grep -v '^$' >"$scratch/stdout" || true
 }
 
 if command -v script >/dev/null; then

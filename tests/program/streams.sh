@@ -74,7 +74,7 @@ run_with_room 1 jobs --blocks blocks.car --jobs jobs.txt --out out
 expect 4 "a $one_line
 b write visits=1 kept=1 sections=1 bytes=$((59 + 2 + 36 + 2000))
 c $one_line
-total jobs=3 done=2 skips=0" ''
+total jobs=3 done=2 skips=0" 'cannot write out/b.car: File too large (os error 27)'
 expect_folder out a.car b.car b.car.part c.car
 expect_bytes out/a.car "$one_archive"
 expect_bytes out/b.car "$(repeated 300 ff)"
@@ -89,7 +89,7 @@ write_jobs "a $(text "$long_cid") 1 $matcher" "b $one_job"
 run_with_room 16 jobs --blocks blocks.car --jobs jobs.txt --out out
 expect 4 "a write visits=0 kept=0 sections=0 bytes=16384
 b $one_line
-total jobs=2 done=1 skips=0" ''
+total jobs=2 done=1 skips=0" 'cannot write out/a.car: File too large (os error 27)'
 expect_folder out a.car.part b.car
 expect_bytes out/b.car "$one_archive"
 expect_beginning out/a.car.part 16384
@@ -107,7 +107,7 @@ if unshare --mount --map-root-user mount -t tmpfs -o size=64k none out 2>/dev/nu
     status=0 || status=$?
   sed -i 's/bytes=.*/bytes/' "$scratch/stdout"
   expect 4 'a write visits=0 kept=0 sections=0 bytes
-total jobs=1 done=0 skips=0' ''
+total jobs=1 done=0 skips=0' 'cannot write out/a.car: No space left on device (os error 28)'
   expect_text 'files on the disk' $'a.car\na.car.part' "$(cat files)"
   expect_text 'the archive of the run before' old "$(cat archive)"
 fi
@@ -185,6 +185,55 @@ begin 'jobs: standard input, output and error are closed'
 run_two_jobs <&- >&- 2>&-
 expect_no_more_than_archives
 refused ''
+
+# Without a file system for devices there is no /dev/null to be opened in place of a stream, and without one for processes
+# no name of standard input. without_folder FOLDER COMMAND WORD..: runs a command where nothing is in that folder, if the
+# machine lets one do that.
+without_folder() {
+  unshare --mount --map-root-user bash -c 'mount -t tmpfs none "$1" && shift && exec "$@"' bash "$@"
+}
+
+program=$("$top/ix_export" --where)
+if without_folder /dev true 2>/dev/null; then
+  begin 'standard output is closed, and there is no /dev/null'
+  write_blocks "$one_blocks"
+  write_jobs "a $one_job" "b $one_job"
+  status=0
+  without_folder /dev "$program" jobs --blocks blocks.car --jobs jobs.txt --out out >&- 2>"$scratch/stderr" || status=$?
+  refused 'cannot write -'
+  expect_two_archives
+  title='standard error is closed, and there is no /dev/null'
+  status=0
+  without_folder /dev "$program" get --blocks blocks.car --root "$(text "$one_cid")" --out out/a.car 2>&- >"$scratch/stdout" || status=$?
+  expect_text 'exit status' 0 "$status"
+  expect_two_archives
+  title='all streams are closed, and there is no /dev/null'
+  status=0
+  without_folder /dev "$program" jobs --blocks blocks.car --jobs jobs.txt --out out <&- >&- 2>&- || status=$?
+  expect_text 'exit status' 2 "$status"
+  expect_two_archives
+
+  begin 'standard input that has no name, and an output that is there'
+  write_blocks "$one_blocks"
+  cp blocks.car library.car
+  status=0
+  without_folder /proc "$program" get --blocks - --root "$(text "$one_cid")" --out library.car <library.car >"$scratch/stdout" 2>"$scratch/stderr" || status=$?
+  refused 'cannot write library.car: it may be standard input: give that file by its path, or another output'
+  expect_same library.car blocks.car library.car
+  title='standard input that has no name, and the part of an output that is there'
+  cp blocks.car new.car.part
+  status=0
+  without_folder /proc "$program" get --blocks - --root "$(text "$one_cid")" --out new.car <new.car.part >"$scratch/stdout" 2>"$scratch/stderr" || status=$?
+  refused 'cannot write new.car: it may be standard input: give that file by its path, or another output'
+  expect_same new.car.part blocks.car new.car.part
+  title='standard input that has no name, and an output that is not there'
+  status=0
+  without_folder /proc "$program" get --blocks - --root "$(text "$one_cid")" --out other.car <library.car >"$scratch/stdout" 2>"$scratch/stderr" || status=$?
+  expect_text 'exit status' 0 "$status"
+  expect_bytes other.car "$one_archive"
+else
+  echo 'tests/program.sh: no mounts here, so runs without /dev and /proc are not tested' >&2
+fi
 
 begin 'the help: standard output is full'
 run_bare jobs --help >/dev/full 2>"$scratch/stderr"

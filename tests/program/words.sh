@@ -66,12 +66,45 @@ helps() {
 helps --help -- get root jobs selector CARv1 SHA-256 SHA-512 identity UnixFS --version 'Usage: ix_export <COMMAND>'
 helps -h -- get root jobs selector
 helps root --help -- '--cid <TEXT>' hexadecimal 'Standard input' 'Status: 0'
-helps get --help -- '--blocks <FILE>' '--root <CID[,CID..]>' '--selector <JSON>' '--selector-hex <HEX>' 'default: 1000000' \
+helps get --help -- --no-sync '--blocks <FILE>' '--root <CID[,CID..]>' '--selector <JSON>' '--selector-hex <HEX>' 'default: 1000000' \
   FILE.part 'standard output' 'Status: 0' docs/SELECTORS.md
 helps jobs --help -- 'NAME ROOTS LIMIT SELECTOR' '--blocks <FILE>' '--jobs <FILE>' '--out <DIR>' '--walkers <N>' \
   '--verifiers <N>' '1 to 64' 'default: 4' "$abc_text 9 $matcher" 1000000 DIR/NAME.car damaged 'Status: 0' 1073741824 \
   DIR/NAME.car.part --sync --progress 'counts twice' SHA-256 SHA-512 identity 'the command `selector`'
 helps selector --help -- '--hex <TEXT>' '[JSON]' '{"R":{"l":{"none":{}},":>":{"a":{">":{"@":{}}}}}}' docs/SELECTORS.md
+
+begin 'the help of a command, whole: its example is indented'
+run job --help
+expect 0 "Prints the line of a job for a job file
+
+Usage: ix_export job <NAME> <ROOT[,ROOT..]> <LIMIT> <JSON>
+
+Arguments:
+  <NAME>           1 to 64 of a to z, 0 to 9, - and _
+  <ROOT[,ROOT..]>  1 to 64 CIDv1s in base32, with one comma between
+  <LIMIT>          How many arrivals at blocks there may be, 1 to 1000000
+  <JSON>           The selector as JSON, or - for standard input
+
+Options:
+  -h, --help  Print help
+
+Lines of jobs are put together into a job file:
+
+  ix_export job photos \\
+    $abc_text 1000 \\
+    '{\"R\":{\"l\":{\"none\":{}},\":>\":{\"a\":{\">\":{\"@\":{}}}}}}' >>photos.jobs
+
+Status: 0 where a line was printed, 2 where the words are those of no job, with
+a line on standard error that says why." ''
+for command in get jobs selector verify; do
+  title="the help of $command: its examples are indented"
+  run "$command" --help
+  grep -qE '^  (ix_export |photos |\{)' "$scratch/stdout" || fail 'help' /dev/null "$scratch/stdout"
+done
+
+begin 'an argument that is not UTF-8'
+run root $'a\xff b'
+refused "error: an argument is not UTF-8: number 2, 'a\\xff b'"
 
 # The version names the logic of the kit that made the program; behind it stands where the program is from.
 program=$("$top/ix_export" --where)
