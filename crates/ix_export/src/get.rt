@@ -183,14 +183,18 @@ fn name_and_tell<'a, 'o, R: AllocGlobal + Eprint + Files<File = File>>(
     out: &RunOut<Output<'o, File>>,
     errors: &WriteErrors,
 ) -> Result<u8, Failure> {
-    let left = name_file(rt, path, jobs, out);
-    if let Ok(Some(line)) = &left {
-        let _ = rt.eprint(line.as_str());
-    }
-    let status = tell(rt, words, path, jobs, out, errors);
-    match left {
-        Ok(_) => Ok(status),
+    let named = match name_file(rt, path, jobs, out) {
+        Ok(left) => Ok(tell_left(rt, left)),
         Err(failure) => Err(failure),
+    };
+    let status = tell(rt, words, path, jobs, out, errors);
+    named.map(|()| status)
+}
+
+// Says why the file gets no name, where it gets none.
+fn tell_left<R: Eprint>(rt: &R, left: Option<String>) {
+    if let Some(line) = left {
+        let _ = rt.eprint(line.as_str());
     }
 }
 
