@@ -88,7 +88,7 @@ checked jobs.txt 'jobs: too many at line 1001' \
 
 begin 'check-jobs: a file that is not there, and none'
 run check-jobs none
-refused 'cannot read none'
+refused 'cannot read none: No such file or directory (os error 2)'
 run check-jobs
 expect_text 'exit status' 2 "$status"
 

@@ -99,12 +99,12 @@ refused "blocks.car: cid at $place: the sections before are its first $place byt
 
 begin 'inspect: a file that is not there'
 run inspect none
-refused 'cannot read none'
+refused 'cannot read none: No such file or directory (os error 2)'
 
 begin 'inspect: standard output is full'
 bytes "$listed" >blocks.car
 run_bare inspect blocks.car >/dev/full 2>"$scratch/stderr"
-refused 'cannot write -'
+refused 'cannot write -: No space left on device (os error 28)'
 
 begin 'inspect --list: a pipe that closes early'
 for _ in $(seq 1500); do printf '%s' "$one_blocks"; done >sections

@@ -87,8 +87,8 @@ END
 
 begin 'selector: standard input is closed'
 run selector <&-
-refused 'cannot read -'
+refused 'cannot read -: Bad file descriptor (os error 9)'
 
 begin 'selector: standard output is full'
 run_bare selector '{".":{}}' >/dev/full 2>"$scratch/stderr"
-refused 'cannot write -'
+refused 'cannot write -: No space left on device (os error 28)'

@@ -19,7 +19,7 @@ a.car sound sections=2 bytes=178" ''
 run verify c.car none a.car b.car --blocks-only
 expect 2 "a.car sound sections=2 bytes=178
 b.car sound sections=1 bytes=138" "c.car: header at 0
-cannot read none"
+cannot read none: No such file or directory (os error 2)"
 
 begin 'verify: a section that stands twice, the second damaged'
 bytes "$one_archive$(section "$abc_cid" 616264)" >blocks.car
@@ -182,4 +182,4 @@ expect_text 'exit status' 2 "$status"
 begin 'verify: standard output is full'
 bytes "$one_archive" >blocks.car
 run_bare verify blocks.car >/dev/full 2>"$scratch/stderr"
-refused 'cannot write -'
+refused 'cannot write -: No space left on device (os error 28)'
