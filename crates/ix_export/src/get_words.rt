@@ -83,7 +83,7 @@ pub(crate) static GET: CommandWords = CommandWords {
         Word {
             name: "sync",
             given: Given::FlagWithout("no-sync"),
-            help: "FILE is on the disk before it gets its name [default]",
+            help: "FILE is on disk before it gets its name [default]",
         },
         Word {
             name: "no-sync",
