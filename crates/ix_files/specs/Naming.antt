@@ -1,5 +1,5 @@
 -- Which jobs met nothing but their roots, and what becomes of the notes on names.
-use Rattle.std.specs.Prelude.{◌≡◌, Bool, ◌&&◌, ◌==◌, length, String, Option, Some, None, Result, Ok, Err, IfErr}
+use Rattle.std.specs.Prelude.{◌≡◌, Bool, ◌&&◌, ◌==◌, length, String, Option, Result, Ok, Err, IfErr}
 use Rattle.std.specs.Global.{Global}
 use Rattle.ix_walk.specs.JobMeaning.{JobMeaning}
 use Rattle.ix_jobs.specs.declared.outcome.JobResult.{JobResult}
@@ -14,6 +14,6 @@ met_roots_alone job told = is_complete job told && (told.counts.visits == length
 
 -- the first failure is kept; without one, only memory can run out
 abbrev pub Joins : Result (String Global) Failure → Result (Option (String Global)) Failure → Result (String Global) Failure → Type 0
-Joins (Err failure) note both = both ≡ Err failure
-Joins (Ok notes) (Err failure) both = both ≡ Err failure
-Joins (Ok notes) (Ok note) both = IfErr both (λ failure. failure ≡ Fault Memory)
+Joins (Err failure) _ both = both ≡ Err failure
+Joins (Ok _) (Err failure) both = both ≡ Err failure
+Joins (Ok _) (Ok _) both = IfErr both (λ failure. failure ≡ Fault Memory)
