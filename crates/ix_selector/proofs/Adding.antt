@@ -87,6 +87,19 @@ leads_at spots x s m is inside =
     ap (λ r. leads r (x.place - inside_of r) (frames (places_of spots) x.recursion) (sequence_of x.recursion)) is
     ∙ ap (λ n. leads s n (frames (places_of spots) x.recursion) (sequence_of x.recursion)) (let e = inside in omega arith)
 
+-- ---- what an edge enters again
+
+limit_again : (spots : List Spot) (n : ℕ) (d : Option ℕ) → seen_pairs spots (entered_again (Some (record { sequence = n; depth = d }))) ≡ restarted (at (places_of spots) n) n d
+limit_again spots n None = refl
+limit_again spots n (Some d) = by (nat_le 2 d) where
+  by : (b : Bool) → seen_pairs spots (at_start (if b then Some (record { sequence = n; depth = Some (d - 1) }) else None)) ≡ (if b then started (at (places_of spots) n) n (Some (d - 1)) else [])
+  by true = refl
+  by false = refl
+
+pub places-again : (spots : List Spot) (r : Option Recursion) → seen_pairs spots (entered_again r) ≡ innermost (frames (places_of spots) r) (sequence_of r)
+places-again spots None = refl
+places-again spots (Some r) = limit_again spots r.sequence r.depth
+
 -- ---- what stands
 
 stands_leads : (s : Pattern) (n : ℕ) (e : List Frame) (q : Option ℕ) → Stands s → (leads s n e q ≡ record { selector = s; around = e; number = n + inside_of s; sequence = q } ∷ []) × (is_edge s ≡ false)
@@ -175,18 +188,8 @@ module _ (spots : List Spot) (table : AreSpots 0 spots) (laid : AreLaidFrom 0 sp
         ap (λ l. seen_pairs spots l.items) same ∙ sym (append-nil (seen_pairs spots old.standing.items)),
         ap (seen_pairs spots) more
             ∙ seen-append spots old.again.items (entered_again x.recursion)
-            ∙ ap (λ l. seen_pairs spots old.again.items ++ l) (edge_again spots x.recursion ∙ sym (append-nil (innermost e q))),
-      ) where
-        limit_again : (spots : List Spot) (n : ℕ) (d : Option ℕ) → seen_pairs spots (entered_again (Some (record { sequence = n; depth = d }))) ≡ restarted (at (places_of spots) n) n d
-        limit_again spots n None = refl
-        limit_again spots n (Some d) = by (nat_le 2 d) where
-          by : (b : Bool) → seen_pairs spots (at_start (if b then Some (record { sequence = n; depth = Some (d - 1) }) else None)) ≡ (if b then started (at (places_of spots) n) n (Some (d - 1)) else [])
-          by true = refl
-          by false = refl
-
-        edge_again : (spots : List Spot) (r : Option Recursion) → seen_pairs spots (entered_again r) ≡ innermost (frames (places_of spots) r) (sequence_of r)
-        edge_again spots None = refl
-        edge_again spots (Some r) = limit_again spots r.sequence r.depth
+            ∙ ap (λ l. seen_pairs spots old.again.items ++ l) (places-again spots x.recursion ∙ sym (append-nil (innermost e q))),
+      )
 
 -- ---- behind a step
 

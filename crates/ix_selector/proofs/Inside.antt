@@ -186,10 +186,11 @@ again_enters spots q (Some d) p = by (nat_le 2 d) refl where
     λ h. absurd (true≢false (sym (le-leb 2 d (edge-inside_within h).0) ∙ e)),
   )
 
-edge_enters : (spots : List Spot) (r : Option Recursion) → (p : Path)
+-- what an edge in a recursion enters
+pub paths-again : (spots : List Spot) (r : Option Recursion) → (p : Path)
     → (SomeEnter spots (entered_again r) p → Enters edge (frames (places_of spots) r) p) × (Enters edge (frames (places_of spots) r) p → SomeEnter spots (entered_again r) p)
-edge_enters spots None p = (λ h. absurd (none-enter spots p h), λ h. absurd (edge-nowhere h))
-edge_enters spots (Some r) p = again_enters spots r.sequence r.depth p
+paths-again spots None p = (λ h. absurd (none-enter spots p h), λ h. absurd (edge-nowhere h))
+paths-again spots (Some r) p = again_enters spots r.sequence r.depth p
 
 again_pairs : (spots : List Spot) (q : ℕ) (d : Option ℕ) → (q < length spots) × IsGuarded unguarded (at (places_of spots) q) → StandsIn spots q (Some q)
     → All (IsPair spots) (entered_again (Some (record { sequence = q; depth = d }))) × All (HasNoEdge spots) (entered_again (Some (record { sequence = q; depth = d })))
@@ -208,9 +209,9 @@ again_pairs spots q d is stands = by d where
   by None = one None
   by (Some n) = test (nat_le 2 n) (Some (n - 1))
 
-edge_pairs : (spots : List Spot) (k : ℕ) (r : Option Recursion) → IsSequence spots r → StandsIn spots k (sequence_of r) → All (IsPair spots) (entered_again r) × All (HasNoEdge spots) (entered_again r)
-edge_pairs spots k None is stands = (All-nil (IsPair spots), All-nil (HasNoEdge spots))
-edge_pairs spots k (Some r) is stands = again_pairs spots r.sequence r.depth is (own-start stands refl)
+pub pairs-again : (spots : List Spot) (k : ℕ) (r : Option Recursion) → IsSequence spots r → StandsIn spots k (sequence_of r) → All (IsPair spots) (entered_again r) × All (HasNoEdge spots) (entered_again r)
+pairs-again spots k None is stands = (All-nil (IsPair spots), All-nil (HasNoEdge spots))
+pairs-again spots k (Some r) is stands = again_pairs spots r.sequence r.depth is (own-start stands refl)
 
 module _ (spots : List Spot) (table : AreSpots 0 spots) (x : Pair) (is_pair : IsPair spots x) (is : Edge ≡ get_or spots x.place Edge) (old new : Reached) (were : AreReached spots old)
     (standing : new.standing ≡ old.standing) (again : new.again.items ≡ old.again.items ++ entered_again x.recursion) where
@@ -219,7 +220,7 @@ module _ (spots : List Spot) (table : AreSpots 0 spots) (x : Pair) (is_pair : Is
 
   pub edge-reached : AreReached spots new
   edge-reached =
-      let more = edge_pairs spots x.place x.recursion is_pair.sequence is_pair.stands in record {
+      let more = pairs-again spots x.place x.recursion is_pair.sequence is_pair.stands in record {
         table = were.table;
         pairs = subst (λ l. All (IsPair spots) l.items) (sym standing) were.pairs;
         standing = subst (λ l. All (IsStanding spots) l.items) (sym standing) were.standing;
@@ -232,7 +233,7 @@ module _ (spots : List Spot) (table : AreSpots 0 spots) (x : Pair) (is_pair : Is
       joins-same (ReachedEnters spots new) (ReachedEnters spots old) (SomeEnter spots (entered_again x.recursion)) (EntersAt spots x)
       (again-more spots old new (entered_again x.recursion) again (ap (λ l. l.items) standing))
       (λ p. subst (λ s. (SomeEnter spots (entered_again x.recursion) p → Enters s (frames (places_of spots) x.recursion) p) × (Enters s (frames (places_of spots) x.recursion) p → SomeEnter spots (entered_again x.recursion) p))
-      (sym is_edge) (edge_enters spots x.recursion p))
+      (sym is_edge) (paths-again spots x.recursion p))
 
   pub edge-some : HasNoEdge spots x → ⊥
   edge-some none = none.never (subst (IsGuarded none.around) is_edge none.guarded)

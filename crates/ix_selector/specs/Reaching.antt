@@ -11,7 +11,7 @@ use Rattle.ix_selector.specs.Places.{at}
 use Rattle.ix_selector.specs.Laid.{IsTable}
 use Rattle.ix_selector.specs.declared.step.Step.{Step as RustStep}
 use Rattle.ix_selector.specs.Residual.{Place, step_of}
-use Rattle.ix_selector.specs.Pairs.{lowered, place_of, seen_pairs, IsPair, IsStanding, HasNoEdge, Stands, EntersAt, SomeEnter, ReachedEnters, Same, Joins, LeadsTo, LeadsNowhere}
+use Rattle.ix_selector.specs.Pairs.{lowered, place_of, seen_pairs, IsPair, IsStanding, AreStandingPairs, HasNoEdge, Stands, EntersAt, SomeEnter, ReachedEnters, Same, Joins, LeadsTo, LeadsNowhere}
 use Rattle.ix_selector.specs.Behind.{inside_of, leads, leads_from, all_lead, standing, again, entering, leads_behind, residual_behind}
 
 -- the members of a union, in the recursion round it
@@ -107,3 +107,9 @@ StandsAtEnd places n t = Stands (at places n) → LeadsNowhere (at places n) t
 abbrev pub AreLeftIn : List Spot → List Pair → Type 0
 AreLeftIn spots xs =
     IsTable spots × All (IsPair spots) xs × All (IsStanding spots) xs × (length xs ≤ length spots)
+
+-- each step from the pair x leaves the pair y
+pub record EachStepLeavesPair (spots : List Spot) (x y : Pair) : Type 0 where
+  pub pairs : AreStandingPairs spots (y ∷ [])
+  pub enters : (t : RustStep) → EnterBehind spots (x ∷ []) t (y ∷ [])
+  pub exact : (t : RustStep) → AreLeftBehind spots (x ∷ []) t (y ∷ [])

@@ -7,8 +7,8 @@ ghost use Rattle.ix_selector.specs.Alike.{SpotLooksAtNoStep, PairLooksAtNoStep};
 ghost use Rattle.ix_selector.specs.Places.{places_of, AreRising};
 ghost use Rattle.ix_selector.specs.Standing.{IsBeside};
 ghost use Rattle.ix_selector.specs.Named.{HasName, HasNoName};
-ghost use Rattle.ix_selector.specs.Pairs.{AreStandingPairs};
-ghost use Rattle.ix_selector.specs.Reaching.{AreReached, AreLeftIn, EnterAsReached, EnterBehind, AreLeft, AreLeftBehind, LeadsBeside, StandsAtEnd, LeadsAs, LeadsToNone};
+ghost use Rattle.ix_selector.specs.Pairs.{IsPair, AreStandingPairs};
+ghost use Rattle.ix_selector.specs.Reaching.{AreReached, AreLeftIn, EnterAsReached, EnterBehind, AreLeft, AreLeftBehind, LeadsBeside, StandsAtEnd, LeadsAs, LeadsToNone, EachStepLeavesPair};
 ghost use Rattle.ix_selector.specs.Laid.{IsTable};
 ghost use Rattle.ix_selector.specs.Residual.{step_of};
 
@@ -74,8 +74,54 @@ fn entered_again(alloc: Global, spots: &[Spot], reached: Reached) -> Result<Pair
     merged(alloc, reached.standing)
 }
 
-/// The pairs behind a step.
+// The pair that each step leaves, where every child is an edge that enters the place itself again.
+fn looped(spots: &[Spot], pair: Pair) -> Option<Pair>
+    requires table { IsTable spots.now }
+    requires pair { IsPair spots.now pair }
+    ensures { IfSome result (EachStepLeavesPair spots.now pair) }
+{
+    let Spot::All(next) = &spots[pair.place] else {
+        return None;
+    };
+    let Spot::Edge = &spots[*next] else {
+        return None;
+    };
+    let lower = pair.recursion?.lowered()?;
+    if lower.sequence != pair.place {
+        return None;
+    }
+    Some(Pair {
+        place: lower.sequence,
+        recursion: Some(lower),
+    })
+}
+
+/// The pairs after a step.
 pub(crate) fn stepped(
+    alloc: Global,
+    spots: &[Spot],
+    pairs: &[Pair],
+    step: &Step,
+) -> Result<Pairs, AllocError>
+    requires table { IsTable spots.now }
+    requires pairs { AreStandingPairs spots.now pairs.now }
+    ensures pairs { IfOk result (λ r. AreStandingPairs spots.now r.items) }
+    ensures few { IfOk result (λ r. length r.items ≤ length spots.now) }
+    ensures enters { IfOk result (λ r. EnterBehind spots.now pairs.now step.now r.items) }
+    ensures exact { IfOk result (λ r. AreLeftBehind spots.now pairs.now step.now r.items) }
+{
+    if pairs.len() == 1 {
+        if let Some(pair) = looped(spots, pairs[0]) {
+            let mut same = SmallVec::new(alloc);
+            same.push(pair)?;
+            return Ok(same);
+        }
+    }
+    stepped_each(alloc, spots, pairs, step)
+}
+
+// The pairs after a step from each of these.
+fn stepped_each(
     alloc: Global,
     spots: &[Spot],
     pairs: &[Pair],

@@ -16,8 +16,8 @@ use Rattle.ix_selector.proofs.Reaching.{joins-same, joins-nothing}
 use Rattle.ix_selector.proofs.Leading.{behind-pair, behind-enters}
 use Rattle.ix_selector.proofs.Residues.{Stepped, stepped-more, same-twice}
 use Rattle.ix_selector.proofs.Adding.{adds-none, steps-take, stepped-exact}
-use Rattle.ix_selector.proofs.stepping.stepped.Goals.{in-Some+in_ok-reach, in_default}
-use Rattle.ix_selector.proofs.stepping.stepped.Goals as goal
+use Rattle.ix_selector.proofs.stepping.stepped_each.Goals.{in-Some+in_ok-reach, in_default}
+use Rattle.ix_selector.proofs.stepping.stepped_each.Goals as goal
 
 -- one more pair makes the step
 next : (spots : List Spot) (t : Step) (start old new : Reached) (xs : List Pair) (i : ℕ) (x : Pair) → i < length xs → x ≡ get_or xs i x
