@@ -9,28 +9,27 @@ use crate::pair::{Pair, Pairs};
 use smallvec::SmallVec;
 use std::alloc::{AllocError, Global};
 
-/// The pairs in the order of their places, with one pair for all ways to a place.
-pub(crate) fn merged(alloc: Global, pairs: Pairs) -> Result<Pairs, AllocError>
-    requires agree { Agree pairs.items }
-    ensures enters { IfOk result (λ r. EnterSame r.items pairs.items) }
-    ensures among { IfOk result (λ r. All (IsOf pairs.items) r.items) }
-    ensures rising { IfOk result (λ r. ArePlacesRising r.items) }
-    ensures exact { IfOk result (λ r. AreMerged r.items pairs.items) }
+/// Sorts the pairs by their places, and joins all ways to a place in one pair.
+pub(crate) fn merge(alloc: Global, pairs: &mut Pairs) -> Result<(), AllocError>
+    requires agree { Agree pairs.old.items }
+    ensures enters { OnOk result (EnterSame pairs.new.items pairs.old.items) }
+    ensures among { OnOk result (All (IsOf pairs.old.items) pairs.new.items) }
+    ensures rising { OnOk result (ArePlacesRising pairs.new.items) }
+    ensures exact { OnOk result (AreMerged pairs.new.items pairs.old.items) }
 {
-    if pairs.len() < 2 {
-        Ok(pairs)
-    } else {
-        joined_by_place(alloc, pairs)
+    if pairs.len() >= 2 {
+        *pairs = joined_by_place(alloc, pairs)?;
     }
+    Ok(())
 }
 
-// The same of any pairs, by sorting them.
-fn joined_by_place(alloc: Global, mut pairs: Pairs) -> Result<Pairs, AllocError>
-    requires agree { Agree pairs.items }
-    ensures enters { IfOk result (λ r. EnterSame r.items pairs.items) }
-    ensures among { IfOk result (λ r. All (IsOf pairs.items) r.items) }
+// One pair for all ways to a place, in the order of the places. The pairs are sorted for it.
+fn joined_by_place(alloc: Global, pairs: &mut Pairs) -> Result<Pairs, AllocError>
+    requires agree { Agree pairs.old.items }
+    ensures enters { IfOk result (λ r. EnterSame r.items pairs.old.items) }
+    ensures among { IfOk result (λ r. All (IsOf pairs.old.items) r.items) }
     ensures rising { IfOk result (λ r. ArePlacesRising r.items) }
-    ensures exact { IfOk result (λ r. AreMerged r.items pairs.items) }
+    ensures exact { IfOk result (λ r. AreMerged r.items pairs.old.items) }
 {
     pairs.as_mut_slice().sort_unstable_by_key(|pair| pair.place);
     let mut merged = SmallVec::new(alloc);

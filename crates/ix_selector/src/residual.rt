@@ -7,7 +7,7 @@ ghost use Rattle.ix_selector.specs.Alike.{LookAtNoStep};
 ghost use Rattle.ix_selector.specs.Behind.{residual_of, IsLeftBehind, NothingIsLeftBehind, same_residual, residual_order};
 
 use crate::kept::Kept;
-use crate::merge::merged;
+use crate::merge::merge;
 use crate::pair::Pair;
 use crate::reached::{Reached, reach};
 use crate::selector::Selector;
@@ -64,8 +64,8 @@ impl<'s> Residual<'s> {
             recursion: None,
         };
         reach(spots, root, &mut reached)?;
-        let pairs = merged(alloc, reached.standing)?;
-        let pairs = Kept::new(alloc, pairs)?;
+        merge(alloc, &mut reached.standing)?;
+        let pairs = Kept::new(alloc, reached.standing)?;
         Ok(Residual { spots, pairs })
     }
 

@@ -13,7 +13,7 @@ ghost use Rattle.ix_selector.specs.Laid.{IsTable};
 ghost use Rattle.ix_selector.specs.Residual.{step_of};
 
 use crate::again::reenter;
-use crate::merge::merged;
+use crate::merge::merge;
 use crate::pair::{Pair, Pairs};
 use crate::reached::{Reached, reach};
 use crate::spot::Spot;
@@ -58,20 +58,19 @@ fn behind(spots: &[Spot], place: usize, step: &Step) -> Option<usize>
 }
 
 // The places that stand, where the sequences that edges enter again are reached too.
-fn entered_again(alloc: Global, spots: &[Spot], reached: Reached) -> Result<Pairs, AllocError>
+fn entered_again(alloc: Global, spots: &[Spot], mut reached: Reached) -> Result<Pairs, AllocError>
     requires reached { AreReached spots.now reached }
     ensures pairs { IfOk result (λ r. AreStandingPairs spots.now r.items) }
     ensures few { IfOk result (λ r. length r.items ≤ length spots.now) }
     ensures enters { IfOk result (λ r. EnterAsReached spots.now reached r.items) }
     ensures exact { IfOk result (λ r. AreLeft spots.now reached r.items) }
 {
-    let Reached { standing, again } = reached;
-    let again = merged(alloc, again)?;
-    let mut reached = Reached { standing, again };
+    merge(alloc, &mut reached.again)?;
     while let Some(pair) = reached.again.pop() {
         reenter(spots, pair, &mut reached)?;
     }
-    merged(alloc, reached.standing)
+    merge(alloc, &mut reached.standing)?;
+    Ok(reached.standing)
 }
 
 // The pair that each step leaves, where every child is an edge that enters the place itself again.

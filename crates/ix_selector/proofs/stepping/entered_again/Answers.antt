@@ -1,51 +1,46 @@
 use Rattle.std.proofs.Common.{◌≡◌, true≢false, [], refl, sym}
-use Rattle.std.proofs.lemmas.Result.{IfOk-weaker}
-use Rattle.ix_selector.specs.Pairs.{SomeEnter, ReachedEnters, Same}
+use Rattle.ix_selector.specs.Pairs.{SomeEnter, ReachedEnters}
 use Rattle.ix_selector.specs.declared.reached.Reached.{Reached}
-use Rattle.ix_selector.specs.Reaching.{AreLeft}
-use Rattle.ix_selector.proofs.Merging.{pairs-agree, both-ok, pairs-of, few-pairs}
+use Rattle.ix_selector.proofs.Merging.{pairs-agree, pairs-of, few-pairs}
 use Rattle.ix_selector.proofs.Residues.{same-twice}
 use Rattle.ix_selector.proofs.EnteredOnce.{last-can, last-entered, all-same, all-enter, all-left, none-last}
 use Rattle.ix_selector.proofs.stepping.entered_again.Goals as goal
 
-pub merged-requires : goal.merged-requires
-merged-requires c = record { agree = pairs-agree c.args.spots.now c.args.reached.again.items c.requires.reached.table.once c.requires.reached.again }
+pub merge-requires : goal.merge-requires
+merge-requires c = record { agree = pairs-agree c.args.spots.now c.args.reached.again.items c.requires.reached.table.once c.requires.reached.again }
 
 pub loop-pair-init : goal.loop-pair-init
-loop-pair-init c = all-same c.args.spots.now c.args.reached _ c.requires.reached refl c.in_ok-again.ensures.among
+loop-pair-init c = all-same c.args.spots.now c.args.reached _ c.requires.reached refl c.in_ok-merge.ensures.among
 
 pub reenter-requires : goal.reenter-requires
 reenter-requires c = last-can c.args.spots.now c.loop-pair.reached _ c.in-Some.pair c.loop-pair.invariant.reached refl c.in-Some.ensures.items
 
 pub loop-pair-preserved : goal.loop-pair-preserved
 loop-pair-preserved c =
-    let start : Reached = record { standing = c.args.reached.standing; again = c.in_ok-again.again } in
+    let start : Reached = record { standing = c.args.reached.standing; again = c.merge.new.pairs } in
     let mid : Reached = record { standing = c.loop-pair.reached.standing; again = c.pop.new.self } in
     last-entered c.args.spots.now start c.loop-pair.reached mid c.reenter.new.reached c.in-Some.pair c.loop-pair.invariant refl c.in-Some.ensures.items c.in_ok-reenter.ensures
 
-pub merged-requires-2 : goal.merged-requires-2
-merged-requires-2 c = record { agree = pairs-agree c.args.spots.now c.loop-pair.reached.standing.items c.requires.reached.table.once c.loop-pair.invariant.reached.pairs }
+pub merge-requires-2 : goal.merge-requires-2
+merge-requires-2 c = record { agree = pairs-agree c.args.spots.now c.loop-pair.reached.standing.items c.requires.reached.table.once c.loop-pair.invariant.reached.pairs }
 
 pub returns-clause-few : goal.returns-clause-few
 returns-clause-few c =
     let spots = c.args.spots.now in
-    both-ok c.merged-2.result
-    (λ r among rising. few-pairs spots r.items rising (pairs-of spots c.loop-pair.reached.standing.items r.items among c.loop-pair.invariant.reached.pairs)) c.merged-2.ensures.among c.merged-2.ensures.rising
+    let last = c.merge-2.new.pairs.items in
+    few-pairs spots last c.in_ok-merge-2.ensures.rising (pairs-of spots c.loop-pair.reached.standing.items last c.in_ok-merge-2.ensures.among c.loop-pair.invariant.reached.pairs)
 
 pub returns-clause-enters : goal.returns-clause-enters
 returns-clause-enters c =
     let spots = c.args.spots.now in
-    let start : Reached = record { standing = c.args.reached.standing; again = c.in_ok-again.again } in
+    let start : Reached = record { standing = c.args.reached.standing; again = c.merge.new.pairs } in
     let none : c.loop-pair.reached.again.items ≡ [] = none-last c.loop-pair.reached.again.items (λ some. true≢false (sym (c.in_default.ensures.variant.1 some))) in
-    IfOk-weaker c.merged-2.result _ (λ r. Same (SomeEnter spots r.items) (ReachedEnters spots c.args.reached))
-    (λ r all_merged. same-twice (SomeEnter spots r.items) (SomeEnter spots c.loop-pair.reached.standing.items) (ReachedEnters spots c.args.reached) (all_merged spots)
-    (all-enter spots c.args.reached start c.loop-pair.reached refl c.loop-pair.invariant none c.in_ok-again.ensures.enters))
-    c.merged-2.ensures.enters
+    same-twice (SomeEnter spots c.merge-2.new.pairs.items) (SomeEnter spots c.loop-pair.reached.standing.items) (ReachedEnters spots c.args.reached) (c.in_ok-merge-2.ensures.enters spots)
+    (all-enter spots c.args.reached start c.loop-pair.reached refl c.loop-pair.invariant none c.in_ok-merge.ensures.enters)
 
 pub returns-clause-exact : goal.returns-clause-exact
 returns-clause-exact c =
     let spots = c.args.spots.now in
-    let start : Reached = record { standing = c.args.reached.standing; again = c.in_ok-again.again } in
+    let start : Reached = record { standing = c.args.reached.standing; again = c.merge.new.pairs } in
     let none : c.loop-pair.reached.again.items ≡ [] = none-last c.loop-pair.reached.again.items (λ some. true≢false (sym (c.in_default.ensures.variant.1 some))) in
-    IfOk-weaker c.merged-2.result _ (λ r. AreLeft spots c.args.reached r.items)
-    (λ r second. all-left spots c.args.reached start c.loop-pair.reached refl c.loop-pair.invariant none r.items c.in_ok-again.ensures.exact second) c.merged-2.ensures.exact
+    all-left spots c.args.reached start c.loop-pair.reached refl c.loop-pair.invariant none c.merge-2.new.pairs.items c.in_ok-merge.ensures.exact c.in_ok-merge-2.ensures.exact
