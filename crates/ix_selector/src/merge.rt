@@ -23,7 +23,9 @@ pub(crate) fn merge(alloc: Global, pairs: &mut Pairs) -> Result<(), AllocError>
     Ok(())
 }
 
-// One pair for all ways to a place, in the order of the places. The pairs are sorted for it.
+// One pair for all ways to a place, in the order of the places. The pairs are sorted for it. It isn't inlined, so that a pair
+// alone doesn't pay for its locals.
+#[inline(never)]
 fn joined_by_place(alloc: Global, pairs: &mut Pairs) -> Result<Pairs, AllocError>
     requires agree { Agree pairs.old.items }
     ensures enters { IfOk result (λ r. EnterSame r.items pairs.old.items) }
