@@ -1,6 +1,6 @@
 //! The parts of decode.
 
-ghost use Rattle.std.specs.Prelude.{◌≡◌, None, IfOk};
+ghost use Rattle.std.specs.Prelude.{◌≡◌, [], None, IfOk};
 ghost use Rattle.ix_cid.specs.Cid.{IsCid};
 ghost use Rattle.ix_cbor.specs.Data.{data_of, link};
 ghost use Rattle.ix_cbor.specs.Reading.{own_at, item_with, item_at, branch_at, members_at, fields_at};
@@ -15,6 +15,9 @@ use crate::leaf::front_of_item;
 use crate::node::Node;
 use ix_cid::Cid;
 use std::alloc::{AllocError, AllocFailed, Global};
+
+// For how many members room is made before they are read.
+const MOST_CLAIMED: u64 = 4;
 
 // A fault, and how many bytes there are from its place to the end.
 #[derive(Drop)]
@@ -178,6 +181,14 @@ pub(crate) fn item(alloc: Global, bytes: &[u8], levels: u32) -> Result<(Node, &[
     }
 }
 
+// Room for so many members, and for four at most: a count is what the bytes claim, and claims in one another
+// would add up. What has up to four members takes no more room than they do.
+fn room_for<T>(alloc: Global, count: u64) -> Result<Vec<T>, AllocError>
+    ensures { IfOk result (λ v. v.items ≡ []) }
+{
+    Vec::with_capacity(alloc, count.min(MOST_CLAIMED) as usize)
+}
+
 // So many members of a list, inside which lists and maps may nest so deep.
 #[cycle(item)]
 fn items(
@@ -188,13 +199,14 @@ fn items(
 ) -> Result<(Vec<Node>, &[u8]), PlacedFault>
     ensures { ReadsOrRunsOut members_and_rest result (members_at levels count bytes.now) }
 {
-    let mut members = Vec::new(alloc);
+    let mut members = room_for(alloc, count)?;
     let mut rest = bytes;
     for _ in 0..count {
         let (node, next) = item(alloc, rest, levels)?;
         members.push(node)?;
         rest = next;
     }
+    members.shrink_to_fit();
     Ok((members, rest))
 }
 
@@ -208,7 +220,7 @@ fn entries(
 ) -> Result<(Vec<(Vec<u8>, Node)>, &[u8]), PlacedFault>
     ensures { ReadsOrRunsOut entries_and_rest result (fields_at levels count bytes.now) }
 {
-    let mut members = Vec::new(alloc);
+    let mut members = room_for(alloc, count)?;
     let mut rest = bytes;
     let mut before = None;
     for _ in 0..count {
@@ -218,5 +230,6 @@ fn entries(
         before = Some(name);
         rest = next;
     }
+    members.shrink_to_fit();
     Ok((members, rest))
 }

@@ -20,7 +20,7 @@ item-returns-else-levels-eq0 t c =
 
 pub items-returns-in_err-node : goal.items-returns-in_err-node
 items-returns-in_err-node t c =
-    let p = err_from_is_err_and c.from_residual.result c.from_residual.ensures.1 in
+    let p = err_from_is_err_and c.from_residual-in_err-node.result c.from_residual-in_err-node.ensures.1 in
     rw (p.1, p.2)
     (FailsAs-along c.in_err-node.field-0.0.kind c.in_err-node.field-0.0.left (item_at c.args.levels c.loop.rest.now) (items_at (item_at c.args.levels) c.args.count c.args.bytes.now)
     (stops (map data_of c.loop.members.items) (item_at c.args.levels) c.args.count c.loop.counter c.loop.rest.now (items_at (item_at c.args.levels) c.args.count c.args.bytes.now) c.loop-test.true c.loop.invariant) c.in_err-node.ensures)
@@ -33,11 +33,12 @@ items-loop-preserved t c =
 
 pub items-returns : goal.items-returns
 items-returns t c =
-    is_done (map data_of c.loop.members.items) (item_at c.args.levels) c.args.count c.loop.counter c.loop.rest.now (items_at (item_at c.args.levels) c.args.count c.args.bytes.now) c.loop-test.false c.loop.invariant
+    let e : c.shrink_to_fit.new.self.items ≡ c.loop.members.items = search rules in
+    rw e (is_done (map data_of c.loop.members.items) (item_at c.args.levels) c.args.count c.loop.counter c.loop.rest.now (items_at (item_at c.args.levels) c.args.count c.args.bytes.now) c.loop-test.false c.loop.invariant)
 
 pub entries-returns-in_err-name : goal.entries-returns-in_err-name
 entries-returns-in_err-name t c =
-    let p = err_from_is_err_and c.from_residual.result c.from_residual.ensures.1 in
+    let p = err_from_is_err_and c.from_residual-in_err-name.result c.from_residual-in_err-name.ensures.1 in
     rw (p.1, p.2)
     (FailsAs-exactly c.in_err-name.field-0.0.kind c.in_err-name.field-0.0.left (entries_at (item_at c.args.levels) None c.args.count c.args.bytes.now)
     (entries.stops_at_key (map entry_of c.loop.members.items) (item_at c.args.levels) (option_map (λ k. k.now) c.loop.before) c.args.count c.loop.counter c.loop.rest.now (entries_at (item_at c.args.levels) None c.args.count c.args.bytes.now) c.loop-test.true c.loop.invariant _ c.in_err-name.ensures))
@@ -60,7 +61,8 @@ entries-loop-preserved t c =
 
 pub entries-returns : goal.entries-returns
 entries-returns t c =
-    entries.is_done (map entry_of c.loop.members.items) (item_at c.args.levels) (option_map (λ k. k.now) c.loop.before) c.args.count c.loop.counter c.loop.rest.now (entries_at (item_at c.args.levels) None c.args.count c.args.bytes.now) c.loop-test.false c.loop.invariant
+    let e : c.shrink_to_fit.new.self.items ≡ c.loop.members.items = search rules in
+    rw e (entries.is_done (map entry_of c.loop.members.items) (item_at c.args.levels) (option_map (λ k. k.now) c.loop.before) c.args.count c.loop.counter c.loop.rest.now (entries_at (item_at c.args.levels) None c.args.count c.args.bytes.now) c.loop-test.false c.loop.invariant)
 
 pub branch-returns-in_ok-members-in-MapOf : goal.branch-returns-in_ok-members-in-MapOf
 branch-returns-in_ok-members-in-MapOf t c =
