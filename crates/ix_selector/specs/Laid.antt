@@ -7,6 +7,7 @@ use Rattle.ix_selector.specs.Pattern.{Pattern, IsSelector}
 use Rattle.ix_selector.specs.Places.{at, places_of, AreSpots, AreNamedOnce, IsNumber, IsFreeFrom}
 use Rattle.ix_selector.specs.Grown.{Grows}
 use Rattle.ix_selector.specs.Behind.{inside_of}
+use Rattle.ix_selector.specs.Ordered.{IsOrdered}
 
 abbrev pub number_of : Vec ℕ × ℕ → ℕ
 number_of f = f.1
@@ -66,3 +67,8 @@ IsTableOf spots root =
 -- the last of these places is that of the selector
 abbrev pub IsRootOf : List Spot → Pattern → ℕ → Type 0
 IsRootOf spots s root = (root + 1 ≡ length spots) × (at (places_of spots) root ≡ s)
+
+-- a selector that keeps the rules on edges, and in which names rise
+pub record IsSound (s : Pattern) : Type 0 where
+  pub selector : IsSelector s
+  pub ordered : IsOrdered s

@@ -300,12 +300,11 @@ fn selector_inside(
         Shape::All(next) => Ok(Sel::All(boxed(alloc, next, behind, levels)?)),
         Shape::Fields(names) => Ok(Sel::Fields(fields_inside(alloc, names, behind, levels)?)),
         Shape::Index(position, next) => Ok(Sel::Index(
-            position,
+            Box::new(alloc, position)?,
             boxed(alloc, next, behind, levels)?,
         )),
         Shape::Range(start, end, next) => Ok(Sel::Range(
-            start,
-            end,
+            Box::new(alloc, (start, end))?,
             boxed(alloc, next, behind, levels)?,
         )),
         Shape::Recursive(limit, sequence) => Ok(Sel::Recursive(
@@ -334,7 +333,7 @@ fn fields_inside(
 ) -> Result<Vec<(Vec<u8>, Sel)>, SelFault>
     ensures { Gives (λ v. seen_fields v.items) result (fields_at levels around names.now) }
 {
-    let mut fields = Vec::new(alloc);
+    let mut fields = Vec::with_capacity(alloc, names.len())?;
     for (name, node) in names {
         let sel = selector_at(alloc, node, around, levels)?;
         fields.push((Vec::from_slice(alloc, name)?, sel))?;
@@ -351,7 +350,7 @@ fn members_inside(
 ) -> Result<Vec<Sel>, SelFault>
     ensures { Gives (λ v. seen_members v.items) result (members_at levels around nodes.now) }
 {
-    let mut members = Vec::new(alloc);
+    let mut members = Vec::with_capacity(alloc, nodes.len())?;
     for node in nodes {
         let sel = selector_at(alloc, node, around, levels)?;
         members.push(sel)?;

@@ -1,17 +1,18 @@
 //! Selectors that keep the rules on edges.
 
 ghost use Rattle.std.specs.Prelude.{◌≡◌, IfOk};
-ghost use Rattle.ix_selector.specs.Pattern.{IsSelector};
+ghost use Rattle.ix_selector.specs.Pattern.{pattern_of, IsSelector};
 ghost use Rattle.ix_selector.specs.Reading.{selector_of};
-ghost use Rattle.ix_selector.specs.Laid.{IsTable, IsRootOf};
+ghost use Rattle.ix_selector.specs.Laid.{IsTable, IsRootOf, IsSound};
 ghost use Rattle.ix_selector.specs.Behind.{inside_of};
 ghost use Rattle.ix_selector.specs.Gives.{Gives};
 
 use crate::fault::SelFault;
 use crate::read;
+use crate::sel::Sel;
 use crate::spot::{Spot, push_spots};
 use ix_cbor::Tree;
-use std::alloc::Global;
+use std::alloc::{AllocError, Global};
 use std::marker::Model;
 
 /// A selector in which every edge stands in a recursion with a step between, and which nests at
@@ -45,15 +46,49 @@ impl Model for Selector {
     ghost invariant = { λ s. IsTableOf s.spots.items s.root };
 }
 
+// What a tree stands for, as a tree of its own.
+fn sel_of(alloc: Global, tree: &Tree) -> Result<Sel, SelFault>
+    ensures exact { Gives pattern_of result (selector_of tree.now) }
+    ensures sound { IfOk result (λ sel. IsSound (pattern_of sel)) }
+{
+    read::selector_of(alloc, tree.root())
+}
+
+// The same of a tree that is let go of.
+fn sel_out_of(alloc: Global, tree: Tree) -> Result<Sel, SelFault>
+    ensures exact { Gives pattern_of result (selector_of tree) }
+    ensures sound { IfOk result (λ sel. IsSound (pattern_of sel)) }
+{
+    sel_of(alloc, &tree)
+}
+
 impl Selector {
     /// The selector for which a tree stands.
     pub fn read(alloc: Global, tree: &Tree) -> Result<Selector, SelFault>
         ensures exact { Gives (λ s. s) result (selector_of tree.now) }
         ensures selector { IfOk result (λ s. IsSelector s) }
     {
-        let sel = read::selector_of(alloc, tree.root())?;
+        let sel = sel_of(alloc, tree)?;
+        Ok(Selector::laid(alloc, &sel)?)
+    }
+
+    /// The same, where the tree is let go of as soon as it is read: a large one and what is made of it don't stand
+    /// in memory together.
+    pub fn read_out(alloc: Global, tree: Tree) -> Result<Selector, SelFault>
+        ensures exact { Gives (λ s. s) result (selector_of tree) }
+        ensures selector { IfOk result (λ s. IsSelector s) }
+    {
+        let sel = sel_out_of(alloc, tree)?;
+        Ok(Selector::laid(alloc, &sel)?)
+    }
+
+    // The table of a selector.
+    fn laid(alloc: Global, sel: &Sel) -> Result<Selector, AllocError>
+        requires { IsSound (pattern_of sel.now) }
+        ensures { IfOk result (λ s. s ≡ pattern_of sel.now) }
+    {
         let mut spots = Vec::new(alloc);
-        let root = push_spots(alloc, &sel, &mut spots)?;
+        let root = push_spots(alloc, sel, &mut spots)?;
         Ok(Selector { spots, root })
     }
 

@@ -57,9 +57,10 @@ fn spot_of(alloc: Global, sel: &Sel, spots: &mut Vec<Spot>) -> Result<Spot, Allo
         Sel::Matcher => Ok(Spot::Matcher),
         Sel::All(next) => Ok(Spot::All(push_spots(alloc, next, spots)?)),
         Sel::Fields(fields) => Ok(Spot::Fields(push_fields(alloc, fields, spots)?)),
-        Sel::Index(at, next) => Ok(Spot::Index(*at, push_spots(alloc, next, spots)?)),
-        Sel::Range(start, end, next) => {
-            Ok(Spot::Range(*start, *end, push_spots(alloc, next, spots)?))
+        Sel::Index(at, next) => Ok(Spot::Index(**at, push_spots(alloc, next, spots)?)),
+        Sel::Range(ends, next) => {
+            let (start, end) = **ends;
+            Ok(Spot::Range(start, end, push_spots(alloc, next, spots)?))
         }
         Sel::Recursive(limit, sequence) => {
             Ok(Spot::Recursive(*limit, push_spots(alloc, sequence, spots)?))
@@ -80,7 +81,7 @@ fn push_fields(
     ensures named { IfOk result (λ r. AreFieldsAt spots.new.items fields.now r.items) }
     ensures grown { IfOk result (λ r. GrowsBy spots.old spots.new (map number_of r.items)) }
 {
-    let mut names = Vec::new(alloc);
+    let mut names = Vec::with_capacity(alloc, fields.len())?;
     for (name, sel) in fields {
         let number = push_spots(alloc, sel, spots)?;
         names.push((Vec::from_slice(alloc, name)?, number))?;
@@ -99,7 +100,7 @@ fn push_members(
     ensures members { IfOk result (λ r. AreMembersAt spots.new.items members.now r.items) }
     ensures grown { IfOk result (λ r. GrowsBy spots.old spots.new r.items) }
 {
-    let mut numbers = Vec::new(alloc);
+    let mut numbers = Vec::with_capacity(alloc, members.len())?;
     for sel in members {
         numbers.push(push_spots(alloc, sel, spots)?)?;
     }
