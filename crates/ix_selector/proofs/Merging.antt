@@ -1,6 +1,6 @@
 -- Pairs that are joined, and what they keep.
 use Rattle.std.proofs.Common.{◌≡◌, ℕ, ◌+◌, ◌<◌, ◌≤◌, ◌⊎◌, inl, inr, ⊎_elim, List, [], ◌∷◌, ◌++◌, take, drop, get_or, length, refl, sym, ◌∙◌, ap, subst, arith}
-use Rattle.std.specs.Prelude.{Option, Some, None, Result, Ok, Err, IfOk}
+use Rattle.std.specs.Prelude.{Option, Some, None}
 use Rattle.std.specs.List.{All, Contains, refill}
 use Rattle.std.specs.List.Sorted.{IsPermutation, IsNonDecreasingBy}
 use Rattle.std.proofs.lemmas.List.{take_more, take_all, drop_all, append-nil, get_or_default, get_or-take, length-take-le}
@@ -300,11 +300,6 @@ pub few-pairs : (spots : List Spot) (xs : List Pair) → ArePlacesRising xs → 
 few-pairs spots xs h all =
     let few = few_rising 0 (length spots) xs h (All-weaker (IsPair spots) (λ (x : Pair). x.place < length spots) (λ x is. is.within) xs all) (omega arith) in
     omega arith
-
--- what follows from two clauses on a value
-pub both-ok : {X E : Type 0} (r : Result X E) {P Q R : X → Type 0} → ((x : X) → P x → Q x → R x) → IfOk r P → IfOk r Q → IfOk r R
-both-ok (Ok x) f p q = f x p q
-both-ok (Err e) f p q = tt
 
 -- fewer than two pairs rise
 pub rising-short : (xs : List Pair) → length xs < 2 → ArePlacesRising xs

@@ -75,8 +75,7 @@ fn entered_again(alloc: Global, spots: &[Spot], mut reached: Reached) -> Result<
 
 // The pair that each step leaves, where every child is an edge that enters the place itself again.
 fn looped(spots: &[Spot], pair: Pair) -> Option<Pair>
-    requires table { IsTable spots.now }
-    requires pair { IsPair spots.now pair }
+    requires { IsTable spots.now × IsPair spots.now pair }
     ensures { IfSome result (EachStepLeavesPair spots.now pair) }
 {
     let Spot::All(next) = &spots[pair.place] else {
@@ -110,29 +109,12 @@ pub(crate) fn stepped(
     ensures exact { IfOk result (λ r. AreLeftBehind spots.now pairs.now step.now r.items) }
 {
     if pairs.len() == 1 {
-        if let Some(pair) = looped(spots, pairs[0]) {
-            let mut same = SmallVec::new(alloc);
-            same.push(pair)?;
-            return Ok(same);
+        if let Some(same) = looped(spots, pairs[0]) {
+            let mut left = SmallVec::new(alloc);
+            left.push(same)?;
+            return Ok(left);
         }
     }
-    stepped_each(alloc, spots, pairs, step)
-}
-
-// The pairs after a step from each of these.
-fn stepped_each(
-    alloc: Global,
-    spots: &[Spot],
-    pairs: &[Pair],
-    step: &Step,
-) -> Result<Pairs, AllocError>
-    requires table { IsTable spots.now }
-    requires pairs { AreStandingPairs spots.now pairs.now }
-    ensures pairs { IfOk result (λ r. AreStandingPairs spots.now r.items) }
-    ensures few { IfOk result (λ r. length r.items ≤ length spots.now) }
-    ensures enters { IfOk result (λ r. EnterBehind spots.now pairs.now step.now r.items) }
-    ensures exact { IfOk result (λ r. AreLeftBehind spots.now pairs.now step.now r.items) }
-{
     let mut reached = Reached::new(alloc);
     for pair in pairs {
         if let Some(place) = behind(spots, pair.place, step) {

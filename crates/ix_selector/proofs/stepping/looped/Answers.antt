@@ -9,6 +9,6 @@ returns c =
     let is = subst (λ y. y ≡ get_or spots c.args.pair.place y) c.in-All.is c.index-spots-pair.is in
     let edge_is = subst (λ y. y ≡ get_or spots c.in-All.next y) c.in-Edge.is c.index-spots-next.is in
     let own : c.in_ok-lower.lower.sequence ≡ c.args.pair.place = c.if-lower-pair.false in
-    each-step spots c.requires.table c.args.pair c.requires.pair c.in-All.next is edge_is c.in_ok-lower.lower
+    each-step spots c.requires.0 c.args.pair c.requires.1 c.in-All.next is edge_is c.in_ok-lower.lower
     (ap entered_again c.in_ok-pair.was ∙ ap at_start (sym c.lowered.ensures ∙ c.in_ok-lower.was))
     own

@@ -4,7 +4,7 @@ use Rattle.ix_selector.specs.Pairs.{seen_pairs}
 use Rattle.ix_selector.specs.Behind.{all_lead_behind}
 use Rattle.ix_selector.specs.Reaching.{Adds}
 use Rattle.ix_selector.proofs.Residues.{Stepped}
-use Rattle.ix_selector.proofs.stepping.stepped_each.Given as goal
+use Rattle.ix_selector.proofs.stepping.stepped.Given as goal
 
 abbrev pub invariant-loop-pair : goal.invariant-loop-pair
 invariant-loop-pair l =

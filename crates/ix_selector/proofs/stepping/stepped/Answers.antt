@@ -16,8 +16,8 @@ use Rattle.ix_selector.proofs.Reaching.{joins-same, joins-nothing}
 use Rattle.ix_selector.proofs.Leading.{behind-pair, behind-enters}
 use Rattle.ix_selector.proofs.Residues.{Stepped, stepped-more, same-twice}
 use Rattle.ix_selector.proofs.Adding.{adds-none, steps-take, stepped-exact}
-use Rattle.ix_selector.proofs.stepping.stepped_each.Goals.{in-Some+in_ok-reach, in_default}
-use Rattle.ix_selector.proofs.stepping.stepped_each.Goals as goal
+use Rattle.ix_selector.proofs.stepping.stepped.Goals.{in-Some-behind+in_ok-reach, in_default-behind}
+use Rattle.ix_selector.proofs.stepping.stepped.Goals as goal
 
 -- one more pair makes the step
 next : (spots : List Spot) (t : Step) (start old new : Reached) (xs : List Pair) (i : ℕ) (x : Pair) → i < length xs → x ≡ get_or xs i x
@@ -39,16 +39,16 @@ loop-pair-preserved c =
     let within = c.loop-pair-test.true in
     let Steps : Reached → Type 0 = λ r. Stepped spots t r (take (i + 1) xs) × Adds spots start r (all_lead_behind (seen_pairs spots (take (i + 1) xs)) t) in
     elim c.match-behind.branch [
-      | in-Some+in_ok-reach w ↦
+      | in-Some-behind+in_ok-reach w ↦
           let new = w.reach.new.reached in
-          let leads = w.in-Some.ensures in
+          let leads = w.in-Some-behind.ensures in
           let got = w.in_ok-reach.ensures in
           subst Steps (sym w.reached-is)
           (next spots t start old new xs i x within (get_or_default _ _ _ _ within) c.loop-pair.invariant got.reached
-          (joins-same (ReachedEnters spots new) (ReachedEnters spots old) _ (λ p. EntersAt spots x (t ∷ p)) got.enters (behind-enters spots x t w.in-Some.place leads.some))
+          (joins-same (ReachedEnters spots new) (ReachedEnters spots old) _ (λ p. EntersAt spots x (t ∷ p)) got.enters (behind-enters spots x t w.in-Some-behind.place leads.some))
           (subst (Adds spots old new) (sym (leads.leads (frames (places_of spots) x.recursion) (sequence_of x.recursion))) got.exact))
-      | in_default w ↦
-          let ends = w.in_default.ensures in
+      | in_default-behind w ↦
+          let ends = w.in_default-behind.ensures in
           let stands : IsStanding spots x = All-get_or (IsStanding spots) xs i _ within c.requires.pairs.1 in
           subst Steps (sym w.reached-is)
           (next spots t start old old xs i x within (get_or_default _ _ _ _ within) c.loop-pair.invariant c.loop-pair.invariant.0.reached
@@ -58,7 +58,7 @@ loop-pair-preserved c =
 
 pub reach-requires-clause-pair : goal.reach-requires-clause-pair
 reach-requires-clause-pair c =
-    behind-pair c.args.spots.now _ (step_of c.args.step.now) c.in-Some.place (All-get_or (IsPair c.args.spots.now) c.args.pairs.now c.loop-pair.pair-index _ c.loop-pair-test.true c.requires.pairs.0) c.in-Some.ensures.within c.in-Some.ensures.beside c.in-Some.ensures.some
+    behind-pair c.args.spots.now _ (step_of c.args.step.now) c.in-Some-behind.place (All-get_or (IsPair c.args.spots.now) c.args.pairs.now c.loop-pair.pair-index _ c.loop-pair-test.true c.requires.pairs.0) c.in-Some-behind.ensures.within c.in-Some-behind.ensures.beside c.in-Some-behind.ensures.some
 
 pub returns-clause-enters : goal.returns-clause-enters
 returns-clause-enters c =
