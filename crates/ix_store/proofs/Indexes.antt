@@ -357,7 +357,7 @@ pub stood-answer : (index : Index) (es : Blocks) (k : List ℕ) (s : ℕ) → Is
 stood-answer index es k s h on stood =
     stood-by es k s (position_of es k) refl (stood ∙ ap (λ (o : Option ℕ). unwrap_or o (length es)) (found-behind index es k h on))
 
--- by the position of the CID: if it was there, the tree is unchanged
+-- by the position of the CID: if the tree had it, the index stays one of the pairs
 put-same-at : (index later : Index) (es : Blocks) (k : List ℕ) (s : ℕ) (o : Option ℕ) → position_of es k ≡ o → IsIndexed index es → ((p : ℕ) → position_of es k ≡ Some p → place_behind index k ≡ Some p) → has_cid es k ≡ true → later.slots.items ≡ index.slots.items → Puts index later k s → s ≡ unwrap_or (place_behind index k) (length es) → IsIndexed later es
 put-same-at index later es k s None at h on held slots puts stood = absurd (false≢true (sym (has-by es k None at) ∙ held))
 put-same-at index later es k s (Some q) at h on held slots puts stood =
