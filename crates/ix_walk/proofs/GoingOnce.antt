@@ -103,7 +103,7 @@ module _ {R : Type 0} (enters : Path → Bool) (rest : Path → R) (same : R →
     of_rest : rest at.path ≡ g.1
     met : (c : List ℕ) → In c (whole at) → (seen c ≡ true) ⊎ Soon (length (whole at)) c waiting
 
-  -- what was expanded was expanded by one of these
+  -- so it is for all that was expanded
   abbrev AllEntered : (List ℕ → Bool) → List Arrival → List (List ℕ × R) → Type 0
   AllEntered seen waiting = AllByRecursion (Entered seen waiting)
 
