@@ -1,4 +1,4 @@
--- The archive of the beginning of a list is a beginning of its archive, so a faithful sink's archive is that of its job, or a beginning of it.
+-- The archive of a front of a list begins its archive, so a faithful sink's archive is that of its job, or begins it.
 use Rattle.std.proofs.Common.{◌≡◌, ◌⊎◌, inl, inr, ℕ, zero, suc, Bool, true, false, not, List, [], ◌∷◌, ◌++◌, take, drop, map, filter, flat_map, refl, sym, ◌∙◌, ap, subst, append_assoc, take-append-drop, le_of_eq}
 use Rattle.std.specs.Prelude.{Option, Some, None, if◌then◌else◌, bytes_eq}
 use Rattle.std.proofs.lemmas.List.{take_all}
@@ -30,6 +30,7 @@ abbrev first_behind : List Delivery → List Delivery → List Delivery
 first_behind [] ys = first_sound ys
 first_behind (d ∷ ds) ys = if is_sound d.verdict then filter (λ e. not (bytes_eq e.visit.cid d.visit.cid)) (first_behind ds ys) else first_behind ds ys
 
+-- the sections of a concatenation are those of its front, and then those of the rest that are new
 first_sound-append : (xs ys : List Delivery) → first_sound (xs ++ ys) ≡ first_sound xs ++ first_behind xs ys
 first_sound-append [] ys = refl
 first_sound-append (d ∷ ds) ys =
@@ -37,6 +38,7 @@ first_sound-append (d ∷ ds) ys =
     elim (is_sound d.verdict) as (λ b. (if b then d ∷ filter other (first_sound (ds ++ ys)) else first_sound (ds ++ ys)) ≡ (if b then d ∷ filter other (first_sound ds) else first_sound ds) ++ (if b then filter other (first_behind ds ys) else first_behind ds ys))
     [ true ↦ ap (λ l. d ∷ filter other l) (first_sound-append ds ys) ∙ ap (λ l. d ∷ l) (filter-append other (first_sound ds) (first_behind ds ys)) | false ↦ first_sound-append ds ys ]
 
+-- so the archive of a front begins the archive
 archive-append : (store : Blocks) (roots : List (List ℕ)) (xs ys : List Delivery) → archive_with store roots (xs ++ ys) ≡ archive_with store roots xs ++ flat_map (section_of store) (first_behind xs ys)
 archive-append store roots xs ys =
     ap (λ l. header_of roots ++ flat_map (section_of store) l) (first_sound-append xs ys)
@@ -63,6 +65,7 @@ archive-first_visits store number job m =
 
 -- ---- a faithful sink
 
+-- a list of deliveries and a close has these deliveries
 told-deliveries : (ds : List Delivery) (end : End) → deliveries_of (map delivery ds ++ close end ∷ []) ≡ ds
 told-deliveries [] end = refl
 told-deliveries (d ∷ ds) end = ap (λ l. d ∷ l) (told-deliveries ds end)
@@ -101,6 +104,7 @@ written-whole store number job m [] fits told written =
     written ∙ ap (λ l. Some (archive_with store job.roots l)) (ap kept (take_all m (judged_visits store number job) (le_of_eq (sym fits.0))) ∙ kept-verified store number job fits.1)
 written-whole store number job m (d ∷ more) fits told written = let none = fits.2 in absurd cc
 
+-- the law `FaithfulIsArchived`
 pub faithful-archived : (store : Blocks) (number : ℕ) (job : JobMeaning) (end : End) (events : List Event) (failed : List Delivery) → IsFaithful store number job end events failed → IsArchived store number job end events failed
 faithful-archived store number job end events failed f =
     let visits = judged_visits store number job in
@@ -114,10 +118,12 @@ faithful-archived store number job end events failed f =
 
 -- ---- an archive
 
+-- closes are no deliveries
 closed-deliveries : (ends : List End) → deliveries_of (map close ends) ≡ []
 closed-deliveries [] = refl
 closed-deliveries (e ∷ es) = closed-deliveries es
 
+-- so an archive's events have its deliveries
 pub told-back : (ds : List Delivery) (ends : List End) → deliveries_of (map delivery ds ++ map close ends) ≡ ds
 told-back [] ends = closed-deliveries ends
 told-back (d ∷ ds) ends = ap (λ l. d ∷ l) (told-back ds ends)
@@ -128,12 +134,15 @@ written-tells told store roots ds [] written = (archive_with store roots (kept d
 written-tells told store roots ds (d ∷ more) written = (written.0, written.1)
 
 module _ {W : Type 0} (told : W → Option (List ℕ)) (a : ArchiveMeaning W) (store : Blocks) (number : ℕ) (job : JobMeaning) (fact : HasArchived told a store job (Some [])) where
+  -- and it has written what its events call for
   written-back : HasWritten (told a.writer) store job.roots (deliveries_of (events_of a)) a.failed
   written-back = subst (λ l. HasWritten (told a.writer) store job.roots l a.failed) (sym (told-back a.deliveries a.closed)) (fact.written refl)
 
+  -- the law `HasWholeArchive`
   pub archive-whole : IsFaithful store number job Done (events_of a) a.failed → told a.writer ≡ Some (archive_of store number job)
   archive-whole faithful = (faithful-archived store number job Done (events_of a) a.failed faithful).whole refl (told a.writer) written-back
 
+  -- the law `HasBegunArchive`
   pub archive-begun : (end : End) → IsFaithful store number job end (events_of a) a.failed → TellsBeginning (told a.writer) (archive_of store number job)
   archive-begun end faithful =
       let tells = written-tells (told a.writer) store job.roots (deliveries_of (events_of a)) a.failed written-back in

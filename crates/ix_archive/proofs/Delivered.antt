@@ -35,22 +35,26 @@ count-add : (most n m k : ℕ) → k ≡ min n most → min (k + m) most ≡ min
 count-add most n m k h = omega arith
 
 module _ {W : Type 0} (told : W → Option (List ℕ)) (d : Delivery) (before : ArchiveMeaning W) where
+  -- an accepted delivery is the last event
   pub delivers-ok : {T : Type 0} (text : List ℕ) (r : Result T SinkFault) (after : ArchiveMeaning W) → IsDelivered told d text before r after → IsOpen (events_of before) → OnOk r (events_of after ≡ events_of before ++ delivery d ∷ [])
   delivers-ok text (Ok u) after h unclosed =
       ap (λ l. map delivery l ++ map close after.closed) h.deliveries ∙ ap (λ l. map delivery (before.deliveries ++ d ∷ []) ++ map close l) h.wrote.same_close
       ∙ events-push before.deliveries d before.closed unclosed
   delivers-ok text (Err f) after h unclosed = tt
 
+  -- and none has failed
   pub delivers-unfailed : {T : Type 0} (text : List ℕ) (r : Result T SinkFault) (after : ArchiveMeaning W) → IsDelivered told d text before r after → OnOk r (after.failed ≡ [])
   delivers-unfailed text (Ok u) after h = h.failed
   delivers-unfailed text (Err f) after h = tt
 
+  -- a rejected one is no event
   pub delivers-err : {T : Type 0} (text : List ℕ) (r : Result T SinkFault) (after : ArchiveMeaning W) → IsDelivered told d text before r after → OnErr r (events_of after ≡ events_of before)
   delivers-err text (Ok u) after h = tt
   delivers-err text (Err Write) after h =
       ap (λ l. map delivery l ++ map close after.closed) h.deliveries ∙ ap (λ l. map delivery before.deliveries ++ map close l) h.wrote.same_close
   delivers-err text (Err Memory) after h = ap events_of h
 
+  -- and is recorded as failed if its write failed
   pub delivers-refused : {T : Type 0} (text : List ℕ) (r : Result T SinkFault) (after : ArchiveMeaning W) → IsDelivered told d text before r after → before.failed ≡ [] → IfErr r (λ e. IsRefusal e d after.failed)
   delivers-refused text (Ok u) after h none = tt
   delivers-refused text (Err Write) after h none = h.failed
@@ -80,6 +84,7 @@ module _ {W : Type 0} (told : W → Option (List ℕ)) (d : Delivery) (before : 
   due-there store job same =
       archive-due store job.roots before.deliveries d ∙ ap (λ s. archive_with store job.roots (kept before.deliveries) ++ text_due s before.deliveries d) (sym same)
 
+  -- after an accepted delivery the writer has the longer archive
   added-written : (after : ArchiveMeaning W) (store : Blocks) (job : JobMeaning) → IsAdded told d (text_due before.store before.deliveries d) before after → before.failed ≡ [] → before.store ≡ store
       → HasWritten (told before.writer) store job.roots before.deliveries before.failed → HasWritten (told after.writer) store job.roots after.deliveries after.failed
   added-written after store job added none same h =
@@ -87,6 +92,7 @@ module _ {W : Type 0} (told : W → Option (List ℕ)) (d : Delivery) (before : 
       let by_none : HasWritten (told after.writer) store job.roots after.deliveries [] = is ∙ ap (λ l. Some (archive_with store job.roots (kept l))) (sym added.deliveries) in
       subst (λ f. HasWritten (told after.writer) store job.roots after.deliveries f) (sym added.failed) by_none
 
+  -- so the fact is kept
   added-archived : (after : ArchiveMeaning W) (store : Blocks) (job : JobMeaning) (first : Option (List ℕ)) → IsAdded told d (text_due before.store before.deliveries d) before after → before.failed ≡ [] → HasArchived told before store job first → HasArchived told after store job first
   added-archived after store job first added none h = record {
     same_store = added.wrote.same_store ∙ h.same_store;
@@ -95,6 +101,7 @@ module _ {W : Type 0} (told : W → Option (List ℕ)) (d : Delivery) (before : 
     counted = λ fresh. counted-after (text_due before.store before.deliveries d) after store job (h.written fresh) (h.counted fresh) none added.wrote;
   }
 
+  -- after a failed one it has a proper part of that
   failed-written : (after : ArchiveMeaning W) (store : Blocks) (job : JobMeaning) → IsFailed told d (text_due before.store before.deliveries d) before after → before.failed ≡ [] → before.store ≡ store
       → HasWritten (told before.writer) store job.roots before.deliveries before.failed → HasWritten (told after.writer) store job.roots after.deliveries after.failed
   failed-written after store job refused none same h =
@@ -104,6 +111,7 @@ module _ {W : Type 0} (told : W → Option (List ℕ)) (d : Delivery) (before : 
       let by_deliveries : HasWritten (told after.writer) store job.roots after.deliveries (d ∷ []) = subst (λ l. HasWritten (told after.writer) store job.roots l (d ∷ [])) (sym refused.deliveries) by_one in
       subst (λ f. HasWritten (told after.writer) store job.roots after.deliveries f) (sym refused.failed) by_deliveries
 
+  -- so the fact is kept too
   failed-archived : (after : ArchiveMeaning W) (store : Blocks) (job : JobMeaning) (first : Option (List ℕ)) → IsFailed told d (text_due before.store before.deliveries d) before after → before.failed ≡ [] → HasArchived told before store job first → HasArchived told after store job first
   failed-archived after store job first refused none h = record {
     same_store = refused.wrote.same_store ∙ h.same_store;

@@ -31,6 +31,7 @@ depths-differ : (a b : Arrival) → a.depth ≢ b.depth → agree a b ≡ false
 depths-differ a b h =
     and_right (a.root == b.root) (same_path a.path b.path && (a.depth == b.depth)) (and_right (same_path a.path b.path) (a.depth == b.depth) (ne_eqb a.depth b.depth h))
 
+-- no visit of the list agrees with this one
 abbrev pub DiffersFromAll : List Arrival → Arrival → Type 0
 DiffersFromAll more a = AllByRecursion (λ b. agree a b ≡ false) more
 
@@ -39,6 +40,7 @@ abbrev pub AreDistinct : List Arrival → Type 0
 AreDistinct [] = Unit {0}
 AreDistinct (a ∷ more) = DiffersFromAll more a × AreDistinct more
 
+-- distinct lists that differ from each other are distinct together
 distinct-append : (xs ys : List Arrival) → AreDistinct xs → AreDistinct ys → AllByRecursion (DiffersFromAll ys) xs → AreDistinct (xs ++ ys)
 distinct-append [] ys h g apart = g
 distinct-append (x ∷ xs) ys h g apart = (all-append (λ b. agree x b ≡ false) xs ys h.0 apart.0, distinct-append xs ys h.1 g apart.1)
@@ -65,38 +67,48 @@ module _ (root : ℕ) where
     path : a.path ≡ p ++ step ∷ rest
     other : same_step t step ≡ false
 
+  -- each visit is at or below the path, at this depth or deeper
   abbrev AllLie : Path → ℕ → List Arrival → Type 0
   AllLie p k = AllByRecursion (Lies p k)
 
+  -- each visit is at or below another step of the path
   abbrev AllLieElse : Path → Step → List Arrival → Type 0
   AllLieElse p t = AllByRecursion (LiesElse p t)
 
+  -- what is below a child is below its parent
   lies-behind : (p : Path) (t : Step) (k : ℕ) (a : Arrival) → Lies (behind p t) k a → Lies p k a
   lies-behind p t k a h = record { of = h.of; rest = t ∷ h.rest; path = h.path ∙ append_assoc p (t ∷ []) h.rest; deep = h.deep }
 
+  -- what is below one child isn't below another
   lies-else : (p : Path) (t u : Step) (k : ℕ) (a : Arrival) → same_step t u ≡ false → Lies (behind p u) k a → LiesElse p t a
   lies-else p t u k a other h = record { step = u; rest = h.rest; path = h.path ∙ append_assoc p (u ∷ []) h.rest; other = other }
 
+  -- so they disagree in their paths
   else-differs : (p : Path) (t : Step) (k : ℕ) (a b : Arrival) → Lies (behind p t) k a → LiesElse p t b → agree a b ≡ false
   else-differs p t k a b h g =
       paths-differ a b ((λ i. same_path ((h.path ∙ append_assoc p (t ∷ []) h.rest) i) (g.path i)) ∙ paths-part p t g.step h.rest g.rest g.other)
 
+  -- list by list
   parts-differ : (p : Path) (t : Step) (k : ℕ) (xs ys : List Arrival) → AllLie (behind p t) k xs → AllLieElse p t ys → AllByRecursion (DiffersFromAll ys) xs
   parts-differ p t k xs ys here other =
       all-weaker (Lies (behind p t) k) (DiffersFromAll ys) (λ a h. all-weaker (LiesElse p t) (λ b. agree a b ≡ false) (λ b g. else-differs p t k a b h g) ys other) xs here
 
   -- ---- below a node
 
+  -- what is visited through a link is below the link's path, and deeper
   abbrev CrossLies : ℕ → Crossing → Type 0
   CrossLies k cross = (c : List ℕ) (p : Path) → AllLie p k (cross c p)
 
+  -- and distinct
   abbrev CrossDistinct : Crossing → Type 0
   CrossDistinct cross = (c : List ℕ) (p : Path) → AreDistinct (cross c p)
 
+  -- what holds of a list holds of it under a test
   chosen_all : (P : Arrival → Type 0) (b : Bool) (xs : List Arrival) → AllByRecursion P xs → AllByRecursion P (if b then xs else [])
   chosen_all P true xs h = h
   chosen_all P false xs h = tt
 
+  -- and so does being distinct
   chosen_distinct : (b : Bool) (xs : List Arrival) → AreDistinct xs → AreDistinct (if b then xs else [])
   chosen_distinct true xs h = h
   chosen_distinct false xs h = tt
@@ -183,9 +195,11 @@ module _ (root : ℕ) where
 
   -- ---- at and below a CID
 
+  -- what is deeper than one more is deeper
   deeper-lies : (p : Path) (k : ℕ) (xs : List Arrival) → AllLie p (k + 1) xs → AllLie p k xs
   deeper-lies p k = all-weaker (Lies p (k + 1)) (Lies p k) (λ a h. record { of = h.of; rest = h.rest; path = h.path; deep = omega (arith, h.deep) })
 
+  -- what is deeper differs in depth
   deeper-differs : (a : Arrival) (p : Path) (xs : List Arrival) → AllLie p (a.depth + 1) xs → DiffersFromAll xs a
   deeper-differs a p = all-weaker (Lies p (a.depth + 1)) (λ b. agree a b ≡ false)
       (λ b h. depths-differ a b (λ e. omega (arith, e, h.deep)))
@@ -224,9 +238,11 @@ module _ (enters : Path → Bool) (inside : Inside) (rising : (c : List ℕ) →
   abbrev at_root : ℕ → List ℕ → List Arrival
   at_root root c = arrivals_at enters inside root links 0 c []
 
+  -- the visits from roots, the first of which has this number
   abbrev from_roots : ℕ → List (List ℕ) → List Arrival
   from_roots root cs = arrivals_from enters inside links root cs
 
+  -- each visit has the number of its root
   of_root : (root : ℕ) (c : List ℕ) → AllByRecursion (λ a. a.root ≡ root) (at_root root c)
   of_root root c = all-weaker (Lies root [] 0) (λ a. a.root ≡ root) (λ a h. h.of) (at_root root c) (at_lies root enters inside links 0 c [])
 

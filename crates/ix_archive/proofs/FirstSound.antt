@@ -40,6 +40,7 @@ refused_unsound Malformed refused = refl
 refused_unsound Sound refused = refused
 refused_unsound Inline refused = refl
 
+-- comparing bytes is symmetric
 bytes_eq-flips : (a b : List ℕ) → bytes_eq a b ≡ bytes_eq b a
 bytes_eq-flips a b =
     same_from_decides (bytes_eq a b) (bytes_eq b a) (bytes_eq-Decides a b) (λ h. sym ((bytes_eq-Decides b a).0 h), λ e. (bytes_eq-Decides b a).1 (sym e))
@@ -48,6 +49,7 @@ bytes_eq-flips a b =
 abbrev pub first_of : List Delivery → Delivery → List Delivery
 first_of ks d = if is_sound d.verdict then (if is_told ks d.visit.cid then [] else d ∷ []) else []
 
+-- one step of leaving out what was written
 passed-over : (p : Delivery → Bool) (sound told same : Bool) (d : Delivery) → p d ≡ not same → filter p (if sound then (if told then [] else d ∷ []) else []) ≡ (if sound then (if same || told then [] else d ∷ []) else [])
 passed-over p false told same d h = refl
 passed-over p true true true d h = refl
@@ -55,6 +57,7 @@ passed-over p true true false d h = refl
 passed-over p true false true d h = ap (λ b. if b then d ∷ [] else []) h
 passed-over p true false false d h = ap (λ b. if b then d ∷ [] else []) h
 
+-- one more delivery has a section if it is sound and new
 pub first_sound-push : (ks : List Delivery) (d : Delivery) → first_sound (ks ++ d ∷ []) ≡ first_sound ks ++ first_of ks d
 first_sound-push [] d = refl
 first_sound-push (k ∷ ks) d =
@@ -72,6 +75,7 @@ pub told-push : (ks : List Delivery) (d : Delivery) (c : List ℕ) → is_told (
 told-push ks d c =
     list_any-append (λ e. is_sound e.verdict && bytes_eq e.visit.cid c) ks (d ∷ []) ∙ ap (λ b. is_told ks c || b) (or-false (is_sound d.verdict && bytes_eq d.visit.cid c))
 
+-- its text, by the same tests
 first-text : (f : Delivery → List ℕ) (sound told : Bool) (d : Delivery) → flat_map f (if sound then (if told then [] else d ∷ []) else []) ≡ (if sound then (if told then [] else f d) else [])
 first-text f false told d = refl
 first-text f true true d = refl
@@ -134,6 +138,7 @@ block-none n [] c h = refl
 block-none n (e ∷ es) c h =
     elim (bytes_eq e.0 c) as (λ b. (if b then Some n else position_behind (n + 1) es c) ≡ None → (if b then Some e.1 else block_of es c) ≡ None) [ true ↦ (λ k. cc) | false ↦ (λ k. block-none (n + 1) es c k) ] h
 
+-- a CID with a position has a block
 pub block-some : (n place : ℕ) (store : Blocks) (c : List ℕ) → position_behind n store c ≡ Some place → is_some (block_of store c) ≡ true
 block-some n place [] c h = cc
 block-some n place (e ∷ es) c h =
@@ -152,6 +157,7 @@ no-place false told place d p h none = refl
 no-place true true place d p h none = refl
 no-place true false place d p h none = ap (λ b. if b then d ∷ [] else []) (h none)
 
+-- a delivery that writes no section adds none
 pub sections-repeat : (store : Blocks) (ks : List Delivery) (d : Delivery) → place_due store ks d ≡ None → sections_of store (ks ++ d ∷ []) ≡ sections_of store ks
 sections-repeat store ks d none =
     sections-push store ks d
@@ -167,6 +173,7 @@ due-told store ks d place due =
       | false ↦ (λ h. cc)
     ] due
 
+-- and one that does adds one
 pub sections-due : (store : Blocks) (ks : List Delivery) (d : Delivery) (place : ℕ) → place_due store ks d ≡ Some place → length (sections_of store (ks ++ d ∷ [])) ≡ length (sections_of store ks) + 1
 sections-due store ks d place due =
     let found = due-told store ks d place due in
@@ -178,6 +185,7 @@ sections-due store ks d place due =
     ∙ ap (λ b. sections_of store ks ++ (if b then d ∷ [] else [])) has)
     ∙ length-append (sections_of store ks) (d ∷ [])
 
+-- a delivery that isn't cut off writes what it writes after the kept ones
 due-kept : (store : Blocks) (ds : List Delivery) (d : Delivery) → is_below (cut_behind ds) d.visit.depth ≡ false → text_due store ds d ≡ text_behind store (kept ds) d
 due-kept store ds d uncut = ap (λ b. if b then [] else text_behind store (kept ds) d) uncut
 
@@ -192,11 +200,13 @@ no-text false told place text h none = refl
 no-text true true place text h none = refl
 no-text true false place text h none = h none
 
+-- nothing, if its CID has a section
 pub due-repeat : (store : Blocks) (ds : List Delivery) (d : Delivery) → is_below (cut_behind ds) d.visit.depth ≡ false → place_due store (kept ds) d ≡ None → text_due store ds d ≡ []
 due-repeat store ds d uncut none =
     due-kept store ds d uncut
     ∙ no-text (is_sound d.verdict) (is_told (kept ds) d.visit.cid) (position_of store d.visit.cid) (section_of store d) (λ h. ap (λ o. section_with d.visit.cid o) (block-none 0 store d.visit.cid h)) none
 
+-- and else its section
 pub due-section : (store : Blocks) (ds : List Delivery) (d : Delivery) (place : ℕ) (block : List ℕ) → is_below (cut_behind ds) d.visit.depth ≡ false → place_due store (kept ds) d ≡ Some place → block_of store d.visit.cid ≡ Some block
     → text_due store ds d ≡ with_length (d.visit.cid ++ block)
 due-section store ds d place block uncut due at =

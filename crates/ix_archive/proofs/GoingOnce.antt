@@ -35,9 +35,11 @@ use Rattle.ix_archive.proofs.KeptOnce.{judged_once}
 
 -- ---- an archive is of the CIDs of its deliveries
 
+-- the CID of a delivery
 abbrev cid_told : Delivery → List ℕ
 cid_told d = d.visit.cid
 
+-- whether a CID is sound in the store
 abbrev sound_in : Blocks → List ℕ → Bool
 sound_in store c = is_sound (verdict_of store c)
 
@@ -45,18 +47,21 @@ sound_in store c = is_sound (verdict_of store c)
 abbrev AreJudged : Blocks → List Delivery → Type 0
 AreJudged store = AllByRecursion (λ d. d.verdict ≡ verdict_of store d.visit.cid)
 
+-- filtering by CID before or after mapping to CIDs
 map-filter : (q : List ℕ → Bool) (ds : List Delivery) → map cid_told (filter (λ d. q d.visit.cid) ds) ≡ filter q (map cid_told ds)
 map-filter q [] = refl
 map-filter q (d ∷ ds) =
     elim (q d.visit.cid) as (λ b. map cid_told (if b then d ∷ filter (λ e. q e.visit.cid) ds else filter (λ e. q e.visit.cid) ds) ≡ (if b then d.visit.cid ∷ filter q (map cid_told ds) else filter q (map cid_told ds)))
     [ true ↦ ap (λ l. d.visit.cid ∷ l) (map-filter q ds) | false ↦ map-filter q ds ]
 
+-- conjunction is symmetric
 and-flips : (a b : Bool) → (a && b) ≡ (b && a)
 and-flips true true = refl
 and-flips true false = refl
 and-flips false true = refl
 and-flips false false = refl
 
+-- so filters may change places
 filters-flip : (p q : List ℕ → Bool) (cs : List (List ℕ)) → filter p (filter q cs) ≡ filter q (filter p cs)
 filters-flip p q cs =
     filter-both p q (λ c. p c && q c) (λ c. and-flips (q c) (p c)) cs ∙ sym (filter-both q p (λ c. p c && q c) (λ c. refl) cs)
@@ -66,6 +71,7 @@ other-sound : (same sound : Bool) → (same ≡ true → sound ≡ false) → (n
 other-sound true sound h = sym (h refl)
 other-sound false sound h = refl
 
+-- the sections' CIDs are the sound ones of the first occurrences
 first_sound-cids : (store : Blocks) (ds : List Delivery) → AreJudged store ds → map cid_told (first_sound ds) ≡ filter (sound_in store) (first_ones (map cid_told ds))
 first_sound-cids store [] h = refl
 first_sound-cids store (d ∷ ds) h =
@@ -82,6 +88,7 @@ first_sound-cids store (d ∷ ds) h =
 abbrev archive_by : Blocks → List (List ℕ) → List (List ℕ) → List ℕ
 archive_by store roots cs = header_of roots ++ flat_map (λ c. section_with c (block_of store c)) (filter (sound_in store) cs)
 
+-- so an archive depends on the first occurrences alone
 archive-cids : (store : Blocks) (roots : List (List ℕ)) (ds : List Delivery) → AreJudged store ds → archive_with store roots ds ≡ archive_by store roots (first_ones (map cid_told ds))
 archive-cids store roots ds h =
     ap (λ l. header_of roots ++ l) (sym (flat_map-map (λ c. section_with c (block_of store c)) cid_told (first_sound ds)))
@@ -95,28 +102,34 @@ unsound-without c true (Some Identity) = elim (is_no_data c (digest_of c)) as (�
 unsound-without c true (Some Sha2_256) = refl
 unsound-without c true (Some Sha2_512) = refl
 
+-- a sound verdict means that there is a block
 sound-block : (c : List ℕ) (block : Option (List ℕ)) → is_sound (verdict_with c block) ≡ true → is_some block ≡ true
 sound-block c None sound = absurd (cc (sound, unsound-without c (has_codec c) (hash_function_of (parts_of c))))
 sound-block c (Some b) sound = refl
 
 -- ---- the deliveries of arrivals
 
+-- visits have their CIDs
 visits-cids : (store : Blocks) (number n : ℕ) (xs : List Arrival) → map cid_told (map (judged store) (visits_from store number n xs)) ≡ map cid_of xs
 visits-cids store number n [] = refl
 visits-cids store number n (x ∷ xs) = ap (λ l. x.cid ∷ l) (visits-cids store number (n + 1) xs)
 
+-- and the store's verdicts
 visits-judged : (store : Blocks) (number n : ℕ) (xs : List Arrival) → AreJudged store (map (judged store) (visits_from store number n xs))
 visits-judged store number n [] = tt
 visits-judged store number n (x ∷ xs) = (refl, visits-judged store number (n + 1) xs)
 
+-- the same, however they are numbered
 numbered-cids : (store : Blocks) (number : ℕ) (number_of : Arrival → ℕ) (xs : List Arrival) → map cid_told (map (λ a. judged store (visit_of store number (number_of a) a)) xs) ≡ map cid_of xs
 numbered-cids store number number_of [] = refl
 numbered-cids store number number_of (x ∷ xs) = ap (λ l. x.cid ∷ l) (numbered-cids store number number_of xs)
 
+-- the same, however they are numbered
 numbered-judged : (store : Blocks) (number : ℕ) (number_of : Arrival → ℕ) (xs : List Arrival) → AreJudged store (map (λ a. judged store (visit_of store number (number_of a) a)) xs)
 numbered-judged store number number_of [] = tt
 numbered-judged store number number_of (x ∷ xs) = (refl, numbered-judged store number number_of xs)
 
+-- more visits only append deliveries
 visits-append : (store : Blocks) (number n : ℕ) (xs ys : List Arrival) → (more : List Delivery) × (map (judged store) (visits_from store number n xs) ++ more ≡ map (judged store) (visits_from store number n (xs ++ ys)))
 visits-append store number n [] ys = (map (judged store) (visits_from store number n ys), refl)
 visits-append store number n (x ∷ xs) ys = let r = visits-append store number (n + 1) xs ys in (r.0, ap (λ l. judged store (visit_of store number n x) ∷ l) r.1)
@@ -137,6 +150,7 @@ archive-visits : (store : Blocks) (roots : List (List ℕ)) (number : ℕ) (xs :
 archive-visits store roots number xs =
     archive-cids store roots (map (judged store) (visits_from store number 0 xs)) (visits-judged store number 0 xs) ∙ ap (λ l. archive_by store roots (first_ones l)) (visits-cids store number 0 xs)
 
+-- so the archive of a job is that of the CIDs of its verified traversal
 archive-verified : (store : Blocks) (number : ℕ) (job : JobMeaning) → archive_of store number (going_in false job) ≡ archive_by store job.roots (first_ones (map cid_of (verified_arrivals store job)))
 archive-verified store number job =
     let number_of : Arrival → ℕ = number_among 0 (believed store job) in
@@ -173,6 +187,7 @@ module _ {R : Type 0} (rest : Path → R) (same : R → R → Bool) (store : Blo
   abbrev sound_arrivals : ℕ → List Arrival
   sound_arrivals n = arrivals_from (is_entered job.selector) (sound_value store) n 0 job.roots
 
+  -- within its limit the traversal has at most so many visits
   pub once-limited : is_over_limit_once store job rest same ≡ false → length (once_arrivals store job rest same) ≤ job.limit
   once-limited within = ltb-false job.limit (length (once_arrivals store job rest same)) within
 
@@ -187,6 +202,7 @@ module _ {R : Type 0} (rest : Path → R) (same : R → R → Bool) (store : Blo
       ∙ ap first_ones (sym (limit-cids (is_entered job.selector) rest same (sound_value store) tells job.limit job.roots short n ends) ∙ ap (map cid_of) (sym (verified-sound store job))))
       ∙ sym (archive-verified store number job)
 
+  -- the law `OnceArchivesTheEnded`
   pub once-ended : TellsRests (is_entered job.selector) rest same → (n : ℕ) → EndsBefore (is_entered job.selector) (sound_value store) n job.roots → is_over_limit_once store job rest same ≡ false
       → archive_with store job.roots (judged_once store number job rest same) ≡ archive_of store number (going_in false job)
   once-ended tells n ends within = archive-once tells n (roots-by_depth (is_entered job.selector) (sound_value store) n job.roots ends) (once-limited within)
@@ -208,6 +224,7 @@ module _ {R : Type 0} (rest : Path → R) (same : R → R → Bool) (store : Blo
       subst (IsBeginning (archive_with store job.roots (take m (judged_once store number job rest same)))) whole
       (archive-beginning store job.roots (take m (judged_once store number job rest same)) first.0 (map (judged store) (visits_from store number 0 all)) (first.1 ∙ ap (λ l. map (judged store) (visits_from store number 0 l)) on.1))
 
+  -- a job within its limit at every link is within it with link-visit-once
   once-short : is_over_limit store (going_in false job) ≡ false → length (once_arrivals store job rest same) ≤ job.limit
   once-short within =
       let all = verified-within store job within in
@@ -218,21 +235,26 @@ module _ {R : Type 0} (rest : Path → R) (same : R → R → Bool) (store : Blo
   pub once-within : is_over_limit store (going_in false job) ≡ false → is_over_limit_once store job rest same ≡ false
   once-within within = le-ltb job.limit (length (once_arrivals store job rest same)) (once-short within)
 
+  -- and has the same archive: the law `OnceArchivesTheSame`
   pub once-whole : TellsRests (is_entered job.selector) rest same → is_over_limit store (going_in false job) ≡ false → archive_with store job.roots (judged_once store number job rest same) ≡ archive_of store number (going_in false job)
   once-whole tells within =
       archive-once tells job.limit (roots-by_length (is_entered job.selector) (sound_value store) job.limit job.roots (verified-within store job within)) (once-short within)
 
   -- ---- the sections, also where CIDs lead back to themselves
 
+  -- the CIDs of the visits with link-visit-once
   abbrev once_cids : List (List ℕ)
   once_cids = cids_of (once_arrivals store job rest same)
 
+  -- the CIDs of the sections
   abbrev sections : List (List ℕ)
   sections = map cid_told (sections_of store (judged_once store number job rest same))
 
+  -- whether the store has a block under a CID
   abbrev has_block : List ℕ → Bool
   has_block c = is_some (block_of store c)
 
+  -- the sections' CIDs are the sound ones with a block among the first occurrences
   section-cids : length (once_arrivals store job rest same) ≤ job.limit → sections ≡ filter has_block (filter (sound_in store) (first_ones once_cids))
   section-cids short =
       ap (λ l. map cid_told (sections_of store l)) (told-all short)
@@ -240,17 +262,20 @@ module _ {R : Type 0} (rest : Path → R) (same : R → R → Bool) (store : Blo
       ∙ ap (filter has_block) (first_sound-cids store (map (judged store) (visits_from store number 0 (once_arrivals store job rest same))) (visits-judged store number 0 (once_arrivals store job rest same))
       ∙ ap (λ l. filter (sound_in store) (first_ones l)) (visits-cids store number 0 (once_arrivals store job rest same)))
 
+  -- a section's CID is sound and visited
   section-in : length (once_arrivals store job rest same) ≤ job.limit → (c : List ℕ) → In c sections → (is_sound (verdict_of store c) ≡ true) × In c once_cids
   section-in short c i =
       let with_block = in-filter has_block c (filter (sound_in store) (first_ones once_cids)) (subst (In c) (section-cids short) i) in
       let sound = in-filter (sound_in store) c (first_ones once_cids) with_block.0 in
       (sound.1, first_ones-in c once_cids sound.0)
 
+  -- a sound CID that is visited has a section
   in-section : length (once_arrivals store job rest same) ≤ job.limit → (c : List ℕ) → is_sound (verdict_of store c) ≡ true → In c once_cids → In c sections
   in-section short c sound i =
       subst (In c) (sym (section-cids short))
       (filter-in has_block c (filter (sound_in store) (first_ones once_cids)) (filter-in (sound_in store) c (first_ones once_cids) (in-first_ones c once_cids i) sound) (sound-block c (block_of store c) sound))
 
+  -- the law `OnceArchivesTheReached`
   pub once-sections : TellsRests (is_entered job.selector) rest same → is_over_limit_once store job rest same ≡ false
       → (c : List ℕ) → Contains sections c ↔ ((is_sound (verdict_of store c) ≡ true) × ((n : ℕ) × Contains (cids_of (sound_arrivals n)) c))
   once-sections tells within c =

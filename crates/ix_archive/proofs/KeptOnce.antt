@@ -23,6 +23,7 @@ abbrev AreFalling : List Arrival → Type 0
 AreFalling [] = Unit {0}
 AreFalling (a ∷ more) = AllByRecursion (λ b. b.depth ≤ a.depth) more × AreFalling more
 
+-- visits of one depth before others that aren't deeper
 falling-same : (k : ℕ) (xs more : List Arrival) → AllByRecursion (λ b. b.depth ≡ k) xs → AllByRecursion (λ b. b.depth ≤ k) more → AreFalling more → AreFalling (xs ++ more)
 falling-same k [] more same low falling = falling
 falling-same k (x ∷ xs) more same low falling =
@@ -38,6 +39,7 @@ module _ (pass : List ℕ → Bool) where
   NoneCut cut [] = Unit {0}
   NoneCut cut (x ∷ xs) = (is_below cut x.depth ≡ false) × NoneCut (if pass x.cid then None else Some x.depth) xs
 
+  -- if nothing is cut of a list, nothing is of its front
   none_cut-take : (m : ℕ) (cut : Option ℕ) (xs : List Arrival) → NoneCut cut xs → NoneCut cut (take m xs)
   none_cut-take zero cut xs h = tt
   none_cut-take (suc m) cut [] h = tt
@@ -48,6 +50,7 @@ module _ (pass : List ℕ → Bool) where
   IsAbove None waiting = Unit {0}
   IsAbove (Some d) waiting = AllByRecursion (λ b. b.depth ≤ d) waiting
 
+  -- a visit at or above the cut isn't cut off
   above_cut : (cut : Option ℕ) (a : Arrival) (more : List Arrival) → IsAbove cut (a ∷ more) → is_below cut a.depth ≡ false
   above_cut None a more h = refl
   above_cut (Some d) a more h = le-ltb d a.depth h.0
@@ -90,6 +93,7 @@ kept-uncut store number n cut (x ∷ xs) h =
     let next : Option ℕ = if is_good store x.cid then None else Some x.depth in
     ap (λ b. if b then behind cut else d ∷ behind next) h.0 ∙ ap (λ l. d ∷ l) (kept-uncut store number (n + 1) next xs h.1)
 
+-- the first deliveries are those of the first visits
 pub visits-take : (store : Blocks) (number n m : ℕ) (xs : List Arrival) → take m (map (judged store) (visits_from store number n xs)) ≡ map (judged store) (visits_from store number n (take m xs))
 visits-take store number n zero xs = refl
 visits-take store number n (suc m) [] = refl
@@ -105,15 +109,19 @@ abbrev pub judged_once : {R : Type 0} → Blocks → ℕ → JobMeaning → (Pat
 judged_once store number job rest same = map (judged store) (visits_from store number 0 (take job.limit (once_arrivals store job rest same)))
 
 module _ {R : Type 0} (rest : Path → R) (same : R → R → Bool) (store : Blocks) (number : ℕ) (job : JobMeaning) where
+  -- a CID that isn't good isn't expanded
   stays_out : (c : List ℕ) → is_good store c ≡ false → sound_value store c ≡ None
   stays_out c bad = sym (passing-sound store c) ∙ ap (λ b. if b then value_of store c else None) bad
 
+  -- so nothing is below it, and nothing is cut
   once-uncut : NoneCut (is_good store) None (once_arrivals store job rest same)
   once-uncut = once-none_cut (is_good store) (is_entered job.selector) rest same (sound_value store) stays_out (suc job.limit) [] (roots_from 0 job.roots) None (roots-falling 0 job.roots) tt
 
+  -- all deliveries are kept
   pub once-all_kept : kept (map (judged store) (visits_from store number 0 (once_arrivals store job rest same))) ≡ map (judged store) (visits_from store number 0 (once_arrivals store job rest same))
   once-all_kept = kept-uncut store number 0 None (once_arrivals store job rest same) once-uncut
 
+  -- and so are the first ones
   pub once-kept : (m : ℕ) → kept (take m (judged_once store number job rest same)) ≡ take m (judged_once store number job rest same)
   once-kept m =
       let first : take m (judged_once store number job rest same) ≡ map (judged store) (visits_from store number 0 (take m (take job.limit (once_arrivals store job rest same)))) = visits-take store number 0 m (take job.limit (once_arrivals store job rest same)) in

@@ -23,14 +23,17 @@ use Rattle.ix_archive.proofs.Distinct.{agree, DiffersFromAll, AreDistinct, from_
 
 -- ---- numbers
 
+-- a step is the same as itself
 same_step-refl : (t : Step) → same_step t t ≡ true
 same_step-refl (key k) = (bytes_eq-Decides k k).1 refl
 same_step-refl (nth n) = eq-eqb n n refl
 
+-- and so is a path
 same_path-refl : (p : Path) → same_path p p ≡ true
 same_path-refl [] = refl
 same_path-refl (t ∷ p) = and_from (same_step t t) (same_path p p) (same_step-refl t) (same_path-refl p)
 
+-- and a visit
 agree-refl : (a : Arrival) → agree a a ≡ true
 agree-refl a =
     and_from (a.root == a.root) (same_path a.path a.path && (a.depth == a.depth)) (eq-eqb a.root a.root refl)
@@ -56,21 +59,25 @@ numbered-all store number n [] distinct = refl
 numbered-all store number n (x ∷ xs) distinct =
     λ i. judged_at store number (if sym (agree-refl x) i then n else number_among (n + 1) xs x) x ∷ (numbered-all store number (n + 1) xs distinct.1 ∙ sym (numbered-behind store number n x xs xs distinct.0)) i
 
+-- the visits of a job are distinct in root, path and depth
 believed-distinct : (store : Blocks) (job : JobMeaning) → AreDistinct (believed store job)
 believed-distinct store job = from_distinct (is_entered job.selector) (value_of store) (value_of-rising store) job.limit 0 job.roots
 
 -- ---- the visits of a job
 
+-- the first visits are those of the first arrivals
 visits_from-take : (store : Blocks) (number n m : ℕ) (xs : List Arrival) → visits_from store number n (take m xs) ≡ take m (visits_from store number n xs)
 visits_from-take store number n zero xs = refl
 visits_from-take store number n (suc m) [] = refl
 visits_from-take store number n (suc m) (a ∷ xs) = ap (λ l. visit_of store number n a ∷ l) (visits_from-take store number (n + 1) m xs)
 
+-- the visits within the limit are the first of all
 judged_visits-take : (store : Blocks) (number : ℕ) (job : JobMeaning) → judged_visits store number job ≡ take job.limit (all_judged store number job)
 judged_visits-take store number job =
     ap (map (judged store)) (visits_from-take store number 0 job.limit (arrivals_of store job))
     ∙ sym (take-map (judged store) job.limit (visits_from store number 0 (arrivals_of store job)))
 
+-- and all of them, if the limit isn't exceeded
 judged_visits-all : (store : Blocks) (number : ℕ) (job : JobMeaning) → is_over_limit store job ≡ false → judged_visits store number job ≡ all_judged store number job
 judged_visits-all store number job within =
     ap (λ l. map (judged store) (visits_from store number 0 l)) (take_all job.limit (arrivals_of store job) (ltb-false job.limit (length (arrivals_of store job)) within))
@@ -109,6 +116,7 @@ kept-every store number job =
     ∙ kept-numbered store number number_of None (believed store job)
     ∙ ap (numbered store number number_of) (kept-believed store job)
 
+-- what is kept of all is the verified traversal
 kept-all : (store : Blocks) (number : ℕ) (job : JobMeaning) → kept (all_judged store number job) ≡ verified store number job
 kept-all store number job =
     let each : List Delivery = numbered store number (number_among 0 (believed store job)) (verified_arrivals store job) in

@@ -14,12 +14,14 @@ module _ {X : Type 0} (depth : X → ℕ) (pass : X → Bool) where
   abbrev pub cut_after : Option ℕ → List X → Option ℕ
   cut_after = cut_of depth pass
 
+  -- what is kept of a concatenation, part by part
   pub kept-append : (cut : Option ℕ) (xs ys : List X) → kept_behind depth pass cut (xs ++ ys) ≡ kept_behind depth pass cut xs ++ kept_behind depth pass (cut_after cut xs) ys
   kept-append cut [] ys = refl
   kept-append cut (x ∷ xs) ys =
       elim (is_below cut (depth x)) as (λ b. (if b then kept_behind depth pass cut (xs ++ ys) else x ∷ kept_behind depth pass (cut_at depth pass x) (xs ++ ys)) ≡ (if b then kept_behind depth pass cut xs else x ∷ kept_behind depth pass (cut_at depth pass x) xs) ++ kept_behind depth pass (if b then cut_after cut xs else cut_after (cut_at depth pass x) xs) ys)
       [ true ↦ kept-append cut xs ys | false ↦ ap (λ l. x ∷ l) (kept-append (cut_at depth pass x) xs ys) ]
 
+  -- and where it is cut after both
   pub cut_after-append : (cut : Option ℕ) (xs ys : List X) → cut_after cut (xs ++ ys) ≡ cut_after (cut_after cut xs) ys
   cut_after-append cut [] ys = refl
   cut_after-append cut (x ∷ xs) ys =
@@ -31,18 +33,22 @@ abbrev AtLeast : ℕ → Option ℕ → Type 0
 AtLeast k None = Unit {0}
 AtLeast k (Some d) = k ≤ d
 
+-- a cut at a depth or deeper is at a smaller one or deeper
 at_least_less : (k : ℕ) (cut : Option ℕ) → AtLeast (k + 1) cut → AtLeast k cut
 at_least_less k None h = tt
 at_least_less k (Some d) h = omega arith
 
+-- so an entry at that depth isn't cut off
 not_below : (k : ℕ) (cut : Option ℕ) → AtLeast k cut → is_below cut k ≡ false
 not_below k None h = refl
 not_below k (Some d) h = le-ltb d k h
 
 module _ (pass : List ℕ → Bool) where
+  -- what is kept of visits
   abbrev pub kept_arrivals : Option ℕ → List Arrival → List Arrival
   kept_arrivals = kept_behind (λ a. a.depth) (λ a. pass a.cid)
 
+  -- where they are cut after all
   abbrev pub after_arrivals : Option ℕ → List Arrival → Option ℕ
   after_arrivals = cut_after (λ a. a.depth) (λ a. pass a.cid)
 
@@ -56,6 +62,7 @@ module _ (pass : List ℕ → Bool) where
     left : kept_arrivals (Some d) whole ≡ []
     after : after_arrivals (Some d) whole ≡ Some d
 
+  -- pruning a concatenation, part by part
   pruned-append : (k : ℕ) (cut : Option ℕ) (a b a' b' : List Arrival) → Pruned k cut a a' → ((c : Option ℕ) → AtLeast k c → Pruned k c b b') → Pruned k cut (a ++ b) (a' ++ b')
   pruned-append k cut a b a' b' first next =
       let second = next (after_arrivals cut a) first.after in
@@ -64,6 +71,7 @@ module _ (pass : List ℕ → Bool) where
         after = subst (AtLeast k) (sym (cut_after-append (λ x. x.depth) (λ x. pass x.cid) cut a b)) second.after;
       }
 
+  -- what is cut off of a concatenation, part by part
   gone-append : (d : ℕ) (a b : List Arrival) → Gone d a → Gone d b → Gone d (a ++ b)
   gone-append d a b first second =
       record {
@@ -71,9 +79,11 @@ module _ (pass : List ℕ → Bool) where
         after = cut_after-append (λ x. x.depth) (λ x. pass x.cid) (Some d) a b ∙ ap (λ c. after_arrivals c b) first.after ∙ second.after;
       }
 
+  -- what a link leads to is pruned, at one more depth
   abbrev Prunes : ℕ → Crossing → Crossing → Type 0
   Prunes k cross pruned = (cut : Option ℕ) (c : List ℕ) (p : Path) → AtLeast k cut → Pruned k cut (cross c p) (pruned c p)
 
+  -- what a link leads to below the cut is cut off
   abbrev Goes : ℕ → Crossing → Type 0
   Goes d cross = (c : List ℕ) (p : Path) → Gone d (cross c p)
 
@@ -141,6 +151,7 @@ module _ (pass : List ℕ → Bool) where
   entry_left root k cut p c rest a =
       ap (λ b. if b then kept_arrivals cut rest else record { root = root; path = p; depth = k; cid = c } ∷ kept_arrivals (if pass c then None else Some k) rest) (not_below k cut a)
 
+  -- after an entry at this depth the cut is its own
   after_entry : (root k : ℕ) (cut : Option ℕ) (p : Path) (c : List ℕ) (rest : List Arrival) → AtLeast k cut
       → after_arrivals cut (record { root = root; path = p; depth = k; cid = c } ∷ rest) ≡ after_arrivals (if pass c then None else Some k) rest
   after_entry root k cut p c rest a =

@@ -15,9 +15,11 @@ use Rattle.ix_check.specs.declared.verdict.Verdict.{Verdict}
 use Rattle.ix_check.specs.declared.verdict.Verdict.TheVariants.{Codec, Hash, Missing, Damaged, Malformed, Sound, Inline}
 use Rattle.ix_archive.specs.Verified.{only_passing, is_good}
 
+-- no data
 abbrev nothing : Option Data
 nothing = None
 
+-- a test with the same result in both cases
 none_either : (b : Bool) → (if b then nothing else nothing) ≡ nothing
 none_either true = refl
 none_either false = refl
@@ -40,12 +42,14 @@ good false true (Some d) v h = ap (λ b. if b then Some d else None) h
 abbrev value_by : List ℕ → Option HashFunction → Option (List ℕ) → Option Data
 value_by c f block = if is_dag_cbor c then option_and_then data_at (bytes_by f (digest_of c) block) else None
 
+-- by whether the hash matches
 agreed : (c block : List ℕ) (agrees : Bool)
     → (if passes (if has_codec c then (if agrees then (if is_no_data c block then Malformed else Sound) else Damaged) else Codec) then (if is_dag_cbor c then data_at block else None) else None)
     ≡ (if agrees then (if is_dag_cbor c then data_at block else None) else None)
 agreed c block true = good (codec_of c == 0x55) (codec_of c == 0x71) (data_at block) Sound refl
 agreed c block false = refused (has_codec c) Damaged (if is_dag_cbor c then data_at block else None) refl
 
+-- by the hash function: what has a good verdict is what is sound
 sound-by : (c : List ℕ) (f : Option HashFunction) (block : Option (List ℕ))
     → (if passes (if has_codec c then verdict_by f c block else Codec) then value_by c f block else None) ≡ (if is_sound_by f (digest_of c) block then value_by c f block else None)
 sound-by c None block = refused (has_codec c) Hash (value_by c None block) refl

@@ -28,6 +28,7 @@ count-more most n m k h e = omega arith
 pub kept-cut_off : (ds : List Delivery) (d : Delivery) → is_below (cut_behind ds) d.visit.depth ≡ true → kept (ds ++ d ∷ []) ≡ kept ds
 kept-cut_off ds d below = kept-push ds d ∙ ap (λ b. if b then kept ds else kept ds ++ d ∷ []) below
 
+-- a delivery that isn't cut off is kept
 pub kept-uncut : (ds : List Delivery) (d : Delivery) → is_below (cut_behind ds) d.visit.depth ≡ false → kept (ds ++ d ∷ []) ≡ kept ds ++ d ∷ []
 kept-uncut ds d uncut = kept-push ds d ∙ ap (λ b. if b then kept ds else kept ds ++ d ∷ []) uncut
 
@@ -35,6 +36,7 @@ kept-uncut ds d uncut = kept-push ds d ∙ ap (λ b. if b then kept ds else kept
 cut-cut_off : (ds : List Delivery) (d : Delivery) → is_below (cut_behind ds) d.visit.depth ≡ true → cut_behind (ds ++ d ∷ []) ≡ cut_behind ds
 cut-cut_off ds d below = cut-push ds d ∙ ap (λ b. if b then cut_behind ds else (if passes d.verdict then None else Some d.visit.depth)) below
 
+-- and the list is cut at it unless it is good
 cut-uncut : (ds : List Delivery) (d : Delivery) (passing : Bool) → is_below (cut_behind ds) d.visit.depth ≡ false → passes d.verdict ≡ passing → cut_behind (ds ++ d ∷ []) ≡ (if passing then None else Some d.visit.depth)
 cut-uncut ds d passing uncut is =
     cut-push ds d ∙ ap (λ b. if b then cut_behind ds else (if passes d.verdict then None else Some d.visit.depth)) uncut
@@ -44,12 +46,15 @@ cut-uncut ds d passing uncut is =
 visits-of : (store : Blocks) (ds : List Delivery) (c : Counts) → c ≡ counts_of store ds c.bytes → c.visits ≡ at_most 32 (length ds)
 visits-of store ds c h = ap (λ (x : Counts). x.visits) h
 
+-- the count of kept deliveries
 kept-of : (store : Blocks) (ds : List Delivery) (c : Counts) → c ≡ counts_of store ds c.bytes → c.kept ≡ at_most 32 (length (kept ds))
 kept-of store ds c h = ap (λ (x : Counts). x.kept) h
 
+-- the count of sections
 sections-of : (store : Blocks) (ds : List Delivery) (c : Counts) → c ≡ counts_of store ds c.bytes → c.sections ≡ at_most 32 (length (sections_of store (kept ds)))
 sections-of store ds c h = ap (λ (x : Counts). x.sections) h
 
+-- the count of bytes is within its bound
 bytes-of : (store : Blocks) (ds : List Delivery) (c : Counts) → c ≡ counts_of store ds c.bytes → c.bytes ≡ at_most 64 c.bytes
 bytes-of store ds c h = ap (λ (x : Counts). x.bytes) h
 
@@ -160,6 +165,7 @@ tally-repeat store ds es failed closed d cut c n k w skips h uncut passing none 
           ∙ sym (ap (λ l. is_told l e) left ∙ told-push (kept ds) d e ∙ repeat-told store (kept ds) d e place none at);
     }
 
+-- equal positions
 some-same : (n m : ℕ) → ◌≡◌ {A = Option ℕ} (Some n) (Some m) → n ≡ m
 some-same n m h = cc
 

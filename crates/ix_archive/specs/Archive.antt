@@ -8,6 +8,7 @@ use Rattle.ix_check.specs.declared.verdict.Verdict.TheVariants.{Codec, Hash, Mis
 use Rattle.ix_archive.specs.declared.sink.Delivery.{Delivery}
 use Rattle.ix_archive.specs.Verified.{verified}
 
+-- a block with this verdict has a section
 abbrev pub is_sound : Verdict → Bool
 is_sound Codec = false
 is_sound Hash = false
@@ -22,6 +23,7 @@ abbrev pub first_sound : List Delivery → List Delivery
 first_sound [] = []
 first_sound (d ∷ ds) = if is_sound d.verdict then d ∷ filter (λ e. not (bytes_eq e.visit.cid d.visit.cid)) (first_sound ds) else first_sound ds
 
+-- the section of a delivery
 abbrev pub section_of : Blocks → Delivery → List ℕ
 section_of store d = section_with d.visit.cid (block_of store d.visit.cid)
 

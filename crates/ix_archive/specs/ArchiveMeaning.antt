@@ -10,6 +10,7 @@ use Rattle.ix_car.specs.Writing.{header_of}
 use Rattle.ix_archive.specs.Archive.{archive_with}
 use Rattle.ix_archive.specs.Report.{at_most}
 
+-- an archive: its store and roots, what was delivered, the delivery that failed, the close, and its writer
 pub record ArchiveMeaning (W : Type 0) : Type 0 where
   pub store : Blocks
   pub roots : List (List ℕ)
@@ -20,29 +21,31 @@ pub record ArchiveMeaning (W : Type 0) : Type 0 where
   pub taken : ℕ
   pub writer : W
 
+-- the events of an archive, as a sink
 abbrev pub events_of : {W : Type 0} → ArchiveMeaning W → List Event
 events_of a = map delivery a.deliveries ++ map close a.closed
 
+-- a part of the bytes from their start, and not all
 abbrev pub IsProperPrefix : List ℕ → List ℕ → Type 0
 IsProperPrefix a b = (more : List ℕ) × (a ++ more ≡ b) × (more ≢ [])
 
--- A writer tells its bytes: those of the archive so far, and after a failed delivery a proper part of those with it.
+-- A writer with known bytes has those of the archive so far, and after a failed delivery a proper part of those with it.
 abbrev pub HasWritten : Option (List ℕ) → Blocks → List (List ℕ) → List Delivery → List Delivery → Type 0
 HasWritten told store roots ds [] = told ≡ Some (archive_with store roots (kept ds))
 HasWritten told store roots ds (d ∷ more) = (bytes : List ℕ) × (told ≡ Some bytes) × IsProperPrefix bytes (archive_with store roots (kept (ds ++ d ∷ [])))
 
--- the number of the bytes that a writer tells
+-- the number of the bytes that a writer has, if they are known
 abbrev pub IsCountOf : ℕ → Option (List ℕ) → Type 0
 IsCountOf taken told = (bytes : List ℕ) → told ≡ Some bytes → taken ≡ at_most 64 (length bytes)
 
--- An archive over this store and job has written what it should, and counted it, where its writer told at first that it had no bytes.
+-- An archive over this store and job has written what it should, and counted it, if its writer had no bytes at first.
 pub record HasArchived {W : Type 0} (told : W → Option (List ℕ)) (a : ArchiveMeaning W) (store : Blocks) (job : JobMeaning) (first : Option (List ℕ)) : Type 0 where
   pub same_store : a.store ≡ store
   pub same_roots : a.roots ≡ job.roots
   pub written : first ≡ Some [] → HasWritten (told a.writer) store job.roots a.deliveries a.failed
   pub counted : first ≡ Some [] → IsCountOf a.taken (told a.writer)
 
--- an archive that was told nothing so far
+-- an archive with no delivery so far
 pub record IsBegun {W : Type 0} (a : ArchiveMeaning W) (store : Blocks) (roots : List (List ℕ)) : Type 0 where
   pub same_store : a.store ≡ store
   pub same_roots : a.roots ≡ roots

@@ -9,15 +9,16 @@ use Rattle.ix_archive.specs.Events.{Event, deliveries_of}
 use Rattle.ix_archive.specs.Archive.{archive_of}
 use Rattle.ix_archive.specs.ArchiveMeaning.{HasWritten}
 
--- the list begins so
+-- the list begins with this
 abbrev pub IsBeginning : List ℕ → List ℕ → Type 0
 IsBeginning a b = (more : List ℕ) × (a ++ more ≡ b)
 
--- a writer tells its bytes, and they begin these
+-- a writer's bytes are known, and begin these
 abbrev pub TellsBeginning : Option (List ℕ) → List ℕ → Type 0
 TellsBeginning told whole = (bytes : List ℕ) × (told ≡ Some bytes) × IsBeginning bytes whole
 
--- What an archive over the store and the job has written, where its writer tells its bytes: the whole archive at Done, and else its beginning.
+-- What an archive over the store and the job has written, if its writer's bytes are known: the whole archive at Done, and else
+-- its beginning.
 pub record IsArchived (store : Blocks) (number : ℕ) (job : JobMeaning) (end : End) (events : List Event) (failed : List Delivery) : Type 0 where
   pub whole : end ≡ Done → (told : Option (List ℕ)) → HasWritten told store job.roots (deliveries_of events) failed → told ≡ Some (archive_of store number job)
   pub beginning : (bytes : List ℕ) → HasWritten (Some bytes) store job.roots (deliveries_of events) failed → IsBeginning bytes (archive_of store number job)

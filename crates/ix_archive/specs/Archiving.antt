@@ -1,4 +1,4 @@
--- What an archive keeps beside its deliveries, and what one delivery does to it.
+-- What an archive keeps besides its deliveries, and what one delivery does to it.
 use Rattle.std.specs.Prelude.{◌≡◌, ℕ, ◌+◌, Bool, false, ◌&&◌, List, [], ◌∷◌, ◌++◌, length, Option, Some, None, Result, Ok, Err, if◌then◌else◌, bytes_eq}
 use Rattle.std.specs.List.{list_any}
 use Rattle.std.specs.Io.KnownBytes.{Appends}
@@ -17,11 +17,11 @@ use Rattle.ix_archive.specs.Archive.{is_sound, section_of}
 use Rattle.ix_archive.specs.ArchiveMeaning.{ArchiveMeaning, IsProperPrefix}
 use Rattle.ix_archive.specs.Report.{skips_of, at_most, counts_of}
 
--- where deliveries are cut behind all of them
+-- where deliveries are cut after all of these
 abbrev pub cut_behind : List Delivery → Option ℕ
 cut_behind = cut_after (λ d. d.visit.depth) (λ d. passes d.verdict) None
 
--- whether a delivery at this depth is cut off behind these
+-- whether a delivery at this depth is cut off after these
 abbrev pub is_cut_off : List Delivery → ℕ → Bool
 is_cut_off ds depth = is_below (cut_behind ds) depth
 
@@ -29,19 +29,19 @@ is_cut_off ds depth = is_below (cut_behind ds) depth
 abbrev pub is_told : List Delivery → List ℕ → Bool
 is_told ds c = list_any (λ d. is_sound d.verdict && bytes_eq d.visit.cid c) ds
 
--- where the block stands of the section that a kept delivery writes behind these kept ones
+-- the position of the block of the section that a kept delivery writes after these kept ones
 abbrev pub place_due : Blocks → List Delivery → Delivery → Option ℕ
 place_due store ks d = if is_sound d.verdict then (if is_told ks d.visit.cid then None else position_of store d.visit.cid) else None
 
--- what a kept delivery writes behind these kept ones
+-- what a kept delivery writes after these kept ones
 abbrev pub text_behind : Blocks → List Delivery → Delivery → List ℕ
 text_behind store ks d = if is_sound d.verdict then (if is_told ks d.visit.cid then [] else section_of store d) else []
 
--- what a delivery writes behind these
+-- what a delivery writes after these
 abbrev pub text_due : Blocks → List Delivery → Delivery → List ℕ
 text_due store ds d = if is_cut_off ds d.visit.depth then [] else text_behind store (kept ds) d
 
--- what an archive keeps, beside these deliveries, those at which a write failed, and the close
+-- what an archive keeps, besides these deliveries, those at which a write failed, and the close
 pub record IsTally (store : Blocks) (ds failed : List Delivery) (closed : List End) (cut : Option ℕ) (counts : Counts) (written : PlaceSet) (skips : List Skip) : Type 0 where
   pub cut_is : cut ≡ cut_behind ds
   pub counts_are : counts ≡ counts_of store ds counts.bytes
@@ -57,13 +57,13 @@ pub record HasTaken {W : Type 0} (told : W → Option (List ℕ)) (before after 
   pub grown : Appends (told before.writer) (told after.writer) text
   pub counted : after.taken ≡ at_most 64 (before.taken + length text)
 
--- a delivery was taken, and its text written
+-- a delivery was accepted, and its text written
 pub record IsAdded {W : Type 0} (told : W → Option (List ℕ)) (d : Delivery) (text : List ℕ) (before after : ArchiveMeaning W) : Type 0 where
   pub wrote : HasTaken told before after text
   pub deliveries : after.deliveries ≡ before.deliveries ++ d ∷ []
   pub failed : after.failed ≡ []
 
--- a delivery was refused, and a proper part of its text written
+-- a delivery was rejected, and a proper part of its text written
 pub record IsFailed {W : Type 0} (told : W → Option (List ℕ)) (d : Delivery) (text : List ℕ) (before after : ArchiveMeaning W) : Type 0 where
   pub part : List ℕ
   pub proper : IsProperPrefix part text
@@ -71,12 +71,12 @@ pub record IsFailed {W : Type 0} (told : W → Option (List ℕ)) (d : Delivery)
   pub deliveries : after.deliveries ≡ before.deliveries
   pub failed : after.failed ≡ d ∷ []
 
--- a delivery was refused for this fault
+-- a delivery was rejected with this error
 abbrev pub IsRefused : {W : Type 0} → (W → Option (List ℕ)) → Delivery → List ℕ → ArchiveMeaning W → SinkFault → ArchiveMeaning W → Type 0
 IsRefused told d text before Write after = IsFailed told d text before after
 IsRefused told d text before Memory after = after ≡ before
 
--- what a delivery with this text does to an archive, by its answer
+-- what a delivery with this text does to an archive, by its result
 abbrev pub IsDelivered : {W T : Type 0} → (W → Option (List ℕ)) → Delivery → List ℕ → ArchiveMeaning W → Result T SinkFault → ArchiveMeaning W → Type 0
 IsDelivered told d text before (Ok done) after = IsAdded told d text before after
 IsDelivered told d text before (Err fault) after = IsRefused told d text before fault after
@@ -89,7 +89,7 @@ IsDeliveredDue told d before result after = IsDelivered told d (text_due before.
 abbrev pub KeepsAt : {W : Type 0} → ArchiveMeaning W → ℕ → Type 0
 KeepsAt a depth = (a.failed ≡ []) × (is_cut_off a.deliveries depth ≡ false)
 
--- where the block stands of the section that a kept delivery writes into an archive
+-- the position of the block of the section that a kept delivery writes into an archive
 abbrev pub section_due : {W : Type 0} → ArchiveMeaning W → Delivery → Option ℕ
 section_due a d = place_due a.store (kept a.deliveries) d
 

@@ -1,4 +1,4 @@
--- What a sink was told.
+-- The calls of a sink, as events.
 use Rattle.std.specs.Prelude.{◌≡◌, List, [], ◌∷◌}
 use Rattle.ix_walk.specs.declared.visit.Visit.{Visit}
 use Rattle.ix_check.specs.declared.verdict.Verdict.{Verdict}
@@ -7,6 +7,7 @@ use Rattle.ix_archive.specs.declared.sink.End.{End}
 use Rattle.ix_archive.specs.declared.fault.SinkFault.{SinkFault}
 use Rattle.ix_archive.specs.declared.fault.SinkFault.TheVariants.{Write, Memory}
 
+-- a delivery that was accepted, or a close
 pub data Event : Type 0 where
   delivery : Delivery → Event
   close : End → Event
@@ -15,10 +16,11 @@ pub data Event : Type 0 where
 abbrev pub with_verdict : Visit → Verdict → Delivery
 with_verdict visit verdict = record { visit = visit; verdict = verdict }
 
+-- the event that it was accepted
 abbrev pub delivered : Visit → Verdict → Event
 delivered visit verdict = delivery (with_verdict visit verdict)
 
--- nothing was closed so far
+-- there was no close so far
 abbrev pub IsOpen : List Event → Type 0
 IsOpen [] = Unit {0}
 IsOpen (delivery d ∷ events) = IsOpen events
@@ -30,7 +32,7 @@ deliveries_of [] = []
 deliveries_of (delivery d ∷ events) = d ∷ deliveries_of events
 deliveries_of (close end ∷ events) = deliveries_of events
 
--- the refused delivery joins the failed ones where its write failed, and none does where memory ran out
+-- the rejected delivery is recorded as failed if its write failed, and not if memory ran out
 abbrev pub IsRefusal : SinkFault → Delivery → List Delivery → Type 0
 IsRefusal Write d failed = failed ≡ d ∷ []
 IsRefusal Memory d failed = failed ≡ []

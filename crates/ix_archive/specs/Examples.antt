@@ -23,11 +23,12 @@ three_sections = refl
 pub next_root : kept (at 0 0 88 Damaged ∷ at 1 1 97 Sound ∷ at 2 0 70 Sound ∷ at 3 1 97 Sound ∷ []) ≡ at 0 0 88 Damaged ∷ at 2 0 70 Sound ∷ at 3 1 97 Sound ∷ []
 next_root = refl
 
--- a damaged cycle: everything behind the first is cut off
+-- a damaged cycle: everything after the first is cut off
 pub cycle : kept (at 0 0 1 Damaged ∷ at 1 1 1 Damaged ∷ at 2 2 1 Damaged ∷ []) ≡ at 0 0 1 Damaged ∷ []
 cycle = refl
 
--- CIDs that hold their bytes: one is kept with what is below it, and has no section; below a damaged block it is cut off; beside one it ends the cut-off
+-- identity CIDs: one is kept with what is below it, and has no section; below a damaged block it is cut off; beside one it ends
+-- the cut
 pub inline : kept (at 0 0 70 Inline ∷ at 1 1 97 Sound ∷ []) ≡ at 0 0 70 Inline ∷ at 1 1 97 Sound ∷ []
 inline = refl
 

@@ -11,7 +11,7 @@ use Rattle.ix_archive.specs.Events.{Event, delivery}
 use Rattle.ix_archive.specs.Faithful.{IsFaithful}
 use Rattle.ix_archive.specs.Archived.{IsArchived}
 
--- a pair stands nowhere twice
+-- no pair occurs twice
 abbrev pub IsEachOnce : List (ℕ × ℕ) → Type 0
 IsEachOnce [] = Unit {0}
 IsEachOnce (p ∷ ps) = (Contains ps p → ⊥) × IsEachOnce ps
@@ -23,6 +23,7 @@ module _ {S : Type 0} (events : S → List Event) (failed : S → List Delivery)
   EachDelivered store n (j ∷ js) (e ∷ es) (s ∷ ss) = IsFaithful store n j e (events s) (failed s) × EachDelivered store (n + 1) js es ss
   EachDelivered store n js es ss = ⊥
 
+  -- job by job: the archive is that of the job, or a beginning of it
   abbrev pub EachArchived : Blocks → ℕ → List JobMeaning → List End → List S → Type 0
   EachArchived store n [] [] [] = Unit {0}
   EachArchived store n (j ∷ js) (e ∷ es) (s ∷ ss) = IsArchived store n j e (events s) (failed s) × EachArchived store (n + 1) js es ss
@@ -32,14 +33,15 @@ module _ {S : Type 0} (events : S → List Event) (failed : S → List Delivery)
   abbrev pub EachFresh : List S → Type 0
   EachFresh sinks = AllByRecursion (λ s. (events s ≡ []) × (failed s ≡ [])) sinks
 
--- what a sink may promise of itself for good: over a store, a job and the bytes that its writer told at first
+-- what a sink may guarantee of itself for good: over a store, a job and the bytes that its writer had at first
 abbrev pub Fact : Type 0 → Type 1
 Fact S = S → Blocks → JobMeaning → Option (List ℕ) → Type 0
 
--- what a sink promised before, it promises now
+-- what a sink guaranteed before, it guarantees now
 abbrev pub Keeps : {S : Type 0} → Fact S → S → S → Type 0
 Keeps fact s t = (store : Blocks) (job : JobMeaning) (first : Option (List ℕ)) → fact s store job first → fact t store job first
 
+-- sink by sink
 abbrev pub EachKept : {S : Type 0} → Fact S → List S → List S → Type 0
 EachKept fact [] [] = Unit {0}
 EachKept fact (s ∷ ss) (t ∷ ts) = Keeps fact s t × EachKept fact ss ts
@@ -53,27 +55,28 @@ IsUnusedCheck checked c = checked c ≡ []
 abbrev pub EachUnused : {C : Type 0} → (C → List (ℕ × ℕ)) → List C → Type 0
 EachUnused checked checks = AllByRecursion (λ c. IsUnusedCheck checked c) checks
 
--- the pairs that checks have checked, put together
+-- the pairs that checks have checked, one check after the other
 abbrev pub checked_by : {C : Type 0} → (C → List (ℕ × ℕ)) → List C → List (ℕ × ℕ)
 checked_by checked [] = []
 checked_by checked (c ∷ cs) = checked c ++ checked_by checked cs
 
--- the visits of the job with this number, or none where there is no such job
+-- the number of visits of the job with this number, or 0 if there is no such job
 abbrev pub visit_count : Blocks → List JobMeaning → ℕ → ℕ
 visit_count store jobs n = count (slice_get jobs n) where
   count : Option JobMeaning → ℕ
   count None = 0
   count (Some job) = length (visits_of store n job)
 
--- no job ended for want of memory or of threads
+-- no job ended for lack of memory or of threads
 abbrev pub AllWalked : List End → Type 0
 AllWalked ends = (Contains ends Memory → ⊥) × (Contains ends Start → ⊥)
 
--- the job with this number ended neither for want of memory nor of threads
+-- the job with this number ended neither for lack of memory nor of threads
 abbrev pub IsWalkedAt : List End → ℕ → Type 0
 IsWalkedAt ends job = (slice_get ends job ≡ Some Memory → ⊥) × (slice_get ends job ≡ Some Start → ⊥)
 
--- The pairs that were checked: none twice, each that of a visit, among them those of all deliveries, all of each job that was walked, and so all where every job was.
+-- The pairs that were checked: none twice, each that of a visit, among them those of all deliveries, all of each job that was
+-- walked, and so all if every job was.
 pub record IsCheckedOnce {S : Type 0} (events : S → List Event) (store : Blocks) (jobs : List JobMeaning) (ends : List End) (sinks : List S) (pairs : List (ℕ × ℕ)) : Type 0 where
   pub once : IsEachOnce pairs
   pub within : (job seq : ℕ) → Contains pairs (job, seq) → seq < visit_count store jobs job
@@ -81,10 +84,10 @@ pub record IsCheckedOnce {S : Type 0} (events : S → List Event) (store : Block
   pub every : (job seq : ℕ) → IsWalkedAt ends job → seq < visit_count store jobs job → Contains pairs (job, seq)
   pub all : AllWalked ends → (job seq : ℕ) → seq < visit_count store jobs job → Contains pairs (job, seq)
 
--- no job ended for want of threads
+-- no job ended for lack of threads
 abbrev pub NoneIsStart : List End → Type 0
 NoneIsStart ends = Contains ends Start → ⊥
 
--- no job ended for want of threads, or every job did
+-- no job ended for lack of threads, or every job did
 abbrev pub NoneOrAllStart : List End → Type 0
 NoneOrAllStart ends = NoneIsStart ends ⊎ All (λ end. end ≡ Start) ends

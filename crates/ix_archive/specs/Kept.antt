@@ -1,28 +1,29 @@
--- What is left of a preorder list when everything below what doesn't pass is cut off by depth.
+-- What remains of a preorder list when everything below an entry that isn't good is cut off by depth.
 use Rattle.std.specs.Prelude.{ℕ, Bool, false, List, [], ◌∷◌, Option, Some, None, nat_lt, if◌then◌else◌}
 use Rattle.ix_check.specs.Verdict.{passes}
 use Rattle.ix_archive.specs.declared.sink.Delivery.{Delivery}
 
--- deeper than what was cut at, if anything was
+-- deeper than the entry at which the list was cut, if it was
 abbrev pub is_below : Option ℕ → ℕ → Bool
 is_below None depth = false
 is_below (Some cut) depth = nat_lt cut depth
 
 module _ {X : Type 0} (depth : X → ℕ) (pass : X → Bool) where
-  -- what is cut behind an entry
+  -- the depth at which the list is cut after an entry: its own, unless it is good
   abbrev pub cut_at : X → Option ℕ
   cut_at x = if pass x then None else Some (depth x)
 
-  -- the entries that aren't cut off, behind one at which the list may be cut
+  -- the entries that aren't cut off, after one at which the list may be cut
   abbrev pub kept_behind : Option ℕ → List X → List X
   kept_behind cut [] = []
   kept_behind cut (x ∷ xs) = if is_below cut (depth x) then kept_behind cut xs else x ∷ kept_behind (cut_at x) xs
 
-  -- where the list is cut behind these entries
+  -- where the list is cut after these entries
   abbrev pub cut_after : Option ℕ → List X → Option ℕ
   cut_after cut [] = cut
   cut_after cut (x ∷ xs) = if is_below cut (depth x) then cut_after cut xs else cut_after (cut_at x) xs
 
+  -- the entries that aren't cut off
   abbrev pub kept_of : List X → List X
   kept_of = kept_behind None
 

@@ -32,23 +32,24 @@ KeptBeginsVerified =
     (store : Blocks) (number : ℕ) (job : JobMeaning)
     → (more : List Delivery) × (kept (judged_visits store number job) ++ more ≡ verified store number job)
 
--- the first delivery is kept, and behind it what is kept of the rest, or of the rest without its longest prefix of deeper ones
+-- the first delivery is kept, and after it what is kept of the rest, or of the rest without its longest prefix of deeper ones
 abbrev pub FirstIsKept : Type 0
 FirstIsKept =
     (d : Delivery) (ds : List Delivery) → kept (d ∷ ds) ≡ d ∷ (if passes d.verdict then kept ds else kept (without_deeper_than d ds))
 
--- the same job where a CID is gone into once, and where it is at every arrival
+-- the same job, which expands a CID once
 abbrev pub once : JobMeaning → JobMeaning
 once = going_in true
 
+-- and which expands it at every link
 abbrev pub every_time : JobMeaning → JobMeaning
 every_time = going_in false
 
--- the traversal of a job that goes into sound blocks alone, at every arrival, ends before so many links are crossed
+-- the traversal of a job that expands sound blocks only, at every link, ends before so many links are followed
 abbrev pub EndsVerified : Blocks → JobMeaning → ℕ → Type 0
 EndsVerified store job links = EndsBefore (is_entered job.selector) (sound_value store) links job.roots
 
--- its arrivals where at most so many links are crossed
+-- its visits if at most so many links are followed on a path
 abbrev pub sound_arrivals : Blocks → JobMeaning → ℕ → List Arrival
 sound_arrivals store job links = arrivals_from (is_entered job.selector) (sound_value store) links 0 job.roots
 
@@ -56,7 +57,7 @@ sound_arrivals store job links = arrivals_from (is_entered job.selector) (sound_
 abbrev pub section_cids : Blocks → ℕ → JobMeaning → List (List ℕ)
 section_cids store number job = map (λ d. d.visit.cid) (sections_of store (judged_visits store number job))
 
--- what it goes into are the CIDs with a good verdict
+-- what it expands are the CIDs with a good verdict
 abbrev pub GoodIsSound : Type 0
 GoodIsSound = (store : Blocks) (c : List ℕ) → only_passing (is_good store) (value_of store) c ≡ sound_value store c
 
@@ -66,7 +67,7 @@ OnceIsUncut =
     (store : Blocks) (number : ℕ) (job : JobMeaning) (m : ℕ)
     → kept (take m (judged_visits store number (once job))) ≡ take m (judged_visits store number (once job))
 
--- a job within its limit at every arrival is within it once
+-- a job within its limit at every link is within it with link-visit-once
 abbrev pub OnceIsWithin : Type 0
 OnceIsWithin =
     (store : Blocks) (job : JobMeaning) → is_over_limit store (every_time job) ≡ false → is_over_limit store (once job) ≡ false
@@ -77,7 +78,7 @@ OnceArchivesTheSame =
     (store : Blocks) (number : ℕ) (job : JobMeaning) → IsSelector job.selector → is_over_limit store (every_time job) ≡ false
     → archive_of store number (once job) ≡ archive_of store number (every_time job)
 
--- so it has where it is within its limit once, and the verified traversal ends
+-- so it has if it is within its limit with link-visit-once, and the verified traversal ends
 abbrev pub OnceArchivesTheEnded : Type 0
 OnceArchivesTheEnded =
     (store : Blocks) (number : ℕ) (job : JobMeaning) (links : ℕ) → IsSelector job.selector
@@ -91,14 +92,14 @@ OnceBeginsTheEnded =
     → (m : ℕ) → IsBeginning (archive_with store job.roots (take m (judged_visits store number (once job))))
     (archive_with store job.roots (map (judged store) (visits_from store number 0 (sound_arrivals store job links))))
 
--- its sections are those of the sound blocks that are reached, however many links are crossed
+-- its sections are those of the sound blocks that can be reached, however many links are followed
 abbrev pub OnceArchivesTheReached : Type 0
 OnceArchivesTheReached =
     (store : Blocks) (number : ℕ) (job : JobMeaning) → IsSelector job.selector → is_over_limit store (once job) ≡ false
     → (c : List ℕ) → (Contains (section_cids store number (once job)) c
     ↔ ((is_sound (verdict_of store c) ≡ true) × ((links : ℕ) × Contains (cids_of (sound_arrivals store job links)) c)))
 
--- the archive of a sink that was faithful to its job is that of the job where it was done, and else begins it
+-- the archive of a sink that was faithful to its job is that of the job if it was done, and else begins it
 abbrev pub FaithfulIsArchived : Type 0
 FaithfulIsArchived =
     (store : Blocks) (number : ℕ) (job : JobMeaning) (end : End) (events : List Event) (failed : List Delivery)

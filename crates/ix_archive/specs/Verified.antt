@@ -1,4 +1,4 @@
--- The verified traversal: it goes in only where the verdict is good.
+-- The verified traversal: it expands only what has a good verdict.
 use Rattle.std.specs.Prelude.{ℕ, ◌+◌, Bool, true, false, ◌&&◌, List, [], ◌∷◌, None, if◌then◌else◌, ◌==◌, bytes_eq, map}
 use Rattle.ix_selector.specs.Enters.{Step, key, nth, Path}
 use Rattle.ix_selector.specs.IsEntered.{is_entered}
@@ -10,7 +10,7 @@ use Rattle.ix_walk.specs.Visits.{believed, arrivals_of, visit_of, visits_from, v
 use Rattle.ix_check.specs.Verdict.{verdict_of, passes}
 use Rattle.ix_archive.specs.declared.sink.Delivery.{Delivery}
 
--- what passes alone is gone into
+-- only what passes is expanded
 abbrev pub only_passing : (List ℕ → Bool) → Inside → Inside
 only_passing pass inside c = if pass c then inside c else None
 
@@ -18,6 +18,7 @@ only_passing pass inside c = if pass c then inside c else None
 abbrev pub is_good : Blocks → List ℕ → Bool
 is_good store c = passes (verdict_of store c)
 
+-- the visits of the verified traversal
 abbrev pub verified_arrivals : Blocks → JobMeaning → List Arrival
 verified_arrivals store job = arrivals_from (is_entered job.selector) (only_passing (is_good store) (value_of store)) job.limit 0 job.roots
 
@@ -33,7 +34,7 @@ same_path [] (t ∷ q) = false
 same_path (t ∷ p) [] = false
 same_path (t ∷ p) (u ∷ q) = same_step t u && same_path p q
 
--- the number of the arrival with this root, path and depth
+-- the number of the visit with this root, path and depth
 abbrev pub number_among : ℕ → List Arrival → Arrival → ℕ
 number_among n [] a = n
 number_among n (b ∷ more) a = if (b.root == a.root) && (same_path b.path a.path && (b.depth == a.depth)) then n else number_among (n + 1) more a
@@ -42,16 +43,16 @@ number_among n (b ∷ more) a = if (b.root == a.root) && (same_path b.path a.pat
 abbrev pub judged : Blocks → Visit → Delivery
 judged store v = record { visit = v; verdict = verdict_of store v.cid }
 
--- the visits of all arrivals of a job with their verdicts
+-- all visits of a job with their verdicts, beyond its limit too
 abbrev pub all_judged : Blocks → ℕ → JobMeaning → List Delivery
 all_judged store number job = map (judged store) (visits_from store number 0 (arrivals_of store job))
 
--- The verified traversal of the job with this number: each visit has the number that it has among all arrivals. A job that
--- goes into a CID once does so only where the block is sound, so all its arrivals are verified.
+-- The verified traversal of the job with this number: each visit has its number among all visits. A job with link-visit-once
+-- expands sound blocks only, so all its visits are verified.
 abbrev pub verified : Blocks → ℕ → JobMeaning → List Delivery
 verified store number job =
     if job.once then all_judged store number job else map (λ a. judged store (visit_of store number (number_among 0 (believed store job) a) a)) (verified_arrivals store job)
 
--- all visits of a job with their verdicts
+-- the visits of a job with their verdicts, within its limit
 abbrev pub judged_visits : Blocks → ℕ → JobMeaning → List Delivery
 judged_visits store number job = map (judged store) (visits_of store number job)

@@ -1,5 +1,5 @@
-//! Archives (CARv1): a header with the roots of a job, and a section for each sound block at its first
-//! visit.
+//! Archives (CARv1): a header with the roots of a job, and a section for each sound block at its
+//! first visit.
 
 ghost use Rattle.std.specs.Prelude.{◌≡◌, ◌+◌, true, false, None, Some, [], IfOk, IfErr};
 ghost use Rattle.ix_check.specs.Verdict.{passes};
@@ -22,10 +22,10 @@ use std::io::Write;
 use std::marker::Model;
 use std::snapshot::Snapshot;
 
-// How many bytes of room an archive keeps of its header at most.
+// How many bytes of the header's buffer an archive keeps at most.
 const MOST_SCRATCH: usize = 4096;
 
-/// A visit that was kept and doesn't pass.
+/// A visit that was kept and isn't good.
 #[derive(Debug, Drop)]
 pub struct Skip {
     pub seq: u32,
@@ -33,10 +33,10 @@ pub struct Skip {
     pub verdict: Verdict,
 }
 
-/// What was counted; each count stops at the greatest number.
+/// Counts of deliveries, sections and bytes. Each saturates.
 #[derive(Debug, Drop, Clone, Copy, PartialEq, Eq)]
 pub struct Counts {
-    /// Deliveries that were taken.
+    /// Deliveries that were accepted.
     pub visits: u32,
     /// Deliveries that weren't cut off.
     pub kept: u32,
@@ -46,19 +46,19 @@ pub struct Counts {
     pub bytes: u64,
 }
 
-/// Takes the deliveries of a job, in preorder, and writes its archive.
+/// The sink that writes the CARv1 archive of a job, given its deliveries in preorder.
 ///
-/// Of the deliveries, those that follow one that doesn't pass at a greater depth, up to the next at
-/// that depth or less, are cut off: nothing is written or reported of them. The others are kept. A
-/// kept delivery that doesn't pass is a skip, each time that it comes. A kept sound one whose CID has
-/// no section yet writes one: the length of CID and block together as a varint, the CID, and the
-/// block as the archive's own store has it. Where the store has none, nothing is written, and that is
-/// no section. A CID that holds its bytes itself passes and has no section, also where the store has
-/// a block under it.
+/// A delivery is good if its verdict is Sound or Inline. After one that isn't, the deliveries at a
+/// greater depth, up to the next at that depth or less, are cut off: nothing is written or reported
+/// of them. The others are kept. A kept delivery that isn't good is a skip, each time that it
+/// comes. A kept sound one whose CID has no section yet writes one: the length of CID and block
+/// together as a varint, the CID, and the block as the archive's own store has it. If the store has
+/// none, nothing is written, and that is no section. An inline block (identity CID) is good and has
+/// no section, also if the store has a block under its CID.
 #[derive(Drop)]
 pub struct Archive<'a, W: Write> {
     store: &'a Store,
-    // The job and what was delivered. Contracts speak of these, and nothing else does.
+    // The job and what was delivered, for contracts only.
     job: Snapshot<Job>,
     deliveries: History<Delivery>,
     failed: Option<Delivery>,
@@ -66,10 +66,11 @@ pub struct Archive<'a, W: Write> {
     // The depth of the delivery below which the list is cut off.
     cut: Option<u32>,
     counts: Counts,
-    // Where the blocks that were written stand in the store; none any more once it is closed.
+    // The positions in the store of the blocks that were written; emptied when the archive is
+    // closed.
     written: PlaceSet,
     skips: Vec<Skip>,
-    // What stands before a section's block. Its room is kept from one section to the next.
+    // The bytes before a section's block. The buffer is kept from one section to the next.
     scratch: Vec<u8>,
     writer: W,
 }
@@ -87,9 +88,9 @@ impl<'a, W: Write> Model for Archive<'a, W> {
 }
 
 impl<'a, W: Write> Archive<'a, W> {
-    /// Begins the archive of a job over a store: its header is written, the length of a DAG-CBOR map
-    /// as a varint and the map, with `roots`, a list of a link to each root, and `version` 1. Where
-    /// that fails the writer is handed back.
+    /// Creates the archive of a job over a store and writes its header: the length of a DAG-CBOR
+    /// map as a varint and the map, with `roots`, a list of a link to each root, and `version` 1.
+    /// An error returns the writer.
     pub fn new(
         alloc: Global,
         store: &'a Store,
@@ -127,21 +128,21 @@ impl<'a, W: Write> Archive<'a, W> {
         })
     }
 
-    /// The visits that were kept and don't pass, in order.
+    /// The visits that were kept and aren't good, in order.
     pub fn skips(&self) -> &[Skip]
         ensures { result.now ≡ skips_of self.now.deliveries }
     {
         self.skips.as_slice()
     }
 
-    /// What was counted so far.
+    /// The counts so far.
     pub fn counts(&self) -> Counts
         ensures { result ≡ counts_in self.now }
     {
         self.counts
     }
 
-    /// The writer, the skips and the counts.
+    /// Returns the writer, the skips and the counts.
     pub fn into_parts(self) -> (W, Vec<Skip>, Counts)
         ensures writer { result.0 ≡ self.entry.writer }
         ensures skips { result.1.items ≡ skips_of self.entry.deliveries }
@@ -150,7 +151,7 @@ impl<'a, W: Write> Archive<'a, W> {
         (self.writer, self.skips, self.counts)
     }
 
-    // Takes a delivery: cut off, a skip, a section, or no more than counted.
+    // Accepts a delivery: cut off, a skip, a section, or just counted.
     fn take(&mut self, delivery: Delivery) -> Result<(), SinkFault>
         requires unfailed { self.old.failed ≡ [] }
         requires unclosed { self.old.closed ≡ [] }
@@ -182,8 +183,8 @@ impl<'a, W: Write> Archive<'a, W> {
         }
     }
 
-    // Where the block stands of the section that a kept delivery writes: none for a CID that has its
-    // section, has no block, or holds its bytes itself.
+    // Returns the position of the block of the section that a kept delivery writes: `None` for a
+    // CID that has its section, has no block, or is inline.
     fn place_due(&self, delivery: &Delivery) -> Option<usize>
         requires unfailed { self.now.failed ≡ [] }
         requires unclosed { self.now.closed ≡ [] }
@@ -209,7 +210,7 @@ impl<'a, W: Write> Archive<'a, W> {
         self.counts.visits = one_more(self.counts.visits);
     }
 
-    // Adds a kept delivery that doesn't pass.
+    // Adds a kept delivery that isn't good.
     fn add_skip(&mut self, delivery: Delivery) -> Result<(), SinkFault>
         requires kept { KeepsAt self.old delivery.visit.depth }
         requires refused { passes delivery.verdict ≡ false }
@@ -230,7 +231,7 @@ impl<'a, W: Write> Archive<'a, W> {
         Ok(())
     }
 
-    // Adds a kept delivery that passes and writes no section.
+    // Adds a kept delivery that is good and writes no section.
     fn add_without_section(&mut self, delivery: &Delivery)
         requires kept { KeepsAt self.old delivery.now.visit.depth }
         requires passing { passes delivery.now.verdict ≡ true }
@@ -243,7 +244,7 @@ impl<'a, W: Write> Archive<'a, W> {
         self.counts.kept = one_more(self.counts.kept);
     }
 
-    // Adds a kept delivery with its section, whose block stands at this place.
+    // Adds a kept delivery with its section, whose block is at this position.
     fn add_section(&mut self, delivery: Delivery, place: usize) -> Result<(), SinkFault>
         requires kept { KeepsAt self.old delivery.visit.depth }
         requires due { section_due self.old delivery ≡ Some place }
@@ -293,7 +294,8 @@ impl<'a, W: Write> Sink for Archive<'a, W> {
     }
 }
 
-// The scratch of an archive whose header was written: the header's room, unless its roots made it long.
+// Returns the scratch buffer of an archive whose header was written: the header's, unless many
+// roots made it long.
 fn scratch_of(alloc: Global, header: Vec<u8>) -> Vec<u8> {
     if header.capacity() > MOST_SCRATCH {
         Vec::new(alloc)
@@ -302,14 +304,14 @@ fn scratch_of(alloc: Global, header: Vec<u8>) -> Vec<u8> {
     }
 }
 
-// A count with one more, which stops at the greatest number.
+// Returns a count plus one; it saturates.
 fn one_more(count: u32) -> u32
     ensures { result ≡ at_most 32 (count + 1) }
 {
     count.saturating_add(1)
 }
 
-// Whether a block of this verdict has a section.
+// Whether a block with this verdict has a section.
 fn is_sound(verdict: Verdict) -> bool
     ensures { result ≡ is_sound verdict }
 {

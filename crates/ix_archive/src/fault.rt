@@ -1,19 +1,19 @@
-//! Why a delivery is refused, and why no archive could be begun.
+//! Why a delivery is rejected, and why an archive could not be created.
 
-/// Why a delivery was refused.
+/// Why a delivery was rejected.
 #[derive(Debug, Drop, Clone, Copy, PartialEq, Eq)]
 pub enum SinkFault {
-    /// A write failed. The sink takes nothing more than its close.
+    /// A write failed. The sink accepts nothing more but its close.
     Write,
-    /// No memory was left. The sink is as it was.
+    /// Out of memory. The sink is unchanged.
     Memory,
 }
 
-/// Why no archive could be begun; the writer is handed back.
+/// Why an archive could not be created. Each variant returns the writer.
 #[derive(Debug, Drop)]
 pub enum ArchiveNew<W> {
     /// The writer took a part of the header and failed.
     Write(W),
-    /// No memory was left, and no byte was written.
+    /// Out of memory; no byte was written.
     Memory(W),
 }

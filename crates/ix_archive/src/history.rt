@@ -1,4 +1,4 @@
-//! Lists that only contracts read.
+//! Ghost lists, which only contracts read.
 
 ghost use Rattle.std.specs.Prelude.{◌≡◌, [], ◌∷◌, ◌++◌};
 
@@ -6,14 +6,15 @@ use std::marker::Model;
 use std::mem;
 use std::snapshot::Snapshot;
 
-// What was noted: nothing, or an item behind what was noted before.
+// What was recorded: nothing, or an item after what was recorded before.
 #[derive(Drop)]
 enum Past<T> {
     Empty,
     More(Snapshot<Past<T>>, Snapshot<T>),
 }
 
-/// A list of items that only contracts read: it has no bytes, and noting an item keeps nothing of it.
+/// A list of items that only contracts read: it has no bytes, and recording an item keeps nothing
+/// of it.
 #[derive(Drop)]
 pub struct History<T> {
     past: Snapshot<Past<T>>,
@@ -29,7 +30,7 @@ impl<T> Model for History<T> {
 }
 
 impl<T> History<T> {
-    /// A history of nothing.
+    /// Creates an empty history.
     pub fn new() -> History<T>
         ensures { result ≡ [] }
     {
@@ -38,7 +39,7 @@ impl<T> History<T> {
         }
     }
 
-    /// Notes an item behind the others.
+    /// Appends an item.
     pub fn note(&mut self, item: &T)
         ensures { self.new ≡ self.old ++ item.now ∷ [] }
     {

@@ -1,7 +1,7 @@
 //! Sinks and archives.
 //!
-//! An archive is the sink of one job: it writes the header at once, then each sound block that it is
-//! told of, once, and leaves out what lies below a CID that doesn't pass. What it wrote, counted and
+//! An archive is the sink of one job: it writes the header at once, then each sound block that is
+//! delivered, once, and leaves out what is below a CID that isn't good. What it wrote, counted and
 //! skipped is what its deliveries call for.
 //!
 //! ```rust

@@ -11,17 +11,17 @@ use std::fmt;
 pub enum End {
     /// Every visit was delivered.
     Done,
-    /// As many visits were delivered as the job may have, and there are more.
+    /// As many visits were delivered as the link budget allows, and there are more.
     Limit,
-    /// No memory was left.
+    /// Out of memory.
     Memory,
-    /// A delivery was refused since a write failed.
+    /// A delivery was rejected since a write failed.
     Write,
-    /// The job was never begun.
+    /// The job was never started.
     Start,
 }
 
-/// The end as the report's word for it.
+/// Writes the end as the report's word for it.
 impl fmt::Display for End {
     ghost use Rattle.std.specs.Prelude.{Some};
     ghost use Rattle.ix_archive.specs.EndWords.{end_word};
@@ -46,12 +46,13 @@ pub struct Delivery {
     pub verdict: Verdict,
 }
 
-/// Takes the deliveries of one job in order, and then one close.
+/// A sink: accepts the deliveries of one job in order, and then one close.
 ///
-/// Contracts see what a sink was told as a list of events. A delivery that is refused is none of
-/// them. Where its write failed it is kept as the one that failed, and from then on only a close may
-/// come. What a sink promises of itself for good, as that an archive has written what it should, is
-/// its fact: it is about a store, a job and what its writer told at first, and no call breaks it.
+/// Contracts see the calls of a sink as a list of events. A delivery that is rejected is none of
+/// them. If its write failed it is recorded as the one that failed, and from then on only a close
+/// may come. The fact of a sink is what it guarantees of itself for good, such as that an archive
+/// has written what it should: it is about a store, a job and the bytes that its writer had at
+/// first, and no call breaks it.
 pub trait Sink {
     ghost use Rattle.std.specs.Prelude.{◌≡◌, ◌++◌, ◌∷◌, [], OnOk, OnErr, IfErr, List, ℕ, Option, Err};
     ghost use Rattle.ix_store.specs.Store.{Blocks};
@@ -61,19 +62,19 @@ pub trait Sink {
     ghost use Rattle.ix_archive.specs.Events.{Event, delivered, with_verdict, close as closing, IsOpen, IsRefusal};
     ghost use Rattle.ix_archive.specs.Headline.{Keeps};
 
-    /// The deliveries that were taken, and the close, in order.
+    /// The deliveries that were accepted, and the close, in order.
     ghost events: { Self → List Event };
 
     /// The deliveries at which a write failed.
     ghost failed: { Self → List Delivery };
 
-    /// What a sink promises of itself for good, over a store, a job and the bytes that its writer told
-    /// at first, if it tells any.
+    /// What a sink guarantees of itself for good, over a store, a job and the bytes that its writer
+    /// had at first, if they are known.
     ghost fact: { Self → Blocks → JobMeaning → Option (List ℕ) → Type 0 };
 
-    /// Takes a visit with its verdict, which is then the last event. It may be called until the close
-    /// and until a write fails. At an `Err` the events are as they were, and where memory ran out the
-    /// whole sink is.
+    /// Accepts a visit with its verdict, which is then the last event. It may be called until the
+    /// close and until a write fails. After an error the events are unchanged, and if memory ran
+    /// out so is the whole sink.
     fn deliver(&mut self, alloc: Global, visit: Visit, verdict: Verdict) -> Result<(), SinkFault>
         requires open { IsOpen (events self.old) }
         requires unfailed { failed self.old ≡ [] }
@@ -84,8 +85,8 @@ pub trait Sink {
         ensures memory { result ≡ Err Memory → self.new ≡ self.old }
         ensures kept { Keeps fact self.old self.new };
 
-    /// Tells how the job ended, which is the last event. It may be called once, after a failed write
-    /// too.
+    /// Closes the sink with the job's end, which is the last event. It may be called once, also
+    /// after a failed write.
     fn close(&mut self, end: End)
         requires { IsOpen (events self.old) }
         ensures closed { events self.new ≡ events self.old ++ closing end ∷ [] }

@@ -30,9 +30,11 @@ sections_behind-enough size (suc n) (suc m) so_far (x ∷ b) h k = on_read (sect
 abbrev pub ListGoesOn : ℕ → List SectionMeaning → List ℕ → Result (List SectionMeaning) Fault → Type 0
 ListGoesOn size so_far rest whole = (n : ℕ) → length rest ≤ n → sections_behind size n so_far rest ≡ whole
 
+-- before the first section the list is empty
 pub ListGoesOn-first : (size : ℕ) (b : List ℕ) → ListGoesOn size [] b (sections_behind size (length b) [] b)
 ListGoesOn-first size b n h = sections_behind-enough size n (length b) [] b h (omega arith)
 
+-- the loop's step: one more section
 pub ListGoesOn-more : (size : ℕ) (so_far : List SectionMeaning) (rest : List ℕ) (whole : Result (List SectionMeaning) Fault) (s : (List ℕ × List ℕ) × List ℕ)
     → 0 < length rest → section_at rest ≡ Ok s → ListGoesOn size so_far rest whole → ListGoesOn size (with_next size so_far rest s.0) s.1 whole
 unfolding sections_behind
@@ -42,6 +44,7 @@ ListGoesOn-more size so_far (x ∷ b) whole s some e goes_on n h =
     sections_behind-enough size n (length b) (with_next size so_far (x ∷ b) s.0) s.1 h (omega (arith, shorter))
     ∙ ap (λ read. read >>= (λ t. sections_behind size (length b) (with_next size so_far (x ∷ b) t.0) t.1)) (sym e) ∙ goes_on (suc (length b)) (omega arith)
 
+-- an error of a section is that of the file
 pub ListGoesOn-fails : (size : ℕ) (so_far : List SectionMeaning) (rest : List ℕ) (whole : Result (List SectionMeaning) Fault)
     → 0 < length rest → ListGoesOn size so_far rest whole → (f : Fault) → section_at rest ≡ Err f → whole ≡ Err f
 unfolding sections_behind
@@ -49,6 +52,7 @@ ListGoesOn-fails size so_far [] whole some goes_on f e = absurd (omega (arith, s
 ListGoesOn-fails size so_far (x ∷ b) whole some goes_on f e =
     sym (goes_on (suc (length b)) (omega arith)) ∙ ap (λ read. read >>= (λ t. sections_behind size (length b) (with_next size so_far (x ∷ b) t.0) t.1)) e
 
+-- at the end the list is complete
 pub ListGoesOn-last : (size : ℕ) (so_far : List SectionMeaning) (rest : List ℕ) (whole : Result (List SectionMeaning) Fault) → length rest ≡ 0 → ListGoesOn size so_far rest whole → whole ≡ Ok so_far
 unfolding sections_behind
 ListGoesOn-last size so_far [] whole none goes_on = sym (goes_on 0 (omega arith))

@@ -69,9 +69,11 @@ sections_at-enough (suc n) (suc m) store (x ∷ b) h k = on_read (section_at (x 
 abbrev pub GoesOn : Blocks → List ℕ → Result Blocks Fault → Type 0
 GoesOn store rest whole = (n : ℕ) → length rest ≤ n → sections_at n store rest ≡ whole
 
+-- before the first section the store is empty
 pub GoesOn-first : (b : List ℕ) → GoesOn [] b (sections_at (length b) [] b)
 GoesOn-first b n h = sections_at-enough n (length b) [] b h (omega arith)
 
+-- the loop's step: one more section
 pub GoesOn-more : (store : Blocks) (rest : List ℕ) (whole : Result Blocks Fault) (s : (List ℕ × List ℕ) × List ℕ) → 0 < length rest → section_at rest ≡ Ok s → GoesOn store rest whole → GoesOn (with_block store s.0) s.1 whole
 unfolding sections_at
 GoesOn-more store [] whole s some e so_far n h = absurd (omega (arith, some))
@@ -80,12 +82,14 @@ GoesOn-more store (x ∷ b) whole s some e so_far n h =
     sections_at-enough n (length b) (with_block store s.0) s.1 h (omega (arith, shorter))
     ∙ ap (λ read. read >>= (λ t. sections_at (length b) (with_block store t.0) t.1)) (sym e) ∙ so_far (suc (length b)) (omega arith)
 
+-- an error of a section is that of the file
 pub GoesOn-fails : (store : Blocks) (rest : List ℕ) (whole : Result Blocks Fault) → 0 < length rest → GoesOn store rest whole → (f : Fault) → section_at rest ≡ Err f → whole ≡ Err f
 unfolding sections_at
 GoesOn-fails store [] whole some so_far f e = absurd (omega (arith, some))
 GoesOn-fails store (x ∷ b) whole some so_far f e =
     sym (so_far (suc (length b)) (omega arith)) ∙ ap (λ read. read >>= (λ t. sections_at (length b) (with_block store t.0) t.1)) e
 
+-- at the end the store is complete
 pub GoesOn-last : (store : Blocks) (rest : List ℕ) (whole : Result Blocks Fault) → length rest ≡ 0 → GoesOn store rest whole → whole ≡ Ok store
 unfolding sections_at
 GoesOn-last store [] whole none so_far = sym (so_far 0 (omega arith))

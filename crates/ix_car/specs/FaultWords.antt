@@ -4,6 +4,7 @@ use Rattle.std.specs.Fmt.{signed_decimal}
 use Rattle.ix_car.specs.declared.fault.CarKind.{CarKind}
 use Rattle.ix_car.specs.declared.fault.CarKind.TheVariants.{Truncated, Varint, Header, Version, SectionCid, Memory}
 
+-- the words for an error, in ASCII
 abbrev pub fault_words : CarKind → List ℕ
 fault_words Truncated = codes "truncated"
 fault_words Varint = codes "varint"

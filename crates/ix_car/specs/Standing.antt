@@ -1,29 +1,29 @@
--- What stands at bytes inside a block that is read: data, and the members of a list or map.
+-- What is at bytes inside a block that is read: data, and the elements of a list or entries of a map.
 use Rattle.std.specs.Prelude.{◌≡◌, ℕ, ℤ, Bool, true, false, List, [], ◌∷◌, Option, Some, None, Ok}
 use Rattle.std.specs.Borrow.{Bor}
 use Rattle.ix_cbor.specs.Data.{Data, Items, Entries, integer, list, map, link}
 use Rattle.ix_cbor.specs.Reading.{Own, leaf, list_of, map_of, item_at, items_at, entries_at}
 
--- the bytes begin with an item that is the data, inside which lists and maps nest at most n deep
+-- the bytes begin with an item that is the data, in which lists and maps nest at most n deep
 abbrev pub StandsAt : ℕ → List ℕ → Data → Type 0
 StandsAt n b d = (rest : List ℕ) × (item_at n b ≡ Ok (d, rest))
 
--- the bytes begin with so many keys and values of a block's map
+-- the bytes begin with so many entries of a block's map
 abbrev pub EntriesStandAt : ℕ → List ℕ → Entries → Type 0
 EntriesStandAt count b es = (rest : List ℕ) × (entries_at (item_at 511) None count b ≡ Ok (es, rest))
 
--- the bytes begin with so many members of a list in a block's map
+-- the bytes begin with so many elements of a list in a block's map
 abbrev pub MembersStandAt : ℕ → List ℕ → Items → Type 0
 MembersStandAt count b ds = (rest : List ℕ) × (items_at (item_at 510) count b ≡ Ok (ds, rest))
 
--- the value in a block's map stands at the bytes, or there is neither
+-- the value in a block's map is at the bytes, or there is neither
 abbrev pub ValueStandsAt : Option (Bor (List ℕ)) → Option Data → Type 0
 ValueStandsAt (Some b) (Some d) = StandsAt 511 b.now d
 ValueStandsAt (Some b) None = ⊥
 ValueStandsAt None (Some d) = ⊥
 ValueStandsAt None None = Unit {0}
 
--- the count of a map and the bytes of its keys and values, or none of data that is no map
+-- the count of a map and the bytes of its entries, or none for data that is not a map
 abbrev pub IsMapAt : Option (ℕ × Bor (List ℕ)) → Data → Type 0
 IsMapAt (Some m) (map es) = EntriesStandAt m.0 m.1.now es
 IsMapAt (Some m) other = ⊥
@@ -47,10 +47,12 @@ abbrev pub own_integer : Own → Option ℤ
 own_integer (leaf d) = integer_in (Some d)
 own_integer other = None
 
+-- the count of a map, by an item's own head
 abbrev pub own_map : Own → Option ℕ
 own_map (map_of n) = Some n
 own_map other = None
 
+-- the count of a list
 abbrev pub own_list : Own → Option ℕ
 own_list (list_of n) = Some n
 own_list other = None

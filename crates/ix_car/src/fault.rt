@@ -1,4 +1,4 @@
-//! Why a file is refused.
+//! Why a file is rejected.
 
 use std::fmt;
 
@@ -7,23 +7,24 @@ use std::fmt;
 pub enum CarKind {
     /// The file ends inside a varint, the header or a section.
     Truncated,
-    /// A length is no varint.
+    /// A length isn't a valid varint.
     Varint,
-    /// The header is no map with an integer `version` and a list of links `roots`.
+    /// The header isn't a map with an integer `version` and a list of links `roots`.
     Header,
-    /// The header has this version in place of 1.
+    /// The header has this version instead of 1.
     Version(i128),
-    /// A section does not begin with a CID.
+    /// A section doesn't begin with a CID.
     SectionCid,
-    /// No memory was left.
+    /// Out of memory.
     Memory,
 }
 
-/// Why a file is refused, and where: the place of the length of the header or section in question.
+/// Why a file is rejected, and where: the offset of the length of the header or section in
+/// question.
 #[derive(Debug, Drop, Clone, Copy, PartialEq, Eq)]
 pub struct CarFault {
     pub kind: CarKind,
-    /// In bytes from the front of the file.
+    /// The offset in bytes from the start of the file.
     pub place: usize,
 }
 

@@ -1,7 +1,7 @@
 //! CARv1 files.
 //!
-//! A CARv1 file is read as its blocks or its sections, or refused with the first fault and its place;
-//! and the texts are made of which one is written: its header, and the head of each section.
+//! A CARv1 file is read as its blocks or its sections, or rejected with the first error and its
+//! offset. To write one, its header and the head of each section are made here.
 //!
 //! ```rust
 //! let store = read_car(alloc, file)?;

@@ -20,21 +20,23 @@ pub use sections::{CarFile, Section, read_sections};
 use std::alloc::Global;
 use std::sync::Arc;
 
-/// The blocks of a CARv1 file (a header, then sections of a CID and a block) under their CIDs, in the
-/// order of the sections, or the file's first fault.
+/// Reads the blocks of a CARv1 file (a header, then sections of a CID and a block) under their
+/// CIDs, in the order of the sections, or returns the file's first error.
 ///
-/// The header is read first, and then each section in turn. The place of a fault is that of the
-/// length of the header or section in question, also for `Truncated` and `Memory`, or the end of the file where
-/// `Memory` is met behind all sections. In this order a header or section is refused:
-/// - its length ends early: `Truncated`; is no varint: `Varint`; is above what is left: `Truncated`;
-/// - a header is no DAG-CBOR map, or has no integer `version`: `Header`; the version is not 1:
-///   `Version`; `roots` is absent or no list of links: `Header`;
-/// - a section does not begin with a CID: `SectionCid`.
+/// The header is read first, and then each section in turn. The offset of an error is that of the
+/// length of the header or section in question, also for `Truncated` and `Memory`, or the end of
+/// the file if memory runs out after all sections. The errors of a header or section, in this
+/// order:
+/// - its length ends early: `Truncated`; isn't a varint: `Varint`; is above what is left:
+///   `Truncated`;
+/// - a header isn't a DAG-CBOR map, or has no integer `version`: `Header`; the version isn't 1:
+///   `Version`; `roots` is absent or isn't a list of links: `Header`;
+/// - a section doesn't begin with a CID: `SectionCid`.
 ///
-/// Any number of roots is read, none included, and other keys of the header are ignored. Of
-/// sections with one CID the first counts, whatever the bytes: the later ones are read to their end
-/// and left out. The file is copied once and read once. The store is settled: what is found of a block is kept
-/// with it.
+/// Any number of roots is read, even none, and other keys of the header are ignored. Of sections
+/// with one CID the first counts, whatever the bytes: the later ones are read to their end and
+/// dropped. The file is copied once and read once. The store is settled: it caches what is found of
+/// a block.
 pub fn read_car(alloc: Global, bytes: &[u8]) -> Result<Store, CarFault>
     ensures { Gives (λ store. store) bytes.now result (blocks_of bytes.now) }
 {
@@ -47,8 +49,8 @@ pub fn read_car(alloc: Global, bytes: &[u8]) -> Result<Store, CarFault>
     }
 }
 
-/// The blocks of a CARv1 file as `read_car` reads them, where the store takes over the file's bytes: each block
-/// stays where it lies in them, and none is copied.
+/// Reads the blocks of a CARv1 file as `read_car` does. The store takes over the file's bytes: each
+/// block stays in place, and none is copied.
 pub fn load_car(alloc: Global, bytes: Vec<u8>) -> Result<Store, CarFault>
     ensures { Gives (λ store. store) bytes.items result (blocks_of bytes.items) }
 {
@@ -68,7 +70,7 @@ pub fn load_car(alloc: Global, bytes: Vec<u8>) -> Result<Store, CarFault>
     }
 }
 
-// The blocks of a file, of which what is found will be kept.
+// Reads the blocks of a file into a settled store.
 fn store_of_file(alloc: Global, file: &Arc<Vec<u8>>) -> Result<Store, FaultAt>
     ensures { ReadsFrom (λ store. store) blocks_of (arc_value file.now).items result }
 {
@@ -83,7 +85,7 @@ fn store_of_file(alloc: Global, file: &Arc<Vec<u8>>) -> Result<Store, FaultAt>
     Ok(store)
 }
 
-// The blocks of the sections at the end of a file.
+// Reads the blocks of the sections at the end of a file.
 fn store_of_sections(alloc: Global, file: &Arc<Vec<u8>>, sections: &[u8]) -> Result<Store, FaultAt>
     requires { IsEnd sections.now (arc_value file.now).items }
     ensures { ReadsFrom (λ store. store) blocks_in sections.now result }

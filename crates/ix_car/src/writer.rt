@@ -1,4 +1,4 @@
-//! The bytes of an archive: its header, the heads of its sections, and how a text is written.
+//! The bytes of an archive: its header, the heads of its sections, and how bytes are written.
 
 ghost use Rattle.std.specs.Prelude.{◌≡◌, ◌≤◌, ◌+◌, ◌++◌, length, take, IfOk, OnOk};
 ghost use Rattle.std.specs.Io.KnownBytes.{Appends};
@@ -12,7 +12,7 @@ use ix_cid::{Cid, push_varint};
 use std::alloc::{AllocError, Global};
 use std::io::Write;
 
-/// The header that names these roots, with its length before it.
+/// Returns the header that names these roots, with its length before it.
 pub fn header_of(alloc: Global, roots: &[Cid]) -> Result<Vec<u8>, AllocError>
     ensures { IfOk result (λ header. header.items ≡ header_of roots.now) }
 {
@@ -23,7 +23,7 @@ pub fn header_of(alloc: Global, roots: &[Cid]) -> Result<Vec<u8>, AllocError>
     Ok(header)
 }
 
-// The DAG-CBOR of a header: `roots` with a link to each, and the `version` 1.
+// Returns the DAG-CBOR of a header: `roots` with a link to each, and the `version` 1.
 fn header_text(alloc: Global, roots: &[Cid]) -> Result<Vec<u8>, AllocError>
     ensures { IfOk result (λ text. text.items ≡ spelling_of (header_data roots.now)) }
 {
@@ -34,7 +34,7 @@ fn header_text(alloc: Global, roots: &[Cid]) -> Result<Vec<u8>, AllocError>
     Ok(text)
 }
 
-// The spelling of a list of links.
+// Appends the DAG-CBOR of a list of links.
 fn push_links(out: &mut Vec<u8>, cids: &[Cid]) -> Result<(), AllocError>
     ensures { OnOk result (out.new.items ≡ out.old.items ++ spelling_of (list (links_to cids.now))) }
 {
@@ -45,8 +45,8 @@ fn push_links(out: &mut Vec<u8>, cids: &[Cid]) -> Result<(), AllocError>
     Ok(())
 }
 
-/// Puts what stands before a section's block in place of what the text had: the length of CID and
-/// block together, and the CID.
+/// Replaces the text by what is before a section's block: the length of CID and block together, and
+/// the CID.
 pub fn set_section_head(text: &mut Vec<u8>, cid: &Cid, block: &[u8]) -> Result<(), AllocError>
     ensures { OnOk result (text.new.items ≡ varint_of (length (cid.now ++ block.now)) ++ cid.now) }
 {
@@ -61,7 +61,7 @@ pub fn set_section_head(text: &mut Vec<u8>, cid: &Cid, block: &[u8]) -> Result<(
     text.extend_from_slice(cid)
 }
 
-/// Writes a section, and says how many of its bytes the writer took.
+/// Writes a section, and returns how many of its bytes the writer took.
 pub fn write_section<W: Write>(writer: &mut W, head: &[u8], block: &[u8]) -> usize
     ensures within { result ≤ length head.now + length block.now }
     ensures grown { Appends (W.contents writer.old) (W.contents writer.new)
@@ -74,8 +74,8 @@ pub fn write_section<W: Write>(writer: &mut W, head: &[u8], block: &[u8]) -> usi
     taken + write_text(writer, block)
 }
 
-/// Writes a text from its front, and says how many of its bytes the writer took. It stops at a write
-/// that fails, of whatever kind the failure is, and at one that takes no byte.
+/// Writes bytes from their start, and returns how many of them the writer took. It stops at a write
+/// that fails, for whatever reason, and at one that takes no byte.
 pub fn write_text<W: Write>(writer: &mut W, text: &[u8]) -> usize
     ensures within { result ≤ length text.now }
     ensures grown { Appends (W.contents writer.old) (W.contents writer.new) (take result text.now) }

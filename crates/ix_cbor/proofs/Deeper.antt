@@ -11,6 +11,7 @@ abbrev pub IsAlso : Parse Data → Parse Data → Type 0
 IsAlso read other = (b : List ℕ) (x : Data × List ℕ) → read b ≡ Ok x → other b ≡ Ok x
 
 module _ (read other : Parse Data) (also : IsAlso read other) where
+  -- what reads elements also reads them with a deeper reader
   pub items_also : (count : ℕ) (b : List ℕ) (x : Items × List ℕ) → items_at read count b ≡ Ok x → items_at other count b ≡ Ok x
   items_also zero b x e = e
   items_also (suc count) b x e =
@@ -18,6 +19,7 @@ module _ (read other : Parse Data) (also : IsAlso read other) where
       let m = bind_ok (items_at read count a.0.1) (with_item a.0.0) x a.2 in
       ap (λ r. r >>= items_behind other count) (also b a.0 a.1) ∙ ap (λ r. r >>= with_item a.0.0) (items_also count a.0.1 m.0 m.1) ∙ m.2
 
+  -- and so it is for entries
   pub entries_also : (before : Option (List ℕ)) (count : ℕ) (b : List ℕ) (x : Entries × List ℕ) → entries_at read before count b ≡ Ok x → entries_at other before count b ≡ Ok x
   entries_also before zero b x e = e
   entries_also before (suc count) b x e =
@@ -27,6 +29,7 @@ module _ (read other : Parse Data) (also : IsAlso read other) where
       ap (λ r. r >>= value_behind other count) k.1 ∙ ap (λ r. r >>= entries_behind other count k.0.0) (also k.0.1 a.0 a.1)
       ∙ ap (λ r. r >>= with_entry k.0.0 a.0.0) (entries_also (Some k.0.0) count a.0.1 m.0 m.1) ∙ m.2
 
+  -- and for whatever an item has inside
   members_also : (own : Own) (b behind : List ℕ) (x : Data × List ℕ) → with_members (Some read) b (own, behind) ≡ Ok x → with_members (Some other) b (own, behind) ≡ Ok x
   members_also (leaf d) b behind x e = e
   members_also (list_of count) b behind x e =
@@ -34,6 +37,7 @@ module _ (read other : Parse Data) (also : IsAlso read other) where
   members_also (map_of count) b behind x e =
       let m = bind_ok (entries_at read None count behind) as_map x e in ap (λ r. r >>= as_map) (entries_also None count behind m.0 m.1) ∙ m.2
 
+  -- so it is for items, level by level
   item_also : IsAlso (item_with (Some read)) (item_with (Some other))
   item_also b x e =
       let a = bind_ok (own_at b) (with_members (Some read) b) x e in
@@ -45,6 +49,7 @@ alone_also read (leaf d) b behind x e = e
 alone_also read (list_of count) b behind x e = no_ok _ x e
 alone_also read (map_of count) b behind x e = no_ok _ x e
 
+-- what is read where no list or map is allowed is read where one is
 none_also : (read : Parse Data) → IsAlso (item_with None) (item_with (Some read))
 none_also read b x e =
     let a = bind_ok (own_at b) (with_members None b) x e in

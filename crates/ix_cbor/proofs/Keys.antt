@@ -62,6 +62,7 @@ rises_at (Some before) k d es h = ap is_lt h
 pub key_total : IsTotalOrder key_cmp
 key_total = then_total (on_total length nat_cmp_total) nat_list_cmp_total
 
+-- an order by two keys is equal only if the second is
 second_equal : (o q : Ordering) → ordering_then o q ≡ Equal → q ≡ Equal
 second_equal Less q h = absurd cc
 second_equal Equal q h = h
@@ -71,5 +72,6 @@ second_equal Greater q h = absurd cc
 pub key_exact : (a b : List ℕ) → key_cmp a b ≡ Equal → a ≡ b
 key_exact a b h = exact_bytes a b (second_equal _ _ h)
 
+-- an ordering isn't both
 pub less_not_equal : Less ≡ Equal → ⊥
 less_not_equal e = cc

@@ -23,6 +23,7 @@ past_item : (d : Data) (r : Result (Items × List ℕ) Fault) → (r >>= with_it
 past_item d (Ok x) = refl
 past_item d (Err f) = refl
 
+-- skipping an entry and the rest is skipping the rest
 past_entry : (k : List ℕ) (d : Data) (r : Result (Entries × List ℕ) Fault) → (r >>= with_entry k d >>= behind) ≡ (r >>= behind)
 past_entry k d (Ok x) = refl
 past_entry k d (Err f) = refl

@@ -8,12 +8,12 @@ pub record Fits (n : ℕ) (d : Data) : Type 0 where
   pub parts : IsSpellable d
   pub nesting : nesting_of d ≤ n
 
--- so does each member
+-- so does each element
 pub record ItemsFit (n : ℕ) (ds : Items) : Type 0 where
   pub parts : AreSpellable ds
   pub nesting : items_nesting ds ≤ n
 
--- the first key rises above a key or none
+-- the first key is above a key or none
 abbrev pub RisesAbove : Option (List ℕ) → Entries → Type 0
 RisesAbove None es = Unit {0}
 RisesAbove (Some before) es = Rises before es

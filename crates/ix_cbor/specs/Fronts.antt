@@ -1,4 +1,4 @@
--- What the readings that build no tree answer.
+-- What the readings that build no tree return.
 use Rattle.std.specs.Prelude.{◌≡◌, ℕ, ◌-◌, ◌≤◌, List, length, Result, Ok, Err}
 use Rattle.ix_cid.specs.Cid.{IsCid}
 use Rattle.ix_cbor.specs.declared.fault.CborFault.{CborFault}
@@ -19,19 +19,19 @@ own_of_front (Link c) = leaf (link c.now)
 own_of_front (ListOf n) = list_of n
 own_of_front (Map n) = map_of n
 
--- the bytes behind what is read
+-- the bytes after what is read
 abbrev pub behind : {A : Type 0} → A × List ℕ → Result (List ℕ) Fault
 behind x = Ok x.1
 
--- the bytes behind an item inside which lists and maps may nest n deep, or its first fault
+-- the bytes after an item in which lists and maps may nest n deep, or its first error
 abbrev pub behind_item : ℕ → List ℕ → Result (List ℕ) Fault
 behind_item n b = item_at n b >>= behind
 
--- whether a block decodes, or its first fault
+-- whether a block decodes, or its first error
 abbrev pub judged : List ℕ → Result (Unit {0}) Fault
 judged b = decoded b >>= (λ d. Ok tt)
 
--- the answer to these bytes, seen by view, is what the definition gives; a place is counted from the front
+-- the result for these bytes, seen by view, is what the definition gives; an offset is counted from the start
 abbrev pub Answers : {X A : Type 0} → (X → A) → List ℕ → Result X CborFault → Result A Fault → Type 0
 Answers view b (Ok x) meant = meant ≡ Ok (view x)
 Answers view b (Err e) meant = (e.place ≤ length b) × (meant ≡ Err (record { kind = e.kind; left = length b - e.place }))

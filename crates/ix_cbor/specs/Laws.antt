@@ -1,4 +1,4 @@
--- What the laws say of spellings and first faults.
+-- What the laws say of spellings and first errors.
 use Rattle.std.specs.Prelude.{◌≡◌, ◌↔◌, ◌⊎◌, ℕ, List, [], ◌++◌, Some, Ok, Err}
 use Rattle.ix_cid.specs.Bytes.{AreBytes}
 use Rattle.ix_cbor.specs.Data.{Data}
@@ -24,7 +24,7 @@ abbrev pub BeginsOnlyItself : Type 0
 BeginsOnlyItself =
     (d e : Data) (rest : List ℕ) → IsCanonical d → IsCanonical e → spelling_of e ≡ spelling_of d ++ rest → d ≡ e
 
--- data are read exactly where the bytes spell them
+-- data are read exactly if the bytes spell them
 abbrev pub DecodesWhatIsSpelled : Type 0
 DecodesWhatIsSpelled = (b : List ℕ) (d : Data) → AreBytes b → (decoded b ≡ Ok d ↔ Spells b d)
 
@@ -32,19 +32,19 @@ DecodesWhatIsSpelled = (b : List ℕ) (d : Data) → AreBytes b → (decoded b �
 abbrev pub FindsWhatIsSpelled : Type 0
 FindsWhatIsSpelled = (b : List ℕ) (d : Data) → AreBytes b → (data_at b ≡ Some d ↔ Spells b d)
 
--- a fault is answered exactly where it is the first one
+-- an error is returned exactly if it is the first one
 abbrev pub FailsAtFirstFault : Type 0
 FailsAtFirstFault = (b : List ℕ) (f : Fault) → AreBytes b → (decoded b ≡ Err f ↔ FirstFault b f)
 
--- no two faults are the first one
+-- no two errors are the first one
 abbrev pub HasOneFirstFault : Type 0
 HasOneFirstFault = (b : List ℕ) (f g : Fault) → FirstFault b f → FirstFault b g → f ≡ g
 
--- bytes that spell data have no fault
+-- bytes that spell data have no error
 abbrev pub NoFaultIfSpelled : Type 0
 NoFaultIfSpelled = (b : List ℕ) (d : Data) (f : Fault) → Spells b d → ¬ FirstFault b f
 
--- bytes spell data or have a first fault
+-- bytes spell data or have a first error
 abbrev pub IsSpelledOrFaulty : Type 0
 IsSpelledOrFaulty = (b : List ℕ) → AreBytes b → ((d : Data) × Spells b d) ⊎ ((f : Fault) × FirstFault b f)
 

@@ -3,6 +3,7 @@ use Rattle.std.specs.Prelude.{ℕ}
 use Rattle.ix_cbor.specs.declared.major.Major.{Major}
 use Rattle.ix_cbor.specs.declared.major.Major.TheVariants.{Unsigned, Negative, Bytes, Text, List, Map, Tag, Simple}
 
+-- the major type's number
 abbrev pub number_of : Major → ℕ
 number_of Unsigned = 0
 number_of Negative = 1

@@ -1,4 +1,4 @@
-//! Which nodes have a spelling.
+//! Which nodes have a DAG-CBOR spelling.
 
 ghost use Rattle.std.specs.Prelude.{◌≢◌, ◌↔◌, ◌+◌, ◌/◌, ◌%◌, ◌^◌, ◌<◌, IsTrue, None, length};
 ghost use Rattle.ix_cbor.specs.Data.{data_of, integer, node_items, node_entries};
@@ -18,21 +18,21 @@ pub(crate) fn is_canonical(node: &Node) -> bool
     fits(node, LEVELS)
 }
 
-// Whether it is an argument of 64 bits, or -1 less one.
+// Whether it is an argument of 64 bits, or -1 minus one.
 fn is_int(n: i128) -> bool
     ensures { IsTrue result ↔ IsSpellable (integer n) }
 {
     n >= -(1 << 64) && n < 1 << 64
 }
 
-// Whether the eleven bits below the sign aren't all ones.
+// Whether the float is finite: the eleven exponent bits aren't all ones.
 pub(crate) fn is_finite(bits: u64) -> bool
     ensures { IsTrue result ↔ (bits / 2 ^ 52 % 2 ^ 11 ≢ 2047) }
 {
     (bits >> 52) % (1 << 11) != 2047
 }
 
-// Whether the length of these bytes, with so many more before them, is an argument of 64 bits.
+// Whether the length of these bytes plus `more` is an argument of 64 bits.
 fn has_room(bytes: &[u8], more: usize) -> bool
     ensures { IsTrue result ↔ (length bytes.now + more < 2 ^ 64) }
 {
@@ -55,7 +55,7 @@ fn fits(node: &Node, levels: u32) -> bool
     }
 }
 
-// The same of members.
+// Does the same for elements.
 #[cycle(fits)]
 fn members_fit(members: &[Node], levels: u32) -> bool
     ensures { IsTrue result ↔ ItemsFit levels (node_items members.now) }
@@ -68,7 +68,7 @@ fn members_fit(members: &[Node], levels: u32) -> bool
     true
 }
 
-// The same of keys and values, where each key rises above the one before it.
+// Does the same for entries, where each key is above the one before it.
 #[cycle(fits)]
 fn entries_fit(entries: &[(Vec<u8>, Node)], levels: u32) -> bool
     ensures { IsTrue result ↔ EntriesFit levels None (node_entries entries.now) }

@@ -1,4 +1,4 @@
-//! Blocks to trees, and back.
+//! Decoding blocks to trees, and encoding trees.
 
 ghost use Rattle.std.specs.Prelude.{◌≡◌, IfOk, IfErr, Ok};
 ghost use Rattle.ix_cbor.specs.Data.{Data, data_of};
@@ -15,7 +15,7 @@ use crate::tree::Tree;
 use crate::write::push_item;
 use std::alloc::{AllocError, Global};
 
-// The one item that is all of the bytes.
+// Reads the item that is all of the bytes.
 fn whole(alloc: Global, bytes: &[u8]) -> Result<Node, PlacedFault>
     ensures { ReadsOrRunsOut (λ n. data_of n) result (decoded bytes.now) }
 {
@@ -26,7 +26,7 @@ fn whole(alloc: Global, bytes: &[u8]) -> Result<Node, PlacedFault>
     Ok(node)
 }
 
-// The fault of a block of that length, its place counted from the front.
+// Returns the error of a block of that length, its offset counted from the start.
 fn fault_of(fault: PlacedFault, length: usize) -> CborFault
     requires { LiesWithin fault.kind fault.left length }
     ensures kind { result.kind ≡ fault.kind }
@@ -42,9 +42,12 @@ fn fault_of(fault: PlacedFault, length: usize) -> CborFault
     }
 }
 
-/// The tree that a block spells (DAG-CBOR, RFC 8949), or the first fault from the left. The place of
-/// a fault is that of the first byte of the item or key meant, for `Truncated` the length of the block,
-/// for `Rest` that of the first byte behind the item, and for `Memory` 0.
+/// Decodes a block to the tree that it spells (DAG-CBOR, RFC 8949), or returns its first error from
+/// the left.
+///
+/// The offset of an error is that of the first byte of the item or key concerned; for `Truncated`
+/// it is the length of the block, for `Rest` that of the first byte after the item, and for
+/// `Memory` 0.
 pub fn decode(alloc: Global, bytes: &[u8]) -> Result<Tree, CborFault>
     ensures found { IfOk result (λ t. Spells bytes.now t) }
     ensures only { (d : Data) → Spells bytes.now d → Gives (λ t. t) bytes.now result (Ok d) }
@@ -57,7 +60,7 @@ pub fn decode(alloc: Global, bytes: &[u8]) -> Result<Tree, CborFault>
     }
 }
 
-/// The one spelling of a tree.
+/// Encodes a tree in its only spelling. Fails if memory runs out.
 pub fn encode(alloc: Global, tree: &Tree) -> Result<Vec<u8>, AllocError>
     ensures { IfOk result (λ v. v.items ≡ spelling_of tree.now) }
 {

@@ -1,4 +1,4 @@
-//! Heads and strings, read where they stand.
+//! Heads and strings, read in place (RFC 8949 section 3).
 
 ghost use Rattle.std.specs.Prelude.{◌≡◌, ◌++◌, OnOk, OnErr};
 ghost use Rattle.ix_cbor.specs.Spelling.{head_of, key_cmp};
@@ -16,7 +16,7 @@ use crate::width::Width;
 use std::alloc::AllocError;
 use std::cmp::Ordering;
 
-// An argument in so many bytes, which is none where a shorter form would do.
+// Returns the argument in so many bytes. Fails if a shorter form would do.
 fn wide<'a>(at: &'a [u8], width: Width, bytes: &'a [u8]) -> Result<(u64, &'a [u8]), PlacedFault>
     ensures { Reads (λ r. (r.0, r.1.now)) result (argument_in at.now width bytes.now) }
 {
@@ -31,7 +31,8 @@ fn wide<'a>(at: &'a [u8], width: Width, bytes: &'a [u8]) -> Result<(u64, &'a [u8
     Ok((number, rest))
 }
 
-// The argument of the head at a place, from the information in its first byte and the bytes behind that.
+// Returns the argument of the head at a position, from the information in its first byte and the
+// bytes after that.
 pub(crate) fn argument<'a>(
     at: &'a [u8],
     information: u8,
@@ -50,7 +51,7 @@ pub(crate) fn argument<'a>(
     }
 }
 
-// That many bytes, and those after them.
+// Returns `count` bytes, and those after them.
 pub(crate) fn take(count: u64, bytes: &[u8]) -> Result<(&[u8], &[u8]), PlacedFault>
     ensures { Reads string_and_rest result (take_at count bytes.now) }
 {
@@ -60,7 +61,7 @@ pub(crate) fn take(count: u64, bytes: &[u8]) -> Result<(&[u8], &[u8]), PlacedFau
     Ok(bytes.split_at(count as usize))
 }
 
-// As many bytes as the argument says.
+// Returns as many bytes as the argument says.
 pub(crate) fn string<'a>(
     at: &'a [u8],
     information: u8,
@@ -72,7 +73,7 @@ pub(crate) fn string<'a>(
     take(count, rest)
 }
 
-// The bytes of a text, where a key stands.
+// Returns the bytes of the text string that a key must be.
 fn key_text(bytes: &[u8]) -> Result<(&[u8], &[u8]), PlacedFault>
     ensures { Reads string_and_rest result (key_text_at bytes.now) }
 {
@@ -85,7 +86,7 @@ fn key_text(bytes: &[u8]) -> Result<(&[u8], &[u8]), PlacedFault>
     }
 }
 
-/// The order of keys in a map (DAG-CBOR; RFC 8949 section 4.2.3): the shorter key first, keys of one
+/// Compares keys of a map (DAG-CBOR; RFC 8949 section 4.2.3): the shorter key first, keys of one
 /// length by their bytes.
 pub fn compare_keys(before: &[u8], key: &[u8]) -> Ordering
     ensures { result ≡ key_cmp before.now key.now }
@@ -93,7 +94,7 @@ pub fn compare_keys(before: &[u8], key: &[u8]) -> Ordering
     before.len().cmp(&key.len()).then_with(|| before.cmp(key))
 }
 
-// Whether a key comes behind the one before it.
+// Whether a key is above the one before it.
 fn is_above(before: Option<&[u8]>, key: &[u8]) -> bool
     ensures { result ≡ rises (key_bytes before.entry) key.now }
 {
@@ -103,7 +104,7 @@ fn is_above(before: Option<&[u8]>, key: &[u8]) -> bool
     }
 }
 
-// A key, which is above the one before it.
+// Reads a key, which is above the one before it.
 pub(crate) fn key<'a>(
     before: Option<&'a [u8]>,
     bytes: &'a [u8],
@@ -117,8 +118,7 @@ pub(crate) fn key<'a>(
     Ok((text, rest))
 }
 
-/// Writes a head at the end: a major type, and an argument in its shortest form. An `Err` changes
-/// nothing.
+/// Appends a head: a major type, and an argument in its shortest form. An error changes nothing.
 pub fn push_head(out: &mut Vec<u8>, major: Major, argument: u64) -> Result<(), AllocError>
     ensures ok { OnOk result (out.new.items ≡ out.old.items ++ head_of (number_of major) argument) }
     ensures err { OnErr result (out.new.items ≡ out.old.items) }

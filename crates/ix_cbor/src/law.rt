@@ -1,9 +1,9 @@
-//! The laws of spelling and reading.
+//! Laws of spelling and reading.
 
 ghost use Rattle.ix_cbor.specs.Laws.{HasOneSpelling, SpellsNoOther, NoSpellingBeginsAnother, BeginsOnlyItself, DecodesWhatIsSpelled, FindsWhatIsSpelled, FailsAtFirstFault, HasOneFirstFault, NoFaultIfSpelled, IsSpelledOrFaulty, DecodesItsSpelling};
 
-/// A node has at most one spelling, no spelling is the beginning of another, and reading answers a
-/// node exactly where the bytes spell it.
+/// States that a node has at most one spelling, that no spelling begins another, and that reading
+/// returns a node exactly if the bytes spell it.
 pub fn spelling_is_unique()
     ensures one { HasOneSpelling }
     ensures same { SpellsNoOther }
@@ -13,8 +13,8 @@ pub fn spelling_is_unique()
     ensures found { FindsWhatIsSpelled }
 {}
 
-/// Bytes spell a node or have a first fault, never both and no two, and reading answers a fault
-/// exactly where it is the first one.
+/// States that bytes spell a node or have a first error, never both and no two, and that reading
+/// returns an error exactly if it is the first one.
 pub fn fault_is_unique()
     ensures read { FailsAtFirstFault }
     ensures one { HasOneFirstFault }
@@ -22,7 +22,7 @@ pub fn fault_is_unique()
     ensures either { IsSpelledOrFaulty }
 {}
 
-/// Decoding what was encoded gives the same tree.
+/// States that decoding what was encoded gives the same tree.
 pub fn decoding_undoes_encoding()
     ensures { DecodesItsSpelling }
 {}

@@ -20,7 +20,7 @@ use crate::read::PlacedFault;
 use crate::width::u64_of;
 use ix_cid::Cid;
 
-// The bits of a finite float.
+// Returns the bits of a finite float.
 fn float_bits<'a>(at: &'a [u8], bytes: &'a [u8]) -> Result<(u64, &'a [u8]), PlacedFault>
     ensures { Reads (λ r. (float r.0, r.1.now)) result (float_at at.now bytes.now) }
 {
@@ -35,7 +35,7 @@ fn float_bits<'a>(at: &'a [u8], bytes: &'a [u8]) -> Result<(u64, &'a [u8]), Plac
     Ok((bits, rest))
 }
 
-// A truth value, null or a float, by the information in a head of major type 7.
+// Reads a boolean, null or a float, by the information in a head of major type 7.
 fn simple<'a>(
     at: &'a [u8],
     information: u8,
@@ -57,7 +57,7 @@ fn simple<'a>(
     }
 }
 
-// The byte string in a tag.
+// Returns the byte string in a tag.
 fn tag_content<'a>(at: &'a [u8], bytes: &'a [u8]) -> Result<(&'a [u8], &'a [u8]), PlacedFault>
     ensures { Reads string_and_rest result (tag_content_at at.now bytes.now) }
 {
@@ -80,7 +80,7 @@ fn is_cid(bytes: &[u8]) -> bool
     }
 }
 
-// The bytes of the CID in a tag's content, behind a `00`.
+// Returns the bytes of the CID in a tag's content, after a `00`.
 fn cid_in<'a>(
     at: &'a [u8],
     content: &'a [u8],
@@ -94,7 +94,7 @@ fn cid_in<'a>(
     }
 }
 
-// A link, by its tag.
+// Reads a link, by its tag.
 fn tagged<'a>(at: &'a [u8], tag: u64, bytes: &'a [u8]) -> Result<(&'a [u8], &'a [u8]), PlacedFault>
     ensures { Reads (λ r. (link r.0.now, r.1.now)) result (link_at at.now tag bytes.now) }
 {
@@ -105,7 +105,7 @@ fn tagged<'a>(at: &'a [u8], tag: u64, bytes: &'a [u8]) -> Result<(&'a [u8], &'a 
     cid_in(at, content, rest)
 }
 
-// What an item with this major type and information in its first byte is.
+// Returns what an item with this major type and information in its first byte is.
 fn of_major<'a>(
     at: &'a [u8],
     major: Major,
@@ -138,7 +138,7 @@ fn of_major<'a>(
     }
 }
 
-// The tests at one item, before any member of it is read.
+// Runs the tests at one item, before any element of it is read.
 pub(crate) fn front_of_item(bytes: &[u8]) -> Result<(Front<'_>, &[u8]), PlacedFault>
     ensures exact { Reads front_and_rest result (own_at bytes.now) }
     ensures cid { IfOk result (λ r. HasCid r.0) }

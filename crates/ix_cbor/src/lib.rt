@@ -1,9 +1,9 @@
 //! Strict DAG-CBOR: nodes, trees, decoding and encoding.
 //!
-//! A node has at most one spelling. `decode` answers a tree exactly where the block is the spelling
-//! of its root, and otherwise the first fault with its place; `encode` gives the spelling. `check`
-//! answers the same and takes no memory; `read_front`, `read_key` and `skip_item` read one item
-//! where it stands, without a tree.
+//! A node has at most one spelling. `decode` returns a tree exactly if the block is the spelling of
+//! its root, and otherwise the first error with its offset; `encode` returns the spelling. `check`
+//! gives the same answer as `decode` and allocates nothing. `read_front`, `read_key` and
+//! `skip_item` read one item in place, without a tree.
 //!
 //! ```rust
 //! // A list of 1 and null.

@@ -3,29 +3,29 @@
 ghost use Rattle.std.specs.Prelude.{◌≡◌, ◌+◌, ◌*◌, ◌/◌, ◌<◌};
 ghost use Rattle.ix_cbor.specs.Majors.{number_of};
 
-/// What a head begins (RFC 8949 section 3.1), by the upper three bits of its first byte.
+/// A major type (RFC 8949 section 3.1): the upper three bits of a head's first byte.
 #[derive(Debug, Drop, Clone, Copy, PartialEq, Eq)]
 pub enum Major {
     /// An integer from 0 on, which is the argument.
     Unsigned,
-    /// An integer below 0, which is -1 less the argument.
+    /// An integer below 0, which is -1 minus the argument.
     Negative,
     /// A byte string, of as many bytes as the argument says.
     Bytes,
-    /// A text, of as many bytes as the argument says.
+    /// A text string, of as many bytes as the argument says.
     Text,
-    /// A list, of as many members as the argument says.
+    /// A list (array), of as many elements as the argument says.
     List,
-    /// A map, of as many keys and values as the argument says.
+    /// A map, of as many entries as the argument says.
     Map,
-    /// A tag, which the argument is, over one item.
+    /// A tag, which is the argument, over one item.
     Tag,
-    /// A simple value, as null, which the argument is, or a float.
+    /// A simple value such as null, which is the argument, or a float.
     Simple,
 }
 
 impl Major {
-    // The major type of a head with this first byte.
+    // Returns the major type of a head with this first byte.
     pub(crate) fn of(head: u8) -> Major
         ensures { number_of result ≡ head / 32 }
     {
@@ -41,7 +41,7 @@ impl Major {
         }
     }
 
-    // The first byte of a head with this information.
+    // Returns the first byte of a head with this information.
     pub(crate) fn with(self, information: u8) -> u8
         requires { information < 32 }
         ensures { result ≡ 32 * number_of self + information }

@@ -1,4 +1,4 @@
-//! The parts of decode.
+//! The parts of `decode`.
 
 ghost use Rattle.std.specs.Prelude.{◌≡◌, [], None, IfOk};
 ghost use Rattle.ix_cid.specs.Cid.{IsCid};
@@ -16,10 +16,10 @@ use crate::node::Node;
 use ix_cid::Cid;
 use std::alloc::{AllocError, AllocFailed, Global};
 
-// For how many members room is made before they are read.
+// For how many elements memory is allocated before they are read.
 const MOST_CLAIMED: u64 = 4;
 
-// A fault, and how many bytes there are from its place to the end.
+// An error, and how many bytes there are from its offset to the end.
 #[derive(Drop)]
 pub(crate) struct PlacedFault {
     pub kind: CborKind,
@@ -30,7 +30,7 @@ impl PlacedFault {
     ghost use Rattle.std.specs.Prelude.{◌≡◌, ◌≤◌, ◌-◌, length};
     ghost use Rattle.ix_cbor.specs.declared.fault.CborKind.TheVariants.{Truncated, Memory};
 
-    // A fault at the front of these bytes.
+    // Returns an error at the front of these bytes.
     pub(crate) fn at(kind: CborKind, bytes: &[u8]) -> PlacedFault
         ensures { result ≡ record { kind = kind; left = length bytes.now } }
     {
@@ -40,7 +40,7 @@ impl PlacedFault {
         }
     }
 
-    // The bytes end too early.
+    // Returns the error of bytes that end too early.
     pub(crate) fn at_end() -> PlacedFault
         ensures { result ≡ record { kind = Truncated; left = 0 } }
     {
@@ -50,7 +50,7 @@ impl PlacedFault {
         }
     }
 
-    // The same fault, its place counted from the front of these bytes.
+    // Returns the same error, its offset counted from the start of these bytes.
     pub(crate) fn within(self, bytes: &[u8]) -> CborFault
         requires { self.left ≤ length bytes.now }
         ensures { result ≡ record { kind = self.kind; place = length bytes.now - self.left } }
@@ -61,7 +61,7 @@ impl PlacedFault {
         }
     }
 
-    // No memory was left.
+    // Returns the error of memory that ran out.
     pub(crate) fn memory() -> PlacedFault
         ensures { result ≡ record { kind = Memory; left = 0 } }
     {
@@ -102,7 +102,7 @@ pub(crate) enum Own {
     MapOf(u64),
 }
 
-// The node of a link.
+// Returns the node of a link.
 fn link_node(alloc: Global, cid: &[u8]) -> Result<Node, AllocError>
     requires { IsCid cid.now }
     ensures { IfOk result (λ n. data_of n ≡ link cid.now) }
@@ -113,7 +113,7 @@ fn link_node(alloc: Global, cid: &[u8]) -> Result<Node, AllocError>
     }
 }
 
-// What an item is, with its strings copied.
+// Returns what an item is, with its strings copied.
 fn copied(alloc: Global, front: Front) -> Result<Own, AllocError>
     requires { HasCid front }
     ensures { IfOk result (λ o. own_of o ≡ own_of_front front.entry) }
@@ -131,7 +131,7 @@ fn copied(alloc: Global, front: Front) -> Result<Own, AllocError>
     })
 }
 
-// The tests at one item, before any member of it is read.
+// Runs the tests at one item, before any element of it is read.
 fn head_of_item(alloc: Global, bytes: &[u8]) -> Result<(Own, &[u8]), PlacedFault>
     ensures { ReadsOrRunsOut (λ r. (own_of r.0, r.1.now)) result (own_at bytes.now) }
 {
@@ -139,7 +139,7 @@ fn head_of_item(alloc: Global, bytes: &[u8]) -> Result<(Own, &[u8]), PlacedFault
     Ok((copied(alloc, front)?, rest))
 }
 
-// One item, where no list or map may stand.
+// Reads one item where no list or map is allowed.
 fn leaf(alloc: Global, bytes: &[u8]) -> Result<(Node, &[u8]), PlacedFault>
     ensures { ReadsOrRunsOut node_and_rest result (item_with None bytes.now) }
 {
@@ -150,7 +150,7 @@ fn leaf(alloc: Global, bytes: &[u8]) -> Result<(Node, &[u8]), PlacedFault>
     }
 }
 
-// One item, where a list or map may stand, and others nest so deep inside it.
+// Reads one item where a list or map is allowed, in which others nest so deep.
 #[cycle(item)]
 fn branch(alloc: Global, bytes: &[u8], levels: u32) -> Result<(Node, &[u8]), PlacedFault>
     ensures { ReadsOrRunsOut node_and_rest result (branch_at levels bytes.now) }
@@ -169,7 +169,7 @@ fn branch(alloc: Global, bytes: &[u8], levels: u32) -> Result<(Node, &[u8]), Pla
     }
 }
 
-// One item, where lists and maps may nest so deep.
+// Reads one item in which lists and maps may nest so deep.
 #[cycle(item)]
 pub(crate) fn item(alloc: Global, bytes: &[u8], levels: u32) -> Result<(Node, &[u8]), PlacedFault>
     ensures { ReadsOrRunsOut node_and_rest result (item_at levels bytes.now) }
@@ -181,15 +181,15 @@ pub(crate) fn item(alloc: Global, bytes: &[u8], levels: u32) -> Result<(Node, &[
     }
 }
 
-// Room for so many members, and for four at most: a count is what the bytes claim, and claims in one another
-// would add up. What has up to four members takes no more room than they do.
+// Allocates room for `count` elements, and for four at most: the input claims the count, and nested
+// claims would add up. A list of up to four elements takes no more room than they do.
 fn room_for<T>(alloc: Global, count: u64) -> Result<Vec<T>, AllocError>
     ensures { IfOk result (λ v. v.items ≡ []) }
 {
     Vec::with_capacity(alloc, count.min(MOST_CLAIMED) as usize)
 }
 
-// So many members of a list, inside which lists and maps may nest so deep.
+// Reads `count` elements of a list, in which lists and maps may nest so deep.
 #[cycle(item)]
 fn items(
     alloc: Global,
@@ -210,7 +210,7 @@ fn items(
     Ok((members, rest))
 }
 
-// So many keys and values of a map, inside which lists and maps may nest so deep.
+// Reads `count` entries of a map, in which lists and maps may nest so deep.
 #[cycle(item)]
 fn entries(
     alloc: Global,

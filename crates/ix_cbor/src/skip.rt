@@ -1,4 +1,4 @@
-//! Going over items, without a tree.
+//! Skipping items, without a tree.
 
 ghost use Rattle.std.specs.Prelude.{None};
 ghost use Rattle.ix_cbor.specs.Reading.{◌>>=◌ as ◌then◌, item_with, branch_at, members_at, fields_at};
@@ -12,7 +12,7 @@ use crate::head::key;
 use crate::leaf::front_of_item;
 use crate::read::PlacedFault;
 
-// The bytes behind one item, where no list or map may stand.
+// Returns the bytes after one item where no list or map is allowed.
 fn behind_leaf(bytes: &[u8]) -> Result<&[u8], PlacedFault>
     ensures { Reads (λ r. r.now) result (item_with None bytes.now then behind) }
 {
@@ -23,7 +23,7 @@ fn behind_leaf(bytes: &[u8]) -> Result<&[u8], PlacedFault>
     }
 }
 
-// The bytes behind one item, where a list or map may stand, and others nest so deep inside it.
+// Returns the bytes after one item where a list or map is allowed, in which others nest so deep.
 #[cycle(behind_item)]
 fn behind_branch(bytes: &[u8], levels: u32) -> Result<&[u8], PlacedFault>
     ensures { Reads (λ r. r.now) result (branch_at levels bytes.now then behind) }
@@ -36,7 +36,7 @@ fn behind_branch(bytes: &[u8], levels: u32) -> Result<&[u8], PlacedFault>
     }
 }
 
-// The bytes behind one item, where lists and maps may nest so deep.
+// Returns the bytes after one item in which lists and maps may nest so deep.
 #[cycle(behind_item)]
 fn behind_item(bytes: &[u8], levels: u32) -> Result<&[u8], PlacedFault>
     ensures { Reads (λ r. r.now) result (behind_item levels bytes.now) }
@@ -48,7 +48,7 @@ fn behind_item(bytes: &[u8], levels: u32) -> Result<&[u8], PlacedFault>
     }
 }
 
-// The bytes behind so many members of a list, inside which lists and maps may nest so deep.
+// Returns the bytes after `count` elements of a list, in which lists and maps may nest so deep.
 #[cycle(behind_item)]
 fn behind_items(bytes: &[u8], count: u64, levels: u32) -> Result<&[u8], PlacedFault>
     ensures { Reads (λ r. r.now) result (members_at levels count bytes.now then behind) }
@@ -60,7 +60,7 @@ fn behind_items(bytes: &[u8], count: u64, levels: u32) -> Result<&[u8], PlacedFa
     Ok(rest)
 }
 
-// The bytes behind so many keys and values of a map, inside which lists and maps may nest so deep.
+// Returns the bytes after `count` entries of a map, in which lists and maps may nest so deep.
 #[cycle(behind_item)]
 fn behind_entries(bytes: &[u8], count: u64, levels: u32) -> Result<&[u8], PlacedFault>
     ensures { Reads (λ r. r.now) result (fields_at levels count bytes.now then behind) }
@@ -75,8 +75,8 @@ fn behind_entries(bytes: &[u8], count: u64, levels: u32) -> Result<&[u8], Placed
     Ok(rest)
 }
 
-/// The bytes behind the item that begins here, inside which lists and maps nest at most 512 deep. The
-/// place of a fault is counted from here, and means what that of `decode` does.
+/// Returns the bytes after the item that begins here, in which lists and maps nest at most 512
+/// deep. The offset of an error is counted from here, and means what that of `decode` does.
 pub fn skip_item(bytes: &[u8]) -> Result<&[u8], CborFault>
     ensures { Answers (λ r. r.now) bytes.now result (behind_item 512 bytes.now) }
 {
@@ -86,8 +86,8 @@ pub fn skip_item(bytes: &[u8]) -> Result<&[u8], CborFault>
     }
 }
 
-/// Whether a block decodes (DAG-CBOR, RFC 8949), or why not: the faults are those of `decode` but for want
-/// of memory, of which this takes none.
+/// Checks whether a block decodes (DAG-CBOR, RFC 8949). The errors are those of `decode`, except
+/// for `Memory`: this allocates nothing.
 pub fn check(bytes: &[u8]) -> Result<(), CborFault>
     ensures { Answers (λ _. tt) bytes.now result (judged bytes.now) }
 {

@@ -6,12 +6,12 @@ use crate::canonical::is_canonical;
 use crate::node::Node;
 use std::marker::Model;
 
-/// A node that has a spelling, seen as data.
+/// A node that has a spelling. Contracts see it as data.
 pub struct Tree {
     node: Node,
 }
 
-// Written out and not derived: what is derived is put into each function that lets go of one, at each of its ends.
+// Written by hand: a derived drop is inlined in each function that drops one, at each of its exits.
 impl Drop for Tree {
     fn drop(self) {
         let Tree { node } = self;
@@ -38,10 +38,10 @@ impl Tree {
     ghost use Rattle.ix_cbor.specs.Data.{Data, data_of};
     ghost use Rattle.ix_cbor.specs.Spelling.{IsCanonical};
 
-    /// The tree of a node that has a spelling. Any other node is handed back: one with an integer
-    /// below -2^64 or above 2^64 - 1, with a float that is an infinity or no number, with a map
-    /// whose keys don't rise (the shorter key comes first, keys of one length go by their bytes, and
-    /// no key stands twice), or with lists and maps that nest more than 512 deep.
+    /// Makes a tree of a node that has a spelling, or returns the node: one with an integer below
+    /// -2^64 or above 2^64 - 1, with a float that is infinite or NaN, with a map whose keys don't
+    /// rise (the shorter key comes first, keys of one length are ordered by their bytes, and no key
+    /// occurs twice), or with lists and maps that nest more than 512 deep.
     pub fn new(node: Node) -> Result<Tree, Node>
         ensures ok { IfOk result (λ t. t ≡ data_of node) }
         ensures canonical { IfOk result (λ t. IsCanonical (data_of node)) }
@@ -55,7 +55,7 @@ impl Tree {
         }
     }
 
-    // The tree of a node that has a spelling.
+    // Makes a tree of a node that has a spelling.
     pub(crate) fn of_canonical(node: Node) -> Tree
         requires { IsCanonical (data_of node) }
         ensures { result ≡ data_of node }
@@ -71,7 +71,7 @@ impl Tree {
         &self.node
     }
 
-    /// The node.
+    /// Returns the node.
     pub fn into_root(self) -> Node
         ensures root { data_of result ≡ self }
         ensures canonical { IsCanonical self }

@@ -1,10 +1,10 @@
-//! In how many bytes a number stands.
+//! The width of a head's argument, in bytes.
 
 ghost use Rattle.std.specs.Prelude.{◌≡◌, length};
 ghost use Rattle.std.specs.Int.{w64, byte_len, from_be_bytes};
 ghost use Rattle.ix_cbor.specs.Widths.{bits_of, least_of};
 
-// How many bytes behind the first one of a head hold its argument.
+// How many bytes after the first one of a head have its argument.
 #[derive(Drop, Clone, Copy)]
 pub(crate) enum Width {
     One,
@@ -14,7 +14,7 @@ pub(crate) enum Width {
 }
 
 impl Width {
-    // How many bytes.
+    // The number of bytes.
     pub(crate) fn len(self) -> usize
         ensures { result ≡ byte_len (bits_of self) }
     {
@@ -26,7 +26,7 @@ impl Width {
         }
     }
 
-    // The least argument that has no shorter form.
+    // Returns the least argument that has no shorter form.
     pub(crate) fn least(self) -> u64
         ensures { result ≡ least_of self }
     {
@@ -38,7 +38,7 @@ impl Width {
         }
     }
 
-    // The number that so many bytes spell.
+    // Returns the number that so many bytes spell.
     pub(crate) fn number(self, bytes: &[u8]) -> u64
         requires { length bytes.now ≡ byte_len (bits_of self) }
         ensures { result ≡ from_be_bytes (bits_of self) bytes.now }
@@ -52,7 +52,7 @@ impl Width {
     }
 }
 
-// The number that eight bytes spell.
+// Returns the number that eight bytes spell.
 pub(crate) fn u64_of(bytes: &[u8]) -> u64
     requires { length bytes.now ≡ 8 }
     ensures { result ≡ from_be_bytes w64 bytes.now }

@@ -1,4 +1,4 @@
-//! The parts of encode.
+//! The parts of `encode`.
 
 ghost use Rattle.std.specs.Prelude.{◌≡◌, ℕ, List, ◌++◌, OnOk, OnErr};
 ghost use Rattle.ix_cbor.specs.Data.{data_of, integer, float, node_items, node_entries};
@@ -11,7 +11,7 @@ use crate::major::Major;
 use crate::node::Node;
 use std::alloc::AllocError;
 
-// The spelling of an integer: -1 less the argument where it is below 0.
+// Appends an integer: as -1 minus the argument if it is below 0.
 fn push_int(out: &mut Vec<u8>, n: i128) -> Result<(), AllocError>
     requires { IsSpellable (integer n) }
     ensures ok { OnOk result (out.new.items ≡ out.old.items ++ spelling_of (integer n)) }
@@ -23,7 +23,7 @@ fn push_int(out: &mut Vec<u8>, n: i128) -> Result<(), AllocError>
     }
 }
 
-// The spelling of a float of 64 bits.
+// Appends a float of 64 bits.
 fn push_float(out: &mut Vec<u8>, bits: u64) -> Result<(), AllocError>
     ensures ok { OnOk result (out.new.items ≡ out.old.items ++ spelling_of (float bits)) }
 {
@@ -31,7 +31,7 @@ fn push_float(out: &mut Vec<u8>, bits: u64) -> Result<(), AllocError>
     out.extend_from_slice(&bits.to_be_bytes())
 }
 
-// A string behind the head with its length.
+// Appends a string after the head with its length.
 fn push_string(out: &mut Vec<u8>, major: Major, bytes: &[u8]) -> Result<(), AllocError>
     ensures ok { OnOk result (out.new.items ≡ out.old.items ++ string_spelling (number_of major) bytes.now) }
 {
@@ -39,8 +39,8 @@ fn push_string(out: &mut Vec<u8>, major: Major, bytes: &[u8]) -> Result<(), Allo
     out.extend_from_slice(bytes)
 }
 
-/// Writes the spelling of a link at the end: tag 42 over a byte string of `00` and the CID. An `Err`
-/// leaves what was there at the front.
+/// Appends a link: tag 42 over a byte string of `00` and the CID. An error leaves what was there as
+/// a prefix.
 pub fn push_link(out: &mut Vec<u8>, cid: &[u8]) -> Result<(), AllocError>
     ensures ok { OnOk result (out.new.items ≡ out.old.items ++ link_spelling cid.now) }
     ensures err { OnErr result ((part : List ℕ) × (out.new.items ≡ out.old.items ++ part)) }
@@ -51,7 +51,7 @@ pub fn push_link(out: &mut Vec<u8>, cid: &[u8]) -> Result<(), AllocError>
     out.extend_from_slice(cid)
 }
 
-// The spelling of a node. It goes as deep as the node nests: in a tree at most 512 levels.
+// Appends a node. It recurses as deep as the node nests: in a tree at most 512 levels.
 #[cycle(push_item)]
 pub(crate) fn push_item(out: &mut Vec<u8>, node: &Node) -> Result<(), AllocError>
     requires { IsSpellable (data_of node.now) }
@@ -77,7 +77,7 @@ pub(crate) fn push_item(out: &mut Vec<u8>, node: &Node) -> Result<(), AllocError
     }
 }
 
-// The spellings of members, one after the other.
+// Appends elements, one after the other.
 #[cycle(push_item)]
 fn push_members(out: &mut Vec<u8>, members: &[Node]) -> Result<(), AllocError>
     requires { AreSpellable (node_items members.now) }
@@ -89,7 +89,7 @@ fn push_members(out: &mut Vec<u8>, members: &[Node]) -> Result<(), AllocError>
     Ok(())
 }
 
-// The spellings of keys and values, each key before its value.
+// Appends entries, each key before its value.
 #[cycle(push_item)]
 fn push_entries(out: &mut Vec<u8>, entries: &[(Vec<u8>, Node)]) -> Result<(), AllocError>
     requires { AreRising (node_entries entries.now) }

@@ -13,9 +13,11 @@ pub record IsVisitAt (store : Blocks) (number place : ℕ) (visit : Visit) : Typ
   pub job : visit.job ≡ number
   pub seq : visit.seq ≡ place
 
+-- a visit is made of what the store has for its CID, and of its number
 visit_at : (store : Blocks) (number seq : ℕ) (a : Arrival) → IsVisitAt store number seq (visit_of store number seq a)
 visit_at store number seq a = record { of_store = record { block = refl; malformed = refl }; job = refl; seq = refl }
 
+-- the visit at a position has that number
 visit_behind : (store : Blocks) (number start k : ℕ) (found : List Arrival) (v : Visit) (more : List Visit) → drop k (visits_from store number start found) ≡ v ∷ more → IsVisitAt store number (start + k) v
 visit_behind store number start k [] v more e = absurd (nothing k e) where
   nothing : (k : ℕ) → drop k [] ≡ v ∷ more → ⊥

@@ -1,4 +1,4 @@
--- What is found of a CID and its bytes, the first that holds.
+-- The verdict on a CID and its bytes, the first that holds.
 use Rattle.std.specs.Prelude.{ℕ, Bool, true, false, ◌&&◌, ◌||◌, List, ◌==◌, if◌then◌else◌, bytes_eq, Option, Some, None, is_none}
 use Rattle.sha2.specs.Sha256.{sha256}
 use Rattle.sha2.specs.Sha512.{sha512}
@@ -10,7 +10,7 @@ use Rattle.ix_store.specs.Store.{Blocks, block_of}
 use Rattle.ix_check.specs.declared.verdict.Verdict.{Verdict}
 use Rattle.ix_check.specs.declared.verdict.Verdict.TheVariants.{Codec, Hash, Missing, Damaged, Malformed, Sound, Inline}
 
--- DAG-CBOR that these bytes don't spell
+-- DAG-CBOR by the CID's codec, and not valid
 abbrev pub is_no_data : List ℕ → List ℕ → Bool
 is_no_data c bytes = (codec_of c == 0x71) && is_none (data_at bytes)
 
@@ -34,6 +34,7 @@ verdict_by (Some Sha2_512) c block = verdict_under sha512 c block
 abbrev pub is_codec : ℕ → Bool
 is_codec codec = (codec == 0x55) || (codec == 0x71)
 
+-- the CID's codec is raw or DAG-CBOR
 abbrev pub has_codec : List ℕ → Bool
 has_codec c = is_codec (codec_of c)
 
@@ -45,7 +46,7 @@ verdict_with c block = if has_codec c then verdict_by (hash_function_of (parts_o
 abbrev pub verdict_of : Blocks → List ℕ → Verdict
 verdict_of store c = verdict_with c (block_of store c)
 
--- whether a traversal goes on below what has this verdict
+-- whether a traversal continues below a CID with this verdict
 abbrev pub passes : Verdict → Bool
 passes Codec = false
 passes Hash = false

@@ -3,6 +3,7 @@ use Rattle.std.specs.Prelude.{ℕ, List, codes}
 use Rattle.ix_check.specs.declared.verdict.Verdict.{Verdict}
 use Rattle.ix_check.specs.declared.verdict.Verdict.TheVariants.{Codec, Hash, Missing, Damaged, Malformed, Sound, Inline}
 
+-- the word for a verdict, in ASCII
 abbrev pub verdict_word : Verdict → List ℕ
 verdict_word Codec = codes "codec"
 verdict_word Hash = codes "hash"

@@ -1,4 +1,4 @@
-//! What checks visits.
+//! Checks of visits.
 
 ghost use Rattle.std.specs.Prelude.{◌≡◌, [], if◌then◌else◌};
 ghost use Rattle.ix_check.specs.declared.verdict.Verdict.TheVariants.{Damaged, Malformed, Sound, Inline};
@@ -13,7 +13,7 @@ use ix_walk::Visit;
 use std::alloc::{AllocError, Global};
 use std::marker::Model;
 
-/// Checks visits, and notes which.
+/// A check of visits, which records what it checked.
 pub trait Check {
     ghost use Rattle.std.specs.Prelude.{◌≡◌, ◌++◌, ◌∷◌, [], IfOk, OnOk, OnErr, List, ℕ};
     ghost use Rattle.ix_check.specs.Verdict.{verdict_of};
@@ -22,7 +22,7 @@ pub trait Check {
     /// The job and number of each visit that was checked, in order.
     ghost checked: { Self → List (ℕ × ℕ) };
 
-    /// The verdict on a visit's CID. An `Err` changes nothing.
+    /// Returns the verdict on a visit's CID. Fails if memory runs out, and then changes nothing.
     fn check(&mut self, alloc: Global, store: &Store, visit: &Visit) -> Result<Verdict, AllocError>
         requires { IsVisitOf store.now visit.now }
         ensures verdict { IfOk result (λ v. v ≡ verdict_of store.now visit.now.cid) }
@@ -30,7 +30,8 @@ pub trait Check {
         ensures err { OnErr result (checked self.new ≡ checked self.old) };
 }
 
-/// Checks by SHA-256 and SHA-512 (FIPS 180-4), and keeps a receipt of each visit that it checked.
+/// A check by SHA-256 and SHA-512 (FIPS 180-4), which keeps a receipt of each visit that it
+/// checked.
 #[derive(Drop)]
 pub struct ShaCheck {
     receipts: Vec<(u32, u32)>,
@@ -45,7 +46,7 @@ impl Model for ShaCheck {
 }
 
 impl ShaCheck {
-    /// A check that has checked nothing so far.
+    /// Creates a check that has checked nothing.
     pub fn new(alloc: Global) -> ShaCheck
         ensures { result ≡ [] }
     {
@@ -78,9 +79,9 @@ impl Check for ShaCheck {
     }
 }
 
-// The first verdict that holds of a visit's CID. Whether its bytes spell a tree is the visit's own word, and whether
-// a block has the digest is the store's, which hashes it at its first visit: so a block is neither decoded nor hashed
-// again, and a CID that holds its bytes is neither.
+// Returns the first verdict that holds of a visit's CID. The visit says whether its bytes are valid
+// DAG-CBOR, and the store whether a block's hash matches, which it computes at the first visit. So
+// no block is decoded or hashed again, and an identity CID is neither.
 fn verdict_of(store: &Store, visit: &Visit) -> Verdict
     requires { IsVisitOf store.now visit.now }
     ensures { result ≡ verdict_of store.now visit.now.cid }
@@ -101,14 +102,14 @@ fn verdict_of(store: &Store, visit: &Visit) -> Verdict
     }
 }
 
-// Raw or DAG-CBOR.
+// Whether the codec is raw or DAG-CBOR.
 fn is_codec(codec: u64) -> bool
     ensures { result ≡ is_codec codec }
 {
     matches!(codec, RAW | DAG_CBOR)
 }
 
-// The verdict on a CID that holds its bytes.
+// Returns the verdict on an identity CID, whose bytes are inline.
 fn inline_verdict(malformed: bool) -> Verdict
     ensures { result ≡ (if malformed then Malformed else Inline) }
 {
@@ -119,7 +120,7 @@ fn inline_verdict(malformed: bool) -> Verdict
     }
 }
 
-// The verdict on a block that is there, by whether its hash is the CID's digest.
+// Returns the verdict on a block that is there, by whether its hash matches its CID.
 fn block_verdict(agrees: bool, malformed: bool) -> Verdict
     ensures { result ≡ (if agrees then (if malformed then Malformed else Sound) else Damaged) }
 {

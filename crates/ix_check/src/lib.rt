@@ -1,8 +1,9 @@
-//! Verdicts on blocks, and what checks visits.
+//! Verdicts on blocks, and checks of visits.
 //!
-//! A check answers the verdict on a visit's CID over a store: whether the codec and the hash are
-//! known, and the block is there and has the digest, or the CID holds its bytes itself. It notes each
-//! visit that it checked; for want of memory it answers an error and notes nothing.
+//! A check returns the verdict on a visit's CID over a store: whether the codec and the hash
+//! function are known, and whether the block is there and its hash matches, or the CID is an
+//! identity CID. It records each visit that it checked. If memory runs out it returns an error and
+//! records nothing.
 //!
 //! ```rust
 //! let mut check = ShaCheck::new(alloc);

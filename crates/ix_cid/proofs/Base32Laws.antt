@@ -94,6 +94,7 @@ join q more size front appended =
       nothing_left = left-behind q more size ∙ appended.nothing_left;
     }
 
+-- of base32 letters the first eight are base32, and so is the rest
 pub split : (q more : List ℕ) → length q ≡ 8 → IsBase32 (q ++ more) → IsBase32 q × IsBase32 more
 split q more size whole =
     let count : length (q ++ more) % 8 ≡ length more % 8 = omega (arith, length-append q more) in (

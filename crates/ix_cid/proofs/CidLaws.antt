@@ -69,15 +69,19 @@ regroup a b c e d rest = simp append_assoc
 abbrev behind_size : ℕ → ℕ → List ℕ × List ℕ → Result (Parts × List ℕ) CidFault
 behind_size codec hash digest = Ok (version_1 codec hash digest.0, digest.1)
 
+-- reads the digest, given codec, hash code and length
 abbrev behind_hash : ℕ → ℕ → ℕ × List ℕ → Result (Parts × List ℕ) CidFault
 behind_hash codec hash size = bytes_at size.0 size.1 >>= behind_size codec hash
 
+-- reads the length of the digest, given codec and hash code
 abbrev behind_codec : ℕ → ℕ × List ℕ → Result (Parts × List ℕ) CidFault
 behind_codec codec hash = number_at hash.1 >>= behind_hash codec hash.0
 
+-- reads the hash code, given the codec
 abbrev behind_version : ℕ × List ℕ → Result (Parts × List ℕ) CidFault
 behind_version codec = number_at codec.1 >>= behind_codec codec.0
 
+-- reads the parts, given the version, which must be 1
 abbrev if_version_1 : ℕ × List ℕ → Result (Parts × List ℕ) CidFault
 if_version_1 version = cond (eqb version.0 1) (version_1_at version.1) (Err (Version version.0))
 

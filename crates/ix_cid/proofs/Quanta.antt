@@ -65,7 +65,8 @@ bytes_of_letters-eight (a ∷ b ∷ c ∷ d ∷ e ∷ []) more h = absurd (omega
 bytes_of_letters-eight (a ∷ b ∷ c ∷ d ∷ e ∷ f ∷ []) more h = absurd (omega arith)
 bytes_of_letters-eight (a ∷ b ∷ c ∷ d ∷ e ∷ f ∷ g ∷ []) more h = absurd (omega arith)
 
--- A quantum of n bytes, where j are missing, has l letters, where k are missing. The letters hold g times the number of the bytes.
+-- A quantum of n bytes, where j are missing, has l letters, where k are missing. The letters have g times the number of the
+-- bytes.
 pub record IsQuantum (n j l k g : ℕ) : Type 0 where
   pub bytes : n + j ≡ 5
   pub letters : (8 * n + 4) / 5 ≡ l
@@ -76,18 +77,23 @@ pub record IsQuantum (n j l k g : ℕ) : Type 0 where
   pub left : 2 ^ (5 * l % 8) ≡ g
   pub some : 0 < g
 
+-- one byte is two letters, with two bits left over
 pub one : IsQuantum 1 4 2 6 4
 one = record { bytes = refl; letters = refl; missing = refl; back = refl; shift = refl; fits = refl; left = refl; some = omega arith }
 
+-- two bytes are four letters, with four bits left over
 pub two : IsQuantum 2 3 4 4 16
 two = record { bytes = refl; letters = refl; missing = refl; back = refl; shift = refl; fits = refl; left = refl; some = omega arith }
 
+-- three bytes are five letters, with one bit left over
 pub three : IsQuantum 3 2 5 3 2
 three = record { bytes = refl; letters = refl; missing = refl; back = refl; shift = refl; fits = refl; left = refl; some = omega arith }
 
+-- four bytes are seven letters, with three bits left over
 pub four : IsQuantum 4 1 7 1 8
 four = record { bytes = refl; letters = refl; missing = refl; back = refl; shift = refl; fits = refl; left = refl; some = omega arith }
 
+-- five bytes are eight letters
 pub five : IsQuantum 5 0 8 0 1
 five = record { bytes = refl; letters = refl; missing = refl; back = refl; shift = refl; fits = refl; left = refl; some = omega arith }
 
@@ -172,6 +178,7 @@ base32_of-five (a ∷ b ∷ c ∷ d ∷ []) more h = absurd (omega arith)
 
 -- what goes over a list by quanta of m
 module _ (whole piece : List ℕ → List ℕ) (m : ℕ) (none : whole [] ≡ []) (short : (xs : List ℕ) → length xs < m → whole xs ≡ piece xs) (full : (xs more : List ℕ) → length xs ≡ m → whole (xs ++ more) ≡ piece xs ++ whole more) where
+  -- what is made quantum by quantum is made of the first quantum, and then of the rest
   by_quanta : (n : ℕ) (xs : List ℕ) → n ≡ min m (length xs) → whole xs ≡ piece (take n xs) ++ whole (drop n xs)
   by_quanta n xs h =
       ⊎_elim

@@ -1,9 +1,10 @@
--- The words for the faults of CIDs and their texts.
+-- The words for the errors of CIDs and their texts.
 use Rattle.std.specs.Prelude.{ℕ, List, ◌++◌, codes}
 use Rattle.std.specs.Fmt.{decimal}
 use Rattle.ix_cid.specs.declared.fault.CidFault.{CidFault}
 use Rattle.ix_cid.specs.declared.fault.CidFault.TheVariants.{Truncated, Varint, Version, Memory, Multibase, Base32, Rest}
 
+-- the words for an error, in ASCII
 abbrev pub fault_words : CidFault → List ℕ
 fault_words Truncated = codes "truncated"
 fault_words Varint = codes "varint"

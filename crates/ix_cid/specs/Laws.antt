@@ -19,7 +19,7 @@ HasNoOtherVarint = (b : List ℕ) (n : ℕ) → IsVarint b n → (n < 2 ^ 63) ×
 abbrev pub ReadsVarint : Type 0
 ReadsVarint = (b : List ℕ) (n : ℕ) (rest : List ℕ) → IsVarint b n → varint_at (b ++ rest) ≡ Ok (n, length b)
 
--- where a number is read, its varint stands at the front
+-- if a number is read, its varint is at the front
 abbrev pub ReadsOnlyVarints : Type 0
 ReadsOnlyVarints = (b : List ℕ) (n k : ℕ) → AreBytes b → varint_at b ≡ Ok (n, k) → (k ≤ length b) × IsVarint (take k b) n
 
@@ -27,11 +27,11 @@ ReadsOnlyVarints = (b : List ℕ) (n k : ℕ) → AreBytes b → varint_at b ≡
 abbrev pub NoVarintBeginsAnother : Type 0
 NoVarintBeginsAnother = (a b x y : List ℕ) (m n : ℕ) → IsVarint a m → IsVarint b n → a ++ x ≡ b ++ y → (a ≡ b) × (m ≡ n)
 
--- a CID at the front is read as its parts, and what follows it is left
+-- a CID at the front is read as its parts, and what follows it remains
 abbrev pub ReadsCid : Type 0
 ReadsCid = (c : List ℕ) (p : Parts) (rest : List ℕ) → IsCidOf c p → parts_at (c ++ rest) ≡ Ok (p, rest)
 
--- where parts are read, the bytes are a CID with these parts and then the rest
+-- if parts are read, the bytes are a CID with these parts and then the rest
 abbrev pub ReadsOnlyCids : Type 0
 ReadsOnlyCids =
     (b : List ℕ) (p : Parts) (rest : List ℕ) → AreBytes b → parts_at b ≡ Ok (p, rest)
@@ -43,7 +43,7 @@ ReadsFront =
     (b c : List ℕ) (k : ℕ) → AreBytes b
     → (cid_at b ≡ Ok (c, k) ↔ (k ≡ length c) × (b ≡ c ++ drop k b) × ((p : Parts) × IsCidOf c p))
 
--- bytes are a CID exactly where they are one by the table
+-- bytes are a CID exactly if they are one by the table
 abbrev pub IsCidByTable : Type 0
 IsCidByTable = (c : List ℕ) → AreBytes c → (IsCid c ↔ ((p : Parts) × IsCidOf c p))
 
@@ -55,24 +55,27 @@ NoCidBeginsAnother = (c rest : List ℕ) → AreBytes c → IsCid c → IsCid (c
 abbrev pub HasOneForm : Type 0
 HasOneForm = (c : List ℕ) (p q : Parts) → IsCidOf c p → IsCidOf c q → p ≡ q
 
--- the parts that are read of a CID are those of its form
+-- the parts that are read of a CID are those of its form: the version
 abbrev pub HasItsVersion : Type 0
 HasItsVersion = (c : List ℕ) (p : Parts) → IsCidOf c p → version_of c ≡ p.version
 
+-- the codec
 abbrev pub HasItsCodec : Type 0
 HasItsCodec = (c : List ℕ) (p : Parts) → IsCidOf c p → codec_of c ≡ p.codec
 
+-- the hash code
 abbrev pub HasItsHashCode : Type 0
 HasItsHashCode = (c : List ℕ) (p : Parts) → IsCidOf c p → hash_code_of c ≡ p.hash_code
 
+-- and the digest
 abbrev pub HasItsDigest : Type 0
 HasItsDigest = (c : List ℕ) (p : Parts) → IsCidOf c p → digest_of c ≡ p.digest
 
--- a CIDv1 at the front is read behind its version as its parts, and what follows it is left
+-- a CIDv1 at the front is read after its version as its parts, and what follows it remains
 abbrev pub ReadsVersion1 : Type 0
 ReadsVersion1 = (p : Parts) (rest : List ℕ) → IsVersion1 p → numbered_at (parts_spelling p ++ rest) ≡ Ok (p, rest)
 
--- where a version and its parts are read, they are those of a CIDv1 at the front
+-- if a version and its parts are read, they are those of a CIDv1 at the front
 abbrev pub ReadsOnlyVersion1 : Type 0
 ReadsOnlyVersion1 =
     (b : List ℕ) (p : Parts) (rest : List ℕ) → AreBytes b → numbered_at b ≡ Ok (p, rest)
@@ -82,15 +85,15 @@ ReadsOnlyVersion1 =
 abbrev pub ReadsText : Type 0
 ReadsText = (c : List ℕ) → AreBytes c → IsCid c → version_of c ≡ 1 → cid_of_text (text_of c) ≡ Ok c
 
--- where a CID is read, it is a CIDv1 whose text stands there
+-- if a CID is read, it is a CIDv1 with this text
 abbrev pub ReadsOnlyTexts : Type 0
 ReadsOnlyTexts = (t c : List ℕ) → cid_of_text t ≡ Ok c → IsCid c × (version_of c ≡ 1) × (t ≡ text_of c)
 
--- letters are read exactly where they are base32, as their bytes
+-- letters are read exactly if they are base32, as their bytes
 abbrev pub ReadsBase32 : Type 0
 ReadsBase32 = (letters b : List ℕ) → (bytes_of_base32 letters ≡ Ok b ↔ IsBase32 letters × (b ≡ bytes_of_letters letters))
 
--- and refused exactly where they are none
+-- and rejected exactly if they aren't
 abbrev pub RefusesOtherLetters : Type 0
 RefusesOtherLetters = (letters : List ℕ) → (bytes_of_base32 letters ≡ Err Base32 ↔ ¬ IsBase32 letters)
 

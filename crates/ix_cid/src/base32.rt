@@ -1,4 +1,4 @@
-//! RFC 4648 base32, in lower case and without padding.
+//! Base32 (RFC 4648, section 6), in lower case and without padding.
 
 ghost use Rattle.std.specs.Prelude.{◌≡◌, ◌≤◌, ◌%◌, ◌++◌, length, take, All, OnOk, SomeIff, string_bytes};
 ghost use Rattle.ix_cid.specs.CidText.{letter, bits_of_letter, bits_of_letters, number_in, digits_in, quantum, base32_of, bytes_of_base32, appended, IsLetter};
@@ -20,7 +20,7 @@ pub fn append(text: &mut String, bytes: &[u8]) -> Result<(), AllocError>
     Ok(())
 }
 
-/// The bytes whose base32 the letters are.
+/// Decodes base32 letters to bytes.
 pub fn decode(alloc: Global, letters: &[u8]) -> Result<Vec<u8>, CidFault>
     ensures { Gives (λ v. v.items) result (bytes_of_base32 letters.now) }
 {
@@ -77,7 +77,7 @@ fn push_front(bytes: &mut Vec<u8>, bits: u64, count: usize) -> Result<(), AllocE
     Ok(())
 }
 
-// The number that at most five bytes spell.
+// Returns the number that at most five bytes spell.
 fn number_of_bytes(bytes: &[u8]) -> u64
     requires { length bytes.now ≤ 5 }
     ensures { result ≡ number_in 256 0 bytes.now }
@@ -89,7 +89,7 @@ fn number_of_bytes(bytes: &[u8]) -> u64
     number
 }
 
-// The number that at most eight letters spell, if each is of the alphabet.
+// Returns the number that at most eight letters spell, if each is in the alphabet.
 fn number_of_letters(letters: &[u8]) -> Option<u64>
     requires { length letters.now ≤ 8 }
     ensures { SomeIff result (All IsLetter letters.now) (bits_of_letters letters.now) }
@@ -101,7 +101,7 @@ fn number_of_letters(letters: &[u8]) -> Option<u64>
     Some(number)
 }
 
-// The letter of the last five bits.
+// Returns the letter of the last five bits.
 fn letter_of(bits: u64) -> char
     ensures { result ≡ letter (bits % 32) }
 {
@@ -113,7 +113,7 @@ fn letter_of(bits: u64) -> char
     })
 }
 
-// The five bits of a letter of the alphabet.
+// Returns the five bits of a letter of the alphabet.
 fn bits_of(letter: u8) -> Option<u64>
     ensures { SomeIff result (IsLetter letter) (bits_of_letter letter) }
 {

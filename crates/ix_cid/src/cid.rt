@@ -17,14 +17,14 @@ use std::hash::{Hash, Hasher};
 use std::marker::Model;
 use std::sync::Arc;
 
-/// A CID (multiformats CID), of any version, codec and hash. Contracts see its bytes; equality, order
-/// and hashing are those of the bytes. One of at most 36 bytes holds them itself, and a longer one is a share
-/// of bytes in which it stands.
+/// A CID (multiformats CID), of any version, codec and hash function. Contracts see its bytes;
+/// equality, order and hashing are those of the bytes. One of at most 36 bytes is stored inline,
+/// and a longer one is a share of bytes that contain it.
 pub struct Cid {
     pub(crate) held: Held,
 }
 
-// Written out and not derived: what is derived is put into each function that lets go of one, at each of its ends.
+// Written by hand: a derived drop is inlined in each function that drops one, at each of its exits.
 impl Drop for Cid {
     fn drop(self) {
         let Cid { held } = self;
@@ -60,7 +60,7 @@ impl Cid {
         self.held.bytes()
     }
 
-    /// The same CID where it stands.
+    /// Borrows the CID in place.
     pub fn by_ref(&self) -> CidRef<'_>
         ensures same { result ≡ self.now }
     {
@@ -71,15 +71,16 @@ impl Cid {
         }
     }
 
-    /// The same CID once more. One of more than 36 bytes is shared and not copied.
+    /// Clones the CID. One of more than 36 bytes is shared and not copied. Fails if memory runs
+    /// out.
     pub fn try_clone(&self, alloc: Global) -> Result<Cid, AllocError>
         ensures same { IfOk result (λ c. c ≡ self.now) }
     {
         self.by_ref().to_cid(alloc)
     }
 
-    /// The CID at the front, and its length. What follows it isn't looked at. The fault
-    /// is that of the first part that isn't one, or `Memory`.
+    /// Reads the CID at the front, and returns it with its length in bytes. What follows it isn't
+    /// looked at. The error is that of the first part that isn't valid, or `Memory`.
     pub fn read(alloc: Global, bytes: &[u8]) -> Result<(Cid, usize), CidFault>
         ensures exact { Gives (λ r. (r.0, r.1)) result (cid_at bytes.now) }
     {
@@ -88,8 +89,8 @@ impl Cid {
         Ok((Cid { held }, cid.len()))
     }
 
-    /// The CID that stands in shared bytes from a place on, and its length, as `read` has them of the bytes from
-    /// there on. One of more than 36 bytes is shared and not copied.
+    /// Reads the CID in shared bytes from an offset on, and returns it with its length, as `read`
+    /// does for the bytes from there on. One of more than 36 bytes is shared and not copied.
     pub fn read_within(
         alloc: Global,
         bytes: &Arc<Vec<u8>>,
@@ -102,15 +103,15 @@ impl Cid {
         Ok((Cid { held }, cid.len()))
     }
 
-    /// The length of the CID at the front, which is not copied. The faults are those of `read` but for
-    /// want of memory.
+    /// Returns the length of the CID at the front, which is not copied. The errors are those of
+    /// `read`, except for `Memory`.
     pub fn length_at(bytes: &[u8]) -> Result<usize, CidFault>
         ensures exact { Reads (λ n. n) result (cid_at bytes.now and_then (λ r. Ok r.1)) }
     {
         Ok(split_cid(bytes)?.len())
     }
 
-    /// All parts, from one reading of the bytes.
+    /// Returns all parts, from one reading of the bytes.
     pub fn parts(&self) -> Parts<'_>
         ensures { parts_view result ≡ parts_of self.now }
     {
@@ -131,7 +132,7 @@ impl Cid {
         self.parts().codec
     }
 
-    /// The code of the hash: that of sha2-256 for a CIDv0.
+    /// The code of the hash function: that of sha2-256 for a CIDv0.
     pub fn hash_code(&self) -> u64
         ensures { result ≡ hash_code_of self.now }
     {
@@ -145,7 +146,8 @@ impl Cid {
         self.parts().digest
     }
 
-    /// The text: base32 of a CIDv1, `v0-` and hexadecimal of a CIDv0.
+    /// Returns the text: multibase base32 (RFC 4648) of a CIDv1, `v0-` and hex of a CIDv0. Fails if
+    /// memory runs out.
     pub fn text(&self, alloc: Global) -> Result<String, AllocError>
         ensures exact { IfOk result (λ s. string_bytes s ≡ text_of self.now) }
     {
@@ -160,7 +162,7 @@ impl Cid {
         Ok(text)
     }
 
-    /// The CIDv1 with this text.
+    /// Parses the CIDv1 with this text.
     pub fn from_text(alloc: Global, text: &str) -> Result<Cid, CidFault>
         ensures exact { Gives (λ c. c) result (cid_of_text text.now) }
     {
@@ -203,8 +205,8 @@ impl Eq for Cid {
     ghost laws = { Prim.search (comparing, rules) };
 }
 
-// The order of bytes, eight at a time as one number. CIDs begin alike, and a tree of them compares many.
-// Strangers choose long ones that agree up to their ends, so this is a loop.
+// Compares bytes, eight at a time as one number. CIDs begin alike, and a tree of them compares
+// many. An attacker can choose long ones that agree up to their ends, so this is a loop.
 fn order_of_bytes(left: &[u8], right: &[u8]) -> Ordering
     ensures { result ≡ slice_cmp nat_cmp left.now right.now }
 {
@@ -222,7 +224,7 @@ fn order_of_bytes(left: &[u8], right: &[u8]) -> Ordering
     here.cmp(there)
 }
 
-// The order of eight bytes.
+// Compares eight bytes.
 fn order_of_words(left: &[u8; 8], right: &[u8; 8]) -> Ordering
     ensures { result ≡ slice_cmp nat_cmp left.now right.now }
 {

@@ -1,4 +1,4 @@
-//! CIDs where they stand in other bytes.
+//! CIDs in place in other bytes.
 
 ghost use Rattle.std.specs.Prelude.{◌≡◌, IfOk, IfSome};
 ghost use Rattle.std.specs.Arc.{arc_value};
@@ -14,11 +14,11 @@ use std::fmt;
 use std::marker::Model;
 use std::sync::Arc;
 
-/// A CID where it stands in other bytes. Contracts see its bytes, as those of a `Cid`.
+/// A CID in place in other bytes. Contracts see its bytes, as those of a `Cid`.
 #[derive(Drop)]
 pub struct CidRef<'a> {
     bytes: &'a [u8],
-    // Where they stand in bytes that can be shared, if that is known.
+    // The shared bytes and the CID's offset in them, if known.
     place: Option<(&'a Arc<Vec<u8>>, usize)>,
 }
 
@@ -36,7 +36,7 @@ impl<'a> Model for CidRef<'a> {
 }
 
 impl<'a> CidRef<'a> {
-    /// The CID that these bytes are.
+    /// Makes a reference to the CID that these bytes are.
     #[inline]
     pub fn of(bytes: &'a [u8]) -> CidRef<'a>
         requires cid { IsCid bytes.now }
@@ -45,7 +45,7 @@ impl<'a> CidRef<'a> {
         CidRef { bytes, place: None }
     }
 
-    /// The CID that these bytes are, which stand in shared ones from a place on.
+    /// Makes a reference to the CID that these bytes are, which are at an offset of shared ones.
     #[inline]
     pub fn within(bytes: &'a [u8], shared: &'a Arc<Vec<u8>>, start: usize) -> CidRef<'a>
         requires cid { IsCid bytes.now }
@@ -58,7 +58,7 @@ impl<'a> CidRef<'a> {
         }
     }
 
-    /// The bytes, which live as long as those in which the CID stands.
+    /// The bytes, which live as long as those that contain the CID.
     #[inline]
     pub fn as_bytes(&self) -> &'a [u8]
         ensures bytes { result.now ≡ self.now }
@@ -67,7 +67,7 @@ impl<'a> CidRef<'a> {
         self.bytes
     }
 
-    /// The shared bytes in which the CID stands, and the place from which on, where these are known.
+    /// The shared bytes that contain the CID and its offset in them, if known.
     #[inline]
     pub fn shared(&self) -> Option<(&'a Arc<Vec<u8>>, usize)>
         ensures place { IfSome result (λ p. StandsAt (arc_value p.0.now).items p.1 self.now) }
@@ -75,15 +75,15 @@ impl<'a> CidRef<'a> {
         self.place
     }
 
-    /// All parts, from one reading of the bytes. The digest lives as long as these.
+    /// Returns all parts, from one reading of the bytes. The digest lives as long as these.
     pub fn parts(&self) -> Parts<'a>
         ensures { parts_view result ≡ parts_of self.now }
     {
         whole_parts(self.bytes)
     }
 
-    /// The same CID with bytes of its own, or a share of those in which a long one stands. The bytes of a long
-    /// one are copied where no share is known.
+    /// Returns the CID with bytes of its own, or with a share of those that contain a long one. The
+    /// bytes of a long one are copied if no share is known. Fails if memory runs out.
     pub fn to_cid(&self, alloc: Global) -> Result<Cid, AllocError>
         ensures same { IfOk result (λ c. c ≡ self.now) }
     {

@@ -1,9 +1,9 @@
-//! Why bytes or a text are refused.
+//! Why bytes or a text are rejected.
 
 use std::alloc::AllocError;
 use std::fmt;
 
-/// Why no varint stands at the front.
+/// Why there is no varint at the front.
 #[derive(Debug, Drop, Clone, Copy, PartialEq, Eq)]
 pub enum VarintFault {
     /// The bytes end before the varint does.
@@ -14,7 +14,7 @@ pub enum VarintFault {
     NotMinimal,
 }
 
-/// Why no CID stands at the front, or why a text is none.
+/// Why there is no CID at the front, or why a text isn't one.
 #[derive(Debug, Drop, Clone, Copy, PartialEq, Eq)]
 pub enum CidFault {
     /// The bytes end before the CID does.
@@ -23,7 +23,7 @@ pub enum CidFault {
     Varint,
     /// The version, which is not 1.
     Version(u64),
-    /// No memory was left.
+    /// Out of memory.
     Memory,
     /// A text does not begin with `b`.
     Multibase,

@@ -1,9 +1,9 @@
 //! The hash functions of CIDs.
 
-/// In which way a CID names its bytes.
+/// A hash function by which a CID names its bytes.
 #[derive(Debug, Drop, Clone, Copy, PartialEq, Eq)]
 pub enum HashFunction {
-    /// The digest is the bytes themselves (identity), whatever their number.
+    /// The digest is the data itself (identity), whatever its length.
     Identity,
     /// SHA-256 (FIPS 180-4), with 32 bytes.
     Sha2_256,

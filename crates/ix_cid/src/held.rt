@@ -1,4 +1,4 @@
-//! Where the bytes of a CID are.
+//! The storage of a CID's bytes.
 
 ghost use Rattle.std.specs.Prelude.{◌≡◌, take, drop, IfOk};
 ghost use Rattle.std.specs.Arc.{arc_value};
@@ -7,19 +7,19 @@ ghost use Rattle.ix_cid.specs.Held.{content, StandsAt};
 use std::alloc::{AllocError, Global};
 use std::sync::Arc;
 
-// How many bytes a CID has at most that holds them itself: those of a CIDv1 under SHA-256.
+// The most bytes of a CID that is stored inline: those of a CIDv1 under SHA-256.
 const MOST_OWN: usize = 36;
 
-// The bytes of a CID. Strangers choose how long a CID is and how often it is linked, so a long one is
-// shared by all that have it.
+// The bytes of a CID. Untrusted input decides how long a CID is and how often it is linked, so a
+// long one is shared by all that have it.
 #[derive(Drop)]
 pub(crate) enum Held {
-    // A few bytes, in the value itself: as many of these as their size.
+    // A few bytes, inline: the first `size` of these.
     Own {
         bytes: [u8; MOST_OWN],
         size: u8,
     },
-    // As many bytes of others, from a place on.
+    // A range of other bytes, which are shared.
     Within {
         bytes: Arc<Vec<u8>>,
         start: usize,
@@ -38,7 +38,7 @@ impl Held {
         }
     }
 
-    // A copy of these bytes. Where they are many, it can be shared.
+    // Copies these bytes. If they are many, the copy can be shared.
     pub(crate) fn copy(alloc: Global, bytes: &[u8]) -> Result<Held, AllocError>
         ensures { IfOk result (λ h. content h ≡ bytes.now) }
     {
@@ -53,7 +53,7 @@ impl Held {
         })
     }
 
-    // These bytes. Where they are many, they are not copied and can be shared.
+    // Takes these bytes. If they are many, they are not copied and can be shared.
     pub(crate) fn keep(alloc: Global, bytes: Vec<u8>) -> Result<Held, AllocError>
         ensures { IfOk result (λ h. content h ≡ bytes.items) }
     {
@@ -64,7 +64,7 @@ impl Held {
         }
     }
 
-    // These bytes, which can be shared.
+    // Makes these bytes shareable.
     fn shared(alloc: Global, bytes: Vec<u8>) -> Result<Held, AllocError>
         ensures { IfOk result (λ h. content h ≡ bytes.items) }
     {
@@ -76,7 +76,7 @@ impl Held {
         })
     }
 
-    // Bytes that stand in shared ones, from a place on: a copy of a few, and else a share of the others.
+    // Takes bytes at an offset of shared ones: copies a few, and shares more.
     pub(crate) fn within(
         alloc: Global,
         bytes: &[u8],
@@ -97,7 +97,7 @@ impl Held {
     }
 }
 
-// What follows a place, which may lie behind the end.
+// Returns what follows an offset, which may be past the end.
 pub(crate) fn behind(bytes: &[u8], start: usize) -> &[u8]
     ensures { result.now ≡ drop start bytes.now }
 {
@@ -105,7 +105,7 @@ pub(crate) fn behind(bytes: &[u8], start: usize) -> &[u8]
     rest
 }
 
-// As many bytes at the front as there are of those asked for.
+// Returns the first `size` bytes, or all if there are fewer.
 #[inline]
 fn front(bytes: &[u8], size: usize) -> &[u8]
     ensures { result.now ≡ take size bytes.now }

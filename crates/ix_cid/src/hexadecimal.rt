@@ -1,11 +1,11 @@
-//! Hexadecimal, in lower case.
+//! Hex, in lower case.
 
 ghost use Rattle.std.specs.Prelude.{◌≡◌, ◌++◌, OnOk, string_bytes};
 ghost use Rattle.ix_cid.specs.CidText.{hex_of};
 
 use std::alloc::{AllocError, Global};
 
-/// Appends the hexadecimal of some bytes.
+/// Appends the hex of some bytes.
 pub fn append(alloc: Global, text: &mut String, bytes: &[u8]) -> Result<(), AllocError>
     ensures { OnOk result (string_bytes text.new ≡ string_bytes text.old ++ hex_of bytes.now) }
 {

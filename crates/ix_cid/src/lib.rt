@@ -1,9 +1,9 @@
 //! Content identifiers: varints, CIDs and their texts.
 //!
-//! A CID is read exactly where the front of the bytes is one, and a refusal is the first fault; no
-//! CID is the beginning of another. A CIDv1 and its text in base32 give one another. Appending
-//! leaves everything as it was where memory runs out. A long CID is a share of bytes in which it
-//! stands, and so is each copy of it.
+//! A CID is read exactly if the front of the bytes is one, and otherwise the first error is
+//! returned. No CID begins another. A CIDv1 and its base32 text determine each other. If memory
+//! runs out, appending leaves everything as it was. A long CID is a share of bytes that contain it,
+//! and so is each copy of it.
 //!
 //! ```rust
 //! let text = "bafkreif2pall7dybz7vecqka3zo24irdwabwdi4wc55jznaq75q7eaavvu";

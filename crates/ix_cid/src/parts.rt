@@ -15,7 +15,7 @@ use crate::varint::read_varint;
 // The bytes that a CIDv0 begins with: sha2-256, and 32 digest bytes.
 const VERSION_0_FRONT: [u8; 2] = [0x12, 0x20];
 
-// How many bytes a CIDv0 has.
+// The length of a CIDv0, in bytes.
 const VERSION_0_LENGTH: u64 = 34;
 
 // What most CIDs begin with: version 1, DAG-CBOR or raw, sha2-256, and 32 digest bytes.
@@ -23,7 +23,7 @@ const DAG_CBOR_FRONT: [u8; 4] = [0x01, 0x71, 0x12, 0x20];
 
 const RAW_FRONT: [u8; 4] = [0x01, 0x55, 0x12, 0x20];
 
-/// The parts of a CID, the digest where it stands in the CID's bytes.
+/// The parts of a CID, the digest in place in the CID's bytes.
 #[derive(Debug, Clone, Copy)]
 pub struct Parts<'a> {
     /// The version, 0 or 1.
@@ -37,7 +37,8 @@ pub struct Parts<'a> {
 }
 
 impl Parts<'_> {
-    /// In which way the CID names its bytes, where that is one of three.
+    /// Returns the hash function, if it is one of the three that are known and the digest has its
+    /// length.
     pub fn hash_function(&self) -> Option<HashFunction>
         ensures { result ≡ hash_function_of (parts_view self.now) }
     {
@@ -53,7 +54,7 @@ impl Parts<'_> {
     }
 }
 
-// The number at the front, and the bytes after it.
+// Splits off the number at the front; returns it and the bytes after it.
 fn split_number(bytes: &[u8]) -> Result<(u64, &[u8]), CidFault>
     ensures exact { Reads (λ r. (r.0, r.1.now)) result (number_at bytes.now) }
 {
@@ -64,7 +65,7 @@ fn split_number(bytes: &[u8]) -> Result<(u64, &[u8]), CidFault>
     }
 }
 
-// That many bytes at the front, and the bytes after them.
+// Splits off `count` bytes at the front; returns them and the bytes after them.
 fn split_bytes(count: u64, bytes: &[u8]) -> Result<(&[u8], &[u8]), CidFault>
     ensures exact { Reads (λ r. (r.0.now, r.1.now)) result (bytes_at count bytes.now) }
 {
@@ -74,7 +75,7 @@ fn split_bytes(count: u64, bytes: &[u8]) -> Result<(&[u8], &[u8]), CidFault>
     Ok(bytes.split_at(count as usize))
 }
 
-// The parts of a CIDv0, and the bytes after it.
+// Splits off a CIDv0; returns its parts and the bytes after it.
 fn split_version_0(bytes: &[u8]) -> Result<(Parts<'_>, &[u8]), CidFault>
     ensures exact { Reads (λ r. (parts_view r.0, r.1.now)) result (version_0_at bytes.now) }
 {
@@ -88,7 +89,7 @@ fn split_version_0(bytes: &[u8]) -> Result<(Parts<'_>, &[u8]), CidFault>
     Ok((parts, rest))
 }
 
-// The parts of a CIDv1 behind its version, and the bytes after it.
+// Splits off the parts of a CIDv1 after its version; returns them and the bytes after it.
 fn split_version_1(bytes: &[u8]) -> Result<(Parts<'_>, &[u8]), CidFault>
     ensures exact { Reads (λ r. (parts_view r.0, r.1.now)) result (version_1_at bytes.now) }
 {
@@ -105,7 +106,7 @@ fn split_version_1(bytes: &[u8]) -> Result<(Parts<'_>, &[u8]), CidFault>
     Ok((parts, rest))
 }
 
-// The parts of the CIDv1 at the front, and the bytes after it.
+// Splits off the CIDv1 at the front; returns its parts and the bytes after it.
 fn split_numbered(bytes: &[u8]) -> Result<(Parts<'_>, &[u8]), CidFault>
     ensures exact { Reads (λ r. (parts_view r.0, r.1.now)) result (numbered_at bytes.now) }
 {
@@ -116,8 +117,8 @@ fn split_numbered(bytes: &[u8]) -> Result<(Parts<'_>, &[u8]), CidFault>
     split_version_1(rest)
 }
 
-// The parts of the CID at the front, and the bytes after it, where it begins as most do: these four bytes
-// tell all but the digest.
+// Splits off the CID at the front, if it begins as most do: these four bytes determine all but the
+// digest. Returns its parts and the bytes after it.
 fn split_usual(bytes: &[u8]) -> Option<(Parts<'_>, &[u8])>
     ensures exact { IfSome result (λ r. parts_at bytes.now ≡ Ok (parts_view r.0, r.1.now)) }
 {
@@ -142,7 +143,7 @@ fn split_usual(bytes: &[u8]) -> Option<(Parts<'_>, &[u8])>
     Some((parts, rest))
 }
 
-/// The parts of the CID at the front, and the bytes after it.
+/// Splits off the CID at the front; returns its parts and the bytes after it.
 pub fn split_parts(bytes: &[u8]) -> Result<(Parts<'_>, &[u8]), CidFault>
     ensures exact { Reads (λ r. (parts_view r.0, r.1.now)) result (parts_at bytes.now) }
 {
@@ -155,7 +156,7 @@ pub fn split_parts(bytes: &[u8]) -> Result<(Parts<'_>, &[u8]), CidFault>
     }
 }
 
-/// The bytes of the CID at the front.
+/// Returns the bytes of the CID at the front.
 pub fn split_cid(bytes: &[u8]) -> Result<&[u8], CidFault>
     ensures exact { Reads (λ c. (c.now, length c.now)) result (cid_at bytes.now) }
     ensures cid { IfOk result (λ c. IsCid c.now) }
@@ -164,7 +165,7 @@ pub fn split_cid(bytes: &[u8]) -> Result<&[u8], CidFault>
     Ok(&bytes[..bytes.len() - rest.len()])
 }
 
-/// The parts of a CID.
+/// Returns the parts of a CID.
 pub fn whole_parts(cid: &[u8]) -> Parts<'_>
     requires cid { IsCid cid.now }
     ensures { parts_view result ≡ parts_of cid.now }
@@ -175,8 +176,8 @@ pub fn whole_parts(cid: &[u8]) -> Parts<'_>
     }
 }
 
-/// The length of the CIDv1 at the front. A front that only a CIDv0 has is one of
-/// version 18 here.
+/// Returns the length of the CIDv1 at the front, in bytes. The front of a CIDv0 is rejected as
+/// version 18.
 pub fn numbered_length(bytes: &[u8]) -> Result<usize, CidFault>
     ensures exact { Reads (λ n. n) result (numbered_length_at bytes.now) }
 {

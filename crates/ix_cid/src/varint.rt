@@ -6,12 +6,12 @@ ghost use Rattle.ix_cid.specs.Varint.{varint_at, varint_of};
 use crate::fault::VarintFault;
 use std::alloc::AllocError;
 
-// How many bytes a varint has at most.
+// The greatest length of a varint, in bytes.
 const LONGEST: usize = 9;
 
-/// The number at the front and its length (multiformats unsigned-varint). A varint
-/// that ends early is `Truncated`, one of more than nine bytes is `TooLong`, and one
-/// that has a shorter form is `NotMinimal`.
+/// Reads the number at the front, and returns it with its length in bytes (multiformats
+/// unsigned-varint). Fails with `Truncated` if the varint ends early, `TooLong` if it has more than
+/// nine bytes, and `NotMinimal` if it has a shorter form.
 pub fn read_varint(bytes: &[u8]) -> Result<(u64, usize), VarintFault>
     ensures exact { result ≡ varint_at bytes.now }
 {
@@ -32,7 +32,7 @@ pub fn read_varint(bytes: &[u8]) -> Result<(u64, usize), VarintFault>
     Err(VarintFault::Truncated)
 }
 
-/// Writes the varint of a number at the end. An `Err` changes nothing.
+/// Appends the varint of a number. An error changes nothing.
 pub fn push_varint(out: &mut Vec<u8>, number: u64) -> Result<(), AllocError>
     requires { number < 2 ^ 63 }
     ensures ok { OnOk result (out.new.items ≡ out.old.items ++ varint_of number) }

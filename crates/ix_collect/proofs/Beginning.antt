@@ -16,11 +16,13 @@ use Rattle.ix_collect.specs.JobProgress.{IsNew, IsSafe, IsSafeAt, IsUnderWay, Is
 use Rattle.ix_collect.specs.Collected.{AllNew, EachSafe, EachCome}
 
 module _ {S : Type 0} (events : S → List Event) (failed : S → List Delivery) where
+  -- a sink that wasn't called is open, and no write of it has failed
   safe_none : (p : JobProgress) (s : S) → IsNew p → (events s ≡ []) × (failed s ≡ []) → IsSafe p (events s) (failed s)
   safe_none p s new fresh =
       subst (λ (e : Option End). IsSafeAt e p.stage (events s) (failed s)) (sym new.end)
       (subst (λ (x : Stage). IsSafeAt None x (events s) (failed s)) (sym new.stage) (subst (λ (l : List Event). IsOpen l) (sym fresh.0) tt, fresh.1))
 
+  -- sink by sink
   pub safe_new : (ps : List JobProgress) (ss : List S) → length ss ≡ length ps → AllNew ps → EachFresh events failed ss → EachSafe events failed ps ss
   safe_new [] [] e new fresh = tt
   safe_new [] (s ∷ ss) e new fresh = absurd (omega arith)
@@ -28,9 +30,11 @@ module _ {S : Type 0} (events : S → List Event) (failed : S → List Delivery)
   safe_new (p ∷ ps) (s ∷ ss) e new fresh = (safe_none p s new.0 fresh.0, safe_new ps ss (omega arith) new.1 fresh.1)
 
   module _ (store : Blocks) (jobs : List JobMeaning) where
+    -- an empty ring has no item at any number
     nothing_found : (ring : Numbered (Option Delivery)) (k : ℕ) → ring ≡ record { next = 0; entries = [] } → found ring k ≡ None
     nothing_found ring k e = ap (λ (r : Numbered (Option Delivery)). found r k) e
 
+    -- a new job is under way with no items: its counts are 0
     come_none : (n : ℕ) (p : JobProgress) (s : S) → IsNew p → (events s ≡ []) × (failed s ≡ []) → IsCome (judged_at store jobs n) (over_at store jobs n) (tally n []) p (events s) (failed s)
     come_none n p s new fresh =
         let under : IsUnderWay (judged_at store jobs n) (over_at store jobs n) (tally n []) p (events s) (failed s) = record {
@@ -53,6 +57,7 @@ module _ {S : Type 0} (events : S → List Event) (failed : S → List Delivery)
         let calm : IsCalm p = λ at. nothing_found p.ring p.ring.next new.ring in
         subst (λ (e : Option End). IsComeTo (judged_at store jobs n) (over_at store jobs n) (tally n []) p (events s) (failed s) e) (sym new.end) (under, calm)
 
+    -- job by job
     pub come_new : (n : ℕ) (ps : List JobProgress) (ss : List S) → length ss ≡ length ps → AllNew ps → EachFresh events failed ss → EachCome events failed store jobs [] n ps ss
     come_new n [] [] e new fresh = tt
     come_new n [] (s ∷ ss) e new fresh = absurd (omega arith)

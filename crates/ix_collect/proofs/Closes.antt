@@ -17,7 +17,7 @@ use Rattle.ix_collect.proofs.Counting.{point_here, few_items}
 use Rattle.ix_collect.proofs.Arrivals.{Stays, held_adds, checked_adds}
 
 module _ (all : List Delivery) (over : Bool) where
-  -- a close changes nothing of what waits
+  -- a close changes nothing in the ring
   waiting_close : (t u : Tally) (z : ℕ → ℕ) (out_of_memory more : Bool) (ring : Numbered (Option Delivery)) → Adds t u none_of none_of z → Stays out_of_memory more → IsWaiting all t out_of_memory ring → IsWaiting all u more ring
   waiting_close t u z out_of_memory more ring a s w = record {
     held = λ k o e. held_adds all over t u none_of none_of z out_of_memory more k o a s (w.held k o e);
@@ -28,12 +28,14 @@ module _ (all : List Delivery) (over : Bool) where
         omega arith;
   }
 
+  -- a close changes nothing of why so many visits were delivered
   on_close : (t u : Tally) (z : ℕ → ℕ) (count : ℕ) (out_of_memory more : Bool) (ring : Numbered (Option Delivery)) (failed : List Delivery) (stage : Stage)
       → Adds t u none_of none_of z → Stays out_of_memory more → IsOn all t count out_of_memory ring failed stage → IsOn all u count more ring failed stage
   on_close t u z count out_of_memory more ring failed Delivering a s on = (on.0, on.1, waiting_close t u z out_of_memory more ring a s on.2)
   on_close t u z count out_of_memory more ring failed Failed a s on = on
   on_close t u z count out_of_memory more ring failed Stopped a s on = (s on.0, on.1)
 
+  -- a close adds no visit without a verdict
   close_unchecked : (t u : Tally) (z : ℕ → ℕ) (out_of_memory more : Bool) → Adds t u none_of none_of z → Stays out_of_memory more → (out_of_memory ≡ false → (k : ℕ) → t.unchecked k ≡ 0) → more ≡ false → (k : ℕ) → u.unchecked k ≡ 0
   close_unchecked t u z out_of_memory more a s h e k =
       let was : out_of_memory ≡ false = elim (cases_Bool out_of_memory) [ inl up ↦ (let m : more ≡ true = s up in cc) | inr down ↦ down ] in
@@ -64,6 +66,7 @@ module _ (all : List Delivery) (over : Bool) where
         on = on_close t u (point seq) w.count p.out_of_memory out_of_memory p.ring failed p.stage adds stays w.on;
       }
 
+  -- two closes contradict fine counts: the second has the first's number or one that may not occur
   two_closes : (t u : Tally) (seq : ℕ) (z : Option WalkEnd) (out_of_memory : Bool) → IsFine all u → Adds t u none_of none_of (point seq) → IsCloseKnown all over t out_of_memory z → is_some z ≡ true → ⊥
   two_closes t u seq None out_of_memory fine adds h e = cc
   two_closes t u seq (Some w) out_of_memory fine adds h e =
@@ -81,7 +84,7 @@ module _ (all : List Delivery) (over : Bool) where
             ]
       ]
 
-  -- a second close doesn't come
+  -- so a second close isn't good
   pub no_second_close : (t u : Tally) (seq : ℕ) (end : End) (p : JobProgress) (events : List Event) (failed : List Delivery)
       → IsFine all u → IsCloseArrival all over seq end t u → IsUnderWay all over t p events failed → is_some p.close ≡ true → ⊥
   no_second_close t u seq end p events failed fine a w e = two_closes t u seq p.close p.out_of_memory fine a.1 w.closing e

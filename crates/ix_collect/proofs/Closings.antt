@@ -34,10 +34,11 @@ module _ (all : List Delivery) (over : Bool) (t : Tally) (fine : IsFine all t) w
         | inr more ↦ more
       ]
 
-  -- without want of memory all were checked
+  -- unless memory ran out all were checked
   every_checked : (k : ℕ) → 0 < t.closes k → t.count ≡ suc k → ((n : ℕ) → t.unchecked n ≡ 0) → k ≡ length all → (n : ℕ) → n < length all → 0 < t.checked n
   every_checked k closed count none is n lt = let one : t.checked n + t.unchecked n ≡ 1 = full all t fine k n closed count (omega arith) in let z : t.unchecked n ≡ 0 = none n in omega arith
 
+  -- the close of a walk that didn't run out of memory is numbered by the length of all
   close_length : (out_of_memory : Bool) (end : End) (k : ℕ) → out_of_memory ≡ false → (end ≡ Memory → out_of_memory ≡ true) → IsCloseOf end k all over → k ≡ length all
   close_length out_of_memory Done k s m c = c.0
   close_length out_of_memory Limit k s m c = c.0
@@ -45,6 +46,7 @@ module _ (all : List Delivery) (over : Bool) (t : Tally) (fine : IsFine all t) w
   close_length out_of_memory Write k s m c = absurd c
   close_length out_of_memory Start k s m c = absurd c
 
+  -- if all was delivered, the walk's own end fits
   fits_walk : (out_of_memory : Bool) (end : End) (k count : ℕ) (failed : List Delivery) → out_of_memory ≡ false → (end ≡ Memory → out_of_memory ≡ true) → IsCloseOf end k all over → count ≡ length all → failed ≡ [] → EndFits end count all over failed
   fits_walk out_of_memory Done k count failed s m c e none = (e, c.1, none)
   fits_walk out_of_memory Limit k count failed s m c e none = (e, c.1, none)
@@ -52,6 +54,7 @@ module _ (all : List Delivery) (over : Bool) (t : Tally) (fine : IsFine all t) w
   fits_walk out_of_memory Write k count failed s m c e none = absurd c
   fits_walk out_of_memory Start k count failed s m c e none = absurd c
 
+  -- whatever was delivered, the end for lack of memory fits
   fits_memory : (count : ℕ) (out_of_memory : Bool) (ring : Numbered (Option Delivery)) (failed : List Delivery) (stage : Stage) → IsOn all t count out_of_memory ring failed stage → EndFits Memory count all over failed
   fits_memory count out_of_memory ring failed Delivering on = inl on.1
   fits_memory count out_of_memory ring failed Failed on = inr on.1
@@ -65,10 +68,12 @@ module _ (all : List Delivery) (over : Bool) (t : Tally) (fine : IsFine all t) w
   fits_end false Failed end k count ring failed on m c whole = on
   fits_end false Stopped end k count ring failed on m c whole = let s : false ≡ true = on.0 in cc
 
+  -- an end other than `Memory` means that memory didn't run out
   no_memory : (out_of_memory : Bool) (stage : Stage) (end : End) → (end_of out_of_memory stage end ≡ Memory → ⊥) → out_of_memory ≡ false
   no_memory true stage end ne = absurd (ne refl)
   no_memory false stage end ne = refl
 
+  -- no walk closes with `Start`, and no step makes it
   never_start : (out_of_memory : Bool) (stage : Stage) (end : End) (k : ℕ) → IsCloseOf end k all over → end_of out_of_memory stage end ≡ Start → ⊥
   never_start true stage end k c e = cc
   never_start false Delivering Done k c e = cc
@@ -112,13 +117,14 @@ module _ (all : List Delivery) (over : Bool) (t : Tally) (fine : IsFine all t) w
       }
 
 module _ (all : List Delivery) (over : Bool) where
-  -- an item counts, and no close goes
+  -- an item counts as one, and no close is lost
   item_counts : (item : Verdicted) (t u : Tally) → IsItem all over item t u → (u.count ≡ 1 + t.count) × ((k : ℕ) → t.closes k ≤ u.closes k)
   item_counts (items.Checked v d) t u i = let a = i.1 in (a.count_is, λ k. let e : u.closes k ≡ 0 + t.closes k = a.closes_is k in omega arith)
   item_counts (items.Unchecked j n) t u i = let a = i.1 in (a.count_is, λ k. let e : u.closes k ≡ 0 + t.closes k = a.closes_is k in omega arith)
   item_counts (items.Close j n end) t u i = let a = i.1 in (a.count_is, λ k. let e : u.closes k ≡ point n k + t.closes k = a.closes_is k in omega arith)
   item_counts items.Last t u i = absurd i
 
+  -- a job that is over has all its items, so one more is too many
   over_alone : (item : Verdicted) (t u : Tally) (end : End) (events : List Event) (failed : List Delivery) → IsFine all u → IsItem all over item t u → IsOver all over t end events failed → ⊥
   over_alone item t u end events failed fine i w =
       let counts = item_counts item t u i in
@@ -129,6 +135,7 @@ module _ (all : List Delivery) (over : Bool) where
       let most : u.count ≤ suc w.last = no_more all u fine w.last (omega arith) in
       absurd (omega arith)
 
+  -- by how the sink was closed
   none_after : (item : Verdicted) (t u : Tally) (p : JobProgress) (events : List Event) (failed : List Delivery) (o : Option End)
       → IsFine all u → IsItem all over item t u → IsComeTo all over t p events failed o → is_some o ≡ true → ⊥
   none_after item t u p events failed None fine i w e = cc
@@ -139,5 +146,6 @@ module _ (all : List Delivery) (over : Bool) where
       → IsFine all u → IsItem all over item t u → IsCome all over t p events failed → is_some p.end ≡ true → ⊥
   no_item_after item t u p events failed fine i w e = none_after item t u p events failed p.end fine i w e
 
+  -- a job whose sink isn't closed is under way
   pub under_way : (t : Tally) (p : JobProgress) (events : List Event) (failed : List Delivery) → p.end ≡ None → IsCome all over t p events failed → IsUnderWay all over t p events failed
   under_way t p events failed e w = let now : IsComeTo all over t p events failed None = subst (λ (o : Option End). IsComeTo all over t p events failed o) e w in now.0

@@ -24,51 +24,60 @@ job_known store jobs (Unchecked i n) j a e = let same : i ≡ j = cc in subst (�
 job_known store jobs (Close i n end) j a e = let same : i ≡ j = cc in subst (λ (k : ℕ). k < length jobs) same a.0
 job_known store jobs Last j a e = cc
 
--- an item of a job that isn't there is no good one
+-- an item of an unknown job isn't good
 pub collected_unknown : (store : Blocks) (jobs : List JobMeaning) (x : Verdicted) (got more : List Verdicted) (j size : ℕ) → Inserts x got more → job_of x ≡ Some j → size ≤ j → size ≡ length jobs → IsGood store jobs more → ⊥
 collected_unknown store jobs x got more j size i of past len good = let lt : j < length jobs = job_known store jobs x j ((good_before store jobs x got more i good).1) of in absurd (omega arith)
 
+-- one more sink was closed, in the loop of `is_done`
 pub ended_more : (ps : List JobProgress) (i : ℕ) (p : JobProgress) → p ≡ get_or ps i p → i < length ps → AllEnded (take i ps) → IsEnded p → AllEnded (take (i + 1) ps)
 ended_more ps i p at lt h e =
     subst AllEnded (sym (take_more ps i p lt ∙ ap (λ (x : JobProgress). take i ps ++ x ∷ []) (sym at))) (each_push IsEnded (take i ps) p h e)
 
+-- if all sinks were closed, this one was
 pub ended_at : (ps : List JobProgress) (i : ℕ) (p : JobProgress) → p ≡ get_or ps i p → i < length ps → AllEnded ps → IsEnded p
 ended_at [] i p at lt h = absurd (omega arith)
 ended_at (x ∷ ps) zero p at lt h = subst IsEnded (sym at) h.0
 ended_at (x ∷ ps) (suc i) p at lt h = ended_at ps i p at (omega arith) h.1
 
+-- a sink that was closed at a position is the one there
 pub closed_at : (ps : List JobProgress) (i : ℕ) (p : JobProgress) → p ≡ get_or ps i p → IsClosedAt ps i → IsEnded p
 closed_at [] i p at h = absurd h
 closed_at (x ∷ ps) zero p at h = subst IsEnded (sym at) h
 closed_at (x ∷ ps) (suc i) p at h = closed_at ps i p at h
 
+-- the job at the position doesn't expect the item
 pub misplaced_at : (ps : List JobProgress) (x : Verdicted) (i : ℕ) (p : JobProgress) → p ≡ get_or ps i p → IsMisplacedAt ps x i → IsMisplaced p x
 misplaced_at [] x i p at h = absurd h
 misplaced_at (q ∷ ps) x zero p at h = subst (λ (r : JobProgress). IsMisplaced r x) (sym at) h
 misplaced_at (q ∷ ps) x (suc i) p at h = misplaced_at ps x i p at h
 
+-- an unexpected item is noted
 pub is_noted_then : (noted fine : Bool) → fine ≡ false → (noted || not fine) ≡ true
 is_noted_then true fine e = refl
 is_noted_then false true e = cc
 is_noted_then false false e = refl
 
+-- if one is noted that wasn't before, the item was unexpected
 pub not_fine : (noted fine : Bool) → noted ≡ false → (noted || not fine) ≡ true → fine ≡ false
 not_fine true fine e f = cc
 not_fine false true e f = cc
 not_fine false false e f = refl
 
+-- replacing a job's progress keeps all sinks closed, if this one stays closed
 pub ended_set : (ps : List JobProgress) (i : ℕ) (p q : JobProgress) → p ≡ get_or ps i p → i < length ps → (IsEnded p → IsEnded q) → AllEnded ps → AllEnded (set ps i q)
 ended_set [] i p q at lt keeps h = tt
 ended_set (x ∷ ps) zero p q at lt keeps h = (keeps (subst IsEnded (sym at) h.0), h.1)
 ended_set (x ∷ ps) (suc i) p q at lt keeps h = (h.0, ended_set ps i p q at (omega arith) keeps h.1)
 
 module _ {S : Type 0} (events : S → List Event) (failed : S → List Delivery) where
+  -- the sink at the position may be called
   pub safe_at : (ps : List JobProgress) (ss : List S) (i : ℕ) (p : JobProgress) (s : S) → p ≡ get_or ps i p → s ≡ get_or ss i s → i < length ps → EachSafe events failed ps ss → IsSafe p (events s) (failed s)
   safe_at [] ss i p s pe se lt h = absurd (omega arith)
   safe_at (x ∷ ps) [] i p s pe se lt h = absurd h
   safe_at (x ∷ ps) (y ∷ ss) zero p s pe se lt h = subst (λ (z : S). IsSafe p (events z) (failed z)) (sym se) (subst (λ (z : JobProgress). IsSafe z (events y) (failed y)) (sym pe) h.0)
   safe_at (x ∷ ps) (y ∷ ss) (suc i) p s pe se lt h = safe_at ps ss i p s pe se (omega arith) h.1
 
+  -- replacing one job and its sink keeps all others safe
   pub safe_set : (ps : List JobProgress) (ss : List S) (i : ℕ) (p : JobProgress) (s : S) → IsSafe p (events s) (failed s) → EachSafe events failed ps ss → EachSafe events failed (set ps i p) (set ss i s)
   safe_set [] [] i p s new h = tt
   safe_set [] (y ∷ ss) i p s new h = absurd h
@@ -77,7 +86,7 @@ module _ {S : Type 0} (events : S → List Event) (failed : S → List Delivery)
   safe_set (x ∷ ps) (y ∷ ss) (suc i) p s new h = (h.0, safe_set ps ss i p s new h.1)
 
   module _ (store : Blocks) (jobs : List JobMeaning) where
-    -- nothing changes for jobs of which the item isn't
+    -- nothing changes for the jobs that the item isn't of
     come_same : (x : Verdicted) (got more : List Verdicted) (n : ℕ) (ps : List JobProgress) (ss : List S)
         → Inserts x got more → ((j : ℕ) → n ≤ j → job_of x ≡ Some j → ⊥) → EachCome events failed store jobs got n ps ss → EachCome events failed store jobs more n ps ss
     come_same x got more n [] [] i ne h = tt
@@ -88,6 +97,7 @@ module _ {S : Type 0} (events : S → List Event) (failed : S → List Delivery)
       come_same x got more (n + 1) ps ss i (λ j le e. ne j (omega arith) e) h.1,
     )
 
+    -- how far the job at the position has come
     pub come_at : (got : List Verdicted) (n j : ℕ) (ps : List JobProgress) (ss : List S) (i : ℕ) (p : JobProgress) (s : S)
         → j ≡ n + i → p ≡ get_or ps i p → s ≡ get_or ss i s → i < length ps → EachCome events failed store jobs got n ps ss → IsCome (judged_at store jobs j) (over_at store jobs j) (tally j got) p (events s) (failed s)
     come_at got n j [] ss i p s je pe se lt h = absurd (omega arith)
@@ -99,6 +109,7 @@ module _ {S : Type 0} (events : S → List Event) (failed : S → List Delivery)
         (subst (λ (z : JobProgress). IsCome (judged_at store jobs n) (over_at store jobs n) (tally n got) z (events y) (failed y)) (sym pe) h.0))
     come_at got n j (x ∷ ps) (y ∷ ss) (suc i) p s je pe se lt h = come_at got (n + 1) j ps ss i p s (omega arith) pe se (omega arith) h.1
 
+    -- one job comes one item further, and the others stay
     come_set : (x : Verdicted) (got more : List Verdicted) (n j : ℕ) (ps : List JobProgress) (ss : List S) (i : ℕ) (p : JobProgress) (s : S)
         → Inserts x got more → job_of x ≡ Some j → j ≡ n + i → IsCome (judged_at store jobs j) (over_at store jobs j) (tally j more) p (events s) (failed s)
         → EachCome events failed store jobs got n ps ss → EachCome events failed store jobs more n (set ps i p) (set ss i s)
@@ -136,6 +147,7 @@ module _ {S : Type 0} (events : S → List Event) (failed : S → List Delivery)
               (subst (λ (l : List S). EachCome events failed store jobs more 0 (set ps j q) l) (sym te) (come_set x got more 0 j ps ss j q t ins of (omega arith) now.1 before.1)),
         )
       where
+        -- if none was noted and this item was expected, none is noted
         none_noted : (a b : Bool) → a ≡ false → b ≡ true → (a || not b) ≡ false
         none_noted true b e f = cc
         none_noted false true e f = refl

@@ -7,16 +7,20 @@ use Rattle.ix_archive.specs.declared.sink.Delivery.{Delivery}
 use Rattle.ix_handover.specs.Received.{Tally, seen, point}
 use Rattle.ix_collect.specs.JobProgress.{below, IsFine}
 
+-- a point is 1 at itself
 pub point_here : (k : ℕ) → point k k ≡ 1
 point_here k = (let t : (k == k) ≡ true = grind (arith, nat_tests) in rw t refl)
 
+-- and 0 elsewhere
 pub point_else : (k n : ℕ) → (n ≡ k → ⊥) → point k n ≡ 0
 point_else k n ne = (let t : (k == n) ≡ false = grind (arith, nat_tests) in rw t refl)
 
+-- a sum of ones and zeros is at most the number of them
 pub below_few : (f : ℕ → ℕ) (n : ℕ) → ((k : ℕ) → f k ≤ 1) → below f n ≤ n
 below_few f zero h = omega arith
 below_few f (suc n) h = let few : below f n ≤ n = below_few f n h in let one : f n ≤ 1 = h n in omega arith
 
+-- if it is equal to that, each is 1
 pub below_full : (f : ℕ → ℕ) (n k : ℕ) → ((i : ℕ) → f i ≤ 1) → below f n ≡ n → k < n → f k ≡ 1
 below_full f zero k h e lt = absurd (omega arith)
 below_full f (suc n) k h e lt =
@@ -27,6 +31,7 @@ below_full f (suc n) k h e lt =
       | inr more ↦ (let same : n ≡ k = omega arith in let here : f n ≡ 1 = omega arith in subst (λ (i : ℕ). f i ≡ 1) same here)
     ]
 
+-- zeros past n add nothing
 pub below_past : (f : ℕ → ℕ) (n m : ℕ) → n ≤ m → ((k : ℕ) → n ≤ k → f k ≡ 0) → below f m ≡ below f n
 below_past f n zero le h = let same : 0 ≡ n = omega arith in ap (below f) same
 below_past f n (suc m) le h =
@@ -36,7 +41,7 @@ below_past f n (suc m) le h =
     ]
 
 module _ (all : List Delivery) (t : Tally) (fine : IsFine all t) where
-  -- no item comes behind the close
+  -- no number above that of the close occurs
   past : (k : ℕ) → 0 < t.closes k → t.count ≡ below (seen t) (suc k)
   past k closed =
       let here : k ≤ length all = elim (cases_lt (length all) k) [ inl less ↦ (let none : seen t k ≡ 0 = fine.within k less in absurd (omega arith)) | inr more ↦ more ] in
@@ -58,6 +63,7 @@ module _ (all : List Delivery) (t : Tally) (fine : IsFine all t) where
   pub no_more : (k : ℕ) → 0 < t.closes k → t.count ≤ suc k
   no_more k closed = let few : below (seen t) (suc k) ≤ suc k = below_few (seen t) (suc k) fine.once in let e : t.count ≡ below (seen t) (suc k) = past k closed in omega arith
 
+  -- a job has at most a million visits and one close
   pub few_items : t.count ≤ 1000001
   few_items =
       let few : below (seen t) (suc (length all)) ≤ suc (length all) = below_few (seen t) (suc (length all)) fine.once in

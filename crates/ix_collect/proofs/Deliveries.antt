@@ -14,12 +14,13 @@ use Rattle.ix_collect.specs.declared.job_progress.Stage.TheVariants.{Delivering,
 use Rattle.ix_handover.specs.Received.{Tally}
 use Rattle.ix_collect.specs.JobProgress.{IsSafe, IsSafeAt, MayDeliver, IsOn, IsUnderWay, IsPoppedUnderWay}
 
--- the element at a place
+-- one element more: those before a position and the one there
 take_at : {X : Type 0} (xs : List X) (k : ℕ) (x : X) → slice_get xs k ≡ Some x → take (suc k) xs ≡ take k xs ++ x ∷ []
 take_at [] k x e = cc
 take_at (y ∷ ys) zero x e = let h : y ≡ x = cc in ap (λ z. z ∷ []) h
 take_at (y ∷ ys) (suc k) x e = ap (λ l. y ∷ l) (take_at ys k x e)
 
+-- the first of those from a position on is the one there
 drop_at : {X : Type 0} (xs : List X) (k : ℕ) (x : X) → slice_get xs k ≡ Some x → take 1 (drop k xs) ≡ x ∷ []
 drop_at [] k x e = cc
 drop_at (y ∷ ys) zero x e = let h : y ≡ x = cc in ap (λ z. z ∷ []) h
@@ -58,7 +59,7 @@ module _ (all : List Delivery) (over : Bool) where
         on = (slice_get_within all w.count d held.0, is ∙ sym (drop_at all w.count d held.0));
       }
 
--- a sink that took a delivery takes the next
+-- a sink that accepted a delivery accepts the next
 pub safe_on : (p : JobProgress) (events new : List Event) (failed refused : List Delivery) (d : Delivery) → p.end ≡ None → IsSafe p events failed → new ≡ events ++ delivery d ∷ [] → refused ≡ [] → IsSafe p new refused
 safe_on p events new failed refused d unclosed safe told none =
     let was : IsSafeAt None p.stage events failed = subst (λ (x : Option End). IsSafeAt x p.stage events failed) unclosed safe in

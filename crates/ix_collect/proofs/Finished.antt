@@ -29,18 +29,21 @@ use Rattle.ix_collect.specs.Collected.{EachCome, AllEnded, EachEnded}
 use Rattle.ix_collect.proofs.Counting.{point_here}
 use Rattle.ix_collect.proofs.Goodness.{same_tests}
 
+-- how the sink was closed, or `Memory`, as `end` returns it
 abbrev pub end_or : JobProgress → End
 end_or p = unwrap_or p.end Memory
 
+-- which is how it was closed, if it was
 end_known : (o : Option End) (e : End) → o ≡ Some e → o ≡ Some (unwrap_or o Memory)
 end_known None e h = cc
 end_known (Some f) e h = refl
 
+-- job by job
 pub ends_known : (ps : List JobProgress) → AllEnded ps → EachEnded ps (map end_or ps)
 ends_known [] h = tt
 ends_known (p ∷ ps) h = (let e = h.0 in end_known p.end e.0 e.1, ends_known ps h.1)
 
--- a pair that counts stands in the list
+-- a pair whose count isn't 0 is in the list
 pub has_pair : (j n : ℕ) (got : List Verdicted) → 0 < total (is_checked j n) got → Contains (pairs_of got) (j, n)
 has_pair j n [] lt = absurd (omega arith)
 has_pair j n (Checked v d ∷ got) lt =
@@ -59,10 +62,11 @@ has_pair j n (Unchecked k m ∷ got) lt = has_pair j n got (omega arith)
 has_pair j n (Close k m end ∷ got) lt = has_pair j n got (omega arith)
 has_pair j n (Last ∷ got) lt = has_pair j n got (omega arith)
 
+-- a job number is equal to itself
 itself : (v w : ℕ) → cond (v == v) (point w w) 0 ≡ point w w
 itself v w = let t : (v == v) ≡ true = grind (arith, nat_tests) in rw t refl
 
--- a pair that stands in the list counts
+-- a pair that is in the list has a count of 1 at least
 pair_counts : (j n : ℕ) (got : List Verdicted) → Contains (pairs_of got) (j, n) → 0 < total (is_checked j n) got
 pair_counts j n [] h = absurd (none_in (j, n) h)
 pair_counts j n (Checked v d ∷ got) h =
@@ -79,6 +83,7 @@ pair_counts j n (Unchecked k m ∷ got) h = let rest : 0 < total (is_checked j n
 pair_counts j n (Close k m end ∷ got) h = let rest : 0 < total (is_checked j n) got = pair_counts j n got h in omega arith
 pair_counts j n (Last ∷ got) h = let rest : 0 < total (is_checked j n) got = pair_counts j n got h in omega arith
 
+-- so counts of at most 1 mean that no pair is in the list twice
 pub pairs_once : (got : List Verdicted) → ((j n : ℕ) → total (is_checked j n) got ≤ 1) → IsEachOnce (pairs_of got)
 pairs_once [] h = tt
 pairs_once (Checked v d ∷ got) h = (
@@ -109,12 +114,15 @@ module _ (store : Blocks) (jobs : List JobMeaning) where
   pairs_within (Close k m end ∷ got) j n a h = pairs_within got j n (All-tail (IsAllowed store jobs) (Close k m end) got a) h
   pairs_within (Last ∷ got) j n a h = pairs_within got j n (All-tail (IsAllowed store jobs) Last got a) h
 
+  -- a number within the jobs has that job's visits
   judged_some : (n : ℕ) (j : JobMeaning) → slice_get jobs n ≡ Some j → judged_at store jobs n ≡ judged_visits store n j
   judged_some n j e = rw e refl
 
+  -- and exceeds the limit if that job does
   over_some : (n : ℕ) (j : JobMeaning) → slice_get jobs n ≡ Some j → over_at store jobs n ≡ is_over_limit store j
   over_some n j e = rw e refl
 
+  -- by what is at position n of the jobs
   counts_at : (n : ℕ) (o : Option JobMeaning) → slice_get jobs n ≡ o → visit_count store jobs n ≡ length (judged_at store jobs n)
   counts_at n None e = rw e refl
   counts_at n (Some j) e = rw e (sym (length-map (visits_of store n j) (judged store)))
@@ -123,6 +131,7 @@ module _ (store : Blocks) (jobs : List JobMeaning) where
   pub count_is : (n : ℕ) → visit_count store jobs n ≡ length (judged_at store jobs n)
   count_is n = counts_at n (slice_get jobs n) refl
 
+  -- a job that is over got its first visits and one close, as it calls for
   faithful_of : (n : ℕ) (j : JobMeaning) (t : Tally) (end : End) (told : List Event) (refused : List Delivery)
       → slice_get jobs n ≡ Some j → IsOver (judged_at store jobs n) (over_at store jobs n) t end told refused → IsFaithful store n j end told refused
   faithful_of n j t end told refused e w =
@@ -134,7 +143,7 @@ module _ (store : Blocks) (jobs : List JobMeaning) where
         fits = subst (λ (b : Bool). EndFits end w.count (judged_visits store n j) b refused) (over_some n j e) (subst (λ (l : List Delivery). EndFits end w.count l (over_at store jobs n) refused) all w.fits);
       }
 
-  -- what is delivered of visits has the job's number, and a number among them
+  -- what is delivered has the job's number, and a number among its visits
   delivered_at : (number start count : ℕ) (among : List Arrival) (d : Delivery)
       → Contains (map delivery (take count (map (judged store) (visits_from store number start among)))) (delivery d) → (d.visit.job ≡ number) × (start ≤ d.visit.seq) × (d.visit.seq < start + count)
   delivered_at number start zero among d h = absurd (none_in (delivery d) h)
@@ -152,6 +161,7 @@ module _ (store : Blocks) (jobs : List JobMeaning) where
             (b.0, omega arith, omega arith))
       ]
 
+  -- what a sink was delivered was checked
   told_here : (got : List Verdicted) (n : ℕ) (j : JobMeaning) (end : End) (told : List Event) (refused : List Delivery) (d : Delivery)
       → slice_get jobs n ≡ Some j → IsOver (judged_at store jobs n) (over_at store jobs n) (tally n got) end told refused → Contains told (delivery d) → Contains (pairs_of got) (d.visit.job, d.visit.seq)
   told_here got n j end told refused d e w c =
@@ -177,15 +187,19 @@ module _ {S : Type 0} (events : S → List Event) (failed : S → List Delivery)
   abbrev pub AreFrom : ℕ → List JobMeaning → Type 0
   AreFrom n rest = (i : ℕ) → slice_get rest i ≡ slice_get jobs (n + i)
 
+  -- all jobs are those from 0 on
   pub from_all : AreFrom 0 jobs
   from_all i = let at : i ≡ 0 + i = omega arith in ap (λ (k : ℕ). slice_get jobs k) at
 
+  -- without the first they are those from the next number on
   from_next : (n : ℕ) (j : JobMeaning) (rest : List JobMeaning) → AreFrom n (j ∷ rest) → AreFrom (n + 1) rest
   from_next n j rest h i = let at : n + suc i ≡ (n + 1) + i = omega arith in h (suc i) ∙ ap (λ (k : ℕ). slice_get jobs k) at
 
+  -- the first of them is the job with that number
   from_here : (n : ℕ) (j : JobMeaning) (rest : List JobMeaning) → AreFrom n (j ∷ rest) → slice_get jobs n ≡ Some j
   from_here n j rest h = let at : n + 0 ≡ n = omega arith in sym (h 0 ∙ ap (λ (k : ℕ). slice_get jobs k) at)
 
+  -- job by job, each sink got what its job calls for
   pub delivered_from : (n : ℕ) (rest : List JobMeaning) (ps : List JobProgress) (ss : List S) (es : List End)
       → AreFrom n rest → length ps ≡ length rest → EachCome events failed store jobs got n ps ss → EachEnded ps es → EachDelivered events failed store n rest es ss
   delivered_from n [] [] [] [] from len come ended = tt
@@ -200,6 +214,7 @@ module _ {S : Type 0} (events : S → List Event) (failed : S → List Delivery)
     delivered_from (n + 1) rest ps ss es (from_next n j rest from) (omega arith) come.1 ended.1,
   )
 
+  -- no job ended with `Start`
   pub started_from : (n : ℕ) (ps : List JobProgress) (ss : List S) (es : List End) → EachCome events failed store jobs got n ps ss → EachEnded ps es → NoneIsStart es
   started_from n [] ss [] come ended = λ (c : Contains [] Start). none_in Start c
   started_from n [] ss (e ∷ es) come ended = absurd ended
@@ -208,6 +223,7 @@ module _ {S : Type 0} (events : S → List Event) (failed : S → List Delivery)
   started_from n (p ∷ ps) (s ∷ ss) (e ∷ es) come ended =
       let w = over_of n p s e ended.0 come.0 in λ (c : Contains (e ∷ es) Start). elim (cases_cons e es Start c) [ inl at ↦ w.started at | inr r ↦ started_from (n + 1) ps ss es come.1 ended.1 r ]
 
+  -- what any sink was delivered was checked
   told_from : (n : ℕ) (rest : List JobMeaning) (ps : List JobProgress) (ss : List S) (es : List End) (s : S) (d : Delivery)
       → AreFrom n rest → length ps ≡ length rest → EachCome events failed store jobs got n ps ss → EachEnded ps es → Contains ss s → Contains (events s) (delivery d) → Contains (pairs_of got) (d.visit.job, d.visit.seq)
   told_from n rest [] [] es s d from len come ended among c = absurd (none_in s among)
@@ -238,6 +254,7 @@ module _ {S : Type 0} (events : S → List Event) (failed : S → List Delivery)
   every_from n (suc i) job seq (p ∷ ps) (s ∷ ss) (e ∷ es) at lt come ended walked within =
       every_from (n + 1) i job seq ps ss es (omega arith) (omega arith) come.1 ended.1 walked within
 
+  -- a number that has visits is that of a job
   job_below : (job seq : ℕ) → seq < length (judged_at store jobs job) → job < length jobs
   job_below job seq lt =
       elim (cases_lt job (length jobs)) [
@@ -257,6 +274,7 @@ module _ {S : Type 0} (events : S → List Event) (failed : S → List Delivery)
       let there : job < length jobs = job_below job seq within in
       every_from 0 job job seq ps ss es (omega arith) (omega arith) come ended walked within
 
+  -- each visit was checked as often as it is to be: those delivered, and in a job that didn't run out of memory all
   pub checked_from : (ps : List JobProgress) (ss : List S) (es : List End)
       → IsGood store jobs got → length ps ≡ length jobs → EachCome events failed store jobs got 0 ps ss → EachEnded ps es → IsCheckedOnce events store jobs es ss (pairs_of got)
   checked_from ps ss es good len come ended = record {
@@ -269,7 +287,7 @@ module _ {S : Type 0} (events : S → List Event) (failed : S → List Delivery)
   }
 
 module _ (store : Blocks) (jobs : List JobMeaning) (got : List Verdicted) where
-  -- of what is good no pair is checked twice, and each is that of a visit
+  -- of good items no pair is checked twice, and each pair is that of a visit
   pub good_pairs : IsGood store jobs got → IsEachOnce (pairs_of got) × ((job seq : ℕ) → Contains (pairs_of got) (job, seq) → seq < visit_count store jobs job)
   good_pairs good = (
     pairs_once got (λ j n. let most : total (is_checked j n) got + total (is_unchecked j n) got + total (is_close j n) got ≤ 1 = good.once j n in omega arith),

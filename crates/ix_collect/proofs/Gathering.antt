@@ -18,14 +18,15 @@ use Rattle.ix_handover.specs.Lanes.{received_by, sent_by, all_sent, EachLane, Is
 use Rattle.ix_handover.proofs.Totals.{total_append}
 
 module _ {S : Type 0} (events : S → List Event) (failed : S → List Delivery) (fact : Fact S) where
-  -- the collector goes on by no step, and by one step more
+  -- the collector goes on by no step
   pub on_same : (c : Collector) (sinks : List S) → CanCollect events failed c sinks → GoesOn events failed fact c c sinks sinks
   on_same c sinks can = record { sinks = can.sinks; jobs = refl; may = can.may; kept = kept_same fact sinks; done = λ d. d }
 
+  -- and by one step more
   pub on_trans : (a b c : Collector) (first next last : List S) → GoesOn events failed fact a b first next → GoesOn events failed fact b c next last → GoesOn events failed fact a c first last
   on_trans a b c first next last h k = record { sinks = k.sinks; jobs = k.jobs ∙ h.jobs; may = k.may; kept = kept_trans fact first next last h.kept k.kept; done = λ d. k.done (h.done d) }
 
--- an item more at the end of a list in the middle
+-- one item more at the end of a list in the middle
 pub inserts_mid : (before old new after : List Verdicted) (x : Verdicted) → new ≡ old ++ x ∷ [] → Inserts x (before ++ old ++ after) (before ++ new ++ after)
 inserts_mid before old new after x e = record {
   before = before ++ old;
@@ -34,17 +35,18 @@ inserts_mid before old new after x e = record {
   more_is = ap (λ (l : List Verdicted). before ++ l ++ after) e ∙ ap (λ (l : List Verdicted). l ++ after) (sym (append_assoc before old (x ∷ []))) ∙ append_assoc (before ++ old) (x ∷ []) after;
 }
 
--- a list in front of lists around one in the middle
+-- a list before lists around one in the middle
 pub front_mid : (front before mid after : List Verdicted) → front ++ (before ++ mid ++ after) ≡ (front ++ before) ++ mid ++ after
 front_mid front before mid after = sym (append_assoc front (before ++ mid) after) ∙ ap (λ (l : List Verdicted). l ++ after) (sym (append_assoc front before mid))
 
--- where a lane's items stand among all
+-- the position of a lane's items among those of all lanes
 pub record IsAmong (ls : List LaneOut) (i : ℕ) (l m : LaneOut) : Type 0 where
   pub before : List Verdicted
   pub after : List Verdicted
   pub old_is : all_received ls ≡ before ++ received_by l ++ after
   pub new_is : all_received (set ls i m) ≡ before ++ received_by m ++ after
 
+-- a lane's items are between those of the lanes before and after it
 abbrev pub among : (ls : List LaneOut) (i : ℕ) (l m : LaneOut) → l ≡ get_or ls i l → i < length ls → IsAmong ls i l m
 among [] i l m at lt = absurd (omega arith)
 among (y ∷ ls) zero l m at lt = record { before = []; after = all_received ls; old_is = ap (λ (z : LaneOut). received_by z ++ all_received ls) (sym at); new_is = refl }
@@ -66,16 +68,17 @@ length_set before old new after k e =
     let d : length (before ++ new) ≡ length before + length new = length-append before new in
     omega arith
 
--- a truth value as a number
+-- a boolean as a number
 pub bool_one : (b : Bool) → from_bool b ≡ cond b 1 0
 bool_one true = refl
 bool_one false = refl
 
+-- which is at most 1
 pub one_at_most : (b : Bool) → cond b 1 0 ≤ 1
 one_at_most true = omega arith
 one_at_most false = omega arith
 
--- a lane gives one verifier's last more, or none
+-- a lane gives one more verifier's last, or none
 pub lasts_set : (before old new after : List Verdicted) (k : ℕ) → last_count new ≡ k + last_count old → last_count (before ++ new ++ after) ≡ k + last_count (before ++ old ++ after)
 lasts_set before old new after k e =
     let a : last_count (before ++ old ++ after) ≡ last_count (before ++ old) + last_count after = total_append is_last (before ++ old) after in
@@ -84,13 +87,16 @@ lasts_set before old new after k e =
     let d : last_count (before ++ new) ≡ last_count before + last_count new = total_append is_last before new in
     omega arith
 
+-- being the same receiver is transitive
 pub same_trans : (x y z : LaneOut) → SameOut x y → SameOut y z → SameOut x z
 same_trans x y z h k = let a = h.0 in let b = k.0 in ((b.0 ∙ a.0, b.1 ∙ a.1, b.2 ∙ a.2, b.3 ∙ a.3), k.1 ∙ h.1)
 
+-- and reflexive
 pub same_self : (ls : List LaneOut) → EachSameOut ls ls
 same_self [] = tt
 same_self (l ∷ ls) = (((refl, refl, refl, refl), refl), same_self ls)
 
+-- one receiver more is the same as before
 pub same_set : (xs ys : List LaneOut) (i : ℕ) (l m : LaneOut) → EachSameOut xs ys → l ≡ get_or ys i l → SameOut l m → EachSameOut xs (set ys i m)
 same_set [] [] i l m h at e = tt
 same_set [] (y ∷ ys) i l m h at e = absurd h
@@ -98,10 +104,11 @@ same_set (x ∷ xs) [] i l m h at e = absurd h
 same_set (x ∷ xs) (y ∷ ys) zero l m h at e = (same_trans x y m h.0 (subst (λ (z : LaneOut). SameOut z m) at e), h.1)
 same_set (x ∷ xs) (y ∷ ys) (suc i) l m h at e = (h.0, same_set xs ys i l m h.1 at e)
 
--- the ends of one lane stay so
+-- the two ends of a lane stay so
 pub lane_same : (i j : LaneIn) (o p : LaneOut) → SameIn i j → SameOut o p → IsLane i o → IsLane j p
 lane_same i j o p a b h = let x = a.0 in let y = b.0 in (y.0 ∙ h.0 ∙ sym x.0, y.1 ∙ h.1 ∙ sym x.1, y.2 ∙ h.2 ∙ sym x.2, y.3 ∙ h.3 ∙ sym x.3)
 
+-- receiver by receiver
 pub each_same_trans : (xs ys zs : List LaneOut) → EachSameOut xs ys → EachSameOut ys zs → EachSameOut xs zs
 each_same_trans [] [] [] h k = tt
 each_same_trans [] [] (z ∷ zs) h k = absurd k
@@ -110,6 +117,7 @@ each_same_trans (x ∷ xs) [] zs h k = absurd h
 each_same_trans (x ∷ xs) (y ∷ ys) [] h k = absurd k
 each_same_trans (x ∷ xs) (y ∷ ys) (z ∷ zs) h k = (same_trans x y z h.0 k.0, each_same_trans xs ys zs h.1 k.1)
 
+-- what was sent on two lists of lanes
 all_sent_append : (xs ys : List LaneIn) → all_sent (xs ++ ys) ≡ all_sent xs ++ all_sent ys
 all_sent_append [] ys = refl
 all_sent_append (x ∷ xs) ys = ap (λ (k : List Verdicted). sent_by x ++ k) (all_sent_append xs ys) ∙ sym (append_assoc (sent_by x) (all_sent xs) (all_sent ys))
@@ -127,7 +135,7 @@ lanes_long [] (o ∷ os) h = absurd h
 lanes_long (i ∷ is) [] h = absurd h
 lanes_long (i ∷ is) (o ∷ os) h = ap suc (lanes_long is os h.1)
 
--- the lane at a place, and those behind it
+-- the lane at a position, and those after it
 pub lanes_from : (is : List LaneIn) (os : List LaneOut) (k : ℕ) (i : LaneIn) (o : LaneOut) → k < length is → k < length os → EachLane (drop k is) (drop k os) → IsLane (get_or is k i) (get_or os k o) × EachLane (drop (k + 1) is) (drop (k + 1) os)
 lanes_from is os k i o li lo h =
     let one : EachLane (get_or is k i ∷ drop (k + 1) is) (drop k os) = subst (λ (l : List LaneIn). EachLane l (drop k os)) (drop_more is k i li) h in

@@ -20,13 +20,14 @@ use Rattle.ix_handover.proofs.Totals.{total_append}
 use Rattle.ix_collect.specs.JobProgress.{below, IsFine, IsItem}
 use Rattle.ix_collect.proofs.Counting.{point_here, point_else}
 
--- an item counts wherever it stands
+-- an item counts wherever it is
 pub total_inserts : (h : Verdicted → ℕ) (x : Verdicted) (got more : List Verdicted) → Inserts x got more → total h more ≡ h x + total h got
 total_inserts h x got more i =
     let a : total h got ≡ total h i.before + total h i.after = ap (λ (l : List Verdicted). total h l) i.got_is ∙ total_append h i.before i.after in
     let b : total h more ≡ total h i.before + (h x + total h i.after) = ap (λ (l : List Verdicted). total h l) i.more_is ∙ total_append h i.before (x ∷ i.after) in
     omega arith
 
+-- what holds of all holds of the item in the middle and of all others
 all_parts : (P : Verdicted → Type 0) (xs : List Verdicted) (x : Verdicted) (ys : List Verdicted) → All P (xs ++ x ∷ ys) → All P (xs ++ ys) × P x
 all_parts P [] x ys h = (All-tail P x ys h, All-head P x ys h)
 all_parts P (z ∷ xs) x ys h = let r = all_parts P xs x ys (All-tail P z (xs ++ x ∷ ys) h) in (All-cons P z (xs ++ ys) (All-head P z (xs ++ x ∷ ys) h) r.0, r.1)
@@ -56,22 +57,27 @@ good_before store jobs x got more i g =
       parts.1,
     )
 
+-- a sum of sums
 below_sum : (f g h : ℕ → ℕ) (n : ℕ) → ((k : ℕ) → f k ≡ g k + h k) → below f n ≡ below g n + below h n
 below_sum f g h zero e = omega arith
 below_sum f g h (suc n) e = let here : f n ≡ g n + h n = e n in let rest : below f n ≡ below g n + below h n = below_sum f g h n e in omega arith
 
+-- a sum of zeros
 below_none : (f : ℕ → ℕ) (n : ℕ) → ((k : ℕ) → f k ≡ 0) → below f n ≡ 0
 below_none f zero e = refl
 below_none f (suc n) e = let here : f n ≡ 0 = e n in let rest : below f n ≡ 0 = below_none f n e in omega arith
 
+-- equal functions have equal sums
 below_same : (f g : ℕ → ℕ) (n : ℕ) → ((k : ℕ) → f k ≡ g k) → below f n ≡ below g n
 below_same f g zero e = refl
 below_same f g (suc n) e = let here : f n ≡ g n = e n in let rest : below f n ≡ below g n = below_same f g n e in omega arith
 
+-- a point past the bound adds nothing
 below_beyond : (m n : ℕ) → n ≤ m → below (point m) n ≡ 0
 below_beyond m zero le = refl
 below_beyond m (suc n) le = let here : point m n ≡ 0 = point_else m n (λ (h : n ≡ m). absurd (omega arith)) in let rest : below (point m) n ≡ 0 = below_beyond m n (omega arith) in omega arith
 
+-- a point below the bound adds 1
 below_point : (m n : ℕ) → m < n → below (point m) n ≡ 1
 below_point m zero lt = absurd (omega arith)
 below_point m (suc n) lt =
@@ -84,18 +90,20 @@ below_point m (suc n) lt =
           omega arith)
     ]
 
--- whether x is of job j and has the number n
+-- 1 if x is of job j and has the number n, and else 0
 abbrev pub seen_here : ℕ → Verdicted → ℕ → ℕ
 seen_here j x n = is_checked j n x + is_unchecked j n x + is_close j n x
 
--- of a job's numbers an item has one, or none
+-- an item of the job has one number, and an item of another job none
 hit_below : (b : Bool) (m n : ℕ) → (b ≡ true → m < n) → below (λ k. cond b (point m k) 0) n ≡ cond b 1 0
 hit_below true m n h = below_point m n (h refl)
 hit_below false m n h = below_none (λ k. 0) n (λ k. refl)
 
+-- the test decides equality
 pub same_tests : (a b : ℕ) → (a == b) ≡ true → a ≡ b
 same_tests a b e = grind (arith, nat_tests)
 
+-- the number of a close is at most that of the visits
 close_bound : (end : End) (n : ℕ) (all : List Delivery) (over : Bool) → IsCloseOf end n all over → n ≤ length all
 close_bound Done n all over c = let e : n ≡ length all = c.0 in omega arith
 close_bound Limit n all over c = let e : n ≡ length all = c.0 in omega arith
@@ -125,6 +133,7 @@ module _ (store : Blocks) (jobs : List JobMeaning) (j : ℕ) where
       omega arith)
   item_below Last a = below_none (seen_here j Last) (suc (length (judged_at store jobs j))) (λ k. refl)
 
+  -- so the count of a job's items is the sum over its numbers
   all_below : (got : List Verdicted) → All (IsAllowed store jobs) got → (tally j got).count ≡ below (seen (tally j got)) (suc (length (judged_at store jobs j)))
   all_below [] a = sym (below_none (seen (tally j [])) (suc (length (judged_at store jobs j))) (λ k. refl))
   all_below (x ∷ got) a =
@@ -140,10 +149,12 @@ module _ (store : Blocks) (jobs : List JobMeaning) (j : ℕ) where
       sum_of : (a b c d e f : ℕ) → (a + d) + (b + e) + (c + f) ≡ (a + b + c) + (d + e + f)
       sum_of a b c d e f = omega arith
 
+  -- a number below n isn't n
   beyond_here : (b : Bool) (m n : ℕ) → (b ≡ true → m < n) → cond b (point m n) 0 ≡ 0
   beyond_here true m n h = let lt : m < n = h refl in point_else m n (λ (e : n ≡ m). absurd (omega arith))
   beyond_here false m n h = refl
 
+  -- no item has a number above that of all visits and their close
   item_beyond : (x : Verdicted) (n : ℕ) → IsAllowed store jobs x → length (judged_at store jobs j) < n → seen_here j x n ≡ 0
   item_beyond (Checked v d) n a lt =
       let none : cond (v.job == j) (point v.seq n) 0 ≡ 0 =
@@ -167,6 +178,7 @@ module _ (store : Blocks) (jobs : List JobMeaning) (j : ℕ) where
       omega arith
   item_beyond Last n a lt = refl
 
+  -- item by item
   all_beyond : (got : List Verdicted) (n : ℕ) → All (IsAllowed store jobs) got → length (judged_at store jobs j) < n → seen (tally j got) n ≡ 0
   all_beyond [] n a lt = refl
   all_beyond (x ∷ got) n a lt =
@@ -178,9 +190,11 @@ module _ (store : Blocks) (jobs : List JobMeaning) (j : ℕ) where
   pub fine_of : (got : List Verdicted) → IsGood store jobs got → IsFine (judged_at store jobs j) (tally j got)
   fine_of got g = record { small = g.small j; once = g.once j; last = g.last j; within = λ n. all_beyond got n g.allowed; counted = all_below got g.allowed }
 
+  -- an item of the job counts at its number
   hit_here : (i n m : ℕ) → i ≡ j → cond (i == j) (point n m) 0 ≡ point n m
   hit_here i n m e = let t : (i == j) ≡ true = grind (arith, nat_tests) in rw t refl
 
+  -- and as one item
   count_here : (i : ℕ) → i ≡ j → one_if (i == j) ≡ 1
   count_here i e = let t : (i == j) ≡ true = grind (arith, nat_tests) in rw t refl
 
@@ -218,19 +232,22 @@ module _ (store : Blocks) (jobs : List JobMeaning) (j : ℕ) where
       )
   item_of Last got more i a e = cc
 
+  -- an item of another job doesn't count
   miss : (i n m : ℕ) → (i ≡ j → ⊥) → cond (i == j) (point n m) 0 ≡ 0
   miss i n m ne = let t : (i == j) ≡ false = grind (arith, nat_tests) in rw t refl
 
+  -- nor as one item
   count_miss : (i : ℕ) → (i ≡ j → ⊥) → one_if (i == j) ≡ 0
   count_miss i ne = let t : (i == j) ≡ false = grind (arith, nat_tests) in rw t refl
 
-  -- an item of another job has no weight for this one
+  -- so no count of this job sees it
   pub nothing_of : (x : Verdicted) → (job_of x ≡ Some j → ⊥) → ((n : ℕ) → is_checked j n x ≡ 0) × ((n : ℕ) → is_unchecked j n x ≡ 0) × ((n : ℕ) → is_close j n x ≡ 0) × (is_of j x ≡ 0)
   nothing_of (Checked v d) ne = let other : v.job ≡ j → ⊥ = (λ e. ne (ap Some e)) in ((λ n. miss v.job v.seq n other), (λ n. refl), (λ n. refl), count_miss v.job other)
   nothing_of (Unchecked i m) ne = let other : i ≡ j → ⊥ = (λ e. ne (ap Some e)) in ((λ n. refl), (λ n. miss i m n other), (λ n. refl), count_miss i other)
   nothing_of (Close i m end) ne = let other : i ≡ j → ⊥ = (λ e. ne (ap Some e)) in ((λ n. refl), (λ n. refl), (λ n. miss i m n other), count_miss i other)
   nothing_of Last ne = ((λ n. refl), (λ n. refl), (λ n. refl), refl)
 
+-- an item of weight 0 changes no total
 unmoved : (h : Verdicted → ℕ) (x : Verdicted) (got more : List Verdicted) → Inserts x got more → h x ≡ 0 → total h more ≡ total h got
 unmoved h x got more i e = let all : total h more ≡ h x + total h got = total_inserts h x got more i in omega arith
 

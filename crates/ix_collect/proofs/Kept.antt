@@ -3,17 +3,18 @@ use Rattle.std.proofs.Common.{◌≡◌, ℕ, zero, suc, List, [], ◌∷◌, ge
 use Rattle.ix_archive.specs.Headline.{Fact, Keeps, EachKept}
 
 module _ {S : Type 0} (fact : Fact S) where
+  -- no call keeps each fact
   pub kept_same : (ss : List S) → EachKept fact ss ss
   kept_same [] = tt
   kept_same (s ∷ ss) = ((λ store job first p. p), kept_same ss)
 
-  -- one sink keeps, and the rest are the same
+  -- one sink keeps its fact, and the others are the same
   pub kept_set : (ss : List S) (i : ℕ) (s t : S) → s ≡ get_or ss i s → Keeps fact s t → EachKept fact ss (set ss i t)
   kept_set [] i s t at keeps = tt
   kept_set (x ∷ ss) zero s t at keeps = ((λ store job first p. keeps store job first (subst (λ (z : S). fact z store job first) (sym at) p)), kept_same ss)
   kept_set (x ∷ ss) (suc i) s t at keeps = ((λ store job first p. p), kept_set ss i s t at keeps)
 
-  -- over two steps
+  -- facts are kept over two steps
   pub kept_trans : (xs ys zs : List S) → EachKept fact xs ys → EachKept fact ys zs → EachKept fact xs zs
   kept_trans [] [] [] h k = tt
   kept_trans [] [] (z ∷ zs) h k = absurd k

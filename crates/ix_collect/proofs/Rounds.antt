@@ -20,6 +20,7 @@ module _ {S : Type 0} (events : S → List Event) (failed : S → List Delivery)
     pub lasts : last_count (received_by new) ≡ n + last_count (received_by old)
     pub collected : CollectsAmong events failed fact (received_by old) (received_by new) c d first last
 
+  -- a lane that is empty leaves all as it is
   pub gives_none : (old new : LaneOut) (c : Collector) (sinks : List S) → CanCollect events failed c sinks → SameOut old new → received_by new ≡ received_by old → Gives old new 0 0 c c sinks sinks
   gives_none old new c sinks can lane same = record {
     lane = lane;
@@ -31,6 +32,7 @@ module _ {S : Type 0} (events : S → List Event) (failed : S → List Delivery)
     };
   }
 
+  -- a lane gives one item, which is collected
   pub gives_one : (old new : LaneOut) (x : Verdicted) (lasts : ℕ) (c d : Collector) (first last : List S)
       → SameOut old new → received_by new ≡ received_by old ++ x ∷ [] → lasts ≡ is_last x → GoesOn events failed fact c d first last → CollectsItem events failed x c d first last → Gives old new 1 lasts c d first last
   gives_one old new x lasts c d first last lane gives is on collects =
@@ -55,9 +57,11 @@ module _ {S : Type 0} (events : S → List Event) (failed : S → List Delivery)
     pub lasts : last_count (all_received ys) ≡ n + last_count (all_received xs)
     pub collected : CollectsBehind events failed fact (all_received xs) (all_received ys) c d first last
 
+  -- before the first lane nothing was given
   pub given_none : (xs : List LaneOut) (c : Collector) (sinks : List S) → CanCollect events failed c sinks → HaveGiven xs xs 0 0 c c sinks sinks
   given_none xs c sinks can = record { same = same_self xs; items = omega arith; lasts = omega arith; collected = record { on = on_same events failed fact c sinks can; collected = λ store jobs before h. h } }
 
+  -- the loop's step: one lane more
   pub given_more : (xs ys : List LaneOut) (i : ℕ) (l m : LaneOut) (items lasts k n : ℕ) (a b c : Collector) (first next last : List S)
       → HaveGiven xs ys items lasts a b first next → l ≡ get_or ys i l → i < length ys → Gives l m k n b c next last → HaveGiven xs (set ys i m) (items + k) (lasts + n) a c first last
   given_more xs ys i l m items lasts k n a b c first next last h at lt g =
@@ -84,7 +88,7 @@ module _ {S : Type 0} (events : S → List Event) (failed : S → List Delivery)
         };
       }
 
-  -- by other names for what it speaks of
+  -- the same under equal names of numbers, collector and sinks
   pub given_as : (xs ys : List LaneOut) (k l n m : ℕ) (a b c : Collector) (first next last : List S) → l ≡ k → m ≡ n → c ≡ b → last ≡ next → HaveGiven xs ys k n a b first next → HaveGiven xs ys l m a c first last
   given_as xs ys k l n m a b c first next last same_k same_n same_c same_last h =
       subst (λ (p : (ℕ × ℕ) × (Collector × List S)). HaveGiven xs ys p.0.0 p.0.1 a p.1.0 first p.1.1) (λ i. ((sym same_k i, sym same_n i), (sym same_c i, sym same_last i))) h

@@ -19,23 +19,27 @@ use Rattle.ix_handover.specs.Good.{judged_at, IsAllowed, IsGood}
 use Rattle.ix_handover.specs.Sent.{visits_at, Answers, SentFor, IsOfCourse, is_item, is_end, IsGoodTaken}
 use Rattle.ix_handover.specs.Totals.{total}
 
+-- the element of a mapped list
 get_map : {X Y : Type 0} (f : X → Y) (xs : List X) (k : ℕ) (x : X) → slice_get xs k ≡ Some x → slice_get (map f xs) k ≡ Some (f x)
 get_map f [] k x e = cc
 get_map f (y ∷ ys) zero x e = let same : y ≡ x = cc in ap (λ z. Some (f z)) same
 get_map f (y ∷ ys) (suc k) x e = get_map f ys k x e
 
 module _ (store : Blocks) (jobs : List JobMeaning) where
+  -- by what is at position n of the jobs
   judged_by : (n : ℕ) (o : Option JobMeaning) → slice_get jobs n ≡ o → judged_at store jobs n ≡ map (judged store) (visits_at store jobs n)
   judged_by n None e = rw e refl
   judged_by n (Some j) e = rw e refl
 
+  -- the visits with their verdicts are those of the walk, with what the store's check says
   judged_is : (n : ℕ) → judged_at store jobs n ≡ map (judged store) (visits_at store jobs n)
   judged_is n = judged_by n (slice_get jobs n) refl
 
-  -- a visit of the course stands with its verdict among those of the job
+  -- a visit of the course is with its verdict among those of the job
   judged_there : (v : Visit) → slice_get (visits_at store jobs v.job) v.seq ≡ Some v → slice_get (judged_at store jobs v.job) v.seq ≡ Some (judged store v)
   judged_there v e = ap (λ (l : List Delivery). slice_get l v.seq) (judged_is v.job) ∙ get_map (judged store) (visits_at store jobs v.job) v.seq v e
 
+  -- the answer to an item that may be taken may be sent
   one_allowed : (x : Item) (y : Verdicted) → IsOfCourse store jobs x → Answers store x y → IsAllowed store jobs y
   one_allowed (taken.Visit v) (Checked w d) a s =
       subst (λ (u : Visit). IsAllowed store jobs (Checked u d)) (sym s.0) (subst (λ (x : Verdict). IsAllowed store jobs (Checked v x)) (sym s.1) (a.0, judged_there v a.1))
@@ -54,6 +58,7 @@ module _ (store : Blocks) (jobs : List JobMeaning) where
   one_allowed taken.Stop (Close j n end) a s = absurd s
   one_allowed taken.Stop Last a s = tt
 
+  -- answer by answer
   all_allowed : (xs : List Item) (ys : List Verdicted) → All (IsOfCourse store jobs) xs → SentFor store xs ys → All (IsAllowed store jobs) ys
   all_allowed [] [] a s = All-nil (IsAllowed store jobs)
   all_allowed [] (y ∷ ys) a s = absurd s
@@ -61,12 +66,15 @@ module _ (store : Blocks) (jobs : List JobMeaning) where
   all_allowed (x ∷ xs) (y ∷ ys) a s =
       All-cons (IsAllowed store jobs) y ys (one_allowed x y (All-head (IsOfCourse store jobs) x xs a) s.0) (all_allowed xs ys (All-tail (IsOfCourse store jobs) x xs a) s.1)
 
+  -- equal visits count alike
   visit_seen : (j n : ℕ) (v w : Visit) → w ≡ v → cond (w.job == j) (point w.seq n) 0 ≡ cond (v.job == j) (point v.seq n) 0
   visit_seen j n v w e = ap (λ (u : Visit). is_item j n (taken.Visit u)) e
 
+  -- and so do equal pairs
   pair_seen : (j n a b c d : ℕ) → a ≡ c → b ≡ d → cond (a == j) (point b n) 0 ≡ cond (c == j) (point d n) 0
   pair_seen j n a b c d e f = subst (λ (i : ℕ). cond (a == j) (point b n) 0 ≡ cond (i == j) (point d n) 0) e (ap (λ (i : ℕ). cond (a == j) (point i n) 0) f)
 
+  -- an answer has the job and number of its item
   one_seen : (j n : ℕ) (x : Item) (y : Verdicted) → Answers store x y → is_checked j n y + is_unchecked j n y + is_close j n y ≡ is_item j n x
   one_seen j n (taken.Visit v) (Checked w d) s = let e : cond (w.job == j) (point w.seq n) 0 ≡ cond (v.job == j) (point v.seq n) 0 = visit_seen j n v w s.0 in omega arith
   one_seen j n (taken.Visit v) (Unchecked k m) s = let e : cond (k == j) (point m n) 0 ≡ cond (v.job == j) (point v.seq n) 0 = pair_seen j n k m v.job v.seq s.0 s.1 in omega arith
@@ -81,6 +89,7 @@ module _ (store : Blocks) (jobs : List JobMeaning) where
   one_seen j n taken.Stop (Close k m end) s = absurd s
   one_seen j n taken.Stop Last s = refl
 
+  -- answer by answer
   all_seen : (j n : ℕ) (xs : List Item) (ys : List Verdicted) → SentFor store xs ys → total (is_checked j n) ys + total (is_unchecked j n) ys + total (is_close j n) ys ≡ total (is_item j n) xs
   all_seen j n [] [] s = refl
   all_seen j n [] (y ∷ ys) s = absurd s
@@ -90,6 +99,7 @@ module _ (store : Blocks) (jobs : List JobMeaning) where
       let rest : total (is_checked j n) ys + total (is_unchecked j n) ys + total (is_close j n) ys ≡ total (is_item j n) xs = all_seen j n xs ys s.1 in
       omega arith
 
+  -- an answer is a close where its item is
   one_end : (j n : ℕ) (x : Item) (y : Verdicted) → Answers store x y → is_close j n y ≡ is_end j n x
   one_end j n (taken.Visit v) (Checked w d) s = refl
   one_end j n (taken.Visit v) (Unchecked k m) s = refl
@@ -104,6 +114,7 @@ module _ (store : Blocks) (jobs : List JobMeaning) where
   one_end j n taken.Stop (Close k m end) s = absurd s
   one_end j n taken.Stop Last s = refl
 
+  -- answer by answer
   all_ends : (j n : ℕ) (xs : List Item) (ys : List Verdicted) → SentFor store xs ys → total (is_close j n) ys ≡ total (is_end j n) xs
   all_ends j n [] [] s = refl
   all_ends j n [] (y ∷ ys) s = absurd s
@@ -111,6 +122,7 @@ module _ (store : Blocks) (jobs : List JobMeaning) where
   all_ends j n (x ∷ xs) (y ∷ ys) s =
       let here : is_close j n y ≡ is_end j n x = one_end j n x y s.0 in let rest : total (is_close j n) ys ≡ total (is_end j n) xs = all_ends j n xs ys s.1 in omega arith
 
+  -- so what is sent for good items is good
   pub good_of_taken : (xs : List Item) (ys : List Verdicted) → IsGoodTaken store jobs xs → SentFor store xs ys → IsGood store jobs ys
   good_of_taken xs ys g s = record {
     allowed = all_allowed xs ys g.allowed s;
@@ -124,12 +136,14 @@ module _ (store : Blocks) (jobs : List JobMeaning) where
     small = g.small;
   }
 
+-- the answers of two verifiers, one after the other
 pub sent_append : (store : Blocks) (xs : List Item) (ys : List Verdicted) (us : List Item) (vs : List Verdicted) → SentFor store xs ys → SentFor store us vs → SentFor store (xs ++ us) (ys ++ vs)
 sent_append store [] [] us vs a b = b
 sent_append store [] (y ∷ ys) us vs a b = absurd a
 sent_append store (x ∷ xs) [] us vs a b = absurd a
 sent_append store (x ∷ xs) (y ∷ ys) us vs a b = (a.0, sent_append store xs ys us vs a.1 b)
 
+-- and the pairs that they checked
 pub pairs_append : (xs ys : List Verdicted) → pairs_of (xs ++ ys) ≡ pairs_of xs ++ pairs_of ys
 pairs_append [] ys = refl
 pairs_append (Checked v d ∷ xs) ys = ap (λ (l : List (ℕ × ℕ)). (v.job, v.seq) ∷ l) (pairs_append xs ys)

@@ -15,9 +15,11 @@ use Rattle.ix_handover.specs.Good.{IsGood, judged_at, over_at}
 use Rattle.ix_handover.specs.Totals.{total}
 use Rattle.ix_collect.specs.JobProgress.{IsNew, IsSafe, IsCome, IsEnded, IsMisplaced}
 
+-- of no job was anything received
 abbrev pub AllNew : List JobProgress → Type 0
 AllNew ps = AllByRecursion IsNew ps
 
+-- the sink of each job was closed
 abbrev pub AllEnded : List JobProgress → Type 0
 AllEnded ps = AllByRecursion IsEnded ps
 
@@ -27,18 +29,19 @@ IsClosedAt [] job = ⊥
 IsClosedAt (p ∷ ps) zero = IsEnded p
 IsClosedAt (p ∷ ps) (suc job) = IsClosedAt ps job
 
--- the job with this number has no place for the item
+-- the job with this number doesn't expect the item
 abbrev pub IsMisplacedAt : List JobProgress → Verdicted → ℕ → Type 0
 IsMisplacedAt [] item job = ⊥
 IsMisplacedAt (p ∷ ps) item zero = IsMisplaced p item
 IsMisplacedAt (p ∷ ps) item (suc job) = IsMisplacedAt ps item job
 
+-- the sinks were closed with these ends, job by job
 abbrev pub EachEnded : List JobProgress → List End → Type 0
 EachEnded [] [] = Unit {0}
 EachEnded (p ∷ ps) (e ∷ es) = (p.end ≡ Some e) × EachEnded ps es
 EachEnded ps es = ⊥
 
--- whether a verifier's last
+-- 1 for a verifier's last, and else 0
 abbrev pub is_last : Verdicted → ℕ
 is_last (Checked v d) = 0
 is_last (Unchecked j n) = 0
@@ -53,7 +56,7 @@ last_count got = total is_last got
 abbrev pub job_count : Collector → ℕ
 job_count c = length c.jobs.items
 
--- an item came that can't come
+-- an unexpected item came
 abbrev pub has_stray : Collector → Bool
 has_stray c = c.stray
 
@@ -65,7 +68,8 @@ IsUnused c = AllNew c.jobs.items × (c.stray ≡ false)
 abbrev pub IsDone : Collector → Type 0
 IsDone c = AllEnded c.jobs.items
 
--- the item of the job with this number can't come: there is no such job, its sink was closed, or it has no place for the item
+-- the item of the job with this number is unexpected: there is no such job, its sink was closed, or the job doesn't expect the
+-- item
 abbrev pub IsStray : Collector → Verdicted → ℕ → Type 0
 IsStray c item job = (job_count c ≤ job) ⊎ (IsClosedAt c.jobs.items job ⊎ IsMisplacedAt c.jobs.items item job)
 
@@ -74,13 +78,13 @@ abbrev pub HasEnds : Collector → List End → Type 0
 HasEnds c ends = EachEnded c.jobs.items ends
 
 module _ {S : Type 0} (events : S → List Event) (failed : S → List Delivery) where
-  -- each sink may be told what comes next
+  -- each sink may be called with what comes next
   abbrev pub EachSafe : List JobProgress → List S → Type 0
   EachSafe [] [] = Unit {0}
   EachSafe (p ∷ ps) (s ∷ ss) = IsSafe p (events s) (failed s) × EachSafe ps ss
   EachSafe ps ss = ⊥
 
-  -- as many sinks as jobs, and each may be told what comes next
+  -- there are as many sinks as jobs, and each may be called with what comes next
   abbrev pub MayTell : Collector → List S → Type 0
   MayTell c sinks = EachSafe c.jobs.items sinks
 
@@ -90,7 +94,7 @@ module _ {S : Type 0} (events : S → List Event) (failed : S → List Delivery)
   EachCome store jobs got n (p ∷ ps) (s ∷ ss) = IsCome (judged_at store jobs n) (over_at store jobs n) (tally n got) p (events s) (failed s) × EachCome store jobs got (n + 1) ps ss
   EachCome store jobs got n ps ss = ⊥
 
-  -- If these items are good, none was noted, and each sink was told what they say. Where an item stands among them makes no difference.
+  -- If these items are good, none was unexpected, and each sink got what they say. The order of the items makes no difference.
   abbrev pub IsCollected : Blocks → List JobMeaning → List Verdicted → Collector → List S → Type 0
   IsCollected store jobs got c sinks = IsGood store jobs got → job_count c ≡ length jobs → (has_stray c ≡ false) × EachCome store jobs got 0 c.jobs.items sinks
 

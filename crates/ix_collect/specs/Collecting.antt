@@ -14,22 +14,23 @@ use Rattle.ix_handover.specs.Received.{Inserts, job_of, pairs_of}
 use Rattle.ix_collect.specs.declared.collector.Collector.{Collector}
 use Rattle.ix_collect.specs.Collected.{job_count, has_stray, IsDone, IsStray, MayTell, IsCollected, IsCollectedFrom}
 
--- what holds where the item can't come
+-- what holds if the item is unexpected
 abbrev pub IfStray : Collector → Verdicted → Type 0 → Type 0
 IfStray c x P = (job : ℕ) → job_of x ≡ Some job → IsStray c x job → P
 
 module _ {S : Type 0} (events : S → List Event) (failed : S → List Delivery) where
-  -- as many sinks as jobs, and each may be told what comes next
+  -- there are as many sinks as jobs, and each may be called with what comes next
   pub record CanCollect (c : Collector) (ss : List S) : Type 0 where
     pub sinks : length ss ≡ job_count c
     pub may : MayTell events failed c ss
 
-  -- what is left can be collected in lanes of which both ends are here
+  -- the two ends of each lane are here, so what is left in the lanes can be collected
   pub record CanFinish (senders : List LaneIn) (receivers : List LaneOut) (c : Collector) (ss : List S) : Type 0 where
     pub lanes : EachLane senders receivers
     pub can : CanCollect c ss
 
-  -- the collector went on from c to d: it can still collect for as many jobs, what the sinks promised is kept, and what was done is done
+  -- the collector went on from c to d: it can still collect for as many jobs, each sink's fact is kept, and if it was done it
+  -- still is
   pub record GoesOn (fact : Fact S) (c d : Collector) (first last : List S) : Type 0 where
     pub sinks : length last ≡ job_count d
     pub jobs : job_count d ≡ job_count c
@@ -45,23 +46,25 @@ module _ {S : Type 0} (events : S → List Event) (failed : S → List Delivery)
   abbrev pub CollectsItem : Verdicted → Collector → Collector → List S → List S → Type 0
   CollectsItem x c d first sinks = (store : Blocks) (jobs : List JobMeaning) (got more : List Verdicted) → Inserts x got more → IsCollected events failed store jobs got c first → IsCollected events failed store jobs more d sinks
 
-  -- the collector went on, and of one lane all this was collected, where that was before; what other lanes gave stands before and behind it
+  -- the collector went on, and collected this of one lane, if it had collected the old before; what other lanes gave is before
+  -- and after it
   pub record CollectsAmong (fact : Fact S) (old new : List Verdicted) (c d : Collector) (first last : List S) : Type 0 where
     pub on : GoesOn fact c d first last
     pub collected : (store : Blocks) (jobs : List JobMeaning) (before after : List Verdicted) → IsCollected events failed store jobs (before ++ old ++ after) c first → IsCollected events failed store jobs (before ++ new ++ after) d last
 
-  -- the same of all lanes; what was received from elsewhere stands before it
+  -- the same for all lanes; what was received from elsewhere is before it
   pub record CollectsBehind (fact : Fact S) (old new : List Verdicted) (c d : Collector) (first last : List S) : Type 0 where
     pub on : GoesOn fact c d first last
     pub collected : (store : Blocks) (jobs : List JobMeaning) (before : List Verdicted) → IsCollected events failed store jobs (before ++ old) c first → IsCollected events failed store jobs (before ++ new) d last
 
-  -- what follows of these items, of these jobs: none was noted, each sink was told what its job calls for, and each visit was checked as often as it is to be
+  -- what follows from these items: none was unexpected, each sink got what its job calls for, and each visit was checked as
+  -- often as it is to be
   pub record IsExported (store : Blocks) (jobs : List JobMeaning) (got : List Verdicted) (c : Collector) (sinks : List S) (ends : List End) : Type 0 where
     pub none : has_stray c ≡ false
     pub delivered : EachDelivered events failed store 0 jobs ends sinks
     pub checked : IsCheckedOnce events store jobs ends sinks (pairs_of got)
     pub started : NoneIsStart ends
 
-  -- it follows of any items that the collector received, if they were good
+  -- it follows for any items that the collector received, if they were good
   abbrev pub IfCollected : Collector → List S → List End → Type 0
   IfCollected c sinks ends = (store : Blocks) (jobs : List JobMeaning) (got : List Verdicted) → IsCollectedFrom events failed store jobs got c sinks → IsExported store jobs got c sinks ends

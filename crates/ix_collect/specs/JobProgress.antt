@@ -35,6 +35,7 @@ pub record Adds (t u : Tally) (checked unchecked closes : ℕ → ℕ) : Type 0 
   pub closes_is : (n : ℕ) → u.closes n ≡ closes n + t.closes n
   pub count_is : u.count ≡ 1 + t.count
 
+-- no item
 abbrev pub none_of : ℕ → ℕ
 none_of n = 0
 
@@ -59,7 +60,7 @@ abbrev pub IsHeld : List Delivery → Tally → Bool → ℕ → Option Delivery
 IsHeld all t out_of_memory k (Some d) = (slice_get all k ≡ Some d) × (0 < t.checked k)
 IsHeld all t out_of_memory k None = (out_of_memory ≡ true) × (0 < t.unchecked k)
 
--- the ring has the visits that came and were not delivered, and nothing else
+-- the ring has exactly the visits that came and were not delivered
 pub record IsWaiting (all : List Delivery) (t : Tally) (out_of_memory : Bool) (ring : Numbered (Option Delivery)) : Type 0 where
   pub held : (k : ℕ) (o : Option Delivery) → found ring k ≡ Some o → IsHeld all t out_of_memory k o
   pub missing : (k : ℕ) → ring.next ≤ k → found ring k ≡ None → t.checked k + t.unchecked k ≡ 0
@@ -86,7 +87,7 @@ pub record IsUnderWay (all : List Delivery) (over : Bool) (t : Tally) (p : JobPr
   pub checked : (k : ℕ) → k < count → 0 < t.checked k
   pub on : IsOn all t count p.out_of_memory p.ring failed p.stage
 
--- the same, where o came out of the ring and wasn't handed on yet
+-- the same, where o was popped from the ring and wasn't delivered yet
 pub record IsPoppedUnderWay (all : List Delivery) (over : Bool) (t : Tally) (o : Option Delivery) (p : JobProgress) (events : List Event) (failed : List Delivery) : Type 0 where
   pub arrived : p.arrived ≡ t.count
   pub closing : IsCloseKnown all over t p.out_of_memory p.close
@@ -113,10 +114,11 @@ pub record IsOver (all : List Delivery) (over : Bool) (t : Tally) (end : End) (e
   pub every : (end ≡ Memory → ⊥) → (k : ℕ) → k < length all → 0 < t.checked k
   pub started : end ≡ Start → ⊥
 
--- nothing is next
+-- there is nothing to deliver next
 abbrev pub IsCalm : JobProgress → Type 0
 IsCalm p = p.stage ≡ Delivering → found p.ring p.ring.next ≡ None
 
+-- how far a job has come, by how its sink was closed
 abbrev pub IsComeTo : List Delivery → Bool → Tally → JobProgress → List Event → List Delivery → Option End → Type 0
 IsComeTo all over t p events failed None = IsUnderWay all over t p events failed × IsCalm p
 IsComeTo all over t p events failed (Some end) = IsOver all over t end events failed
@@ -125,23 +127,26 @@ IsComeTo all over t p events failed (Some end) = IsOver all over t end events fa
 abbrev pub IsCome : List Delivery → Bool → Tally → JobProgress → List Event → List Delivery → Type 0
 IsCome all over t p events failed = IsComeTo all over t p events failed p.end
 
--- the job has no place for the item: while visits are delivered its number was passed, is too far or is taken, or it is a second close
+-- the job doesn't expect the item: while visits are delivered its number was passed, is too far or is taken, or it is a second
+-- close
 abbrev pub IsMisplaced : JobProgress → Verdicted → Type 0
 IsMisplaced p (Checked v d) = (p.stage ≡ Delivering) × (IsFree p.ring v.seq → ⊥)
 IsMisplaced p (Unchecked j n) = (p.stage ≡ Delivering) × (IsFree p.ring n → ⊥)
 IsMisplaced p (Close j n end) = (w : WalkEnd) × (p.close ≡ Some w)
 IsMisplaced p Last = Unit {0}
 
+-- while visits are delivered no write has failed
 abbrev pub MayDeliver : Stage → List Delivery → Type 0
 MayDeliver Delivering failed = failed ≡ []
 MayDeliver Failed failed = Unit {0}
 MayDeliver Stopped failed = Unit {0}
 
+-- the sink may be called with what comes next, by how it was closed
 abbrev pub IsSafeAt : Option End → Stage → List Event → List Delivery → Type 0
 IsSafeAt None stage events failed = IsOpen events × MayDeliver stage failed
 IsSafeAt (Some end) stage events failed = Unit {0}
 
--- a sink that is not closed may be, and while visits are delivered it takes them
+-- a sink that is not closed may be closed, and while visits are delivered it accepts them
 abbrev pub IsSafe : JobProgress → List Event → List Delivery → Type 0
 IsSafe p events failed = IsSafeAt p.end p.stage events failed
 
@@ -149,7 +154,7 @@ IsSafe p events failed = IsSafeAt p.end p.stage events failed
 abbrev pub IsEnded : JobProgress → Type 0
 IsEnded p = (end : End) × (p.end ≡ Some end)
 
--- how a job ends whose walk ended so: first for want of memory, then for a failed write
+-- how a job ends whose walk ended so: out of memory comes first, then a failed write
 abbrev pub end_of : Bool → Stage → End → End
 end_of true stage end = Memory
 end_of false Delivering end = end

@@ -19,23 +19,23 @@ use Rattle.ix_collect.specs.Collecting.{HasCollected, IfCollected}
 abbrev pub GivesGood : Type 0
 GivesGood = (store : Blocks) (jobs : List JobMeaning) (taken : List Item) (sent : List Verdicted) → IsGoodTaken store jobs taken → SentFor store taken sent → IsGood store jobs sent
 
--- of what is good no pair is checked twice
+-- of good items no pair is checked twice
 abbrev pub IsOnceEach : Type 0
 IsOnceEach = (store : Blocks) (jobs : List JobMeaning) (got : List Verdicted) → IsGood store jobs got → IsEachOnce (pairs_of got)
 
--- and each is that of a visit
+-- and each pair is that of a visit
 abbrev pub IsWithinVisits : Type 0
 IsWithinVisits = (store : Blocks) (jobs : List JobMeaning) (got : List Verdicted) (job seq : ℕ) → IsGood store jobs got → Contains (pairs_of got) (job, seq) → seq < visit_count store jobs job
 
 module _ {S : Type 0} (events : S → List Event) (failed : S → List Delivery) where
-  -- before the first item each sink may be told what comes next
+  -- before the first item each sink may be called with what comes next
   abbrev pub BeginsSafe : Type 0
   BeginsSafe = (c : Collector) (sinks : List S) → length sinks ≡ job_count c → IsUnused c → EachFresh events failed sinks → MayTell events failed c sinks
 
-  -- and none was told anything
+  -- and no item was collected
   abbrev pub BeginsCollected : Type 0
   BeginsCollected = (c : Collector) (sinks : List S) → length sinks ≡ job_count c → IsUnused c → EachFresh events failed sinks → HasCollected events failed [] c sinks
 
-  -- where every sink was closed with these ends, what was collected is exported
+  -- if every sink was closed with these ends, what was collected is exported
   abbrev pub GivesExported : Type 0
   GivesExported = (c : Collector) (sinks : List S) (ends : List End) → HasEnds c ends → IfCollected events failed c sinks ends

@@ -4,7 +4,7 @@ use Rattle.ix_handover.specs.declared.verdicted.Verdicted.{Verdicted}
 use Rattle.ix_collect.specs.declared.gather.Received.{Received}
 use Rattle.ix_collect.specs.Collected.{last_count}
 
--- as many items were received as are told, and as many of them are a verifier's last
+-- the result counts the items that were received, and how many of them are a verifier's last
 pub record HasCounted (old new : List Verdicted) (received : Received) : Type 0 where
   pub items : length new ≡ received.items + length old
   pub lasts : last_count new ≡ received.lasts + last_count old

@@ -13,46 +13,46 @@ use Rattle.ix_collect.specs.JobProgress.{IsFine, IsItem, IsUnderWay, IsPoppedUnd
 abbrev pub StaysSafe : JobProgress → JobProgress → Type 0
 StaysSafe p q = (events : List Event) (failed : List Delivery) → IsSafe p events failed → IsSafe q events failed
 
--- the step tells the sink nothing: it is closed just where it was, and still may be told what comes next
+-- the step doesn't call the sink, which is closed if it was, and still may be called with what comes next
 abbrev pub LeavesSink : JobProgress → JobProgress → Type 0
 LeavesSink p q = (q.end ≡ p.end) × StaysSafe p q
 
--- an arrival is noted: the sink is told nothing, and where the arrival fits, the job is under way with it
+-- an arrival is accepted: the sink isn't called, and if the arrival fits, the job is under way with it
 pub record IsNoted (arrival : List Delivery → Bool → Tally → Tally → Type 0) (p : JobProgress) (result : Bool) (q : JobProgress) : Type 0 where
   pub sink : LeavesSink p q
   pub under_way : (all : List Delivery) (over : Bool) (t u : Tally) (events : List Event) (failed : List Delivery) → IsFine all u → arrival all over t u → IsUnderWay all over t p events failed → (result ≡ true) × IsUnderWay all over u q events failed
 
 module _ {S : Type 0} (events : S → List Event) (failed : S → List Delivery) where
-  -- the sink may be told what comes next
+  -- the sink may be called with what comes next
   abbrev pub IsSafeFor : JobProgress → S → Type 0
   IsSafeFor p s = IsSafe p (events s) (failed s)
 
-  -- the sink isn't closed, and may be told what comes next
+  -- the sink isn't closed, and may be called with what comes next
   abbrev pub IsOpenFor : JobProgress → S → Type 0
   IsOpenFor p s = (p.end ≡ None) × IsSafeFor p s
 
-  -- the same of a job whose visits are delivered
+  -- the same for a job whose visits are delivered
   pub record IsDeliveringTo (p : JobProgress) (s : S) : Type 0 where
     pub sink : IsOpenFor p s
     pub stage : p.stage ≡ Delivering
 
-  -- the sink may be told what comes next, and keeps what it promised before
+  -- the sink may be called with what comes next, and keeps its fact
   abbrev pub KeepsSafe : Fact S → JobProgress → S → S → Type 0
   KeepsSafe fact q s r = IsSafeFor q r × Keeps fact s r
 
-  -- the sink isn't closed, may be told what comes next, and keeps what it promised before
+  -- the sink isn't closed, may be called with what comes next, and keeps its fact
   abbrev pub KeepsOpen : Fact S → JobProgress → S → S → Type 0
   KeepsOpen fact q s r = IsOpenFor q r × Keeps fact s r
 
-  -- what came out of the ring was handed on
+  -- what was popped from the ring was delivered, or stopped the deliveries
   abbrev pub IsHandedOn : Option Delivery → JobProgress → S → JobProgress → S → Type 0
   IsHandedOn o p s q r = (all : List Delivery) (over : Bool) (t : Tally) → IsPoppedUnderWay all over t o p (events s) (failed s) → IsUnderWay all over t q (events r) (failed r)
 
-  -- whatever was next was delivered
+  -- all that was next was delivered
   abbrev pub HasDelivered : JobProgress → S → JobProgress → S → Type 0
   HasDelivered p s q r = (all : List Delivery) (over : Bool) (t : Tally) → IsUnderWay all over t p (events s) (failed s) → IsUnderWay all over t q (events r) (failed r) × IsCalm q
 
-  -- the sink was closed, where all has arrived
+  -- the sink was closed, if all has arrived
   abbrev pub HasFinished : JobProgress → S → JobProgress → S → Type 0
   HasFinished p s q r = (all : List Delivery) (over : Bool) (t : Tally) → IsFine all t → IsUnderWay all over t p (events s) (failed s) → IsCalm p → IsCome all over t q (events r) (failed r)
 

@@ -1,4 +1,4 @@
-//! Receives what the verifiers send, and tells each job's sink.
+//! Receives what the verifiers send, and calls each job's sink.
 
 ghost use Rattle.std.specs.Prelude.{◌≡◌, ◌≤◌, [], length, IfOk, IsTrue, ◌↔◌, vec_capacity, true, false};
 ghost use Rattle.ix_archive.specs.Headline.{EachKept};
@@ -11,19 +11,19 @@ use ix_archive::{End, Sink};
 use ix_handover::Verdicted;
 use std::alloc::{AllocError, Global};
 
-/// Receives what the verifiers send, in whatever order, and tells each job's sink.
+/// A collector: receives what the verifiers send, in any order, and calls each job's sink.
 ///
-/// What an item is worth becomes known only when all threads are joined. Until then job, number and
-/// close of each are guarded, and a bad one is noted and reaches no sink. Contracts say what follows
-/// where the items that were received are good.
+/// Whether the items are good is known only after all threads are joined. Until then job, number
+/// and close of each are checked, and an unexpected one is noted and reaches no sink. Contracts say
+/// what follows if the items that were received are good.
 #[derive(Drop)]
 pub struct Collector {
     jobs: Vec<JobProgress>,
-    // An item came that can't come.
+    // Whether an unexpected item came.
     stray: bool,
 }
 
-// The number of the item's job.
+// Returns the number of the item's job.
 fn job_of(item: &Verdicted) -> Option<u32>
     ensures { result ≡ job_of item.now }
 {
@@ -36,7 +36,7 @@ fn job_of(item: &Verdicted) -> Option<u32>
 }
 
 impl Collector {
-    /// A collector for so many jobs, which has received nothing.
+    /// Creates a collector for `jobs` jobs, which has received nothing.
     pub fn new(alloc: Global, jobs: u32) -> Result<Collector, AllocError>
         ensures jobs { IfOk result (λ c. job_count c ≡ jobs) }
         ensures unused { IfOk result IsUnused }
@@ -51,9 +51,11 @@ impl Collector {
         })
     }
 
-    /// Receives an item: delivers what is next of its job, and closes the job's sink where all has
-    /// arrived. An item that can't come is noted, and reaches no sink: one of a job that isn't there or
-    /// whose sink was closed, a second close, and, while the job's visits are delivered, a visit whose
+    /// Receives an item: delivers what is next of its job, and closes the job's sink once all has
+    /// arrived.
+    ///
+    /// An unexpected item is noted and reaches no sink: one of an unknown job or of a job whose
+    /// sink was closed, a second close, and, while the job's visits are delivered, a visit whose
     /// number was passed, is too far above the next or has come before.
     pub fn receive<S: Sink>(&mut self, alloc: Global, item: Verdicted, sinks: &mut [S])
         requires sinks { length sinks.old ≡ job_count self.old }
@@ -81,7 +83,7 @@ impl Collector {
         self.stray |= !fine;
     }
 
-    /// Whether an item came that can't come.
+    /// Whether an unexpected item came.
     pub fn has_stray(&self) -> bool
         ensures { result ≡ has_stray self.now }
     {
@@ -100,8 +102,8 @@ impl Collector {
         true
     }
 
-    /// How each job ended, once every sink was closed. `ends` is empty, with room for as many as there
-    /// are jobs.
+    /// Returns how each job ended, once every sink was closed. `ends` is empty, and has room for as
+    /// many as there are jobs.
     pub fn ends(&self, ends: Vec<End>) -> Vec<End>
         requires room { (ends.items ≡ []) × (job_count self.now ≤ vec_capacity ends) }
         requires done { IsDone self.now }

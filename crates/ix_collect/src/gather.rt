@@ -1,4 +1,4 @@
-//! The collector takes from all lanes.
+//! Receives from all lanes.
 
 ghost use Rattle.std.specs.Prelude.{◌≡◌, cond};
 ghost use Rattle.ix_handover.specs.Lanes.{sent_by, received_by, all_received, all_sent};
@@ -23,14 +23,14 @@ fn is_last(item: &Verdicted) -> bool
 /// What came from the lanes.
 #[derive(Clone, Copy, Debug, PartialEq, Eq)]
 pub struct Received {
-    /// How many items.
+    /// The number of items.
     pub items: usize,
     /// How many of them were a verifier's last.
     pub lasts: usize,
 }
 
-/// Receives one item from each lane that has one, and says how many came. What was received from
-/// elsewhere stands before what the lanes gave.
+/// Receives one item from each lane that has one, and returns how many came. What was received from
+/// elsewhere counts as received before what the lanes gave.
 pub fn round<S: Sink>(
     alloc: Global,
     collector: &mut Collector,
@@ -56,8 +56,8 @@ pub fn round<S: Sink>(
     Received { items, lasts }
 }
 
-/// Receives what is left in a lane of which both ends are here. What other lanes gave stands before
-/// and behind it.
+/// Receives what is left in a lane whose two ends are both here. What other lanes gave counts as
+/// received before and after it.
 pub fn drain<R: Wait, S: Sink>(
     rt: &R,
     alloc: Global,
@@ -82,8 +82,8 @@ pub fn drain<R: Wait, S: Sink>(
     unreachable!()
 }
 
-/// Receives what is left in all lanes, of which both ends are here. All that was sent has then come.
-/// What was received from elsewhere stands before it.
+/// Receives what is left in all lanes, whose ends are all here. All that was sent has then been
+/// received. What was received from elsewhere counts as received before it.
 pub fn finish<R: Wait, S: Sink>(
     rt: &R,
     alloc: Global,

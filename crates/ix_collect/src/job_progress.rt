@@ -14,14 +14,14 @@ use ix_handover::Verdicted;
 use ix_ring::Ring;
 use std::alloc::{AllocError, Global};
 
-/// What becomes of the visits of a job that are next.
+/// What happens to the visits of a job that are next.
 #[derive(Drop, Clone, Copy, PartialEq, Eq)]
 pub(crate) enum Stage {
     /// They are delivered.
     Delivering,
     /// A write failed: nothing more is delivered.
     Failed,
-    /// Memory was wanting: nothing more is delivered.
+    /// Memory ran out: nothing more is delivered.
     Stopped,
 }
 
@@ -35,19 +35,19 @@ pub(crate) struct WalkEnd {
 /// What was received of one job, and how far its sink has come.
 #[derive(Drop)]
 pub(crate) struct JobProgress {
-    // Visits with their verdicts, and those that found no memory, until their turn comes.
+    // Visits with their verdicts, and visits whose check ran out of memory, until their turn comes.
     ring: Ring<Option<Delivery>>,
     // How many items came.
     arrived: u64,
     close: Option<WalkEnd>,
-    // Want of memory was met.
+    // Whether memory ran out.
     out_of_memory: bool,
     stage: Stage,
     // How the sink was closed.
     end: Option<End>,
 }
 
-// Whether so many items are all of a job whose walk ended so.
+// Whether `arrived` items are all of a job whose walk was closed so.
 fn is_all(arrived: u64, close: WalkEnd) -> bool
     ensures { IsTrue result ↔ (arrived ≡ close.seq + 1) }
 {
@@ -55,7 +55,7 @@ fn is_all(arrived: u64, close: WalkEnd) -> bool
 }
 
 impl JobProgress {
-    // Nothing was received so far.
+    // Creates the progress of a job of which nothing was received.
     pub(crate) fn new(alloc: Global) -> Result<JobProgress, AllocError>
         ensures { IfOk result IsNew }
     {
@@ -70,8 +70,8 @@ impl JobProgress {
         })
     }
 
-    // A visit came: with its verdict, or without where the check found no memory. False is a number
-    // that can't be.
+    // Accepts a visit: with its verdict, or without if its check ran out of memory. Returns false
+    // if its number is unexpected.
     fn take(&mut self, seq: u32, judged: Option<Delivery>) -> bool
         ensures misplaced { self.old.stage ≡ Delivering → (IsFree self.old.ring seq → ⊥) → result ≡ false }
         ensures taken { IsNoted (λ all over. IsArrival all seq judged) self.old result self.new }
@@ -92,7 +92,7 @@ impl JobProgress {
         true
     }
 
-    // The close of the job's walk came. False is a second one.
+    // Accepts the close of the job's walk. Returns false if it is a second one.
     fn note_close(&mut self, seq: u32, end: End) -> bool
         ensures second { (w : WalkEnd) → self.old.close ≡ Some w → result ≡ false }
         ensures noted { IsNoted (λ all over. IsCloseArrival all over seq end) self.old result self.new }
@@ -141,7 +141,7 @@ impl JobProgress {
         }
     }
 
-    // Closes the sink, where all has arrived.
+    // Closes the sink, if all has arrived.
     fn finish<S: Sink>(&mut self, sink: &mut S)
         requires open { IsOpenFor S.events S.failed self.old sink.old }
         ensures kept { KeepsSafe S.events S.failed S.fact self.new sink.old sink.new }
@@ -158,7 +158,7 @@ impl JobProgress {
         self.end = Some(end);
     }
 
-    // How a job ends whose walk ended so.
+    // Returns how a job ends whose walk ended with `end`.
     fn end_at(&self, end: End) -> End
         ensures { result ≡ end_of self.now.out_of_memory self.now.stage end }
     {
@@ -178,14 +178,14 @@ impl JobProgress {
         self.end.is_some()
     }
 
-    // How the sink was closed. One that wasn't answers Memory.
+    // Returns how the sink was closed, or `Memory` if it wasn't.
     pub(crate) fn end(&self) -> End
         ensures { result ≡ unwrap_or self.now.end Memory }
     {
         self.end.unwrap_or(End::Memory)
     }
 
-    // An item of the job came. False is one that can't come.
+    // Receives an item of the job. Returns false if it is unexpected.
     pub(crate) fn receive<S: Sink>(&mut self, alloc: Global, item: Verdicted, sink: &mut S) -> bool
         requires safe { IsSafeFor S.events S.failed self.old sink.old }
         ensures kept { KeepsSafe S.events S.failed S.fact self.new sink.old sink.new }
@@ -206,7 +206,7 @@ impl JobProgress {
         true
     }
 
-    // Notes an item, whether or not it is next.
+    // Accepts an item, whether or not it is next. Returns false if it is unexpected.
     fn note(&mut self, item: Verdicted) -> bool
         ensures misplaced { IsMisplaced self.old item → result ≡ false }
         ensures noted { IsNoted (λ all over. IsItem all over item) self.old result self.new }

@@ -1,9 +1,9 @@
-//! The collector: what verifiers send becomes what each job's sink is told.
+//! The collector: turns what verifiers send into calls of each job's sink.
 //!
-//! In whatever order the items come: where they are what verifiers send of jobs, each sink is told
-//! its job's first visits with their verdicts, in order and once each, and one close, last; and
-//! each visit was checked as often as it is to be. An item of an unknown job, or of one whose sink
-//! is closed, is noted and changes no sink.
+//! In whatever order the items come: if they are what verifiers send for these jobs, each sink gets
+//! its job's first visits with their verdicts, in order and once each, and then one close. Each
+//! visit was checked as often as it is to be. An item of an unknown job, or of one whose sink is
+//! closed, is noted and changes no sink.
 //!
 //! ```rust
 //! let mut collector = Collector::new(alloc, sinks.len() as u32)?;

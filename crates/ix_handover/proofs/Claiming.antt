@@ -14,30 +14,37 @@ use Rattle.ix_handover.specs.Received.{point}
 use Rattle.ix_handover.proofs.Totals.{total_set, total_snoc, total_le, part_le, total_of-one, each_set, each_snoc, at_other}
 
 module _ {T : Type 0} where
+  -- a list has an element at each position below its length
   value_at : (l : List T) (i : ℕ) → i < length l → (x : T) × (slice_get l i ≡ Some x)
   value_at [] i h = absurd (omega (arith, h))
   value_at (x ∷ xs) zero h = (x, refl)
   value_at (x ∷ xs) (suc i) h = value_at xs i (omega (arith, h))
 
+-- occurrences add up over a concatenation
 times-append : (x : ℕ) (xs ys : List ℕ) → times x (xs ++ ys) ≡ times x xs + times x ys
 times-append x [] ys = omega arith
 times-append x (y ∷ xs) ys = let ih = times-append x xs ys in omega arith
 
+-- and over one more element
 times-snoc : (x n : ℕ) (xs : List ℕ) → times x (xs ++ n ∷ []) ≡ times x xs + cond (n == x) 1 0
 times-snoc x n xs = let a = times-append x xs (n ∷ []) in omega (arith, a)
 
+-- there is one number more below w + 1, which is w
 below_more : (x w : ℕ) → once_below x (w + 1) ≡ once_below x w + point w x
 below_more x w = grind (arith, nat_tests)
 
+-- a draw of a number that has a value claims one position more
 once_more : (x w m : ℕ) → w < m → once_below x (min (w + 1) m) ≡ once_below x (min w m) + point w x
 once_more x w m h =
     let a : min (w + 1) m ≡ w + 1 = omega (arith, h) in
     let b : min w m ≡ w = omega (arith, h) in
     ap (once_below x) a ∙ below_more x w ∙ ap (λ n. once_below x n + point w x) (sym b)
 
+-- a draw past the values claims none
 once_same : (x w m : ℕ) → m ≤ w → once_below x (min (w + 1) m) ≡ once_below x (min w m)
 once_same x w m h = let e : min (w + 1) m ≡ min w m = omega (arith, h) in ap (once_below x) e
 
+-- the counter doesn't wrap: there are at most 1,000 values and 64 answers that all are claimed
 wraps : (n : ℕ) → n ≤ 1064 → (n + 1) % 2 ^ 64 ≡ n + 1
 wraps n h = omega arith
 
@@ -47,6 +54,7 @@ of_either zero b n w f g h = g (omega (arith, h))
 of_either (suc a) b n w f g h = f (omega arith)
 
 module _ {T : Type 0} (values : List T) (all slots id : ℕ) (me : Me (Option T) (ClaimView T)) (part : 0 < me.0.parts) (first : me.0.refusals ≡ 0) (s : State (Option T) (ClaimView T)) (r : IsClaimed values all s) (at : get_elem? s.views id ≡ some me.0) where
+  -- at most 1,000 values are claimed, and each of 64 seats is answered once at most that all are
   word_small : r.word ≤ 1064
   word_small =
       let le = total_le (λ v. v.refusals) (λ v. v.parts) s.views (λ p u e. (r.fits p u e).few) in
@@ -55,9 +63,11 @@ module _ {T : Type 0} (values : List T) (all slots id : ℕ) (me : Me (Option T)
       let m = r.small in
       omega arith
 
+  -- so the word after a draw is one higher
   next_words : (k : ℕ) → k ≡ r.word → set s.words 0 ((k + 1) % 2 ^ 64) ≡ (r.word + 1) ∷ []
   next_words k e = ap (λ (l : List ℕ). set l 0 ((k + 1) % 2 ^ 64)) r.words_are ∙ ap (λ (n : ℕ). n ∷ []) (ap (λ (n : ℕ). (n + 1) % 2 ^ 64) e ∙ wraps r.word word_small)
 
+  -- a draw below the number of values keeps the invariant, and gains the value in that slot
   gain : (k : ℕ) → k ≡ r.word → k < length values → (x : T) → slice_get values k ≡ Some x → IsClaimed values all (stepped s 0 ((k + 1) % 2 ^ 64) id me.1 (gains me.0 k) (takes k (Some x)))
   gain k e below x is =
       let v = me.0 in
@@ -76,6 +86,7 @@ module _ {T : Type 0} (values : List T) (all slots id : ℕ) (me : Me (Option T)
             (λ j u _ at. (let g = r.fits j u at in record { known = g.known; idle = g.idle; few = g.few; over = λ o. (let l = g.over o in omega (arith, l)) }));
       }
 
+  -- a draw past the values keeps the invariant, and counts one more answer that all are claimed
   refuse : (k : ℕ) → k ≡ r.word → length values ≤ k → IsClaimed values all (stepped s 0 ((k + 1) % 2 ^ 64) id me.1 (refused me.0) keeps)
   refuse k e above =
       let v = me.0 in
@@ -94,6 +105,7 @@ module _ {T : Type 0} (values : List T) (all slots id : ℕ) (me : Me (Option T)
             (λ j u _ at. (let g = r.fits j u at in record { known = g.known; idle = g.idle; few = g.few; over = λ o. (let l = g.over o in omega (arith, l)) }));
       }
 
+  -- both cases of a draw, by the test that decides between them
   told : (b : Bool) (k : ℕ) → k ≡ r.word → nat_lt k (length values) ≡ b → (w : ClaimView T) × (a : Act (Option T)) × Valid s.homes me.1 a × IsClaimed values all (stepped s 0 ((k + 1) % 2 ^ 64) id me.1 w a)
       × MatchBool b ((x : T) × (slice_get values k ≡ Some x) × (◌≡◌ {A = Me (Option T) (ClaimView T)} (w, carried_after me.1 a) (gains me.0 k, (k, Some x) ∷ me.1))) (◌≡◌ {A = Me (Option T) (ClaimView T)} (w, carried_after me.1 a) (refused me.0, me.1))
   told true k e is =
@@ -114,7 +126,7 @@ draws {T} values all slots id me part first s r len at below =
     let P : List T → Type 0 = λ l. MatchBool (nat_lt k (length l)) ((x : T) × (slice_get l k ≡ Some x) × (◌≡◌ {A = Me (Option T) (ClaimView T)} (t.0, carried_after me.1 t.1) (gains me.0 k, (k, Some x) ∷ me.1))) (◌≡◌ {A = Me (Option T) (ClaimView T)} (t.0, carried_after me.1 t.1) (refused me.0, me.1)) in
     (t.0, t.1, t.2, t.3, subst P (sym v) t.4)
 
--- what a view tells of the word
+-- what a view implies of the word
 view_tells_word : {T : Type 0} (values : List T) (all id : ℕ) (v : ClaimView T) (s : State (Option T) (ClaimView T)) (r : IsClaimed values all s) → get_elem? s.views id ≡ some v → 0 < v.parts → (k : ℕ) → k ≡ r.word → Tells v k
 view_tells_word {T} values all id v s r at part k e =
     let f = r.fits id v at in
@@ -129,7 +141,7 @@ view_tells_word {T} values all id v s r at part k e =
       over = λ o. (let a = f.over o in let l : length v.values ≡ length values = ap length known.0 in omega (arith, a, l, e));
     }
 
--- a look changes nothing
+-- a read changes nothing
 pub looks : {T : Type 0} (values : List T) (all slots id : ℕ) (me : Me (Option T) (ClaimView T)) → Allows (IsClaimed values all) slots id me 0 (λ n. n) (Looks me)
 looks {T} values all slots id me s r len at below =
     let k = slice_index s.words 0 in
@@ -152,6 +164,7 @@ looks {T} values all slots id me s r len at below =
       (refl, λ part. view_tells_word values all id v s r at part k e),
     )
 
+-- a view without seats fits whatever was drawn
 fits_spent : {T : Type 0} (values : List T) (all word : ℕ) → FitsClaimer values all word spent
 fits_spent values all word = record { known = λ h. absurd (omega (arith, h)); idle = λ h. refl; few = omega arith; over = λ h. absurd (omega (arith, h)) }
 
@@ -180,6 +193,7 @@ record IsCut {T : Type 0} (v left right : ClaimView T) : Type 0 where
   places : (x : ℕ) → times x left.places + times x right.places ≡ times x v.places
   fits : (values : List T) (all word : ℕ) → FitsClaimer values all word v → FitsClaimer values all word left × FitsClaimer values all word right
 
+-- a view that is cut in two leaves all sums as they are, so the invariant is kept
 splits : {T : Type 0} (values : List T) (all id : ℕ) (v left right : ClaimView T) → IsCut v left right → Splits (IsClaimed values all) id v left right
 splits {T} values all id v left right cut s r at =
     let after = set s.views id left ++ right ∷ [] in
@@ -196,7 +210,7 @@ splits {T} values all id v left right cut s r at =
       fits = each_snoc (λ _. FitsClaimer values all r.word) (set s.views id left) right (each_set (λ _. FitsClaimer values all r.word) s.views id left f.0 (λ j u _ at. r.fits j u at)) f.1;
     }
 
--- one seat is cut off a view that has claimed nothing
+-- one seat is split off a view that has claimed nothing
 pub deals : {T : Type 0} (values : List T) (all id : ℕ) (v : ClaimView T) → 0 < v.parts → v.places ≡ [] → v.refusals ≡ 0 → Splits (IsClaimed values all) id v (one_less v) (one_seat v)
 deals values all id v part fresh first =
     splits values all id v (one_less v) (one_seat v) (record {
@@ -234,6 +248,7 @@ joins {T} values all id v other w part s r at apart beside =
           (λ j u _ at. r.fits j u at) j u at);
     }
 
+-- in a new table each slot holds its value
 homes_at : {T : Type 0} (values : List T) (k : ℕ) (x : T) → slice_get values k ≡ Some x → get_elem? (map some (map Some values)) k ≡ some (some (Some x))
 homes_at [] k x e = cc
 homes_at (y ∷ ys) zero x e = ap some (ap some e)
@@ -252,9 +267,11 @@ opens values all few seats = record {
   fits = each_snoc (λ _. FitsClaimer values all 0) [] (claimer all all values [] 0) (λ j u e. absurd (some-ne-none u (sym e))) (record { known = λ h. (refl, refl); idle = λ h. refl; few = omega arith; over = λ h. absurd (omega (arith, h)) });
 }
 
+-- a draw below the number of values gains the value, by the test that decides it
 pub claimed_at : {T : Type 0} (me : Me (Option T) (ClaimView T)) (n : ℕ) (w : Me (Option T) (ClaimView T)) (b : Bool) → nat_lt n (length me.0.values) ≡ b → Draws me n w → n < length me.0.values → (x : T) × (slice_get me.0.values n ≡ Some x) × (w ≡ (gains me.0 n, (n, Some x) ∷ me.1))
 claimed_at {T} me n w true is c below = let P : Bool → Type 0 = λ b. MatchBool b ((x : T) × (slice_get me.0.values n ≡ Some x) × (w ≡ (gains me.0 n, (n, Some x) ∷ me.1))) (w ≡ (refused me.0, me.1)) in subst P is c
 claimed_at {T} me n w false is c below = let above : length me.0.values ≤ n = grind (arith, nat_tests) in absurd (omega arith)
 
+-- so `claim` finds a value in the slot of the number that it drew
 pub claimed_below : {T : Type 0} (me : Me (Option T) (ClaimView T)) (n : ℕ) (w : Me (Option T) (ClaimView T)) → Draws me n w → n < length me.0.values → (x : T) × (slice_get me.0.values n ≡ Some x) × (w ≡ (gains me.0 n, (n, Some x) ∷ me.1))
 claimed_below me n w c below = claimed_at me n w (nat_lt n (length me.0.values)) refl c below

@@ -27,15 +27,19 @@ pub record IsPlain (u : PassView) : Type 0 where
   pub lists : (u.puts ≡ []) × (u.takens ≡ [])
 
 module _ (port : ℕ) (v : PassView) (other : ℕ) (u : PassView) (live : v.blank ≡ false) (part : 0 < v.parts) (plain : IsPlain u) (items : List Item) (views : List PassView) (r : Running items views) (at : get_elem? views port ≡ some v) (apart : ¬ (other ≡ port)) (at' : get_elem? (set views port (after_join v u)) other ≡ some u) where
+  -- the other pass is among the views
   join_was : get_elem? views other ≡ some u
   join_was = ⊎_elim (λ (t : (other ≡ port) × (after_join v u ≡ u)). absurd (apart t.0)) (λ (t : (other ≢ port) × (get_elem? views other ≡ some u)). t.1) (at_set views port other (after_join v u) u at')
 
+  -- the join appends what the other pass took
   join_taken : all_taken (after_join v u) ≡ all_taken v ++ u.taken
   join_taken = ap (λ (l : List Item). v.taken ++ l) (concat-snoc v.takens u.taken) ∙ sym (append_assoc v.taken (concat v.takens) u.taken)
 
+  -- the other pass has nothing joined into it
   join_alone : all_taken u ≡ u.taken
   join_alone = ap (λ (l : List (List Item)). u.taken ++ concat l) plain.lists.1 ∙ append-nil u.taken
 
+  -- the pass fits after the join, with one more taken list whose numbers rise
   join_mine : Fits r.course r.all r.head r.left (length views) port (after_join v u)
   join_mine =
       let f = r.fits port v at in
@@ -51,6 +55,7 @@ module _ (port : ℕ) (v : PassView) (other : ℕ) (u : PassView) (live : v.blan
         took = subst (λ (l : List Item). All (Allowed r.course) l) (sym join_taken) (All-append (Allowed r.course) (all_taken v) u.taken f.took (subst (λ (l : List Item). All (Allowed r.course) l) join_alone g.took));
       }
 
+  -- no sum over the views changes: what one view gains the other loses
   join_total : (h : Item → ℕ) → total (λ u. total h (all_put u)) (set (set views port (after_join v u)) other spent) ≡ total (λ u. total h (all_put u)) views
   join_total h =
       let b = after_join v u in
@@ -64,6 +69,7 @@ module _ (port : ℕ) (v : PassView) (other : ℕ) (u : PassView) (live : v.blan
       let a5 : total h (u.put ++ concat u.puts) ≡ total h u.put = ap (λ (l : List (List Item)). total h (u.put ++ concat l)) plain.lists.0 ∙ ap (total h) (append-nil u.put) in
       omega arith
 
+  -- so the invariant is kept
   join_runs : Running items (set (set views port (after_join v u)) other spent)
   join_runs =
       let b = after_join v u in
@@ -108,6 +114,7 @@ module _ (port : ℕ) (v : PassView) (other : ℕ) (u : PassView) (live : v.blan
             (λ p w _ e. each_set (λ p w. Fits r.course r.all r.head r.left (length views) p w) views port b join_mine (λ p w _ e. r.fits p w e) p w e) p w e);
       }
 
+-- the step of the protocol in which two seats are joined
 pub merges : (port : ℕ) (v : PassView) (other : ℕ) (u : PassView) → v.blank ≡ false → 0 < v.parts → IsPlain u → Merges IsQueueState port v other u (after_join v u) spent
 merges port v other u live part plain items views h at apart at' = inr (join_runs port v other u live part plain items views (runs items views port v h at live) at apart at')
 
@@ -131,7 +138,7 @@ shares port v live items views q at j n =
     let p = part_le (λ u. times j n (all_taken u)) views port v at in
     omega (arith, b, o, p)
 
--- of a job whose close a pass has taken, with the seats that were joined into it, it took nothing behind that close
+-- of a job whose close a pass has taken, with the seats that were joined into it, it took no number above that of the close
 pub lasts : (port : ℕ) (v : PassView) → v.blank ≡ false → Learns IsQueueState port v (λ items. (j k n : ℕ) → 0 < ends j k (all_taken v) → k < n → times j n (all_taken v) ≡ 0)
 lasts port v live items views q at j k n closed lt =
     let r = runs items views port v q at live in

@@ -19,6 +19,7 @@ use Rattle.ix_handover.specs.Totals.{total}
 use Rattle.ix_handover.proofs.Totals.{total_set, total_snoc, each_set, each_snoc}
 use Rattle.ix_handover.proofs.Running.{runs, spent_fits}
 
+-- the pass that makes the seats fits an empty queue
 root_fits : (c : List JobVisits) (n : ℕ) → Fits c n (λ _. 0) (λ _. 0) 2 0 (root c n)
 root_fits c n = record {
   named = refl;
@@ -31,11 +32,13 @@ root_fits c n = record {
   took = All-nil (Allowed c);
 }
 
+-- the two views after the naming fit: the maker and what is left of the blank pass
 named_at : (c : List JobVisits) (n : ℕ) (p : ℕ) (u : PassView) → get_elem? (root c n ∷ spent ∷ []) p ≡ some u → Fits c n (λ _. 0) (λ _. 0) 2 p u
 named_at c n zero u e = subst (λ (w : PassView). Fits c n (λ _. 0) (λ _. 0) 2 0 w) (some-injective (root c n) u e) (root_fits c n)
 named_at c n (suc zero) u e = subst (λ (w : PassView). Fits c n (λ _. 0) (λ _. 0) 2 1 w) (some-injective spent u e) (spent_fits c n (λ _. 0) (λ _. 0) 2 1)
 named_at c n (suc (suc p)) u e = absurd (some-ne-none u (sym e))
 
+-- so the invariant holds of them
 named_runs : (c : List JobVisits) (n : ℕ) → Running [] (root c n ∷ spent ∷ [])
 named_runs c n = record {
   course = c;
@@ -52,11 +55,12 @@ named_runs c n = record {
   fits = named_at c n;
 }
 
+-- the same in the form of a fork, at whichever position the blank pass was
 names_go : (c : List JobVisits) (n : ℕ) (port : ℕ) → get_elem? (blank ∷ []) port ≡ some blank → Running [] (set (blank ∷ []) port (root c n) ++ spent ∷ [])
 names_go c n zero at = named_runs c n
 names_go c n (suc p) at = absurd (some-ne-none blank (sym at))
 
--- the course gets its name
+-- the step of the protocol that names the course
 pub names : (c : List JobVisits) (n : ℕ) (port : ℕ) → Forks IsQueueState port blank (root c n) spent
 names c n port items views (inl b) at =
     let at' : get_elem? (blank ∷ []) port ≡ some blank = ap (λ (l : List PassView). get_elem? l port) (sym b.1) ∙ at in
@@ -73,6 +77,7 @@ pub record IsNewSeat (v w : PassView) : Type 0 where
   pub lists : (w.put ≡ []) × (w.taken ≡ []) × (w.puts ≡ []) × (w.takens ≡ [])
 
 module _ (port : ℕ) (v w : PassView) (live : v.blank ≡ false) (makes : v.maker ≡ true) (part : 1 < v.parts) (new : IsNewSeat v w) (items : List Item) (views : List PassView) (r : Running items views) (at : get_elem? views port ≡ some v) where
+  -- the maker fits with one seat less and one view more
   fork_mine : Fits r.course r.all r.head r.left (length views + 1) port (after_seat v)
   fork_mine =
       let f = r.fits port v at in
@@ -88,6 +93,7 @@ module _ (port : ℕ) (v w : PassView) (live : v.blank ≡ false) (makes : v.mak
         took = f.took;
       }
 
+  -- no other view depends on the number of views, as there is one maker
   fork_other : (p : ℕ) (u : PassView) → p ≢ port → get_elem? views p ≡ some u → Fits r.course r.all r.head r.left (length views + 1) p u
   fork_other p u apart e =
       let f = r.fits p u e in
@@ -102,12 +108,15 @@ module _ (port : ℕ) (v w : PassView) (live : v.blank ≡ false) (makes : v.mak
         took = f.took;
       }
 
+  -- a new seat has put nothing
   fork_no_put : all_put w ≡ []
   fork_no_put = ap (λ (l : List Item). l ++ concat w.puts) new.lists.0 ∙ ap concat new.lists.2
 
+  -- and taken nothing
   fork_no_taken : all_taken w ≡ []
   fork_no_taken = ap (λ (l : List Item). l ++ concat w.takens) new.lists.1 ∙ ap concat new.lists.3
 
+  -- so it fits as the seat of the next job, or as one of no job
   fork_new : Fits r.course r.all r.head r.left (length views + 1) (length views) w
   fork_new =
       let f = r.fits port v at in
@@ -124,6 +133,7 @@ module _ (port : ℕ) (v w : PassView) (live : v.blank ≡ false) (makes : v.mak
         took = subst (λ (l : List Item). All (Allowed r.course) l) (sym fork_no_taken) (All-nil (Allowed r.course));
       }
 
+  -- the sums over the views stay as they are
   fork_total : (j n : ℕ) → total (λ u. times j n (all_put u)) (set views port (after_seat v) ++ w ∷ []) ≡ total (λ u. times j n (all_put u)) views
   fork_total j n =
       let h = is_item j n in
@@ -132,6 +142,7 @@ module _ (port : ℕ) (v w : PassView) (live : v.blank ≡ false) (makes : v.mak
       let z : total h (all_put w) ≡ 0 = ap (total h) fork_no_put in
       omega arith
 
+  -- so the invariant is kept
   fork_runs : Running items (set views port (after_seat v) ++ w ∷ [])
   fork_runs =
       let a = after_seat v in
@@ -175,11 +186,14 @@ module _ (port : ℕ) (v w : PassView) (live : v.blank ≡ false) (makes : v.mak
             (subst (λ (n : ℕ). Fits r.course r.all r.head r.left (length views + 1) n w) (sym m) fork_new) p u e);
       }
 
+-- the step of the protocol in which a seat is made
 pub forks : (port : ℕ) (v w : PassView) → v.blank ≡ false → v.maker ≡ true → 1 < v.parts → IsNewSeat v w → Forks IsQueueState port v (after_seat v) w
 forks port v w live makes part new items views h at = inr (fork_runs port v w live makes part new items views (runs items views port v h at live) at)
 
+-- the seat of the next job is a new seat
 pub job_seat_is_new : (v : PassView) → IsNewSeat v (job_pass v)
 job_seat_is_new v = record { live = refl; parts = refl; course = (refl, refl); maker = refl; job = λ j e. (let is : v.made ≡ j = cc in sym is); lists = (refl, refl, refl, refl) }
 
+-- a consumer's seat is a new seat
 pub take_seat_is_new : (v : PassView) → IsNewSeat v (take_pass v)
 take_seat_is_new v = record { live = refl; parts = refl; course = (refl, refl); maker = refl; job = λ j e. absurd (none-some j e); lists = (refl, refl, refl, refl) }

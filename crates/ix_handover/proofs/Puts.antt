@@ -23,6 +23,7 @@ use Rattle.ix_handover.proofs.Totals.{total_set, at_below, each_set, total_appen
 use Rattle.ix_handover.proofs.Numbers.{held, numbers-append, count_up-snoc}
 use Rattle.ix_handover.proofs.Running.{runs, one_if}
 
+-- a number that is put for the first time is counted once at most
 mark_go : (k n t top : ℕ) → k ≡ top → (top ≤ n → t ≡ 0) → t ≤ 1 → t + cond (k == n) 1 0 ≤ 1
 mark_go k n t top e unput le = elim (ℕ_discrete k n) [
   | yes same ↦ (let z : t ≡ 0 = unput (omega arith) in let q : (k == n) ≡ true = grind (arith, nat_tests) in subst (λ (b : Bool). t + cond b 1 0 ≤ 1) (sym q) (omega arith))
@@ -42,12 +43,13 @@ opened_ends : (vs : List Visit) (j k : ℕ) → ends j k (map item.Visit vs) ≡
 opened_ends [] j k = refl
 opened_ends (v ∷ vs) j k = let rest : ends j k (map item.Visit vs) ≡ 0 = opened_ends vs j k in omega arith
 
--- of an item of a job, whether it is the close n
+-- an item of another job is no close of this one
 is_end_other : (j k : ℕ) (x : Item) → is_of j x ≡ false → is_end j k x ≡ 0
 is_end_other j k (item.Visit v) e = refl
 is_end_other j k (item.Close i m f) e = rw e refl
 is_end_other j k item.Stop e = refl
 
+-- a close that counts at k has the number k
 is_end_seq : (j k : ℕ) (x : Item) → 0 < is_end j k x → seq_of x ≡ k
 is_end_seq j k (item.Visit v) lt = absurd (omega arith)
 is_end_seq j k (item.Close i m f) lt = go (i == j) (m == k) refl lt where
@@ -57,21 +59,24 @@ is_end_seq j k (item.Close i m f) lt = go (i == j) (m == k) refl lt where
   go false d e lt = absurd (omega arith)
 is_end_seq j k item.Stop lt = absurd (omega arith)
 
+-- a number is 0 or positive
 zero_or : (n : ℕ) → (n ≡ 0) ⊎ (0 < n)
 zero_or zero = inl refl
 zero_or (suc n) = inr (omega arith)
 
+-- a list with one element more isn't empty
 not_none : {X : Type 0} (ys : List X) (z : X) → [] ≡ ys ++ z ∷ [] → ⊥
 not_none [] z e = cc
 not_none (y ∷ ys) z e = cc
 
+-- lists that are equal with one element more are equal without
 snoc_same : {X : Type 0} (xs ys : List X) (x y : X) → xs ++ x ∷ [] ≡ ys ++ y ∷ [] → xs ≡ ys
 snoc_same [] [] x y e = refl
 snoc_same [] (b ∷ ys) x y e = absurd (not_none ys y (let t : [] ≡ ys ++ y ∷ [] = cc in t))
 snoc_same (a ∷ xs) [] x y e = absurd (not_none xs x (let t : xs ++ x ∷ [] ≡ [] = cc in sym t))
 snoc_same (a ∷ xs) (b ∷ ys) x y e = let h : a ≡ b = cc in let t : xs ++ x ∷ [] ≡ ys ++ y ∷ [] = cc in ap (λ z. z ∷ xs) h ∙ ap (λ l. b ∷ l) (snoc_same xs ys x y t)
 
--- nothing is put behind a close
+-- nothing is put after a close
 no_put_behind : (c : List JobVisits) (j k : ℕ) (put : List Item) (x : Item) → IsPut c j (put ++ x ∷ []) → 0 < ends j k put → ⊥
 no_put_behind c j k put x (n, le, inl e) there =
     let a : ends j k (put ++ x ∷ []) ≡ ends j k put + ends j k (x ∷ []) = total_append (is_end j k) put (x ∷ []) in
@@ -83,9 +88,11 @@ no_put_behind c j k put x (n, le, inr w) there =
     absurd (omega arith)
 
 module _ (port : ℕ) (v : PassView) (x : Item) (may : MayPut v x) (items : List Item) (views : List PassView) (r : Running items views) (at : get_elem? views port ≡ some v) where
+  -- how many items of each job the queue holds after the put
   abbrev put_left : ℕ → ℕ
   put_left j = r.left j + held j x
 
+  -- the new number comes after those of its job in the queue, and other jobs' stay
   put_ordered_at : (j : ℕ) (b : Bool) → is_of j x ≡ b → numbers j (items ++ x ∷ []) ≡ count_up (r.head j) (r.left j + cond b 1 0)
   put_ordered_at j true e =
       let o = may.own j e in
@@ -96,6 +103,7 @@ module _ (port : ℕ) (v : PassView) (x : Item) (may : MayPut v x) (items : List
       let z : r.left j ≡ r.left j + 0 = omega arith in
       numbers-append j items (x ∷ []) ∙ (ap (λ (b : Bool). numbers j items ++ cond b (seq_of x ∷ []) []) e ∙ (append-nil (numbers j items) ∙ (r.ordered j ∙ ap (count_up (r.head j)) z)))
 
+  -- the item is of no job whose seat isn't made yet, since the seat that puts it is among the views
   held_none : (p : ℕ) (u : PassView) → get_elem? views p ≡ some u → u.maker ≡ true → (j : ℕ) → u.made ≤ j → (b : Bool) → is_of j x ≡ b → one_if b ≡ 0
   held_none p u e m j le false is = refl
   held_none p u e m j le true is =
@@ -104,9 +112,11 @@ module _ (port : ℕ) (v : PassView) (x : Item) (may : MayPut v x) (items : List
       let below = at_below views port v at in
       absurd (omega arith)
 
+  -- so the maker fits as before: of a job whose seat isn't made nothing was put
   put_maker : (p : ℕ) (u : PassView) → get_elem? views p ≡ some u → u.maker ≡ true → (p ≡ 0) × (length views ≡ u.made + 2) × ((j : ℕ) → u.made ≤ j → r.head j + put_left j ≡ 0)
   put_maker p u e m = let k = (r.fits p u e).maker m in (k.0, k.1, λ j le. let z = k.2 j le in let h : held j x ≡ 0 = held_none p u e m j le (is_of j x) refl in omega (arith, z, h))
 
+  -- the pass that put the item fits
   put_mine : Fits r.course r.all r.head put_left (length views) port (after_put v x)
   put_mine =
       let f = r.fits port v at in
@@ -131,6 +141,7 @@ module _ (port : ℕ) (v : PassView) (x : Item) (may : MayPut v x) (items : List
       let theirs = ((r.fits p u e).seat j is).0 in
       absurd (apart (theirs ∙ sym mine))
 
+  -- every other pass fits as before
   put_other : (p : ℕ) (u : PassView) → p ≢ port → get_elem? views p ≡ some u → Fits r.course r.all r.head put_left (length views) p u
   put_other p u apart e =
       let f = r.fits p u e in
@@ -154,6 +165,7 @@ module _ (port : ℕ) (v : PassView) (x : Item) (may : MayPut v x) (items : List
       let l : seq_of x ≡ r.head j + r.left j = o.1 ∙ s.1 in
       mark_go (seq_of x) n t (r.head j + r.left j) l unput le
 
+  -- numbers above the new one are not put yet
   mark_later : (j n : ℕ) (b : Bool) (t : ℕ) → is_of j x ≡ b → (r.head j + r.left j ≤ n → t ≡ 0) → r.head j + (r.left j + cond b 1 0) ≤ n → t + cond b (cond (seq_of x == n) 1 0) 0 ≡ 0
   mark_later j n false t is unput le = let z = unput (omega arith) in omega arith
   mark_later j n true t is unput le =
@@ -164,6 +176,7 @@ module _ (port : ℕ) (v : PassView) (x : Item) (may : MayPut v x) (items : List
       let ne : (seq_of x == n) ≡ false = grind (arith, nat_tests) in
       (ap (λ (b : Bool). t + cond b 1 0) ne ∙ omega arith)
 
+  -- the put is counted once, in the sum over all views
   put_total : (j n : ℕ) → total (λ u. times j n (all_put u)) (set views port (after_put v x)) ≡ total (λ u. times j n (all_put u)) views + is_item j n x
   put_total j n =
       let h = is_item j n in
@@ -173,6 +186,7 @@ module _ (port : ℕ) (v : PassView) (x : Item) (may : MayPut v x) (items : List
       let a3 = total_append h v.put (concat v.puts) in
       omega arith
 
+  -- and so is a close
   put_ends : (j k : ℕ) → total (λ u. ends j k (all_put u)) (set views port (after_put v x)) ≡ total (λ u. ends j k (all_put u)) views + is_end j k x
   put_ends j k =
       let h = is_end j k in
@@ -182,9 +196,11 @@ module _ (port : ℕ) (v : PassView) (x : Item) (may : MayPut v x) (items : List
       let a3 = total_append h v.put (concat v.puts) in
       omega arith
 
+  -- the close k of job j is the last item put of the job, and the job's seat has put it
   abbrev IsShut : (ℕ → ℕ) → ℕ → ℕ → List PassView → Type 0
   IsShut left j k passes = (r.head j + left j ≡ k + 1) × ((p : ℕ) (u : PassView) → get_elem? passes p ≡ some u → u.job ≡ Some j → 0 < ends j k u.put)
 
+  -- a close that is put now is the last of its job; an earlier one was, and its job's seat puts no more
   put_shut_at : (j k : ℕ) (b : Bool) → is_of j x ≡ b → 0 < total (λ u. ends j k (all_put u)) views + is_end j k x → IsShut put_left j k (set views port (after_put v x))
   put_shut_at j k false is lt =
       let z : is_end j k x ≡ 0 = is_end_other j k x is in
@@ -212,9 +228,11 @@ module _ (port : ℕ) (v : PassView) (x : Item) (may : MayPut v x) (items : List
         | inr there ↦ (let s = r.shut j k there in absurd (no_put_behind v.course j k v.put x (may.mine j o.0).1 (s.1 port v at o.0)))
       ]
 
+  -- replacing a view keeps the number of views
   length-set_at : length (set views port (after_put v x)) ≡ length views
   length-set_at = simp length-set
 
+  -- so the invariant is kept
   put_runs : Running (items ++ x ∷ []) (set views port (after_put v x))
   put_runs =
       let w = after_put v x in
@@ -242,5 +260,6 @@ module _ (port : ℕ) (v : PassView) (x : Item) (may : MayPut v x) (items : List
         fits = λ p u e. subst (λ (n : ℕ). Fits r.course r.all r.head put_left n p u) (sym length-set_at) (each_set (λ p u. Fits r.course r.all r.head put_left (length views) p u) views port w put_mine (λ p u apart e. put_other p u apart e) p u e);
       }
 
+-- the step of the protocol in which an item is put
 pub puts : (n port : ℕ) (v : PassView) (x : Item) → MayPut v x → Pushes IsQueueState n port v x (λ w. w ≡ after_put v x)
 puts n port v x may items views room h at = (after_put v x, inr (put_runs port v x may items views (runs items views port v h at may.live) at), refl)

@@ -17,11 +17,11 @@ runs items views port v (inr r) at live = r
 runs items views zero v (inl b) at live = absurd (true≢false (ap (λ (u : PassView). u.blank) (some-injective blank v (ap (λ (l : List PassView). get_elem? l 0) (sym b.1) ∙ at)) ∙ live))
 runs items views (suc p) v (inl b) at live = absurd (some-ne-none v (sym (ap (λ (l : List PassView). get_elem? l (suc p)) (sym b.1) ∙ at)))
 
--- one, where it is so
+-- 1 if true, and else 0
 abbrev pub one_if : Bool → ℕ
 one_if b = cond b 1 0
 
--- a pass that was joined, or that has nothing yet, fits whatever was put
+-- a pass without seats fits whatever was put
 pub spent_fits : (c : List JobVisits) (n : ℕ) (head left : ℕ → ℕ) (count port : ℕ) → Fits c n head left count port spent
 spent_fits c n head left count port = record {
   named = refl;

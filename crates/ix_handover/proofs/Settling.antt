@@ -10,6 +10,7 @@ use Rattle.ix_handover.specs.PassViews.{after_join, all_put, all_taken}
 use Rattle.ix_handover.specs.Settled.{Absorbs, AbsorbsAll, Settles, put_by, taken_by}
 use Rattle.ix_handover.specs.Seats.{JobView, SeatView}
 
+-- joining one list of passes and then another is joining both
 pub Settles-append : (v : PassView) (xs ys : List PassView) (w u : PassView) → Settles v xs w → Settles w ys u → Settles v (xs ++ ys) u
 Settles-append v xs ys w u a b = record {
   live = b.live ∙ a.live;
@@ -20,6 +21,7 @@ Settles-append v xs ys w u a b = record {
   takens = b.takens ∙ (ap (λ l. l ++ map (λ (u : PassView). u.taken) ys) a.takens ∙ (append_assoc v.takens (map (λ u. u.taken) xs) (map (λ u. u.taken) ys) ∙ ap (λ l. v.takens ++ l) (sym (map-append (λ (u : PassView). u.taken) xs ys))));
 }
 
+-- joining one pass
 settles_one : (w u : PassView) → u.parts ≡ 1 → Settles w (u ∷ []) (after_join w u)
 settles_one w u one = record { live = refl; parts = ap (λ (n : ℕ). w.parts + n) one; course = (refl, refl); own = (refl, refl); puts = refl; takens = refl }
 
@@ -35,24 +37,26 @@ absorbs_more f old then now xs x one h joined =
     let same = joined.0 in
     ((same.0 ∙ before.0, same.1 ∙ before.1, same.2 ∙ before.2), settles_more f (view old) (view then) (view now) xs x one joined.1 h.1)
 
--- a pass that has joined others is live as before
+-- a pass that has joined others still has a seat
 pub settled_live : (v w : PassView) (us : List PassView) → Settles v us w → v.blank ≡ false → 0 < v.parts → (w.blank ≡ false) × (0 < w.parts)
 settled_live v w us h live some = (h.live ∙ live, (let parts = h.parts in omega (arith, parts, some)))
 
+-- mapping twice is mapping once
 map_map : {A B C : Type 0} (f : A → B) (g : B → C) (xs : List A) → map g (map f xs) ≡ map (λ x. g (f x)) xs
 map_map f g [] = refl
 map_map f g (x ∷ xs) = ap (λ l. g (f x) ∷ l) (map_map f g xs)
 
+-- concatenation of two lists of lists
 concat-append : (xss yss : List (List Item)) → concat (xss ++ yss) ≡ concat xss ++ concat yss
 concat-append [] yss = refl
 concat-append (xs ∷ xss) yss = ap (λ l. xs ++ l) (concat-append xss yss) ∙ sym (append_assoc xs (concat xss) (concat yss))
 
--- lists with nothing in them
+-- the concatenation of empty lists is empty
 concat-none : {S : Type 0} (f : S → List Item) (xs : List S) → All (λ s. f s ≡ []) xs → concat (map f xs) ≡ []
 concat-none f [] h = refl
 concat-none f (x ∷ xs) h = ap (λ (l : List Item). l ++ concat (map f xs)) (All-head (λ s. f s ≡ []) x xs h) ∙ concat-none f xs (All-tail (λ s. f s ≡ []) x xs h)
 
--- the lists of two kinds of seats, put end to end
+-- the lists of two kinds of seats, one after the other
 concat-both : {S T : Type 0} (f : S → PassView) (g : T → PassView) (h : PassView → List Item) (xs : List S) (ys : List T) → concat (map h (map f xs ++ map g ys)) ≡ concat (map (λ x. h (f x)) xs) ++ concat (map (λ y. h (g y)) ys)
 concat-both f g h xs ys =
     ap concat (map-append h (map f xs) (map g ys)) ∙ (concat-append (map h (map f xs)) (map h (map g ys)) ∙ (λ i. concat (map_map f h xs i) ++ concat (map_map g h ys i)))

@@ -19,12 +19,12 @@ use Rattle.ix_handover.proofs.Totals.{total_set, each_set, total_append}
 use Rattle.ix_handover.proofs.Numbers.{held, numbers-append, Rises-more, Rises-snoc}
 use Rattle.ix_handover.proofs.Running.{runs, one_if}
 
--- one more that is taken
+-- one more element in the middle
 pub All-mid : {X : Type 0} (P : X → Type 0) (xs ys : List X) (x : X) → All P (xs ++ ys) → P x → All P ((xs ++ x ∷ []) ++ ys)
 All-mid P [] ys x a p = All-cons P x ys p a
 All-mid P (z ∷ zs) ys x a p = All-cons P z ((zs ++ x ∷ []) ++ ys) (All-head P z (zs ++ ys) a) (All-mid P zs ys x (All-tail P z (zs ++ ys) a) p)
 
--- what leaves at the front is the next of its job
+-- the item at the front is the next of its job
 pop_at : (b : Bool) (n m k : ℕ) (rest : List ℕ) → cond b (n ∷ rest) rest ≡ count_up m k → (rest ≡ count_up (m + one_if b) (k - one_if b)) × (m + one_if b + (k - one_if b) ≡ m + k) × (b ≡ true → n ≡ m)
 pop_at true n m zero rest e = absurd (cc)
 pop_at true n m (suc k) rest e =
@@ -38,6 +38,7 @@ pop_at false n m k rest e =
     let d : k ≡ k - 0 = omega arith in
     ((e ∙ (ap (λ (i : ℕ). count_up i k) c ∙ ap (count_up (m + 0)) d)), omega arith, λ f. absurd (true≢false (sym f)))
 
+-- its number follows those that were taken of its job
 rises_at : (b : Bool) (n m : ℕ) (taken : List ℕ) → (b ≡ true → n ≡ m) → Rises 0 m taken → Rises 0 (m + one_if b) (taken ++ cond b (n ∷ []) [])
 rises_at true n m taken is r =
     let e : n ≡ m = is refl in
@@ -46,15 +47,19 @@ rises_at true n m taken is r =
 rises_at false n m taken is r = subst (λ (l : List ℕ). Rises 0 (m + 0) l) (sym (append-nil taken)) (Rises-more 0 m (m + 0) taken (omega arith) r)
 
 module _ (port : ℕ) (v : PassView) (x : Item) (live : v.blank ≡ false) (part : 0 < v.parts) (items : List Item) (views : List PassView) (r : Running (x ∷ items) views) (at : get_elem? views port ≡ some v) where
+  -- the number of each job that is taken next, after the take
   abbrev head_after : ℕ → ℕ
   head_after j = r.head j + held j x
 
+  -- how many items of each job the queue holds, after the take
   abbrev left_after : ℕ → ℕ
   left_after j = r.left j - held j x
 
+  -- what is left in the queue is consecutive, and the item taken had the first number
   popped : (j : ℕ) → (numbers j items ≡ count_up (head_after j) (left_after j)) × (head_after j + left_after j ≡ r.head j + r.left j) × (is_of j x ≡ true → seq_of x ≡ r.head j)
   popped j = pop_at (is_of j x) (seq_of x) (r.head j) (r.left j) (numbers j items) (r.ordered j)
 
+  -- every other pass fits, since the bounds only rise
   take_other : (p : ℕ) (u : PassView) → get_elem? views p ≡ some u → Fits r.course r.all head_after left_after (length views) p u
   take_other p u e =
       let f = r.fits p u e in
@@ -69,6 +74,7 @@ module _ (port : ℕ) (v : PassView) (x : Item) (live : v.blank ≡ false) (part
         took = f.took;
       }
 
+  -- the pass that took the item fits
   take_mine : Fits r.course r.all head_after left_after (length views) port (after_take v x)
   take_mine =
       let g = take_other port v at in
@@ -84,6 +90,7 @@ module _ (port : ℕ) (v : PassView) (x : Item) (live : v.blank ≡ false) (part
         took = All-mid (Allowed r.course) v.taken (concat v.takens) x f.took (All-head (Allowed r.course) x items r.allowed);
       }
 
+  -- so the invariant is kept: the item moves from the queue to what was taken
   take_runs : Running items (set views port (after_take v x))
   take_runs =
       let w = after_take v x in
@@ -113,11 +120,13 @@ module _ (port : ℕ) (v : PassView) (x : Item) (live : v.blank ≡ false) (part
         fits = λ p u e. subst (λ (n : ℕ). Fits r.course r.all head_after left_after n p u) (sym n) (each_set (λ p u. Fits r.course r.all head_after left_after (length views) p u) views port w take_mine (λ p u apart e. take_other p u e) p u e);
       }
 
+  -- what the step implies: the course allows the item, and its number is above those taken before
   take_tells : IsTake v x (after_take v x)
   take_tells =
       let f = r.fits port v at in
       record { pass = refl; allowed = subst (λ (c : List JobVisits). Allowed c x) (sym (f.course_is part).0) (All-head (Allowed r.course) x items r.allowed); above = λ j is. subst (λ (n : ℕ). Rises 0 n (numbers j v.taken)) (sym ((popped j).2 is)) (f.rises j) }
 
+-- the step of the protocol in which an item is taken
 pub takes : (port : ℕ) (v : PassView) → v.blank ≡ false → 0 < v.parts → Pops IsQueueState port v (IsTake v)
 takes port v live part x items views h at =
     let r = runs (x ∷ items) views port v h at live in

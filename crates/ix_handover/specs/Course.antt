@@ -17,13 +17,13 @@ use Rattle.ix_handover.specs.Totals.{total}
 abbrev pub IsCourse : List JobVisits → Type 0
 IsCourse course = All (λ p. length p.visits ≤ 1000000) course
 
--- the visits of a job, or none where there is no such job
+-- the visits of a job, or none if there is no such job
 abbrev pub course_visits : List JobVisits → ℕ → List Visit
 course_visits [] j = []
 course_visits (p ∷ ps) zero = p.visits
 course_visits (p ∷ ps) (suc j) = course_visits ps j
 
--- the job has more arrivals than visits
+-- the job's traversal exceeds its limit
 abbrev pub course_over : List JobVisits → ℕ → Bool
 course_over [] j = false
 course_over (p ∷ ps) zero = p.over
@@ -43,29 +43,29 @@ Allowed course item.Stop = Unit {0}
 abbrev pub opened : List JobVisits → ℕ → ℕ → List Item
 opened course j n = map item.Visit (take n (course_visits course j))
 
--- what a job's seat may have put: a beginning of the job's visits, or that and an allowed close
+-- what a job's seat may have put: a prefix of the job's visits, or such a prefix and an allowed close
 abbrev pub IsPut : List JobVisits → ℕ → List Item → Type 0
 IsPut course j put = (n : ℕ) × (n ≤ length (course_visits course j)) × ((put ≡ opened course j n) ⊎ ((end : End) × (put ≡ opened course j n ++ item.Close j n end ∷ []) × MayClose course j n end))
 
--- how often the visit or close n of job j stands in the list
+-- how often the visit or close n of job j occurs in the list
 abbrev pub times : ℕ → ℕ → List Item → ℕ
 times j n items = total (is_item j n) items
 
--- how often the close n of job j stands in the list
+-- how often the close n of job j occurs in the list
 abbrev pub ends : ℕ → ℕ → List Item → ℕ
 ends j n items = total (is_end j n) items
 
--- Each was allowed by the course, no number of a job stands twice, and none behind that of its close.
+-- The course allows each, no number of a job occurs twice, and none is above that of the job's close.
 pub record IsWellTaken (course : List JobVisits) (items : List Item) : Type 0 where
   pub allowed : All (Allowed course) items
   pub once : (j n : ℕ) → times j n items ≤ 1
   pub last : (j k n : ℕ) → 0 < ends j k items → k < n → times j n items ≡ 0
 
--- each visit of the course has the block and the malformed of the store
+-- each visit of the course says of its CID what the store says: the block, and whether it is malformed
 abbrev pub IsCourseOf : Blocks → List JobVisits → Type 0
 IsCourseOf store course = All (λ p. All (IsVisitOf store) p.visits) course
 
--- the visits of these jobs, the first with the number n
+-- the visits of these jobs, the first of which has the number n
 abbrev pub course_from : Blocks → ℕ → List JobMeaning → List JobVisits
 course_from store n [] = []
 course_from store n (job ∷ jobs) = record { visits = visits_of store n job; over = is_over_limit store job } ∷ course_from store (n + 1) jobs

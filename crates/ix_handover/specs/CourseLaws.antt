@@ -19,7 +19,7 @@ IsSized = (store : Blocks) (jobs : List JobMeaning) → length (course_of store 
 abbrev pub HasVisits : Type 0
 HasVisits = (store : Blocks) (jobs : List JobMeaning) (n : ℕ) (job : JobMeaning) → slice_get jobs n ≡ Some job → course_visits (course_of store jobs) n ≡ visits_of store n job
 
--- and whether there are more arrivals than those
+-- and whether the traversal exceeds the job's limit
 abbrev pub HasOver : Type 0
 HasOver = (store : Blocks) (jobs : List JobMeaning) (n : ℕ) (job : JobMeaning) → slice_get jobs n ≡ Some job → course_over (course_of store jobs) n ≡ is_over_limit store job
 
@@ -27,11 +27,11 @@ HasOver = (store : Blocks) (jobs : List JobMeaning) (n : ℕ) (job : JobMeaning)
 abbrev pub AllowsVisits : Type 0
 AllowsVisits = (store : Blocks) (jobs : List JobMeaning) (n k : ℕ) (job : JobMeaning) (v : Visit) → slice_get jobs n ≡ Some job → slice_get (visits_of store n job) k ≡ Some v → (v.job ≡ n) × (v.seq ≡ k) × Allowed (course_of store jobs) (item.Visit v)
 
--- and the close with which the walk ends
+-- and the close that ends the walk
 abbrev pub AllowsCloses : Type 0
 AllowsCloses = (store : Blocks) (jobs : List JobMeaning) (n k : ℕ) (job : JobMeaning) (end : End) → slice_get jobs n ≡ Some job → IsCloseOf end k (visits_of store n job) (is_over_limit store job) → Allowed (course_of store jobs) (item.Close n k end)
 
--- where each job's limit is at most a million, so are its visits
+-- if each job's limit is at most a million, each has at most a million visits
 abbrev pub IsSmall : Type 0
 IsSmall = (store : Blocks) (jobs : List JobMeaning) → All (λ job. job.limit ≤ 1000000) jobs → IsCourse (course_of store jobs)
 

@@ -30,7 +30,7 @@ abbrev pub Rises : ℕ → ℕ → List ℕ → Type 0
 Rises lo hi [] = lo ≤ hi
 Rises lo hi (x ∷ xs) = (lo ≤ x) × Rises (suc x) hi xs
 
--- lists put end to end
+-- the concatenation of the lists
 abbrev pub concat : List (List Item) → List Item
 concat [] = []
 concat (x ∷ xs) = x ++ concat xs

@@ -20,19 +20,20 @@ module _ {Q A : Type 0} (line : Slotted (Option Item) (Doing Item PassView) Q A)
   abbrev pub IsMaker : ℕ → Type 0
   IsMaker made = IsPassOf line p × (view p ≡ maker_pass (view p).course (view p).all made)
 
-  -- the seat of the job with this number, as it makes it
+  -- the seat of the job with this number, as the pass makes it
   abbrev pub job_made : ℕ → JobView
   job_made job = new_job line.table.shared.table_id (view p).course (view p).all job
 
-  -- a seat that takes, as it makes it
+  -- a consumer's seat, as the pass makes it
   abbrev pub taker_made : SeatView
   taker_made = new_taker line.table.shared.table_id (view p).course (view p).all
 
-  -- a pass of the queue that stands for one seat at least
+  -- a pass of the queue with at least one seat
   abbrev pub IsLivePass : Type 0
   IsLivePass = IsPassOf line p × ((view p).blank ≡ false) × (0 < (view p).parts)
 
--- a queue with its seats, none of which has put or taken anything: one for each job of the course, in their order, so many that take, and one that stops them
+-- a queue with its seats, none of which has put or taken anything: one for each job of the course, in order, so many
+-- consumers', and the stopper's
 pub record IsNewQueue (course : List JobVisits) (count verifiers : ℕ) (q : QueueParts) : Type 0 where
   pub jobs : q.jobs.items ≡ map (new_job (table_of q.queue) course (seat_count count verifiers)) (count_up 0 count)
   pub takers : q.takers.items ≡ replicate verifiers (new_taker (table_of q.queue) course (seat_count count verifiers))

@@ -9,7 +9,7 @@ use Rattle.ix_handover.specs.Seats.{IsNext, JobView}
 abbrev pub table_of : VisitQueue → TableId
 table_of q = q.line.table.shared.table_id
 
--- a seat or a rest with this table is one of the queue
+-- a seat or a rest with this table is one of the queue's
 abbrev pub IsOfQueue : VisitQueue → TableId → Type 0
 IsOfQueue q t = t ≡ table_of q
 

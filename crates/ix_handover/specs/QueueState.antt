@@ -10,7 +10,8 @@ use Rattle.ix_handover.specs.Course.{Allowed, IsPut, times, ends}
 use Rattle.ix_handover.specs.PassViews.{blank, all_put, all_taken}
 use Rattle.ix_handover.specs.Totals.{total}
 
--- a pass among the views. For each job, head is the number that is taken next, and left how many of its items the queue holds
+-- a pass among the views. For each job, head is the number that is taken next, and left is how many of its items the queue
+-- holds
 pub record Fits (course : List JobVisits) (all : ℕ) (head left : ℕ → ℕ) (count port : ℕ) (v : PassView) : Type 0 where
   pub named : v.blank ≡ false
   pub course_is : 0 < v.parts → (v.course ≡ course) × (v.all ≡ all)
@@ -25,6 +26,7 @@ pub record Fits (course : List JobVisits) (all : ℕ) (head left : ℕ → ℕ) 
   -- whatever it has taken was allowed
   pub took : All (Allowed course) (all_taken v)
 
+-- the invariant once the course is named
 pub record Running (items : List Item) (views : List PassView) : Type 0 where
   pub course : List JobVisits
   pub all : ℕ
@@ -43,6 +45,6 @@ pub record Running (items : List Item) (views : List PassView) : Type 0 where
   pub shut : (j k : ℕ) → 0 < total (λ v. ends j k (all_put v)) views → (head j + left j ≡ k + 1) × ((port : ℕ) (v : PassView) → get_elem? views port ≡ some v → v.job ≡ Some j → 0 < ends j k v.put)
   pub fits : (port : ℕ) (v : PassView) → get_elem? views port ≡ some v → Fits course all head left (length views) port v
 
--- before the course is named there is one pass and nothing else
+-- the invariant of the queue: before the course is named there is one blank pass and nothing else
 abbrev pub IsQueueState : List Item → List PassView → Type 0
 IsQueueState items views = ((items ≡ []) × (views ≡ blank ∷ [])) ⊎ Running items views

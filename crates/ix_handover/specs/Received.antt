@@ -8,28 +8,28 @@ use Rattle.ix_handover.specs.Totals.{total}
 abbrev pub point : ℕ → ℕ → ℕ
 point k n = cond (k == n) 1 0
 
--- whether a verdict on the visit n of job j
+-- 1 for a verdict on the visit n of job j, and else 0
 abbrev pub is_checked : ℕ → ℕ → Verdicted → ℕ
 is_checked j n (Checked v d) = cond (v.job == j) (point v.seq n) 0
 is_checked j n (Unchecked k m) = 0
 is_checked j n (Close k m e) = 0
 is_checked j n Last = 0
 
--- whether the visit n of job j without a verdict
+-- 1 for the visit n of job j without a verdict, and else 0
 abbrev pub is_unchecked : ℕ → ℕ → Verdicted → ℕ
 is_unchecked j n (Checked v d) = 0
 is_unchecked j n (Unchecked k m) = cond (k == j) (point m n) 0
 is_unchecked j n (Close k m e) = 0
 is_unchecked j n Last = 0
 
--- whether a close of job j with the number n
+-- 1 for a close of job j with the number n, and else 0
 abbrev pub is_close : ℕ → ℕ → Verdicted → ℕ
 is_close j n (Checked v d) = 0
 is_close j n (Unchecked k m) = 0
 is_close j n (Close k m e) = cond (k == j) (point m n) 0
 is_close j n Last = 0
 
--- whether of job j
+-- 1 for an item of job j, and else 0
 abbrev pub is_of : ℕ → Verdicted → ℕ
 is_of j (Checked v d) = cond (v.job == j) 1 0
 is_of j (Unchecked k m) = cond (k == j) 1 0
@@ -43,6 +43,7 @@ pub record Tally : Type 0 where
   pub closes : ℕ → ℕ
   pub count : ℕ
 
+-- the counts of job j among what was received
 abbrev pub tally : ℕ → List Verdicted → Tally
 tally j got =
     record { checked = λ n. total (is_checked j n) got; unchecked = λ n. total (is_unchecked j n) got; closes = λ n. total (is_close j n) got; count = total (is_of j) got }
@@ -51,7 +52,7 @@ tally j got =
 abbrev pub seen : Tally → ℕ → ℕ
 seen t n = t.checked n + t.unchecked n + t.closes n
 
--- x was received besides what was received before; where it stands among the others is left open
+-- x was received besides what was received before; its position among the others is left open
 pub record Inserts (x : Verdicted) (got more : List Verdicted) : Type 0 where
   pub before : List Verdicted
   pub after : List Verdicted
@@ -65,7 +66,7 @@ job_of (Unchecked j n) = Some j
 job_of (Close j n e) = Some j
 job_of Last = None
 
--- the pairs that were checked
+-- the pairs of job and number that were checked
 abbrev pub pairs_of : List Verdicted → List (ℕ × ℕ)
 pairs_of [] = []
 pairs_of (Checked v d ∷ got) = (v.job, v.seq) ∷ pairs_of got

@@ -15,6 +15,7 @@ pub record SeatView : Type 0 where
   pub table : TableId
   pub pass : PassView
 
+-- a producer's seat: also its job, the number that it puts next, and whether it has put the close
 pub record JobView : Type 0 where
   pub table : TableId
   pub pass : PassView
@@ -27,6 +28,7 @@ pub record IsAlone (v : PassView) : Type 0 where
   pub live : v.blank ≡ false
   pub lists : (v.puts ≡ []) × (v.takens ≡ [])
 
+-- the pass of the seat of job j, which has put n visits
 pub record IsJobPass (v : PassView) (j n : ℕ) (closed : Bool) : Type 0 where
   pub alone : IsAlone v
   pub part : v.parts ≡ 1
@@ -37,6 +39,7 @@ pub record IsJobPass (v : PassView) (j n : ℕ) (closed : Bool) : Type 0 where
   pub while_open : closed ≡ false → v.put ≡ opened v.course j n
   pub once_closed : closed ≡ true → (e : End) × (v.put ≡ opened v.course j n ++ item.Close j n e ∷ []) × MayClose v.course j n e
 
+-- the pass of a consumer's seat, which has put nothing
 pub record IsTakePass (v : PassView) : Type 0 where
   pub alone : IsAlone v
   pub part : v.parts ≡ 1
@@ -44,13 +47,14 @@ pub record IsTakePass (v : PassView) : Type 0 where
   pub job : v.job ≡ None
   pub put : v.put ≡ []
 
--- the maker, once all seats are made; it puts Stops
+-- the maker, after all seats are made; it puts Stops
 pub record IsStopPass (v : PassView) : Type 0 where
   pub alone : IsAlone v
   pub part : v.parts ≡ 1
   pub job : v.job ≡ None
   pub taken : v.taken ≡ []
 
+-- the pass that other seats were joined into
 pub record IsRestPass (v : PassView) : Type 0 where
   pub live : v.blank ≡ false
   pub part : 0 < v.parts
@@ -69,12 +73,13 @@ HasTaken old x new = (new.table ≡ old.table) × IsTake old.pass x new.pass
 abbrev pub IsNext : JobView → Item → Type 0
 IsNext s x = (is_of s.job x ≡ true) × (seq_of x ≡ s.next) × Allowed s.pass.course x
 
--- the seat after the item
+-- the seat's next number after the item
 abbrev pub next_after : ℕ → Item → ℕ
 next_after n (item.Visit v) = n + 1
 next_after n (item.Close j k e) = n
 next_after n item.Stop = n
 
+-- whether the seat is closed after the item
 abbrev pub closed_after : Item → Bool
 closed_after (item.Visit v) = false
 closed_after (item.Close j k e) = true
@@ -94,9 +99,11 @@ pub record HasPut (old : JobView) (x : Item) (new : JobView) : Type 0 where
 abbrev pub maker_pass : List JobVisits → ℕ → ℕ → PassView
 maker_pass c all k = record { blank = false; parts = all - k; course = c; all = all; maker = true; made = k; job = None; put = []; taken = []; puts = []; takens = [] }
 
+-- the pass of the seat of job j, as it is made
 abbrev pub new_job_pass : List JobVisits → ℕ → ℕ → PassView
 new_job_pass c all j = record { blank = false; parts = 1; course = c; all = all; maker = false; made = 0; job = Some j; put = []; taken = []; puts = []; takens = [] }
 
+-- the pass of a consumer's seat, as it is made
 abbrev pub new_take_pass : List JobVisits → ℕ → PassView
 new_take_pass c all = record { blank = false; parts = 1; course = c; all = all; maker = false; made = 0; job = None; put = []; taken = []; puts = []; takens = [] }
 
@@ -104,12 +111,14 @@ new_take_pass c all = record { blank = false; parts = 1; course = c; all = all; 
 abbrev pub new_job : TableId → List JobVisits → ℕ → ℕ → JobView
 new_job t c all j = record { table = t; pass = new_job_pass c all j; job = j; next = 0; closed = false }
 
+-- a consumer's seat, as it is made
 abbrev pub new_taker : TableId → List JobVisits → ℕ → SeatView
 new_taker t c all = record { table = t; pass = new_take_pass c all }
 
+-- the stopper's seat, as it is made
 abbrev pub new_stop : TableId → List JobVisits → ℕ → SeatView
 new_stop t c all = record { table = t; pass = maker_pass c all (all - 1) }
 
--- the seats of a queue with so many jobs and takers
+-- the number of seats of a queue with so many jobs and consumers
 abbrev pub seat_count : ℕ → ℕ → ℕ
 seat_count jobs takers = jobs + takers + 1

@@ -14,7 +14,7 @@ use Rattle.ix_handover.specs.Received.{point}
 use Rattle.ix_handover.specs.Good.{judged_at, over_at, IsCloseOf}
 use Rattle.ix_handover.specs.Totals.{total}
 
--- the visits of the job with this number, or none where there is no such job
+-- the visits of the job with this number, or none if there is no such job
 abbrev pub visits_at : Blocks → List JobMeaning → ℕ → List Visit
 visits_at store jobs n = of (slice_get jobs n) where
   of : Option JobMeaning → List Visit
@@ -36,7 +36,7 @@ Answers store taken.Stop (Unchecked j n) = ⊥
 Answers store taken.Stop (Close j n end) = ⊥
 Answers store taken.Stop Last = Unit {0}
 
--- one is sent for each that was taken, in their order
+-- one answer is sent for each item that was taken, in their order
 abbrev pub SentFor : Blocks → List Item → List Verdicted → Type 0
 SentFor store [] [] = Unit {0}
 SentFor store [] (y ∷ ys) = ⊥
@@ -49,17 +49,18 @@ IsOfCourse store jobs (taken.Visit v) = (v.job < length jobs) × (slice_get (vis
 IsOfCourse store jobs (taken.Close j n end) = (j < length jobs) × IsCloseOf end n (judged_at store jobs j) (over_at store jobs j)
 IsOfCourse store jobs taken.Stop = Unit {0}
 
--- whether x is of job j and has the number n
+-- 1 if x is of job j and has the number n, and else 0
 abbrev pub is_item : ℕ → ℕ → Item → ℕ
 is_item j n x = cond (is_of j x) (point (seq_of x) n) 0
 
--- whether x is a close of job j with the number n
+-- 1 if x is a close of job j with the number n, and else 0
 abbrev pub is_end : ℕ → ℕ → Item → ℕ
 is_end j n (taken.Visit v) = 0
 is_end j n (taken.Close k m end) = cond (k == j) (point m n) 0
 is_end j n taken.Stop = 0
 
--- Each was allowed, no number of a job was taken twice, and none behind that of its close. Counts alone are named, so the order is left open.
+-- Each is allowed, no number of a job was taken twice, and none is above that of the job's close. Only counts are named, so any
+-- order is good.
 pub record IsGoodTaken (store : Blocks) (jobs : List JobMeaning) (items : List Item) : Type 0 where
   pub allowed : All (IsOfCourse store jobs) items
   pub once : (j n : ℕ) → total (is_item j n) items ≤ 1

@@ -8,7 +8,7 @@ use Rattle.ix_handover.specs.Items.{concat}
 use Rattle.ix_handover.specs.Seats.{JobView, SeatView}
 use Rattle.ix_handover.specs.Totals.{total}
 
--- v took in these passes, in this order: their lists are kept apart
+-- v joined these passes, in this order: their lists are kept apart
 pub record Settles (v : PassView) (passes : List PassView) (w : PassView) : Type 0 where
   pub live : w.blank ≡ v.blank
   pub parts : w.parts ≡ v.parts + length passes
@@ -17,11 +17,11 @@ pub record Settles (v : PassView) (passes : List PassView) (w : PassView) : Type
   pub puts : w.puts ≡ v.puts ++ map (λ u. u.put) passes
   pub takens : w.takens ≡ v.takens ++ map (λ u. u.taken) passes
 
--- a pass took in what another knows, and is still the same pass of the same queue
+-- a pass joined what another knows, and is still the same pass of the same queue
 abbrev pub Absorbs : Pass Item PassView → PassView → Pass Item PassView → Type 0
 Absorbs old v new = IsSamePass old new × (view new ≡ after_join (view old) v)
 
--- the same of what several passes know, in this order
+-- the same for what several passes know, in this order
 abbrev pub AbsorbsAll : Pass Item PassView → List PassView → Pass Item PassView → Type 0
 AbsorbsAll old passes new = IsSamePass old new × Settles (view old) passes (view new)
 
@@ -29,7 +29,7 @@ AbsorbsAll old passes new = IsSamePass old new × Settles (view old) passes (vie
 abbrev pub passes_of : List JobView → List SeatView → List PassView
 passes_of jobs takers = map (λ s. s.pass) jobs ++ map (λ s. s.pass) takers
 
--- where all seats were joined, whatever was put was taken, as often as it was put
+-- if all seats were joined, all that was put was taken, as often as it was put
 abbrev pub IsAllTaken : PassView → Type 0
 IsAllTaken v = v.parts ≡ v.all → (h : Item → ℕ) → total h (all_put v) ≡ total h (all_taken v)
 

@@ -1,5 +1,5 @@
-//! The rule of claims, which holds between any two steps: what the word, the slots and what the seats
-//! know have to do with one another.
+//! The protocol of claims: the invariant between any two steps, over the counter word, the slots
+//! and what the seats know.
 
 ghost use Rattle.std.specs.Prelude.{◌≡◌, ◌+◌, [], ◌++◌};
 ghost use Rattle.ix_handover.specs.ClaimRule.{claimer, spent, one_less, one_seat, IsClaimed, Draws, Looks};
@@ -9,28 +9,28 @@ use std::alloc::Global;
 use std::collections::LinkedList;
 use std::snapshot::Snapshot;
 
-/// What a seat knows. No value of it is made.
+/// What a seat knows. A ghost type: no value of it is made.
 pub struct ClaimView<T> {
     /// How many seats are joined in it.
     pub parts: u64,
     /// How many seats there are.
     pub seats: u64,
-    /// The values that were handed in.
+    /// The values that can be claimed.
     pub values: LinkedList<T>,
-    /// The places that it claimed.
+    /// The positions that it claimed.
     pub places: LinkedList<u64>,
-    /// How often it was told that all are claimed.
+    /// How often it was answered that all are claimed.
     pub refusals: u64,
 }
 
-/// What the table is told once.
+/// The constants of the table, set when it is made.
 #[derive(Drop)]
 pub struct Key<T> {
     pub values: Snapshot<Vec<T>>,
     pub seats: u32,
 }
 
-/// One word, which counts the draws, and a slot for each value.
+/// One word, which counts the draws, and one slot for each value.
 pub struct ClaimRule;
 
 impl<T> TableRule<Option<T>, ClaimView<T>, Key<T>> for ClaimRule {
@@ -41,28 +41,28 @@ impl<T> TableRule<Option<T>, ClaimView<T>, Key<T>> for ClaimRule {
 
 pub type Row<T> = Table<Option<T>, ClaimView<T>, Key<T>, ClaimRule, Global>;
 
-/// A number is drawn.
+/// A step that draws a number.
 pub struct Draw;
 
 impl<T> Play<Option<T>, ClaimView<T>> for Draw {
     ghost then = { λ step me n w. Draws me n w };
 }
 
-/// The word is looked at.
+/// A step that reads the word.
 pub struct Look;
 
 impl<T> Play<Option<T>, ClaimView<T>> for Look {
     ghost then = { λ step me n w. Looks me n w };
 }
 
-/// A seat that knows nothing begins.
+/// A step that makes a seat without knowledge.
 pub struct Begin;
 
 impl<T> Play<Option<T>, ClaimView<T>> for Begin {
     ghost then = { λ step me n w. w ≡ (spent, []) };
 }
 
-/// One seat is cut off.
+/// A split that makes one seat.
 pub struct OneSeat;
 
 impl<T> Split<ClaimView<T>> for OneSeat {
@@ -71,7 +71,7 @@ impl<T> Split<ClaimView<T>> for OneSeat {
     ghost right = { λ v. one_seat v };
 }
 
-/// The whole view goes to a new seat, which holds no slot.
+/// A split that moves the whole view to a new seat, which holds no slot.
 pub struct Whole;
 
 impl<T> Split<ClaimView<T>> for Whole {
@@ -80,7 +80,7 @@ impl<T> Split<ClaimView<T>> for Whole {
     ghost right = { λ v. v };
 }
 
-/// Two seats become one.
+/// A join of two seats into one.
 pub struct Both;
 
 impl<T> Join<ClaimView<T>> for Both {

@@ -1,4 +1,4 @@
-//! Values that are claimed, each once, by any of several threads.
+//! A ticket counter: hands out values, each once, to any of several threads.
 
 ghost use Rattle.std.specs.Prelude.{◌≡◌, ◌<◌, ◌≤◌, All, length, map, replicate, true, IfOk, MatchOption};
 ghost use Rattle.ix_handover.specs.ClaimRule.{spent, Draws, Tells};
@@ -12,7 +12,7 @@ use std::alloc::{AllocError, Global};
 use std::marker::Model;
 use std::snapshot::Snapshot;
 
-/// Values that are claimed, each once and in order, through seats.
+/// A ticket counter: values that are claimed in order, each once, through seats.
 #[derive(Drop)]
 pub struct Claims<T: Drop> {
     row: Row<T>,
@@ -31,7 +31,8 @@ impl<T: Drop> Model for Claims<T> {
     ghost invariant = { λ c. (c.row.shared.table_id.words ≡ 1) × (c.count ≡ length c.row.shared.key.values.value.items) × (1 ≤ c.row.shared.key.seats) };
 }
 
-/// A thread's right to claim. It may move to another thread.
+/// A handle of one thread on the ticket counter, with which it claims. It may move to another
+/// thread.
 #[derive(Drop)]
 pub struct ClaimSeat<T> {
     seat: Seat<Option<T>, ClaimView<T>>,
@@ -49,7 +50,7 @@ impl<T> Model for ClaimSeat<T> {
     ghost invariant = { λ s. (s.seat.me.0.parts ≡ 1) × (s.seat.me.0.refusals ≡ cond s.ended 1 0) };
 }
 
-// Each value in a slot of its own.
+// Returns each value in a slot of its own.
 fn slots_of<T: Drop>(alloc: Global, values: Vec<T>) -> Result<Vec<Option<T>>, AllocError>
     ensures { IfOk result (λ s. s.items ≡ map Some values.items) }
 {
@@ -60,7 +61,7 @@ fn slots_of<T: Drop>(alloc: Global, values: Vec<T>) -> Result<Vec<Option<T>>, Al
     Ok(slots)
 }
 
-// Cuts a view into so many seats.
+// Splits a view into `seats` seats.
 fn deal<T: Drop>(
     alloc: Global,
     row: &Row<T>,
@@ -90,7 +91,7 @@ fn draw<T: Drop>(row: &Row<T>, seat: &mut Seat<Option<T>, ClaimView<T>>) -> u64
     row.shared.fetch_add::<Draw>(seat, 0, 1)
 }
 
-// Looks how many numbers were drawn.
+// Returns how many numbers were drawn.
 fn look<T: Drop>(row: &Row<T>, seat: &mut Seat<Option<T>, ClaimView<T>>) -> u64
     requires seat { IsRowOf seat.old.table_id row.now.shared.table_id }
     ensures { 0 < seat.old.me.0.parts → Tells seat.old.me.0 result }
@@ -99,7 +100,8 @@ fn look<T: Drop>(row: &Row<T>, seat: &mut Seat<Option<T>, ClaimView<T>>) -> u64
 }
 
 impl<T: Drop> Claims<T> {
-    /// Claims on these values, with so many seats. A refusal drops the values.
+    /// Creates a ticket counter for at most 1,000 values, with 1 to 64 seats. An error drops the
+    /// values.
     pub fn new(
         alloc: Global,
         values: Vec<T>,
@@ -123,8 +125,8 @@ impl<T: Drop> Claims<T> {
         Ok((Claims { row, count }, all))
     }
 
-    /// Claims the next value, and answers it with its place; or none, once all are claimed. A seat that
-    /// was answered none is answered none for ever, with no further step. It waits for nobody.
+    /// Claims the next value, and returns it with its position; or `None`, once all are claimed. A
+    /// seat that got `None` gets `None` ever after, with no further step. Never waits.
     pub fn claim(&self, seat: &mut ClaimSeat<T>) -> Option<(u32, T)>
         requires { IsOfClaims self.now seat.old }
         ensures { MatchOption result (seat.new ≡ at_end seat.old)
@@ -148,8 +150,8 @@ impl<T: Drop> Claims<T> {
         }
     }
 
-    /// Takes seats back, and answers how many values are claimed by then. With all seats, the places
-    /// that were claimed through them are the numbers below the answer.
+    /// Takes seats back, and returns how many values are claimed by then. If these are all the
+    /// seats, the positions claimed through them are the numbers below the result, each once.
     pub fn settle(&self, seats: Vec<ClaimSeat<T>>) -> u32
         requires { All (IsOfClaims self.now) seats.items }
         ensures within { result ≤ length self.now.values }
@@ -164,7 +166,7 @@ impl<T: Drop> Claims<T> {
     }
 }
 
-// Joins a seat into another. Its slots stay out, and are empty.
+// Joins a seat into another. The slots that it holds are empty, and stay with it.
 fn join<T: Drop>(claims: &Claims<T>, joined: &mut Seat<Option<T>, ClaimView<T>>, seat: ClaimSeat<T>)
     requires table { joined.old.table_id ≡ claims.now.table }
     requires seat { IsOfClaims claims.now seat }
@@ -176,7 +178,7 @@ fn join<T: Drop>(claims: &Claims<T>, joined: &mut Seat<Option<T>, ClaimView<T>>,
     claims.row.shared.join_seat::<Both>(joined, whole);
 }
 
-// Joins seats into one that knows nothing so far.
+// Joins seats into one without knowledge.
 fn join_all<T: Drop>(
     claims: &Claims<T>,
     joined: &mut Seat<Option<T>, ClaimView<T>>,

@@ -1,22 +1,22 @@
-//! Courses: what the walks of all jobs are to put.
+//! Courses: the expected sequence of items of each job.
 
 ghost use Rattle.std.specs.Prelude.{List};
 
 use ix_walk::Visit;
 use std::collections::LinkedList;
 
-/// What a course says of one job, which contracts alone see: its visits, and whether there are more
-/// arrivals than those. No value of it is made.
+/// What a course says of one job: its visits, and whether its traversal exceeds its limit. A ghost
+/// type: only contracts see it, and no value of it is made.
 pub struct JobVisits {
     pub visits: LinkedList<Visit>,
     pub over: bool,
 }
 
-/// A value that names a course, which contracts alone see: for each job its visits, and whether there
-/// are more arrivals than those.
+/// A value that names the expected sequences of all jobs, which only contracts see: for each job
+/// its visits, and whether its traversal exceeds its limit.
 pub trait Course {
     ghost use Rattle.ix_handover.specs.declared.course.JobVisits.{JobVisits};
 
-    /// Job by job, in the order of their numbers.
+    /// The expected sequence of each job, in the order of their numbers.
     ghost plan: { Self → List JobVisits };
 }

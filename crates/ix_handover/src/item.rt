@@ -1,15 +1,15 @@
-//! What goes through the visit queue.
+//! Items of the visit queue.
 
 use ix_archive::End;
 use ix_walk::Visit;
 
-/// What walkers put and verifiers take.
+/// An item that walkers put and verifiers take.
 #[derive(Debug, Drop)]
 pub enum Item {
     /// A visit of a job.
     Visit(Visit),
-    /// The job's walk has ended, with so many visits.
+    /// The end of a job's walk; `seq` is how many visits it has put.
     Close { job: u32, seq: u32, end: End },
-    /// The verifier that takes it has to end.
+    /// The request that the verifier that takes it ends.
     Stop,
 }

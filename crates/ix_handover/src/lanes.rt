@@ -1,4 +1,4 @@
-//! A lane: a bounded queue from one verifier to the collector, with one end for each.
+//! A lane: a bounded single-producer, single-consumer channel from one verifier to the collector.
 
 ghost use Rattle.std.specs.Prelude.{◌≡◌, ◌≤◌, ◌+◌, [], IfOk, IfErr, IfSome, IfNone, OnOk, OnErr};
 ghost use mathlib.Core.List.{IsPrefix};
@@ -10,19 +10,19 @@ use crate::verdicted::Verdicted;
 use rtrb::{Consumer, PopError, Producer, PushError, RingBuffer};
 use std::alloc::{AllocError, Global};
 
-/// The end at which a verifier sends.
+/// The sender of a lane, which a verifier owns.
 #[derive(Drop)]
 pub struct LaneIn {
     producer: Producer<Verdicted>,
 }
 
-/// The end at which the collector receives.
+/// The receiver of a lane, which the collector owns.
 #[derive(Drop)]
 pub struct LaneOut {
     consumer: Consumer<Verdicted>,
 }
 
-/// The two ends of a lane with room for so many items.
+/// Creates a lane, a single-producer, single-consumer channel, with room for `capacity` items.
 pub fn lane(alloc: Global, capacity: u32) -> Result<(LaneIn, LaneOut), AllocError>
     ensures { IfOk result (λ l. IsNewLane capacity l.0 l.1) }
 {
@@ -31,7 +31,7 @@ pub fn lane(alloc: Global, capacity: u32) -> Result<(LaneIn, LaneOut), AllocErro
 }
 
 impl LaneIn {
-    /// Sends an item. It comes back where the lane is full.
+    /// Sends an item, or returns it if the lane is full.
     pub fn try_send(&mut self, item: Verdicted) -> Result<(), Verdicted>
         ensures same { SameIn self.old self.new }
         ensures sent { OnOk result (HasSent self.old item self.new) }
@@ -47,7 +47,7 @@ impl LaneIn {
 }
 
 impl LaneOut {
-    /// Receives the next item, or none where the lane is empty.
+    /// Receives the next item, or `None` if the lane is empty.
     pub fn try_recv(&mut self) -> Option<Verdicted>
         ensures same { SameOut self.old self.new }
         ensures received { IfSome result (λ item. HasReceived self.old item self.new) }
@@ -62,8 +62,8 @@ impl LaneOut {
     }
 }
 
-/// Receives the next item that is left in a lane of which both ends are here. At `None` all that was
-/// sent was received.
+/// Receives the next item that is left in a lane whose two ends are both here. At `None` all that
+/// was sent has been received.
 pub fn lane_rest(sender: &mut LaneIn, receiver: &mut LaneOut) -> Option<Verdicted>
     requires { IsLane sender.old receiver.old }
     ensures same { IsSameLane sender.old sender.new receiver.old receiver.new }

@@ -1,8 +1,9 @@
-//! The visit queue, lanes and claims: what the threads of an export meet through.
+//! The channels between the threads of an export: the visit queue, lanes and claims.
 //!
-//! In every schedule: no value is claimed twice; what is taken from the queue is what a job's
-//! course allows, nothing twice, and in the end all that was put; what is received from a lane is
-//! the beginning of what was sent into it. That a call that waits returns is not promised.
+//! In every schedule: no value is claimed twice. What is taken from the queue is what a job's
+//! course (its expected sequence) allows, nothing twice, and in the end all that was put. What is
+//! received from a lane is a prefix of what was sent into it. That a blocking call returns is not
+//! promised.
 //!
 //! ```rust
 //! let values = Vec::from_array(alloc, ["x", "y"])?;

@@ -28,7 +28,7 @@ pub struct QueueParts {
     pub stop: StopSeat,
 }
 
-// Gives the course its name: from here on each view carries it.
+// Names the course, which each view carries from here on.
 fn name_course<N: Naming, K: Course>(
     line: &Line,
     pass: &mut Pass<Item, PassView>,
@@ -43,7 +43,7 @@ fn name_course<N: Naming, K: Course>(
     line.another::<Names<N>>(pass);
 }
 
-// The seat of the next job.
+// Makes the seat of the next job.
 fn job_seat(line: &Line, pass: &mut Pass<Item, PassView>, job: u32) -> JobSeat
     requires pass { IsMaker line.now pass.old job }
     requires parts { job + 1 < (view pass.old).all }
@@ -59,7 +59,7 @@ fn job_seat(line: &Line, pass: &mut Pass<Item, PassView>, job: u32) -> JobSeat
     }
 }
 
-// One seat that takes.
+// Makes one consumer's seat.
 fn take_seat(line: &Line, pass: &mut Pass<Item, PassView>) -> TakeSeat
     requires pass { IsMaker line.now pass.old (view pass.old).made }
     requires parts { (view pass.old).made + 1 < (view pass.old).all }
@@ -71,7 +71,7 @@ fn take_seat(line: &Line, pass: &mut Pass<Item, PassView>) -> TakeSeat
     }
 }
 
-// One seat for each job.
+// Makes one seat for each job.
 fn job_seats(
     line: &Line,
     pass: &mut Pass<Item, PassView>,
@@ -92,7 +92,7 @@ fn job_seats(
     Ok(seats)
 }
 
-// So many seats that take.
+// Makes the consumers' seats.
 fn take_seats(
     line: &Line,
     pass: &mut Pass<Item, PassView>,
@@ -113,8 +113,8 @@ fn take_seats(
 }
 
 impl VisitQueue {
-    /// A queue with room for so many items, one seat for each job of the course, so many that take
-    /// and one that stops the takers.
+    /// Creates a queue with room for `capacity` items, with a seat for each of the `jobs` jobs of
+    /// the course, seats for `takers` consumers, and the seat that stops them.
     pub fn new<K: Course>(
         alloc: Global,
         course: &K,

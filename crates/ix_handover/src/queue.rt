@@ -1,4 +1,5 @@
-//! The queue: bounded, shared by all walkers and verifiers, under the rule of `specs/QueueState.antt`.
+//! The queue: bounded, shared by all walkers and verifiers, with the invariant of
+//! `specs/QueueState.antt`.
 
 ghost use Rattle.std.specs.Prelude.{◌≡◌, OnOk, IfErr, IfSome, IfNone};
 ghost use Rattle.std.specs.Bool.{OnTrue, OnFalse};
@@ -17,13 +18,13 @@ use std::sync::Wait;
 
 pub(crate) type Line = RuledArrayQueue<Item, PassView, VisitRule>;
 
-/// A queue of visits, closes and Stops.
+/// A bounded queue of visits, closes and Stops, from walkers to verifiers.
 #[derive(Drop)]
 pub struct VisitQueue {
     pub(crate) line: Line,
 }
 
-// Whether it closes its job.
+// Whether the item closes its job.
 fn is_close(item: &Item) -> bool
     ensures { result ≡ closed_after item.now }
 {
@@ -34,7 +35,7 @@ fn is_close(item: &Item) -> bool
 }
 
 impl VisitQueue {
-    /// Puts the next item of the seat's job. It comes back only where the queue was full.
+    /// Puts the next item of the seat's job, or returns it if the queue was full.
     pub fn try_put<R: Wait>(&self, rt: &R, seat: &mut JobSeat, item: Item) -> Result<(), Item>
         requires { MayPut self.now seat.old item }
         ensures same { IsSameSeat seat.old seat.new }
@@ -55,7 +56,7 @@ impl VisitQueue {
         }
     }
 
-    /// Takes the item at the front, where there is one.
+    /// Takes the item at the front, if there is one.
     pub fn try_take<R: Wait>(&self, rt: &R, taker: &mut TakeSeat) -> Option<Item>
         requires { IsOfQueue self.now taker.old.table }
         ensures same { taker.new.table ≡ taker.old.table }
@@ -100,7 +101,7 @@ impl VisitQueue {
         unreachable!()
     }
 
-    /// Puts one Stop. False only where the queue was full.
+    /// Puts one Stop. Returns false, and puts nothing, only if the queue was full.
     pub fn try_stop<R: Wait>(&self, rt: &R, stop: &mut StopSeat) -> bool
         requires { IsOfQueue self.now stop.old.table }
         ensures same { stop.new.table ≡ stop.old.table }

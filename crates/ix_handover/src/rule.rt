@@ -1,4 +1,4 @@
-//! The rule of the queue, the steps that seats make, and what the steps tell.
+//! The protocol of the queue: its invariant, the steps of seats, and what each step proves.
 
 ghost use Rattle.std.specs.Prelude.{◌≡◌, ◌+◌, ℕ, List, []};
 ghost use Rattle.ix_handover.specs.Course.{IsWellTaken};
@@ -15,7 +15,7 @@ use crate::pass_view::PassView;
 use crossbeam_queue::protocol::{Join, Lesson, Outcome, Protocol, Split};
 use std::marker::{Brand, PhantomData};
 
-/// The rule of a visit queue, for any number of seats.
+/// The invariant of a visit queue, for any number of seats.
 pub struct VisitRule;
 
 impl Protocol<Item, PassView> for VisitRule {
@@ -37,7 +37,7 @@ impl Naming for Brand {
     ghost seats = { 0 };
 }
 
-/// The course gets its name.
+/// A split that names the course.
 pub struct Names<N> {
     of: PhantomData<N>,
 }
@@ -48,7 +48,7 @@ impl<N: Naming> Split<PassView> for Names<N> {
     ghost right = { λ v. spent };
 }
 
-/// The seat of the next job is made.
+/// A split that makes the seat of the next job.
 pub struct ForJob;
 
 impl Split<PassView> for ForJob {
@@ -57,7 +57,7 @@ impl Split<PassView> for ForJob {
     ghost right = { job_pass };
 }
 
-/// A seat that takes is made.
+/// A split that makes a consumer's seat.
 pub struct ForTaker;
 
 impl Split<PassView> for ForTaker {
@@ -66,7 +66,7 @@ impl Split<PassView> for ForTaker {
     ghost right = { take_pass };
 }
 
-/// A seat is joined, and its lists are kept apart.
+/// A join of a seat, which keeps its lists apart.
 pub struct Joins;
 
 impl Join<PassView> for Joins {
@@ -75,7 +75,7 @@ impl Join<PassView> for Joins {
     ghost spent = { spent };
 }
 
-/// An item is put.
+/// A step that puts an item.
 pub struct Puts;
 
 impl Outcome<Item, PassView> for Puts {
@@ -86,7 +86,7 @@ impl Lesson<Item, PassView> for Puts {
     ghost fact = { λ v items. Unit {0} };
 }
 
-/// An item is taken. Whoever has all parts knows what the queue holds.
+/// A step that takes an item. A pass with all seats joined in it knows what the queue holds.
 pub struct Takes;
 
 impl Outcome<Item, PassView> for Takes {
@@ -97,7 +97,8 @@ impl Lesson<Item, PassView> for Takes {
     ghost fact = { λ v items. v.parts ≡ v.all → (h : Item → ℕ) → total h (all_put v) ≡ total h (all_taken v) + total h items };
 }
 
-/// What was taken, with the seats that were joined, fits the course and holds nothing twice.
+/// What was taken, by this pass and the seats joined into it, fits the course and holds nothing
+/// twice.
 pub struct Learns;
 
 impl Lesson<Item, PassView> for Learns {

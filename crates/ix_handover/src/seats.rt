@@ -1,4 +1,4 @@
-//! The seats: each a pass of the queue, with what it may do.
+//! The seats: a thread's handles for the queue, each a pass with what it may do.
 
 ghost use Rattle.std.specs.Prelude.{◌≡◌};
 
@@ -7,7 +7,7 @@ use crate::pass_view::PassView;
 use crossbeam_queue::Pass;
 use std::marker::Model;
 
-/// The seat of a job: it alone puts the items of the job.
+/// The producer's handle for one job: it alone puts the job's items.
 #[derive(Drop)]
 pub struct JobSeat {
     pub(crate) pass: Pass<Item, PassView>,
@@ -27,7 +27,7 @@ impl Model for JobSeat {
     ghost invariant = { λ s. (s.pass.me.1 ≡ []) × IsJobPass s.pass.me.0.client s.job s.next s.closed };
 }
 
-/// A seat that takes.
+/// A consumer's handle for the queue.
 #[derive(Drop)]
 pub struct TakeSeat {
     pub(crate) pass: Pass<Item, PassView>,
@@ -44,7 +44,7 @@ impl Model for TakeSeat {
     ghost invariant = { λ s. (s.pass.me.1 ≡ []) × IsTakePass s.pass.me.0.client };
 }
 
-/// The seat that puts Stops.
+/// The stopper's handle: it puts Stops.
 #[derive(Drop)]
 pub struct StopSeat {
     pub(crate) pass: Pass<Item, PassView>,
@@ -61,7 +61,7 @@ impl Model for StopSeat {
     ghost invariant = { λ s. (s.pass.me.1 ≡ []) × IsStopPass s.pass.me.0.client };
 }
 
-/// What the joined seats leave: it takes what is left in the queue.
+/// The handle that remains when seats are joined: it takes what is left in the queue.
 #[derive(Drop)]
 pub struct Rest {
     pub(crate) pass: Pass<Item, PassView>,

@@ -1,4 +1,4 @@
-//! How the seats are joined, and what is left is taken.
+//! How seats are joined, and how the rest of the queue is taken.
 
 ghost use Rattle.std.specs.Prelude.{◌≡◌, ◌++◌, [], All, map, IfSome, IfNone};
 ghost use Rattle.ix_handover.specs.Course.{IsWellTaken};
@@ -17,7 +17,7 @@ use crate::seats::{JobSeat, Rest, StopSeat, TakeSeat};
 use crossbeam_queue::Pass;
 use std::sync::Wait;
 
-// Joins the seats of jobs, which have taken nothing.
+// Joins the producers' seats, which have taken nothing.
 fn join_jobs(line: &Line, pass: &mut Pass<Item, PassView>, seats: Vec<JobSeat>)
     requires pass { IsLivePass line.now pass.old }
     requires seats { All (λ s. s.table ≡ line.now.table.shared.table_id) seats.items }
@@ -38,7 +38,7 @@ fn join_jobs(line: &Line, pass: &mut Pass<Item, PassView>, seats: Vec<JobSeat>)
     }
 }
 
-// Joins the seats that take, which have put nothing.
+// Joins the consumers' seats, which have put nothing.
 fn join_takers(line: &Line, pass: &mut Pass<Item, PassView>, seats: Vec<TakeSeat>)
     requires pass { IsLivePass line.now pass.old }
     requires seats { All (λ s. s.table ≡ line.now.table.shared.table_id) seats.items }
@@ -54,8 +54,8 @@ fn join_takers(line: &Line, pass: &mut Pass<Item, PassView>, seats: Vec<TakeSeat
 
 impl VisitQueue {
     /// Joins seats, all or some. What they took was allowed by the course, with no visit and no
-    /// close twice, and nothing of a job behind its close. Their lists are kept apart, and the rest
-    /// has taken nothing of its own.
+    /// close twice, and no item of a job with a number above its close's. Their lists are kept
+    /// apart, and the `Rest` has taken nothing of its own.
     pub fn settle(&self, jobs: Vec<JobSeat>, stop: StopSeat, takers: Vec<TakeSeat>) -> Rest
         requires stop { IsOfQueue self.now stop.table }
         requires jobs { All (λ s. IsOfQueue self.now s.table) jobs.items }
@@ -75,15 +75,15 @@ impl VisitQueue {
         Rest { pass }
     }
 
-    /// Takes the item at the front of what is left. At `None` where all seats were joined, whatever
-    /// was put was taken, as often as it was put.
+    /// Takes the item at the front of the rest of the queue. At `None`, if all seats were joined,
+    /// all that was put was taken, as often as it was put.
     pub fn take_rest<R: Wait>(&self, rt: &R, rest: &mut Rest) -> Option<Item>
         requires { IsOfQueue self.now rest.old.table }
         ensures table { rest.new.table ≡ rest.old.table }
         ensures some { IfSome result (λ x. IsTake rest.old.pass x rest.new.pass) }
         ensures none { IfNone result ((rest.new.pass ≡ rest.old.pass) × IsAllTaken rest.old.pass) }
     {
-        // A queue is one ruled queue and nothing else, and what is left of its seats one pass.
+        // A queue is one ruled queue and nothing else, and a `Rest` is one pass.
         let VisitQueue { line } = self;
         let line: &Line = line;
         let Rest { pass } = rest;

@@ -4,14 +4,14 @@ use ix_archive::End;
 use ix_check::Verdict;
 use ix_walk::Visit;
 
-/// What a verifier sends for what it took.
+/// An answer that a verifier sends for an item that it took.
 #[derive(Debug, Drop)]
 pub enum Verdicted {
     /// A visit with its verdict.
     Checked { visit: Visit, verdict: Verdict },
-    /// No memory was left to check the visit.
+    /// A visit whose check ran out of memory.
     Unchecked { job: u32, seq: u32 },
-    /// The job's walk has ended, with so many visits.
+    /// The end of a job's walk; `seq` is how many visits it has put.
     Close { job: u32, seq: u32, end: End },
     /// A verifier's last item.
     Last,

@@ -1,23 +1,23 @@
-//! Why an item is not placed.
+//! Why a ring rejects an item.
 
 ghost use Rattle.std.specs.Prelude.{IsTrue, ◌↔◌};
 ghost use Rattle.ix_ring.specs.Numbered.{IsMemory};
 
-/// Why an item was not placed, with the item.
+/// Why an item was not placed. Each variant returns the item.
 #[derive(Debug, PartialEq, Eq, Drop)]
 pub enum RingFault<T> {
-    /// Its number is below the next one.
+    /// The number is below the next one.
     Passed(T),
-    /// Its number is 1,048,576 or more above the next one.
+    /// The number is 1,048,576 or more above the next one.
     Far(T),
-    /// An item of that number is there.
+    /// An item with that number is there already.
     Taken(T),
-    /// No memory was left.
+    /// Out of memory.
     Memory(T),
 }
 
 impl<T> RingFault<T> {
-    /// Whether no memory was left.
+    /// Whether the reason is that memory ran out.
     pub fn is_memory(&self) -> bool
         ensures { IsTrue result ↔ IsMemory self.now }
     {

@@ -1,8 +1,8 @@
-//! Items by number, in a window that moves on.
+//! A reorder buffer: items with numbers, in a window that moves on.
 //!
-//! A ring takes items in any order and gives them back in the order of their numbers, each once. An
-//! item whose number was passed, is too far ahead or is taken, or for which there is no memory,
-//! comes back with the reason, and nothing is changed.
+//! A ring accepts items in any order and returns them in the order of their numbers, each once. An
+//! item is returned with an error, and nothing changes, if its number was passed, is too far ahead
+//! or is taken, or if memory runs out.
 //!
 //! ```rust
 //! let mut ring = Ring::new(alloc)?;

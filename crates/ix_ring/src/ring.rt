@@ -1,4 +1,4 @@
-//! Items by number, in a window that moves on.
+//! A reorder buffer: items with numbers, in a window that moves on.
 
 ghost use Rattle.std.specs.Prelude.{◌≡◌, ◌<◌, ◌≤◌, ◌+◌, ◌-◌, ℕ, [], length, slice_set, IfOk, OnOk, IfErr, MatchBool, None, Some};
 ghost use Rattle.ix_ring.specs.Numbered.{slot, IsTaken, ReachesNoFurther, IsHeldWithin, IsPlaced, Refuses, Pops};
@@ -11,18 +11,18 @@ use std::marker::Model;
 // How far above the next number an item may be placed.
 const REACH: u64 = 1_048_576;
 
-/// Items by number. They go in in any order, and come out by their numbers from 0 on.
+/// A reorder buffer: items are placed in any order and popped by their numbers, from 0 on.
 ///
-/// Contracts see a finite map: the number that comes out next, and the items with their numbers,
-/// none of which is below it. Numbers are `u32`, so the next one never passes 4,294,967,296, where
-/// nothing comes out any more.
+/// Contracts see a finite map: the number that is popped next, and the items with their numbers,
+/// none of which is below it. Numbers are `u32`, so the next one never passes 4,294,967,296, at
+/// which nothing is popped any more.
 ///
 /// The ring has a slot for each number from the next one to the highest that was placed, filled or
-/// not. So it takes memory in proportion to the widest gap that it met, and keeps it until it is
+/// not. So its memory grows with the widest gap that occurred, and is freed only when the ring is
 /// dropped.
 #[derive(Drop)]
 pub struct Ring<T: Drop> {
-    // The item numbered `next`, or none, and those behind it.
+    // The slot of the number `next`, empty or filled, and the slots after it.
     window: HeapCircularBuffer<Option<T>>,
     next: u64,
 }
@@ -40,7 +40,7 @@ impl<T: Drop> Model for Ring<T> {
     ghost invariant = { λ r. r.next + length r.window.items ≤ 4294967296 };
 }
 
-// Makes room for one slot more than `index`.
+// Extends the window to the slot at `index`.
 fn reach<T: Drop>(
     window: &mut HeapCircularBuffer<Option<T>>,
     index: usize,
@@ -60,7 +60,7 @@ fn reach<T: Drop>(
     Ok(())
 }
 
-// Whether there is an item in the slot.
+// Whether the slot has an item.
 fn is_taken<T: Drop>(window: &HeapCircularBuffer<Option<T>>, index: usize) -> bool
     ensures { MatchBool result (IsTaken window.now.items index) (slot window.now.items index ≡ None) }
 {
@@ -71,7 +71,7 @@ fn is_taken<T: Drop>(window: &HeapCircularBuffer<Option<T>>, index: usize) -> bo
     }
 }
 
-// Puts an item into a slot.
+// Stores an item in a slot.
 fn fill<T: Drop>(window: &mut HeapCircularBuffer<Option<T>>, index: usize, item: T)
     requires { index < length window.old.items }
     ensures { window.new.items ≡ slice_set window.old.items index (Some item) }
@@ -82,7 +82,7 @@ fn fill<T: Drop>(window: &mut HeapCircularBuffer<Option<T>>, index: usize, item:
 }
 
 impl<T: Drop> Ring<T> {
-    /// A ring that holds nothing, and gives number 0 next.
+    /// Creates an empty ring whose next number is 0.
     pub fn new(alloc: Global) -> Result<Ring<T>, AllocError>
         ensures { IfOk result (λ r. r ≡ record { next = 0; entries = [] }) }
     {
@@ -90,7 +90,7 @@ impl<T: Drop> Ring<T> {
         Ok(Ring { window, next: 0 })
     }
 
-    /// The number of the item that comes out next.
+    /// The number of the item that is popped next.
     pub fn next(&self) -> u64
         ensures next { result ≡ self.now.next }
         ensures within { result ≤ 4294967296 }
@@ -99,7 +99,7 @@ impl<T: Drop> Ring<T> {
         self.next
     }
 
-    /// Places an item at its number. A refusal changes nothing.
+    /// Places an item at its number. An error changes nothing and returns the item.
     pub fn place(&mut self, seq: u32, item: T) -> Result<(), RingFault<T>>
         ensures placed { OnOk result (IsPlaced self.old seq item self.new) }
         ensures refused { IfErr result (λ fault. Refuses self.old seq item self.new fault) }
@@ -122,7 +122,8 @@ impl<T: Drop> Ring<T> {
         Ok(())
     }
 
-    /// Gives the item numbered `next`, and the number behind it is then the next.
+    /// Returns the item numbered `next`, after which the following number is next; or `None`, which
+    /// changes nothing, if that item isn't there.
     pub fn pop(&mut self) -> Option<T>
         ensures popped { Pops self.old result self.new }
         ensures within { self.new.next ≤ 4294967296 }

@@ -31,18 +31,22 @@ kept_cons : (b : Bool) (x : Place) (xs ys zs : List Place) → xs ≡ ys ++ zs �
 kept_cons true x xs ys zs h = h
 kept_cons false x xs ys zs h = ap (λ l. x ∷ l) h
 
+-- keeping matchers and explorers commutes with concatenation
 pub standing-append : (xs ys : List Place) → standing (xs ++ ys) ≡ standing xs ++ standing ys
 standing-append [] ys = refl
 standing-append (x ∷ xs) ys = kept_cons (is_edge x.selector) x (standing (xs ++ ys)) (standing xs) (standing ys) (standing-append xs ys)
 
+-- one more list before what an edge adds
 more_in_front : (b : Bool) (ws xs ys zs : List Place) → xs ≡ ys ++ zs → (if b then ws ++ xs else xs) ≡ (if b then ws ++ ys else ys) ++ zs
 more_in_front true ws xs ys zs h = ap (λ l. ws ++ l) h ∙ sym (append_assoc ws ys zs)
 more_in_front false ws xs ys zs h = h
 
+-- so does collecting the sequences that edges re-enter
 pub again-append : (xs ys : List Place) → again (xs ++ ys) ≡ again xs ++ again ys
 again-append [] ys = refl
 again-append (x ∷ xs) ys = more_in_front (is_edge x.selector) (innermost x.around x.sequence) (again (xs ++ ys)) (again xs) (again ys) (again-append xs ys)
 
+-- adding twice is adding the concatenation
 pub adds-twice : (spots : List Spot) (old mid new : Reached) (f g : List Place) → Adds spots old mid f → Adds spots mid new g → Adds spots old new (f ++ g)
 adds-twice spots old mid new f g a b = (
   b.0
@@ -55,13 +59,16 @@ adds-twice spots old mid new f g a b = (
       ∙ ap (λ l. seen_pairs spots old.again.items ++ l) (sym (again-append f g)),
 )
 
+-- adding nothing
 pub adds-none : (spots : List Spot) (old : Reached) → Adds spots old old []
 adds-none spots old = (sym (append-nil (seen_pairs spots old.standing.items)), sym (append-nil (seen_pairs spots old.again.items)))
 
+-- pairs as places, over a concatenation
 pub seen-append : (spots : List Spot) (xs ys : List Pair) → seen_pairs spots (xs ++ ys) ≡ seen_pairs spots xs ++ seen_pairs spots ys
 seen-append spots [] ys = refl
 seen-append spots (x ∷ xs) ys = ap (λ l. place_of spots x ∷ l) (seen-append spots xs ys)
 
+-- where one more place leads
 pub lead-push : (xs : List Place) (x : Place) → all_lead (xs ++ x ∷ []) ≡ all_lead xs ++ leads_from x
 lead-push [] x = append-nil (leads_from x)
 lead-push (y ∷ xs) x = ap (λ l. leads_from y ++ l) (lead-push xs x) ∙ sym (append_assoc (leads_from y) (all_lead xs) (leads_from x))
@@ -73,6 +80,7 @@ pub record First (spots : List Spot) (n : ℕ) (x : Spot) : Type 0 where
   pub row : AreRow (places_of spots) first (numbers_of x) n
   pub inside : first + inside_of (at (places_of spots) n) ≡ n
 
+-- the places inside a spot are numbered right before it, so the first of them is known
 pub first-of : (spots : List Spot) (n : ℕ) (x : Spot) → AreSpots 0 spots → AreLaidFrom 0 spots → n < length spots → x ≡ get_or spots n x → First spots n x
 first-of spots n x table laid within is =
     let here = laid.laid n x (omega arith) within is in record {
@@ -89,6 +97,7 @@ leads_at spots x s m is inside =
 
 -- ---- what an edge enters again
 
+-- what an edge re-enters is the same in the table as in the definition
 limit_again : (spots : List Spot) (n : ℕ) (d : Option ℕ) → seen_pairs spots (entered_again (Some (record { sequence = n; depth = d }))) ≡ restarted (at (places_of spots) n) n d
 limit_again spots n None = refl
 limit_again spots n (Some d) = by (nat_le 2 d) where
@@ -96,12 +105,14 @@ limit_again spots n (Some d) = by (nat_le 2 d) where
   by true = refl
   by false = refl
 
+-- the same by whether there is a recursion
 pub places-again : (spots : List Spot) (r : Option Recursion) → seen_pairs spots (entered_again r) ≡ innermost (frames (places_of spots) r) (sequence_of r)
 places-again spots None = refl
 places-again spots (Some r) = limit_again spots r.sequence r.depth
 
 -- ---- what stands
 
+-- a matcher or explorer leads to itself alone, and is no edge
 stands_leads : (s : Pattern) (n : ℕ) (e : List Frame) (q : Option ℕ) → Stands s → (leads s n e q ≡ record { selector = s; around = e; number = n + inside_of s; sequence = q } ∷ []) × (is_edge s ≡ false)
 stands_leads matcher n e q h = (refl, refl)
 stands_leads (all s) n e q h = (refl, refl)
@@ -121,6 +132,7 @@ module _ (spots : List Spot) (table : AreSpots 0 spots) (laid : AreLaidFrom 0 sp
       ∙ (stands_leads (selector_at spots x) here.first (frames (places_of spots) x.recursion) (sequence_of x.recursion) stands).0
       ∙ ap (λ n. record { selector = selector_at spots x; around = frames (places_of spots) x.recursion; number = n; sequence = sequence_of x.recursion } ∷ []) here.inside
 
+  -- so reaching it adds it
   pub standing-adds : (y : Spot) → y ≡ get_or spots x.place y → Stands (selector_at spots x) → (old new : Reached) → new.standing.items ≡ old.standing.items ++ x ∷ [] → new.again ≡ old.again
       → Adds spots old new (leads_from (place_of spots x))
   standing-adds y is stands old new more same =
@@ -135,6 +147,7 @@ module _ (spots : List Spot) (table : AreSpots 0 spots) (laid : AreLaidFrom 0 sp
 
   -- ---- a recursion
 
+  -- a recursion leads where its sequence does
   pub recursive-leads : (d : Option ℕ) (k : ℕ) → Recursive d k ≡ get_or spots x.place (Recursive d k) → leads_from (place_of spots (record { place = k; recursion = Some (record { sequence = k; depth = d }) })) ≡ leads_from (place_of spots x)
   recursive-leads d k is =
       let here = first-of spots x.place (Recursive d k) table laid within is in
@@ -146,6 +159,7 @@ module _ (spots : List Spot) (table : AreSpots 0 spots) (laid : AreLaidFrom 0 sp
 
   -- ---- a union
 
+  -- where members lead, one after another
   each_lead : (m : ℕ) (ks : List ℕ) (n : ℕ) → AreRow (places_of spots) m ks n
       → each_leads (members_of (map (at (places_of spots)) ks)) m (frames (places_of spots) x.recursion) (sequence_of x.recursion) ≡ all_lead (seen_pairs spots (members_at x ks))
   each_lead m [] n row = refl
@@ -160,6 +174,7 @@ module _ (spots : List Spot) (table : AreSpots 0 spots) (laid : AreLaidFrom 0 sp
       ∙ ap (λ j. leads s (k - inside_of s) e q ++ each_leads (members_of (map (at (places_of spots)) ks)) j e q) next
       ∙ ap (λ l. leads s (k - inside_of s) e q ++ l) (each_lead (k + 1) ks n row.1)
 
+  -- a union leads where its members do
   pub union-leads : (ks : _) → Union ks ≡ get_or spots x.place (Union ks) → all_lead (seen_pairs spots (members_at x ks.items)) ≡ leads_from (place_of spots x)
   union-leads ks is =
       let here = first-of spots x.place (Union ks) table laid within is in
@@ -179,6 +194,7 @@ module _ (spots : List Spot) (table : AreSpots 0 spots) (laid : AreLaidFrom 0 sp
       let whole : x.place + 0 ≡ x.place = omega arith in
       leads_at spots x edge x.place there (omega arith) ∙ (λ i. record { selector = sym there i; around = e; number = whole i; sequence = q } ∷ [])
 
+  -- an edge adds the sequence that it re-enters
   pub edge-adds : Edge ≡ get_or spots x.place Edge → (old new : Reached) → new.standing ≡ old.standing → new.again.items ≡ old.again.items ++ entered_again x.recursion → Adds spots old new (leads_from (place_of spots x))
   edge-adds is old new same more =
       let there : at (places_of spots) x.place ≡ edge = place-is spots x.place Edge table within is in
@@ -193,6 +209,7 @@ module _ (spots : List Spot) (table : AreSpots 0 spots) (laid : AreLaidFrom 0 sp
 
 -- ---- behind a step
 
+-- a key that isn't among the names leads nowhere
 named_lead_nowhere : (ps : List Pattern) (fs : List (Vec ℕ × ℕ)) (l : List ℕ) → IsUnnamed fs l → (m : ℕ) (e : List Frame) (q : Option ℕ) → named_lead (fields_of (map (named_at ps) fs)) l m e q ≡ []
 named_lead_nowhere ps [] l none m e q = refl
 named_lead_nowhere ps (f ∷ fs) l none m e q =
@@ -202,10 +219,12 @@ named_lead_nowhere ps (f ∷ fs) l none m e q =
       other true is = absurd (none.0 ((bytes_eq-Decides f.0.items l).0 is))
       other false is = is
 
+-- a key before all names isn't among them
 before_unnamed : (l : List ℕ) (fs : List (Vec ℕ × ℕ)) → IsBefore l fs → IsUnnamed fs l
 before_unnamed l [] h = tt
 before_unnamed l (f ∷ fs) h = (λ same. not_before l f.0.items h.0 (sym same), before_unnamed l fs h.1)
 
+-- a key leads where its selector does, since the names rise and so no other has it
 named_lead_to : (ps : List Pattern) (fs : List (Vec ℕ × ℕ)) (l : List ℕ) (k : ℕ) → AreRising fs → IsNumbered fs l k → (m n : ℕ) → AreRow ps m (map number_of fs) n → (e : List Frame) (q : Option ℕ)
     → named_lead (fields_of (map (named_at ps) fs)) l m e q ≡ leads (at ps k) (k - inside_of (at ps k)) e q
 named_lead_to ps [] l k rising h m n row e q = absurd h
@@ -230,6 +249,7 @@ named_lead_to ps (f ∷ fs) l k rising h m n row e q =
 
 -- ---- pairs one by one
 
+-- the loop's step: one more pair
 pub adds-next : (spots : List Spot) (old mid new : Reached) (xs : List Pair) (x : Pair) → Adds spots old mid (all_lead (seen_pairs spots xs)) → Adds spots mid new (leads_from (place_of spots x))
     → Adds spots old new (all_lead (seen_pairs spots (xs ++ x ∷ [])))
 adds-next spots old mid new xs x so_far one =
@@ -242,10 +262,12 @@ next_of xs i x within is = take_more xs i x within ∙ ap (λ y. take i xs ++ y 
 
 -- ---- behind a step
 
+-- where one more place leads after a step
 lead_behind-push : (xs : List Place) (x : Place) (t : Step) → all_lead_behind (xs ++ x ∷ []) t ≡ all_lead_behind xs t ++ leads_behind_from x t
 lead_behind-push [] x t = append-nil (leads_behind_from x t)
 lead_behind-push (y ∷ xs) x t = ap (λ l. leads_behind_from y t ++ l) (lead_behind-push xs x t) ∙ sym (append_assoc (leads_behind_from y t) (all_lead_behind xs t) (leads_behind_from x t))
 
+-- the loop's step: one more pair, after a step
 pub steps-take : (spots : List Spot) (t : Step) (old mid new : Reached) (xs : List Pair) (i : ℕ) (x : Pair) → i < length xs → x ≡ get_or xs i x → Adds spots old mid (all_lead_behind (seen_pairs spots (take i xs)) t)
     → Adds spots mid new (leads_behind_from (place_of spots x) t) → Adds spots old new (all_lead_behind (seen_pairs spots (take (i + 1) xs)) t)
 steps-take spots t old mid new xs i x within is so_far one =
@@ -266,6 +288,7 @@ stepped-exact spots t start last xs rs nothing none adds is =
     is ∙ (λ i. merged (stand i ++ standing (all_lead (merged (anew i)))))
 
 module _ (spots : List Spot) (table : AreSpots 0 spots) (laid : AreLaidFrom 0 spots) (n : ℕ) (within : n < length spots) (t : Step) where
+  -- the place's form and first inner number, instead of its position in the table
   behind_at : (s : Pattern) (m : ℕ) → at (places_of spots) n ≡ s → m + inside_of s ≡ n → (e : List Frame) (q : Option ℕ)
       → leads_behind (at (places_of spots) n) t (n - inside_of (at (places_of spots) n)) e q ≡ leads_behind s t m e q
   behind_at s m is inside e q = ap (λ r. leads_behind r t (n - inside_of r) e q) is ∙ ap (λ j. leads_behind s t j e q) (let i = inside in omega arith)
@@ -282,13 +305,16 @@ module _ (spots : List Spot) (table : AreSpots 0 spots) (laid : AreLaidFrom 0 sp
       ∙ leads_on here.first e q
       ∙ ap (λ j. leads (at (places_of spots) k) j e q) (let low : here.first ≡ k - inside_of (at (places_of spots) k) = omega arith in low)
 
+  -- after any step `all` leads to its only inner place
   pub all-as : (k : ℕ) → All k ≡ get_or spots n (All k) → LeadsAs (places_of spots) n t k
   all-as k is = one_as (All k) (all (at (places_of spots) k)) k is (place-is spots n (All k) table within is) refl refl (λ m e q. refl)
 
+  -- `index` leads to its inner place at its position
   pub index-as : (i : ℤ) (k : ℕ) → Index i k ≡ get_or spots n (Index i k) → is_at i t ≡ true → LeadsAs (places_of spots) n t k
   index-as i k is inside =
       one_as (Index i k) (index i (at (places_of spots) k)) k is (place-is spots n (Index i k) table within is) refl refl (λ m e q. ap (λ b. if b then leads (at (places_of spots) k) m e q else []) inside)
 
+  -- `range` leads to its inner place within its bounds
   pub range-as : (i j : ℤ) (k : ℕ) → Range i j k ≡ get_or spots n (Range i j k) → is_within i j t ≡ true → LeadsAs (places_of spots) n t k
   range-as i j k is inside =
       one_as (Range i j k) (range i j (at (places_of spots) k)) k is (place-is spots n (Range i j k) table within is) refl refl (λ m e q. ap (λ b. if b then leads (at (places_of spots) k) m e q else []) inside)
@@ -297,12 +323,15 @@ module _ (spots : List Spot) (table : AreSpots 0 spots) (laid : AreLaidFrom 0 sp
   none_as : (s : Pattern) → at (places_of spots) n ≡ s → ((m : ℕ) (e : List Frame) (q : Option ℕ) → leads_behind s t m e q ≡ []) → LeadsToNone (places_of spots) n t
   none_as s there none e q = ap (λ r. leads_behind r t (n - inside_of r) e q) there ∙ none (n - inside_of s) e q
 
+  -- and nowhere elsewhere
   pub index-none : (i : ℤ) (k : ℕ) → Index i k ≡ get_or spots n (Index i k) → is_at i t ≡ false → LeadsToNone (places_of spots) n t
   index-none i k is out = none_as (index i (at (places_of spots) k)) (place-is spots n (Index i k) table within is) (λ m e q. ap (λ b. if b then leads (at (places_of spots) k) m e q else []) out)
 
+  -- and nowhere elsewhere
   pub range-none : (i j : ℤ) (k : ℕ) → Range i j k ≡ get_or spots n (Range i j k) → is_within i j t ≡ false → LeadsToNone (places_of spots) n t
   range-none i j k is out = none_as (range i j (at (places_of spots) k)) (place-is spots n (Range i j k) table within is) (λ m e q. ap (λ b. if b then leads (at (places_of spots) k) m e q else []) out)
 
+  -- any other form leads nowhere after a step
   pub default-none : (y : Spot) → y ≡ get_or spots n y → ((k : ℕ) → y ≡ All k → ⊥) → ((names : _) → y ≡ Fields names → ⊥) → ((i : ℤ) (k : ℕ) → y ≡ Index i k → ⊥) → ((i j : ℤ) (k : ℕ) → y ≡ Range i j k → ⊥) → LeadsToNone (places_of spots) n t
   default-none y is a f i r = none_as (seen (places_of spots) y) (place-is spots n y table within is) (by (places_of spots) y a f i r t) where
     by : (ps : List Pattern) (y : Spot) → ((k : ℕ) → y ≡ All k → ⊥) → ((names : _) → y ≡ Fields names → ⊥) → ((i : ℤ) (k : ℕ) → y ≡ Index i k → ⊥) → ((i j : ℤ) (k : ℕ) → y ≡ Range i j k → ⊥)
@@ -316,6 +345,7 @@ module _ (spots : List Spot) (table : AreSpots 0 spots) (laid : AreLaidFrom 0 sp
     by ps (Union ks) a f i r t m e q = refl
     by ps Edge a f i r t m e q = refl
 
+  -- `fields` lead to the place that belongs to the key
   pub fields-as : (names : _) → Fields names ≡ get_or spots n (Fields names) → AreRising names.items → (k : ℕ) → HasName names.items t k → LeadsAs (places_of spots) n t k
   fields-as names is rising k has e q =
       let here = first-of spots n (Fields names) table laid within is in
@@ -327,6 +357,7 @@ module _ (spots : List Spot) (table : AreSpots 0 spots) (laid : AreLaidFrom 0 sp
         by fs (key l) has rising m row = named_lead_to (places_of spots) fs l k rising has m n row e q
         by fs (nth j) has rising m row = absurd has
 
+  -- and nowhere for another step
   pub fields-none : (names : _) → Fields names ≡ get_or spots n (Fields names) → HasNoName names.items t → LeadsToNone (places_of spots) n t
   fields-none names is none = none_as (fields (fields_of (map (named_at (places_of spots)) names.items))) (place-is spots n (Fields names) table within is) (by names.items t none) where
     by : (fs : List (Vec ℕ × ℕ)) (t : Step) → HasNoName fs t → (m : ℕ) (e : List Frame) (q : Option ℕ) → leads_behind (fields (fields_of (map (named_at (places_of spots)) fs))) t m e q ≡ []
@@ -335,6 +366,7 @@ module _ (spots : List Spot) (table : AreSpots 0 spots) (laid : AreLaidFrom 0 sp
 
 -- ---- from the root
 
+-- what is reached from the root is the definition's residual
 pub start-exact : (spots : List Spot) (n : ℕ) (s : Pattern) → at (places_of spots) n ≡ s → n ≡ inside_of s → (start last : Reached) (rs : List Pair) → start.standing.items ≡ []
     → Adds spots start last (leads_from (place_of spots (record { place = n; recursion = None }))) → AreMerged rs last.standing.items → seen_pairs spots rs ≡ residual_of s
 unfolding residual_of

@@ -19,6 +19,7 @@ use Rattle.ix_selector.proofs.Leading.{matcher_nowhere, out_all}
 
 -- ---- one selector
 
+-- a selector that doesn't depend on the step enters the same after any
 enters_alike : (s : Pattern) → LooksAtNoStep s → (e : List Frame) (t u : Step) (p : Path) → Enters s e (t ∷ p) → Enters s e (u ∷ p)
 enters_alike matcher a e t u p h = absurd (matcher_nowhere t e p h)
 enters_alike (all s) a e t u p h = below_all (out_all h)
@@ -29,6 +30,7 @@ enters_alike (recursive d s) a e t u p h = absurd a
 enters_alike (union ss) a e t u p h = absurd a
 enters_alike edge a e t u p h = absurd a
 
+-- and the test agrees
 tested_alike : (n : ℕ) (s : Pattern) → LooksAtNoStep s → (e : List Frame) (t u : Step) (p : Path) → entered_within n s e (t ∷ p) ≡ entered_within n s e (u ∷ p)
 unfolding entered_within
 tested_alike zero matcher a e t u p = refl
@@ -42,6 +44,7 @@ tested_alike n (recursive d s) a e t u p = absurd a
 tested_alike n (union ss) a e t u p = absurd a
 tested_alike n edge a e t u p = absurd a
 
+-- it leads to the same places
 lead_alike : (s : Pattern) → LooksAtNoStep s → (t u : Step) (n : ℕ) (e : List Frame) (q : Option ℕ) → leads_behind s t n e q ≡ leads_behind s u n e q
 lead_alike matcher a t u n e q = refl
 lead_alike (all s) a t u n e q = refl
@@ -54,6 +57,7 @@ lead_alike edge a t u n e q = absurd a
 
 -- ---- all of them
 
+-- selector by selector
 residual_enters_alike : (xs : List Place) → LookAtNoStep xs → (t u : Step) (p : Path) → ResidualEnters xs (t ∷ p) → ResidualEnters xs (u ∷ p)
 residual_enters_alike xs a t u p h = by xs a h.among h.enters where
   by : (xs : List Place) → LookAtNoStep xs → {x : Place} → IsAmong x xs → Enters x.selector x.around (t ∷ p) → ResidualEnters xs (u ∷ p)
@@ -61,6 +65,7 @@ residual_enters_alike xs a t u p h = by xs a h.among h.enters where
   by (x ∷ xs) a here h = record { place = x; among = here; enters = enters_alike x.selector a.0 x.around t u p h }
   by (x ∷ xs) a (there n) h = let rest = by xs a.1 n h in record { place = rest.place; among = there rest.among; enters = rest.enters }
 
+-- test by test
 residual_tested_alike : (xs : List Place) → LookAtNoStep xs → (t u : Step) (p : Path) → residual_enters xs (t ∷ p) ≡ residual_enters xs (u ∷ p)
 residual_tested_alike [] a t u p = refl
 residual_tested_alike (x ∷ xs) a t u p =
@@ -68,6 +73,7 @@ residual_tested_alike (x ∷ xs) a t u p =
     let rest = residual_tested_alike xs a.1 t u p in
     λ i. first i || rest i
 
+-- place by place
 all_lead_alike : (xs : List Place) → LookAtNoStep xs → (t u : Step) → all_lead_behind xs t ≡ all_lead_behind xs u
 all_lead_alike [] a t u = refl
 all_lead_alike (x ∷ xs) a t u =
@@ -75,6 +81,7 @@ all_lead_alike (x ∷ xs) a t u =
     let rest = all_lead_alike xs a.1 t u in
     λ i. first i ++ rest i
 
+-- so the residual is the same after any step
 left_alike : (xs : List Place) → LookAtNoStep xs → (t u : Step) → residual_behind xs t ≡ residual_behind xs u
 unfolding residual_behind
 left_alike xs a t u = let found = all_lead_alike xs a t u in λ i. entering (standing (found i)) (again (found i))

@@ -45,10 +45,12 @@ seen_alike spots once z w a b =
     (pairs-alike spots a.pair b.pair
     (λ same. stands-once once a.is_pair.stands (subst (λ n. StandsIn spots n (sequence_of b.pair.recursion)) (sym same) b.is_pair.stands))))
 
+-- one by one
 seen_alike_all : (spots : List Spot) → AreNamedOnce spots → (z : Place) → IsSeen spots z → (ws : List Place) → Each (IsSeen spots) ws → AlikeAll z ws
 seen_alike_all spots once z a [] h = tt
 seen_alike_all spots once z a (w ∷ ws) h = (seen_alike spots once z w a h.0, seen_alike_all spots once z a ws h.1)
 
+-- pairs of the table are places of it
 each_seen : (spots : List Spot) (xs : List Pair) → All (IsPair spots) xs → Each (IsSeen spots) (seen_pairs spots xs)
 each_seen spots [] h = tt
 each_seen spots (x ∷ xs) h =
@@ -65,6 +67,7 @@ members_seen spots fuel x inner within (k ∷ ks) pairs below =
     (inner y (All-head (IsPair spots) y (members_at x ks) pairs) (omega arith))
     (members_seen spots fuel x inner within ks (All-tail (IsPair spots) y (members_at x ks) pairs) below.1)
 
+-- by the place's number, since what is inside has smaller ones
 leads_seen : (spots : List Spot) → IsTable spots → (fuel : ℕ) (x : Pair) → IsPair spots x → x.place < fuel → Each (IsSeen spots) (leads_from (place_of spots x))
 leads_seen spots table zero x is below = absurd (omega arith)
 leads_seen spots table (suc fuel) x is below = by (leads_seen spots table fuel) (get_or spots x.place Matcher) (get_or_default spots x.place Matcher _ is.within) where
@@ -92,12 +95,14 @@ leads_seen spots table (suc fuel) x is below = by (leads_seen spots table fuel) 
 standing_seen : (spots : List Spot) → IsTable spots → (x : Pair) → IsPair spots x → Each (IsSeen spots) (standing (leads_from (place_of spots x)))
 standing_seen spots table x is = standing-each (IsSeen spots) (leads_from (place_of spots x)) (leads_seen spots table (suc x.place) x is (omega arith))
 
+-- pair by pair
 all_seen : (spots : List Spot) → IsTable spots → (xs : List Pair) → All (IsPair spots) xs → Each (IsSeen spots) (all_lead (seen_pairs spots xs))
 all_seen spots table [] h = tt
 all_seen spots table (x ∷ xs) h =
     each-append (IsSeen spots) (leads_from (place_of spots x)) (all_lead (seen_pairs spots xs))
     (leads_seen spots table (suc x.place) x (All-head (IsPair spots) x xs h) (omega arith)) (all_seen spots table xs (All-tail (IsPair spots) x xs h))
 
+-- and of those only the matchers and explorers
 standing_all_seen : (spots : List Spot) → IsTable spots → (xs : List Pair) → All (IsPair spots) xs → Each (IsSeen spots) (standing (all_lead (seen_pairs spots xs)))
 standing_all_seen spots table xs h = standing-each (IsSeen spots) (all_lead (seen_pairs spots xs)) (all_seen spots table xs h)
 
@@ -122,6 +127,7 @@ deeper_three (Some a) None (Some c) = refl
 deeper_three (Some a) (Some b) None = refl
 deeper_three (Some a) (Some b) (Some c) = ap Some (omega arith)
 
+-- the same of recursions
 around_three : (e d c : List Frame) → deeper_around c d ≡ deeper_around d c → deeper_around (deeper_around e d) c ≡ deeper_around e (deeper_around c d)
 around_three [] d c same = refl
 around_three (f ∷ e) [] [] same = refl
@@ -129,6 +135,7 @@ around_three (f ∷ e) [] (h ∷ c) same = refl
 around_three (f ∷ e) (g ∷ d) [] same = absurd cc
 around_three (f ∷ e) (g ∷ d) (h ∷ c) same = ap (λ n. record { sequence = f.sequence; depth = n } ∷ e) (deeper_three f.depth g.depth h.depth)
 
+-- and of places
 both_three : (z y x : Place) → both x y ≡ both y x → both (both z y) x ≡ both z (both x y)
 both_three z y x same =
     ap (λ e. record { selector = z.selector; around = e; number = z.number; sequence = z.sequence }) (around_three z.around y.around x.around (ap (λ (p : Place). p.around) same))
@@ -166,10 +173,12 @@ data AreBoth : List Place → List Place → List Place → Type 0 where
   no_more : AreBoth [] [] []
   one_more : {a b : Place} {us ws zs : List Place} → a.number ≡ b.number → a.selector ≡ b.selector → AreBoth us ws zs → AreBoth (a ∷ us) (b ∷ ws) (both a b ∷ zs)
 
+-- joined lists may be concatenated
 both_append : {us ws zs xs ys vs : List Place} → AreBoth us ws zs → AreBoth xs ys vs → AreBoth (us ++ xs) (ws ++ ys) (zs ++ vs)
 both_append no_more more = more
 both_append (one_more number selector rest) more = one_more number selector (both_append rest more)
 
+-- joining a depth with itself
 deeper_same : (d : Option ℕ) → deeper d d ≡ d
 deeper_same None = refl
 deeper_same (Some d) = ap Some (omega arith)
@@ -253,6 +262,7 @@ all_front P (z ∷ front) x back h =
     let rest = all_front P front x back (All-tail P z (front ++ x ∷ back) h) in
     (All-cons P z front (All-head P z (front ++ x ∷ back) h) rest.0, rest.1, rest.2)
 
+-- and back
 all_parts : (P : Pair → Type 0) (front : List Pair) (x : Pair) (back : List Pair) → All P front → P x → All P back → All P (front ++ x ∷ back)
 all_parts P [] x back f h b = All-cons P x back h b
 all_parts P (z ∷ front) x back f h b = All-cons P z (front ++ x ∷ back) (All-head P z front f) (all_parts P front x back (All-tail P z front f) h b)
@@ -515,6 +525,7 @@ all-same spots given start were same among = record {
 
 -- all were entered
 module _ (spots : List Spot) (given start last : Reached) (same : start.standing.items ≡ given.standing.items) (all_of : ReachesSame spots start last) (none : last.again.items ≡ []) where
+  -- what was reached at last enters what was reached at first
   pub all-enter : EnterSame start.again.items given.again.items → Same (SomeEnter spots last.standing.items) (ReachedEnters spots given)
   all-enter starts p = (
     λ h.
@@ -533,6 +544,7 @@ module _ (spots : List Spot) (given start last : Reached) (same : start.standing
         h)),
   )
 
+  -- and is what the definition leaves
   pub all-left : (rs : List Pair) → AreMerged start.again.items given.again.items → AreMerged rs last.standing.items → AreLeft spots given rs
   all-left rs first second =
       let L = seen_pairs spots last.standing.items in

@@ -21,6 +21,7 @@ stands-enters edge e h = absurd h
 pub edge-inside : {s : Pattern} {p : Path} → Enters edge (record { sequence = s; depth = None } ∷ []) p → Enters s (record { sequence = s; depth = None } ∷ []) p
 edge-inside (at_edge h) = h
 
+-- the same with a limit, of which one is used
 pub edge-inside_within : {s : Pattern} {d : ℕ} {p : Path} → Enters edge (record { sequence = s; depth = Some d } ∷ []) p → (2 ≤ d) × Enters s (record { sequence = s; depth = Some (d - 1) } ∷ []) p
 edge-inside_within (at_edge_within deep h) = (deep, h)
 
@@ -34,6 +35,7 @@ Covers d None = Unit {0}
 Covers None (Some e) = ⊥
 Covers (Some d) (Some e) = d ≤ e
 
+-- each depth covers itself
 pub covers-itself : (d : Option ℕ) → Covers d d
 covers-itself None = tt
 covers-itself (Some d) = omega arith
@@ -49,6 +51,7 @@ again_unlimited : (s : Pattern) (d : Option ℕ) (e : List Frame) (p : Path) →
 again_unlimited s None e p c h = at_edge (h _ refl refl)
 again_unlimited s (Some d) e p c h = absurd c
 
+-- the same with a limit
 again_within : (s : Pattern) (d : ℕ) (b : Option ℕ) (e : List Frame) (p : Path) → 2 ≤ d → Covers (Some d) b
     → ((g : Frame) → s ≡ g.sequence → Covers (Some (d - 1)) g.depth → Enters s (g ∷ e) p) → Enters edge (record { sequence = s; depth = b } ∷ e) p
 again_within s d None e p deep c h = at_edge (h (record { sequence = s; depth = None }) refl tt)
@@ -86,14 +89,17 @@ deeper_covers_left None b = tt
 deeper_covers_left (Some a) None = tt
 deeper_covers_left (Some a) (Some b) = omega arith
 
+-- the greater depth covers the second
 deeper_covers_right : (a b : Option ℕ) → Covers b (deeper a b)
 deeper_covers_right None b = tt
 deeper_covers_right (Some a) None = tt
 deeper_covers_right (Some a) (Some b) = omega arith
 
+-- so it enters what the first enters
 pub deeper-left : {s t : Pattern} {p : Path} (a b : Option ℕ) (e : List Frame) → Enters s (record { sequence = t; depth = a } ∷ e) p → Enters s (record { sequence = t; depth = deeper a b } ∷ e) p
 deeper-left a b e h = enters-wider h _ (refl, deeper_covers_left a b)
 
+-- and what the second enters
 pub deeper-right : {s t : Pattern} {p : Path} (a b : Option ℕ) (e : List Frame) → Enters s (record { sequence = t; depth = b } ∷ e) p → Enters s (record { sequence = t; depth = deeper a b } ∷ e) p
 deeper-right a b e h = enters-wider h _ (refl, deeper_covers_right a b)
 
@@ -106,6 +112,7 @@ deeper_is (Some a) (Some b) = by (nat_le a b) refl where
   by true is = inr (ap Some (let le = leb-true a b is in omega arith))
   by false is = inl (ap Some (grind (arith, le-leb a b)))
 
+-- and nothing else
 pub deeper-either : {s t : Pattern} {p : Path} (a b : Option ℕ) (e : List Frame) → Enters s (record { sequence = t; depth = deeper a b } ∷ e) p
     → Enters s (record { sequence = t; depth = a } ∷ e) p ⊎ Enters s (record { sequence = t; depth = b } ∷ e) p
 deeper-either {s = s} {t = t} {p = p} a b e h =

@@ -27,6 +27,7 @@ abbrev pub before_fields : List (List ℕ × Pattern) → Fields → Fields
 before_fields [] fs = fs
 before_fields (f ∷ more) fs = field f.0 f.1 (before_fields more fs)
 
+-- members before others
 abbrev pub before_members : List Pattern → Members → Members
 before_members [] ss = ss
 before_members (s ∷ more) ss = member s (before_members more ss)
@@ -35,6 +36,7 @@ before_members (s ∷ more) ss = member s (before_members more ss)
 abbrev pub with_fields : List (List ℕ × Pattern) → Result Fields SelFault → Result Fields SelFault
 with_fields front read = read >>= (λ fs. Ok (before_fields front fs))
 
+-- the members that are read, after those read before
 abbrev pub with_members : List Pattern → Result Members SelFault → Result Members SelFault
 with_members front read = read >>= (λ ss. Ok (before_members front ss))
 

@@ -35,6 +35,7 @@ none_fits : (es : Entries) (limit : Option ℕ) → no_limit_of es ≡ Ok limit 
 none_fits no_entries limit h = subst IsLimit (ok_same None limit h) tt
 none_fits (entry k d es) limit h = err_no_ok Keys h
 
+-- a depth that is read fits
 depth_fits : (n : ℤ) (limit : Option ℕ) → depth_of n ≡ Ok limit → IsLimit limit
 depth_fits (pos n) limit h = depth_below n limit h
 depth_fits (negsuc n) limit h = err_no_ok Depth h
@@ -81,6 +82,7 @@ module _ (n : ℕ) (read : Reader) (good : (around : Around) (d : Data) (s : Pat
       let below = good (behind_step around) one.0 inner.0 inner.1 in
       subst (λ s. MayBe (n + 1) around s) (ok_same (all inner.0) s inner.2) (record { edges = below.edges; nesting = omega (arith, below.nesting) })
 
+  -- `index`
   index_good : (around : Around) (es : Entries) (s : Pattern) → index_form read around es ≡ Ok s → MayBe (n + 1) around s
   index_good around es s h =
       let two = bind_ok (two_of (codes ">") (codes "i") es) (λ d. integer_of d.1 >>= (λ i. read (behind_step around) d.0 >>= (λ s. Ok (index i s)))) s h in
@@ -90,6 +92,7 @@ module _ (n : ℕ) (read : Reader) (good : (around : Around) (d : Data) (s : Pat
       let below = good (behind_step around) d.0 inner.0 inner.1 in
       subst (λ s. MayBe (n + 1) around s) (ok_same (index at.0 inner.0) s inner.2) (record { edges = below.edges; nesting = omega (arith, below.nesting) })
 
+  -- `range`
   range_good : (around : Around) (es : Entries) (s : Pattern) → range_form read around es ≡ Ok s → MayBe (n + 1) around s
   range_good around es s h =
       let three =
@@ -102,6 +105,7 @@ module _ (n : ℕ) (read : Reader) (good : (around : Around) (d : Data) (s : Pat
       let below = good (behind_step around) d.1 inner.0 inner.1 in
       subst (λ s. MayBe (n + 1) around s) {x = range first.0 last.0 inner.0} (ok_same (range first.0 last.0 inner.0) s inner.2) (record { edges = below.edges; nesting = omega (arith, below.nesting) })
 
+  -- a recursion, whose limit fits
   recursive_good : (around : Around) (es : Entries) (s : Pattern) → recursive_form read es ≡ Ok s → MayBe (n + 1) around s
   recursive_good around es s h =
       by_test (has_key (codes "!") es) (Err (Unsupported StopAt)) (two_of (codes "l") (codes ":>") es >>= rest) s (MayBe (n + 1) around s) (λ e. err_no_ok (Unsupported StopAt) e) (λ e.
@@ -124,6 +128,7 @@ module _ (n : ℕ) (read : Reader) (good : (around : Around) (d : Data) (s : Pat
       let behind = named_good around es more.0 more.1 in
       subst (λ fs. AreGuarded around fs × (fields_nesting fs ≤ n)) (ok_same (field k inner.0 more.0) fs more.2) ((below.edges, behind.0), omega (arith, below.nesting, behind.1))
 
+  -- `fields`
   fields_good : (around : Around) (es : Entries) (s : Pattern) → fields_form read around es ≡ Ok s → MayBe (n + 1) around s
   fields_good around es s h =
       let one = bind_ok (one_of (codes "f>") es) (λ d. entries_of_map d >>= (λ names. fields_read (read (behind_step around)) names >>= (λ fs. Ok (fields fs)))) s h in
@@ -142,6 +147,7 @@ module _ (n : ℕ) (read : Reader) (good : (around : Around) (d : Data) (s : Pat
       let behind = members_good around ds more.0 more.1 in
       subst (λ ss. EachGuarded around ss × (members_nesting ss ≤ n)) (ok_same (member inner.0 more.0) ss more.2) ((below.edges, behind.0), omega (arith, below.nesting, behind.1))
 
+  -- a union
   union_good : (around : Around) (d : Data) (s : Pattern) → union_form read around d ≡ Ok s → MayBe (n + 1) around s
   union_good around (list ds) s h =
       let inner = bind_ok (members_read (read around) ds) (λ ss. Ok (union ss)) s h in

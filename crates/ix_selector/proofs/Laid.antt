@@ -14,39 +14,48 @@ use Rattle.ix_selector.proofs.Spots.{at-grown}
 
 -- ---- rows
 
+-- a row ends no earlier than it starts
 pub row-rises : (ps : List Pattern) (m : ℕ) (ks : List ℕ) (n : ℕ) → AreRow ps m ks n → m ≤ n
 row-rises ps m [] n h = omega arith
 row-rises ps m (k ∷ ks) n h = let here = h.0 in let rest = row-rises ps (k + 1) ks n h.1 in omega arith
 
+-- a row of one place
 pub row-one : (ps : List Pattern) (m k n : ℕ) (s : Pattern) → at ps k ≡ s → k ≡ m + inside_of s → k + 1 ≡ n → AreRow ps m (k ∷ []) n
 row-one ps m k n s there is last = (is ∙ ap (λ r. m + inside_of r) (sym there), last)
 
+-- one more place at the end of a row
 pub row-push : (ps : List Pattern) (m : ℕ) (ks : List ℕ) (l k n : ℕ) (s : Pattern) → AreRow ps m ks l → at ps k ≡ s → k ≡ l + inside_of s → k + 1 ≡ n → AreRow ps m (ks ++ k ∷ []) n
 row-push ps m [] l k n s h there is last = row-one ps m k n s there (is ∙ ap (λ i. i + inside_of s) (sym h)) last
 row-push ps m (j ∷ ks) l k n s h there is last = (h.0, row-push ps (j + 1) ks l k n s h.1 there is last)
 
+-- a row stays as the table grows, since it reads only what was there
 row_grown : (xs ys : List Spot) (m : ℕ) (ks : List ℕ) (n : ℕ) → n ≤ length xs → AreRow (places_of xs) m ks n → AreRow (places_of (xs ++ ys)) m ks n
 row_grown xs ys m [] n le h = h
 row_grown xs ys m (k ∷ ks) n le h =
     let rest = row-rises (places_of xs) (k + 1) ks n h.1 in
     (h.0 ∙ ap (λ s. m + inside_of s) (sym (at-grown xs ys k (omega arith))), row_grown xs ys (k + 1) ks n le h.1)
 
+-- the same for a table that grows by spots
 pub row-kept : (xs ys : List Spot) (m : ℕ) (ks : List ℕ) (n : ℕ) → Grows xs ys → n ≤ length xs → AreRow (places_of xs) m ks n → AreRow (places_of ys) m ks n
 row-kept xs ys m ks n g le h = subst (λ l. AreRow (places_of l) m ks n) (sym g.grown) (row_grown xs g.more m ks n le h)
 
 -- ---- how many places a row has
 
+-- fields take as many places as their row
 fields_row : (ps : List Pattern) (m : ℕ) (fs : List (Vec ℕ × ℕ)) (n : ℕ) → AreRow ps m (map number_of fs) n → m + fields_size (fields_of (map (named_at ps) fs)) ≡ n
 fields_row ps m [] n h = omega arith
 fields_row ps m (f ∷ fs) n h = let here = h.0 in let rest = fields_row ps (f.1 + 1) fs n h.1 in omega arith
 
+-- and so do members
 members_row : (ps : List Pattern) (m : ℕ) (ks : List ℕ) (n : ℕ) → AreRow ps m ks n → m + members_size (members_of (map (at ps) ks)) ≡ n
 members_row ps m [] n h = omega arith
 members_row ps m (k ∷ ks) n h = let here = h.0 in let rest = members_row ps (k + 1) ks n h.1 in omega arith
 
+-- and one inner selector
 one_row : (ps : List Pattern) (m k n : ℕ) → AreRow ps m (k ∷ []) n → m + (inside_of (at ps k) + 1) ≡ n
 one_row ps m k n h = let here = h.0 in let rest = h.1 in omega arith
 
+-- so a spot is numbered by what is inside it
 pub row-inside : (ps : List Pattern) (m : ℕ) (x : Spot) (n : ℕ) → AreRow ps m (numbers_of x) n → m + inside_of (seen ps x) ≡ n
 row-inside ps m Matcher n h = omega arith
 row-inside ps m (All k) n h = one_row ps m k n h
@@ -59,6 +68,7 @@ row-inside ps m Edge n h = omega arith
 
 -- ---- tables
 
+-- a spot stays in place as the table grows
 laid_grown : (xs ys : List Spot) (n : ℕ) (x : Spot) → n ≤ length xs → IsLaid (places_of xs) n x → IsLaid (places_of (xs ++ ys)) n x
 laid_grown xs ys n x le h = record { first = h.first; row = row_grown xs ys h.first (numbers_of x) n le h.row }
 

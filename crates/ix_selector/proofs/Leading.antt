@@ -19,49 +19,62 @@ use Rattle.ix_selector.specs.Named.{IsNumbered, HasName}
 use Rattle.ix_selector.specs.Pairs.{frames, selector_at, EntersAt, around, IsPair, Stands, Same, LeadsTo, LeadsNowhere}
 use Rattle.ix_selector.proofs.Decides.{true-holds, holds-true}
 
+-- `all` enters only what its inner selector enters after the step
 pub out_all : {s : Pattern} {e : List Frame} {t : Step} {p : Path} → Enters (all s) e (t ∷ p) → Enters s e p
 out_all (below_all h) = h
 
+-- so it leads there
 pub all_leads : (s : Pattern) (t : Step) → LeadsTo (all s) t s
 all_leads s t = record { enters = λ e p. (λ h. out_all h, λ h. below_all h); guarded = λ a g. g }
 
+-- `index` enters only at its position
 out_index : {i : ℤ} {s : Pattern} {e : List Frame} {t : Step} {p : Path} → Enters (index i s) e (t ∷ p) → (is_at i t ≡ true) × Enters s e p
 out_index (below_index {n = n} h) = ((Decides-int_eq (pos n) (pos n)).1 refl, h)
 
+-- and there what its inner selector enters
 into_index : (i : ℤ) (s : Pattern) (e : List Frame) (t : Step) (p : Path) → is_at i t ≡ true → Enters s e p → Enters (index i s) e (t ∷ p)
 into_index i s e (key l) p is h = absurd (true≢false (sym is))
 into_index i s e (nth n) p is h = subst (λ z. Enters (index z s) e (nth n ∷ p)) (sym ((Decides-int_eq i (pos n)).0 is)) (below_index h)
 
+-- so it leads there
 pub index_leads : (i : ℤ) (s : Pattern) (t : Step) → is_at i t ≡ true → LeadsTo (index i s) t s
 index_leads i s t is = record { enters = λ e p. (λ h. (out_index h).1, λ h. into_index i s e t p is h); guarded = λ a g. g }
 
+-- and nowhere elsewhere
 pub index_nowhere : (i : ℤ) (s : Pattern) (t : Step) → is_at i t ≡ false → LeadsNowhere (index i s) t
 index_nowhere i s t is e p h = true≢false (sym (out_index h).0 ∙ is)
 
+-- `range` enters only within its bounds
 out_range : {i j : ℤ} {s : Pattern} {e : List Frame} {t : Step} {p : Path} → Enters (range i j s) e (t ∷ p) → (is_within i j t ≡ true) × Enters s e p
 out_range (below_range {n = n} low high h) = (and_from _ _ (holds-true _ low.le) (holds-true _ high.lt), h)
 
+-- and there what its inner selector enters
 into_range : (i j : ℤ) (s : Pattern) (e : List Frame) (t : Step) (p : Path) → is_within i j t ≡ true → Enters s e p → Enters (range i j s) e (t ∷ p)
 into_range i j s e (key l) p is h = absurd (true≢false (sym is))
 into_range i j s e (nth n) p is h =
     let both = and_parts (int_le i (pos n)) (int_lt (pos n) j) is in
     below_range (le_z_yes (true-holds _ both.0)) (lt_z_yes (true-holds _ both.1)) h
 
+-- so it leads there
 pub range_leads : (i j : ℤ) (s : Pattern) (t : Step) → is_within i j t ≡ true → LeadsTo (range i j s) t s
 range_leads i j s t is = record { enters = λ e p. (λ h. (out_range h).1, λ h. into_range i j s e t p is h); guarded = λ a g. g }
 
+-- and nowhere elsewhere
 pub range_nowhere : (i j : ℤ) (s : Pattern) (t : Step) → is_within i j t ≡ false → LeadsNowhere (range i j s) t
 range_nowhere i j s t is e p h = true≢false (sym (out_range h).0 ∙ is)
 
+-- a matcher enters no child
 pub matcher_nowhere : (t : Step) → LeadsNowhere matcher t
 matcher_nowhere t e p h = elim h [ ]
 
 -- ---- the pair behind a step
 
+-- one step more changes nothing inside a recursion that had one
 behind_around : (r : Option Recursion) → behind_step (around r) ≡ around r
 behind_around None = refl
 behind_around (Some r) = refl
 
+-- the place after the step is a pair of the table, in the same recursion
 pub behind-pair : (spots : List Spot) (x : Pair) (t : Step) (k : ℕ) → IsPair spots x → k < length spots → IsBeside spots x.place k → LeadsTo (selector_at spots x) t (at (places_of spots) k) → IsPair spots (record { place = k; recursion = x.recursion })
 behind-pair spots x t k is within beside leads = record {
   within = within;
@@ -70,23 +83,27 @@ behind-pair spots x t k is within beside leads = record {
   stands = in_same beside is.stands;
 }
 
+-- and enters what the pair before enters after the step
 pub behind-enters : (spots : List Spot) (x : Pair) (t : Step) (k : ℕ) → LeadsTo (selector_at spots x) t (at (places_of spots) k) → Same (EntersAt spots (record { place = k; recursion = x.recursion })) (λ p. EntersAt spots x (t ∷ p))
 behind-enters spots x t k leads p = let both = leads.enters (frames (places_of spots) x.recursion) p in (both.1, both.0)
 
 -- ---- what a test chooses
 
+-- what `then_some` returns holds if the test does
 pub chosen-some : (P : ℕ → Type 0) (b : Bool) (k : ℕ) (o : Option ℕ) → o ≡ then_some b k → (b ≡ true → P k) → IfSome o P
 chosen-some P b k o is h = subst (λ q. IfSome q P) (sym is) (by b h) where
   by : (b : Bool) → (b ≡ true → P k) → IfSome (then_some b k) P
   by true h = h refl
   by false h = tt
 
+-- and `None` means that the test failed
 pub chosen-none : (Q : Type 0) (b : Bool) (k : ℕ) (o : Option ℕ) → o ≡ then_some b k → (b ≡ false → Q) → IfNone o Q
 chosen-none Q b k o is h = subst (λ q. IfNone q Q) (sym is) (by b h) where
   by : (b : Bool) → (b ≡ false → Q) → IfNone (then_some b k) Q
   by true h = tt
   by false h = h refl
 
+-- a consequence in the case of `None`
 pub if-none : (P Q : Type 0) (o : Option ℕ) → (P → Q) → IfNone o P → IfNone o Q
 if-none P Q None f h = f h
 if-none P Q (Some k) f h = tt

@@ -12,6 +12,7 @@ use Rattle.ix_selector.specs.Behind.{deeper_around, both, put, merged}
 
 -- ---- the greater depth
 
+-- of three depths the last two may change places
 pub deeper-swap : (a b c : Option ℕ) → deeper (deeper a b) c ≡ deeper (deeper a c) b
 deeper-swap None b c = refl
 deeper-swap (Some a) None None = refl
@@ -19,12 +20,14 @@ deeper-swap (Some a) None (Some c) = refl
 deeper-swap (Some a) (Some b) None = refl
 deeper-swap (Some a) (Some b) (Some c) = ap Some (omega arith)
 
+-- and so may two
 pub deeper-flip : (a b : Option ℕ) → deeper a b ≡ deeper b a
 deeper-flip None None = refl
 deeper-flip None (Some b) = refl
 deeper-flip (Some a) None = refl
 deeper-flip (Some a) (Some b) = ap Some (omega arith)
 
+-- the same of recursions
 deeper_around_swap : (e d c : List Frame) → deeper_around (deeper_around e d) c ≡ deeper_around (deeper_around e c) d
 deeper_around_swap [] d c = refl
 deeper_around_swap (f ∷ e) [] [] = refl
@@ -38,19 +41,23 @@ both-swap x y z = ap (λ e. record { selector = x.selector; around = e; number =
 
 -- ---- a place put among others
 
+-- a place before the first one is put in front
 pub put-below : (x y : Place) (ys : List Place) → x.number < y.number → put x (y ∷ ys) ≡ x ∷ y ∷ ys
 put-below x y ys h = ap (λ b. if b then x ∷ y ∷ ys else (if nat_lt y.number x.number then y ∷ put x ys else both y x ∷ ys)) (lt-ltb x.number y.number h)
 
+-- a place after the first one is put into the rest
 pub put-above : (x y : Place) (ys : List Place) → y.number < x.number → put x (y ∷ ys) ≡ y ∷ put x ys
 put-above x y ys h =
     ap (λ b. if b then x ∷ y ∷ ys else (if nat_lt y.number x.number then y ∷ put x ys else both y x ∷ ys)) (le-ltb x.number y.number (omega arith))
     ∙ ap (λ b. if b then y ∷ put x ys else both y x ∷ ys) (lt-ltb y.number x.number h)
 
+-- a place that is there already is joined with it
 pub put-beside : (x y : Place) (ys : List Place) → x.number ≡ y.number → put x (y ∷ ys) ≡ both y x ∷ ys
 put-beside x y ys h =
     ap (λ b. if b then x ∷ y ∷ ys else (if nat_lt y.number x.number then y ∷ put x ys else both y x ∷ ys)) (le-ltb x.number y.number (omega arith))
     ∙ ap (λ b. if b then y ∷ put x ys else both y x ∷ ys) (le-ltb y.number x.number (omega arith))
 
+-- numbers are ordered
 pub less-same-greater : (a b : ℕ) → (a < b) ⊎ ((a ≡ b) ⊎ (b < a))
 less-same-greater a b = by (nat_lt a b) refl (nat_lt b a) refl where
   by : (s : Bool) → nat_lt a b ≡ s → (t : Bool) → nat_lt b a ≡ t → (a < b) ⊎ ((a ≡ b) ⊎ (b < a))
@@ -62,6 +69,7 @@ less-same-greater a b = by (nat_lt a b) refl (nat_lt b a) refl where
 abbrev pub Alike : Place → Place → Type 0
 Alike x y = x.number ≡ y.number → both x y ≡ both y x
 
+-- so two places may be put in either order
 pub put-swap : (x y : Place) (zs : List Place) → Alike x y → put x (put y zs) ≡ put y (put x zs)
 put-swap x y [] alike =
     ⊎_elim
@@ -168,6 +176,7 @@ dropped [] i = []
 dropped (z ∷ zs) zero = zs
 dropped (z ∷ zs) (suc i) = z ∷ dropped zs i
 
+-- replacing an element is putting it among the others
 put_set : (zs : List Place) (i : ℕ) (x : Place) → i < length zs → AlikeAll x zs → merged (set zs i x) ≡ put x (merged (dropped zs i))
 put_set [] i x h alike = absurd (omega arith)
 put_set (z ∷ zs) zero x h alike = refl
@@ -187,18 +196,22 @@ merged_exchanged (z ∷ zs) (suc i) (suc j) x y a b same alike ax ay = ap (put z
 pub record AreAlike (xs : List Place) : Type 0 where
   pub at : (x y : Place) → Contains xs x → Contains xs y → Alike x y
 
+-- a place of a list whose places are alike is alike to all of a part of it
 alike_each : (x : Place) (xs ys : List Place) → AreAlike xs → Contains xs x → ((y : Place) → Contains ys y → Contains xs y) → AlikeAll x ys
 alike_each x xs [] alike here all = tt
 alike_each x xs (y ∷ ys) alike here all = (alike.at x y here (all y (0, omega arith, refl)), alike_each x xs ys alike here (λ z h. all z (suc h.0, let within = h.1 in omega arith, h.2)))
 
+-- and to all of it
 pub alike-all : (x : Place) (xs : List Place) → AreAlike xs → Contains xs x → AlikeAll x xs
 alike-all x xs alike here = alike_each x xs xs alike here (λ y h. h)
 
+-- and so are those of a permutation
 alike_permuted : (xs ys : List Place) → IsPermutation xs ys → AreAlike xs → AreAlike ys
 alike_permuted xs ys moved alike = record {
   at = λ x y a b. alike.at x y (Contains-permutation ys xs x (IsPermutation-sym xs ys moved) a) (Contains-permutation ys xs y (IsPermutation-sym xs ys moved) b);
 }
 
+-- swapping two elements changes nothing of what is merged
 merged_swap : (l : List Place) (i j : ℕ) → i < length l → j < length l → AreAlike l → merged (swap l i j) ≡ merged l
 merged_swap [] i j a b alike = refl
 merged_swap (d ∷ ds) i j a b alike =

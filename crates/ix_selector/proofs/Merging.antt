@@ -20,21 +20,25 @@ use Rattle.ix_selector.proofs.Reaching.{some-push, some-permutation}
 
 -- ---- what a pair keeps at the same place in the same recursion
 
+-- recursions with one sequence surround alike
 around-same : (r q : Option Recursion) → sequence_of q ≡ sequence_of r → around r ≡ around q
 around-same None None h = refl
 around-same None (Some q) h = absurd cc
 around-same (Some r) None h = absurd cc
 around-same (Some r) (Some q) h = refl
 
+-- they have one sequence
 sequence-same : (r q : Recursion) → Some q.sequence ≡ Some r.sequence → r.sequence ≡ q.sequence
 sequence-same r q h = cc
 
+-- and it is one of the table
 is_sequence-same : (spots : List Spot) (r q : Option Recursion) → sequence_of q ≡ sequence_of r → IsSequence spots r → IsSequence spots q
 is_sequence-same spots None None h is = tt
 is_sequence-same spots None (Some q) h is = absurd cc
 is_sequence-same spots (Some r) None h is = absurd cc
 is_sequence-same spots (Some r) (Some q) h is = subst (λ n. (n < length spots) × IsGuarded unguarded (at (places_of spots) n)) (sequence-same r q h) is
 
+-- another depth at the same place is a pair of the table too
 pub pair-at : (spots : List Spot) (x y : Pair) → IsAt x y → IsPair spots x → IsPair spots y
 pair-at spots x y same is = record {
   within = subst (λ n. n < length spots) (sym same.place) is.within;
@@ -45,9 +49,11 @@ pair-at spots x y same is = record {
   stands = subst (λ n. StandsIn spots n (sequence_of y.recursion)) (sym same.place) (subst (λ q. StandsIn spots x.place q) (sym same.sequence) is.stands);
 }
 
+-- and is a matcher or explorer too
 pub standing-at : (spots : List Spot) (x y : Pair) → IsAt x y → IsStanding spots x → IsStanding spots y
 standing-at spots x y same is = subst (λ n. IsStanding spots (record { place = n; recursion = y.recursion })) (sym same.place) is
 
+-- and has no edge before a step either
 pub no_edge-at : (spots : List Spot) (x y : Pair) → IsAt x y → HasNoEdge spots x → HasNoEdge spots y
 no_edge-at spots x y same is = subst (λ n. HasNoEdge spots (record { place = n; recursion = y.recursion })) (sym same.place) is
 
@@ -55,17 +61,21 @@ no_edge-at spots x y same is = subst (λ n. HasNoEdge spots (record { place = n;
 of_all : (P : Pair → Type 0) → ((x y : Pair) → IsAt x y → P x → P y) → (xs ys : List Pair) → All (IsOf xs) ys → All P xs → All P ys
 of_all P keeps xs ys of all = All-weaker (IsOf xs) P (λ y is. keeps is.pair y is.at (All-contains P xs is.pair all is.among)) ys of
 
+-- pairs at places of pairs of the table are such pairs
 pub pairs-of : (spots : List Spot) (xs ys : List Pair) → All (IsOf xs) ys → All (IsPair spots) xs → All (IsPair spots) ys
 pairs-of spots = of_all (IsPair spots) (pair-at spots)
 
+-- and matchers or explorers, if those are
 pub standing-of : (spots : List Spot) (xs ys : List Pair) → All (IsOf xs) ys → All (IsStanding spots) xs → All (IsStanding spots) ys
 standing-of spots = of_all (IsStanding spots) (standing-at spots)
 
+-- and without an edge before a step, if those are
 pub no_edge-of : (spots : List Spot) (xs ys : List Pair) → All (IsOf xs) ys → All (HasNoEdge spots) xs → All (HasNoEdge spots) ys
 no_edge-of spots = of_all (HasNoEdge spots) (no_edge-at spots)
 
 -- ---- one pair for two
 
+-- joining keeps the sequence
 recursion_at : (a b c : Option Recursion) → IsDeeper a b c → sequence_of c ≡ sequence_of a
 recursion_at None None None d = refl
 recursion_at None None (Some c) d = absurd d
@@ -74,6 +84,7 @@ recursion_at (Some a) None c d = absurd d
 recursion_at (Some a) (Some b) None d = absurd d
 recursion_at (Some a) (Some b) (Some c) d = ap Some d.1
 
+-- a joined pair is at the same place
 pub joined-at : (a b c : Pair) → IsJoined a b c → IsAt a c
 joined-at a b c is = record { place = is.1; sequence = recursion_at a.recursion b.recursion c.recursion is.2 }
 
@@ -103,6 +114,7 @@ frames_joined places s (Some a) (Some b) (Some c) d p =
           h)),
     )
 
+-- and enters what either enters
 pub joined-enters : (spots : List Spot) (a b c : Pair) → IsJoined a b c → Joins (EntersAt spots c) (EntersAt spots a) (EntersAt spots b)
 joined-enters spots a b c is p =
     let places = places_of spots in
@@ -123,6 +135,7 @@ joined-enters spots a b c is p =
 
 -- ---- pairs put behind others
 
+-- each pair is at its own place
 itself-of : (xs : List Pair) (x : Pair) → Contains xs x → IsOf xs x
 itself-of xs x among = record { pair = x; among = among; at = record { place = refl; sequence = refl } }
 
@@ -130,6 +143,7 @@ itself-of xs x among = record { pair = x; among = among; at = record { place = r
 pub of-front : (xs : List Pair) (x : Pair) → All (IsOf (xs ++ x ∷ [])) xs
 of-front xs x = All-weaker (Contains xs) (IsOf (xs ++ x ∷ [])) (λ y among. itself-of _ y (Contains-append_left xs (x ∷ []) y among)) xs (All-contains_itself xs)
 
+-- and so is the last
 pub of-last : (xs : List Pair) (x : Pair) → IsOf (xs ++ x ∷ []) x
 of-last xs x = itself-of (xs ++ x ∷ []) x (Contains-push xs x)
 
@@ -149,12 +163,14 @@ pub record Merged (rs xs : List Pair) : Type 0 where
 at-twice : (x y z : Pair) → IsAt x y → IsAt y z → IsAt x z
 at-twice x y z a b = record { place = b.place ∙ a.place; sequence = b.sequence ∙ a.sequence }
 
+-- being at a place of some is transitive
 of-chain : (xs zs ys : List Pair) → All (IsOf zs) xs → All (IsOf xs) ys → All (IsOf zs) ys
 of-chain xs zs ys inner outer =
     All-weaker (IsOf xs) (IsOf zs) (λ y is.
     let inside = All-contains (IsOf zs) xs is.pair inner is.among in
     record { pair = inside.pair; among = inside.among; at = at-twice inside.pair is.pair y inside.at is.at }) ys outer
 
+-- one more pair in both lists
 of-both : (rs front : List Pair) (x : Pair) → All (IsOf front) rs → All (IsOf (front ++ x ∷ [])) (rs ++ x ∷ [])
 of-both rs front x all = All-push (IsOf (front ++ x ∷ [])) rs x (of-more front (front ++ x ∷ []) rs (λ y among. Contains-append_left front (x ∷ []) y among) all) (of-last front x)
 
@@ -236,10 +252,12 @@ refill-permutation xs was ws now same moved is =
 
 -- ---- places rise
 
+-- replacing the last pair at its place keeps the order
 rising-last : (n : ℕ) (front : List Pair) (a b : Pair) → b.place ≡ a.place → AreRisingFrom n (front ++ a ∷ []) → AreRisingFrom n (front ++ b ∷ [])
 rising-last n [] a b same h = (subst (λ k. n ≤ k) (sym same) h.0, tt)
 rising-last n (x ∷ front) a b same h = (h.0, rising-last (x.place + 1) front a b same h.1)
 
+-- a pair with a greater place may be appended
 rising-push : (n : ℕ) (front : List Pair) (a x : Pair) → a.place < x.place → AreRisingFrom n (front ++ a ∷ []) → AreRisingFrom n ((front ++ a ∷ []) ++ x ∷ [])
 rising-push n [] a x above h = (h.0, (omega arith, tt))
 rising-push n (y ∷ front) a x above h = (h.0, rising-push (y.place + 1) front a x above h.1)
@@ -272,6 +290,7 @@ sorted-up_to rs xs i x within is sorted agree all = All-weaker (IsOf (take i xs)
         λ same. of.at.sequence ∙ agree.at of.pair x front inside (sym of.at.place ∙ same),
       )
 
+-- agreeing doesn't depend on the order
 pub agree-permutation : (xs ys : List Pair) → IsPermutation xs ys → Agree xs → Agree ys
 agree-permutation xs ys moved agree = record {
   at = λ x y a b. agree.at x y (Contains-permutation ys xs x (IsPermutation-sym xs ys moved) a) (Contains-permutation ys xs y (IsPermutation-sym xs ys moved) b);
@@ -288,6 +307,7 @@ pairs-agree spots xs once all = record {
 
 -- ---- there are no more pairs than places
 
+-- rising numbers below a bound are few
 few_rising : (n m : ℕ) (xs : List Pair) → AreRisingFrom n xs → All (λ (x : Pair). x.place < m) xs → n ≤ m → length xs + n ≤ m
 few_rising n m [] h below le = omega arith
 few_rising n m (x ∷ xs) h below le =
@@ -296,6 +316,7 @@ few_rising n m (x ∷ xs) h below le =
     let rest = few_rising (x.place + 1) m xs h.1 (All-tail (λ (y : Pair). y.place < m) x xs below) (omega arith) in
     omega arith
 
+-- so there are at most as many pairs as places
 pub few-pairs : (spots : List Spot) (xs : List Pair) → ArePlacesRising xs → All (IsPair spots) xs → length xs ≤ length spots
 few-pairs spots xs h all =
     let few = few_rising 0 (length spots) xs h (All-weaker (IsPair spots) (λ (x : Pair). x.place < length spots) (λ x is. is.within) xs all) (omega arith) in

@@ -22,6 +22,7 @@ use Rattle.ix_selector.proofs.Rests.{Enter, iff_twice, iff_same, iff_back, eithe
 
 -- ---- the sequences that edges enter again
 
+-- a re-entered sequence enters what its edge enters
 limit_enter : (s : Pattern) (n : ℕ) (d : Option ℕ) (p : Path) → (Enter (restarted s n d) p ↔ Enters edge (record { sequence = s; depth = d } ∷ []) p)
 limit_enter s n None p = iff_twice either-never (λ h. at_edge h, λ h. edge-inside h)
 limit_enter s n (Some d) p = by (nat_le 2 d) refl where
@@ -29,10 +30,12 @@ limit_enter s n (Some d) p = by (nat_le 2 d) refl where
   by true is = iff_twice either-never (λ h. at_edge_within (leb-true 2 d is) h, λ h. (edge-inside_within h).1)
   by false is = (λ h. absurd h, λ h. true≢false (sym (le-leb 2 d (edge-inside_within h).0) ∙ is))
 
+-- the same by whether there is a recursion
 edge_enter : (q : Inner) (d : Option ℕ) (p : Path) → (Enter (innermost (frames_in q d) (number_in q)) p ↔ Enters edge (frames_in q d) p)
 edge_enter None d p = (λ h. absurd h, λ h. absurd (edge-nowhere h))
 edge_enter (Some c) d p = limit_enter c.1 c.0 d p
 
+-- the test finds edges alone
 is_an_edge : (s : Pattern) → is_edge s ≡ true → s ≡ edge
 is_an_edge matcher h = absurd (true≢false (sym h))
 is_an_edge (all s) h = absurd (true≢false (sym h))
@@ -48,6 +51,7 @@ abbrev IsStart : Place → Type 0
 IsStart x = IsGuarded unguarded x.selector
 
 module _ (whole : Pattern) where
+  -- the same of a place that is an edge
   place_enter : (x : Place) (is : IsIn whole x) → is_edge x.selector ≡ true → (p : Path) → (Enter (innermost x.around x.sequence) p ↔ Enters x.selector x.around p)
   place_enter x is edge_is p =
       let listed : innermost x.around x.sequence ≡ innermost (frames_in is.inner is.depth) (number_in is.inner) = λ i. innermost (is.around i) (is.sequence i) in
@@ -57,6 +61,7 @@ module _ (whole : Pattern) where
         λ h. subst (λ e. Enters edge e p) is.around (subst (λ s. Enters s x.around p) (is_an_edge x.selector edge_is) h),
       ))
 
+  -- the first two of three cases may change places
   swapped : {A B C : Type 0} → ((A ⊎ (B ⊎ C)) ↔ (B ⊎ (A ⊎ C)))
   swapped {A} {B} {C} = (
     λ h. ⊎_elim (λ (a : A). inr (inl a)) (λ (r : B ⊎ C). ⊎_elim (λ (b : B). inl b) (λ (c : C). inr (inr c)) r) h,
@@ -74,12 +79,14 @@ module _ (whole : Pattern) where
         (iff_twice swapped (either_iff iff_same (iff_back (enter-append (innermost x.around x.sequence) (again xs) p))))
     by false is rest = iff_twice (either_iff iff_same rest) either-grouped
 
+  -- a sequence at its start is a place of the whole
   start_in : (c : ℕ × Pattern) (d : Option ℕ) → Home whole (Some c) → Each (λ x. IsIn whole x × IsStart x) (started c.1 c.0 d)
   start_in c d home = (
     (record { first = home.0; inner = Some c; depth = d; up = home.2; home = home; guard = guarded-later c.1 home.3; number = home.1; around = refl; sequence = refl }, home.3),
     tt,
   )
 
+  -- and so is one that is re-entered
   limit_in : (c : ℕ × Pattern) (d : Option ℕ) → Home whole (Some c) → Each (λ x. IsIn whole x × IsStart x) (restarted c.1 c.0 d)
   limit_in c None home = start_in c None home
   limit_in c (Some d) home = by (nat_le 2 d) where
@@ -87,10 +94,12 @@ module _ (whole : Pattern) where
     by true = start_in c (Some (d - 1)) home
     by false = tt
 
+  -- the same by whether there is a recursion
   inner_in : (q : Inner) (d : Option ℕ) → Home whole q → Each (λ x. IsIn whole x × IsStart x) (innermost (frames_in q d) (number_in q))
   inner_in None d home = tt
   inner_in (Some c) d home = limit_in c d home
 
+  -- place by place
   again-in : (xs : List Place) → Each (IsIn whole) xs → Each (λ x. IsIn whole x × IsStart x) (again xs)
   again-in [] h = tt
   again-in (x ∷ xs) h = by (is_edge x.selector) (again-in xs h.1) where
@@ -103,10 +112,12 @@ module _ (whole : Pattern) where
 
   -- ---- one for all ways to a place
 
+  -- joining recursions joins their depths
   around_both : (q : Inner) (d e : Option ℕ) → deeper_around (frames_in q d) (frames_in q e) ≡ frames_in q (deeper d e)
   around_both None d e = refl
   around_both (Some c) d e = refl
 
+  -- a selector with the greater depth enters what it enters with either
   deeper_enter : (s : Pattern) (q : Inner) (d e : Option ℕ) (p : Path) → (Enters s (frames_in q (deeper d e)) p ↔ (Enters s (frames_in q d) p ⊎ Enters s (frames_in q e) p))
   deeper_enter s None d e p = (λ h. inl h, λ h. ⊎_elim (λ (a : Enters s [] p). a) (λ (b : Enters s [] p). b) h)
   deeper_enter s (Some c) d e p = (
@@ -122,6 +133,7 @@ module _ (whole : Pattern) where
     is : IsIn whole (both y x)
     enters : (p : Path) → (Enters y.selector (deeper_around y.around x.around) p ↔ (Enters y.selector y.around p ⊎ Enters x.selector x.around p))
 
+  -- two places with one number are one place, since the numbers inside the whole are distinct
   join : (y x : Place) → IsIn whole y → IsIn whole x → x.number ≡ y.number → Joined y x
   join y x b a same =
       let one = one-place y.selector x.selector b.first a.first b.inner a.inner (b.up y.selector b.first b.inner itself) (a.up x.selector a.first a.inner itself) (sym b.number ∙ sym same ∙ a.number) in
@@ -142,6 +154,7 @@ module _ (whole : Pattern) where
     such : Each (λ y. P y.selector) (put x ys)
     enters : (p : Path) → (Enter (put x ys) p ↔ (Enters x.selector x.around p ⊎ Enter ys p))
 
+  -- putting a place among others keeps what it is, and what they enter
   put-in : (P : Pattern → Type 0) (x : Place) (ys : List Place) → IsIn whole x → P x.selector → Each (IsIn whole) ys → Each (λ y. P y.selector) ys → Put P x ys
   put-in P x [] a pa ys ps = record { each = (a, tt); such = (pa, tt); enters = λ p. iff_same }
   put-in P x (y ∷ ys) a pa bs ps =
@@ -174,6 +187,7 @@ module _ (whole : Pattern) where
     such : Each (λ y. P y.selector) (merged xs)
     enters : (p : Path) → (Enter (merged xs) p ↔ Enter xs p)
 
+  -- place by place
   merged-in : (P : Pattern → Type 0) (xs : List Place) → Each (IsIn whole) xs → Each (λ y. P y.selector) xs → Merges P xs
   merged-in P [] h ps = record { each = tt; such = tt; enters = λ p. iff_same }
   merged-in P (x ∷ xs) h ps =
@@ -183,6 +197,7 @@ module _ (whole : Pattern) where
 
   -- ---- where places lead
 
+  -- where a place leads, by what it is in the whole
   leads_from_is : (x : Place) (is : IsIn whole x) → leads_from x ≡ leads x.selector is.first (frames_in is.inner is.depth) (number_in is.inner)
   leads_from_is x is = λ i. leads x.selector (before_is whole x is i) (is.around i) (is.sequence i)
 
@@ -192,6 +207,7 @@ module _ (whole : Pattern) where
     no_edge : standing (all_lead starts) ≡ all_lead starts
     enters : (p : Path) → (Enter (all_lead starts) p ↔ Enter starts p)
 
+  -- where starts lead are places of the whole, and enter the same
   lead-on : (xs : List Place) → Each (IsIn whole) xs → Each IsStart xs → Leading xs
   lead-on [] h g = record { each = tt; lead = tt; no_edge = refl; enters = λ p. iff_same }
   lead-on (x ∷ xs) h g =
@@ -208,6 +224,7 @@ module _ (whole : Pattern) where
     lead : Each IsLead (all_lead_behind xs t)
     enters : (p : Path) → (Enter (all_lead_behind xs t) p ↔ Enter xs (t ∷ p))
 
+  -- where places lead after a step are places of the whole, and enter what those enter after it
   step-on : (xs : List Place) (t : Step) → Each (IsIn whole) xs → Each (λ x. Stands x.selector) xs → Stepping xs t
   step-on [] t h g = record { each = tt; lead = tt; enters = λ p. iff_same }
   step-on (x ∷ xs) t h g =
@@ -235,6 +252,7 @@ module _ (whole : Pattern) where
     pub rest : IsRest ys
     pub enters : (p : Path) → (Enter ys p ↔ Enter xs (t ∷ p))
 
+  -- so the residual after a step is as it should be
   pub behind-rest : (xs : List Place) (t : Step) → IsRest xs → IsNext xs (residual_behind xs t) t
   unfolding residual_behind
   behind-rest xs t r =
@@ -267,6 +285,7 @@ module _ (whole : Pattern) where
     pub rest : IsRest ys
     pub enters : (p : Path) → (Enter ys p ↔ Enters s [] p)
 
+  -- and so is that at the root
   pub start-rest : IsGuarded outside whole → IsStartOf whole (residual_of whole)
   unfolding residual_of
   start-rest g =
@@ -281,6 +300,7 @@ module _ (whole : Pattern) where
     pub rest : IsRest ys
     pub enters : (q : Path) → (Enter ys q ↔ Enter xs (p ++ q))
 
+  -- step by step along a path
   pub along-rest : (xs : List Place) (p : Path) → IsRest xs → IsAlong xs (residual_along xs p) p
   along-rest xs [] r = record { rest = r; enters = λ q. iff_same }
   along-rest xs (t ∷ p) r =
@@ -288,6 +308,7 @@ module _ (whole : Pattern) where
       let more = along-rest (residual_behind xs t) p one.rest in
       record { rest = more.rest; enters = λ q. iff_twice (more.enters q) (one.enters (p ++ q)) }
 
+  -- so the residual at a path enters what the selector enters from there
   pub at-rest : IsGuarded outside whole → (p : Path) → IsRest (residual_at whole p) × ((q : Path) → (Enter (residual_at whole p) q ↔ Enters whole [] (p ++ q)))
   unfolding residual_at
   at-rest g p =
@@ -297,6 +318,7 @@ module _ (whole : Pattern) where
 
   -- ---- by the tests
 
+  -- the two ways to say that one of some places enters
   enter_among : (xs : List Place) (p : Path) → (Enter xs p ↔ ResidualEnters xs p)
   enter_among xs p = (into xs, λ h. out xs h.among h.enters) where
     into : (xs : List Place) → Enter xs p → ResidualEnters xs p
@@ -312,6 +334,7 @@ module _ (whole : Pattern) where
     out (x ∷ xs) here h = inl h
     out (x ∷ xs) (there n) h = inr (out xs n h)
 
+  -- places of the whole are guarded, as the test of residuals asks
   are_places : (xs : List Place) → Each (IsIn whole) xs → ArePlaces xs
   are_places [] h = tt
   are_places (x ∷ xs) h = (place h.0, are_places xs h.1) where
@@ -322,6 +345,7 @@ module _ (whole : Pattern) where
     place : IsIn whole x → IsGuarded (around_of x.around) x.selector × FramesGuarded x.around
     place is = subst (λ e. IsGuarded (around_of e) x.selector × FramesGuarded e) (sym is.around) (by x.selector is.inner is.depth is.guard is.home)
 
+  -- the same by the test: the law `LeavesTheRest`
   pub rest-tested : IsSelector whole → (p q : Path) → residual_enters (residual_at whole p) q ≡ is_entered whole (p ++ q)
   rest-tested selector p q =
       let r = at-rest selector.edges p in
@@ -331,10 +355,12 @@ module _ (whole : Pattern) where
 
   -- ---- the same rest
 
+  -- recursions with equal depths are equal
   same_depth : (q : Inner) (d e : Option ℕ) → pointwise (option_eq nat_eq) (depths (frames_in q d)) (depths (frames_in q e)) ≡ true → frames_in q d ≡ frames_in q e
   same_depth None d e h = refl
   same_depth (Some c) d e h = ap (λ n. record { sequence = c.1; depth = n } ∷ []) (depth-equal d e (and_parts (option_eq nat_eq d e) true h).0)
 
+  -- places of the whole that compare as equal are equal
   one_same : (x y : Place) → IsIn whole x → IsIn whole y → same_place x y ≡ true → x ≡ y
   one_same x y a b h =
       let parts = and_parts (nat_eq x.number y.number) (option_eq nat_eq x.sequence y.sequence && pointwise (option_eq nat_eq) (depths x.around) (depths y.around)) h in
@@ -347,6 +373,7 @@ module _ (whole : Pattern) where
       let sequence : x.sequence ≡ y.sequence = a.sequence ∙ ap number_in one.2 ∙ sym b.sequence in
       λ i. record { selector = one.0 i; around = around i; number = number i; sequence = sequence i }
 
+  -- place by place
   pub all_same : (xs ys : List Place) → Each (IsIn whole) xs → Each (IsIn whole) ys → same_residual xs ys ≡ true → xs ≡ ys
   unfolding same_residual
   all_same [] [] a b h = refl
@@ -358,6 +385,7 @@ module _ (whole : Pattern) where
       let others : xs ≡ ys = all_same xs ys a.1 b.1 parts.1 in
       λ i. first i ∷ others i
 
+  -- so equal residuals enter the same: the law `SameEntersTheSame`
   pub same-rest : IsSelector whole → (p q : Path) → same_residual (residual_at whole p) (residual_at whole q) ≡ true → (r : Path) → is_entered whole (p ++ r) ≡ is_entered whole (q ++ r)
   same-rest selector p q h r =
       let same : residual_at whole p ≡ residual_at whole q = all_same (residual_at whole p) (residual_at whole q) (at-rest selector.edges p).0.each (at-rest selector.edges q).0.each h in
@@ -365,10 +393,12 @@ module _ (whole : Pattern) where
 
   -- ---- whether anything is left
 
+  -- if no place is entered, there is none
   none_left : (xs : List Place) → Each (λ x. Stands x.selector) xs → (Enter xs [] → ⊥) → xs ≡ []
   none_left [] h none = refl
   none_left (x ∷ xs) h none = absurd (none (inl (stands-enters x.selector x.around h.0)))
 
+  -- nothing is left exactly if the path isn't entered: the law `NothingIsLeft`
   pub left-entered : IsSelector whole → (p : Path) → (is_entered whole p ≡ false ↔ residual_at whole p ≡ [])
   left-entered selector p =
       let r = at-rest selector.edges p in

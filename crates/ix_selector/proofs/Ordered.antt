@@ -15,15 +15,18 @@ use Rattle.ix_selector.proofs.Guarded.{err_no_ok, bind_ok, ok_same, by_test, mat
 
 -- ---- what stands inside what has a spelling has one
 
+-- the keys of a map that has a spelling rise
 map-rising : (d : Data) (es : Entries) → entries_of_map d ≡ Ok es → IsSpellable d → AreRising es
 map-rising (map fs) es h is = subst AreRising (ok_same fs es h) is.1
 map-rising other es h is = err_no_ok Kind h
 
+-- the value of the only key has a spelling
 one-spellable : (key : List ℕ) (es : Entries) (d : Data) → one_of key es ≡ Ok d → AreRising es → IsSpellable d
 one-spellable key no_entries d h is = err_no_ok Keys h
 one-spellable key (entry k e no_entries) d h is = by_test (bytes_eq k key) (Ok e) (Err Keys) d (IsSpellable d) (λ same. subst IsSpellable (ok_same e d same) is.1) (λ no. err_no_ok Keys no) h
 one-spellable key (entry k e (entry l f fs)) d h is = err_no_ok Keys h
 
+-- and so have those of two keys
 two-spellable : (first second : List ℕ) (es : Entries) (d : Data × Data) → two_of first second es ≡ Ok d → AreRising es → IsSpellable d.0 × IsSpellable d.1
 two-spellable first second no_entries d h is = err_no_ok Keys h
 two-spellable first second (entry k e more) d h is =
@@ -39,6 +42,7 @@ two-spellable first second (entry k e more) d h is =
       paired (Ok f) found same = let both = ok_same (e, f) d same in (subst (λ (x : Data × Data). IsSpellable x.0) both is.1, subst (λ (x : Data × Data). IsSpellable x.1) both (one-spellable second more f found is.3))
       paired (Err g) found same = err_no_ok g same
 
+-- and the selector of a range
 three-spellable : (first second third : List ℕ) (es : Entries) (d : Data × Data × Data) → three_of first second third es ≡ Ok d → AreRising es → IsSpellable d.1
 three-spellable first second third no_entries d h is = err_no_ok Keys h
 three-spellable first second third (entry k e more) d h is =
@@ -53,10 +57,12 @@ three-spellable first second third (entry k e more) d h is =
 
 -- ---- names that rise one by one are each before all behind them
 
+-- a smaller key is before all that a greater one is before
 rises-further : (k l : List ℕ) (es : Entries) → key_cmp k l ≡ Less → Rises l es → Rises k es
 rises-further k l no_entries before rises = tt
 rises-further k l (entry m d es) before rises = key_total.trans k l m before rises
 
+-- the names that are read have the keys' order
 before-all : (read : Data → Result Pattern SelFault) (k : List ℕ) (es : Entries) (fs : Fields) → fields_read read es ≡ Ok fs → Rises k es → AreRising es → IsBeforeAll k fs
 before-all read k no_entries fs h rises rising = subst (IsBeforeAll k) (ok_same no_fields fs h) tt
 before-all read k (entry l d es) fs h rises rising =
@@ -66,12 +72,14 @@ before-all read k (entry l d es) fs h rises rising =
 
 -- one level, where the levels below are as they should be
 module _ (read : Reader) (good : (around : Around) (d : Data) (s : Pattern) → IsSpellable d → read around d ≡ Ok s → IsOrdered s) where
+  -- `all`, if what is inside is ordered
   all_ordered : (around : Around) (es : Entries) (s : Pattern) → AreRising es → all_read read around es ≡ Ok s → IsOrdered s
   all_ordered around es s is h =
       let one = bind_ok (one_of (codes ">") es) (λ d. read (behind_step around) d >>= (λ s. Ok (all s))) s h in
       let inner = bind_ok (read (behind_step around) one.0) (λ s. Ok (all s)) s one.2 in
       subst IsOrdered (ok_same (all inner.0) s inner.2) (good (behind_step around) one.0 inner.0 (one-spellable (codes ">") es one.0 one.1 is) inner.1)
 
+  -- `index`
   index_ordered : (around : Around) (es : Entries) (s : Pattern) → AreRising es → index_form read around es ≡ Ok s → IsOrdered s
   index_ordered around es s is h =
       let two = bind_ok (two_of (codes ">") (codes "i") es) (λ d. integer_of d.1 >>= (λ i. read (behind_step around) d.0 >>= (λ s. Ok (index i s)))) s h in
@@ -80,6 +88,7 @@ module _ (read : Reader) (good : (around : Around) (d : Data) (s : Pattern) → 
       let inner = bind_ok (read (behind_step around) d.0) (λ s. Ok (index at.0 s)) s at.2 in
       subst IsOrdered (ok_same (index at.0 inner.0) s inner.2) (good (behind_step around) d.0 inner.0 (two-spellable (codes ">") (codes "i") es d two.1 is).0 inner.1)
 
+  -- `range`
   range_ordered : (around : Around) (es : Entries) (s : Pattern) → AreRising es → range_form read around es ≡ Ok s → IsOrdered s
   range_ordered around es s is h =
       let three =
@@ -91,6 +100,7 @@ module _ (read : Reader) (good : (around : Around) (d : Data) (s : Pattern) → 
       let inner = bind_ok (read (behind_step around) d.1) (λ s. Ok (range first.0 last.0 s)) s last.2 in
       subst IsOrdered {x = range first.0 last.0 inner.0} (ok_same (range first.0 last.0 inner.0) s inner.2) (good (behind_step around) d.1 inner.0 (three-spellable (codes "$") (codes ">") (codes "^") es d three.1 is) inner.1)
 
+  -- a recursion
   recursive_ordered : (es : Entries) (s : Pattern) → AreRising es → recursive_form read es ≡ Ok s → IsOrdered s
   recursive_ordered es s is h =
       by_test (has_key (codes "!") es) (Err (Unsupported StopAt)) (two_of (codes "l") (codes ":>") es >>= rest) s (IsOrdered s) (λ e. err_no_ok (Unsupported StopAt) e) (λ e.
@@ -102,6 +112,7 @@ module _ (read : Reader) (good : (around : Around) (d : Data) (s : Pattern) → 
         rest : Data × Data → Result Pattern SelFault
         rest d = limit_of d.0 >>= (λ limit. read unguarded d.1 >>= (λ s. Ok (recursive limit s)))
 
+  -- the selectors of names
   named_ordered : (around : Around) (es : Entries) (fs : Fields) → AreRising es → fields_read (read (behind_step around)) es ≡ Ok fs → AreOrdered fs
   named_ordered around no_entries fs is h = subst AreOrdered (ok_same no_fields fs h) tt
   named_ordered around (entry k d es) fs is h =
@@ -110,6 +121,7 @@ module _ (read : Reader) (good : (around : Around) (d : Data) (s : Pattern) → 
       subst AreOrdered (ok_same (field k inner.0 more.0) fs more.2)
       (before-all (read (behind_step around)) k es more.0 more.1 is.2 is.3, good (behind_step around) d inner.0 is.1 inner.1, named_ordered around es more.0 is.3 more.1)
 
+  -- `fields`, whose names rise too
   fields_ordered : (around : Around) (es : Entries) (s : Pattern) → AreRising es → fields_form read around es ≡ Ok s → IsOrdered s
   fields_ordered around es s is h =
       let one = bind_ok (one_of (codes "f>") es) (λ d. entries_of_map d >>= (λ names. fields_read (read (behind_step around)) names >>= (λ fs. Ok (fields fs)))) s h in
@@ -117,6 +129,7 @@ module _ (read : Reader) (good : (around : Around) (d : Data) (s : Pattern) → 
       let inner = bind_ok (fields_read (read (behind_step around)) names.0) (λ fs. Ok (fields fs)) s names.2 in
       subst IsOrdered (ok_same (fields inner.0) s inner.2) (named_ordered around names.0 inner.0 (map-rising one.0 names.0 names.1 (one-spellable (codes "f>") es one.0 one.1 is)) inner.1)
 
+  -- members
   members_ordered : (around : Around) (ds : Items) (ss : Members) → AreSpellable ds → members_read (read around) ds ≡ Ok ss → EachOrdered ss
   members_ordered around no_items ss is h = subst EachOrdered (ok_same no_members ss h) tt
   members_ordered around (item d ds) ss is h =
@@ -124,12 +137,14 @@ module _ (read : Reader) (good : (around : Around) (d : Data) (s : Pattern) → 
       let more = bind_ok (members_read (read around) ds) (λ ss. Ok (member inner.0 ss)) ss inner.2 in
       subst EachOrdered (ok_same (member inner.0 more.0) ss more.2) (good around d inner.0 is.0 inner.1, members_ordered around ds more.0 is.1 more.1)
 
+  -- a union
   union_ordered : (around : Around) (d : Data) (s : Pattern) → IsSpellable d → union_form read around d ≡ Ok s → IsOrdered s
   union_ordered around (list ds) s is h =
       let inner = bind_ok (members_read (read around) ds) (λ ss. Ok (union ss)) s h in
       subst IsOrdered (ok_same (union inner.0) s inner.2) (members_ordered around ds inner.0 is.1 inner.1)
   union_ordered around other s is h = err_no_ok Kind h
 
+  -- an edge has no names
   edge_ordered : (around : Around) (es : Entries) (s : Pattern) → edge_form around es ≡ Ok s → IsOrdered s
   edge_ordered around (entry k d es) s h = err_no_ok Keys h
   edge_ordered outside no_entries s h = err_no_ok EdgeOutside h
@@ -140,6 +155,7 @@ module _ (read : Reader) (good : (around : Around) (d : Data) (s : Pattern) → 
   in_map : (d : Data) (f : Entries → Result Pattern SelFault) (s : Pattern) → IsSpellable d → ((es : Entries) → AreRising es → f es ≡ Ok s → IsOrdered s) → (entries_of_map d >>= f) ≡ Ok s → IsOrdered s
   in_map d f s is each h = let found = bind_ok (entries_of_map d) f s h in each found.0 (map-rising d found.0 found.1 is) found.2
 
+  -- so the form that a key names is ordered
   form_ordered : (around : Around) (k : List ℕ) (d : Data) (s : Pattern) → IsSpellable d → form_of read around k d ≡ Ok s → IsOrdered s
   form_ordered around k d s is h =
       by_test (bytes_eq k (codes ".")) _ _ s P (in_map d matcher_of s is (λ es rising e. subst IsOrdered (matcher_only es s e) tt))
@@ -156,17 +172,20 @@ module _ (read : Reader) (good : (around : Around) (d : Data) (s : Pattern) → 
         P : Type 0
         P = IsOrdered s
 
+  -- and what one level reads
   with_ordered : (around : Around) (d : Data) (s : Pattern) → IsSpellable d → read_with read around d ≡ Ok s → IsOrdered s
   with_ordered around (map (entry k body no_entries)) s is h = form_ordered around k body s is.1.1 h
   with_ordered around (map (entry k body (entry l e es))) s is h = err_no_ok Keys h
   with_ordered around (map no_entries) s is h = err_no_ok Keys h
   with_ordered around other s is h = err_no_ok NotMap h
 
+-- and every level
 at_ordered : (n : ℕ) (around : Around) (d : Data) (s : Pattern) → IsSpellable d → selector_at n around d ≡ Ok s → IsOrdered s
 unfolding selector_at
 at_ordered zero around d s is h = err_no_ok Nesting h
 at_ordered (suc n) around d s is h = with_ordered (selector_at n) (at_ordered n) around d s is h
 
+-- what is in the envelope has a spelling too
 inside_spellable : (d : Data) → IsSpellable d → IsSpellable (without_envelope d)
 inside_spellable (map (entry k d no_entries)) is = by_key (bytes_eq k (codes "selector")) where
   by_key : (b : Bool) → IsSpellable (if b then d else map (entry k d no_entries))

@@ -53,6 +53,7 @@ fields-more old mid new names fs i f name n within is same put grows below behin
   laid = laid-twice (length old) mid new grows put.laid laid;
 }
 
+-- the loop's step: one more member was put
 pub members-more : (old mid new : List Spot) (numbers : List ℕ) (ss : List Sel) (i : ℕ) (s : Sel) (n : ℕ)
     → i < length ss → s ≡ get_or ss i s → MembersPut old mid numbers (take i ss) → Grows mid new → n < length new → length mid ≤ n → n + 1 ≡ length new → at (places_of new) n ≡ pattern_of s → n ≡ length mid + inside_of (pattern_of s) → AreLaidFrom (length mid) new
     → MembersPut old new (numbers ++ n ∷ []) (take (i + 1) ss)
@@ -75,6 +76,7 @@ field-ordered [] i d h within = absurd (omega arith)
 field-ordered (f ∷ fs) zero d h within = h.1
 field-ordered (f ∷ fs) (suc i) d h within = field-ordered fs i d h.2 (omega arith)
 
+-- each member's names rise
 pub member-ordered : (ss : List Sel) (i : ℕ) (d : Sel) → EachOrdered (members_of (map pattern_of ss)) → i < length ss → IsOrdered (pattern_of (get_or ss i d))
 member-ordered [] i d h within = absurd (omega arith)
 member-ordered (s ∷ ss) zero d h within = h.0
@@ -84,6 +86,7 @@ member-ordered (s ∷ ss) (suc i) d h within = member-ordered ss i d h.1 (omega 
 first_of : (x y : List ℕ × Pattern) (xs ys : List (List ℕ × Pattern)) → x ∷ xs ≡ y ∷ ys → (x ≡ y) × (xs ≡ ys)
 first_of x y xs ys h = (cc, cc)
 
+-- the order of names is that of the fields
 before-put : (ps : List Pattern) (k : List ℕ) (names : List (Vec ℕ × ℕ)) (fs : List (Vec ℕ × Sel)) → map (named_at ps) names ≡ map seen_field fs → IsBeforeAll k (fields_of (map seen_field fs)) → IsBefore k names
 before-put ps k [] fs h before = tt
 before-put ps k (n ∷ names) [] h before = absurd cc
@@ -91,6 +94,7 @@ before-put ps k (n ∷ names) (f ∷ fs) h before =
     let both = first_of (named_at ps n) (seen_field f) _ _ h in
     (subst (λ l. key_cmp k l ≡ Less) (sym (ap (λ (p : List ℕ × Pattern). p.0) both.0)) before.0, before-put ps k names fs both.1 before.1)
 
+-- so they rise
 pub rising-put : (ps : List Pattern) (names : List (Vec ℕ × ℕ)) (fs : List (Vec ℕ × Sel)) → map (named_at ps) names ≡ map seen_field fs → AreOrdered (fields_of (map seen_field fs)) → AreRising names
 rising-put ps [] fs h ordered = tt
 rising-put ps (n ∷ names) [] h ordered = absurd cc
@@ -100,14 +104,17 @@ rising-put ps (n ∷ names) (f ∷ fs) h ordered =
 
 -- ---- which places are named by what was put
 
+-- a number of fields is one of the row
 names_numbers : (fs : List (Vec ℕ × ℕ)) (k : ℕ) → HasNumber fs k → IsNumber (map number_of fs) k
 names_numbers [] k h = h
 names_numbers (f ∷ fs) k h = ⊎_elim (λ (here : f.1 ≡ k). inl here) (λ (there : HasNumber fs k). inr (names_numbers fs k there)) h
 
+-- and back
 numbers_names : (fs : List (Vec ℕ × ℕ)) (k : ℕ) → IsNumber (map number_of fs) k → HasNumber fs k
 numbers_names [] k h = h
 numbers_names (f ∷ fs) k h = ⊎_elim (λ (here : f.1 ≡ k). inl here) (λ (there : IsNumber (map number_of fs) k). inr (numbers_names fs k there)) h
 
+-- what a spot names is in its row
 named_numbers : (x : Spot) (k : ℕ) → Names x k → IsNumber (numbers_of x) k
 named_numbers Matcher k h = h
 named_numbers (All j) k h = inl h
@@ -138,6 +145,7 @@ one-grown old new s n grows there last behind number = record {
 pub fields-grown : (old new : Vec Spot) (names : List (Vec ℕ × ℕ)) (done : List (Vec ℕ × Sel)) → FieldsPut old.items new.items names done → GrowsBy old new (map number_of names)
 fields-grown old new names done put = record { grows = (put.grows, put.laid); free = λ k h. put.free k (numbers_names names k h); row = put.row }
 
+-- after the loop the table has grown by all members
 pub members-grown : (old new : Vec Spot) (numbers : List ℕ) (done : List Sel) → MembersPut old.items new.items numbers done → GrowsBy old new numbers
 members-grown old new numbers done put = record { grows = (put.grows, put.laid); free = put.free; row = put.row }
 

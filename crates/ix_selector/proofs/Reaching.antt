@@ -39,6 +39,7 @@ some-permutation spots xs ys moved p = (
 
 -- ---- paths of several kinds
 
+-- the joined paths may be said in another way
 pub joins-same : (A B C D : Path → Type 0) → Joins A B C → Same C D → Joins A B D
 joins-same A B C D j s p = (
   λ h. ⊎_elim (λ (b : B p). inl b) (λ (c : C p). inr ((s p).0 c)) ((j p).0 h),
@@ -102,6 +103,7 @@ some-append spots xs ys p = (
       h,
 )
 
+-- several more sequences
 pub again-more : (spots : List Spot) (old new : Reached) (xs : List Pair) → new.again.items ≡ old.again.items ++ xs → new.standing.items ≡ old.standing.items
     → Joins (ReachedEnters spots new) (ReachedEnters spots old) (SomeEnter spots xs)
 again-more spots old new xs more same p =

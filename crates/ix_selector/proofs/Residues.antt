@@ -27,6 +27,7 @@ use Rattle.ix_selector.proofs.Inside.{some-cons, cons-here, cons-there}
 
 -- ---- pairs seen as places
 
+-- a residual of pairs enters what one of them enters
 pub residual-some : (spots : List Spot) (xs : List Pair) (p : Path) → ResidualEnters (map (place_of spots) xs) p → SomeEnter spots xs p
 residual-some spots xs p h = by xs h.among h.enters where
   by : (xs : List Pair) {x : Place} → IsAmong x (map (place_of spots) xs) → Enters x.selector x.around p → SomeEnter spots xs p
@@ -34,6 +35,7 @@ residual-some spots xs p h = by xs h.among h.enters where
   by (x ∷ xs) here h = cons-here spots x xs p h
   by (x ∷ xs) (there n) h = cons-there spots x xs p (by xs n h)
 
+-- and back
 pub some-residual : (spots : List Spot) (xs : List Pair) (p : Path) → SomeEnter spots xs p → ResidualEnters (map (place_of spots) xs) p
 some-residual spots [] p h = absurd (none-enter spots p h)
 some-residual spots (x ∷ xs) p h =
@@ -42,10 +44,12 @@ some-residual spots (x ∷ xs) p h =
     (λ (more : SomeEnter spots xs p). let rest = some-residual spots xs p more in record { place = rest.place; among = there rest.among; enters = rest.enters })
     (some-cons spots x xs p h)
 
+-- a pair is guarded as the test of residuals asks
 is_place : (spots : List Spot) (s : Pattern) (r : Option Recursion) → IsGuarded (around r) s → IsSequence spots r → IsGuarded (around_of (frames (places_of spots) r)) s × FramesGuarded (frames (places_of spots) r)
 is_place spots s None g is = (g, tt)
 is_place spots s (Some r) g is = (g, (is.1, tt))
 
+-- pair by pair
 are_places : (spots : List Spot) (xs : List Pair) → All (IsPair spots) xs → ArePlaces (map (place_of spots) xs)
 are_places spots [] h = tt
 are_places spots (x ∷ xs) h =
@@ -59,6 +63,7 @@ some_stands spots (x ∷ xs) h some = cons-here spots x xs [] (stands-enters (se
 
 -- ---- from the root
 
+-- nothing reached enters nothing
 empty_enters : (spots : List Spot) (r : Reached) (p : Path) → r.standing.items ≡ [] → r.again.items ≡ [] → ReachedEnters spots r p → ⊥
 empty_enters spots r p standing again h =
     ⊎_elim (λ (s : SomeEnter spots r.standing.items p). none-enter spots p (subst (λ l. SomeEnter spots l p) standing s)) (λ (a : SomeEnter spots r.again.items p). none-enter spots p (subst (λ l. SomeEnter spots l p) again a)) h
@@ -75,6 +80,7 @@ module _ (spots : List Spot) (x : Pair) (old new : Reached) (nothing : old.stand
 pub root-pair : (spots : List Spot) (n : ℕ) (s : Pattern) → AreSpots 0 spots → n + 1 ≡ length spots → at (places_of spots) n ≡ s → IsSelector s → IsPair spots (record { place = n; recursion = None })
 root-pair spots n s table last is selector = record { within = omega arith; guarded = subst (IsGuarded outside) (sym is) selector.edges; sequence = tt; stands = in_none (last-free spots n table last) }
 
+-- the root has no edge before a step, since it is in no recursion
 root_no_edge : (spots : List Spot) (n : ℕ) (s : Pattern) → at (places_of spots) n ≡ s → IsSelector s → HasNoEdge spots (record { place = n; recursion = None })
 root_no_edge spots n s is selector = record { around = outside; never = λ m. m; guarded = subst (IsGuarded outside) (sym is) selector.edges }
 
@@ -98,6 +104,7 @@ pub record Stepped (spots : List Spot) (t : Step) (r : Reached) (xs : List Pair)
   pub reached : AreReached spots r
   pub enters : Same (ReachedEnters spots r) (λ p. SomeEnter spots xs (t ∷ p))
 
+-- the loop's step: one more pair after the step
 pub stepped-more : (spots : List Spot) (t : Step) (old new : Reached) (xs : List Pair) (i : ℕ) (x : Pair) → i < length xs → x ≡ get_or xs i x → Stepped spots t old (take i xs) → AreReached spots new
     → Joins (ReachedEnters spots new) (ReachedEnters spots old) (λ p. EntersAt spots x (t ∷ p)) → Stepped spots t new (take (i + 1) xs)
 stepped-more spots t old new xs i x within is so_far reached enters =
@@ -112,6 +119,7 @@ stepped-more spots t old new xs i x within is so_far reached enters =
           );
     })
 
+-- entering the same paths is transitive
 pub same-twice : (A B C : Path → Type 0) → Same A B → Same B C → Same A C
 same-twice A B C s t p = (λ h. (t p).0 ((s p).0 h), λ h. (s p).1 ((t p).1 h))
 
@@ -153,5 +161,6 @@ pub nothing-left : (ys : List Pair) → (length ys == 0) ≡ true → ys ≡ []
 nothing-left [] h = refl
 nothing-left (y ∷ ys) h = let none = eqb-true (length (y ∷ ys)) 0 h in absurd (omega arith)
 
+-- if the length isn't 0, there is one
 pub something-left : (ys : List Pair) → (length ys == 0) ≡ false → ys ≡ [] → ⊥
 something-left ys h empty = true≢false (subst (λ l. (length l == 0) ≡ false) empty h)

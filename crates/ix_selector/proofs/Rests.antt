@@ -22,34 +22,42 @@ abbrev pub Enter : List Place → Path → Type 0
 Enter [] p = ⊥
 Enter (x ∷ xs) p = Enters x.selector x.around p ⊎ Enter xs p
 
+-- equivalence is transitive
 pub iff_twice : {A B C : Type 0} → (A ↔ B) → (B ↔ C) → (A ↔ C)
 iff_twice f g = (λ a. g.0 (f.0 a), λ c. f.1 (g.1 c))
 
+-- reflexive
 pub iff_same : {A : Type 0} → (A ↔ A)
 iff_same = (λ a. a, λ a. a)
 
+-- and symmetric
 pub iff_back : {A B : Type 0} → (A ↔ B) → (B ↔ A)
 iff_back f = (f.1, f.0)
 
+-- and respected by alternatives
 pub either_iff : {A B C D : Type 0} → (A ↔ B) → (C ↔ D) → ((A ⊎ C) ↔ (B ⊎ D))
 either_iff {A} {B} {C} {D} f g = (
   λ h. ⊎_elim (λ (a : A). inl (f.0 a)) (λ (c : C). inr (g.0 c)) h,
   λ h. ⊎_elim (λ (b : B). inl (f.1 b)) (λ (d : D). inr (g.1 d)) h,
 )
 
+-- an impossible alternative may be left out
 pub either-never : {A : Type 0} → ((A ⊎ ⊥) ↔ A)
 either-never {A} = (λ h. ⊎_elim (λ (a : A). a) (λ (n : ⊥). absurd n) h, λ a. inl a)
 
+-- alternatives may be grouped
 pub either-grouped : {A B C : Type 0} → ((A ⊎ (B ⊎ C)) ↔ ((A ⊎ B) ⊎ C))
 either-grouped {A} {B} {C} = (
   λ h. ⊎_elim (λ (a : A). inl (inl a)) (λ (r : B ⊎ C). ⊎_elim (λ (b : B). inl (inr b)) (λ (c : C). inr c) r) h,
   λ h. ⊎_elim (λ (l : A ⊎ B). ⊎_elim (λ (a : A). inl a) (λ (b : B). inr (inl b)) l) (λ (c : C). inr (inr c)) h,
 )
 
+-- a concatenation enters what either part enters
 pub enter-append : (xs ys : List Place) (p : Path) → (Enter (xs ++ ys) p ↔ (Enter xs p ⊎ Enter ys p))
 enter-append [] ys p = (λ h. inr h, λ h. ⊎_elim (λ (n : ⊥). absurd n) (λ (y : Enter ys p). y) h)
 enter-append (x ∷ xs) ys p = iff_twice (either_iff iff_same (enter-append xs ys p)) either-grouped
 
+-- equal lists enter the same
 pub enter_by : (xs ys : List Place) (p : Path) → xs ≡ ys → (Enter xs p ↔ Enter ys p)
 enter_by xs ys p same = (λ h. subst (λ l. Enter l p) same h, λ h. subst (λ l. Enter l p) (sym same) h)
 
@@ -57,6 +65,7 @@ enter_by xs ys p same = (λ h. subst (λ l. Enter l p) same h, λ h. subst (λ l
 abbrev pub Each : (Place → Type 0) → List Place → Type 0
 Each P xs = AllByRecursion P xs
 
+-- what holds of each part holds of the concatenation
 pub each-append : (P : Place → Type 0) (xs ys : List Place) → Each P xs → Each P ys → Each P (xs ++ ys)
 each-append P [] ys a b = b
 each-append P (x ∷ xs) ys a b = (a.0, each-append P xs ys a.1 b)
@@ -95,6 +104,7 @@ mutual
 
 -- ---- what stands, and no edge
 
+-- the place is an edge, a matcher or an explorer
 abbrev pub IsLead : Place → Type 0
 IsLead x = is_edge x.selector ≡ false → Stands x.selector
 
@@ -121,6 +131,7 @@ standing-each P (x ∷ xs) h = by (is_edge x.selector) (standing-each P xs h.1) 
   by true rest = rest
   by false rest = (h.0, rest)
 
+-- of those, what is no edge is a matcher or explorer
 pub standing-stands : (xs : List Place) → Each IsLead xs → Each (λ x. Stands x.selector) (standing xs)
 standing-stands [] h = tt
 standing-stands (x ∷ xs) h = by (is_edge x.selector) refl (standing-stands xs h.1) where
@@ -128,6 +139,7 @@ standing-stands (x ∷ xs) h = by (is_edge x.selector) refl (standing-stands xs 
   by true is rest = rest
   by false is rest = (h.0 is, rest)
 
+-- lists without edges, concatenated
 pub no_edges : (xs ys : List Place) → standing xs ≡ xs → standing ys ≡ ys → standing (xs ++ ys) ≡ xs ++ ys
 no_edges xs ys a b = standing-append xs ys ∙ (λ i. a i ++ b i)
 
@@ -150,10 +162,12 @@ mutual
 
 -- ---- behind a step
 
+-- a list under a condition enters what it does if the condition holds
 if_enter : (b : Bool) (xs : List Place) (p : Path) (A : Type 0) → (b ≡ true → (Enter xs p ↔ A)) → (b ≡ false → A → ⊥) → (Enter (if b then xs else []) p ↔ A)
 if_enter true xs p A some none = some refl
 if_enter false xs p A some none = (λ h. absurd h, λ h. none refl h)
 
+-- where a key leads enters what a selector of that key enters
 named-enter : (fs : Fields) (k : List ℕ) (n : ℕ) (e : List Frame) (q : Option ℕ) (p : Path) → (Enter (named_lead fs k n e q) p ↔ ((s : Pattern) × IsNamed k s fs × Enters s e p))
 named-enter no_fields k n e q p = (λ h. absurd h, λ h. no_name h.1) where
   no_name : {s : Pattern} → IsNamed k s no_fields → ⊥
@@ -181,12 +195,15 @@ named-enter (field l s fs) k n e q p =
         by same first h = inl (same, h)
         by same (later {s = r} n) h = inr (r, subst (λ m. IsNamed m r fs) same n, h)
 
+-- fields enter only through a key
 out_fields : {fs : Fields} {e : List Frame} {k : List ℕ} {p : Path} → Enters (fields fs) e (key k ∷ p) → (s : Pattern) × IsNamed k s fs × Enters s e p
 out_fields (below_fields {s = s} named h) = (s, named, h)
 
+-- and not through a position
 no_position : {fs : Fields} {e : List Frame} {n : ℕ} {p : Path} → Enters (fields fs) e (nth n ∷ p) → ⊥
 no_position h = elim h [ ]
 
+-- where a matcher or explorer leads after a step enters what it enters after the step
 pub behind-enter : (s : Pattern) → Stands s → (t : Step) (n : ℕ) (e : List Frame) (q : Option ℕ) (p : Path) → (Enter (leads_behind s t n e q) p ↔ Enters s e (t ∷ p))
 behind-enter matcher stands t n e q p = (λ h. absurd h, λ h. matcher_nowhere t e p h)
 behind-enter (all s) stands t n e q p = iff_twice (leads-enter s n e q p) (λ h. below_all h, λ h. out_all h)
@@ -200,15 +217,18 @@ behind-enter (recursive d s) stands t n e q p = absurd stands
 behind-enter (union ss) stands t n e q p = absurd stands
 behind-enter edge stands t n e q p = absurd stands
 
+-- what holds of each holds of a list under a condition
 if_each : (P : Place → Type 0) (b : Bool) (xs : List Place) → Each P xs → Each P (if b then xs else [])
 if_each P true xs h = h
 if_each P false xs h = tt
 
+-- where a key leads are edges, matchers and explorers
 named-lead : (fs : Fields) (k : List ℕ) (n : ℕ) (e : List Frame) (q : Option ℕ) → Each IsLead (named_lead fs k n e q)
 named-lead no_fields k n e q = tt
 named-lead (field l s fs) k n e q =
     each-append IsLead (if bytes_eq l k then leads s n e q else []) (named_lead fs k (n + (inside_of s + 1)) e q) (if_each IsLead (bytes_eq l k) (leads s n e q) (leads-lead s n e q)) (named-lead fs k (n + (inside_of s + 1)) e q)
 
+-- and so it is after any step
 pub behind-lead : (s : Pattern) (t : Step) (n : ℕ) (e : List Frame) (q : Option ℕ) → Each IsLead (leads_behind s t n e q)
 behind-lead matcher t n e q = tt
 behind-lead (all s) t n e q = leads-lead s n e q
@@ -222,14 +242,17 @@ behind-lead edge t n e q = tt
 
 -- ---- places of one selector
 
+-- the recursions around a place, with a depth
 abbrev pub frames_in : Inner → Option ℕ → List Frame
 frames_in None d = []
 frames_in (Some c) d = record { sequence = c.1; depth = d } ∷ []
 
+-- the number of the innermost sequence
 abbrev pub number_in : Inner → Option ℕ
 number_in None = None
 number_in (Some c) = Some c.0
 
+-- what surrounds the place
 abbrev pub around_in : Inner → Around
 around_in None = outside
 around_in (Some c) = guarded
@@ -256,6 +279,7 @@ pub record IsIn (whole : Pattern) (x : Place) : Type 0 where
   pub sequence : x.sequence ≡ number_in inner
 
 module _ (whole : Pattern) where
+  -- a form that leads to itself is a place of the whole
   lone_in : (s : Pattern) (m : ℕ) (r : Inner) (d : Option ℕ) → Up whole s m r → Home whole r → IsGuarded (around_in r) s
       → Each (IsIn whole) (record { selector = s; around = frames_in r d; number = m + inside_of s; sequence = number_in r } ∷ [])
   lone_in s m r d up home g = (record { first = m; inner = r; depth = d; up = up; home = home; guard = g; number = refl; around = refl; sequence = refl }, tt)
@@ -281,13 +305,16 @@ module _ (whole : Pattern) where
         (leads-in s m r d (λ t l v h. up t l v (in_member h)) home g.0)
         (each_leads-in ss (m + (inside_of s + 1)) r d (λ t l v h. up t l v (later_member h)) home g.1)
 
+  -- a step changes nothing inside a recursion that had one
   behind_guard : (r : Inner) → behind_step (around_in r) ≡ around_in r
   behind_guard None = refl
   behind_guard (Some c) = refl
 
+  -- so a child is guarded as its parent is
   child : (r : Inner) (s : Pattern) → IsGuarded (behind_step (around_in r)) s → IsGuarded (around_in r) s
   child r s g = subst (λ a. IsGuarded a s) (behind_guard r) g
 
+  -- where a key leads are places of the whole
   named-in : (fs : Fields) (k : List ℕ) (m : ℕ) (r : Inner) (d : Option ℕ) → ((t : Pattern) (l : ℕ) (v : Inner) → InFields fs m r t l v → In whole 0 None t l v) → Home whole r → AreGuarded (around_in r) fs
       → Each (IsIn whole) (named_lead fs k m (frames_in r d) (number_in r))
   named-in no_fields k m r d up home g = tt
@@ -296,6 +323,7 @@ module _ (whole : Pattern) where
       (if_each (IsIn whole) (bytes_eq l k) (leads s m (frames_in r d) (number_in r)) (leads-in s m r d (λ t l v h. up t l v (in_field h)) home (child r s g.0)))
       (named-in fs k (m + (inside_of s + 1)) r d (λ t l v h. up t l v (later_field h)) home g.1)
 
+  -- and so it is after any step
   pub behind-in : (s : Pattern) (t : Step) (m : ℕ) (r : Inner) (d : Option ℕ) → Up whole s m r → Home whole r → IsGuarded (around_in r) s → Each (IsIn whole) (leads_behind s t m (frames_in r d) (number_in r))
   behind-in matcher t m r d up home g = tt
   behind-in (all s) t m r d up home g = leads-in s m r d (λ t l v h. up t l v (in_all h)) home (child r s g)

@@ -16,10 +16,12 @@ use Rattle.ix_selector.specs.contracts.pair.RecursionPartialEq.TheImpl as recurs
 use Rattle.ix_selector.specs.contracts.pair.PairOrd.TheImpl as pair_orders
 use Rattle.ix_selector.specs.contracts.pair.RecursionOrd.TheImpl as recursion_orders
 
+-- a test that is joined with true
 and_true : (b : Bool) → b ≡ b && true
 and_true true = refl
 and_true false = refl
 
+-- comparing recursions is comparing sequences and depths
 same_recursion : (spots others : List Spot) (a b : Option Recursion)
     → option_eq recursions.eq-value.it a b
     ≡ option_eq nat_eq (sequence_of a) (sequence_of b) && pointwise (option_eq nat_eq) (depths (frames (places_of spots) a)) (depths (frames (places_of others) b))
@@ -28,9 +30,11 @@ same_recursion spots others None (Some b) = refl
 same_recursion spots others (Some a) None = refl
 same_recursion spots others (Some a) (Some b) = ap (λ t. nat_eq a.sequence b.sequence && t) (and_true (option_eq nat_eq a.depth b.depth))
 
+-- so comparing pairs is comparing places
 same_pair : (spots others : List Spot) (x y : Pair) → pairs.eq-value.it x y ≡ same_place (place_of spots x) (place_of others y)
 same_pair spots others x y = ap (λ t. nat_eq x.place y.place && t) (same_recursion spots others x.recursion y.recursion)
 
+-- pair by pair
 pub same-pairs : (spots others : List Spot) (xs ys : List Pair) → pointwise pairs.eq-value.it xs ys ≡ same_residual (seen_pairs spots xs) (seen_pairs others ys)
 unfolding same_residual
 same-pairs spots others [] [] = refl
@@ -38,11 +42,13 @@ same-pairs spots others [] (y ∷ ys) = refl
 same-pairs spots others (x ∷ xs) [] = refl
 same-pairs spots others (x ∷ xs) (y ∷ ys) = λ i. same_pair spots others x y i && same-pairs spots others xs ys i
 
+-- an ordering followed by a tie
 then_equal : (o : Ordering) → o ≡ ordering_then o Equal
 then_equal Less = refl
 then_equal Equal = refl
 then_equal Greater = refl
 
+-- the same of the order of recursions
 recursion_order : (spots others : List Spot) (a b : Option Recursion)
     → option_cmp recursion_orders.cmp-value.it a b
     ≡ ordering_then (option_cmp nat_cmp (sequence_of a) (sequence_of b)) (slice_cmp (option_cmp nat_cmp) (depths (frames (places_of spots) a)) (depths (frames (places_of others) b)))
@@ -51,9 +57,11 @@ recursion_order spots others None (Some b) = refl
 recursion_order spots others (Some a) None = refl
 recursion_order spots others (Some a) (Some b) = ap (λ o. ordering_then (nat_cmp a.sequence b.sequence) o) (then_equal (option_cmp nat_cmp a.depth b.depth))
 
+-- and of pairs
 pair_order : (spots others : List Spot) (x y : Pair) → pair_orders.cmp-value.it x y ≡ place_order (place_of spots x) (place_of others y)
 pair_order spots others x y = ap (λ o. ordering_then (nat_cmp x.place y.place) o) (recursion_order spots others x.recursion y.recursion)
 
+-- pair by pair
 pub order-pairs : (spots others : List Spot) (xs ys : List Pair) → slice_cmp pair_orders.cmp-value.it xs ys ≡ residual_order (seen_pairs spots xs) (seen_pairs others ys)
 unfolding residual_order
 order-pairs spots others [] [] = refl
@@ -63,12 +71,14 @@ order-pairs spots others (x ∷ xs) (y ∷ ys) = λ i. ordering_then (pair_order
 
 -- ---- what is told to be the same
 
+-- depths that compare as equal are equal
 pub depth-equal : (d e : Option ℕ) → option_eq nat_eq d e ≡ true → d ≡ e
 depth-equal None None h = refl
 depth-equal None (Some e) h = absurd (true≢false (sym h))
 depth-equal (Some d) None h = absurd (true≢false (sym h))
 depth-equal (Some d) (Some e) h = ap Some (eqb-true d e h)
 
+-- and so are recursions
 recursion_equal : (a b : Option Recursion) → option_eq recursions.eq-value.it a b ≡ true → a ≡ b
 recursion_equal None None h = refl
 recursion_equal None (Some b) h = absurd (true≢false (sym h))

@@ -44,6 +44,7 @@ is_two first second (entry k e more) d h =
       parts (Err f) is = err_no_ok f is
 is_two first second no_entries d h = err_no_ok Keys h
 
+-- three keys that are found are all that there are
 is_three : (first second third : List ℕ) (es : Entries) (d : Data × Data × Data) → three_of first second third es ≡ Ok d → es ≡ entry first d.0 (entry second d.1 (entry third d.2 no_entries))
 is_three first second third (entry k e more) d h =
     by_key k first (tripled (two_of second third more)) (Err Keys) d _ (λ named is.
@@ -63,6 +64,7 @@ none_spelled : (es : Entries) (limit : Option ℕ) → no_limit_of es ≡ Ok lim
 none_spelled no_entries limit h = subst (λ l. SpellsLimit (one_key (codes "none") (map no_entries)) l) (ok_same None limit h) as_no_limit
 none_spelled (entry k d es) limit h = err_no_ok Keys h
 
+-- a depth that is read is spelled
 depth_spelled : (n : ℤ) (limit : Option ℕ) → depth_of n ≡ Ok limit → SpellsLimit (one_key (codes "depth") (integer n)) limit
 depth_spelled (pos n) limit h =
     elim (nat_lt n (2 ^ 32)) as (λ b. (if b then Ok (Some n) else Err Depth) ≡ Ok limit → SpellsLimit (one_key (codes "depth") (integer (pos n))) limit)
@@ -122,6 +124,7 @@ module _ (read : Reader) (spelled : (around : Around) (d : Data) (s : Pattern) �
       SpellsPattern_same _ _ (all inner.0) s (ap (λ l. one_key (codes "a") (map l)) (is_one (codes ">") es one.0 one.1)) (ok_same (all inner.0) s inner.2)
       (as_all (spelled (behind_step around) one.0 inner.0 inner.1))
 
+  -- `index`
   index_spelled : (around : Around) (es : Entries) (s : Pattern) → index_form read around es ≡ Ok s → SpellsPattern (one_key (codes "i") (map es)) s
   index_spelled around es s h =
       let two = bind_ok (two_of (codes ">") (codes "i") es) (λ d. integer_of d.1 >>= (λ i. read (behind_step around) d.0 >>= (λ s. Ok (index i s)))) s h in
@@ -132,6 +135,7 @@ module _ (read : Reader) (spelled : (around : Around) (d : Data) (s : Pattern) �
       (ap (λ l. one_key (codes "i") (map l)) (is_two (codes ">") (codes "i") es d two.1) ∙ ap (λ x. one_key (codes "i") (two_keys (codes ">") d.0 (codes "i") x)) (is_integer d.1 at.0 at.1))
       (ok_same (index at.0 inner.0) s inner.2) (as_index (spelled (behind_step around) d.0 inner.0 inner.1))
 
+  -- `range`
   range_spelled : (around : Around) (es : Entries) (s : Pattern) → range_form read around es ≡ Ok s → SpellsPattern (one_key (codes "r") (map es)) s
   range_spelled around es s h =
       let three =
@@ -147,6 +151,7 @@ module _ (read : Reader) (spelled : (around : Around) (d : Data) (s : Pattern) �
       ∙ ap (λ x. keys x d.2) (is_integer d.0 last.0 last.1) ∙ ap (keys (integer last.0)) (is_integer d.2 first.0 first.1))
       (ok_same (range first.0 last.0 inner.0) s inner.2) (as_range (spelled (behind_step around) d.1 inner.0 inner.1))
 
+  -- a recursion
   recursive_spelled : (es : Entries) (s : Pattern) → recursive_form read es ≡ Ok s → SpellsPattern (one_key (codes "R") (map es)) s
   recursive_spelled es s h =
       by_test (has_key (codes "!") es) (Err (Unsupported StopAt)) (two_of (codes "l") (codes ":>") es >>= rest) s (SpellsPattern (one_key (codes "R") (map es)) s) (λ e. err_no_ok (Unsupported StopAt) e) (λ e.
@@ -167,6 +172,7 @@ module _ (read : Reader) (spelled : (around : Around) (d : Data) (s : Pattern) �
       let more = bind_ok (fields_read (read around) es) (λ fs. Ok (field k inner.0 fs)) fs inner.2 in
       subst (λ l. SpellFields (entry k d es) l) (ok_same (field k inner.0 more.0) fs more.2) (as_field (spelled around d inner.0 inner.1) (named_spelled around es more.0 more.1))
 
+  -- `fields`
   fields_spelled : (around : Around) (es : Entries) (s : Pattern) → fields_form read around es ≡ Ok s → SpellsPattern (one_key (codes "f") (map es)) s
   fields_spelled around es s h =
       let one = bind_ok (one_of (codes "f>") es) (λ d. entries_of_map d >>= (λ names. fields_read (read (behind_step around)) names >>= (λ fs. Ok (fields fs)))) s h in
@@ -184,6 +190,7 @@ module _ (read : Reader) (spelled : (around : Around) (d : Data) (s : Pattern) �
       let more = bind_ok (members_read (read around) ds) (λ ss. Ok (member inner.0 ss)) ss inner.2 in
       subst (λ l. SpellMembers (item d ds) l) (ok_same (member inner.0 more.0) ss more.2) (as_member (spelled around d inner.0 inner.1) (members_spelled around ds more.0 more.1))
 
+  -- a union
   union_spelled : (around : Around) (d : Data) (s : Pattern) → union_form read around d ≡ Ok s → SpellsPattern (one_key (codes "|") d) s
   union_spelled around (list ds) s h =
       let inner = bind_ok (members_read (read around) ds) (λ ss. Ok (union ss)) s h in

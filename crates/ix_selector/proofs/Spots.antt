@@ -19,10 +19,12 @@ pub at-behind : (ps : List Pattern) (p : Pattern) (more : List Pattern) → at (
 at-behind [] p more = refl
 at-behind (q ∷ ps) p more = at-behind ps p more
 
+-- numbers below a length read the first places alone
 map-front : (ps more : List Pattern) (ks : List ℕ) → AreBelow (length ps) ks → map (at (ps ++ more)) ks ≡ map (at ps) ks
 map-front ps more [] h = refl
 map-front ps more (k ∷ ks) h = λ i. at-front ps more k h.0 i ∷ map-front ps more ks h.1 i
 
+-- and so do names
 named-front : (ps more : List Pattern) (fs : List (Vec ℕ × ℕ)) → AreNamedBelow (length ps) fs → map (named_at (ps ++ more)) fs ≡ map (named_at ps) fs
 named-front ps more [] h = refl
 named-front ps more (f ∷ fs) h = λ i. (f.0.items, at-front ps more f.1 h.0 i) ∷ named-front ps more fs h.1 i
@@ -43,10 +45,12 @@ abbrev pub rest_of : List Pattern → List Spot → List Pattern
 rest_of before [] = []
 rest_of before (x ∷ xs) = seen before x ∷ rest_of (before ++ seen before x ∷ []) xs
 
+-- the places that were there stay in front
 pub seen_behind-rest : (before : List Pattern) (xs : List Spot) → seen_behind before xs ≡ before ++ rest_of before xs
 seen_behind-rest before [] = sym (append-nil before)
 seen_behind-rest before (x ∷ xs) = seen_behind-rest (before ++ seen before x ∷ []) xs ∙ append_assoc before (seen before x ∷ []) (rest_of (before ++ seen before x ∷ []) xs)
 
+-- there is one place for each spot
 pub length-seen_behind : (before : List Pattern) (xs : List Spot) → length (seen_behind before xs) ≡ length before + length xs
 length-seen_behind before [] = omega arith
 length-seen_behind before (x ∷ xs) = length-seen_behind (before ++ seen before x ∷ []) xs ∙ ap (λ n. n + length xs) (length-append before (seen before x ∷ [])) ∙ omega arith
@@ -55,6 +59,7 @@ length-seen_behind before (x ∷ xs) = length-seen_behind (before ++ seen before
 pub length-places : (xs : List Spot) → length (places_of xs) ≡ length xs
 length-places xs = let n = length-seen_behind [] xs in omega arith
 
+-- spots may be added in two parts
 pub seen_behind-append : (before : List Pattern) (xs ys : List Spot) → seen_behind before (xs ++ ys) ≡ seen_behind (seen_behind before xs) ys
 seen_behind-append before [] ys = refl
 seen_behind-append before (x ∷ xs) ys = seen_behind-append (before ++ seen before x ∷ []) xs ys
@@ -102,18 +107,22 @@ spots-append m (x ∷ xs) ys h more = (h.0, spots-append (m + 1) xs ys h.1 (subs
 
 -- ---- numbers stay below as the table grows
 
+-- a bound may be raised
 pub below-more : (m n : ℕ) (ks : List ℕ) → m ≤ n → AreBelow m ks → AreBelow n ks
 below-more m n [] le h = tt
 below-more m n (k ∷ ks) le h = (omega (arith, h.0), below-more m n ks le h.1)
 
+-- and so may that of names
 pub named_below-more : (m n : ℕ) (fs : List (Vec ℕ × ℕ)) → m ≤ n → AreNamedBelow m fs → AreNamedBelow n fs
 named_below-more m n [] le h = tt
 named_below-more m n (f ∷ fs) le h = (omega (arith, h.0), named_below-more m n fs le h.1)
 
+-- one more number below the bound
 pub below-push : (n : ℕ) (ks : List ℕ) (k : ℕ) → AreBelow n ks → k < n → AreBelow n (ks ++ k ∷ [])
 below-push n [] k h one = (one, tt)
 below-push n (j ∷ ks) k h one = (h.0, below-push n ks k h.1 one)
 
+-- and one more name
 pub named_below-push : (n : ℕ) (fs : List (Vec ℕ × ℕ)) (f : Vec ℕ × ℕ) → AreNamedBelow n fs → f.1 < n → AreNamedBelow n (fs ++ f ∷ [])
 named_below-push n [] f h one = (one, tt)
 named_below-push n (g ∷ fs) f h one = (h.0, named_below-push n fs f h.1 one)
@@ -123,24 +132,29 @@ pub map-grown : (xs ys : List Spot) (ks : List ℕ) → AreBelow (length xs) ks 
 map-grown xs ys [] h = refl
 map-grown xs ys (k ∷ ks) h = λ i. at-grown xs ys k h.0 i ∷ map-grown xs ys ks h.1 i
 
+-- names read the same in a longer table
 pub named-grown : (xs ys : List Spot) (fs : List (Vec ℕ × ℕ)) → AreNamedBelow (length xs) fs → map (named_at (places_of (xs ++ ys))) fs ≡ map (named_at (places_of xs)) fs
 named-grown xs ys [] h = refl
 named-grown xs ys (f ∷ fs) h = λ i. (f.0.items, at-grown xs ys f.1 h.0 i) ∷ named-grown xs ys fs h.1 i
 
 -- ---- which places are named
 
+-- a number of a longer list is of the list or the last
 number-push : (ks : List ℕ) (j k : ℕ) → IsNumber (ks ++ j ∷ []) k → IsNumber ks k ⊎ (j ≡ k)
 number-push [] j k h = ⊎_elim (λ (here : j ≡ k). inr here) (λ (there : ⊥). absurd there) h
 number-push (l ∷ ks) j k h = ⊎_elim (λ (here : l ≡ k). inl (inl here)) (λ (there : IsNumber (ks ++ j ∷ []) k). ⊎_elim (λ (a : IsNumber ks k). inl (inr a)) (λ (b : j ≡ k). inr b) (number-push ks j k there)) h
 
+-- and so is one of names
 named-push : (fs : List (Vec ℕ × ℕ)) (f : Vec ℕ × ℕ) (k : ℕ) → HasNumber (fs ++ f ∷ []) k → HasNumber fs k ⊎ (f.1 ≡ k)
 named-push [] f k h = ⊎_elim (λ (here : f.1 ≡ k). inr here) (λ (there : ⊥). absurd there) h
 named-push (g ∷ fs) f k h = ⊎_elim (λ (here : g.1 ≡ k). inl (inl here)) (λ (there : HasNumber (fs ++ f ∷ []) k). ⊎_elim (λ (a : HasNumber fs k). inl (inr a)) (λ (b : f.1 ≡ k). inr b) (named-push fs f k there)) h
 
+-- a number of the list is below the bound
 number-below : (n : ℕ) (ks : List ℕ) (k : ℕ) → AreBelow n ks → IsNumber ks k → k < n
 number-below n [] k below h = absurd h
 number-below n (j ∷ ks) k below h = ⊎_elim (λ (here : j ≡ k). subst (λ l. l < n) here below.0) (λ (there : IsNumber ks k). number-below n ks k below.1 there) h
 
+-- and so is one of names
 name-number-below : (n : ℕ) (fs : List (Vec ℕ × ℕ)) (k : ℕ) → AreNamedBelow n fs → HasNumber fs k → k < n
 name-number-below n [] k below h = absurd h
 name-number-below n (f ∷ fs) k below h = ⊎_elim (λ (here : f.1 ≡ k). subst (λ l. l < n) here below.0) (λ (there : HasNumber fs k). name-number-below n fs k below.1 there) h
@@ -161,34 +175,42 @@ last_free : (m : ℕ) (xs : List Spot) (n : ℕ) → AreSpots m xs → m + lengt
 last_free m [] n spots far = tt
 last_free m (x ∷ xs) n spots far = (λ h. let before = names-before m x n spots.0 h in absurd (omega arith), last_free (m + 1) xs n spots.1 (omega arith))
 
+-- no spot names the last place, since each names places before itself
 pub last-free : (xs : List Spot) (n : ℕ) → AreSpots 0 xs → n + 1 ≡ length xs → IsFree xs n
 last-free xs n spots is = last_free 0 xs n spots (omega arith)
 
+-- a place that neither part names
 free-append : (xs ys : List Spot) (k : ℕ) → IsFree xs k → IsFree ys k → IsFree (xs ++ ys) k
 free-append [] ys k a b = b
 free-append (x ∷ xs) ys k a b = (a.0, free-append xs ys k a.1 b)
 
+-- spots that name places from m on leave those before free
 from_free : (m : ℕ) (xs : List Spot) (k : ℕ) → AreFrom m xs → k < m → IsFree xs k
 from_free m [] k from below = tt
 from_free m (x ∷ xs) k from below = (λ h. let above = from.0 k h in absurd (omega arith), from_free m xs k from.1 below)
 
+-- a lower bound may be lowered
 from-weaker : (m n : ℕ) (xs : List Spot) → m ≤ n → AreFrom n xs → AreFrom m xs
 from-weaker m n [] le from = tt
 from-weaker m n (x ∷ xs) le from = (λ k h. let above = from.0 k h in omega arith, from-weaker m n xs le from.1)
 
+-- and holds of a concatenation
 from-append : (m : ℕ) (xs ys : List Spot) → AreFrom m xs → AreFrom m ys → AreFrom m (xs ++ ys)
 from-append m [] ys a b = b
 from-append m (x ∷ xs) ys a b = (a.0, from-append m xs ys a.1 b)
 
+-- one more spot, which names places that were free
 once-push : (xs : List Spot) (y : Spot) → AreNamedOnce xs → ((k : ℕ) → Names y k → IsFree xs k) → AreNamedOnce (xs ++ y ∷ [])
 once-push [] y once free = (λ k h. tt, tt)
 once-push (x ∷ xs) y once free = (λ k h. free-append xs (y ∷ []) k (once.0 k h) (λ g. (free k g).0 h, tt), once-push xs y once.1 (λ k h. (free k h).1))
 
 -- ---- growing
 
+-- a table doesn't shrink
 pub length-grows : (xs ys : List Spot) → Grows xs ys → length xs ≤ length ys
 length-grows xs ys g = let n : length ys ≡ length xs + length g.more = ap length g.grown ∙ length-append xs g.more in omega arith
 
+-- growing is transitive
 pub grows-twice : (xs ys zs : List Spot) → Grows xs ys → Grows ys zs → Grows xs zs
 grows-twice xs ys zs g h = record {
   more = g.more ++ h.more;
@@ -225,6 +247,7 @@ numbers-free xs ms ys ks n le g below free behind is k h =
     (λ (new : n ≡ k). one-free xs ys n (omega arith) is g.spots k new)
     (number-push ks n k h)
 
+-- one more field's place is free, as are those before
 pub names-free : (xs ms ys : List Spot) (fs : List (Vec ℕ × ℕ)) (f : Vec ℕ × ℕ) → length xs ≤ length ms → Grows ms ys → AreNamedBelow (length ms) fs → ((k : ℕ) → HasNumber fs k → IsFreeFrom (length xs) ms k) → length ms ≤ f.1 → f.1 + 1 ≡ length ys
     → (k : ℕ) → HasNumber (fs ++ f ∷ []) k → IsFreeFrom (length xs) ys k
 names-free xs ms ys fs f le g below free behind is k h =
@@ -233,8 +256,10 @@ names-free xs ms ys fs f le g below free behind is k h =
     (λ (new : f.1 ≡ k). one-free xs ys f.1 (omega arith) is g.spots k new)
     (named-push fs f k h)
 
+-- numbers read the same after the table has grown
 pub map-kept : (xs ys : List Spot) → Grows xs ys → (ks : List ℕ) → AreBelow (length xs) ks → map (at (places_of ys)) ks ≡ map (at (places_of xs)) ks
 map-kept xs ys g ks h = ap (λ l. map (at (places_of l)) ks) g.grown ∙ map-grown xs g.more ks h
 
+-- and so do names
 pub named-kept : (xs ys : List Spot) → Grows xs ys → (fs : List (Vec ℕ × ℕ)) → AreNamedBelow (length xs) fs → map (named_at (places_of ys)) fs ≡ map (named_at (places_of xs)) fs
 named-kept xs ys g fs h = ap (λ l. map (named_at (places_of l)) fs) g.grown ∙ named-grown xs g.more fs h

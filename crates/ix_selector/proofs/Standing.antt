@@ -7,6 +7,7 @@ use Rattle.ix_selector.specs.declared.spot.Spot.TheVariants.{Matcher, All, Field
 use Rattle.ix_selector.specs.Places.{Names, IsFree, AreNamedOnce}
 use Rattle.ix_selector.specs.Standing.{NamesBeside, IsBeside, IsSequenceOf, StandsIn, in_none, in_same, in_own}
 
+-- a spot names what is inside it in the same recursion
 beside_names : (x : Spot) (k : ℕ) → NamesBeside x k → Names x k
 beside_names Matcher k h = absurd h
 beside_names (All j) k h = h
@@ -21,14 +22,17 @@ beside_names Edge k h = absurd h
 abbrev At : List Spot → ℕ → ℕ → Type 0
 At spots n k = Names (get_or spots n Edge) k
 
+-- by its position in the table
 names_at : (spots : List Spot) (n k : ℕ) (x : Spot) → n < length spots → x ≡ get_or spots n x → Names x k → At spots n k
 names_at spots n k x within is h = subst (λ y. Names y k) (is ∙ get_or_default spots n x Edge within) h
 
+-- a place that no spot names isn't named at any position
 free_at : (spots : List Spot) (n k : ℕ) → IsFree spots k → n < length spots → At spots n k → ⊥
 free_at [] n k free within h = omega arith
 free_at (x ∷ xs) zero k free within h = free.0 h
 free_at (x ∷ xs) (suc n) k free within h = free_at xs n k free.1 (omega arith) h
 
+-- a place is named at one position at most
 once_at : (spots : List Spot) (n m k : ℕ) → AreNamedOnce spots → n < length spots → m < length spots → At spots n k → At spots m k → n ≡ m
 once_at [] n m k once a b g h = absurd (omega arith)
 once_at (x ∷ xs) zero zero k once a b g h = refl
@@ -36,9 +40,11 @@ once_at (x ∷ xs) zero (suc m) k once a b g h = absurd (free_at xs m k (once.0 
 once_at (x ∷ xs) (suc n) zero k once a b g h = absurd (free_at xs n k (once.0 k h) (omega arith) g)
 once_at (x ∷ xs) (suc n) (suc m) k once a b g h = ap suc (once_at xs n m k once.1 (omega arith) (omega arith) g h)
 
+-- being inside in the same recursion is being named
 beside_at : (spots : List Spot) (n k : ℕ) → IsBeside spots n k → At spots n k
 beside_at spots n k b = names_at spots n k b.spot b.within b.is (beside_names b.spot k b.names)
 
+-- and so is being a sequence
 sequence_at : (spots : List Spot) (n k : ℕ) → IsSequenceOf spots n k → At spots n k
 sequence_at spots n k s = names_at spots n k (Recursive s.depth k) s.within s.is refl
 
@@ -49,6 +55,7 @@ beside_no_sequence spots n k l b s =
     let named : NamesBeside (Recursive s.depth l) k = subst (λ y. NamesBeside y k) same b.names in
     named
 
+-- so the innermost recursion of a place is unique
 pub stands-once : {spots : List Spot} {k : ℕ} {q r : Option ℕ} → AreNamedOnce spots → StandsIn spots k q → StandsIn spots k r → q ≡ r
 stands-once once (in_none free) (in_none other) = refl
 stands-once {spots} once (in_none {k = k} free) (in_same {n = m} b t) = absurd (free_at spots m k free b.within (beside_at spots m k b))

@@ -52,9 +52,11 @@ mutual
 
 -- ---- which stands at a number
 
+-- what is found at a number: a selector and the recursion around it, or nothing
 abbrev Found : Type 0
 Found = Option (Pattern × Inner)
 
+-- the selector itself at its own number, or what is found inside it
 abbrev own : Pattern → ℕ → Inner → ℕ → Found → Found
 own s n q k inner = if nat_eq k (n + inside_of s) then Some (s, q) else inner
 
@@ -77,12 +79,15 @@ abbrev mutual
   find_member no_members n q k = None
   find_member (member s ss) n q k = if nat_lt k (n + (inside_of s + 1)) then find s n q k else find_member ss (n + (inside_of s + 1)) q k
 
+-- at its own number it is found
 own_here : (s : Pattern) (n : ℕ) (q : Inner) (inner : Found) → own s n q (n + inside_of s) inner ≡ Some (s, q)
 own_here s n q inner = ap (λ b. if b then Some (s, q) else inner) (eq-eqb (n + inside_of s) (n + inside_of s) refl)
 
+-- below its own number what is inside is found
 own_inner : (s : Pattern) (n : ℕ) (q : Inner) (k : ℕ) (inner : Found) → k < n + inside_of s → own s n q k inner ≡ inner
 own_inner s n q k inner h = ap (λ b. if b then Some (s, q) else inner) (ne_eqb k (n + inside_of s) (λ e. let apart : ⊥ = omega arith in apart))
 
+-- so the search at a selector's own number finds it
 find_here : (s : Pattern) (n : ℕ) (q : Inner) → find s n q (n + inside_of s) ≡ Some (s, q)
 find_here matcher n q = own_here matcher n q None
 find_here (all s) n q = own_here (all s) n q (find s n q (n + inside_of (all s)))

@@ -1,4 +1,4 @@
--- Residuals that leave the same behind each step.
+-- Residuals that are the same after each step.
 use Rattle.std.specs.Prelude.{List, [], ◌∷◌, Some}
 use Rattle.ix_selector.specs.declared.spot.Spot.{Spot}
 use Rattle.ix_selector.specs.declared.pair.Pair.{Pair}
@@ -9,7 +9,7 @@ use Rattle.ix_selector.specs.Places.{seen}
 use Rattle.ix_selector.specs.Pairs.{selector_at}
 use Rattle.ix_selector.specs.Behind.{IsLeftBehind}
 
--- the selector goes on the same behind each step
+-- the selector continues the same after each step
 abbrev pub LooksAtNoStep : Pattern → Type 0
 LooksAtNoStep matcher = Unit {0}
 LooksAtNoStep (all s) = Unit {0}
@@ -20,7 +20,7 @@ LooksAtNoStep (recursive limit s) = ⊥
 LooksAtNoStep (union ss) = ⊥
 LooksAtNoStep edge = ⊥
 
--- so does the selector of a spot, whatever stands before it
+-- so does the selector of a spot, whatever the places before it
 abbrev pub SpotLooksAtNoStep : Spot → Type 0
 SpotLooksAtNoStep x = (places : List Pattern) → LooksAtNoStep (seen places x)
 
@@ -33,7 +33,7 @@ LookAtNoStep (x ∷ xs) = LooksAtNoStep x.selector × LookAtNoStep xs
 abbrev pub PairLooksAtNoStep : List Spot → Pair → Type 0
 PairLooksAtNoStep spots x = LooksAtNoStep (selector_at spots x)
 
--- each step leaves this of the places
+-- each step from the places leaves r
 pub record EachStepLeaves (places r : List Place) : Type 0 where
   pub entered : ResidualEnters r []
   pub below : (t : Step) → EntersBehind places t r

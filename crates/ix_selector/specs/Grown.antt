@@ -5,15 +5,15 @@ use Rattle.ix_selector.specs.Pattern.{Pattern}
 use Rattle.ix_selector.specs.Ordered.{IsOrdered}
 use Rattle.ix_selector.specs.Places.{AreSpots, AreNamedOnce, AreFrom}
 
--- the places of a selector, whose names rise, can be put behind these spots: each names places before it alone, and no two
--- name one place
+-- the places of a selector, whose names rise, can be appended to these spots: each spot names places before it alone, and no
+-- two name one place
 pub record CanPut (old : List Spot) (s : Pattern) : Type 0 where
   pub ordered : IsOrdered s
   pub spots : AreSpots 0 old
   pub once : AreNamedOnce old
 
--- spots were put behind those that were there: they name places before them alone, none of those that were there,
--- and none that another names
+-- spots were appended to those that were there: they name places before them alone, none of those that were there, and none
+-- that another names
 pub record Grows (old new : List Spot) : Type 0 where
   pub more : List Spot
   pub grown : new ≡ old ++ more

@@ -1,4 +1,4 @@
--- How the places of a selector are numbered: those inside a selector one after another, and itself behind them.
+-- How the places of a selector are numbered: those inside a selector one after another, and itself after them.
 use Rattle.std.specs.Prelude.{◌≡◌, ℕ, ◌+◌, ◌<◌, ◌≤◌, List, [], ◌∷◌, map, get_or, length}
 use Rattle.std.specs.Global.{Vec}
 use Rattle.ix_selector.specs.declared.spot.Spot.{Spot}
@@ -9,6 +9,7 @@ use Rattle.ix_selector.specs.Grown.{Grows}
 use Rattle.ix_selector.specs.Behind.{inside_of}
 use Rattle.ix_selector.specs.Ordered.{IsOrdered}
 
+-- the number of a named place
 abbrev pub number_of : Vec ℕ × ℕ → ℕ
 number_of f = f.1
 
@@ -28,7 +29,7 @@ abbrev pub AreRow : List Pattern → ℕ → List ℕ → ℕ → Type 0
 AreRow places m [] n = m ≡ n
 AreRow places m (k ∷ ks) n = (k ≡ m + inside_of (at places k)) × AreRow places (k + 1) ks n
 
--- what is inside the spot at place n stands right before it
+-- what is inside the spot at place n is right before it
 pub record IsLaid (places : List Pattern) (n : ℕ) (x : Spot) : Type 0 where
   pub first : ℕ
   pub row : AreRow places first (numbers_of x) n
@@ -37,22 +38,21 @@ pub record IsLaid (places : List Pattern) (n : ℕ) (x : Spot) : Type 0 where
 pub record AreLaidFrom (m : ℕ) (spots : List Spot) : Type 0 where
   pub laid : (n : ℕ) (x : Spot) → m ≤ n → n < length spots → x ≡ get_or spots n x → IsLaid (places_of spots) n x
 
--- spots were put behind those that were there, and what is inside each of them stands right before it
+-- spots were appended, and what is inside each of them is right before it
 abbrev pub GrowsInOrder : List Spot → List Spot → Type 0
 GrowsInOrder old new = Grows old new × AreLaidFrom (length old) new
 
--- what was put behind those that were there, in order, are the selectors at these places, which no spot names yet, and all
--- that is inside them
+-- what was appended, in order, are the selectors at these places, which no spot names yet, and all that is inside them
 pub record GrowsBy (old new : Vec Spot) (numbers : List ℕ) : Type 0 where
   pub grows : GrowsInOrder old.items new.items
   pub free : (k : ℕ) → IsNumber numbers k → IsFreeFrom (length old.items) new.items k
   pub row : AreRow (places_of new.items) (length old.items) numbers (length new.items)
 
--- the number of a selector whose places are put behind these
+-- the number of a selector whose places are appended to these
 abbrev pub IsNumberBehind : List Spot → Pattern → ℕ → Type 0
 IsNumberBehind spots s n = n ≡ length spots + inside_of s
 
--- each spot names places before it alone, no two name one place, and what is inside a spot stands right before it
+-- each spot names places before it alone, no two name one place, and what is inside a spot is right before it
 pub record IsTable (spots : List Spot) : Type 0 where
   pub placed : AreSpots 0 spots
   pub once : AreNamedOnce spots
@@ -68,7 +68,7 @@ IsTableOf spots root =
 abbrev pub IsRootOf : List Spot → Pattern → ℕ → Type 0
 IsRootOf spots s root = (root + 1 ≡ length spots) × (at (places_of spots) root ≡ s)
 
--- a selector that keeps the rules on edges, and in which names rise
+-- a selector that obeys the rules on edges, and in which names rise
 pub record IsSound (s : Pattern) : Type 0 where
   pub selector : IsSelector s
   pub ordered : IsOrdered s

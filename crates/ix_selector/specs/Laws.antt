@@ -1,4 +1,4 @@
--- What the laws say of selectors and what is left of them.
+-- What the laws say of selectors and their residuals.
 use Rattle.std.specs.Prelude.{◌≡◌, ◌↔◌, [], ◌++◌, true, false, Ok}
 use Rattle.ix_cbor.specs.Data.{Data}
 use Rattle.ix_selector.specs.Pattern.{Pattern, IsSelector}
@@ -17,7 +17,7 @@ EntersWhatIsTested = (s : Pattern) (p : Path) → IsSelector s → is_entered s 
 abbrev pub TestsWhatIsEntered : Type 0
 TestsWhatIsEntered = (s : Pattern) (p : Path) → IsSelector s → Enters s [] p → is_entered s p ≡ true
 
--- a selector is read exactly where the data spell it
+-- a selector is read exactly if the data spell it
 abbrev pub ReadsWhatIsSpelled : Type 0
 ReadsWhatIsSpelled = (d : Data) (s : Pattern) → (selector_of d ≡ Ok s ↔ (SpellsSelector d s × IsSelector s))
 
@@ -30,15 +30,15 @@ abbrev pub SpellsNoOther : Type 0
 SpellsNoOther =
     (d : Data) (s t : Pattern) → IsSelector s → IsSelector t → SpellsSelector d s → SpellsSelector d t → s ≡ t
 
--- nothing is left exactly at the places that aren't entered
+-- the residual is empty exactly at the places that aren't entered
 abbrev pub NothingIsLeft : Type 0
 NothingIsLeft = (s : Pattern) (p : Path) → IsSelector s → (is_entered s p ≡ false ↔ residual_at s p ≡ [])
 
--- what is left at a place enters what the selector enters from there
+-- the residual at a place enters what the selector enters from there
 abbrev pub LeavesTheRest : Type 0
 LeavesTheRest = (s : Pattern) (p q : Path) → IsSelector s → residual_enters (residual_at s p) q ≡ is_entered s (p ++ q)
 
--- where the same is left at two places, the same is entered from both
+-- if the residuals at two places are equal, the same is entered from both
 abbrev pub SameEntersTheSame : Type 0
 SameEntersTheSame =
     (s : Pattern) (p q : Path) → IsSelector s → same_residual (residual_at s p) (residual_at s q) ≡ true

@@ -1,4 +1,4 @@
--- Selectors whose names stand in the order of map keys (DAG-CBOR: the shorter one first, names of one length by their bytes).
+-- Selectors whose names have the order of map keys (DAG-CBOR: the shorter one first, names of one length by their bytes).
 use Rattle.std.specs.Prelude.{◌≡◌, ℕ, List}
 use Rattle.std.specs.declared.cmp.Ordering.TheVariants.{Less}
 use Rattle.ix_cbor.specs.Spelling.{key_cmp}

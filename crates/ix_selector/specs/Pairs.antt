@@ -1,4 +1,4 @@
--- Places of a selector, each in the innermost recursion round it, and what they enter.
+-- Places of a selector, each in the innermost recursion around it, and what they enter.
 use Rattle.std.specs.Prelude.{◌≡◌, ◌⊎◌, ℕ, ◌+◌, ◌-◌, ◌<◌, ◌≤◌, max, nat_le, if◌then◌else◌, List, [], ◌∷◌, map, length, Option, Some, None}
 use Rattle.std.specs.List.{All, Contains}
 use Rattle.ix_selector.specs.declared.spot.Spot.{Spot}
@@ -11,29 +11,30 @@ use Rattle.ix_selector.specs.Places.{at, places_of}
 use Rattle.ix_selector.specs.Standing.{StandsIn}
 use Rattle.ix_selector.specs.Residual.{Place}
 
--- the recursion behind one of its edges
+-- the recursion after one of its edges, if it may be entered again
 abbrev pub lowered : Recursion → Option Recursion
 lowered r = by r.depth where
   by : Option ℕ → Option Recursion
   by None = Some r
   by (Some d) = if nat_le 2 d then Some (record { sequence = r.sequence; depth = Some (d - 1) }) else None
 
--- the greater depth; none is above all
+-- the greater depth; no limit is the greatest
 abbrev pub deeper : Option ℕ → Option ℕ → Option ℕ
 deeper None e = None
 deeper (Some d) None = None
 deeper (Some d) (Some e) = Some (max d e)
 
+-- one recursion for two with one sequence, with the greater depth
 abbrev pub IsDeeper : Option Recursion → Option Recursion → Option Recursion → Type 0
 IsDeeper None None None = Unit {0}
 IsDeeper (Some a) (Some b) (Some c) = (a.sequence ≡ b.sequence) × (c.sequence ≡ a.sequence) × (c.depth ≡ deeper a.depth b.depth)
 IsDeeper a b c = ⊥
 
--- one pair for two ways to a place, with the greater depth
+-- one pair for two with one place, with the greater depth
 abbrev pub IsJoined : Pair → Pair → Pair → Type 0
 IsJoined a b c = (a.place ≡ b.place) × (c.place ≡ a.place) × IsDeeper a.recursion b.recursion c.recursion
 
--- the recursion round a place, with its sequence
+-- the recursion around a place, with its sequence
 abbrev pub frames : List Pattern → Option Recursion → List Frame
 frames places None = []
 frames places (Some r) = record { sequence = at places r.sequence; depth = r.depth } ∷ []
@@ -52,11 +53,12 @@ pub record SomeEnter (spots : List Spot) (xs : List Pair) (p : Path) : Type 0 wh
   pub among : Contains xs pair
   pub enters : EntersAt spots pair p
 
--- whatever stands round a place in a recursion, a step was made since
+-- inside a recursion a step was made since its start
 abbrev pub around : Option Recursion → Around
 around None = outside
 around (Some r) = guarded
 
+-- the sequence is in the table, and in it a step is before each edge
 abbrev pub IsSequence : List Spot → Option Recursion → Type 0
 IsSequence spots None = Unit {0}
 IsSequence spots (Some r) = (r.sequence < length spots) × IsGuarded unguarded (at (places_of spots) r.sequence)
@@ -74,7 +76,7 @@ place_of spots x = record { selector = at (places_of spots) x.place; around = fr
 abbrev pub seen_pairs : List Spot → List Pair → List Place
 seen_pairs spots xs = map (place_of spots) xs
 
--- a place of these, in the innermost recursion round it
+-- a place of these, in the innermost recursion around it
 pub record IsPair (spots : List Spot) (x : Pair) : Type 0 where
   pub within : x.place < length spots
   pub guarded : IsGuarded (around x.recursion) (selector_at spots x)
@@ -86,10 +88,11 @@ pub record IsAt (x y : Pair) : Type 0 where
   pub place : y.place ≡ x.place
   pub sequence : sequence_of y.recursion ≡ sequence_of x.recursion
 
--- pairs at one place stand in one recursion
+-- pairs with one place are in one recursion
 abbrev pub AgreesWith : Pair → Pair → Type 0
 AgreesWith x y = x.place ≡ y.place → sequence_of x.recursion ≡ sequence_of y.recursion
 
+-- any two of them agree
 pub record Agree (xs : List Pair) : Type 0 where
   pub at : (x y : Pair) → Contains xs x → Contains xs y → AgreesWith x y
 
@@ -111,7 +114,7 @@ pub record IsOf (xs : List Pair) (y : Pair) : Type 0 where
   pub among : Contains xs pair
   pub at : IsAt pair y
 
--- enters where it stands
+-- a matcher or one of the four explorers: it enters its own place
 abbrev pub Stands : Pattern → Type 0
 Stands matcher = Unit {0}
 Stands (all s) = Unit {0}
@@ -122,19 +125,21 @@ Stands (recursive limit s) = ⊥
 Stands (union ss) = ⊥
 Stands edge = ⊥
 
+-- the selector of the pair is a matcher or explorer
 abbrev pub IsStanding : List Spot → Pair → Type 0
 IsStanding spots x = Stands (selector_at spots x)
 
--- places of these that stand
+-- pairs of these places that are matchers and explorers
 abbrev pub AreStandingPairs : List Spot → List Pair → Type 0
 AreStandingPairs spots xs = All (IsPair spots) xs × All (IsStanding spots) xs
 
--- no edge of it stands before a step
+-- each edge in it is after a step
 pub record NoEdge (s : Pattern) : Type 0 where
   pub around : Around
   pub never : MayStand around → ⊥
   pub guarded : IsGuarded around s
 
+-- each edge in the selector of the pair is after a step
 abbrev pub HasNoEdge : List Spot → Pair → Type 0
 HasNoEdge spots x = NoEdge (selector_at spots x)
 
@@ -150,7 +155,7 @@ Same A B = (p : Path) → (A p → B p) × (B p → A p)
 abbrev pub Joins : (Path → Type 0) → (Path → Type 0) → (Path → Type 0) → Type 0
 Joins A B C = (p : Path) → (A p → B p ⊎ C p) × (B p ⊎ C p → A p)
 
--- the same paths, whatever the table of places
+-- the same paths, whatever the table
 abbrev pub EnterSame : List Pair → List Pair → Type 0
 EnterSame xs ys = (spots : List Spot) → Same (SomeEnter spots xs) (SomeEnter spots ys)
 
@@ -158,11 +163,11 @@ EnterSame xs ys = (spots : List Spot) → Same (SomeEnter spots xs) (SomeEnter s
 abbrev pub EnterMore : List Pair → List Pair → Pair → Type 0
 EnterMore xs ys x = (spots : List Spot) → Joins (SomeEnter spots xs) (SomeEnter spots ys) (EntersAt spots x)
 
--- behind the step s enters what r enters, and its edges stay guarded
+-- after the step it enters what r enters, and its edges stay guarded
 pub record LeadsTo (s : Pattern) (t : Step) (r : Pattern) : Type 0 where
   pub enters : (e : List Frame) (p : Path) → (Enters s e (t ∷ p) → Enters r e p) × (Enters r e p → Enters s e (t ∷ p))
   pub guarded : (a : Around) → IsGuarded a s → IsGuarded (behind_step a) r
 
--- behind the step nothing is entered
+-- after the step nothing is entered
 abbrev pub LeadsNowhere : Pattern → Step → Type 0
 LeadsNowhere s t = (e : List Frame) (p : Path) → Enters s e (t ∷ p) → ⊥

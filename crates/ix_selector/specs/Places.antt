@@ -1,4 +1,4 @@
--- The places of a selector, by number: itself and the selectors inside it, each behind those inside it.
+-- The places of a selector, by number: itself and the selectors inside it, each after those inside it.
 use Rattle.std.specs.Prelude.{◌≡◌, ◌⊎◌, ℕ, ◌+◌, ◌<◌, ◌≤◌, List, [], ◌∷◌, ◌++◌, map, get_or, length}
 use Rattle.std.specs.Global.{Vec}
 use Rattle.std.specs.declared.cmp.Ordering.TheVariants.{Less}
@@ -28,11 +28,12 @@ seen places (Recursive limit k) = recursive limit (at places k)
 seen places (Union ks) = union (members_of (map (at places) ks.items))
 seen places Edge = edge
 
--- the selectors at all places, behind some
+-- the selectors at all places, after some
 abbrev pub seen_behind : List Pattern → List Spot → List Pattern
 seen_behind before [] = before
 seen_behind before (x ∷ xs) = seen_behind (before ++ seen before x ∷ []) xs
 
+-- the selectors at all places of a table
 abbrev pub places_of : List Spot → List Pattern
 places_of spots = seen_behind [] spots
 
@@ -41,7 +42,7 @@ abbrev pub IsBefore : List ℕ → List (Vec ℕ × ℕ) → Type 0
 IsBefore k [] = Unit {0}
 IsBefore k (f ∷ fs) = (key_cmp k f.0.items ≡ Less) × IsBefore k fs
 
--- each key is before those behind it
+-- each key is before those after it
 abbrev pub AreRising : List (Vec ℕ × ℕ) → Type 0
 AreRising [] = Unit {0}
 AreRising (f ∷ fs) = IsBefore f.0.items fs × AreRising fs
@@ -51,6 +52,7 @@ abbrev pub AreBelow : ℕ → List ℕ → Type 0
 AreBelow n [] = Unit {0}
 AreBelow n (k ∷ ks) = (k < n) × AreBelow n ks
 
+-- each number of a name is below a bound
 abbrev pub AreNamedBelow : ℕ → List (Vec ℕ × ℕ) → Type 0
 AreNamedBelow n [] = Unit {0}
 AreNamedBelow n (f ∷ fs) = (f.1 < n) × AreNamedBelow n fs
@@ -73,14 +75,17 @@ AreSpots n (x ∷ xs) = IsSpot n x × AreSpots (n + 1) xs
 
 -- ---- which places a spot names
 
+-- the number is in the list
 abbrev pub IsNumber : List ℕ → ℕ → Type 0
 IsNumber [] k = ⊥
 IsNumber (j ∷ js) k = (j ≡ k) ⊎ IsNumber js k
 
+-- the number belongs to one of the names
 abbrev pub HasNumber : List (Vec ℕ × ℕ) → ℕ → Type 0
 HasNumber [] k = ⊥
 HasNumber (f ∷ fs) k = (f.1 ≡ k) ⊎ HasNumber fs k
 
+-- the spot names the place
 abbrev pub Names : Spot → ℕ → Type 0
 Names Matcher k = ⊥
 Names (All j) k = j ≡ k
@@ -110,17 +115,17 @@ AreFrom m (x ∷ xs) = ((k : ℕ) → Names x k → m ≤ k) × AreFrom m xs
 abbrev pub IsFreeFrom : ℕ → List Spot → ℕ → Type 0
 IsFreeFrom m xs k = (m ≤ k) × IsFree xs k
 
--- ---- what is put behind the places that are there
+-- ---- what is appended to the places that are there
 
--- the selector stands at the place
+-- the selector is at the place
 abbrev pub IsAtPlace : List Spot → Pattern → ℕ → Type 0
 IsAtPlace spots s n = (n < length spots) × (at (places_of spots) n ≡ s)
 
--- the spot is to stand behind these, as the selector
+-- the spot, appended to these, is the selector
 abbrev pub IsSpotOf : List Spot → Pattern → Spot → Type 0
 IsSpotOf spots s x = IsSpot (length spots) x × (seen (places_of spots) x ≡ s)
 
--- the numbers behind the names are the places of these fields
+-- the numbers of the names are the places of these fields
 abbrev pub AreFieldsAt : List Spot → List (Vec ℕ × Sel) → List (Vec ℕ × ℕ) → Type 0
 AreFieldsAt spots fs names =
     AreNamedBelow (length spots) names × AreRising names × (map (named_at (places_of spots)) names ≡ map seen_field fs)

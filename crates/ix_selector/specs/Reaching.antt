@@ -14,7 +14,7 @@ use Rattle.ix_selector.specs.Residual.{Place, step_of}
 use Rattle.ix_selector.specs.Pairs.{lowered, place_of, seen_pairs, IsPair, IsStanding, AreStandingPairs, HasNoEdge, Stands, EntersAt, SomeEnter, ReachedEnters, Same, Joins, LeadsTo, LeadsNowhere}
 use Rattle.ix_selector.specs.Behind.{inside_of, leads, leads_from, all_lead, standing, again, entering, leads_behind, residual_behind}
 
--- the members of a union, in the recursion round it
+-- the members of a union, in the recursion around it
 abbrev pub members_at : Pair → List ℕ → List Pair
 members_at x ks = map (λ k. record { place = k; recursion = x.recursion }) ks
 
@@ -23,12 +23,12 @@ abbrev pub at_start : Option Recursion → List Pair
 at_start None = []
 at_start (Some r) = record { place = r.sequence; recursion = Some r } ∷ []
 
--- the sequence that an edge enters again, or none
+-- the sequence that an edge re-enters, or none
 abbrev pub entered_again : Option Recursion → List Pair
 entered_again None = []
 entered_again (Some r) = at_start (lowered r)
 
--- what was reached are pairs of a table: those that stand, and sequences that edges enter again
+-- what was reached are pairs of a table: matchers and explorers, and sequences that edges re-enter
 pub record AreReached (spots : List Spot) (r : Reached) : Type 0 where
   pub table : IsTable spots
   pub pairs : All (IsPair spots) r.standing.items
@@ -36,22 +36,22 @@ pub record AreReached (spots : List Spot) (r : Reached) : Type 0 where
   pub again : All (IsPair spots) r.again.items
   pub sequences : All (HasNoEdge spots) r.again.items
 
--- to what was reached are added the places that stand among these, and the sequences that their edges enter again
+-- the matchers and explorers among these are added to what was reached, and so are the sequences that their edges re-enter
 abbrev pub Adds : List Spot → Reached → Reached → List Place → Type 0
 Adds spots old new found =
     (seen_pairs spots new.standing.items ≡ seen_pairs spots old.standing.items ++ standing found)
     × (seen_pairs spots new.again.items ≡ seen_pairs spots old.again.items ++ again found)
 
--- what is left of what was reached
+-- these are the residual of what was reached
 abbrev pub AreLeft : List Spot → Reached → List Pair → Type 0
 AreLeft spots reached rs = seen_pairs spots rs ≡ entering (seen_pairs spots reached.standing.items) (seen_pairs spots reached.again.items)
 
--- behind the step the place n leads where the place k does
+-- after the step the place n leads where the place k does
 abbrev pub LeadsAs : List Pattern → ℕ → Step → ℕ → Type 0
 LeadsAs places n t k =
     (e : List Frame) (q : Option ℕ) → leads_behind (at places n) t (n - inside_of (at places n)) e q ≡ leads (at places k) (k - inside_of (at places k)) e q
 
--- behind the step it leads nowhere
+-- after the step it leads nowhere
 abbrev pub LeadsToNone : List Pattern → ℕ → Step → Type 0
 LeadsToNone places n t = (e : List Frame) (q : Option ℕ) → leads_behind (at places n) t (n - inside_of (at places n)) e q ≡ []
 
@@ -63,7 +63,7 @@ EntersPair spots x old new = Joins (ReachedEnters spots new) (ReachedEnters spot
 abbrev pub EntersEach : List Spot → Pair → List ℕ → Reached → Reached → Type 0
 EntersEach spots x ks old new = Joins (ReachedEnters spots new) (ReachedEnters spots old) (SomeEnter spots (members_at x ks))
 
--- to what was reached is added where a pair leads without a step
+-- where a pair leads without a step is added to what was reached
 abbrev pub AddsPair : List Spot → Pair → Reached → Reached → Type 0
 AddsPair spots x old new = Adds spots old new (leads_from (place_of spots x))
 
@@ -79,31 +79,31 @@ PairKeeps spots x old new = HasNoEdge spots x → new.again.items ≡ old.again.
 abbrev pub MembersKeep : List Spot → Pair → List ℕ → Reached → Reached → Type 0
 MembersKeep spots x ks old new = All (HasNoEdge spots) (members_at x ks) → new.again.items ≡ old.again.items
 
--- an edge in this recursion leads to its sequence once more
+-- an edge in this recursion adds its sequence once more
 abbrev pub EntersAgain : Option Recursion → Reached → Reached → Type 0
 EntersAgain r old new = new.again.items ≡ old.again.items ++ entered_again r
 
--- pairs that stand enter the paths of what was reached
+-- these pairs enter the paths of what was reached
 abbrev pub EnterAsReached : List Spot → Reached → List Pair → Type 0
 EnterAsReached spots reached rs = Same (SomeEnter spots rs) (ReachedEnters spots reached)
 
--- those that pairs enter behind a step
+-- these pairs enter what others enter after a step
 abbrev pub EnterBehind : List Spot → List Pair → RustStep → List Pair → Type 0
 EnterBehind spots xs t rs = Same (SomeEnter spots rs) (λ p. SomeEnter spots xs (step_of t ∷ p))
 
--- as places they are what is left behind the step
+-- as places they are the residual after the step
 abbrev pub AreLeftBehind : List Spot → List Pair → RustStep → List Pair → Type 0
 AreLeftBehind spots xs t rs = seen_pairs spots rs ≡ residual_behind (seen_pairs spots xs) (step_of t)
 
--- the place n leads to the place k behind the step
+-- the place n leads to the place k after the step
 abbrev pub LeadsBeside : List Pattern → ℕ → Step → ℕ → Type 0
 LeadsBeside places n t k = LeadsTo (at places n) t (at places k)
 
--- a place that stands enters nothing behind the step
+-- if the place is a matcher or explorer, it enters nothing after the step
 abbrev pub StandsAtEnd : List Pattern → ℕ → Step → Type 0
 StandsAtEnd places n t = Stands (at places n) → LeadsNowhere (at places n) t
 
--- pairs of these places that stand, no two at one place
+-- pairs of these places, all matchers and explorers, at most as many as places
 abbrev pub AreLeftIn : List Spot → List Pair → Type 0
 AreLeftIn spots xs =
     IsTable spots × All (IsPair spots) xs × All (IsStanding spots) xs × (length xs ≤ length spots)

@@ -1,4 +1,4 @@
--- Sequences that edges enter again, each place of which is reached once.
+-- Sequences that edges re-enter, each place of which is reached once.
 use Rattle.std.specs.Prelude.{◌≡◌, ℕ, List, ◌∷◌, ◌++◌, length}
 use Rattle.std.specs.List.{All}
 use Rattle.ix_selector.specs.declared.pair.Pair.{Pair}
@@ -11,7 +11,7 @@ use Rattle.ix_selector.specs.Pairs.{place_of, seen_pairs, IsPair, IsJoined, HasN
 use Rattle.ix_selector.specs.Reaching.{members_at, AreReached}
 use Rattle.ix_selector.specs.Behind.{leads_from, all_lead, standing, merged}
 
--- the places that stand, and those to which the sequences lead that are still to be entered
+-- the matchers and explorers, and those to which the sequences lead that are still to be entered
 abbrev pub all_reached : List Spot → Reached → List Place
 all_reached spots r = seen_pairs spots r.standing.items ++ standing (all_lead (seen_pairs spots r.again.items))
 
@@ -31,14 +31,14 @@ pub record CanReenter (spots : List Spot) (x : Pair) (r : Reached) : Type 0 wher
   pub no_edge : HasNoEdge spots x
   pub reached : AreReached spots r
 
--- members of a union, which stand before it
+-- members of a union, whose places are before its own
 pub record CanReenterEach (spots : List Spot) (x : Pair) (ks : List ℕ) (r : Reached) : Type 0 where
   pub below : AreBelow x.place ks
   pub pairs : All (IsPair spots) (members_at x ks)
   pub no_edges : All (HasNoEdge spots) (members_at x ks)
   pub reached : AreReached spots r
 
--- to what was reached, or will be, are added these places that stand, with one for all ways to a place
+-- these matchers and explorers are added to what was reached or will be, with one place for each number
 pub record Reenters (spots : List Spot) (old new : Reached) (E : Path → Type 0) (found : List Place) : Type 0 where
   pub reached : AreReached spots new
   pub enters : Joins (ReachedEnters spots new) (ReachedEnters spots old) E

@@ -13,7 +13,7 @@ use Rattle.ix_selector.specs.Pattern as patterns
 use Rattle.ix_selector.specs.Pattern.{Pattern, matcher, all, fields, index, range, recursive, union, edge, Around, outside, unguarded, guarded, behind_step}
 use Rattle.ix_selector.specs.Reading.{Reader, ◌>>=◌, integer_of, entries_of_map, three_of, no_limit_of, depth_of, fields_read, members_read, form_of, read_with, selector_at}
 
--- what stands round a selector, as the program keeps it
+-- what surrounds a selector, as the program represents it
 abbrev pub around_of : RustAround → Around
 around_of Outside = outside
 around_of Unguarded = unguarded
@@ -30,7 +30,7 @@ items_data ds = node_items ds
 abbrev pub in_map : (Entries → Result Pattern SelFault) → Data → Result Pattern SelFault
 in_map form d = entries_of_map d >>= form
 
--- no limit, which an empty map stands for
+-- no limit, which an empty map spells
 abbrev pub none_limit : Data → Result (Option ℕ) SelFault
 none_limit d = entries_of_map d >>= no_limit_of
 
@@ -38,7 +38,7 @@ none_limit d = entries_of_map d >>= no_limit_of
 abbrev pub depth_limit : Data → Result (Option ℕ) SelFault
 depth_limit d = integer_of d >>= depth_of
 
--- a form, with what stands inside read
+-- a form, with what is inside read
 abbrev pub inside : Reader → Around → Shape → Result Pattern SelFault
 inside read around Matcher = Ok matcher
 inside read around (All d) = read (behind_step around) (data_of d.now) >>= (λ s. Ok (all s))
@@ -54,11 +54,11 @@ abbrev pub Shapes : Reader → Around → Result Shape SelFault → Result Patte
 Shapes read around (Ok shape) meant = meant ≡ inside read around shape
 Shapes read around (Err e) meant = meant ≡ Err e
 
--- so it is of a form, whatever reads inside and wherever it stands
+-- so it is for a form, whatever reads inside and whatever surrounds it
 abbrev pub Forms : Result Shape SelFault → (Reader → Around → Data → Result Pattern SelFault) → Data → Type 0
 Forms found form d = (read : Reader) (around : Around) → Shapes read around found (form read around d)
 
--- the same of a form that stands here
+-- the same for a form in these surroundings
 abbrev pub FormsIn : RustAround → Result Shape SelFault → (Reader → Around → Data → Result Pattern SelFault) → Data → Type 0
 FormsIn here found form d = (read : Reader) → Shapes read (around_of here) found (form read (around_of here) d)
 
@@ -77,7 +77,7 @@ three_nodes d = (data_of d.0.now, data_of d.1.now, data_of d.2.now)
 abbrev pub range_parts : Entries → Result (Data × Data × Data) SelFault
 range_parts es = three_of (codes "$") (codes ">") (codes "^") es
 
--- the selector for which a node stands here, which nests at most so deep
+-- the selector that a node spells in these surroundings, which nests at most so deep
 abbrev pub selector_in : ℕ → RustAround → Node → Result Pattern SelFault
 selector_in levels here node = selector_at levels (around_of here) (data_of node)
 
@@ -85,7 +85,7 @@ selector_in levels here node = selector_at levels (around_of here) (data_of node
 abbrev pub selector_above : ℕ → RustAround → Node → Result Pattern SelFault
 selector_above levels here node = read_with (selector_at levels) (around_of here) (data_of node)
 
--- the fields and the members of one that stands here
+-- its fields and members
 abbrev pub fields_at : ℕ → RustAround → List (Vec ℕ × Node) → Result patterns.Fields SelFault
 fields_at levels here names = fields_read (selector_at levels (around_of here)) (entries_data names)
 

@@ -3,17 +3,19 @@ use Rattle.std.specs.Prelude.{ℕ, ℤ, pos, List, codes, Option, Some, None}
 use Rattle.ix_cbor.specs.Data.{Data, Items, Entries, integer, text, list, map, no_items, item, no_entries, entry}
 use Rattle.ix_selector.specs.Pattern.{Pattern, Fields, Members, matcher, all, fields, index, range, recursive, union, edge, no_fields, field, no_members, member}
 
--- a map with these keys alone, in the order in which a block has them
+-- a map with this key alone
 abbrev pub one_key : List ℕ → Data → Data
 one_key k d = map (entry k d no_entries)
 
+-- a map with these two keys, in this order
 abbrev pub two_keys : List ℕ → Data → List ℕ → Data → Data
 two_keys k d l e = map (entry k d (entry l e no_entries))
 
+-- a map with these three keys, in this order
 abbrev pub three_keys : List ℕ → Data → List ℕ → Data → List ℕ → Data → Data
 three_keys k d l e m f = map (entry k d (entry l e (entry m f no_entries)))
 
--- A matcher has nothing but labels, which are texts. A key stands once in a block, so there is one label or none.
+-- A matcher has only labels, which are strings. A key occurs once in a block, so there is one label or none.
 pub data AreLabels : Entries → Type 0 where
   no_label : AreLabels no_entries
   label : {t : List ℕ} {es : Entries} → AreLabels es → AreLabels (entry (codes "label") (text t) es)

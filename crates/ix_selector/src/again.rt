@@ -1,8 +1,8 @@
-//! Sequences that edges enter again, where each of their places is reached once.
+//! Sequences that edges re-enter, so that each of their places is reached once.
 //!
-//! What stands inside several of them, one inside another with no step between, would be reached from each. So they are
-//! entered from the outermost one inwards, and where one leads to another that is still to be entered, that one takes the
-//! greater depth and waits for its turn.
+//! What is inside several of them, nested with no step between, would be reached from each. So they
+//! are entered from the outermost one inwards. If one leads to another that is still to be entered,
+//! that one takes the greater depth and waits for its turn.
 
 ghost use Rattle.std.specs.Prelude.{◌≡◌, OnOk};
 ghost use Rattle.std.specs.Bool.{OnTrue, OnFalse};
@@ -13,8 +13,8 @@ use crate::reached::Reached;
 use crate::spot::Spot;
 use std::alloc::AllocError;
 
-/// Adds what a pair without an edge enters: the places that stand behind unions and recursions, but for those behind the
-/// sequences that are still to be entered.
+/// Adds what a pair without an edge leads to: the matchers and explorers inside unions and
+/// recursions, except those inside sequences that are still to be entered.
 #[cycle(reenter)]
 pub(crate) fn reenter(spots: &[Spot], pair: Pair, reached: &mut Reached) -> Result<(), AllocError>
     requires { CanReenter spots.now pair reached.old }
@@ -39,7 +39,7 @@ pub(crate) fn reenter(spots: &[Spot], pair: Pair, reached: &mut Reached) -> Resu
     }
 }
 
-// Adds what the members of a union enter, which stand before it.
+// Adds what the members of a union lead to. Their places are before the union's.
 #[cycle(reenter)]
 fn reenter_each(
     spots: &[Spot],
@@ -58,7 +58,8 @@ fn reenter_each(
     Ok(())
 }
 
-// Joins a sequence at its start with the same among these, which are in the order of their places; whether it is among them.
+// Joins the start of a sequence with the same one among these, which are ordered by place. Returns
+// whether it is among them.
 fn join_start(again: &mut Pairs, start: Pair) -> bool
     ensures joined { OnTrue result (StartIsJoined again.old.items again.new.items start) }
     ensures other { OnFalse result (again.new ≡ again.old) }

@@ -1,44 +1,44 @@
-//! Why a tree is no selector.
+//! Why a tree is not a selector.
 
 use std::alloc::{AllocError, AllocFailed};
 
-/// A form that is refused by name.
+/// A selector form that is known but not supported.
 #[derive(Debug, Drop, Clone, Copy, PartialEq, Eq)]
 pub enum Form {
-    /// A selector that holds under a condition, by the key `&`.
+    /// A selector under a condition, by the key `&`.
     Conditional,
-    /// A selector over what another reading of the node gives, by the key `~`.
+    /// A selector over another interpretation of the node, by the key `~`.
     InterpretAs,
     /// A recursion that stops at a condition, by its key `!`.
     StopAt,
-    /// A matcher with a key other than `label`, as `subset`.
+    /// A matcher with a key other than `label`, such as `subset`.
     MatcherField,
 }
 
-/// The first refusal of a tree.
+/// The first error of a tree.
 #[derive(Debug, Drop, Clone, Copy, PartialEq, Eq)]
 pub enum SelFault {
-    /// Where a selector should stand, there is no map.
+    /// A selector isn't a map.
     NotMap,
-    /// A selector or a limit has not exactly one key, or the body of a form has not exactly the
-    /// keys of that form.
+    /// A selector or a limit hasn't exactly one key, or the body of a form hasn't exactly the keys
+    /// of that form.
     Keys,
     /// The key of a selector names no form, or that of a limit is neither `none` nor `depth`.
     Unknown,
-    /// A form that is known and refused.
+    /// The form is known but not supported.
     Unsupported(Form),
-    /// Inside a form a value is of another kind: a label that is no text, a number that is no
-    /// integer, members that are no list, or what should be a map and is none.
+    /// A value inside a form has the wrong kind: a label that isn't a string, a number that isn't
+    /// an integer, members that aren't a list, or something that should be a map and isn't.
     Kind,
     /// The depth of a limit is below 0, or not below 2 ^ 32.
     Depth,
-    /// An edge stands in no recursion.
+    /// An edge outside any recursion.
     EdgeOutside,
-    /// An edge stands in a recursion with no step between.
+    /// An edge in a recursion with no step between.
     EdgeUnguarded,
-    /// A selector stands inside 128 others.
+    /// A selector nested inside 128 others.
     Nesting,
-    /// No memory was left.
+    /// Out of memory.
     Memory,
 }
 

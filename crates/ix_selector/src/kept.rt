@@ -1,4 +1,4 @@
-//! The pairs of a residual, which residuals with the same pairs share.
+//! The pairs of a residual, shared by residuals with the same pairs.
 
 ghost use Rattle.std.specs.Prelude.{◌≡◌, IfOk};
 ghost use Rattle.ix_selector.specs.Kept.{kept_pairs};
@@ -8,11 +8,13 @@ use smallvec::SmallVec;
 use std::alloc::{AllocError, Global};
 use std::sync::Arc;
 
-// So many pairs take no allocation.
+// How many pairs take no allocation.
 const FEW: usize = 2;
 
-/// Pairs: a few in the value itself, and more in an allocation that can be shared. Strangers choose how many places a selector
-/// has and how deep lists stand in one another, and each list that is open keeps its residual.
+/// Pairs: a few in the value itself, and more in an allocation that can be shared.
+///
+/// Untrusted input decides how many places a selector has and how deep lists nest, and each list
+/// that is open keeps its residual.
 #[derive(Drop)]
 pub(crate) enum Kept {
     Own(Pairs),
@@ -20,7 +22,7 @@ pub(crate) enum Kept {
 }
 
 impl Kept {
-    /// These pairs.
+    /// Stores these pairs.
     pub(crate) fn new(alloc: Global, pairs: Pairs) -> Result<Kept, AllocError>
         ensures { IfOk result (λ k. kept_pairs k ≡ pairs.items) }
     {
@@ -30,7 +32,7 @@ impl Kept {
         Ok(Kept::Shared(Arc::new(alloc, pairs)?))
     }
 
-    /// These pairs behind a step: a share of those before it, where they are the same.
+    /// Stores the pairs after a step: shares the pairs before it, if they are the same.
     pub(crate) fn or_shared(&self, alloc: Global, pairs: Pairs) -> Result<Kept, AllocError>
         ensures { IfOk result (λ k. kept_pairs k ≡ pairs.items) }
     {
@@ -43,7 +45,7 @@ impl Kept {
         Kept::new(alloc, pairs)
     }
 
-    /// All of them.
+    /// All pairs.
     pub(crate) fn as_slice(&self) -> &[Pair]
         ensures { result.now ≡ kept_pairs self.now }
     {
@@ -53,7 +55,7 @@ impl Kept {
         }
     }
 
-    /// The same once more: many are shared.
+    /// Clones the pairs; many are shared.
     pub(crate) fn try_clone(&self, alloc: Global) -> Result<Kept, AllocError>
         ensures { IfOk result (λ k. kept_pairs k ≡ kept_pairs self.now) }
     {
@@ -63,7 +65,7 @@ impl Kept {
         }
     }
 
-    /// Whether they are shared: they are many.
+    /// Whether they are shared, as many pairs are.
     pub(crate) fn is_shared(&self) -> bool {
         matches!(self, Kept::Shared(_))
     }

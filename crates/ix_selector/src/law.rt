@@ -5,22 +5,22 @@ ghost use Rattle.ix_selector.specs.Laws.{EntersWhatIsTested, TestsWhatIsEntered,
 
 use crate::selector::Selector;
 
-/// `is_entered` decides which paths a selector enters.
+/// States that `is_entered` decides which paths a selector enters.
 pub fn entered_is_decided()
     ensures entered { EntersWhatIsTested }
     ensures only { TestsWhatIsEntered }
 {}
 
-/// A selector is read exactly where the data spell it; each selector has data that spell it, and
-/// data spell at most one.
+/// States that a selector is read exactly where the data spell it; that each selector has data that
+/// spell it; and that data spell at most one.
 pub fn selector_is_read_where_it_is_spelled()
     ensures read { ReadsWhatIsSpelled }
     ensures some { HasSpelling }
     ensures one { SpellsNoOther }
 {}
 
-/// What is left of a selector at a place enters what the selector enters from there, so the same
-/// rest of a selector at two places enters the same from both. Nothing is left exactly where the
+/// States that the residual of a selector at a place enters what the selector enters from there. So
+/// equal residuals at two places enter the same from both. The residual is empty exactly if the
 /// place isn't entered.
 pub fn residual_is_the_rest()
     ensures left { NothingIsLeft }
@@ -28,7 +28,7 @@ pub fn residual_is_the_rest()
     ensures same { SameEntersTheSame }
 {}
 
-/// A selector keeps the rules on edges and on nesting.
+/// States that a selector obeys the rules on edges and on nesting.
 pub fn selector_is_one(selector: &Selector)
     ensures { IsSelector selector.now }
 {

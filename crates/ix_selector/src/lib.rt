@@ -1,8 +1,8 @@
 //! IPLD selectors, and stepping along a path.
 //!
-//! Data are read as a selector exactly where they are one of its spellings and it keeps the rules
-//! on edges and nesting; a refusal is the first. A residual is what is left of a selector at a
-//! place: a step is taken exactly where the selector enters that child.
+//! Data are read as a selector exactly if they are one of its spellings and it obeys the rules on
+//! edges and nesting; otherwise the first error is returned. A residual is what remains of a
+//! selector at a place: a step can be taken exactly if the selector enters that child.
 //!
 //! ```rust
 //! // {"f":{"f>":{"album":{".":{}}}}}: the field `album` alone.

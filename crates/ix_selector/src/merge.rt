@@ -1,4 +1,4 @@
-//! Pairs of which no two stand at one place.
+//! Pairs of which no two have one place.
 
 ghost use Rattle.std.specs.Prelude.{◌∷◌, [], ◌++◌, IfOk, OnOk};
 ghost use Rattle.std.specs.List.{All};
@@ -9,7 +9,7 @@ use crate::pair::{Pair, Pairs};
 use smallvec::SmallVec;
 use std::alloc::{AllocError, Global};
 
-/// Sorts the pairs by their places, and joins all ways to a place in one pair.
+/// Sorts the pairs by their places, and joins all pairs of a place in one.
 pub(crate) fn merge(alloc: Global, pairs: &mut Pairs) -> Result<(), AllocError>
     requires agree { Agree pairs.old.items }
     ensures enters { OnOk result (EnterSame pairs.new.items pairs.old.items) }
@@ -23,8 +23,8 @@ pub(crate) fn merge(alloc: Global, pairs: &mut Pairs) -> Result<(), AllocError>
     Ok(())
 }
 
-// One pair for all ways to a place, in the order of the places. The pairs are sorted for it. It isn't inlined, so that a pair
-// alone doesn't pay for its locals.
+// Joins all pairs of a place in one, in the order of the places. The pairs are sorted for it. It
+// isn't inlined, so that a single pair doesn't pay for its locals.
 #[inline(never)]
 fn joined_by_place(alloc: Global, pairs: &mut Pairs) -> Result<Pairs, AllocError>
     requires agree { Agree pairs.old.items }
@@ -41,7 +41,7 @@ fn joined_by_place(alloc: Global, pairs: &mut Pairs) -> Result<Pairs, AllocError
     Ok(merged)
 }
 
-// Puts a pair behind the others, or joins it with the last of them.
+// Appends a pair, or joins it with the last one.
 fn push_merged(merged: &mut Pairs, pair: Pair) -> Result<(), AllocError>
     requires rising { ArePlacesRising merged.old.items }
     requires up_to { All (IsUpTo pair) merged.old.items }

@@ -1,11 +1,11 @@
-//! Places of a selector, each in the innermost recursion round it.
+//! Places of a selector, each in its innermost recursion.
 
 ghost use Rattle.std.specs.Prelude.{◌≡◌, ◌≢◌, IfSome, IfNone};
 ghost use Rattle.ix_selector.specs.Pairs.{lowered, deeper, IsJoined, AgreesWith};
 
 use smallvec::SmallVec;
 
-/// The innermost recursion round a place: where its sequence stands, and the depth that is left of
+/// The innermost recursion around a place: the place of its sequence, and the depth that is left of
 /// its limit, if it has one.
 #[derive(Clone, Copy, Default, PartialEq, Eq, PartialOrd, Ord)]
 pub(crate) struct Recursion {
@@ -13,7 +13,7 @@ pub(crate) struct Recursion {
     pub depth: Option<u32>,
 }
 
-/// A place, and the innermost recursion round it. The outer ones can't matter any more: an edge
+/// A place, and the innermost recursion around it. The outer ones don't matter any more: an edge
 /// belongs to the innermost one, and nothing leads back out of a sequence.
 #[derive(Clone, Copy, Default, PartialEq, Eq, PartialOrd, Ord)]
 pub(crate) struct Pair {
@@ -25,7 +25,7 @@ pub(crate) struct Pair {
 pub(crate) type Pairs = SmallVec<Pair, 2>;
 
 impl Recursion {
-    /// The recursion behind one of its edges, where it may be entered again.
+    /// Returns the recursion after one of its edges, if it may be entered again.
     pub(crate) fn lowered(self) -> Option<Recursion>
         ensures { result ≡ lowered self }
     {
@@ -40,7 +40,7 @@ impl Recursion {
     }
 }
 
-// The greater of two depths. None is above all.
+// Returns the greater of two depths. `None`, no limit, is the greatest.
 fn deeper(depth: Option<u32>, other: Option<u32>) -> Option<u32>
     ensures { result ≡ deeper depth other }
 {
@@ -51,8 +51,8 @@ fn deeper(depth: Option<u32>, other: Option<u32>) -> Option<u32>
 }
 
 impl Pair {
-    /// One pair for two ways to a place in one recursion: that with the greater depth enters what
-    /// both enter.
+    /// Joins two pairs of a place in one recursion: the one with the greater depth enters what both
+    /// enter.
     pub(crate) fn joined(self, other: Pair) -> Option<Pair>
         ensures some { IfSome result (IsJoined self other) }
         ensures none { IfNone result (AgreesWith self other → self.place ≢ other.place) }

@@ -1,4 +1,4 @@
-//! What is reached from a place without a step.
+//! What is reached from a place without a step: the epsilon closure of a selector's states.
 
 ghost use Rattle.std.specs.Prelude.{◌≡◌, [], OnOk};
 ghost use Rattle.ix_selector.specs.Places.{AreBelow};
@@ -11,7 +11,7 @@ use crate::spot::Spot;
 use smallvec::SmallVec;
 use std::alloc::{AllocError, Global};
 
-/// The places that stand, and the sequences that edges enter again.
+/// The matchers and explorers that were reached, and the sequences that edges re-enter.
 #[derive(Drop)]
 pub(crate) struct Reached {
     pub standing: Pairs,
@@ -19,7 +19,7 @@ pub(crate) struct Reached {
 }
 
 impl Reached {
-    /// Nothing so far.
+    /// Nothing reached.
     pub(crate) fn new(alloc: Global) -> Reached
         ensures { (result.standing.items ≡ []) × (result.again.items ≡ []) }
     {
@@ -30,8 +30,8 @@ impl Reached {
     }
 }
 
-/// Adds what a pair enters: the places that stand behind unions and recursions, and the sequences
-/// that its edges enter again.
+/// Adds what a pair leads to: the matchers and explorers inside unions and recursions, and the
+/// sequences that its edges re-enter.
 #[cycle(reach)]
 pub(crate) fn reach(spots: &[Spot], pair: Pair, reached: &mut Reached) -> Result<(), AllocError>
     requires pair { IsPair spots.now pair }
@@ -56,7 +56,7 @@ pub(crate) fn reach(spots: &[Spot], pair: Pair, reached: &mut Reached) -> Result
     }
 }
 
-// Adds what the members of a union enter, which stand before it.
+// Adds what the members of a union lead to. Their places are before the union's.
 #[cycle(reach)]
 fn reach_each(
     spots: &[Spot],
@@ -80,7 +80,7 @@ fn reach_each(
     Ok(())
 }
 
-// Adds the sequence that an edge enters again, where its recursion has a depth left.
+// Adds the sequence that an edge re-enters, if its recursion has depth left.
 fn reach_again(pair: Pair, reached: &mut Reached) -> Result<(), AllocError>
     ensures standing { reached.new.standing ≡ reached.old.standing }
     ensures again { OnOk result (EntersAgain pair.recursion reached.old reached.new) }

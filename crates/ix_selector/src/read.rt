@@ -14,10 +14,10 @@ use crate::sel::Sel;
 use ix_cbor::Node;
 use std::alloc::Global;
 
-// How deep a selector may nest, itself counted.
+// How deep a selector may nest, counting itself.
 const LEVELS: u32 = 128;
 
-// What stands round a selector: no recursion, or the innermost one, with a step between or none.
+// What surrounds a selector: no recursion, or the innermost one with or without a step between.
 #[derive(Drop, Clone, Copy)]
 enum Around {
     Outside,
@@ -38,7 +38,7 @@ enum Shape<'t> {
     Edge,
 }
 
-// What stands round what is behind a step.
+// Returns what surrounds a selector after one more step.
 fn around_step(around: Around) -> Around
     ensures { around_of result ≡ behind_step (around_of around) }
 {
@@ -66,7 +66,7 @@ fn map_entries(node: &Node) -> Result<&[(Vec<u8>, Node)], SelFault>
     }
 }
 
-// The value of the one key.
+// Returns the value of the only key.
 fn only<'t>(entries: &'t [(Vec<u8>, Node)], key: &[u8]) -> Result<&'t Node, SelFault>
     ensures { Reads (λ d. data_of d.now) result (one_of key.now (entries_data entries.now)) }
 {
@@ -80,7 +80,7 @@ fn only<'t>(entries: &'t [(Vec<u8>, Node)], key: &[u8]) -> Result<&'t Node, SelF
     }
 }
 
-// The values of two keys in the order of data.
+// Returns the values of two keys, in the order of DAG-CBOR.
 fn both<'t>(
     entries: &'t [(Vec<u8>, Node)],
     first: &[u8],
@@ -98,7 +98,7 @@ fn both<'t>(
     }
 }
 
-// The values of the three keys of a range.
+// Returns the values of the three keys of a range.
 fn range_parts(entries: &[(Vec<u8>, Node)]) -> Result<(&Node, &Node, &Node), SelFault>
     ensures { Reads three_nodes result (range_parts (entries_data entries.now)) }
 {
@@ -113,7 +113,7 @@ fn range_parts(entries: &[(Vec<u8>, Node)]) -> Result<(&Node, &Node, &Node), Sel
     }
 }
 
-// A matcher may have a label, which is a text.
+// Reads a matcher, which may have a label, a string.
 fn matcher(body: &Node) -> Result<Shape<'_>, SelFault>
     ensures { Forms result (λ _ _. in_map matcher_of) (data_of body.now) }
 {
@@ -148,7 +148,7 @@ fn index(body: &Node) -> Result<Shape<'_>, SelFault>
     Ok(Shape::Index(integer(position)?, next))
 }
 
-// The start is tested before the end.
+// Reads a range. Its start is tested before its end.
 fn range(body: &Node) -> Result<Shape<'_>, SelFault>
     ensures { Forms result (λ read around. in_map (range_form read around)) (data_of body.now) }
 {
@@ -180,7 +180,7 @@ fn edge(body: &Node, around: Around) -> Result<Shape<'_>, SelFault>
     }
 }
 
-// `none` with an empty map, or `depth` with a number below 2 ^ 32.
+// Reads a limit: `none` with an empty map, or `depth` with a number below 2 ^ 32.
 fn limit(node: &Node) -> Result<Option<u32>, SelFault>
     ensures { Reads (λ l. l) result (limit_of (data_of node.now)) }
 {
@@ -231,7 +231,7 @@ fn recursive(body: &Node) -> Result<Shape<'_>, SelFault>
     Ok(Shape::Recursive(limit(within)?, sequence))
 }
 
-// The form that a key names, with its body.
+// Reads the form that a key names, with its body.
 fn shape_named<'t>(key: &[u8], body: &'t Node, around: Around) -> Result<Shape<'t>, SelFault>
     ensures { FormsIn around result (form_named key.now) (data_of body.now) }
 {
@@ -265,7 +265,7 @@ fn shape_of(node: &Node, around: Around) -> Result<Shape<'_>, SelFault>
     shape_named(key.as_slice(), body, around)
 }
 
-// A selector that nests at most so deep, itself counted.
+// Reads a selector that nests at most `levels` deep, counting itself.
 #[cycle(levels)]
 fn selector_at(alloc: Global, node: &Node, around: Around, levels: u32) -> Result<Sel, SelFault>
     ensures { Gives pattern_of result (selector_in levels around node.now) }
@@ -358,7 +358,7 @@ fn members_inside(
     Ok(members)
 }
 
-// What stands in the envelope, or the node itself.
+// Returns what is in the envelope, or the node itself.
 fn without_envelope(node: &Node) -> &Node
     ensures { data_of result.now ≡ without_envelope (data_of node.now) }
 {
@@ -375,7 +375,7 @@ fn without_envelope(node: &Node) -> &Node
     }
 }
 
-/// The selector for which a node stands, or the first refusal.
+/// Reads the selector that a node spells, or returns the first error.
 pub(crate) fn selector_of(alloc: Global, node: &Node) -> Result<Sel, SelFault>
     ensures { Gives pattern_of result (selector_of (data_of node.now)) }
 {

@@ -1,4 +1,4 @@
-//! What is left of a selector at a place.
+//! What remains of a selector at a place.
 
 ghost use Rattle.std.specs.Prelude.{◌≡◌, [], IfOk, IfSome, IfNone};
 ghost use Rattle.ix_selector.specs.Residual.{ResidualEnters, EntersAs, IsTestedAs, EntersBehind, LeavesOut, step_of, IsBehind};
@@ -18,15 +18,16 @@ use std::alloc::{AllocError, Global};
 use std::cmp::Ordering;
 use std::marker::Model;
 
-/// What is left of a selector at a place, seen as a set of selectors inside recursions. No two of
-/// them stand at one place of the selector, so it has at most as many as the selector has places. Behind a step that leaves the
-/// same it shares them.
+/// The residual of a selector at a place, its derivative: a set of selectors inside recursions.
+///
+/// No two of them have one place of the selector, so there are at most as many as the selector has
+/// places. A step that leaves the same shares them.
 pub struct Residual<'s> {
     spots: &'s [Spot],
     pairs: Kept,
 }
 
-// Written out and not derived: what is derived is put into each function that lets go of one, at each of its ends.
+// Written by hand: a derived drop is inlined in each function that drops one, at each of its exits.
 impl<'s> Drop for Residual<'s> {
     fn drop(self) {
         let Residual { spots: _, pairs } = self;
@@ -51,7 +52,7 @@ impl<'s> Model for Residual<'s> {
 }
 
 impl<'s> Residual<'s> {
-    /// What a selector enters, from the root.
+    /// Returns the residual at the root. Fails if memory runs out.
     pub fn start(alloc: Global, selector: &'s Selector) -> Result<Residual<'s>, AllocError>
         ensures entered { IfOk result (EntersAs selector.now) }
         ensures tested { IfOk result (IsTestedAs selector.now) }
@@ -69,7 +70,8 @@ impl<'s> Residual<'s> {
         Ok(Residual { spots, pairs })
     }
 
-    /// What is left behind a step, where the child is entered.
+    /// Returns the residual after a step, or `None` if the child isn't entered. Fails if memory
+    /// runs out.
     pub fn step(&self, alloc: Global, step: &Step) -> Result<Option<Residual<'s>>, AllocError>
         ensures entered { IfOk result (λ o. IfSome o (λ r. ResidualEnters r [])) }
         ensures below { IfOk result (λ o. IfSome o (EntersBehind self.now (step_of step.now))) }
@@ -87,7 +89,7 @@ impl<'s> Residual<'s> {
         Ok(Some(Residual { spots, pairs }))
     }
 
-    /// The same once more.
+    /// Clones the residual. Fails if memory runs out.
     pub fn try_clone(&self, alloc: Global) -> Result<Residual<'s>, AllocError>
         ensures same { IfOk result (λ r. r ≡ self.now) }
     {
@@ -103,23 +105,23 @@ impl<'s> Residual<'s> {
         self.pairs.is_shared()
     }
 
-    /// Whether each step leaves the same, since no selector looks at it.
+    /// Whether each step leaves the same, since no selector depends on the step.
     pub(crate) fn looks_at_no_step(&self) -> bool
         ensures { OnTrue result (LookAtNoStep self.now) }
     {
         look_at_no_step(self.spots, self.pairs.as_slice())
     }
 
-    /// Whether the same is left at both places: the same places of the selector, in the same
-    /// recursions with the same depths.
+    /// Whether the residuals are equal: the same places of the selector, in the same recursions
+    /// with the same depths.
     pub fn is_same(&self, other: &Residual) -> bool
         ensures { result ≡ same_residual self.now other.now }
     {
         self.pairs.as_slice() == other.pairs.as_slice()
     }
 
-    /// The order of what is left: by places, then by their recursions and depths. It is `Equal`
-    /// exactly where the same is left.
+    /// Compares residuals: by places, then by their recursions and depths. Returns `Equal` exactly
+    /// if they are equal.
     pub fn compare(&self, other: &Residual) -> Ordering
         ensures { result ≡ residual_order self.now other.now }
     {

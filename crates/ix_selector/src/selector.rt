@@ -1,4 +1,4 @@
-//! Selectors that keep the rules on edges.
+//! Selectors that obey the rules on edges.
 
 ghost use Rattle.std.specs.Prelude.{◌≡◌, IfOk};
 ghost use Rattle.ix_selector.specs.Pattern.{pattern_of, IsSelector};
@@ -15,15 +15,15 @@ use ix_cbor::Tree;
 use std::alloc::{AllocError, Global};
 use std::marker::Model;
 
-/// A selector in which every edge stands in a recursion with a step between, and which nests at
-/// most 128 deep.
+/// A selector in which every edge is in a recursion with a step between, and which nests at most
+/// 128 deep.
 #[derive(Debug)]
 pub struct Selector {
     spots: Vec<Spot>,
     root: usize,
 }
 
-// Written out and not derived: what is derived is put into each function that lets go of one, at each of its ends.
+// Written by hand: a derived drop is inlined in each function that drops one, at each of its exits.
 impl Drop for Selector {
     fn drop(self) {
         let Selector { spots, root: _ } = self;
@@ -46,7 +46,7 @@ impl Model for Selector {
     ghost invariant = { λ s. IsTableOf s.spots.items s.root };
 }
 
-// What a tree stands for, as a tree of its own.
+// Reads the tree of a selector from data.
 fn sel_of(alloc: Global, tree: &Tree) -> Result<Sel, SelFault>
     ensures exact { Gives pattern_of result (selector_of tree.now) }
     ensures sound { IfOk result (λ sel. IsSound (pattern_of sel)) }
@@ -54,7 +54,7 @@ fn sel_of(alloc: Global, tree: &Tree) -> Result<Sel, SelFault>
     read::selector_of(alloc, tree.root())
 }
 
-// The same of a tree that is let go of.
+// Does the same for a tree, which is dropped.
 fn sel_out_of(alloc: Global, tree: Tree) -> Result<Sel, SelFault>
     ensures exact { Gives pattern_of result (selector_of tree) }
     ensures sound { IfOk result (λ sel. IsSound (pattern_of sel)) }
@@ -63,7 +63,7 @@ fn sel_out_of(alloc: Global, tree: Tree) -> Result<Sel, SelFault>
 }
 
 impl Selector {
-    /// The selector for which a tree stands.
+    /// Reads the selector that a tree spells, or returns the first error.
     pub fn read(alloc: Global, tree: &Tree) -> Result<Selector, SelFault>
         ensures exact { Gives (λ s. s) result (selector_of tree.now) }
         ensures selector { IfOk result (λ s. IsSelector s) }
@@ -72,8 +72,8 @@ impl Selector {
         Ok(Selector::laid(alloc, &sel)?)
     }
 
-    /// The same, where the tree is let go of as soon as it is read: a large one and what is made of it don't stand
-    /// in memory together.
+    /// Does the same, and drops the tree as soon as it is read, so a large tree and what is made of
+    /// it aren't in memory together.
     pub fn read_out(alloc: Global, tree: Tree) -> Result<Selector, SelFault>
         ensures exact { Gives (λ s. s) result (selector_of tree) }
         ensures selector { IfOk result (λ s. IsSelector s) }
@@ -82,7 +82,7 @@ impl Selector {
         Ok(Selector::laid(alloc, &sel)?)
     }
 
-    // The table of a selector.
+    // Builds the table of a selector.
     fn laid(alloc: Global, sel: &Sel) -> Result<Selector, AllocError>
         requires { IsSound (pattern_of sel.now) }
         ensures { IfOk result (λ s. s ≡ pattern_of sel.now) }

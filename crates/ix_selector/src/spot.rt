@@ -11,12 +11,12 @@ ghost use Rattle.ix_selector.specs.Laid.{number_of, numbers_of, GrowsInOrder, Gr
 use crate::sel::Sel;
 use std::alloc::{AllocError, Global};
 
-/// What stands at a place, with the numbers of the places next inside it.
+/// A node of the table: a form, with the numbers of the places directly inside it.
 #[derive(Debug, Drop)]
 pub(crate) enum Spot {
     Matcher,
     All(usize),
-    // In the order of their names.
+    // Ordered by name.
     Fields(Vec<(Vec<u8>, usize)>),
     Index(i128, usize),
     Range(i128, i128, usize),
@@ -25,8 +25,7 @@ pub(crate) enum Spot {
     Edge,
 }
 
-/// Puts the places of a selector behind those that are there, the inner ones first, and answers
-/// its own number.
+/// Appends the places of a selector to the table, the inner ones first, and returns its own number.
 #[cycle(spots)]
 pub(crate) fn push_spots(
     alloc: Global,
@@ -46,7 +45,7 @@ pub(crate) fn push_spots(
     Ok(number)
 }
 
-// What stands at a selector's place. The places inside it are put behind those that are there.
+// Appends the places inside a selector, and returns the selector's own node.
 #[cycle(spots)]
 fn spot_of(alloc: Global, sel: &Sel, spots: &mut Vec<Spot>) -> Result<Spot, AllocError>
     requires { CanPut spots.old.items (pattern_of sel.now) }
@@ -70,7 +69,7 @@ fn spot_of(alloc: Global, sel: &Sel, spots: &mut Vec<Spot>) -> Result<Spot, Allo
     }
 }
 
-// The names of fields, with the numbers of their selectors.
+// Returns the names of fields, with the numbers of their selectors.
 #[cycle(spots)]
 fn push_fields(
     alloc: Global,
@@ -89,7 +88,7 @@ fn push_fields(
     Ok(names)
 }
 
-// The numbers of the members of a union.
+// Returns the numbers of the members of a union.
 #[cycle(spots)]
 fn push_members(
     alloc: Global,

@@ -9,12 +9,12 @@ ghost use Rattle.ix_selector.specs.Residual.{step_of};
 pub enum Step<'a> {
     /// To the value of this key of a map.
     Key(&'a [u8]),
-    /// To the member at this position of a list, counted from 0.
+    /// To the element at this position of a list, counted from 0.
     Pos(u64),
 }
 
 impl Step<'_> {
-    /// Whether the step goes to this position.
+    /// Whether the step is to this position.
     pub(crate) fn is_at(&self, position: i128) -> bool
         ensures { result ≡ is_at position (step_of self.now) }
     {
@@ -24,7 +24,7 @@ impl Step<'_> {
         }
     }
 
-    /// Whether the step goes to a position from `start`, included, to `end`, excluded.
+    /// Whether the step is to a position from `start`, included, to `end`, excluded.
     pub(crate) fn is_within(&self, start: i128, end: i128) -> bool
         ensures { result ≡ is_within start end (step_of self.now) }
     {

@@ -1,4 +1,4 @@
-//! Steps from the places of a selector to those behind them.
+//! Steps from the places of a selector to the next ones.
 
 ghost use Rattle.std.specs.Prelude.{◌<◌, ◌≤◌, length, IfOk, IfSome, IfNone};
 ghost use Rattle.std.specs.Bool.{OnTrue, OnFalse};
@@ -22,7 +22,7 @@ use ix_cbor::compare_keys;
 use smallvec::SmallVec;
 use std::alloc::{AllocError, Global};
 
-// The number behind the name of the step, by a binary search.
+// Returns the number that belongs to the name of the step, by a binary search.
 fn named(names: &[(Vec<u8>, usize)], step: &Step) -> Option<usize>
     requires { AreRising names.now }
     ensures some { IfSome result (HasName names.now (step_of step.now)) }
@@ -37,7 +37,7 @@ fn named(names: &[(Vec<u8>, usize)], step: &Step) -> Option<usize>
     }
 }
 
-// The place behind a step from a place that stands.
+// Returns the place that a step from a place leads to, if any.
 fn behind(spots: &[Spot], place: usize, step: &Step) -> Option<usize>
     requires table { IsTable spots.now }
     requires place { place < length spots.now }
@@ -57,7 +57,7 @@ fn behind(spots: &[Spot], place: usize, step: &Step) -> Option<usize>
     }
 }
 
-// The places that stand, where the sequences that edges enter again are reached too.
+// Returns the matchers and explorers, after those inside the re-entered sequences are reached too.
 fn entered_again(alloc: Global, spots: &[Spot], mut reached: Reached) -> Result<Pairs, AllocError>
     requires reached { AreReached spots.now reached }
     ensures pairs { IfOk result (λ r. AreStandingPairs spots.now r.items) }
@@ -73,7 +73,8 @@ fn entered_again(alloc: Global, spots: &[Spot], mut reached: Reached) -> Result<
     Ok(reached.standing)
 }
 
-// The pair that each step leaves, where every child is an edge that enters the place itself again.
+// Returns the pair that each step leaves, if every child is an edge that re-enters the place
+// itself.
 fn looped(spots: &[Spot], pair: Pair) -> Option<Pair>
     requires { IsTable spots.now × IsPair spots.now pair }
     ensures { IfSome result (EachStepLeavesPair spots.now pair) }
@@ -94,7 +95,7 @@ fn looped(spots: &[Spot], pair: Pair) -> Option<Pair>
     })
 }
 
-/// The pairs after a step.
+/// Returns the pairs after a step.
 pub(crate) fn stepped(
     alloc: Global,
     spots: &[Spot],
@@ -125,7 +126,7 @@ pub(crate) fn stepped(
     entered_again(alloc, spots, reached)
 }
 
-/// Whether none of the pairs looks at a step: each goes on to all children alike, or to none.
+/// Whether none of the pairs depends on the step: each continues at all children alike, or at none.
 pub(crate) fn look_at_no_step(spots: &[Spot], pairs: &[Pair]) -> bool
     requires { AreLeftIn spots.now pairs.now }
     ensures { OnTrue result (All (PairLooksAtNoStep spots.now) pairs.now) }
@@ -139,7 +140,8 @@ pub(crate) fn look_at_no_step(spots: &[Spot], pairs: &[Pair]) -> bool
     true
 }
 
-// Whether what stands at a place goes on to some children alone.
+// Whether the form at a place depends on the step. False only if it continues at all children
+// alike, or at none.
 fn looks_at_a_step(spot: &Spot) -> bool
     ensures { OnFalse result (SpotLooksAtNoStep spot.now) }
 {

@@ -9,15 +9,15 @@ use crate::step::Step;
 use std::alloc::{AllocError, Global};
 use std::marker::Model;
 
-/// What is left of a selector at a list or a map, from which many steps are taken. Where no selector looks at the step, each
-/// step leaves the same, which is found once and shared.
+/// The residual of a selector at a list or a map, from which many steps are taken. If no selector
+/// depends on the step, each step leaves the same, which is computed once and shared.
 pub struct Steps<'s> {
     from: Residual<'s>,
-    // What each step leaves, once it was found.
+    // What each step leaves, once it is known.
     each: Option<Box<Residual<'s>>>,
 }
 
-// Written out and not derived: what is derived is put into each function that lets go of one, at each of its ends.
+// Written by hand: a derived drop is inlined in each function that drops one, at each of its exits.
 impl<'s> Drop for Steps<'s> {
     fn drop(self) {
         let Steps { from, each } = self;
@@ -41,7 +41,7 @@ impl<'s> Model for Steps<'s> {
 }
 
 impl<'s> Steps<'s> {
-    /// Steps from where this is left.
+    /// Takes the residual from which the steps are taken.
     pub fn of(residual: Residual<'s>) -> Steps<'s>
         ensures { result ≡ residual.entry }
     {
@@ -51,7 +51,8 @@ impl<'s> Steps<'s> {
         }
     }
 
-    /// What is left behind a step, where the child is entered.
+    /// Returns the residual after a step, or `None` if the child isn't entered. Fails if memory
+    /// runs out.
     pub fn step(&mut self, alloc: Global, step: &Step) -> Result<Option<Residual<'s>>, AllocError>
         ensures same { self.new ≡ self.old }
         ensures entered { IfOk result (λ o. IfSome o (λ r. ResidualEnters r [])) }

@@ -7,12 +7,14 @@ use Rattle.ix_handover.specs.Queue.{table_of}
 use Rattle.ix_stages.specs.declared.shared.Shared.{Shared}
 
 module _ {G : Type 0} where
-  -- the blocks, the jobs and the queue
+  -- the blocks of the export's store
   abbrev pub store_of : Shared G → Blocks
   store_of x = x.task.now.store.now
 
+  -- the jobs to export
   abbrev pub jobs_of : Shared G → List JobMeaning
   jobs_of x = x.task.now.jobs.now
 
+  -- the table by which the queue is known to its seats
   abbrev pub queue_of : Shared G → TableId
   queue_of x = table_of x.queue.now

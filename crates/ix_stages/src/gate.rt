@@ -1,14 +1,14 @@
-//! What walkers pass.
+//! A probe for tests, which walkers call at each visit.
 
-/// A gate that whoever walks a job passes with each visit, before the visit is handed on.
+/// A probe for tests: a walker calls it with each visit before it puts the visit into the queue.
 ///
-/// No answer depends on it. A test can hold walkers there, or watch them.
+/// No result depends on it. A test can hold walkers there, or observe them.
 pub trait Gate {
-    /// The walk of this job has given the visit with this number.
+    /// Is called when the walk of job `job` has returned the visit numbered `seq`.
     fn pass(&self, job: u32, seq: u32);
 }
 
-/// A gate that holds nobody.
+/// A gate that returns at once.
 #[derive(Debug, Drop, Clone, Copy)]
 pub struct Open;
 

@@ -1,10 +1,10 @@
-//! What the threads of an export do: walkers put the visits of jobs into the queue, and verifiers
+//! The worker threads of an export: walkers put the visits of jobs into the queue, and verifiers
 //! take them, check them and send their verdicts.
 //!
-//! In every schedule a walker puts nothing but what its job's course allows, and a verifier sends one
-//! answer for each item that it takes, and checks each visit once. What these threads meet through
-//! (the queue, lanes, claims) stands in `ix_handover`, and is handed on here. That a call that waits
-//! returns is not promised.
+//! In every schedule a walker puts only items that its job's expected sequence (its course) allows.
+//! A verifier sends one answer for each item that it takes, and checks each visit once. The
+//! channels between these threads (queue, lanes, claims) are in `ix_handover` and are re-exported
+//! here. That a blocking call returns is not promised.
 //!
 //! ```rust
 //! walk_jobs(rt, alloc, &shared, claimer);

@@ -1,20 +1,20 @@
-//! What is exported, and what the threads of an export share.
+//! The inputs of an export, and what its threads share.
 
 use ix_handover::{Claims, JobSeat, VisitQueue};
 use ix_store::Store;
 use ix_walk::Job;
 
-/// What is to be exported, and the gate that walkers pass.
+/// The inputs of an export: the blocks, the jobs and the gate that walkers call.
 #[derive(Drop)]
 pub struct Task<'a, G> {
-    /// The blocks.
+    /// The blockstore.
     pub store: &'a Store,
     pub jobs: &'a [Job],
     pub gate: &'a G,
 }
 
-/// What the threads share: the task, the queue from walkers to verifiers, and the claims that walkers
-/// have on the jobs' seats.
+/// What the threads share: the task, the queue from walkers to verifiers, and the ticket counter
+/// (`Claims`) that hands each job's seat to one walker.
 #[derive(Drop)]
 pub struct Shared<'a, G> {
     pub task: &'a Task<'a, G>,

@@ -14,7 +14,7 @@ use ix_store::Store;
 use std::alloc::{AllocError, Global};
 use std::sync::Wait;
 
-// What is sent for the item: a visit is checked, once.
+// Returns the answer for the item. A visit is checked, once.
 fn judge<C: Check>(alloc: Global, store: &Store, check: &mut C, item: Item) -> Verdicted
     requires { IsItemOf store.now item }
     ensures answers { Answers store.now item result }
@@ -33,7 +33,7 @@ fn judge<C: Check>(alloc: Global, store: &Store, check: &mut C, item: Item) -> V
     }
 }
 
-// Sends, and waits for room.
+// Sends the item, and waits for room in the lane.
 fn send<R: Wait>(rt: &R, lane: &mut LaneIn, item: Verdicted)
     ensures same { SameIn lane.old lane.new }
     ensures sent { sent_by lane.new ≡ sent_by lane.old ++ item ∷ [] }
@@ -50,15 +50,16 @@ fn send<R: Wait>(rt: &R, lane: &mut LaneIn, item: Verdicted)
     unreachable!()
 }
 
-// Whether the verifier has to end.
+// Whether the item ends the verifier.
 fn is_stop(item: &Item) -> bool
     ensures { IsTrue result ↔ IsStop item.now }
 {
     matches!(item, Item::Stop)
 }
 
-/// Takes items until a Stop, and sends for each visit its verdict, for each close the same close and
-/// for the Stop a Last. A visit for whose check no memory is left is sent without a verdict.
+/// Takes items until it takes a Stop, and sends one answer for each: for a visit its verdict, for a
+/// close the same close, for the Stop a `Last`. A visit whose check runs out of memory is sent
+/// without a verdict.
 pub fn verify<R: Wait, C: Check>(
     rt: &R,
     alloc: Global,

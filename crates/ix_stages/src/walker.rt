@@ -13,7 +13,8 @@ use ix_walk::{Job, Walk, WalkStop};
 use std::alloc::Global;
 use std::sync::Wait;
 
-// Puts the visits of the seat's job, each once it has passed the gate, and says how the walk ended.
+// Puts the visits of the seat's job, each after the gate was called with it, and returns how the
+// walk ended.
 fn put_visits<R: Wait, G: Gate>(
     rt: &R,
     alloc: Global,
@@ -60,8 +61,8 @@ fn walk_job<R: Wait, G: Gate>(rt: &R, alloc: Global, shared: &Shared<'_, G>, sea
     shared.queue.put(rt, &mut seat, close);
 }
 
-/// Claims jobs and walks them, until all are claimed. Of each it puts the visits, each once it has
-/// passed the gate, and behind them one close.
+/// Claims jobs and walks them, until all are claimed. Of each job it puts the visits, each after
+/// the gate was called with it, and then one close.
 pub fn walk_jobs<R: Wait, G: Gate>(
     rt: &R,
     alloc: Global,

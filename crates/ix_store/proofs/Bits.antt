@@ -14,6 +14,7 @@ zero-words zero i = refl
 zero-words (suc k) zero = refl
 zero-words (suc k) (suc i) = zero-words k i
 
+-- words of zeros at the end change no word's value
 appended-words : (words : List ℕ) (k i : ℕ) → get_or (words ++ replicate k 0) i 0 ≡ get_or words i 0
 appended-words [] k i = zero-words k i
 appended-words (w ∷ words) k zero = refl
@@ -24,6 +25,7 @@ pub record HasRoom (words grown : List ℕ) (word : ℕ) : Type 0 where
   pub same : (i : ℕ) → get_or grown i 0 ≡ get_or words i 0
   pub within : word < length grown
 
+-- so a set that was extended has the bits that it had, and room for the word
 pub filled-up : (words grown : List ℕ) (word more : ℕ) → length words ≤ word → word + 1 ≡ length words + more → grown ≡ take (word + 1) words ++ replicate more 0 → HasRoom words grown word
 filled-up words grown word more short count is =
     let whole : grown ≡ words ++ replicate more 0 = is ∙ ap (λ (l : List ℕ). l ++ replicate more 0) (take_all (word + 1) words (omega arith)) in

@@ -11,12 +11,14 @@ use Rattle.ix_cbor.proofs.Steps.{bind_ok}
 use Rattle.ix_store.specs.Store.{Blocks, block_of, position_behind, position_of}
 use Rattle.ix_store.specs.Mark.{is_faulty}
 
+-- a CID without a position has no block
 pub none_behind : (n : ℕ) (store : Blocks) (c : List ℕ) → None ≡ position_behind n store c → block_of store c ≡ None
 none_behind n [] c e = refl
 none_behind n (x ∷ xs) c e =
     elim (bytes_eq x.0 c) as (λ b. None ≡ (if b then Some n else position_behind (n + 1) xs c) → (if b then Some x.1 else block_of xs c) ≡ None)
     [ true ↦ (λ h. cc) | false ↦ (λ h. none_behind (n + 1) xs c h) ] e
 
+-- the block of a CID is the one at its position
 pub some_behind : (n place : ℕ) (store : Blocks) (c : List ℕ) → Some place ≡ position_behind n store c → (n ≤ place) × (place < n + length store) × (block_of store c ≡ slice_get (map (λ e. e.1) store) (place - n))
 some_behind n place [] c e = cc
 some_behind n place (x ∷ xs) c e =
@@ -43,9 +45,11 @@ block_at place store c b e g =
 pub faulty_not : (b : List ℕ) (d : Data) → decoded b ≡ Ok d → is_none (data_at b) ≡ false
 faulty_not b d g = rw g refl
 
+-- if decoding fails, there are no data
 pub faulty_yes : (b : List ℕ) (f : Fault) → decoded b ≡ Err f → is_none (data_at b) ≡ true
 faulty_yes b f g = rw g refl
 
+-- dropping the value of a result keeps its error
 unspelled : (r : Result Data Fault) (f : Fault) → ◌>>=◌ {B = Unit {0}} r (λ d. Ok tt) ≡ Err f → (g : Fault) × (r ≡ Err g)
 unspelled (Ok d) f e = absurd cc
 unspelled (Err g) f e = (g, refl)

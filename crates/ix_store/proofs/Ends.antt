@@ -38,6 +38,7 @@ ends_behind whole end bytes rest ends w =
       subst (λ (k : ℕ). StandsAt whole k rest) at (stands_inside whole (end - length bytes) bytes w.0 rest [] ends.1 (w.1 ∙ ap (λ (l : List ℕ). w.0 ++ l) (sym (append-nil rest)))),
     )
 
+-- what remains of bytes ends where they do
 pub still_ends : {A : Type 0} (whole : A → List ℕ) (end : Option (A × ℕ)) (bytes rest : List ℕ) → EndsWith bytes rest → IfSome end (λ p. EndsAt (whole p.0) p.1 bytes) → IfSome end (λ p. EndsAt (whole p.0) p.1 rest)
 still_ends whole None bytes rest w ends = tt
 still_ends whole (Some p) bytes rest w ends = ends_behind (whole p.0) p.1 bytes rest ends w
@@ -63,12 +64,14 @@ spelled_end false a b c e d = (
   sym (append_assoc a (b ++ (c ++ e)) d ∙ ap (λ (l : List ℕ). a ++ l) (append_assoc b (c ++ e) d ∙ ap (λ (l : List ℕ). b ++ l) (append_assoc c e d))),
 )
 
+-- a CID ends with its digest
 digest_end : (c : List ℕ) → AreBytes c → IsCid c → EndsWith c (digest_of c)
 digest_end c bytes cid =
     let p = is_cid c bytes cid in
     let w = spelled_end (p.0.version == 0) (varint_of p.0.version) (varint_of p.0.codec) (varint_of p.0.hash_code) (varint_of (length p.0.digest)) p.0.digest in
     subst (EndsWith c) (ap (λ (q : Parts). q.digest) (sym (parts_are c p.0 p.1))) (w.0, p.1.spelled ∙ w.1)
 
+-- so the digest ends where the CID does
 pub digest_ends : (whole : List ℕ) (start : ℕ) (c : List ℕ) → AreBytes c → IsCid c → StandsAt whole start c → EndsAt whole (start + length c) (digest_of c)
 digest_ends whole start c bytes cid stands = ends_behind whole (start + length c) c (digest_of c) (stands_end whole start c stands) (digest_end c bytes cid)
 
@@ -86,6 +89,7 @@ link_before c at behind bytes own =
       (own_taken at (leaf (link c)) behind bytes own).parts ∙ ap (λ (l : List ℕ). 0xd8 ∷ 0x2a ∷ l) (append_assoc head (0 ∷ c) behind ∙ sym (append_assoc head (0 ∷ []) (c ++ behind))),
     )
 
+-- a link's CID is right before what follows the link
 pub link_end : (f : Front) (at behind : List ℕ) → IsBytes at → own_at at ≡ Ok (own_of_front f, behind) → LinkBefore at f behind
 link_end (fronts.Link c) at behind bytes own = link_before c.now at behind bytes own
 link_end fronts.Null at behind bytes own = tt

@@ -116,6 +116,7 @@ is-some : (o : Option ℕ) → is_some o ≡ true → (p : ℕ) × (o ≡ Some p
 is-some None h = absurd (false≢true h)
 is-some (Some p) h = (p, refl)
 
+-- if a function of CIDs gives each pair its own position, the CIDs are distinct
 distinct-by : (f : List ℕ → Option ℕ) (n : ℕ) (es : Blocks) → ((k : ℕ) (e : List ℕ × List ℕ) → slice_get es k ≡ Some e → f e.0 ≡ Some (n + k)) → HasDistinctCids es
 distinct-by f n [] h = tt
 distinct-by f n (e ∷ es) h = (

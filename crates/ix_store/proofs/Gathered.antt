@@ -42,6 +42,7 @@ made-past : (entries : List Entry) (k : ℕ) → length entries ≤ k → made k
 made-past entries k past =
     ap (λ (l : List Entry). with_blocks (map pair_of (take k entries)) (map pair_of l)) (drop_of_length-le entries past) ∙ ap (λ (l : List Entry). map pair_of l) (take_all k entries past)
 
+-- pairs that are distinct are all kept
 pub made-all : (more : ℕ) (entries : List Entry) (k : ℕ) → length entries ≤ k + more → HasDistinctCids (map pair_of entries) → made k entries ≡ map pair_of entries
 made-all zero entries k far h = made-past entries k (omega (arith, far))
 made-all (suc more) entries k far h =

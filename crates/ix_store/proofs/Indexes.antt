@@ -28,6 +28,7 @@ pub free-by : (x : Slot) (o : Option ℕ) → HasPlace x o → is_some o ≡ fal
 free-by x None h none = h
 free-by x (Some p) h none = absurd (false≢true (sym none))
 
+-- a slot with a position is taken
 pub taken-by : (x : Slot) (o : Option ℕ) → HasPlace x o → is_some o ≡ true → IsTaken x
 taken-by x None h some = absurd (false≢true some)
 taken-by x (Some p) h some = omega (arith, h)
@@ -109,6 +110,7 @@ stretch-set n f l at x b m p vacant h =
 abbrev window_in : ℕ → List Slot → ℕ → List Slot
 window_in n l u = cond (ltb n 8) [] (take 8 (drop (bit_and u (n - 8)) l))
 
+-- filling a slot that was free keeps what a look-up comes to, by its window
 window-set-in : (n : ℕ) (l : List Slot) (at : ℕ) (x : Slot) (b : Option ℕ) (u m p : ℕ) → IsFree (get_or l at free) → Leads (window_in n l u) b m p → Leads (window_in n (set l at x) u) b m p
 window-set-in n l at x b u m p vacant =
     elim (ltb n 8) as (λ v. Leads (cond v [] (take 8 (drop (bit_and u (n - 8)) l))) b m p → Leads (cond v [] (take 8 (drop (bit_and u (n - 8)) (set l at x)))) b m p)
@@ -119,6 +121,7 @@ window-set : (l : List Slot) (at : ℕ) (x : Slot) (b : Option ℕ) (u m p : ℕ
 window-set l at x b u m p vacant h =
     subst (λ (n : ℕ). Leads (window_in n (set l at x) u) b m p) (sym (length-set l at x)) (window-set-in (length l) l at x b u m p vacant h)
 
+-- so filling a free slot keeps every look-up
 comes-set : (l : List Slot) (at : ℕ) (x : Slot) (b : Option ℕ) (u p : ℕ) → IsFree (get_or l at free) → Comes l b u p → Comes (set l at x) b u p
 comes-set l at x b u p vacant h = ⊎_elim (λ large. inl large) (λ leads. inr (window-set l at x b u (mark_of u) p vacant leads)) h
 
@@ -128,6 +131,7 @@ pub record AtFirst (l : List Slot) (u at : ℕ) : Type 0 where
   pub vacant : IsFree (get_or l at free)
   pub comes : (x : Slot) (b : Option ℕ) (m p : ℕ) → Has x m p → Leads (window_of (set l at x) u) b m p
 
+-- the first free slot of a stretch is in the table, and once it is filled the look-up comes to it
 stretch-first : (f : ℕ) (l : List Slot) (n : ℕ) → IsFirstFree (take 8 (drop f l)) n → (f + n < length l) × IsFree (get_or l (f + n) free) × ((x : Slot) (b : Option ℕ) (m p : ℕ) → Has x m p → Leads (take 8 (drop f (set l (f + n) x))) b m p)
 stretch-first f l n h =
     let short : n < length (take 8 (drop f l)) = first-within (take 8 (drop f l)) n h in
@@ -137,6 +141,7 @@ stretch-first f l n h =
       λ x b m p is. subst (λ (r : List Slot). Leads r b m p) (sym (ap (λ (r : List Slot). take 8 r) (drop-set-add f l n x) ∙ take-set 8 (drop f l) n x)) (leads-first (take 8 (drop f l)) n x b m p is h),
     )
 
+-- the same of the window of a number
 window-first-in : (k : ℕ) (l : List Slot) (u n : ℕ) → IsFirstFree (window_in k l u) n → (bit_and u (k - 8) + n < length l) × IsFree (get_or l (bit_and u (k - 8) + n) free) × ((x : Slot) (b : Option ℕ) (m p : ℕ) → Has x m p → Leads (window_in k (set l (bit_and u (k - 8) + n) x) u) b m p)
 window-first-in k l u n =
     elim (ltb k 8) as (λ v. IsFirstFree (cond v [] (take 8 (drop (bit_and u (k - 8)) l))) n → (bit_and u (k - 8) + n < length l) × IsFree (get_or l (bit_and u (k - 8) + n) free) × ((x : Slot) (b : Option ℕ) (m p : ℕ) → Has x m p → Leads (cond v [] (take 8 (drop (bit_and u (k - 8)) (set l (bit_and u (k - 8) + n) x)))) b m p))
@@ -153,6 +158,7 @@ at-first l u at n is h =
       comes = λ x b m p has. subst (λ (k : ℕ). Leads (window_in k (set l (first_of l u + n) x) u) b m p) (sym (length-set l (first_of l u + n) x)) (s.2 x b m p has);
     })
 
+-- an option that is nothing's `Some` is `None`
 none-from : (o : Option ℕ) → ((p : ℕ) → o ≡ Some p → ⊥) → o ≡ None
 none-from None h = refl
 none-from (Some p) h = absurd (h p refl)
@@ -217,6 +223,7 @@ leads-with : (l : List Slot) (b d : Option ℕ) (m p : ℕ) → (b ≡ Some p �
 leads-with [] b d m p on h = on h
 leads-with (y ∷ l) b d m p on h = (h.0, ⊎_elim (λ here. inl here) (λ later. inr (leads-with l b d m p on later)) h.1)
 
+-- a look-up comes to the same with a tree that has the same or more
 comes-with : (l : List Slot) (b d : Option ℕ) (u p : ℕ) → (b ≡ Some p → d ≡ Some p) → Comes l b u p → Comes l d u p
 comes-with l b d u p on h = ⊎_elim (λ large. inl (large.0, on large.1)) (λ leads. inr (leads-with (window_of l u) b d (mark_of u) p on leads)) h
 
@@ -345,10 +352,12 @@ stood-by es k s (Some q) at stood =
     let within : q < length es = place_within q es k (sym at) in
     ne_eqb s (length es) (λ same. omega (arith, within, stood, same)) ∙ ap not (sym (has-by es k (Some q) at))
 
+-- what the tree returns says whether the CID was there
 pub stood-answer : (index : Index) (es : Blocks) (k : List ℕ) (s : ℕ) → IsIndexed index es → ((p : ℕ) → position_of es k ≡ Some p → place_behind index k ≡ Some p) → s ≡ unwrap_or (place_behind index k) (length es) → eqb s (length es) ≡ not (has_cid es k)
 stood-answer index es k s h on stood =
     stood-by es k s (position_of es k) refl (stood ∙ ap (λ (o : Option ℕ). unwrap_or o (length es)) (found-behind index es k h on))
 
+-- by the position of the CID: if the tree had it, the index stays one of the pairs
 put-same-at : (index later : Index) (es : Blocks) (k : List ℕ) (s : ℕ) (o : Option ℕ) → position_of es k ≡ o → IsIndexed index es → ((p : ℕ) → position_of es k ≡ Some p → place_behind index k ≡ Some p) → has_cid es k ≡ true → later.slots.items ≡ index.slots.items → Puts index later k s → s ≡ unwrap_or (place_behind index k) (length es) → IsIndexed later es
 put-same-at index later es k s None at h on held slots puts stood = absurd (false≢true (sym (has-by es k None at) ∙ held))
 put-same-at index later es k s (Some q) at h on held slots puts stood =

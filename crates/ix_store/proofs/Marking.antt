@@ -13,6 +13,7 @@ lands (w ∷ ws) zero mark (suc i) = inr refl
 lands (w ∷ ws) (suc k) mark zero = inr refl
 lands (w ∷ ws) (suc k) mark (suc i) = ⊎_elim (λ h. inl (ap suc h.0, h.1)) (λ h. inr h) (lands ws k mark i)
 
+-- writing a true word keeps all words true
 true_set : (pairs : Blocks) (words : List ℕ) (at mark : ℕ) → IsTrueAt pairs at mark → AllTrue pairs words → AllTrue pairs (slice_set words at mark)
 true_set pairs words at mark new all place =
     ⊎_elim
@@ -20,6 +21,7 @@ true_set pairs words at mark new all place =
     (λ h. subst (λ n. IsTrueAt pairs place n) (sym h) (all place))
     (lands words at mark place)
 
+-- whichever of two true words is kept
 kept_or_new : (pairs : Blocks) (at new found : ℕ) (b : Bool) → IsTrueAt pairs at new → IsTrueAt pairs at found → IsTrueAt pairs at (either b new found)
 kept_or_new pairs at new found true t f = t
 kept_or_new pairs at new found false t f = f
@@ -29,6 +31,7 @@ pub exchanges : {V : Type 0} (pairs : Blocks) (slots id : ℕ) (me : Me (Unit {0
 exchanges pairs slots id me at old new t s all homes seen small =
     (me.0, keeps, tt, true_set pairs s.words at _ (kept_or_new pairs at new (slice_index s.words at) (slice_index s.words at == old) t (all at)) all, tt)
 
+-- the digit of an answer is read as that answer
 digit_is : (a : Bool) → (cond a 1 2 == 1) ≡ a
 digit_is true = refl
 digit_is false = refl

@@ -7,7 +7,7 @@ use Rattle.ix_store.specs.declared.entry.Entry.{Entry}
 use Rattle.ix_store.specs.declared.entry.Block.{Block}
 use Rattle.ix_store.specs.declared.entry.Block.TheVariants.{Own, Within}
 
--- as many bytes as there are of so many, from a place on
+-- the bytes of a range, or those of them that exist
 abbrev pub part_of : Vec ℕ → ℕ → ℕ → List ℕ
 part_of bytes start size = take size (drop start bytes.items)
 
@@ -24,6 +24,6 @@ pair_of e = (e.cid, content e.block)
 abbrev pub pairs_of : List Entry → Blocks
 pairs_of entries = map (λ e. (e.cid, content e.block)) entries
 
--- the pairs that count, where so many of the first entries stand under distinct CIDs: of the others, the first of each CID
+-- the pairs that count, if the first entries, so many, have distinct CIDs: of the others, the first of each CID
 abbrev pub pairs_counted : ℕ → List Entry → Blocks
 pairs_counted distinct entries = with_blocks (pairs_of (take distinct entries)) (pairs_of (drop distinct entries))

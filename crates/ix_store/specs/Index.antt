@@ -1,4 +1,4 @@
--- What the index of a store says: a table of slots, and a tree behind it.
+-- The index of a store: a table of slots, and an overflow tree.
 use Rattle.std.specs.Prelude.{◌≡◌, ◌⊎◌, ℕ, zero, suc, ◌+◌, ◌-◌, ◌*◌, ◌/◌, ◌^◌, ◌<◌, ◌≤◌, List, [], ◌∷◌, ◌++◌, length, take, drop, All, Contains, nat_lt, if◌then◌else◌, Bool, true, false, ◌&&◌, ◌==◌, bytes_eq, slice_get, slice_index_or, Option, Some, None, Result, IfOk, IfSome}
 use Rattle.std.specs.Global.{Vec}
 use Rattle.std.specs.declared.alloc.AllocError.{AllocError}
@@ -19,7 +19,7 @@ use Rattle.ix_store.specs.declared.index.Index.{Index}
 abbrev pub tail_of : List ℕ → ℕ
 tail_of c = if nat_lt (length c) 8 then 0 else from_le_bytes w64 (drop (length c - 8) c)
 
--- the mark of a number: its upper half
+-- the fingerprint of a number: its upper half
 abbrev pub mark_of : ℕ → ℕ
 mark_of tail = tail / 2 ^ 32
 
@@ -27,35 +27,36 @@ mark_of tail = tail / 2 ^ 32
 abbrev pub first_of : List Slot → ℕ → ℕ
 first_of slots tail = bit_and tail (length slots - 8)
 
--- the slots through which the look-up of a number goes
+-- the slots that the look-up of a number visits
 abbrev pub window_of : List Slot → ℕ → List Slot
 window_of slots tail = if nat_lt (length slots) 8 then [] else take 8 (drop (first_of slots tail) slots)
 
 abbrev pub IsFree : Slot → Type 0
 IsFree slot = slot.end ≡ 0
 
+-- the slot isn't free
 abbrev pub IsTaken : Slot → Type 0
 IsTaken slot = 0 < slot.end
 
--- a slot has this mark and this place
+-- a slot has this fingerprint and this position
 abbrev pub Has : Slot → ℕ → ℕ → Type 0
 Has slot mark place = (slot.mark ≡ mark) × (slot.end ≡ place + 1)
 
--- what a slot answers for its place
+-- what a slot returns as its position
 abbrev pub HasPlace : Slot → Option ℕ → Type 0
 HasPlace slot (Some place) = slot.end ≡ place + 1
 HasPlace slot None = IsFree slot
 
--- no slot can have this place
+-- no slot can have this position
 abbrev pub IsLarge : ℕ → Type 0
 IsLarge place = 2 ^ 32 - 1 ≤ place
 
--- A look-up of a mark through these slots, up to the first free one, and then in the tree, comes to this place.
+-- A look-up of a fingerprint in these slots, up to the first free one, and then in the tree, comes to this position.
 abbrev pub Leads : List Slot → Option ℕ → ℕ → ℕ → Type 0
 Leads [] behind mark place = behind ≡ Some place
 Leads (slot ∷ slots) behind mark place = IsTaken slot × (Has slot mark place ⊎ Leads slots behind mark place)
 
--- the look-up of a number comes to this place, or no slot can have it and the tree has
+-- the look-up of a number comes to this position, or no slot can have it and the tree has
 abbrev pub Comes : List Slot → Option ℕ → ℕ → ℕ → Type 0
 Comes slots behind tail place = (IsLarge place × (behind ≡ Some place)) ⊎ Leads (window_of slots tail) behind (mark_of tail) place
 
@@ -70,27 +71,27 @@ IsFirstFree [] n = ⊥
 IsFirstFree (slot ∷ slots) zero = IsFree slot
 IsFirstFree (slot ∷ slots) (suc n) = IsTaken slot × IsFirstFree slots n
 
--- the place that the tree has for a CID
+-- the position that the tree has for a CID
 abbrev pub place_behind : Index → List ℕ → Option ℕ
 place_behind index c = get (slice_cmp nat_cmp) index.behind c
 
--- a look-up through these slots, and behind them in the tree of the index, comes to the place of each CID
+-- a look-up in these slots, and then in the tree of the index, comes to the position of each CID
 abbrev pub AreLedTo : List Slot → Index → Blocks → Type 0
 AreLedTo slots index blocks = (c : List ℕ) (place : ℕ) → position_of blocks c ≡ Some place → Comes slots (place_behind index c) (tail_of c) place
 
--- only the tree leads the look-up of a number to this place
+-- only the tree leads the look-up of a number to this position
 abbrev pub ComesOnlyBehind : List Slot → ℕ → ℕ → Type 0
 ComesOnlyBehind slots tail place = (behind : Option ℕ) → Comes slots behind tail place → behind ≡ Some place
 
--- the trees of two indexes have the same places
+-- the trees of two indexes have the same positions
 abbrev pub SameBehind : Index → Index → Type 0
 SameBehind old new = (c : List ℕ) → place_behind new c ≡ place_behind old c
 
--- the tree has this place for a CID, and what it had for each other
+-- the tree has this position for a CID, and what it had for each other
 abbrev pub PutsBehind : Index → Index → List ℕ → ℕ → Type 0
 PutsBehind old new cid place = (c : List ℕ) → place_behind new c ≡ (if bytes_eq cid c then Some place else place_behind old c)
 
--- an index of pairs with distinct CIDs: the look-up of each comes to its place, and the tree has no wrong one
+-- an index of pairs with distinct CIDs: the look-up of each comes to its position, and the tree has no wrong one
 pub record IsIndexed (index : Index) (blocks : Blocks) : Type 0 where
   pub distinct : HasDistinctCids blocks
   pub leads : AreLedTo index.slots.items index blocks
@@ -100,7 +101,7 @@ pub record IsIndexed (index : Index) (blocks : Blocks) : Type 0 where
 abbrev pub IsIndexedWith : Index → Blocks → List ℕ → Type 0
 IsIndexedWith index blocks cid = (block : List ℕ) → IsIndexed index (blocks ++ (cid, block) ∷ [])
 
--- what threads answer for an index of these pairs: none, or one of all of them
+-- what threads return for an index of these pairs: none, or one of all of them
 abbrev pub MayIndex : Blocks → Result (Option Index) AllocError → Type 0
 MayIndex blocks result = IfOk result (λ found. IfSome found (λ index. IsIndexed index blocks))
 
@@ -108,16 +109,17 @@ MayIndex blocks result = IfOk result (λ found. IfSome found (λ index. IsIndexe
 abbrev pub IsFreeSlot : List Slot → ℕ → ℕ → Type 0
 IsFreeSlot slots tail slot = (n : ℕ) × (slot ≡ first_of slots tail + n) × IsFirstFree (window_of slots tail) n
 
--- the place of a number goes to the tree
+-- the position of a number goes to the tree
 abbrev pub GoesBehind : List Slot → ℕ → ℕ → Type 0
 GoesBehind slots tail place = IsLarge place ⊎ AreTaken (window_of slots tail)
 
--- what a search for a slot for it answers
+-- what a search for a slot for it returns
 abbrev pub FindsFree : List Slot → ℕ → ℕ → Option ℕ → Type 0
 FindsFree slots tail place (Some slot) = (place < 2 ^ 32 - 1) × IsFreeSlot slots tail slot
 FindsFree slots tail place None = GoesBehind slots tail place
 
--- where the table has a CID, or where the place behind the blocks goes; where that is the tree, the tree has what is there
+-- where the table has a CID, or where the position after the blocks goes; if that is the tree, the tree has the CID's position
+-- if there is one
 abbrev pub IsSeat : Index → Blocks → List ℕ → Seat → Type 0
 IsSeat index blocks c (Held place) = position_of blocks c ≡ Some place
 IsSeat index blocks c (Open slot) = (position_of blocks c ≡ None) × FindsFree index.slots.items (tail_of c) (length blocks) (Some slot)
@@ -128,37 +130,39 @@ abbrev pub is_cid_of : Option (List ℕ × List ℕ) → List ℕ → Bool
 is_cid_of None c = false
 is_cid_of (Some e) c = bytes_eq e.0 c
 
--- the pair at a place has this CID
+-- the pair at a position has this CID
 abbrev pub is_cid_at : Blocks → ℕ → List ℕ → Bool
 is_cid_at blocks place c = is_cid_of (slice_get blocks place) c
 
--- what a look-up of a CID and its mark sees in these slots: the first place in them whose pair has the CID, if no free slot is before it
+-- what a look-up of a CID and its fingerprint finds in these slots: the first position in them whose pair has the CID, if no
+-- free slot is before it
 abbrev pub sight_of : Blocks → List Slot → ℕ → List ℕ → Sight
 sight_of blocks [] mark c = Full
 sight_of blocks (slot ∷ slots) mark c =
     if slot.end == 0 then Free else (if slot.mark == mark && is_cid_at blocks (slot.end - 1) c then At (slot.end - 1) else sight_of blocks slots mark c)
 
--- what the look-up of a CID sees in the slots of a table
+-- what the look-up of a CID finds in the slots of a table
 abbrev pub sight_in : List Slot → Blocks → List ℕ → Sight
 sight_in slots blocks c = sight_of blocks (window_of slots (tail_of c)) (mark_of (tail_of c)) c
 
--- the look-up of each pair from one place up to another comes to its place, or finds no slot free, and these have its place
+-- the look-up of each pair from one position up to another comes to its position, or finds no slot free, and these have its
+-- position
 abbrev pub AreSeen : List Slot → Blocks → ℕ → ℕ → List ℕ → Type 0
 AreSeen slots blocks from to places = (k : ℕ) (e : List ℕ × List ℕ) → from ≤ k → k < to → slice_get blocks k ≡ Some e → (sight_in slots blocks e.0 ≡ At k) ⊎ ((sight_in slots blocks e.0 ≡ Full) × Contains places k)
 
--- what the tree has for a CID is a place at which it stands
+-- what the tree has for a CID is the position of a pair with it
 abbrev pub IsTrueBehind : Index → Blocks → Type 0
 IsTrueBehind index blocks = (c : List ℕ) (p : ℕ) → place_behind index c ≡ Some p → is_cid_at blocks p c ≡ true
 
--- what the tree of an index has stays so
+-- the tree of an index stays true
 abbrev pub StaysTrueBehind : Index → Index → Blocks → Type 0
 StaysTrueBehind old new blocks = IsTrueBehind old blocks → IsTrueBehind new blocks
 
--- the tree has the place of the pair there
+-- the tree has the position of the pair there
 abbrev pub IsBehind : Index → Blocks → ℕ → Type 0
 IsBehind index blocks p = (e : List ℕ × List ℕ) → slice_get blocks p ≡ Some e → place_behind index e.0 ≡ Some p
 
--- the tree has these places, each for the CID of the pair there
+-- the tree has these positions, each for the CID of the pair there
 abbrev pub AreBehind : Index → Blocks → List ℕ → Type 0
 AreBehind index blocks places = All (λ p. IsBehind index blocks p) places
 
@@ -166,11 +170,11 @@ AreBehind index blocks places = All (λ p. IsBehind index blocks p) places
 abbrev pub HasAllOf : Index → Index → Type 0
 HasAllOf later index = (c : List ℕ) (p : ℕ) → place_behind index c ≡ Some p → place_behind later c ≡ Some p
 
--- what was seen of the share of the pairs with this number, where each share has so many
+-- what was found in the share of the pairs with this number, where each share has so many
 abbrev pub ShareSeen : List Slot → Blocks → ℕ → ℕ → Result (Option (Vec ℕ)) AllocError → Type 0
 ShareSeen slots blocks share number result =
     IfOk result (λ found. IfSome found (λ places. AreSeen slots blocks (number * share) (number * share + share) places.items))
 
--- what was seen of the shares of the pairs, each of so many
+-- what was found in the shares of the pairs, each of so many
 abbrev pub AllSeen : List Slot → Blocks → ℕ → List (Result (Option (Vec ℕ)) AllocError) → Type 0
 AllSeen slots blocks share shares = (n : ℕ) (d : Result (Option (Vec ℕ)) AllocError) → n < length shares → ShareSeen slots blocks share n (slice_index_or shares n d)

@@ -1,4 +1,4 @@
--- What is asked of a pair of a CID and a block, and what a mark tells of it.
+-- What is asked of a pair of a CID and a block, and what a cached word says of it.
 use Rattle.std.specs.Prelude.{◌≡◌, ◌⊎◌, ℕ, ◌/◌, ◌%◌, Bool, false, cond, List, Option, Some, None, slice_get, slice_index, bytes_eq, is_none}
 use Rattle.sha2.specs.Sha256.{sha256}
 use Rattle.sha2.specs.Sha512.{sha512}
@@ -21,27 +21,27 @@ agrees_by (Some Sha2_512) digest block = bytes_eq (sha512 block) digest
 abbrev pub has_digest_of : Parts → List ℕ → Bool
 has_digest_of parts block = agrees_by (hash_function_of (parts_view parts)) parts.digest.now block
 
--- the digest of a CID is that of the block that stands with it
+-- the digest of a CID is that of its block
 abbrev pub agrees : List ℕ × List ℕ → Bool
 agrees p = agrees_by (hash_function_of (parts_of p.0)) (digest_of p.0) p.1
 
--- a block spells no data
+-- a block isn't valid DAG-CBOR
 abbrev pub is_faulty : List ℕ × List ℕ → Bool
 is_faulty p = is_none (data_at p.1)
 
--- a digit of a mark: 0 tells nothing, 1 tells yes, 2 tells no
+-- a digit of a word: 0 is unknown, 1 is yes, 2 is no
 abbrev pub Tells : ℕ → Bool → Type 0
 Tells digit answer = (digit ≡ 0) ⊎ (digit ≡ cond answer 1 2)
 
--- to the base 4, the low digit tells whether the digest agrees, the high one whether the block is faulty
+-- to the base 4, the low digit says whether the digest matches, the high one whether the block isn't valid
 pub record IsTrueMark (mark : ℕ) (p : List ℕ × List ℕ) : Type 0 where
   pub agrees_told : Tells (mark % 4) (agrees p)
   pub is_faulty_told : Tells (mark / 4) (is_faulty p)
 
--- the mark of the block at a place is true, if there is one
+-- the word of the block at a position is true, if there is one
 abbrev pub IsTrueAt : Blocks → ℕ → ℕ → Type 0
 IsTrueAt pairs place mark = (p : List ℕ × List ℕ) → slice_get pairs place ≡ Some p → IsTrueMark mark p
 
--- every mark is true of the block at its place
+-- every word is true of the block at its position
 abbrev pub AllTrue : Blocks → List ℕ → Type 0
 AllTrue pairs words = (place : ℕ) → IsTrueAt pairs place (slice_index words place)

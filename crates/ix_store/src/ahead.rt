@@ -1,4 +1,4 @@
-//! What is ahead of a walk in the bytes in which it stands.
+//! A cursor of a walk: the bytes of a block from its position on.
 
 ghost use Rattle.std.specs.Prelude.{◌≡◌, IfSome};
 ghost use Rattle.std.specs.Arc.{arc_value};
@@ -10,8 +10,9 @@ use ix_cid::CidRef;
 use std::marker::Model;
 use std::sync::Arc;
 
-/// The bytes from where a walk stands to the end of a block or digest, and where that end lies in bytes that can be shared,
-/// if that is known: a long CID that stands here is then shared and not copied. Contracts see the bytes.
+/// A cursor: the bytes from a walk's position to the end of a block or digest, and, if known, where
+/// that end is in bytes that can be shared. A long CID at the position is then shared and not
+/// copied. Contracts see the bytes.
 #[derive(Drop)]
 pub struct Ahead<'a> {
     bytes: &'a [u8],
@@ -31,7 +32,7 @@ impl<'a> Model for Ahead<'a> {
 }
 
 impl<'a> Ahead<'a> {
-    /// All of bytes that can't be shared.
+    /// A cursor over bytes that can't be shared.
     #[inline]
     pub fn of(bytes: &'a [u8]) -> Ahead<'a>
         ensures { result ≡ bytes.now }
@@ -39,7 +40,7 @@ impl<'a> Ahead<'a> {
         Ahead { bytes, end: None }
     }
 
-    /// All of bytes that end at a place in shared ones.
+    /// A cursor over bytes that end at a position of shared ones.
     #[inline]
     pub fn within(bytes: &'a [u8], shared: &'a Arc<Vec<u8>>, end: usize) -> Ahead<'a>
         requires { EndsAt (arc_value shared.now).items end bytes.now }
@@ -51,7 +52,8 @@ impl<'a> Ahead<'a> {
         }
     }
 
-    /// All of the digest of a CID, which may stand at a place of shared bytes: the digest ends where the CID does.
+    /// A cursor over the digest of a CID, which may be at a position of shared bytes: the digest
+    /// ends where the CID does.
     pub fn of_digest(
         cid: &'a [u8],
         place: Option<(&'a Arc<Vec<u8>>, usize)>,
@@ -76,7 +78,7 @@ impl<'a> Ahead<'a> {
         self.bytes
     }
 
-    /// The same once more.
+    /// Clones the cursor.
     #[inline]
     pub fn again(&self) -> Ahead<'a>
         ensures { result ≡ self.now }
@@ -87,7 +89,7 @@ impl<'a> Ahead<'a> {
         }
     }
 
-    /// Goes on to the rest.
+    /// Moves on to the rest.
     #[inline]
     pub fn go_to(&mut self, rest: &'a [u8])
         requires { EndsWith self.old rest.now }
@@ -96,7 +98,8 @@ impl<'a> Ahead<'a> {
         self.bytes = rest;
     }
 
-    /// Goes on behind an open list or map: where the walk came from, if that is all of its block.
+    /// Moves on after an open list or map: to where the walk came from, if the list or map is all
+    /// of its block.
     pub fn go_on(&mut self, back: &Option<Ahead<'a>>)
         ensures { self.new ≡ goes_on back.now self.old }
     {
@@ -105,7 +108,7 @@ impl<'a> Ahead<'a> {
         }
     }
 
-    /// The CID that stands in the bytes before the rest.
+    /// Returns the CID that is in the bytes before the rest.
     #[inline]
     pub fn cid_before(&self, cid: &'a [u8], rest: &'a [u8]) -> CidRef<'a>
         requires cid { IsCid cid.now }

@@ -1,4 +1,4 @@
-//! A store in the making.
+//! A builder of a store.
 
 ghost use Rattle.std.specs.Prelude.{◌≡◌, ◌≤◌, [], length, take, OnOk, OnErr, IfOk};
 ghost use Rattle.std.specs.Arc.{arc_value};
@@ -16,13 +16,14 @@ use std::mem;
 use std::sync::Arc;
 use std::thread::Threads;
 
-// How many entries wait at least where several threads index them: with fewer nothing is gained.
+// How many entries must wait for several threads to index them; with fewer it doesn't pay.
 const MANY: usize = 100_000;
 
-/// A store that is made of many blocks by several threads, seen as the pairs that it will have: those of the blocks
-/// that were added, where the first of each CID counts.
+/// A builder of a store from many blocks by several threads, seen as the pairs that the store will
+/// have: those of the blocks that were added, of which the first of each CID counts.
 ///
-/// A block that is added isn't indexed at once: once many wait, the threads index all that are there together.
+/// A block that is added isn't indexed at once: once many wait, the threads index all of them
+/// together.
 ///
 /// ```rust
 /// builder.add_within(cid, file, start, size)?;
@@ -32,12 +33,13 @@ const MANY: usize = 100_000;
 pub struct StoreBuilder {
     alloc: Global,
     entries: Vec<Entry>,
-    // The index of the first entries, as many as are indexed. The CIDs of the others may stand there twice.
+    // The index of the first entries, those that are indexed. The CIDs of the others may occur
+    // twice.
     index: Index,
     indexed: usize,
 }
 
-// Written out and not derived: what is derived is put into each function that lets go of one, at each of its ends.
+// Written by hand: a derived drop is inlined in each function that drops one, at each of its exits.
 impl Drop for StoreBuilder {
     fn drop(self) {
         let StoreBuilder {
@@ -64,7 +66,7 @@ impl Model for StoreBuilder {
 }
 
 impl StoreBuilder {
-    /// A store in the making, without blocks.
+    /// Creates a builder without blocks.
     pub fn new(alloc: Global) -> StoreBuilder
         ensures { result ≡ [] }
     {
@@ -76,8 +78,8 @@ impl StoreBuilder {
         }
     }
 
-    /// Adds a block that lies in shared bytes, as many as its size from a place on, unless its CID is there. Nothing is
-    /// copied: the store keeps a share of the bytes.
+    /// Adds a block of `size` bytes that is in shared bytes from `start` on, unless its CID is
+    /// there. Nothing is copied: the store keeps a share of the bytes.
     pub fn add_within(
         &mut self,
         cid: Cid,
@@ -93,9 +95,11 @@ impl StoreBuilder {
         Ok(())
     }
 
-    /// Indexes the blocks that wait, by so many threads, if they are due: if 100,000 wait, and three times as many as
-    /// are indexed. Those that wait may have one CID, so calling this at each block bounds the memory that they take.
-    /// At an `Err` no block is left.
+    /// Indexes the blocks that wait, by `threads` threads, if they are due: if 100,000 wait, and
+    /// three times as many as are indexed.
+    ///
+    /// Those that wait may have one CID, so calling this at each block bounds the memory that they
+    /// take. After an error no block is left.
     pub fn index_due<R: Threads + Sync>(&mut self, rt: &R, threads: usize) -> Result<(), AllocError>
         ensures same { OnOk result (self.new ≡ self.old) }
         ensures err { OnErr result (self.new ≡ []) }
@@ -113,7 +117,7 @@ impl StoreBuilder {
         Ok(())
     }
 
-    /// The store of these blocks, which so many threads index where they are many.
+    /// Builds the store of these blocks. If they are many, `threads` threads index them.
     pub fn build<R: Threads + Sync>(self, rt: &R, threads: usize) -> Result<Store, AllocError>
         ensures { IfOk result (λ store. store ≡ self) }
     {
@@ -128,7 +132,7 @@ impl StoreBuilder {
     }
 }
 
-// The entries that count and the index of all of them. So many of the first ones are indexed before.
+// Returns the entries that count and the index of all of them. The first ones are indexed already.
 fn index_all<R: Threads + Sync>(
     rt: &R,
     alloc: Global,
@@ -150,7 +154,8 @@ fn index_all<R: Threads + Sync>(
     index_in_turn(alloc, entries, index, indexed)
 }
 
-// The same by one thread, one after the other. An entry whose CID stands before it is left out.
+// Does the same on one thread, one entry after the other. An entry whose CID occurred before is
+// dropped.
 fn index_in_turn(
     alloc: Global,
     mut entries: Vec<Entry>,

@@ -1,4 +1,4 @@
-//! Whether blocks have the digests of their CIDs.
+//! Whether blocks have the digests of their CIDs (FIPS 180-4).
 
 ghost use Rattle.std.specs.Prelude.{◌≡◌, bytes_eq};
 ghost use Rattle.sha2.specs.Sha256.{sha256};
@@ -8,8 +8,8 @@ ghost use Rattle.ix_store.specs.Mark.{has_digest_of};
 use ix_cid::{HashFunction, Parts};
 use sha2::{Digest, Sha256, Sha512};
 
-// Whether the digest of a CID with these parts is that of a block. No block has the digest of a hash function
-// that isn't known.
+// Whether the digest of a CID with these parts is that of a block. No block has the digest of an
+// unknown hash function.
 pub(crate) fn agrees_with(parts: &Parts<'_>, block: &[u8]) -> bool
     ensures { result ≡ has_digest_of parts.now block.now }
 {
@@ -21,8 +21,8 @@ pub(crate) fn agrees_with(parts: &Parts<'_>, block: &[u8]) -> bool
     }
 }
 
-// Whether the SHA-256 of a block is this digest. The hashers stand in functions of their own, so that a block
-// pays for the room of the one that it needs.
+// Whether the SHA-256 of a block (FIPS 180-4) is this digest. The hashers are in functions of their
+// own, so that a block pays only for the stack of the one that it needs.
 #[inline(never)]
 fn is_sha2_256(digest: &[u8], block: &[u8]) -> bool
     ensures { result ≡ bytes_eq (sha256 block.now) digest.now }
@@ -30,7 +30,7 @@ fn is_sha2_256(digest: &[u8], block: &[u8]) -> bool
     Sha256::digest(block).as_slice() == digest
 }
 
-// Whether the SHA-512 of a block is this digest.
+// Whether the SHA-512 of a block (FIPS 180-4) is this digest.
 #[inline(never)]
 fn is_sha2_512(digest: &[u8], block: &[u8]) -> bool
     ensures { result ≡ bytes_eq (sha512 block.now) digest.now }

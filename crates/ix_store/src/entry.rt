@@ -17,7 +17,7 @@ pub(crate) struct Entry {
     pub(crate) block: Block,
 }
 
-// A block in an allocation of its own, or as many bytes of others, from a place on.
+// A block: an allocation of its own, or a range of shared bytes.
 #[derive(Drop)]
 pub(crate) enum Block {
     Own(Vec<u8>),
@@ -36,7 +36,7 @@ impl Entry {
         agrees_with(&self.cid.parts(), self.block.bytes())
     }
 
-    // Whether the block spells no data.
+    // Whether the block is not valid DAG-CBOR.
     pub(crate) fn is_faulty(&self) -> bool
         ensures { result ≡ is_faulty (pair_of self.now) }
     {
@@ -54,7 +54,7 @@ impl Block {
         }
     }
 
-    // The bytes, and where they end in shared ones.
+    // Returns a cursor over the bytes, with their end in shared ones.
     pub(crate) fn ahead(&self) -> Ahead<'_>
         ensures { result ≡ content self.now }
     {
@@ -69,7 +69,7 @@ impl Block {
     }
 }
 
-// As many bytes as there are of those asked for.
+// Returns the bytes of the range, or those of them that exist.
 fn part(bytes: &[u8], start: usize, size: usize) -> &[u8]
     ensures { result.now ≡ take size (drop start bytes.now) }
 {
@@ -78,7 +78,7 @@ fn part(bytes: &[u8], start: usize, size: usize) -> &[u8]
     part
 }
 
-/// Whether bytes spell no data (DAG-CBOR, RFC 8949).
+/// Whether bytes are not valid DAG-CBOR (RFC 8949, deterministic encoding).
 pub fn has_fault(bytes: &[u8]) -> bool
     ensures { result ≡ is_none (data_at bytes.now) }
 {

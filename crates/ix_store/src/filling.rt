@@ -1,9 +1,10 @@
 //! The slots of a table for many entries at once, which several threads fill.
 //!
-//! Each thread has a part of the table, and goes through the numbers of all entries for those whose look-up begins in it. The
-//! place of an entry goes to the first free slot of its look-up, and nowhere where none is free. A look-up that goes through
-//! the end of a part comes last, when the threads have ended. Nothing is promised here of what a slot has: `Index` has each
-//! entry looked up before anything rests on it (`seeing.rt`).
+//! Each thread has a part of the table, and goes over the numbers of all entries for those whose
+//! look-up begins in it. The position of an entry goes to the first free slot of its look-up, and
+//! nowhere if none is free. A look-up that crosses the end of a part comes last, when the threads
+//! have ended. Nothing is promised here of what a slot has: `Index` has each entry looked up before
+//! anything depends on it (`seeing.rt`).
 
 use crate::entry::Entry;
 use crate::index::{MOST_PLACES, PROBES, Slot, starts_for, tail_of};
@@ -13,7 +14,7 @@ use std::thread::{Threads, for_each_chunk_mut, map_chunks};
 // The numbers of a share of the entries.
 type Share = Result<Vec<u64>, AllocError>;
 
-// The slots of a table for these entries, which so many threads fill.
+// Returns the slots of a table for these entries, which several threads fill.
 pub(crate) fn filled<R: Threads + Sync>(
     rt: &R,
     alloc: Global,
@@ -52,8 +53,8 @@ fn tails_of(alloc: Global, entries: &[Entry]) -> Share {
         .collect(alloc)
 }
 
-// Fills the part of a table that begins at a slot. Of the numbers, those count whose look-up lies in it, and the last slot is
-// told at which one may begin.
+// Fills the part of a table that begins at a slot. Of the numbers, those count whose look-up is in
+// it; `last` is the last slot at which one may begin.
 fn fill_part(slots: &mut [Slot], from: usize, last: usize, tails: &[Share]) {
     let mut place = 0;
     for share in tails {
@@ -70,7 +71,8 @@ fn fill_part(slots: &mut [Slot], from: usize, last: usize, tails: &[Share]) {
     }
 }
 
-// Fills in what is left behind parts of this size, a power of two: the numbers whose look-up goes through the end of one.
+// Fills what remains after parts of this size, a power of two: the numbers whose look-up crosses
+// the end of one.
 fn fill_seams(slots: &mut [Slot], part: usize, last: usize, tails: &[Share]) {
     let mut place = 0;
     for share in tails {
@@ -87,8 +89,8 @@ fn fill_seams(slots: &mut [Slot], part: usize, last: usize, tails: &[Share]) {
     }
 }
 
-// Puts the place of a number into the first of these slots that is free, from the one at which its look-up begins, unless one
-// before has it.
+// Stores the position of a number in the first free one of these slots, from the one at which its
+// look-up begins, unless an earlier slot has it.
 fn put(slots: &mut [Slot], first: usize, tail: u64, place: usize) {
     if place >= MOST_PLACES {
         return;

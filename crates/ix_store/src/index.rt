@@ -1,11 +1,11 @@
-//! Where the entry of each CID stands in a store.
+//! The index of a store: a hash table from CIDs to positions of entries.
 //!
-//! A CID has a number, which its last eight bytes spell: in an honest file these are bytes of a digest, so
-//! that each number has a slot of its own in a table, or one a few slots on. The lower half of the number says at
-//! which slot its look-up begins, and the upper half is the mark by which CIDs of one slot are told apart: only
-//! where it agrees is the CID itself compared. Strangers can choose CIDs with one number, or with numbers that come
-//! to one slot. So a look-up goes through a bounded number of slots, and what finds none of them free goes to a tree
-//! over whole CIDs.
+//! A CID has a number, its last eight bytes as a little-endian integer. In an honest file these are
+//! bytes of a digest, so the look-ups of different CIDs hardly meet. The lower half of the number
+//! says at which slot its look-up begins, and the upper half is the fingerprint that distinguishes
+//! CIDs of one slot: the CID itself is compared only if it matches. An attacker can choose CIDs
+//! with one number, or with numbers that come to one slot. So a look-up visits a bounded number of
+//! slots, and a CID that finds none of them free goes to a tree over whole CIDs.
 
 ghost use Rattle.std.specs.Prelude.{◌≡◌, ◌↔◌, List, [], ◌-◌, ◌*◌, ◌^◌, ◌<◌, Option, length, Some, None, true, false, not, IsTrue, IfOk, OnErr, ℕ, ◌≤◌};
 ghost use Rattle.std.specs.Option.{unwrap_or};
@@ -21,28 +21,29 @@ use std::alloc::{AllocError, Global};
 use std::collections::BTreeMap;
 use std::thread::Threads;
 
-// How many slots a look-up goes through at most.
+// How many slots a look-up visits at most.
 pub(crate) const PROBES: usize = 8;
 
-// At how many slots a look-up may begin in the smallest table: a power of two, as in each larger one, so that a mask
-// of a number comes to each of them.
+// At how many slots a look-up may begin in the smallest table: a power of two, as in each larger
+// one, so that masking a number reaches each of them.
 const LEAST_STARTS: usize = 64;
 
-// How many places slots can have. Those behind them go to the tree.
+// How many positions slots can have. Those from there on go to the tree.
 pub(crate) const MOST_PLACES: usize = 0xffff_ffff;
 
-// A slot of the table, in eight bytes: free, or the mark of a CID and the place of its entry.
+// A slot of the table, in eight bytes: free, or the fingerprint of a CID and the position of its
+// entry.
 #[derive(Clone, Copy)]
 pub(crate) struct Slot {
     mark: u32,
-    // How many entries there are up to the place, with the one there: 0 where the slot is free.
+    // The position of the entry plus 1, or 0 if the slot is free.
     end: u32,
 }
 
 impl Slot {
     pub(crate) const FREE: Slot = Slot { mark: 0, end: 0 };
 
-    // The slot of a place under a number.
+    // Returns the slot of a position under a number.
     pub(crate) fn taken(tail: u64, place: usize) -> Slot
         requires { place < 2 ^ 32 - 1 }
         ensures { Has result (mark_of tail) place }
@@ -53,7 +54,7 @@ impl Slot {
         }
     }
 
-    // The place in a slot, unless it is free.
+    // Returns the position in a slot, unless the slot is free.
     pub(crate) fn place(self) -> Option<usize>
         ensures { HasPlace self result }
     {
@@ -64,7 +65,8 @@ impl Slot {
     }
 }
 
-// Where the table has the entry of a CID, or the free slot where its place goes, or that it goes to the tree.
+// Where the table has the entry of a CID, or the free slot for its position, or that it goes to the
+// tree.
 #[derive(Clone, Copy)]
 pub(crate) enum Seat {
     Held(usize),
@@ -72,8 +74,8 @@ pub(crate) enum Seat {
     Behind,
 }
 
-// What a look-up of a CID sees in the slots through which it goes: the place of an entry with this CID, a free slot before
-// one, or neither.
+// The result of a look-up of a CID in its slots: the position of an entry with this CID, a free
+// slot before one, or neither.
 #[derive(Clone, Copy)]
 pub(crate) enum Sight {
     At(usize),
@@ -81,8 +83,8 @@ pub(crate) enum Sight {
     Full,
 }
 
-// A table of slots, and a tree behind it for the CIDs that found no free slot, or whose place no slot can have. What
-// once stood in the tree stays there.
+// A table of slots, and an overflow tree for the CIDs that found no free slot, or whose position no
+// slot can have. What was once in the tree stays there.
 #[derive(Drop)]
 pub(crate) struct Index {
     slots: Vec<Slot>,
@@ -90,7 +92,7 @@ pub(crate) struct Index {
 }
 
 impl Index {
-    // The index of no entries, without slots.
+    // Creates the index of no entries, without slots.
     pub(crate) fn new(alloc: Global) -> Index
         ensures { IsIndexed result [] }
     {
@@ -100,9 +102,10 @@ impl Index {
         }
     }
 
-    // The index of these entries: several threads fill its slots, and then see that the look-up of each entry comes to its
-    // place. What finds none of its slots free goes to the tree. There is no index where two entries have one CID, or where
-    // more than a few find no free slot: no thread serves the tree.
+    // Builds the index of these entries: several threads fill its slots, and then check that the
+    // look-up of each entry comes to its position. What finds none of its slots free goes to the
+    // tree. Returns `None` if two entries have one CID, or if more than a few find no free slot: no
+    // thread fills the tree.
     pub(crate) fn by_threads<R: Threads + Sync>(
         rt: &R,
         alloc: Global,
@@ -122,7 +125,7 @@ impl Index {
         index.cover(alloc, entries, share, shares.as_slice())
     }
 
-    // The same index, once threads saw the shares of the entries.
+    // Returns the same index, after threads checked the shares of the entries.
     fn cover(
         mut self,
         alloc: Global,
@@ -149,7 +152,8 @@ impl Index {
         Ok(Some(self))
     }
 
-    // Gives the tree these places, each for the CID of its entry, and tells whether it has each of them.
+    // Inserts these positions into the tree, each for the CID of its entry. Returns whether it has
+    // each of them.
     fn put_each_behind(
         &mut self,
         alloc: Global,
@@ -174,8 +178,8 @@ impl Index {
         Ok(true)
     }
 
-    // The index with room for one entry more: its table is doubled where half of its slots may be taken. The
-    // entries that find no free slot there go to the tree, unless they stand there.
+    // Makes room for one entry more: the table is doubled if half of its slots may be taken. The
+    // entries that find no free slot there go to the tree, unless they are in it.
     pub(crate) fn make_room(&mut self, alloc: Global, entries: &[Entry]) -> Result<(), AllocError>
         requires { IsIndexed self.old (pairs_of entries.now) }
         ensures { IsIndexed self.new (pairs_of entries.now) }
@@ -200,8 +204,8 @@ impl Index {
         Ok(())
     }
 
-    // Whether the look-up of a number goes through a slot with this place. Where it doesn't, only the tree can
-    // lead to it.
+    // Whether the look-up of a number visits a slot with this position. If it doesn't, only the
+    // tree can lead to it.
     fn has_place(&self, tail: u64, place: usize) -> bool
         ensures { result ≡ false → ComesOnlyBehind self.now.slots.items tail place }
     {
@@ -216,7 +220,7 @@ impl Index {
         false
     }
 
-    // The place that the tree has for a CID. Where it has none, it is given this one.
+    // Returns the position that the tree has for a CID. If it has none, it is given this one.
     fn put_behind(&mut self, alloc: Global, cid: &Cid, place: usize) -> Result<usize, AllocError>
         ensures slots { self.new.slots ≡ self.old.slots }
         ensures stood { IfOk result (λ p. p ≡ unwrap_or (place_behind self.old cid.now) place) }
@@ -230,7 +234,7 @@ impl Index {
         }
     }
 
-    // Where the table has the entry of a CID, or where its place goes.
+    // Returns where the table has the entry of a CID, or where its position goes.
     fn seat(&self, entries: &[Entry], cid: &Cid) -> Seat
         requires { IsIndexed self.now (pairs_of entries.now) }
         ensures { IsSeat self.now (pairs_of entries.now) cid.now result }
@@ -252,7 +256,7 @@ impl Index {
         Seat::Behind
     }
 
-    // Where the entry of a CID stands.
+    // Returns the position of the entry of a CID.
     pub(crate) fn find(&self, entries: &[Entry], cid: &Cid) -> Option<usize>
         requires { IsIndexed self.now (pairs_of entries.now) }
         ensures { result ≡ position_of (pairs_of entries.now) cid.now }
@@ -264,7 +268,8 @@ impl Index {
         }
     }
 
-    // Enters the place behind the entries for a CID, unless its entry is among them, and tells whether it did.
+    // Inserts the position after the last entry for a CID, unless its entry is there. Returns
+    // whether it did.
     pub(crate) fn enter(
         &mut self,
         alloc: Global,
@@ -292,7 +297,7 @@ impl Index {
     }
 }
 
-// The slot at which the look-up of a number begins, and those through which it goes.
+// Returns the slot at which the look-up of a number begins, and the slots that it visits.
 fn window(slots: &[Slot], tail: u64) -> (usize, &[Slot])
     ensures first { result.0 ≡ first_of slots.now tail }
     ensures slots { result.1.now ≡ window_of slots.now tail }
@@ -304,8 +309,8 @@ fn window(slots: &[Slot], tail: u64) -> (usize, &[Slot])
     (first, &slots[first..first + PROBES])
 }
 
-// The slot to which the place of a number goes: the first free one of its look-up. The place goes to the tree where
-// none of them is free, or where no slot can have it.
+// Returns the slot for the position of a number: the first free one of its look-up. Returns `None`
+// if none of them is free, or if no slot can have the position, which then goes to the tree.
 fn free_slot(slots: &[Slot], tail: u64, place: usize) -> Option<usize>
     ensures { FindsFree slots.now tail place result }
 {
@@ -321,7 +326,7 @@ fn free_slot(slots: &[Slot], tail: u64, place: usize) -> Option<usize>
     None
 }
 
-// What the look-up of a CID sees in a table.
+// Returns what the look-up of a CID finds in a table.
 pub(crate) fn look(slots: &[Slot], entries: &[Entry], cid: &Cid) -> Sight
     ensures { result ≡ sight_in slots.now (pairs_of entries.now) cid.now }
 {
@@ -339,7 +344,7 @@ pub(crate) fn look(slots: &[Slot], entries: &[Entry], cid: &Cid) -> Sight
     Sight::Full
 }
 
-// Whether an entry at a place has this CID.
+// Whether the entry at a position has this CID.
 fn is_cid_at(entries: &[Entry], place: usize, cid: &Cid) -> bool
     ensures { result ≡ is_cid_at (pairs_of entries.now) place cid.now }
 {
@@ -349,7 +354,8 @@ fn is_cid_at(entries: &[Entry], place: usize, cid: &Cid) -> bool
     }
 }
 
-// At how many slots a look-up may begin in a table for so many entries: at twice as many, or more.
+// Returns at how many slots a look-up may begin in a table for `count` entries: at twice as many,
+// or more.
 pub(crate) fn starts_for(count: usize) -> usize
     ensures { 64 ≤ result }
 {
@@ -360,14 +366,14 @@ pub(crate) fn starts_for(count: usize) -> usize
         .unwrap_or(LEAST_STARTS)
 }
 
-// The mark of a number: its upper half.
+// Returns the fingerprint of a number: its upper half.
 fn mark_of(tail: u64) -> u32
     ensures { result ≡ mark_of tail }
 {
     (tail >> 32) as u32
 }
 
-// The number of a CID.
+// Returns the number of a CID.
 pub(crate) fn tail_of(cid: &Cid) -> u64
     ensures { result ≡ tail_of cid.now }
 {
@@ -377,7 +383,7 @@ pub(crate) fn tail_of(cid: &Cid) -> u64
     }
 }
 
-// Whether the entry of a CID stands at a place.
+// Whether the entry of a CID is at a position.
 pub(crate) fn holds(entries: &[Entry], place: usize, cid: &Cid) -> bool
     requires { HasDistinctCids (pairs_of entries.now) }
     ensures { IsTrue result ↔ (position_of (pairs_of entries.now) cid.now ≡ Some place) }

@@ -1,6 +1,6 @@
-//! The store of blocks.
+//! An in-memory blockstore.
 //!
-//! A store is a list of blocks under distinct CIDs. Once it is settled it keeps what is found of a
+//! A store is a list of blocks under distinct CIDs. Once it is settled it caches two answers for a
 //! block, whether it has its CID's digest and whether it decodes, so that each is computed once for
 //! all threads. A builder takes sections as they come and finds by threads which of them are the
 //! first of their CIDs.

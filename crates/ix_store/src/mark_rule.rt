@@ -1,5 +1,5 @@
-//! The rule of marks, which holds between any two steps of any threads: each mark is true of the block at its
-//! place.
+//! The invariant of the cached answers, which holds between any two steps of any threads: each word
+//! is true of the block at its position.
 
 ghost use Rattle.std.specs.Prelude.{map};
 ghost use Rattle.ix_store.specs.Entry.{pair_of};
@@ -9,7 +9,8 @@ use crate::entry::Entry;
 use atomic_table::{Play, Seat, Table, TableRule};
 use std::alloc::Global;
 
-/// The rule: a word for each entry of the list that the table was told of. A seat knows that list.
+/// The invariant: a word for each entry of the list with which the table was made. A seat knows
+/// that list.
 pub(crate) struct MarkRule;
 
 impl TableRule<(), Vec<Entry>, Vec<Entry>> for MarkRule {
@@ -21,17 +22,17 @@ impl TableRule<(), Vec<Entry>, Vec<Entry>> for MarkRule {
 /// One word for each block.
 pub(crate) type Row = Table<(), Vec<Entry>, Vec<Entry>, MarkRule, Global>;
 
-/// What a thread steps with. It has no bytes.
+/// A thread's handle for the words. It takes no bytes.
 pub(crate) type MarkSeat = Seat<(), Vec<Entry>>;
 
-/// A mark is read: it is true of the block at its place.
+/// A step that reads a word: it is true of the block at its position.
 pub(crate) struct Look;
 
 impl Play<(), Vec<Entry>> for Look {
     ghost then = { λ step me n w. IsTrueAt (map pair_of me.0.items) step.word n };
 }
 
-/// A mark is written.
+/// A step that writes a word.
 pub(crate) struct Note;
 
 impl Play<(), Vec<Entry>> for Note {

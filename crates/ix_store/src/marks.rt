@@ -1,4 +1,4 @@
-//! What is known of each block of a list, by marks that threads share.
+//! The cached answers for each block of a list, in words that threads share.
 
 ghost use Rattle.std.specs.Prelude.{◌≡◌, ◌<◌, IfOk, length, map, slice_get, Some, IfSome, IfNone, ◌==◌, cond};
 ghost use Rattle.ix_store.specs.Entry.{pair_of};
@@ -10,7 +10,7 @@ use atomic_table::Table;
 use std::alloc::{AllocError, Global};
 use std::marker::Model;
 
-/// What is known of each block of a list. It is seen as that list.
+/// The cached answers for each block of a list. Contracts see that list.
 #[derive(Drop)]
 pub(crate) struct Marks {
     row: Row,
@@ -29,7 +29,7 @@ impl Model for Marks {
 }
 
 impl Marks {
-    /// Marks for these entries, of which nothing is known so far.
+    /// Creates words for these entries, with no answer known.
     pub(crate) fn new(alloc: Global, entries: &Vec<Entry>) -> Result<Marks, AllocError>
         ensures { IfOk result (λ m. m ≡ map pair_of entries.now.items) }
     {
@@ -38,8 +38,8 @@ impl Marks {
         Ok(Marks { row })
     }
 
-    /// Whether the digest of the CID at a place is that of the block there. It is computed where no thread has
-    /// noted it.
+    /// Whether the digest of the CID at a position is that of the block there. Computes it unless a
+    /// thread has stored the answer.
     pub(crate) fn agrees(&self, place: usize, entry: &Entry) -> bool
         requires { slice_get self.now place ≡ Some (pair_of entry.now) }
         ensures { result ≡ agrees (pair_of entry.now) }
@@ -53,7 +53,8 @@ impl Marks {
         answer
     }
 
-    /// Whether the block at a place spells no data. It is computed where no thread has noted it.
+    /// Whether the block at a position is not valid DAG-CBOR. Computes it unless a thread has
+    /// stored the answer.
     pub(crate) fn is_faulty(&self, place: usize, entry: &Entry) -> bool
         requires { slice_get self.now place ≡ Some (pair_of entry.now) }
         ensures { result ≡ is_faulty (pair_of entry.now) }
@@ -68,7 +69,7 @@ impl Marks {
     }
 }
 
-// The answer that a digit of a mark tells, if it tells one.
+// Decodes a digit of a word to an answer, if it has one.
 fn told(digit: u64) -> Option<bool>
     ensures none { IfNone result (digit ≡ 0) }
     ensures some { IfSome result (λ b. (0 < digit) × (b ≡ (digit == 1))) }
@@ -76,14 +77,14 @@ fn told(digit: u64) -> Option<bool>
     if digit == 0 { None } else { Some(digit == 1) }
 }
 
-// The digit of a mark that tells an answer.
+// Encodes an answer as a digit of a word.
 fn digit(answer: bool) -> u64
     ensures { result ≡ cond answer 1 2 }
 {
     if answer { 1 } else { 2 }
 }
 
-// Reads the mark at a place: it is true of the block there.
+// Reads the word at a position: it is true of the block there.
 fn look(row: &Row, place: usize) -> (u64, MarkSeat)
     requires { place < row.now.shared.table_id.words }
     ensures table { result.1.table_id ≡ row.now.shared.table_id }
@@ -92,7 +93,7 @@ fn look(row: &Row, place: usize) -> (u64, MarkSeat)
     row.shared.load_new_seat::<Look>(place)
 }
 
-// Writes a mark over the one that was read, unless another thread has changed it since.
+// Writes a word over the one that was read, unless another thread has changed it since.
 fn note(row: &Row, seat: &mut MarkSeat, place: usize, found: u64, mark: u64)
     requires seat { seat.old.table_id ≡ row.now.shared.table_id }
     requires place { place < row.now.shared.table_id.words }

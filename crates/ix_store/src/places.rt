@@ -1,16 +1,18 @@
-//! Sets of places, a bit each.
+//! Bit sets of positions.
 
 ghost use Rattle.std.specs.Prelude.{◌≡◌, ℕ, false, OnOk, OnErr};
 ghost use Rattle.ix_store.specs.PlaceSet.{contains_place, HasThePlacesOf, HasOneMoreThan};
 
 use std::alloc::{AllocError, Global};
 
-// How many places a word has.
+// How many positions a word has.
 const WORD_BITS: usize = 64;
 
-/// A set of places, as those of some blocks of a store, in a bit for each place up to the greatest that was put in.
+/// A set of positions, such as those of some blocks of a store, with a bit for each position up to
+/// the greatest that was inserted.
 //
-// Bit `n % 64` of word `n / 64` tells whether the place `n` is in it. A place behind the last word isn't.
+// Bit `n % 64` of word `n / 64` says whether the position `n` is in it. A position past the last
+// word isn't.
 #[derive(Drop)]
 pub struct PlaceSet {
     words: Vec<u64>,
@@ -18,7 +20,7 @@ pub struct PlaceSet {
 
 #[tactic(auto, unfolding(crate::specs::PlaceSet::contains_place))]
 impl PlaceSet {
-    /// No place.
+    /// Creates an empty set.
     pub fn new(alloc: Global) -> PlaceSet
         ensures { (n : ℕ) → contains_place result n ≡ false }
     {
@@ -27,7 +29,7 @@ impl PlaceSet {
         }
     }
 
-    /// Whether a place is in the set.
+    /// Whether a position is in the set.
     pub fn contains(&self, place: usize) -> bool
         ensures { result ≡ contains_place self.now place }
     {
@@ -37,7 +39,7 @@ impl PlaceSet {
         }
     }
 
-    /// Puts a place into the set. Where memory runs out the set is as it was.
+    /// Inserts a position. If memory runs out the set is unchanged.
     pub fn insert(&mut self, place: usize) -> Result<(), AllocError>
         ensures inserted { OnOk result (HasOneMoreThan self.new self.old place) }
         ensures err { OnErr result (HasThePlacesOf self.new self.old) }
@@ -50,7 +52,7 @@ impl PlaceSet {
         Ok(())
     }
 
-    /// Takes all places out, and lets the memory go.
+    /// Removes all positions, and frees the memory.
     pub fn clear(&mut self)
         ensures { (n : ℕ) → contains_place self.new n ≡ false }
     {

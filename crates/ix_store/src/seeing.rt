@@ -1,4 +1,4 @@
-//! Which entries find no free slot in a table, as each of several threads sees in its share of them.
+//! Checks that each entry is found in a table, which several threads do, each for its share.
 
 ghost use Rattle.std.specs.Prelude.{◌≡◌, IfOk, vec_len};
 ghost use Rattle.ix_store.specs.Entry.{pairs_of};
@@ -9,15 +9,15 @@ use crate::index::{Sight, Slot, look};
 use std::alloc::{AllocError, Global};
 use std::thread::{Threads, map_indices};
 
-// Of how many entries one may go to the tree of an index that threads make. Of two hundred one does, where CIDs are honest
-// and half of the slots are taken.
+// Of this many entries one may go to the tree of an index that threads make. With honest CIDs one
+// in two hundred does when half of the slots are taken.
 const FEW_BEHIND: usize = 64;
 
-// What a thread saw of a share of the entries: the places of those for which none of their slots is free, if it could all
-// be as it should.
+// What a thread found in its share of the entries: the positions of those for which none of their
+// slots is free, or `None` if the table is wrong.
 pub(crate) type Seen = Result<Option<Vec<usize>>, AllocError>;
 
-// What so many threads see of the shares of the entries, each of a share with so many.
+// Returns what the threads find in the shares of the entries, each of `share` entries.
 pub(crate) fn see_shares<R: Threads + Sync>(
     rt: &R,
     alloc: Global,
@@ -37,8 +37,9 @@ pub(crate) fn see_shares<R: Threads + Sync>(
     )
 }
 
-// The places of the entries for which none of their slots is free, of those in the share with a number, where each share has
-// so many. There are none where an entry's look-up comes to a free slot or to another place, or where they are more than a few.
+// Returns the positions of the entries of one share for which none of their slots is free. Returns
+// `None` if an entry's look-up comes to a free slot or to another position, or if they are more
+// than a few.
 fn see_share(alloc: Global, slots: &[Slot], entries: &[Entry], share: usize, number: usize) -> Seen
     ensures { ShareSeen slots.now (pairs_of entries.now) share number result }
 {

@@ -17,17 +17,18 @@ use std::alloc::{AllocError, Global};
 use std::marker::Model;
 use std::sync::Arc;
 
-/// Blocks under their CIDs, seen as the list of pairs in the order of adding.
+/// An in-memory blockstore: blocks under their CIDs, seen as the list of pairs in the order of
+/// adding.
 pub struct Store {
     alloc: Global,
     entries: Vec<Entry>,
-    // Where the entry of each CID stands.
+    // The position of the entry of each CID.
     index: Index,
-    // What is known of the blocks, once the store was settled and as long as none is added.
+    // The cached answers, once the store was settled and as long as no block is added.
     marks: Option<Marks>,
 }
 
-// Written out and not derived: what is derived is put into each function that lets go of one, at each of its ends.
+// Written by hand: a derived drop is inlined in each function that drops one, at each of its exits.
 impl Drop for Store {
     fn drop(self) {
         let Store {
@@ -55,7 +56,7 @@ impl Model for Store {
 }
 
 impl Store {
-    /// A store without blocks.
+    /// Creates a store without blocks.
     pub fn new(alloc: Global) -> Store
         ensures { result ≡ [] }
     {
@@ -67,7 +68,7 @@ impl Store {
         }
     }
 
-    // The store of these entries, of which this is the index.
+    // Creates the store of these entries, of which this is the index.
     pub(crate) fn of_entries(alloc: Global, entries: Vec<Entry>, index: Index) -> Store
         requires { IsIndexed index (pairs_of entries.items) }
         ensures { result ≡ pairs_of entries.items }
@@ -80,15 +81,15 @@ impl Store {
         }
     }
 
-    /// Adds a block, unless its CID is there.
+    /// Adds a block, unless its CID is there. Returns whether it was added.
     pub fn add(&mut self, cid: Cid, bytes: Vec<u8>) -> Result<bool, AllocError>
         ensures { Adds self.old self.new cid bytes.items result }
     {
         self.add_block(cid, Block::Own(bytes))
     }
 
-    /// Adds a block that lies in shared bytes, as many as its size from a place on, unless its CID is there. Nothing is
-    /// copied: the store keeps a share of the bytes.
+    /// Adds a block of `size` bytes that is in shared bytes from `start` on, unless its CID is
+    /// there. Nothing is copied: the store keeps a share of the bytes.
     pub fn add_within(
         &mut self,
         cid: Cid,
@@ -128,8 +129,8 @@ impl Store {
         self.add(cid, copy)
     }
 
-    /// Makes room to keep what is found of the blocks, eight bytes for each, until one is added. The store holds the
-    /// same, whether there is memory for that or not.
+    /// Allocates the cache of answers, eight bytes for each block, which is used until a block is
+    /// added. The blocks are the same, also if memory runs out.
     pub fn settle(&mut self) -> Result<(), AllocError>
         ensures { self.new ≡ self.old }
     {
@@ -138,15 +139,15 @@ impl Store {
         Ok(())
     }
 
-    /// Where the block of a CID stands.
+    /// Returns the position of the block of a CID.
     pub fn find(&self, cid: &Cid) -> Option<usize>
         ensures { result ≡ position_of self.now cid.now }
     {
         self.index.find(self.entries.as_slice(), cid)
     }
 
-    /// Where the block of a CID stands. The place that is guessed is looked at first, so that a good
-    /// guess saves the search.
+    /// Returns the position of the block of a CID. Looks at the guessed position first, so that a
+    /// good guess saves the search.
     pub fn find_near(&self, guess: Option<usize>, cid: &Cid) -> Option<usize>
         ensures { result ≡ position_of self.now cid.now }
     {
@@ -156,7 +157,7 @@ impl Store {
         }
     }
 
-    /// The block at a place.
+    /// Returns the block at a position.
     pub fn bytes(&self, place: usize) -> &[u8]
         requires { IsPlaceIn self.now place }
         ensures { slice_get (map (λ e. e.1) self.now) place ≡ Some result.now }
@@ -164,7 +165,7 @@ impl Store {
         self.entries[place].block.bytes()
     }
 
-    /// The block at a place, as bytes that are ahead: with where it ends in shared ones.
+    /// Returns a cursor over the block at a position, with its end in shared bytes.
     pub fn ahead(&self, place: usize) -> Ahead<'_>
         requires { IsPlaceIn self.now place }
         ensures { slice_get (map (λ e. e.1) self.now) place ≡ Some result }
@@ -172,9 +173,9 @@ impl Store {
         self.entries[place].block.ahead()
     }
 
-    /// Whether a block stands at this place and the digest of its CID is that of the block, by the CID's hash
-    /// function: SHA-256 or SHA-512 (FIPS 180-4), or the block itself under identity, and never under another
-    /// function. A settled store computes it once for all threads.
+    /// Whether there is a block at this position whose hash matches its CID, by the CID's hash
+    /// function: SHA-256 or SHA-512 (FIPS 180-4), or the block itself under identity, and never
+    /// under another function. A settled store computes it once for all threads.
     pub fn agrees(&self, place: usize) -> bool
         ensures { result ≡ get_or (map agrees self.now) place false }
     {
@@ -187,8 +188,8 @@ impl Store {
         }
     }
 
-    /// Whether a block stands at this place and spells no data (DAG-CBOR, RFC 8949). A settled store computes it
-    /// once for all threads.
+    /// Whether there is a block at this position that is not valid DAG-CBOR (RFC 8949). A settled
+    /// store computes it once for all threads.
     pub fn is_faulty(&self, place: usize) -> bool
         ensures { result ≡ get_or (map is_faulty self.now) place false }
     {
@@ -201,7 +202,7 @@ impl Store {
         }
     }
 
-    /// How many blocks there are.
+    /// The number of blocks.
     pub fn len(&self) -> usize
         ensures { result ≡ length self.now }
     {

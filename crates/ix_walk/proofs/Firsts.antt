@@ -10,6 +10,7 @@ abbrev pub In : List ℕ → List (List ℕ) → Type 0
 In c [] = ⊥
 In c (d ∷ ds) = (d ≡ c) ⊎ In c ds
 
+-- an element of a concatenation is in one of its parts
 pub in-append : (c : List ℕ) (xs ys : List (List ℕ)) → In c (xs ++ ys) → In c xs ⊎ In c ys
 in-append c [] ys h = inr h
 in-append c (x ∷ xs) ys (inl e) = inl (inl e)
@@ -32,6 +33,7 @@ filter-in p c (x ∷ xs) (inl is) passes = subst (λ b. In c (if b then x ∷ fi
 filter-in p c (x ∷ xs) (inr h) passes =
     elim (p x) as (λ b. In c (if b then x ∷ filter p xs else filter p xs)) [ true ↦ inr (filter-in p c xs h passes) | false ↦ filter-in p c xs h passes ]
 
+-- an element that is left by a filter is in the list and passes
 pub in-filter : (p : List ℕ → Bool) (c : List ℕ) (xs : List (List ℕ)) → In c (filter p xs) → In c xs × (p c ≡ true)
 in-filter p c [] h = absurd h
 in-filter p c (x ∷ xs) h =
@@ -44,6 +46,7 @@ in-filter p c (x ∷ xs) h =
       kept later passes (inl is) = (inl is, ap p (sym is) ∙ passes)
       kept later passes (inr i) = let r = later i in (inr r.0, r.1)
 
+-- a filter that all pass changes nothing
 filter-all : {X : Type 0} (xs : List X) → filter (λ (x : X). true) xs ≡ xs
 filter-all [] = refl
 filter-all (x ∷ xs) = ap (λ l. x ∷ l) (filter-all xs)
@@ -56,16 +59,20 @@ unseen seen cs = filter (λ e. not (seen e)) (first_ones cs)
 abbrev pub and_this : List ℕ → (List ℕ → Bool) → List ℕ → Bool
 and_this c seen e = bytes_eq e c || seen e
 
+-- the CID itself was seen
 pub this_seen : (c : List ℕ) (seen : List ℕ → Bool) (e : List ℕ) → c ≡ e → and_this c seen e ≡ true
 this_seen c seen e is = ap (λ b. b || seen e) ((bytes_eq-Decides e c).1 (sym is))
 
+-- and what was seen before stays so
 pub still_seen : (c : List ℕ) (seen : List ℕ → Bool) (e : List ℕ) → seen e ≡ true → and_this c seen e ≡ true
 still_seen c seen e h = elim (bytes_eq e c) as (λ b. (b || seen e) ≡ true) [ true ↦ refl | false ↦ h ]
 
+-- not either is neither
 neither : (b s : Bool) → (not b && not s) ≡ not (b || s)
 neither true s = refl
 neither false s = refl
 
+-- one more CID in front: it is first unless it was seen
 unseen-cons : (seen : List ℕ → Bool) (c : List ℕ) (cs : List (List ℕ)) → unseen seen (c ∷ cs) ≡ (if not (seen c) then c ∷ unseen (and_this c seen) cs else unseen (and_this c seen) cs)
 unseen-cons seen c cs =
     let rest : filter (λ e. not (seen e)) (filter (λ e. not (bytes_eq e c)) (first_ones cs)) ≡ unseen (and_this c seen) cs =
@@ -76,10 +83,12 @@ unseen-cons seen c cs =
 pub unseen-behind : (seen : List ℕ → Bool) (c : List ℕ) (xs ys : List (List ℕ)) → unseen (and_this c seen) xs ≡ unseen (and_this c seen) ys → unseen seen (c ∷ xs) ≡ unseen seen (c ∷ ys)
 unseen-behind seen c xs ys h = unseen-cons seen c xs ∙ (λ i. if not (seen c) then c ∷ h i else h i) ∙ sym (unseen-cons seen c ys)
 
+-- a CID that was seen anyway
 seen_anyway : (b s : Bool) → (b ≡ true → s ≡ true) → not (b || s) ≡ not s
 seen_anyway true s h = ap not (sym (h refl))
 seen_anyway false s h = refl
 
+-- a CID that was seen is left out
 unseen-again : (seen : List ℕ → Bool) (c : List ℕ) (cs : List (List ℕ)) → seen c ≡ true → unseen seen (c ∷ cs) ≡ unseen seen cs
 unseen-again seen c cs was =
     unseen-cons seen c cs ∙ ap (λ b. if not b then c ∷ unseen (and_this c seen) cs else unseen (and_this c seen) cs) was
@@ -100,6 +109,7 @@ first_ones-in c [] h = h
 first_ones-in c (x ∷ xs) (inl is) = inl is
 first_ones-in c (x ∷ xs) (inr h) = inr (first_ones-in c xs (in-filter (λ e. not (bytes_eq e x)) c (first_ones xs) h).0)
 
+-- each CID is among the first ones
 pub in-first_ones : (c : List ℕ) (xs : List (List ℕ)) → In c xs → In c (first_ones xs)
 in-first_ones c [] h = h
 in-first_ones c (x ∷ xs) (inl is) = inl is

@@ -22,9 +22,11 @@ use Rattle.ix_walk.specs.Gone.{has_gone, is_same_going, IsNoted, gone_of}
 use Rattle.ix_walk.specs.Arriving.{IsValue, Goes}
 use Rattle.ix_store.proofs.Blocks.{none_behind, some_behind, block_at, place_within}
 
+-- bytes that compare as equal are equal
 bytes_same : (xs ys : List ℕ) → bytes_eq xs ys ≡ true → xs ≡ ys
 bytes_same xs ys e = (bytes_eq-Decides xs ys).0 e
 
+-- and equal bytes compare as equal
 bytes_are : (xs : List ℕ) → bytes_eq xs xs ≡ true
 bytes_are xs = (bytes_eq-Decides xs xs).1 refl
 
@@ -83,6 +85,7 @@ sound_absent store c h stored e absent = by stored (hash_function_of (parts_of c
 
 -- ---- what was gone into
 
+-- so do numbers
 number_same : (n : ℕ) → nat_eq n n ≡ true
 number_same n = grind (arith, nat_tests)
 
@@ -110,6 +113,7 @@ noted_first store old new c places is = fun_ext (λ d. fun_ext (λ others.
     ∙ ap (λ (b : Bool). b || gone_of store old d others)
     (going_at store c d places others (position_of store c) (position_of store d) refl refl)))
 
+-- what was expanded before is the same
 pub noted_again : (store : Blocks) (old new : Gone) (c : List ℕ) (places : List Place) → IsNoted old new (position_of store c) c places false → gone_of store new ≡ gone_of store old
 noted_again store old new c places is = fun_ext (λ d. fun_ext (λ others. is.1 (position_of store d) d others))
 
@@ -125,11 +129,13 @@ stays : (store : Blocks) (c : List ℕ) (places : List Place) (depth : ℕ) (had
 stays store c places depth had has none same =
     record { inside = none; gone = ap (λ (g : Going). Some g) same ∙ sym (ap (λ (o : Option Data). gone_behind o (waiting places depth c) (Some had)) none) }
 
+-- so at a repeated visit nothing is expanded
 pub goes_again : (store : Blocks) (c : List ℕ) (places : List Place) (depth : ℕ) (old new : Gone) → IsNoted old new (position_of store c) c places false
     → Goes store (waiting places depth c) (Some (gone_of store old)) None (Some (gone_of store new))
 goes_again store c places depth old new is =
     stays store c places depth (gone_of store old) (gone_of store new) (ap (λ (b : Bool). if b then None else sound_value store c) is.0) (noted_again store old new c places is)
 
+-- and at a first visit of a sound block its data are
 pub goes_first : (store : Blocks) (c : List ℕ) (places : List Place) (depth : ℕ) (old new : Gone) (b : List ℕ) → is_sound_by (hash_function_of (parts_of c)) (digest_of c) (block_of store c) ≡ true
     → IsNoted old new (position_of store c) c places true → IsValue (value_of store c) (Some b) → Goes store (waiting places depth c) (Some (gone_of store old)) (Some b) (Some (gone_of store new))
 goes_first store c places depth old new b sound is value =

@@ -22,11 +22,13 @@ use Rattle.ix_store.specs.declared.places.PlaceSet.{PlaceSet}
 use Rattle.ix_store.specs.PlaceSet.{contains_place}
 use Rattle.ix_walk.specs.Gone.{is_in, cid_order, has_gone, is_same_going, IsNoted}
 
+-- an order by two keys is equal if both are
 then_is : (o p : Ordering) → is_eq (ordering_then o p) ≡ (is_eq o && is_eq p)
 then_is Less p = refl
 then_is Equal p = refl
 then_is Greater p = refl
 
+-- the order of numbers is equal if they are
 number_is : (m n : ℕ) → is_eq (nat_cmp m n) ≡ nat_eq m n
 number_is m n = by_tests (nat_lt m n) (m == n) refl refl where
   by_tests : (below same : Bool) → nat_lt m n ≡ below → (m == n) ≡ same → is_eq (cond below Less (cond same Equal Greater)) ≡ same
@@ -37,20 +39,24 @@ number_is m n = by_tests (nat_lt m n) (m == n) refl refl where
   by_tests false true b s = refl
   by_tests false false b s = refl
 
+-- so is the order of CIDs with residuals
 cid_is : (c d : List ℕ) (places others : List Place) → is_eq (cid_order (c, places) (d, others)) ≡ (bytes_eq c d && same_residual places others)
 cid_is c d places others =
     then_is (slice_cmp nat_cmp c d) (residual_order places others) ∙ ap (λ (b : Bool). b && is_eq (residual_order places others)) (is_eq-slice_cmp c d) ∙ ap (λ (b : Bool). bytes_eq c d && b) (sym (residual_ties places others))
 
+-- a test that is joined with what was there
 or_is : (a b c : Bool) → a ≡ b → cond a true c ≡ (b || c)
 or_is true true c e = refl
 or_is true false c e = absurd cc
 or_is false true c e = absurd cc
 or_is false false c e = refl
 
+-- what is true negated was false
 was_not : (b : Bool) → true ≡ not b → b ≡ false
 was_not true e = absurd cc
 was_not false e = refl
 
+-- and back
 was : (b : Bool) → false ≡ not b → b ≡ true
 was true e = refl
 was false e = absurd cc
@@ -84,6 +90,7 @@ noted_whole_again old n c places all again = (ap (λ (b : Bool). if b then conta
 
 -- ---- by the place of its block, where something else was left
 
+-- an ordering that passes the test is `Equal`
 equal : (o : Ordering) → is_eq o ≡ true → o ≡ Equal
 equal Less e = absurd cc
 equal Equal e = refl
@@ -159,9 +166,11 @@ noted_alone old blocks n c places s t other had keeps none updates =
 
 -- ---- by the CID
 
+-- the set with other CIDs without a block
 abbrev pub with_others : Gone → BTreeSet (List ℕ × List Place) → Gone
 with_others g others = record { whole = g.whole; places = g.places; blocks = g.blocks; others = others }
 
+-- recording a CID without a block
 pub noted_other : (old : Gone) (set : BTreeSet (List ℕ × List Place)) (c : List ℕ) (places : List Place) (added : Bool) → added ≡ not (contains cid_order old.others (c, places)) → Updates cid_order old.others set (c, places) true
     → OnFalse added (IsUnchanged old.others set) → IsNoted old (with_others old set) None c places added
 noted_other old set c places true first updates same = (was_not (contains cid_order old.others (c, places)) first, here) where

@@ -26,11 +26,13 @@ list_any-found test P (g ∷ gs) h all =
 -- ---- going in once takes no more arrivals
 
 module _ {R : Type 0} (enters : Path → Bool) (rest : Path → R) (same : R → R → Bool) (inside : Inside) (bound : ℕ) where
+  -- with a bound of n visits link-visit-once takes no more than the full traversal
   abbrev IsFewer : ℕ → Type 0
   IsFewer n =
       (gone : List (List ℕ × R)) (waiting : List Arrival) → AllByRecursion (Ends enters inside bound) waiting
       → length (once enters rest same inside n gone waiting) ≤ length (flat_map (tree_cids enters inside bound) waiting)
 
+  -- whether or not the first is expanded
   fewer_behind : (n : ℕ) → IsFewer n → (gone : List (List ℕ × R)) (a : Arrival) (more : List Arrival) → AllByRecursion (Ends enters inside bound) (a ∷ more) → (was : Bool)
       → length (once enters rest same inside n (gone_behind enters rest same inside (if was then None else inside a.cid) a gone) (when_some (if was then None else inside a.cid) (λ d. links_below enters d a) ++ more))
       ≤ length (flat_map (tree_cids enters inside bound) (links_at enters inside a)) + length (flat_map (tree_cids enters inside bound) more)
@@ -42,6 +44,7 @@ module _ {R : Type 0} (enters : Path → Bool) (rest : Path → R) (same : R →
       ap length (flat_map-append (tree_cids enters inside bound) below more) ∙ length-append (flat_map (tree_cids enters inside bound) below) (flat_map (tree_cids enters inside bound) more) in
       omega (arith, all, joined)
 
+  -- by the bound
   once-fewer : (n : ℕ) → IsFewer n
   once-fewer zero gone waiting fit = omega arith
   once-fewer (suc n) gone [] fit = omega arith
@@ -51,6 +54,7 @@ module _ {R : Type 0} (enters : Path → Bool) (rest : Path → R) (same : R →
       length-append (tree_cids enters inside bound a) (flat_map (tree_cids enters inside bound) more) ∙ ap (λ l. length l + length (flat_map (tree_cids enters inside bound) more)) (cids-opened enters inside bound a fit.0) in
       omega (arith, behind, size)
 
+  -- from roots
   pub once-fewer_from : (n : ℕ) (roots : List (List ℕ)) → AllByRecursion (Ends enters inside bound) (roots_from 0 roots) → length (once_from enters rest same inside n roots) ≤ length (arrivals_from enters inside bound 0 roots)
   once-fewer_from n roots fit =
       let fewer = once-fewer n [] (roots_from 0 roots) fit in
@@ -61,6 +65,7 @@ module _ {R : Type 0} (enters : Path → Bool) (rest : Path → R) (same : R →
 -- ---- with a greater bound it only goes on
 
 module _ {R : Type 0} (enters : Path → Bool) (rest : Path → R) (same : R → R → Bool) (inside : Inside) where
+  -- a greater bound only appends visits
   pub once-goes_on : (n m : ℕ) → n ≤ m → (gone : List (List ℕ × R)) (waiting : List Arrival)
       → (more : List Arrival) × (once enters rest same inside n gone waiting ++ more ≡ once enters rest same inside m gone waiting)
   once-goes_on zero m h gone waiting = (once enters rest same inside m gone waiting, refl)
@@ -74,12 +79,15 @@ module _ {R : Type 0} (enters : Path → Bool) (rest : Path → R) (same : R →
 -- ---- it meets the same
 
 module _ {R : Type 0} (enters : Path → Bool) (rest : Path → R) (same : R → R → Bool) (inside : Inside) (tells : TellsRests enters rest same) (bound : ℕ) where
+  -- the CIDs of all visits at and below one
   abbrev whole : Arrival → List (List ℕ)
   whole = tree_cids enters inside bound
 
+  -- the visits right below one
   abbrev links : Arrival → List Arrival
   links = links_at enters inside
 
+  -- the traversal at and below the visit ends
   abbrev Fits : Arrival → Type 0
   Fits = Ends enters inside bound
 
@@ -95,17 +103,21 @@ module _ {R : Type 0} (enters : Path → Bool) (rest : Path → R) (same : R →
     of_rest : rest at.path ≡ g.1
     met : (c : List ℕ) → In c (whole at) → (seen c ≡ true) ⊎ Soon (length (whole at)) c waiting
 
+  -- so it is for all that was expanded
   abbrev AllEntered : (List ℕ → Bool) → List Arrival → List (List ℕ × R) → Type 0
   AllEntered seen waiting = AllByRecursion (Entered seen waiting)
 
+  -- each has a smaller tree below
   abbrev Smaller : ℕ → List Arrival → Type 0
   Smaller size = AllByRecursion (λ a. length (whole a) < size)
 
+  -- a CID below the first ones will be met soon
   soon-front : (size : ℕ) (c : List ℕ) (xs more : List Arrival) → Smaller size xs → In c (flat_map whole xs) → Soon size c (xs ++ more)
   soon-front size c [] more small h = absurd h
   soon-front size c (x ∷ xs) more small h =
       (small.0, elim (in-append c (whole x) (flat_map whole xs) h) [ inl i ↦ inl i | inr i ↦ inr (soon-front size c xs more small.1 i) ])
 
+  -- and so will one after them
   soon-behind : (size : ℕ) (c : List ℕ) (xs more : List Arrival) → Smaller size xs → Soon size c more → Soon size c (xs ++ more)
   soon-behind size c [] more small h = h
   soon-behind size c (x ∷ xs) more small h = (small.0, inr (soon-behind size c xs more small.1 h))
@@ -205,6 +217,7 @@ module _ {R : Type 0} (enters : Path → Bool) (rest : Path → R) (same : R →
         ∙ sym (unseen-seen (and_this a.cid seen) (flat_map whole (links a)) (flat_map whole more)
         (λ c i. still_seen a.cid seen c (all c (subst (In c) (sym (cids-opened enters inside bound a fits)) (inr i)))))
 
+  -- by the bound
   once-meets : (n : ℕ) → Meets n
   once-meets zero gone waiting seen fit entered short = absurd (omega (arith, short))
   once-meets (suc n) gone [] seen fit entered short = refl
@@ -223,6 +236,7 @@ module _ {R : Type 0} (enters : Path → Bool) (rest : Path → R) (same : R →
       ∙ unseen-none (flat_map whole (roots_from 0 roots))
       ∙ ap first_ones (sym (from-cids enters inside bound 0 roots))
 
+  -- a traversal within a bound of depth takes a bounded number of visits
   pub once-by_depth : (limit : ℕ) (roots : List (List ℕ)) → AllByRecursion (λ a. a.depth < bound) (arrivals_from enters inside bound 0 roots) → length (once_from enters rest same inside (suc limit) roots) ≤ limit
       → first_ones (map cid_of (once_from enters rest same inside (suc limit) roots)) ≡ first_ones (map cid_of (arrivals_from enters inside bound 0 roots))
   once-by_depth limit roots shallow short = once-same limit roots (roots-by_depth enters inside bound roots shallow) short

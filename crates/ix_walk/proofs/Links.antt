@@ -10,22 +10,27 @@ use Rattle.ix_selector.specs.Enters.{Step, key, nth, Path}
 use Rattle.ix_walk.specs.Arrivals.{Arrival, Crossing, Inside, behind, when_some, arrivals_below, arrivals_in_items, arrivals_in_entries, arrivals_at, arrivals_from}
 use Rattle.ix_walk.specs.Once.{roots_from, links_below}
 
+-- what holds of both parts holds of the concatenation
 pub all-append : {X : Type 0} (P : X → Type 0) (xs ys : List X) → AllByRecursion P xs → AllByRecursion P ys → AllByRecursion P (xs ++ ys)
 all-append P [] ys h g = g
 all-append P (x ∷ xs) ys h g = (h.0, all-append P xs ys h.1 g)
 
+-- and of its first part
 pub all-left : {X : Type 0} (P : X → Type 0) (xs ys : List X) → AllByRecursion P (xs ++ ys) → AllByRecursion P xs
 all-left P [] ys h = tt
 all-left P (x ∷ xs) ys h = (h.0, all-left P xs ys h.1)
 
+-- and of its second part
 pub all-right : {X : Type 0} (P : X → Type 0) (xs ys : List X) → AllByRecursion P (xs ++ ys) → AllByRecursion P ys
 all-right P [] ys h = h
 all-right P (x ∷ xs) ys h = all-right P xs ys h.1
 
+-- what follows from each follows from all
 pub all-weaker : {X : Type 0} (P Q : X → Type 0) → ((x : X) → P x → Q x) → (xs : List X) → AllByRecursion P xs → AllByRecursion Q xs
 all-weaker P Q weaker [] h = tt
 all-weaker P Q weaker (x ∷ xs) h = (weaker x h.0, all-weaker P Q weaker xs h.1)
 
+-- two properties at once
 pub all-both : {X : Type 0} (P Q : X → Type 0) (xs : List X) → AllByRecursion P xs → AllByRecursion Q xs → AllByRecursion (λ x. P x × Q x) xs
 all-both P Q [] h g = tt
 all-both P Q (x ∷ xs) h g = ((h.0, g.0), all-both P Q xs h.1 g.1)
@@ -35,10 +40,12 @@ all-parts : {X Y : Type 0} (P : Y → Type 0) (f : X → List Y) (xs : List X) �
 all-parts P f [] h = tt
 all-parts P f (x ∷ xs) h = (all-left P (f x) (flat_map f xs) h, all-parts P f xs (all-right P (f x) (flat_map f xs) h))
 
+-- equal functions give equal lists
 pub flat_map-same : {X Y : Type 0} (f g : X → List Y) (xs : List X) → AllByRecursion (λ x. f x ≡ g x) xs → flat_map f xs ≡ flat_map g xs
 flat_map-same f g [] h = refl
 flat_map-same f g (x ∷ xs) h = λ i. h.0 i ++ flat_map-same f g xs h.1 i
 
+-- mapping a list of parts is mapping each part
 map-parts : {X Y Z : Type 0} (h : Y → Z) (f : X → List Y) (xs : List X) → map h (flat_map f xs) ≡ flat_map (λ x. map h (f x)) xs
 map-parts h f [] = refl
 map-parts h f (x ∷ xs) = map-append h (f x) (flat_map f xs) ∙ ap (λ l. map h (f x) ++ l) (map-parts h f xs)
@@ -50,9 +57,11 @@ parts-length f (x ∷ xs) n h =
     let sum : length (f x ++ flat_map f xs) ≡ length (f x) + length (flat_map f xs) = length-append (f x) (flat_map f xs) in
     (omega (arith, sum, h), parts-length f xs n (omega (arith, sum, h)))
 
+-- the CID of a visit
 abbrev pub cid_of : Arrival → List ℕ
 cid_of a = a.cid
 
+-- roots have depth 0
 pub roots-depth : (root : ℕ) (cs : List (List ℕ)) → AllByRecursion (λ b. b.depth ≡ 0) (roots_from root cs)
 roots-depth root [] = tt
 roots-depth root (c ∷ cs) = (refl, roots-depth (root + 1) cs)
@@ -117,9 +126,11 @@ module _ (enters : Path → Bool) where
 
   -- ---- the same is entered behind two paths
 
+  -- the same is entered after both paths
   abbrev pub Alike : Path → Path → Type 0
   Alike p q = (r : Path) → enters (p ++ r) ≡ enters (q ++ r)
 
+  -- and so it is after one more step
   alike-behind : (p q : Path) (t : Step) → Alike p q → Alike (behind p t) (behind q t)
   alike-behind p q t h r = ap enters (append_assoc p (t ∷ []) r) ∙ h (t ∷ r) ∙ ap enters (sym (append_assoc q (t ∷ []) r))
 

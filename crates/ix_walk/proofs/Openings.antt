@@ -20,14 +20,17 @@ use Rattle.ix_walk.proofs.Parts.{members_here, values_here}
 
 -- ---- a part is read only where its items are
 
+-- what is read from a result is its value
 some_read : {A : Type 0} (r : Result A Fault) (x : A) → result_ok r ≡ Some x → r ≡ Ok x
 some_read (Ok y) x e = ap (λ z. Ok z) (same_Some y x e)
 some_read (Err f) x e = absurd cc
 
+-- a part that is there passed the test
 no_part : {A : Type 0} (b : Bool) (o : Option A) (x : A) → (if b then None else o) ≡ Some x → (b ≡ false) × (o ≡ Some x)
 no_part true o x e = absurd cc
 no_part false o x e = (refl, e)
 
+-- the elements of an open list can be read
 pub members_read : (count left : ℕ) (b : List ℕ) (x : Part × List ℕ) → part_at (Members count left) b ≡ Some x
     → (ds : Items × List ℕ) × (items_at (item_at 512) left b ≡ Ok ds) × ((members (count - left) ds.0, ds.1) ≡ x) × (left ≤ count)
 members_read count left b x e =
@@ -35,6 +38,7 @@ members_read count left b x e =
     let m = bind_ok (items_at (item_at 512) left b) (λ ds. Ok (members (count - left) ds.0, ds.1)) x (some_read (items_at (item_at 512) left b >>= (λ ds. Ok (members (count - left) ds.0, ds.1))) x p.1) in
     (m.0, m.1, ok_same (members (count - left) m.0.0, m.0.1) x m.2, ltb-false count left p.0)
 
+-- and so can the entries of an open map
 pub values_read : (left : ℕ) (b : List ℕ) (x : Part × List ℕ) → part_at (Values left) b ≡ Some x → (es : Entries × List ℕ) × (entries_at (item_at 512) None left b ≡ Ok es) × ((values es.0, es.1) ≡ x)
 values_read left b x e =
     let m = bind_ok (entries_at (item_at 512) None left b) (λ es. Ok (values es.0, es.1)) x (some_read (entries_at (item_at 512) None left b >>= (λ es. Ok (values es.0, es.1))) x e) in
@@ -49,6 +53,7 @@ pub record IsFirst (left : ℕ) (b : List ℕ) (ds : Items) (rest : List ℕ) : 
   pub others : items_at (item_at 512) left middle ≡ Ok (tail, rest)
   pub all : item head tail ≡ ds
 
+-- the first element, and those after it
 pub first_member : (left : ℕ) (b : List ℕ) (ds : Items) (rest : List ℕ) → items_at (item_at 512) (suc left) b ≡ Ok (ds, rest) → IsFirst left b ds rest
 first_member left b ds rest e =
     let a = bind_ok (item_at 512 b) (items_behind (item_at 512) left) (ds, rest) e in
@@ -75,6 +80,7 @@ pub record IsFirstEntry (left : ℕ) (b : List ℕ) (es : Entries) (rest : List 
   pub others : entries_at (item_at 512) None left middle ≡ Ok (tail, rest)
   pub all : entry name head tail ≡ es
 
+-- the first entry, and those after it
 pub first_entry : (left : ℕ) (b : List ℕ) (es : Entries) (rest : List ℕ) → entries_at (item_at 512) None (suc left) b ≡ Ok (es, rest) → IsFirstEntry left b es rest
 first_entry left b es rest e =
     let k = bind_ok (key_at None b) (value_behind (item_at 512) left) (es, rest) e in
@@ -105,6 +111,7 @@ pub record IsSplit (new : Children) (t : Step) (value : List ℕ) (x : Part × L
   pub links : (places : List Place) (depth : ℕ) → part_links places depth x.0 ≡ child_links places t depth head ++ part_links places depth others
   pub lighter : weight_of head + part_weight others < part_weight x.0
 
+-- an open list is its next element and the rest
 pub member_split : (count left : ℕ) (b : List ℕ) (x : Part × List ℕ) → part_at (Members count (suc left)) b ≡ Some x → IsSplit (Members count left) (nth (count - suc left)) b x
 member_split count left b x e =
     let i = members_read count (suc left) b x e in
@@ -122,6 +129,7 @@ member_split count left b x e =
       lighter = omega arith;
     })
 
+-- an open map is its next value and the rest
 pub value_split : (left : ℕ) (b k v : List ℕ) (x : Part × List ℕ) → key_at None b ≡ Ok (k, v) → part_at (Values (suc left)) b ≡ Some x → IsSplit (Values left) (key k) v x
 value_split left b k v x named e =
     let i = values_read (suc left) b x e in
@@ -167,6 +175,7 @@ pub record IsPassed (places : List Place) (depth : ℕ) (x : Part × List ℕ) (
 pub record Passes (places : List Place) (depth : ℕ) (old : Children) (at : List ℕ) (new : Children) (now : List ℕ) : Type 0 where
   pub of : (x : Part × List ℕ) → part_at old at ≡ Some x → IsPassed places depth x new now
 
+-- no child was passed
 pub passes_none : (places : List Place) (depth : ℕ) (c : Children) (at : List ℕ) → Passes places depth c at c at
 passes_none places depth c at = record { of = λ x e. record { part = x.0; here = e; links = refl; light = omega arith } }
 
@@ -174,6 +183,7 @@ passes_none places depth c at = record { of = λ x e. record { part = x.0; here 
 abbrev pub Splits : Children → List ℕ → Children → Step → List ℕ → Type 0
 Splits mid now new t value = (x : Part × List ℕ) → part_at mid now ≡ Some x → IsSplit new t value x
 
+-- one more child without links was passed
 pub passes_child : (places : List Place) (depth : ℕ) (old mid new : Children) (at now value rest : List ℕ) (t : Step) → Passes places depth old at mid now → Splits mid now new t value → IsChild places t value depth None rest
     → Passes places depth old at new rest
 passes_child places depth old mid new at now value rest t passes splits child = record {
@@ -190,6 +200,7 @@ passes_child places depth old mid new at now value rest t passes splits child = 
       };
 }
 
+-- a child is entered after those passed
 pub gives_child : (places : List Place) (depth : ℕ) (old mid new : Children) (at now value rest : List ℕ) (t : Step) (e : Entered) → Passes places depth old at mid now → Splits mid now new t value → IsChild places t value depth (Some e) rest
     → IsNext places depth old at (Some e) new rest
 gives_child places depth old mid new at now value rest t e passes splits child = λ x h.
@@ -207,6 +218,7 @@ gives_child places depth old mid new at now value rest t e passes splits child =
       lighter = omega (arith, l, k);
     }
 
+-- or none is left
 pub gives_none : (places : List Place) (depth : ℕ) (old new : Children) (at now : List ℕ) → is_spent new ≡ true → Passes places depth old at new now → IsNext places depth old at None new now
 gives_none places depth old new at now spent passes = λ x e.
     let p = passes.of x e in
@@ -215,18 +227,21 @@ gives_none places depth old new at now spent passes = λ x e.
 
 -- ---- what stands where
 
+-- an element that is left can be read
 pub member_item : (count left : ℕ) (b : List ℕ) → (left ≡ 0 → ⊥) → IsPart (Members count left) b → IsItem b
 member_item count zero b some p = absurd (some refl)
 member_item count (suc left) b some p =
     let i = members_read count (suc left) b p.0 p.1 in
     let f = first_member left b i.0.0 i.0.1 i.1 in ((f.head, f.middle), f.here)
 
+-- so can a key that is left
 pub value_key : (left : ℕ) (b : List ℕ) → (left ≡ 0 → ⊥) → IsPart (Values left) b → IsKey b
 value_key zero b some p = absurd (some refl)
 value_key (suc left) b some p =
     let i = values_read (suc left) b p.0 p.1 in
     let f = first_entry left b i.0.0 i.0.1 i.1 in ((f.name, f.value), f.named)
 
+-- and its value
 pub value_item : (left : ℕ) (b k v : List ℕ) → (left ≡ 0 → ⊥) → IsPart (Values left) b → key_at None b ≡ Ok (k, v) → IsItem v
 value_item zero b k v some p named = absurd (some refl)
 value_item (suc left) b k v some p named =
@@ -237,11 +252,13 @@ value_item (suc left) b k v some p named =
 
 -- ---- the children in turn
 
+-- the loop's step in a list
 pub member_splits : (count left : ℕ) (b : List ℕ) → 0 < left → Splits (Members count left) b (Members count (left - 1)) (nth (count - left)) b
 member_splits count zero b some = absurd (omega (arith, some))
 member_splits count (suc left) b some = λ x e.
     let less : left ≡ suc left - 1 = omega arith in subst (λ n. IsSplit (Members count n) (nth (count - suc left)) b x) less (member_split count left b x e)
 
+-- the loop's step in a map
 pub value_splits : (left : ℕ) (b k v : List ℕ) → 0 < left → key_at None b ≡ Ok (k, v) → Splits (Values left) b (Values (left - 1)) (key k) v
 value_splits zero b k v some named = absurd (omega (arith, some))
 value_splits (suc left) b k v some named = λ x e.
@@ -251,6 +268,7 @@ value_splits (suc left) b k v some named = λ x e.
 pub passed_part : (places : List Place) (depth : ℕ) (old new : Children) (at now : List ℕ) → Passes places depth old at new now → IsPart old at → IsPart new now
 passed_part places depth old new at now passes is = let p = passes.of is.0 is.1 in ((p.part, is.0.1), p.here)
 
+-- at most as many elements are left as there were
 pub members_within : (count left : ℕ) (b : List ℕ) → IsPart (Members count left) b → left ≤ count
 members_within count left b is = (members_read count left b is.0 is.1).3
 
@@ -260,18 +278,22 @@ pub gives_some : (places : List Place) (depth : ℕ) (old mid new : Children) (a
 gives_some places depth old mid new at now value rest t None some passes splits child = absurd cc
 gives_some places depth old mid new at now value rest t (Some e) some passes splits child = gives_child places depth old mid new at now value rest t e passes splits child
 
+-- a child that isn't entered is passed
 pub passes_on : (places : List Place) (depth : ℕ) (old mid new : Children) (at now value rest : List ℕ) (t : Step) (o : Option Entered) → is_some o ≡ false → Passes places depth old at mid now → Splits mid now new t value
     → IsChild places t value depth o rest → Passes places depth old at new rest
 passes_on places depth old mid new at now value rest t None none passes splits child = passes_child places depth old mid new at now value rest t passes splits child
 passes_on places depth old mid new at now value rest t (Some e) none passes splits child = absurd cc
 
+-- a positive number isn't 0
 pub not_none : (n : ℕ) → 0 < n → n ≡ 0 → ⊥
 not_none n some none = omega (arith, some, none)
 
+-- a list without elements left is spent
 pub members_spent : (count n : ℕ) → n ≤ 0 → is_spent (Members count n) ≡ true
 members_spent count zero none = refl
 members_spent count (suc n) none = absurd (omega (arith, none))
 
+-- and so is a map without values left
 pub values_spent : (n : ℕ) → n ≤ 0 → is_spent (Values n) ≡ true
 values_spent zero none = refl
 values_spent (suc n) none = absurd (omega (arith, none))

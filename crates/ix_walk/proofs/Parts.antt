@@ -30,6 +30,7 @@ members_here count left b rest ds h e =
     ap (λ t. if t then None else result_ok (items_at (item_at 512) left b >>= (λ ds. Ok (members (count - left) ds.0, ds.1)))) fits
     ∙ ap (λ r. result_ok (r >>= (λ ds. Ok (members (count - left) ds.0, ds.1)))) e
 
+-- the entries that can be read are what is left of the map
 pub values_here : (left : ℕ) (b rest : List ℕ) (es : Entries) → entries_at (item_at 512) None left b ≡ Ok (es, rest) → part_at (Values left) b ≡ Some (values es, rest)
 values_here left b rest es e = ap (λ r. result_ok (r >>= (λ es. Ok (values es.0, es.1)))) e
 
@@ -71,6 +72,7 @@ flat_enters : (places : List Place) (depth : ℕ) (x d : Data) (behind rest : Li
 flat_enters places depth x d behind rest nothing e =
     ok_data-kept x d behind rest (λ y l. Enters (links_below places depth y) (weight_of y) l None behind) e (refl, nothing)
 
+-- what is entered depends on the front alone
 by_front : (f : Front) (places : List Place) (depth : ℕ) (at behind rest : List ℕ) (d : Data) → with_members (Some (item_at 511)) at (own_of_front f, behind) ≡ Ok (d, rest)
     → Enters (links_below places depth d) (weight_of d) rest (entered_by places f depth) behind
 by_front fronts.Null places depth at behind rest d e = flat_enters places depth null d behind rest refl e
@@ -101,6 +103,7 @@ entered_is : (places more : List Place) (links : List Place → List Found) (t :
 entered_is places [] links t some is = absurd (some refl)
 entered_is places (x ∷ xs) links t some is = ap (λ r. when_entered r (links r)) is
 
+-- a child that the selector enters, with its residual
 pub child_entered : (f : Front) (places more : List Place) (t : Step) (depth : ℕ) (at behind : List ℕ) → own_at at ≡ Ok (own_of_front f, behind) → (more ≡ [] → ⊥) → more ≡ residual_behind places t
     → IsChild places t at depth (entered_by more f depth) behind
 child_entered f places more t depth at behind own some is = λ d rest e.
@@ -116,12 +119,14 @@ when_flat : (r : List Place) (links : List Found) → links ≡ [] → when_ente
 when_flat [] links e = refl
 when_flat (x ∷ xs) links e = e
 
+-- a child without links
 flat_child : (places : List Place) (t : Step) (depth : ℕ) (x d : Data) (behind rest : List ℕ) → ((r : List Place) → links_below r depth x ≡ []) → ok_data (x, behind) ≡ ok_data (d, rest)
     → Enters (child_links places t depth d) (weight_of d) rest None behind
 flat_child places t depth x d behind rest nothing e =
     ok_data-kept x d behind rest (λ y l. Enters (child_links places t depth y) (weight_of y) l None behind) e
     (refl, when_flat (residual_behind places t) (links_below (residual_behind places t) depth x) (nothing (residual_behind places t)))
 
+-- an item whose front excludes links has none
 flat_front : (f : Front) (places : List Place) (t : Step) (depth : ℕ) (at behind rest : List ℕ) (d : Data) → may_hold_links f ≡ false → with_members (Some (item_at 511)) at (own_of_front f, behind) ≡ Ok (d, rest)
     → Enters (child_links places t depth d) (weight_of d) rest None behind
 flat_front fronts.Null places t depth at behind rest d flat e = flat_child places t depth null d behind rest (λ r. refl) e
@@ -134,6 +139,7 @@ flat_front (fronts.Link c) places t depth at behind rest d flat e = absurd cc
 flat_front (fronts.List n) places t depth at behind rest d flat e = absurd cc
 flat_front (fronts.Map n) places t depth at behind rest d flat e = absurd cc
 
+-- so it isn't entered
 pub child_flat : (f : Front) (places : List Place) (t : Step) (depth : ℕ) (at behind : List ℕ) → own_at at ≡ Ok (own_of_front f, behind) → may_hold_links f ≡ false → IsChild places t at depth None behind
 child_flat f places t depth at behind own flat = λ d rest e. flat_front f places t depth at behind rest d flat (item_by_front f at behind rest d own e)
 
@@ -146,6 +152,7 @@ item_has_front b x e =
 whole_ends : (x d : Data) (behind rest : List ℕ) → ok_data (x, behind) ≡ ok_data (d, rest) → behind ≡ rest
 whole_ends x d behind rest e = ap (λ (y : Data × List ℕ). y.1) (ok_same (x, behind) (d, rest) e)
 
+-- an item that is neither list nor map ends after its front
 ends_by : (f : Front) (at behind rest : List ℕ) (d : Data) → ((n : ℕ) → f ≡ fronts.List n → ⊥) → ((n : ℕ) → f ≡ fronts.Map n → ⊥) → with_members (Some (item_at 511)) at (own_of_front f, behind) ≡ Ok (d, rest) → behind ≡ rest
 ends_by fronts.Null at behind rest d not_list not_map e = whole_ends null d behind rest e
 ends_by (fronts.Bool b) at behind rest d not_list not_map e = whole_ends (boolean b) d behind rest e
@@ -157,5 +164,6 @@ ends_by (fronts.Link c) at behind rest d not_list not_map e = whole_ends (link c
 ends_by (fronts.List n) at behind rest d not_list not_map e = absurd (not_list n refl)
 ends_by (fronts.Map n) at behind rest d not_list not_map e = absurd (not_map n refl)
 
+-- and so the bytes after its front are those after it
 pub leaf_ends : (f : Front) (at behind : List ℕ) → own_at at ≡ Ok (own_of_front f, behind) → ((n : ℕ) → f ≡ fronts.List n → ⊥) → ((n : ℕ) → f ≡ fronts.Map n → ⊥) → (d : Data) (rest : List ℕ) → item_at 512 at ≡ Ok (d, rest) → behind ≡ rest
 leaf_ends f at behind own not_list not_map d rest e = ends_by f at behind rest d not_list not_map (item_by_front f at behind rest d own e)

@@ -32,11 +32,13 @@ is_left (x ∷ xs) = true
 
 -- ---- how deep the links below a node are
 
+-- what holds of the depths of both lists holds of all
 pub all_append : (P : ℕ → Type 0) (xs ys : List Found) → HaveDepths P xs → HaveDepths P ys → HaveDepths P (xs ++ ys)
 all_append P [] ys h k = k
 all_append P (x ∷ xs) ys h k = (h.0, all_append P xs ys h.1 k)
 
 module _ (P : ℕ → Type 0) (depth : ℕ) (holds : P depth) where
+  -- and of links that are entered
   all_entered : (r : List Place) (links : List Found) → HaveDepths P links → HaveDepths P (when_entered r links)
   all_entered [] links h = tt
   all_entered (x ∷ xs) links h = h
@@ -67,6 +69,7 @@ module _ (P : ℕ → Type 0) (depth : ℕ) (holds : P depth) where
         (all_entered (residual_behind r (key k)) (links_below (residual_behind r (key k)) depth d) (all_below (residual_behind r (key k)) d))
         (all_in_entries r es)
 
+  -- and of those in the data of a CID
   pub all_inside : (r : List Place) (value : Option Data) → HaveDepths P (links_inside r depth value)
   all_inside r None = tt
   all_inside r (Some d) = all_below r d
@@ -74,10 +77,12 @@ module _ (P : ℕ → Type 0) (depth : ℕ) (holds : P depth) where
 -- ---- the links below a node, each crossed
 
 module _ (enters : Path → Bool) (root depth : ℕ) (each : Arrival → List Arrival) (cross : Crossing) (crosses : (c : List ℕ) (p : Path) → each (record { root = root; path = p; depth = depth; cid = c }) ≡ cross c p) where
+  -- children that are entered, under a test
   each_entered : (b : Bool) (xs ys : List Arrival) → flat_map each xs ≡ ys → flat_map each (if b then xs else []) ≡ (if b then ys else [])
   each_entered true xs ys e = e
   each_entered false xs ys e = refl
 
+  -- children one after another
   each_joined : (xs ys us vs : List Arrival) → flat_map each xs ≡ us → flat_map each ys ≡ vs → flat_map each (xs ++ ys) ≡ us ++ vs
   each_joined xs ys us vs e f = flat_map-append each xs ys ∙ ap (λ z. z ++ flat_map each ys) e ∙ ap (λ z. us ++ z) f
 
@@ -105,6 +110,7 @@ module _ (enters : Path → Bool) (root depth : ℕ) (each : Arrival → List Ar
         each_joined (if enters (behind p (key k)) then arrivals_below enters (one root depth) d (behind p (key k)) else []) (arrivals_in_entries enters (one root depth) es p) _ _
         (each_entered (enters (behind p (key k))) (arrivals_below enters (one root depth) d (behind p (key k))) _ (each_below d (behind p (key k)))) (each_in_entries es p)
 
+  -- and those in the data of a CID
   each_inside : (value : Option Data) (p : Path) → flat_map each (when_some value (λ d. arrivals_below enters (one root depth) d p)) ≡ when_some value (λ d. arrivals_below enters cross d p)
   each_inside None p = refl
   each_inside (Some d) p = each_below d p
@@ -113,19 +119,23 @@ module _ (enters : Path → Bool) (root depth : ℕ) (each : Arrival → List Ar
 
 -- what is left of the selector at each path, and how that goes on
 module _ (enters : Path → Bool) (left : Path → List Place) (stays : (p : Path) (t : Step) → enters (behind p t) ≡ is_left (left (behind p t))) (goes : (p : Path) (t : Step) → left (behind p t) ≡ residual_behind (left p) t) where
+  -- the link that a visit is, for a walk
   abbrev pub link_of : Arrival → Found
   link_of a = waiting (left a.path) a.depth a.cid
 
+  -- visits that are entered are links that wait
   links_entered : (b : Bool) (r : List Place) (xs : List Arrival) (links : List Found) → b ≡ is_left r → map link_of xs ≡ links → map link_of (if b then xs else []) ≡ when_entered r links
   links_entered true [] xs links same e = absurd cc
   links_entered true (x ∷ r) xs links same e = e
   links_entered false [] xs links same e = refl
   links_entered false (x ∷ r) xs links same e = absurd cc
 
+  -- those of a child
   links_child : (p : Path) (t : Step) (xs : List Arrival) (links : List Place → List Found) → map link_of xs ≡ links (left (behind p t))
       → map link_of (if enters (behind p t) then xs else []) ≡ when_entered (residual_behind (left p) t) (links (residual_behind (left p) t))
   links_child p t xs links e = links_entered (enters (behind p t)) (left (behind p t)) xs (links (left (behind p t))) (stays p t) e ∙ ap (λ r. when_entered r (links r)) (goes p t)
 
+  -- and of children one after another
   links_joined : (xs ys : List Arrival) (us vs : List Found) → map link_of xs ≡ us → map link_of ys ≡ vs → map link_of (xs ++ ys) ≡ us ++ vs
   links_joined xs ys us vs e f = map-append link_of xs ys ∙ ap (λ z. z ++ map link_of ys) e ∙ ap (λ z. us ++ z) f
 
@@ -160,6 +170,7 @@ module _ (enters : Path → Bool) (left : Path → List Place) (stays : (p : Pat
 
   -- ---- from the roots
 
+  -- roots are links that wait
   wait_from : (root : ℕ) (cs : List (List ℕ)) → map link_of (roots_from root cs) ≡ map (waiting (left []) 0) cs
   wait_from root [] = refl
   wait_from root (c ∷ cs) = ap (λ z. waiting (left []) 0 c ∷ z) (wait_from (root + 1) cs)

@@ -13,20 +13,24 @@ use Rattle.ix_walk.proofs.Firsts.{In, in-append}
 use Rattle.ix_walk.proofs.Links.{all-append, all-left, all-right, all-weaker, all-both, flat_map-same, cid_of, Alike, links_at, tree_cids, tree-alike, cids-links, Ends, ends-links, cids-opened, links-shorter, from-cids}
 use Rattle.ix_walk.proofs.GoingOnce.{list_any-found}
 
+-- an element of the first list is in the concatenation
 in-left : (c : List ℕ) (xs ys : List (List ℕ)) → In c xs → In c (xs ++ ys)
 in-left c [] ys h = absurd h
 in-left c (x ∷ xs) ys (inl is) = inl is
 in-left c (x ∷ xs) ys (inr h) = inr (in-left c xs ys h)
 
+-- and so is one of the second
 in-right : (c : List ℕ) (xs ys : List (List ℕ)) → In c ys → In c (xs ++ ys)
 in-right c [] ys h = h
 in-right c (x ∷ xs) ys h = inr (in-right c xs ys h)
 
+-- the two ways to say that a CID is in a list
 pub contains-in : (c : List ℕ) (xs : List (List ℕ)) → In c xs → Contains xs c
 contains-in c [] h = absurd h
 contains-in c (x ∷ xs) (inl is) = subst (Contains (x ∷ xs)) is (Contains-append_left (x ∷ []) xs x (Contains-push [] x))
 contains-in c (x ∷ xs) (inr h) = Contains-append_right (x ∷ []) xs c (contains-in c xs h)
 
+-- and back
 pub in-contains : (c : List ℕ) (xs : List (List ℕ)) → Contains xs c → In c xs
 in-contains c [] h = let far = h.1 in absurd (omega (arith, far))
 in-contains c (x ∷ xs) h = elim (Contains-append_cases (x ∷ []) xs c h) [ inl i ↦ inl (only (Contains-push_cases [] x c i)) | inr i ↦ inr (in-contains c xs i) ] where
@@ -43,6 +47,7 @@ parts-in f (x ∷ xs) = (
       (λ y h m c i. in-right c (f m x) (flat_map (f m) xs) (h m c i)) xs (parts-in f xs),
 )
 
+-- what holds for each number holds for all at once
 all-each : {X : Type 0} (P : ℕ → X → Type 0) (xs : List X) → ((k : ℕ) → AllByRecursion (P k) xs) → AllByRecursion (λ x. (k : ℕ) → P k x) xs
 all-each P [] h = tt
 all-each P (x ∷ xs) h = (λ k. (h k).0, all-each P xs (λ k. (h k).1))
@@ -50,18 +55,22 @@ all-each P (x ∷ xs) h = (λ k. (h k).0, all-each P xs (λ k. (h k).1))
 -- ---- how many are no greater
 
 module _ {X : Type 0} (size : X → ℕ) where
+  -- how many have a size of at most a number
   abbrev count : ℕ → List X → ℕ
   count s [] = 0
   count s (x ∷ xs) = min 1 (suc s - size x) + count s xs
 
+  -- a greater number counts no fewer
   count-more : (t s : ℕ) → t ≤ s → (xs : List X) → count t xs ≤ count s xs
   count-more t s h [] = omega arith
   count-more t s h (x ∷ xs) = let more = count-more t s h xs in omega (arith, more, h)
 
+  -- the count is at most the length
   count-length : (s : ℕ) (xs : List X) → count s xs ≤ length xs
   count-length s [] = omega arith
   count-length s (x ∷ xs) = let more = count-length s xs in omega (arith, more)
 
+  -- for each element, its own size counts more than any smaller number, as it counts the element
   count-step : (xs : List X) → AllByRecursion (λ x. (t : ℕ) → t < size x → count t xs < count (size x) xs) xs
   count-step [] = tt
   count-step (x ∷ xs) = (
@@ -71,9 +80,11 @@ module _ {X : Type 0} (size : X → ℕ) where
   )
 
 module _ {R : Type 0} (enters : Path → Bool) (rest : Path → R) (same : R → R → Bool) (inside : Inside) where
+  -- the visits right below one
   abbrev links : Arrival → List Arrival
   links = links_at enters inside
 
+  -- the first visits by link-visit-once
   abbrev run : ℕ → List (List ℕ × R) → List Arrival → List Arrival
   run = once enters rest same inside
 

@@ -36,10 +36,12 @@ bytes_at store c h place b stored e there g = sym (block_at place store c b ther
 pub dag_cbor_is : (c : List ℕ) (codec : ℕ) → codec ≡ codec_of c → codec ≡ 0x71 → is_dag_cbor c ≡ true
 dag_cbor_is c codec is e = ap (λ (n : ℕ). n == 0x71) (sym is ∙ e)
 
+-- a result is a value or an error
 either_way : {X Y : Type 0} (r : Result X Y) → ((x : X) × (r ≡ Ok x)) ⊎ ((y : Y) × (r ≡ Err y))
 either_way (Ok x) = inl (x, refl)
 either_way (Err y) = inr (y, refl)
 
+-- bytes that spell data decode
 decodes : (b : List ℕ) → is_none (data_at b) ≡ false → (d : Data) × (decoded b ≡ Ok d)
 decodes b e = ⊎_elim (λ h. h) (λ h. absurd (false≢true (sym e ∙ faulty_yes b h.0 h.1))) (either_way (decoded b))
 
@@ -47,6 +49,7 @@ decodes b e = ⊎_elim (λ h. h) (λ h. absurd (false≢true (sym e ∙ faulty_y
 spelled : (store : Blocks) (c b : List ℕ) (d : Data) → is_dag_cbor c ≡ true → bytes_of store c ≡ Some b → decoded b ≡ Ok d → (value_of store c ≡ Some d) × (false ≡ is_malformed store c)
 spelled store c b d w k g = rw (w, k, g) (refl, refl)
 
+-- so those of a DAG-CBOR block are what a walk expands
 pub read_value : (store : Blocks) (c b : List ℕ) → is_dag_cbor c ≡ true → bytes_of store c ≡ Some b → is_none (data_at b) ≡ false → IsReading store c (Some b) false
 read_value store c b w k e =
     let d = decodes b e in

@@ -13,6 +13,7 @@ pub some_mapped : {A B : Type 0} (f : A → B) (o : Option A) (y : B) → option
 some_mapped f None y e = absurd cc
 some_mapped f (Some x) y e = (x, refl, same_Some (f x) y e)
 
+-- both parts of a chain of options are there
 pub some_then : {A B : Type 0} (f : A → Option B) (o : Option A) (y : B) → option_and_then f o ≡ Some y → (x : A) × (o ≡ Some x) × (f x ≡ Some y)
 some_then f None y e = absurd cc
 some_then f (Some x) y e = (x, refl, e)
@@ -26,9 +27,11 @@ pub record IsOpen (b : List ℕ) (o : Opened) (os : List Opened) (ss : List Subt
   pub behind : stands (goes_on o.back rest) os ≡ Some others
   pub all : opened o part ∷ others ≡ ss
 
+-- one more open list or map, with what is left of it
 abbrev add_opened : Opened → List Opened → Part × List ℕ → Option (List Subtree)
 add_opened o os x = option_map (λ ss. opened o x.0 ∷ ss) (stands (goes_on o.back x.1) os)
 
+-- a stack that can be read is its last entry and the others
 pub open_apart : (b : List ℕ) (o : Opened) (os : List Opened) (ss : List Subtree) → stands b (o ∷ os) ≡ Some ss → IsOpen b o os ss
 open_apart b o os ss e =
     let x = some_then (add_opened o os) (part_at o.children b) ss e in

@@ -22,6 +22,7 @@ use Rattle.ix_walk.specs.Walking.{waiting, first_arrivals, Subtree, or_nil, link
 use Rattle.ix_walk.specs.Arriving.{trail_left}
 use Rattle.ix_walk.proofs.Reached.{forget, is_left, first_from, visits_forget, once_first}
 
+-- equal visits and limits make equal walks
 same_left : (visits more : List Visit) (limited over : Bool) → visits ≡ more → limited ≡ over
     → (let a : WalkLeft = record { visits = visits; limited = limited; ended = false } in a) ≡ record { visits = more; limited = over; ended = false }
 same_left visits more limited over e f =
@@ -40,18 +41,22 @@ pub record IsFollowed (s : Pattern) : Type 0 where
   pub goes : (p : Path) (t : Step) → residual_at s (behind p t) ≡ residual_behind (residual_at s p) t
   pub stays : (p : Path) (t : Step) → is_entered s (behind p t) ≡ is_left (residual_at s (behind p t))
 
+-- the residual along a path with one more step
 along_goes : (r : List Place) (p : Path) (t : Step) → residual_along r (p ++ t ∷ []) ≡ residual_behind (residual_along r p) t
 along_goes r [] t = refl
 along_goes r (u ∷ p) t = along_goes (residual_behind r u) p t
 
+-- the residual at a path with one more step
 at_goes : (s : Pattern) (p : Path) (t : Step) → residual_at s (behind p t) ≡ residual_behind (residual_at s p) t
 unfolding residual_at
 at_goes s p t = along_goes (residual_of s) p t
 
+-- the residual at the empty path
 at_starts : (s : Pattern) → residual_at s [] ≡ residual_of s
 unfolding residual_at
 at_starts s = refl
 
+-- a residual is there exactly if the path is entered
 left_where : (b : Bool) (r : List Place) → (b ≡ false → r ≡ []) → (r ≡ [] → b ≡ false) → b ≡ is_left r
 left_where true [] there back = back refl
 left_where true (x ∷ r) there back = refl
@@ -60,6 +65,7 @@ left_where false (x ∷ r) there back = absurd (apart (there refl)) where
   apart : x ∷ r ≡ [] → ⊥
   apart e = cc
 
+-- so the traversal by residuals follows the selector
 pub followed : (s : Pattern) → ((p : Path) → is_entered s p ≡ false ↔ residual_at s p ≡ []) → IsFollowed s
 followed s left = record { starts = at_starts s; goes = at_goes s; stays = λ p t. left_where (is_entered s (behind p t)) (residual_at s (behind p t)) (left (behind p t)).0 (left (behind p t)).1 }
 

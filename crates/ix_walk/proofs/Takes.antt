@@ -17,6 +17,7 @@ use Rattle.ix_walk.specs.Arriving.{FindsNext, IsArrived, ArrivesBy, trail_left}
 use Rattle.ix_walk.proofs.Stands.{subtrees_are}
 use Rattle.ix_walk.proofs.Reached.{all_append, all_inside}
 
+-- comparing successors
 lt_suc : (m l : ℕ) → nat_lt m l ≡ nat_lt (suc m) (suc l)
 lt_suc m l = grind (arith, nat_tests)
 
@@ -42,6 +43,7 @@ end_with store number limit given had old e = (
   nothing zero = refl
   nothing (suc n) = refl
 
+-- a visit within the limit is the first of those that are left
 visit_with : (store : Blocks) (number limit given : ℕ) (had has : Option Going) (old links new : List Found) (f : Found) (v : Visit) → given < limit → v ≡ visit_of store number given (arrival f.depth f.cid) → old ≡ f ∷ links
     → has ≡ gone_behind (data_inside store had f) f had → new ≡ links_inside f.residual (f.depth + 1) (data_inside store had f) ++ links
     → GivesNext (walk_left store number limit given had old false) (Some (Ok v)) (walk_left store number limit (given + 1) has new false)
@@ -74,6 +76,7 @@ deeper : (given : ℕ) (links : List Found) → NoDeeper given links → NoDeepe
 deeper given [] n = tt
 deeper given (f ∷ links) n = (let h = n.0 in omega (arith, h), deeper given links n.1)
 
+-- no link below it is deeper than the visits returned
 visited_deep : (store : Blocks) (number seq given : ℕ) (had has : Option Going) (mid new : List Subtree) (f : Found) (v : Visit) → f.depth ≤ given → NoDeeper given (all_links mid) → IsArrived store number seq f had mid v has new
     → NoDeeper (given + 1) (all_links new)
 visited_deep store number seq given had has mid new f v low n arrived =
@@ -89,6 +92,7 @@ left_is : (store : Blocks) (number limit given : ℕ) (gone : Option Going) (sel
 left_is store number limit given gone selector t roots ss e =
     ap (λ (z : List Subtree). walk_left store number limit given gone (links_left selector z roots) false) (sym (subtrees_are t ss e))
 
+-- at the limit, one more link means `Limit`
 pub trail_limit : (store : Blocks) (number limit given : ℕ) (had : Option Going) (selector : Pattern) (old new : Trail) (roots rest : List (List ℕ)) (f : Found) → given ≡ limit → IsWalk limit given old → FindsNext selector old roots (Some f) new rest
     → GivesNext (trail_left store number limit given had selector old roots) (Some (Err Limit)) nothing_left
 trail_limit store number limit given had selector old new roots rest f here is finds =
@@ -96,6 +100,7 @@ trail_limit store number limit given had selector old new roots rest f here is f
     subst (λ z. GivesNext z (Some (Err Limit)) nothing_left) (left_is store number limit given had selector old roots is.1 is.2)
     (limit_with store number limit given had (links_left selector is.1 roots) f (links_left selector g.0 rest) here g.2.links)
 
+-- without a link the walk ends
 pub trail_end : (store : Blocks) (number limit given : ℕ) (had : Option Going) (selector : Pattern) (old new : Trail) (roots rest : List (List ℕ)) → IsWalk limit given old → FindsNext selector old roots None new rest
     → GivesNext (trail_left store number limit given had selector old roots) None nothing_left
 trail_end store number limit given had selector old new roots rest is finds =
@@ -104,6 +109,7 @@ trail_end store number limit given had selector old new roots rest is finds =
     (end_with store number limit given had (links_left selector is.1 roots)
     (g.2.links ∙ ap (λ (ss : List Subtree). links_left selector ss rest) g.2.ends.0 ∙ ap (map (root_link selector)) g.2.ends.1))
 
+-- and within the limit it returns the link's visit
 pub trail_visit : (store : Blocks) (number limit given : ℕ) (had has : Option Going) (selector : Pattern) (old mid new : Trail) (roots rest : List (List ℕ)) (f : Found) (v : Visit) → (given ≡ limit → ⊥) → IsWalk limit given old
     → FindsNext selector old roots (Some f) mid rest → ArrivesBy store number given f had mid v has new
     → GivesNext (trail_left store number limit given had selector old roots) (Some (Ok v)) (trail_left store number limit (given + 1) has selector new rest) × IsWalk limit (given + 1) new

@@ -91,6 +91,7 @@ pub record Steps (old new : Trail) : Type 0 where
   pub next : new.next ≡ None
   pub on : (ss : List Subtree) → trail_stands old ≡ Some ss → (more : List Subtree) × (trail_stands new ≡ Some more) × (all_links ss ≡ all_links more) × (all_weight more < all_weight ss)
 
+-- one more step keeps what the loop has
 pub steps_kept : (first loop new : Trail) → IsKept first loop → Steps loop new → IsKept first new
 steps_kept first loop new kept steps = record {
   next = steps.next;
@@ -99,6 +100,7 @@ steps_kept first loop new kept steps = record {
       let s = steps.on k.0 k.1 in (s.0, s.1, k.2 ∙ s.2);
 }
 
+-- each step makes the trail lighter, so the loop ends
 pub steps_lighter : (first loop new : Trail) → IsStanding first → IsKept first loop → Steps loop new → trail_weight new < trail_weight loop
 steps_lighter first loop new is kept steps =
     let k = kept.keeps is.0 is.1 in
@@ -198,6 +200,7 @@ pub record IsLast (xs : List Opened) (len : ℕ) (o n : Opened) : Type 0 where
   pub was : xs ≡ take (len - 1) xs ++ o ∷ []
   pub is : set xs (len - 1) n ≡ take (len - 1) xs ++ n ∷ []
 
+-- replacing the last entry of the stack
 pub last_written : (xs : List Opened) (len : ℕ) (o n : Opened) → len ≡ length xs → (true ≡ nat_lt 0 (length xs)) → o ≡ get_or xs (len - 1) o → IsLast xs len o n
 last_written xs len o n long some last =
     let here : o ≡ get_or xs (length xs - 1) o = last ∙ ap (λ k. get_or xs (k - 1) o) long in

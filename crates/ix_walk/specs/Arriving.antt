@@ -1,4 +1,4 @@
--- What arriving at a link does.
+-- What visiting a link does.
 use Rattle.std.specs.Prelude.{◌≡◌, ℕ, ◌+◌, Bool, false, List, [], ◌++◌, Option, Some, None, IfNone, Result, Ok, Err}
 use Rattle.ix_cbor.specs.Data.{Data}
 use Rattle.ix_cbor.specs.Reading.{decoded}
@@ -17,7 +17,7 @@ use Rattle.ix_walk.specs.Gone.{going_of}
 use Rattle.ix_walk.specs.Walking.{arrival, waiting, Going, data_inside, gone_behind, links_inside, Subtree, all_links, found_links, trail_stands, subtrees, links_left, walk_left, NoDeeper, IsWalk}
 use Rattle.ix_walk.specs.WalkLeft.{WalkLeft, GivesNext, nothing_left}
 
--- this is where the block of a CID stands, if it is there
+-- this is the position of the block of a CID, if it is there
 abbrev pub IsPositionOf : Blocks → List ℕ → Option ℕ → Type 0
 IsPositionOf store c block = block ≡ position_of store c
 
@@ -26,42 +26,42 @@ abbrev pub IsValue : Option Data → Option (List ℕ) → Type 0
 IsValue value None = value ≡ None
 IsValue value (Some b) = (d : Data) × (value ≡ Some d) × (decoded b ≡ Ok d)
 
--- the bytes of a CID into which a walk goes, and whether it is malformed
+-- the bytes of a CID that a walk expands, and whether it is malformed
 abbrev pub IsReading : Blocks → List ℕ → Option (List ℕ) → Bool → Type 0
 IsReading store c block malformed = IsValue (value_of store c) block × (malformed ≡ is_malformed store c)
 
--- the bytes are those of the data into which a walk goes at a link, and it keeps that it has gone there
+-- the bytes are those of the data that a walk expands at a link, and it records that it has
 pub record Goes (store : Blocks) (f : Found) (had : Option Going) (block : Option (List ℕ)) (has : Option Going) : Type 0 where
   pub inside : IsValue (data_inside store had f) block
   pub gone : has ≡ gone_behind (data_inside store had f) f had
 
--- the same of a CID where this is left of the selector, at whatever depth
+-- the same for a CID with this residual, at any depth
 abbrev pub GoesInto : Blocks → List Place → List ℕ → Option Gone → Option (List ℕ) → Option Gone → Type 0
 GoesInto store places cid old block new =
     (depth : ℕ) → Goes store (waiting places depth cid) (going_of store old) block (going_of store new)
 
--- the links in a block are left before others, if there is one
+-- the links in a block come before others, if there is a block
 abbrev pub Roots : List Place → Option (List ℕ) → ℕ → Trail → Trail → Type 0
 Roots places block depth old new =
     (value : Option Data) → IsValue value block → (ss : List Subtree) → trail_stands old ≡ Some ss
     → (more : List Subtree) × (trail_stands new ≡ Some more) × (all_links more ≡ links_inside places depth value ++ all_links ss)
 
--- the visit of a link is given, and the links below it are left before the others
+-- the visit of a link is returned, and the links below it come before the others
 pub record IsArrived (store : Blocks) (number seq : ℕ) (f : Found) (had : Option Going) (old : List Subtree) (v : Visit) (has : Option Going) (new : List Subtree) : Type 0 where
   pub visit : v ≡ visit_of store number seq (arrival f.depth f.cid)
   pub gone : has ≡ gone_behind (data_inside store had f) f had
   pub links : all_links new ≡ links_inside f.residual (f.depth + 1) (data_inside store had f) ++ all_links old
 
--- the same of the trails by which a walk stands, before and after
+-- the same of the trails of a walk, before and after
 abbrev pub ArrivesBy : Blocks → ℕ → ℕ → Found → Option Going → Trail → Visit → Option Going → Trail → Type 0
 ArrivesBy store number seq f had old v has new =
     (ss : List Subtree) → trail_stands old ≡ Some ss → (more : List Subtree) × (trail_stands new ≡ Some more) × IsArrived store number seq f had ss v has more
 
--- the same of what a walk keeps, before and after: what it has gone into, and its trail
+-- the same of what a walk keeps, before and after: what it has expanded, and its trail
 abbrev pub Arrives : Blocks → ℕ → ℕ → Found → Visit → WalkState → WalkState → Type 0
 Arrives store number seq f v old new = ArrivesBy store number seq f (going_of store old.gone) old.trail v (going_of store new.gone) new.trail
 
--- the next link of what is left, or the next root where nothing is, or there is neither
+-- the next link of what is left, or the next root if nothing is, or there is neither
 pub record IsNextArrival (selector : Pattern) (old : List Subtree) (roots : List (List ℕ)) (o : Option Found) (new : List Subtree) (rest : List (List ℕ)) : Type 0 where
   pub links : links_left selector old roots ≡ found_links o ++ links_left selector new rest
   pub deep : (bound : ℕ) → NoDeeper bound (all_links old) → NoDeeper bound (found_links o ++ all_links new)
@@ -75,7 +75,7 @@ FindsNext selector old roots o new rest =
 abbrev pub trail_left : Blocks → ℕ → ℕ → ℕ → Option Going → Pattern → Trail → List (List ℕ) → WalkLeft
 trail_left store number limit given gone selector t roots = walk_left store number limit given gone (links_left selector (subtrees t) roots) false
 
--- what is left of the walk of the job with this number, which has given so many visits and keeps this, or has ended
+-- what is left of the walk of the job with this number, which has returned so many visits and keeps this, or has ended
 abbrev pub left_of_walk : Blocks → ℕ → JobMeaning → ℕ → WalkState → Bool → WalkLeft
 left_of_walk store number job given state ended =
     walk_left store number job.limit given (going_of store state.gone) (links_left job.selector (subtrees state.trail) state.roots.now) ended

@@ -1,4 +1,4 @@
--- What going into a block does.
+-- What traversing a block does.
 use Rattle.std.specs.Prelude.{◌≡◌, ℕ, ◌+◌, ◌<◌, ◌≤◌, Bool, true, false, List, [], ◌∷◌, ◌++◌, Option, Some, None, IfNone, Ok}
 use Rattle.ix_cbor.specs.declared.front.Front.{Front}
 use Rattle.ix_cbor.specs.declared.front.Front.TheVariants as fronts
@@ -22,8 +22,8 @@ use Rattle.ix_walk.specs.Walking.{when_entered, links_below, Part, part_links, p
 abbrev pub IsItem : List ℕ → Type 0
 IsItem b = (x : Data × List ℕ) × (item_at 512 b ≡ Ok x)
 
--- An item can be read here; this is its front, and with these bytes, which are behind the front, those here end. A link's
--- front has a CID, which stands right before them.
+-- An item can be read here; this is its front, and with these bytes, which are after the front, those here end. A link's front
+-- has a CID, which is right before them.
 pub record HasFront (at : List ℕ) (front : Front) (behind : List ℕ) : Type 0 where
   pub item : IsItem at
   pub exact : own_at at ≡ Ok (own_of_front front, behind)
@@ -31,7 +31,7 @@ pub record HasFront (at : List ℕ) (front : Front) (behind : List ℕ) : Type 0
   pub end : EndsWith at behind
   pub link : LinkBefore at front behind
 
--- the bytes behind the item that stands here
+-- the bytes after the item at this position
 abbrev pub IsBehindItem : List ℕ → List ℕ → Type 0
 IsBehindItem at behind = (d : Data) (rest : List ℕ) → item_at 512 at ≡ Ok (d, rest) → behind ≡ rest
 
@@ -43,7 +43,7 @@ IsKey b = (k : List ℕ × List ℕ) × (key_at None b ≡ Ok k)
 abbrev pub IsPart : Children → List ℕ → Type 0
 IsPart children b = (x : Part × List ℕ) × (part_at children b ≡ Some x)
 
--- a link can be in an item with this front
+-- an item with this front may contain a link
 abbrev pub may_hold_links : Front → Bool
 may_hold_links (fronts.Link c) = true
 may_hold_links (fronts.List n) = true
@@ -55,7 +55,7 @@ may_hold_links (fronts.Bits64 bits) = false
 may_hold_links (fronts.Bytes b) = false
 may_hold_links (fronts.Text t) = false
 
--- what an item with this front is for a walk that enters it, if a link can be there
+-- what an item with this front is for a walk that enters it, if it may contain a link
 abbrev pub entered_by : List Place → Front → ℕ → Option Entered
 entered_by places (fronts.Link c) depth = Some (Link (record { residual = places; cid = c.now; depth = depth }))
 entered_by places (fronts.List n) depth = Some (Open (record { residual = places; children = Members n n; depth = depth; back = None }))
@@ -72,26 +72,26 @@ pub record IsSubtree (links : List Found) (weight : ℕ) (s : Subtree) : Type 0 
   pub reaches : subtree_links s ≡ links
   pub light : part_weight s.part ≤ weight
 
--- What was entered has these links, and ends before the rest, where the walk now stands at these bytes. Where nothing
--- was, there are none.
+-- What was entered has these links, and ends before the rest, where the walk is now at these bytes. If nothing was entered,
+-- there are none.
 abbrev pub Enters : List Found → ℕ → List ℕ → Option Entered → List ℕ → Type 0
 Enters links weight rest None at = (at ≡ rest) × (links ≡ [])
 Enters links weight rest (Some (Link f)) at = (at ≡ rest) × (links ≡ f ∷ [])
 Enters links weight rest (Some (Open o)) at = (o.back ≡ None) × (part : Part) × (part_at o.children at ≡ Some (part, rest)) × IsSubtree links weight (opened o part)
 
--- the links in a child behind a step, if it is entered
+-- the links in a child after a step, if it is entered
 abbrev pub child_links : List Place → Step → ℕ → Data → List Found
 child_links places t depth d = when_entered (residual_behind places t) (links_below (residual_behind places t) depth d)
 
--- this was entered of the item that stands at some bytes
+-- this was entered of the item at some bytes
 abbrev pub IsNode : List Place → List ℕ → ℕ → Option Entered → List ℕ → Type 0
 IsNode places at depth o now = (d : Data) (rest : List ℕ) → item_at 512 at ≡ Ok (d, rest) → Enters (links_below places depth d) (weight_of d) rest o now
 
--- the same of a child behind a step
+-- the same of a child after a step
 abbrev pub IsChild : List Place → Step → List ℕ → ℕ → Option Entered → List ℕ → Type 0
 IsChild places t at depth o now = (d : Data) (rest : List ℕ) → item_at 512 at ≡ Ok (d, rest) → Enters (child_links places t depth d) (weight_of d) rest o now
 
--- A part is gone through to a child that was entered: what is behind that child, whose bytes end before the others.
+-- A part is traversed up to a child that was entered: what is after that child, whose bytes end before the others.
 pub record IsGone (places : List Place) (depth : ℕ) (part : Part) (rest : List ℕ) (e : Entered) (children : Children) (now : List ℕ) : Type 0 where
   pub first : List Found
   pub weight : ℕ
@@ -102,12 +102,12 @@ pub record IsGone (places : List Place) (depth : ℕ) (part : Part) (rest : List
   pub links : part_links places depth part ≡ first ++ part_links places depth others
   pub lighter : weight + part_weight others < part_weight part
 
--- An open list or map is gone through to its next child that is entered, or to its end.
+-- An open list or map is traversed up to its next child that is entered, or to its end.
 abbrev pub IsNext : List Place → ℕ → Children → List ℕ → Option Entered → Children → List ℕ → Type 0
 IsNext places depth old at None new now = (x : Part × List ℕ) → part_at old at ≡ Some x → (now ≡ x.1) × (part_links places depth x.0 ≡ [])
 IsNext places depth old at (Some e) new now = (x : Part × List ℕ) → part_at old at ≡ Some x → IsGone places depth x.0 x.1 e new now
 
--- the same of a list with so many members, of which so many are left
+-- the same of a list with so many elements, of which so many are left
 abbrev pub IsNextMember : List Place → ℕ → ℕ → ℕ → List ℕ → Option Entered → ℕ → List ℕ → Type 0
 IsNextMember places depth count left at o more now = IsNext places depth (Members count left) at o (Members count more) now
 
@@ -119,7 +119,7 @@ IsNextValue places depth left at o more now = IsNext places depth (Values left) 
 abbrev pub IsNextChild : Opened → List ℕ → Option Entered → Opened → List ℕ → Type 0
 IsNextChild old at o new now = IsNext old.residual old.depth old.children at o new.children now
 
--- what has no link is let go
+-- what has no link is dropped
 abbrev pub Leaves : Trail → Trail → Type 0
 Leaves old new = (ss : List Subtree) → trail_stands old ≡ Some ss → (more : List Subtree) × (trail_stands new ≡ Some more) × (all_links ss ≡ all_links more)
 
@@ -128,9 +128,10 @@ pub record IsFound (old : List Subtree) (o : Option Found) (new : List Subtree) 
   pub links : all_links old ≡ found_links o ++ all_links new
   pub ends : IfNone o (new ≡ [])
 
+-- the first link of what is left of a trail
 abbrev pub Finds : Trail → Option Found → Trail → Type 0
 Finds old o new = (ss : List Subtree) → trail_stands old ≡ Some ss → (more : List Subtree) × (trail_stands new ≡ Some more) × IsFound ss o more
 
--- how often a walk can go on before it comes to a link
+-- how many steps a walk can take before it comes to a link
 abbrev pub trail_weight : Trail → ℕ
 trail_weight t = all_weight (subtrees t)

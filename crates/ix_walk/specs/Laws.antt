@@ -1,4 +1,4 @@
--- The laws of going into a CID once, of a traversal of any graph of CIDs.
+-- The laws of link-visit-once, for a traversal of any graph of CIDs.
 use Rattle.std.specs.Prelude.{◌≡◌, ◌↔◌, ℕ, suc, ◌≤◌, Bool, List, length}
 use Rattle.std.specs.List.{Contains}
 use Rattle.ix_selector.specs.Enters.{Path}
@@ -6,52 +6,52 @@ use Rattle.ix_selector.specs.Residual.{Place}
 use Rattle.ix_walk.specs.Arrivals.{Arrival, Inside, arrivals_from}
 use Rattle.ix_walk.specs.Once.{once_from, EndsBefore, TellsRests, cids_of, first_ones}
 
--- which paths are entered, what is left of the selector behind one, which rests are the same, and what data a CID has inside
+-- which paths are entered, the residual after one, which residuals are equal, and what data a CID has inside
 pub record Traversal : Type 0 where
   pub enters : Path → Bool
   pub rest : Path → List Place
   pub same : List Place → List Place → Bool
   pub inside : Inside
 
--- its arrivals from roots where it goes into a CID at every arrival, and crosses at most so many links
+-- its visits from roots if it expands a CID at every link to it, and follows at most so many links on a path
 abbrev pub traversed : Traversal → ℕ → List (List ℕ) → List Arrival
 traversed t links roots = arrivals_from t.enters t.inside links 0 roots
 
--- its first arrivals from roots, at most so many, where it goes into a CID once with each rest
+-- its first visits from roots, at most so many, if it expands a CID once with each residual
 abbrev pub traversed_once : Traversal → ℕ → List (List ℕ) → List Arrival
 traversed_once t most roots = once_from t.enters t.rest t.same t.inside most roots
 
--- behind paths with the same rest it enters the same
+-- after paths with equal residuals it enters the same
 abbrev pub RestsTell : Traversal → Type 0
 RestsTell t = TellsRests t.enters t.rest t.same
 
--- going into a CID at every arrival ends before so many links are crossed
+-- expanding a CID at every link ends before so many links are followed
 abbrev pub Ends : Traversal → ℕ → List (List ℕ) → Type 0
 Ends t links roots = EndsBefore t.enters t.inside links roots
 
--- going into a CID once takes no more arrivals than a limit
+-- link-visit-once takes no more visits than a limit
 abbrev pub FitsOnce : Traversal → ℕ → List (List ℕ) → Type 0
 FitsOnce t limit roots = length (traversed_once t (suc limit) roots) ≤ limit
 
--- where both ways end, they meet the same CIDs, each first in the same order
+-- if both ways end, they meet the same CIDs, each first in the same order
 abbrev pub OnceMeetsTheSame : Type 0
 OnceMeetsTheSame =
     (t : Traversal) (links limit : ℕ) (roots : List (List ℕ)) → RestsTell t → Ends t links roots → FitsOnce t limit roots
     → first_ones (cids_of (traversed_once t (suc limit) roots)) ≡ first_ones (cids_of (traversed t links roots))
 
--- going into a CID once takes no more arrivals
+-- link-visit-once takes no more visits
 abbrev pub OnceArrivesNoMore : Type 0
 OnceArrivesNoMore =
     (t : Traversal) (links most : ℕ) (roots : List (List ℕ)) → Ends t links roots
     → length (traversed_once t most roots) ≤ length (traversed t links roots)
 
--- where it takes no more arrivals than a limit, the other way crosses no more links than that
+-- if it takes no more visits than a limit, the other way follows no more links than that on a path
 abbrev pub LimitHoldsForLinks : Type 0
 LimitHoldsForLinks =
     (t : Traversal) (links limit : ℕ) (roots : List (List ℕ)) → RestsTell t → Ends t links roots → FitsOnce t limit roots
     → cids_of (traversed t limit roots) ≡ cids_of (traversed t links roots)
 
--- where it ends, it has met exactly the CIDs that are reached by crossing links, however many
+-- if it ends, it has met exactly the CIDs that can be reached by following links, however many
 abbrev pub OnceMeetsWhatIsReached : Type 0
 OnceMeetsWhatIsReached =
     (t : Traversal) (limit : ℕ) (roots : List (List ℕ)) → RestsTell t → FitsOnce t limit roots

@@ -1,4 +1,4 @@
--- The traversal that goes into a CID once: at its first arrival with what is then left of the selector.
+-- Link-visit-once: a CID is expanded at its first visit with each residual of the selector.
 use Rattle.std.specs.Prelude.{◌≡◌, ℕ, zero, suc, ◌+◌, ◌<◌, Bool, true, false, not, ◌&&◌, List, [], ◌∷◌, ◌++◌, length, map, filter, nat_lt, Option, Some, None, if◌then◌else◌, bytes_eq}
 use Rattle.std.specs.List.{AllByRecursion, list_any}
 use Rattle.ix_cid.specs.Cid.{parts_of, digest_of, hash_function_of}
@@ -12,58 +12,59 @@ use Rattle.ix_store.specs.Store.{Blocks, block_of, value_of}
 use Rattle.ix_store.specs.Mark.{agrees_by}
 use Rattle.ix_walk.specs.Arrivals.{Arrival, Inside, when_some, arrivals_below, arrivals_from}
 
--- one arrival at each root, the first of which has this number
+-- one visit of each root, the first of which has this number
 abbrev pub roots_from : ℕ → List (List ℕ) → List Arrival
 roots_from root [] = []
 roots_from root (c ∷ cs) = record { root = root; path = []; depth = 0; cid = c } ∷ roots_from (root + 1) cs
 
--- what is arrived at right below an arrival where these data stand: each link that is entered, in preorder
+-- what is visited right below a visit with these data: each link that is entered, in preorder
 abbrev pub links_below : (Path → Bool) → Data → Arrival → List Arrival
 links_below enters d a = arrivals_below enters (λ c p. record { root = a.root; path = p; depth = a.depth + 1; cid = c } ∷ []) d a.path
 
 -- A rest is what is left of the selector behind a path, and a test compares two of them.
 module _ {R : Type 0} (enters : Path → Bool) (rest : Path → R) (same : R → R → Bool) (inside : Inside) where
-  -- the CID was gone into with this rest
+  -- the CID was expanded with this residual
   abbrev pub was_gone_into : List (List ℕ × R) → Arrival → Bool
   was_gone_into gone a = list_any (λ g. bytes_eq g.0 a.cid && same g.1 (rest a.path)) gone
 
-  -- the data that are gone into at an arrival, if any
+  -- the data that are expanded at a visit, if any
   abbrev pub gone_into_at : List (List ℕ × R) → Arrival → Option Data
   gone_into_at gone a = if was_gone_into gone a then None else inside a.cid
 
-  -- what was gone into behind an arrival
+  -- what was expanded after a visit
   abbrev pub gone_behind : Option Data → Arrival → List (List ℕ × R) → List (List ℕ × R)
   gone_behind None a gone = gone
   gone_behind (Some d) a gone = (a.cid, rest a.path) ∷ gone
 
-  -- the first n arrivals, where these wait, the first one first
+  -- the first n visits, where these wait, the first one first
   abbrev pub once : ℕ → List (List ℕ × R) → List Arrival → List Arrival
   once zero gone waiting = []
   once (suc n) gone [] = []
   once (suc n) gone (a ∷ more) =
       a ∷ once n (gone_behind (gone_into_at gone a) a gone) (when_some (gone_into_at gone a) (λ d. links_below enters d a) ++ more)
 
-  -- the first n arrivals from these roots
+  -- the first n visits from these roots
   abbrev pub once_from : ℕ → List (List ℕ) → List Arrival
   once_from n roots = once n [] (roots_from 0 roots)
 
--- the traversal that goes into a CID at every arrival ends: it is never as deep as n
+-- the traversal that expands a CID at every link ends: it is never as deep as n
 abbrev pub EndsBefore : (Path → Bool) → Inside → ℕ → List (List ℕ) → Type 0
 EndsBefore enters inside n roots = AllByRecursion (λ a. a.depth < n) (arrivals_from enters inside n 0 roots)
 
--- behind paths with the same rest the same is entered
+-- equal residuals enter the same paths
 abbrev pub TellsRests : {R : Type 0} → (Path → Bool) → (Path → R) → (R → R → Bool) → Type 0
 TellsRests enters rest same = (p q : Path) → same (rest p) (rest q) ≡ true → (r : Path) → enters (p ++ r) ≡ enters (q ++ r)
 
+-- the CIDs of visits
 abbrev pub cids_of : List Arrival → List (List ℕ)
 cids_of arrivals = map (λ a. a.cid) arrivals
 
--- CIDs, each where it comes first
+-- CIDs, each at its first occurrence
 abbrev pub first_ones : List (List ℕ) → List (List ℕ)
 first_ones [] = []
 first_ones (c ∷ cs) = c ∷ filter (λ e. not (bytes_eq e c)) (first_ones cs)
 
--- by this hash function, the digest is of the block that is there, or holds the bytes itself
+-- by this hash function, the digest is of the block that is there, or is the inline data
 abbrev pub is_sound_by : Option HashFunction → List ℕ → Option (List ℕ) → Bool
 is_sound_by None digest block = false
 is_sound_by (Some Identity) digest block = true
@@ -72,18 +73,18 @@ is_sound_by (Some Sha2_256) digest (Some block) = agrees_by (Some Sha2_256) dige
 is_sound_by (Some Sha2_512) digest None = false
 is_sound_by (Some Sha2_512) digest (Some block) = agrees_by (Some Sha2_512) digest block
 
--- in a store, the bytes that a CID names are true to it
+-- in a store, the bytes that a CID names match it
 abbrev pub is_sound : Blocks → List ℕ → Bool
 is_sound store c = is_sound_by (hash_function_of (parts_of c)) (digest_of c) (block_of store c)
 
--- the data of a CID where its block is sound
+-- the data of a CID if its block is sound
 abbrev pub sound_value : Blocks → List ℕ → Option Data
 sound_value store c = if is_sound store c then value_of store c else None
 
--- the arrivals of a job that goes in once, and only where a block is sound: its limit of them, and one more if there is one
+-- the visits of a job with link-visit-once that expands sound blocks only: its limit of them, and one more if there is one
 abbrev pub once_arrivals : {R : Type 0} → Blocks → JobMeaning → (Path → R) → (R → R → Bool) → List Arrival
 once_arrivals store job rest same = once_from (is_entered job.selector) rest same (sound_value store) (suc job.limit) job.roots
 
--- such a job has more arrivals than its limit
+-- such a job has more visits than its limit
 abbrev pub is_over_limit_once : {R : Type 0} → Blocks → JobMeaning → (Path → R) → (R → R → Bool) → Bool
 is_over_limit_once store job rest same = nat_lt job.limit (length (once_arrivals store job rest same))

@@ -1,4 +1,4 @@
--- What a walk is about to give, from what it keeps.
+-- What a walk is about to return, by what it keeps.
 use Rattle.std.specs.Prelude.{◌≡◌, ℕ, zero, suc, ◌+◌, ◌-◌, ◌≤◌, Bool, true, false, List, [], ◌∷◌, ◌++◌, length, map, reverse, take, Option, Some, None, option_map, option_and_then, Ok, nat_lt, ◌==◌, ◌&&◌, ◌||◌, bytes_eq, if◌then◌else◌}
 use Rattle.std.specs.Result.{result_ok}
 use Rattle.ix_cbor.specs.Data as nodes
@@ -20,21 +20,22 @@ use Rattle.ix_walk.specs.Once.{sound_value}
 use Rattle.ix_walk.specs.Visits.{visits_from}
 use Rattle.ix_walk.specs.WalkLeft.{WalkLeft, nothing_left}
 
--- An arrival with no root and no path, since a visit has neither.
+-- A visit with no root and no path, which a `Visit` doesn't have.
 abbrev pub arrival : ℕ → List ℕ → Arrival
 arrival depth c = record { root = 0; path = []; depth = depth; cid = c }
 
--- a link that waits to be arrived at: what is left of the selector there, its CID, and how many links were crossed
+-- a link to visit: the residual there, its CID, and how many links were followed
 abbrev pub waiting : List Place → ℕ → List ℕ → Found
 waiting places depth c = record { residual = places; cid = c; depth = depth }
 
--- where nothing is left of a selector, nothing is entered
+-- with an empty residual nothing is entered
 abbrev pub when_entered : List Place → List Found → List Found
 when_entered [] links = []
 when_entered (x ∷ xs) links = links
 
 -- the links below a node at this depth, in preorder, where these places are left of the selector
 abbrev mutual
+  -- the links below a node at this depth, in preorder, with this residual
   pub links_below : List Place → ℕ → Data → List Found
   links_below places depth null = []
   links_below places depth (boolean b) = []
@@ -61,37 +62,38 @@ abbrev pub links_inside : List Place → ℕ → Option Data → List Found
 links_inside places depth None = []
 links_inside places depth (Some d) = links_below places depth d
 
--- what was gone into: CIDs, each with what was left of the selector there
+-- what was expanded: CIDs, each with the residual there
 abbrev pub Going : Type 0
 Going = List ℕ → List Place → Bool
 
+-- nothing was expanded
 abbrev pub nothing_gone : Going
 nothing_gone c places = false
 
--- this, and what was gone into before
+-- this, and what was expanded before
 abbrev pub gone_also : List ℕ → List Place → Going → Going
 gone_also c places gone d others = (bytes_eq c d && same_residual places others) || gone d others
 
--- The data that are gone into at a link, if any: at every link those of its CID, or where it is kept what was gone into,
--- those of a sound block into which the walk has not gone with what is left of the selector there.
+-- The data that are expanded at a link, if any: at every link those of its CID, or with link-visit-once those of a sound block
+-- that the walk has not expanded with the residual there.
 abbrev pub data_inside : Blocks → Option Going → Found → Option Data
 data_inside store None f = value_of store f.cid
 data_inside store (Some gone) f = if gone f.cid f.residual then None else sound_value store f.cid
 
--- what was gone into behind a link
+-- what was expanded after a link
 abbrev pub gone_behind : Option Data → Found → Option Going → Option Going
 gone_behind inside f None = None
 gone_behind None f (Some gone) = Some gone
 gone_behind (Some d) f (Some gone) = Some (gone_also f.cid f.residual gone)
 
--- The first so many arrivals where these links wait: one is arrived at, and then the links below it wait before the others.
+-- The first so many visits where these links wait: one is visited, and then the links below it wait before the others.
 abbrev pub first_arrivals : Blocks → Option Going → ℕ → List Found → List Arrival
 first_arrivals store had zero links = []
 first_arrivals store had (suc n) [] = []
 first_arrivals store had (suc n) (f ∷ links) =
     arrival f.depth f.cid ∷ first_arrivals store (gone_behind (data_inside store had f) f had) n (links_inside f.residual (f.depth + 1) (data_inside store had f) ++ links)
 
--- what is left of a subtree: a link, the members of a list from a place on, or the values of a map
+-- what is left of a subtree: a link, the elements of a list from a position on, or the values of a map
 pub data Part : Type 0 where
   to_cid : List ℕ → Part
   members : ℕ → Items → Part
@@ -158,7 +160,7 @@ abbrev pub is_spent : Children → Bool
 is_spent (Members count left) = left == 0
 is_spent (Values left) = left == 0
 
--- what is left of an open list or map whose next child stands at the front of these bytes, and the bytes behind it
+-- what is left of an open list or map whose next child is at the front of these bytes, and the bytes after it
 abbrev pub part_at : Children → List ℕ → Option (Part × List ℕ)
 part_at (Members count left) b =
     if nat_lt count left then None else result_ok (items_at (item_at 512) left b >>= (λ ds. Ok (members (count - left) ds.0, ds.1)))
@@ -174,17 +176,18 @@ with_children o children = record { residual = o.residual; children = children; 
 abbrev pub found : Found → Subtree
 found f = record { places = f.residual; part = to_cid f.cid; depth = f.depth }
 
--- the subtrees of a stack, the next one first, where the walk stands at the front of these bytes: an open list or map goes
--- on where the one inside it ends, and where that is behind all of its block, in the block that the walk came from
+-- the subtrees of a stack, the next one first, where the walk is at the front of these bytes: an open list or map continues
+-- where the one inside it ends, and if that is after all of its block, in the block that the walk came from
 abbrev pub stands : List ℕ → List Opened → Option (List Subtree)
 stands b [] = Some []
 stands b (o ∷ os) = option_and_then (λ x. option_map (λ ss. opened o x.0 ∷ ss) (stands (goes_on o.back x.1) os)) (part_at o.children b)
 
--- a link at which the walk arrives comes before all of them
+-- a link to visit comes before all of them
 abbrev pub with_next : Option Found → List Subtree → List Subtree
 with_next None ss = ss
 with_next (Some f) ss = found f ∷ ss
 
+-- the subtrees of a trail, if its bytes can be read
 abbrev pub trail_stands : Trail → Option (List Subtree)
 trail_stands t = option_map (with_next t.next) (stands t.at (reverse t.stack.items))
 
@@ -192,27 +195,27 @@ abbrev pub or_nil : Option (List Subtree) → List Subtree
 or_nil None = []
 or_nil (Some ss) = ss
 
--- what a walk has still to go through
+-- what a walk has still to traverse
 abbrev pub subtrees : Trail → List Subtree
 subtrees t = or_nil (trail_stands t)
 
--- a root at which the walk has not arrived
+-- a root that the walk has not visited
 abbrev pub root_link : Pattern → List ℕ → Found
 root_link selector c = waiting (residual_of selector) 0 c
 
--- the links that wait: those of the trail, and behind them the other roots
+-- the links that wait: those of the trail, and after them the other roots
 abbrev pub links_left : Pattern → List Subtree → List (List ℕ) → List Found
 links_left selector ss roots = all_links ss ++ map (root_link selector) roots
 
--- what a walk that has given so many visits has still to give, where these links wait: as many arrivals as the limit
--- leaves it, and whether there is one more
+-- what a walk that has returned so many visits has still to return, where these links wait: as many visits as the limit leaves
+-- it, and whether there is one more
 abbrev pub walk_left : Blocks → ℕ → ℕ → ℕ → Option Going → List Found → Bool → WalkLeft
 walk_left store number limit given had links true = nothing_left
 walk_left store number limit given had links false =
     let arrivals = first_arrivals store had (suc (limit - given)) links in
     record { visits = visits_from store number given (take (limit - given) arrivals); limited = nat_lt (limit - given) (length arrivals); ended = false }
 
--- what is left can be gone through
+-- what is left can be traversed
 abbrev pub IsStanding : Trail → Type 0
 IsStanding t = (ss : List Subtree) × (trail_stands t ≡ Some ss)
 
@@ -221,10 +224,10 @@ abbrev pub HaveDepths : (ℕ → Type 0) → List Found → Type 0
 HaveDepths P [] = Unit {0}
 HaveDepths P (f ∷ links) = P f.depth × HaveDepths P links
 
--- no link lies deeper
+-- no link is deeper
 abbrev pub NoDeeper : ℕ → List Found → Type 0
 NoDeeper depth links = HaveDepths (λ d. d ≤ depth) links
 
--- what a walk keeps: no link that waits lies deeper than there are visits given, and these are within the limit
+-- what a walk keeps: no link that waits is deeper than there are visits returned, and these are within the limit
 abbrev pub IsWalk : ℕ → ℕ → Trail → Type 0
 IsWalk limit given t = (given ≤ limit) × (ss : List Subtree) × (trail_stands t ≡ Some ss) × NoDeeper given (all_links ss)

@@ -1,4 +1,4 @@
-//! Arriving at a link.
+//! Visiting a link.
 
 ghost use Rattle.std.specs.Prelude.{◌≡◌, ◌+◌, ◌<◌, ◌^◌, IfOk, IfSome, OnOk, None, option_map, is_none};
 ghost use Rattle.ix_cbor.specs.Reading.{data_at};
@@ -21,7 +21,8 @@ use ix_selector::Residual;
 use ix_store::{Ahead, Store, has_fault};
 use std::alloc::{AllocError, Global};
 
-// The bytes that a CID names, where they are there, and whether they spell no data.
+// Returns the bytes that a CID names, if they are there, and whether they are not valid DAG-CBOR
+// though the CID says so.
 fn bytes_of<'a>(
     store: &'a Store,
     cid: &CidRef<'a>,
@@ -44,7 +45,8 @@ fn bytes_of<'a>(
     }
 }
 
-// The bytes into which a walk goes, if there are any, and whether they should be DAG-CBOR and are none.
+// Returns the bytes that a walk expands, if there are any, and whether they should be DAG-CBOR and
+// are not.
 fn read_block<'a>(
     store: &'a Store,
     cid: &CidRef<'a>,
@@ -64,7 +66,8 @@ fn read_block<'a>(
     }
 }
 
-// Whether the bytes that the CID of a visit names are true to it: those that it holds itself, and those of a block that has its digest.
+// Whether the bytes that the CID of a visit names match it: those inline in it (an identity CID),
+// and those of a block whose hash matches.
 fn is_sound(store: &Store, visit: &Visit) -> bool
     requires { IsPositionOf store.now visit.now.cid visit.now.block }
     ensures { result ≡ is_sound store.now visit.now.cid }
@@ -82,8 +85,9 @@ fn is_sound(store: &Store, visit: &Visit) -> bool
     }
 }
 
-// The bytes into which a walk goes at a visit, of those that its CID names: all of them, or those that are sound where it
-// keeps what it has gone into and has not gone into this with what is left of the selector. That it now has is then kept.
+// Returns the bytes that a walk expands at a visit, of those that its CID names. A walk that
+// records what it expanded returns them only if they match the CID, and only once for each CID and
+// residual, which it then records; any other returns them always.
 fn goes_into<'a>(
     alloc: Global,
     store: &'a Store,
@@ -111,7 +115,7 @@ fn goes_into<'a>(
     if is_first { Ok(Some(bytes)) } else { Ok(None) }
 }
 
-// Goes into a block, if there is one: to its first child, or to the link that it is.
+// Enters a block, if there is one: up to its first child, or to the link that it is.
 fn enter_block<'a>(
     alloc: Global,
     trail: &mut Trail<'a>,
@@ -138,7 +142,7 @@ fn enter_block<'a>(
     Ok(())
 }
 
-// Gives the visit of a link, and goes to what is behind it.
+// Returns the visit of a link, and moves on to what is below it.
 fn arrive<'a>(
     alloc: Global,
     store: &'a Store,
@@ -173,7 +177,8 @@ fn arrive<'a>(
     Ok(visit)
 }
 
-// The next link of what the walk has entered, or the next root where nothing is left of those before.
+// Returns the next link of what the walk has entered, or the next root if nothing is left of those
+// before.
 fn next_arrival<'a>(
     alloc: Global,
     job: &'a Job,
@@ -199,7 +204,7 @@ fn next_arrival<'a>(
     }))
 }
 
-// The next visit of a walk that has given so many.
+// Returns the next visit of a walk that has returned `given` visits.
 pub(crate) fn take_next<'a>(
     alloc: Global,
     store: &'a Store,

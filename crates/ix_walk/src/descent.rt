@@ -1,4 +1,4 @@
-//! Going through the bytes of a block, down to the next link.
+//! Traversing the bytes of a block, down to the next link.
 
 ghost use Rattle.std.specs.Prelude.{◌≡◌, IfOk, Ok, None};
 ghost use Rattle.ix_cbor.specs.Reading.{key_at};
@@ -15,7 +15,7 @@ use ix_selector::{Residual, Step, Steps};
 use ix_store::Ahead;
 use std::alloc::{AllocError, Global};
 
-// The front of the item that stands here, and the bytes behind it.
+// Returns the front of the item at this position, and the bytes after it.
 fn front_at(at: &[u8]) -> (Front<'_>, &[u8])
     requires { IsItem at.now }
     ensures { HasFront at.now result.0 result.1.now }
@@ -26,7 +26,7 @@ fn front_at(at: &[u8]) -> (Front<'_>, &[u8])
     }
 }
 
-// The bytes behind the item that stands here.
+// Returns the bytes after the item at this position.
 fn skipped(at: &[u8]) -> &[u8]
     requires { IsItem at.now }
     ensures exact { IsBehindItem at.now result.now }
@@ -38,7 +38,7 @@ fn skipped(at: &[u8]) -> &[u8]
     }
 }
 
-// Where the item ends that stands here, from its front and the bytes behind that.
+// Returns where the item at this position ends, given its front and the bytes after that.
 fn end_of<'a>(at: &'a [u8], front: Front<'_>, behind: &'a [u8]) -> &'a [u8]
     requires { HasFront at.now front behind.now }
     ensures exact { IsBehindItem at.now result.now }
@@ -50,7 +50,7 @@ fn end_of<'a>(at: &'a [u8], front: Front<'_>, behind: &'a [u8]) -> &'a [u8]
     }
 }
 
-// What an item with this front is for the walk, which enters it, if a link can be there.
+// Returns what an item with this front is for the walk, which enters it, if it may contain a link.
 fn entered_by<'a>(
     at: &Ahead<'a>,
     front: Front<'a>,
@@ -87,14 +87,14 @@ fn entered_by<'a>(
     }))
 }
 
-// Whether a link can be in an item with this front.
+// Whether an item with this front may contain a link.
 fn may_hold_links(front: Front<'_>) -> bool
     ensures { result ≡ may_hold_links front.entry }
 {
     matches!(front, Front::Link(_) | Front::List(_) | Front::Map(_))
 }
 
-// What the item is that stands here, which is entered; the walk then stands behind its front.
+// Returns what the item at this position is, which is entered; the walk is then after its front.
 pub(crate) fn node_at<'a>(
     residual: Residual<'a>,
     at: &mut Ahead<'a>,
@@ -109,9 +109,9 @@ pub(crate) fn node_at<'a>(
     entered
 }
 
-// What the child is that stands here, of which the front and the bytes behind it were read, where the selector enters it;
-// the walk then stands behind its front, or behind all of it where it isn't entered. It isn't inlined, so that children
-// without links don't pay for its locals.
+// Returns what the child at this position is, of which the front and the bytes after it were read,
+// if the selector enters it. The walk is then after its front, or after all of it if it isn't
+// entered. It isn't inlined, so that children without links don't pay for its locals.
 #[inline(never)]
 fn step_into<'a>(
     alloc: Global,
@@ -140,8 +140,8 @@ fn step_into<'a>(
     }
 }
 
-// What the child is that stands here, where the selector enters it and a link can be in it. The walk then stands behind
-// its front, or behind all of it where it isn't entered.
+// Returns what the child at this position is, if the selector enters it and it may contain a link.
+// The walk is then after its front, or after all of it if it isn't entered.
 fn child_at<'a>(
     alloc: Global,
     residual: &mut Steps<'a>,
@@ -161,7 +161,8 @@ fn child_at<'a>(
     Ok(None)
 }
 
-// The next member of a list that is entered and may hold a link; how many are then left, and where the walk stands.
+// Returns the next element of a list that is entered and may contain a link; how many are then
+// left, and the walk's position.
 fn next_member<'a>(
     alloc: Global,
     residual: &mut Steps<'a>,
@@ -185,7 +186,7 @@ fn next_member<'a>(
     Ok(None)
 }
 
-// The key that stands here, and the bytes behind it.
+// Returns the key at this position, and the bytes after it.
 fn key_at(at: &[u8]) -> (&[u8], &[u8])
     requires { IsKey at.now }
     ensures exact { key_at None at.now ≡ Ok (result.0.now, result.1.now) }
@@ -197,7 +198,8 @@ fn key_at(at: &[u8]) -> (&[u8], &[u8])
     }
 }
 
-// The next value of a map that is entered and may hold a link; how many are then left, and where the walk stands.
+// Returns the next value of a map that is entered and may contain a link; how many are then left,
+// and the walk's position.
 fn next_value<'a>(
     alloc: Global,
     residual: &mut Steps<'a>,
@@ -221,7 +223,7 @@ fn next_value<'a>(
     Ok(None)
 }
 
-// The next child of a list or map that is entered and may hold a link.
+// Returns the next child of a list or map that is entered and may contain a link.
 fn next_child<'a>(
     alloc: Global,
     opened: &mut Opened<'a>,
@@ -245,8 +247,8 @@ fn next_child<'a>(
     }
 }
 
-// Goes on behind what has no child left, so that a chain of links each of which stands last in its block takes no more
-// of the stack the longer it is.
+// Pops what has no child left, so that a chain of links each of which is last in its block takes no
+// more of the stack the longer it is.
 fn leave_spent(trail: &mut Trail<'_>)
     requires { trail.old.next ≡ None }
     ensures next { trail.new.next ≡ None }
@@ -261,8 +263,8 @@ fn leave_spent(trail: &mut Trail<'_>)
     }
 }
 
-// The next link, in the order of the traversal: the one at which the trail arrives first, or the first in the lists and maps
-// that are open.
+// Returns the next link, in the order of the traversal: the pending one, or the first in the lists
+// and maps that are open.
 pub(crate) fn next_found<'a>(
     alloc: Global,
     trail: &mut Trail<'a>,

@@ -1,11 +1,11 @@
-//! Why a job is refused, and why a walk stops.
+//! Why a job is rejected, and why a walk stops.
 
 use std::alloc::AllocError;
 
-/// Why a job is refused.
+/// Why a job is rejected.
 #[derive(Debug, Drop, Clone, Copy, PartialEq, Eq)]
 pub enum JobFault {
-    /// The name is not 1 to 64 bytes of `a` to `z`, `0` to `9`, `-` and `_`.
+    /// The name isn't 1 to 64 bytes of `a` to `z`, `0` to `9`, `-` and `_`.
     Name,
     /// The limit is 0.
     LimitZero,
@@ -20,9 +20,9 @@ pub enum JobFault {
 /// Why a walk stops before its end.
 #[derive(Debug, Drop, Clone, Copy, PartialEq, Eq)]
 pub enum WalkStop {
-    /// As many visits were given as the job may have, and there are more.
+    /// The link budget is used up, and there are more visits.
     Limit,
-    /// No memory was left.
+    /// Out of memory.
     Memory,
 }
 

@@ -1,4 +1,4 @@
-//! What a walk has gone into.
+//! What a walk has expanded.
 
 ghost use Rattle.std.specs.Prelude.{IfOk, ◌≡◌, false};
 ghost use Rattle.ix_selector.specs.Behind.{same_residual};
@@ -10,21 +10,22 @@ use ix_store::PlaceSet;
 use std::alloc::{AllocError, Global};
 use std::collections::{BTreeMap, BTreeSet};
 
-// The CIDs into which a walk has gone, each with what was left of the selector there.
+// The CIDs that a walk has expanded, each with the residual of the selector there.
 #[derive(Drop)]
 pub(crate) struct Gone<'a> {
-    // What is left of the selector at a root. A selector of everything leaves as much at every block.
+    // The residual at a root. A selector of everything has it at every block.
     whole: Residual<'a>,
-    // The places of those that have a block in the store, where that was left.
+    // The positions of those with a block in the store, expanded with that residual.
     places: PlaceSet,
-    // The places of those that have one where something else was left, by what was left.
+    // The positions of those with a block that were expanded with another residual, by the
+    // residual.
     blocks: BTreeMap<Residual<'a>, BTreeSet<usize>>,
-    // Those that hold their bytes themselves.
+    // Those without a block in the store, such as identity CIDs.
     others: BTreeSet<(Cid, Residual<'a>)>,
 }
 
 impl<'a> Gone<'a> {
-    // Nothing, for a walk by this selector.
+    // Creates an empty set, for a walk by this selector.
     pub(crate) fn new(alloc: Global, selector: &'a Selector) -> Result<Gone<'a>, AllocError>
         ensures { IfOk result (λ g. HasGoneNowhere g) }
     {
@@ -36,7 +37,8 @@ impl<'a> Gone<'a> {
         })
     }
 
-    // Notes that the walk goes into a CID, whose block has this place, and tells whether it never did with that rest.
+    // Records that the walk expands a CID, whose block has this position. Returns whether it never
+    // did with that residual.
     pub(crate) fn note(
         &mut self,
         alloc: Global,
@@ -57,7 +59,7 @@ impl<'a> Gone<'a> {
         }
     }
 
-    // The same of a block at a place, where as much was left as at a root.
+    // Does the same for a block at a position, with the residual of a root.
     fn note_place(&mut self, place: usize) -> Result<bool, AllocError>
         ensures { IsNotedWhole self.old self.new place result }
     {
@@ -68,7 +70,7 @@ impl<'a> Gone<'a> {
         Ok(true)
     }
 
-    // The same of a block at a place, where something else was left.
+    // Does the same for a block at a position, with another residual.
     fn note_block(
         &mut self,
         alloc: Global,

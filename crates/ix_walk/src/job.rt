@@ -12,13 +12,13 @@ use std::marker::Model;
 // How many bytes a name may have.
 const LONGEST_NAME: usize = 64;
 
-/// How many visits a job may ask for.
+/// The greatest limit: how many visits a job may ask for.
 pub const GREATEST_LIMIT: u32 = 1_000_000;
 
 /// How many roots a job may have.
 pub const MOST_ROOTS: usize = 64;
 
-/// A name, roots, a selector and a limit of visits.
+/// A name, roots, a selector and a link budget.
 pub struct Job {
     name: String,
     roots: Vec<Cid>,
@@ -27,7 +27,7 @@ pub struct Job {
     once: bool,
 }
 
-// Written out and not derived: what is derived is put into each function that lets go of one, at each of its ends.
+// Written by hand: a derived drop is inlined in each function that drops one, at each of its exits.
 impl Drop for Job {
     fn drop(self) {
         let Job {
@@ -57,7 +57,7 @@ impl Model for Job {
 }
 
 impl Job {
-    /// The job, or its first fault: the name, then the limit, then how many roots there are.
+    /// Returns the job, or its first error: the name, then the limit, then the number of roots.
     pub fn new(
         name: String,
         roots: Vec<Cid>,
@@ -92,8 +92,8 @@ impl Job {
         })
     }
 
-    /// The same job, whose walk goes into a CID the first time that it is arrived at with what is
-    /// then left of the selector, and only where its block is sound. A later arrival is a visit like
+    /// Returns the same job with link-visit-once: its walk expands a CID at its first visit with
+    /// each residual of the selector, and only if its block is sound. A later one is a visit like
     /// any other, with nothing below it.
     pub fn once(self) -> Job
         ensures { result ≡ going_in true self }
@@ -110,28 +110,28 @@ impl Job {
         self.name.as_str()
     }
 
-    /// Where a walk begins, and where it goes on when nothing is left below those before.
+    /// The roots, at which a walk starts, one after the other.
     pub fn roots(&self) -> &[Cid]
         ensures { result.now ≡ self.now.roots }
     {
         self.roots.as_slice()
     }
 
-    /// What a walk enters.
+    /// The selector, which says what a walk enters.
     pub fn selector(&self) -> &Selector
         ensures { result.now ≡ self.now.selector }
     {
         &self.selector
     }
 
-    /// Whether its walk goes into a CID once, and not at every arrival.
+    /// Whether its walk expands a CID once (link-visit-once), and not at every link to it.
     pub fn goes_once(&self) -> bool
         ensures { result ≡ self.now.once }
     {
         self.once
     }
 
-    /// How many visits a walk gives at most.
+    /// The link budget: how many visits a walk returns at most.
     pub fn limit(&self) -> u32
         ensures is { result ≡ self.now.limit }
         ensures within { result ≤ 1000000 }
@@ -140,7 +140,7 @@ impl Job {
     }
 }
 
-/// Whether a text may be a job's name: 1 to 64 bytes of `a` to `z`, `0` to `9`, `-` and `_`.
+/// Whether a string may be a job's name: 1 to 64 bytes of `a` to `z`, `0` to `9`, `-` and `_`.
 pub fn is_name(name: &str) -> bool
     ensures { result ≡ is_name name.now }
 {
@@ -151,7 +151,7 @@ pub fn is_name(name: &str) -> bool
     bytes.iter().all(|byte| is_name_byte(*byte))
 }
 
-// Whether a byte may stand in a name: `a` to `z`, `0` to `9`, `-` or `_`.
+// Whether a byte may be in a name: `a` to `z`, `0` to `9`, `-` or `_`.
 fn is_name_byte(byte: u8) -> bool
     ensures { result ≡ is_name_byte byte }
 {

@@ -1,8 +1,9 @@
 //! Jobs, and the walk.
 //!
-//! A job is a list of roots, a selector and a limit; its walk over a store gives the job's visits in
-//! their order, root after root, one for each arrival at a CID, and behind them Limit exactly where
-//! there are more than the limit. Before Memory it gives the first of them.
+//! A job is a list of roots, a selector and a link budget. Its walk over a store returns the job's
+//! visits in preorder, root after root, one for each link and root that it visits, and then `Limit`
+//! exactly if there are more than the budget. If it returns `Memory`, the visits before it are the
+//! first ones.
 //!
 //! ```rust
 //! let mut store = Store::new(alloc);

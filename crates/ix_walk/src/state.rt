@@ -4,12 +4,12 @@ use crate::gone::Gone;
 use crate::subtree::Trail;
 use ix_cid::Cid;
 
-// What a walk has gone into, where its trail stands, and the roots that are left.
+// What a walk has expanded, the trail of its position, and the roots that are left.
 #[derive(Drop)]
 pub(crate) struct WalkState<'a> {
-    // What it has gone into, where it goes into a CID once.
+    // What it has expanded, if it expands a CID once.
     pub gone: Option<Gone<'a>>,
     pub trail: Trail<'a>,
-    // The roots at which the walk has not arrived.
+    // The roots that the walk has not visited.
     pub roots: &'a [Cid],
 }

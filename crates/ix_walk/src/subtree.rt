@@ -1,4 +1,4 @@
-//! What a walk keeps of the blocks that it stands in: places in their bytes, and no node.
+//! What a walk keeps of the blocks that it is in: positions in their bytes, and no node.
 
 ghost use Rattle.std.specs.Prelude.{◌≡◌, None, []};
 ghost use Rattle.ix_walk.specs.Walking.{is_spent};
@@ -11,23 +11,24 @@ use std::alloc::Global;
 // The children that are left of a list or map.
 #[derive(Clone, Copy)]
 pub(crate) enum Children {
-    // The last so many members of a list that has so many.
+    // The last `left` elements of a list of `count`.
     Members { count: u64, left: u64 },
-    // So many keys and values of a map.
+    // The last `left` entries of a map.
     Values { left: u64 },
 }
 
-// A list or map that is gone through.
+// A list or map that is being traversed.
 #[derive(Drop)]
 pub(crate) struct Opened<'a> {
     pub residual: Steps<'a>,
     pub children: Children,
     pub depth: u32,
-    // Where the walk goes on behind it, where that isn't behind its last child: in the block that the walk came from.
+    // Where the walk continues after it, if that isn't after its last child: in the block that the
+    // walk came from.
     pub back: Option<Ahead<'a>>,
 }
 
-// A link that is arrived at.
+// A link to visit.
 #[derive(Drop)]
 pub(crate) struct Found<'a> {
     pub residual: Residual<'a>,
@@ -35,15 +36,15 @@ pub(crate) struct Found<'a> {
     pub depth: u32,
 }
 
-// What the selector enters, and in which a link can be.
+// What the selector enters and may contain a link.
 #[derive(Drop)]
 pub(crate) enum Entered<'a> {
     Link(Found<'a>),
     Open(Opened<'a>),
 }
 
-// Where a walk stands in the bytes of a block, and what is left to do: to arrive at a link, and then to go on with the
-// lists and maps that are open, the next at the end.
+// The position of a walk in the bytes of a block, and what is left to do: to visit a link, and then
+// to continue with the lists and maps that are open, the last one first.
 #[derive(Drop)]
 pub(crate) struct Trail<'a> {
     pub at: Ahead<'a>,
@@ -63,7 +64,7 @@ impl Children {
 }
 
 impl<'a> Trail<'a> {
-    // A trail on which nothing is left.
+    // A trail with nothing left to do.
     pub(crate) fn new(alloc: Global) -> Trail<'a>
         ensures next { result.next ≡ None }
         ensures stack { result.stack.items ≡ [] }
@@ -75,7 +76,7 @@ impl<'a> Trail<'a> {
         }
     }
 
-    // Lets go of all that is left.
+    // Drops all that is left.
     pub(crate) fn clear(&mut self)
         ensures next { self.new.next ≡ None }
         ensures stack { self.new.stack.items ≡ [] }

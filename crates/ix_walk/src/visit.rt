@@ -2,16 +2,16 @@
 
 use ix_cid::Cid;
 
-/// One arrival at a CID.
+/// One visit of a CID, through a link or as a root.
 #[derive(Debug, Drop)]
 pub struct Visit {
     pub job: u32,
     pub seq: u32,
-    /// How many links were crossed.
+    /// The number of links followed from the root.
     pub depth: u32,
     pub cid: Cid,
-    /// Where the store has the block.
+    /// The position of the block in the store.
     pub block: Option<usize>,
-    /// The CID is DAG-CBOR, and its bytes are there and spell none.
+    /// Whether the CID is DAG-CBOR, and its bytes are there and are not valid DAG-CBOR.
     pub malformed: bool,
 }

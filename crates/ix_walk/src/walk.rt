@@ -15,7 +15,7 @@ use ix_store::Store;
 use std::alloc::{AllocError, Global};
 use std::marker::Model;
 
-/// The visits of a job, then Limit where there are more.
+/// An iterator over the visits of a job, followed by `Limit` if there are more.
 pub struct Walk<'a> {
     alloc: Global,
     store: &'a Store,
@@ -26,7 +26,7 @@ pub struct Walk<'a> {
     ended: bool,
 }
 
-// Written out and not derived: what is derived is put into each function that lets go of one, at each of its ends.
+// Written by hand: a derived drop is inlined in each function that drops one, at each of its exits.
 impl<'a> Drop for Walk<'a> {
     fn drop(self) {
         let Walk {
@@ -58,7 +58,7 @@ impl<'a> Model for Walk<'a> {
 impl<'a> Walk<'a> {
     ghost use Rattle.ix_walk.specs.Visits.{whole_walk};
 
-    /// The walk of the job with this number.
+    /// Returns the walk of the job with this number.
     pub fn new(
         alloc: Global,
         store: &'a Store,

@@ -13,7 +13,8 @@ use std::alloc::Global;
 use std::sync::Arc;
 use std::thread::Threads;
 
-/// The blocks of a CARv1 file as `load_car` reads them, where so many threads index them if they are many.
+/// Reads the blocks of a CARv1 file as `load_car` does. If they are many, `threads` threads index
+/// them.
 pub fn load_car_by<R: Threads + Sync>(
     rt: &R,
     alloc: Global,
@@ -31,8 +32,8 @@ pub fn load_car_by<R: Threads + Sync>(
     }
 }
 
-/// The blocks of a CARv1 file that is shared, as `load_car_by` reads them: the store keeps a share of its bytes, and
-/// what lies in them can be borrowed while the store stands.
+/// Reads the blocks of a shared CARv1 file as `load_car_by` does: the store keeps a share of its
+/// bytes, and what is in them can be borrowed as long as the store lives.
 pub fn load_shared_by<R: Threads + Sync>(
     rt: &R,
     alloc: Global,
@@ -50,7 +51,7 @@ pub fn load_shared_by<R: Threads + Sync>(
     }
 }
 
-// The blocks of a file, of which what is found will be kept, indexed by so many threads.
+// Reads the blocks of a file into a settled store, indexed by several threads.
 fn store_by_threads<R: Threads + Sync>(
     rt: &R,
     alloc: Global,
@@ -76,7 +77,8 @@ fn store_by_threads<R: Threads + Sync>(
     Ok(store)
 }
 
-// The blocks of the sections at the end of a file, of which so many threads index those that are due.
+// Reads the blocks of the sections at the end of a file, of which several threads index those that
+// are due.
 fn blocks_of_sections<R: Threads + Sync>(
     rt: &R,
     alloc: Global,

@@ -1,7 +1,8 @@
-//! Reading the header of a CARv1 file, where it stands.
+//! Reading the header of a CARv1 file in place.
 //!
-//! A header is looked at without a tree of it: it is gone over once to see that it decodes, and then its keys and
-//! values are passed up to those that are wanted. So a key that is ignored takes no memory, however long its value.
+//! A header is read without a tree of it: it is traversed once to check that it decodes, and then
+//! its entries are passed over up to those that are wanted. So a key that is ignored takes no
+//! memory, however long its value.
 
 ghost use Rattle.std.specs.Prelude.{◌≡◌, ◌<◌, ◌≤◌, ◌++◌, length, option_map, Option, IfOk, IfErr, OnOk, Some};
 ghost use Rattle.ix_cbor.specs.Data.{Data, Items, Entries, integer};
@@ -19,7 +20,7 @@ use ix_cbor::{Front, check, read_front, read_key, skip_item};
 use ix_cid::{Cid, CidRef};
 use std::alloc::{AllocError, Global};
 
-// The bytes behind the header.
+// Returns the bytes after the header.
 pub(super) fn header_at(_alloc: Global, bytes: &[u8]) -> Result<&[u8], FaultAt>
     ensures reads { ReadsFrom (λ rest. rest.now) header_at bytes.now result }
     ensures shorter { IfOk result (λ rest. length rest.now < length bytes.now) }
@@ -32,7 +33,7 @@ pub(super) fn header_at(_alloc: Global, bytes: &[u8]) -> Result<&[u8], FaultAt>
     }
 }
 
-// What is wrong with a header, if anything.
+// Returns what is wrong with a header, if anything.
 fn fault_of_header(text: &[u8]) -> Option<CarKind>
     ensures { result ≡ header_fault (data_at text.now) }
 {
@@ -42,7 +43,7 @@ fn fault_of_header(text: &[u8]) -> Option<CarKind>
     }
 }
 
-// The same of a block that decodes.
+// Does the same for a block that decodes.
 fn fault_of_block(block: &[u8]) -> Option<CarKind>
     ensures { (d : Data) → StandsAt 512 block.now d → result ≡ header_fault (Some d) }
 {
@@ -54,7 +55,7 @@ fn fault_of_block(block: &[u8]) -> Option<CarKind>
     fault_of_version(version, has_roots)
 }
 
-// What is wrong with a header's version, or with its roots behind a good one.
+// Returns what is wrong with a header's version, or with its roots if the version is good.
 fn fault_of_version(version: Option<i128>, has_roots: bool) -> Option<CarKind>
     ensures { result ≡ version_fault (option_map integer version) has_roots }
 {
@@ -70,7 +71,7 @@ fn fault_of_version(version: Option<i128>, has_roots: bool) -> Option<CarKind>
     }
 }
 
-// How many keys and values a block that is a map has, and where the first begins.
+// Returns how many entries a block that is a map has, and where the first begins.
 fn map_at(block: &[u8]) -> Option<(u64, &[u8])>
     ensures { (d : Data) → StandsAt 512 block.now d → IsMapAt result d }
 {
@@ -92,7 +93,7 @@ fn map_count(front: Front<'_>) -> Option<u64>
     }
 }
 
-// Where the value of a key begins, among so many keys and values of a map.
+// Returns where the value of a key begins, among `count` entries of a map.
 fn value_at<'a>(key: &[u8], count: u64, entries: &'a [u8]) -> Option<&'a [u8]>
     ensures { (es : Entries) → EntriesStandAt count entries.now es
         → ValueStandsAt result (value_at key.now es) }
@@ -115,7 +116,7 @@ fn value_at<'a>(key: &[u8], count: u64, entries: &'a [u8]) -> Option<&'a [u8]>
     None
 }
 
-// The integer that a value is.
+// Returns the integer that a value is.
 fn integer_at(value: Option<&[u8]>) -> Option<i128>
     ensures { (d : Option Data) → ValueStandsAt value.entry d → result ≡ integer_in d }
 {
@@ -147,7 +148,7 @@ fn has_roots(value: Option<&[u8]>) -> bool
     }
 }
 
-// How many members a value that is a list has, and where the first begins.
+// Returns how many elements a value that is a list has, and where the first begins.
 fn list_at(value: &[u8]) -> Option<(u64, &[u8])>
     ensures { (d : Data) → StandsAt 511 value.now d → IsListAt result d }
 {
@@ -169,7 +170,7 @@ fn list_count(front: Front<'_>) -> Option<u64>
     }
 }
 
-// Whether each of so many members of a list is a link.
+// Whether each of `count` elements of a list is a link.
 fn are_links(count: u64, members: &[u8]) -> bool
     ensures { (ds : Items) → MembersStandAt count members.now ds → result ≡ are_links ds }
 {
@@ -192,7 +193,7 @@ fn is_link(front: Front<'_>) -> bool
     matches!(front, Front::Link(_))
 }
 
-// The roots of a file whose header is good.
+// Returns the roots of a file whose header is good.
 pub(super) fn roots_at(alloc: Global, bytes: &[u8]) -> Result<Vec<Cid>, FaultAt>
     ensures roots { IfOk result (λ roots. roots.items ≡ roots_of bytes.now) }
     ensures memory { IfErr result (λ f. (f.kind ≡ Memory) × (f.left ≤ length bytes.now)) }
@@ -206,7 +207,7 @@ pub(super) fn roots_at(alloc: Global, bytes: &[u8]) -> Result<Vec<Cid>, FaultAt>
     }
 }
 
-// The roots that a header names.
+// Returns the roots that a header names.
 fn roots_of_header(alloc: Global, text: &[u8]) -> Result<Vec<Cid>, AllocError>
     ensures { IfOk result (λ roots. roots.items ≡ roots_in (data_at text.now)) }
 {
@@ -216,7 +217,7 @@ fn roots_of_header(alloc: Global, text: &[u8]) -> Result<Vec<Cid>, AllocError>
     }
 }
 
-// The same of a block that decodes.
+// Does the same for a block that decodes.
 fn roots_of_block(alloc: Global, block: &[u8]) -> Result<Vec<Cid>, AllocError>
     ensures { IfOk result
         (λ roots. (d : Data) → StandsAt 512 block.now d → roots.items ≡ roots_in (Some d)) }
@@ -227,7 +228,7 @@ fn roots_of_block(alloc: Global, block: &[u8]) -> Result<Vec<Cid>, AllocError>
     }
 }
 
-// The CIDs of the links in a value that is a list.
+// Returns the CIDs of the links in a value that is a list.
 fn links_of(alloc: Global, value: Option<&[u8]>) -> Result<Vec<Cid>, AllocError>
     ensures { IfOk result
         (λ links. (d : Option Data) → ValueStandsAt value.entry d → links.items ≡ links_of d) }
@@ -241,7 +242,7 @@ fn links_of(alloc: Global, value: Option<&[u8]>) -> Result<Vec<Cid>, AllocError>
     }
 }
 
-// The CIDs of the links among so many members of a list.
+// Returns the CIDs of the links among `count` elements of a list.
 fn links_in(alloc: Global, count: u64, members: &[u8]) -> Result<Vec<Cid>, AllocError>
     ensures { IfOk result
         (λ links. (ds : Items) → MembersStandAt count members.now ds → links.items ≡ links_in ds) }

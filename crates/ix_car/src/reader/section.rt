@@ -1,4 +1,4 @@
-//! Reading the parts of a CARv1 file: a text behind its length, and a section.
+//! Reading the parts of a CARv1 file: bytes with their length before them, and a section.
 
 ghost use Rattle.std.specs.Prelude.{◌≡◌, ◌<◌, ◌++◌, length, IfOk};
 ghost use Rattle.std.specs.Arc.{arc_value};
@@ -10,7 +10,7 @@ use ix_cid::{Cid, CidRef, VarintFault, read_varint};
 use std::alloc::Global;
 use std::sync::Arc;
 
-// What is wrong, and how many bytes there are from its place to the end.
+// What is wrong, and how many bytes there are from its offset to the end.
 #[derive(Drop)]
 pub(super) struct FaultAt {
     pub(super) kind: CarKind,
@@ -18,7 +18,7 @@ pub(super) struct FaultAt {
 }
 
 impl FaultAt {
-    // A fault of what stands at the front of these bytes.
+    // Returns the error of what is at the front of these bytes.
     pub(super) fn at(kind: CarKind, bytes: &[u8]) -> FaultAt
         ensures { result ≡ record { kind = kind; left = length bytes.now } }
     {
@@ -29,7 +29,7 @@ impl FaultAt {
     }
 }
 
-// The text behind its length, and the bytes after it.
+// Returns the bytes whose length is at the front, and the bytes after them.
 pub(super) fn text_at(bytes: &[u8]) -> Result<(&[u8], &[u8]), FaultAt>
     ensures reads { Reads (λ r. (r.0.now, r.1.now)) result (text_at bytes.now) }
     ensures shorter { IfOk result (λ r. length r.1.now < length bytes.now) }
@@ -50,8 +50,8 @@ pub(super) fn text_at(bytes: &[u8]) -> Result<(&[u8], &[u8]), FaultAt>
     Ok(rest.split_at(length as usize))
 }
 
-// The CID and the block of the section at the front of a file's end, and the bytes after it. A long CID is a
-// share of the file.
+// Returns the CID and the block of the section at the front, and the bytes after it. A long CID is
+// a share of the file.
 pub(super) fn section_at<'a>(
     alloc: Global,
     file: &Arc<Vec<u8>>,

@@ -1,4 +1,4 @@
-//! The sections of a CARv1 file, where they stand.
+//! The sections of a CARv1 file, in place.
 
 ghost use Rattle.std.specs.Prelude.{◌≡◌, ◌<◌, ◌≤◌, length, IfOk};
 ghost use Rattle.ix_car.specs.Reading.{section_at};
@@ -13,27 +13,28 @@ use crate::reader::section::{FaultAt, text_at};
 use ix_cid::{Cid, CidRef};
 use std::alloc::Global;
 
-/// A section of a CARv1 file, where it stands.
+/// A section of a CARv1 file, in place.
 #[derive(Drop)]
 pub struct Section<'a> {
-    /// Where its length stands, in bytes from the front of the file.
+    /// The offset of its length, in bytes from the start of the file.
     pub place: usize,
-    /// The CID that stands behind the length.
+    /// The CID after the length.
     pub cid: CidRef<'a>,
-    /// What stands behind the CID, up to the section's end.
+    /// The bytes after the CID, up to the section's end.
     pub block: &'a [u8],
 }
 
-/// What a CARv1 file holds: the roots that its header names, and its sections, in their order.
+/// The contents of a CARv1 file: the roots that its header names, and its sections, in their order.
 #[derive(Drop)]
 pub struct CarFile<'a> {
     pub roots: Vec<Cid>,
     pub sections: Vec<Section<'a>>,
 }
 
-/// The roots and the sections of a CARv1 file, or its first fault, which is that of `read_car`.
+/// Reads the roots and the sections of a CARv1 file, or returns its first error, which is that of
+/// `read_car`.
 ///
-/// Each section is there, those too whose CID has stood before. No block is copied.
+/// Each section is there, also one whose CID has occurred before. No block is copied.
 pub fn read_sections(alloc: Global, bytes: &[u8]) -> Result<CarFile<'_>, CarFault>
     ensures sections { Gives (λ s. views_of s.sections) bytes.now result (section_list bytes.now) }
     ensures roots { IfOk result (λ s. s.roots.items ≡ roots_of bytes.now) }
@@ -47,7 +48,7 @@ pub fn read_sections(alloc: Global, bytes: &[u8]) -> Result<CarFile<'_>, CarFaul
     }
 }
 
-// The same, with the place of a fault from the end.
+// Does the same, with the offset of an error counted from the end.
 fn sections_of(alloc: Global, bytes: &[u8]) -> Result<CarFile<'_>, FaultAt>
     ensures sections { ReadsFrom (λ s. views_of s.sections) section_list bytes.now result }
     ensures roots { IfOk result (λ s. s.roots.items ≡ roots_of bytes.now) }
@@ -58,7 +59,7 @@ fn sections_of(alloc: Global, bytes: &[u8]) -> Result<CarFile<'_>, FaultAt>
     Ok(CarFile { roots, sections })
 }
 
-// The sections at the end of a file of so many bytes.
+// Returns the sections at the end of a file of `size` bytes.
 fn sections_behind<'a>(
     alloc: Global,
     size: usize,
@@ -80,7 +81,7 @@ fn sections_behind<'a>(
     Ok(sections)
 }
 
-// The CID and the block of the section at the front, where they stand, and the bytes after it.
+// Returns the CID and the block of the section at the front, in place, and the bytes after it.
 fn standing_at(bytes: &[u8]) -> Result<(CidRef<'_>, &[u8], &[u8]), FaultAt>
     ensures reads { Reads (λ r. ((r.0, r.1.now), r.2.now)) result (section_at bytes.now) }
     ensures shorter { IfOk result (λ r. length r.2.now < length bytes.now) }
