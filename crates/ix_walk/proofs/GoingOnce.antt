@@ -236,7 +236,7 @@ module _ {R : Type 0} (enters : Path → Bool) (rest : Path → R) (same : R →
       ∙ unseen-none (flat_map whole (roots_from 0 roots))
       ∙ ap first_ones (sym (from-cids enters inside bound 0 roots))
 
-  -- a traversal within a bound of depth takes a bounded number of visits
+  -- the same if the full traversal is never as deep as the bound: both meet the same CIDs first, if link-visit-once ends
   pub once-by_depth : (limit : ℕ) (roots : List (List ℕ)) → AllByRecursion (λ a. a.depth < bound) (arrivals_from enters inside bound 0 roots) → length (once_from enters rest same inside (suc limit) roots) ≤ limit
       → first_ones (map cid_of (once_from enters rest same inside (suc limit) roots)) ≡ first_ones (map cid_of (arrivals_from enters inside bound 0 roots))
   once-by_depth limit roots shallow short = once-same limit roots (roots-by_depth enters inside bound roots shallow) short
