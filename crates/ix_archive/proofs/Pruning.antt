@@ -151,7 +151,7 @@ module _ (pass : List ℕ → Bool) where
   entry_left root k cut p c rest a =
       ap (λ b. if b then kept_arrivals cut rest else record { root = root; path = p; depth = k; cid = c } ∷ kept_arrivals (if pass c then None else Some k) rest) (not_below k cut a)
 
-  -- after an entry at this depth the cut is its own
+  -- after an entry at this depth the cut is its own, or none if the entry is good
   after_entry : (root k : ℕ) (cut : Option ℕ) (p : Path) (c : List ℕ) (rest : List Arrival) → AtLeast k cut
       → after_arrivals cut (record { root = root; path = p; depth = k; cid = c } ∷ rest) ≡ after_arrivals (if pass c then None else Some k) rest
   after_entry root k cut p c rest a =

@@ -63,7 +63,7 @@ below_all-first None k d es rise all = tt
 below_all-first (Some j) k d es rise all =
     let below = less_from_test (key_cmp j k) rise in (below, below_all-below j k es below all)
 
--- any key is below none
+-- where no entry follows, there is no key to be below
 below_all-none : (before : Option (List ℕ)) → IsBelowAllFrom before no_entries
 below_all-none None = tt
 below_all-none (Some k) = tt

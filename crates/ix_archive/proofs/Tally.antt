@@ -165,7 +165,7 @@ tally-repeat store ds es failed closed d cut c n k w skips h uncut passing none 
           ∙ sym (ap (λ l. is_told l e) left ∙ told-push (kept ds) d e ∙ repeat-told store (kept ds) d e place none at);
     }
 
--- equal positions
+-- equal options have equal positions
 some-same : (n m : ℕ) → ◌≡◌ {A = Option ℕ} (Some n) (Some m) → n ≡ m
 some-same n m h = cc
 
