@@ -70,7 +70,7 @@ told-deliveries : (ds : List Delivery) (end : End) → deliveries_of (map delive
 told-deliveries [] end = refl
 told-deliveries (d ∷ ds) end = ap (λ l. d ∷ l) (told-deliveries ds end)
 
--- nothing failed, or the delivery behind those that were taken
+-- nothing failed, or the delivery after those that were taken
 failed-next : (end : End) (m : ℕ) (all : List Delivery) (over : Bool) (failed : List Delivery) → EndFits end m all over failed → (failed ≡ []) ⊎ (failed ≡ take 1 (drop m all))
 failed-next Done m all over failed fits = inl fits.2
 failed-next Limit m all over failed fits = inl fits.2
@@ -78,7 +78,7 @@ failed-next Start m all over failed fits = inl fits.1
 failed-next Write m all over failed fits = inr fits.1
 failed-next Memory m all over failed fits = fits
 
--- the first ones with the one behind them
+-- the first ones with the one after them
 take-next : (m : ℕ) (all more : List Delivery) (d : Delivery) → d ∷ more ≡ take 1 (drop m all) → take m all ++ d ∷ [] ≡ take (suc m) all
 take-next zero [] more d e = absurd cc
 take-next zero (x ∷ all) more d e = ap (take 1) e
@@ -97,7 +97,7 @@ written-beginning store number job m (d ∷ more) (inr e) bytes written =
     let rest : IsBeginning (archive_with store job.roots (kept (take m visits ++ d ∷ []))) (archive_of store number job) = subst (λ l. IsBeginning (archive_with store job.roots (kept l)) (archive_of store number job)) (sym (take-next m visits more d e)) (archive-first_visits store number job (suc m)) in
     (part.0 ++ rest.0, sym (append_assoc bytes part.0 rest.0) ∙ ap (λ l. l ++ rest.0) (ap (λ l. l ++ part.0) (same_Some bytes written.0 written.1) ∙ part.1) ∙ rest.1)
 
--- where all visits were told, and the limit cut nothing, the whole archive is written
+-- if all visits were delivered, and the limit cut nothing, the whole archive is written
 written-whole : (store : Blocks) (number : ℕ) (job : JobMeaning) (m : ℕ) (failed : List Delivery) → EndFits Done m (judged_visits store number job) (is_over_limit store job) failed
     → (told : Option (List ℕ)) → HasWritten told store job.roots (take m (judged_visits store number job)) failed → told ≡ Some (archive_of store number job)
 written-whole store number job m [] fits told written =
@@ -128,7 +128,7 @@ pub told-back : (ds : List Delivery) (ends : List End) → deliveries_of (map de
 told-back [] ends = closed-deliveries ends
 told-back (d ∷ ds) ends = ap (λ l. d ∷ l) (told-back ds ends)
 
--- what has written tells its bytes
+-- what has written has known bytes
 pub written-tells : (told : Option (List ℕ)) (store : Blocks) (roots : List (List ℕ)) (ds failed : List Delivery) → HasWritten told store roots ds failed → (bytes : List ℕ) × (told ≡ Some bytes)
 written-tells told store roots ds [] written = (archive_with store roots (kept ds), written)
 written-tells told store roots ds (d ∷ more) written = (written.0, written.1)

@@ -126,7 +126,7 @@ module _ {W : Type 0} (told : W → Option (List ℕ)) (d : Delivery) (before : 
   delivers-archived (Err Write) after h none store job first was = failed-archived after store job first h none was
   delivers-archived (Err Memory) after h none store job first was = subst (λ a. HasArchived told a store job first) (sym h) was
 
-  -- want of memory leaves the archive as it was
+  -- if memory runs out the archive is unchanged
   pub delivers-memory : {T : Type 0} (text : List ℕ) (r : Result T SinkFault) (after : ArchiveMeaning W) → IsDelivered told d text before r after → r ≡ Err Memory → after ≡ before
   delivers-memory text (Ok u) after h e = absurd cc
   delivers-memory text (Err Write) after h e = absurd cc
@@ -150,7 +150,7 @@ section-text store ds d place head block uncut due at is =
     ap (λ l. l ++ block) is ∙ append_assoc (varint_of (length (d.visit.cid ++ block))) d.visit.cid block
     ∙ sym (due-section store ds d place block uncut due (block_at place store d.visit.cid block (sym found) at))
 
--- where the block of a section that is due stands
+-- the position of the block of a section that is due
 pub due-within : (store : Blocks) (ks : List Delivery) (d : Delivery) (place : ℕ) → place_due store ks d ≡ Some place → place < length store
 due-within store ks d place due = place_within place store d.visit.cid (sym (due-told store ks d place due).2)
 
@@ -217,7 +217,7 @@ open-push [] x h = tt
 open-push (delivery y ∷ es) x h = open-push es x h
 open-push (close e ∷ es) x h = absurd h
 
--- nothing is closed where nothing was told
+-- nothing is closed if there was no event
 pub open-at_first : {W : Type 0} (a : ArchiveMeaning W) → a.deliveries ≡ [] → a.closed ≡ [] → IsOpen (events_of a)
 open-at_first a none unclosed =
     let e : events_of a ≡ [] = ap (λ l. map delivery l ++ map close a.closed) none ∙ ap (λ l. map close l) unclosed in subst (λ l. IsOpen l) (sym e) tt

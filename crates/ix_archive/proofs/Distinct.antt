@@ -35,7 +35,7 @@ depths-differ a b h =
 abbrev pub DiffersFromAll : List Arrival → Arrival → Type 0
 DiffersFromAll more a = AllByRecursion (λ b. agree a b ≡ false) more
 
--- none agrees with one behind it
+-- none agrees with one after it
 abbrev pub AreDistinct : List Arrival → Type 0
 AreDistinct [] = Unit {0}
 AreDistinct (a ∷ more) = DiffersFromAll more a × AreDistinct more
@@ -118,7 +118,7 @@ module _ (root : ℕ) where
     abbrev in_child : Path → Step → Data → List Arrival
     in_child p t d = if enters (behind p t) then arrivals_below enters cross d (behind p t) else []
 
-    -- a child's arrivals lie behind its step, so they lie here
+    -- a child's arrivals lie after its step, so they lie here
     child_within : (p : Path) (t : Step) (d : Data) → AllLie (behind p t) k (arrivals_below enters cross d (behind p t)) → AllLie p k (in_child p t d)
     child_within p t d h =
         all-weaker (Lies (behind p t) k) (Lies p k) (lies-behind p t k) (in_child p t d) (chosen_all (Lies (behind p t) k) (enters (behind p t)) (arrivals_below enters cross d (behind p t)) h)
@@ -150,7 +150,7 @@ module _ (root : ℕ) where
     child_lies : (t : Step) (d : Data) (p : Path) → AllLie (behind p t) k (in_child p t d)
     child_lies t d p = chosen_all (Lies (behind p t) k) (enters (behind p t)) (arrivals_below enters cross d (behind p t)) (below_lies d (behind p t))
 
-    -- a child behind another step lies elsewhere
+    -- a child after another step lies elsewhere
     child_else : (t u : Step) (d : Data) (p : Path) → same_step t u ≡ false → AllLieElse p t (in_child p u d)
     child_else t u d p other = all-weaker (Lies (behind p u) k) (LiesElse p t) (λ a h. lies-else p t u k a other h) (in_child p u d) (child_lies u d p)
 
@@ -234,7 +234,7 @@ module _ (root : ℕ) where
 -- ---- from roots
 
 module _ (enters : Path → Bool) (inside : Inside) (rising : (c : List ℕ) → IsRisingIfAny (inside c)) (links : ℕ) where
-  -- the arrivals from a root, and those from the roots behind it
+  -- the arrivals from a root, and those from the roots after it
   abbrev at_root : ℕ → List ℕ → List Arrival
   at_root root c = arrivals_at enters inside root links 0 c []
 

@@ -70,7 +70,7 @@ first_sound-push (k ∷ ks) d =
       | false ↦ first_sound-push ks d
     ]
 
--- which CIDs are told with one more delivery
+-- which CIDs were delivered, with one more delivery
 pub told-push : (ks : List Delivery) (d : Delivery) (c : List ℕ) → is_told (ks ++ d ∷ []) c ≡ (is_told ks c || (is_sound d.verdict && bytes_eq d.visit.cid c))
 told-push ks d c =
     list_any-append (λ e. is_sound e.verdict && bytes_eq e.visit.cid c) ks (d ∷ []) ∙ ap (λ b. is_told ks c || b) (or-false (is_sound d.verdict && bytes_eq d.visit.cid c))
@@ -165,7 +165,7 @@ sections-repeat store ks d none =
     (no-place (is_sound d.verdict) (is_told ks d.visit.cid) (position_of store d.visit.cid) d (λ e. is_some (block_of store e.visit.cid)) (λ h. ap is_some (block-none 0 store d.visit.cid h)) none)
     ∙ append-nil (sections_of store ks)
 
--- a place that is due belongs to a sound delivery of a CID that wasn't told
+-- a position that is due belongs to a sound delivery of a CID that wasn't delivered
 pub due-told : (store : Blocks) (ks : List Delivery) (d : Delivery) (place : ℕ) → place_due store ks d ≡ Some place → (is_sound d.verdict ≡ true) × (is_told ks d.visit.cid ≡ false) × (position_of store d.visit.cid ≡ Some place)
 due-told store ks d place due =
     elim (is_sound d.verdict) as (λ s. (if s then (if is_told ks d.visit.cid then None else position_of store d.visit.cid) else None) ≡ Some place → (s ≡ true) × (is_told ks d.visit.cid ≡ false) × (position_of store d.visit.cid ≡ Some place)) [

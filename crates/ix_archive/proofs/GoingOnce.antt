@@ -1,4 +1,4 @@
--- The archive of a traversal that goes into a CID once.
+-- The archive of a traversal with link-visit-once.
 use Rattle.std.proofs.Common.{◌≡◌, ℕ, suc, ◌+◌, ◌≤◌, Bool, true, false, not, ◌&&◌, List, [], ◌∷◌, ◌++◌, length, take, drop, map, filter, flat_map, refl, sym, ap, ◌∙◌, subst, arith, ltb-false, take-append-drop, append_assoc}
 use Rattle.std.specs.Prelude.{◌↔◌, Option, Some, None, is_some, if◌then◌else◌, bytes_eq}
 use Rattle.std.specs.List.{AllByRecursion, Contains}
@@ -158,7 +158,7 @@ archive-verified store number job =
 
 -- ---- going in once
 
--- the verified traversal goes into what is sound
+-- the verified traversal expands what is sound
 verified-sound : (store : Blocks) (job : JobMeaning) → verified_arrivals store job ≡ arrivals_from (is_entered job.selector) (sound_value store) job.limit 0 job.roots
 verified-sound store job = λ i. arrivals_from (is_entered job.selector) (λ c. passing-sound store c i) job.limit 0 job.roots
 
@@ -179,7 +179,7 @@ verified-within store job within =
     omega (arith, all, kept, size)
 
 module _ {R : Type 0} (rest : Path → R) (same : R → R → Bool) (store : Blocks) (number : ℕ) (job : JobMeaning) where
-  -- where it is within its limit, all its arrivals are told
+  -- if it is within its limit, all its visits are delivered
   pub told-all : length (once_arrivals store job rest same) ≤ job.limit → judged_once store number job rest same ≡ map (judged store) (visits_from store number 0 (once_arrivals store job rest same))
   told-all short = ap (λ l. map (judged store) (visits_from store number 0 l)) (take_all job.limit (once_arrivals store job rest same) short)
 

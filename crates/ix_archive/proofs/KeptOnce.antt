@@ -1,4 +1,4 @@
--- Of a traversal that goes into a CID once, nothing is cut by depth: nothing is below what isn't good.
+-- With link-visit-once nothing is cut by depth: nothing is below what isn't good.
 use Rattle.std.proofs.Common.{◌≡◌, ℕ, zero, suc, ◌+◌, ◌≤◌, Bool, true, false, List, [], ◌∷◌, ◌++◌, take, map, refl, sym, ap, ◌∙◌, subst, arith}
 use Rattle.std.specs.Prelude.{Option, Some, None, if◌then◌else◌}
 use Rattle.std.specs.List.{AllByRecursion}
@@ -34,7 +34,7 @@ falling-same k (x ∷ xs) more same low falling =
     )
 
 module _ (pass : List ℕ → Bool) where
-  -- none is cut off, behind one at which the list may be cut
+  -- none is cut off, after one at which the list may be cut
   abbrev NoneCut : Option ℕ → List Arrival → Type 0
   NoneCut cut [] = Unit {0}
   NoneCut cut (x ∷ xs) = (is_below cut x.depth ≡ false) × NoneCut (if pass x.cid then None else Some x.depth) xs
@@ -63,7 +63,7 @@ module _ (pass : List ℕ → Bool) where
     falling_behind o a more h =
         falling-same (a.depth + 1) (links_of o a) more (links-depth enters inside a o) (all-weaker (λ b. b.depth ≤ a.depth) (λ b. b.depth ≤ a.depth + 1) (λ b g. omega (arith, g)) more h.0) h.1
 
-    -- behind what isn't good nothing is below
+    -- nothing is below what isn't good
     above_behind : (good : Bool) (o : Option Data) (a : Arrival) (more : List Arrival) → (good ≡ false → o ≡ None) → AreFalling (a ∷ more) → IsAbove (if good then None else Some a.depth) (links_of o a ++ more)
     above_behind true o a more none h = tt
     above_behind false o a more none h =

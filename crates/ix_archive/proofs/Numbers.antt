@@ -47,7 +47,7 @@ judged_at store number seq a = judged store (visit_of store number seq a)
 abbrev numbered : Blocks → ℕ → (Arrival → ℕ) → List Arrival → List Delivery
 numbered store number number_of xs = map (λ a. judged_at store number (number_of a) a) xs
 
--- an arrival with which no other agrees stands in no other's way
+-- a visit with which no other agrees is found at its own position
 numbered-behind : (store : Blocks) (number n : ℕ) (x : Arrival) (xs ys : List Arrival) → DiffersFromAll ys x → numbered store number (number_among n (x ∷ xs)) ys ≡ numbered store number (number_among (n + 1) xs) ys
 numbered-behind store number n x xs [] differs = refl
 numbered-behind store number n x xs (y ∷ ys) differs =

@@ -11,6 +11,6 @@ proper-take n text short = (
   λ e. let none : length (drop n text) ≡ 0 = ap length e in absurd (omega (arith, none, length-drop n text)),
 )
 
--- a proper part behind other bytes
+-- a proper part after other bytes
 pub proper-behind : (xs part text : List ℕ) → IsProperPrefix part text → IsProperPrefix (xs ++ part) (xs ++ text)
 proper-behind xs part text h = (h.0, append_assoc xs part h.0 ∙ ap (λ l. xs ++ l) h.1, h.2)

@@ -10,7 +10,7 @@ use Rattle.ix_archive.specs.Kept.{is_below, cut_at, kept_behind, kept_of, withou
 use Rattle.ix_archive.specs.Verified.{only_passing}
 
 module _ {X : Type 0} (depth : X → ℕ) (pass : X → Bool) where
-  -- where the list is cut behind these entries
+  -- where the list is cut after these entries
   abbrev pub cut_after : Option ℕ → List X → Option ℕ
   cut_after = cut_of depth pass
 
@@ -52,12 +52,12 @@ module _ (pass : List ℕ → Bool) where
   abbrev pub after_arrivals : Option ℕ → List Arrival → Option ℕ
   after_arrivals = cut_after (λ a. a.depth) (λ a. pass a.cid)
 
-  -- behind this cut, pruned is left, and what follows at depth k isn't cut off
+  -- after this cut, pruned is left, and what follows at depth k isn't cut off
   record Pruned (k : ℕ) (cut : Option ℕ) (whole pruned : List Arrival) : Type 0 where
     left : kept_arrivals cut whole ≡ pruned
     after : AtLeast k (after_arrivals cut whole)
 
-  -- all of it is cut off behind a cut at depth d
+  -- all of it is cut off after a cut at depth d
   record Gone (d : ℕ) (whole : List Arrival) : Type 0 where
     left : kept_arrivals (Some d) whole ≡ []
     after : after_arrivals (Some d) whole ≡ Some d
@@ -145,19 +145,19 @@ module _ (pass : List ℕ → Bool) where
       gone_entries no_entries p = none
       gone_entries (entry l x es) p = gone-append d _ _ (chosen_gone (enters (behind p (key l))) _ (gone_below x (behind p (key l)))) (gone_entries es p)
 
-  -- an entry that isn't cut off is left, with what is left behind it
+  -- an entry that isn't cut off is left, with what is left after it
   entry_left : (root k : ℕ) (cut : Option ℕ) (p : Path) (c : List ℕ) (rest : List Arrival) → AtLeast k cut
       → kept_arrivals cut (record { root = root; path = p; depth = k; cid = c } ∷ rest) ≡ record { root = root; path = p; depth = k; cid = c } ∷ kept_arrivals (if pass c then None else Some k) rest
   entry_left root k cut p c rest a =
       ap (λ b. if b then kept_arrivals cut rest else record { root = root; path = p; depth = k; cid = c } ∷ kept_arrivals (if pass c then None else Some k) rest) (not_below k cut a)
 
-  -- after an entry at this depth the cut is its own
+  -- after an entry at this depth the cut is its own, or none if the entry is good
   after_entry : (root k : ℕ) (cut : Option ℕ) (p : Path) (c : List ℕ) (rest : List Arrival) → AtLeast k cut
       → after_arrivals cut (record { root = root; path = p; depth = k; cid = c } ∷ rest) ≡ after_arrivals (if pass c then None else Some k) rest
   after_entry root k cut p c rest a =
       ap (λ b. if b then after_arrivals cut rest else after_arrivals (if pass c then None else Some k) rest) (not_below k cut a)
 
-  -- an entry deeper than the cut goes, with what goes behind it
+  -- an entry deeper than the cut is cut off, and so is what is cut off after it
   gone-entry : (d : ℕ) (x : Arrival) (rest : List Arrival) → d < x.depth → Gone d rest → Gone d (x ∷ rest)
   gone-entry d x rest deep h =
       record {
@@ -172,7 +172,7 @@ module _ (pass : List ℕ → Bool) where
     abbrev pruned_at : ℕ → ℕ → ℕ → Crossing
     pruned_at root links k = arrivals_at enters (only_passing pass inside) root links k
 
-    -- what is behind an entry
+    -- what is after an entry
     abbrev rest_at : Crossing → Option Data → Path → List Arrival
     rest_at cross o p = when_some o (λ n. arrivals_below enters cross n p)
 
@@ -194,7 +194,7 @@ module _ (pass : List ℕ → Bool) where
     cut_off : (k : ℕ) (rest : List Arrival) → Gone k rest → Pruned k (Some k) rest []
     cut_off k rest h = let least : AtLeast k (Some k) = omega arith in record { left = h.left; after = subst (AtLeast k) (sym h.after) least }
 
-    -- behind an entry that passes, or doesn't
+    -- after an entry that passes, or doesn't
     behind_it : (k : ℕ) (cross pruned : Crossing) → Prunes (k + 1) cross pruned → Goes k cross → (o : Option Data) (p : Path) (b : Bool) → Pruned k (if b then None else Some k) (rest_at cross o p) (rest_at pruned (if b then o else None) p)
     behind_it k cross pruned h g o p true = deeper k cross pruned h o p
     behind_it k cross pruned h g o p false = cut_off k _ (gone_rest k cross g o p)
@@ -234,7 +234,7 @@ kept-take depth pass cut (suc n) (x ∷ xs) =
     elim (is_below cut (depth x)) as (λ b. (m : ℕ) × ((if b then kept_behind depth pass cut (take n xs) else x ∷ kept_behind depth pass (cut_at depth pass x) (take n xs)) ≡ take m (if b then kept_behind depth pass cut xs else x ∷ kept_behind depth pass (cut_at depth pass x) xs)))
     [ true ↦ kept-take depth pass cut n xs | false ↦ (let r = kept-take depth pass (cut_at depth pass x) n xs in (suc r.0, ap (λ l. x ∷ l) r.1)) ]
 
--- behind an entry that doesn't pass, its longest prefix of deeper entries is left out
+-- after an entry that doesn't pass, its longest prefix of deeper entries is left out
 pub kept-cut : {X : Type 0} (depth : X → ℕ) (pass : X → Bool) (d : ℕ) (xs : List X) → kept_behind depth pass (Some d) xs ≡ kept_of depth pass (without_deeper depth pass d xs)
 kept-cut depth pass d [] = refl
 kept-cut depth pass d (x ∷ xs) =

@@ -1,4 +1,4 @@
--- In what a block spells the keys of each map differ: reading refuses a key that isn't above the one before it.
+-- In what a block spells the keys of each map differ: reading rejects a key that isn't above the one before it.
 use Rattle.std.proofs.Common.{◌≡◌, ℕ, zero, suc, Bool, true, false, List, [], ◌∷◌, length, refl, sym, ◌∙◌, ap}
 use Rattle.std.specs.Prelude.{Option, Some, None, Result, Ok, Err, if◌then◌else◌, bytes_eq, option_and_then, ◌==◌, ◌/◌, ◌%◌}
 use Rattle.std.specs.declared.cmp.Ordering.TheVariants.{Less}
@@ -22,7 +22,7 @@ IsBelowAll k no_entries = Unit {0}
 IsBelowAll k (entry l d es) = (key_cmp k l ≡ Less) × IsBelowAll k es
 
 abbrev mutual
-  -- in each map each key is below those behind it
+  -- in each map each key is below those after it
   pub HasRisingKeys : Data → Type 0
   HasRisingKeys nodes.null = Unit {0}
   HasRisingKeys (nodes.boolean b) = Unit {0}
@@ -63,7 +63,7 @@ below_all-first None k d es rise all = tt
 below_all-first (Some j) k d es rise all =
     let below = less_from_test (key_cmp j k) rise in (below, below_all-below j k es below all)
 
--- any key is below none
+-- where no entry follows, there is no key to be below
 below_all-none : (before : Option (List ℕ)) → IsBelowAllFrom before no_entries
 below_all-none None = tt
 below_all-none (Some k) = tt

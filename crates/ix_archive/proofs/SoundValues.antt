@@ -1,4 +1,4 @@
--- What a traversal goes into that goes in only where the verdict is good.
+-- What a traversal expands that expands only what has a good verdict.
 use Rattle.std.proofs.Common.{◌≡◌, ℕ, Bool, true, false, ◌&&◌, ◌||◌, List, refl, ap}
 use Rattle.std.specs.Prelude.{Option, Some, None, option_and_then, is_none, if◌then◌else◌, ◌==◌, bytes_eq}
 use Rattle.sha2.specs.Sha256.{sha256}
@@ -24,7 +24,7 @@ none_either : (b : Bool) → (if b then nothing else nothing) ≡ nothing
 none_either true = refl
 none_either false = refl
 
--- nothing is gone into under a verdict that isn't good
+-- nothing is expanded with a verdict that isn't good
 refused : (known : Bool) (v : Verdict) (value : Option Data) → passes v ≡ false → (if passes (if known then v else Codec) then value else None) ≡ None
 refused true v value h = ap (λ b. if b then value else None) h
 refused false v value h = refl

@@ -131,7 +131,7 @@ tally-skip store ds es failed closed d cut c n k w skips more h uncut refused lo
           ∙ sym (ap (λ l. is_told l e) left ∙ told-push (kept ds) d e ∙ or-nothing (is_told (kept ds) e) (is_sound d.verdict && bytes_eq d.visit.cid e) (ap (λ b. b && bytes_eq d.visit.cid e) unsound));
     }
 
--- a CID whose place is known isn't told anew by one of a CID that was told or has no block
+-- a CID whose position is known isn't new after a delivery of a CID that was delivered or has no block
 told-again : (store : Blocks) (ks : List Delivery) (d : Delivery) (c : List ℕ) (place : ℕ) → (if is_told ks d.visit.cid then None else position_of store d.visit.cid) ≡ None → position_of store c ≡ Some place → (is_told ks c || bytes_eq d.visit.cid c) ≡ is_told ks c
 told-again store ks d c place none at =
     let by : (same told : Bool) → bytes_eq d.visit.cid c ≡ same → is_told ks d.visit.cid ≡ told → (is_told ks c || same) ≡ is_told ks c = λ same told. elim same as (λ b. bytes_eq d.visit.cid c ≡ b → is_told ks d.visit.cid ≡ told → (is_told ks c || b) ≡ is_told ks c) [
@@ -165,7 +165,7 @@ tally-repeat store ds es failed closed d cut c n k w skips h uncut passing none 
           ∙ sym (ap (λ l. is_told l e) left ∙ told-push (kept ds) d e ∙ repeat-told store (kept ds) d e place none at);
     }
 
--- equal positions
+-- equal options have equal positions
 some-same : (n m : ℕ) → ◌≡◌ {A = Option ℕ} (Some n) (Some m) → n ≡ m
 some-same n m h = cc
 

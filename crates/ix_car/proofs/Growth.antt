@@ -22,7 +22,7 @@ pub appends-turn : (a b c : Option (List ℕ)) (n m : ℕ) (text : List ℕ) →
 appends-turn a b c n m text h k =
     subst (λ l. Appends a c l) (take-more n m text) (Appends-trans a b c (take n text) (take m (drop n text)) h k)
 
--- a head that was written whole, and a part of the block behind it
+-- a head that was written whole, and a part of the block after it
 pub appends-section : (a b c : Option (List ℕ)) (n m : ℕ) (head block : List ℕ) → n ≤ length head → length head ≤ n → Appends a b (take n head) → Appends b c (take m block) → Appends a c (take (n + m) (head ++ block))
 appends-section a b c n m head block within whole h k =
     let same : length head ≡ n = omega arith in

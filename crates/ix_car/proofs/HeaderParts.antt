@@ -1,4 +1,4 @@
--- What is read of a block in passing is what stands in it.
+-- What is read of a block in passing is what is in it.
 use Rattle.std.proofs.Common.{◌≡◌, ◌⊎◌, inl, inr, ℕ, pos, negsuc, suc, ◌+◌, ◌-◌, ◌<◌, ◌≤◌, Bool, true, false, List, [], ◌∷◌, ◌++◌, refl, sym, ap, ◌∙◌, subst, arith}
 use Rattle.std.specs.Prelude.{Option, Some, None, Result, Ok, Err, option_map, bytes_eq, if◌then◌else◌}
 use Rattle.std.specs.Borrow.{Bor}
@@ -18,12 +18,12 @@ use Rattle.ix_car.specs.Standing.{StandsAt, EntriesStandAt, MembersStandAt, Valu
 
 -- ---- an item by its own head
 
--- what is read behind the head of an item that stands there
+-- what is read after the head of an item that is there
 with_own : (n : ℕ) (b : List ℕ) (d : Data) (own : Own) (rest : List ℕ) → 0 < n → own_at b ≡ Ok (own, rest) → (h : StandsAt n b d)
     → with_members (Some (item_at (n - 1))) b (own, rest) ≡ Ok (d, h.0)
 with_own n b d own rest some e h = ap (λ r. r >>= with_members (Some (item_at (n - 1))) b) (sym e) ∙ sym (item_at-above n b some) ∙ h.1
 
--- what stands there has a head
+-- what is there has a head
 pub has_head : (n : ℕ) (b : List ℕ) (d : Data) (f : Fault) → 0 < n → own_at b ≡ Err f → StandsAt n b d → ⊥
 has_head n b d f some e h =
     no_ok f (d, h.0) (ap (λ r. r >>= with_members (Some (item_at (n - 1))) b) (sym e) ∙ sym (item_at-above n b some) ∙ h.1)
@@ -66,7 +66,7 @@ list_counted read (list_of n) b rest r d count is e =
     let m = list_is read n rest r d e in
     (m.0, m.1, ap (λ k. items_at read k rest) same ∙ m.2)
 
--- a map that stands there has as many keys and values as its head says, right behind it
+-- a map that is there has as many keys and values as its head says, right after it
 pub map_found : (b : List ℕ) (own : Own) (rest : List ℕ) (m : ℕ × Bor (List ℕ)) → own_at b ≡ Ok (own, rest) → Some m.0 ≡ own_map own → m.1.now ≡ rest → (d : Data) → StandsAt 512 b d → IsMapAt (Some m) d
 map_found b own rest m e is lent d h =
     let x = map_counted (item_at 511) own b rest h.0 d m.0 is (with_own 512 b d own rest (omega arith) e h) in
@@ -102,7 +102,7 @@ list_missing read (Link c) b rest r d is e = subst (IsListAt None) (leaf_is (lin
 list_missing read (ListFront n) b rest r d is e = absurd cc
 list_missing read (Map n) b rest r d is e = subst (IsListAt None) (sym (map_is read n rest r d e).1) tt
 
--- another head than that of a map stands before other data
+-- another head than that of a map is before other data
 pub no_map : (b : List ℕ) (front : Front) (rest : List ℕ) → own_at b ≡ Ok (own_of_front front, rest) → None ≡ own_map (own_of_front front) → (d : Data) → StandsAt 512 b d → IsMapAt None d
 no_map b front rest e is d h = map_missing (item_at 511) front b rest h.0 d is (with_own 512 b d (own_of_front front) rest (omega arith) e h)
 
@@ -128,7 +128,7 @@ value_headed value f e (Some d) h = has_head 511 value.now d f (omega arith) e h
 
 -- ---- keys and values
 
--- what is left behind an item that is skipped
+-- what is left after an item that is skipped
 pub skipped : (b next : List ℕ) (d : Data × List ℕ) → item_at 511 b ≡ Ok d → behind_item 512 b ≡ Ok next → next ≡ d.1
 skipped b next d e over = ok_same next d.1 (sym over ∙ ap (λ r. r >>= behind) (item_deeper 511 b d e))
 
@@ -163,7 +163,7 @@ module _ (last : Option (List ℕ)) (count i : ℕ) (b : List ℕ) (es : Entries
         let same : x.0 ≡ k = ok_same x.0 k (sym x.3 ∙ named) in
         is_skipped k.1 f x.1 (ap (λ p. item_at 511 p.1) (sym same) ∙ x.4) miss
 
-    -- the value stands behind its key
+    -- the value is after its key
     pub value_found : (value : Bor (List ℕ)) → value.now ≡ k.1 → bytes_eq k.0 key ≡ true → ValueStandsAt (Some value) (value_at key es)
     value_found value lent found =
         let x = entry_read lt e in
@@ -239,7 +239,7 @@ module _ (count i : ℕ) (b : List ℕ) (ds : Items) (after : List ℕ) (lt : i 
         let x = member_read in
         ap are_links x.4 ∙ is_link_told own x.0.0 x.0.1 x.1 (with_own 510 b x.0.0 own rest (omega arith) head (x.0.1, x.2)) miss
 
-    -- nothing stands behind a link but the next member
+    -- after a link there is only the next element
     link_told : (own : Own) (d : Data) (r : List ℕ) (more : Items) → with_members (Some (item_at 509)) b (own, rest) ≡ Ok (d, r) → own_is_link own ≡ true → (are_links (item d more) ≡ are_links more) × (rest ≡ r)
     link_told (leaf x) d r more w hit =
         let is = ok_same (x, rest) (d, r) w in (ap (λ y. are_links (item y more)) (sym (ap (λ p. p.0) is)) ∙ by_data x hit, ap (λ p. p.1) is) where
@@ -347,7 +347,7 @@ has_no_list (list ds) h = absurd h
 has_no_list (map es) h = (refl, refl)
 has_no_list (link c) h = (refl, refl)
 
--- data whose keys and values stand there are a map
+-- data whose keys and values are there are a map
 pub map_stands : (m : ℕ × Bor (List ℕ)) (d : Data) → IsMapAt (Some m) d → (es : Entries) × (d ≡ map es) × EntriesStandAt m.0 m.1.now es
 map_stands m null h = absurd h
 map_stands m (boolean t) h = absurd h

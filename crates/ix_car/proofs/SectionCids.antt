@@ -28,7 +28,7 @@ has_cid b n e =
       read = cid.1 ∙ ap (λ (r : List ℕ × ℕ). Ok r) (sym same) ∙ ap (λ (m : ℕ). Ok (take m b, m)) size;
     }
 
--- the CID at the front of a section stands in the file
+-- the CID at the front of a section is in the file
 pub cid-stands : (n : ℕ) (section rest whole : List ℕ) → n ≤ length section → IsEnd (section ++ rest) whole → StandsAt whole (length whole - length rest - length section) (take n section)
 cid-stands zero section rest whole within lies = refl
 cid-stands (suc n) [] rest whole within lies = absurd (omega (arith, within))

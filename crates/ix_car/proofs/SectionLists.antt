@@ -26,7 +26,7 @@ sections_behind-enough size (suc n) (suc m) so_far (x ∷ b) h k = on_read (sect
   on_read (Ok s) shorter rest = let less = shorter s refl in rest (with_next size so_far (x ∷ b) s.0) s.1 (omega (arith, less, h)) (omega (arith, less, k))
   on_read (Err f) shorter rest = refl
 
--- what the sections from a place on give, behind those so far, whatever the bound on their number
+-- what the sections from a place on give, after those so far, whatever the bound on their number
 abbrev pub ListGoesOn : ℕ → List SectionMeaning → List ℕ → Result (List SectionMeaning) Fault → Type 0
 ListGoesOn size so_far rest whole = (n : ℕ) → length rest ≤ n → sections_behind size n so_far rest ≡ whole
 

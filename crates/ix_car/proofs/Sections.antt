@@ -65,7 +65,7 @@ sections_at-enough (suc n) (suc m) store (x ∷ b) h k = on_read (section_at (x 
   on_read (Ok s) shorter rest = let less = shorter s refl in rest (with_block store s.0) s.1 (omega (arith, less, h)) (omega (arith, less, k))
   on_read (Err f) shorter rest = refl
 
--- what the sections from a place on give, behind the blocks so far, whatever the bound on their number
+-- what the sections from a place on give, after the blocks so far, whatever the bound on their number
 abbrev pub GoesOn : Blocks → List ℕ → Result Blocks Fault → Type 0
 GoesOn store rest whole = (n : ℕ) → length rest ≤ n → sections_at n store rest ≡ whole
 
@@ -104,7 +104,7 @@ FailsAs-along kind left a b h fails = h _ fails
 pub end-of-end : (x y b : List ℕ) → IsEnd x y → IsEnd y b → IsEnd x b
 end-of-end x y b h k = (k.0 + h.0, h.1 ∙ ap (λ (l : List ℕ). drop h.0 l) k.1 ∙ drop-drop h.0 k.0 b)
 
--- and so is what is behind a front of it
+-- and so is what is after a front of it
 pub end-behind : (x y b : List ℕ) → IsEnd (x ++ y) b → IsEnd y b
 end-behind x y b h = end-of-end y (x ++ y) b (length x, sym (drop-append_seam x y)) h
 

@@ -5,7 +5,7 @@ use Rattle.std.proofs.lemmas.List.{get_or_past}
 use Rattle.std.proofs.lemmas.List.Elements.{All-get_or}
 use Rattle.ix_cid.specs.Bytes.{AreBytes}
 
--- no byte stands past the end, where 0 is read
+-- no byte is past the end, where 0 is read
 abbrev pub IsBytes : List ℕ → Type 0
 IsBytes b = (i : ℕ) → get_or b i 0 < 256
 
@@ -25,11 +25,11 @@ IsBytes-take n b h i =
       | inr le ↦ rw (get_or_past (take n b) i 0 (omega (arith, length-take n b))) (omega arith)
     ]
 
--- behind the first byte
+-- after the first byte
 pub IsBytes-rest : (x : ℕ) (b : List ℕ) → IsBytes (x ∷ b) → IsBytes b
 IsBytes-rest x b h i = h (suc i)
 
--- behind bytes that stand before it
+-- after bytes that are before it
 pub IsBytes-behind : (whole front rest : List ℕ) → IsBytes whole → whole ≡ front ++ rest → IsBytes rest
 IsBytes-behind whole front rest h is i =
     let at : get_or (front ++ rest) (length front + i) 0 < 256 = subst (λ (b : List ℕ). get_or b (length front + i) 0 < 256) is (h (length front + i)) in

@@ -55,7 +55,7 @@ module _ (n : ℕ) (read : Parse Data) (complete : IsComplete n read) where
   leaf_some : (d : Data) (rest : List ℕ) → IsSpellable d → nesting_of d ≡ 0 → item_with (Some read) (spelling_of d ++ rest) ≡ Ok (d, rest)
   leaf_some d rest spellable flat = ap (λ x. x >>= with_members (Some read) (spelling_of d ++ rest)) (own_again (leaf d) rest (spellable, flat))
 
-  -- an item inside which lists and maps may stand
+  -- an item inside which lists and maps are allowed
   pub some_complete : IsComplete (suc n) (item_with (Some read))
   some_complete null rest spellable nesting = refl
   some_complete (boolean x) rest spellable nesting = leaf_some (boolean x) rest spellable refl
@@ -71,7 +71,7 @@ module _ (n : ℕ) (read : Parse Data) (complete : IsComplete n read) where
       (append_assoc (head_of 5 (entry_count es)) (entries_spelling es) rest) spellable.0 (ap (λ x. x >>= as_map) (entries_again None es rest spellable.1 tt (omega arith)))
   some_complete (link c) rest spellable nesting = leaf_some (link c) rest spellable refl
 
--- an item inside which none may stand
+-- an item inside which none is allowed
 pub none_complete : IsComplete 0 (item_with None)
 none_complete d rest spellable nesting = ap (λ x. x >>= with_members None (spelling_of d ++ rest)) (own_again (leaf d) rest (spellable, omega arith))
 

@@ -43,7 +43,7 @@ module _ (read other : Parse Data) (also : IsAlso read other) where
       let a = bind_ok (own_at b) (with_members (Some read) b) x e in
       ap (λ r. r >>= with_members (Some other) b) a.1 ∙ members_also a.0.0 b a.0.1 x a.2
 
--- an item inside which none may stand
+-- an item inside which none is allowed
 alone_also : (read : Parse Data) (own : Own) (b behind : List ℕ) (x : Data × List ℕ) → with_members None b (own, behind) ≡ Ok x → with_members (Some read) b (own, behind) ≡ Ok x
 alone_also read (leaf d) b behind x e = e
 alone_also read (list_of count) b behind x e = no_ok _ x e
@@ -67,7 +67,7 @@ key_first before b k e =
     let m = bind_ok (string_of_major 3 (λ at. fails KeyKind at) b) (λ k. if rises before k.0 then Ok k else fails KeyOrder b) k e in
     ap (λ r. r >>= (λ k. if rises None k.0 then Ok k else fails KeyOrder b)) m.1 ∙ (past_guard (rises before m.0.0) _ (Ok m.0) k m.2).1
 
--- keys and values behind a key are keys and values
+-- keys and values after a key are keys and values
 pub entries_first : (read : Parse Data) (before : Option (List ℕ)) (count : ℕ) (b : List ℕ) (x : Entries × List ℕ) → entries_at read before count b ≡ Ok x → entries_at read None count b ≡ Ok x
 entries_first read before zero b x e = e
 entries_first read before (suc count) b x e =

@@ -10,7 +10,7 @@ abbrev pub before : List (List ℕ × Data) → Entries → Entries
 before [] es = es
 before (e ∷ more) es = entry e.0 e.1 (before more es)
 
--- what is read, behind entries that were read before
+-- what is read, after entries that were read before
 abbrev pub with_front : List (List ℕ × Data) → Result (Entries × List ℕ) Fault → Result (Entries × List ℕ) Fault
 with_front front read = read >>= (λ x. Ok (before front x.0, x.1))
 
@@ -24,7 +24,7 @@ pub before_more : (front : List (List ℕ × Data)) (k : List ℕ) (d : Data) (e
 before_more [] k d es = refl
 before_more (e ∷ more) k d es = ap (entry e.0 e.1) (before_more more k d es)
 
--- the entry that is read stands in front of those that are still read
+-- the entry that is read is in front of those that are still read
 with_front-append : (front : List (List ℕ × Data)) (k : List ℕ) (d : Data) (r : Result (Entries × List ℕ) Fault) → with_front (front ++ (k, d) ∷ []) r ≡ with_front front (r >>= (λ es. Ok (entry k d es.0, es.1)))
 with_front-append front k d (Ok x) = ap (λ es. Ok (es, x.1)) (before_more front k d x.0)
 with_front-append front k d (Err f) = refl

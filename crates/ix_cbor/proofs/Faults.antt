@@ -13,9 +13,9 @@ use Rattle.ix_cbor.proofs.Keys.{key_taken, RisesFrom-from_test}
 use Rattle.ix_cbor.proofs.Owns.{OwnTaken, own_taken, own_spelling}
 use Rattle.ix_cbor.proofs.Sound.{Takes, IsSound, item_sound}
 
--- ---- members that were read, behind one another
+-- ---- elements that were read, one after another
 
--- a member behind others
+-- an element after others
 snoc : Items → Data → Items
 snoc no_items d = item d no_items
 snoc (item e es) d = item e (snoc es d)
@@ -45,9 +45,9 @@ unfolding snoc
 nesting-snoc n no_items d a h = omega arith
 nesting-snoc n (item e es) d a h = let below = nesting-snoc n es d (omega arith) h in omega arith
 
--- ---- keys and values that were read, behind one another
+-- ---- entries that were read, one after another
 
--- a key and a value behind others
+-- an entry after others
 snoc_entry : Entries → List ℕ → Data → Entries
 snoc_entry no_entries k d = entry k d no_entries
 snoc_entry (entry l e es) k d = entry l e (snoc_entry es k d)
@@ -168,7 +168,7 @@ module _ (n : ℕ) (read : Parse Data) (sound : IsSound n read) (first : IsFirst
         | inr never ↦ no_err (map never.0.0, never.0.1) f never.2
       ]
 
-  -- an item inside which lists and maps may stand
+  -- an item inside which lists and maps are allowed
   some_first : IsFirst (suc n) (item_with (Some read))
   some_first b f bytes e =
       elim (bind_err (own_at b) (with_members (Some read) b) f e) [
@@ -185,7 +185,7 @@ none_members (leaf d) b middle f o e = no_err (d, middle) f e
 none_members (list_of count) b middle f o e = subst (λ (g : Fault). FaultAt 0 b g) (fault_same {A = Data × List ℕ} (record { kind = Nesting; left = length b }) f e) (list_too_deep count middle o.is_own o.parts)
 none_members (map_of count) b middle f o e = subst (λ (g : Fault). FaultAt 0 b g) (fault_same {A = Data × List ℕ} (record { kind = Nesting; left = length b }) f e) (map_too_deep count middle o.is_own o.parts)
 
--- an item inside which none may stand
+-- an item inside which none is allowed
 none_first : IsFirst 0 (item_with None)
 none_first b f bytes e =
     elim (bind_err (own_at b) (with_members None b) f e) [
@@ -201,13 +201,13 @@ item_first (suc n) = some_first n (item_at n) (item_sound n) (item_first n)
 
 -- ---- a block
 
--- what stands behind the item is a fault
+-- what is after the item is an error
 rest_fault : (b : List ℕ) (d : Data) (rest : List ℕ) (f : Fault) → Takes 512 b d rest → nothing_after (d, rest) ≡ Err f → HasRest b f
 rest_fault b d [] f t e = no_err d f e
 rest_fault b d (x ∷ xs) f t e =
     record { data_before = d; after = x ∷ xs; spellable = t.spellable; nesting = t.nesting; whole = t.whole; more = λ nil. cc; fault = sym (fault_same {A = Data} (record { kind = Rest; left = length (x ∷ xs) }) f e) }
 
--- a fault at the item, or bytes behind it
+-- an error at the item, or bytes after it
 block_fault : (read : Parse Data) (b : List ℕ) (f : Fault) → IsBytes b → IsSound 512 read → IsFirst 512 read → (read b >>= nothing_after) ≡ Err f → FirstFault b f
 block_fault read b f bytes sound first e =
     elim (bind_err (read b) nothing_after f e) [

@@ -103,7 +103,7 @@ module _ (major n : ℕ) where
   pub head_tiny : n < 24 → head_of major n ≡ (32 * major + n) ∷ []
   head_tiny lt = cond-true _ _ _ (lt-ltb n 24 lt)
 
-  -- in one byte behind it
+  -- in one byte after it
   pub head_8 : 24 ≤ n → n < 2 ^ 8 → head_of major n ≡ (32 * major + 24) ∷ to_be_bytes w8 n
   head_8 le lt = cond-false _ _ _ (le-ltb n 24 le) ∙ cond-true _ _ _ (lt-ltb n (2 ^ 8) lt)
 
@@ -216,7 +216,7 @@ pub head_taken : (at : List ℕ) (h : ℕ) (b : List ℕ) (n : ℕ) (rest : List
 head_taken at h b n rest fits e =
     subst (λ (x : ℕ). Headed (h / 32) n (x ∷ b) rest) (omega arith) (argument_taken at (h / 32) (h % 32) b n rest fits e)
 
--- the first byte of a head, and how the argument is read behind it
+-- the first byte of a head, and how the argument is read after it
 pub record HeadRead (major n : ℕ) (rest : List ℕ) : Type 0 where
   pub info : ℕ
   pub behind : List ℕ

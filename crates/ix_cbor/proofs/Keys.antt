@@ -22,7 +22,7 @@ pub record KeyTaken (before : Option (List ℕ)) (b k rest : List ℕ) : Type 0 
   pub below : length k < 2 ^ 64
   pub above : rises before k ≡ true
 
--- another item where a key should stand
+-- another item where a key should be
 abbrev key_fault : List ℕ → Fault
 key_fault at = record { kind = KeyKind; left = length at }
 

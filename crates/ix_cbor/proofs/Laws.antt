@@ -13,7 +13,7 @@ use Rattle.ix_cbor.proofs.Steps.{bind_ok, no_ok, ok_same}
 use Rattle.ix_cbor.proofs.Sound.{Takes, item_sound}
 use Rattle.ix_cbor.proofs.Complete.{item_complete}
 
--- nothing stands behind what was read
+-- nothing is after what was read
 nothing_stands : (n : ℕ) (b : List ℕ) (x d : Data) (rest : List ℕ) → Takes n b x rest → nothing_after (x, rest) ≡ Ok d → Takes n b d []
 nothing_stands n b x d [] t e = let same = ok_same x d e in rw (← same) t
 nothing_stands n b x d (y ∷ ys) t e = no_ok (record { kind = Rest; left = length (y ∷ ys) }) d e

@@ -5,7 +5,7 @@ use Rattle.std.proofs.lemmas.List.{take_all}
 use Rattle.ix_cbor.specs.Data.{Data}
 use Rattle.ix_cbor.specs.Reading.{Fault, Own, leaf, own_behind, own_at}
 
--- all bytes behind the first one
+-- all bytes after the first one
 tail_is : (x : ℕ) (b : List ℕ) → take (length (x ∷ b) - 1) b ≡ b
 tail_is x b = take_all (length (x ∷ b) - 1) b (omega arith)
 

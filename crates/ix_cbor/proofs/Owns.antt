@@ -73,7 +73,7 @@ float_taken at h b d rest fits is e =
     subst (λ (y : Data × List ℕ). LeafTaken (h ∷ b) y.0 y.1) (ok_same (float n, drop 8 b) (d, rest) t.1)
     (float_here h b n is (wide64.back (take 8 b) (omega (arith, length-take 8 b)) front) (wide64.below (take 8 b) front) t.0)
 
--- the tests on the information behind major type 7, from each on
+-- the tests on the information after major type 7, from each on
 module _ (at : List ℕ) (info : ℕ) (b : List ℕ) where
   -- no value
   abbrev simple_31 : Result (Data × List ℕ) Fault
@@ -321,7 +321,7 @@ own_taken (h ∷ b) own rest fits e =
 
 -- ---- what is spelled so is read
 
--- behind a head the tests on the major type come
+-- after a head the tests on the major type come
 own_head : (major n : ℕ) (rest : List ℕ) → n < 2 ^ 64 → major < 7 → own_at (head_of major n ++ rest) ≡ own_with (head_of major n ++ rest) major n rest
 own_head major n rest below lt =
     let r = head_read major n rest below in

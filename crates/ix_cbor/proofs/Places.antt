@@ -16,7 +16,7 @@ pub lies_within : (kind : CborKind) (left n : ℕ) (r : Result Data Fault) → (
 lies_within Memory left n r within fails = tt
 lies_within kind left n r within fails = within _ fails
 
--- as many bytes are left behind the place, counted from the front
+-- as many bytes are left after the place, counted from the front
 pub same_left : {A : Type 0} (kind : CborKind) (left n place : ℕ) (r : Result A Fault) → left ≤ n → place ≡ n - left → r ≡ Err (record { kind = kind; left = left }) → (place ≤ n) × (r ≡ Err (record { kind = kind; left = n - place }))
 same_left kind left n place r h e fails =
     let same : left ≡ n - place = omega arith in
@@ -27,7 +27,7 @@ pub placed_fails : (kind : CborKind) (left n place : ℕ) (r : Result Data Fault
 placed_fails Memory left n place r h e fails = (omega arith, tt)
 placed_fails kind left n place r h e fails = same_left _ left n place r h e fails
 
--- the fault of a call is the first one, or want of memory at place 0
+-- the error of a call is the first one, or `Memory` at offset 0
 pub first_placed : (kind : CborKind) (b : List ℕ) (left place : ℕ) → AreBytes b → LiesWithin kind left (length b) → place ≡ placed kind left (length b) → FailsAs kind left (decoded b) → IsFirstAs b kind place
 first_placed Memory b left place bytes h e fails = e
 first_placed kind b left place bytes h e fails =

@@ -1,4 +1,4 @@
--- What is pushed, behind a head.
+-- What is appended, after a head.
 use Rattle.std.proofs.Common.{◌≡◌, ℕ, ◌+◌, ◌<◌, ◌++◌, List, ◌∷◌, length, drop, get_or, sym, ap, ◌∙◌, subst, append_assoc, ℤ, pos, negsuc, ◌-ℤ◌, ◌<ℤ◌, arith}
 use Rattle.std.specs.Prelude.{OnOk, Result}
 use Rattle.std.specs.Global.{Vec}

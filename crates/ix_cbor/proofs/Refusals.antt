@@ -21,16 +21,16 @@ unfolding item_at
 own_refused zero b f e = ap (λ x. x >>= with_members None b) e
 own_refused (suc n) b f e = ap (λ x. x >>= with_members (Some (item_at n)) b) e
 
--- a list where none may stand
+-- a list where none is allowed
 list_stopped : (b : List ℕ) (count : ℕ) (after : List ℕ) → count < 2 ^ 64 → b ≡ head_of 4 count ++ after → item_with None b ≡ Err (record { kind = Nesting; left = length b })
 list_stopped b count after below is = ap (λ x. x >>= with_members None b) (ap own_at is ∙ own_again (list_of count) after below)
 
--- a map where none may stand
+-- a map where none is allowed
 map_stopped : (b : List ℕ) (count : ℕ) (after : List ℕ) → count < 2 ^ 64 → b ≡ head_of 5 count ++ after → item_with None b ≡ Err (record { kind = Nesting; left = length b })
 map_stopped b count after below is = ap (λ x. x >>= with_members None b) (ap own_at is ∙ own_again (map_of count) after below)
 
 module _ (n : ℕ) (read : Parse Data) (complete : IsComplete n read) where
-  -- behind members that are spelled
+  -- after members that are spelled
   items_refused : (before : Items) (left : ℕ) (after : List ℕ) (f : Fault) → AreSpellable before → items_nesting before ≤ n → items_at read left after ≡ Err f
       → items_at read (item_count before + left) (items_spelling before ++ after) ≡ Err f
   items_refused no_items left after f spellable nesting e = ap (λ (k : ℕ). items_at read k after) (omega arith) ∙ e
@@ -40,7 +40,7 @@ module _ (n : ℕ) (read : Parse Data) (complete : IsComplete n read) where
       ∙ ap (λ x. x >>= items_behind read (item_count ds + left)) (ap read (append_assoc (spelling_of d) (items_spelling ds) after) ∙ complete d (items_spelling ds ++ after) spellable.0 (omega arith))
       ∙ ap (λ x. x >>= with_item d) (items_refused ds left after f spellable.1 (omega arith) e)
 
-  -- behind keys and values that are spelled
+  -- after keys and values that are spelled
   entries_refused : (last : Option (List ℕ)) (before : Entries) (left : ℕ) (after : List ℕ) (f : Fault) → AreRising before → RisesAbove last before
       → entries_nesting before ≤ n → entries_at read (last_key last before) left after ≡ Err f
       → entries_at read last (entry_count before + left) (entries_spelling before ++ after) ≡ Err f
@@ -53,7 +53,7 @@ module _ (n : ℕ) (read : Parse Data) (complete : IsComplete n read) where
       ∙ ap (λ x. x >>= entries_behind read (entry_count es + left) k) (complete d (entries_spelling es ++ after) rising.1 (omega arith))
       ∙ ap (λ x. x >>= with_entry k d) (entries_refused (Some k) es left after f rising.3 rising.2 (omega arith) e)
 
-  -- behind the head of a list
+  -- after the head of a list
   list_refused : (b : List ℕ) (f : Fault) (count : ℕ) (before : Items) (after : List ℕ) → BeginsList n count before
       → b ≡ head_of 4 count ++ (items_spelling before ++ after) → read after ≡ Err f → item_with (Some read) b ≡ Err f
   list_refused b f count before after begins is e =
@@ -65,7 +65,7 @@ module _ (n : ℕ) (read : Parse Data) (complete : IsComplete n read) where
       ∙ ap (λ (k : ℕ). items_at read k behind >>= as_list) sum
       ∙ ap (λ x. x >>= as_list) (items_refused before (suc left) after f begins.spelled begins.nesting (ap (λ x. x >>= items_behind read left) e))
 
-  -- behind the head of a map, where no entry can be read
+  -- after the head of a map, where no entry can be read
   map_refused : (b : List ℕ) (f : Fault) (count : ℕ) (before : Entries) (after : List ℕ) → BeginsMap n count before
       → b ≡ head_of 5 count ++ (entries_spelling before ++ after) → ((left : ℕ) → entries_at read (last_key None before) (suc left) after ≡ Err f)
       → item_with (Some read) b ≡ Err f
@@ -103,12 +103,12 @@ item_refused (at_key {n = n} {b = b} {f = f} count before after begins is e) =
 item_refused (in_map {n = n} {b = b} {f = f} count before k after begins below above is inner) =
     map_refused n (item_at n) (item_complete n) b f count before (key_spelling k ++ after) begins is (λ left. value_refused n (item_at n) (item_complete n) (last_key None before) k after f left below above (item_refused inner))
 
--- bytes behind an item are what reading the block answers
+-- bytes after an item are what reading the block answers
 rest_refused : (d : Data) (after : List ℕ) → after ≢ [] → nothing_after (d, after) ≡ Err (record { kind = Rest; left = length after })
 rest_refused d [] more = absurd (more refl)
 rest_refused d (x ∷ xs) more = refl
 
--- a fault at the item, or bytes behind it
+-- an error at the item, or bytes after it
 block_refused : (read : Parse Data) (b : List ℕ) (f : Fault) → IsComplete 512 read → (FaultAt 512 b f → read b ≡ Err f) → FirstFault b f → (read b >>= nothing_after) ≡ Err f
 block_refused read b f complete first (inl at) = ap (λ x. x >>= nothing_after) (first at)
 block_refused read b f complete first (inr h) =

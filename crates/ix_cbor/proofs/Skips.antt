@@ -1,4 +1,4 @@
--- What stands behind items that are gone over.
+-- What is after items that are skipped.
 use Rattle.std.proofs.Common.{◌≡◌, ◌+◌, ◌<◌, ◌≤◌, ◌-◌, arith, ℕ, suc, List, [], ◌∷◌, length, refl, sym, ◌∙◌, ap}
 use Rattle.std.specs.Prelude.{Option, Some, Result, Ok, Err}
 use Rattle.ix_cbor.specs.declared.fault.CborKind.TheVariants.{Rest}
@@ -18,7 +18,7 @@ pub fault_before : {A : Type 0} (r : Result (A × List ℕ) Fault) (f : Fault) �
 fault_before (Ok x) f e = absurd cc
 fault_before (Err g) f e = let here : g ≡ f = cc in ap (λ h. Err h) here
 
--- members before others change nothing behind them
+-- members before others change nothing after them
 past_item : (d : Data) (r : Result (Items × List ℕ) Fault) → (r >>= with_item d >>= behind) ≡ (r >>= behind)
 past_item d (Ok x) = refl
 past_item d (Err f) = refl
@@ -64,7 +64,7 @@ module _ (read : Parse Data) (last : Option (List ℕ)) (count i : ℕ) (b : Lis
       sym so_far ∙ ap (λ m. entries_at read last m b >>= behind) k ∙ ap (λ r. r >>= value_behind read n >>= behind) named
       ∙ ap (λ r. r >>= entries_behind read n key >>= behind) (fault_before (read value) f e)
 
--- a block with bytes behind its item
+-- a block with bytes after its item
 pub judged_more : (b next : List ℕ) → behind_item 512 b ≡ Ok next → 1 ≤ length next → judged b ≡ Err (record { kind = Rest; left = length next })
 judged_more b [] e h = absurd (omega (arith, h))
 judged_more b (y ∷ next) e h = let x = read_before (item_at 512 b) (y ∷ next) e in ap (λ r. r >>= nothing_after >>= (λ d. Ok tt)) x.1
@@ -77,6 +77,6 @@ judged_fault b f e = ap (λ r. r >>= nothing_after >>= (λ d. Ok tt)) (fault_bef
 pub skip_within : (b : List ℕ) (f : Fault) → behind_item 512 b ≡ Err f → f.left ≤ length b
 skip_within b f e = err_within (length b) (item_at 512 b) f (item_within (length b) 512 b (omega arith)) (fault_before (item_at 512 b) f e)
 
--- what is left behind an item
+-- what is left after an item
 pub rest_is_within : (b next : List ℕ) → behind_item 512 b ≡ Ok next → length next ≤ length b
 rest_is_within b next e = let x = read_before (item_at 512 b) next e in ok_within (length b) (item_at 512 b) (x.0, next) (item_within (length b) 512 b (omega arith)) x.1

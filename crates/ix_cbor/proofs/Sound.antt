@@ -24,7 +24,7 @@ pub record TakesItems (n count : ℕ) (b : List ℕ) (ds : Items) (rest : List �
   pub spellable : AreSpellable ds
   pub nesting : items_nesting ds ≤ n
 
--- the same of keys and values behind a key or none
+-- the same of keys and values after a key or none
 pub record TakesEntries (n : ℕ) (before : Option (List ℕ)) (count : ℕ) (b : List ℕ) (es : Entries) (rest : List ℕ) : Type 0 where
   pub whole : b ≡ entries_spelling es ++ rest
   pub counted : entry_count es ≡ count
@@ -90,7 +90,7 @@ module _ (n : ℕ) (read : Parse Data) (sound : IsSound n read) where
   abbrev AreSound : ℕ → Type 0
   AreSound count = (before : Option (List ℕ)) (b : List ℕ) (es : Entries) (rest : List ℕ) → IsBytes b → entries_at read before count b ≡ Ok (es, rest) → TakesEntries n before count b es rest
 
-  -- the entries behind a key and its value
+  -- the entries after a key and its value
   others_taken : (count : ℕ) → AreSound count → (before : Option (List ℕ)) (b at middle k : List ℕ) (d : Data) (es : Entries) (rest : List ℕ) → IsBytes at
       → KeyTaken before b k at → Takes n at d middle
       → (entries_at read (Some k) count middle >>= with_entry k d) ≡ Ok (es, rest) → TakesEntries n before (suc count) b es rest
@@ -99,7 +99,7 @@ module _ (n : ℕ) (read : Parse Data) (sound : IsSound n read) where
       let ts = others (Some k) middle m.0.0 m.0.1 (IsBytes-behind at (spelling_of d) middle fits t.whole) m.1 in
       subst (λ (x : Entries × List ℕ). TakesEntries n before (suc count) b x.0 x.1) (ok_same (entry k d m.0.0, m.0.1) (es, rest) m.2) (entries_more n before count b at middle m.0.1 k d m.0.0 s t ts)
 
-  -- the value and the entries behind a key
+  -- the value and the entries after a key
   value_taken : (count : ℕ) → AreSound count → (before : Option (List ℕ)) (b at k : List ℕ) (es : Entries) (rest : List ℕ) → IsBytes b → KeyTaken before b k at
       → (read at >>= entries_behind read count k) ≡ Ok (es, rest) → TakesEntries n before (suc count) b es rest
   value_taken count others before b at k es rest fits s e =
@@ -140,7 +140,7 @@ module _ (n : ℕ) (read : Parse Data) (sound : IsSound n read) where
         nesting = omega arith;
       })
 
-  -- an item inside which lists and maps may stand
+  -- an item inside which lists and maps are allowed
   pub some_sound : IsSound (suc n) (item_with (Some read))
   some_sound b d rest fits e =
       let a = bind_ok (own_at b) (with_members (Some read) b) (d, rest) e in
@@ -153,7 +153,7 @@ none_members (leaf leaf_data) b middle d rest o e = leaf_sound 0 b middle leaf_d
 none_members (list_of count) b middle d rest o e = no_ok (record { kind = Nesting; left = length b }) (d, rest) e
 none_members (map_of count) b middle d rest o e = no_ok (record { kind = Nesting; left = length b }) (d, rest) e
 
--- an item inside which none may stand
+-- an item inside which none is allowed
 pub none_sound : IsSound 0 (item_with None)
 none_sound b d rest fits e =
     let a = bind_ok (own_at b) (with_members None b) (d, rest) e in none_members a.0.0 b a.0.1 d rest (own_taken b a.0.0 a.0.1 fits a.1) a.2

@@ -14,7 +14,7 @@ fault_of f (Err e) = e
 err_same : {A B : Type 0} (d e : Fault) → ◌≡◌ {A = Result B Fault} (Err d) (Err e) → ◌≡◌ {A = Result A Fault} (Err d) (Err e)
 err_same d e h = ap (λ f. Err f) (ap (fault_of d) h)
 
--- a fault of two readings in turn is one of the first, or one of the second behind the first
+-- a fault of two readings in turn is one of the first, or one of the second after the first
 pub bind_err : {A B : Type 0} (r : Result A Fault) (f : A → Result B Fault) (e : Fault) → (r >>= f) ≡ Err e → (r ≡ Err e) ⊎ ((x : A) × (r ≡ Ok x) × (f x ≡ Err e))
 bind_err (Ok x) f e h = inr (x, refl, h)
 bind_err (Err d) f e h = inl (err_same d e h)
@@ -45,7 +45,7 @@ ok_data x = Ok x
 abbrev pub with_item : Data → Items × List ℕ → Result (Items × List ℕ) Fault
 with_item d ds = Ok (item d ds.0, ds.1)
 
--- the members behind one
+-- the members after one
 abbrev pub items_behind : Parse Data → ℕ → Data × List ℕ → Result (Items × List ℕ) Fault
 items_behind read n d = items_at read n d.1 >>= with_item d.0
 
@@ -53,11 +53,11 @@ items_behind read n d = items_at read n d.1 >>= with_item d.0
 abbrev pub with_entry : List ℕ → Data → Entries × List ℕ → Result (Entries × List ℕ) Fault
 with_entry k d es = Ok (entry k d es.0, es.1)
 
--- the entries behind a key and its value
+-- the entries after a key and its value
 abbrev pub entries_behind : Parse Data → ℕ → List ℕ → Data × List ℕ → Result (Entries × List ℕ) Fault
 entries_behind read n k d = entries_at read (Some k) n d.1 >>= with_entry k d.0
 
--- the value and the entries behind a key
+-- the value and the entries after a key
 abbrev pub value_behind : Parse Data → ℕ → List ℕ × List ℕ → Result (Entries × List ℕ) Fault
 value_behind read n k = read k.1 >>= entries_behind read n k.0
 

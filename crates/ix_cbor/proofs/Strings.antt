@@ -15,7 +15,7 @@ pub record Counted (n : ℕ) (b s rest : List ℕ) : Type 0 where
   pub parts : b ≡ s ++ rest
   pub size : length s ≡ n
 
--- what is read has its length and stands at the front
+-- what is read has its length and is at the front
 pub counted : (n : ℕ) (b s rest : List ℕ) → take_at n b ≡ Ok (s, rest) → Counted n b s rest
 counted n b s rest e =
     let t = past_test (nat_lt (length b) n) (record { kind = Truncated; left = 0 }) (Ok (take n b, drop n b)) (s, rest) e in
@@ -28,7 +28,7 @@ pub take_again : (s rest : List ℕ) → take_at (length s) (s ++ rest) ≡ Ok (
 take_again s rest =
     cond-false _ _ _ (le-ltb (length (s ++ rest)) (length s) (omega (arith, length-append s rest))) ∙ (λ i. Ok (take_front s rest (length s) refl i, drop_at s rest (length s) refl i))
 
--- a head that counts the bytes behind it
+-- a head that counts the bytes after it
 pub record StringTaken (major : ℕ) (b s rest : List ℕ) : Type 0 where
   pub parts : b ≡ (head_of major (length s) ++ s) ++ rest
   pub below : length s < 2 ^ 64

@@ -1,4 +1,4 @@
--- Where reading fails, the place lies within the bytes, and what is left behind a value is no more than they are.
+-- If reading fails, the offset is within the bytes, and what is left after a value is no more than they are.
 use Rattle.std.proofs.Common.{◌≡◌, ◌≤◌, ◌/◌, ◌%◌, ◌^◌, ◌==◌, if◌then◌else◌, nat_lt, arith, ℕ, zero, suc, pos, negsuc, Bool, true, false, cond, List, [], ◌∷◌, length, take, drop, length-drop, subst}
 use Rattle.std.specs.Prelude.{Option, Some, None, Result, Ok, Err}
 use Rattle.std.specs.Int.{Width, byte_len, from_be_bytes, w8, w16, w32, w64}
@@ -7,7 +7,7 @@ use Rattle.ix_cbor.specs.declared.fault.CborKind.TheVariants as kinds
 use Rattle.ix_cbor.specs.Data.{Data, null, boolean, integer, bytes, text}
 use Rattle.ix_cbor.specs.Reading.{Fault, Parse, fails, Own, ◌>>=◌, leaf, list_of, map_of, take_at, wide_at, argument_at, string_at, string_of_major, rises, key_at, float_at, simple_at, link_of, link_at, own_with, own_at, items_at, entries_at, with_members, item_at, decoded, nothing_after}
 
--- how many bytes are left behind a value, or behind the place of a fault
+-- how many bytes are left after a value, or after the place of a fault
 abbrev pub left_of : {A : Type 0} → Result (A × List ℕ) Fault → ℕ
 left_of (Ok x) = length x.1
 left_of (Err f) = f.left
@@ -131,7 +131,7 @@ module _ (n : ℕ) (read : Parse Data) (each : (b : List ℕ) → length b ≤ n
   members_within at (list_of count) b h = then_within (items_at read count b) _ (items_within count b h) (λ ds rest. ok _ _ rest)
   members_within at (map_of count) b h = then_within (entries_at read None count b) _ (entries_within None count b h) (λ es rest. ok _ _ rest)
 
--- an item where no members may stand
+-- an item where no elements are allowed
 no_members_within : (n : ℕ) (at : List ℕ) (own : Own) (b : List ℕ) → length at ≤ n → length b ≤ n → IsWithin n (with_members None at (own, b))
 no_members_within n at (leaf d) b a h = ok _ _ h
 no_members_within n at (list_of count) b a h = err _ a
@@ -144,7 +144,7 @@ item_within n zero b h = then_within (own_at b) (with_members None b) (own_withi
 item_within n (suc levels) b h =
     then_within (own_at b) (with_members (Some (item_at levels)) b) (own_within n b h) (λ own k. members_within n (item_at levels) (item_within n levels) b own.0 own.1 k)
 
--- the same of what is left behind a whole block
+-- the same of what is left after a whole block
 rest_within : (n : ℕ) (r : Result (Data × List ℕ) Fault) (f : Fault) → IsWithin n r → ◌>>=◌ {B = Data} r nothing_after ≡ Err f → f.left ≤ n
 rest_within n (Ok (d, [])) f h e = absurd cc
 rest_within n (Ok (d, (x ∷ b))) f h e = let here : record { kind = kinds.Rest; left = length (x ∷ b) } ≡ f = cc in subst (λ (g : Fault). g.left ≤ n) here h.within
@@ -159,7 +159,7 @@ pub err_within : {A : Type 0} (n : ℕ) (r : Result (A × List ℕ) Fault) (f : 
 err_within n (Ok x) f h e = absurd cc
 err_within n (Err g) f h e = let here : g ≡ f = cc in subst (λ (g : Fault). g.left ≤ n) here h.within
 
--- what is left behind a value
+-- what is left after a value
 pub ok_within : {A : Type 0} (n : ℕ) (r : Result (A × List ℕ) Fault) (x : A × List ℕ) → IsWithin n r → r ≡ Ok x → length x.1 ≤ n
 ok_within n (Ok y) x h e = let here : y ≡ x = cc in subst (λ y. length y.1 ≤ n) here h.within
 ok_within n (Err f) x h e = absurd cc

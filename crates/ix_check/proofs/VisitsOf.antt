@@ -31,7 +31,7 @@ visit_behind store number start (suc k) (a ∷ found) v more e =
     let at : (start + 1) + k ≡ start + suc k = omega arith in
     subst (λ n. IsVisitAt store number n v) at (visit_behind store number (start + 1) k found v more e)
 
--- what comes behind the first k visits of a job is its visit with the number k
+-- what comes after the first k visits of a job is its visit with the number k
 pub visit_next : (store : Blocks) (number k : ℕ) (job : JobMeaning) (v : Visit) (more : List Visit) → drop k (visits_of store number job) ≡ v ∷ more → IsVisitAt store number k v
 visit_next store number k job v more e =
     let at : 0 + k ≡ k = omega arith in

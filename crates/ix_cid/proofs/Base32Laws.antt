@@ -52,7 +52,7 @@ letters-are ds h = All-map IsLetter letter ds (All-weaker (λ d. d < 32) (λ d. 
 
 -- ---- what follows whole quanta
 
--- what digits spell behind others
+-- what digits spell after others
 number_in-append : (base n : ℕ) (xs ys : List ℕ) → number_in base n (xs ++ ys) ≡ number_in base (number_in base n xs) ys
 number_in-append base n [] ys = refl
 number_in-append base n (x ∷ xs) ys = number_in-append base (n * base + x) xs ys
@@ -246,7 +246,7 @@ bytes_are (a ∷ b ∷ c ∷ d ∷ e ∷ f ∷ i ∷ o ∷ more) =
 IsBase32-again : (letters : List ℕ) → base32_of (bytes_of_letters letters) ≡ letters → IsBase32 letters
 IsBase32-again letters e = subst IsBase32 e (is_base32 (bytes_of_letters letters) (bytes_are letters))
 
--- letters are base32 and read as their bytes, or are none and refused
+-- letters are base32 and read as their bytes, or are none and rejected
 pub bytes_of_base32-cases : (letters : List ℕ) → (IsBase32 letters × (bytes_of_base32 letters ≡ Ok (bytes_of_letters letters))) ⊎ ((¬ IsBase32 letters) × (bytes_of_base32 letters ≡ Err Base32))
 bytes_of_base32-cases letters =
     let again = base32_of (bytes_of_letters letters) in
@@ -260,7 +260,7 @@ bytes_of_base32-cases letters =
 pub bytes_of_base32-is : (letters : List ℕ) → IsBase32 letters → bytes_of_base32 letters ≡ Ok (bytes_of_letters letters)
 bytes_of_base32-is letters h = ⊎_elim (λ found. found.1) (λ other. absurd (other.0 h)) (bytes_of_base32-cases letters)
 
--- what isn't is refused
+-- what isn't is rejected
 pub bytes_of_base32-refused : (letters : List ℕ) → ¬ IsBase32 letters → bytes_of_base32 letters ≡ Err Base32
 bytes_of_base32-refused letters h = ⊎_elim (λ found. absurd (h found.0)) (λ other. other.1) (bytes_of_base32-cases letters)
 
@@ -272,7 +272,7 @@ bytes_of_base32-only letters b h =
     (λ other. let never : ◌≡◌ {A = Result (List ℕ) CidFault} (Ok b) (Err Base32) = sym h ∙ other.1 in absurd cc)
     (bytes_of_base32-cases letters)
 
--- what is refused isn't
+-- what is rejected isn't
 pub bytes_of_base32-refused-only : (letters : List ℕ) → bytes_of_base32 letters ≡ Err Base32 → ¬ IsBase32 letters
 bytes_of_base32-refused-only letters h is = let never : ◌≡◌ {A = Result (List ℕ) CidFault} (Ok (bytes_of_letters letters)) (Err Base32) = sym (bytes_of_base32-is letters is) ∙ h in absurd cc
 
@@ -304,7 +304,7 @@ one-quantum s most =
     ap bytes_of_letters (sym (append-nil s)) ∙ bytes_of_letters-eight s [] (omega arith) ∙ append-nil (bytes_of_quantum s))
     (cases_lt (length s) 8)
 
--- what isn't base32 is refused, whatever stands in front
+-- what isn't base32 is rejected, whatever is in front
 pub refused-behind : (old s : List ℕ) → ¬ IsBase32 s → (bytes_of_base32 s >>= (λ more. Ok (old ++ more))) ≡ Err Base32
 refused-behind old s h = let next : Result (List ℕ) CidFault → Result (List ℕ) CidFault = λ r. r >>= (λ more. Ok (old ++ more)) in ap next (bytes_of_base32-refused s h)
 
@@ -370,7 +370,7 @@ step n s h =
     ap bytes_of_base32 (sym (take-append-drop n s)) ∙ eight (take n s) (drop n s) (length-take-le n s enough ∙ omega arith))
     (cases_lt (length s) 8)
 
--- a front is read behind what was, and the rest is still to come
+-- a front is read after what was, and the rest is still to come
 pub piece-read : (whole left front rest : Result (List ℕ) CidFault) (old new : List ℕ) → whole ≡ appended old left → left ≡ together front rest → appended old front ≡ Ok new → whole ≡ appended new rest
 piece-read whole left (Ok a) (Ok b) old new so_far parts one =
     let answer : List ℕ → Result (List ℕ) CidFault = λ x. Ok x in
@@ -380,7 +380,7 @@ piece-read whole left (Ok a) (Ok b) old new so_far parts one =
 piece-read whole left (Ok a) (Err e) old new so_far parts one = so_far ∙ ap (appended old) parts
 piece-read whole left (Err e) rest old new so_far parts one = absurd cc
 
--- a front that is refused is the fault of the whole
+-- a front that is rejected is the error of the whole
 piece-refused : (whole left front rest : Result (List ℕ) CidFault) (old : List ℕ) (f : CidFault) → whole ≡ appended old left → left ≡ together front rest → appended old front ≡ Err f → whole ≡ Err f
 piece-refused whole left (Ok a) rest old f so_far parts one = absurd cc
 piece-refused whole left (Err e) rest old f so_far parts one = so_far ∙ ap (appended old) parts ∙ one

@@ -4,7 +4,7 @@ use Rattle.std.proofs.lemmas.List.{drop_at}
 use Rattle.std.proofs.lemmas.List.Elements.{All-drop, All-same}
 use Rattle.ix_cid.specs.Bytes.{AreBytes}
 
--- what is behind the first of bytes is bytes
+-- what is after the first of bytes is bytes
 pub bytes_drop : (n : ℕ) (b : List ℕ) → AreBytes b → AreBytes (drop n b)
 bytes_drop n b h = All-drop (λ x. x < 2 ^ 8) n b h
 

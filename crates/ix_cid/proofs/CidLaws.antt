@@ -45,7 +45,7 @@ bytes_again d rest =
     let enough : ltb (length (d ++ rest)) (length d) ≡ false = le-ltb (length (d ++ rest)) (length d) (omega (arith, length-append d rest)) in
     rw (enough, take_at d rest (length d) refl, drop_at d rest (length d) refl) refl
 
--- what is read is so many bytes, and stands at the front
+-- what is read is so many bytes, and is at the front
 pub bytes_read : (n : ℕ) (b d rest : List ℕ) → bytes_at n b ≡ Ok (d, rest) → (length d ≡ n) × (b ≡ d ++ rest)
 bytes_read n b d rest h =
     let found = past_test (ltb (length b) n) Truncated (Ok (take n b, drop n b)) (d, rest) h in
@@ -65,7 +65,7 @@ version_1 codec hash digest = record { version = 1; codec = codec; hash_code = h
 regroup : (a b c e d rest : List ℕ) → (a ++ (b ++ (c ++ (e ++ d)))) ++ rest ≡ a ++ (b ++ (c ++ (e ++ (d ++ rest))))
 regroup a b c e d rest = simp append_assoc
 
--- what is read in turn behind each part
+-- what is read in turn after each part
 abbrev behind_size : ℕ → ℕ → List ℕ × List ℕ → Result (Parts × List ℕ) CidFault
 behind_size codec hash digest = Ok (version_1 codec hash digest.0, digest.1)
 
@@ -85,7 +85,7 @@ behind_version codec = number_at codec.1 >>= behind_codec codec.0
 abbrev if_version_1 : ℕ × List ℕ → Result (Parts × List ℕ) CidFault
 if_version_1 version = cond (eqb version.0 1) (version_1_at version.1) (Err (Version version.0))
 
--- the parts behind the version are read
+-- the parts after the version are read
 version_1_spelled : (b c e d rest : List ℕ) (codec hash : ℕ) → IsVarint b codec → IsVarint c hash → IsVarint e (length d) → version_1_at (b ++ (c ++ (e ++ (d ++ rest)))) ≡ Ok (version_1 codec hash d, rest)
 version_1_spelled b c e d rest codec hash hb hc he =
     let behind_b = c ++ (e ++ (d ++ rest)) in
@@ -118,7 +118,7 @@ numbered_again p rest h =
     subst P (sym (version_1_is p h))
     (ap numbered_at (regroup (varint_of 1) (varint_of p.codec) (varint_of p.hash_code) (varint_of n) p.digest rest) ∙ whole)
 
--- what is read behind a number: the number is spelled in front of it
+-- what is read after a number: the number is spelled in front of it
 field_read : {A : Type 0} (b : List ℕ) (f : ℕ × List ℕ → Result A CidFault) (y : A) → AreBytes b → (number_at b >>= f) ≡ Ok y → (n : ℕ) × (left : List ℕ) × (n < 2 ^ 63) × (b ≡ varint_of n ++ left) × AreBytes left × (f (n, left) ≡ Ok y)
 field_read b f y bytes h =
     let found = bind_ok (number_at b) f y h in
@@ -131,7 +131,7 @@ field_read b f y bytes h =
 rejoin : (b x y : List ℕ) (n m : ℕ) → b ≡ varint_of n ++ x → n ≡ m → x ≡ y → b ≡ varint_of m ++ y
 rejoin b x y n m is number left = is ∙ (ap (λ k. varint_of k ++ x) number ∙ ap (λ r. varint_of m ++ r) left)
 
--- what is read behind the length of the digest
+-- what is read after the length of the digest
 digest_read : (codec hash n : ℕ) (b : List ℕ) (p : Parts) (rest : List ℕ) → behind_hash codec hash (n, b) ≡ Ok (p, rest) → (p ≡ version_1 codec hash p.digest) × (length p.digest ≡ n) × (b ≡ p.digest ++ rest)
 digest_read codec hash n b p rest h =
     let found = bind_ok (bytes_at n b) (behind_size codec hash) (p, rest) h in
@@ -140,14 +140,14 @@ digest_read codec hash n b p rest h =
     let Q : Parts × List ℕ → Type 0 = λ q. (q.0 ≡ version_1 codec hash q.0.digest) × (length q.0.digest ≡ n) × (b ≡ q.0.digest ++ q.1) in
     subst Q (ok_same (version_1 codec hash d, found.0.1) (p, rest) found.2) (refl, is.0, is.1)
 
--- what is read behind the hash code
+-- what is read after the hash code
 size_read : (codec hash : ℕ) (b : List ℕ) (p : Parts) (rest : List ℕ) → AreBytes b → behind_codec codec (hash, b) ≡ Ok (p, rest) → (p ≡ version_1 codec hash p.digest) × (length p.digest < 2 ^ 63) × (b ≡ varint_of (length p.digest) ++ (p.digest ++ rest))
 size_read codec hash b p rest bytes h =
     let found = field_read b (behind_hash codec hash) (p, rest) bytes h in
     let is = digest_read codec hash found.0 found.1 p rest found.5 in
     (is.0, subst (λ m. m < 2 ^ 63) (sym is.1) found.2, rejoin b found.1 (p.digest ++ rest) found.0 (length p.digest) found.3 (sym is.1) is.2)
 
--- what is read behind the codec
+-- what is read after the codec
 hash_read : (codec : ℕ) (b : List ℕ) (p : Parts) (rest : List ℕ) → AreBytes b → behind_version (codec, b) ≡ Ok (p, rest) → (p ≡ version_1 codec p.hash_code p.digest) × (p.hash_code < 2 ^ 63) × (length p.digest < 2 ^ 63) × (b ≡ varint_of p.hash_code ++ (varint_of (length p.digest) ++ (p.digest ++ rest)))
 hash_read codec b p rest bytes h =
     let found = field_read b (behind_codec codec) (p, rest) bytes h in
@@ -160,7 +160,7 @@ hash_read codec b p rest bytes h =
       rejoin b found.1 (varint_of (length p.digest) ++ (p.digest ++ rest)) found.0 p.hash_code found.3 number is.2,
     )
 
--- what is read behind the version 1
+-- what is read after the version 1
 version_1_read : (b : List ℕ) (p : Parts) (rest : List ℕ) → AreBytes b → version_1_at b ≡ Ok (p, rest) → IsVersion1 p × (b ≡ varint_of p.codec ++ (varint_of p.hash_code ++ (varint_of (length p.digest) ++ (p.digest ++ rest))))
 version_1_read b p rest bytes h =
     let found = field_read b behind_version (p, rest) bytes h in
@@ -182,7 +182,7 @@ spelled_1 p rest one =
     let put : ℕ → List ℕ = λ v. parts_spelling (record { version = v; codec = p.codec; hash_code = p.hash_code; digest = p.digest }) ++ rest in
     ap put one ∙ regroup (varint_of 1) (varint_of p.codec) (varint_of p.hash_code) (varint_of n) p.digest rest
 
--- what is read as a numbered CID is a CIDv1, and its spelling stands at the front
+-- what is read as a numbered CID is a CIDv1, and its spelling is at the front
 pub numbered_read : (b : List ℕ) (p : Parts) (rest : List ℕ) → AreBytes b → numbered_at b ≡ Ok (p, rest) → IsVersion1 p × (b ≡ parts_spelling p ++ rest)
 numbered_read b p rest bytes h =
     let found = field_read b if_version_1 (p, rest) bytes h in
@@ -219,7 +219,7 @@ version_0_again d rest size =
 two_more : (a b : ℕ) (x : List ℕ) → take 2 x ≡ a ∷ b ∷ [] → x ≡ a ∷ b ∷ drop 2 x
 two_more a b x is = sym (take-append-drop 2 x) ∙ (let put : List ℕ → List ℕ = λ t. t ++ drop 2 x in ap put is)
 
--- what is read as a CIDv0 is one, and its spelling stands at the front
+-- what is read as a CIDv0 is one, and its spelling is at the front
 version_0_read : (b : List ℕ) (p : Parts) (rest : List ℕ) → begins_version_0 b ≡ true → version_0_at b ≡ Ok (p, rest) → IsVersion0 p × (b ≡ parts_spelling p ++ rest)
 version_0_read b p rest begins h =
     let found = bind_ok (bytes_at 34 b) (λ x. Ok (version_0 (drop 2 x.0), x.1)) (p, rest) h in
@@ -274,7 +274,7 @@ parts_read b p rest bytes h =
     (record { form = inr is.0; spelled = refl }, is.1))
     (cases_Bool (begins_version_0 b))
 
--- what stands in front of a rest
+-- what is in front of a rest
 front_is : (b s rest : List ℕ) → b ≡ s ++ rest → take (length b - length rest) b ≡ s
 front_is b s rest is =
     let P : List ℕ → Type 0 = λ x. take (length x - length rest) x ≡ s in
@@ -293,7 +293,7 @@ cid_again c p rest h =
     let front : List ℕ → Result (List ℕ × ℕ) CidFault = λ t. Ok (t, length c) in
     bind_to (parts_at b) (p, rest) (as_cid b) (parts_again c p rest h) ∙ (ap sized size ∙ ap front (front_is b c rest refl))
 
--- what is read is a CID by the table, stands at the front, and has the length that is read
+-- what is read is a CID by the table, is at the front, and has the length that is read
 pub cid_read : (b c : List ℕ) (k : ℕ) → AreBytes b → cid_at b ≡ Ok (c, k) → (k ≡ length c) × (b ≡ c ++ drop k b) × ((p : Parts) × IsCidOf c p)
 cid_read b c k bytes h =
     let found = bind_ok (parts_at b) (as_cid b) (c, k) h in
@@ -316,7 +316,7 @@ cid_is c p h = let P : List ℕ → Type 0 = λ b. cid_at b ≡ Ok (c, length c)
 pub is_cid : (c : List ℕ) → AreBytes c → IsCid c → (p : Parts) × IsCidOf c p
 is_cid c bytes h = (cid_read c c (length c) bytes h).2
 
--- what is read at the front is what stands there
+-- what is read at the front is what is there
 pub cid_front : (b c : List ℕ) (k : ℕ) → (k ≡ length c) × (b ≡ c ++ drop k b) × ((p : Parts) × IsCidOf c p) → cid_at b ≡ Ok (c, k)
 cid_front b c k h =
     let P : List ℕ → Type 0 = λ x. cid_at x ≡ Ok (c, k) in

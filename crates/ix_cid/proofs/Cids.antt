@@ -6,15 +6,15 @@ use Rattle.ix_cid.specs.declared.fault.CidFault.{CidFault}
 use Rattle.ix_cid.specs.declared.fault.CidFault.TheVariants.{Version}
 use Rattle.ix_cid.proofs.Fronts.{chosen, Again, ReadsFront, ReadsFront-bind, ReadsFront-done, ReadsFront-guard, ReadsFront-fewer, bytes_at-reads, number_at-reads}
 
--- behind the length of the digest
+-- after the length of the digest
 abbrev digest_behind : ℕ → ℕ → ℕ → List ℕ → Result (Parts × List ℕ) CidFault
 digest_behind codec hash size bytes = bytes_at size bytes >>= (λ digest. Ok (record { version = 1; codec = codec; hash_code = hash; digest = digest.0 }, digest.1))
 
--- behind the hash code
+-- after the hash code
 abbrev size_behind : ℕ → ℕ → List ℕ → Result (Parts × List ℕ) CidFault
 size_behind codec hash bytes = number_at bytes >>= (λ size. digest_behind codec hash size.0 size.1)
 
--- behind the codec
+-- after the codec
 abbrev hash_behind : ℕ → List ℕ → Result (Parts × List ℕ) CidFault
 hash_behind codec bytes = number_at bytes >>= (λ hash. size_behind codec hash.0 hash.1)
 
@@ -28,11 +28,11 @@ digest_behind-reads codec hash size =
 size_behind-reads : (codec hash : ℕ) → ReadsFront 1 (size_behind codec hash)
 size_behind-reads codec hash = ReadsFront-bind 1 0 number_at (digest_behind codec hash) number_at-reads (digest_behind-reads codec hash)
 
--- the hash code, and what is behind it
+-- the hash code, and what is after it
 hash_behind-reads : (codec : ℕ) → ReadsFront 2 (hash_behind codec)
 hash_behind-reads codec = ReadsFront-bind 1 1 number_at (size_behind codec) number_at-reads (size_behind-reads codec)
 
--- behind the version 1
+-- after the version 1
 pub version_1_at-reads : ReadsFront 3 version_1_at
 version_1_at-reads = ReadsFront-bind 1 2 number_at hash_behind number_at-reads hash_behind-reads
 

@@ -8,7 +8,7 @@ use Rattle.std.proofs.Math.Nat.{pow-suc, pow-succ', pow-zero, mod-one, div-div-e
 use Rattle.std.proofs.lemmas.Nat.{pow-add}
 use Rattle.ix_cid.specs.CidText.{number_in, digits_in}
 
--- A number in front stands above the digits.
+-- A number in front counts above the digits.
 pub number_in-split : (base n : ℕ) (ds : List ℕ) → number_in base n ds ≡ n * base ^ length ds + number_in base 0 ds
 number_in-split base n [] =
     let one : n * base ^ 0 ≡ n * 1 = ap (λ (x : ℕ). n * x) (pow-zero base) in
@@ -31,7 +31,7 @@ number_in-lt base (d ∷ ds) h =
     let whole : number_in base (0 * base + d) ds < base ^ suc (length ds) = omega (arith, above, split, pow-succ' base (length ds)) in
     whole
 
--- The digits of what digits spell are these, whatever stands in front.
+-- The digits of what digits spell are these, whatever is in front.
 pub digits_in-number_in : (base : ℕ) (ds : List ℕ) (n : ℕ) → All (λ d. d < base) ds → digits_in base (length ds) (number_in base n ds) ≡ ds
 digits_in-number_in base [] n h = refl
 digits_in-number_in base (d ∷ ds) n h =

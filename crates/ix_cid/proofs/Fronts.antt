@@ -58,7 +58,7 @@ ReadsFront-done p bytes x rest h =
       again = λ more. ap (λ v. Ok (v, more)) e.0;
     }
 
--- a test that stands before
+-- a test that is before
 pub ReadsFront-guard : {A : Type 0} (n : ℕ) (t : Bool) (f : List ℕ → Result (A × List ℕ) CidFault) (e : CidFault) → ReadsFront n f → ReadsFront n (λ bytes. cond t (f bytes) (Err e))
 ReadsFront-guard n true f e first = first
 ReadsFront-guard n false f e first = λ bytes x rest h. absurd (cc h)

@@ -109,7 +109,7 @@ one_more x b byte high h =
 one_group : (x : ℕ) → x < 128 → AreGroups (x ∷ []) (x % 128 + 128 * 0)
 one_group x low = subst (λ n. AreGroups (x ∷ []) n) (let c : x ≡ x % 128 + 128 * 0 = omega arith in c) (last low)
 
--- what is read behind more than one byte: groups, where the last isn't 0
+-- what is read after more than one byte: groups, where the last isn't 0
 pub read_groups : (b : List ℕ) → AreBytes b → continued b < length b → 0 < get_or b (continued b) 0 → AreSome b (continued b)
 read_groups [] bytes short end = absurd (omega arith)
 read_groups (x ∷ xs) bytes short end =

@@ -7,7 +7,7 @@ use Rattle.ix_cid.specs.declared.fault.VarintFault.TheVariants as varints
 use Rattle.ix_cid.specs.declared.fault.CidFault.{CidFault}
 use Rattle.ix_cid.specs.declared.fault.CidFault.TheVariants.{Truncated, Varint, Version, Memory, Multibase, Base32, Rest}
 
--- an answer behind a test for a fault
+-- an answer after a test for a fault
 pub past_test : {A E : Type 0} (b : Bool) (e : E) (r : Result A E) (x : A) → cond b (Err e) r ≡ Ok x → (b ≡ false) × (r ≡ Ok x)
 past_test true e r x h = absurd cc
 past_test false e r x h = (refl, h)
@@ -32,7 +32,7 @@ part_ok (Err varints.Truncated) v h = absurd (cc h)
 part_ok (Err varints.TooLong) v h = absurd (cc h)
 part_ok (Err varints.NotMinimal) v h = absurd (cc h)
 
--- an answer behind a test for no fault
+-- an answer after a test for no fault
 pub past_guard : {A E : Type 0} (b : Bool) (e : E) (r : Result A E) (x : A) → cond b r (Err e) ≡ Ok x → (b ≡ true) × (r ≡ Ok x)
 past_guard true e r x h = (refl, h)
 past_guard false e r x h = absurd cc

@@ -17,7 +17,7 @@ use Rattle.ix_cid.proofs.Quanta.{bytes_of_letters-base32_of}
 use Rattle.ix_cid.proofs.Base32Laws.{base32_of-letters, is_base32, bytes_of_base32-is, bytes_of_base32-only}
 use Rattle.ix_cid.proofs.Results.{past_guard, ok_same, bind_ok, fails_with}
 
--- What is read behind the version 1 has that version.
+-- What is read after the version 1 has that version.
 pub version_1_at-version : (bytes : List ℕ) (p : Parts × List ℕ) → version_1_at bytes ≡ Ok p → p.0.version ≡ 1
 version_1_at-version bytes p h =
     let codec = bind_ok (number_at bytes) _ p h in
@@ -73,7 +73,7 @@ pub parts_at-numbered : (bytes : List ℕ) (p : Parts × List ℕ) → numbered_
 parts_at-numbered bytes p h =
     ap (λ (x : Bool). if x then version_0_at bytes else numbered_at bytes) (numbered_at-begins bytes p h) ∙ h
 
--- Numbered parts with nothing behind them are a CID.
+-- Numbered parts with nothing after them are a CID.
 pub IsCid-numbered : (bytes : List ℕ) (p : Parts × List ℕ) → numbered_at bytes ≡ Ok p → p.1 ≡ [] → IsCid bytes
 IsCid-numbered bytes p h none =
     let F : Result (Parts × List ℕ) CidFault → Result (List ℕ × ℕ) CidFault = λ x. x >>= (λ q. Ok (take (length bytes - length q.1) bytes, length bytes - length q.1)) in
@@ -87,14 +87,14 @@ pub version_of-numbered : (bytes : List ℕ) (p : Parts × List ℕ) → numbere
 version_of-numbered bytes p h =
     ap (λ (x : Result (Parts × List ℕ) CidFault). (parts_or_none x).version) (parts_at-numbered bytes p h) ∙ numbered_at-version bytes p h
 
--- Where the parts are as long as the bytes, nothing stands behind them.
+-- Where the parts are as long as the bytes, nothing is after them.
 pub numbered_at-whole : (bytes : List ℕ) (p : Parts × List ℕ) → numbered_at bytes ≡ Ok p → length bytes ≤ length bytes - length p.1 → p.1 ≡ []
 numbered_at-whole [] p h whole =
     let none : ◌≡◌ {A = Result (Parts × List ℕ) CidFault} (Err Truncated) (Ok p) = h in
     absurd (cc)
 numbered_at-whole (b ∷ bs) p h whole = nil_from_length p.1 (omega arith)
 
--- A CID of version 1 is numbered, and nothing stands behind it.
+-- A CID of version 1 is numbered, and nothing is after it.
 pub numbered_at-version_1 : (bytes : List ℕ) → IsCid bytes → version_of bytes ≡ 1 → (p : Parts × List ℕ) × (numbered_at bytes ≡ Ok p) × (p.1 ≡ [])
 numbered_at-version_1 bytes is one =
     let read = bind_ok (parts_at bytes) (λ q. Ok (take (length bytes - length q.1) bytes, length bytes - length q.1)) (bytes, length bytes) is in
@@ -137,7 +137,7 @@ cid_of_text-text_of c are is one =
     let G : Result (Parts × List ℕ) CidFault → Result (List ℕ) CidFault = λ x. x >>= (λ p. without_rest c p.1) in
     ap cid_of_text (text_of-version_1 c one) ∙ ap F (bytes_of_base32-spelled c are) ∙ ap G read.1 ∙ ap (without_rest c) read.2
 
--- Where nothing is refused, nothing is left.
+-- Where nothing is rejected, nothing is left.
 without_rest-ok : (bytes rest c : List ℕ) → without_rest bytes rest ≡ Ok c → (rest ≡ []) × (bytes ≡ c)
 without_rest-ok bytes [] c h = (refl, ok_same bytes c h)
 without_rest-ok bytes (b ∷ bs) c h = absurd (cc)
@@ -158,7 +158,7 @@ cid_of_text-ok (first ∷ letters) c h =
       spelled ∙ ap text_of whole.1,
     )
 
--- the bytes, where nothing stands behind the parts
+-- the bytes, where nothing is after the parts
 abbrev pub whole_at : List ℕ → Result (List ℕ) CidFault
 whole_at bytes = numbered_at bytes >>= (λ p. without_rest bytes p.1)
 
@@ -167,12 +167,12 @@ fault-kept : (bytes : List ℕ) (read : Result (Parts × List ℕ) CidFault) (f 
 fault-kept bytes (Ok p) f h = absurd (cc)
 fault-kept bytes (Err e) f h = let same : e ≡ f = cc in ap (λ (x : CidFault). Err x) same
 
--- What is left is refused.
+-- What is left is rejected.
 without_rest-some : (c rest : List ℕ) → 0 < length rest → without_rest c rest ≡ Err Rest
 without_rest-some c [] h = absurd (omega arith)
 without_rest-some c (b ∷ bs) h = refl
 
--- a text behind its multibase, whose letters are read as bytes
+-- a text after its multibase, whose letters are read as bytes
 module _ (t letters bytes : List ℕ) (begins : t ≡ 98 ∷ letters) (read : bytes_of_base32 letters ≡ Ok bytes) where
   -- the text is read as its bytes are
   pub text-is : cid_of_text t ≡ whole_at bytes
@@ -184,7 +184,7 @@ module _ (t letters bytes : List ℕ) (begins : t ≡ 98 ∷ letters) (read : by
   pub text-fails : (e : CidFault) → numbered_length_at bytes ≡ Err e → Fails e (cid_of_text t)
   text-fails e h = fails_with e (cid_of_text t) (text-is ∙ fault-kept bytes (numbered_at bytes) e h)
 
-  -- bytes that are longer than the parts are refused
+  -- bytes that are longer than the parts are rejected
   pub text-rest : (n : ℕ) → numbered_length_at bytes ≡ Ok n → n < length bytes → cid_of_text t ≡ Err Rest
   text-rest n h more =
       let front = bind_ok (numbered_at bytes) (λ p. Ok (length bytes - length p.1)) n h in

@@ -1,4 +1,4 @@
--- Varints: each number below 2 ^ 63 has one, and it is read where it stands at the front.
+-- Varints: each number below 2 ^ 63 has one, which is read if it is at the front, whatever follows.
 use Rattle.std.proofs.Common.{◌≡◌, ℕ, ◌+◌, ◌^◌, ◌<◌, ◌≤◌, Bool, false, ◌&&◌, ltb, leb, eqb, cond, List, ◌∷◌, ◌++◌, length, get_or, take, Result, Ok, Err, refl, sym, ◌∙◌, ap, subst, ⊎_elim, arith}
 use Rattle.std.proofs.lemmas.Bool.{lt-leb, le-ltb, leb-false, eqb-false, ne_eqb, and_cases, and_left, and_right, ltb-false}
 use Rattle.std.proofs.lemmas.List.{take_at, length-append, length-take-le}
@@ -21,7 +21,7 @@ IsVarint-below b n h = bound_groups h.groups 8 h.short
 pub IsVarint-is : (b : List ℕ) (n : ℕ) → IsVarint b n → b ≡ varint_of n
 IsVarint-is b n h = one_spelling h.groups 8 h.short
 
--- whether the byte k ends a longer form, `00` behind others
+-- whether the byte k ends a longer form, `00` after others
 abbrev ends_in_zero : List ℕ → ℕ → Bool
 ends_in_zero b k = eqb (get_or b k 0) 0 && ltb 0 k
 
@@ -53,7 +53,7 @@ varint_at-append b n rest h =
     reading (b ++ rest) (omega (arith, h.short)) (omega (arith, length-append b rest)) (no_zero_end h.groups rest)
     ∙ (ap found size ∙ (ap number (take_at b rest (length b) refl) ∙ ap spells (number_groups h.groups)))
 
--- the groups at the front of bytes that don't end in a 0 behind others
+-- the groups at the front of bytes that don't end in a 0 after others
 front_groups : (b : List ℕ) → AreBytes b → continued b < length b → ends_in_zero b (continued b) ≡ false → AreGroups (take (continued b + 1) b) (number_of_groups (take (continued b + 1) b))
 front_groups b bytes inside end =
     ⊎_elim

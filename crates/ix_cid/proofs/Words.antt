@@ -7,7 +7,7 @@ use Rattle.std.specs.Cmp.Lexicographic.{slice_cmp}
 use Rattle.std.proofs.Math.Nat.{mul-le-mul_right, pow-suc}
 use Rattle.ix_cid.specs.Bytes.{AreBytes}
 
--- what is behind the first byte are bytes
+-- what is after the first byte are bytes
 AreBytes-rest : (b : ℕ) (bs : List ℕ) → AreBytes (b ∷ bs) → AreBytes bs
 AreBytes-rest b bs are k d within = are (suc k) d (omega (arith, within))
 
@@ -25,7 +25,7 @@ worth_below (b ∷ bs) are =
     let first : (b + 1) * 256 ^ length bs ≤ 256 * 256 ^ length bs = mul-le-mul_right (256 ^ length bs) (omega (arith, small)) in
     omega (arith, below, first, pow-suc 256 (length bs))
 
--- the higher digit decides, and where they are equal what stands behind them
+-- the higher digit decides, and where they are equal what is after them
 digits : (o r : Ordering) (x y k p q : ℕ) → p < k → q < k → MatchOrdering o (x < y) (x ≡ y) (y < x) → MatchOrdering r (p < q) (p ≡ q) (q < p)
     → MatchOrdering (ordering_then o r) (x * k + p < y * k + q) (x * k + p ≡ y * k + q) (y * k + q < x * k + p)
 digits Less r x y k p q small few h g = let m : (x + 1) * k ≤ y * k = mul-le-mul_right k (omega (arith, h)) in omega (arith, m, small)

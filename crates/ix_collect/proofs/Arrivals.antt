@@ -198,7 +198,6 @@ module _ (all : List Delivery) (over : Bool) where
       let on = on_delivering t w.count p.out_of_memory p.ring failed p.stage at w.on in
       arrives t u seq o p q events failed fine a w counts closes (λ e. out_of_memory) (short_by o q.out_of_memory out_of_memory) (subst (λ (x : Stage). IsOn all u w.count q.out_of_memory q.ring failed x) (sym stage) (out_of_memory, on.1))
     where
-      -- a noted lack of memory explains any arrival
       short_by : (o : Option Delivery) (more : Bool) → more ≡ true → IsShortBy o more
       short_by (Some d) more e = tt
       short_by None more e = e

@@ -1,4 +1,4 @@
--- Where all has arrived the sink is closed, and nothing comes behind.
+-- When all has arrived the sink is closed, and nothing comes after.
 use Rattle.std.proofs.Common.{◌≡◌, ℕ, suc, ◌+◌, ◌<◌, ◌≤◌, Bool, true, false, List, [], ◌∷◌, ◌++◌, length, Option, Some, None, refl, sym, ◌∙◌, ap, subst, inl, inr, arith}
 use Rattle.std.specs.Prelude.{is_some}
 use Rattle.std.proofs.lemmas.Bool.{cases_lt}

@@ -147,7 +147,6 @@ module _ {S : Type 0} (events : S → List Event) (failed : S → List Delivery)
               (subst (λ (l : List S). EachCome events failed store jobs more 0 (set ps j q) l) (sym te) (come_set x got more 0 j ps ss j q t ins of (omega arith) now.1 before.1)),
         )
       where
-        -- if none was noted and this item was expected, none is noted
         none_noted : (a b : Bool) → a ≡ false → b ≡ true → (a || not b) ≡ false
         none_noted true b e f = cc
         none_noted false true e f = refl

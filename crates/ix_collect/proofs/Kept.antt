@@ -1,4 +1,4 @@
--- What each sink promised is kept, and what stands in a list.
+-- The fact of each sink is kept, and what is in a list.
 use Rattle.std.proofs.Common.{◌≡◌, ℕ, zero, suc, List, [], ◌∷◌, get_or, set, sym, subst}
 use Rattle.ix_archive.specs.Headline.{Fact, Keeps, EachKept}
 

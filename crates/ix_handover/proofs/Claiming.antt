@@ -116,7 +116,7 @@ module _ {T : Type 0} (values : List T) (all slots id : ℕ) (me : Me (Option T)
       let above : length values ≤ k = grind (arith, nat_tests) in
       (refused me.0, keeps, tt, refuse k e above, refl)
 
--- a draw is a claim or a refusal
+-- a draw is a claim, or the answer that all are claimed
 pub draws : {T : Type 0} (values : List T) (all slots id : ℕ) (me : Me (Option T) (ClaimView T)) → 0 < me.0.parts → me.0.refusals ≡ 0 → Allows (IsClaimed values all) slots id me 0 (λ n. (n + 1) % 2 ^ 64) (Draws me)
 draws {T} values all slots id me part first s r len at below =
     let k = slice_index s.words 0 in

@@ -1,4 +1,4 @@
--- Seats are joined: the rule of the queue is kept, and tells what they took.
+-- Seats are joined: the invariant of the queue is kept, and implies what they took.
 use Rattle.std.proofs.Common.{◌≡◌, ◌≢◌, ℕ, ◌+◌, ◌<◌, ◌≤◌, false, List, [], ◌∷◌, ◌++◌, length, set, sym, ap, ◌∙◌, subst, inr, ⊎_elim, arith, append-nil, append_assoc, Some}
 use Rattle.std.proofs.Math.ListN.{length-set}
 use Rattle.std.proofs.lemmas.List.Elements.{All-append}

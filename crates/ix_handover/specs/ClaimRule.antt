@@ -28,13 +28,13 @@ module _ {T : Type 0} where
   pub record FitsClaimer (values : List T) (seats word : ℕ) (v : ClaimView T) : Type 0 where
     pub known : 0 < v.parts → (v.values ≡ values) × (v.seats ≡ seats)
     pub idle : v.parts ≡ 0 → v.places ≡ []
-    -- each seat was refused once at most, and only where all was claimed
+    -- each seat was answered once at most that all are claimed, and only if they were
     pub few : v.refusals ≤ v.parts
     pub over : 0 < v.refusals → length values ≤ word
 
   -- the invariant of the ticket counter
   pub record IsClaimed (values : List T) (seats : ℕ) (s : State (Option T) (ClaimView T)) : Type 0 where
-    -- how many draws there were: as many as claims and refusals at most
+    -- how many draws there were: at most one for each claim and each such answer
     pub word : ℕ
     pub words_are : s.words ≡ word ∷ []
     pub small : (length values ≤ 1000) × (seats ≤ 64)

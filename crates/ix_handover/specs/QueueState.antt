@@ -41,7 +41,7 @@ pub record Running (items : List Item) (views : List PassView) : Type 0 where
   -- no number of a job is put twice
   pub once : (j n : ℕ) → total (λ v. times j n (all_put v)) views ≤ 1
   pub fresh : (j n : ℕ) → head j + left j ≤ n → total (λ v. times j n (all_put v)) views ≡ 0
-  -- nothing of a job is put behind its close
+  -- nothing of a job is put after its close
   pub shut : (j k : ℕ) → 0 < total (λ v. ends j k (all_put v)) views → (head j + left j ≡ k + 1) × ((port : ℕ) (v : PassView) → get_elem? views port ≡ some v → v.job ≡ Some j → 0 < ends j k v.put)
   pub fits : (port : ℕ) (v : PassView) → get_elem? views port ≡ some v → Fits course all head left (length views) port v
 

@@ -110,7 +110,7 @@ pub places-again : (spots : List Spot) (r : Option Recursion) → seen_pairs spo
 places-again spots None = refl
 places-again spots (Some r) = limit_again spots r.sequence r.depth
 
--- ---- what stands
+-- ---- matchers and explorers
 
 -- a matcher or explorer leads to itself alone, and is no edge
 stands_leads : (s : Pattern) (n : ℕ) (e : List Frame) (q : Option ℕ) → Stands s → (leads s n e q ≡ record { selector = s; around = e; number = n + inside_of s; sequence = q } ∷ []) × (is_edge s ≡ false)
@@ -124,7 +124,7 @@ stands_leads (union ss) n e q h = absurd h
 stands_leads edge n e q h = absurd h
 
 module _ (spots : List Spot) (table : AreSpots 0 spots) (laid : AreLaidFrom 0 spots) (x : Pair) (within : x.place < length spots) where
-  -- a place that stands leads to itself
+  -- a matcher or explorer leads to itself
   pub leads-itself : (y : Spot) → y ≡ get_or spots x.place y → Stands (selector_at spots x) → leads_from (place_of spots x) ≡ place_of spots x ∷ []
   leads-itself y is stands =
       let here = first-of spots x.place y table laid within is in
@@ -207,7 +207,7 @@ module _ (spots : List Spot) (table : AreSpots 0 spots) (laid : AreLaidFrom 0 sp
             ∙ ap (λ l. seen_pairs spots old.again.items ++ l) (places-again spots x.recursion ∙ sym (append-nil (innermost e q))),
       )
 
--- ---- behind a step
+-- ---- after a step
 
 -- a key that isn't among the names leads nowhere
 named_lead_nowhere : (ps : List Pattern) (fs : List (Vec ℕ × ℕ)) (l : List ℕ) → IsUnnamed fs l → (m : ℕ) (e : List Frame) (q : Option ℕ) → named_lead (fields_of (map (named_at ps) fs)) l m e q ≡ []
@@ -260,7 +260,7 @@ adds-next spots old mid new xs x so_far one =
 next_of : (xs : List Pair) (i : ℕ) (x : Pair) → i < length xs → x ≡ get_or xs i x → take (i + 1) xs ≡ take i xs ++ x ∷ []
 next_of xs i x within is = take_more xs i x within ∙ ap (λ y. take i xs ++ y ∷ []) (sym is)
 
--- ---- behind a step
+-- ---- after a step
 
 -- where one more place leads after a step
 lead_behind-push : (xs : List Place) (x : Place) (t : Step) → all_lead_behind (xs ++ x ∷ []) t ≡ all_lead_behind xs t ++ leads_behind_from x t

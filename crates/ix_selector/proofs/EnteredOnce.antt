@@ -37,7 +37,7 @@ record IsSeen (spots : List Spot) (z : Place) : Type 0 where
   is_pair : IsPair spots pair
   seen : place_of spots pair ≡ z
 
--- two of them are alike, since a place stands in one recursion
+-- two of them are alike, since a place is in one recursion
 seen_alike : (spots : List Spot) → AreNamedOnce spots → (z w : Place) → IsSeen spots z → IsSeen spots w → Alike z w
 seen_alike spots once z w a b =
     subst (λ x. Alike x w) a.seen
@@ -91,7 +91,7 @@ leads_seen spots table (suc fuel) x is below = by (leads_seen spots table fuel) 
       subst (Each (IsSeen spots)) (union-leads spots table.placed table.laid x is.within ks h)
       (members_seen spots fuel x inner below ks.items (members-pairs spots table.placed x is ks h) (members-before spots table.placed x is ks h))
 
--- where a pair of the table leads stand places of the table, and where many do
+-- a pair of the table leads to places of the table, and so do many
 standing_seen : (spots : List Spot) → IsTable spots → (x : Pair) → IsPair spots x → Each (IsSeen spots) (standing (leads_from (place_of spots x)))
 standing_seen spots table x is = standing-each (IsSeen spots) (leads_from (place_of spots x)) (leads_seen spots table (suc x.place) x is (omega arith))
 
@@ -108,7 +108,7 @@ standing_all_seen spots table xs h = standing-each (IsSeen spots) (all_lead (see
 
 -- ---- merging
 
--- what is merged the same is merged the same behind others
+-- what is merged the same is merged the same after others
 merged_behind : (zs xs ys : List Place) → merged xs ≡ merged ys → merged (zs ++ xs) ≡ merged (zs ++ ys)
 merged_behind [] xs ys same = same
 merged_behind (z ∷ zs) xs ys same = ap (put z) (merged_behind zs xs ys same)
@@ -202,7 +202,7 @@ mutual
   each_leads_both no_members n e d q = no_more
   each_leads_both (member s ss) n e d q = both_append (leads_both s n e d q) (each_leads_both ss (n + (inside_of s + 1)) e d q)
 
--- those that stand among them
+-- the matchers and explorers among them
 standing_both : {us ws zs : List Place} → AreBoth us ws zs → AreBoth (standing us) (standing ws) (standing zs)
 standing_both no_more = no_more
 standing_both (one_more {a = a} {b = b} {us = us} {ws = ws} {zs = zs} number selector rest) = by (is_edge a.selector) (is_edge b.selector) (ap is_edge selector) (standing_both rest) where
@@ -311,7 +311,7 @@ again_joined spots (z ∷ front) back y x c is p =
     )
 
 module _ (spots : List Spot) (x : Pair) (is_pair : IsPair spots x) (old new : Reached) (were : AreReached spots old) where
-  -- it stands, and is put behind the others
+  -- a matcher or explorer is appended to the others
   pub standing-once : (y : Spot) → y ≡ get_or spots x.place y → IsStanding spots x → new.standing.items ≡ old.standing.items ++ x ∷ [] → new.again ≡ old.again
       → merged (all_reached spots new) ≡ merged (standing (leads_from (place_of spots x)) ++ all_reached spots old)
   standing-once y is stands more same =

@@ -6,7 +6,7 @@ use Rattle.ix_selector.specs.Pattern.{Pattern, matcher, all, fields, index, rang
 use Rattle.ix_selector.specs.Enters.{Path, Frame, Enters, at_matcher, at_all, at_fields, at_index, at_range, below_all, below_fields, below_index, below_range, in_union, in_recursion, at_edge, at_edge_within}
 use Rattle.ix_selector.specs.Pairs.{deeper, Stands}
 
--- what stands enters where it stands
+-- a matcher or explorer enters its own place
 pub stands-enters : (s : Pattern) (e : List Frame) → Stands s → Enters s e []
 stands-enters matcher e h = at_matcher
 stands-enters (all s) e h = at_all

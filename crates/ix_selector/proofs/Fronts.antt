@@ -11,18 +11,18 @@ use Rattle.ix_selector.specs.Pattern.{Pattern, Fields, Members, no_fields, field
 use Rattle.ix_selector.specs.Reading.{◌>>=◌, fields_read, members_read, read_with, selector_at}
 use Rattle.ix_selector.specs.Shapes.{entries_data, items_data}
 
--- where no selector may stand
+-- where no selector is allowed
 pub selector_at-zero : (n : ℕ) (around : Around) (d : Data) → n ≡ 0 → selector_at n around d ≡ Err Nesting
 unfolding selector_at
 selector_at-zero n around d e = ap (λ k. selector_at k around d) e
 
--- where a selector may stand, one level less is left inside
+-- where a selector is allowed, one level less is left inside
 pub selector_at-above : (n : ℕ) (around : Around) (d : Data) → 0 < n → selector_at n around d ≡ read_with (selector_at (n - 1)) around d
 unfolding selector_at
 selector_at-above zero around d h = absurd (omega arith)
 selector_at-above (suc n) around d h = ap (λ k. read_with (selector_at k) around d) (omega arith)
 
--- fields behind others, and members behind others
+-- fields after others, and members after others
 abbrev pub before_fields : List (List ℕ × Pattern) → Fields → Fields
 before_fields [] fs = fs
 before_fields (f ∷ more) fs = field f.0 f.1 (before_fields more fs)
@@ -32,7 +32,7 @@ abbrev pub before_members : List Pattern → Members → Members
 before_members [] ss = ss
 before_members (s ∷ more) ss = member s (before_members more ss)
 
--- what is read, behind what was read before
+-- what is read, after what was read before
 abbrev pub with_fields : List (List ℕ × Pattern) → Result Fields SelFault → Result Fields SelFault
 with_fields front read = read >>= (λ fs. Ok (before_fields front fs))
 
@@ -40,22 +40,22 @@ with_fields front read = read >>= (λ fs. Ok (before_fields front fs))
 abbrev pub with_members : List Pattern → Result Members SelFault → Result Members SelFault
 with_members front read = read >>= (λ ss. Ok (before_members front ss))
 
--- with nothing behind
+-- with nothing after
 fields_none : (front : List (List ℕ × Pattern)) → before_fields front no_fields ≡ fields_of front
 fields_none [] = refl
 fields_none (f ∷ more) = ap (field f.0 f.1) (fields_none more)
 
--- the last of those before is the first of those behind
+-- the last of those before is the first of those after
 fields_more : (front : List (List ℕ × Pattern)) (f : List ℕ × Pattern) (fs : Fields) → before_fields (front ++ f ∷ []) fs ≡ before_fields front (field f.0 f.1 fs)
 fields_more [] f fs = refl
 fields_more (e ∷ more) f fs = ap (field e.0 e.1) (fields_more more f fs)
 
--- with nothing behind
+-- with nothing after
 members_none : (front : List Pattern) → before_members front no_members ≡ members_of front
 members_none [] = refl
 members_none (s ∷ more) = ap (member s) (members_none more)
 
--- the last of those before is the first of those behind
+-- the last of those before is the first of those after
 members_more : (front : List Pattern) (s : Pattern) (ss : Members) → before_members (front ++ s ∷ []) ss ≡ before_members front (member s ss)
 members_more [] s ss = refl
 members_more (t ∷ more) s ss = ap (member t) (members_more more s ss)

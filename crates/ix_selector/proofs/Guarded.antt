@@ -1,4 +1,4 @@
--- What is read is a selector: edges stand where they may, limits fit, and selectors nest no deeper than allowed.
+-- What is read is a selector: edges are where they are allowed, limits fit, and selectors nest no deeper than allowed.
 use Rattle.std.proofs.Common.{◌≡◌, ◌+◌, ◌≤◌, ◌<◌, ◌^◌, arith, ℕ, zero, suc, Bool, true, false, true≢false, List, refl, sym, ap, subst, pos, negsuc}
 use Rattle.std.proofs.lemmas.Bool.{ltb-true}
 use Rattle.std.specs.Prelude.{ℤ, Option, Some, None, Result, Ok, Err, is_ok, nat_lt, bytes_eq, codes, if◌then◌else◌}
@@ -10,7 +10,7 @@ use Rattle.ix_selector.specs.declared.fault.Form.TheVariants.{MatcherField, Stop
 use Rattle.ix_selector.specs.Pattern.{Pattern, Fields, Members, matcher, all, fields, index, range, recursive, union, edge, no_fields, field, no_members, member, Around, outside, unguarded, guarded, behind_step, nesting_of, fields_nesting, members_nesting, IsLimit, IsGuarded, AreGuarded, EachGuarded, greatest_nesting, IsSelector}
 use Rattle.ix_selector.specs.Reading.{Reader, ◌>>=◌, matcher_of, integer_of, entries_of_map, one_of, two_of, three_of, fields_read, members_read, has_key, no_limit_of, depth_of, limit_of, all_read, fields_form, index_form, range_form, recursive_form, edge_form, union_form, form_of, read_with, selector_at, selector_of, without_envelope}
 
--- a selector that may stand there and nests at most n deep
+-- a selector that is allowed there and nests at most n deep
 pub record MayBe (n : ℕ) (around : Around) (s : Pattern) : Type 0 where
   pub edges : IsGuarded around s
   pub nesting : nesting_of s ≤ n
@@ -65,7 +65,7 @@ matcher_only (entry k d es) s h =
       rest_of (text t) r s h = h
       rest_of other r s h = err_no_ok Kind h
 
--- an edge is read only where it may stand
+-- an edge is read only where it is allowed
 edge_guarded : (around : Around) (es : Entries) (s : Pattern) → edge_form around es ≡ Ok s → MayBe 1 around s
 edge_guarded around (entry k d es) s h = err_no_ok Keys h
 edge_guarded outside no_entries s h = err_no_ok EdgeOutside h
@@ -74,7 +74,7 @@ edge_guarded guarded no_entries s h = subst (λ s. MayBe 1 guarded s) (ok_same e
 
 -- one level, where the levels below are as they should be
 module _ (n : ℕ) (read : Reader) (good : (around : Around) (d : Data) (s : Pattern) → read around d ≡ Ok s → MayBe n around s) where
-  -- each form is a selector where what stands inside is one
+  -- each form is a selector where what is inside is one
   all_good : (around : Around) (es : Entries) (s : Pattern) → all_read read around es ≡ Ok s → MayBe (n + 1) around s
   all_good around es s h =
       let one = bind_ok (one_of (codes ">") es) (λ d. read (behind_step around) d >>= (λ s. Ok (all s))) s h in
@@ -183,12 +183,12 @@ module _ (n : ℕ) (read : Reader) (good : (around : Around) (d : Data) (s : Pat
   with_good around (map no_entries) s h = err_no_ok Keys h
   with_good around other s h = err_no_ok NotMap h
 
--- what is read where n levels are left may stand there
+-- what is read where n levels are left is allowed there
 pub at_good : (n : ℕ) (around : Around) (d : Data) (s : Pattern) → selector_at n around d ≡ Ok s → MayBe n around s
 unfolding selector_at
 at_good zero around d s h = err_no_ok Nesting h
 at_good (suc n) around d s h = let m = with_good n (selector_at n) (at_good n) around d s h in record { edges = m.edges; nesting = omega (arith, m.nesting) }
 
--- the selector for which data stands keeps the rules
+-- the selector that data spell obeys the rules
 pub reads_selector : (d : Data) (s : Pattern) → selector_of d ≡ Ok s → IsSelector s
 reads_selector d s h = let m = at_good greatest_nesting outside (without_envelope d) s h in record { edges = m.edges; nesting = m.nesting }

@@ -30,7 +30,7 @@ pub spot-is : (xs : List Spot) (n : ℕ) (y : Spot) → AreSpots 0 xs → n < le
 spot-is xs n y spots h is = subst (λ z. IsSpot n z) (sym is) (subst (λ k. IsSpot k (get_or xs n y)) {x = 0 + n} (omega arith) (spot-at 0 xs n y spots h))
 
 mutual
-  -- behind a step more edges may stand
+  -- after a step more edges are allowed
   pub guarded-later : (s : Pattern) → IsGuarded unguarded s → IsGuarded guarded s
   guarded-later matcher g = tt
   guarded-later (all s) g = g
@@ -263,7 +263,7 @@ module _ (spots : List Spot) (table : AreSpots 0 spots) (x : Pair) (is_pair : Is
   pub edge-some : HasNoEdge spots x → ⊥
   edge-some none = none.never (subst (IsGuarded none.around) is_edge none.guarded)
 
--- ---- a place that stands
+-- ---- a matcher or explorer
 
 module _ (spots : List Spot) (x : Pair) (is_pair : IsPair spots x) (stands : IsStanding spots x) (old new : Reached) (were : AreReached spots old)
     (more : new.standing.items ≡ old.standing.items ++ x ∷ []) (again : new.again ≡ old.again) where
@@ -305,7 +305,7 @@ members-first P x (k ∷ ks) (suc i) every =
     let y : Pair = record { place = k; recursion = x.recursion } in
     All-cons P y (members_at x (take i ks)) (All-head P y (members_at x ks) every) (members-first P x ks i (All-tail P y (members_at x ks) every))
 
--- what is no recursion, no union and no edge stands
+-- what is no recursion, no union and no edge is a matcher or explorer
 stands_default : (ps : List Pattern) (y : Spot) → ((d : Option ℕ) (k : ℕ) → y ≡ Recursive d k → ⊥) → ((ks : _) → y ≡ Union ks → ⊥) → (y ≡ Edge → ⊥) → Stands (seen ps y)
 stands_default ps Matcher r u e = tt
 stands_default ps (AllSpot k) r u e = tt

@@ -72,7 +72,7 @@ row-inside ps m Edge n h = omega arith
 laid_grown : (xs ys : List Spot) (n : ℕ) (x : Spot) → n ≤ length xs → IsLaid (places_of xs) n x → IsLaid (places_of (xs ++ ys)) n x
 laid_grown xs ys n x le h = record { first = h.first; row = row_grown xs ys h.first (numbers_of x) n le h.row }
 
--- what was laid, and what was laid behind it
+-- what was laid, and what was laid after it
 pub laid-twice : (m : ℕ) (xs ys : List Spot) → Grows xs ys → AreLaidFrom m xs → AreLaidFrom (length xs) ys → AreLaidFrom m ys
 laid-twice m xs ys g old new = record { laid = λ n x above below is. by n x above below is (cases_lt n (length xs)) } where
   by : (n : ℕ) (x : Spot) → m ≤ n → n < length ys → x ≡ get_or ys n x → (n < length xs) ⊎ (length xs ≤ n) → IsLaid (places_of ys) n x

@@ -1,4 +1,4 @@
--- Where a step leads from a place that stands.
+-- Where a step leads from a matcher or explorer.
 use Rattle.std.proofs.Common.{◌≡◌, ℕ, ◌<◌, ⊎_elim, pos, Bool, true, false, true≢false, List, [], ◌∷◌, length, refl, sym, ◌∙◌, subst, inl, inr}
 use Rattle.std.specs.Prelude.{ℤ, Option, Some, None, IfSome, IfNone, int_le, int_lt}
 use Rattle.std.specs.Bool.{then_some}
@@ -67,7 +67,7 @@ range_nowhere i j s t is e p h = true≢false (sym (out_range h).0 ∙ is)
 pub matcher_nowhere : (t : Step) → LeadsNowhere matcher t
 matcher_nowhere t e p h = elim h [ ]
 
--- ---- the pair behind a step
+-- ---- the pair after a step
 
 -- one step more changes nothing inside a recursion that had one
 behind_around : (r : Option Recursion) → behind_step (around r) ≡ around r
@@ -108,7 +108,7 @@ pub if-none : (P Q : Type 0) (o : Option ℕ) → (P → Q) → IfNone o P → I
 if-none P Q None f h = f h
 if-none P Q (Some k) f h = tt
 
--- what leads on is one of four forms, or doesn't stand
+-- what leads on is one of four forms, or no matcher and no explorer
 pub default-nowhere : (ps : List Pattern) (y : Spot) → ((k : ℕ) → y ≡ AllSpot k → ⊥) → ((names : _) → y ≡ FieldsSpot names → ⊥) → ((i : ℤ) (k : ℕ) → y ≡ IndexSpot i k → ⊥) → ((i j : ℤ) (k : ℕ) → y ≡ RangeSpot i j k → ⊥)
     → (t : Step) → Stands (seen ps y) → LeadsNowhere (seen ps y) t
 default-nowhere ps Matcher a f i r t stands = matcher_nowhere t
@@ -120,7 +120,7 @@ default-nowhere ps (Recursive d k) a f i r t stands = absurd stands
 default-nowhere ps (Union ks) a f i r t stands = absurd stands
 default-nowhere ps Edge a f i r t stands = absurd stands
 
--- the number behind the name of a step is a place before
+-- the number that belongs to the name of a step is a place before
 pub name-below : (n : ℕ) (names : List (Vec ℕ × ℕ)) (t : Step) (k : ℕ) → AreNamedBelow n names → HasName names t k → k < n
 name-below n names (nth m) k below h = absurd h
 name-below n names (key l) k below h = by names below h where
@@ -128,7 +128,7 @@ name-below n names (key l) k below h = by names below h where
   by [] below h = absurd h
   by (f ∷ fs) below h = ⊎_elim (λ (here : (f.0.items ≡ l) × (f.1 ≡ k)). subst (λ j. j < n) here.1 below.0) (λ (there : IsNumbered fs l k). by fs below.1 there) h
 
--- the number behind the name of a step is one of those that fields name
+-- the number that belongs to the name of a step is one of those that fields name
 pub name-number : (names : List (Vec ℕ × ℕ)) (t : Step) (k : ℕ) → HasName names t k → HasNumber names k
 name-number names (nth m) k h = absurd h
 name-number names (key l) k h = by names h where

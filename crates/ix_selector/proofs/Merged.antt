@@ -170,7 +170,7 @@ pub merged-front : (xs : List Place) (x : Place) (ys : List Place) → AlikeAll 
 merged-front [] x ys alike = refl
 merged-front (y ∷ xs) x ys alike = ap (put y) (merged-front xs x ys alike.1) ∙ sym (put-swap x y (merged (xs ++ ys)) alike.0)
 
--- the list without what stands at an index
+-- the list without what is at an index
 abbrev dropped : List Place → ℕ → List Place
 dropped [] i = []
 dropped (z ∷ zs) zero = zs

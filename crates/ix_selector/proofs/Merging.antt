@@ -133,7 +133,7 @@ joined-enters spots a b c is p =
           h)),
     )
 
--- ---- pairs put behind others
+-- ---- pairs appended to others
 
 -- each pair is at its own place
 itself-of : (xs : List Pair) (x : Pair) → Contains xs x → IsOf xs x
@@ -230,7 +230,7 @@ joined-last front last x both is = (
       (record { pair = last; among = inside; at = joined-at last x both is }),
 )
 
--- one more behind the others
+-- one more after the others
 pub push-enters : (xs : List Pair) (x : Pair) → EnterMore (xs ++ x ∷ []) xs x × All (IsOf (xs ++ x ∷ [])) (xs ++ x ∷ [])
 push-enters xs x = (λ spots p. some-push spots xs x p, of-itself (xs ++ x ∷ [])) where
   of-itself : (ys : List Pair) → All (IsOf ys) ys
@@ -266,7 +266,7 @@ rising-push n (y ∷ front) a x above h = (h.0, rising-push (y.place + 1) front 
 pub joined-rising : (front : List Pair) (last x both : Pair) → IsJoined last x both → ArePlacesRising (front ++ last ∷ []) → ArePlacesRising (front ++ both ∷ [])
 joined-rising front last x both is h = rising-last 0 front last both is.1 h
 
--- one that isn't joined with the last is behind it
+-- one that isn't joined with the last is after it
 pub pushed-rising : (front : List Pair) (last x : Pair) → All (IsUpTo x) (front ++ last ∷ []) → (AgreesWith last x → last.place ≡ x.place → ⊥) → ArePlacesRising (front ++ last ∷ []) → ArePlacesRising ((front ++ last ∷ []) ++ x ∷ [])
 pushed-rising front last x up_to none h =
     let here = All-contains (IsUpTo x) (front ++ last ∷ []) last up_to (Contains-push front last) in

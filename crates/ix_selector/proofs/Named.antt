@@ -140,7 +140,7 @@ named_guarded a ps (f ∷ fs) l k n g =
     (λ (there : IsNumbered fs l k). named_guarded a ps fs l k there g.1)
     n
 
--- fields lead to the selector at the number behind the name of the step
+-- fields lead to the selector at the number that belongs to the name of the step
 pub fields_lead : (ps : List Pattern) (names : List (Vec ℕ × ℕ)) (t : Step) (k : ℕ) → AreRising names → HasName names t k → LeadsTo (fields (fields_of (map (named_at ps) names))) t (at ps k)
 fields_lead ps names (key l) k rising n = record {
   enters = λ e p. (λ h. into e p h, λ h. below_fields (numbered_named ps names l k n) h);

@@ -1,4 +1,4 @@
--- What is left of a selector behind each step of a path in turn.
+-- What is left of a selector after each step of a path in turn.
 use Rattle.std.proofs.Common.{◌≡◌, ℕ, ◌-◌, ◌<◌, ◌⊎◌, inl, inr, ⊎_elim, Bool, true, false, true≢false, nat_eq, ◌&&◌, List, [], ◌∷◌, ◌++◌, refl, sym, ◌∙◌, ap, subst, append-nil}
 use Rattle.std.specs.Prelude.{◌↔◌, Option, Some, None, nat_le, if◌then◌else◌}
 use Rattle.std.specs.Option.{option_eq}
@@ -46,7 +46,7 @@ is_an_edge (recursive d s) h = absurd (true≢false (sym h))
 is_an_edge (union ss) h = absurd (true≢false (sym h))
 is_an_edge edge h = refl
 
--- what starts anew: its edges stand behind a step
+-- what starts anew: each of its edges is after a step
 abbrev IsStart : Place → Type 0
 IsStart x = IsGuarded unguarded x.selector
 
@@ -68,7 +68,7 @@ module _ (whole : Pattern) where
     λ h. ⊎_elim (λ (b : B). inr (inl b)) (λ (r : A ⊎ C). ⊎_elim (λ (a : A). inl a) (λ (c : C). inr (inr c)) r) h,
   )
 
-  -- all is entered by what stands and what edges enter again
+  -- all is entered by matchers and explorers, and by what edges re-enter
   parts-enter : (xs : List Place) → Each (IsIn whole) xs → (p : Path) → (Enter xs p ↔ (Enter (standing xs) p ⊎ Enter (again xs) p))
   parts-enter [] h p = (λ n. absurd n, λ n. ⊎_elim (λ (a : ⊥). a) (λ (b : ⊥). b) n)
   parts-enter (x ∷ xs) h p = by (is_edge x.selector) refl (parts-enter xs h.1 p) where
@@ -243,7 +243,7 @@ module _ (whole : Pattern) where
 
   -- ---- residuals
 
-  -- places of the whole that stand
+  -- places of the whole that are matchers and explorers
   pub record IsRest (xs : List Place) : Type 0 where
     pub each : Each (IsIn whole) xs
     pub stands : Each (λ x. Stands x.selector) xs

@@ -1,4 +1,4 @@
--- The names of fields stand in the order of keys, since what is read has a spelling.
+-- The names of fields are in the order of keys, since what is read has a spelling.
 use Rattle.std.proofs.Common.{◌≡◌, ℕ, zero, suc, Bool, true, false, List, refl, subst}
 use Rattle.std.specs.Prelude.{Result, Ok, Err, bytes_eq, codes, if◌then◌else◌}
 use Rattle.std.specs.declared.cmp.Ordering.TheVariants.{Less}
@@ -13,7 +13,7 @@ use Rattle.ix_selector.specs.Ordered.{IsBeforeAll, IsOrdered, AreOrdered, EachOr
 use Rattle.ix_selector.specs.Reading.{Reader, ◌>>=◌, matcher_of, integer_of, entries_of_map, one_of, two_of, three_of, fields_read, members_read, has_key, limit_of, all_read, fields_form, index_form, range_form, recursive_form, edge_form, union_form, form_of, read_with, selector_at, selector_of, without_envelope}
 use Rattle.ix_selector.proofs.Guarded.{err_no_ok, bind_ok, ok_same, by_test, matcher_only}
 
--- ---- what stands inside what has a spelling has one
+-- ---- what is inside what has a spelling has one
 
 -- the keys of a map that has a spelling rise
 map-rising : (d : Data) (es : Entries) → entries_of_map d ≡ Ok es → IsSpellable d → AreRising es
@@ -55,7 +55,7 @@ three-spellable first second third (entry k e more) d h is =
       tripled (Ok f) found same = subst (λ (x : Data × Data × Data). IsSpellable x.1) (ok_same (e, f.0, f.1) d same) (two-spellable second third more f found is.3).0
       tripled (Err g) found same = err_no_ok g same
 
--- ---- names that rise one by one are each before all behind them
+-- ---- names that rise one by one are each before all after them
 
 -- a smaller key is before all that a greater one is before
 rises-further : (k l : List ℕ) (es : Entries) → key_cmp k l ≡ Less → Rises l es → Rises k es
@@ -195,6 +195,6 @@ inside_spellable (map (entry k d (entry l e es))) is = is
 inside_spellable (map no_entries) is = is
 inside_spellable other is = is
 
--- the selector for which data with a spelling stands has its names in order
+-- the selector that data with a spelling spell has its names in order
 pub reads_ordered : (d : Data) (s : Pattern) → IsCanonical d → selector_of d ≡ Ok s → IsOrdered s
 reads_ordered d s is h = at_ordered greatest_nesting outside (without_envelope d) s (inside_spellable d is.parts) h

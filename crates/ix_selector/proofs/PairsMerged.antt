@@ -49,7 +49,7 @@ pairs-alike spots x y agree is =
     let around = around_flip (places_of spots) x.recursion y.recursion (agree is) in
     λ i. record { selector = at (places_of spots) (is i); around = around i; number = is i; sequence = agree is i }
 
--- ---- one more behind the others
+-- ---- one more after the others
 
 -- the last of rising places is at or above the bound
 rises-to : (n : ℕ) (front : List Pair) (last : Pair) → AreRisingFrom n (front ++ last ∷ []) → n ≤ last.place

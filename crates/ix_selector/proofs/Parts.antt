@@ -85,7 +85,7 @@ other_key d (x ∷ []) e k is one named test =
     is ∙ ap (λ b. if b then data_of x.1 else data_forms.map (entries_data (x ∷ []))) (sym (ap (λ l. bytes_eq l (codes "selector")) (sym named) ∙ test)) ∙ ap without_envelope (sym is)
 other_key d (x ∷ y ∷ es) e k is one named test = absurd (omega arith)
 
--- what stands in an envelope
+-- what is in an envelope
 pub in_envelope : (d : Data) (es : List (Vec ℕ × Node)) (e f : Vec ℕ × Node) (k : List ℕ) → d ≡ data_forms.map (entries_data es) → length es ≡ 1 → k ≡ (get_or es 0 e).0.items → bytes_eq k (codes "selector") ≡ true
     → data_of (get_or es 0 f).1 ≡ without_envelope d
 in_envelope d [] e f k is one named test = absurd (omega arith)

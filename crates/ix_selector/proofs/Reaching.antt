@@ -66,7 +66,7 @@ joins-twice A B C D E first second p = (
       h),
 )
 
--- one more of the places that stand, and one more sequence
+-- one more matcher or explorer, and one more sequence
 pub standing-more : (spots : List Spot) (old new : Reached) (x : Pair) → new.standing.items ≡ old.standing.items ++ x ∷ [] → new.again.items ≡ old.again.items
     → Joins (ReachedEnters spots new) (ReachedEnters spots old) (EntersAt spots x)
 standing-more spots old new x more same p =

@@ -1,4 +1,4 @@
--- What is left of a selector at the root and behind a step.
+-- What is left of a selector at the root and after a step.
 use Rattle.std.proofs.Common.{◌≡◌, ℕ, ◌+◌, ◌<◌, inl, inr, ⊎_elim, true, false, true≢false, ◌==◌, List, [], ◌∷◌, ◌++◌, map, take, get_or, length, refl, sym, ◌∙◌, ap, subst, arith}
 use Rattle.std.specs.Prelude.{Option, Some, None}
 use Rattle.std.proofs.lemmas.Bool.{eqb-true}
@@ -56,7 +56,7 @@ are_places spots (x ∷ xs) h =
     let first = All-head (IsPair spots) x xs h in
     (is_place spots (selector_at spots x) x.recursion first.guarded first.sequence, are_places spots xs (All-tail (IsPair spots) x xs h))
 
--- where there is a pair, it enters where it stands
+-- if there is a pair, it enters its own place
 some_stands : (spots : List Spot) (xs : List Pair) → All (IsStanding spots) xs → (xs ≡ [] → ⊥) → SomeEnter spots xs []
 some_stands spots [] h some = absurd (some refl)
 some_stands spots (x ∷ xs) h some = cons-here spots x xs [] (stands-enters (selector_at spots x) (frames (places_of spots) x.recursion) (All-head (IsStanding spots) x xs h))
@@ -76,7 +76,7 @@ module _ (spots : List Spot) (x : Pair) (old new : Reached) (nothing : old.stand
     λ h. ⊎_elim (λ (s : SomeEnter spots new.standing.items p). s) (λ (a : SomeEnter spots new.again.items p). absurd (none-enter spots p (subst (λ l. SomeEnter spots l p) (again ∙ none) a))) ((enters p).1 (inr h)),
   )
 
--- the root's pair, of a selector that stands in no recursion
+-- the root's pair, of a selector that is in no recursion
 pub root-pair : (spots : List Spot) (n : ℕ) (s : Pattern) → AreSpots 0 spots → n + 1 ≡ length spots → at (places_of spots) n ≡ s → IsSelector s → IsPair spots (record { place = n; recursion = None })
 root-pair spots n s table last is selector = record { within = omega arith; guarded = subst (IsGuarded outside) (sym is) selector.edges; sequence = tt; stands = in_none (last-free spots n table last) }
 
@@ -98,7 +98,7 @@ module _ (spots : List Spot) (n : ℕ) (s : Pattern) (is : at (places_of spots) 
   pub start-tested : (p : Path) → residual_enters (map (place_of spots) xs) p ≡ is_entered s p
   start-tested = start_tested (map (place_of spots) xs) s (are_places spots xs (pairs-of spots new.standing.items xs among reached.pairs)) selector start-entered
 
--- ---- pairs behind a step, one by one
+-- ---- pairs after a step, one by one
 
 pub record Stepped (spots : List Spot) (t : Step) (r : Reached) (xs : List Pair) : Type 0 where
   pub reached : AreReached spots r
@@ -123,7 +123,7 @@ stepped-more spots t old new xs i x within is so_far reached enters =
 pub same-twice : (A B C : Path → Type 0) → Same A B → Same B C → Same A C
 same-twice A B C s t p = (λ h. (t p).0 ((s p).0 h), λ h. (s p).1 ((t p).1 h))
 
--- ---- the residual behind a step
+-- ---- the residual after a step
 
 -- the pairs that were read of a residual are its places
 pub places-read : (spots : List Spot) (held xs : List Pair) (places : List Place) → map (place_of spots) held ≡ places → xs ≡ held → places ≡ map (place_of spots) xs

@@ -1,4 +1,4 @@
--- What is left of a selector behind a path enters what the selector enters from there.
+-- What is left of a selector after a path enters what the selector enters from there.
 use Rattle.std.proofs.Common.{◌≡◌, ℕ, ◌+◌, ◌⊎◌, inl, inr, ⊎_elim, Bool, true, false, true≢false, List, [], ◌∷◌, ◌++◌, refl, sym, ◌∙◌, subst, arith}
 use Rattle.std.specs.List.{AllByRecursion}
 use Rattle.std.specs.Prelude.{◌↔◌, Option, Some, None, if◌then◌else◌, bytes_eq}
@@ -102,7 +102,7 @@ mutual
           by head h = inl h
           by (tail {s = r} n) h = inr (r, n, h)
 
--- ---- what stands, and no edge
+-- ---- matchers and explorers, and no edge
 
 -- the place is an edge, a matcher or an explorer
 abbrev pub IsLead : Place → Type 0
@@ -144,7 +144,7 @@ pub no_edges : (xs ys : List Place) → standing xs ≡ xs → standing ys ≡ y
 no_edges xs ys a b = standing-append xs ys ∙ (λ i. a i ++ b i)
 
 mutual
-  -- where no edge may stand, none is among them
+  -- where no edge is allowed, none is among them
   pub leads-no_edge : (a : Around) (s : Pattern) (n : ℕ) (e : List Frame) (q : Option ℕ) → (MayStand a → ⊥) → IsGuarded a s → standing (leads s n e q) ≡ leads s n e q
   leads-no_edge a matcher n e q never g = refl
   leads-no_edge a (all s) n e q never g = refl
@@ -160,7 +160,7 @@ mutual
   each_leads-no_edge a (member s ss) n e q never g =
       no_edges (leads s n e q) (each_leads ss (n + (inside_of s + 1)) e q) (leads-no_edge a s n e q never g.0) (each_leads-no_edge a ss (n + (inside_of s + 1)) e q never g.1)
 
--- ---- behind a step
+-- ---- after a step
 
 -- a list under a condition enters what it does if the condition holds
 if_enter : (b : Bool) (xs : List Place) (p : Path) (A : Type 0) → (b ≡ true → (Enter xs p ↔ A)) → (b ≡ false → A → ⊥) → (Enter (if b then xs else []) p ↔ A)

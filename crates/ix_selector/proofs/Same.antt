@@ -69,7 +69,7 @@ order-pairs spots others [] (y ∷ ys) = refl
 order-pairs spots others (x ∷ xs) [] = refl
 order-pairs spots others (x ∷ xs) (y ∷ ys) = λ i. ordering_then (pair_order spots others x y i) (order-pairs spots others xs ys i)
 
--- ---- what is told to be the same
+-- ---- what compares as equal
 
 -- depths that compare as equal are equal
 pub depth-equal : (d e : Option ℕ) → option_eq nat_eq d e ≡ true → d ≡ e

@@ -20,7 +20,7 @@ limit_again : {d : Data} {limit : Option ℕ} → SpellsLimit d limit → IsLimi
 limit_again as_no_limit fits = refl
 limit_again (as_depth {n = n}) fits = ap (λ b. if b then Ok (Some n) else Err Depth) (lt-ltb n (2 ^ 32) fits)
 
--- an edge where it may stand
+-- an edge where it is allowed
 edge_again : (around : Around) → MayStand around → edge_form around no_entries ≡ Ok edge
 edge_again outside may = absurd may
 edge_again unguarded may = absurd may

@@ -116,7 +116,7 @@ edge_spelled guarded no_entries s h = subst (λ t. SpellsPattern (one_key (codes
 
 -- one level, where what the levels below read is spelled
 module _ (read : Reader) (spelled : (around : Around) (d : Data) (s : Pattern) → read around d ≡ Ok s → SpellsPattern d s) where
-  -- each form is spelled where what stands inside it is
+  -- each form is spelled where what is inside it is
   all_spelled : (around : Around) (es : Entries) (s : Pattern) → all_read read around es ≡ Ok s → SpellsPattern (one_key (codes "a") (map es)) s
   all_spelled around es s h =
       let one = bind_ok (one_of (codes ">") es) (λ d. read (behind_step around) d >>= (λ s. Ok (all s))) s h in
@@ -197,7 +197,7 @@ module _ (read : Reader) (spelled : (around : Around) (d : Data) (s : Pattern) �
       subst (λ t. SpellsPattern (one_key (codes "|") (list ds)) t) (ok_same (union inner.0) s inner.2) (as_union (members_spelled around ds inner.0 inner.1))
   union_spelled around other s h = err_no_ok Kind h
 
-  -- a form that takes a map, behind its key
+  -- a form that takes a map, after its key
   in_map : (k key : List ℕ) (d : Data) (form : Entries → Result Pattern SelFault) (s : Pattern) → ((es : Entries) → form es ≡ Ok s → SpellsPattern (one_key key (map es)) s)
       → k ≡ key → (entries_of_map d >>= form) ≡ Ok s → SpellsPattern (one_key k d) s
   in_map k key d form s each named h =
@@ -234,7 +234,7 @@ unfolding selector_at
 at_spelled zero around d s h = err_no_ok Nesting h
 at_spelled (suc n) around d s h = with_spelled (selector_at n) (at_spelled n) around d s h
 
--- what stands in the envelope, or is bare
+-- what is in the envelope, or is bare
 pub around_spelled : (d : Data) (s : Pattern) → SpellsPattern (without_envelope d) s → SpellsSelector d s
 around_spelled (map (entry k d no_entries)) s h =
     elim (bytes_eq k (codes "selector")) as (λ b. (b ≡ true → k ≡ codes "selector") → SpellsPattern (if b then d else map (entry k d no_entries)) s → SpellsSelector (map (entry k d no_entries)) s)

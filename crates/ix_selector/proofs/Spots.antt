@@ -8,13 +8,13 @@ use Rattle.ix_selector.specs.Pattern.{Pattern, all, fields, index, range, recurs
 use Rattle.ix_selector.specs.Places.{at, named_at, seen, seen_behind, places_of, AreBelow, AreNamedBelow, IsSpot, AreSpots, IsNumber, HasNumber, Names, IsFree, AreNamedOnce, AreFrom, IsFreeFrom}
 use Rattle.ix_selector.specs.Grown.{Grows}
 
--- what stands in the front stays there
+-- what is in the front stays there
 pub at-front : (ps more : List Pattern) (k : ℕ) → k < length ps → at (ps ++ more) k ≡ at ps k
 at-front [] more k h = absurd (omega arith)
 at-front (p ∷ ps) more zero h = refl
 at-front (p ∷ ps) more (suc k) h = at-front ps more k (omega arith)
 
--- the first behind the front
+-- the first after the front
 pub at-behind : (ps : List Pattern) (p : Pattern) (more : List Pattern) → at (ps ++ p ∷ more) (length ps) ≡ p
 at-behind [] p more = refl
 at-behind (q ∷ ps) p more = at-behind ps p more
@@ -29,7 +29,7 @@ named-front : (ps more : List Pattern) (fs : List (Vec ℕ × ℕ)) → AreNamed
 named-front ps more [] h = refl
 named-front ps more (f ∷ fs) h = λ i. (f.0.items, at-front ps more f.1 h.0 i) ∷ named-front ps more fs h.1 i
 
--- a spot that names places in the front alone is the same selector when more stand behind
+-- a spot that names places in the front alone is the same selector when more places follow
 pub seen-front : (ps more : List Pattern) (x : Spot) → IsSpot (length ps) x → seen (ps ++ more) x ≡ seen ps x
 seen-front ps more Matcher h = refl
 seen-front ps more (All k) h = ap all (at-front ps more k h)
@@ -40,7 +40,7 @@ seen-front ps more (Recursive limit k) h = ap (recursive limit) (at-front ps mor
 seen-front ps more (Union ks) h = ap (λ l. union (members_of l)) (map-front ps more ks.items h)
 seen-front ps more Edge h = refl
 
--- all places behind some, as a list behind those
+-- all places after some, as a list after those
 abbrev pub rest_of : List Pattern → List Spot → List Pattern
 rest_of before [] = []
 rest_of before (x ∷ xs) = seen before x ∷ rest_of (before ++ seen before x ∷ []) xs
@@ -77,7 +77,7 @@ at-last xs x =
     ∙ ap (at (places_of xs ++ seen (places_of xs) x ∷ [])) (sym (length-places xs))
     ∙ at-behind (places_of xs) (seen (places_of xs) x) []
 
--- what stands at a place is what its spot is, with all places
+-- what is at a place is what its spot is, with all places
 pub at-seen : (before : List Pattern) (xs : List Spot) (n : ℕ) (d : Spot) → AreSpots (length before) xs → n < length xs
     → at (seen_behind before xs) (length before + n) ≡ seen (seen_behind before xs) (get_or xs n d)
 at-seen before [] n d spots h = absurd (omega arith)
@@ -100,7 +100,7 @@ spot-at m [] n d spots h = absurd (omega arith)
 spot-at m (x ∷ xs) zero d spots h = subst (λ k. IsSpot k x) {x = m} (omega arith) spots.0
 spot-at m (x ∷ xs) (suc n) d spots h = subst (λ k. IsSpot k (get_or xs n d)) {x = m + 1 + n} (omega arith) (spot-at (m + 1) xs n d spots.1 (omega arith))
 
--- spots put behind others
+-- spots appended to others
 pub spots-append : (m : ℕ) (xs ys : List Spot) → AreSpots m xs → AreSpots (m + length xs) ys → AreSpots m (xs ++ ys)
 spots-append m [] ys h more = subst (λ k. AreSpots k ys) {x = m + 0} (omega arith) more
 spots-append m (x ∷ xs) ys h more = (h.0, spots-append (m + 1) xs ys h.1 (subst (λ k. AreSpots k ys) {x = m + suc (length xs)} (omega arith) more))
@@ -220,7 +220,7 @@ grows-twice xs ys zs g h = record {
   once = h.once;
 }
 
--- a spot that names places that were free behind the front
+-- a spot that names places that were free after the front
 pub grows-one : (xs ys : List Spot) (x : Spot) → Grows xs ys → IsSpot (length ys) x → ((k : ℕ) → Names x k → IsFreeFrom (length xs) ys k) → Grows xs (ys ++ x ∷ [])
 grows-one xs ys x g one free = record {
   more = g.more ++ x ∷ [];

@@ -1,4 +1,4 @@
--- A place stands in one recursion, where each is named once.
+-- A place is in one recursion, where each is named once.
 use Rattle.std.proofs.Common.{◌≡◌, ℕ, zero, suc, ◌<◌, List, [], ◌∷◌, get_or, length, refl, sym, ◌∙◌, ap, subst, arith}
 use Rattle.std.specs.Prelude.{Option, Some}
 use Rattle.std.proofs.lemmas.List.{get_or_default}
@@ -73,7 +73,7 @@ stands-once {spots} once (in_own {n = n} {k = k} s) (in_same {n = m} b u) =
     absurd (beside_no_sequence spots n k k (subst (λ j. IsBeside spots j k) same b) s)
 stands-once once (in_own s) (in_own t) = refl
 
--- the sequence of a recursion stands in it
+-- the sequence of a recursion is in it
 pub own-start : {spots : List Spot} {k s : ℕ} {q : Option ℕ} → StandsIn spots k q → q ≡ Some s → StandsIn spots s (Some s)
 own-start (in_none free) is = absurd cc
 own-start (in_same b t) is = own-start t is

@@ -9,7 +9,7 @@ use Rattle.ix_selector.specs.IsEntered.{entered_within, is_entered}
 use Rattle.ix_selector.specs.Residual.{Place, IsAmong, here, there, ResidualEnters, residual_enters, IsBehind}
 use Rattle.ix_selector.proofs.Decides.{within_sound, within_is, entered-complete, edges, FramesGuarded, is_entered-decides}
 
--- what stands round a place
+-- what surrounds a place
 abbrev pub around_of : List Frame → Around
 around_of [] = outside
 around_of (f ∷ e) = guarded

@@ -11,7 +11,7 @@ abbrev pub Inner : Type 0
 Inner = Option (ℕ × Pattern)
 
 mutual
-  -- inside s, before which are n places, and round which is the recursion q, stands r, before which are m places, and round
+  -- inside s, before which are n places, and around which is the recursion q, is r, before which are m places, and around
   -- which is the recursion w
   pub data In : Pattern → ℕ → Inner → Pattern → ℕ → Inner → Type 0 where
     itself : {s : Pattern} {n : ℕ} {q : Inner} → In s n q s n q
@@ -30,7 +30,7 @@ mutual
     in_member : {s r : Pattern} {ss : Members} {n m : ℕ} {q w : Inner} → In s n q r m w → InMembers (member s ss) n q r m w
     later_member : {s r : Pattern} {ss : Members} {n m : ℕ} {q w : Inner} → InMembers ss (n + (inside_of s + 1)) q r m w → InMembers (member s ss) n q r m w
 
--- ---- between which numbers they stand
+-- ---- between which numbers they are
 
 mutual
   bounds : {s r : Pattern} {n m : ℕ} {q w : Inner} → In s n q r m w → (n ≤ m) × (m + inside_of r ≤ n + inside_of s)
@@ -50,7 +50,7 @@ mutual
   member_bounds (in_member h) = let b = bounds h in let low = b.0 in let high = b.1 in (omega arith, omega arith)
   member_bounds (later_member h) = let b = member_bounds h in let low = b.0 in let high = b.1 in (omega arith, omega arith)
 
--- ---- which stands at a number
+-- ---- which is at a number
 
 -- what is found at a number: a selector and the recursion around it, or nothing
 abbrev Found : Type 0

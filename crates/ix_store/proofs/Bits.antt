@@ -8,7 +8,7 @@ use Rattle.std.proofs.lemmas.Bool.Decides.{Decides-eqb}
 use Rattle.std.proofs.lemmas.List.{take_all, get_or-set_same, get_or-set_other, get_or_read, length-append}
 use Rattle.std.proofs.lemmas.Nat.Bits.{bit_at_set_same, bit_at_set_other}
 
--- zeros that are appended change no word, and no word behind the last
+-- zeros that are appended change no word, and no word after the last
 zero-words : (k i : ℕ) → get_or (replicate k zero) i zero ≡ zero
 zero-words zero i = refl
 zero-words (suc k) zero = refl

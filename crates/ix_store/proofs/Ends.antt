@@ -1,4 +1,4 @@
--- Where bytes stand in shared ones, and what stands behind what is read.
+-- Where bytes are in shared ones, and what is after what is read.
 use Rattle.std.proofs.Common.{◌≡◌, ℕ, Bool, true, false, ◌+◌, ◌-◌, List, [], ◌∷◌, ◌++◌, length, take, drop, refl, sym, ◌∙◌, ap, subst, arith, append_assoc, append-nil, length-append, take-append-drop, drop-drop}
 use Rattle.std.specs.Prelude.{Option, Some, None, IfSome, Ok, ◌==◌, if◌then◌else◌}
 use Rattle.std.proofs.Math.Seq.{drop-append_seam, take-append_seam}
@@ -20,7 +20,7 @@ use Rattle.ix_cbor.proofs.Sound.{item_sound}
 use Rattle.ix_cbor.proofs.Steps.{bind_ok, ok_same}
 use Rattle.ix_store.specs.Ahead.{EndsAt, EndsWith, HasBefore, LinkBefore}
 
--- what stands inside bytes that stand in the whole
+-- what is inside bytes that are in the whole
 stands_inside : (whole : List ℕ) (start : ℕ) (bytes front part rest : List ℕ) → StandsAt whole start bytes → bytes ≡ front ++ (part ++ rest) → StandsAt whole (start + length front) part
 stands_inside whole start bytes front part rest stands is =
     let more = drop (length bytes) (drop start whole) in
@@ -43,7 +43,7 @@ pub still_ends : {A : Type 0} (whole : A → List ℕ) (end : Option (A × ℕ))
 still_ends whole None bytes rest w ends = tt
 still_ends whole (Some p) bytes rest w ends = ends_behind (whole p.0) p.1 bytes rest ends w
 
--- where the CID of a link stands
+-- where the CID of a link is
 pub link_stands : (whole : List ℕ) (end : ℕ) (bytes part rest : List ℕ) → EndsAt whole end bytes → HasBefore bytes part rest → StandsAt whole (end - length rest - length part) part
 link_stands whole end bytes part rest ends w =
     let size : length bytes ≡ length w.0 + (length part + length rest) = ap length w.1 ∙ length-append w.0 (part ++ rest) ∙ ap (λ (n : ℕ). length w.0 + n) (length-append part rest) in
@@ -51,7 +51,7 @@ link_stands whole end bytes part rest ends w =
     let at : end - length bytes + length w.0 ≡ end - length rest - length part = omega (arith, size, h) in
     subst (λ (k : ℕ). StandsAt whole k part) at (stands_inside whole (end - length bytes) bytes w.0 part rest ends.1 w.1)
 
--- bytes that stand somewhere end there
+-- bytes that are somewhere end there
 stands_end : (whole : List ℕ) (start : ℕ) (bytes : List ℕ) → StandsAt whole start bytes → EndsAt whole (start + length bytes) bytes
 stands_end whole start bytes stands =
     let at : start ≡ start + length bytes - length bytes = omega arith in (omega arith, subst (λ (k : ℕ). StandsAt whole k bytes) at stands)
@@ -75,13 +75,13 @@ digest_end c bytes cid =
 pub digest_ends : (whole : List ℕ) (start : ℕ) (c : List ℕ) → AreBytes c → IsCid c → StandsAt whole start c → EndsAt whole (start + length c) (digest_of c)
 digest_ends whole start c bytes cid stands = ends_behind whole (start + length c) c (digest_of c) (stands_end whole start c stands) (digest_end c bytes cid)
 
--- ---- behind what is read
+-- ---- after what is read
 
--- behind an item's own part
+-- after an item's own part
 pub front_end : (f : Front) (at behind : List ℕ) → IsBytes at → own_at at ≡ Ok (own_of_front f, behind) → EndsWith at behind
 front_end f at behind bytes own = (own_spelling (own_of_front f), (own_taken at (own_of_front f) behind bytes own).parts)
 
--- behind a link, before which its CID stands
+-- after a link, before which its CID is
 link_before : (c at behind : List ℕ) → IsBytes at → own_at at ≡ Ok (leaf (link c), behind) → HasBefore at c behind
 link_before c at behind bytes own =
     let head = head_of 2 (length c + 1) in (
@@ -101,15 +101,15 @@ link_end (fronts.Text t) at behind bytes own = tt
 link_end (fronts.List n) at behind bytes own = tt
 link_end (fronts.Map n) at behind bytes own = tt
 
--- behind an item
+-- after an item
 item_end : (at rest : List ℕ) (d : Data) → IsBytes at → item_at 512 at ≡ Ok (d, rest) → EndsWith at rest
 item_end at rest d bytes e = (spelling_of d, (item_sound 512 at d rest bytes e).whole)
 
--- behind an item that is skipped
+-- after an item that is skipped
 pub skip_end : (at rest : List ℕ) → IsBytes at → behind_item 512 at ≡ Ok rest → EndsWith at rest
 skip_end at rest bytes e =
     let x = bind_ok (item_at 512 at) behind rest e in subst (EndsWith at) (ok_same x.0.1 rest x.2) (item_end at x.0.1 x.0.0 bytes x.1)
 
--- behind a key
+-- after a key
 pub key_end : (at k rest : List ℕ) → IsBytes at → key_at None at ≡ Ok (k, rest) → EndsWith at rest
 key_end at k rest bytes e = (key_spelling k, (key_taken None at k rest bytes e).parts)

@@ -15,7 +15,7 @@ use Rattle.ix_store.specs.declared.index.Index.{Index}
 use Rattle.ix_store.proofs.Stores.{is_some-position, position-at, pair-there}
 use Rattle.ix_store.proofs.Indexes.{free, Puts, leads-past}
 
--- the place to which a look-up comes that sees this in its slots, and behind them what the tree has
+-- the place to which a look-up comes that sees this in its slots, and after them what the tree has
 abbrev pub place_by : Sight → Option ℕ → Option ℕ
 place_by (At place) behind = Some place
 place_by Free behind = None
@@ -70,7 +70,7 @@ place-leads blocks l b m c p (At q) is h = let same : q ≡ p = cc in sight-lead
 place-leads blocks l b m c p Free is h = absurd (none-some p h)
 place-leads blocks l b m c p Full is h = subst (λ (o : Option ℕ). Leads l o m p) (sym h) (leads-past l m p (sight-full blocks l m c is))
 
--- what a look-up sees at a slot and behind it
+-- what a look-up sees at a slot and after it
 sight-from : (blocks : Blocks) (l : List Slot) (n m : ℕ) (c : List ℕ) → n < length l → sight_of blocks (drop n l) m c ≡ sight_of blocks (get_or l n free ∷ drop (n + 1) l) m c
 sight-from blocks l n m c within = ap (λ (r : List Slot). sight_of blocks r m c) (drop_more l n free within)
 
@@ -107,11 +107,11 @@ sight-on blocks l n m q c within has other =
       and-false true = refl
       and-false false = refl
 
--- behind the last slot
+-- after the last slot
 pub sight-end : (blocks : Blocks) (l : List Slot) (n m : ℕ) (c : List ℕ) → length l ≤ n → sight_of blocks (drop n l) m c ≡ Full
 sight-end blocks l n m c past = ap (λ (r : List Slot). sight_of blocks r m c) (drop_of_length-le l past)
 
--- pairs among which each CID tells the place have distinct CIDs
+-- pairs among which each CID determines the position have distinct CIDs
 is-some : (o : Option ℕ) → is_some o ≡ true → (p : ℕ) × (o ≡ Some p)
 is-some None h = absurd (false≢true h)
 is-some (Some p) h = (p, refl)
@@ -131,7 +131,7 @@ distinct-by f n (e ∷ es) h = (
   distinct-by f (n + 1) es (λ k x at. h (suc k) x at ∙ ap Some (omega arith)),
 )
 
--- a CID at a place stands there
+-- a CID at a place is there
 cid-there : (o : Option (List ℕ × List ℕ)) (c : List ℕ) → is_cid_of o c ≡ true → (e : List ℕ × List ℕ) × (o ≡ Some e) × (bytes_eq e.0 c ≡ true)
 cid-there None c h = absurd (false≢true h)
 cid-there (Some e) c h = (e, refl, h)
@@ -157,7 +157,7 @@ place-keeps (At q) b d p keeps h = h
 place-keeps Free b d p keeps h = absurd (none-some p h)
 place-keeps Full b d p keeps h = keeps h
 
--- the tree stays true if the place is one at which the CID stands
+-- the tree stays true if the place is one at which the CID is
 pub true-put : (index later : Index) (es : Blocks) (k : List ℕ) (s : ℕ) (x : List ℕ × List ℕ) → IsTrueBehind index es → Puts index later k s → slice_get es s ≡ Some x → x.0 ≡ k → IsTrueBehind later es
 true-put index later es k s x true_behind puts at is c p h =
     ⊎_elim

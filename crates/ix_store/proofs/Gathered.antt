@@ -12,7 +12,7 @@ use Rattle.ix_store.specs.declared.entry.Entry.{Entry}
 use Rattle.ix_store.specs.Entry.{pair_of}
 use Rattle.ix_store.proofs.Stores.{entries-more, entries-before, less-or-same}
 
--- one more behind them
+-- one more after them
 pub with_blocks-push : (store ps : Blocks) (p : List ℕ × List ℕ) → with_blocks store (ps ++ p ∷ []) ≡ with_block (with_blocks store ps) p
 with_blocks-push store [] p = refl
 with_blocks-push store (q ∷ ps) p = with_blocks-push (with_block store q) ps p
@@ -37,7 +37,7 @@ made-held entries kept place x within at held =
     sym (ap (λ (l : List Entry). with_blocks (map pair_of (take kept entries)) (map pair_of l)) rest
     ∙ ap (λ v. with_blocks (cond v (map pair_of (take kept entries)) (map pair_of (take kept entries) ++ pair_of x ∷ [])) (map pair_of (drop (place + 1) entries))) held)
 
--- where no CID stands twice, all are
+-- if no CID occurs twice, all are
 made-past : (entries : List Entry) (k : ℕ) → length entries ≤ k → made k entries ≡ map pair_of entries
 made-past entries k past =
     ap (λ (l : List Entry). with_blocks (map pair_of (take k entries)) (map pair_of l)) (drop_of_length-le entries past) ∙ ap (λ (l : List Entry). map pair_of l) (take_all k entries past)
@@ -56,7 +56,7 @@ made-all (suc more) entries k far h =
     (λ past. made-past entries k (omega (arith, past.0)))
     (slice_get_cases entries k).1
 
--- an element that is put behind those that are kept
+-- an element that is appended to those that are kept
 pub take-swap : (xs : List Entry) (k p : ℕ) (d : Entry) → k ≤ p → p < length xs → take (k + 1) (swap xs k p) ≡ take k xs ++ get_or xs p d ∷ []
 take-swap xs k p d before within =
     ap (λ (l : List Entry). take (k + 1) l) (sym (swap_is xs k p d (omega (arith, before, within)) within)) ∙ ⊎_elim
@@ -66,7 +66,7 @@ take-swap xs k p d before within =
       at-itself : (c : Entry) → take (k + 1) (set (set xs k c) k c) ≡ take k xs ++ c ∷ []
       at-itself c = take_more_set (set xs k c) k c (omega (arith, length-set xs k c, before, within)) ∙ ap (λ (l : List Entry). l ++ c ∷ []) (take-set-le k xs k c (omega arith))
 
--- what is behind it stays
+-- what is after it stays
 pub drop-swap : (xs : List Entry) (k p : ℕ) (d : Entry) → k ≤ p → p < length xs → drop (p + 1) (swap xs k p) ≡ drop (p + 1) xs
 drop-swap xs k p d before within =
     ap (λ (l : List Entry). drop (p + 1) l) (sym (swap_is xs k p d (omega (arith, before, within)) within))
@@ -80,7 +80,7 @@ pub record InTurn (whole : Blocks) (count kept place : ℕ) (entries : List Entr
   pub indexed : IsIndexed index (map pair_of (take kept entries))
   pub makes : with_blocks (map pair_of (take kept entries)) (map pair_of (drop place entries)) ≡ whole
 
--- one of a new CID is put behind those that are kept
+-- one of a new CID is appended to those that are kept
 pub in-turn-kept : (whole : Blocks) (count kept place : ℕ) (entries later : List Entry) (index next : Index) (x : Entry) → InTurn whole count kept place entries index → place < count → x ≡ get_or entries place x → has_cid (map pair_of (take kept entries)) x.cid ≡ false
     → later ≡ swap entries kept place → IsIndexed next (map pair_of (take kept entries) ++ pair_of x ∷ []) → InTurn whole count (kept + 1) (place + 1) later next
 in-turn-kept whole count kept place entries later index next x h less at new swapped indexed =

@@ -45,7 +45,7 @@ take-set (suc n) [] i x = refl
 take-set (suc n) (y ∷ l) zero x = refl
 take-set (suc n) (y ∷ l) (suc i) x = ap (λ (r : List Slot). y ∷ r) (take-set n l i x)
 
--- what is free is free in a front, or behind it
+-- what is free is free in a front, or after it
 free-front : (n : ℕ) (l : List Slot) (i : ℕ) → IsFree (get_or l i free) → IsFree (get_or (take n l) i free)
 free-front zero l i h = refl
 free-front (suc n) [] i h = refl
@@ -81,7 +81,7 @@ first-free [] n h = absurd h
 first-free (y ∷ l) zero h = h
 first-free (y ∷ l) (suc n) h = first-free l n h.1
 
--- behind slots that are taken a free one is the first
+-- after slots that are taken a free one is the first
 pub first-from : (l : List Slot) (n : ℕ) → AreTaken (take n l) → n < length l → IsFree (get_or l n free) → IsFirstFree l n
 first-from [] n taken within vacant = absurd (omega arith)
 first-from (y ∷ l) zero taken within vacant = vacant
@@ -186,7 +186,7 @@ passed-more l n b m o q h within at other =
           ⊎_elim (λ here. let same : p ≡ q = omega (arith, at, here.1) in absurd (other here.0 (is ∙ ap Some same))) (λ later. inr later) on.1) (h.on p is);
     }
 
--- behind the last slot the tree has what is there
+-- after the last slot the tree has what is there
 pub passed-all : (l : List Slot) (n : ℕ) (b : Option ℕ) (m : ℕ) (o : Option ℕ) → Passed l n b m o → length l ≤ n → AreTaken l × ((p : ℕ) → o ≡ Some p → b ≡ Some p)
 passed-all l n b m o h past =
     let end : drop n l ≡ [] = drop_of_length-le l past in (
@@ -198,7 +198,7 @@ passed-all l n b m o h past =
 absent : (es : Blocks) (k : List ℕ) → position_of es k ≡ None → has_cid es k ≡ false
 absent es k h = sym (is_some-position 0 es k) ∙ ap (λ (o : Option ℕ). is_some o) h
 
--- where the pairs stand once a new CID is at the end
+-- where the pairs are once a new CID is at the end
 position-new : (es : Blocks) (k b c : List ℕ) → position_of es k ≡ None → cond (bytes_eq k c) (Some (length es)) (position_of es c) ≡ position_of (es ++ (k, b) ∷ []) c
 position-new es k b c h = ap (λ (n : ℕ). cond (bytes_eq k c) (Some n) (position_of es c)) (sym (zero-add (length es))) ∙ position-push 0 es k b c (absent es k h)
 
@@ -345,7 +345,7 @@ found-behind index es k h on = same-options (place_behind index k) (position_of 
 pub has-by : (es : Blocks) (k : List ℕ) (o : Option ℕ) → position_of es k ≡ o → has_cid es k ≡ is_some o
 has-by es k o h = sym (is_some-position 0 es k) ∙ ap (λ (p : Option ℕ). is_some p) h
 
--- the place behind the pairs is the one of a new CID alone
+-- the place after the pairs is the one of a new CID alone
 stood-by : (es : Blocks) (k : List ℕ) (s : ℕ) (o : Option ℕ) → position_of es k ≡ o → s ≡ unwrap_or o (length es) → eqb s (length es) ≡ not (has_cid es k)
 stood-by es k s None at stood = eq-eqb s (length es) stood ∙ ap not (sym (has-by es k None at))
 stood-by es k s (Some q) at stood =
@@ -387,7 +387,7 @@ free-at slots u slot v = at-first slots u slot v.0 v.1 v.2
 pub taken-all : (l : List Slot) (n : ℕ) → AreTaken (take n l) → length l ≤ n → AreTaken l
 taken-all l n h past = subst (λ (r : List Slot). AreTaken r) (take_all n l past) h
 
--- a look-up for another place goes on behind a taken slot
+-- a look-up for another place continues after a taken slot
 pub leads-on : (l : List Slot) (n : ℕ) (b : Option ℕ) (m p q : ℕ) → (get_or l n free).end ≡ q + 1 → n < length l → (q ≡ p → ⊥) → Leads (drop n l) b m p → Leads (drop (n + 1) l) b m p
 leads-on l n b m p q at within other h =
     let on : Leads (get_or l n free ∷ drop (n + 1) l) b m p = subst (λ (r : List Slot). Leads r b m p) (drop_more l n free within) h in
@@ -399,7 +399,7 @@ leads-free l n b m p vacant within h =
     let on : Leads (get_or l n free ∷ drop (n + 1) l) b m p = subst (λ (r : List Slot). Leads r b m p) (drop_more l n free within) h in
     omega (arith, vacant, on.0)
 
--- behind the last slot it comes to what the tree has
+-- after the last slot it comes to what the tree has
 pub leads-end : (l : List Slot) (n : ℕ) (b : Option ℕ) (m p : ℕ) → length l ≤ n → Leads (drop n l) b m p → b ≡ Some p
 leads-end l n b m p past h = subst (λ (r : List Slot). Leads r b m p) (drop_of_length-le l past) h
 

@@ -5,7 +5,7 @@ use Rattle.atomic_table.specs.Table.{Me, Allows, keeps}
 use Rattle.ix_store.specs.Store.{Blocks}
 use Rattle.ix_store.specs.Mark.{Tells, IsTrueAt, AllTrue}
 
--- what stands at a place after a write
+-- what is at a place after a write
 lands : (ws : List ℕ) (at mark place : ℕ) → ((place ≡ at) × (slice_index (slice_set ws at mark) place ≡ mark)) ⊎ (slice_index (slice_set ws at mark) place ≡ slice_index ws place)
 lands [] at mark place = inr refl
 lands (w ∷ ws) zero mark zero = inl (refl, refl)
@@ -36,6 +36,6 @@ digit_is : (a : Bool) → (cond a 1 2 == 1) ≡ a
 digit_is true = refl
 digit_is false = refl
 
--- what is told is the answer
+-- what is decoded is the answer
 pub told_is : (d : ℕ) (a b : Bool) → Tells d a → 0 < d → b ≡ (d == 1) → b ≡ a
 told_is d a b t some e = e ∙ ⊎_elim (λ h. absurd (omega (arith, h, some))) (λ h. ap (λ n. n == 1) h ∙ digit_is a) t

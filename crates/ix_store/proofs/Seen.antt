@@ -48,7 +48,7 @@ all-of-both first second third early late c p h = late c p (early c p h)
 pub all-put : (index later : Index) (k : List ℕ) (s p : ℕ) → Puts index later k s → s ≡ unwrap_or (place_behind index k) p → HasAllOf later index
 all-put index later k s p puts stood c q h = put-keeps index later k c s p q puts stood h
 
--- what stands behind stays there
+-- what is in the tree stays there
 pub all-behind : (index later : Index) (es : Blocks) (places : List ℕ) → HasAllOf later index → All (λ p. IsBehind index es p) places → All (λ p. IsBehind later es p) places
 all-behind index later es places has all k d less e at = has e.0 _ (all k d less e at)
 
@@ -73,7 +73,7 @@ found-share index later es n share places same has found seen behind k e less at
     (seen k e from less at))
     (cases_lt k n)
 
--- a CID for which the tree was given a place stands behind there
+-- a CID for which the tree was given a position is in the tree
 pub put-behind : (index later : Index) (es : Blocks) (x : List ℕ × List ℕ) (s p : ℕ) → Puts index later x.0 s → s ≡ p → slice_get es p ≡ Some x → IsBehind later es p
 put-behind index later es x s p puts same is e at =
     let both : Some x ≡ Some e = sym is ∙ at in

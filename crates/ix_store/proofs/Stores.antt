@@ -1,4 +1,4 @@
--- A store with one pair more, and where its pairs stand.
+-- A store with one pair more, and where its pairs are.
 use Rattle.std.proofs.Common.{◌≡◌, ◌⊎◌, ℕ, zero, suc, ◌+◌, Bool, true, false, ◌||◌, cond, List, [], ◌∷◌, ◌++◌, length, take, drop, ◌<◌, map, get_or, slice_get, option_map, Some, None, bytes_eq, refl, sym, ap, subst, ◌∙◌, zero-add, arith, inl, inr, ⊎_elim}
 use Rattle.std.specs.Prelude.{Result, Ok, Err, OnOk}
 use Rattle.std.specs.Result.{is_err}
@@ -56,7 +56,7 @@ distinct-push [] k b h new = (refl, tt)
 distinct-push (e ∷ es) k b h new =
     (has_cid-push es k b e.0 h.0 (bytes-apart-back e.0 k (or-left (bytes_eq e.0 k) (has_cid es k) new)), distinct-push es k b h.1 (or-right (bytes_eq e.0 k) (has_cid es k) new))
 
--- where the pairs stand once a new CID is at the end
+-- where the pairs are once a new CID is at the end
 pub position-push : (n : ℕ) (es : Blocks) (k b c : List ℕ) → has_cid es k ≡ false → cond (bytes_eq k c) (Some (n + length es)) (position_behind n es c) ≡ position_behind n (es ++ (k, b) ∷ []) c
 position-push n [] k b c new = ap (λ m. cond (bytes_eq k c) (Some m) None) (omega arith)
 position-push n (e ∷ es) k b c new =
@@ -80,7 +80,7 @@ has_cid-at i [] e c at same = absurd (none-some e at)
 has_cid-at zero (x ∷ es) e c at same = ap (λ y. y || has_cid es c) (ap (λ (p : List ℕ × List ℕ). bytes_eq p.0 c) (get_or_from_slice_get (x ∷ es) 0 e e at) ∙ same)
 has_cid-at (suc i) (x ∷ es) e c at same = ap (λ y. bytes_eq x.0 c || y) (has_cid-at i es e c at same) ∙ or-true (bytes_eq x.0 c)
 
--- a pair of distinct CIDs stands where its CID does
+-- of distinct CIDs a pair is at the position of its CID
 pub position-at : (n i : ℕ) (es : Blocks) (e : List ℕ × List ℕ) (c : List ℕ) → HasDistinctCids es → slice_get es i ≡ Some e → bytes_eq e.0 c ≡ true → position_behind n es c ≡ Some (n + i)
 position-at n i [] e c h at same = absurd (none-some e at)
 position-at n zero (x ∷ es) e c h at same =
@@ -170,7 +170,7 @@ has_cid-midst : (xs ys : Blocks) (k b c : List ℕ) → has_cid (xs ++ (k, b) �
 has_cid-midst [] ys k b c h = or-left (bytes_eq k c) (has_cid ys c) h
 has_cid-midst (x ∷ xs) ys k b c h = has_cid-midst xs ys k b c (or-right (bytes_eq x.0 c) (has_cid (xs ++ (k, b) ∷ ys) c) h)
 
--- of distinct CIDs none stands before its place
+-- of distinct CIDs none is before its place
 pub has_cid-before : (xs ys : Blocks) (k b : List ℕ) → HasDistinctCids (xs ++ (k, b) ∷ ys) → has_cid xs k ≡ false
 has_cid-before [] ys k b h = refl
 has_cid-before (x ∷ xs) ys k b h =

@@ -5,7 +5,7 @@ use Rattle.std.proofs.lemmas.Slice.Eq.{bytes_eq-Decides}
 use Rattle.std.proofs.lemmas.List.Elements.{filter_agree}
 use Rattle.ix_walk.specs.Once.{first_ones}
 
--- a CID stands among these
+-- a CID is among these
 abbrev pub In : List ℕ → List (List ℕ) → Type 0
 In c [] = ⊥
 In c (d ∷ ds) = (d ≡ c) ⊎ In c ds
@@ -16,7 +16,7 @@ in-append c [] ys h = inr h
 in-append c (x ∷ xs) ys (inl e) = inl (inl e)
 in-append c (x ∷ xs) ys (inr h) = elim (in-append c xs ys h) [ inl g ↦ inl (inr g) | inr g ↦ inr g ]
 
--- one filter behind another
+-- one filter after another
 pub filter-both : {X : Type 0} (p q r : X → Bool) → ((x : X) → (q x && p x) ≡ r x) → (xs : List X) → filter p (filter q xs) ≡ filter r xs
 filter-both p q r h [] = refl
 filter-both p q r h (x ∷ xs) =
@@ -26,7 +26,7 @@ filter-both p q r h (x ∷ xs) =
     ])
     (h x)
 
--- what passes stands in what a filter leaves
+-- what passes is in what a filter leaves
 pub filter-in : (p : List ℕ → Bool) (c : List ℕ) (xs : List (List ℕ)) → In c xs → p c ≡ true → In c (filter p xs)
 filter-in p c [] h passes = absurd h
 filter-in p c (x ∷ xs) (inl is) passes = subst (λ b. In c (if b then x ∷ filter p xs else filter p xs)) (sym (ap p is ∙ passes)) (inl is)
@@ -79,7 +79,7 @@ unseen-cons seen c cs =
     filter-both (λ e. not (seen e)) (λ e. not (bytes_eq e c)) (λ e. not (and_this c seen e)) (λ e. neither (bytes_eq e c) (seen e)) (first_ones cs) in
     λ i. if not (seen c) then c ∷ rest i else rest i
 
--- behind one, what follows is told apart where that was seen too
+-- after one, what follows is distinguished as if that was seen too
 pub unseen-behind : (seen : List ℕ → Bool) (c : List ℕ) (xs ys : List (List ℕ)) → unseen (and_this c seen) xs ≡ unseen (and_this c seen) ys → unseen seen (c ∷ xs) ≡ unseen seen (c ∷ ys)
 unseen-behind seen c xs ys h = unseen-cons seen c xs ∙ (λ i. if not (seen c) then c ∷ h i else h i) ∙ sym (unseen-cons seen c ys)
 

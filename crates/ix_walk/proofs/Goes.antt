@@ -1,4 +1,4 @@
--- Whether a walk that goes into CIDs once goes into one.
+-- Whether a walk with link-visit-once expands a CID.
 use Rattle.std.proofs.Common.{◌≡◌, ◌⊎◌, inl, inr, ℕ, suc, ◌+◌, ◌-◌, Bool, true, false, List, [], ◌∷◌, map, get_or, refl, sym, ◌∙◌, ap, subst, arith}
 use Rattle.std.specs.Prelude.{Option, Some, None, option_map, nat_eq, ◌&&◌, ◌||◌, if◌then◌else◌, bytes_eq, slice_get}
 use Rattle.std.proofs.Math.Path.{fun_ext}
@@ -83,7 +83,7 @@ sound_absent store c h stored e absent = by stored (hash_function_of (parts_of c
   by (inl is) o e digest = subst (λ f. false ≡ is_sound_by f digest None) (ap (λ (g : HashFunction). Some g) (sym is) ∙ e) refl
   by (inr is) o e digest = subst (λ f. false ≡ is_sound_by f digest None) (ap (λ (g : HashFunction). Some g) (sym is) ∙ e) refl
 
--- ---- what was gone into
+-- ---- what was expanded
 
 -- so do numbers
 number_same : (n : ℕ) → nat_eq n n ≡ true

@@ -1,4 +1,4 @@
--- What a walk has gone into, with one CID more.
+-- What a walk has expanded, with one CID more.
 use Rattle.std.proofs.Common.{◌≡◌, ℕ, [], Bool, true, false, cond, List, refl, sym, ◌∙◌, ap, arith}
 use Rattle.std.specs.Prelude.{Option, Some, None, if◌then◌else◌, not, nat_eq, nat_lt, ◌==◌, ◌&&◌, ◌||◌, bytes_eq}
 use Rattle.std.specs.Bool.{OnFalse}

@@ -1,4 +1,4 @@
--- Passing over what was gone into already meets nothing new later.
+-- Not expanding again what was expanded meets nothing new later.
 use Rattle.std.proofs.Common.{◌≡◌, ◌⊎◌, inl, inr, ℕ, zero, suc, ◌+◌, ◌≤◌, ◌<◌, Bool, true, false, ◌&&◌, ◌||◌, List, [], ◌∷◌, ◌++◌, length, map, flat_map, refl, sym, ap, ◌∙◌, subst, length-append, arith}
 use Rattle.std.specs.Prelude.{Option, Some, None, if◌then◌else◌, bytes_eq}
 use Rattle.std.specs.List.{AllByRecursion, list_any}
@@ -96,7 +96,7 @@ module _ {R : Type 0} (enters : Path → Bool) (rest : Path → R) (same : R →
   Soon size c [] = ⊥
   Soon size c (a ∷ more) = (length (whole a) < size) × (In c (whole a) ⊎ Soon size c more)
 
-  -- What was gone into: all below it was seen, or is met before anything that isn't smaller.
+  -- What was expanded: all below it was seen, or is met before anything that isn't smaller.
   record Entered (seen : List ℕ → Bool) (waiting : List Arrival) (g : List ℕ × R) : Type 0 where
     at : Arrival
     of_cid : at.cid ≡ g.0
@@ -137,7 +137,7 @@ module _ {R : Type 0} (enters : Path → Bool) (rest : Path → R) (same : R →
       here (inl is) = inl (this_seen a.cid seen c is)
       here (inr i) = inr i
 
-    -- what was gone into earlier, where the arrival is gone into
+    -- what was expanded earlier, if the visit is expanded
     older : (g : List ℕ × R) → Entered seen (a ∷ more) g → Entered now (links a ++ more) g
     older g e = record { at = e.at; of_cid = e.of_cid; of_rest = e.of_rest; met = λ c i. on c (e.met c i) } where
       small : length (whole a) < length (whole e.at) → Smaller (length (whole e.at)) (links a)
@@ -169,7 +169,7 @@ module _ {R : Type 0} (enters : Path → Bool) (rest : Path → R) (same : R →
     entered_behind None gone h = all_older gone h
     entered_behind (Some d) gone h = (newest, all_older gone h)
 
-    -- all below an arrival was seen where its CID was gone into with the same rest
+    -- all below a visit was seen if its CID was expanded with an equal residual
     gone-seen : (g : List ℕ × R) → Entered seen (a ∷ more) g → (bytes_eq g.0 a.cid && same g.1 (rest a.path)) ≡ true → (c : List ℕ) → In c (whole a) → seen c ≡ true
     gone-seen g e is c i =
         let both = and_parts (bytes_eq g.0 a.cid) (same g.1 (rest a.path)) is in
@@ -181,7 +181,7 @@ module _ {R : Type 0} (enters : Path → Bool) (rest : Path → R) (same : R →
           first c size (inl h) = h
           first c size (inr s) = let lt = s.0 in absurd (omega (arith, size, lt))
 
-    -- what was gone into stays so behind an arrival that is passed over
+    -- what was expanded stays so after a visit that isn't
     passed : ((c : List ℕ) → In c (whole a) → seen c ≡ true) → (g : List ℕ × R) → Entered seen (a ∷ more) g → Entered now more g
     passed all g e = record { at = e.at; of_cid = e.of_cid; of_rest = e.of_rest; met = λ c i. on c (e.met c i) } where
       next : (c : List ℕ) → In c (whole a) ⊎ Soon (length (whole e.at)) c more → (now c ≡ true) ⊎ Soon (length (whole e.at)) c more
@@ -236,7 +236,7 @@ module _ {R : Type 0} (enters : Path → Bool) (rest : Path → R) (same : R →
       ∙ unseen-none (flat_map whole (roots_from 0 roots))
       ∙ ap first_ones (sym (from-cids enters inside bound 0 roots))
 
-  -- a traversal within a bound of depth takes a bounded number of visits
+  -- the same if the full traversal is never as deep as the bound: both meet the same CIDs first, if link-visit-once ends
   pub once-by_depth : (limit : ℕ) (roots : List (List ℕ)) → AllByRecursion (λ a. a.depth < bound) (arrivals_from enters inside bound 0 roots) → length (once_from enters rest same inside (suc limit) roots) ≤ limit
       → first_ones (map cid_of (once_from enters rest same inside (suc limit) roots)) ≡ first_ones (map cid_of (arrivals_from enters inside bound 0 roots))
   once-by_depth limit roots shallow short = once-same limit roots (roots-by_depth enters inside bound roots shallow) short

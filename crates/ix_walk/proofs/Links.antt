@@ -1,4 +1,4 @@
--- Arrivals as a tree: each arrival, and behind it those at the links right below it.
+-- Visits as a tree: each visit, and after it those of the links right below it.
 use Rattle.std.proofs.Common.{◌≡◌, ℕ, zero, suc, ◌+◌, ◌≤◌, ◌<◌, Bool, true, false, List, [], ◌∷◌, ◌++◌, length, map, flat_map, refl, sym, ap, ◌∙◌, subst, append_assoc, append-nil, length-append, arith}
 use Rattle.std.specs.Prelude.{Option, Some, None, if◌then◌else◌}
 use Rattle.std.specs.List.{AllByRecursion}
@@ -124,7 +124,7 @@ module _ (enters : Path → Bool) where
       entries-all no_entries p = tt
       entries-all (entry k d es) p = all-append P _ _ (chosen-all (enters (behind p (key k))) _ (below-all d (behind p (key k)))) (entries-all es p)
 
-  -- ---- the same is entered behind two paths
+  -- ---- the same is entered after two paths
 
   -- the same is entered after both paths
   abbrev pub Alike : Path → Path → Type 0
@@ -196,7 +196,7 @@ module _ (enters : Path → Bool) where
     links-depth a None = tt
     links-depth a (Some d) = below-all (λ c q. record { root = a.root; path = q; depth = a.depth + 1; cid = c }) (λ b. b.depth ≡ a.depth + 1) (λ c q. refl) d a.path
 
-    -- the CIDs of a tree are those of the CID's and of what is entered behind its path
+    -- the CIDs of a tree are those of the CID's and of what is entered after its path
     at-alike : (n root other k l : ℕ) (c : List ℕ) (p q : Path) → Alike p q → map cid_of (arrivals_at enters inside root n k c p) ≡ map cid_of (arrivals_at enters inside other n l c q)
     at-alike zero root other k l c p q h = refl
     at-alike (suc n) root other k l c p q h =

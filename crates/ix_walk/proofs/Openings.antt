@@ -101,7 +101,7 @@ first_entry left b es rest e =
 
 -- ---- the first child and the others
 
--- a part is its first child, which stands at a value behind a step, and the others
+-- a part is its first child, which is at a value after a step, and the others
 pub record IsSplit (new : Children) (t : Step) (value : List ℕ) (x : Part × List ℕ) : Type 0 where
   pub head : Data
   pub middle : List ℕ
@@ -225,7 +225,7 @@ gives_none places depth old new at now spent passes = λ x e.
     let s = spent_part new now (p.part, x.1) spent p.here in
     (s.0, p.links ∙ s.1 places depth)
 
--- ---- what stands where
+-- ---- what is where
 
 -- an element that is left can be read
 pub member_item : (count left : ℕ) (b : List ℕ) → (left ≡ 0 → ⊥) → IsPart (Members count left) b → IsItem b

@@ -1,4 +1,4 @@
--- Items gone into, child by child.
+-- Items traversed, child by child.
 use Rattle.std.proofs.Common.{◌≡◌, ℕ, ◌-◌, ◌≤◌, false, List, [], ◌∷◌, refl, sym, ◌∙◌, ap, subst, arith}
 use Rattle.std.specs.Prelude.{Some, None, Ok, nat_lt, if◌then◌else◌}
 use Rattle.std.proofs.lemmas.Bool.{le-ltb}
@@ -23,7 +23,7 @@ use Rattle.ix_walk.specs.Descent.{may_hold_links, entered_by, Enters, child_link
 
 -- ---- one item
 
--- so many members stand here
+-- so many members are here
 pub members_here : (count left : ℕ) (b rest : List ℕ) (ds : Items) → left ≤ count → items_at (item_at 512) left b ≡ Ok (ds, rest) → part_at (Members count left) b ≡ Some (members (count - left) ds, rest)
 members_here count left b rest ds h e =
     let fits : nat_lt count left ≡ false = le-ltb count left h in
@@ -34,7 +34,7 @@ members_here count left b rest ds h e =
 pub values_here : (left : ℕ) (b rest : List ℕ) (es : Entries) → entries_at (item_at 512) None left b ≡ Ok (es, rest) → part_at (Values left) b ≡ Some (values es, rest)
 values_here left b rest es e = ap (λ r. result_ok (r >>= (λ es. Ok (values es.0, es.1)))) e
 
--- an item by its front: what is read where it stands
+-- an item by its front: what is read where it is
 item_by_front : (f : Front) (at behind rest : List ℕ) (d : Data) → own_at at ≡ Ok (own_of_front f, behind) → item_at 512 at ≡ Ok (d, rest)
     → with_members (Some (item_at 511)) at (own_of_front f, behind) ≡ Ok (d, rest)
 item_by_front f at behind rest d own e =

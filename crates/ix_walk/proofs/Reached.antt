@@ -234,9 +234,9 @@ module _ (enters : Path → Bool) (left : Path → List Place) (stays : (p : Pat
         ap (first_arrivals store None (suc limit)) (sym (wait_from 0 cs)) ∙ first_are (suc limit) (roots_from 0 cs) (low_from 0 cs)
         ∙ ap (λ z. map forget (take (suc limit) z)) (all_from 0 cs)
 
-  -- ---- where a CID is gone into once
+  -- ---- link-visit-once
 
-  -- what was gone into, as a test
+  -- what was expanded, as a test
   abbrev test_of : List (List ℕ × List Place) → Going
   test_of gone c places = list_any (λ g. bytes_eq g.0 c && same_residual g.1 places) gone
 
@@ -258,7 +258,7 @@ module _ (enters : Path → Bool) (left : Path → List Place) (stays : (p : Pat
         ∙ ap (λ g. forget a ∷ first_arrivals store g n (map link_of (below ++ more))) (gone_same value a gone)
         ∙ ap (λ z. forget a ∷ z) (once_are n (going.gone_behind enters left same_residual (sound_value store) value a gone) (below ++ more))
 
-    -- the first arrivals where the roots wait and nothing was gone into
+    -- the first visits if the roots wait and nothing was expanded
     pub once_first : (n : ℕ) (cs : List (List ℕ)) → first_arrivals store (Some nothing_gone) n (map (waiting (left []) 0) cs) ≡ map forget (once_from enters left same_residual (sound_value store) n cs)
     once_first n cs = ap (first_arrivals store (Some nothing_gone) n) (sym (wait_from 0 cs)) ∙ once_are n [] (roots_from 0 cs)
 

@@ -1,4 +1,4 @@
--- Where a traversal that goes into a CID once comes to its end, it has been at all that can be reached.
+-- When link-visit-once ends, it has visited all that can be reached.
 use Rattle.std.proofs.Common.{◌≡◌, ◌⊎◌, inl, inr, ℕ, zero, suc, ◌+◌, ◌-◌, min, ◌≤◌, ◌<◌, Bool, true, false, ◌&&◌, List, [], ◌∷◌, ◌++◌, length, map, flat_map, refl, sym, ap, ◌∙◌, subst, arith}
 use Rattle.std.specs.Prelude.{◌↔◌, Option, Some, None, if◌then◌else◌, bytes_eq}
 use Rattle.std.specs.List.{AllByRecursion, Contains}
@@ -88,7 +88,7 @@ module _ {R : Type 0} (enters : Path → Bool) (rest : Path → R) (same : R →
   abbrev run : ℕ → List (List ℕ × R) → List Arrival → List Arrival
   run = once enters rest same inside
 
-  -- the same, where the CID of the first arrival was gone into, or wasn't
+  -- the same, by whether the CID of the first visit was expanded
   abbrev run_behind : ℕ → List (List ℕ × R) → Arrival → List Arrival → Bool → List Arrival
   run_behind n gone a more was =
       run n (gone_behind enters rest same inside (if was then None else inside a.cid) a gone) (when_some (if was then None else inside a.cid) (λ d. links_below enters d a) ++ more)
@@ -121,10 +121,10 @@ module _ {R : Type 0} (enters : Path → Bool) (rest : Path → R) (same : R →
       ]) (omega (arith, short)) h.1,
     )
 
-  -- ---- and so is what stands below each arrival
+  -- ---- and so is what is below each arrival
 
   module _ (P : Arrival → Type 0) where
-    -- where the CID was gone into with the same rest, it holds of all links below
+    -- if the CID was expanded with an equal residual, it holds of all links below
     record IsClosed (a : Arrival) : Type 0 where
       pub at : Arrival
       pub of_cid : at.cid ≡ a.cid

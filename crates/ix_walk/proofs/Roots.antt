@@ -1,4 +1,4 @@
--- Arriving at a link: its visit, and the root behind it.
+-- Visiting a link: its visit, and the root after it.
 use Rattle.std.proofs.Common.{◌≡◌, ℕ, ◌+◌, Bool, List, [], ◌∷◌, ◌++◌, reverse, sym, ◌∙◌, ap}
 use Rattle.std.specs.Prelude.{Option, Some, None, option_map}
 use Rattle.ix_cbor.specs.Data.{Data}
@@ -38,7 +38,7 @@ roots_link places b at depth f old new node none at_is stack_is next_is = λ val
       rooted places depth value is.0 (all_links ss) (all_links (found f ∷ ss)) is.1 (ap (λ z. z ++ all_links ss) (sym n.1)),
     )
 
--- a root that is a list or map, behind which the walk goes back to where it stood
+-- a root that is a list or map, after which the walk goes back to where it was
 pub roots_open : (places : List Place) (b at : List ℕ) (depth : ℕ) (o root : Opened) (old new : Trail) → IsNode places b depth (Some (Open o)) at → old.next ≡ None → new.next ≡ None → new.at ≡ at
     → new.stack.items ≡ old.stack.items ++ root ∷ [] → root ≡ record { residual = o.residual; children = o.children; depth = o.depth; back = Some old.at }
     → Roots places (Some b) depth old new
@@ -53,7 +53,7 @@ roots_open places b at depth o root old new node none next_is at_is pushed root_
       rooted places depth value is.0 (all_links ss) (all_links (opened r n.1 ∷ ss)) is.1 (ap (λ z. z ++ all_links ss) n.3.reaches),
     )
 
--- a visit, and the root behind it
+-- a visit, and the root after it
 pub arrives : (store : Blocks) (number seq : ℕ) (places : List Place) (depth : ℕ) (c d : List ℕ) (block : Option ℕ) (bytes entered : Option (List ℕ)) (malformed : Bool) (had has : Option Going) (old new : Trail)
     → d ≡ c → block ≡ position_of store d → IsReading store c bytes malformed → Goes store (waiting places depth c) had entered has → Roots places entered (depth + 1) old new
     → ArrivesBy store number seq (waiting places depth c) had old (record { job = number; seq = seq; depth = depth; cid = d; block = block; malformed = malformed }) has new

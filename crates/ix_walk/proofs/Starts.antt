@@ -69,11 +69,11 @@ left_where false (x ∷ r) there back = absurd (apart (there refl)) where
 pub followed : (s : Pattern) → ((p : Path) → is_entered s p ≡ false ↔ residual_at s p ≡ []) → IsFollowed s
 followed s left = record { starts = at_starts s; goes = at_goes s; stays = λ p t. left_where (is_entered s (behind p t)) (residual_at s (behind p t)) (left (behind p t)).0 (left (behind p t)).1 }
 
--- one more than the limit is enough to tell whether there are more
+-- one more than the limit is enough to know whether there are more
 over : (limit : ℕ) (n : ℕ) → nat_lt limit (min (suc limit) n) ≡ nat_lt limit n
 over limit n = grind (arith, nat_tests)
 
--- where a walk begins that goes into CIDs once, and one that goes in at every link
+-- where a walk with link-visit-once begins, and one that expands a CID at every link
 abbrev pub gone_at_start : Bool → Option Going
 gone_at_start true = Some nothing_gone
 gone_at_start false = None
@@ -118,13 +118,13 @@ starts_walk : (store : Blocks) (number : ℕ) (job : JobMeaning) (t : Trail) (b 
 starts_walk store number job t b is once empty =
     ap (λ (o : Option (List Subtree)). walk_left store number job.limit 0 (gone_at_start b) (links_left job.selector (or_nil o) job.roots) false) empty ∙ arrives_all store number job b is once
 
--- the same where its roots and what it has gone into have other names
+-- the same where its roots and what it has expanded have other names
 pub starts_from : (store : Blocks) (number : ℕ) (job : JobMeaning) (t : Trail) (b : Bool) (gone : Option Going) (roots : List (List ℕ)) → IsFollowed job.selector → job.once ≡ b → gone ≡ gone_at_start b → roots ≡ job.roots
     → trail_stands t ≡ Some [] → trail_left store number job.limit 0 gone job.selector t roots ≡ whole_walk store number job
 starts_from store number job t b had roots is once none same empty =
     ap (λ (g : Option Going). trail_left store number job.limit 0 g job.selector t roots) none ∙ ap (λ (cs : List (List ℕ)). trail_left store number job.limit 0 (gone_at_start b) job.selector t cs) same
     ∙ starts_walk store number job t b is once empty
 
--- and stands before its first root
+-- and is before its first root
 pub starts_within : (limit : ℕ) (t : Trail) → trail_stands t ≡ Some [] → IsWalk limit 0 t
 starts_within limit t empty = (omega arith, [], empty, tt)

@@ -64,7 +64,7 @@ visit_with store number limit given had has old links new f v lt is e gone below
       refl,
     )
 
--- behind what was found, what is left then waits behind the links below it
+-- after what was found, what is left then waits after the links below it
 visited : (selector : Pattern) (store : Blocks) (number seq : ℕ) (had has : Option Going) (mid new : List Subtree) (rest : List (List ℕ)) (f : Found) (v : Visit) → IsArrived store number seq f had mid v has new
     → links_left selector new rest ≡ links_inside f.residual (f.depth + 1) (data_inside store had f) ++ links_left selector mid rest
 visited selector store number seq had has mid new rest f v arrived =

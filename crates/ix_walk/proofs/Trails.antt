@@ -113,7 +113,7 @@ steps_lighter first loop new is kept steps =
 above : (t : Trail) (o : Opened) (rest : List Opened) (ss : List Subtree) → t.next ≡ None → t.stack.items ≡ rest ++ o ∷ [] → trail_stands t ≡ Some ss → stands t.at (o ∷ reverse rest) ≡ Some ss
 above t o rest ss next items e = ap (stands t.at) (sym (reversed_push t.stack.items rest o items)) ∙ sym (trail_without t next) ∙ e
 
--- others, wherever the walk stands
+-- others, wherever the walk is
 below : (t : Trail) (rest : List Opened) (at : List ℕ) (ss : List Subtree) → t.next ≡ None → t.stack.items ≡ rest → t.at ≡ at → stands at (reverse rest) ≡ Some ss → trail_stands t ≡ Some ss
 below t rest at ss next items at_is e = trail_without t next ∙ ap (λ l. stands l (reverse t.stack.items)) at_is ∙ ap (λ os. stands at (reverse os)) items ∙ e
 
@@ -189,7 +189,7 @@ last_popped xs ys ds o n same len is some last =
       holds : (n : ℕ) → nat_lt 0 n ≡ true → 0 < n
       holds n h = grind (arith, nat_tests)
 
--- the last of a stack, and what stands there once another is written over it
+-- the last of a stack, and what is there once another is written over it
 last_put : (xs : List Opened) (i : ℕ) (n : Opened) → i + 1 ≡ length xs → set xs i n ≡ take i xs ++ n ∷ []
 last_put [] i n e = absurd (omega arith)
 last_put (z ∷ []) zero n e = refl
@@ -209,7 +209,7 @@ last_written xs len o n long some last =
       holds : (n : ℕ) → nat_lt 0 n ≡ true → 0 < n
       holds n h = grind (arith, nat_tests)
 
--- two lists with one behind each
+-- two lists with one more each
 last_same : (xs ys : List Opened) (x y : Opened) → xs ++ x ∷ [] ≡ ys ++ y ∷ [] → (xs ≡ ys) × (x ≡ y)
 last_same [] [] x y h = (refl, cc)
 last_same [] (b ∷ []) x y h = absurd cc

@@ -21,7 +21,7 @@ roots_from root (c ∷ cs) = record { root = root; path = []; depth = 0; cid = c
 abbrev pub links_below : (Path → Bool) → Data → Arrival → List Arrival
 links_below enters d a = arrivals_below enters (λ c p. record { root = a.root; path = p; depth = a.depth + 1; cid = c } ∷ []) d a.path
 
--- A rest is what is left of the selector behind a path, and a test compares two of them.
+-- A rest is the residual of the selector after a path, and a test compares two of them.
 module _ {R : Type 0} (enters : Path → Bool) (rest : Path → R) (same : R → R → Bool) (inside : Inside) where
   -- the CID was expanded with this residual
   abbrev pub was_gone_into : List (List ℕ × R) → Arrival → Bool
