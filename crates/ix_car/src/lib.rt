@@ -16,6 +16,7 @@ mod writer;
 
 pub use fault::{CarFault, CarKind};
 pub use reader::{
-    CarFile, Section, load_car, load_car_by, load_shared_by, read_car, read_sections,
+    CarFile, Section, load_car, load_car_by, load_shared_by, read_car, read_header, read_section,
+    read_sections,
 };
 pub use writer::{header_of, set_section_head, write_section, write_text};

@@ -16,7 +16,7 @@ use crate::reader::header::header_at;
 use crate::reader::section::{FaultAt, section_at};
 pub use by_threads::{load_car_by, load_shared_by};
 use ix_store::Store;
-pub use sections::{CarFile, Section, read_sections};
+pub use sections::{CarFile, Section, read_header, read_section, read_sections};
 use std::alloc::Global;
 use std::sync::Arc;
 
@@ -74,7 +74,7 @@ pub fn load_car(alloc: Global, bytes: Vec<u8>) -> Result<Store, CarFault>
 fn store_of_file(alloc: Global, file: &Arc<Vec<u8>>) -> Result<Store, FaultAt>
     ensures { ReadsFrom (λ store. store) blocks_of (arc_value file.now).items result }
 {
-    let sections = header_at(alloc, file.as_slice())?;
+    let sections = header_at(file.as_slice())?;
     let mut store = store_of_sections(alloc, file, sections)?;
     if store.settle().is_err() {
         return Err(FaultAt {

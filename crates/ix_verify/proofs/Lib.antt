@@ -5,6 +5,7 @@ pub mod SoundSections
 pub mod ToldSections
 pub mod Stored
 pub mod FileFaults
+pub mod Batches
 pub mod FoundOf
 pub mod Distinct
 pub mod TextsAgain

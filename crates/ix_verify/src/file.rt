@@ -1,6 +1,6 @@
 //! Files, verified.
 
-ghost use Rattle.std.specs.Prelude.{◌≡◌, ◌+◌, ◌^◌, ◌<◌, map, length, IfOk, IfErr, OnOk};
+ghost use Rattle.std.specs.Prelude.{◌≡◌, ◌+◌, ◌^◌, ◌<◌, ◌≤◌, map, length, IfOk, IfErr, OnOk};
 ghost use Rattle.std.specs.Arc.{arc_value};
 ghost use Rattle.ix_car.specs.declared.fault.CarKind.TheVariants.{Memory};
 ghost use Rattle.ix_car.specs.Gives.{IsFaultOf};
@@ -10,13 +10,13 @@ ghost use Rattle.ix_archive.specs.Archive.{is_sound};
 ghost use Rattle.ix_verify.specs.declared.found.Reach.TheVariants.{Blocks as OfBlocks, Roots as OfRoots};
 ghost use Rattle.ix_verify.specs.Noting.{NotesMore};
 ghost use Rattle.ix_verify.specs.Found.{unsound_of, IsFoundOf};
-ghost use Rattle.ix_verify.specs.Counted.{told_if, told_among, findings_of, IsJudgedOf};
+ghost use Rattle.ix_verify.specs.Counted.{told_if, told_among, findings_of, IsJudgedOf, IsBatchAt, IsBatchFault};
 
 use crate::found::{Findings, Reach, Unsound};
 use crate::noted::Noted;
 use crate::reach::{Reached, walk_roots};
 use crate::section::judge_beside;
-use ix_car::{CarFault, CarFile, CarKind, Section, load_shared_by, read_sections};
+use ix_car::{CarFault, CarKind, Section, load_shared_by, read_header, read_section};
 use ix_check::Verdict;
 use ix_cid::Cid;
 use ix_store::Store;
@@ -24,6 +24,9 @@ use std::alloc::{AllocError, Global};
 use std::num::NonZeroUsize;
 use std::sync::Arc;
 use std::thread::Threads;
+
+// How many sections are judged at a time, so that no list of all stands beside the store.
+const BATCH: usize = 65_536;
 
 /// What is found of a CARv1 file whose sections are hashed by at most so many threads, or the file's first
 /// fault, which is that of `read_car`. Of the sections that aren't sound, and of the links that lead to nothing sound, at
@@ -47,7 +50,7 @@ pub fn verify<R: Threads + Sync>(
         Reach::Blocks => verify_blocks(rt, alloc, car.as_slice(), threads, most),
         Reach::Roots => match Arc::new(alloc, car) {
             Ok(file) => verify_all(rt, alloc, &file, threads, most),
-            Err(_) => Err(no_memory()),
+            Err(_) => Err(no_memory(0)),
         },
     }
 }
@@ -87,7 +90,7 @@ fn verify_all<R: Threads + Sync>(
     let judged = judge_file(rt, alloc, Some(&store), file.as_slice(), threads, most)?;
     match walk_roots(alloc, &store, judged.roots.as_slice(), most) {
         Ok(reached) => Ok(judged.with(reached)),
-        Err(_) => Err(no_memory()),
+        Err(_) => Err(no_memory(0)),
     }
 }
 
@@ -125,40 +128,64 @@ fn judge_file<R: Threads + Sync>(
     ensures judged { IfOk result (IsJudgedOf car.now most) }
     ensures refused { IfErr result (λ fault. IsFaultOf car.now fault (section_list car.now)) }
 {
-    let CarFile { roots, sections } = read_sections(alloc, car)?;
-    let count = sections.len();
+    let (roots, sections) = read_header(alloc, car)?;
+    let mut rest = sections;
+    let mut count = 0;
     let mut unsound = Noted::new(alloc);
-    match judge_sections(
-        rt,
-        alloc,
-        (store, threads),
-        sections.as_slice(),
-        most,
-        &mut unsound,
-    ) {
-        Ok(()) => Ok(Judged {
-            roots,
-            sections: count,
-            unsound,
-        }),
-        Err(_) => Err(no_memory()),
+    while !rest.is_empty() {
+        let (batch, after) = read_batch(alloc, car.len(), rest)?;
+        let beside = (store, count, threads);
+        if judge_sections(rt, alloc, beside, batch.as_slice(), most, &mut unsound).is_err() {
+            return Err(no_memory(0));
+        }
+        count += batch.len();
+        rest = after;
     }
+    Ok(Judged {
+        roots,
+        sections: count,
+        unsound,
+    })
 }
 
-fn no_memory() -> CarFault
-    ensures { result ≡ record { kind = Memory; place = 0 } }
+// Reads a batch of sections at most from the front of some bytes, which end a file of `size` bytes. The answer is the
+// sections and the bytes after them.
+fn read_batch(
+    alloc: Global,
+    size: usize,
+    bytes: &[u8],
+) -> Result<(Vec<Section<'_>>, &[u8]), CarFault>
+    requires some { 0 < length bytes.now }
+    requires within { length bytes.now ≤ size }
+    ensures read { IfOk result (IsBatchAt size bytes.now) }
+    ensures refused { IfErr result (IsBatchFault size bytes.now) }
+{
+    let mut rest = bytes;
+    let mut batch = Vec::new(alloc);
+    while !rest.is_empty() && batch.len() < BATCH {
+        let (section, after) = read_section(size, rest)?;
+        let Ok(()) = batch.push(section) else {
+            return Err(no_memory(size - rest.len()));
+        };
+        rest = after;
+    }
+    Ok((batch, rest))
+}
+
+fn no_memory(place: usize) -> CarFault
+    ensures { result ≡ record { kind = Memory; place = place } }
 {
     CarFault {
         kind: CarKind::Memory,
-        place: 0,
+        place,
     }
 }
 
-// Notes the sections that aren't sound.
+// Notes the sections that aren't sound. Where there is a store, it may have the first section at this place.
 fn judge_sections<R: Threads + Sync>(
     rt: &R,
     alloc: Global,
-    beside: (Option<&Store>, NonZeroUsize),
+    beside: (Option<&Store>, usize, NonZeroUsize),
     sections: &[Section<'_>],
     most: usize,
     unsound: &mut Noted<Unsound>,
@@ -166,8 +193,8 @@ fn judge_sections<R: Threads + Sync>(
     requires { unsound.old.count + length sections.now < 2 ^ 63 }
     ensures { OnOk result (NotesMore most (unsound_of (map section_of sections.now)) unsound.old unsound.new) }
 {
-    let (store, threads) = beside;
-    let verdicts = judge_beside(rt, alloc, store, sections, threads)?;
+    let (store, first, threads) = beside;
+    let verdicts = judge_beside(rt, alloc, (store, first), sections, threads)?;
     note_sections(alloc, sections, verdicts.as_slice(), most, unsound)
 }
 

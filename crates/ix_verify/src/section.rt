@@ -51,22 +51,30 @@ pub fn judge_all<R: Threads + Sync>(
 ) -> Result<Vec<Verdict>, AllocError>
     ensures { IfOk result (λ verdicts. verdicts.items ≡ map verdict_in sections.now) }
 {
-    judge_beside(rt, alloc, None, sections, threads)
+    judge_beside(rt, alloc, (None, 0), sections, threads)
 }
 
-// The same beside a store, where there is one. Where it has the very block of a section under the section's CID, what it
-// finds of that counts: a block is hashed once, and a settled store keeps what is found.
+// The same beside a store, where there is one, which may have the first section at this place. Where it has the very block
+// of a section under the section's CID, what it finds of that counts: a block is hashed once, and a settled store keeps
+// what is found.
 pub(crate) fn judge_beside<R: Threads + Sync>(
     rt: &R,
     alloc: Global,
-    store: Option<&Store>,
+    beside: (Option<&Store>, usize),
     sections: &[Section<'_>],
     threads: NonZeroUsize,
 ) -> Result<Vec<Verdict>, AllocError>
     ensures { IfOk result (λ verdicts. verdicts.items ≡ map verdict_in sections.now) }
 {
     let mut verdicts = vec![in alloc; Verdict::Sound; sections.len()]?;
-    judge_each(rt, alloc, store, sections, threads, verdicts.as_mut_slice());
+    judge_each(
+        rt,
+        alloc,
+        beside,
+        sections,
+        threads,
+        verdicts.as_mut_slice(),
+    );
     Ok(verdicts)
 }
 
@@ -74,7 +82,7 @@ pub(crate) fn judge_beside<R: Threads + Sync>(
 fn judge_each<R: Threads + Sync>(
     rt: &R,
     alloc: Global,
-    store: Option<&Store>,
+    beside: (Option<&Store>, usize),
     sections: &[Section<'_>],
     threads: NonZeroUsize,
     verdicts: &mut [Verdict],
@@ -88,20 +96,25 @@ fn judge_each<R: Threads + Sync>(
         rt,
         verdicts,
         threads.get(),
-        &|place, verdict| *verdict = judge_at(alloc, store, sections, place),
+        &|place, verdict| *verdict = judge_at(alloc, beside, sections, place),
     );
 }
 
-// The verdict on the section at a place. Where there is a store, it may stand at that place there too.
-fn judge_at(alloc: Global, store: Option<&Store>, sections: &[Section<'_>], place: usize) -> Verdict
+// The verdict on the section at a place. Where there is a store, the section may stand as far after the first one there.
+fn judge_at(
+    alloc: Global,
+    beside: (Option<&Store>, usize),
+    sections: &[Section<'_>],
+    place: usize,
+) -> Verdict
     requires { place < length sections.now }
     ensures { slice_get (map verdict_in sections.now) place ≡ Some result }
 {
     let section = &sections[place];
-    let Some(store) = store else {
+    let (Some(store), first) = beside else {
         return judge(section);
     };
-    match place_in(alloc, store, place, section) {
+    match place_in(alloc, store, first.saturating_add(place), section) {
         Some(stored) => judge_stored(store, stored, section),
         None => judge(section),
     }

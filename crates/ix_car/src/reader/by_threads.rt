@@ -60,7 +60,7 @@ fn store_by_threads<R: Threads + Sync>(
 ) -> Result<Store, FaultAt>
     ensures { ReadsFrom (λ store. store) blocks_of (arc_value file.now).items result }
 {
-    let sections = header_at(alloc, file.as_slice())?;
+    let sections = header_at(file.as_slice())?;
     let builder = blocks_of_sections(rt, alloc, file, sections, threads)?;
     let Ok(mut store) = builder.build(rt, threads) else {
         return Err(FaultAt {

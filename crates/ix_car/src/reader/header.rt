@@ -21,7 +21,7 @@ use ix_cid::{Cid, CidRef};
 use std::alloc::{AllocError, Global};
 
 // Returns the bytes after the header.
-pub(super) fn header_at(_alloc: Global, bytes: &[u8]) -> Result<&[u8], FaultAt>
+pub(super) fn header_at(bytes: &[u8]) -> Result<&[u8], FaultAt>
     ensures reads { ReadsFrom (λ rest. rest.now) header_at bytes.now result }
     ensures shorter { IfOk result (λ rest. length rest.now < length bytes.now) }
     ensures end { IfOk result (λ rest. IsEnd rest.now bytes.now) }

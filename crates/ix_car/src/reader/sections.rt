@@ -1,11 +1,11 @@
 //! The sections of a CARv1 file, in place.
 
-ghost use Rattle.std.specs.Prelude.{◌≡◌, ◌<◌, ◌≤◌, length, IfOk};
-ghost use Rattle.ix_car.specs.Reading.{section_at};
+ghost use Rattle.std.specs.Prelude.{◌≡◌, ◌<◌, ◌≤◌, length, IfOk, IfErr};
+ghost use Rattle.ix_car.specs.Reading.{header_at, section_at};
 ghost use Rattle.ix_car.specs.Gives.{Gives};
 ghost use Rattle.ix_car.specs.Reads.{Reads, ReadsFrom, StandsWithin};
 ghost use Rattle.ix_car.specs.Sections.{section_list, sections_in, roots_of};
-ghost use Rattle.ix_car.specs.SectionView.{views_of};
+ghost use Rattle.ix_car.specs.SectionView.{views_of, IsSectionAt, IsSectionFault};
 
 use crate::fault::{CarFault, CarKind};
 use crate::reader::header::{header_at, roots_at};
@@ -53,10 +53,54 @@ fn sections_of(alloc: Global, bytes: &[u8]) -> Result<CarFile<'_>, FaultAt>
     ensures sections { ReadsFrom (λ s. views_of s.sections) section_list bytes.now result }
     ensures roots { IfOk result (λ s. s.roots.items ≡ roots_of bytes.now) }
 {
-    let rest = header_at(alloc, bytes)?;
-    let roots = roots_at(alloc, bytes)?;
+    let (roots, rest) = roots_and_rest(alloc, bytes)?;
     let sections = sections_behind(alloc, bytes.len(), rest)?;
     Ok(CarFile { roots, sections })
+}
+
+/// Reads the header of a CARv1 file. The answer is the roots that it names and the bytes after it, in which the sections
+/// stand, or the header's fault, which is that of `read_car`.
+pub fn read_header(alloc: Global, bytes: &[u8]) -> Result<(Vec<Cid>, &[u8]), CarFault>
+    ensures rest { Gives (λ h. h.1.now) bytes.now result (header_at bytes.now) }
+    ensures roots { IfOk result (λ h. h.0.items ≡ roots_of bytes.now) }
+    ensures shorter { IfOk result (λ h. length h.1.now < length bytes.now) }
+{
+    let length = bytes.len();
+    match roots_and_rest(alloc, bytes) {
+        Ok(header) => Ok(header),
+        Err(fault) => Err(CarFault {
+            kind: fault.kind,
+            place: length - fault.left,
+        }),
+    }
+}
+
+// The same, with the place of a fault from the end.
+fn roots_and_rest(alloc: Global, bytes: &[u8]) -> Result<(Vec<Cid>, &[u8]), FaultAt>
+    ensures rest { ReadsFrom (λ h. h.1.now) header_at bytes.now result }
+    ensures roots { IfOk result (λ h. h.0.items ≡ roots_of bytes.now) }
+    ensures shorter { IfOk result (λ h. length h.1.now < length bytes.now) }
+{
+    let rest = header_at(bytes)?;
+    let roots = roots_at(alloc, bytes)?;
+    Ok((roots, rest))
+}
+
+/// Reads the section at the front of some bytes, which end a CARv1 file of `size` bytes. The answer is the section and the
+/// bytes after it, or the section's fault. So a caller reads one section after another and needs no list of them.
+pub fn read_section(size: usize, bytes: &[u8]) -> Result<(Section<'_>, &[u8]), CarFault>
+    requires { length bytes.now ≤ size }
+    ensures section { IfOk result (IsSectionAt size bytes.now) }
+    ensures refused { IfErr result (IsSectionFault size bytes.now) }
+{
+    let place = size - bytes.len();
+    match standing_at(bytes) {
+        Ok((cid, block, rest)) => Ok((Section { place, cid, block }, rest)),
+        Err(fault) => Err(CarFault {
+            kind: fault.kind,
+            place: size - fault.left,
+        }),
+    }
 }
 
 // Returns the sections at the end of a file of `size` bytes.

@@ -1,0 +1,113 @@
+-- The sections of a file, read and judged a batch at a time.
+use Rattle.std.proofs.Common.{◌≡◌, ℕ, ◌+◌, ◌-◌, ◌<◌, ◌≤◌, ◌^◌, List, [], ◌∷◌, ◌++◌, Bool, true, false, length, map, refl, sym, ◌∙◌, ap, subst, arith, append_assoc, append-nil, length-append}
+use Rattle.std.specs.Prelude.{Result, Ok, Err, filter, not, if◌then◌else◌}
+use Rattle.std.specs.Borrow.{Bor}
+use Rattle.std.specs.Global.{Vec}
+use Rattle.std.proofs.lemmas.List.{map-append, map_push, length-map}
+use Rattle.std.proofs.lemmas.List.Elements.{filter-append}
+use Rattle.ix_car.specs.declared.fault.CarKind.{CarKind}
+use Rattle.ix_car.specs.declared.reader.sections.Section.{Section}
+use Rattle.ix_car.specs.Gives.{FailsAs}
+use Rattle.ix_car.specs.Reading.{Fault, ◌>>=◌, section_at, header_at}
+use Rattle.ix_car.specs.SectionView.{section_of, views_of}
+use Rattle.ix_car.specs.Sections.{SectionMeaning, placed, sections_behind, sections_in, section_list}
+use Rattle.ix_car.proofs.SectionLists.{sections_behind-enough, ListGoesOn, ListGoesOn-first, ListGoesOn-more, ListGoesOn-fails, ListGoesOn-last, FailsAs-of}
+use Rattle.ix_archive.specs.Archive.{is_sound}
+use Rattle.ix_verify.specs.declared.noted.Noted.{Noted}
+use Rattle.ix_verify.specs.declared.found.Unsound.{Unsound}
+use Rattle.ix_verify.specs.Noting.{IsNoted, NotesMore}
+use Rattle.ix_verify.specs.Found.{told_of, unsound_of}
+use Rattle.ix_verify.specs.Counted.{IsBatchAt}
+
+-- ---- a batch
+
+module _ (size : ℕ) (b : List ℕ) where
+  -- whatever sections stand before, these bytes give these sections, and then what the rest gives
+  abbrev pub ReadsOn : List Section → List ℕ → Type 0
+  ReadsOn batch rest = (before : List SectionMeaning) → ListGoesOn size (before ++ map section_of batch) rest (sections_behind size (length b) before b)
+
+  pub reads-first : ReadsOn [] b
+  reads-first before n h =
+      subst (λ (l : List SectionMeaning). sections_behind size n l b ≡ sections_behind size (length b) before b) (sym (append-nil before))
+      (sections_behind-enough size n (length b) before b h (omega arith))
+
+  pub reads-more : (batch : List Section) (s : Section) (rest after : List ℕ) → 0 < length rest → section_at rest ≡ Ok ((s.cid, s.block.now), after) → s.place ≡ size - length rest
+      → ReadsOn batch rest → ReadsOn (batch ++ s ∷ []) after
+  reads-more batch s rest after some read place reads_on before =
+      let whole = sections_behind size (length b) before b in
+      let same : (before ++ map section_of batch) ++ placed (size - length rest) (s.cid, s.block.now) ∷ [] ≡ before ++ map section_of (batch ++ s ∷ []) =
+      ap (λ (n : ℕ). (before ++ map section_of batch) ++ placed n (s.cid, s.block.now) ∷ []) (sym place)
+      ∙ append_assoc before (map section_of batch) (section_of s ∷ [])
+      ∙ ap (λ (l : List SectionMeaning). before ++ l) (sym (map_push section_of batch s)) in
+      subst (λ (l : List SectionMeaning). ListGoesOn size l after whole) same
+      (ListGoesOn-more size (before ++ map section_of batch) rest whole ((s.cid, s.block.now), after) some read (reads_on before))
+
+  pub reads-fault : (batch : List Section) (rest : List ℕ) (kind : CarKind) (left : ℕ) → 0 < length rest → section_at rest ≡ Err (record { kind = kind; left = left }) → ReadsOn batch rest
+      → (before : List SectionMeaning) → FailsAs kind left (sections_behind size (length b) before b)
+  reads-fault batch rest kind left some read reads_on before =
+      let whole = sections_behind size (length b) before b in
+      FailsAs-of kind left whole (ListGoesOn-fails size (before ++ map section_of batch) rest whole some (reads_on before) (record { kind = kind; left = left }) read)
+
+-- ---- all of them
+
+-- what isn't sound of some sections and then of others
+unsound-append : (xs ys : List SectionMeaning) → unsound_of (xs ++ ys) ≡ unsound_of xs ++ unsound_of ys
+unsound-append xs ys =
+    let is_told : Unsound → _ = λ u. not (is_sound u.verdict) in
+    ap (filter is_told) (map-append told_of xs ys) ∙ filter-append is_told (map told_of xs) (map told_of ys)
+
+-- no more than there are sections
+few-unsound : (xs : List SectionMeaning) → length (unsound_of xs) ≤ length xs
+few-unsound [] = omega arith
+few-unsound (s ∷ ss) = on_verdict (not (is_sound (told_of s).verdict)) (few-unsound ss) where
+  on_verdict : (t : Bool) → length (unsound_of ss) ≤ length ss → length (if t then told_of s ∷ unsound_of ss else unsound_of ss) ≤ length (s ∷ ss)
+  on_verdict true h = omega (arith, h)
+  on_verdict false h = omega (arith, h)
+
+-- Of the sections of a file of so many bytes, those before the rest were counted and noted.
+pub record AreJudgedTo (size most : ℕ) (rest : List ℕ) (count : ℕ) (unsound : Noted Unsound) (whole : Result (List SectionMeaning) Fault) : Type 0 where
+  pub done : List SectionMeaning
+  pub goes_on : ListGoesOn size done rest whole
+  pub counted : count ≡ length done
+  pub noted : IsNoted most (unsound_of done) unsound
+  pub room : length done + length rest ≤ size
+
+-- what is read after a header
+after_header : (b rest : List ℕ) → header_at b ≡ Ok rest → section_list b ≡ sections_in (length b) rest
+after_header b rest read = ap (λ (r : Result (List ℕ) Fault). r >>= (λ after. sections_in (length b) after)) read
+
+module _ (b : List ℕ) (most : ℕ) where
+  -- before the first
+  pub judged-none : (rest : List ℕ) (none : Noted Unsound) → header_at b ≡ Ok rest → length rest < length b → IsNoted most [] none → AreJudgedTo (length b) most rest 0 none (section_list b)
+  judged-none rest none read shorter noted = record {
+    done = [];
+    goes_on = subst (λ (r : Result (List SectionMeaning) Fault). ListGoesOn (length b) [] rest r) (sym (after_header b rest read)) (ListGoesOn-first (length b) rest);
+    counted = refl;
+    noted = noted;
+    room = omega (arith, shorter);
+  }
+
+  -- a batch more
+  pub judged-more : (rest : List ℕ) (batch : Vec Section) (after : Bor (List ℕ)) (count : ℕ) (old new : Noted Unsound) → IsBatchAt (length b) rest (batch, after)
+      → NotesMore most (unsound_of (map section_of batch.items)) old new → AreJudgedTo (length b) most rest count old (section_list b)
+      → AreJudgedTo (length b) most after.now (count + length batch.items) new (section_list b)
+  judged-more rest batch after count old new read more so_far =
+      let size = length b in
+      let done = so_far.done ++ views_of batch in
+      let long : length done ≡ length so_far.done + length batch.items = length-append so_far.done (views_of batch) ∙ ap (λ n. length so_far.done + n) (length-map batch.items section_of) in
+      record {
+        done = done;
+        goes_on = λ n h. sections_behind-enough size n (length after.now) done after.now h (omega arith) ∙ sym (read.read so_far.done) ∙ so_far.goes_on (length rest) (omega arith);
+        counted = omega (arith, long, so_far.counted);
+        noted = subst (λ (l : List Unsound). IsNoted most l new) (sym (unsound-append so_far.done (views_of batch))) (more.noted (unsound_of so_far.done) so_far.noted);
+        room = omega (arith, long, read.room, so_far.room);
+      }
+
+  -- a batch can be noted
+  pub batch-fits : (rest : List ℕ) (batch : Vec Section) (after : Bor (List ℕ)) (count : ℕ) (old : Noted Unsound) → length b < 2 ^ 63 → IsBatchAt (length b) rest (batch, after)
+      → AreJudgedTo (length b) most rest count old (section_list b) → old.count + length batch.items < 2 ^ 63
+  batch-fits rest batch after count old long read so_far = omega (arith, long, read.room, so_far.room, so_far.noted.count, few-unsound so_far.done)
+
+  -- where nothing is left, all were judged
+  pub judged-all : (rest : List ℕ) (count : ℕ) (unsound : Noted Unsound) → length rest ≡ 0 → (so_far : AreJudgedTo (length b) most rest count unsound (section_list b)) → section_list b ≡ Ok so_far.done
+  judged-all rest count unsound none so_far = ListGoesOn-last (length b) so_far.done rest (section_list b) none so_far.goes_on
