@@ -6,3 +6,4 @@ mod Sayings
 mod Selectors
 mod Spelled
 mod Unread
+mod Tokens

@@ -22,7 +22,7 @@ use Rattle.ix_notation.specs.Saying.{Says, ItemsSay, MembersSay, EntriesSay, key
 abbrev pub ItemsSoFar : {A : Type 0} → List (Value A) → ℕ → List Node → Type 0
 ItemsSoFar values i nodes = (more : List Data) → ItemsSay (items_view (drop i values)) more → ItemsSay (items_view values) (map data_of nodes ++ more)
 
-shifted : {A : Type 0} (xs : List A) (x : A) (ys : List A) → xs ++ x ∷ ys ≡ (xs ++ x ∷ []) ++ ys
+pub shifted : {A : Type 0} (xs : List A) (x : A) (ys : List A) → xs ++ x ∷ ys ≡ (xs ++ x ∷ []) ++ ys
 shifted [] x ys = refl
 shifted (y ∷ xs) x ys = ap (λ l. y ∷ l) (shifted xs x ys)
 

@@ -2,3 +2,4 @@ pub mod FaultWords
 pub mod Notation
 pub mod Printed
 pub mod Saying
+pub mod Direct

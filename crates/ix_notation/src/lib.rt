@@ -13,6 +13,7 @@
 #![tactic(auto)]
 
 mod command;
+mod direct;
 mod explain;
 mod fault;
 mod place;

@@ -10,6 +10,7 @@ ghost use Rattle.ix_notation.specs.Saying.{Says, ItemsSay, EntriesSay, AreInOrde
 ghost use Rattle.ix_notation.specs.Notation.{IsJsonRefused};
 ghost use Rattle.ix_notation.specs.declared.fault.NotationFault.TheVariants.{Repeated};
 
+use crate::direct::direct_tree;
 use crate::fault::NotationFault;
 use ix_cbor::{Node, Tree, compare_keys};
 use json::{Error, Reader, Scratch, Value};
@@ -17,7 +18,7 @@ use std::alloc::Global;
 use std::cmp::Ordering;
 
 // How deep arrays and objects may nest, as lists and maps of a block.
-const DEPTH: usize = 512;
+pub(crate) const DEPTH: usize = 512;
 
 // The tree that a JSON text has: null, truth values, integers, texts, lists and maps stand for
 // themselves, whatever the order of the keys. A text that has none is refused by `Json`, `Repeated`
@@ -30,6 +31,18 @@ pub(crate) fn tree_of(alloc: Global, text: &[u8]) -> Result<Tree, NotationFault>
         Ok(text) => text,
         Err(error) => return Err(NotationFault::Json(error.valid_up_to())),
     };
+    match direct_tree(alloc, text) {
+        Ok(tree) => Ok(tree),
+        Err(NotationFault::Memory) => Err(NotationFault::Memory),
+        Err(_) => tree_of_value(alloc, text),
+    }
+}
+
+// The same by way of a value, which is read as a whole first: a text that is no JSON is refused as that.
+fn tree_of_value(alloc: Global, text: &str) -> Result<Tree, NotationFault>
+    ensures says { IfOk result (λ t. IsJsonOf text.now t) }
+    ensures refused { IfErr result (IsJsonRefused text.now) }
+{
     let mut scratch = Scratch::new(alloc);
     let mut reader = Reader::new(text, &mut scratch)?;
     let value = match Value::read(alloc, &mut reader, DEPTH) {
@@ -100,7 +113,9 @@ fn entries_of(
 }
 
 // The same entries in the order of their keys, unless two have one key.
-fn in_order(mut entries: Vec<(Vec<u8>, Node)>) -> Result<Vec<(Vec<u8>, Node)>, NotationFault>
+pub(crate) fn in_order(
+    mut entries: Vec<(Vec<u8>, Node)>,
+) -> Result<Vec<(Vec<u8>, Node)>, NotationFault>
     ensures sorted { IfOk result (λ v. AreInOrder entries.items v.items) }
     ensures refused { IfErr result (λ e. (e ≡ Repeated) × ¬ AreDistinct (map key_of entries.items)) }
 {
