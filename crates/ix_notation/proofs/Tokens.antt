@@ -95,7 +95,7 @@ pub last_member : (depth : ℕ) (start now rest : List Token) (entries after sor
 last_member depth start now rest entries after sorted end same so_far order =
     let all = so_far.said no_members rest [] (members_end (value depth) so_far.fuel now rest so_far.enough end) refl in
     let say : MembersSay all.first (map entry_of after) = subst (MembersSay all.first) (append-nil (map entry_of entries) ∙ ap (map entry_of) (sym same)) all.say in
-    record { first = all.first; read = all.read; say = say_in_order all.first after sorted say order.same }
+    record { first = all.first; read = all.read; say = say_in_order all.first after sorted say order.same; shorter = omega (arith, read_key-shorter now None rest end, so_far.shorter) }
 
 data_of-list : (v : Vec Node) → data_of (variants.List v) ≡ data_model.list (items_of (map data_of v.items))
 data_of-list v = search (rules, the_lemmas)

@@ -1,5 +1,5 @@
 -- What the tokens of JSON say, as far as they were read.
-use Rattle.std.specs.Prelude.{◌≡◌, ℕ, List, length, Some}
+use Rattle.std.specs.Prelude.{◌≡◌, ◌<◌, ℕ, List, length, Some}
 use Rattle.json.specs.Token.{Token}
 use Rattle.json.specs.Json.{Json, Items, Members, value, items, members}
 use Rattle.ix_cbor.specs.Data.{Data}
@@ -17,8 +17,9 @@ pub record ItemsSayNext (depth : ℕ) (tokens rest : List Token) (ds : List Data
   pub read : items (value depth) (length tokens) tokens ≡ Some (first, rest)
   pub say : ItemsSay first ds
 
--- and of the members of an object
+-- and of the members of an object, whose end was read too
 pub record EntriesSayNext (depth : ℕ) (tokens rest : List Token) (es : List (List ℕ × Data)) : Type 0 where
   pub first : Members
   pub read : members (value depth) (length tokens) tokens ≡ Some (first, rest)
   pub say : EntriesSay first es
+  pub shorter : length rest < length tokens

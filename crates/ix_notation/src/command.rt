@@ -23,8 +23,8 @@ pub fn hex_of_json(alloc: Global, text: &[u8]) -> Result<String, NotationFault>
     ensures refused { IfErr result (IsJsonRefused text.now) }
 {
     let tree = tree_of(alloc, text)?;
-    judge(alloc, &tree)?;
     let bytes = encode(alloc, &tree)?;
+    judge_out(alloc, tree)?;
     let mut line = hex::encode(alloc, bytes.as_slice())?;
     line.push('\n')?;
     Ok(line)
@@ -65,5 +65,17 @@ fn judge(alloc: Global, tree: &Tree) -> Result<(), NotationFault>
         Ok(_) => Ok(()),
         Err(SelFault::Memory) => Err(NotationFault::Memory),
         Err(fault) => Err(NotationFault::Selector(fault)),
+    }
+}
+
+// The same of a tree that is let go of as soon as it is read.
+fn judge_out(alloc: Global, tree: Tree) -> Result<(), NotationFault>
+    ensures selector { IfOk result (λ _. IsSelectorOf tree) }
+    ensures refused { IfErr result (IsRefused tree) }
+{
+    match Selector::read_out(alloc, tree) {
+        Ok(_) => Ok(()),
+        Err(SelFault::Memory) => Err(NotationFault::Memory),
+        Err(refusal) => Err(NotationFault::Selector(refusal)),
     }
 }

@@ -80,8 +80,7 @@ fn next_entries(
     reader: &mut Reader<'_>,
     depth: usize,
 ) -> Result<Vec<(Vec<u8>, Node)>, NotationFault>
-    ensures says { IfOk result (λ v. EntriesSayNext depth reader.old reader.new (map entry_of v.items)) }
-    ensures shorter { OnOk result (length reader.new < length reader.old) }
+    ensures { IfOk result (λ v. EntriesSayNext depth reader.old reader.new (map entry_of v.items)) }
 {
     let mut entries = Vec::new(alloc);
     while let Some(name) = next_name(reader)? {

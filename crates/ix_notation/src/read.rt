@@ -39,12 +39,12 @@ pub(crate) fn tree_of(alloc: Global, text: &[u8]) -> Result<Tree, NotationFault>
 }
 
 // The same by way of a value, which is read as a whole first: a text that is no JSON is refused as that.
-fn tree_of_value(alloc: Global, text: &str) -> Result<Tree, NotationFault>
-    ensures says { IfOk result (λ t. IsJsonOf text.now t) }
-    ensures refused { IfErr result (IsJsonRefused text.now) }
+fn tree_of_value(alloc: Global, document: &str) -> Result<Tree, NotationFault>
+    ensures says { IfOk result (λ t. IsJsonOf document.now t) }
+    ensures refused { IfErr result (IsJsonRefused document.now) }
 {
     let mut scratch = Scratch::new(alloc);
-    let mut reader = Reader::new(text, &mut scratch)?;
+    let mut reader = Reader::new(document, &mut scratch)?;
     let value = match Value::read(alloc, &mut reader, DEPTH) {
         Ok(value) => value,
         Err(Error::OutOfMemory) => return Err(NotationFault::Memory),

@@ -1,4 +1,4 @@
-use Rattle.std.proofs.Common.{rules, arith, ◌≡◌, ◌∷◌, ◌∙◌, ap, sym, subst, length, Some, None, ◌<◌}
+use Rattle.std.proofs.Common.{rules, arith, ◌≡◌, ◌∷◌, ◌∙◌, ap, length, Some, None}
 use Rattle.std.proofs.lemmas.Result.{IfOk-weaker}
 use Rattle.json.specs.Json.{read_key, after_end_array}
 use Rattle.json.specs.Reads.{token_of}
@@ -22,17 +22,11 @@ next_entries-loop-entries-preserved t c =
     next_member c.args.depth c.args.reader.now c.loop-entries.reader c.next_name.new.reader c.next_node.new.reader c.loop-entries.entries.items c.push_tight.new.items.items c.in-Some.name.now c.in_ok-name-2.name c.in_ok-node.node
     key (search rules) c.in_ok-node.ensures.says c.in_ok-node.ensures.shorter c.in_ok-push_tight.ensures c.loop-entries.invariant
 
-pub next_entries-returns-clause-says : goal.next_entries-returns-clause-says
-next_entries-returns-clause-says t c =
+pub next_entries-returns : goal.next_entries-returns
+next_entries-returns t c =
     let end : read_key c.loop-entries.reader ≡ Some (None, c.next_name.new.reader) = grind arith in
     IfOk-weaker c.in_order.result _ _ (λ v order. last_member c.args.depth c.args.reader.now c.loop-entries.reader c.next_name.new.reader c.loop-entries.entries.items c.shrink_to_fit.new.self.items v.items
     end c.shrink_to_fit.ensures.items c.loop-entries.invariant order) c.in_order.ensures.sorted
-
-pub next_entries-returns-clause-shorter : goal.next_entries-returns-clause-shorter
-next_entries-returns-clause-shorter t c =
-    let end : read_key c.loop-entries.reader ≡ Some (None, c.next_name.new.reader) = grind arith in
-    let less : length c.next_name.new.reader < length c.args.reader.now = omega (arith, read_key-shorter c.loop-entries.reader None c.next_name.new.reader end, c.loop-entries.invariant.shorter) in
-    search (rules, less)
 
 pub next_members-loop-alloc-init : goal.next_members-loop-alloc-init
 next_members-loop-alloc-init t c = no_item c.args.depth c.args.reader.now c.new-members.result.items c.new-members.ensures.items
@@ -82,4 +76,8 @@ next_node-returns-in_ok-next_members-in-Some-BeginArray-clause-says t c =
 pub next_node-returns-in_ok-next_entries-in-Some-BeginObject-clause-says : goal.next_node-returns-in_ok-next_entries-in-Some-BeginObject-clause-says
 next_node-returns-in_ok-next_entries-in-Some-BeginObject-clause-says t c =
     object_says_next c.args.depth c.args.reader.now c.next.new.self c.next_entries.new.reader c.in_ok-next_entries-in-Some-BeginObject.field-0 (omega arith)
-    (c.in-Some-BeginObject.ensures.value ∙ ap (λ k. token_of k ∷ c.next.new.self) c.in-Some-BeginObject.field-0-is) c.in_ok-next_entries-in-Some-BeginObject.ensures.says
+    (c.in-Some-BeginObject.ensures.value ∙ ap (λ k. token_of k ∷ c.next.new.self) c.in-Some-BeginObject.field-0-is) c.in_ok-next_entries-in-Some-BeginObject.ensures
+
+pub next_node-returns-in_ok-next_entries-in-Some-BeginObject-clause-shorter : goal.next_node-returns-in_ok-next_entries-in-Some-BeginObject-clause-shorter
+next_node-returns-in_ok-next_entries-in-Some-BeginObject-clause-shorter t c =
+    omega (arith, c.in_ok-next_entries-in-Some-BeginObject.ensures.shorter, ap length c.in-Some-BeginObject.ensures.value)
