@@ -5,8 +5,8 @@ one_text=$(text "$one_cid")
 get_one=(get --blocks blocks.car --root "$one_text")
 get_report="get $one_line
 total jobs=1 done=1 skips=0"
-nothing_below='note: the selector entered nothing below the root'
-no_edge='note: a recursion of the selector has no edge {"@":{}}, so it never begins again'
+nothing_below='note: the selector matched nothing below the root'
+no_edge='note: a recursion of the selector has no edge {"@":{}}, so it never recurs'
 
 # got STATUS ERRORS HEX..: the archive is all of standard output.
 got() {
@@ -289,7 +289,7 @@ if command -v script >/dev/null; then
   status=0
   script -qec "$(printf '%q ' "$top/ix_export" "${get_one[@]}")" /dev/null </dev/null >"$scratch/terminal" || status=$?
   expect_text 'exit status' 2 "$status"
-  expect_text 'the terminal' "error: the archive would go to a terminal: give '--out <FILE>', or send standard output elsewhere" \
+  expect_text 'the terminal' "error: the archive would go to a terminal: give '--out <FILE>', or redirect standard output" \
     "$(head -n 1 "$scratch/terminal" | tr -d '\r')"
   status=0
   script -qec "$(printf '%q ' "$top/ix_export" "${get_one[@]}" --out out/a.car)" /dev/null </dev/null >"$scratch/terminal" || status=$?

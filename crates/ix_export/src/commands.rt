@@ -48,34 +48,34 @@ pub(crate) enum Given {
 pub(crate) const BLOCKS: Word = Word {
     name: "blocks",
     given: Given::Needed("FILE"),
-    help: "The blocks: a CARv1 file, or - for standard input",
+    help: "CARv1 file with the blocks, or - for standard input",
 };
 
 /// How many threads there are, of each kind.
 pub(crate) const WALKERS: Word = Word {
     name: "walkers",
     given: Given::Number,
-    help: "How many threads walk, 1 to 64",
+    help: "Threads that traverse, 1 to 64",
 };
 
 pub(crate) const VERIFIERS: Word = Word {
     name: "verifiers",
     given: Given::Number,
-    help: "How many threads hash, 1 to 64",
+    help: "Threads that hash, 1 to 64",
 };
 
 /// Whether progress is shown.
 pub(crate) const PROGRESS: Word = Word {
     name: "progress",
     given: Given::Flag,
-    help: "Shows progress on standard error",
+    help: "Show progress on standard error",
 };
 
 /// Whether the cause of an error is printed where an error has one line.
 pub(crate) const VERBOSE: Word = Word {
     name: "verbose",
     given: Given::Flag,
-    help: "Prints the cause of an error on a second line",
+    help: "Print the cause of an error on a second line",
 };
 
 /// The command of a table.

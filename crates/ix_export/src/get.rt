@@ -39,10 +39,10 @@ const INCOMPLETE: u8 = 4;
 const BUFFER: usize = 16 * 1024;
 
 // Behind the report, of a job that met nothing but its roots, and of a selector that can't recur.
-const NOTHING_BELOW: &str = "note: the selector entered nothing below the root";
+const NOTHING_BELOW: &str = "note: the selector matched nothing below the root";
 
 const NO_EDGE: &str =
-    "note: a recursion of the selector has no edge {\"@\":{}}, so it never begins again";
+    "note: a recursion of the selector has no edge {\"@\":{}}, so it never recurs";
 
 /// Does what the words say, and answers the status. The faults come in the order words, blocks, output.
 pub(crate) fn get<

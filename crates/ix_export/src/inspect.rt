@@ -16,22 +16,22 @@ use std::thread::Threads;
 // How many threads look CIDs up, where there are processors for them: as many as load blocks where nothing else is said.
 const LOADERS: usize = 8;
 
-const ABOUT: &str = "Tells what stands in a CARv1 file, without hashing";
+const ABOUT: &str = "Describe a CARv1 file, without hashing";
 
-const HELP: &str = "FILE is a CARv1 file; - is standard input. Told are its roots, its size, how\n\
-many sections it has and how many of them have a CID that has stood before, how\n\
-many there are of each codec and of each hash function (by the names of the\n\
-multicodec table, or as numbers), and the smallest, the median and the greatest\n\
-size of a block.\n\
+const HELP: &str =
+    "Prints the roots of the file, its size, the number of its sections and how many\n\
+of them repeat a CID, the number of sections of each codec and each hash\n\
+function (by its name in the multicodec table, or its number), and the smallest,\n\
+median and greatest size of a block.\n\
 \n\
-With --list there is a line for each section in place of that, PLACE SIZE CID:\n\
-where its length stands, in bytes from the front of the file, the size of its\n\
-block, and the CID as in a job file.\n\
+With --list it prints a line for each section instead, PLACE SIZE CID: the\n\
+offset of the section in bytes, the size of its block, and the CID as in a job\n\
+file.\n\
 \n\
-Of a file that is no CARv1 file a line on standard error says what it is, and\n\
-of one that ends early, how its whole sections are kept.\n\
+If the file is not a CARv1, a line on standard error says what it is. If it ends\n\
+early, the line says how to keep its whole sections.\n\
 \n\
-Status: 0, or 2 where the words or the file are refused.";
+Status: 0, or 2 if the arguments or the file are rejected.";
 
 /// The command.
 pub(crate) static INSPECT: CommandWords = CommandWords {
@@ -42,12 +42,12 @@ pub(crate) static INSPECT: CommandWords = CommandWords {
         Word {
             name: "file",
             given: Given::Place("FILE"),
-            help: "A CARv1 file; - is standard input",
+            help: "CARv1 file, or - for standard input",
         },
         Word {
             name: "list",
             given: Given::Flag,
-            help: "A line for each section: PLACE SIZE CID",
+            help: "Print a line for each section: PLACE SIZE CID",
         },
     ],
 };

@@ -21,7 +21,7 @@ const REFUSED: u8 = 2;
 // How many findings of a file are printed without `--all`.
 const FIRST: usize = 20;
 
-const ABOUT: &str = "Tells whether CARv1 files are sound: sections, and all below roots";
+const ABOUT: &str = "Check CARv1 files: each section, and every link from the roots";
 
 const HELP: &str =
     "Each FILE is a CARv1 file; - is standard input. Each section is checked by its\n\
@@ -51,7 +51,7 @@ has nothing to follow.\n\
 \x20 ix_export verify --all library.car | grep ' link missing '\n\
 \n\
 Status: 0 if all is sound, 3 if something isn't, 2 if the arguments or a file\n\
-are refused.";
+are rejected.";
 
 /// The command.
 pub(crate) static VERIFY: CommandWords = CommandWords {
@@ -62,17 +62,17 @@ pub(crate) static VERIFY: CommandWords = CommandWords {
         Word {
             name: "file",
             given: Given::Places("FILE"),
-            help: "CARv1 files; - is standard input",
+            help: "CARv1 files, or - for standard input",
         },
         Word {
             name: "blocks-only",
             given: Given::Flag,
-            help: "Judges the sections alone",
+            help: "Check the sections alone, without links",
         },
         Word {
             name: "all",
             given: Given::Flag,
-            help: "Prints every finding, the line of the file last",
+            help: "Print every finding, the line of the file last",
         },
         VERIFIERS,
     ],
