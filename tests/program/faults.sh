@@ -217,11 +217,11 @@ $2"
 verbose 'cannot read blocks.car' 'Is a directory (os error 21)' 'rm blocks.car; mkdir blocks.car'
 verbose 'cannot read jobs.txt' 'No such file or directory (os error 2)' 'rm jobs.txt'
 verbose 'too large blocks.car' 'an input has at most 1073741824 bytes' "truncate -s $((greatest + 1)) blocks.car"
-verbose 'blocks: truncated at 0' 'packed by gzip' 'bytes 1f8b0800 >blocks.car'
-verbose 'jobs: fields at line 1' 'the command check-jobs says of each line what is wrong' 'echo b >jobs.txt'
-verbose 'cannot write out/a.car' 'No such file or directory (os error 2); its folder must be there' 'rmdir out'
+verbose 'blocks: truncated at 0' 'compressed by gzip' 'bytes 1f8b0800 >blocks.car'
+verbose 'jobs: fields at line 1' 'ix_export check-jobs reports what is wrong with each line' 'echo b >jobs.txt'
+verbose 'cannot write out/a.car' 'No such file or directory (os error 2); its directory must exist' 'rmdir out'
 verbose 'cannot write out/a.car' 'it is an input: give another output' 'ln blocks.car out/a.car'
-verbose 'cannot write out/a.car' 'a folder is there' 'mkdir out/a.car'
+verbose 'cannot write out/a.car' 'is a directory' 'mkdir out/a.car'
 exec {held}>"$scratch/held"
 verbose 'cannot write out/a.car' 'another run is writing it' 'flock "$held"; ln "$scratch/held" out/a.car.part'
 exec {held}>&-
@@ -238,4 +238,4 @@ begin 'root: the cause of an input that is no hexadecimal'
 printf x >input
 run root --cid "$abc_text" --verbose <input
 refused 'input: hex
-it has an odd number of digits, or a character that is none'
+odd number of digits, or a character that is not a hex digit'

@@ -214,19 +214,19 @@ run get --blocks none --root "$one_text" --out out/a.car
 refused 'cannot read none: No such file or directory (os error 2)'
 bytes "$no_roots" 05 >blocks.car
 run "${get_one[@]}" --out out/a.car
-refused 'blocks: truncated at 18: the command inspect says how the sections before are kept'
+refused 'blocks: truncated at 18: ix_export inspect says how to keep the sections before it'
 printf 'some text' >blocks.car
 run "${get_one[@]}" --out out/a.car
-refused 'blocks: truncated at 0: a text'
+refused 'blocks: truncated at 0: plain text'
 expect_folder out
 
 begin 'get: an output that can not be made'
 write_blocks "$one_blocks"
-get_refused 'cannot write none/a.car: No such file or directory (os error 2); its folder must be there' "${get_one[@]}" --out none/a.car
-get_refused 'cannot write out: a folder is there' "${get_one[@]}" --out out
+get_refused 'cannot write none/a.car: No such file or directory (os error 2); its directory must exist' "${get_one[@]}" --out none/a.car
+get_refused 'cannot write out: is a directory' "${get_one[@]}" --out out
 get_refused 'cannot write blocks.car: it is an input: give another output' "${get_one[@]}" --out blocks.car
 ln -s /dev/null device
-get_refused 'cannot write device: it is no regular file' "${get_one[@]}" --out device
+get_refused 'cannot write device: not a regular file' "${get_one[@]}" --out device
 expect_folder . blocks.car device out
 title='get: another run writes it'
 exec {held}>out/a.car.part

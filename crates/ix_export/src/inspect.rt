@@ -256,13 +256,13 @@ pub(crate) fn words_of(kind: Kind) -> &'static str {
         Kind::Car2 => {
             "a CARv2 file; its data can be taken out by car extract, or by the offset in its header"
         }
-        Kind::Gzip => "packed by gzip",
-        Kind::Zstd => "packed by zstd",
-        Kind::Bzip2 => "packed by bzip2",
+        Kind::Gzip => "compressed by gzip",
+        Kind::Zstd => "compressed by zstd",
+        Kind::Bzip2 => "compressed by bzip2",
         Kind::Tar => "a tar archive",
         Kind::Json => "JSON",
-        Kind::Text => "a text",
+        Kind::Text => "plain text",
         Kind::Empty => "an empty file",
-        Kind::Other => "no CARv1 file",
+        Kind::Other => "not a CARv1 file",
     }
 }

@@ -316,7 +316,7 @@ pub(crate) fn explained<R: AllocGlobal>(rt: &R, fault: RunFault, kind: Kind) -> 
     let why = match &fault {
         RunFault::Car(found) if found.kind == CarKind::Memory => return Failure::from(fault),
         RunFault::Car(found) if found.place == 0 => inspect::words_of(kind),
-        RunFault::Car(_) => "the command inspect says how the sections before are kept",
+        RunFault::Car(_) => "ix_export inspect says how to keep the sections before it",
         _ => return Failure::from(fault),
     };
     match String::from_str(rt.alloc(), why) {

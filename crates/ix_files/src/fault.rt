@@ -144,7 +144,7 @@ impl Failure {
         match self {
             Failure::CannotRead(_, error) => Ok(Some(cause_of(alloc, error, "")?)),
             Failure::CannotWrite(_, error) => {
-                Ok(Some(cause_of(alloc, error, "; its folder must be there")?))
+                Ok(Some(cause_of(alloc, error, "; its directory must exist")?))
             }
             Failure::TooLarge(_) => {
                 Ok(Some(String::from_str(alloc, "an input has at most 1073741824 bytes")?))
@@ -175,8 +175,8 @@ pub(crate) fn cause_of(
 // What is to be done about a fault that the library finds, where its line doesn't say it.
 fn cause_of_fault(alloc: Global, fault: &RunFault) -> Result<Option<String>, AllocError> {
     let cause = match fault {
-        RunFault::Hex => "it has an odd number of digits, or a character that is none",
-        RunFault::Jobs(_) => "the command check-jobs says of each line what is wrong",
+        RunFault::Hex => "odd number of digits, or a character that is not a hex digit",
+        RunFault::Jobs(_) => "ix_export check-jobs reports what is wrong with each line",
         RunFault::Write(_) => "its header could not be written: is the disk full?",
         _ => return Ok(None),
     };

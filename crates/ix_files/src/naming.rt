@@ -180,7 +180,7 @@ fn replaced_line(
     outcome: &JobResult,
 ) -> Result<String, AllocError> {
     let why = lack_of(alloc, job, outcome)?;
-    format!(in alloc; "warning: {path} replaced the file that was there: {why}\n")
+    format!(in alloc; "warning: {path} replaced an existing file: {why}\n")
 }
 
 // Why the archive of a job isn't complete.

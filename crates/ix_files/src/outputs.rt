@@ -111,7 +111,7 @@ fn check_file<R: Files<File = File> + AllocGlobal>(
 ) -> io::Result<()> {
     match fs::metadata(rt, path) {
         Ok(metadata) if !metadata.is_file() && !metadata.is_dir() => {
-            return Err(io::Error::new(ErrorKind::AlreadyExists, "it is no regular file"));
+            return Err(io::Error::new(ErrorKind::AlreadyExists, "not a regular file"));
         }
         _ => {}
     }
@@ -128,7 +128,7 @@ fn check_output<R: Files<File = File> + AllocGlobal>(
     let part = part_path(rt.alloc(), path)?;
     match fs::metadata(rt, path) {
         Ok(metadata) if metadata.is_dir() => {
-            return Err(io::Error::new(ErrorKind::AlreadyExists, "a folder is there"));
+            return Err(io::Error::new(ErrorKind::AlreadyExists, "is a directory"));
         }
         _ => {}
     }
