@@ -1,4 +1,4 @@
-//! The words of the command `get`.
+//! The arguments of the command `get`.
 
 use crate::commands::{BLOCKS, CommandWords, Given, PROGRESS, VERIFIERS, WALKERS, Word, refusal};
 use crate::words::refused_value;
@@ -40,7 +40,7 @@ error that has the cause.";
 // The name of the one job in the report.
 const NAME: &str = "get";
 
-/// The command: which job it is, and then how it is exported, and to where.
+/// The command: the job, how it is exported, and where to.
 pub(crate) static GET: CommandWords = CommandWords {
     name: "get",
     about: ABOUT,
@@ -98,7 +98,7 @@ pub(crate) static GET: CommandWords = CommandWords {
     ],
 };
 
-/// The words of the job.
+/// Returns the arguments of the job.
 pub(crate) fn job_words<'a>(words: &ArgMatches<'a>) -> JobWords<'a> {
     let selector = match (words.get_str("selector"), words.get_str("selector-hex")) {
         (Some(text), _) => SelectorWord::Json(text.as_bytes()),
@@ -115,7 +115,7 @@ pub(crate) fn job_words<'a>(words: &ArgMatches<'a>) -> JobWords<'a> {
     }
 }
 
-/// Where the archive goes, where that isn't standard output.
+/// Returns the path of the archive, or None for standard output.
 pub(crate) fn output_of<'a>(words: &ArgMatches<'a>) -> Option<&'a str> {
     match words.get_str("out") {
         Some(path) if path != STANDARD_INPUT => Some(path),
@@ -123,12 +123,12 @@ pub(crate) fn output_of<'a>(words: &ArgMatches<'a>) -> Option<&'a str> {
     }
 }
 
-/// What is reported of an output without a name.
+/// Makes the error for an empty output path.
 pub(crate) fn refused_output(alloc: Global) -> Result<clap::Error, AllocError> {
     refused_value(alloc, &GET, "ix_export get", "--out <FILE>")
 }
 
-/// What is told where the archive would go to a terminal.
+/// Makes the error for an archive that would go to a terminal.
 pub(crate) fn refused_terminal(alloc: Global) -> Result<clap::Error, AllocError> {
     refusal(
         alloc,

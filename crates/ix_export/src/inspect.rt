@@ -1,4 +1,4 @@
-//! The command `inspect`: what stands in a CARv1 file, or what a file is that is none.
+//! The command `inspect`: describes a CARv1 file, or says what another file is.
 
 use crate::at_most_processors;
 use crate::commands::{CommandWords, Given, Word};
@@ -13,7 +13,8 @@ use std::io::{self, BufWriter, ErrorKind, Write};
 use std::rt::Files;
 use std::thread::Threads;
 
-// How many threads look CIDs up, where there are processors for them: as many as load blocks where nothing else is said.
+// The most threads that look up CIDs: as many as load blocks by default. There are no more than
+// processors.
 const LOADERS: usize = 8;
 
 const ABOUT: &str = "Describe a CARv1 file, without hashing";
@@ -52,7 +53,7 @@ pub(crate) static INSPECT: CommandWords = CommandWords {
     ],
 };
 
-/// Does what the words say, and answers the status.
+/// Runs the command `inspect` and returns the status.
 pub fn inspect<'a, R: AllocGlobal + Eprint + Files + Input + Print + Threads + Sync>(
     rt: &R,
     words: &ArgMatches<'a>,
@@ -62,7 +63,7 @@ pub fn inspect<'a, R: AllocGlobal + Eprint + Files + Input + Print + Threads + S
     inspect_car(rt, path, car.as_slice(), words.get_flag("list"))
 }
 
-// The same with the bytes of the file.
+// Describes a file, given its bytes.
 fn inspect_car<R: AllocGlobal + Eprint + Print + Threads + Sync>(
     rt: &R,
     path: &str,
@@ -114,7 +115,7 @@ fn cid_of(alloc: Global, section: &Section<'_>) -> Result<String, AllocError> {
     cid.text(alloc)
 }
 
-// Where nobody reads on, nothing is left to be told.
+// Returns status 0 if the reader closed the pipe, since the rest isn't wanted, and else the error.
 fn answer_of<R: AllocGlobal>(rt: &R, error: &io::Error) -> Result<u8, Failure> {
     if error.kind() == ErrorKind::BrokenPipe {
         return Ok(0);
@@ -122,7 +123,7 @@ fn answer_of<R: AllocGlobal>(rt: &R, error: &io::Error) -> Result<u8, Failure> {
     Err(Failure::cannot_write(rt.alloc(), STANDARD_INPUT, error))
 }
 
-// What is counted of a file of so many bytes.
+// Prints the summary of a file of so many bytes.
 fn summarize<R: AllocGlobal + Print + Threads + Sync>(
     rt: &R,
     file: CarFile<'_>,
@@ -135,7 +136,7 @@ fn summarize<R: AllocGlobal + Print + Threads + Sync>(
     }
 }
 
-// What is printed of a file of so many bytes.
+// Returns the summary as text.
 fn text_of<R: AllocGlobal + Threads + Sync>(
     rt: &R,
     file: CarFile<'_>,
@@ -186,7 +187,7 @@ fn push_numbers(
     )
 }
 
-// A line for a code, by its name where it has one.
+// Adds a line for a code, by its name if it has one.
 fn push_count(
     text: &mut String,
     word: &str,
@@ -200,7 +201,7 @@ fn push_count(
     }
 }
 
-// The smallest, the median and the greatest size, if there are sections.
+// Adds the smallest, median and greatest size, if there are sections.
 fn push_sizes(text: &mut String, summary: &Summary) -> Result<(), AllocError> {
     if let (Some(smallest), Some(median), Some(greatest)) = (
         summary.smallest(),
@@ -215,7 +216,7 @@ fn push_sizes(text: &mut String, summary: &Summary) -> Result<(), AllocError> {
     Ok(())
 }
 
-// Tells why a file is refused, and what it is.
+// Prints why a file is rejected, and what it is.
 fn refuse<R: AllocGlobal + Eprint>(
     rt: &R,
     path: &str,
@@ -236,13 +237,13 @@ fn refuse<R: AllocGlobal + Eprint>(
     Ok(2)
 }
 
-// Tells what a file is. Where standard error can't be written there is nobody to tell.
+// Prints what a file is. If standard error can't be written, there is no one to report to.
 fn tell_kind<R: Eprint>(rt: &R, path: &str, fault: CarFault, words: &str) {
     let kind = fault.kind;
     let _ = eprintln!(rt; "{path}: {kind} at 0: {words}");
 }
 
-// Tells which bytes in front of a fault are kept, and how.
+// Prints how to keep the bytes before an error.
 fn tell_kept<R: Eprint>(rt: &R, path: &str, fault: CarFault, words: &str) {
     let CarFault { kind, place } = fault;
     let _ = eprintln!(rt;
@@ -250,7 +251,7 @@ fn tell_kept<R: Eprint>(rt: &R, path: &str, fault: CarFault, words: &str) {
     );
 }
 
-// What a file is that is no CARv1 file.
+// Returns what a file that is not a CARv1 is.
 pub(crate) fn words_of(kind: Kind) -> &'static str {
     match kind {
         Kind::Car2 => {

@@ -1,4 +1,4 @@
-//! The words of the commands `job` and `check-jobs`.
+//! The arguments of the commands `job` and `check-jobs`.
 
 use crate::commands::{CommandWords, Given, Word};
 

@@ -1,4 +1,4 @@
-//! The words of the command line.
+//! The arguments of the command line.
 
 use crate::commands::{
     BLOCKS, CommandWords, Given, PROGRESS, VERBOSE, VERIFIERS, WALKERS, Word, command_of, refusal,
@@ -105,7 +105,7 @@ Without JSON and --hex, or if JSON is -, it is read from standard input.\n\
 docs/SELECTORS.md has the forms and recipes. Status: 0 if a line was printed, 2\n\
 if the text is not a selector, with a line that says why.";
 
-/// The arguments of the process, of which the first is the program's name.
+/// Returns the arguments of the process. The first is the program's name.
 pub fn arguments<R: AllocGlobal + Env>(rt: &R) -> Result<Vec<String>, Failure> {
     match env::args(rt) {
         Ok(arguments) => arguments.collect(rt.alloc()).map_err(Failure::from),
@@ -113,8 +113,8 @@ pub fn arguments<R: AllocGlobal + Env>(rt: &R) -> Result<Vec<String>, Failure> {
     }
 }
 
-// The first argument that isn't UTF-8, its bytes escaped where they are no printed ASCII. A longer one than
-// there is room for is only named.
+// Returns the first argument that isn't UTF-8, with bytes other than printed ASCII escaped. If it is
+// longer than the buffer, the text says only that.
 fn first_other_than_utf8<R: AllocGlobal + Env>(rt: &R) -> Result<String, AllocError> {
     let mut room = [0u8; 1024];
     for number in 0..usize::MAX {
@@ -132,7 +132,7 @@ fn first_other_than_utf8<R: AllocGlobal + Env>(rt: &R) -> Result<String, AllocEr
     String::from_str(rt.alloc(), "one of over 1024 bytes")
 }
 
-// An argument as it is reported, with its number.
+// Returns an argument as it is reported, with its number.
 fn quoted(alloc: Global, number: usize, argument: &[u8]) -> Result<String, AllocError> {
     let mut text = format!(in alloc; "number {number}, '")?;
     for byte in argument {
@@ -145,7 +145,7 @@ fn quoted(alloc: Global, number: usize, argument: &[u8]) -> Result<String, Alloc
     Ok(text)
 }
 
-/// The command line, of which the help is made.
+/// Makes the command line, which has the help.
 pub fn command_line<'a>(alloc: Global) -> Result<Command<'a>, AllocError> {
     Command::new(alloc, "ix_export")
         .about(ABOUT)
@@ -155,14 +155,14 @@ pub fn command_line<'a>(alloc: Global) -> Result<Command<'a>, AllocError> {
         .subcommands(commands(alloc)?)
 }
 
-// The commands that stand behind the program's name.
+// Makes the commands.
 fn commands<'a>(alloc: Global) -> Result<Vec<Command<'a>>, AllocError> {
     let mut commands = Vec::new(alloc);
     push_commands(alloc, &mut commands)?;
     Ok(commands)
 }
 
-// Adds each of them, with no command to let go of where it ends early.
+// Adds each command. It owns none of them, so an early return has none to drop.
 fn push_commands<'a>(alloc: Global, commands: &mut Vec<Command<'a>>) -> Result<(), AllocError> {
     let tables = [
         &GET,
@@ -180,7 +180,7 @@ fn push_commands<'a>(alloc: Global, commands: &mut Vec<Command<'a>>) -> Result<(
     Ok(())
 }
 
-// Adds a command, where there was memory for it.
+// Adds a command, unless memory ran out for it.
 fn push_command<'a>(
     commands: &mut Vec<Command<'a>>,
     command: Result<Command<'a>, AllocError>,
@@ -274,7 +274,7 @@ static SELECTOR: CommandWords = CommandWords {
     ],
 };
 
-/// Refuses standard input for both the blocks and the job file.
+/// Rejects standard input for both the blocks and the job file.
 pub fn judge_inputs(alloc: Global, inputs: [&str; 2]) -> Result<(), clap::Error> {
     if inputs[0] == STANDARD_INPUT && inputs[1] == STANDARD_INPUT {
         return Err(refused_inputs(alloc)?);
@@ -282,7 +282,7 @@ pub fn judge_inputs(alloc: Global, inputs: [&str; 2]) -> Result<(), clap::Error>
     Ok(())
 }
 
-// What is told of standard input for both.
+// Makes the error for standard input as both inputs.
 fn refused_inputs(alloc: Global) -> Result<clap::Error, AllocError> {
     refusal(
         alloc,
@@ -293,7 +293,7 @@ fn refused_inputs(alloc: Global) -> Result<clap::Error, AllocError> {
     )
 }
 
-/// Rejects an output folder without a name, which would be the root folder.
+/// Rejects an empty output directory, which would be the root directory.
 pub fn judge_output(alloc: Global, folder: &str) -> Result<(), clap::Error> {
     if folder.is_empty() {
         return Err(refused_value(alloc, &JOBS, "ix_export jobs", "--out <DIR>")?);
@@ -301,7 +301,7 @@ pub fn judge_output(alloc: Global, folder: &str) -> Result<(), clap::Error> {
     Ok(())
 }
 
-/// What is reported of an option that is given without a value.
+/// Makes the error for an option whose value is empty.
 pub(crate) fn refused_value(
     alloc: Global,
     table: &'static CommandWords,
@@ -318,7 +318,7 @@ pub(crate) fn refused_value(
     )
 }
 
-/// The part of the job file that the words of the command `jobs` ask for, or the whole.
+/// Returns the part of the job file that `--part` asks for, or None for the whole file.
 pub fn part_of<'a>(alloc: Global, words: &ArgMatches<'a>) -> Result<Option<Part>, clap::Error> {
     let Some(text) = words.get_str("part") else {
         return Ok(None);
@@ -329,13 +329,13 @@ pub fn part_of<'a>(alloc: Global, words: &ArgMatches<'a>) -> Result<Option<Part>
     }
 }
 
-// The part that a text names.
+// Parses a part, K/N.
 fn part_in(text: &str) -> Option<Part> {
     let (number, of) = text.split_once('/')?;
     Part::new(number.parse().ok()?, of.parse().ok()?)
 }
 
-// What is told of a text that names none.
+// Makes the error for a text that isn't a part.
 fn refused_part<'a>(alloc: Global, text: &str) -> Result<clap::Error, AllocError> {
     let message = format!(in alloc;
         "invalid value '{text}' for '--part <K/N>': K is from 1 to N, and N from 1 to 1000000"

@@ -1,4 +1,4 @@
--- What the program says of a refusal that comes from below.
+-- What the program says of an error that comes from below.
 use Rattle.std.specs.Prelude.{◌≡◌, ◌≢◌, ℕ, ◌≤◌, List, ◌++◌, length, String, ◌⊎◌, string_bytes, codes, Contains}
 use Rattle.std.specs.Prelude.{Option, IfSome, Result, Ok, Err, IfOk, IfErr}
 use Rattle.std.specs.Global.{Global, Vec}
@@ -15,11 +15,11 @@ use Rattle.ix_files.specs.declared.fault.Failure.{Failure}
 use Rattle.ix_files.specs.declared.fault.Failure.TheVariants.{Usage, Words, Fault, Explained, Selector, CannotRead, TooLarge, CannotWrite}
 use Rattle.ix_run.specs.declared.fault.RunFault.TheVariants.{Memory}
 
--- an error on a file that is want of memory
+-- an error on a file that is out of memory
 abbrev pub WantsMemory : io.Error → Type 0
 WantsMemory error = error_kind error ≡ kinds.OutOfMemory
 
--- clap's refusal is told as it is, but for want of memory
+-- clap's error is reported as it is, but for lack of memory
 pub record IsUsageOf (error : Error) (failure : Failure) : Type 0 where
   pub memory : kind_of error ≡ OutOfMemory → failure ≡ Fault Memory
   pub usage : kind_of error ≢ OutOfMemory → failure ≡ Usage error
@@ -59,7 +59,7 @@ IsTooLarge path failure = (failure ≡ Fault Memory) ⊎ NamesLarge path failure
 abbrev pub IsInputFailure : List ℕ → Failure → Type 0
 IsInputFailure path failure = Names CannotRead path failure ⊎ IsTooLarge path failure
 
--- what is read of this path is no larger than the greatest input, or else it is refused so
+-- what is read of this path is no larger than the greatest input, or else it is rejected so
 abbrev pub IsRead : List ℕ → Result (Vec ℕ) Failure → Type 0
 IsRead path (Ok input) = length input.items ≤ 1073741824
 IsRead path (Err failure) = IsInputFailure path failure
@@ -91,7 +91,7 @@ IsFailureOf folder job failure = IsPathFailure (output_path folder job.name) fai
 abbrev pub IsOutputFailure : List ℕ → List JobMeaning → Failure → Type 0
 IsOutputFailure folder jobs failure = (failure ≡ Fault Memory) ⊎ NamesOutput folder jobs failure
 
--- what is refused is the output of this path
+-- what is rejected is the output of this path
 abbrev pub RefusesPath : {A : Type 0} → List ℕ → Result A Failure → Type 0
 RefusesPath path result = IfErr result (IsPathFailure path)
 
@@ -103,7 +103,7 @@ RefusesOutputOf folder job result = IfErr result (IsFailureOf folder job)
 abbrev pub RefusesOutputs : {A : Type 0} → List ℕ → List JobMeaning → Result A Failure → Type 0
 RefusesOutputs folder jobs result = IfErr result (IsOutputFailure folder jobs)
 
--- an output is made for each of these jobs, or that of one of them is refused
+-- an output is made for each of these jobs, or that of one of them is rejected
 pub record MakesOutputs {A : Type 0} (folder : List ℕ) (jobs : List JobMeaning) (result : Result (Vec A) Failure) : Type 0 where
   pub each : IfOk result (λ outputs. length outputs.items ≡ length jobs)
   pub refused : RefusesOutputs folder jobs result

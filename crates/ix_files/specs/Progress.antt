@@ -1,4 +1,4 @@
--- What is told while a run goes on.
+-- What is reported while a run goes on.
 use Rattle.std.specs.Prelude.{Bool, true, false}
 use Rattle.ix_files.specs.declared.progress.Telling.{Telling}
 use Rattle.ix_files.specs.declared.progress.Telling.TheVariants.{Nothing, Lines, OneLine}

@@ -98,7 +98,7 @@ impl Failure {
     pub fn report<R: AllocGlobal + Eprint + Print>(&self, rt: &R, causes: Causes) -> u8
         ensures { result ≡ 2 }
     {
-        // Where standard error can't be written there is nobody to report to.
+        // Where standard error can't be written there is no one to report to.
         let _ = match self {
             Failure::Usage(error) => error.print(rt),
             _ => match self.text(rt.alloc(), causes) {

@@ -27,7 +27,7 @@ pub fn read_input<R: AllocGlobal + Files + Input>(rt: &R, path: &str) -> Result<
     read_all(rt.alloc(), file, size, path)
 }
 
-/// The same, of which it is told how it goes on.
+/// The same, of which it is reported how it goes on.
 pub fn load_input<R: AllocGlobal + Clock + Eprint + Files + Input>(
     rt: &R,
     path: &str,

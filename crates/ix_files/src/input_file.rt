@@ -6,7 +6,7 @@ use std::fs;
 use std::io::{self, ErrorKind};
 use std::rt::Files;
 
-// Where standard input has a name, if the system tells it.
+// Where standard input has a name, if the system reports it.
 const STANDARD_INPUT_PATHS: [&str; 2] = ["/dev/stdin", "/proc/self/fd/0"];
 
 /// Which file an input is.
@@ -14,7 +14,7 @@ const STANDARD_INPUT_PATHS: [&str; 2] = ["/dev/stdin", "/proc/self/fd/0"];
 pub(crate) enum InputFile {
     /// This one.
     Known(FileId),
-    /// None that an output could be: it is no longer there.
+    /// None that an output could be: it is gone.
     Gone,
     /// Standard input, of which nobody says which file it is.
     Unknown,
@@ -33,7 +33,7 @@ pub(crate) fn identify<R: Files>(rt: &R, path: &str) -> InputFile {
     InputFile::Unknown
 }
 
-/// Refuses an output whose path, or whose part, is one of the inputs, under whatever name, or may be one.
+/// Rejects an output whose path, or whose part, is one of the inputs, under whatever name, or may be one.
 pub(crate) fn check_no_input<R: Files>(
     rt: &R,
     path: &str,

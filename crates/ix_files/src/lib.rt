@@ -1,4 +1,4 @@
-//! What the program reads, writes and tells: its inputs and outputs, how a run goes on, and why it
+//! What the program reads, writes and reports: its inputs and outputs, how a run goes on, and why it
 //! ends early.
 //!
 //! An input has at most 1 GiB, and is all that its reader has where that is known. There is an

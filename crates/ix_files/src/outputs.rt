@@ -1,7 +1,7 @@
 //! The outputs of a run: files that get their names once their archives are whole.
 //!
 //! The archive of a job is written to `DIR/NAME.car.part`, and renamed to `DIR/NAME.car` when the run
-//! has ended and the job is told as done or limit, before the report is printed. An output of one path
+//! has ended and the job is reported as done or limit, before the report is printed. An output of one path
 //! goes the same way, from `PATH.part` to `PATH`.
 
 ghost use Rattle.std.specs.Prelude.{◌≡◌, IfOk, string_bytes};
@@ -44,7 +44,7 @@ pub(crate) fn at_output<T: Drop, F: FnOnce(&str) -> io::Result<T>>(
 
 /// The files of the archives, one for each job, in a folder that is there, each locked until it is
 /// closed. An output that is a folder, or one of the files with the paths `inputs` under whatever
-/// name, where `-` is standard input, or that another run writes, is refused before anything is made;
+/// name, where `-` is standard input, or that another run writes, is rejected before anything is made;
 /// where a file can't be made, those made before it are removed.
 pub fn make_outputs<'a, R: Files<File = File> + AllocGlobal>(
     rt: &R,
@@ -76,7 +76,7 @@ pub fn make_outputs<'a, R: Files<File = File> + AllocGlobal>(
     Ok(outputs)
 }
 
-/// The file of an output of one path, locked until it is closed. Refused is one where something other
+/// The file of an output of one path, locked until it is closed. Rejected is one where something other
 /// than a file is, as a folder or a device, one that is the file of the path `input` under whatever
 /// name, where `-` is standard input, and one that another run writes.
 pub fn make_output<'a, R: Files<File = File> + AllocGlobal>(
@@ -103,7 +103,7 @@ fn checked_output<'a, R: Files<File = File> + AllocGlobal>(
     make_part(rt, path, writing)
 }
 
-// Refuses an output of one path where something other than a file is, or that `check_output` refuses.
+// Rejects an output of one path where something other than a file is, or that `check_output` rejects.
 fn check_file<R: Files<File = File> + AllocGlobal>(
     rt: &R,
     path: &str,
@@ -119,7 +119,7 @@ fn check_file<R: Files<File = File> + AllocGlobal>(
     check_output(rt, path, [input, input])
 }
 
-// Refuses an output that is a folder or an input, or that another run writes.
+// Rejects an output that is a folder or an input, or that another run writes.
 fn check_output<R: Files<File = File> + AllocGlobal>(
     rt: &R,
     path: &str,

@@ -61,7 +61,7 @@ fn left_at<R: Files>(rt: &R, part: &str) -> io::Result<Left> {
     }
 }
 
-/// Refuses an output where its part is written by another run, or can't be.
+/// Rejects an output where its part is written by another run, or can't be.
 pub(crate) fn check_part<R: Files<File = File>>(rt: &R, part: &str) -> io::Result<()> {
     match left_at(rt, part)? {
         Left::Nothing => Ok(()),

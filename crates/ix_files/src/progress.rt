@@ -8,7 +8,7 @@ use std::cell::Cell;
 use std::io::{self, Read};
 use std::rt::Clock;
 
-// After so many visits a line is told, where lines are.
+// After so many visits a line is reported, where lines are.
 const VISITS_A_LINE: u64 = 100_000;
 
 // How many milliseconds lie between two lines at least, and between two states of the one that is
@@ -20,10 +20,10 @@ const BETWEEN_STATES: u64 = 500;
 // After so many visits, or KiB written, the clock is looked at.
 const WORK_A_LOOK: u64 = 256;
 
-// How many bytes are read at once where it is told.
+// How many bytes are read at once where it is reported.
 const PIECE: usize = 4 * 1024 * 1024;
 
-/// How it is told how a run goes on.
+/// How it is reported how a run goes on.
 #[derive(Debug, Drop, Clone, Copy, PartialEq, Eq)]
 pub enum Telling {
     /// Not at all.
@@ -35,8 +35,8 @@ pub enum Telling {
     OneLine(u64),
 }
 
-/// Tells on standard error how many bytes of blocks were read, and then how many jobs of all are closed, how many visits
-/// were delivered, and how many bytes of archives were written. It is told by one thread.
+/// Reports on standard error how many bytes of blocks were read, and then how many jobs of all are closed, how many visits
+/// were delivered, and how many bytes of archives were written. It is reported by one thread.
 #[derive(Drop)]
 pub struct Progress<'a, R> {
     rt: &'a R,
@@ -51,16 +51,16 @@ pub struct Progress<'a, R> {
     // How many bytes of blocks were read, and how many there are, where that is known.
     loaded: Cell<u64>,
     size: Cell<u64>,
-    // When something was told last.
+    // When something was reported last.
     told: Cell<Option<u64>>,
     // What was done since the clock was looked at.
     work: Cell<u64>,
-    // Whether the line that is rewritten stands there.
+    // Whether the line that is rewritten is there.
     stands: Cell<bool>,
 }
 
 impl<'a, R: AllocGlobal + Clock + Eprint> Progress<'a, R> {
-    /// The progress of a run of which nothing was told so far.
+    /// The progress of a run of which nothing was reported so far.
     pub fn new(rt: &'a R, telling: Telling) -> Progress<'a, R>
         ensures { result.telling ≡ telling }
     {
@@ -81,7 +81,7 @@ impl<'a, R: AllocGlobal + Clock + Eprint> Progress<'a, R> {
         }
     }
 
-    /// Whether anything is told.
+    /// Whether anything is reported.
     pub fn is_told(&self) -> bool
         ensures { result ≡ is_told self.now.telling }
     {
@@ -112,7 +112,7 @@ impl<'a, R: AllocGlobal + Clock + Eprint> Progress<'a, R> {
         self.run_start.set(now(self.rt));
     }
 
-    /// Nothing more is told: the line that is rewritten ends.
+    /// Nothing more is reported: the line that is rewritten ends.
     pub fn end(&self) {
         if self.stands.replace(false) {
             let _ = eprint!(self.rt; "\n");
@@ -145,13 +145,13 @@ impl<'a, R: AllocGlobal + Clock + Eprint> Progress<'a, R> {
         let (visits, written) = (self.visits.get(), mebibytes(self.bytes.get()));
         let rate = a_second(visits, now(self.rt).saturating_sub(self.run_start.get()));
         // The terminal cuts a line that is too long for it, where it would else go on in the next one. Where
-        // standard error can't be written there is nobody to tell.
+        // standard error can't be written there is no one to report to.
         let _ = eprint!(self.rt;
             "\r\u{1b}[?7l{closed} of {jobs} jobs closed, {written} MiB, {visits} visits, {rate} a second\u{1b}[K\u{1b}[?7h"
         );
     }
 
-    // Prints a line, unless one was told a moment ago; the last one is printed.
+    // Prints a line, unless one was reported a moment ago; the last one is printed.
     fn print(&self, is_last: bool) {
         let now = now(self.rt);
         if !is_last && !is_past(self.told.get(), now, BETWEEN_LINES) {
@@ -205,7 +205,7 @@ impl<'a, R: AllocGlobal + Clock + Eprint> Watch for Progress<'a, R> {
     }
 }
 
-/// A reader of blocks of which it is told how many bytes were read.
+/// A reader of blocks of which it is reported how many bytes were read.
 #[derive(Drop)]
 pub(crate) struct Loading<'a, F, R> {
     file: F,
@@ -239,7 +239,7 @@ fn now<R: Clock>(rt: &R) -> u64 {
     }
 }
 
-// Whether so many milliseconds passed since something was told, or nothing was.
+// Whether so many milliseconds passed since something was reported, or nothing was.
 fn is_past(told: Option<u64>, now: u64, pause: u64) -> bool {
     match told {
         Some(told) => now.saturating_sub(told) >= pause,

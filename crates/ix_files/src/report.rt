@@ -2,7 +2,7 @@
 
 use std::str;
 
-/// Tells the report of a run on standard error. Where that can't be written there is nobody to tell.
+/// Reports the report of a run on standard error. Where that can't be written there is no one to report to.
 pub fn tell_report<R: Eprint>(rt: &R, report: &[u8]) {
     // A report is ASCII text.
     if let Ok(text) = str::from_utf8(report) {

@@ -25,7 +25,7 @@ pub struct StandIns {
 
 /// Opens something in place of each standard stream that is closed. A file that is opened takes the lowest
 /// number that is free, so without this what is printed could end in an output. What is opened can't be
-/// written, so a stream that is closed stays one that refuses what is printed. Where a number stays free,
+/// written, so a stream that is closed stays one that rejects what is printed. Where a number stays free,
 /// standard output can't be written.
 pub fn stand_in<R: AllocGlobal + Files<File = File>>(rt: &R) -> Result<StandIns, Failure>
     ensures refused { RefusesPath (codes "-") result }

@@ -1,9 +1,9 @@
 //! The pipeline: walkers put visits through a queue to verifiers, which send through lanes to the
-//! caller, who tells each job's sink.
+//! caller, which delivers to each job's sink.
 //!
-//! In every schedule, and whichever threads can't be started: each sink is told what its job calls
+//! In every schedule, and whichever threads can't be started: each sink receives what its job calls
 //! for, and each visit is checked as often as it is to be. Memory whose amount is known before is
-//! taken by `Prepared::new`; `flow` has no refusal, and a job for which memory runs out ends with
+//! taken by `Prepared::new`; `flow` has no error, and a job for which memory runs out ends with
 //! Memory.
 //!
 //! ```rust

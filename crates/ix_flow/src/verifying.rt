@@ -82,7 +82,7 @@ fn start_verifier<'s, 'e, R: Threads + Wait + Sync + 'e, C: Check + Send + Drop 
         .ok()
 }
 
-/// Starts the verifiers. What those are handed whose start is refused is lost.
+/// Starts the verifiers. What those are handed whose start is rejected is lost.
 pub(crate) fn start_verifiers<'s, 'e, R, C, G>(
     scope: &'s Scope<'s, &'e ()>,
     rt: &'e R,

@@ -110,7 +110,7 @@ module _ {S : Type 0} (events : S → List Event) (failed : S → List Delivery)
       (all_at store (n + 1) js es ss ks i j job seq h.1 walked (omega arith) found lt)
   all_at store n js es ss ks i j job seq h walked at found lt = absurd h
 
-  -- what was told of a job is checked
+  -- what was delivered of a job is checked
   told_here : (store : Blocks) (n : ℕ) (j : JobMeaning) (e : End) (told : List Event) (refused : List Delivery) (k : ℕ) (d : Delivery) → IsExported store n j e told refused k → Contains told (delivery d) → Contains (pairs_of n k) (d.visit.job, d.visit.seq)
   told_here store n j e told refused k d x c =
       let f = x.faithful in
@@ -160,7 +160,7 @@ rest_fresh : {S : Type 0} (events : S → List Event) (failed : S → List Deliv
 rest_fresh {S = S} events failed i sinks s lt h =
     let all : EachFresh events failed (get_or sinks i s ∷ drop (i + 1) sinks) = subst (λ (l : List S). EachFresh events failed l) (drop_more sinks i s lt) h in all.1
 
--- Of the jobs the first were exported into their sinks, the sinks behind are fresh, and each still promises what it did.
+-- Of the jobs the first were exported into their sinks, the sinks after are fresh, and each still promises what it did.
 pub record IsThrough {S : Type 0} (events : S → List Event) (failed : S → List Delivery) (fact : Fact S) (store : Blocks) (jobs : List JobMeaning) (i : ℕ) (es : List End) (first sinks : List S) (pairs : List (ℕ × ℕ)) : Type 0 where
   pub counts : List ℕ
   pub counted : length counts ≡ i

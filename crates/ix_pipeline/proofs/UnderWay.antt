@@ -1,4 +1,4 @@
--- A job under way: what its walk has left, and what was told of it so far.
+-- A job under way: what its walk has left, and what was delivered of it so far.
 use Rattle.std.proofs.Common.{◌≡◌, ◌⊎◌, ℕ, zero, suc, ◌<◌, ◌≤◌, false, List, [], ◌∷◌, ◌++◌, length, take, drop, map, Ok, Err, Some, None, refl, sym, ◌∙◌, ap, subst, inl, inr, arith, append_assoc, append-nil}
 use Rattle.std.specs.declared.alloc.AllocError.{AllocError}
 use Rattle.std.proofs.lemmas.List.{map-append, drop-map, length-map}
@@ -146,7 +146,7 @@ hands store number job walk left state after before told new v u g h =
       pairs = pairs_more number u.given before told.pairs new.pairs v is.job is.seq u.pairs (checks_of store v state after told new h);
     }
 
--- want of memory ends a job that is under way
+-- lack of memory ends a job that is under way
 pub on_memory : (store : Blocks) (number : ℕ) (job : JobMeaning) (state : SinkState) (given checks : ℕ) (before : List (ℕ × ℕ)) (new : Told)
     → IsOn state given (judged_visits store number job) new.events new.failed → given ≤ checks → checks ≤ length (visits_of store number job) → new.pairs ≡ before ++ pairs_of number checks → IsWalked store number job Memory before new
 on_memory store number job Taking given checks before new on more within pairs = record {
@@ -184,7 +184,7 @@ pub on_same : (state : SinkState) (given : ℕ) (all : List Delivery) (told new 
 on_same Taking given all told new events failed on = (events ∙ on.0, failed ∙ on.1)
 on_same Failed given all told new events failed on = (on.0, on.1, events ∙ on.2, failed ∙ on.3)
 
--- a visit can't be handed on for want of memory
+-- a visit can't be handed on for lack of memory
 pub hands_none : (store : Blocks) (number : ℕ) (job : JobMeaning) (walk left : WalkLeft) (state : SinkState) (before : List (ℕ × ℕ)) (told new : Told) (v : Visit) (e : AllocError)
     → IsUnderWay store number job walk state before told → GivesNext walk (Some (Ok v)) left → HandsOn store v state told (Err e) new → IsWalked store number job Memory before new
 hands_none store number job walk left state before told new v e u g h =
@@ -240,7 +240,7 @@ walk-ends store number job walk left state before told u g =
     on_end store number job state Done u.given before told u.on (all_given store number job walk state before told u g.0) u.pairs
     (λ (m : ℕ) all failed. (all, sym u.limited ∙ g.1, failed)) (λ (e : Done ≡ Start). cc)
 
--- the walk has met its limit
+-- the walk has reached its limit
 pub limits : (store : Blocks) (number : ℕ) (job : JobMeaning) (walk left : WalkLeft) (state : SinkState) (before : List (ℕ × ℕ)) (told : Told) → IsUnderWay store number job walk state before told → GivesNext walk (Some (Err reasons.Limit)) left → IsWalked store number job (end_on state Limit) before told
 limits store number job walk left state before told u g =
     on_end store number job state Limit u.given before told u.on (all_given store number job walk state before told u g.1) u.pairs

@@ -16,7 +16,7 @@ use std::alloc::Global;
 use std::sync::{Arc, Wait};
 use std::thread::Threads;
 
-/// An export that wasn't begun, for want of memory before any thread was started.
+/// An export that wasn't started, for lack of memory before any thread was started.
 #[derive(Drop)]
 pub struct NotStarted<C> {
     /// All checks, as they were handed in.

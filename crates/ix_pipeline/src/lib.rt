@@ -1,7 +1,7 @@
 //! The exporter: on one thread, and by walkers and verifiers.
 //!
 //! By 1 to 64 walkers and as many verifiers, in every schedule and whichever threads can't be
-//! started: each sink is told its job's first visits with their verdicts, in order and once each,
+//! started: each sink receives its job's first visits with their verdicts, in order and once each,
 //! and one close, last; its archive is that of the job at Done and else a beginning of it. Where
 //! nothing was started, sinks and checks are as they were.
 //!

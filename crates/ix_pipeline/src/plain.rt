@@ -15,8 +15,8 @@ use ix_walk::{Job, Visit, Walk, WalkStop};
 use std::alloc::{AllocError, Global};
 
 /// Exports every job into its sink, on one thread, and says how each job ended. Each visit of a job
-/// is checked once and, as long as no write failed, delivered with its verdict; behind the last
-/// visit the sink is closed. An `Err` is want of memory before the first event.
+/// is checked once and, as long as no write failed, delivered with its verdict; after the last
+/// visit the sink is closed. An `Err` means that memory ran out before the first event.
 pub fn export_plain<S: Sink, C: Check>(
     alloc: Global,
     store: &Store,
@@ -67,7 +67,7 @@ fn export_job<S: Sink, C: Check>(
     end
 }
 
-// Walks a job, and hands on each of its visits. Says how the job ends; on want of memory it ends
+// Walks a job, and hands on each of its visits. Says how the job ends; if memory runs out, it ends
 // at once.
 fn walk_job<S: Sink, C: Check>(
     alloc: Global,
@@ -95,7 +95,7 @@ fn walk_job<S: Sink, C: Check>(
 }
 
 // Checks a visit, and delivers it with its verdict if no write failed so far. Says what becomes of
-// the visits behind it.
+// the visits after it.
 fn hand_on<S: Sink, C: Check>(
     alloc: Global,
     store: &Store,
@@ -114,7 +114,7 @@ fn hand_on<S: Sink, C: Check>(
 }
 
 // Delivers a visit with its verdict if no write failed so far. Says what becomes of the visits
-// behind it.
+// after it.
 fn deliver_one<S: Sink>(
     alloc: Global,
     visit: Visit,
