@@ -44,7 +44,7 @@ CanHand Failed events failed = Unit {0}
 abbrev pub Checks : Visit → Told → Told → Type 0
 Checks v old new = new.pairs ≡ old.pairs ++ (v.job, v.seq) ∷ []
 
--- what handing on a visit tells: it is checked, and delivered as long as no write failed; if memory runs out, the sink receives nothing
+-- the events of handling a visit: it is checked, and delivered as long as no write failed; if memory runs out, the sink receives nothing
 abbrev pub HandsOn : Blocks → Visit → SinkState → Told → Result SinkState AllocError → Told → Type 0
 HandsOn store v Taking old (Ok Taking) new = (new.events ≡ old.events ++ delivery (judged store v) ∷ []) × (new.failed ≡ []) × Checks v old new
 HandsOn store v Taking old (Ok Failed) new = (new.events ≡ old.events) × (new.failed ≡ judged store v ∷ []) × Checks v old new
