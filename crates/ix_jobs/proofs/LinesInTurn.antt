@@ -17,7 +17,7 @@ use Rattle.ix_jobs.proofs.Pieces.{slice_split_whole}
 abbrev pub is_end : ℕ → Bool
 is_end b = b == 10
 
--- the first line, then those behind it
+-- the first line, then those after it
 pub jobs_from-first : (most n : ℕ) (before : List JobMeaning) (bs : List ℕ) → 0 < length bs
     → jobs_from most n before (slice_split (λ b. b == 10) bs)
     ≡ (at_line n (with_line most before (strip_carriage_return (before_first (λ b. b == 10) bs))) >>= (λ jobs. jobs_from most (n + 1) jobs (slice_split (λ b. b == 10) (after_first (λ b. b == 10) bs))))

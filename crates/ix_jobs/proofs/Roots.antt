@@ -15,7 +15,7 @@ One = Result (List ℕ) JobsKind
 abbrev Many : Type 0
 Many = Result (List (List ℕ)) JobsKind
 
--- those of one, and behind them those of another
+-- those of one, and after them those of another
 abbrev then_those : Many → Many → Many
 then_those s t = s >>= (λ cs. t >>= (λ ds. Ok (cs ++ ds)))
 
@@ -54,7 +54,7 @@ cut_at : (xs : List (List ℕ)) (n : ℕ) (x : List ℕ) → n < length xs → x
 cut_at xs n x lt is =
     sym (take-append-drop n xs) ∙ ap (λ (l : List (List ℕ)). take n xs ++ l) (drop-cons xs n x lt) ∙ ap (λ (y : List ℕ). take n xs ++ y ∷ drop (suc n) xs) (sym is) ∙ ap (λ (m : ℕ). take n xs ++ x ∷ drop m xs) (sym (add-one n))
 
--- a text is faulty behind so many that were read
+-- a text is faulty after so many that were read
 pub one_faulty : (parts ts : List (List ℕ)) (n : ℕ) (t : List ℕ) (cs : List (List ℕ)) (kind : JobsKind) → ts ≡ take n parts → n < length parts → t ≡ get_or parts n t → cids_in ts ≡ Ok cs → FailsAs kind kind (root_in t)
     → FailsAs kind kind (cids_in parts)
 one_faulty parts ts n t cs Memory so_far lt here h k = tt
