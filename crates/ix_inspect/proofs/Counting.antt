@@ -40,7 +40,7 @@ front-more cids i x lt is = take_more cids i x lt ∙ ap (λ (y : List ℕ). tak
 share-with : (n t : ℕ) (xs : List (List ℕ)) (x : List ℕ) (there : Bool) → (share_of n x == t) ≡ there → in_share n t (xs ++ x ∷ []) ≡ in_share n t xs ++ (if there then x ∷ [] else [])
 share-with n t xs x there is = filter-append (λ c. share_of n c == t) xs (x ∷ []) ∙ ap (λ (b : Bool). in_share n t xs ++ (if b then x ∷ [] else [])) is
 
--- the CIDs of the share so far stand in the store, and how many of them had stood before is counted
+-- the CIDs of the share so far are in the store, and how many of them had was before is counted
 pub record IsSoFar (n t : ℕ) (cids : List (List ℕ)) (i : ℕ) (store : Blocks) (count : ℕ) : Type 0 where
   pub seen : (c : List ℕ) → has_cid store c ≡ has_stood (in_share n t (take i cids)) c
   pub counted : count + repeats_behind (in_share n t (take i cids)) (in_share n t (drop i cids)) ≡ repeats (in_share n t cids)

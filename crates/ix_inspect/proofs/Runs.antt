@@ -35,7 +35,7 @@ code_count-append code (x ∷ xs) ys =
     let more : code_count code (xs ++ ys) ≡ code_count code xs + code_count code ys = code_count-append code xs ys in
     omega (arith, all, front, more)
 
--- what is left behind a run
+-- what is left after a run
 pub run-behind : (done : List ℕ) (code : ℕ) (behind : List ℕ) (run : ℕ) (rest back codes : List ℕ) → rest ≡ code ∷ behind → back ≡ drop run behind → done ++ rest ≡ codes → (done ++ code ∷ take run behind) ++ back ≡ codes
 run-behind done code behind run rest back codes first cut whole =
     append_assoc done (code ∷ take run behind) back

@@ -1,4 +1,4 @@
--- CIDs that have stood before, share by share.
+-- CIDs that have was before, share by share.
 use Rattle.std.proofs.Common.{◌≡◌, inl, inr, ℕ, zero, suc, ◌+◌, ◌-◌, ◌<◌, ◌≤◌, Bool, true, false, ◌||◌, List, [], ◌∷◌, ◌++◌, length, refl, sym, ◌∙◌, ap, subst, arith, ltb}
 use Rattle.std.specs.Prelude.{Option, Some, None, slice_get, slice_index_or, bytes_eq, ◌==◌, if◌then◌else◌, Result, Ok, IfOk}
 use Rattle.std.proofs.lemmas.Bool.{cases_Bool, false≢true, ltb-true, ltb-false, eqb-true, eq-eqb, ne_eqb}
