@@ -21,7 +21,7 @@ all_digits (d ∷ ds) h =
     let rest = all_digits ds (λ i l. h (suc i) (omega arith)) in
     ap (λ b. cond b (1 + prefix_len is_ascii_digit ds) 0) (and_from _ _ (le-leb 48 d first.0) (le-leb d 57 first.1)) ∙ omega arith
 
--- a whole part with nothing behind it
+-- a whole part with nothing after it
 whole_digits : (ds : List ℕ) → 48 < get_or ds 0 0 → prefix_len is_ascii_digit ds ≡ length ds → (after_whole ds ≡ Some []) × ((head ds == 45) ≡ false)
 whole_digits [] first all = absurd (omega arith)
 whole_digits (d ∷ ds) first all = (
@@ -29,7 +29,7 @@ whole_digits (d ∷ ds) first all = (
   ne_eqb d 45 (λ e. omega arith),
 )
 
--- no zero stands first
+-- no zero is first
 first_decimal : (n : ℕ) → 0 < n → n < 10 ^ 64 → 48 < get_or (decimal n) 0 0
 first_decimal n some small = (decimal_by_steps_wide (λ m ds. (0 < length ds) × (0 < m → 48 < get_or ds 0 0)) (λ m l. (omega arith, λ a. omega arith))
     (λ m ds l h. (omega (arith, length-append ds ((48 + m % 10) ∷ [])), λ a. omega (arith, get_or-append ds ((48 + m % 10) ∷ []) 0 0 h.0, h.1 (omega arith)))) n small).1 some

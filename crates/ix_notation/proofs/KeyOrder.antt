@@ -14,17 +14,17 @@ use Rattle.ix_cbor.proofs.Keys.{key_total, key_exact}
 use Rattle.ix_notation.specs.Saying.{key_of}
 use Rattle.ix_notation.proofs.Sayings.{Entry}
 
--- the key stands below each of these
+-- the key is below each of these
 abbrev pub IsBelow : List ℕ → List Entry → Type 0
 IsBelow k [] = Unit {0}
 IsBelow k (e ∷ es) = (key_cmp k (key_of e) ≡ Less) × IsBelow k es
 
--- each key stands below those behind it
+-- each key is below those after it
 abbrev pub AreSorted : List Entry → Type 0
 AreSorted [] = Unit {0}
 AreSorted (e ∷ es) = IsBelow (key_of e) es × AreSorted es
 
--- below what another stands below
+-- below what another is below
 below_more : (a b : List ℕ) (es : List Entry) → key_cmp a b ≡ Less → IsBelow b es → IsBelow a es
 below_more a b [] low h = tt
 below_more a b (e ∷ es) low h = (key_total.trans a b (key_of e) low h.0, below_more a b es low h.1)
@@ -36,7 +36,7 @@ first_below : (e : Entry) (es : List Entry) → Rise (e ∷ es) → AreSorted es
 first_below e [] h sorted = tt
 first_below e (f ∷ es) h sorted = let low : key_cmp (key_of e) (key_of f) ≡ Less = h 0 e (omega arith) in (low, below_more (key_of e) (key_of f) es low sorted.0)
 
--- where each stands below the next
+-- where each is below the next
 pub sorted_from_rise : (es : List Entry) → Rise es → AreSorted es
 sorted_from_rise [] h = tt
 sorted_from_rise (e ∷ es) h = let rest = sorted_from_rise es behind in (first_below e es h rest, rest) where
@@ -50,7 +50,7 @@ only_equal o Less e p q = absurd cc
 only_equal o Equal e p q = e
 only_equal o Greater e p q = let less : is_lt Less ≡ false = ap is_lt (sym e) ∙ q in absurd cc
 
--- neither of two keys that are one stands below the other, and only of such
+-- neither of two keys that are one is below the other, and only of such
 pub tied : (a b : List ℕ) → is_lt (key_cmp b a) ≡ false → is_lt (key_cmp a b) ≡ false → a ≡ b
 tied a b p q = key_exact a b (only_equal (key_cmp a b) (key_cmp b a) (key_total.antisymm a b) p q)
 

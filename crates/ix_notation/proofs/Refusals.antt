@@ -10,7 +10,7 @@ use Rattle.ix_notation.proofs.Selectors.{selector_plain}
 use Rattle.ix_notation.specs.Printed.{HasBadText, ItemsHaveBadText, EntriesHaveBadText, HasOtherKind, ItemsHaveOtherKind, EntriesHaveOtherKind, IsUnprinted}
 use Rattle.ix_notation.proofs.Sayings.{Entry}
 
--- the same refusal, where what it says of a part holds of the whole
+-- the same error, where what it says of a part holds of the whole
 pub unprinted_weaker : {P Q R S : Type 0} (e : NotationFault) → (P → R) → (Q → S) → IsUnprinted P Q e → IsUnprinted R S e
 unprinted_weaker (Json p) f g h = h
 unprinted_weaker Repeated f g h = h
@@ -31,7 +31,7 @@ other_member [] i d l h = absurd (omega arith)
 other_member (x ∷ nodes) zero d l h = inl h
 other_member (x ∷ nodes) (suc i) d l h = inr (other_member nodes i d (omega arith) h)
 
--- what a member's refusal says of the list
+-- what a member's error says of the list
 pub member_unprinted : (nodes : List Node) (i : ℕ) (x : Node) (e : NotationFault) → i < length nodes → x ≡ get_or nodes i x
     → IsUnprinted (HasBadText (data_of x)) (HasOtherKind (data_of x)) e → IsUnprinted (ItemsHaveBadText (node_items nodes)) (ItemsHaveOtherKind (node_items nodes)) e
 member_unprinted nodes i x e l is h =
@@ -52,7 +52,7 @@ other_value [] i d l h = absurd (omega arith)
 other_value (x ∷ entries) zero d l h = inl h
 other_value (x ∷ entries) (suc i) d l h = inr (other_value entries i d (omega arith) h)
 
--- what a key's refusal says of the map
+-- what a key's error says of the map
 pub key_unprinted : (entries : List Entry) (i : ℕ) (x : Entry) (k : List ℕ) (e : NotationFault) → i < length entries → x ≡ get_or entries i x → k ≡ x.0.items
     → (e ≡ Name) × ¬ IsUtf8 k → IsUnprinted (EntriesHaveBadText (node_entries entries)) (EntriesHaveOtherKind (node_entries entries)) e
 key_unprinted entries i x k e l is same h =

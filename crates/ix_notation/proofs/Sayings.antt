@@ -18,7 +18,7 @@ use Rattle.ix_cbor.specs.Data.{Data, data_of, entry_of}
 use Rattle.ix_cbor.proofs.Fitting.{data_of-map}
 use Rattle.ix_notation.specs.Saying.{Says, ItemsSay, MembersSay, EntriesSay, key_of}
 
--- what the rest of the items says, behind the nodes so far, all of them say
+-- what the rest of the items says, after the nodes so far, all of them say
 abbrev pub ItemsSoFar : {A : Type 0} → List (Value A) → ℕ → List Node → Type 0
 ItemsSoFar values i nodes = (more : List Data) → ItemsSay (items_view (drop i values)) more → ItemsSay (items_view values) (map data_of nodes ++ more)
 
@@ -45,7 +45,7 @@ Member A = Bor (List ℕ) × Value A
 abbrev pub Entry : Type 0
 Entry = Vec ℕ × Node
 
--- what the rest of the members says, behind the entries so far, all of them say
+-- what the rest of the members says, after the entries so far, all of them say
 abbrev pub MembersSoFar : {A : Type 0} → List (Member A) → ℕ → List Entry → Type 0
 MembersSoFar values i entries =
     (more : List (List ℕ × Data)) → MembersSay (members_view (drop i values)) more → MembersSay (members_view values) (map entry_of entries ++ more)
