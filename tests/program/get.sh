@@ -155,28 +155,28 @@ get_refused() {
 
 begin 'get: words that are those of no job'
 write_blocks "$one_blocks"
-base58='base58 of a CIDv0, which names UnixFS, and a CIDv1 in base32 beginning with b is wanted'
-other=', and base32 beginning with b is wanted: ipfs cid base32 converts it'
-upper='base32 in upper case, and lower case is wanted, beginning with b'
+base58='base58 of a CIDv0, which names UnixFS, expected a CIDv1 in base32 beginning with b'
+other=', expected base32 beginning with b: ipfs cid base32 converts it'
+upper='base32 in upper case, expected lower case, beginning with b'
 while read -r root line; do
   get_refused "--root: $line" get --blocks none --root "$root" --out out/a.car
 done <<END
 QmdfTbBqBPQ7VNxZEYEj14VmRuZBkqFbiwReogJgS1zR1n $base58
 zb2rhe5P4gXftAwvA4eXQ5HJwsER2owDyS9sKaQRRVQPn93bA base58$other
-f01551220ba7816bf hexadecimal$other
-F01551220BA7816BF hexadecimal$other
+f01551220ba7816bf hex$other
+F01551220BA7816BF hex$other
 ${abc_text^^} $upper
-ipfs://$abc_text an ipfs:// address, and the CID alone is wanted
-/ipfs/$abc_text a path of /ipfs/, and the CID alone is wanted
-$abc_text,f01 f01 is hexadecimal$other
+ipfs://$abc_text an ipfs:// address, expected the CID alone
+/ipfs/$abc_text a path of /ipfs/, expected the CID alone
+$abc_text,f01 f01 is hex$other
 END
-get_refused '--limit: 0, and 1 to 1000000 is wanted' "${get_one[@]}" --limit 0
-get_refused '--limit: greater than 1000000, and 1 to 1000000 is wanted' "${get_one[@]}" --limit 1000001
+get_refused '--limit: 0, expected 1 to 1000000' "${get_one[@]}" --limit 0
+get_refused '--limit: greater than 1000000, expected 1 to 1000000' "${get_one[@]}" --limit 1000001
 get_refused 'selector: unknown key "x" at /f/f>/album' "${get_one[@]}" --selector '{"f":{"f>":{"album":{"x":{}}}}}'
 get_refused 'selector: no JSON at 0' "${get_one[@]}" --selector ''
 get_refused '--selector-hex: no selector: unknown key "x"' "${get_one[@]}" --selector-hex a16178a0
-get_refused '--selector-hex: no hexadecimal: the line of ix_export selector is wanted' "${get_one[@]}" --selector-hex xy
-get_refused '--selector-hex: JSON, made hexadecimal by ix_export selector' "${get_one[@]}" --selector-hex '{".":{}}'
+get_refused '--selector-hex: not hex, expected the line of ix_export selector' "${get_one[@]}" --selector-hex xy
+get_refused '--selector-hex: JSON, converted to hex by ix_export selector' "${get_one[@]}" --selector-hex '{".":{}}'
 
 # get_usage WORD..: words that the command line itself refuses.
 get_usage() {

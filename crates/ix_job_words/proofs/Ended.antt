@@ -1,4 +1,4 @@
--- The hexadecimal of a selector ends with a line end.
+-- The hex of a selector ends with a line end.
 use Rattle.std.proofs.Common.{◌≡◌, ℕ, List, [], ◌∷◌, ◌++◌}
 use Rattle.ix_job_words.specs.declared.selector.SelectorWord.{SelectorWord}
 use Rattle.ix_job_words.specs.declared.selector.SelectorWord.TheVariants.{Everything, Json, Hex}

@@ -138,7 +138,7 @@ module _ (name roots limit selector : List ℕ) where
         ∙ ap (λ (t : Bool). if t then Ok [] else line_job body >>= joined 1000 []) (not_ignored name (32 ∷ (roots ++ (32 ∷ (limit ++ (32 ∷ selector))))) named)
         ∙ ap (λ (r : Result JobMeaning JobsKind). r >>= joined 1000 []) job
 
-    -- a file of the line has the job of the four words, or is refused as they are
+    -- a file of the line has the job of the four words, or is rejected as they are
     pub read_alone : jobs_of (line_of name roots limit selector) ≡ (at_line 1 (job_of_fields name roots limit selector) >>= (λ j. Ok (j ∷ [])))
     read_alone =
         let with_first : Result (List JobMeaning) JobsKind → Result (List JobMeaning) (JobsKind × ℕ) = λ r. at_line 1 r >>= (λ jobs. jobs_from 1000 (1 + 1) jobs ([] ∷ [])) in
@@ -163,7 +163,7 @@ pub IsRefusedBy-line : (IsSpelled : List ℕ → Type 0) (IsUnspelled : Notation
 IsRefusedBy-line IsSpelled IsUnspelled name roots limit hex line Memory n made alone h = tt
 IsRefusedBy-line IsSpelled IsUnspelled name roots limit hex line kind n made alone h = inr (record { selector = hex; spelled = made; refused = was_refused (job_of_fields name roots limit hex) kind n (sym alone ∙ h) })
 
--- the hexadecimal of a selector, and its line end
+-- the hex of a selector, and its line end
 pub without_end : (line hex : List ℕ) → line ≡ hex ++ 10 ∷ [] → take (length line - 1) line ++ 10 ∷ [] ≡ line
 without_end line hex is =
     let count : length line ≡ length hex + 1 = ap length is ∙ length-append hex (10 ∷ []) in

@@ -7,7 +7,7 @@ use Rattle.ix_jobs.specs.Jobs.{jobs_of}
 use Rattle.ix_jobs.specs.Named.{HasNames}
 use Rattle.ix_job_words.specs.Faults.{fault_behind, jobs_behind}
 
--- the fault of a line behind lines with these jobs, and the names with that of its own job
+-- the fault of a line after lines with these jobs, and the names with that of its own job
 pub record IsBehind {Y : Type 0} (before : List JobMeaning) (line : List ℕ) (names : BTreeSet (String Y)) (fault : Option JobsKind) : Type 0 where
   pub is : fault ≡ fault_behind before (jobs_of line)
   pub named : HasNames names (jobs_behind before (jobs_of line))

@@ -12,11 +12,11 @@ use Rattle.ix_job_words.specs.declared.selector.SelectorWord.TheVariants.{Everyt
 use Rattle.ix_job_words.specs.declared.job.JobWords.{JobWords}
 use Rattle.ix_job_words.specs.Line.{IsLineBy, IsReadBy, IsRefusedBy}
 
--- the selector that goes into every child, as long as there are any, in hexadecimal
+-- the selector that goes into every child, as long as there are any, in hex
 abbrev pub everything_hex : List ℕ
 everything_hex = codes "a16152a2616ca1646e6f6e65a0623a3ea16161a1613ea16140a0"
 
--- the hexadecimal of a selector, and a line end
+-- the hex of a selector, and a line end
 abbrev pub IsSpelledBy : SelectorWord → List ℕ → Type 0
 IsSpelledBy Everything line = line ≡ everything_hex ++ 10 ∷ []
 IsSpelledBy (Json text) line = IsSelectorHex text.now line
