@@ -101,7 +101,7 @@ sections-sound store place (d ∷ ds) sound =
 pub written-sound : (store : Blocks) (roots : List (List ℕ)) (ds : List Delivery) → All (IsJudged store) ds → All IsSoundByItself (written_sections store roots ds)
 written-sound store roots ds judged = sections-sound store (length (header_of roots)) (first_sound ds) (All-first_sound store ds judged)
 
--- where each section is sound none is told
+-- where each section is sound none is reported
 none-unsound : (ss : List SectionMeaning) → All IsSoundByItself ss → unsound_of ss ≡ []
 none-unsound [] sound = refl
 none-unsound (s ∷ ss) sound =

@@ -63,7 +63,7 @@ links_in-links : (roots : List (List ℕ)) → links_in (links_to roots) ≡ roo
 links_in-links [] = refl
 links_in-links (c ∷ cs) = ap (λ (l : List (List ℕ)). c ∷ l) (links_in-links cs)
 
--- behind the header stands what follows it
+-- after the header stands what follows it
 pub header_again : (roots : List (List ℕ)) (rest : List ℕ) → All IsCid roots → length (spelling_of (header_data roots)) < 2 ^ 63 → header_at (header_of roots ++ rest) ≡ Ok rest
 header_again roots rest are short =
     let b = header_of roots ++ rest in
