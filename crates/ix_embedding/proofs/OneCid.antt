@@ -21,7 +21,7 @@ cid_at-whole bytes c n read all =
     let same : c ≡ bytes = front bytes c n (parts_at bytes) read ∙ (ap (λ m. take m bytes) all ∙ take_all (length bytes) bytes (omega arith)) in
     (read ∙ ap (λ q. Ok q) (λ i. (same i, all i)), same)
 
--- a new block stands last, and one whose CID is there is left out
+-- a new block is last, and one whose CID is there is left out
 pub added : (store after : Blocks) (cid c block : List ℕ) → c ≡ cid → true ≡ not (has_cid store c) → after ≡ with_block store (c, block) → (has_cid store cid ≡ false) × (after ≡ store ++ (cid, block) ∷ [])
 added store after cid c block same new made = subst (λ d. (has_cid store d ≡ false) × (after ≡ store ++ (d, block) ∷ [])) same (last (has_cid store c) refl new) where
   last : (b : Bool) → has_cid store c ≡ b → true ≡ not b → (has_cid store c ≡ false) × (after ≡ store ++ (c, block) ∷ [])

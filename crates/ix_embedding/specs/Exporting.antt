@@ -11,7 +11,7 @@ use Rattle.ix_jobs.specs.Report.{report_of}
 use Rattle.ix_run.specs.Run.{IsRun}
 use Rattle.ix_embedding.specs.declared.exported.Exported.{Exported}
 
--- what is told of a job that runs alone, and what was written to memory, from nothing on
+-- what is reported of a job that runs alone, and what was written to memory, from nothing on
 abbrev pub IsRunOfOne : Blocks → JobMeaning → JobResult → Vec ℕ → Type 0
 IsRunOfOne store job result archive =
     (empty : Vec ℕ) × (empty.items ≡ []) × IsRun (λ v. Some v.items) store 0 job empty result archive

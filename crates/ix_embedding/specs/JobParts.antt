@@ -16,14 +16,14 @@ use Rattle.ix_walk.specs.declared.fault.JobFault.TheVariants.{TooManyRoots}
 use Rattle.ix_embedding.specs.declared.job_parts.PartsFault.{PartsFault}
 use Rattle.ix_embedding.specs.declared.job_parts.PartsFault.TheVariants.{Root, Block, Selector, Job, Memory}
 
--- the CID at the front, and the bytes behind it
+-- the CID at the front, and the bytes after it
 abbrev pub root_at : List ℕ → Result (List ℕ × List ℕ) PartsFault
 root_at bytes = told (cid_at bytes) where
   told : Result (List ℕ × ℕ) CidFault → Result (List ℕ × List ℕ) PartsFault
   told (Ok found) = Ok (found.0, drop found.1 bytes)
   told (Err fault) = Err (Root fault)
 
--- the CIDs that stand end to end, at most so many, behind those before
+-- the CIDs that stand end to end, at most so many, after those before
 abbrev pub roots_behind : ℕ → List (List ℕ) → List ℕ → Result (List (List ℕ)) PartsFault
 roots_behind most before [] = Ok before
 roots_behind zero before (b ∷ bs) = Err (Job TooManyRoots)
