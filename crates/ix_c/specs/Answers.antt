@@ -1,4 +1,4 @@
--- What the calls of the C library answer, and what stands in their handles after.
+-- What the calls of the C library answer, and what is in their handles after.
 use Rattle.std.specs.Prelude.{◌≡◌, ◌≢◌, ℕ, true, List, [], ◌∷◌, ◌++◌, Option, Some, None, Result, Ok, Err}
 use Rattle.std.specs.Global.{Vec, Global}
 use Rattle.std_alloc.specs.declared.arc.Arc.{Arc}
@@ -37,7 +37,7 @@ abbrev pub Told : (Status → Type 0) → ℕ → Type 0
 Told says number = (status : Status) × (number ≡ code_of status) × says status
 
 -- What a handle holds before and after a call that makes something out of its input: it holds one of those that are
--- meant; or nothing is changed, for want of memory; or it holds the line of a refusal.
+-- meant; or nothing is changed, for lack of memory; or it holds the line of an error.
 abbrev pub IsMade : (Held → Type 0) → (Failure → Type 0) → Option Held → Option Held → Status → Type 0
 IsMade meant fails before after Done = (content : Held) × (after ≡ Some content) × meant content
 IsMade meant fails before after Memory = after ≡ before
@@ -48,13 +48,13 @@ IsMade meant fails before after Known = ⊥
 IsMade meant fails before after NoCid = ⊥
 IsMade meant fails before after Range = ⊥
 
--- a handle holds this after a call that fills it, or nothing is changed, for want of memory
+-- a handle holds this after a call that fills it, or nothing is changed, for lack of memory
 abbrev pub IsFilled : Held → Option Held → Option Held → Status → Type 0
 IsFilled content before after Done = after ≡ Some content
 IsFilled content before after Memory = after ≡ before
 IsFilled content before after other = ⊥
 
--- the same of the line of a refusal
+-- the same of the line of an error
 abbrev pub IsRefused : Failure → Option Held → Option Held → Status → Type 0
 IsRefused (failures.Refused line) before after Refused = after ≡ Some (held.Refusal line)
 IsRefused failure before after Memory = after ≡ before
@@ -100,7 +100,7 @@ IsJobOfParts roots selector limit (held.Exported out) = ⊥
 IsJobOfParts roots selector limit (held.Text text) = ⊥
 IsJobOfParts roots selector limit (held.Refusal line) = ⊥
 
--- the hexadecimal of the selector of a JSON text
+-- the hex of the selector of a JSON text
 abbrev pub IsSelectorTextOf : List ℕ → Held → Type 0
 IsSelectorTextOf json (held.Text hex) = IsSelectorHex json (hex.items ++ 10 ∷ [])
 IsSelectorTextOf json (held.Open store) = ⊥
@@ -122,7 +122,7 @@ IsExportOf blocks job (held.Refusal line) = ⊥
 abbrev pub IsNoFailure : Failure → Type 0
 IsNoFailure failure = ⊥
 
--- an open store that has been handed a block, of which this was told
+-- an open store that has been handed a block, of which this was reported
 abbrev pub HasAddedAs : Added → List ℕ → List ℕ → Option Held → Option Held → Type 0
 HasAddedAs told cid block before after =
     (old : Blocks) × (new : Blocks) × (before ≡ Some (held.Open old)) × (after ≡ Some (held.Open new))
