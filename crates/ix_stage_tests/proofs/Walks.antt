@@ -42,7 +42,7 @@ begins_left sized visits over visit store jobs s job w course begins at whole =
       limited = ap (λ (x : WalkLeft). x.limited) whole ∙ sym (ap (λ (k : List JobVisits). course_over k s.job) course ∙ over store jobs s.job job at);
     }
 
--- the visit that it gives is the next of the seat, and the rest is left behind it
+-- the visit that it gives is the next of the seat, and the rest is left after it
 pub visit_is_next : (s : JobView) (v : Visit) (w x : WalkLeft) → IsLeft s w → GivesNext w (Some (Ok v)) x → IsNext s (item.Visit v)
 visit_is_next s v w x h gives =
     let next = next_at (course_visits s.pass.course s.job) x.visits s.next v (h.left ∙ gives.1) in

@@ -169,7 +169,7 @@ struct Claimed {
     found: Vec<(u32, u32)>,
 }
 
-// Claims until all are claimed, once four threads have begun.
+// Claims until all are claimed, once four threads have started.
 fn claim_all(
     alloc: Global,
     claims: &Claims<u32>,

@@ -11,7 +11,7 @@ enum Call {
     Pop(Option<char>),
 }
 
-// Each call, with the number that is the next one behind it.
+// Each call, with the number that is the next one after it.
 const CALLS: [(Call, u64); 12] = [
     (Call::Place(2, 'c', Ok(())), 0),
     (Call::Place(0, 'a', Ok(())), 0),
