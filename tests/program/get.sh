@@ -178,7 +178,7 @@ get_refused '--selector-hex: no selector: unknown key "x"' "${get_one[@]}" --sel
 get_refused '--selector-hex: not hex, expected the line of ix_export selector' "${get_one[@]}" --selector-hex xy
 get_refused '--selector-hex: JSON, converted to hex by ix_export selector' "${get_one[@]}" --selector-hex '{".":{}}'
 
-# get_usage WORD..: words that the command line itself refuses.
+# get_usage WORD..: arguments that the command line itself rejects.
 get_usage() {
   run "$@"
   expect_text 'exit status' 2 "$status"

@@ -1,6 +1,6 @@
-# The command `inspect`: what stands in a file, the list of its sections, and what a file is that is none.
+# The command `inspect`: what is in a file, the list of its sections, and what a file is that is not a CARv1.
 
-# Three sections: `abc`, the list of one link, and `abc` once more. The header has 59 bytes, and the sections stand at
+# Three sections: `abc`, the list of one link, and `abc` once more. The header has 59 bytes, and the sections are at
 # 59, 99 and 178.
 listed=$(header "$one_cid")$(section "$abc_cid" "$abc")$(section "$one_cid" "$one")$(section "$abc_cid" "$abc")
 

@@ -1,4 +1,4 @@
-# The words of the command line. The text for words that are refused isn't compared.
+# The arguments of the command line. The text for words that are rejected isn't compared.
 
 # words_refused WORD..: status 2, something on standard error and nothing on standard output.
 words_refused() {
@@ -46,7 +46,7 @@ done
 # The words are read before any file.
 words_refused jobs --blocks none --jobs none --out none --walkers 0
 
-# helps WORD.. -- TEXT..: status 0 and a help on standard output in which each text stands.
+# helps WORD.. -- TEXT..: status 0 and a help on standard output that has each text.
 helps() {
   local words=()
   begin "the help of '$*'"
@@ -106,7 +106,7 @@ begin 'an argument that is not UTF-8'
 run root $'a\xff b'
 refused "error: an argument is not UTF-8: number 2, 'a\\xff b'"
 
-# The version names the logic of the kit that made the program; behind it stands where the program is from.
+# The version names the logic of the kit that made the program; after it is the folder that the program is from.
 program=$("$top/ix_export" --where)
 made_with=$(cat "${program%/*}/KIT")
 for word in --version -V; do
