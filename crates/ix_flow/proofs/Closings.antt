@@ -21,12 +21,14 @@ use Rattle.ix_stages.specs.declared.shared.Task.{Task}
 use Rattle.ix_flow.specs.Closed.{EachClosed}
 use Rattle.ix_flow.specs.Flowing.{AreVisitsOnce, IsFlown}
 
+-- replacing the i-th sink by one that keeps the i-th's promise keeps all promises
 pub kept_set : {S : Type 0} (fact : Fact S) (ss ts : List S) (i : ℕ) (x y : S) → EachKept fact ss ts → x ≡ get_or ts i x → Keeps fact x y → EachKept fact ss (set ts i y)
 kept_set fact [] [] i x y h at keeps = tt
 kept_set {S = S} fact (s ∷ ss) (t ∷ ts) zero x y h at keeps = ((λ store job first p. keeps store job first (subst (λ (z : S). fact z store job first) (sym at) (h.0 store job first p))), h.1)
 kept_set fact (s ∷ ss) (t ∷ ts) (suc i) x y h at keeps = (h.0, kept_set fact ss ts i x y h.1 at keeps)
 kept_set fact ss ts i x y h at keeps = absurd h
 
+-- lists of sinks that keep each other's promises have the same length
 pub kept_length : {S : Type 0} (fact : Fact S) (ss ts : List S) → EachKept fact ss ts → length ss ≡ length ts
 kept_length fact [] [] h = refl
 kept_length fact (s ∷ ss) (t ∷ ts) h = ap suc (kept_length fact ss ts h.1)
@@ -66,6 +68,7 @@ module _ {S : Type 0} (events : S → List Event) (failed : S → List Delivery)
   split_fresh : (fact : Fact S) (i : ℕ) (es : List End) (first sinks : List S) (s : S) → IsClosedTo events failed fact end i es first sinks → i < length sinks → EachFresh events failed (get_or sinks i s ∷ drop (i + 1) sinks)
   split_fresh fact i es first sinks s t lt = subst (λ (l : List S). EachFresh events failed l) (drop_more sinks i s lt) t.fresh
 
+  -- the next sink to close is still fresh
   pub next_fresh : (fact : Fact S) (i : ℕ) (es : List End) (first sinks : List S) (s : S) → IsClosedTo events failed fact end i es first sinks → i < length sinks → s ≡ get_or sinks i s → (events s ≡ []) × (failed s ≡ [])
   next_fresh fact i es first sinks s t lt at =
       let all = split_fresh fact i es first sinks s t lt in subst (λ (x : S). (events x ≡ []) × (failed x ≡ [])) (sym at) all.0
@@ -103,6 +106,7 @@ module _ {S : Type 0} (events : S → List Event) (failed : S → List Delivery)
     ];
   }
 
+  -- by induction over the jobs: sinks that were closed alone are delivered to faithfully
   delivered_from : (store : Blocks) (n : ℕ) (jobs : List JobMeaning) (es : List End) (ss : List S) → EachClosed events failed end es ss → length jobs ≡ length ss → (end ≡ Start) ⊎ (end ≡ Memory) → EachDelivered events failed store n jobs es ss
   delivered_from store n [] [] [] h same which = tt
   delivered_from store n (j ∷ js) (e ∷ es) (s ∷ ss) h same which =
@@ -143,6 +147,7 @@ module _ {S : Type 0} (events : S → List Event) (failed : S → List Delivery)
   all_of_none store (j ∷ js) es [] job seq h same which walked lt = omega arith
   all_of_none store (j ∷ js) es (s ∷ ss) job seq h same which walked lt = none_walked es s ss h which walked
 
+  -- each of the closed sinks has this end
   closed_get : (es : List End) (ss : List S) (i : ℕ) → EachClosed events failed end es ss → i < length ss → slice_get es i ≡ Some end
   closed_get [] [] i h lt = absurd (omega arith)
   closed_get (e ∷ es) (s ∷ ss) zero h lt = let here = h.0 in ap (λ (x : End). Some x) here.0

@@ -146,9 +146,11 @@ module _ {W : Type 0} (told : W → Option (List ℕ)) where
   begun-length store (j ∷ js) (w ∷ ws) [] h = absurd h
   begun-length store (j ∷ js) (w ∷ ws) (a ∷ xs) h = ap suc (begun-length store js ws xs h.1)
 
+  -- an archive that was just started has no events
   no_events : (store : Blocks) (roots : List (List ℕ)) (a : ArchiveMeaning W) → IsBegun a store roots → events_of a ≡ []
   no_events store roots a h = ap (λ ds. map delivery ds ++ map close a.closed) h.no_deliveries ∙ ap (λ l. map close l) h.not_closed
 
+  -- archives that were just started are fresh sinks
   pub begun-fresh : (store : Blocks) (jobs : List JobMeaning) (writers : List W) (archives : List (ArchiveMeaning W)) → EachBegun told store jobs writers archives → EachFresh events_of (λ a. a.failed) archives
   begun-fresh store [] [] [] h = tt
   begun-fresh store [] [] (a ∷ xs) h = absurd h
@@ -170,6 +172,7 @@ module _ {W : Type 0} (told : W → Option (List ℕ)) where
   delivered-length store n (j ∷ js) (e ∷ es) [] h = absurd h
   delivered-length store n (j ∷ js) (e ∷ es) (s ∷ ss) h = ap suc (delivered-length store (n + 1) js es ss h.1)
 
+  -- there are as many archives at the end as at the start
   pub kept-length : (first last : List (ArchiveMeaning W)) → EachKept (HasArchived told) first last → length last ≡ length first
   kept-length [] [] h = refl
   kept-length [] (l ∷ ls) h = absurd h
