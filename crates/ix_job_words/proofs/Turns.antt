@@ -53,6 +53,7 @@ pub all_told : (first n : ℕ) (before : List JobMeaning) (all whole : List Jobs
 all_told first n before all whole [] none so_far = sym (append-nil all) ∙ so_far
 all_told first n before all whole (b ∷ bs) none so_far = absurd (omega (arith, none))
 
+-- a list with a first job is that job and more
 first_of : (jobs : List JobMeaning) (job : JobMeaning) → Some job ≡ slice_get jobs 0 → (more : List JobMeaning) × (jobs ≡ job ∷ more)
 first_of [] job h = absurd cc
 first_of (j ∷ js) job h = (js, let same : job ≡ j = cc in ap (λ x. x ∷ js) (sym same))

@@ -86,5 +86,6 @@ from-many most n before jobs (l ∷ ls) h =
     behind-many most n before jobs (own_line n l) ls (with_line most before (strip_carriage_return l)) (λ more e. from-many most (n + 1) more jobs ls e)
     (λ more e. line-more most n before more (is_ignored (strip_carriage_return l)) (line_job (strip_carriage_return l)) e) h
 
+-- an accepted job file has a line for each job
 pub job_lines-are : (most : ℕ) (b : List ℕ) (jobs : List JobMeaning) → jobs_up_to most b ≡ Ok jobs → length (job_lines b) ≡ length jobs
 job_lines-are most b jobs h = let same : length jobs ≡ 0 + length (job_lines b) = from-many most 1 [] jobs (slice_split is_end b) h in omega (arith, same)

@@ -32,6 +32,7 @@ below_more a b (e ∷ es) low h = (key_total.trans a b (key_of e) low h.0, below
 abbrev pub Rise : List Entry → Type 0
 Rise es = AllAdjacentBelow (λ a b. key_cmp (key_of a) (key_of b) ≡ Less) es (length es)
 
+-- in a sorted list of entries the first key is below the others
 first_below : (e : Entry) (es : List Entry) → Rise (e ∷ es) → AreSorted es → IsBelow (key_of e) es
 first_below e [] h sorted = tt
 first_below e (f ∷ es) h sorted = let low : key_cmp (key_of e) (key_of f) ≡ Less = h 0 e (omega arith) in (low, below_more (key_of e) (key_of f) es low sorted.0)
@@ -45,6 +46,7 @@ sorted_from_rise (e ∷ es) h = let rest = sorted_from_rise es behind in (first_
       let next : suc k + 1 ≡ suc (k + 1) = omega arith in
       subst (λ n. key_cmp (key_of (get_or es k d)) (key_of (get_or (e ∷ es) n d)) ≡ Less) next (h (suc k) d (omega arith))
 
+-- two keys of which neither is below the other are equal
 only_equal : (o p : Ordering) → o ≡ ordering_reverse p → is_lt p ≡ false → is_lt o ≡ false → o ≡ Equal
 only_equal o Less e p q = absurd cc
 only_equal o Equal e p q = e
@@ -58,6 +60,7 @@ tied a b p q = key_exact a b (only_equal (key_cmp a b) (key_cmp b a) (key_total.
 abbrev lent : Entry → Key
 lent e = record { ref_ptr = (0, 0); now = key_of e }
 
+-- the borrowed entries have the same keys
 lent_keys : (es : List Entry) → texts (map lent es) ≡ map key_of es
 lent_keys [] = refl
 lent_keys (e ∷ es) = ap (λ ks. key_of e ∷ ks) (lent_keys es)

@@ -23,16 +23,19 @@ unread_weaker (Selector s) f g h = h
 unread_weaker Name f g h = h
 unread_weaker Memory f g h = h
 
+-- an element of an array of integers alone has integers alone
 pub item_integers : {A : Type 0} (values : List (Value A)) (i : ℕ) (d : Value A) → i < length values → ItemsAreIntegers (items_view values) → AreIntegers (value_view (get_or values i d))
 item_integers [] i d l h = absurd (omega arith)
 item_integers (v ∷ values) zero d l h = h.0
 item_integers (v ∷ values) (suc i) d l h = item_integers values i d (omega arith) h.1
 
+-- an element of an array without repeated keys has none
 item_unique : {A : Type 0} (values : List (Value A)) (i : ℕ) (d : Value A) → i < length values → ItemsHaveUniqueKeys (items_view values) → HasUniqueKeys (value_view (get_or values i d))
 item_unique [] i d l h = absurd (omega arith)
 item_unique (v ∷ values) zero d l h = h.0
 item_unique (v ∷ values) (suc i) d l h = item_unique values i d (omega arith) h.1
 
+-- an element nests less deep than its array
 pub item_within : {A : Type 0} (values : List (Value A)) (i : ℕ) (d : Value A) → i < length values → depth (value_view (get_or values i d)) ≤ items_depth (items_view values)
 item_within [] i d l = absurd (omega arith)
 item_within (v ∷ values) zero d l = omega arith
@@ -45,16 +48,19 @@ item_unread {A} values i x e l is h =
     unread_weaker e (λ r. subst (λ (y : Value A). AreIntegers (value_view y)) (sym is) (item_integers values i x l r))
     (λ s. subst (λ (y : Value A). HasUniqueKeys (value_view y)) (sym is) (item_unique values i x l s)) h
 
+-- a member of an object of integers alone has integers alone
 pub member_integers : {A : Type 0} (values : List (Member A)) (i : ℕ) (d : Member A) → i < length values → MembersAreIntegers (members_view values) → AreIntegers (value_view (get_or values i d).1)
 member_integers [] i d l h = absurd (omega arith)
 member_integers (v ∷ values) zero d l h = h.0
 member_integers (v ∷ values) (suc i) d l h = member_integers values i d (omega arith) h.1
 
+-- a member of an object without repeated keys has none
 member_unique : {A : Type 0} (values : List (Member A)) (i : ℕ) (d : Member A) → i < length values → MembersHaveUniqueKeys (members_view values) → HasUniqueKeys (value_view (get_or values i d).1)
 member_unique [] i d l h = absurd (omega arith)
 member_unique (v ∷ values) zero d l h = h.0
 member_unique (v ∷ values) (suc i) d l h = member_unique values i d (omega arith) h.1
 
+-- a member nests less deep than its object
 pub member_within : {A : Type 0} (values : List (Member A)) (i : ℕ) (d : Member A) → i < length values → depth (value_view (get_or values i d).1) ≤ members_depth (members_view values)
 member_within [] i d l = absurd (omega arith)
 member_within (v ∷ values) zero d l = omega arith

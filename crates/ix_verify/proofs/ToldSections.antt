@@ -26,6 +26,7 @@ told_among-unsound (s ∷ ss) = on_verdict (is_sound (verdict_in s)) (told_among
 pub told-faulty : (s : Section) (v : Verdict) → is_sound v ≡ false → told_if s v ≡ record { place = s.place; cid = s.cid; verdict = v } ∷ []
 told-faulty s v faulty = ap (λ (t : Bool). if t then [] else record { place = s.place; cid = s.cid; verdict = v } ∷ []) faulty
 
+-- a section is listed at most once
 few-told : (s : Section) (v : Verdict) → length (told_if s v) ≤ 1
 few-told s v = on_verdict (is_sound v) where
   one : Unsound
@@ -41,6 +42,7 @@ few-among [] vs = omega arith
 few-among (s ∷ ss) [] = omega arith
 few-among (s ∷ ss) (v ∷ vs) = omega (arith, length-append (told_if s v) (told_among ss vs), few-told s v, few-among ss vs)
 
+-- without sections or verdicts nothing is listed
 none-told : (ss : List Section) (vs : List Verdict) → (ss ≡ []) ⊎ (vs ≡ []) → told_among ss vs ≡ []
 none-told ss vs (inl e) = ap (λ (a : List Section). told_among a vs) e
 none-told [] vs (inr e) = refl
