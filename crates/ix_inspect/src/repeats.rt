@@ -14,7 +14,7 @@ use std::alloc::{AllocError, Global};
 use std::num::NonZeroUsize;
 use std::thread::{Threads, map_indices};
 
-// The most shares: the last byte tells no more apart.
+// The most shares: the last byte has no more values.
 const MOST_SHARES: usize = 256;
 
 // The number of repeats in a share.
