@@ -1,4 +1,4 @@
--- What a call answers that fills a handle is what was meant.
+-- A call that fills a handle returns what was meant.
 use Rattle.std.proofs.Common.{◌≡◌, sym, subst, ◌∙◌}
 use Rattle.std.specs.Prelude.{Option, Some, None}
 use Rattle.ix_embedding.specs.declared.failure.Failure.{Failure}

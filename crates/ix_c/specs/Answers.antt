@@ -132,7 +132,7 @@ HasAddedAs told cid block before after =
 abbrev pub IsNoOpen : Option Held → Type 0
 IsNoOpen content = (store : Blocks) → content ≢ Some (held.Open store)
 
--- what a call answers that adds a block to an open store
+-- what a call returns that adds a block to an open store
 abbrev pub HasAddedTo : List ℕ → List ℕ → Option Held → Option Held → Status → Type 0
 HasAddedTo cid block before after Done = HasAddedAs added.New cid block before after
 HasAddedTo cid block before after Known = HasAddedAs added.Known cid block before after
@@ -142,7 +142,7 @@ HasAddedTo cid block before after Handle = (after ≡ before) × IsNoOpen before
 HasAddedTo cid block before after Refused = ⊥
 HasAddedTo cid block before after Range = ⊥
 
--- what a call answers that freezes an open store
+-- what a call returns that freezes an open store
 abbrev pub HasFrozen : Option Held → Option Held → Status → Type 0
 HasFrozen before after Done =
     (store : Blocks) × (frozen : Held) × (before ≡ Some (held.Open store)) × (after ≡ Some frozen)
@@ -158,7 +158,7 @@ HasFrozen before after Range = ⊥
 abbrev pub IsNoJob : Option Held → Type 0
 IsNoJob content = (job : JobMeaning) → content ≢ Some (held.Job job)
 
--- what a call answers that has a job go into each CID once
+-- what a call returns that makes a job expand each CID once
 abbrev pub HasOnce : Option Held → Option Held → Status → Type 0
 HasOnce before after Done =
     (job : JobMeaning) × (before ≡ Some (held.Job job)) × (after ≡ Some (held.Job (going_in true job)))
@@ -179,7 +179,7 @@ abbrev pub HoldsExport : Blocks → JobMeaning → Option Held → Type 0
 HoldsExport store job None = ⊥
 HoldsExport store job (Some content) = IsExportOf store job content
 
--- what a call answers that makes one more handle of a frozen store
+-- what a call returns that makes one more handle of a frozen store
 abbrev pub HasShared : Option Held → Option Held → Option Held → Status → Type 0
 HasShared store before after Done = (blocks : Blocks) × HoldsFrozen blocks store × HoldsFrozen blocks after
 HasShared store before after Memory = after ≡ before
@@ -194,7 +194,7 @@ abbrev pub AreNoneToExport : Option Held → Option Held → Type 0
 AreNoneToExport store job =
     (blocks : Blocks) (wanted : JobMeaning) → HoldsFrozen blocks store → job ≢ Some (held.Job wanted)
 
--- what a call answers that exports a job over a frozen store
+-- what a call returns that exports a job over a frozen store
 abbrev pub IsExported : Option Held → Option Held → Option Held → Option Held → Status → Type 0
 IsExported store job before after Done =
     (blocks : Blocks) × (wanted : JobMeaning) × HoldsFrozen blocks store × (job ≡ Some (held.Job wanted))

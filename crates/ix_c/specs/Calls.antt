@@ -1,4 +1,4 @@
--- What each call answers, by what its handles hold before and after it.
+-- What each call returns, by the contents of its handles before and after it.
 use Rattle.std.specs.Prelude.{◌≡◌, ℕ, List, [], length, Option, Some, None, Result}
 use Rattle.ix_embedding.specs.declared.failure.Failure.{Failure}
 use Rattle.ix_embedding.specs.declared.held.Held.{Held}

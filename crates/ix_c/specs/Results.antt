@@ -1,4 +1,4 @@
--- What the calls of the C library tell of what a handle holds.
+-- What the calls of the C library return of a handle's contents.
 use Rattle.std.specs.Prelude.{◌≡◌, ◌≢◌, ◌==◌, if◌then◌else◌, ℕ, List, ◌++◌, length, take, drop, slice_get}
 use Rattle.std.specs.Prelude.{Option, Some, None, Result, Ok, Err}
 use Rattle.ix_archive.specs.declared.archive.Skip.{Skip}
@@ -99,7 +99,7 @@ abbrev pub line_in : Option Held → Result (List ℕ) Status
 line_in (Some (held.Refusal line)) = Ok line.items
 line_in content = Err Handle
 
--- what is reported of what was found
+-- the report on what was found
 abbrev pub of_found : {X A : Type 0} → (X → A) → Result X Status → Result A Status
 of_found tell (Ok found) = Ok (tell found)
 of_found tell (Err why) = Err why

@@ -46,7 +46,7 @@ fn text_of_reading(alloc: Global, tree: &Tree) -> Result<String, AllocError> {
     }
 }
 
-// Why a tree stands for no selector.
+// Returns why a tree is not a selector.
 fn fault_of(alloc: Global, tree: &Tree) -> Option<SelFault> {
     Selector::read(alloc, tree).err()
 }

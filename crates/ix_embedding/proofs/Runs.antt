@@ -1,4 +1,4 @@
--- What is reported of one job that runs alone.
+-- The result of one job that runs alone.
 use Rattle.std.proofs.Common.{◌≡◌, ℕ, List, [], ◌∷◌, ◌++◌, subst, Vec, Global}
 use Rattle.std.specs.Prelude.{Option, Some}
 use Rattle.ix_store.specs.Store.{Blocks}

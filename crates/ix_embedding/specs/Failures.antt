@@ -51,7 +51,7 @@ abbrev pub IsJobFailure : List ℕ → Failure → Type 0
 IsJobFailure file failure =
     IsJobFault file failure ⊎ ((list : List JobMeaning) × (jobs_of file ≡ Ok list) × IsNotOneFailure list failure)
 
--- the fault of a text that is no JSON of a selector, in the program's words, or memory ran out
+-- the error of a text that is not the JSON of a selector, as the program prints it, or memory ran out
 abbrev pub IsSelectorFailure : List ℕ → Failure → Type 0
 IsSelectorFailure text Memory = Unit {0}
 IsSelectorFailure text (Refused told) =

@@ -57,7 +57,7 @@ judged job = told (job_fault job.name job.roots job.limit) where
   told None = Ok job
   told (Some fault) = Err (Job fault)
 
--- what has these parts and the name "job", and goes in at every arrival
+-- the job with these parts and the name "job", which expands a block at every link
 abbrev pub named_job : List (List ℕ) → Pattern → ℕ → JobMeaning
 named_job roots selector limit =
     record { name = codes "job"; roots = roots; selector = selector; limit = limit; once = false }

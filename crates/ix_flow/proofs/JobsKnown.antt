@@ -1,4 +1,4 @@
--- What a job, or a `&` to jobs, tells of them: what every `Job` keeps.
+-- What is known of a job, or of a `&` to jobs: what every `Job` keeps.
 use Rattle.std.proofs.Common.{subst}
 use denote.Known.{Known, nothing_known, view_known}
 use Rattle.ix_walk.specs.declared.job.Job.TheView as job

@@ -23,7 +23,7 @@ checked_push checked [] c = append-nil (checked c)
 checked_push checked (d ∷ cs) c = ap (λ (l : List (ℕ × ℕ)). checked d ++ l) (checked_push checked cs c) ∙ sym (append_assoc (checked d) (checked_by checked cs) (checked c))
 
 module _ (store : Blocks) (v w : PassView) (sent sent' : List Verdicted) (checked checked' : List (ℕ × ℕ)) (r : IsVerified store v w sent sent' checked checked') where
-  -- a verifier that began with nothing has sent what answers all that it took
+  -- a verifier that began with nothing has sent a verdict for all that it took
   pub sent_all : v.taken ≡ [] → sent ≡ [] → SentFor store w.taken sent'
   sent_all none first =
       let d = r.did in

@@ -16,7 +16,7 @@ use Rattle.ix_jobs.proofs.Pieces.{slice_split_whole}
 use Rattle.ix_jobs.proofs.LinesInTurn.{is_end}
 use Rattle.ix_job_words.specs.Faults.{fault_behind, jobs_behind, told, faults_from}
 
--- what is reported of a line and of those after it
+-- the reported errors of a line and of those after it
 abbrev in_turn : ℕ → List JobMeaning → List ℕ → List ℕ → List JobsFault
 in_turn n before line rest = told n (fault_behind before (jobs_of line)) ++ faults_from (n + 1) (jobs_behind before (jobs_of line)) (slice_split is_end rest)
 
@@ -33,7 +33,7 @@ faults_from-first n before bs some = ⊎_elim on_more on_last (cases_lt (positio
       let rest : after_first is_end bs ≡ [] = drop_all (position_or_len is_end bs + 1) bs (omega (arith, le)) in
       ap (faults_from n before) (slice_split_whole is_end bs same) ∙ ap (λ l. in_turn n before l []) (sym line) ∙ ap (in_turn n before (before_first is_end bs)) (sym rest)
 
--- a turn of the loop over lines: what is reported, and what is left to tell
+-- a turn of the loop over lines: what is reported, and what is left to report
 pub a_line_more : (first n : ℕ) (before : List JobMeaning) (old new whole : List JobsFault) (bs line rest : List ℕ) (kind : Option JobsKind) → 0 < length bs → line ≡ before_first (λ b. b == 10) bs → rest ≡ after_first (λ b. b == 10) bs → kind ≡ fault_behind before (jobs_of line)
     → new ≡ old ++ filter (λ f. nat_lt first f.line) (told n kind) → old ++ filter (λ f. nat_lt first f.line) (faults_from n before (slice_split (λ b. b == 10) bs)) ≡ whole
     → new ++ filter (λ f. nat_lt first f.line) (faults_from (n + 1) (jobs_behind before (jobs_of line)) (slice_split (λ b. b == 10) rest)) ≡ whole

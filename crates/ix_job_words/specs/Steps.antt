@@ -1,4 +1,4 @@
--- What a call answers of one line.
+-- The result of a call for one line.
 use Rattle.std.specs.Prelude.{◌≡◌, ℕ, List, Option, String, Result, IfOk}
 use Rattle.std.specs.BTreeSet.{BTreeSet}
 use Rattle.ix_walk.specs.JobMeaning.{JobMeaning}
@@ -12,6 +12,6 @@ pub record IsBehind {Y : Type 0} (before : List JobMeaning) (line : List ℕ) (n
   pub is : fault ≡ fault_behind before (jobs_of line)
   pub named : HasNames names (jobs_behind before (jobs_of line))
 
--- what a call answers of a line, and the names after it, whatever the jobs of the lines before
+-- the result of a call for a line, and the names after it, whatever the jobs of the lines before
 abbrev pub AnswersBehind : {Y E : Type 0} → BTreeSet (String Y) → List ℕ → BTreeSet (String Y) → Result (Option JobsKind) E → Type 0
 AnswersBehind old line new answer = (before : List JobMeaning) → HasNames old before → IfOk answer (IsBehind before line new)

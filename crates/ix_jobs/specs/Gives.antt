@@ -1,4 +1,4 @@
--- What a call that reads a part of a job file answers.
+-- The results of calls that read a part of a job file.
 use Rattle.std.specs.Prelude.{◌≡◌, ℕ, Result, Ok, Err}
 use Rattle.ix_jobs.specs.declared.fault.JobsKind.{JobsKind}
 use Rattle.ix_jobs.specs.declared.fault.JobsKind.TheVariants.{Memory}

@@ -15,7 +15,7 @@ use Rattle.ix_walk.specs.JobMeaning.{JobMeaning, is_name}
 use Rattle.ix_jobs.specs.declared.fault.JobsKind.{JobsKind}
 use Rattle.ix_jobs.specs.declared.fault.JobsKind.TheVariants.{Fields, Name, Root, Limit, Hex, Selector, Repeated, TooMany, Text}
 
--- the same, with any fault told as this one
+-- the same, with any error reported as this one
 abbrev pub or_fault : {A E : Type 0} → JobsKind → Result A E → Result A JobsKind
 or_fault kind (Ok x) = Ok x
 or_fault kind (Err e) = Err kind

@@ -105,7 +105,7 @@ pub record IsNameRefused (text : List ℕ) : Type 0 where
   pub selector : IsSelectorOf selector_data
   pub name : HasBadText selector_data
 
--- why the text is not hex of a selector that JSON can tell, or memory ran out
+-- why the text is not hex of a selector that JSON can represent, or memory ran out
 abbrev pub IsHexRefused : List ℕ → NotationFault → Type 0
 IsHexRefused text Hex = IsErr (decode_of text)
 IsHexRefused text (Block fault) = IsBlockRefused text fault
@@ -116,14 +116,14 @@ IsHexRefused text (Json place) = ⊥
 IsHexRefused text Repeated = ⊥
 IsHexRefused text Number = ⊥
 
--- the text is a JSON value, and the data that it says are no selector for this reason
+-- the text is a JSON value, and its data is not a selector, for this reason
 pub record IsSayingRefused (text : List ℕ) (fault : SelFault) : Type 0 where
   pub said_data : Data
   pub read : IsJsonOf text said_data
   pub canonical : IsCanonical said_data
   pub refused : selector_of said_data ≡ Err fault
 
--- why the text is no JSON of a selector, or memory ran out
+-- why the text is not the JSON of a selector, or memory ran out
 abbrev pub IsJsonRefused : List ℕ → NotationFault → Type 0
 IsJsonRefused text (Json place) = IsNoJson text place
 IsJsonRefused text Repeated = IsOtherJson text HasUniqueKeys

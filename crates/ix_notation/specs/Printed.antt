@@ -1,4 +1,4 @@
--- What is printed of data, and what JSON can't tell of it: a text that is not UTF-8, and a float, a byte string or a link.
+-- What is printed of data, and what JSON can't represent: a text that is not UTF-8, and a float, a byte string or a link.
 use Rattle.std.specs.Prelude.{◌≡◌, ◌⊎◌, List, ◌++◌, Result, OnOk}
 use Rattle.std.specs.Str.{IsUtf8}
 use Rattle.json.specs.Token.{Token}

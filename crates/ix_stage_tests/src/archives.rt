@@ -115,7 +115,7 @@ fn visit_of(alloc: Global, seq: u32, cid: &str, depth: u32) -> Result<Visit, Fai
     })
 }
 
-// Delivers visits up to the first fault, which it answers, and closes where there is none.
+// Delivers visits up to the first error, which it returns, and closes if there is none.
 fn deliver_all<W: Write>(
     alloc: Global,
     archive: &mut Archive<'_, W>,

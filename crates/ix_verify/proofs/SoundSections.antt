@@ -57,7 +57,7 @@ All-judged_visits store [] = All-nil (IsJudged store)
 All-judged_visits store (v ∷ visits) =
     All-cons (IsJudged store) (judged store v) (map (judged store) visits) refl (All-judged_visits store visits)
 
--- whether the job goes into a CID once or not
+-- whether the job expands a CID once or not
 All-verified_if : (store : Blocks) (number : ℕ) (job : JobMeaning) (once : Bool)
     → All (IsJudged store) (if once then all_judged store number job else map (λ a. judged store (visit_of store number (number_among 0 (believed store job) a) a)) (verified_arrivals store job))
 All-verified_if store number job true = All-judged_visits store (visits_from store number 0 (arrivals_of store job))

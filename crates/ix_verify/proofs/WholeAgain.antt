@@ -148,7 +148,7 @@ sound-among (d ∷ ds) c h = on_sound (is_sound d.verdict) (bytes_eq d.visit.cid
   on_sound true false is h more = ap (λ (b : Bool). b || is_among (filter (λ e. not (bytes_eq e.visit.cid d.visit.cid)) (first_sound ds)) c) is ∙ others-among c d.visit.cid is (first_sound ds) (more h)
   on_sound false same is h more = more h
 
--- a CID is arrived at
+-- the walk visits a CID
 abbrev is_met : List Arrival → List ℕ → Bool
 is_met arrivals c = list_any (λ a. bytes_eq a.cid c) arrivals
 
@@ -221,7 +221,7 @@ same-by (Some Sha2_512) c o p h there =
 -- ---- going in once
 
 module _ {R : Type 0} (enters : Path → Bool) (rest : Path → R) (same : R → R → Bool) where
-  -- where the same is gone into at each arrival, the arrivals are the same
+  -- if the same is expanded at each visit, the visits are the same
   once-inside : (inside other : Inside) (n : ℕ) (gone : List (List ℕ × R)) (waiting : List Arrival)
       → AllByRecursion (λ a. other a.cid ≡ inside a.cid) (once enters rest same inside n gone waiting) → once enters rest same other n gone waiting ≡ once enters rest same inside n gone waiting
   once-inside inside other zero gone waiting h = refl
@@ -232,7 +232,7 @@ module _ {R : Type 0} (enters : Path → Bool) (rest : Path → R) (same : R →
       ap behind h.0
       ∙ ap (λ (l : List Arrival). a ∷ l) (once-inside inside other n (gone_behind enters rest same inside (here (inside a.cid)) a gone) (when_some (here (inside a.cid)) (λ d. links_below enters d a) ++ more) h.1)
 
-  -- where all were arrived at, a greater bound brings no more
+  -- if all were visited, a greater bound adds nothing
   once-enough : (inside : Inside) (n m : ℕ) (gone : List (List ℕ × R)) (waiting : List Arrival) → n ≤ m → length (once enters rest same inside n gone waiting) < n
       → once enters rest same inside m gone waiting ≡ once enters rest same inside n gone waiting
   once-enough inside zero m gone waiting le short = absurd (omega (arith, short))

@@ -1,4 +1,4 @@
--- What is reported of sections, one by one.
+-- The reports on sections, one by one.
 use Rattle.std.specs.Prelude.{◌≡◌, ℕ, List, [], ◌∷◌, ◌++◌, length, if◌then◌else◌, Ok}
 use Rattle.ix_check.specs.declared.verdict.Verdict.{Verdict}
 use Rattle.ix_car.specs.declared.reader.sections.Section.{Section}

@@ -10,7 +10,7 @@ use Rattle.ix_archive.specs.Archive.{first_sound, section_of, archive_with}
 use Rattle.ix_car.specs.Sections.{SectionMeaning}
 use Rattle.ix_verify.specs.Judged.{section_verdict}
 
--- the section of a CID where it stands, or none where there is no block
+-- the section of a CID at its offset, or none if there is no block
 abbrev pub section_where : ℕ → List ℕ → Option (List ℕ) → List SectionMeaning
 section_where place c None = []
 section_where place c (Some block) = record { place = place; cid = c; block = block } ∷ []
