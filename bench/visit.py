@@ -15,7 +15,7 @@ import tempfile
 TOP = pathlib.Path(__file__).resolve().parent.parent
 PROGRAM = TOP / "crates/ix_export/out/ix_export"
 FREQUENCY = 8_000
-# The first part whose word stands in a symbol counts; what no part names is `other`. What a verifier's thread and the
+# The first part whose word is in a symbol counts; what no part names is `other`. What a verifier's thread and the
 # collector do is inlined into the body of the thread and into that of the run.
 PARTS = {
     "queue: put": r"try_put|push_as",

@@ -1,17 +1,17 @@
-/* ix_export.h: the exporter of content graphs, for C. docs/EMBEDDING.md tells how to use it.
+/* ix_export.h: the exporter of content graphs, for C. See docs/EMBEDDING.md for its use.
  *
- * WHAT EACH CALL OWES ITS CALLER. A call that returns uint32_t answers a status (below). It starts no thread,
- * waits for nothing and ends no process; want of memory is the status IX_MEMORY, and then each handle holds
- * what it held. Where the status isn't IX_DONE, what the other pointers lead to is what it was.
+ * GUARANTEES. A call that returns uint32_t returns a status (below). It starts no thread, never waits and
+ * never ends the process. If memory runs out, the status is IX_MEMORY and each handle keeps its contents. If
+ * the status isn't IX_DONE, what the other pointers lead to is unchanged.
  *
- * WHAT THE CALLER OWES EACH CALL; nothing of it can be checked:
- *  - A handle begins as IX_EMPTY, and is written by nobody but the calls below. It isn't copied: a copy
- *    that is used beside it would free twice. Freeing an empty handle does nothing.
- *  - A handle is given to one call at a time, and no call is given one handle twice. It may be used in another
- *    thread than it was made in, if the two are ordered by a lock, the start or the join of a thread, or a
+ * PRECONDITIONS, which the calls can't check:
+ *  - A handle is initialized to IX_EMPTY, and only the calls below write it. It isn't copied: using a copy
+ *    beside it would free twice. Freeing an empty handle does nothing.
+ *  - A handle is passed to one call at a time, and not twice to one call. It may be used in another thread
+ *    than it was made in, if the two are ordered by a lock, the start or the join of a thread, or a
  *    sequentially consistent atomic.
- *  - A pointer and the length behind it lead to so many bytes that may be read (const) or written, and that
- *    nobody changes meanwhile. No pointer is NULL, also where the length is 0. Every other pointer leads to a
+ *  - A pointer and the length after it lead to so many bytes that may be read (const) or written, and that
+ *    nobody changes meanwhile. No pointer is NULL, even if the length is 0. Every other pointer leads to a
  *    whole object of its type that may be written.
  *  - malloc, realloc and free are those of one allocator, which aligns a block to each power of two up to 16
  *    that divides its size. No call comes from a signal handler, nor from a forked child of a process with
@@ -28,7 +28,7 @@
 extern "C" {
 #endif
 
-/* A handle. What it holds is made by the calls: a store, a job, a result, a text or a refusal. */
+/* A handle. The calls give it its contents: a store, a job, a result, a text or an error. */
 typedef struct ix_handle {
   bool is_held;
   void *held;
@@ -36,90 +36,90 @@ typedef struct ix_handle {
 
 #define IX_EMPTY {false, NULL}
 
-/* How many bytes of stack a thread needs for its calls. Where input nests as deep as it may, ix_store_read_car takes 312 KiB,
+/* The stack, in bytes, that a thread needs for its calls. For input nested to the limit, ix_store_read_car takes 312 KiB,
  * ix_job_new and ix_job_from_line 311, ix_selector_from_json 278 and ix_export 132 (measured on 27 November 2026 with kit 13f,
- * on an Intel Xeon at 2.50 GHz); on less such input ends the process by SIGSEGV. */
+ * on an Intel Xeon at 2.50 GHz). With less stack such input ends the process by SIGSEGV. */
 #define IX_STACK (1 << 20)
 
 /* Statuses. */
 enum {
-  IX_DONE = 0,    /* the call did what it is for */
-  IX_MEMORY = 1,  /* no memory was left; nothing is changed */
-  IX_REFUSED = 2, /* the input is refused; the handle that was to be filled holds the line that says why (IX_TEXT) */
-  IX_HANDLE = 3,  /* a handle is empty or holds something else than the call is for; nothing is changed */
-  IX_KNOWN = 4,   /* there is a block under the CID, which stays */
+  IX_DONE = 0,    /* success */
+  IX_MEMORY = 1,  /* memory ran out; nothing is changed */
+  IX_REFUSED = 2, /* the input is rejected; the handle to be filled has the line that says why (IX_TEXT) */
+  IX_HANDLE = 3,  /* a handle is empty or has other contents than the call needs; nothing is changed */
+  IX_KNOWN = 4,   /* there is already a block under the CID, which stays */
   IX_NO_CID = 5,  /* the bytes are not one CID; nothing is changed */
   IX_RANGE = 6    /* there is no part or skip with the number; nothing is changed */
 };
 
-/* Parts of what a handle holds. */
+/* Parts of a handle's contents. */
 enum {
   IX_ARCHIVE = 0, /* of a result: the CARv1 archive */
   IX_REPORT = 1,  /* of a result: the report, as the program prints it */
-  IX_TEXT = 2     /* the text of a selector, or the line of a refusal */
+  IX_TEXT = 2     /* the text of a selector, or the line of an error */
 };
 
-/* How a job ended. IX_END_WRITE is want of memory for the archive; IX_END_START doesn't come here. */
+/* How a job ended. IX_END_WRITE: out of memory for the archive; IX_END_START doesn't occur here. */
 enum { IX_END_DONE = 0, IX_END_LIMIT = 1, IX_END_MEMORY = 2, IX_END_WRITE = 3, IX_END_START = 4 };
 
 /* Why a visit was skipped. */
 enum { IX_WHY_CODEC = 0, IX_WHY_HASH = 1, IX_WHY_MISSING = 2, IX_WHY_DAMAGED = 3, IX_WHY_MALFORMED = 4 };
 
-/* What is told of a job. */
+/* The counts of a job. */
 typedef struct ix_counts {
   uint32_t end;      /* how it ended */
-  uint32_t visits;   /* arrivals at links, the roots included */
-  uint32_t kept;     /* those that don't lie below what is damaged or skipped */
+  uint32_t visits;   /* links visited, the roots included */
+  uint32_t kept;     /* visits that aren't below what is damaged or skipped */
   uint32_t sections; /* blocks in the archive */
   uint64_t bytes;    /* length of the archive */
-  uint64_t skips;    /* how many visits were skipped */
+  uint64_t skips;    /* number of skipped visits */
 } ix_counts;
 
-/* A visit that was skipped: its number, from 0, and why. */
+/* A skipped visit: its number, from 0, and why. */
 typedef struct ix_skip {
   uint32_t visit;
   uint32_t why;
 } ix_skip;
 
-/* The version of this interface, which grows where a call is added: 2. */
+/* Returns the version of this interface, which grows with each added call: 2. */
 uint32_t ix_version(void);
 
-/* Lets go of what a handle holds, which leaves it empty. The three are the same call by the name of what is held. */
+/* Frees the contents of a handle, which is then empty. The other three are the same call, named by the contents. */
 void ix_free(ix_handle *handle);
 void ix_store_free(ix_handle *store);
 void ix_job_free(ix_handle *job);
 void ix_result_free(ix_handle *result);
 
-/* Fills a handle, in place of what it held, with an open store without blocks. IX_DONE, IX_MEMORY. */
+/* Fills a handle with an open store without blocks, and frees what it had before. IX_DONE, IX_MEMORY. */
 uint32_t ix_store_new(ix_handle *store);
 
 /* Fills a handle with an open store of the blocks of a CARv1 file, which is copied. IX_DONE, IX_MEMORY, IX_REFUSED. */
 uint32_t ix_store_read_car(ix_handle *store, const uint8_t *car, size_t car_length);
 
-/* Adds a copy of a block to an open store under its CID, unless there is one. Whether the block has the CID's digest is
- * found where it is exported. IX_DONE, IX_KNOWN, IX_NO_CID, IX_MEMORY, IX_HANDLE. */
+/* Adds a copy of a block to an open store under its CID, unless there is one. Whether its hash matches the
+ * CID is checked when it is exported. IX_DONE, IX_KNOWN, IX_NO_CID, IX_MEMORY, IX_HANDLE. */
 uint32_t ix_store_add(ix_handle *store, const uint8_t *cid, size_t cid_length, const uint8_t *block, size_t block_length);
 
 /* Freezes an open store: from then on it doesn't change and can be shared. IX_DONE, IX_MEMORY, IX_HANDLE. */
 uint32_t ix_store_freeze(ix_handle *store);
 
-/* Fills another handle with the same frozen store, for another thread. The store goes when its last handle is freed.
+/* Fills another handle with the same frozen store, for another thread. The store is freed with its last handle.
  * IX_DONE, IX_MEMORY, IX_HANDLE. */
 uint32_t ix_store_share(ix_handle *store, ix_handle *other);
 
 /* Fills a handle with the job of a line of a job file: NAME ROOTS LIMIT SELECTOR. IX_DONE, IX_MEMORY, IX_REFUSED. */
 uint32_t ix_job_from_line(ix_handle *job, const uint8_t *line, size_t line_length);
 
-/* Fills a handle with the job that has these parts: the CIDs of its roots in binary, 1 to 64 of them end to end, its
+/* Fills a handle with the job of these parts: the CIDs of its roots in binary, 1 to 64 of them concatenated, its
  * selector as DAG-CBOR, and its limit of visits, from 1 to 1000000. Its name is "job". IX_DONE, IX_MEMORY, IX_REFUSED. */
 uint32_t ix_job_new(ix_handle *job, const uint8_t *roots, size_t roots_length, const uint8_t *selector,
                     size_t selector_length, uint32_t limit);
 
-/* Has a job go into a block only the first time that it arrives there with the same rest of its selector, and not at every
- * arrival: the archive is the same where both are within the limit, and the visits are fewer. IX_DONE, IX_HANDLE. */
+/* Makes a job expand a block only at its first visit with the same residual selector, and not at every link to it. The
+ * archive is the same if both are within the limit, and there are fewer visits. IX_DONE, IX_HANDLE. */
 uint32_t ix_job_once(ix_handle *job);
 
-/* Fills a handle with a text: the hexadecimal of the selector of a JSON text, which is the last field of a job's line.
+/* Fills a handle with a text: the hex of the selector of a JSON text, which is the last field of a job's line.
  * ix_bytes reads it (IX_TEXT). IX_DONE, IX_MEMORY, IX_REFUSED. */
 uint32_t ix_selector_from_json(ix_handle *text, const uint8_t *json, size_t json_length);
 
@@ -127,30 +127,30 @@ uint32_t ix_selector_from_json(ix_handle *text, const uint8_t *json, size_t json
  * the result: IX_DONE says that there is one. IX_DONE, IX_MEMORY, IX_HANDLE. */
 uint32_t ix_export(ix_handle *store, ix_handle *job, ix_handle *result);
 
-/* How the job of a result ended (IX_END_DONE ..). IX_DONE, IX_HANDLE. */
+/* Gets how the job of a result ended (IX_END_DONE ..). IX_DONE, IX_HANDLE. */
 uint32_t ix_result_end(ix_handle *result, uint32_t *end);
 
-/* How the job of a result ended, and what was counted. IX_DONE, IX_HANDLE. */
+/* Gets how the job of a result ended, and its counts. IX_DONE, IX_HANDLE. */
 uint32_t ix_result_counts(ix_handle *result, ix_counts *counts);
 
-/* Where the archive of a result begins and how long it is. It may be read, and stays there until the handle is filled or
+/* Gets the address and length of a result's archive. It may be read, and stays there until the handle is filled or
  * freed. IX_DONE, IX_HANDLE. */
 uint32_t ix_result_archive(ix_handle *result, const uint8_t **archive, size_t *length);
 
-/* A skip of a result by its number, from 0, and its CID in binary, which stays there until the handle is filled or freed.
+/* Gets a skip of a result by its number, from 0, and its CID in binary, which stays there until the handle is filled or freed.
  * IX_DONE, IX_RANGE, IX_HANDLE. */
 uint32_t ix_result_skip(ix_handle *result, size_t number, ix_skip *skip, const uint8_t **cid, size_t *length);
 
-/* The same of the report of a result, as the program prints it for the job alone. IX_DONE, IX_HANDLE. */
+/* Gets the address and length of a result's report, as the program prints it for the job alone. IX_DONE, IX_HANDLE. */
 uint32_t ix_result_report(ix_handle *result, const uint8_t **report, size_t *length);
 
-/* The same of the line of a refusal, in a handle for which a call answered IX_REFUSED. IX_DONE, IX_HANDLE. */
+/* Gets the address and length of the line of an error, in a handle for which a call returned IX_REFUSED. IX_DONE, IX_HANDLE. */
 uint32_t ix_fault_line(ix_handle *handle, const uint8_t **line, size_t *length);
 
-/* The same of a part by its number, of whatever a handle holds. IX_DONE, IX_RANGE, IX_HANDLE. */
+/* Gets the address and length of a part by its number, of any handle's contents. IX_DONE, IX_RANGE, IX_HANDLE. */
 uint32_t ix_bytes(ix_handle *handle, uint32_t part, const uint8_t **start, size_t *length);
 
-/* Copies a part of what a handle holds to the front of a buffer, from a place on and as far as there is room, and says
+/* Copies a part of a handle's contents to the front of a buffer, from an offset and as far as there is room, and returns
  * how many bytes. IX_DONE, IX_RANGE, IX_HANDLE. */
 uint32_t ix_copy(ix_handle *handle, uint32_t part, size_t from, uint8_t *buffer, size_t buffer_length, size_t *count);
 

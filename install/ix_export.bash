@@ -2,7 +2,7 @@
 _ix_export() {
   local word=${COMP_WORDS[COMP_CWORD]} before=${COMP_WORDS[COMP_CWORD - 1]} command= it
   COMPREPLY=()
-  # Bash splits a word at `=`: of --blocks=FILE what is completed is FILE.
+  # Bash splits an argument at `=`: of --blocks=FILE it completes FILE.
   if [ "$word" = = ]; then
     word=
   elif [ "$before" = = ]; then

@@ -179,7 +179,7 @@ took=$SECONDS
 [ -e out/report ] || fail "no report: $(cat out/parts/log.*)"
 is_wanted out "$(cat out/status)"
 
-# A faulty job file is refused before anything is queued.
+# A faulty job file is rejected before anything is queued.
 { cat jobs && head -n 1 jobs; } >twice
 status=0
 IX_EXPORT=$program "$cluster/submit" "$blocks" twice out-2 8 2>told || status=$?

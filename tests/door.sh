@@ -1,6 +1,6 @@
 #!/usr/bin/env bash
 # Tests ./ix_export, .ci/build, .ci/dist, .ci/compare and .ci/passed in a small tree with a toolchain that only pretends: which
-# program is taken, when one is built, what is refused, that no failure costs the program that is there, and what the gate notes.
+# program is taken, when one is built, what is rejected, that no failure costs the program that is there, and what the gate notes.
 # It proves nothing, and takes some seconds. Ends with status 1 at the first that is wrong.
 set -Eeuo pipefail
 export LC_ALL=C
@@ -69,7 +69,7 @@ pack_dist() {
   (cd dist && sha256sum "$name" sources KIT >SHA256SUMS)
 }
 
-# Begins a case in a small tree: a chain of two crates below the program, one beside it, and one that it doesn't stand on.
+# Begins a case in a small tree: a chain of two crates below the program, one beside it, and one that it doesn't depend on.
 tree() {
   begin "$1"
   rm -rf "$scratch/tree" "$state"
@@ -118,7 +118,7 @@ silent() {
   expect_lines 'standard error' '' "$scratch/stderr"
 }
 
-# says TEXT: standard error has a line in which the text stands.
+# says TEXT: standard error has a line with the text.
 says() {
   grep -qF -e "$1" "$scratch/stderr" || fail "standard error, without '$1'" /dev/null "$scratch/stderr"
 }

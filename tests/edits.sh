@@ -1,9 +1,9 @@
 #!/usr/bin/env bash
-# Tries the wrong bodies of crates/NAME/edits.txt, which the gate leaves out, as it tries those of must-fail/: on a copy of the
-# repository, the prover must refuse each. It takes some minutes a crate.
+# Tries the mutants of crates/NAME/edits.txt, which the gate leaves out, as it tries those of must-fail/: on a copy of the
+# repository, the prover must reject each. It takes some minutes a crate.
 #
 # usage: tests/edits.sh [CRATE..]      all crates that have some, where none is named
-# Ends with status 1 where an edit is not refused, or can't be applied.
+# Ends with status 1 where an edit is not rejected, or can't be applied.
 set -euo pipefail
 top=$(cd "$(dirname "${BASH_SOURCE[0]}")/.." && pwd)
 cd "$top"

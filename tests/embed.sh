@@ -1,6 +1,6 @@
 #!/usr/bin/env bash
 # Tests the library for C: its header against its source; calls with answers from the formats, what nests as deep as it may on
-# a small stack, sixty-four threads over one store, and each request for memory refused in turn, with nothing left behind; the
+# a small stack, sixty-four threads over one store, and each request for memory failed in turn, with nothing left; the
 # worked examples of jobs; and the examples in C, Rust and Python, where their compilers are, and the program of
 # docs/EMBEDDING.md over an installed library. Ends with status 1 at the first that is wrong.
 #
@@ -150,7 +150,7 @@ run_installed() {
   ran="$ran, the program of docs/EMBEDDING.md"
 }
 
-# The front of an archive: its header and its first section, each behind its length.
+# The front of an archive: its header and its first section, each after its length.
 front_of() {
   python3 - "$1" <<'PY'
 import sys

@@ -30,7 +30,7 @@ PROGRAM = subprocess.run([TOP / "ix_export", "--where"], stdout=subprocess.PIPE,
 NO_ROOTS = bytes.fromhex("11a265726f6f7473806776657273696f6e01")
 RAW, DAG_CBOR = 0x55, 0x71
 IDENTITY, SHA2_256, SHA2_512, BLAKE3 = 0x00, 0x12, 0x13, 0x1E
-# What stands in a CID for its block, by the hash functions that are exported.
+# What a CID has for its block, by the hash functions that are exported.
 DIGESTS = {
     IDENTITY: bytes,
     SHA2_256: lambda block: hashlib.sha256(block).digest(),

@@ -1,9 +1,9 @@
 #!/usr/bin/env bash
-# Runs the built program with each of its requests for memory refused in turn, and with each set of its
-# thread starts refused, also where one check never finds memory; and a test of exports with each set of
-# its thread starts refused. No run may end by a signal, and each archive is the wanted one where its job
-# is told as done, and else a beginning of it. Ends with status 1 at the first run that is wrong.
-# The library that refuses is made by the toolchain's own compiler; without one this says so and ends well.
+# Runs the built program with each of its memory requests failing in turn, and with each set of its
+# thread starts failing, also where one check always runs out of memory; and a test of exports with each
+# set of its thread starts failing. No run may end by a signal, and each archive is the wanted one where its job
+# is reported as done, and else a prefix of it. Ends with status 1 at the first run that is wrong.
+# The library that makes them fail is built by the toolchain's own compiler; without one this says so and ends well.
 set -Eeuo pipefail
 export LC_ALL=C
 
@@ -26,7 +26,7 @@ title='before the first run'
 source "$top/tests/program/cases.sh"
 source "$top/tests/program/blocks.sh"
 runs=0
-# The request that is refused in every run, as START:NUMBER for the NUMBERth of the thread of that start, and
+# The request that fails in every run, as START:NUMBER for the NUMBERth of the thread of that start, and
 # how jobs end where every kind of thread was started.
 held=
 ended='done|limit'
@@ -56,7 +56,7 @@ begins() {
   said=$(cmp "$1" "$2" 2>&1) || [[ $said == *"EOF on $1"* ]] || fail "$1 is no beginning of the archive"
 }
 
-# How the report tells that the job ended, if it does.
+# How the job ended by the report, if it says so.
 told() {
   sed -n "s/^$1 \([a-z]*\) .*/\1/p" stdout
 }
@@ -117,7 +117,7 @@ has_archive() {
   [ "$status" = 2 ] && cmp -s "out/$1.car.part" "$wanted/$1.car" || fail "$1 isn't whole"
 }
 
-# each_request JUDGE WORD..: every request that a run makes is refused once. How many there are depends
+# each_request JUDGE WORD..: every request that a run makes fails once. How many there are depends
 # on the schedule, so it goes on to the first number that no run reached, of five.
 each_request() {
   local judge=$1 request=0 requests=0 begun
@@ -136,7 +136,7 @@ each_request() {
   done
 }
 
-# each_start THREADS: every set of thread starts is refused, of so many walkers and as many verifiers. The
+# each_start THREADS: every set of thread starts fails, of so many walkers and as many verifiers. The
 # verifiers are started first. Every job ends with start exactly where none of one kind was started.
 each_start() {
   local all=$(((1 << $1) - 1)) set name

@@ -88,7 +88,7 @@ class Graph:
         return "malformed" if codec == DAG_CBOR and block not in self.nodes else None
 
     def inside(self, key):
-        """What stands in the block of a CID, sound or not, if a walk can go into it."""
+        """What is in the block of a CID, sound or not, if a walk can expand it."""
         codec, hash_code, digest = parts(key)
         if codec != DAG_CBOR or hash_code not in (IDENTITY, SHA2_256, SHA2_512):
             return None
@@ -146,7 +146,7 @@ class Selector:
         return self.leads(sequence, None if depth is None else depth - 1)
 
     def step(self, rest, step):
-        """What is left behind a step: nothing where the child isn't entered."""
+        """What is left after a step: nothing where the child isn't entered."""
         found = []
         for number, depth in rest:
             form, words, below, _ = self.places[number]
@@ -219,7 +219,7 @@ def told(graph, name, selector, roots, limit, once):
 
 
 def run(room, car, lines, way, statuses=(0, 3, 4)):
-    """The report of a run or its line of refusal, its status, and the folder of its archives."""
+    """The report of a run or its error line, its status, and the folder of its archives."""
     (room / "blocks.car").write_bytes(car)
     (room / "jobs.txt").write_text("".join(line + "\n" for line in lines))
     out = room / f"out{''.join(way)}"
@@ -328,7 +328,7 @@ def random_selector(chance):
 
 
 def hex_of(selector):
-    """The DAG-CBOR of a selector in hexadecimal."""
+    """The DAG-CBOR of a selector in hex."""
     return encoded(json.loads(random_steps.written(selector))).hex()
 
 
@@ -379,7 +379,7 @@ def cases():
 
 
 def spelled(line, names):
-    """A line with what stands for its names."""
+    """A line with its names replaced by their texts."""
 
     def put(found):
         part = found[1]
@@ -471,7 +471,7 @@ def ten_ways(room, seed, graphs):
 
 
 def sections_of(archive, at):
-    """The sections behind a place, in order of their bytes."""
+    """The sections after a place, in order of their bytes."""
     found = []
     while at < len(archive):
         length, begin = read_varint(archive, at)

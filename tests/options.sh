@@ -33,7 +33,7 @@ of_man() {
     { was = $0 }' install/ix_export.1 | sed 's/\\-/-/g; s/\\f[A-Z]/ /g' | sorted
 }
 
-# Of bash: what it completes behind the command.
+# Of bash: what it completes after the command.
 of_bash() {
   bash -c '
     source install/ix_export.bash
@@ -42,7 +42,7 @@ of_bash() {
     printf "%s\n" "${COMPREPLY[@]}"' bash "$1" | sorted
 }
 
-# Of zsh: what stands in the command's case, or before it.
+# Of zsh: what is in the command's case, or before it.
 of_zsh() {
   awk -v wanted="$1" '
     /^ *[a-z-]+\)$/ { section = $1 }
@@ -100,7 +100,7 @@ bash_completes library.car ix_export get --out = li
 bash_completes --blocks ix_export get --blo
 rm -r "$files"
 
-# installed FILE..: what stands in the folder, each with its mode.
+# installed FILE..: what is in the folder, each with its mode.
 installed() {
   local came
   came=$(cd "$room" && find . -type f -printf '%m %P\n' | sort)

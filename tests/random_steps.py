@@ -52,12 +52,12 @@ def union(chance, left, guarded):
 
 
 def behind(guarded):
-    """Whether an edge may stand behind a step: not outside all recursions, where `guarded` is None."""
+    """Whether an edge may be after a step: not outside all recursions, where `guarded` is None."""
     return None if guarded is None else True
 
 
 def selector(chance, left, guarded):
-    """A selector that nests at most `left` deep, and has edges only where they may stand."""
+    """A selector that nests at most `left` deep, and has edges only where they may be."""
     forms = [matcher]
     if guarded:
         forms += [edge] * (3 if left > 1 else 12)
@@ -91,7 +91,7 @@ def enters_again(around, path):
 
 
 def leads_to(here, step):
-    """The selector behind a step from a matcher or an explorer, if there is one."""
+    """The selector after a step from a matcher or an explorer, if there is one."""
     form = here[0]
     if form == "all":
         return here[1]

@@ -1,5 +1,5 @@
 #!/usr/bin/env bash
-# Tries bodies that no contract can refuse, and that tests have to: on a copy of the repository, and with no proof, each
+# Tries bodies that no contract can reject, and that tests have to: on a copy of the repository, and with no proof, each
 # test that a trial of tests/trials/ names has to fail. A trial takes two to four minutes.
 #
 # usage: tests/trials.sh [TRIAL..]      all trials, where none is named

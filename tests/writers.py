@@ -14,7 +14,7 @@ def cid(codec, block):
 
 
 def with_length(data):
-    """The bytes behind their length, which is below 128."""
+    """The bytes after their length, which is below 128."""
     return bytes([len(data)]) + data
 
 

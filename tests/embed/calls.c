@@ -1,5 +1,5 @@
 /* The calls of the library, with answers from the formats; what nests as deep as it may, on a small stack; sixty-four threads
- * over one store; and each request for memory refused in turn. The linker gives the library the allocator that is below
+ * over one store; and each request for memory failed in turn. The linker gives the library the allocator that is below
  * (--wrap), which counts what is held. */
 #include <ix_export.h>
 #include <pthread.h>
@@ -52,7 +52,7 @@ void *__real_malloc(size_t size);
 void *__real_realloc(void *old, size_t size);
 void __real_free(void *old);
 
-/* Requests that were made, which of them is refused, from 1 on, and how many blocks are held. */
+/* Requests that were made, which of them fails, from 1 on, and how many blocks are held. */
 static atomic_ulong requests, refused;
 static atomic_long blocks_held;
 

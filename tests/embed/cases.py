@@ -44,7 +44,7 @@ def expect(name, came, wanted):
 
 
 class Library:
-    """The calls, with what each handle holds freed where Python lets go of it."""
+    """The calls, with what each handle holds freed where Python drops it."""
 
     def __init__(self, path):
         self.calls = ctypes.CDLL(path)

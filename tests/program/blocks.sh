@@ -1,4 +1,4 @@
-# Bytes, CIDs, blocks and CAR files, all in hexadecimal.
+# Bytes, CIDs, blocks and CAR files, all in hex.
 
 # Writes bytes to standard output.
 bytes() {

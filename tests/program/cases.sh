@@ -21,7 +21,7 @@ run() {
   if [ "${1-}" = jobs ]; then verify_archives; fi
 }
 
-# The archives of which the report tells, and which this run wrote, are sound, section by section.
+# The archives in the report that this run wrote, are sound, section by section.
 verify_archives() {
   local name end rest archives=()
   while read -r name end rest; do
@@ -108,7 +108,7 @@ fail() {
   exit 1
 }
 
-# A file as text where it is text, else in hexadecimal.
+# A file as text where it is text, else in hex.
 shown() {
   if [ ! -e "$1" ]; then
     echo '(no such file)'

@@ -27,21 +27,21 @@ write_jobs "a $one_job" "b zQ3sh 1 $matcher" "c $abc_text 1 $json" "d $abc_text 
   "e $abc_text 01 $matcher" "f $abc_text 1 a1612e80" "# c" "g  $abc_text 1 $matcher" "h $abc_text 1 $matcher " "i $abc_text 1" \
   "j $abc_text, $abc_text 1 $matcher" "k $abc_text 1 {\".\": {}}" $'l\t'"$one_job" "m $abc_text 1 0xa1612ea0" "n $abc_text x $matcher"
 checked jobs.txt 'jobs: root at line 2' \
-  'line 2, ROOT: base58, and base32 beginning with b is wanted: ipfs cid base32 converts it' \
-  'line 3, SELECTOR: JSON, made hexadecimal by ix_export selector' \
-  'line 4, SELECTOR: an odd number of hexadecimal digits, and two for each byte are wanted' \
-  'line 5, NAME: stands in line 1 too' \
-  'line 6, NAME: upper case, and a to z, 0 to 9, - and _ are wanted' \
-  'line 7, LIMIT: a leading zero, and 1 to 1000000 is wanted without one' \
+  'line 2, ROOT: base58, expected base32 beginning with b: ipfs cid base32 converts it' \
+  'line 3, SELECTOR: JSON, converted to hex by ix_export selector' \
+  'line 4, SELECTOR: an odd number of hex digits, expected two for each byte' \
+  'line 5, NAME: also in line 1' \
+  'line 6, NAME: upper case, expected a to z, 0 to 9, - and _' \
+  'line 7, LIMIT: a leading zero, expected 1 to 1000000 without one' \
   'line 8, SELECTOR: no selector: a value of another kind at /.' \
-  'line 10: two spaces behind NAME, and one is wanted' \
+  'line 10: two spaces after NAME, expected one' \
   'line 11: trailing space' \
-  'line 12: 3 fields, and the four NAME ROOTS LIMIT SELECTOR are wanted' \
-  'line 13, ROOT: a space behind a comma, and none is wanted' \
-  'line 14, SELECTOR: JSON, made hexadecimal by ix_export selector' \
-  'line 15: a tab and not a space behind NAME' \
-  'line 16, SELECTOR: 0x, and hexadecimal digits alone are wanted' \
-  'line 17, LIMIT: no number in decimal digits alone, and 1 to 1000000 is wanted'
+  'line 12: 3 fields, expected the four NAME ROOTS LIMIT SELECTOR' \
+  'line 13, ROOT: a space after a comma, expected none' \
+  'line 14, SELECTOR: JSON, converted to hex by ix_export selector' \
+  'line 15: a tab and not a space after NAME' \
+  'line 16, SELECTOR: 0x, expected hex digits alone' \
+  'line 17, LIMIT: not a number in decimal digits, expected 1 to 1000000'
 
 # Texts of the raw block `abc` in the bases of the multibase table, and a CIDv0 and addresses.
 begin 'check-jobs: roots in other forms'
@@ -52,30 +52,30 @@ write_jobs "a QmYwAPJzv5CZsnA625s3Xf2nemtYgPpHdWEz79ojWKPbdG 1 $matcher" "b F$ab
   "h $abc_text,$abc_text, 1 $matcher" "i $(repeated 65 "$abc_text,")$abc_text 1 $matcher" "j k2jmtxw8 1 $matcher" "k mAVUSILp4 1 $matcher" \
   "l hello 1 $matcher" "m https://ipfs.io/ipfs/$abc_text 1 $matcher"
 checked jobs.txt 'jobs: root at line 1' \
-  'line 1, ROOT: base58 of a CIDv0, which names UnixFS, and a CIDv1 in base32 beginning with b is wanted' \
-  'line 2, ROOT: hexadecimal, and base32 beginning with b is wanted: ipfs cid base32 converts it' \
-  'line 3, ROOT: base32 in upper case, and lower case is wanted, beginning with b' \
-  'line 4, ROOT: an ipfs:// address, and the CID alone is wanted' \
-  'line 5, ROOT: a path of /ipfs/, and the CID alone is wanted' \
-  "line 6, ROOT: f$abc_cid is hexadecimal, and base32 beginning with b is wanted: ipfs cid base32 converts it" \
+  'line 1, ROOT: base58 of a CIDv0, which names UnixFS, expected a CIDv1 in base32 beginning with b' \
+  'line 2, ROOT: hex, expected base32 beginning with b: ipfs cid base32 converts it' \
+  'line 3, ROOT: base32 in upper case, expected lower case, beginning with b' \
+  'line 4, ROOT: an ipfs:// address, expected the CID alone' \
+  'line 5, ROOT: a path of /ipfs/, expected the CID alone' \
+  "line 6, ROOT: f$abc_cid is hex, expected base32 beginning with b: ipfs cid base32 converts it" \
   'line 7, ROOT: a CID that ends early' \
-  'line 8, ROOT: no text beside a comma, and CIDs with one comma between are wanted' \
-  'line 9, ROOT: 66 texts, and 1 to 64 are wanted' \
-  'line 10, ROOT: base36, and base32 beginning with b is wanted: ipfs cid base32 converts it' \
-  'line 11, ROOT: base64, and base32 beginning with b is wanted: ipfs cid base32 converts it' \
-  'line 12, ROOT: no CID: a CIDv1 in base32, beginning with b, is wanted' \
-  'line 13, ROOT: a URL, and the CID alone is wanted'
+  'line 8, ROOT: no text beside a comma, expected comma-separated CIDs' \
+  'line 9, ROOT: 66 texts, expected 1 to 64' \
+  'line 10, ROOT: base36, expected base32 beginning with b: ipfs cid base32 converts it' \
+  'line 11, ROOT: base64, expected base32 beginning with b: ipfs cid base32 converts it' \
+  'line 12, ROOT: not a CID, expected a CIDv1 in base32, beginning with b' \
+  'line 13, ROOT: a URL, expected the CID alone'
 
 begin 'check-jobs: all faulty fields of a line, and bytes that are no text'
 write_blocks
 printf '%s\n' "A zabc 0 x" $'\xef\xbb\xbf'"a $one_job" $'a\xc2\xa0'"$one_job" "a $abc_text 1 $matcher"$'\t' >jobs.txt
 checked jobs.txt 'jobs: name at line 1' \
-  'line 1, NAME: upper case, and a to z, 0 to 9, - and _ are wanted' \
-  'line 1, ROOT: base58, and base32 beginning with b is wanted: ipfs cid base32 converts it' \
-  'line 1, LIMIT: 0, and 1 to 1000000 is wanted' \
-  'line 1, SELECTOR: no hexadecimal: the line of ix_export selector is wanted' \
-  'line 2: a byte order mark, and none is wanted' \
-  'line 3: a no-break space, and a space is wanted' \
+  'line 1, NAME: upper case, expected a to z, 0 to 9, - and _' \
+  'line 1, ROOT: base58, expected base32 beginning with b: ipfs cid base32 converts it' \
+  'line 1, LIMIT: 0, expected 1 to 1000000' \
+  'line 1, SELECTOR: not hex, expected the line of ix_export selector' \
+  'line 2: a byte order mark, expected none' \
+  'line 3: a no-break space, expected a space' \
   'line 4: a trailing tab'
 
 begin 'check-jobs: a job too many, and a faulty line behind it'
@@ -83,8 +83,8 @@ write_blocks
 seq -f "j%g $one_job" 1002 >jobs.txt
 echo 'x' >>jobs.txt
 checked jobs.txt 'jobs: too many at line 1001' \
-  'line 1001: behind 1000 jobs, which is all that a run takes; jobs --part runs a part of more' \
-  'line 1003: 1 field, and the four NAME ROOTS LIMIT SELECTOR are wanted'
+  'line 1001: after 1000 jobs, the most that a run takes; jobs --part runs a part of more' \
+  'line 1003: 1 field, expected the four NAME ROOTS LIMIT SELECTOR'
 
 begin 'check-jobs: a file that is not there, and none'
 run check-jobs none
@@ -115,13 +115,13 @@ job_refused() {
   refused "$line"
 }
 
-job_refused 'NAME: upper case, and a to z, 0 to 9, - and _ are wanted' A "$abc_text" 1 '{".":{}}'
-job_refused 'NAME: empty, and 1 to 64 of a to z, 0 to 9, - and _ are wanted' '' "$abc_text" 1 '{".":{}}'
-job_refused 'NAME: longer than 64 bytes, and 1 to 64 are wanted' "$(repeated 65 a)" "$abc_text" 1 '{".":{}}'
-job_refused 'ROOT: base58, and base32 beginning with b is wanted: ipfs cid base32 converts it' a zabc 1 '{".":{}}'
-job_refused 'ROOT: no CID: a CIDv1 in base32, beginning with b, is wanted' a ' ' 1 '{".":{}}'
-job_refused 'LIMIT: greater than 1000000, and 1 to 1000000 is wanted' a "$abc_text" 1000001 '{".":{}}'
-job_refused 'LIMIT: no number in decimal digits alone, and 1 to 1000000 is wanted' a "$abc_text" '1 1' '{".":{}}'
+job_refused 'NAME: upper case, expected a to z, 0 to 9, - and _' A "$abc_text" 1 '{".":{}}'
+job_refused 'NAME: empty, expected 1 to 64 of a to z, 0 to 9, - and _' '' "$abc_text" 1 '{".":{}}'
+job_refused 'NAME: longer than 64 bytes, expected 1 to 64' "$(repeated 65 a)" "$abc_text" 1 '{".":{}}'
+job_refused 'ROOT: base58, expected base32 beginning with b: ipfs cid base32 converts it' a zabc 1 '{".":{}}'
+job_refused 'ROOT: not a CID, expected a CIDv1 in base32, beginning with b' a ' ' 1 '{".":{}}'
+job_refused 'LIMIT: greater than 1000000, expected 1 to 1000000' a "$abc_text" 1000001 '{".":{}}'
+job_refused 'LIMIT: not a number in decimal digits, expected 1 to 1000000' a "$abc_text" '1 1' '{".":{}}'
 job_refused 'selector: unknown key "x"' a "$abc_text" 1 '{"x":{}}'
 job_refused 'ROOT: a CID with a character too many, or with another at its end' a "${abc_text}a" 1 '{".":{}}'
-job_refused 'ROOT: no base32: behind b stand a to z and 2 to 7, in lower case' a "${abc_text%?}0" 1 '{".":{}}'
+job_refused 'ROOT: not base32: after b come a to z and 2 to 7, in lower case' a "${abc_text%?}0" 1 '{".":{}}'

@@ -21,7 +21,7 @@ mv "$scratch/stdout" report
 title='complete: the report and the status are those of a run without it'
 run_jobs
 expect_text 'exit status' 4 "$status"
-expect_lines 'standard error' "warning: out/gone.car replaced the file that was there: its root $(text "$(raw 6d)") is missing" "$scratch/stderr"
+expect_lines 'standard error' "warning: out/gone.car replaced an existing file: its root $(text "$(raw 6d)") is missing" "$scratch/stderr"
 expect_same 'standard output' report "$scratch/stdout"
 expect_folder out bad.car gone.car inline.car other.car short.car whole.car
 

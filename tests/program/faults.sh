@@ -1,4 +1,4 @@
-# What the command `jobs` refuses: files, the CAR file, the job file, and in which order.
+# What the command `jobs` rejects: files, the CAR file, the job file, and in which order.
 
 # The greatest size of an input.
 greatest=1073741824
@@ -10,7 +10,7 @@ good_files() {
   write_jobs "$good_job"
 }
 
-# files_refused LINE TITLE COMMAND: what the command makes of good files is refused with the line.
+# files_refused LINE TITLE COMMAND: what the command makes of good files is rejected with the line.
 files_refused() {
   begin "$2"
   good_files
@@ -31,7 +31,7 @@ files_refused 'cannot write out/a.car' 'a folder in place of an archive' 'mkdir 
 files_refused 'cannot write out/b.car' 'a folder in place of the second archive' \
   'echo "b ${good_job#a }" >>jobs.txt; mkdir out/b.car'
 
-# car_refused LINE HEX..: the CAR file of these bytes is refused with the line.
+# car_refused LINE HEX..: the CAR file of these bytes is rejected with the line.
 car_refused() {
   local line=$1
   shift
@@ -63,7 +63,7 @@ car_refused 'blocks: cid at 18' "$no_roots" 00
 car_refused 'blocks: cid at 18' "$no_roots" "$(with_length "${abc_cid%??}")" "$(section "$abc_cid" "$abc")"
 car_refused 'blocks: cid at 58' "$no_roots" "$(section "$abc_cid" "$abc")" 0102
 
-# line_refused KIND LINE: the line is refused, behind a comment, an empty line and a good job.
+# line_refused KIND LINE: the line is rejected, after a comment, an empty line and a good job.
 line_refused() {
   begin "$1, for the job line '$2'"
   good_files
@@ -104,14 +104,14 @@ line_refused selector "b $abc_text 1 80"
 line_refused selector "b $abc_text 1 a1617ea0"
 line_refused selector "b $abc_text 1 a16161a1613ea16140a0"
 line_refused repeated "a $abc_text 1 $matcher"
-# The first test that fails tells: those on the fields come before the one on the name that is taken.
+# The first check that fails is reported: those on the fields come before the one on the name that is taken.
 line_refused text $'B\t'
 line_refused name 'B x 0 g'
 line_refused root 'b x 0 g'
 line_refused limit "b $abc_text 0 g"
 line_refused selector "a $abc_text 1 80"
 
-# behind_a_thousand KIND LINE: the line is refused behind a thousand jobs.
+# behind_a_thousand KIND LINE: the line is rejected after a thousand jobs.
 behind_a_thousand() {
   begin "$1, for a job line behind a thousand"
   good_files
@@ -124,7 +124,7 @@ behind_a_thousand 'too many' "$good_job"
 behind_a_thousand repeated "j7 ${good_job#a }"
 behind_a_thousand hex "${good_job}0"
 
-# The first fault is told: files that can't be read before what they hold, blocks before jobs, inputs
+# The first fault is reported: files that can't be read before what they hold, blocks before jobs, inputs
 # before outputs.
 files_refused 'cannot read blocks.car' 'blocks that are missing, before the job file' 'rm blocks.car jobs.txt'
 files_refused 'too large blocks.car' 'blocks that are too large, before the job file' \
@@ -153,7 +153,7 @@ outputs_stay 'blocks: header at 0' 'bytes 00 >blocks.car'
 outputs_stay 'jobs: repeated at line 2' 'echo "$good_job" >>jobs.txt'
 
 # input_refused TITLE LINE INPUT OUTPUT COMMAND: an output that the command makes of an input, by whatever name, is
-# refused with the line before anything is made, and the input stays.
+# rejected with the line before anything is made, and the input stays.
 input_refused() {
   begin "$1"
   good_files
@@ -201,7 +201,7 @@ grep -qxE 'cannot write out/j[0-9]+\.car' "$scratch/stderr" || fail 'standard er
 expect_folder out $(seq -f 'j%g.car' 100 | sort)
 expect_text 'digests of the archives' "$(digest "$one_archive")" "$(sha256sum out/* | cut -c 1-64 | uniq)"
 
-# verbose LINE CAUSE COMMAND: the run over good files that the command changed is refused with the line, and with --verbose
+# verbose LINE CAUSE COMMAND: the run over good files that the command changed is rejected with the line, and with --verbose
 # with the cause on a second line.
 verbose() {
   begin "the cause of '$1'"
@@ -217,11 +217,11 @@ $2"
 verbose 'cannot read blocks.car' 'Is a directory (os error 21)' 'rm blocks.car; mkdir blocks.car'
 verbose 'cannot read jobs.txt' 'No such file or directory (os error 2)' 'rm jobs.txt'
 verbose 'too large blocks.car' 'an input has at most 1073741824 bytes' "truncate -s $((greatest + 1)) blocks.car"
-verbose 'blocks: truncated at 0' 'packed by gzip' 'bytes 1f8b0800 >blocks.car'
-verbose 'jobs: fields at line 1' 'the command check-jobs says of each line what is wrong' 'echo b >jobs.txt'
-verbose 'cannot write out/a.car' 'No such file or directory (os error 2); its folder must be there' 'rmdir out'
+verbose 'blocks: truncated at 0' 'compressed by gzip' 'bytes 1f8b0800 >blocks.car'
+verbose 'jobs: fields at line 1' 'ix_export check-jobs reports what is wrong with each line' 'echo b >jobs.txt'
+verbose 'cannot write out/a.car' 'No such file or directory (os error 2); its directory must exist' 'rmdir out'
 verbose 'cannot write out/a.car' 'it is an input: give another output' 'ln blocks.car out/a.car'
-verbose 'cannot write out/a.car' 'a folder is there' 'mkdir out/a.car'
+verbose 'cannot write out/a.car' 'is a directory' 'mkdir out/a.car'
 exec {held}>"$scratch/held"
 verbose 'cannot write out/a.car' 'another run is writing it' 'flock "$held"; ln "$scratch/held" out/a.car.part'
 exec {held}>&-
@@ -238,4 +238,4 @@ begin 'root: the cause of an input that is no hexadecimal'
 printf x >input
 run root --cid "$abc_text" --verbose <input
 refused 'input: hex
-it has an odd number of digits, or a character that is none'
+odd number of digits, or a character that is not a hex digit'

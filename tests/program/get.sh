@@ -5,8 +5,8 @@ one_text=$(text "$one_cid")
 get_one=(get --blocks blocks.car --root "$one_text")
 get_report="get $one_line
 total jobs=1 done=1 skips=0"
-nothing_below='note: the selector entered nothing below the root'
-no_edge='note: a recursion of the selector has no edge {"@":{}}, so it never begins again'
+nothing_below='note: the selector matched nothing below the root'
+no_edge='note: a recursion of the selector has no edge {"@":{}}, so it never recurs'
 
 # got STATUS ERRORS HEX..: the archive is all of standard output.
 got() {
@@ -155,30 +155,30 @@ get_refused() {
 
 begin 'get: words that are those of no job'
 write_blocks "$one_blocks"
-base58='base58 of a CIDv0, which names UnixFS, and a CIDv1 in base32 beginning with b is wanted'
-other=', and base32 beginning with b is wanted: ipfs cid base32 converts it'
-upper='base32 in upper case, and lower case is wanted, beginning with b'
+base58='base58 of a CIDv0, which names UnixFS, expected a CIDv1 in base32 beginning with b'
+other=', expected base32 beginning with b: ipfs cid base32 converts it'
+upper='base32 in upper case, expected lower case, beginning with b'
 while read -r root line; do
   get_refused "--root: $line" get --blocks none --root "$root" --out out/a.car
 done <<END
 QmdfTbBqBPQ7VNxZEYEj14VmRuZBkqFbiwReogJgS1zR1n $base58
 zb2rhe5P4gXftAwvA4eXQ5HJwsER2owDyS9sKaQRRVQPn93bA base58$other
-f01551220ba7816bf hexadecimal$other
-F01551220BA7816BF hexadecimal$other
+f01551220ba7816bf hex$other
+F01551220BA7816BF hex$other
 ${abc_text^^} $upper
-ipfs://$abc_text an ipfs:// address, and the CID alone is wanted
-/ipfs/$abc_text a path of /ipfs/, and the CID alone is wanted
-$abc_text,f01 f01 is hexadecimal$other
+ipfs://$abc_text an ipfs:// address, expected the CID alone
+/ipfs/$abc_text a path of /ipfs/, expected the CID alone
+$abc_text,f01 f01 is hex$other
 END
-get_refused '--limit: 0, and 1 to 1000000 is wanted' "${get_one[@]}" --limit 0
-get_refused '--limit: greater than 1000000, and 1 to 1000000 is wanted' "${get_one[@]}" --limit 1000001
+get_refused '--limit: 0, expected 1 to 1000000' "${get_one[@]}" --limit 0
+get_refused '--limit: greater than 1000000, expected 1 to 1000000' "${get_one[@]}" --limit 1000001
 get_refused 'selector: unknown key "x" at /f/f>/album' "${get_one[@]}" --selector '{"f":{"f>":{"album":{"x":{}}}}}'
 get_refused 'selector: no JSON at 0' "${get_one[@]}" --selector ''
 get_refused '--selector-hex: no selector: unknown key "x"' "${get_one[@]}" --selector-hex a16178a0
-get_refused '--selector-hex: no hexadecimal: the line of ix_export selector is wanted' "${get_one[@]}" --selector-hex xy
-get_refused '--selector-hex: JSON, made hexadecimal by ix_export selector' "${get_one[@]}" --selector-hex '{".":{}}'
+get_refused '--selector-hex: not hex, expected the line of ix_export selector' "${get_one[@]}" --selector-hex xy
+get_refused '--selector-hex: JSON, converted to hex by ix_export selector' "${get_one[@]}" --selector-hex '{".":{}}'
 
-# get_usage WORD..: words that the command line itself refuses.
+# get_usage WORD..: arguments that the command line itself rejects.
 get_usage() {
   run "$@"
   expect_text 'exit status' 2 "$status"
@@ -214,19 +214,19 @@ run get --blocks none --root "$one_text" --out out/a.car
 refused 'cannot read none: No such file or directory (os error 2)'
 bytes "$no_roots" 05 >blocks.car
 run "${get_one[@]}" --out out/a.car
-refused 'blocks: truncated at 18: the command inspect says how the sections before are kept'
+refused 'blocks: truncated at 18: ix_export inspect says how to keep the sections before it'
 printf 'some text' >blocks.car
 run "${get_one[@]}" --out out/a.car
-refused 'blocks: truncated at 0: a text'
+refused 'blocks: truncated at 0: plain text'
 expect_folder out
 
 begin 'get: an output that can not be made'
 write_blocks "$one_blocks"
-get_refused 'cannot write none/a.car: No such file or directory (os error 2); its folder must be there' "${get_one[@]}" --out none/a.car
-get_refused 'cannot write out: a folder is there' "${get_one[@]}" --out out
+get_refused 'cannot write none/a.car: No such file or directory (os error 2); its directory must exist' "${get_one[@]}" --out none/a.car
+get_refused 'cannot write out: is a directory' "${get_one[@]}" --out out
 get_refused 'cannot write blocks.car: it is an input: give another output' "${get_one[@]}" --out blocks.car
 ln -s /dev/null device
-get_refused 'cannot write device: it is no regular file' "${get_one[@]}" --out device
+get_refused 'cannot write device: not a regular file' "${get_one[@]}" --out device
 expect_folder . blocks.car device out
 title='get: another run writes it'
 exec {held}>out/a.car.part
@@ -289,7 +289,7 @@ if command -v script >/dev/null; then
   status=0
   script -qec "$(printf '%q ' "$top/ix_export" "${get_one[@]}")" /dev/null </dev/null >"$scratch/terminal" || status=$?
   expect_text 'exit status' 2 "$status"
-  expect_text 'the terminal' "error: the archive would go to a terminal: give '--out <FILE>', or send standard output elsewhere" \
+  expect_text 'the terminal' "error: the archive would go to a terminal: give '--out <FILE>', or redirect standard output" \
     "$(head -n 1 "$scratch/terminal" | tr -d '\r')"
   status=0
   script -qec "$(printf '%q ' "$top/ix_export" "${get_one[@]}" --out out/a.car)" /dev/null </dev/null >"$scratch/terminal" || status=$?

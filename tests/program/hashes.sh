@@ -1,7 +1,7 @@
-# Blocks under SHA-512, and identity CIDs, which hold their bytes themselves: they are walked and stand in no section.
+# Blocks under SHA-512, and identity CIDs, which have their block in the digest: they are walked and have no section.
 
 # one_job_gives TITLE STATUS LINES ROOT SELECTOR BLOCKS ARCHIVE: a job over the root with a limit of 100; the sections of the
-# file and the archive in hexadecimal.
+# file and the archive in hex.
 one_job_gives() {
   begin "$1"
   write_blocks "$6"
@@ -11,7 +11,7 @@ one_job_gives() {
   expect_bytes out/a.car "$7"
 }
 
-# The six jobs of the specification, whose archives are written out here as they stand there.
+# The six jobs of the specification, whose archives are written out here as in it.
 other_512_cid=${abc_512_cid%9f}9e
 short_512_cid=01551320$(digest_512 "$abc" | cut -c 1-64)
 version=6776657273696f6e01

@@ -1,6 +1,6 @@
-# The command `inspect`: what stands in a file, the list of its sections, and what a file is that is none.
+# The command `inspect`: what is in a file, the list of its sections, and what a file is that is not a CARv1.
 
-# Three sections: `abc`, the list of one link, and `abc` once more. The header has 59 bytes, and the sections stand at
+# Three sections: `abc`, the list of one link, and `abc` once more. The header has 59 bytes, and the sections are at
 # 59, 99 and 178.
 listed=$(header "$one_cid")$(section "$abc_cid" "$abc")$(section "$one_cid" "$one")$(section "$abc_cid" "$abc")
 
@@ -73,14 +73,14 @@ is_told() {
 }
 is_told 0aa16776657273696f6e02 \
   'version 2 at 0: a CARv2 file; its data can be taken out by car extract, or by the offset in its header'
-is_told 1f8b0800 'truncated at 0: packed by gzip'
-is_told 28b52ffd 'truncated at 0: packed by zstd'
-is_told 425a6839 'truncated at 0: packed by bzip2'
+is_told 1f8b0800 'truncated at 0: compressed by gzip'
+is_told 28b52ffd 'truncated at 0: compressed by zstd'
+is_told 425a6839 'truncated at 0: compressed by bzip2'
 is_told "$(repeated 257 61)7573746172" 'header at 0: a tar archive'
 is_told 207b7d 'truncated at 0: JSON'
-is_told 6162630a 'truncated at 0: a text'
+is_told 6162630a 'truncated at 0: plain text'
 is_told '' 'truncated at 0: an empty file'
-is_told 00ff 'header at 0: no CARv1 file'
+is_told 00ff 'header at 0: not a CARv1 file'
 
 begin 'inspect: a file that ends early, with the place where its whole sections end'
 bytes "${listed%??}" >blocks.car

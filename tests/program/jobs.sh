@@ -194,7 +194,7 @@ expect_bytes out/a.car "$one_archive"
 
 # replaced NAME WHY: the warning of an archive that lacks something, in the place of a file.
 replaced() {
-  echo "warning: out/$1.car replaced the file that was there: $2"
+  echo "warning: out/$1.car replaced an existing file: $2"
 }
 
 begin 'a file that is replaced by an archive that lacks something: a warning'

@@ -1,8 +1,8 @@
 # So many blocks that several threads index them.
 
-# many_files COUNT [PLACE:LIKE..]: so many raw blocks, each under a CID of its own, and behind them a list that links to some of
-# them, to each PLACE once more and to one that isn't there. At a PLACE stands the CID of the block LIKE instead, over other
-# bytes. What is wanted of the job over the list stands in wanted.car and wanted.txt.
+# many_files COUNT [PLACE:LIKE..]: so many raw blocks, each under a CID of its own, and after them a list that links to some of
+# them, to each PLACE once more and to one that isn't there. At a PLACE is the CID of the block LIKE instead, over other
+# bytes. The expected result of the job over the list is in wanted.car and wanted.txt.
 many_files() {
   python3 - "$@" <<'PYTHON'
 import base64, hashlib, sys

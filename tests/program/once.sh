@@ -58,7 +58,7 @@ run_once
 expect 4 "a limit visits=80 kept=80 sections=41 bytes=$(size "$(header "$layer_cid")" "$layers")
 total jobs=1 done=0 skips=0" ''
 
-# What is linked to from a damaged block first and from a sound one behind it. The damaged block stands under the CID of another.
+# What is linked to from a damaged block first and from a sound one after it. The damaged block is stored under the CID of another.
 damaged_cid=$(cbor 8100)
 damaged=81$(link "$one_cid")
 both=82$(link "$damaged_cid")$(link "$one_cid")

@@ -177,7 +177,7 @@ sed -i 1d out/parts/report.1-of-3
 merge_refused 3 'merge: ./out/parts/report.1-of-3 has other lines than its total says: total jobs=1 done=1 skips=0'
 again
 cat good/report.1-of-3 >>out/parts/report.1-of-3
-merge_refused 3 'merge: ./out/parts/report.1-of-3 goes on behind its total'
+merge_refused 3 'merge: ./out/parts/report.1-of-3 goes on after its total'
 again
 cp good/report.1-of-3 out/parts/report.2-of-3
 merge_refused 3 'merge: ./out/parts/report.2-of-3: job a is there twice'

@@ -1,4 +1,4 @@
-# The options --progress and --quiet: what stands on standard error, and that nothing else of a run changes.
+# The options --progress and --quiet: what is on standard error, and that nothing else of a run changes.
 
 begin 'progress: a line at the first close and at the last'
 write_blocks "$one_blocks"

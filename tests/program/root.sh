@@ -1,9 +1,9 @@
-# The command `root`: its archives, and what it refuses.
+# The command `root`: its archives, and what it rejects.
 
 # The whole archive of `abc`.
 abc_archive=$(header "$abc_cid")$(section "$abc_cid" "$abc")
 
-# root_gives TITLE TEXT INPUT ARCHIVE, input and archive in hexadecimal.
+# root_gives TITLE TEXT INPUT ARCHIVE, input and archive in hex.
 root_gives() {
   begin "$1"
   run root --cid "$2" <<<"$3"

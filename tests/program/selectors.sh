@@ -1,5 +1,5 @@
 # The command `selector`, and the recipes of docs/SELECTORS.md over the example directory: of each, the JSON gives the
-# hexadecimal, that gives the JSON, and a job with it is told as the document says. Each is a `get` command, of which the JSON
+# hex, that gives the JSON, and a job with it has the result that the document says. Each is a `get` command, of which the JSON
 # is taken here; get.sh has the commands.
 
 library_root=bafyreigiavswv62tcfji62na4ecatawlzg33sy6uezl5lj3g56mxdhbnmq
@@ -58,7 +58,7 @@ selector_refused 'selector: no JSON at 0' ''
 selector_refused 'selector: hex' --hex a1612e0
 
 
-# The part of a selector that is refused first, whatever the order of the keys, by its JSON Pointer (RFC 6901).
+# The part of a selector that is rejected first, whatever the order of the keys, by its JSON Pointer (RFC 6901).
 while read -r selector line; do
   selector_refused "selector: $line" "$selector"
 done <<'END'

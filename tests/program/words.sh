@@ -1,4 +1,4 @@
-# The words of the command line. The text for words that are refused isn't compared.
+# The arguments of the command line. The text for words that are rejected isn't compared.
 
 # words_refused WORD..: status 2, something on standard error and nothing on standard output.
 words_refused() {
@@ -46,7 +46,7 @@ done
 # The words are read before any file.
 words_refused jobs --blocks none --jobs none --out none --walkers 0
 
-# helps WORD.. -- TEXT..: status 0 and a help on standard output in which each text stands.
+# helps WORD.. -- TEXT..: status 0 and a help on standard output that has each text.
 helps() {
   local words=()
   begin "the help of '$*'"
@@ -65,7 +65,7 @@ helps() {
 
 helps --help -- get root jobs selector CARv1 SHA-256 SHA-512 identity UnixFS --version 'Usage: ix_export <COMMAND>'
 helps -h -- get root jobs selector
-helps root --help -- '--cid <TEXT>' hexadecimal 'Standard input' 'Status: 0'
+helps root --help -- '--cid <TEXT>' hex 'Standard input' 'Status: 0'
 helps get --help -- --no-sync '--blocks <FILE>' '--root <CID[,CID..]>' '--selector <JSON>' '--selector-hex <HEX>' 'default: 1000000' \
   FILE.part 'standard output' 'Status: 0' docs/SELECTORS.md
 helps jobs --help -- 'NAME ROOTS LIMIT SELECTOR' '--blocks <FILE>' '--jobs <FILE>' '--out <DIR>' '--walkers <N>' \
@@ -75,27 +75,27 @@ helps selector --help -- '--hex <TEXT>' '[JSON]' '{"R":{"l":{"none":{}},":>":{"a
 
 begin 'the help of a command, whole: its example is indented'
 run job --help
-expect 0 "Prints the line of a job for a job file
+expect 0 "Print the line of a job for a job file
 
 Usage: ix_export job <NAME> <ROOT[,ROOT..]> <LIMIT> <JSON>
 
 Arguments:
-  <NAME>           1 to 64 of a to z, 0 to 9, - and _
-  <ROOT[,ROOT..]>  1 to 64 CIDv1s in base32, with one comma between
-  <LIMIT>          How many arrivals at blocks there may be, 1 to 1000000
-  <JSON>           The selector as JSON, or - for standard input
+  <NAME>           1 to 64 characters of [a-z0-9_-]
+  <ROOT[,ROOT..]>  1 to 64 comma-separated CIDv1s in base32
+  <LIMIT>          Link budget, 1 to 1000000
+  <JSON>           IPLD selector as JSON, or - for standard input
 
 Options:
   -h, --help  Print help
 
-Lines of jobs are put together into a job file:
+Append the lines of jobs to a job file:
 
   ix_export job photos \\
     $abc_text 1000 \\
     '{\"R\":{\"l\":{\"none\":{}},\":>\":{\"a\":{\">\":{\"@\":{}}}}}}' >>photos.jobs
 
-Status: 0 where a line was printed, 2 where the words are those of no job, with
-a line on standard error that says why." ''
+Status: 0 if a line was printed, 2 if an argument is rejected, with a line on
+standard error that says why." ''
 for command in get jobs selector verify; do
   title="the help of $command: its examples are indented"
   run "$command" --help
@@ -106,7 +106,7 @@ begin 'an argument that is not UTF-8'
 run root $'a\xff b'
 refused "error: an argument is not UTF-8: number 2, 'a\\xff b'"
 
-# The version names the logic of the kit that made the program; behind it stands where the program is from.
+# The version names the logic of the kit that made the program; after it is the folder that the program is from.
 program=$("$top/ix_export" --where)
 made_with=$(cat "${program%/*}/KIT")
 for word in --version -V; do

@@ -1,4 +1,4 @@
--- What a call answers that fills a handle is what was meant.
+-- A call that fills a handle returns what was meant.
 use Rattle.std.proofs.Common.{◌≡◌, sym, subst, ◌∙◌}
 use Rattle.std.specs.Prelude.{Option, Some, None}
 use Rattle.ix_embedding.specs.declared.failure.Failure.{Failure}
@@ -29,7 +29,7 @@ filled meant fails content before after Known made is = absurd made
 filled meant fails content before after NoCid made is = absurd made
 filled meant fails content before after Range made is = absurd made
 
--- a refusal, or want of memory
+-- an error, or lack of memory
 pub refused : (meant : Held → Type 0) (fails : Failure → Type 0) (failure : Failure) (before after : Option Held) (status : Status) → IsRefused failure before after status → fails failure → IsMade meant fails before after status
 refused meant fails (failures.Refused line) before after Done made told = absurd made
 refused meant fails (failures.Refused line) before after Memory made told = made

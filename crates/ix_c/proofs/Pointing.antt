@@ -43,12 +43,14 @@ abbrev pub one : Val → Val
 one v = vstruct (vcons v vnil)
 
 module _ {M : Type 1} {𝓤 : Ura M} {𝓛 : Logic 𝓤} {K : Type 0} {Γ : List (Item 𝓤)} {G : Goal 𝓤 𝓛.H} where
+  -- how a pointer that may be empty is read from memory
   pub pointed_in : K → (p : Ptr) (x : Option (Held.Denot))
       → Step K 𝓛 (‵ (Pointed.own_val (record { at = p; value = x }) (one (ptr_val p) ∷ [])) ∷ Γ) G (‵ (held Held p x) ∷ Γ) G
   pointed_in t p x = step (λ s. let v : Val = one (ptr_val p) in
       nothing t $ feq_i t (List Val) (ptr_val p ∷ []) (ptr_val p ∷ []) refl $ fjoin t $ feq_i t (List Val) (v ∷ []) (v ∷ []) refl $ fjoin t $
       fpack t (Valss (RawPtr ∷ [])) (within (shape pointed.the_type) (p, tt) (v ∷ [])) (ptr_val p ∷ [], tt) $ fjoin t $ s)
 
+  -- how a pointer that may be empty is written to memory
   pub pointed_out : K → (d : Pointed.Denot) (vs : List Val)
       → (vs ≡ one (ptr_val d.at) ∷ [] → Seq K 𝓛 (‵ (held Held d.at d.value) ∷ Γ) G)
       → Seq K 𝓛 (‵ (Pointed.own_val d vs) ∷ Γ) G
@@ -56,12 +58,14 @@ module _ {M : Type 1} {𝓤 : Ura M} {𝓛 : Logic 𝓤} {K : Type 0} {Γ : List
       fsplit t $ fpick t (λ vss. fsplit t $ feq_l t (λ ev. fsplit t $ feq_l t (λ ep. drop t $
       k (subst (λ (ps : List Val). vs ≡ vstruct (of_list (ps ++ [])) ∷ []) ep ev))))
 
+  -- how a box is read as its raw pointer
   pub loose_in : K → (b o : ℕ) (a : Global.Denot) (x : Held.Denot)
       → Step K 𝓛 (‵ (Loose.own_val (record { at = block_ptr b o; alloc = a; value = x }) (both (vptr b o) heap_val ∷ [])) ∷ Γ) G (‵ (box_owns may_free Held (block_ptr b o) x) ∷ ‵ (Global.own_val a (heap_val ∷ [])) ∷ Γ) G
   loose_in t b o a x = step (λ s. let v : Val = both (vptr b o) heap_val in
       nothing t $ move t (2 ∷ 0 ∷ []) $ fjoin t $ feq_i t (List Val) (vptr b o ∷ []) (vptr b o ∷ []) refl $ fjoin t $ feq_i t (List Val) (v ∷ []) (v ∷ []) refl $ fjoin t $
       fpack t (Valss (RawPtr ∷ Global ∷ [])) (within (shape (loose.the_type Held Global heap.ghosts)) (block_ptr b o, (a, tt)) (v ∷ [])) (vptr b o ∷ [], (heap_val ∷ [], tt)) $ fjoin t $ s)
 
+  -- how a raw pointer is written
   pub loose_out : K → (d : Loose.Denot) (vs : List Val)
       → ((b o : ℕ) → d.at ≡ block_ptr b o → vs ≡ both (vptr b o) heap_val ∷ [] → Seq K 𝓛 (‵ (box_owns may_free Held (block_ptr b o) d.value) ∷ Γ) G)
       → Seq K 𝓛 (‵ (Loose.own_val d vs) ∷ Γ) G

@@ -1,4 +1,4 @@
--- What the calls of the C library answer, and what stands in their handles after.
+-- What the calls of the C library answer, and what is in their handles after.
 use Rattle.std.specs.Prelude.{◌≡◌, ◌≢◌, ℕ, true, List, [], ◌∷◌, ◌++◌, Option, Some, None, Result, Ok, Err}
 use Rattle.std.specs.Global.{Vec, Global}
 use Rattle.std_alloc.specs.declared.arc.Arc.{Arc}
@@ -37,7 +37,7 @@ abbrev pub Told : (Status → Type 0) → ℕ → Type 0
 Told says number = (status : Status) × (number ≡ code_of status) × says status
 
 -- What a handle holds before and after a call that makes something out of its input: it holds one of those that are
--- meant; or nothing is changed, for want of memory; or it holds the line of a refusal.
+-- meant; or nothing is changed, for lack of memory; or it holds the line of an error.
 abbrev pub IsMade : (Held → Type 0) → (Failure → Type 0) → Option Held → Option Held → Status → Type 0
 IsMade meant fails before after Done = (content : Held) × (after ≡ Some content) × meant content
 IsMade meant fails before after Memory = after ≡ before
@@ -48,13 +48,13 @@ IsMade meant fails before after Known = ⊥
 IsMade meant fails before after NoCid = ⊥
 IsMade meant fails before after Range = ⊥
 
--- a handle holds this after a call that fills it, or nothing is changed, for want of memory
+-- a handle holds this after a call that fills it, or nothing is changed, for lack of memory
 abbrev pub IsFilled : Held → Option Held → Option Held → Status → Type 0
 IsFilled content before after Done = after ≡ Some content
 IsFilled content before after Memory = after ≡ before
 IsFilled content before after other = ⊥
 
--- the same of the line of a refusal
+-- the same of the line of an error
 abbrev pub IsRefused : Failure → Option Held → Option Held → Status → Type 0
 IsRefused (failures.Refused line) before after Refused = after ≡ Some (held.Refusal line)
 IsRefused failure before after Memory = after ≡ before
@@ -100,7 +100,7 @@ IsJobOfParts roots selector limit (held.Exported out) = ⊥
 IsJobOfParts roots selector limit (held.Text text) = ⊥
 IsJobOfParts roots selector limit (held.Refusal line) = ⊥
 
--- the hexadecimal of the selector of a JSON text
+-- the hex of the selector of a JSON text
 abbrev pub IsSelectorTextOf : List ℕ → Held → Type 0
 IsSelectorTextOf json (held.Text hex) = IsSelectorHex json (hex.items ++ 10 ∷ [])
 IsSelectorTextOf json (held.Open store) = ⊥
@@ -122,7 +122,7 @@ IsExportOf blocks job (held.Refusal line) = ⊥
 abbrev pub IsNoFailure : Failure → Type 0
 IsNoFailure failure = ⊥
 
--- an open store that has been handed a block, of which this was told
+-- an open store that has been handed a block, of which this was reported
 abbrev pub HasAddedAs : Added → List ℕ → List ℕ → Option Held → Option Held → Type 0
 HasAddedAs told cid block before after =
     (old : Blocks) × (new : Blocks) × (before ≡ Some (held.Open old)) × (after ≡ Some (held.Open new))
@@ -132,7 +132,7 @@ HasAddedAs told cid block before after =
 abbrev pub IsNoOpen : Option Held → Type 0
 IsNoOpen content = (store : Blocks) → content ≢ Some (held.Open store)
 
--- what a call answers that adds a block to an open store
+-- what a call returns that adds a block to an open store
 abbrev pub HasAddedTo : List ℕ → List ℕ → Option Held → Option Held → Status → Type 0
 HasAddedTo cid block before after Done = HasAddedAs added.New cid block before after
 HasAddedTo cid block before after Known = HasAddedAs added.Known cid block before after
@@ -142,7 +142,7 @@ HasAddedTo cid block before after Handle = (after ≡ before) × IsNoOpen before
 HasAddedTo cid block before after Refused = ⊥
 HasAddedTo cid block before after Range = ⊥
 
--- what a call answers that freezes an open store
+-- what a call returns that freezes an open store
 abbrev pub HasFrozen : Option Held → Option Held → Status → Type 0
 HasFrozen before after Done =
     (store : Blocks) × (frozen : Held) × (before ≡ Some (held.Open store)) × (after ≡ Some frozen)
@@ -158,7 +158,7 @@ HasFrozen before after Range = ⊥
 abbrev pub IsNoJob : Option Held → Type 0
 IsNoJob content = (job : JobMeaning) → content ≢ Some (held.Job job)
 
--- what a call answers that has a job go into each CID once
+-- what a call returns that makes a job expand each CID once
 abbrev pub HasOnce : Option Held → Option Held → Status → Type 0
 HasOnce before after Done =
     (job : JobMeaning) × (before ≡ Some (held.Job job)) × (after ≡ Some (held.Job (going_in true job)))
@@ -179,7 +179,7 @@ abbrev pub HoldsExport : Blocks → JobMeaning → Option Held → Type 0
 HoldsExport store job None = ⊥
 HoldsExport store job (Some content) = IsExportOf store job content
 
--- what a call answers that makes one more handle of a frozen store
+-- what a call returns that makes one more handle of a frozen store
 abbrev pub HasShared : Option Held → Option Held → Option Held → Status → Type 0
 HasShared store before after Done = (blocks : Blocks) × HoldsFrozen blocks store × HoldsFrozen blocks after
 HasShared store before after Memory = after ≡ before
@@ -194,7 +194,7 @@ abbrev pub AreNoneToExport : Option Held → Option Held → Type 0
 AreNoneToExport store job =
     (blocks : Blocks) (wanted : JobMeaning) → HoldsFrozen blocks store → job ≢ Some (held.Job wanted)
 
--- what a call answers that exports a job over a frozen store
+-- what a call returns that exports a job over a frozen store
 abbrev pub IsExported : Option Held → Option Held → Option Held → Option Held → Status → Type 0
 IsExported store job before after Done =
     (blocks : Blocks) × (wanted : JobMeaning) × HoldsFrozen blocks store × (job ≡ Some (held.Job wanted))

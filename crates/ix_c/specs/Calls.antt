@@ -1,4 +1,4 @@
--- What each call answers, by what its handles hold before and after it.
+-- What each call returns, by the contents of its handles before and after it.
 use Rattle.std.specs.Prelude.{◌≡◌, ℕ, List, [], length, Option, Some, None, Result}
 use Rattle.ix_embedding.specs.declared.failure.Failure.{Failure}
 use Rattle.ix_embedding.specs.declared.held.Held.{Held}
@@ -51,7 +51,7 @@ IsEmptied handle = content handle ≡ None
 abbrev pub Stays : Handle → Handle → Type 0
 Stays before after = content after ≡ content before
 
--- fills a handle with something that is meant, or with the line of a refusal
+-- fills a handle with something that is meant, or with the line of an error
 abbrev pub Fills : (Held → Type 0) → (Failure → Type 0) → Handle → Handle → Status → Type 0
 Fills meant fails before after = IsMade meant fails (content before) (content after)
 
@@ -95,7 +95,7 @@ pub record ExportsTo (store store_after job job_after out out_after : Handle) (s
   pub store_stays : Stays store store_after
   pub job_stays : Stays job job_after
 
--- tells of what is found in a handle, which holds what it held
+-- says of what is found in a handle, which holds what it held
 abbrev pub Tells : {A : Type 0} → (Option Held → Result A Status) → Handle → Handle → A → A → Status → Type 0
 Tells meant before after had told status = IsTold (meant (content before)) had told status × Stays before after
 
@@ -120,7 +120,7 @@ TellsReportLength = TellsLength (Some Report)
 abbrev pub TellsPartLength : ℕ → Handle → Handle → ℕ → ℕ → Status → Type 0
 TellsPartLength number = TellsLength (part_numbered number)
 
--- how long the line of a refusal is
+-- how long the line of an error is
 abbrev pub TellsLineLength : Handle → Handle → ℕ → ℕ → Status → Type 0
 TellsLineLength = Tells (λ content. of_found length (line_in content))
 
@@ -131,7 +131,7 @@ TellsSkip number = Tells (λ content. of_found skip_of (skip_in number content))
 abbrev pub TellsCidLength : ℕ → Handle → Handle → ℕ → ℕ → Status → Type 0
 TellsCidLength number = Tells (λ content. of_found cid_length (skip_in number content))
 
--- tells how many bytes of the part with a number are copied into a buffer, from a place on
+-- reports how many bytes of the part with a number are copied into a buffer, from a place on
 abbrev pub IsCounted : ℕ → ℕ → List ℕ → Handle → ℕ → ℕ → Status → Type 0
 IsCounted part from buffer handle =
     IsTold (of_found (count_copied from buffer) (bytes_in (part_numbered part) (content handle)))

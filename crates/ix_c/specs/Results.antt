@@ -1,4 +1,4 @@
--- What the calls of the C library tell of what a handle holds.
+-- What the calls of the C library return of a handle's contents.
 use Rattle.std.specs.Prelude.{◌≡◌, ◌≢◌, ◌==◌, if◌then◌else◌, ℕ, List, ◌++◌, length, take, drop, slice_get}
 use Rattle.std.specs.Prelude.{Option, Some, None, Result, Ok, Err}
 use Rattle.ix_archive.specs.declared.archive.Skip.{Skip}
@@ -41,7 +41,7 @@ part_numbered n =
     if n == 0 then Some parts.Archive else
     (if n == 1 then Some parts.Report else (if n == 2 then Some parts.Text else None))
 
--- What is told of an export: how the job ended, and what was counted;
+-- What is reported of an export: how the job ended, and what was counted;
 abbrev pub end_of : Exported → ℕ
 end_of out = end_code out.result.end
 
@@ -94,18 +94,18 @@ bytes_in None content = Err Range
 bytes_in (Some part) None = Err Handle
 bytes_in (Some part) (Some content) = bytes_of part content
 
--- the line of a refusal, and no other text
+-- the line of an error, and no other text
 abbrev pub line_in : Option Held → Result (List ℕ) Status
 line_in (Some (held.Refusal line)) = Ok line.items
 line_in content = Err Handle
 
--- what is told of what was found
+-- the report on what was found
 abbrev pub of_found : {X A : Type 0} → (X → A) → Result X Status → Result A Status
 of_found tell (Ok found) = Ok (tell found)
 of_found tell (Err why) = Err why
 
--- this is told: the call is done, and it stands where it was wanted; or nothing is: the call answers why, and what
--- stood there is left
+-- this is reported: the call is done, and it stands where it was wanted; or nothing is: the call answers why, and what
+-- was there is left
 abbrev pub IsTold : {A : Type 0} → Result A Status → A → A → Status → Type 0
 IsTold (Ok told) before after status = (status ≡ Done) × (after ≡ told)
 IsTold (Err why) before after status = (status ≡ why) × (after ≡ before)
@@ -114,7 +114,7 @@ IsTold (Err why) before after status = (status ≡ why) × (after ≡ before)
 abbrev pub IsLeft : {A : Type 0} → A → A → Status → Type 0
 IsLeft before after status = status ≢ Done → after ≡ before
 
--- where bytes stand that were found, known by how many they are; where a skip does, known by what is told of it too
+-- where bytes stand that were found, known by how many they are; where a skip does, known by what is reported of it too
 abbrev pub IsPlaced : Result (List ℕ) Status → Result BytesPlace Status → Type 0
 IsPlaced found place = of_found (λ p. p.length) place ≡ of_found length found
 

@@ -1,4 +1,4 @@
-//! An export.
+//! The call that exports.
 
 ghost use Rattle.ix_c.specs.Answers.{IsExportedOf};
 ghost use Rattle.ix_c.specs.Calls.{ExportsTo};
@@ -9,7 +9,7 @@ use crate::status::Status;
 use ix_embedding::{Exported, Held, export};
 use std::alloc::{AllocError, Global};
 
-/// Fills a handle with what an export of a job over a frozen store leaves.
+/// Fills a handle with the result of an export of a job over a frozen store.
 pub(crate) fn export_into(
     alloc: Global,
     store: &mut Handle,
@@ -38,7 +38,7 @@ pub(crate) fn export_into(
     }
 }
 
-// What an export leaves, if these are a frozen store and a job.
+// Returns the result of an export, if these are a frozen store and a job.
 fn exported(alloc: Global, store: &Held, job: &Held) -> Option<Result<Exported, AllocError>>
     ensures { IsExportedOf store.now job.now result }
 {

@@ -1,4 +1,4 @@
-//! What a call leaves in the handle that it fills.
+//! Fills the handles of calls.
 
 ghost use Rattle.std.specs.Prelude.{◌≡◌, Some, OnOk, OnErr};
 ghost use Rattle.ix_c.specs.Answers.{IsFilled, IsRefused};
@@ -8,8 +8,7 @@ use crate::status::Status;
 use ix_embedding::{Failure, Held};
 use std::alloc::{AllocError, Global};
 
-/// Fills a handle with this, in place of what it held. Where there is no memory for it, the handle is as it
-/// was.
+/// Fills a handle with this and drops what it had. If memory runs out, the handle is unchanged.
 pub(crate) fn fill(alloc: Global, handle: &mut Handle, held: Held) -> Result<(), AllocError>
     ensures ok { OnOk result (handle.new.pointed.value ≡ Some held) }
     ensures err { OnErr result (handle.new.pointed.value ≡ handle.old.pointed.value) }
@@ -23,7 +22,7 @@ pub(crate) fn fill(alloc: Global, handle: &mut Handle, held: Held) -> Result<(),
     }
 }
 
-/// The same, with what a call answers then.
+/// Fills a handle in the same way, and returns the status.
 pub(crate) fn fill_with(alloc: Global, handle: &mut Handle, held: Held) -> Status
     ensures { IsFilled held handle.old.pointed.value handle.new.pointed.value result }
 {
@@ -33,7 +32,7 @@ pub(crate) fn fill_with(alloc: Global, handle: &mut Handle, held: Held) -> Statu
     }
 }
 
-/// Fills a handle with the line of a refusal, or says that memory ran out.
+/// Fills a handle with the line of an error, or returns that memory ran out.
 pub(crate) fn refuse(alloc: Global, handle: &mut Handle, failure: Failure) -> Status
     ensures { IsRefused failure handle.old.pointed.value handle.new.pointed.value result }
 {

@@ -12,7 +12,7 @@ use ix_embedding::Held;
 use std::alloc::Global;
 use std::mem;
 
-/// A handle as C has it: whether it holds something, and a pointer to that.
+/// A handle as C has it: whether it has contents, and a pointer to them.
 #[repr(C)]
 pub struct Handle {
     is_held: bool,
@@ -20,7 +20,7 @@ pub struct Handle {
     ghost told: { is_held ≡ is_some pointed.value },
 }
 
-// Whatever a handle holds may go to another thread.
+// The contents of a handle may be sent to another thread.
 fn sent<T: Send>(value: T) -> T
     ensures { result ≡ value }
 {
@@ -58,7 +58,7 @@ impl Handle {
         }
     }
 
-    /// Takes out what the handle holds, which leaves it empty.
+    /// Takes the contents out of the handle, which is then empty.
     pub(crate) fn take(&mut self, alloc: Global) -> Option<Box<Held>>
         ensures some { IfSome result (λ held. self.old.pointed.value ≡ Some held.value) }
         ensures none { IfNone result (self.old.pointed.value ≡ None) }
@@ -67,14 +67,14 @@ impl Handle {
         mem::replace(self, Handle::empty()).into_box(alloc)
     }
 
-    /// Has the handle hold this, in place of what it held, which is let go of.
+    /// Replaces the contents of the handle, which are dropped.
     pub(crate) fn put(&mut self, alloc: Global, held: Box<Held>)
         ensures { self.new.pointed.value ≡ Some held.value }
     {
         mem::replace(self, Handle::of(held)).into_box(alloc);
     }
 
-    /// What is read of what the handle holds, which stays there. Of an empty one nothing is.
+    /// Reads the contents of the handle, which stay there. An empty one has nothing to read.
     pub(crate) fn read<T: Drop, F: FnOnce(&Held) -> Result<T, Status>>(
         &mut self,
         alloc: Global,

@@ -1,4 +1,4 @@
-//! What comes in: stores, jobs and selectors.
+//! The calls that fill handles with stores, jobs and selectors.
 
 ghost use Rattle.ix_c.specs.Calls.{
   FillsWithNoBlocks,
@@ -58,7 +58,7 @@ pub(crate) fn job_new(
     }
 }
 
-/// Fills a handle with the hexadecimal of the selector of a JSON text.
+/// Fills a handle with the hex of the selector of a JSON text.
 pub(crate) fn selector_from_json(alloc: Global, text: &mut Handle, json: &[u8]) -> Status
     ensures { FillsWithSelectorOf json.now text.old text.new result }
 {

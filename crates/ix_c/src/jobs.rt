@@ -1,4 +1,4 @@
-//! What is done with a job.
+//! The calls on a job.
 
 ghost use Rattle.std.specs.Prelude.{Some};
 ghost use Rattle.ix_c.specs.Answers.{HasOnce};
@@ -9,7 +9,7 @@ use crate::status::Status;
 use ix_embedding::Held;
 use std::alloc::Global;
 
-/// Has a job go into each CID once, and not at every arrival.
+/// Makes a job expand each CID once, and not at every link.
 pub(crate) fn once(alloc: Global, job: &mut Handle) -> Status
     ensures { MakesOnce job.old job.new result }
 {
@@ -23,7 +23,7 @@ pub(crate) fn once(alloc: Global, job: &mut Handle) -> Status
     status
 }
 
-// The same, which goes in once if it is a job.
+// Returns the contents; if they are a job, it expands each CID once.
 fn once_of(held: Held) -> (Held, Status)
     ensures { HasOnce (Some held) (Some result.0) result.1 }
 {

@@ -1,8 +1,8 @@
 //! The exporter for C: a static library, whose header is `include/ix_export.h`.
 //!
-//! Each call answers the number of a `Status`. It works on handles that C keeps, each a struct of two
-//! fields, and starts no thread, waits for nothing and ends no process. A frozen store is shared by as
-//! many handles as there are threads. Where a call isn't done, what its pointers lead to is left.
+//! Each call returns the number of a `Status`. It works on handles that C owns, each a struct of two
+//! fields. It starts no thread, never waits and never ends the process. A frozen store is shared by as
+//! many handles as there are threads. A call that isn't done leaves what its pointers lead to unchanged.
 #![tactic(auto)]
 
 ghost use Rattle.std.specs.Prelude.{◌≡◌};
@@ -50,7 +50,7 @@ use crate::results::{Counts, SkipTold, part_numbered};
 use ix_embedding::Part;
 use std::alloc::Global;
 
-/// The version of this interface: a number that grows where a call is added.
+/// Returns the version of this interface, which grows with each added call.
 #[unsafe(no_mangle)]
 pub extern "C" fn ix_version() -> u32
     ensures { result ≡ 2 }
@@ -58,7 +58,7 @@ pub extern "C" fn ix_version() -> u32
     2
 }
 
-/// Lets go of what a handle holds, which leaves it empty.
+/// Frees the contents of a handle, which is then empty.
 #[unsafe(no_mangle)]
 pub extern "C" fn ix_free(alloc: Global, handle: &mut Handle)
     ensures { IsEmptied handle.new }
@@ -66,7 +66,7 @@ pub extern "C" fn ix_free(alloc: Global, handle: &mut Handle)
     handle.take(alloc);
 }
 
-/// `ix_free`, of a store. The blocks go with the last of its handles.
+/// `ix_free` for a store. The blocks are freed with the last of its handles.
 #[unsafe(no_mangle)]
 pub extern "C" fn ix_store_free(alloc: Global, store: &mut Handle)
     ensures { IsEmptied store.new }
@@ -74,7 +74,7 @@ pub extern "C" fn ix_store_free(alloc: Global, store: &mut Handle)
     ix_free(alloc, store)
 }
 
-/// `ix_free`, of a job.
+/// `ix_free` for a job.
 #[unsafe(no_mangle)]
 pub extern "C" fn ix_job_free(alloc: Global, job: &mut Handle)
     ensures { IsEmptied job.new }
@@ -82,7 +82,7 @@ pub extern "C" fn ix_job_free(alloc: Global, job: &mut Handle)
     ix_free(alloc, job)
 }
 
-/// `ix_free`, of a result.
+/// `ix_free` for a result.
 #[unsafe(no_mangle)]
 pub extern "C" fn ix_result_free(alloc: Global, exported: &mut Handle)
     ensures { IsEmptied exported.new }
@@ -138,8 +138,8 @@ pub extern "C" fn ix_job_from_line(alloc: Global, job: &mut Handle, line: &[u8])
     inputs::job_from_line(alloc, job, line).code()
 }
 
-/// Fills a handle with the job that has these parts: the CIDs of its roots in binary, end to end, its selector as
-/// DAG-CBOR, and its limit of visits. Its name is `job`.
+/// Fills a handle with the job of these parts: the CIDs of its roots in binary, concatenated, its
+/// selector as DAG-CBOR, and its limit of visits. Its name is `job`.
 #[unsafe(no_mangle)]
 pub extern "C" fn ix_job_new(
     alloc: Global,
@@ -153,7 +153,7 @@ pub extern "C" fn ix_job_new(
     inputs::job_new(alloc, job, roots, selector, limit).code()
 }
 
-/// Has a job go into each CID once, and not at every arrival.
+/// Makes a job expand each CID once, and not at every link.
 #[unsafe(no_mangle)]
 pub extern "C" fn ix_job_once(alloc: Global, job: &mut Handle) -> u32
     ensures { Told (MakesOnce job.old job.new) result }
@@ -161,7 +161,7 @@ pub extern "C" fn ix_job_once(alloc: Global, job: &mut Handle) -> u32
     jobs::once(alloc, job).code()
 }
 
-/// Fills a handle with the hexadecimal of the selector of a JSON text, which is the last field of a job's line.
+/// Fills a handle with the hex of the selector of a JSON text, which is the last field of a job's line.
 #[unsafe(no_mangle)]
 pub extern "C" fn ix_selector_from_json(alloc: Global, text: &mut Handle, json: &[u8]) -> u32
     ensures { Told (FillsWithSelectorOf json.now text.old text.new) result }
@@ -169,7 +169,7 @@ pub extern "C" fn ix_selector_from_json(alloc: Global, text: &mut Handle, json: 
     inputs::selector_from_json(alloc, text, json).code()
 }
 
-/// Exports a job over a frozen store on the caller's thread, and fills a handle with what it leaves.
+/// Exports a job over a frozen store on the caller's thread, and fills a handle with the result.
 #[unsafe(no_mangle)]
 pub extern "C" fn ix_export(
     alloc: Global,
@@ -182,7 +182,7 @@ pub extern "C" fn ix_export(
     exporting::export_into(alloc, store, job, out).code()
 }
 
-/// How the job of a result ended.
+/// Returns how the job of a result ended.
 #[unsafe(no_mangle)]
 pub extern "C" fn ix_result_end(alloc: Global, handle: &mut Handle, end: &mut u32) -> u32
     ensures { Told (TellsEnd handle.old handle.new end.old end.new) result }
@@ -190,7 +190,7 @@ pub extern "C" fn ix_result_end(alloc: Global, handle: &mut Handle, end: &mut u3
     results::result_end(alloc, handle, end).code()
 }
 
-/// How a job ended, and what was counted.
+/// Returns how a job ended, and its counts.
 #[unsafe(no_mangle)]
 pub extern "C" fn ix_result_counts(alloc: Global, handle: &mut Handle, counts: &mut Counts) -> u32
     ensures { Told (TellsCounts handle.old handle.new counts.old counts.new) result }
@@ -198,7 +198,7 @@ pub extern "C" fn ix_result_counts(alloc: Global, handle: &mut Handle, counts: &
     results::result_counts(alloc, handle, counts).code()
 }
 
-/// Where the archive of a result begins and how long it is.
+/// Returns the address and length of a result's archive.
 #[unsafe(no_mangle)]
 pub extern "C" fn ix_result_archive(
     alloc: Global,
@@ -212,7 +212,7 @@ pub extern "C" fn ix_result_archive(
     results::bytes(alloc, handle, Some(Part::Archive), archive, length).code()
 }
 
-/// A skip of a result by its number, from 0, and where its CID begins and how long it is.
+/// Returns a skip of a result by its number, from 0, with the address and length of its CID.
 #[unsafe(no_mangle)]
 pub extern "C" fn ix_result_skip(
     alloc: Global,
@@ -229,7 +229,7 @@ pub extern "C" fn ix_result_skip(
     results::result_skip(alloc, handle, number, skip, cid, length).code()
 }
 
-/// Where the report of a result begins and how long it is.
+/// Returns the address and length of a result's report.
 #[unsafe(no_mangle)]
 pub extern "C" fn ix_result_report(
     alloc: Global,
@@ -243,7 +243,7 @@ pub extern "C" fn ix_result_report(
     results::bytes(alloc, handle, Some(Part::Report), report, length).code()
 }
 
-/// Where the line of a refusal begins and how long it is.
+/// Returns the address and length of the line of an error.
 #[unsafe(no_mangle)]
 pub extern "C" fn ix_fault_line(
     alloc: Global,
@@ -257,7 +257,7 @@ pub extern "C" fn ix_fault_line(
     results::fault_line(alloc, handle, line, length).code()
 }
 
-/// Where a part of what a handle holds begins and how long it is: the archive, the report, or a text.
+/// Returns the address and length of a part of a handle's contents: the archive, the report, or a text.
 #[unsafe(no_mangle)]
 pub extern "C" fn ix_bytes(
     alloc: Global,
@@ -272,7 +272,7 @@ pub extern "C" fn ix_bytes(
     results::bytes(alloc, handle, part_numbered(part), start, length).code()
 }
 
-/// Copies a part of what a handle holds into a buffer, from a place on and as far as there is room.
+/// Copies a part of a handle's contents into a buffer, from an offset, as far as there is room.
 #[unsafe(no_mangle)]
 pub extern "C" fn ix_copy(
     alloc: Global,

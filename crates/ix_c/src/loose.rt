@@ -1,4 +1,4 @@
-//! A box as its pointer.
+//! A box as its raw pointer.
 ghost use Rattle.std.specs.Prelude.{◌≡◌};
 ghost use Rattle.std_alloc.specs.Box.Ownership.{box_owns};
 

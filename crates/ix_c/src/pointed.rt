@@ -15,7 +15,7 @@ use std::ptr;
 /// Nothing, or a boxed value that the pointer leads to and that this owns. C has it as a pointer that it
 /// neither reads nor writes.
 ///
-/// Letting go of one frees nothing, so it is let go of only where it has nothing.
+/// Dropping one frees nothing, so it is dropped only when it is empty.
 #[repr(C)]
 #[derive(Drop)]
 pub struct Pointed {

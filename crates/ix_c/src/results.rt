@@ -1,4 +1,4 @@
-//! What a handle holds, as C reads it.
+//! The contents of a handle, as C reads them.
 
 ghost use Rattle.std.specs.Prelude.{◌≡◌, Some, Ok, length};
 ghost use denote.RawPtr.{block_ptr};
@@ -42,25 +42,25 @@ use ix_check::Verdict;
 use ix_embedding::{Exported, Held, Part};
 use std::alloc::Global;
 
-/// What is told of a job.
+/// The report on a job.
 #[repr(C)]
 #[derive(Debug, Drop, Clone, Copy, PartialEq, Eq)]
 pub struct Counts {
     /// How it ended: 0 done, 1 limit, 2 memory, 3 write, 4 start.
     pub end: u32,
-    /// Arrivals at links, the roots included.
+    /// Visits: links, the roots included.
     pub visits: u32,
-    /// Those that don't lie below what is damaged or skipped.
+    /// Visits that aren't below what is damaged or skipped.
     pub kept: u32,
     /// Blocks in the archive.
     pub sections: u32,
     /// The length of the archive in bytes.
     pub bytes: u64,
-    /// How many visits were skipped.
+    /// The number of skipped visits.
     pub skips: u64,
 }
 
-/// A visit that was skipped.
+/// A skipped visit.
 #[repr(C)]
 #[derive(Debug, Drop, Clone, Copy, PartialEq, Eq)]
 pub struct SkipTold {
@@ -70,7 +70,7 @@ pub struct SkipTold {
     pub why: u32,
 }
 
-// The number that C has for an end.
+// Returns the number of an end in C.
 fn end_code(end: End) -> u32
     ensures { result ≡ end_code end }
 {
@@ -83,7 +83,7 @@ fn end_code(end: End) -> u32
     }
 }
 
-// The number that C has for why a visit was skipped. What passes is none.
+// Returns the number in C of the reason of a skip. A good verdict is none.
 fn why_code(verdict: Verdict) -> u32
     ensures { result ≡ why_code verdict }
 {
@@ -98,7 +98,7 @@ fn why_code(verdict: Verdict) -> u32
     }
 }
 
-/// The part that has this number in C.
+/// Returns the part with this number in C.
 pub(crate) fn part_numbered(number: u32) -> Option<Part>
     ensures { result ≡ part_numbered number }
 {
@@ -110,7 +110,7 @@ pub(crate) fn part_numbered(number: u32) -> Option<Part>
     }
 }
 
-// Where bytes begin, and how many they are.
+// The address of bytes, and their number.
 #[derive(Drop)]
 struct BytesPlace {
     start: *const u8,
@@ -127,14 +127,14 @@ fn place_of(bytes: &[u8]) -> BytesPlace
     }
 }
 
-// A visit that was skipped, and where its CID stands.
+// A skipped visit, and the address of its CID.
 #[derive(Drop)]
 struct SkipPlace {
     told: SkipTold,
     cid: BytesPlace,
 }
 
-// Has what is told stand where it is wanted, or leaves that, and answers what came of it.
+// Writes a value to its address, or leaves it, and returns the status.
 fn tell<T: Drop>(told: Result<T, Status>, wanted: &mut T) -> Status
     ensures { IsTold told wanted.old wanted.new result }
 {
@@ -147,7 +147,7 @@ fn tell<T: Drop>(told: Result<T, Status>, wanted: &mut T) -> Status
     }
 }
 
-// The same of where bytes begin and how many they are.
+// Writes the address and length of bytes in the same way.
 fn tell_place(
     found: Result<BytesPlace, Status>,
     start: &mut *const u8,
@@ -167,8 +167,8 @@ fn tell_place(
     }
 }
 
-/// Where the bytes of a part begin and how many they are, if there is such a part. They stay there until the
-/// handle is filled or freed.
+/// Returns the address and length of a part, if there is one. The bytes stay there until the handle is
+/// filled or freed.
 pub(crate) fn bytes(
     alloc: Global,
     handle: &mut Handle,
@@ -189,7 +189,7 @@ pub(crate) fn bytes(
     )
 }
 
-// Where the bytes of a part begin and how many they are, if there is such a one.
+// Returns the address and length of a part, if there is one.
 fn bytes_of(held: &Held, part: Part) -> Result<BytesPlace, Status>
     ensures { IsPlaced (bytes_of part held.now) result }
 {
@@ -199,7 +199,7 @@ fn bytes_of(held: &Held, part: Part) -> Result<BytesPlace, Status>
     }
 }
 
-/// Where the line of a refusal begins and how long it is. A handle that holds another text has none.
+/// Returns the address and length of the line of an error. A handle with another text has none.
 pub(crate) fn fault_line(
     alloc: Global,
     handle: &mut Handle,
@@ -212,7 +212,7 @@ pub(crate) fn fault_line(
     tell_place(handle.read(alloc, line_of), line, length)
 }
 
-// Where the line of a refusal begins and how long it is, if this is one.
+// Returns the address and length of the line of an error, if this is one.
 fn line_of(held: &Held) -> Result<BytesPlace, Status>
     ensures { IsPlaced (line_in (Some held.now)) result }
 {
@@ -222,7 +222,7 @@ fn line_of(held: &Held) -> Result<BytesPlace, Status>
     }
 }
 
-/// Copies bytes of a part from a place on into a buffer, as many as there are and have room.
+/// Copies bytes of a part, from an offset, into a buffer, as many as there are and have room.
 pub(crate) fn copy(
     alloc: Global,
     handle: &mut Handle,
@@ -246,7 +246,7 @@ pub(crate) fn copy(
     tell(copied, count)
 }
 
-// Copies bytes of a part, if there is such a one, and says how many.
+// Copies bytes of a part, if there is one, and returns how many.
 fn copy_of(held: &Held, part: Part, from: usize, buffer: &mut [u8]) -> Result<usize, Status>
     ensures copied { HasCopied from (bytes_of part held.now) buffer.old buffer.new }
     ensures count { result ≡ of_found (count_copied from buffer.old) (bytes_of part held.now) }
@@ -257,7 +257,7 @@ fn copy_of(held: &Held, part: Part, from: usize, buffer: &mut [u8]) -> Result<us
     }
 }
 
-// Copies bytes from a place on, as many as there are and have room, and says how many.
+// Copies bytes, from an offset, as many as there are and have room, and returns how many.
 fn copy_from(bytes: &[u8], from: usize, buffer: &mut [u8]) -> usize
     ensures copied { HasCopied from (Ok bytes.now) buffer.old buffer.new }
     ensures count { result ≡ count_copied from buffer.old bytes.now }
@@ -270,14 +270,14 @@ fn copy_from(bytes: &[u8], from: usize, buffer: &mut [u8]) -> usize
     count
 }
 
-/// How a job that was exported ended.
+/// Returns how an exported job ended.
 pub(crate) fn result_end(alloc: Global, handle: &mut Handle, end: &mut u32) -> Status
     ensures { TellsEnd handle.old handle.new end.old end.new result }
 {
     tell(handle.read(alloc, end_of), end)
 }
 
-// How a job ended, if this is what an export left.
+// Returns how a job ended, if this is the result of an export.
 fn end_of(held: &Held) -> Result<u32, Status>
     ensures { result ≡ of_found end_of (export_in (Some held.now)) }
 {
@@ -287,14 +287,14 @@ fn end_of(held: &Held) -> Result<u32, Status>
     }
 }
 
-/// What is told of a job that was exported.
+/// Returns the report on an exported job.
 pub(crate) fn result_counts(alloc: Global, handle: &mut Handle, counts: &mut Counts) -> Status
     ensures { TellsCounts handle.old handle.new counts.old counts.new result }
 {
     tell(handle.read(alloc, counts_of), counts)
 }
 
-// What is told of a job, if this is what an export left.
+// Returns the report on a job, if this is the result of an export.
 fn counts_of(held: &Held) -> Result<Counts, Status>
     ensures { result ≡ of_found counts_of (export_in (Some held.now)) }
 {
@@ -304,7 +304,7 @@ fn counts_of(held: &Held) -> Result<Counts, Status>
     }
 }
 
-// What is told of a job.
+// Makes the report on a job.
 fn counts_told(out: &Exported) -> Counts
     ensures { result ≡ counts_of out.now }
 {
@@ -319,7 +319,7 @@ fn counts_told(out: &Exported) -> Counts
     }
 }
 
-/// A visit that was skipped, by its number among the skips, and where its CID begins and how long it is.
+/// Returns a skipped visit by its number among the skips, with the address and length of its CID.
 pub(crate) fn result_skip(
     alloc: Global,
     handle: &mut Handle,
@@ -341,7 +341,7 @@ pub(crate) fn result_skip(
     }
 }
 
-// A visit that was skipped, if this is what an export left.
+// Returns a skipped visit, if this is the result of an export.
 fn skip_of(held: &Held, number: usize) -> Result<SkipPlace, Status>
     ensures { IsSkipPlaced (skip_in number (Some held.now)) result }
 {
@@ -354,7 +354,7 @@ fn skip_of(held: &Held, number: usize) -> Result<SkipPlace, Status>
     }
 }
 
-// What is told of a skip, and where its CID stands.
+// Makes the report on a skip, with the address of its CID.
 fn skip_place(skip: &Skip) -> SkipPlace
     ensures told { result.told ≡ skip_of skip.now }
     ensures length { result.cid.length ≡ cid_length skip.now }

@@ -1,20 +1,20 @@
-//! What a call answers.
+//! The statuses of calls.
 
 ghost use Rattle.std.specs.Prelude.{◌≡◌};
 ghost use Rattle.ix_c.specs.Answers.{code_of};
 
-/// What a call answers.
+/// The status that a call returns.
 #[derive(Debug, Drop, Clone, Copy, PartialEq, Eq)]
 pub enum Status {
-    /// It did what it is for.
+    /// Success.
     Done,
-    /// No memory was left, and nothing is changed.
+    /// Memory ran out, and nothing is changed.
     Memory,
-    /// The input is refused, and the handle that was to be filled holds the line that says why.
+    /// The input is rejected, and the handle to be filled has the line that says why.
     Refused,
-    /// A handle holds nothing, or something else than the call is for, and nothing is changed.
+    /// A handle is empty or has other contents than the call needs, and nothing is changed.
     Handle,
-    /// There is a block under the CID, which stays.
+    /// There is already a block under the CID, which stays.
     Known,
     /// The bytes are not one CID, and nothing is changed.
     NoCid,
@@ -23,7 +23,7 @@ pub enum Status {
 }
 
 impl Status {
-    /// The number that C has for it.
+    /// Returns the number of the status in C.
     pub(crate) fn code(self) -> u32
         ensures { result ≡ code_of self }
     {

@@ -1,4 +1,4 @@
-//! What is done with a store.
+//! The calls on a store.
 
 ghost use Rattle.std.specs.Prelude.{Some};
 ghost use Rattle.ix_c.specs.Answers.{HasAddedTo, HasFrozen, IsOwnerOf};
@@ -53,7 +53,7 @@ pub(crate) fn freeze(alloc: Global, store: &mut Handle) -> Status
     status
 }
 
-// The same, frozen if it is an open store.
+// Returns the contents, frozen if they are an open store.
 fn frozen_of(alloc: Global, held: Held) -> (Held, Status)
     ensures { HasFrozen (Some held) (Some result.0) result.1 }
 {
@@ -85,7 +85,7 @@ pub(crate) fn share(alloc: Global, store: &mut Handle, other: &mut Handle) -> St
     }
 }
 
-// One more owner, if this is a frozen store.
+// Returns one more owner, if this is a frozen store.
 fn owner_of(held: &Held) -> Option<Result<Arc<Store>, AllocError>>
     ensures { IsOwnerOf held.now result }
 {

@@ -8,7 +8,7 @@ use std::cmp::Ordering;
 use std::hash::{BuildHasher, BuildHasherDefault, FoldHasher};
 use std::sync::Arc;
 
-/// The CID that bytes in hexadecimal are.
+/// The CID that bytes in hex are.
 pub fn cid_of(alloc: Global, text: &str) -> Result<Cid> {
     let bytes = bytes_of_hex(alloc, text)?;
     whole_cid(alloc, bytes.as_slice(), text)
@@ -23,7 +23,7 @@ fn whole_cid(alloc: Global, bytes: &[u8], text: &str) -> Result<Cid> {
     }
 }
 
-/// The CIDs that bytes in hexadecimal are, with a comma between; `-` is none.
+/// The CIDs that bytes in hex are, with a comma between; `-` is none.
 pub fn cids_of(alloc: Global, texts: &str) -> Result<Vec<Cid>> {
     let mut cids = Vec::new(alloc);
     if texts == "-" {
@@ -44,7 +44,7 @@ pub fn text_of_cids(alloc: Global, cids: &[Cid]) -> Result<String, AllocError> {
     texts.join(alloc, ",")
 }
 
-/// CIDs in hexadecimal, with a comma between.
+/// CIDs in hex, with a comma between.
 pub fn hex_of_cids(alloc: Global, cids: &[Cid]) -> Result<String> {
     let mut texts = Vec::new(alloc);
     for cid in cids {
@@ -126,7 +126,7 @@ pub fn compared_cids(alloc: Global, input: &str) -> Result<String> {
     String::from_str(alloc, word_of(order)).map_err(Error::from)
 }
 
-// The order of a CID and one in hexadecimal.
+// The order of a CID and one in hex.
 fn order_of_word(alloc: Global, first: &Cid, second: &str) -> Result<Option<Ordering>> {
     let second = cid_of(alloc, second)?;
     Ok(order_of(first, &second))

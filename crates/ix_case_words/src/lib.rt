@@ -2,7 +2,7 @@
 //! that a word stands for takes the case's input and gives its answer, or an error for an input
 //! that says nothing.
 //!
-//! It promises nothing by contract: its answers are compared with those that the cases want.
+//! It has no contracts: its answers are compared with those that the cases expect.
 //!
 //! ```rust
 //! let answer = selectors::notation(alloc, "{\".\":{}}")?;

@@ -1,4 +1,4 @@
-//! Names of texts, which stand for them on the lines behind.
+//! Names of texts, which stand for them on the lines after.
 
 use anyhow::{Context, Result};
 use std::alloc::Global;
@@ -43,7 +43,7 @@ impl Names {
         Ok(out)
     }
 
-    // Appends what stands behind a `<`, up to the next.
+    // Appends what follows a `<`, up to the next.
     fn push_part(&self, out: &mut String, part: &str) -> Result<()> {
         let (inside, behind) = part.split_once('>').context("a `<` has no `>`")?;
         self.push_inside(out, inside)?;

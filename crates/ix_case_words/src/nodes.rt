@@ -82,7 +82,7 @@ fn close(open: &mut Vec<Open>, whole: &mut Option<Node>) -> Result<()> {
     place(open, whole, innermost.closed())
 }
 
-// A word without the comma or colon behind it.
+// A word without the comma or colon after it.
 fn without_mark(word: &str) -> &str {
     let word = word.strip_suffix(',').unwrap_or(word);
     word.strip_suffix(':').unwrap_or(word)

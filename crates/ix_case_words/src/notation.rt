@@ -2,7 +2,7 @@
 //!
 //! `null`, `true`, `false`, integers in decimal, `float'3ff8000000000000'` with the bits of a float,
 //! `h'00ff'`, `"text"` with each byte but the printable ones as `\x` and two digits, `[ 1, 2 ]`,
-//! `{ "a": 1 }`, and a link as `42(h'00...')` with its CID behind the `00`.
+//! `{ "a": 1 }`, and a link as `42(h'00...')` with its CID after the `00`.
 
 use ix_cbor::Node;
 use std::alloc::{AllocError, Global};
@@ -59,12 +59,12 @@ fn push_entries(
     out.push_str(" }")
 }
 
-// Appends what stands before a part with this number: a space, and a comma before it but at the first.
+// Appends what is before a part with this number: a space, and a comma before it but at the first.
 fn push_space(out: &mut String, number: usize) -> Result<(), AllocError> {
     out.push_str(if number == 0 { " " } else { ", " })
 }
 
-// Appends bytes in hexadecimal between two texts.
+// Appends bytes in hex between two texts.
 fn push_hex(
     alloc: Global,
     out: &mut String,

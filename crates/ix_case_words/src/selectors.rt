@@ -8,7 +8,7 @@ use ix_notation::{NotationFault, fault_line, hex_of_json, json_of_hex};
 use ix_selector::{Residual, SelFault, Selector, Step};
 use std::alloc::{AllocError, Global};
 
-/// The selector for which a block in hexadecimal, or a node in diagnostic notation, stands.
+/// The selector for which a block in hex, or a node in diagnostic notation, stands.
 pub fn selector_of(alloc: Global, text: &str) -> Result<Selector> {
     let tree = tree_of(alloc, text)?;
     match Selector::read(alloc, &tree) {
@@ -17,7 +17,7 @@ pub fn selector_of(alloc: Global, text: &str) -> Result<Selector> {
     }
 }
 
-// The tree of a block in hexadecimal, or of a node in diagnostic notation.
+// The tree of a block in hex, or of a node in diagnostic notation.
 fn tree_of(alloc: Global, text: &str) -> Result<Tree> {
     if text.starts_with('{') || text.starts_with('[') {
         return match Tree::new(node_of(alloc, text)?) {
@@ -46,7 +46,7 @@ fn text_of_reading(alloc: Global, tree: &Tree) -> Result<String, AllocError> {
     }
 }
 
-// Why a tree stands for no selector.
+// Returns why a tree is not a selector.
 fn fault_of(alloc: Global, tree: &Tree) -> Option<SelFault> {
     Selector::read(alloc, tree).err()
 }
@@ -61,7 +61,7 @@ pub fn notation_of(alloc: Global, input: &str) -> Result<String> {
     line_of(alloc, json_of_hex(alloc, input))
 }
 
-// The line that was printed, without its end, or that of the refusal.
+// The line that was printed, without its end, or that of the error.
 fn line_of(alloc: Global, printed: Result<String, NotationFault>) -> Result<String> {
     match printed {
         Ok(line) => match line.as_str().strip_suffix('\n') {
@@ -86,7 +86,7 @@ pub fn steps(alloc: Global, input: &str) -> Result<String> {
         .map_err(Error::from)
 }
 
-// Appends whether each step of a path is entered, up to the first that isn't, with a space behind it.
+// Appends whether each step of a path is entered, up to the first that isn't, with a space after it.
 fn push_steps(
     alloc: Global,
     answer: &mut String,

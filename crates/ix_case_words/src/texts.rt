@@ -3,7 +3,7 @@
 use anyhow::{Context, Error, Result, bail};
 use std::alloc::Global;
 
-/// The bytes that a text gives in hexadecimal; `-` and an empty text are no bytes.
+/// The bytes that a text gives in hex; `-` and an empty text are no bytes.
 pub fn bytes_of_hex(alloc: Global, text: &str) -> Result<Vec<u8>> {
     if text == "-" {
         return Ok(Vec::new(alloc));
@@ -11,7 +11,7 @@ pub fn bytes_of_hex(alloc: Global, text: &str) -> Result<Vec<u8>> {
     hex::decode(alloc, text).context(format_args!("no hexadecimal: {text}"))
 }
 
-/// Bytes in hexadecimal, where `-` are none.
+/// Bytes in hex, where `-` are none.
 pub fn hex_of(alloc: Global, bytes: &[u8]) -> Result<String> {
     if bytes.is_empty() {
         return String::from_str(alloc, "-").map_err(Error::from);
@@ -30,7 +30,7 @@ pub fn unescaped(alloc: Global, text: &str) -> Result<Vec<u8>> {
     Ok(bytes)
 }
 
-// Appends what a backslash and the part behind it are.
+// Appends what a backslash and the part after it are.
 fn push_unescaped(bytes: &mut Vec<u8>, part: &str) -> Result<()> {
     let (byte, behind) = match part.as_bytes() {
         [b'n', behind @ ..] => (b'\n', behind),
@@ -44,7 +44,7 @@ fn push_unescaped(bytes: &mut Vec<u8>, part: &str) -> Result<()> {
     Ok(())
 }
 
-// The byte of two hexadecimal digits.
+// The byte of two hex digits.
 fn byte_of_hex(digits: &[u8]) -> Result<u8> {
     let mut byte = [0u8];
     hex::decode_to_slice(digits, &mut byte)?;
@@ -66,7 +66,7 @@ pub fn escaped(alloc: Global, bytes: &[u8]) -> Result<String> {
     Ok(text)
 }
 
-/// The words before and behind the first space.
+/// The words before and after the first space.
 pub fn two_words(text: &str) -> Result<(&str, &str)> {
     text.split_once(' ').context("two words are wanted")
 }

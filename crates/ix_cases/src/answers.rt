@@ -1,4 +1,4 @@
-//! The words of cases, and the call that each stands for.
+//! The words of cases, and the call of each.
 
 use crate::example::Example;
 use crate::{jobs, runs, stores, walks};
@@ -8,7 +8,7 @@ use std::alloc::Global;
 use std::sync::Wait;
 use std::thread::Threads;
 
-/// What the call that a word stands for answers.
+/// Returns the answer of a word's call.
 pub fn answer<R: Threads + Wait + Sync>(
     rt: &R,
     alloc: Global,
@@ -42,7 +42,7 @@ pub fn answer<R: Threads + Wait + Sync>(
     }
 }
 
-// The same of the words that ask the example's store.
+// Returns the answer of the words about the example's store.
 fn answer_of_store(
     alloc: Global,
     example: &mut Example,

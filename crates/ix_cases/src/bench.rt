@@ -8,19 +8,19 @@ use std::alloc::{AllocError, Global};
 use std::sync::Wait;
 use std::thread::Threads;
 
-/// What comes of a line.
+/// The outcome of a line.
 #[derive(Drop)]
 pub enum Outcome {
-    /// The line sets something up, or says nothing.
+    /// The line sets something up, or is ignored.
     Nothing,
-    /// The answer is the one that is wanted.
+    /// The answer is the expected one.
     Agrees,
-    /// It isn't: what the user is told.
+    /// The answer differs: the text for the user.
     Differs(String),
 }
 
 impl Outcome {
-    /// What the user is told of a case that differs.
+    /// The text for the user about a case that differs.
     pub fn difference(&self) -> Option<&str> {
         match self {
             Outcome::Differs(text) => Some(text.as_str()),
@@ -29,7 +29,7 @@ impl Outcome {
     }
 }
 
-/// What lines have named and set up so far.
+/// The names and setup of the lines so far.
 #[derive(Drop)]
 pub struct Bench {
     alloc: Global,
@@ -47,12 +47,12 @@ impl Bench {
         })
     }
 
-    /// The name of the example in which the last line stood.
+    /// Returns the name of the last line's example.
     pub fn example_name(&self) -> &str {
         self.example.name()
     }
 
-    /// Obeys or answers a line. An empty line and one that begins with `#` say nothing, `let NAME
+    /// Runs a line. An empty line and one that begins with `#` say nothing, `let NAME
     /// TEXT` names a text, `example NAME` begins an example of which nothing is set up, and any other
     /// line sets something up or is a case, `WORD INPUT = WANTED`.
     pub fn outcome_of<R: Threads + Wait + Sync>(&mut self, rt: &R, line: &str) -> Result<Outcome> {
@@ -91,7 +91,7 @@ impl Bench {
         Ok(())
     }
 
-    // Compares what a case answers with what is wanted.
+    // Compares the answer of a case with the expected one.
     fn try_case<R: Threads + Wait + Sync>(&mut self, rt: &R, line: &str) -> Result<Outcome> {
         let (call, wanted) = line.split_once(" = ").context("no ` = `")?;
         let (word, input) = call.split_once(' ').unwrap_or((call, ""));
@@ -100,7 +100,7 @@ impl Bench {
     }
 }
 
-// What comes of a call with this answer.
+// Returns the outcome of a call with this answer.
 fn outcome_of_answer(
     alloc: Global,
     call: &str,
@@ -113,8 +113,8 @@ fn outcome_of_answer(
     Ok(Outcome::Differs(format!(in alloc; "{call}\n  wanted {wanted}\n  came   {answer}")?))
 }
 
-// Whether an answer is the one that is wanted. Where the text that is wanted ends with `..` the answer
-// goes on in any way.
+// Returns whether an answer is the expected one. If the expected text ends with `..`, the answer may
+// continue in any way.
 fn agrees(wanted: &str, answer: &str) -> bool {
     match wanted.strip_suffix("..") {
         Some(front) => answer.starts_with(front),

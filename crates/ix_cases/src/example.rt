@@ -1,4 +1,4 @@
-//! What the lines of an example set up for the calls behind them.
+//! The setup of an example, for the calls after its lines.
 
 use crate::walks::{MATCHER, job_of};
 use anyhow::{Context, Error, Result, bail};
@@ -11,30 +11,30 @@ use ix_store::Store;
 use ix_walk::Job;
 use std::alloc::Global;
 
-// The header of a CARv1 file without roots, in hexadecimal.
+// The header of a CARv1 file without roots, in hex.
 const HEADER: &str = "11a265726f6f7473806776657273696f6e01";
 
-// The root of each job of which something is told.
+// The root of each job in a report.
 const TOLD_ROOT: &str = "01550000";
 
-/// What the lines of an example set up.
+/// The setup of an example.
 #[derive(Drop)]
 pub struct Example {
     alloc: Global,
     name: String,
     /// The blocks of `add` and `car`.
     pub store: Store,
-    /// The CARv1 file, and below, each of its sections, in hexadecimal.
+    /// The CARv1 file, and below, each of its sections, in hex.
     car: String,
     sections: Vec<String>,
     /// The job file.
     pub jobs: String,
-    /// What is wanted of a run, job by job: how many bytes its writer takes, and its archive.
+    /// The expected outcome of a run, job by job: how many bytes its writer takes, and its archive.
     pub report: String,
     pub status: String,
     pub rooms: Vec<usize>,
     pub archives: Vec<Vec<u8>>,
-    /// What is told of jobs, for a report.
+    /// The results of jobs, for a report.
     pub told: Vec<Job>,
     pub results: Vec<JobResult>,
 }
@@ -107,7 +107,7 @@ impl Example {
         Ok(())
     }
 
-    // A header and the sections with these numbers, in hexadecimal.
+    // A header and the sections with these numbers, in hex.
     fn archive_of(&self, line: &str) -> Result<String> {
         let mut words = line.split(' ');
         let mut archive = String::from_str(self.alloc, words.next().unwrap_or(""))?;
@@ -117,13 +117,13 @@ impl Example {
         Ok(archive)
     }
 
-    // The section with this number, in hexadecimal.
+    // The section with this number, in hex.
     fn section(&self, number: &str) -> Result<&str> {
         let section = self.sections.get(number.parse::<usize>()?);
         Ok(section.context("no such section")?.as_str())
     }
 
-    // Adds what is told of a job: its name, its end and its counts.
+    // Adds the result of a job: its name, its end and its counts.
     fn add_result(&mut self, line: &str) -> Result<()> {
         let (name, result) = result_of(self.alloc, line)?;
         self.told
@@ -132,7 +132,7 @@ impl Example {
         Ok(())
     }
 
-    // Adds a skip to what is told of the last job.
+    // Adds a skip to the result of the last job.
     fn add_skip(&mut self, line: &str) -> Result<()> {
         let skip = skip_of(self.alloc, line)?;
         let result = self.results.last_mut().context("no job")?;
@@ -141,7 +141,7 @@ impl Example {
     }
 }
 
-// The name of a job, and what is told of it.
+// The name of a job, and its result.
 fn result_of(alloc: Global, line: &str) -> Result<(&str, JobResult)> {
     let words: Vec<&str> = line.split(' ').collect(alloc)?;
     result_of_words(alloc, words.as_slice())

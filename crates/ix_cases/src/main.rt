@@ -1,9 +1,9 @@
-//! `ix_cases`: answers the cases that stand in files by the public calls of the library, and tells
-//! which answers differ from those that are wanted.
+//! `ix_cases`: runs the test vectors in files with the public calls of the library, and reports
+//! the answers that differ from the expected ones.
 //!
-//! Its words are the paths of the files. It prints one line with how many cases agree. The status
-//! is 1 where one differs, which standard error then tells with its file and line, and 2 where a
-//! file can't be read.
+//! Its arguments are the paths of the files. It prints one line with how many cases agree. The status
+//! is 1 if one differs, which standard error then reports with its file and line, and 2 if a file can't
+//! be read.
 //!
 //! ```sh
 //! ix_cases varints.cases cids.cases
@@ -33,7 +33,7 @@ fn main(rt: HostRuntime) -> ExitCode {
         Ok(tally) if tally.differing == 0 => ExitCode::from(0),
         Ok(_) => ExitCode::from(1),
         Err(error) => {
-            // Where standard error can't be written there is nobody to tell.
+            // If standard error can't be written, there is no one to report to.
             let _ = eprintln!(rt; "{error}");
             ExitCode::from(2)
         }
@@ -59,7 +59,7 @@ fn tally_of_files<R: AllocGlobal + Env + Eprint + Files + Threads + Wait + Sync>
     }
 }
 
-// Counts the cases of these files, each behind what those before have set up.
+// Counts the cases of these files, each after what those before have set up.
 fn count_files<R: AllocGlobal + Env + Eprint + Files + Threads + Wait + Sync>(
     rt: &R,
     bench: &mut Bench,
@@ -84,7 +84,7 @@ fn count_file<R: AllocGlobal + Eprint + Files + Threads + Wait + Sync>(
     Ok(())
 }
 
-// Answers the cases of a file, and tells of each that differs.
+// Runs the cases of a file, and reports each that differs.
 fn try_file<R: AllocGlobal + Eprint + Threads + Wait + Sync>(
     rt: &R,
     bench: &mut Bench,
@@ -98,7 +98,7 @@ fn try_file<R: AllocGlobal + Eprint + Threads + Wait + Sync>(
     Ok(())
 }
 
-// Answers a line, tells of it where it differs, and counts it.
+// Runs a line, reports it if it differs, and counts it.
 fn try_line<R: AllocGlobal + Eprint + Threads + Wait + Sync>(
     rt: &R,
     bench: &mut Bench,
@@ -113,7 +113,7 @@ fn try_line<R: AllocGlobal + Eprint + Threads + Wait + Sync>(
     Ok(())
 }
 
-// Tells of a case that differs, with its file, its line and its example.
+// Reports a case that differs, with its file, its line and its example.
 fn tell_difference<R: Eprint>(
     rt: &R,
     path: &str,

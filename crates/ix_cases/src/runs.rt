@@ -19,7 +19,7 @@ use std::io::{self, ErrorKind, Write};
 use std::sync::{Arc, Wait};
 use std::thread::Threads;
 
-// What is answered where everything is as the example says.
+// The answer if everything is as the example says.
 const AS_WRITTEN: &str = "as written";
 
 // A writer that takes so many bytes and then fails.
@@ -181,8 +181,7 @@ fn compared_archives(alloc: Global, writers: &[Narrow], archives: &[Vec<u8>]) ->
     String::from_str(alloc, AS_WRITTEN).map_err(Error::from)
 }
 
-/// `tell = as written`, where the report and the status of what is told of the jobs are as the
-/// example says; else the one that differs
+/// `tell = as written`, if the report and the status of the jobs' results are as the example says; else the one that differs
 pub fn told(alloc: Global, example: &Example) -> Result<String> {
     let results = example.results.as_slice();
     if example.told.len() != results.len() {

@@ -62,13 +62,13 @@ pub fn blocks(alloc: Global, store: &Store) -> Result<String> {
     .map_err(Error::from)
 }
 
-/// `settle = COUNT` of blocks of which what is found is kept from here on
+/// `settle = COUNT` of blocks whose verdicts are cached from here on
 pub fn settle(alloc: Global, store: &mut Store) -> Result<String> {
     store.settle()?;
     store.len().to_string(alloc).map_err(Error::from)
 }
 
-/// `found PLACE = AGREES FAULTY`: whether the block has its CID's digest, and whether it spells no data; or `none`
+/// `found PLACE = AGREES FAULTY`: whether the block's hash matches its CID, and whether it doesn't decode; or `none`
 pub fn found_of_block(alloc: Global, store: &Store, input: &str) -> Result<String> {
     let place = input.parse::<usize>()?;
     if place >= store.len() {
@@ -79,7 +79,7 @@ pub fn found_of_block(alloc: Global, store: &Store, input: &str) -> Result<Strin
     format!(in alloc; "{agrees} {is_faulty}").map_err(Error::from)
 }
 
-/// `car HEX = COUNT` of blocks, which are the store behind it, or `KIND at PLACE`; `car = ..` reads
+/// `car HEX = COUNT` of blocks, which are the store after it, or `KIND at PLACE`; `car = ..` reads
 /// the example's own file
 pub fn car(alloc: Global, example: &mut Example, input: &str) -> Result<String> {
     let bytes = car_bytes(alloc, example, input)?;
@@ -93,7 +93,7 @@ pub fn car(alloc: Global, example: &mut Example, input: &str) -> Result<String> 
     }
 }
 
-// The bytes of a CARv1 file in hexadecimal, or of the example's own file.
+// The bytes of a CARv1 file in hex, or of the example's own file.
 fn car_bytes(alloc: Global, example: &Example, input: &str) -> Result<Vec<u8>> {
     if input.is_empty() {
         example.car()

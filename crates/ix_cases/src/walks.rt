@@ -64,7 +64,7 @@ fn text_of_job(alloc: Global, job: &Job) -> Result<String> {
 
 /// `walk NUMBER ROOTS LIMIT SELECTOR = VISIT VISIT .. STOP`, each visit as the job's number, its own
 /// number, its depth and the place of its block, with a dot between; `none` is no block, and `!`
-/// stands behind a malformed one
+/// is after a malformed one
 pub fn walk(alloc: Global, store: &Store, input: &str) -> Result<String> {
     let (number, rest) = two_words(input)?;
     match job_of_words(alloc, rest) {
@@ -79,7 +79,7 @@ fn text_of_numbered(alloc: Global, store: &Store, job: &Job, number: &str) -> Re
     text_of_walk(alloc, store, &mut walk)
 }
 
-// The visits of a walk, and the stop behind them.
+// The visits of a walk, and the stop after them.
 fn text_of_walk(alloc: Global, store: &Store, walk: &mut Walk<'_>) -> Result<String> {
     let answer = text_of_visits(alloc, store, walk)?;
     ensure!(is_over(walk), "the walk goes on behind its end");
@@ -98,7 +98,7 @@ fn text_of_visits(alloc: Global, store: &Store, walk: &mut Walk<'_>) -> Result<S
     answer.as_str().trim_end().to_string(alloc)
 }
 
-// Appends what a walk gives up to its end, with a space behind each.
+// Appends what a walk gives up to its end, with a space after each.
 fn push_visits(answer: &mut String, store: &Store, walk: &mut Walk<'_>) -> Result<(), AllocError> {
     for item in walk {
         push_item(answer, store, &item)?;
@@ -125,7 +125,7 @@ fn push_visit(answer: &mut String, store: &Store, visit: &Visit) -> Result<(), A
     answer.push_str(if visit.malformed { "! " } else { " " })
 }
 
-// Appends a visit's job, number and depth, with a dot behind each.
+// Appends a visit's job, number and depth, with a dot after each.
 fn push_numbers(answer: &mut String, job: u32, seq: u32, depth: u32) -> Result<(), AllocError> {
     write!(answer, "{job}.{seq}.{depth}.")
 }
@@ -141,7 +141,7 @@ fn push_block(answer: &mut String, store: &Store, visit: &Visit) -> Result<(), A
     write!(answer, "{place}")
 }
 
-/// `visits ROOTS LIMIT SELECTOR = COUNT`, and the stop behind it
+/// `visits ROOTS LIMIT SELECTOR = COUNT`, and the stop after it
 pub fn visits(alloc: Global, store: &Store, input: &str) -> Result<String> {
     let job = job_of_words(alloc, input)?;
     text_of_count(alloc, store, &job)
@@ -160,7 +160,7 @@ fn counted(walk: Walk<'_>) -> (u32, Option<WalkStop>) {
     (count, stopped)
 }
 
-// How many visits a job has, and the stop behind the count.
+// How many visits a job has, and the stop after the count.
 fn text_of_count(alloc: Global, store: &Store, job: &Job) -> Result<String> {
     match counted(Walk::new(alloc, store, job, 0)?) {
         (count, Some(stop)) => format!(in alloc; "{count} {stop:?}").map_err(Error::from),

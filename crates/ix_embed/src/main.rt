@@ -1,7 +1,7 @@
-//! `ix_embed`: the exporter inside another program, over memory and with no file.
+//! `ix_embed`: a 30-line example that exports from memory, without files.
 //!
-//! It hands the bytes of a CARv1 file and of a job file to `prepare` and `run`, and prints the
-//! report; the archives come back as bytes. What `run` promises of them holds here as it is.
+//! It passes the bytes of a CARv1 file and of a job file to `prepare` and `run`, and prints the report;
+//! the archives are returned as bytes. The contract of `run` applies as it is.
 //!
 //! ```sh
 //! ix_embed

@@ -15,7 +15,7 @@ one_more (suc left) before (b ∷ bs) root behind more some read =
     ap (λ (n : ℕ). roots_behind n (before ++ root ∷ []) behind) same
     ∙ sym (ap (λ (r : Result (List ℕ × List ℕ) PartsFault). r >>= (λ r. roots_behind left (before ++ r.0 ∷ []) r.1)) read)
 
--- no root stands there
+-- no root is there
 pub faulty : (left : ℕ) (before : List (List ℕ)) (rest : List ℕ) (fault : PartsFault) → left ≢ 0 → length rest ≢ 0 → root_at rest ≡ Err fault → roots_behind left before rest ≡ Err fault
 faulty zero before rest fault more some read = absurd (more refl)
 faulty (suc left) before [] fault more some read = absurd (some refl)
@@ -25,7 +25,7 @@ faulty (suc left) before (b ∷ bs) fault more some read = ap (λ (r : Result (L
 pub some_by : (bytes : List ℕ) → false ≡ (length bytes == 0) → length bytes ≢ 0
 some_by bytes other = grind (arith, nat_tests)
 
--- no root stands behind those that were read
+-- no root is after those that were read
 pub failing : (left : ℕ) (before : List (List ℕ)) (rest bytes : List ℕ) (fault : PartsFault) → left ≢ 0 → length rest ≢ 0 → roots_behind left before rest ≡ roots_in bytes
     → Gives {X = List (List ℕ)} {A = List ℕ × List ℕ} (λ r. ([], [])) (Err fault) (root_at rest) → Gives {X = List (List ℕ)} {A = List (List ℕ)} (λ r. r) (Err fault) (roots_in bytes)
 failing left before rest bytes Memory more some same read = tt

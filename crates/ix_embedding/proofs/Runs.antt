@@ -1,4 +1,4 @@
--- What is told of one job that runs alone.
+-- The result of one job that runs alone.
 use Rattle.std.proofs.Common.{◌≡◌, ℕ, List, [], ◌∷◌, ◌++◌, subst, Vec, Global}
 use Rattle.std.specs.Prelude.{Option, Some}
 use Rattle.ix_store.specs.Store.{Blocks}
@@ -10,7 +10,7 @@ use Rattle.ix_embedding.specs.Exporting.{IsRunOfOne}
 abbrev pub told : Vec ℕ Global → Option (List ℕ)
 told v = Some v.items
 
--- one result and one writer are told, those of the one job
+-- one result and one writer are reported, those of the one job
 pub of_one : (store : Blocks) (job : JobMeaning) (jobs : List JobMeaning) (empty : Vec ℕ Global) (befores afters front_w : List (Vec ℕ Global)) (results front_r : List JobResult) (result : JobResult) (archive : Vec ℕ Global)
     → jobs ≡ job ∷ [] → befores ≡ empty ∷ [] → empty.items ≡ [] → EachRun told store 0 jobs befores results afters → results ≡ front_r ++ result ∷ [] → afters ≡ front_w ++ archive ∷ []
     → IsRunOfOne store job result archive

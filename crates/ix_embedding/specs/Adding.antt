@@ -5,7 +5,7 @@ use Rattle.ix_store.specs.Store.{Blocks, has_cid}
 use Rattle.ix_embedding.specs.declared.input.Added.{Added}
 use Rattle.ix_embedding.specs.declared.input.Added.TheVariants.{New, Known, NoCid, Memory}
 
--- A store, the bytes of a CID, a block, the store after, and what was answered: a block stands last where its CID is a
+-- A store, the bytes of a CID, a block, the store after, and what was answered: a block is last where its CID is a
 -- new one, and else nothing is changed.
 abbrev pub HasAdded : Blocks → List ℕ → List ℕ → Blocks → Added → Type 0
 HasAdded before cid block after New =

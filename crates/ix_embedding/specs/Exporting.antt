@@ -11,7 +11,7 @@ use Rattle.ix_jobs.specs.Report.{report_of}
 use Rattle.ix_run.specs.Run.{IsRun}
 use Rattle.ix_embedding.specs.declared.exported.Exported.{Exported}
 
--- what is told of a job that runs alone, and what was written to memory, from nothing on
+-- the result of a job that runs alone, and what was written to memory, from nothing on
 abbrev pub IsRunOfOne : Blocks → JobMeaning → JobResult → Vec ℕ → Type 0
 IsRunOfOne store job result archive =
     (empty : Vec ℕ) × (empty.items ≡ []) × IsRun (λ v. Some v.items) store 0 job empty result archive
@@ -25,6 +25,6 @@ HasExported store job out =
 abbrev pub IsWholeAtDone : Blocks → JobMeaning → Exported → Type 0
 IsWholeAtDone store job out = out.result.end ≡ Done → out.archive.items ≡ archive_of store 0 job
 
--- however it ended, the archive is a beginning of that of the job
+-- however it ended, the archive is a prefix of that of the job
 abbrev pub IsBegun : Blocks → JobMeaning → Exported → Type 0
 IsBegun store job out = IsBeginning out.archive.items (archive_of store 0 job)

@@ -21,7 +21,7 @@ use Rattle.ix_embedding.specs.JobParts.{job_of_parts}
 use Rattle.ix_embedding.specs.declared.failure.Failure.{Failure}
 use Rattle.ix_embedding.specs.declared.failure.Failure.TheVariants.{Memory, Refused}
 
--- refused with this line, or memory ran out
+-- rejected with this line, or memory ran out
 abbrev pub IsFailureBy : List ℕ → Failure → Type 0
 IsFailureBy line Memory = Unit {0}
 IsFailureBy line (Refused told) = told.items ≡ line
@@ -51,7 +51,7 @@ abbrev pub IsJobFailure : List ℕ → Failure → Type 0
 IsJobFailure file failure =
     IsJobFault file failure ⊎ ((list : List JobMeaning) × (jobs_of file ≡ Ok list) × IsNotOneFailure list failure)
 
--- the fault of a text that is no JSON of a selector, in the program's words, or memory ran out
+-- the error of a text that is not the JSON of a selector, as the program prints it, or memory ran out
 abbrev pub IsSelectorFailure : List ℕ → Failure → Type 0
 IsSelectorFailure text Memory = Unit {0}
 IsSelectorFailure text (Refused told) =
@@ -65,7 +65,7 @@ job_words job.LimitTooLarge = codes "job: limit"
 job_words job.NoRoot = codes "job: no root"
 job_words job.TooManyRoots = codes "job: too many roots"
 
--- the line for why parts make no job: that of the program where it refuses the same
+-- the line for why parts make no job: that of the program where it rejects the same
 abbrev pub parts_line : PartsFault → List ℕ
 parts_line (parts.Root fault) = line_of (Root fault)
 parts_line (parts.Block fault) = selectors.line_of (notation.Block fault)

@@ -16,14 +16,14 @@ use Rattle.ix_walk.specs.declared.fault.JobFault.TheVariants.{TooManyRoots}
 use Rattle.ix_embedding.specs.declared.job_parts.PartsFault.{PartsFault}
 use Rattle.ix_embedding.specs.declared.job_parts.PartsFault.TheVariants.{Root, Block, Selector, Job, Memory}
 
--- the CID at the front, and the bytes behind it
+-- the CID at the front, and the bytes after it
 abbrev pub root_at : List ℕ → Result (List ℕ × List ℕ) PartsFault
 root_at bytes = told (cid_at bytes) where
   told : Result (List ℕ × ℕ) CidFault → Result (List ℕ × List ℕ) PartsFault
   told (Ok found) = Ok (found.0, drop found.1 bytes)
   told (Err fault) = Err (Root fault)
 
--- the CIDs that stand end to end, at most so many, behind those before
+-- the CIDs that stand end to end, at most so many, after those before
 abbrev pub roots_behind : ℕ → List (List ℕ) → List ℕ → Result (List (List ℕ)) PartsFault
 roots_behind most before [] = Ok before
 roots_behind zero before (b ∷ bs) = Err (Job TooManyRoots)
@@ -57,7 +57,7 @@ judged job = told (job_fault job.name job.roots job.limit) where
   told None = Ok job
   told (Some fault) = Err (Job fault)
 
--- what has these parts and the name "job", and goes in at every arrival
+-- the job with these parts and the name "job", which expands a block at every link
 abbrev pub named_job : List (List ℕ) → Pattern → ℕ → JobMeaning
 named_job roots selector limit =
     record { name = codes "job"; roots = roots; selector = selector; limit = limit; once = false }

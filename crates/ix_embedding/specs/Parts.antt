@@ -5,7 +5,7 @@ use Rattle.ix_embedding.specs.declared.held.Held.TheVariants as held
 use Rattle.ix_embedding.specs.declared.held.Part.{Part}
 use Rattle.ix_embedding.specs.declared.held.Part.TheVariants.{Archive, Report, Text}
 
--- the archive and the report of an export, a text, and the line of a refusal
+-- the archive and the report of an export, a text, and the line of an error
 abbrev pub part_of : Part → Held → Option (List ℕ)
 part_of Archive (held.Exported out) = Some out.archive.items
 part_of Report (held.Exported out) = Some out.report.items

@@ -1,4 +1,4 @@
-//! An export of one job on the caller's thread.
+//! Exports one job on the caller's thread.
 
 ghost use Rattle.std.specs.Prelude.{IfOk};
 ghost use Rattle.ix_embedding.specs.Exporting.{HasExported, IsWholeAtDone, IsBegun, IsRunOfOne};
@@ -11,10 +11,10 @@ use ix_walk::Job;
 use std::alloc::{AllocError, Global};
 use std::slice;
 
-/// What an export of one job leaves.
+/// The result of an export of one job.
 #[derive(Debug, Drop)]
 pub struct Exported {
-    /// How the job ended, what was counted and what was skipped.
+    /// How the job ended, its counts and its skips.
     pub result: JobResult,
     /// The CARv1 archive.
     pub archive: Vec<u8>,
@@ -22,8 +22,8 @@ pub struct Exported {
     pub report: Vec<u8>,
 }
 
-/// Exports one job over a store on the caller's thread: at Done the archive is that of the job, and at every
-/// end a beginning of it.
+/// Exports one job over a store on the caller's thread. The archive is that of the job if it ends with
+/// Done, and else a prefix of it.
 pub fn export(alloc: Global, store: &Store, job: &Job) -> Result<Exported, AllocError>
     ensures exported { IfOk result (HasExported store.now job.now) }
     ensures whole { IfOk result (IsWholeAtDone store.now job.now) }
@@ -38,13 +38,13 @@ pub fn export(alloc: Global, store: &Store, job: &Job) -> Result<Exported, Alloc
     })
 }
 
-// What is told of a job that runs alone, and its archive.
+// The result of a job that runs alone, and its archive.
 fn run_one(alloc: Global, store: &Store, job: &Job) -> Result<(JobResult, Vec<u8>), AllocError>
     ensures { IfOk result (λ r. IsRunOfOne store.now job.now r.0 r.1) }
 {
     let writers = vec![in alloc; Vec::new(alloc)]?;
     let mut check = ShaCheck::new(alloc);
-    // A vector takes what it is given while there is memory.
+    // A vector accepts every write while there is memory.
     let Ok((mut results, mut archives)) = run_jobs(
         alloc,
         store,

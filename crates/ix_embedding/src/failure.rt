@@ -1,4 +1,4 @@
-//! Why a call of who embeds the exporter fails.
+//! The errors of the calls.
 
 ghost use Rattle.std.specs.Prelude.{◌≡◌};
 ghost use Rattle.ix_run.specs.FaultLine.{line_of};
@@ -14,14 +14,14 @@ use std::alloc::Global;
 /// Why a call fails.
 #[derive(Debug, Drop)]
 pub enum Failure {
-    /// No memory was left.
+    /// Memory ran out.
     Memory,
-    /// The input is refused, for which this is the line that the program prints, without its end.
+    /// The input is rejected: the line that the program prints, without its end.
     Refused(Vec<u8>),
 }
 
 impl Failure {
-    // The failure of a fault.
+    // Makes the failure for an error of the library.
     pub(crate) fn of_run(alloc: Global, fault: &RunFault) -> Failure
         ensures { IsFailureBy (line_of fault.now) result }
     {
@@ -31,7 +31,7 @@ impl Failure {
         }
     }
 
-    // The failure with these words.
+    // Makes the failure with this text.
     pub(crate) fn of_words(alloc: Global, words: &str) -> Failure
         ensures { IsFailureBy words.now result }
     {
@@ -41,7 +41,7 @@ impl Failure {
         }
     }
 
-    // The failure of a fault of a selector.
+    // Makes the failure for an error of a selector.
     pub(crate) fn of_notation(alloc: Global, fault: &NotationFault) -> Failure
         ensures { IsFailureBy (selector_line_of fault.now) result }
     {
@@ -51,7 +51,7 @@ impl Failure {
         }
     }
 
-    // The failure of parts that make no job.
+    // Makes the failure for parts that make no job.
     pub(crate) fn of_parts(alloc: Global, fault: PartsFault) -> Failure
         ensures { IsFailureBy (parts_line fault) result }
     {
@@ -68,7 +68,7 @@ impl Failure {
     }
 }
 
-// The words for a limit or a number of roots that no job has.
+// The text for a limit or a number of roots that no job has.
 fn job_words(fault: JobFault) -> &'static str
     ensures { result.now ≡ job_words fault }
 {

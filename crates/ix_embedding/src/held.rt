@@ -1,4 +1,4 @@
-//! What a handle holds.
+//! The contents of a handle.
 
 ghost use Rattle.std.specs.Prelude.{◌≡◌, MatchOption, MatchResult, IfOk};
 ghost use Rattle.std.specs.Arc.{arc_value};
@@ -10,36 +10,36 @@ use ix_walk::Job;
 use std::alloc::{AllocError, Global};
 use std::sync::Arc;
 
-/// What a handle holds.
+/// The contents of a handle.
 #[derive(Drop)]
 pub enum Held {
-    /// A store to which blocks are added.
+    /// A store to which blocks can be added.
     Open(Store),
-    /// A store that is shared and doesn't change.
+    /// A frozen store: shared, and it doesn't change.
     Frozen(Arc<Store>),
     /// A job.
     Job(Job),
-    /// What an export left.
+    /// The result of an export.
     Exported(Exported),
     /// A text: the selector of a JSON text.
     Text(Vec<u8>),
-    /// Why the handle holds nothing else: the line of the refusal.
+    /// An error in place of anything else: its line.
     Refusal(Vec<u8>),
 }
 
-/// Bytes of what a handle holds.
+/// Parts of a handle's contents, as bytes.
 #[derive(Debug, Drop, Clone, Copy, PartialEq, Eq)]
 pub enum Part {
     /// The archive of an export.
     Archive,
     /// The report of an export.
     Report,
-    /// A text, or the line of a refusal.
+    /// A text, or the line of an error.
     Text,
 }
 
 impl Held {
-    /// The bytes of a part, if there is such a one.
+    /// Returns the bytes of a part, if there is one.
     pub fn bytes(&self, part: Part) -> Option<&[u8]>
         ensures { MatchOption result (HasNo part self.now) (λ bytes. Has part self.now bytes.now) }
     {
@@ -52,8 +52,8 @@ impl Held {
     }
 }
 
-/// Makes a store one that is shared and doesn't change, and keeps what is found of its blocks from then on.
-/// Where there is no memory for it, the store is handed back with the same blocks.
+/// Freezes a store: it is then shared and doesn't change, and its verdicts are cached. If memory runs
+/// out, the store is returned with the same blocks.
 pub fn freeze(alloc: Global, store: Store) -> Result<Arc<Store>, Store>
     ensures { MatchResult result (λ frozen. arc_value frozen ≡ store) (λ same. same ≡ store) }
 {
@@ -67,7 +67,7 @@ pub fn freeze(alloc: Global, store: Store) -> Result<Arc<Store>, Store>
     }
 }
 
-/// One more owner of a store, or want of memory where there are too many to be counted.
+/// Returns one more owner of a store, or out of memory if there are too many to count.
 pub fn share(store: &Arc<Store>) -> Result<Arc<Store>, AllocError>
     ensures { IfOk result (λ other. arc_value other ≡ arc_value store.now) }
 {

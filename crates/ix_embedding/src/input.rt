@@ -1,4 +1,4 @@
-//! What comes in: blocks, jobs and selectors.
+//! Reads blocks, jobs and selectors.
 
 ghost use Rattle.std.specs.Prelude.{◌≡◌, ℕ, List, IfErr, ◌++◌, ◌∷◌, [], Ok, IfOk};
 ghost use Rattle.ix_car.specs.Reading.{blocks_of};
@@ -17,21 +17,21 @@ use ix_store::Store;
 use ix_walk::Job;
 use std::alloc::Global;
 
-/// What became of a block that was to be added.
+/// The outcome of adding a block.
 #[derive(Debug, Drop, Clone, Copy, PartialEq, Eq)]
 pub enum Added {
-    /// It was added.
+    /// The block was added.
     New,
-    /// There is a block under its CID, which stays.
+    /// There is already a block under its CID, which stays.
     Known,
     /// The bytes are not one CID.
     NoCid,
-    /// No memory was left.
+    /// Memory ran out.
     Memory,
 }
 
-/// Adds a copy of a block under its CID, unless there is one. Whether the block has the CID's digest is
-/// found where it is exported.
+/// Adds a copy of a block under its CID, unless there is one. Whether its hash matches the CID is
+/// checked when it is exported.
 pub fn add_block(alloc: Global, store: &mut Store, cid: &[u8], block: &[u8]) -> Added
     ensures { HasAdded store.old cid.now block.now store.new result }
 {
@@ -46,7 +46,7 @@ pub fn add_block(alloc: Global, store: &mut Store, cid: &[u8], block: &[u8]) -> 
     }
 }
 
-/// The blocks of a CARv1 file.
+/// Reads the blocks of a CARv1 file.
 pub fn read_store(alloc: Global, car: &[u8]) -> Result<Store, Failure>
     ensures blocks { IfOk result (λ store. blocks_of car.now ≡ Ok store) }
     ensures failed { IfErr result (IsStoreFailure car.now) }
@@ -58,7 +58,8 @@ pub fn read_store(alloc: Global, car: &[u8]) -> Result<Store, Failure>
     }
 }
 
-/// The job of a line of a job file, which may have its end and lines that are ignored before and behind it.
+/// Reads the job of a line of a job file. The line may have its end, and ignored lines before and after
+/// it.
 pub fn job_of_line(alloc: Global, line: &[u8]) -> Result<Job, Failure>
     ensures job { IfOk result (λ job. jobs_of line.now ≡ Ok (job ∷ [])) }
     ensures failed { IfErr result (IsJobFailure line.now) }
@@ -70,7 +71,7 @@ pub fn job_of_line(alloc: Global, line: &[u8]) -> Result<Job, Failure>
     }
 }
 
-// The job, where there is one and no more.
+// Returns the job if there is exactly one.
 fn only_job(alloc: Global, jobs: Vec<Job>) -> Result<Job, Failure>
     ensures job { IfOk result (λ job. jobs.items ≡ job ∷ []) }
     ensures failed { IfErr result (IsNotOneFailure jobs.items) }
@@ -82,7 +83,7 @@ fn only_job(alloc: Global, jobs: Vec<Job>) -> Result<Job, Failure>
     }
 }
 
-/// The selector of a JSON text with the keys of the IPLD Selectors specification, as the hexadecimal of its
+/// Converts a selector in JSON, with the keys of the IPLD Selectors specification, to the hex of its
 /// DAG-CBOR, which is the last field of a job's line.
 pub fn selector_of_json(alloc: Global, text: &[u8]) -> Result<Vec<u8>, Failure>
     ensures selector { IfOk result (λ hex. IsSelectorHex text.now (hex.items ++ 10 ∷ [])) }
@@ -95,7 +96,7 @@ pub fn selector_of_json(alloc: Global, text: &[u8]) -> Result<Vec<u8>, Failure>
     }
 }
 
-// A text without its last byte.
+// Returns a text without its last byte.
 fn without_end(text: Vec<u8>) -> Vec<u8>
     ensures { (end : ℕ) → (front : List ℕ) → text.items ≡ front ++ end ∷ [] → result.items ≡ front }
 {

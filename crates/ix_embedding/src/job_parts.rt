@@ -1,4 +1,4 @@
-//! A job out of its parts.
+//! Makes a job from its parts.
 
 ghost use Rattle.std.specs.Prelude.{◌≡◌, Ok, IfOk, IfErr};
 ghost use Rattle.ix_embedding.specs.JobParts.{root_at, roots_in, data_in, selector_in, job_of_parts, Gives};
@@ -11,19 +11,19 @@ use ix_selector::{SelFault, Selector};
 use ix_walk::{Job, JobFault, MOST_ROOTS};
 use std::alloc::{AllocError, AllocFailed, Global};
 
-/// Why parts make no job: the first test that fails, in this order but for a root too many, which is told where the
-/// 64 before it are read.
+/// Why parts make no job: the first check that fails, in this order. Only a root too many is reported
+/// after the 64 before it are read.
 #[derive(Debug, Drop)]
 pub enum PartsFault {
-    /// Where a root should begin, no CID does.
+    /// There is no CID where a root should begin.
     Root(CidFault),
-    /// The selector's bytes are no block.
+    /// The selector's bytes are not a block.
     Block(CborFault),
-    /// The block is no selector.
+    /// The block is not a selector.
     Selector(SelFault),
     /// A limit or a number of roots that no job has.
     Job(JobFault),
-    /// No memory was left.
+    /// Memory ran out.
     Memory,
 }
 
@@ -49,8 +49,8 @@ impl<T: Drop> From<AllocFailed<T>> for PartsFault {
     }
 }
 
-/// The job with these parts and the name `job`: the CIDs of its roots in binary, end to end, its selector as
-/// DAG-CBOR, and its limit of visits.
+/// Returns the job with these parts and the name `job`: the CIDs of its roots in binary, concatenated,
+/// its selector as DAG-CBOR, and its limit of visits.
 pub fn job_of_parts(
     alloc: Global,
     roots: &[u8],
@@ -67,7 +67,7 @@ pub fn job_of_parts(
     }
 }
 
-// The same, or why it isn't made.
+// Returns the job, or why there is none.
 fn made(alloc: Global, roots: &[u8], selector: &[u8], limit: u32) -> Result<Job, PartsFault>
     ensures { Gives (λ job. job) result (job_of_parts roots.now selector.now limit) }
 {
@@ -80,7 +80,7 @@ fn made(alloc: Global, roots: &[u8], selector: &[u8], limit: u32) -> Result<Job,
     }
 }
 
-// The CIDs that stand end to end, at most 64.
+// Parses concatenated CIDs, at most 64.
 fn roots_in(alloc: Global, bytes: &[u8]) -> Result<Vec<Cid>, PartsFault>
     ensures { Gives (λ roots. roots.items) result (roots_in bytes.now) }
 {
@@ -99,7 +99,7 @@ fn roots_in(alloc: Global, bytes: &[u8]) -> Result<Vec<Cid>, PartsFault>
     Ok(roots)
 }
 
-// The root at the front, and the bytes behind it.
+// Parses the root at the front, and returns the bytes after it.
 fn root_at(alloc: Global, bytes: &[u8]) -> Result<(Cid, &[u8]), PartsFault>
     ensures { Gives (λ r. (r.0, r.1.now)) result (root_at bytes.now) }
 {
@@ -110,7 +110,7 @@ fn root_at(alloc: Global, bytes: &[u8]) -> Result<(Cid, &[u8]), PartsFault>
     }
 }
 
-// The selector that bytes spell.
+// Parses the selector of bytes.
 fn selector_in(alloc: Global, bytes: &[u8]) -> Result<Selector, PartsFault>
     ensures { Gives (λ selector. selector) result (selector_in bytes.now) }
 {
@@ -122,7 +122,7 @@ fn selector_in(alloc: Global, bytes: &[u8]) -> Result<Selector, PartsFault>
     }
 }
 
-// The tree that bytes spell.
+// Decodes the tree of bytes.
 fn tree_in(alloc: Global, bytes: &[u8]) -> Result<Tree, PartsFault>
     ensures { Gives (λ tree. tree) result (data_in bytes.now) }
 {

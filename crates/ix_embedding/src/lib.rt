@@ -1,8 +1,8 @@
-//! What who embeds the exporter calls, over memory alone and on the caller's thread.
+//! The single-threaded in-memory API: block stores, jobs, one export, error messages.
 //!
-//! Blocks come one by one or as a CARv1 file; a job comes as a line of a job file or in its parts. An
-//! export leaves the archive, what was counted and skipped, and the report. No call starts a thread or
-//! waits. What is refused is told in words, those of the program where it refuses the same.
+//! Blocks are added one by one or read from a CARv1 file; a job is read from a line of a job file or made
+//! from its parts. An export returns the archive, the counts, the skips and the report. No call starts a
+//! thread or waits. Errors are lines of text, those of the program if it rejects the same.
 //!
 //! ```rust
 //! let store = read_store(alloc, car)?;

@@ -1,10 +1,10 @@
-//! Commands as tables of their words, and what clap makes of them.
+//! The commands as tables of their arguments, and the clap commands made of them.
 
 use clap::error::ErrorKind;
 use clap::{Arg, ArgAction, Command, value_parser};
 use std::alloc::{AllocError, Global};
 
-/// A command: its name, what the help says of it, and its words.
+/// A command: its name, its texts in the help, and its arguments.
 pub(crate) struct CommandWords {
     pub name: &'static str,
     pub about: &'static str,
@@ -12,73 +12,73 @@ pub(crate) struct CommandWords {
     pub words: &'static [Word],
 }
 
-/// A word behind a command: its name, how it is given, and what the help says of it.
+/// An argument of a command: its name, how it is given, and its line in the help.
 pub(crate) struct Word {
     pub name: &'static str,
     pub given: Given,
     pub help: &'static str,
 }
 
-/// How a word is given. In the help the first text stands for its value.
+/// How an argument is given. The first text is the name of its value in the help.
 #[derive(Clone, Copy)]
 pub(crate) enum Given {
-    /// By an option that must be there.
+    /// A required option.
     Needed(&'static str),
-    /// By an option that may be left out.
+    /// An optional option.
     Free(&'static str),
-    /// By an option that is the second text where it is left out.
+    /// An option with a default: the second text.
     Or(&'static str, &'static str),
-    /// By an option that isn't there together with the word of the second name.
+    /// An option that conflicts with the argument of the second name.
     Without(&'static str, &'static str),
-    /// By an option with a number from 1 to 64, which is 4 where it is left out.
+    /// An option with a number from 1 to 64. The default is 4.
     Number,
-    /// By an option without a value.
+    /// A flag.
     Flag,
-    /// By an option without a value that isn't there together with the word of this name.
+    /// A flag that conflicts with the argument of this name.
     FlagWithout(&'static str),
-    /// By its place, where something must stand.
+    /// A required positional argument.
     Place(&'static str),
-    /// By its place, where nothing may stand.
+    /// An optional positional argument.
     FreePlace(&'static str),
-    /// By its place and all places behind it.
+    /// One or more positional arguments.
     Places(&'static str),
 }
 
-/// The blocks that the commands `jobs` and `get` cut from.
+/// The block file of the commands `jobs` and `get`.
 pub(crate) const BLOCKS: Word = Word {
     name: "blocks",
     given: Given::Needed("FILE"),
-    help: "The blocks: a CARv1 file, or - for standard input",
+    help: "CARv1 file with the blocks, or - for standard input",
 };
 
-/// How many threads there are, of each kind.
+/// The number of walkers.
 pub(crate) const WALKERS: Word = Word {
     name: "walkers",
     given: Given::Number,
-    help: "How many threads walk, 1 to 64",
+    help: "Threads that traverse, 1 to 64",
 };
 
 pub(crate) const VERIFIERS: Word = Word {
     name: "verifiers",
     given: Given::Number,
-    help: "How many threads hash, 1 to 64",
+    help: "Threads that hash, 1 to 64",
 };
 
 /// Whether progress is shown.
 pub(crate) const PROGRESS: Word = Word {
     name: "progress",
     given: Given::Flag,
-    help: "Shows progress on standard error",
+    help: "Show progress on standard error",
 };
 
 /// Whether the cause of an error is printed where an error has one line.
 pub(crate) const VERBOSE: Word = Word {
     name: "verbose",
     given: Given::Flag,
-    help: "Prints the cause of an error on a second line",
+    help: "Print the cause of an error on a second line",
 };
 
-/// The command of a table.
+/// Makes the clap command of a table. An error means that memory ran out.
 pub(crate) fn command_of<'a>(
     alloc: Global,
     table: &'static CommandWords,
@@ -89,21 +89,21 @@ pub(crate) fn command_of<'a>(
     }
 }
 
-// The command without its words.
+// Makes the command without its arguments.
 fn command_without<'a>(alloc: Global, table: &'static CommandWords) -> Command<'a> {
     Command::new(alloc, table.name)
         .about(table.about)
         .after_help(table.help)
 }
 
-// The arguments of words, in their order.
+// Makes the arguments, in their order.
 fn arguments_of<'a>(alloc: Global, words: &'static [Word]) -> Result<Vec<Arg<'a>>, AllocError> {
     let mut arguments = Vec::new(alloc);
     push_arguments(alloc, &mut arguments, words)?;
     Ok(arguments)
 }
 
-// Adds them, with none to let go of where it ends early.
+// Adds the arguments. It owns none of them, so an early return has none to drop.
 fn push_arguments<'a>(
     alloc: Global,
     arguments: &mut Vec<Arg<'a>>,
@@ -115,7 +115,7 @@ fn push_arguments<'a>(
     Ok(())
 }
 
-// Adds an argument, where there was memory for it.
+// Adds an argument, unless memory ran out for it.
 fn push_argument<'a>(
     arguments: &mut Vec<Arg<'a>>,
     argument: Result<Arg<'a>, AllocError>,
@@ -126,7 +126,7 @@ fn push_argument<'a>(
     }
 }
 
-// The argument of a word.
+// Makes a clap argument.
 fn argument_of<'a>(alloc: Global, word: &'static Word) -> Result<Arg<'a>, AllocError> {
     match word.given {
         Given::Needed(value) => Ok(option(alloc, word, value).required(true)),
@@ -142,12 +142,12 @@ fn argument_of<'a>(alloc: Global, word: &'static Word) -> Result<Arg<'a>, AllocE
     }
 }
 
-// A word by its place.
+// A positional argument.
 fn place<'a>(alloc: Global, word: &'static Word, value: &'static str) -> Arg<'a> {
     Arg::new(alloc, word.name).value_name(value).help(word.help)
 }
 
-// Words by their places, of which one must be there.
+// Positional arguments, at least one.
 fn places<'a>(alloc: Global, word: &'static Word, value: &'static str) -> Arg<'a> {
     place(alloc, word, value)
         .required(true)
@@ -155,7 +155,7 @@ fn places<'a>(alloc: Global, word: &'static Word, value: &'static str) -> Arg<'a
         .action(ArgAction::Append)
 }
 
-// An option with a text.
+// An option with a text as its value.
 fn option<'a>(alloc: Global, word: &'static Word, value: &'static str) -> Arg<'a> {
     place(alloc, word, value).long(word.name)
 }
@@ -167,7 +167,7 @@ fn number<'a>(alloc: Global, word: &'static Word) -> Arg<'a> {
         .default_value("4")
 }
 
-// An option without a value.
+// A flag.
 fn flag<'a>(alloc: Global, word: &'static Word) -> Arg<'a> {
     Arg::new(alloc, word.name)
         .long(word.name)
@@ -175,7 +175,7 @@ fn flag<'a>(alloc: Global, word: &'static Word) -> Arg<'a> {
         .action(ArgAction::SetTrue)
 }
 
-/// What is told of words of a command that are refused. The command is given with its full name.
+/// Makes the error for rejected arguments of a command, which is given with its full name.
 pub(crate) fn refusal(
     alloc: Global,
     table: &'static CommandWords,
@@ -189,7 +189,7 @@ pub(crate) fn refusal(
     }
 }
 
-// What a command tells of its words.
+// Makes an error in the name of a command.
 fn refusal_by<'a>(
     command: Command<'a>,
     name: &str,

@@ -29,22 +29,23 @@ use std::rt::{Clock, Files};
 use std::sync::{Arc, Wait};
 use std::thread::Threads;
 
-// The status of words that are those of no job.
+// The status of arguments that aren't those of a job.
 const REFUSED: u8 = 2;
 
-// The status of a job that ended otherwise than done with all its roots.
+// The status of a job that isn't done, or of which a root was skipped.
 const INCOMPLETE: u8 = 4;
 
-// How many bytes for standard output wait in memory.
+// The size of the buffer for standard output, in bytes.
 const BUFFER: usize = 16 * 1024;
 
-// Behind the report, of a job that met nothing but its roots, and of a selector that can't recur.
-const NOTHING_BELOW: &str = "note: the selector entered nothing below the root";
+// Notes after the report: the job found nothing below its roots; its selector can't recur.
+const NOTHING_BELOW: &str = "note: the selector matched nothing below the root";
 
 const NO_EDGE: &str =
-    "note: a recursion of the selector has no edge {\"@\":{}}, so it never begins again";
+    "note: a recursion of the selector has no edge {\"@\":{}}, so it never recurs";
 
-/// Does what the words say, and answers the status. The faults come in the order words, blocks, output.
+/// Runs the command `get` and returns the status. It reports the first error, checked in this order:
+/// arguments, blocks, output.
 pub(crate) fn get<
     'a,
     R: AllocGlobal + Clock + Eprint + Files<File = File> + Input + Print + Threads + Wait + Sync,
@@ -61,7 +62,7 @@ pub(crate) fn get<
     }
 }
 
-// Loads the blocks, and exports the one job, and tells how it goes on.
+// Loads the blocks and exports the one job, with its progress.
 fn get_told<
     'a,
     R: AllocGlobal + Clock + Eprint + Files<File = File> + Input + Print + Threads + Wait + Sync,
@@ -77,19 +78,19 @@ fn get_told<
     status
 }
 
-// Tells why words are those of no job.
+// Prints why the arguments aren't those of a job.
 fn refuse<R: AllocGlobal + Eprint>(
     rt: &R,
     job: &JobWords<'_>,
     fault: &LineFault,
 ) -> Result<u8, Failure> {
     let told = job_fault_words(rt.alloc(), fault, job)?;
-    // Where standard error can't be written there is nobody to tell.
+    // If standard error can't be written, there is no one to report to.
     let _ = rt.eprintln(told.as_str());
     Ok(REFUSED)
 }
 
-// The blocks that the words name.
+// Loads the blocks from the file that the arguments name.
 fn load_blocks<'a, R: AllocGlobal + Clock + Eprint + Files + Input + Threads + Sync>(
     rt: &R,
     words: &ArgMatches<'a>,
@@ -104,8 +105,8 @@ fn load_blocks<'a, R: AllocGlobal + Clock + Eprint + Files + Input + Threads + S
     }
 }
 
-// Exports the one job out of these blocks. What stands in for closed streams comes behind the input, so
-// that standard input that is closed can't be read as one without bytes.
+// Exports the one job from these blocks. Closed streams are occupied only after the input was read, so
+// a closed standard input is an error and not an empty input.
 fn get_below<
     'a,
     R: AllocGlobal + Clock + Eprint + Files<File = File> + Print + Threads + Wait + Sync,
@@ -128,7 +129,7 @@ fn get_below<
     status
 }
 
-// Exports to a file, which gets its name where it has all that was asked for.
+// Exports to a file, which is renamed if nothing that was asked for is missing.
 fn get_file<
     'a,
     R: AllocGlobal + Clock + Eprint + Files<File = File> + Print + Threads + Wait + Sync,
@@ -155,7 +156,7 @@ fn get_file<
     }
 }
 
-// The one writer, to the file that it makes. Room comes first, so that a file that is made is written.
+// Makes the one writer and its file. Room is allocated first, so that a file that is made is written.
 fn file_writers<'a, 'o, R: AllocGlobal + Files<File = File>>(
     rt: &R,
     words: &ArgMatches<'a>,
@@ -174,7 +175,7 @@ fn file_writers<'a, 'o, R: AllocGlobal + Files<File = File>>(
     Ok(writers)
 }
 
-// Gives the file its name, and then reports, whatever came of it.
+// Renames the file and then reports, whether it was renamed or not.
 fn name_and_tell<'a, 'o, R: AllocGlobal + Eprint + Files<File = File>>(
     rt: &R,
     words: &ArgMatches<'a>,
@@ -191,14 +192,14 @@ fn name_and_tell<'a, 'o, R: AllocGlobal + Eprint + Files<File = File>>(
     named.map(|()| status)
 }
 
-// Says why the file gets no name, where it gets none.
+// Prints why the file wasn't renamed, if it wasn't.
 fn tell_left<R: Eprint>(rt: &R, left: Option<String>) {
     if let Some(line) = left {
         let _ = rt.eprint(line.as_str());
     }
 }
 
-// Gives the file its name, or returns why it gets none.
+// Renames the file, or returns why it doesn't.
 fn name_file<'o, R: AllocGlobal + Files<File = File>>(
     rt: &R,
     path: &str,
@@ -236,7 +237,7 @@ fn get_stream<'a, R: AllocGlobal + Clock + Eprint + Print + Threads + Wait + Syn
     }
 }
 
-// A refusal of the run: an archive that can't be begun is an output that can't be written.
+// Maps an error of the run: an archive that can't be started is an output that can't be written.
 fn refusal<R: AllocGlobal>(rt: &R, path: &str, fault: RunFault, errors: &WriteErrors) -> Failure {
     match fault {
         RunFault::Write(_) => {
@@ -248,8 +249,8 @@ fn refusal<R: AllocGlobal>(rt: &R, path: &str, fault: RunFault, errors: &WriteEr
     }
 }
 
-// The report and the notes after it, on standard error, and the status. Where standard error can't be
-// written, or no memory is left, there is nobody to report to.
+// Prints the report and its notes to standard error, and returns the status. If standard error can't be
+// written, or memory runs out, there is no one to report to.
 fn tell<'a, R: AllocGlobal + Eprint, W>(
     rt: &R,
     words: &ArgMatches<'a>,
@@ -275,7 +276,8 @@ fn tell<'a, R: AllocGlobal + Eprint, W>(
     status
 }
 
-// The status of a job that has this one in a report: that of one that ended otherwise, where a root of it was skipped.
+// Returns the status: `INCOMPLETE` if the job isn't done or a root was skipped, else that of the
+// report.
 fn status_of(job: &Job, told: &JobResult, status: u8) -> u8
     ensures { result ≡ (if is_complete job.now told.now then status else 4) }
 {

@@ -1,4 +1,4 @@
-//! The words of the command `get`.
+//! The arguments of the command `get`.
 
 use crate::commands::{BLOCKS, CommandWords, Given, PROGRESS, VERIFIERS, WALKERS, Word, refusal};
 use crate::words::refused_value;
@@ -8,40 +8,39 @@ use ix_files::STANDARD_INPUT;
 use ix_job_words::{JobWords, SelectorWord};
 use std::alloc::{AllocError, Global};
 
-const ABOUT: &str = "Writes the archive of what is below a root, without a job file";
+const ABOUT: &str = "Export one archive, without a job file";
 
-const HELP: &str = "Everything below the root, over all links:\n\
+const HELP: &str = "Everything reachable from the root, over all links:\n\
 \n\
 \x20 ix_export get --blocks library.car --out album.car \\\n\
 \x20   --root bafyreif4cx2fmzgnlynimiv5s5pmkhdcciunwtqscgjd2tvhr5yqjh7u4i\n\
 \n\
-Which ways it goes a selector says, as JSON with the keys of the IPLD Selectors\n\
-specification (docs/SELECTORS.md) or as DAG-CBOR in hexadecimal, which the\n\
+A selector says which links to follow, as JSON with the keys of the IPLD\n\
+Selectors specification (docs/SELECTORS.md), or as DAG-CBOR in hex, which the\n\
 command `selector` makes of that. With several roots one archive has what is\n\
-below all of them. What is linked to more than once is gone into once, unless\n\
-there is --every-arrival, which changes how many arrivals are counted, and not\n\
-the archive of a job within its limit.\n\
+reachable from all of them. A block with several links to it is expanded once,\n\
+or at every link with --every-arrival, which changes how many links count, and\n\
+not the archive of a job within its limit.\n\
 \n\
-The archive is written to FILE.part, which is named FILE where the job is done\n\
-and no root was skipped, in place of a file that is there. Otherwise it stays\n\
-as FILE.part, FILE stays as it was, and a line on standard error says why. It\n\
-is on the disk before it gets its name, unless there is --no-sync. Without\n\
---out, or where FILE is -, the archive goes to standard output, which may not\n\
-be a terminal.\n\
+The archive is written to FILE.part, which is renamed to FILE if the job is done\n\
+and no root was skipped. It replaces a file with that name. Otherwise it stays\n\
+as FILE.part, FILE stays as it was, and a line on standard error says why. It is\n\
+on the disk before it is renamed, unless --no-sync is given. Without --out, or\n\
+with --out -, the archive goes to standard output, which must not be a terminal.\n\
 \n\
-The report is that of the command `jobs`, for the one job `get`, and goes to\n\
-standard error. A note behind it tells where nothing was met below the roots,\n\
-and where a recursion of the selector has no edge {\"@\":{}}.\n\
+The report is that of the command `jobs` for one job, `get`, and goes to\n\
+standard error. A note follows if nothing was found below the roots, or if a\n\
+recursion of the selector has no edge {\"@\":{}}.\n\
 \n\
-Status: 0 where the job is done and nothing was skipped, 3 where it is done and\n\
-something was skipped below the roots, 4 where it ended otherwise or a root was\n\
-skipped, 2 where the words or a file are refused, with a line on standard error\n\
-that has the cause.";
+Status: 0 if the job is done and nothing was skipped, 3 if it is done and\n\
+something was skipped below the roots, 4 if it ended otherwise or a root was\n\
+skipped, 2 if the arguments or a file are rejected, with a line on standard\n\
+error that has the cause.";
 
 // The name of the one job in the report.
 const NAME: &str = "get";
 
-/// The command: which job it is, and then how it is exported, and to where.
+/// The command: the job, how it is exported, and where to.
 pub(crate) static GET: CommandWords = CommandWords {
     name: "get",
     about: ABOUT,
@@ -51,55 +50,55 @@ pub(crate) static GET: CommandWords = CommandWords {
         Word {
             name: "root",
             given: Given::Needed("CID[,CID..]"),
-            help: "1 to 64 CIDv1s in base32, with one comma between",
+            help: "1 to 64 comma-separated CIDv1s in base32",
         },
         Word {
             name: "selector",
             given: Given::Without("JSON", "selector-hex"),
-            help: "Which ways it goes; everything without it",
+            help: "IPLD selector as JSON [default: everything]",
         },
         Word {
             name: "selector-hex",
             given: Given::Free("HEX"),
-            help: "The same in hexadecimal",
+            help: "IPLD selector as DAG-CBOR in hex",
         },
         Word {
             name: "limit",
             given: Given::Or("N", "1000000"),
-            help: "Most arrivals, 1 to 1000000",
+            help: "Link budget, 1 to 1000000",
         },
         Word {
             name: "every-arrival",
             given: Given::Flag,
-            help: "Goes into what is shared at every arrival, not once",
+            help: "Expand a block at every link to it, not once",
         },
         Word {
             name: "out",
             given: Given::Free("FILE"),
-            help: "Where the archive goes; standard output without it",
+            help: "Archive to write [default: standard output]",
         },
         WALKERS,
         VERIFIERS,
         Word {
             name: "sync",
             given: Given::FlagWithout("no-sync"),
-            help: "FILE is on disk before it gets its name [default]",
+            help: "Sync FILE to disk before it is renamed [default]",
         },
         Word {
             name: "no-sync",
             given: Given::Flag,
-            help: "FILE gets its name without waiting for the disk",
+            help: "Rename FILE without waiting for the disk",
         },
         PROGRESS,
         Word {
             name: "quiet",
             given: Given::Flag,
-            help: "No progress, and no report where the status is 0",
+            help: "No progress, and no report if the status is 0",
         },
     ],
 };
 
-/// The words of the job.
+/// Returns the arguments of the job.
 pub(crate) fn job_words<'a>(words: &ArgMatches<'a>) -> JobWords<'a> {
     let selector = match (words.get_str("selector"), words.get_str("selector-hex")) {
         (Some(text), _) => SelectorWord::Json(text.as_bytes()),
@@ -116,7 +115,7 @@ pub(crate) fn job_words<'a>(words: &ArgMatches<'a>) -> JobWords<'a> {
     }
 }
 
-/// Where the archive goes, where that isn't standard output.
+/// Returns the path of the archive, or None for standard output.
 pub(crate) fn output_of<'a>(words: &ArgMatches<'a>) -> Option<&'a str> {
     match words.get_str("out") {
         Some(path) if path != STANDARD_INPUT => Some(path),
@@ -124,18 +123,18 @@ pub(crate) fn output_of<'a>(words: &ArgMatches<'a>) -> Option<&'a str> {
     }
 }
 
-/// What is reported of an output without a name.
+/// Makes the error for an empty output path.
 pub(crate) fn refused_output(alloc: Global) -> Result<clap::Error, AllocError> {
     refused_value(alloc, &GET, "ix_export get", "--out <FILE>")
 }
 
-/// What is told where the archive would go to a terminal.
+/// Makes the error for an archive that would go to a terminal.
 pub(crate) fn refused_terminal(alloc: Global) -> Result<clap::Error, AllocError> {
     refusal(
         alloc,
         &GET,
         "ix_export get",
         ErrorKind::MissingRequiredArgument,
-        "the archive would go to a terminal: give '--out <FILE>', or send standard output elsewhere",
+        "the archive would go to a terminal: give '--out <FILE>', or redirect standard output",
     )
 }

@@ -1,4 +1,4 @@
-//! The command `inspect`: what stands in a CARv1 file, or what a file is that is none.
+//! The command `inspect`: describes a CARv1 file, or says what another file is.
 
 use crate::at_most_processors;
 use crate::commands::{CommandWords, Given, Word};
@@ -13,25 +13,26 @@ use std::io::{self, BufWriter, ErrorKind, Write};
 use std::rt::Files;
 use std::thread::Threads;
 
-// How many threads look CIDs up, where there are processors for them: as many as load blocks where nothing else is said.
+// The most threads that look up CIDs: as many as load blocks by default. There are no more than
+// processors.
 const LOADERS: usize = 8;
 
-const ABOUT: &str = "Tells what stands in a CARv1 file, without hashing";
+const ABOUT: &str = "Describe a CARv1 file, without hashing";
 
-const HELP: &str = "FILE is a CARv1 file; - is standard input. Told are its roots, its size, how\n\
-many sections it has and how many of them have a CID that has stood before, how\n\
-many there are of each codec and of each hash function (by the names of the\n\
-multicodec table, or as numbers), and the smallest, the median and the greatest\n\
-size of a block.\n\
+const HELP: &str =
+    "Prints the roots of the file, its size, the number of its sections and how many\n\
+of them repeat a CID, the number of sections of each codec and each hash\n\
+function (by its name in the multicodec table, or its number), and the smallest,\n\
+median and greatest size of a block.\n\
 \n\
-With --list there is a line for each section in place of that, PLACE SIZE CID:\n\
-where its length stands, in bytes from the front of the file, the size of its\n\
-block, and the CID as in a job file.\n\
+With --list it prints a line for each section instead, PLACE SIZE CID: the\n\
+offset of the section in bytes, the size of its block, and the CID as in a job\n\
+file.\n\
 \n\
-Of a file that is no CARv1 file a line on standard error says what it is, and\n\
-of one that ends early, how its whole sections are kept.\n\
+If the file is not a CARv1, a line on standard error says what it is. If it ends\n\
+early, the line says how to keep its whole sections.\n\
 \n\
-Status: 0, or 2 where the words or the file are refused.";
+Status: 0, or 2 if the arguments or the file are rejected.";
 
 /// The command.
 pub(crate) static INSPECT: CommandWords = CommandWords {
@@ -42,17 +43,17 @@ pub(crate) static INSPECT: CommandWords = CommandWords {
         Word {
             name: "file",
             given: Given::Place("FILE"),
-            help: "A CARv1 file; - is standard input",
+            help: "CARv1 file, or - for standard input",
         },
         Word {
             name: "list",
             given: Given::Flag,
-            help: "A line for each section: PLACE SIZE CID",
+            help: "Print a line for each section: PLACE SIZE CID",
         },
     ],
 };
 
-/// Does what the words say, and answers the status.
+/// Runs the command `inspect` and returns the status.
 pub fn inspect<'a, R: AllocGlobal + Eprint + Files + Input + Print + Threads + Sync>(
     rt: &R,
     words: &ArgMatches<'a>,
@@ -62,7 +63,7 @@ pub fn inspect<'a, R: AllocGlobal + Eprint + Files + Input + Print + Threads + S
     inspect_car(rt, path, car.as_slice(), words.get_flag("list"))
 }
 
-// The same with the bytes of the file.
+// Describes a file, given its bytes.
 fn inspect_car<R: AllocGlobal + Eprint + Print + Threads + Sync>(
     rt: &R,
     path: &str,
@@ -114,7 +115,7 @@ fn cid_of(alloc: Global, section: &Section<'_>) -> Result<String, AllocError> {
     cid.text(alloc)
 }
 
-// Where nobody reads on, nothing is left to be told.
+// Returns status 0 if the reader closed the pipe, since the rest isn't wanted, and else the error.
 fn answer_of<R: AllocGlobal>(rt: &R, error: &io::Error) -> Result<u8, Failure> {
     if error.kind() == ErrorKind::BrokenPipe {
         return Ok(0);
@@ -122,7 +123,7 @@ fn answer_of<R: AllocGlobal>(rt: &R, error: &io::Error) -> Result<u8, Failure> {
     Err(Failure::cannot_write(rt.alloc(), STANDARD_INPUT, error))
 }
 
-// What is counted of a file of so many bytes.
+// Prints the summary of a file of so many bytes.
 fn summarize<R: AllocGlobal + Print + Threads + Sync>(
     rt: &R,
     file: CarFile<'_>,
@@ -135,7 +136,7 @@ fn summarize<R: AllocGlobal + Print + Threads + Sync>(
     }
 }
 
-// What is printed of a file of so many bytes.
+// Returns the summary as text.
 fn text_of<R: AllocGlobal + Threads + Sync>(
     rt: &R,
     file: CarFile<'_>,
@@ -186,7 +187,7 @@ fn push_numbers(
     )
 }
 
-// A line for a code, by its name where it has one.
+// Adds a line for a code, by its name if it has one.
 fn push_count(
     text: &mut String,
     word: &str,
@@ -200,7 +201,7 @@ fn push_count(
     }
 }
 
-// The smallest, the median and the greatest size, if there are sections.
+// Adds the smallest, median and greatest size, if there are sections.
 fn push_sizes(text: &mut String, summary: &Summary) -> Result<(), AllocError> {
     if let (Some(smallest), Some(median), Some(greatest)) = (
         summary.smallest(),
@@ -215,7 +216,7 @@ fn push_sizes(text: &mut String, summary: &Summary) -> Result<(), AllocError> {
     Ok(())
 }
 
-// Tells why a file is refused, and what it is.
+// Prints why a file is rejected, and what it is.
 fn refuse<R: AllocGlobal + Eprint>(
     rt: &R,
     path: &str,
@@ -236,13 +237,13 @@ fn refuse<R: AllocGlobal + Eprint>(
     Ok(2)
 }
 
-// Tells what a file is. Where standard error can't be written there is nobody to tell.
+// Prints what a file is. If standard error can't be written, there is no one to report to.
 fn tell_kind<R: Eprint>(rt: &R, path: &str, fault: CarFault, words: &str) {
     let kind = fault.kind;
     let _ = eprintln!(rt; "{path}: {kind} at 0: {words}");
 }
 
-// Tells which bytes in front of a fault are kept, and how.
+// Prints how to keep the bytes before an error.
 fn tell_kept<R: Eprint>(rt: &R, path: &str, fault: CarFault, words: &str) {
     let CarFault { kind, place } = fault;
     let _ = eprintln!(rt;
@@ -250,19 +251,19 @@ fn tell_kept<R: Eprint>(rt: &R, path: &str, fault: CarFault, words: &str) {
     );
 }
 
-// What a file is that is no CARv1 file.
+// Returns what a file that is not a CARv1 is.
 pub(crate) fn words_of(kind: Kind) -> &'static str {
     match kind {
         Kind::Car2 => {
             "a CARv2 file; its data can be taken out by car extract, or by the offset in its header"
         }
-        Kind::Gzip => "packed by gzip",
-        Kind::Zstd => "packed by zstd",
-        Kind::Bzip2 => "packed by bzip2",
+        Kind::Gzip => "compressed by gzip",
+        Kind::Zstd => "compressed by zstd",
+        Kind::Bzip2 => "compressed by bzip2",
         Kind::Tar => "a tar archive",
         Kind::Json => "JSON",
-        Kind::Text => "a text",
+        Kind::Text => "plain text",
         Kind::Empty => "an empty file",
-        Kind::Other => "no CARv1 file",
+        Kind::Other => "not a CARv1 file",
     }
 }

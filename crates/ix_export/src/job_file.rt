@@ -9,10 +9,10 @@ use ix_run::{RunFault, fault_line};
 use std::alloc::{AllocError, Global};
 use std::rt::Files;
 
-// The status of words that are those of no job, and of a job file that is refused.
+// The status of arguments that aren't those of a job, and of a job file that is rejected.
 const REFUSED: u8 = 2;
 
-/// The command `job`: prints the line of a job file for its words, or tells why there is none.
+/// Runs the command `job`: prints the line of a job for its arguments, or why there is none.
 pub(crate) fn print_job<'a, R: AllocGlobal + Eprint + Input + Print>(
     rt: &R,
     words: &ArgMatches<'a>,
@@ -23,7 +23,7 @@ pub(crate) fn print_job<'a, R: AllocGlobal + Eprint + Input + Print>(
     }
 }
 
-// The line of the job that the words say, or why there is none.
+// Returns the line of the job, or why the arguments aren't those of a job.
 fn line_of_words<'a, R: AllocGlobal + Input>(
     rt: &R,
     words: &ArgMatches<'a>,
@@ -36,7 +36,7 @@ fn line_of_words<'a, R: AllocGlobal + Input>(
     Ok(line_with(rt.alloc(), words, input.as_slice()))
 }
 
-// The same with this selector.
+// Returns the line of the job with this selector.
 fn line_with<'a>(alloc: Global, words: &ArgMatches<'a>, json: &[u8]) -> Result<String, LineFault> {
     job_line(
         alloc,
@@ -47,7 +47,7 @@ fn line_with<'a>(alloc: Global, words: &ArgMatches<'a>, json: &[u8]) -> Result<S
     )
 }
 
-// Tells why words are those of no job.
+// Prints why the arguments aren't those of a job.
 fn refuse_words<'a, R: AllocGlobal + Eprint>(
     rt: &R,
     words: &ArgMatches<'a>,
@@ -59,13 +59,13 @@ fn refuse_words<'a, R: AllocGlobal + Eprint>(
         word(words, "limit"),
     ];
     let told = line_fault_words(rt.alloc(), fault, name, roots, limit)?;
-    // Where standard error can't be written there is nobody to tell.
+    // If standard error can't be written, there is no one to report to.
     let _ = rt.eprintln(told.as_str());
     Ok(REFUSED)
 }
 
-/// The command `check-jobs`: prints nothing where the command `jobs` would take the file, else the line
-/// with which it would refuse it, and then what is wrong with each faulty line.
+/// Runs the command `check-jobs`: prints nothing if the command `jobs` accepts the file. Otherwise it
+/// prints the error of `jobs`, and then what is wrong with each faulty line.
 pub(crate) fn check_jobs<'a, R: AllocGlobal + Files + Input + Print>(
     rt: &R,
     words: &ArgMatches<'a>,
@@ -89,7 +89,7 @@ fn tell_faults<R: AllocGlobal + Print>(
     Ok(REFUSED)
 }
 
-// Prints a text, where there was memory for it.
+// Prints a text, unless memory ran out for it.
 fn print_text<R: AllocGlobal + Print>(
     rt: &R,
     text: Result<String, AllocError>,
@@ -97,7 +97,7 @@ fn print_text<R: AllocGlobal + Print>(
     print_all(rt, text?.as_bytes())
 }
 
-// The line with which the command `jobs` refuses a file with this fault.
+// Returns the line that the command `jobs` prints for this fault.
 fn refusal<R: AllocGlobal>(rt: &R, first: &JobsFault) -> Result<String, AllocError> {
     let mut line = fault_line(rt.alloc(), &RunFault::Jobs(*first))?;
     line.push('\n')?;

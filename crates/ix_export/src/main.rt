@@ -1,9 +1,9 @@
-//! `ix_export`: cuts subgraphs out of CARv1 files.
+//! `ix_export`: exports subgraphs of CARv1 files.
 //!
-//! It reads the words and the files, has `ix_run` and `ix_notation` answer, prints that and gives
-//! its status. The first fault is told by one line on standard error, in the order in which it
-//! goes: words, blocks, job file, what they hold, outputs; the status is then 2. That it prints
-//! what they answer is tested, and no contract says it.
+//! It reads the arguments and the files, calls `ix_run` and `ix_notation`, prints their results and
+//! returns the exit status. One line on standard error reports the first error, checked in this order:
+//! arguments, blocks, job file, their contents, outputs; the status is then 2. Tests, and no contract,
+//! show that it prints these results.
 //!
 //! ```sh
 //! ix_export jobs --blocks examples/library.car --jobs examples/library.jobs --out out
@@ -51,19 +51,19 @@ use std::thread::Threads;
 use std::{io, thread};
 use words::{arguments, command_line, judge_inputs, judge_output, part_of};
 
-// How many visits wait between the walkers and the verifiers, and how many verdicts behind each
-// verifier: about as many as come while a thread that waits sleeps a few times.
+// The capacity of the queue, in visits, and of each verifier's lane, in verdicts: about as many as come
+// while a waiting thread sleeps a few times.
 const QUEUE: u32 = 1024;
 
 const LANE: u32 = 256;
 
-// After so many milliseconds a terminal is told how a run goes on, whether that was asked for or not.
+// After so many milliseconds a terminal shows progress by default.
 const SHORT_RUN: u64 = 2_000;
 
-// The status of a text that is no selector.
+// The status of a text that is not a selector.
 const REFUSED: u8 = 2;
 
-// Which of the standard streams that are written are terminals.
+// Whether standard output and standard error are terminals.
 #[derive(Clone, Copy)]
 struct Terminals {
     output: bool,
@@ -78,7 +78,7 @@ fn main(rt: HostRuntime) -> ExitCode {
     ExitCode::from(obey(&rt, terminals))
 }
 
-// Does what the arguments say, and returns the status.
+// Runs the command that the arguments name, and returns the status.
 fn obey<
     R: AllocGlobal
         + Clock
@@ -97,7 +97,7 @@ fn obey<
     }
 }
 
-// Does what these arguments say.
+// Runs the command that these arguments name.
 fn obey_words<
     R: AllocGlobal + Clock + Eprint + Files<File = File> + Input + Print + Threads + Wait + Sync,
 >(rt: &R, words: &[String], terminals: Terminals) -> u8 {
@@ -110,7 +110,7 @@ fn obey_words<
     }
 }
 
-// The status of a command, whose failure is reported.
+// Returns the status of a command, and reports its failure.
 fn status_of<R: AllocGlobal + Eprint + Print>(
     rt: &R,
     outcome: Result<u8, Failure>,
@@ -122,14 +122,14 @@ fn status_of<R: AllocGlobal + Eprint + Print>(
     }
 }
 
-// Prints the help or the version, where the arguments asked for it.
+// Prints the help or the version, if the arguments asked for it.
 fn print_help<R: AllocGlobal + Eprint + Print>(rt: &R, error: clap::Error) -> Result<u8, Failure> {
     Help::asked_for(error)?.print(rt)?;
     Ok(0)
 }
 
-// Does what the command says that the arguments name. With `jobs` and `root` a failure has one line, and
-// its cause where that is asked for.
+// Runs a command. The errors of `jobs` and `root` have one line, and their cause on a second with
+// `--verbose`.
 fn obey_command<
     'a,
     R: AllocGlobal + Clock + Eprint + Files<File = File> + Input + Print + Threads + Wait + Sync,
@@ -148,7 +148,7 @@ fn obey_command<
     status_of(rt, result, causes)
 }
 
-// Whether the cause of a failure is reported.
+// Returns how the cause of a failure is reported.
 fn causes_of<'a>(words: &ArgMatches<'a>) -> Causes {
     if words.get_flag("verbose") {
         Causes::Below
@@ -157,7 +157,7 @@ fn causes_of<'a>(words: &ArgMatches<'a>) -> Causes {
     }
 }
 
-// The command `selector`: from JSON to hexadecimal, or back.
+// Runs the command `selector`: converts JSON to hex, or back.
 fn convert_selector<'a, R: AllocGlobal + Eprint + Input + Print>(
     rt: &R,
     words: &ArgMatches<'a>,
@@ -175,7 +175,7 @@ fn convert_selector<'a, R: AllocGlobal + Eprint + Input + Print>(
     }
 }
 
-// Prints the selector of a JSON text in hexadecimal, or tells why there is none.
+// Prints the selector of a JSON text in hex, or why there is none.
 fn convert_json<R: AllocGlobal + Eprint + Print>(rt: &R, text: &[u8]) -> Result<u8, Failure> {
     match hex_of_json(rt.alloc(), text) {
         Ok(line) => print_answer(rt, Ok(line)),
@@ -183,30 +183,31 @@ fn convert_json<R: AllocGlobal + Eprint + Print>(rt: &R, text: &[u8]) -> Result<
     }
 }
 
-// Tells why a text is no selector.
+// Prints why a text is not a selector.
 fn refuse_selector<R: AllocGlobal + Eprint>(
     rt: &R,
     told: Result<String, AllocError>,
 ) -> Result<u8, Failure> {
     let told = told?;
-    // Where standard error can't be written there is nobody to tell.
+    // If standard error can't be written, there is no one to report to.
     let _ = rt.eprintln(told.as_str());
     Ok(REFUSED)
 }
 
-// The command `root`: its faults come in the order text, standard input, hexadecimal, CAR.
+// Runs the command `root`. Its first error is reported, checked in this order: CID, standard input,
+// hex, CAR file.
 fn export_one<R: AllocGlobal + Input + Print>(rt: &R, text: &str) -> Result<u8, Failure> {
     print_answer(rt, archive_of_one(rt, text))
 }
 
-// What it prints.
+// Returns what `root` prints.
 fn archive_of_one<R: AllocGlobal + Input>(rt: &R, text: &str) -> Result<String, Failure> {
     let root = root_of_text(rt.alloc(), text)?;
     let input = read_all(rt.alloc(), rt.reader(), 0, "-")?;
     printed_root(rt.alloc(), root, input.as_slice()).map_err(Failure::from)
 }
 
-// Prints a text that is all the answer, where there is one.
+// Prints the whole output of a command, if there is one.
 fn print_answer<R: AllocGlobal + Print>(
     rt: &R,
     text: Result<String, Failure>,
@@ -214,8 +215,8 @@ fn print_answer<R: AllocGlobal + Print>(
     print_all(rt, text?.as_bytes()).map(|()| 0)
 }
 
-// The command `jobs`: its faults come in the order blocks, job file, what they hold, outputs. A run
-// that is refused leaves no output.
+// Runs the command `jobs`. Its first error is reported, checked in this order: blocks, job file, their
+// contents, outputs. A run that is rejected leaves no output.
 fn export_jobs<
     'a,
     R: AllocGlobal + Clock + Eprint + Files<File = File> + Input + Print + Threads + Wait + Sync,
@@ -226,7 +227,7 @@ fn export_jobs<
     status
 }
 
-// How it is told how the run goes on.
+// Returns how progress is shown.
 fn telling<'a>(words: &ArgMatches<'a>, is_terminal: bool) -> Telling {
     let is_asked = words.get_flag("progress");
     if words.get_flag("quiet") {
@@ -240,7 +241,7 @@ fn telling<'a>(words: &ArgMatches<'a>, is_terminal: bool) -> Telling {
     }
 }
 
-// The same, which tells how it goes on.
+// Runs the command `jobs` with this progress.
 fn export_told<
     'a,
     R: AllocGlobal + Clock + Eprint + Files<File = File> + Input + Print + Threads + Wait + Sync,
@@ -258,13 +259,13 @@ fn export_told<
     }
 }
 
-// The word with this name, which the command line has let be left out nowhere.
+// Returns the argument with this name, which the command line requires.
 fn word<'a>(words: &ArgMatches<'a>, name: &str) -> &'a str {
     words.get_str(name).unwrap_or("")
 }
 
-// The same of what these files hold. What stands in for closed streams comes behind the inputs, so that
-// standard input that is closed can't be read as one without bytes.
+// Exports the contents of these files. Closed streams are occupied only after the inputs were read, so
+// a closed standard input is an error and not an empty input.
 fn export_files<
     'a,
     R: AllocGlobal + Clock + Eprint + Files<File = File> + Print + Threads + Wait + Sync,
@@ -286,13 +287,13 @@ fn export_files<
     status
 }
 
-// Doesn't free the blocks, since nothing but the status is left to do: the system takes all memory back at the end of the
-// process, in less time than a million blocks take to be freed.
+// Leaks the blocks, since only the status is left to return. At the end of the process the system takes
+// all memory back, in less time than a million blocks take to be freed.
 fn leave_to_the_system(store: Arc<Store>) {
     let _left = ManuallyDrop::new(store);
 }
 
-// What the file of blocks and the job file hold, of which these jobs are chosen. So many threads index the blocks.
+// Loads the block file and the chosen jobs of the job file. So many threads index the blocks.
 fn load_files<R: AllocGlobal + Clock + Eprint + Files + Input + Threads + Sync>(
     rt: &R,
     inputs: [&str; 2],
@@ -311,12 +312,12 @@ fn load_files<R: AllocGlobal + Clock + Eprint + Files + Input + Threads + Sync>(
     }
 }
 
-// A fault of files, with what is known of a file of this kind that is no CARv1 file.
+// Adds what is known of the cause to an error of the inputs. The kind is that of the block file.
 pub(crate) fn explained<R: AllocGlobal>(rt: &R, fault: RunFault, kind: Kind) -> Failure {
     let why = match &fault {
         RunFault::Car(found) if found.kind == CarKind::Memory => return Failure::from(fault),
         RunFault::Car(found) if found.place == 0 => inspect::words_of(kind),
-        RunFault::Car(_) => "the command inspect says how the sections before are kept",
+        RunFault::Car(_) => "ix_export inspect says how to keep the sections before it",
         _ => return Failure::from(fault),
     };
     match String::from_str(rt.alloc(), why) {
@@ -325,8 +326,7 @@ pub(crate) fn explained<R: AllocGlobal>(rt: &R, fault: RunFault, kind: Kind) -> 
     }
 }
 
-// Runs the jobs of these files, and makes and names their outputs, or removes them where the run is
-// refused.
+// Runs the jobs, and makes and names their outputs. If the run is rejected, it removes them.
 fn export_loaded<
     'a,
     R: AllocGlobal + Clock + Eprint + Files<File = File> + Print + Threads + Wait + Sync,
@@ -358,7 +358,7 @@ fn export_loaded<
     }
 }
 
-// Names the outputs of a run, prints its report, and then says what else the user should know.
+// Names the outputs of a run, prints its report, and then the notes.
 fn name_and_report<'a, 'o, R: AllocGlobal + Eprint + Files<File = File> + Print>(
     rt: &R,
     words: &ArgMatches<'a>,
@@ -376,15 +376,15 @@ fn name_and_report<'a, 'o, R: AllocGlobal + Eprint + Files<File = File> + Print>
     Ok(out.status)
 }
 
-// Says on standard error what the user should know besides the report. Where that can't be written, or no
-// memory is left, there is nobody to say it to.
+// Prints notes to standard error. If it can't be written, or memory runs out, there is no one to report
+// to.
 pub(crate) fn tell_notes<R: Eprint>(rt: &R, notes: Result<String, AllocError>) {
     if let Ok(notes) = notes {
         let _ = rt.eprint(notes.as_str());
     }
 }
 
-// Which outputs get names.
+// Returns which outputs get names.
 fn naming<'a>(words: &ArgMatches<'a>) -> Naming {
     if words.get_flag("complete") {
         Naming::Complete
@@ -393,7 +393,7 @@ fn naming<'a>(words: &ArgMatches<'a>) -> Naming {
     }
 }
 
-// Runs the jobs by as many threads as the words say, and tells how it goes on where they ask for that.
+// Runs the jobs with as many threads as the arguments ask for, and shows progress if they ask for it.
 fn run_by_words<'a, R: AllocGlobal + Clock + Eprint + Threads + Wait + Sync, W: Write + Drop>(
     rt: &R,
     words: &ArgMatches<'a>,
@@ -424,13 +424,13 @@ fn run_by_words<'a, R: AllocGlobal + Clock + Eprint + Threads + Wait + Sync, W: 
     run_watched(rt, alloc, input, writers, progress)
 }
 
-// How many threads index the blocks: as many as walk and hash, where there are processors for them.
+// Returns how many threads index the blocks: as many as walk and hash, but no more than processors.
 fn loaders<'a, R: Threads>(rt: &R, words: &ArgMatches<'a>) -> usize {
     let asked = threads(words, "walkers") as usize + threads(words, "verifiers") as usize;
     at_most_processors(rt, asked)
 }
 
-// So many threads, or as many as there are processors.
+// Returns this number of threads, or the number of processors if that is less.
 fn at_most_processors<R: Threads>(rt: &R, asked: usize) -> usize {
     match thread::available_parallelism(rt) {
         Ok(processors) => asked.min(processors.get()),
@@ -438,15 +438,14 @@ fn at_most_processors<R: Threads>(rt: &R, asked: usize) -> usize {
     }
 }
 
-// How many threads the option with this name asks for. The command line has let no number through
-// but 1 to 64.
+// Returns the number of threads that an option asks for. The command line accepts only 1 to 64.
 fn threads<'a>(words: &ArgMatches<'a>, name: &str) -> u32
     ensures { (1 ≤ result) × (result ≤ 64) }
 {
     words.get_one(name).unwrap_or(4).clamp(1, 64)
 }
 
-// Writes to standard output.
+// Writes a text to standard output.
 pub(crate) fn print_all<R: AllocGlobal + Print>(rt: &R, text: &[u8]) -> Result<(), Failure> {
     io::writer(rt)
         .write_all(text)

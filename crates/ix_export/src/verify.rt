@@ -13,7 +13,7 @@ use std::num::NonZeroUsize;
 use std::rt::Files;
 use std::thread::Threads;
 
-// The status where something isn't sound, and where a file is refused.
+// The status if something isn't sound, and the status if a file is rejected.
 const BROKEN: u8 = 3;
 
 const REFUSED: u8 = 2;
@@ -21,7 +21,7 @@ const REFUSED: u8 = 2;
 // How many findings of a file are printed without `--all`.
 const FIRST: usize = 20;
 
-const ABOUT: &str = "Tells whether CARv1 files are sound: sections, and all below roots";
+const ABOUT: &str = "Check CARv1 files: each section, and every link from the roots";
 
 const HELP: &str =
     "Each FILE is a CARv1 file; - is standard input. Each section is checked by its\n\
@@ -51,7 +51,7 @@ has nothing to follow.\n\
 \x20 ix_export verify --all library.car | grep ' link missing '\n\
 \n\
 Status: 0 if all is sound, 3 if something isn't, 2 if the arguments or a file\n\
-are refused.";
+are rejected.";
 
 /// The command.
 pub(crate) static VERIFY: CommandWords = CommandWords {
@@ -62,23 +62,24 @@ pub(crate) static VERIFY: CommandWords = CommandWords {
         Word {
             name: "file",
             given: Given::Places("FILE"),
-            help: "CARv1 files; - is standard input",
+            help: "CARv1 files, or - for standard input",
         },
         Word {
             name: "blocks-only",
             given: Given::Flag,
-            help: "Judges the sections alone",
+            help: "Check the sections alone, without links",
         },
         Word {
             name: "all",
             given: Given::Flag,
-            help: "Prints every finding, the line of the file last",
+            help: "Print every finding, the line of the file last",
         },
         VERIFIERS,
     ],
 };
 
-/// Does what the words say, and answers the status. After a file that is refused the others are verified.
+/// Runs the command `verify` and returns the status. After a file that is rejected it goes on with the
+/// next.
 pub fn verify_files<'a, R: AllocGlobal + Eprint + Files + Input + Print + Threads + Sync>(
     rt: &R,
     words: &ArgMatches<'a>,
@@ -94,7 +95,7 @@ pub fn verify_files<'a, R: AllocGlobal + Eprint + Files + Input + Print + Thread
     Ok(status)
 }
 
-// The status of two files, by those of each.
+// Returns the status of two files from the status of each.
 fn worse(status: u8, other: u8) -> u8 {
     match (status, other) {
         (REFUSED, _) | (_, REFUSED) => REFUSED,
@@ -135,18 +136,18 @@ fn verify_file<'a, R: AllocGlobal + Eprint + Files + Input + Print + Threads + S
     }
 }
 
-// Prints why a file is refused.
+// Prints why a file is rejected.
 fn refuse<R: Eprint>(rt: &R, path: &str, fault: CarFault) -> Result<u8, Failure> {
     let CarFault { kind, place } = fault;
     if kind == CarKind::Memory {
         return Err(Failure::Fault(RunFault::Memory));
     }
-    // If standard error can't be written, nobody can be told.
+    // If standard error can't be written, there is no one to report to.
     let _ = eprintln!(rt; "{path}: {kind} at {place}");
     Ok(REFUSED)
 }
 
-// What is printed of a file.
+// The report on a file.
 #[derive(Drop)]
 struct Report<'a> {
     path: &'a str,
@@ -176,7 +177,8 @@ impl From<io::Error> for Stop {
     }
 }
 
-// Prints the report on a file, and answers its status. If the reader closed the pipe, the rest isn't wanted.
+// Prints the report on a file and returns its status. If the reader closed the pipe, the rest isn't
+// wanted.
 fn print_report<R: AllocGlobal + Print>(rt: &R, report: &Report<'_>) -> Result<u8, Failure> {
     let status = if report.found.is_sound() { 0 } else { BROKEN };
     match write_report(rt, report) {
@@ -203,7 +205,7 @@ fn write_report<R: AllocGlobal + Print>(rt: &R, report: &Report<'_>) -> Result<(
     Ok(())
 }
 
-// The line of the file.
+// Writes the line of the file.
 fn write_summary<W: Write>(alloc: Global, output: &mut W, report: &Report<'_>) -> Result<(), Stop> {
     let Report {
         path,
@@ -224,7 +226,8 @@ fn write_summary<W: Write>(alloc: Global, output: &mut W, report: &Report<'_>) -
     Ok(())
 }
 
-// A line for each finding, no more than so many, and how many more there are; whether the walk ended at its limit.
+// Writes a line for each finding, up to the most, then how many more there are, and whether the walk
+// ended at its limit.
 fn write_findings<W: Write>(
     alloc: Global,
     output: &mut W,
@@ -257,7 +260,7 @@ fn write_findings<W: Write>(
     Ok(())
 }
 
-// A line for a section with this CID.
+// Writes the line for a section with this CID.
 fn write_section<W: Write>(
     output: &mut W,
     section: &Unsound,

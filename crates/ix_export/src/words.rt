@@ -1,4 +1,4 @@
-//! The words of the command line.
+//! The arguments of the command line.
 
 use crate::commands::{
     BLOCKS, CommandWords, Given, PROGRESS, VERBOSE, VERIFIERS, WALKERS, Word, command_of, refusal,
@@ -20,23 +20,23 @@ use std::rt::Env;
 const VERSION: &str = "1.0.0, proved in Rattle's logic dac8208d650f15bf";
 
 // The texts of the help.
-const ABOUT: &str = "Cuts subgraphs out of CARv1 files";
+const ABOUT: &str = "Export subgraphs of CARv1 files";
 
-const HELP: &str = "Exported are blocks of the codecs raw and DAG-CBOR under SHA-256 and SHA-512.\n\
-Links inside an identity CID, which holds its bytes itself, are followed. A\n\
+const HELP: &str = "Blocks of the codecs raw and DAG-CBOR under SHA-256 and SHA-512 are exported.\n\
+Links inside an identity CID, whose digest is the block itself, are followed. A\n\
 link of another codec or hash is reported as skipped. UnixFS (codec dag-pb)\n\
 isn't read.";
 
-const ROOT_ABOUT: &str = "Writes the archive of one root, out of hexadecimal and in it";
+const ROOT_ABOUT: &str = "Export the archive of one block, from hex to hex";
 
-const ROOT_HELP: &str = "The archive has the root's block alone, where it is there and sound.\n\
+const ROOT_HELP: &str = "The archive has the block of the CID alone, if it is there and sound.\n\
 \n\
-Standard input is a CARv1 file in hexadecimal; spaces, tabs and line ends are\n\
-skipped. Status: 0 where an archive was printed, 2 where the words or the input\n\
-are refused, with a line on standard error and, with --verbose, the cause on\n\
+Standard input is a CARv1 file in hex; spaces, tabs and line ends are skipped.\n\
+Status: 0 if an archive was printed, 2 if the arguments or the input are\n\
+rejected, with a line on standard error and, with --verbose, the cause on\n\
 another.";
 
-const JOBS_ABOUT: &str = "Writes an archive for each job of a job file, and a report";
+const JOBS_ABOUT: &str = "Export an archive for each job of a job file, and print a report";
 
 const JOBS_HELP: &str =
     "Each line of the job file is a job, NAME ROOTS LIMIT SELECTOR with one space\n\
@@ -44,68 +44,68 @@ between:\n\
 \n\
 \x20 photos bafkreif2pall7dybz7vecqka3zo24irdwabwdi4wc55jznaq75q7eaavvu 9 a1612ea0\n\
 \n\
-NAME is 1 to 64 of a to z, 0 to 9, - and _, ROOTS are the texts of 1 to 64\n\
-CIDv1s (base32) with one comma between, LIMIT is how many arrivals at blocks\n\
-there may be from all roots together, 1 to 1000000, and SELECTOR is an IPLD\n\
-selector as DAG-CBOR in hexadecimal, which the command `selector` makes of\n\
-JSON. A block that is linked twice is arrived at twice: it counts twice, and is\n\
-hashed once. Empty lines and lines that begin with # are ignored. There are\n\
-at most 1000 jobs.\n\
+NAME      1 to 64 characters of [a-z0-9_-], unique in the file\n\
+ROOTS     1 to 64 comma-separated CIDv1s in base32\n\
+LIMIT     the link budget from all roots together, 1 to 1000000\n\
+SELECTOR  an IPLD selector as DAG-CBOR in hex: see the command `selector`\n\
 \n\
-With --part K/N the K-th of N parts of the jobs is run: of J jobs, numbered\n\
-from 0, those from (K-1)*J/N up to, and not including, K*J/N, both rounded\n\
-down. So the parts 1 to N are all jobs. The whole file is read and judged,\n\
-whatever the part; it may have 1000000 jobs, and a part 1000.\n\
+A block with two links to it is visited twice: it counts twice, and is hashed\n\
+once. Empty lines and lines that begin with # are ignored. There are at most\n\
+1000 jobs.\n\
+\n\
+With --part K/N the K-th of N parts of the jobs is run: of J jobs, numbered from\n\
+0, those from (K-1)*J/N up to, and not including, K*J/N, both rounded down. So\n\
+the parts 1 to N are all jobs. The whole file is read and checked, whatever the\n\
+part; it may have 1000000 jobs, and a part 1000.\n\
 \n\
 A job has one archive, whose header names its roots in their order, and which\n\
 has each block once.\n\
 \n\
 The archive of a job is written to DIR/NAME.car.part. When the run has ended it\n\
-is named DIR/NAME.car, in place of a file that is there, where its job ended\n\
-with done or limit; otherwise DIR/NAME.car stays as it was. DIR must be there.\n\
-As many files are open at once as there are jobs. The report on standard output\n\
-has a line for each job, how it ended (done, limit, memory, write, start) and\n\
-what was counted, then a line for each link that was skipped (codec, hash,\n\
-missing, damaged, malformed), and at last the totals. Skipped are links of\n\
-other codecs than raw and DAG-CBOR and of other hashes than SHA-256, SHA-512\n\
-and identity; UnixFS isn't read. An identity CID holds its bytes itself: links\n\
+is renamed to DIR/NAME.car if its job ended with done or limit, and replaces a\n\
+file with that name; otherwise DIR/NAME.car stays as it was. DIR must exist. As\n\
+many files are open at once as there are jobs. The report on standard output has\n\
+a line for each job, how it ended (done, limit, memory, write, start) and its\n\
+counts, then a line for each link that was skipped (codec, hash, missing,\n\
+damaged, malformed), and at last the totals. Links of other codecs than raw and\n\
+DAG-CBOR and of other hashes than SHA-256, SHA-512 and identity are skipped;\n\
+UnixFS isn't read. The digest of an identity CID is the block itself: links\n\
 inside it are followed, and it has no block in the archive.\n\
 \n\
-With --once a job goes into a CID the first time that it arrives there with the\n\
-same rest of its selector, and only where the block is sound. Later arrivals\n\
-count as visits, with nothing below them. So a graph has about as many visits\n\
-as links, and the archive is the same where both ways are within the limit.\n\
+With --once a job expands a block at its first visit with the same residual\n\
+selector, and only if the block is sound. Later visits count, with nothing below\n\
+them. So a graph has about as many visits as links. The archive is the same\n\
+unless a run hits its limit.\n\
 \n\
 With --complete only the archives of jobs that are done, with no root skipped,\n\
-get their names; the others stay as .part, and a line on standard error says\n\
-why. Without it a file that is there is replaced by an archive that\n\
-lacks something too, and a line on standard error warns of that.\n\
+are renamed; the others stay as .part, and a line on standard error says why.\n\
+Without it a file may be replaced by an archive that lacks something; a line on\n\
+standard error warns of that.\n\
 \n\
 With --sync each archive is on the disk before its job counts as done: a disk\n\
 that is full or fails only then ends the job with write.\n\
 \n\
-With --progress standard error is told how many jobs of all are closed, how\n\
-many visits were delivered and how much of archives was written: a terminal in\n\
-one line that is rewritten, also without the option where a run takes more than\n\
-two seconds, and a file in lines, one a second at most.\n\
+With --progress standard error gets the number of jobs that are closed, of\n\
+visits and of bytes written. On a terminal it rewrites one line (the default for\n\
+runs over two seconds); otherwise it prints at most one line per second.\n\
 \n\
-Status: 0 where every job is done and nothing was skipped, 3 where every job is\n\
-done and something was skipped, 4 where a job ended otherwise, 2 where the\n\
-words or a file are refused, with a line on standard error, and with --verbose\n\
-the cause on another. A file has at most 1073741824 bytes.";
+Status: 0 if every job is done and nothing was skipped, 3 if every job is done\n\
+and something was skipped, 4 if a job ended otherwise, 2 if the arguments or a\n\
+file are rejected, with a line on standard error, and with --verbose the cause\n\
+on another. A file has at most 1073741824 bytes.";
 
-const SELECTOR_ABOUT: &str = "Turns a selector from JSON into hexadecimal, or back";
+const SELECTOR_ABOUT: &str = "Convert a selector from JSON to hex, or back";
 
 const SELECTOR_HELP: &str =
-    "JSON has the keys of the IPLD Selectors specification. All below a root is\n\
+    "JSON has the keys of the IPLD Selectors specification. Everything below a root:\n\
 \n\
 \x20 {\"R\":{\"l\":{\"none\":{}},\":>\":{\"a\":{\">\":{\"@\":{}}}}}}\n\
 \n\
-Without JSON and --hex, or where JSON is -, it is read from standard input.\n\
-docs/SELECTORS.md has the forms and recipes. Status: 0 where a line was\n\
-printed, 2 where it is no selector, with a line that says why.";
+Without JSON and --hex, or if JSON is -, it is read from standard input.\n\
+docs/SELECTORS.md has the forms and recipes. Status: 0 if a line was printed, 2\n\
+if the text is not a selector, with a line that says why.";
 
-/// The arguments of the process, of which the first is the program's name.
+/// Returns the arguments of the process. The first is the program's name.
 pub fn arguments<R: AllocGlobal + Env>(rt: &R) -> Result<Vec<String>, Failure> {
     match env::args(rt) {
         Ok(arguments) => arguments.collect(rt.alloc()).map_err(Failure::from),
@@ -113,8 +113,8 @@ pub fn arguments<R: AllocGlobal + Env>(rt: &R) -> Result<Vec<String>, Failure> {
     }
 }
 
-// The first argument that isn't UTF-8, its bytes escaped where they are no printed ASCII. A longer one than
-// there is room for is only named.
+// Returns the first argument that isn't UTF-8, with bytes other than printed ASCII escaped. If it is
+// longer than the buffer, the text says only that.
 fn first_other_than_utf8<R: AllocGlobal + Env>(rt: &R) -> Result<String, AllocError> {
     let mut room = [0u8; 1024];
     for number in 0..usize::MAX {
@@ -132,7 +132,7 @@ fn first_other_than_utf8<R: AllocGlobal + Env>(rt: &R) -> Result<String, AllocEr
     String::from_str(rt.alloc(), "one of over 1024 bytes")
 }
 
-// An argument as it is reported, with its number.
+// Returns an argument as it is reported, with its number.
 fn quoted(alloc: Global, number: usize, argument: &[u8]) -> Result<String, AllocError> {
     let mut text = format!(in alloc; "number {number}, '")?;
     for byte in argument {
@@ -145,7 +145,7 @@ fn quoted(alloc: Global, number: usize, argument: &[u8]) -> Result<String, Alloc
     Ok(text)
 }
 
-/// The command line, of which the help is made.
+/// Makes the command line, which has the help.
 pub fn command_line<'a>(alloc: Global) -> Result<Command<'a>, AllocError> {
     Command::new(alloc, "ix_export")
         .about(ABOUT)
@@ -155,14 +155,14 @@ pub fn command_line<'a>(alloc: Global) -> Result<Command<'a>, AllocError> {
         .subcommands(commands(alloc)?)
 }
 
-// The commands that stand behind the program's name.
+// Makes the commands.
 fn commands<'a>(alloc: Global) -> Result<Vec<Command<'a>>, AllocError> {
     let mut commands = Vec::new(alloc);
     push_commands(alloc, &mut commands)?;
     Ok(commands)
 }
 
-// Adds each of them, with no command to let go of where it ends early.
+// Adds each command. It owns none of them, so an early return has none to drop.
 fn push_commands<'a>(alloc: Global, commands: &mut Vec<Command<'a>>) -> Result<(), AllocError> {
     let tables = [
         &GET,
@@ -180,7 +180,7 @@ fn push_commands<'a>(alloc: Global, commands: &mut Vec<Command<'a>>) -> Result<(
     Ok(())
 }
 
-// Adds a command, where there was memory for it.
+// Adds a command, unless memory ran out for it.
 fn push_command<'a>(
     commands: &mut Vec<Command<'a>>,
     command: Result<Command<'a>, AllocError>,
@@ -200,7 +200,7 @@ static ROOT: CommandWords = CommandWords {
         Word {
             name: "cid",
             given: Given::Needed("TEXT"),
-            help: "The CID of the root",
+            help: "CIDv1 of the root, in base32",
         },
         VERBOSE,
     ],
@@ -216,40 +216,40 @@ static JOBS: CommandWords = CommandWords {
         Word {
             name: "jobs",
             given: Given::Needed("FILE"),
-            help: "The job file, or - for standard input",
+            help: "Job file, or - for standard input",
         },
         Word {
             name: "out",
             given: Given::Needed("DIR"),
-            help: "Where the archives go",
+            help: "Directory for the archives; it must exist",
         },
         Word {
             name: "part",
             given: Given::Free("K/N"),
-            help: "The K-th of N parts of the jobs, N up to 1000000",
+            help: "Run the K-th of N parts of the jobs, N up to 1000000",
         },
         WALKERS,
         VERIFIERS,
         Word {
             name: "once",
             given: Given::Flag,
-            help: "Goes into what is shared once, not at every arrival",
+            help: "Expand a block once, not at every link to it",
         },
         Word {
             name: "sync",
             given: Given::Flag,
-            help: "Each archive is on the disk before its job is done",
+            help: "Sync each archive to disk before its job is done",
         },
         Word {
             name: "complete",
             given: Given::Flag,
-            help: "Names only archives of done jobs with no root skipped",
+            help: "Rename only archives of done jobs, no root skipped",
         },
         PROGRESS,
         Word {
             name: "quiet",
             given: Given::Flag,
-            help: "No progress, not on a terminal either",
+            help: "No progress",
         },
         VERBOSE,
     ],
@@ -264,17 +264,17 @@ static SELECTOR: CommandWords = CommandWords {
         Word {
             name: "json",
             given: Given::FreePlace("JSON"),
-            help: "The selector as JSON",
+            help: "IPLD selector as JSON",
         },
         Word {
             name: "hex",
             given: Given::Without("TEXT", "json"),
-            help: "The selector in hexadecimal, to be printed as JSON",
+            help: "IPLD selector in hex, to be printed as JSON",
         },
     ],
 };
 
-/// Refuses standard input for both the blocks and the job file.
+/// Rejects standard input for both the blocks and the job file.
 pub fn judge_inputs(alloc: Global, inputs: [&str; 2]) -> Result<(), clap::Error> {
     if inputs[0] == STANDARD_INPUT && inputs[1] == STANDARD_INPUT {
         return Err(refused_inputs(alloc)?);
@@ -282,7 +282,7 @@ pub fn judge_inputs(alloc: Global, inputs: [&str; 2]) -> Result<(), clap::Error>
     Ok(())
 }
 
-// What is told of standard input for both.
+// Makes the error for standard input as both inputs.
 fn refused_inputs(alloc: Global) -> Result<clap::Error, AllocError> {
     refusal(
         alloc,
@@ -293,7 +293,7 @@ fn refused_inputs(alloc: Global) -> Result<clap::Error, AllocError> {
     )
 }
 
-/// Rejects an output folder without a name, which would be the root folder.
+/// Rejects an empty output directory, which would be the root directory.
 pub fn judge_output(alloc: Global, folder: &str) -> Result<(), clap::Error> {
     if folder.is_empty() {
         return Err(refused_value(alloc, &JOBS, "ix_export jobs", "--out <DIR>")?);
@@ -301,7 +301,7 @@ pub fn judge_output(alloc: Global, folder: &str) -> Result<(), clap::Error> {
     Ok(())
 }
 
-/// What is reported of an option that is given without a value.
+/// Makes the error for an option whose value is empty.
 pub(crate) fn refused_value(
     alloc: Global,
     table: &'static CommandWords,
@@ -318,7 +318,7 @@ pub(crate) fn refused_value(
     )
 }
 
-/// The part of the job file that the words of the command `jobs` ask for, or the whole.
+/// Returns the part of the job file that `--part` asks for, or None for the whole file.
 pub fn part_of<'a>(alloc: Global, words: &ArgMatches<'a>) -> Result<Option<Part>, clap::Error> {
     let Some(text) = words.get_str("part") else {
         return Ok(None);
@@ -329,13 +329,13 @@ pub fn part_of<'a>(alloc: Global, words: &ArgMatches<'a>) -> Result<Option<Part>
     }
 }
 
-// The part that a text names.
+// Parses a part, K/N.
 fn part_in(text: &str) -> Option<Part> {
     let (number, of) = text.split_once('/')?;
     Part::new(number.parse().ok()?, of.parse().ok()?)
 }
 
-// What is told of a text that names none.
+// Makes the error for a text that isn't a part.
 fn refused_part<'a>(alloc: Global, text: &str) -> Result<clap::Error, AllocError> {
     let message = format!(in alloc;
         "invalid value '{text}' for '--part <K/N>': K is from 1 to N, and N from 1 to 1000000"

@@ -1,4 +1,4 @@
-//! Exports by walkers and verifiers that wait for one another, and by some that find no memory or
+//! Exports by walkers and verifiers that wait for one another, and by some that run out of memory or
 //! aren't started.
 
 ghost use Rattle.std.specs.Prelude.{◌≡◌, [], length, vec_len, IfOk};
@@ -89,7 +89,7 @@ impl Gate for HeldGate {
     }
 }
 
-// An archive in memory that was told nothing so far.
+// An archive in memory that received nothing so far.
 fn archive_of<'a>(alloc: Global, store: &'a Store, job: &Job) -> Result<Archive<'a, Vec<u8>>, Fail>
     ensures events { IfOk result (λ a. events_of a ≡ []) }
     ensures failed { IfOk result (λ a. a.failed ≡ []) }
@@ -116,7 +116,7 @@ fn archives_of<'a>(
     Ok(archives)
 }
 
-/// What an archive in memory is left with.
+/// The final state of an archive in memory.
 #[derive(Drop)]
 pub struct Left {
     pub bytes: Vec<u8>,
@@ -124,7 +124,7 @@ pub struct Left {
     pub counts: Counts,
 }
 
-/// Exports into such archives: what each is left with, and what the export leaves.
+/// Exports into such archives. Returns the final state of each, and the result of the export.
 pub fn archived<C, G, R>(
     rt: &R,
     alloc: Global,
@@ -204,7 +204,7 @@ fn held_walkers(rt: HostRuntime) -> Result<(), Fail> {
     Ok(())
 }
 
-// An archive has so many sections, which are a beginning of this one, and skips nothing.
+// An archive has so many sections, which are a prefix of this one, and skips nothing.
 fn has_begun(rt: &impl Abort, left: &Left, sections: u32, bytes: u64, whole: &[u8]) {
     let wanted = Counts {
         visits: sections,
@@ -218,7 +218,7 @@ fn has_begun(rt: &impl Abort, left: &Left, sections: u32, bytes: u64, whole: &[u
     assert!(rt; left.skips.is_empty());
 }
 
-// Each of two checks finds no memory for the third visit of the first job.
+// Each of two checks runs out of memory at the third visit of the first job.
 #[test]
 fn refused_memory(rt: HostRuntime) -> Result<(), Fail> {
     let alloc = rt.alloc();
@@ -238,7 +238,7 @@ fn refused_memory(rt: HostRuntime) -> Result<(), Fail> {
     Ok(())
 }
 
-// What was written is a beginning of the whole archive, with as many bytes as the end says.
+// What was written is a prefix of the whole archive, with as many bytes as the end says.
 fn says_what_was_written(rt: &impl Abort, end: End, written: &[u8], whole: &[u8]) {
     assert!(rt; whole.starts_with(written));
     match end {

@@ -50,7 +50,7 @@ pub fn plan_of(walkers: u32, queue: u32, lane: u32) -> Plan
     }
 }
 
-/// What an export left, where it could begin.
+/// Returns the result of an export, if it could start.
 pub fn started<C: Check + Drop>(
     out: Result<Outcome<C>, NotStarted<C>>,
 ) -> Result<Outcome<C>, Fail> {

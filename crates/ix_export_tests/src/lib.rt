@@ -1,9 +1,8 @@
 //! Tests of exports, to sinks, by checks and through gates of a test's own; of runs, by a check and
 //! to writers of a test's own; of exports whose threads can't all be started; and of the lines of
-//! refusals.
+//! errors.
 //!
-//! It has no public call and promises nothing: what its tests find is what they say. An export in a
-//! test is as
+//! It has no public call and no contract: its tests are its results. An export in a test looks like this:
 //!
 //! ```rust
 //! let ExportInput { store, jobs } = chain(alloc, 2)?;

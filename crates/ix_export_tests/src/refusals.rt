@@ -1,4 +1,4 @@
-//! The lines of refusals, also of those that no input gives.
+//! The lines of errors, also of those that no input gives.
 
 use ix_car::{CarFault, CarKind};
 use ix_cid::CidFault;

@@ -1,4 +1,4 @@
-//! Runs with a check that finds no memory, and with a writer of a test's own.
+//! Runs with a check that runs out of memory, and with a writer of a test's own.
 
 ghost use Rattle.std.specs.Prelude.{◌≡◌, length, IfOk};
 ghost use Rattle.std.specs.Arc.{arc_value};
@@ -38,7 +38,7 @@ impl Write for Flushed {
     }
 }
 
-// What a run tells, and what it wrote.
+// The report of a run, and what it wrote.
 #[derive(Drop)]
 struct Ran<W> {
     report: Vec<u8>,
@@ -86,7 +86,7 @@ fn report_of(alloc: Global, jobs: &[Job], results: &[JobResult]) -> Result<Vec<u
     Ok(report(alloc, jobs, results)?)
 }
 
-// Whether a run tells this report, in which a job ends otherwise than done.
+// Whether a run has this report, in which a job ends otherwise than done.
 fn tells<W>(ran: &Ran<W>, report: &str) -> bool {
     ran.report.as_slice() == report.as_bytes() && ran.status == 4
 }

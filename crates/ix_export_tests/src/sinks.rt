@@ -1,4 +1,4 @@
-//! What sinks are told that fail to write.
+//! What sinks that fail to write receive.
 
 ghost use Rattle.std.specs.Prelude.{◌≡◌, ◌≤◌, [], length, vec_len};
 ghost use Rattle.std.specs.Arc.{arc_value};
@@ -68,7 +68,7 @@ fn has_list(log: &Log, end: End, count: usize) -> bool {
         })
 }
 
-// Whether three equal jobs were told so and ended so, where the second fails to write at its third
+// Whether the sinks of three equal jobs received this and ended so, where the second fails to write at its third
 // delivery.
 fn are_told(logs: &[Log], ends: &[End]) -> bool {
     let [first, second, third] = logs else {
@@ -84,7 +84,7 @@ fn are_told(logs: &[Log], ends: &[End]) -> bool {
         && has_list(third, End::Done, 5)
 }
 
-// Exports three jobs, and answers whether they are told so.
+// Exports three jobs, and returns whether their sinks received this.
 fn export_three<R: Threads + Wait + Sync>(
     rt: &R,
     alloc: Global,

@@ -1,7 +1,7 @@
 //! An export of which some threads can't be started: which checks come back, and what they checked.
 //!
-//! Which starts are refused stands in the environment, as `tests/memory.sh` says it to the library that
-//! refuses them: bit i of `REFUSE_THREADS` for the thread start with number i, verifiers before walkers.
+//! The environment says which starts fail, as `tests/memory.sh` passes it to the library that makes
+//! them fail: bit i of `REFUSE_THREADS` for the thread start with number i, verifiers before walkers.
 //! Without it all threads are started.
 
 use crate::exporting::{ExportInput, list, plan_of, started};
@@ -14,7 +14,7 @@ use std::env;
 use std::rt::Env;
 use std::test::Fail;
 
-// The verifiers, by the bits of their starts, and the walkers behind them.
+// The verifiers, by the bits of their starts, and the walkers after them.
 const VERIFIERS: u32 = 0b111;
 
 const WALKERS: u32 = 0b11000;
@@ -32,7 +32,7 @@ impl Before for Number {
     }
 }
 
-// The thread starts that are refused, a bit for each.
+// The thread starts that fail, a bit for each.
 fn refused_starts<R: AllocGlobal + Env>(rt: &R) -> u32 {
     match env::var(rt, "REFUSE_THREADS") {
         Ok(text) => text.as_str().parse().unwrap_or(0),
@@ -40,7 +40,7 @@ fn refused_starts<R: AllocGlobal + Env>(rt: &R) -> u32 {
     }
 }
 
-// Whether these checks are those of the verifiers whose starts weren't refused, in their order.
+// Whether these checks are those of the verifiers whose starts didn't fail, in their order.
 fn are_started(checks: &[CheckAfter<Number>], refused: u32) -> bool {
     let started = (0..3).filter(|number| refused >> number & 1 == 0);
     checks.iter().map(|numbered| numbered.first.0).eq(started)

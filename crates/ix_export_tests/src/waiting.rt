@@ -20,7 +20,7 @@ use std::alloc::{AllocError, Global};
 use std::sync::Arc;
 use std::test::Fail;
 
-// How many visits of the forty layers are wanted.
+// How many visits of the forty layers are expected.
 const LIMIT: u32 = 1_000;
 
 // The counts of these visits: each layer is written once.
@@ -31,7 +31,7 @@ const LAYER_COUNTS: Counts = Counts {
     bytes: 4_899,
 };
 
-// Keeps what it is told, and tells that its first delivery began.
+// Records what it receives, and signals that its first delivery began.
 #[derive(Drop)]
 struct Telling<'a> {
     log: Log,
@@ -73,7 +73,7 @@ impl Before for LastHeld<'_> {
     }
 }
 
-// Tells that a check began.
+// Signals that a check began.
 #[derive(Drop)]
 struct CheckTelling<'a> {
     begun: &'a Awaited,
@@ -246,7 +246,7 @@ fn is_archived(all_left: &[Left], counts: Counts, archive: &[u8]) -> bool {
     }
 }
 
-// How many visits stand in the receipts, if none stands twice.
+// How many visits are in the receipts, if none is there twice.
 fn count_once(seen: &mut [bool], receipts: &[(u32, u32)]) -> Result<u32, Fail> {
     let mut count = 0u32;
     for (_, seq) in receipts {

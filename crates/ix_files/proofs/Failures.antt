@@ -6,10 +6,10 @@ use Rattle.std.specs.declared.io.Error as io
 use Rattle.ix_files.specs.declared.fault.Failure.{Failure}
 use Rattle.ix_files.specs.Failure.{Names, NamesFile, WantsMemory}
 
--- it names its path, which is that of its text
+-- the failure names the path that its text has
 pub named : (told : String Global → io.Error → Failure) (path : List ℕ) (name : String Global) (cause : io.Error) → string_bytes name ≡ path → Names told path (told name cause)
 named told path name cause same = inr (record { name = name; cause = cause; named = same; told_is = refl })
 
--- the same of an error that is no want of memory, where what is told has one cause
+-- the same for an error other than out of memory, where the failure has one cause
 pub named_file : (told : String Global → io.Error → Failure) (path : List ℕ) (name : String Global) (error : io.Error) → string_bytes name ≡ path → (WantsMemory error → ⊥) → ((other : String Global) (cause : io.Error) → told name error ≡ told other cause → cause ≡ error) → NamesFile told path error (told name error)
 named_file told path name error same none one = record { names = named told path name error same; memory = λ p. absurd (none p); caused = one }

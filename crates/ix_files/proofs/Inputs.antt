@@ -1,9 +1,9 @@
--- What was read of an input that is shorter than what was asked for is the whole of it.
+-- An input that is shorter than what was asked for was read whole.
 use Rattle.std.proofs.Common.{◌≡◌, ◌∙◌, ap, ℕ, ◌<◌, ◌≤◌, List, [], ◌++◌, length, take, arith}
 use Rattle.std.specs.Prelude.{Option, Some, None, IfSome, option_map, min}
 use Rattle.std.proofs.lemmas.List.{length-take, take_all}
 
--- the least of two is below the one, so it is the other
+-- the least of two is below the first, so it is the second
 min_below : (n m k : ℕ) → k ≡ min n m → k < n → m ≤ n
 min_below n m k same less = omega arith
 

@@ -1,4 +1,4 @@
--- What the program says of a refusal that comes from below.
+-- The failures of the program, for errors of the library, of files and of the arguments.
 use Rattle.std.specs.Prelude.{◌≡◌, ◌≢◌, ℕ, ◌≤◌, List, ◌++◌, length, String, ◌⊎◌, string_bytes, codes, Contains}
 use Rattle.std.specs.Prelude.{Option, IfSome, Result, Ok, Err, IfOk, IfErr}
 use Rattle.std.specs.Global.{Global, Vec}
@@ -15,16 +15,16 @@ use Rattle.ix_files.specs.declared.fault.Failure.{Failure}
 use Rattle.ix_files.specs.declared.fault.Failure.TheVariants.{Usage, Words, Fault, Explained, Selector, CannotRead, TooLarge, CannotWrite}
 use Rattle.ix_run.specs.declared.fault.RunFault.TheVariants.{Memory}
 
--- an error on a file that is want of memory
+-- an error on a file that says that memory ran out
 abbrev pub WantsMemory : io.Error → Type 0
 WantsMemory error = error_kind error ≡ kinds.OutOfMemory
 
--- clap's refusal is told as it is, but for want of memory
+-- clap's error is reported as it is, unless memory ran out
 pub record IsUsageOf (error : Error) (failure : Failure) : Type 0 where
   pub memory : kind_of error ≡ OutOfMemory → failure ≡ Fault Memory
   pub usage : kind_of error ≢ OutOfMemory → failure ≡ Usage error
 
--- arguments that can't be read have one that is no UTF-8, but where memory ran out
+-- the failure for arguments that can't be read: one isn't UTF-8, unless memory ran out
 pub record IsWordsOf (wants_memory : Type 0) (argument : String Global) (failure : Failure) : Type 0 where
   pub memory : wants_memory → failure ≡ Fault Memory
   pub words : (wants_memory → ⊥) → failure ≡ Words argument
@@ -40,7 +40,7 @@ pub record NamesPath (told : String Global → io.Error → Failure) (path : Lis
 abbrev pub Names : (String Global → io.Error → Failure) → List ℕ → Failure → Type 0
 Names told path failure = (failure ≡ Fault Memory) ⊎ NamesPath told path failure
 
--- the same of an error on a file, which is its cause, unless memory ran out
+-- the same for an error on a file, which is its cause, unless memory ran out
 pub record NamesFile (told : String Global → io.Error → Failure) (path : List ℕ) (error : io.Error) (failure : Failure) : Type 0 where
   pub names : Names told path failure
   pub memory : WantsMemory error → failure ≡ Fault Memory
@@ -59,17 +59,17 @@ IsTooLarge path failure = (failure ≡ Fault Memory) ⊎ NamesLarge path failure
 abbrev pub IsInputFailure : List ℕ → Failure → Type 0
 IsInputFailure path failure = Names CannotRead path failure ⊎ IsTooLarge path failure
 
--- what is read of this path is no larger than the greatest input, or else it is refused so
+-- what is read from this path is no larger than the greatest input, or else it is rejected
 abbrev pub IsRead : List ℕ → Result (Vec ℕ) Failure → Type 0
 IsRead path (Ok input) = length input.items ≤ 1073741824
 IsRead path (Err failure) = IsInputFailure path failure
 
--- the same of what a reader gives: all that it has, where that is known
+-- the same for what a reader gives: all that it has, if that is known
 pub record IsReadFrom (known : Option (List ℕ)) (path : List ℕ) (result : Result (Vec ℕ) Failure) : Type 0 where
   pub whole : IfOk result (λ input. IfSome known (λ bytes. input.items ≡ bytes))
   pub read : IsRead path result
 
--- the output of a job of this name
+-- the path of the output of a job of this name
 abbrev pub output_path : List ℕ → List ℕ → List ℕ
 output_path folder name = folder ++ (codes "/" ++ (name ++ codes ".car"))
 
@@ -79,19 +79,19 @@ pub record NamesOutput (folder : List ℕ) (jobs : List JobMeaning) (failure : F
   pub among : Contains jobs job
   pub names : Names CannotWrite (output_path folder job.name) failure
 
--- an output of this path can't be made, or memory ran out
+-- an output of this path can't be created, or memory ran out
 abbrev pub IsPathFailure : List ℕ → Failure → Type 0
 IsPathFailure path failure = Names CannotWrite path failure
 
--- the same of the output of a job
+-- the same for the output of a job
 abbrev pub IsFailureOf : List ℕ → JobMeaning → Failure → Type 0
 IsFailureOf folder job failure = IsPathFailure (output_path folder job.name) failure
 
--- an output can't be made, or memory ran out
+-- an output can't be created, or memory ran out
 abbrev pub IsOutputFailure : List ℕ → List JobMeaning → Failure → Type 0
 IsOutputFailure folder jobs failure = (failure ≡ Fault Memory) ⊎ NamesOutput folder jobs failure
 
--- what is refused is the output of this path
+-- the output of this path is rejected
 abbrev pub RefusesPath : {A : Type 0} → List ℕ → Result A Failure → Type 0
 RefusesPath path result = IfErr result (IsPathFailure path)
 
@@ -103,12 +103,12 @@ RefusesOutputOf folder job result = IfErr result (IsFailureOf folder job)
 abbrev pub RefusesOutputs : {A : Type 0} → List ℕ → List JobMeaning → Result A Failure → Type 0
 RefusesOutputs folder jobs result = IfErr result (IsOutputFailure folder jobs)
 
--- an output is made for each of these jobs, or that of one of them is refused
+-- an output is created for each of these jobs, or that of one of them is rejected
 pub record MakesOutputs {A : Type 0} (folder : List ℕ) (jobs : List JobMeaning) (result : Result (Vec A) Failure) : Type 0 where
   pub each : IfOk result (λ outputs. length outputs.items ≡ length jobs)
   pub refused : RefusesOutputs folder jobs result
 
--- the line that is reported of a failure; usage has clap's text in its place
+-- the line that is printed for a failure; a usage error has clap's text instead
 abbrev pub IsLineOf : Failure → List ℕ → Type 0
 IsLineOf (Usage error) line = Unit {0}
 IsLineOf (Words argument) line = line ≡ codes "error: an argument is not UTF-8: " ++ string_bytes argument
@@ -119,6 +119,6 @@ IsLineOf (CannotRead name cause) line = line ≡ codes "cannot read " ++ string_
 IsLineOf (TooLarge name) line = line ≡ codes "too large " ++ string_bytes name
 IsLineOf (CannotWrite name cause) line = line ≡ codes "cannot write " ++ string_bytes name
 
--- nobody asked for this text: it is no help and no version
+-- this text is neither a help nor a version: it is an error
 abbrev pub IsMistake : Error → Type 0
 IsMistake error = (kind_of error ≢ DisplayHelp) × (kind_of error ≢ DisplayVersion)

@@ -1,4 +1,4 @@
--- Which jobs met nothing but their roots, and what becomes of the notes on names.
+-- Jobs that found nothing but their roots, and the notes on renamed outputs.
 use Rattle.std.specs.Prelude.{◌≡◌, Bool, ◌&&◌, ◌==◌, length, String, Option, Result, Ok, Err, IfErr}
 use Rattle.std.specs.Global.{Global}
 use Rattle.ix_walk.specs.JobMeaning.{JobMeaning}
@@ -8,7 +8,7 @@ use Rattle.ix_run.specs.declared.fault.RunFault.TheVariants.{Memory}
 use Rattle.ix_files.specs.declared.fault.Failure.{Failure}
 use Rattle.ix_files.specs.declared.fault.Failure.TheVariants.{Fault}
 
--- the job has all that it asks for, and each of its visits is one of a root
+-- the job is complete, and each of its visits is one of a root
 abbrev pub met_roots_alone : JobMeaning → JobResult → Bool
 met_roots_alone job told = is_complete job told && (told.counts.visits == length job.roots)
 

@@ -10,39 +10,39 @@ use ix_run::{RunFault, fault_line};
 use std::alloc::{AllocError, AllocFailed, Global};
 use std::io::{self, ErrorKind};
 
-// The status of usage, of an input that is rejected, and of an output that can't be made.
+// The status of a usage error, of an input that is rejected, and of an output that can't be created.
 const REFUSED: u8 = 2;
 
-// What the system answers where a process has as many files open as it may, or the whole system has.
+// The error numbers of the system if the process, or the whole system, has too many open files.
 const FILES_OF_PROCESS: i32 = 24;
 
 const FILES_OF_SYSTEM: i32 = 23;
 
-// What it answers where a part of a path isn't there.
+// The error number if a part of a path doesn't exist.
 const NO_ENTRY: i32 = 2;
 
 /// Why the program ends early.
 #[derive(Debug, Drop)]
 pub enum Failure {
-    /// The arguments are no command; the text is clap's.
+    /// The arguments aren't valid; the text is clap's.
     Usage(clap::Error),
     /// An argument is not UTF-8: its number and its bytes, as they are reported.
     Words(String),
-    /// What the library rejects, and memory that runs out.
+    /// An error of the library, or memory that ran out.
     Fault(RunFault),
-    /// What the library rejects, and what is known of its cause.
+    /// An error of the library, and what is known of its cause.
     Explained(RunFault, String),
-    /// A text that is no selector.
+    /// A text that is not a selector.
     Selector(NotationFault),
-    /// An input that can't be read: its path, where standard input is `-`, and the cause.
+    /// An input can't be read: its path, `-` for standard input, and the cause.
     CannotRead(String, io::Error),
-    /// An input of more than 1 GiB: its path.
+    /// An input has more than 1 GiB: its path.
     TooLarge(String),
-    /// An output that can't be made or written: its path, where standard output is `-`, and the cause.
+    /// An output can't be created or written: its path, `-` for standard output, and the cause.
     CannotWrite(String, io::Error),
 }
 
-/// How the cause of a failure is reported, where it is known.
+/// How the cause of a failure is reported, if it is known.
 #[derive(Debug, Drop, Clone, Copy, PartialEq, Eq)]
 pub enum Causes {
     /// Not at all: the failure has one line.
@@ -54,7 +54,7 @@ pub enum Causes {
 }
 
 impl Failure {
-    /// The arguments of the process can't be read: this one, as it is reported, is not UTF-8.
+    /// Returns the failure for arguments that can't be read. This one, as it is reported, is not UTF-8.
     pub fn of_words(error: &io::Error, argument: String) -> Failure
         ensures { IsWordsOf (WantsMemory error.now) argument result }
     {
@@ -64,7 +64,7 @@ impl Failure {
         }
     }
 
-    /// An input can't be read.
+    /// Returns the failure for an input that can't be read.
     pub fn cannot_read(alloc: Global, path: &str, error: &io::Error) -> Failure
         ensures { NamesFile (λ name cause. CannotRead name cause) path.now error.now result }
     {
@@ -74,7 +74,7 @@ impl Failure {
         }
     }
 
-    /// An output can't be made or written.
+    /// Returns the failure for an output that can't be created or written.
     pub fn cannot_write(alloc: Global, path: &str, error: &io::Error) -> Failure
         ensures { NamesFile (λ name cause. CannotWrite name cause) path.now error.now result }
     {
@@ -84,7 +84,7 @@ impl Failure {
         }
     }
 
-    /// An input is too large.
+    /// Returns the failure for an input that is too large.
     pub fn too_large(alloc: Global, path: &str) -> Failure
         ensures { IsTooLarge path.now result }
     {
@@ -94,11 +94,11 @@ impl Failure {
         }
     }
 
-    /// Reports to the user, with the cause as it is asked for, and returns the status.
+    /// Prints the failure to the user, with the cause as it is asked for, and returns the status, 2.
     pub fn report<R: AllocGlobal + Eprint + Print>(&self, rt: &R, causes: Causes) -> u8
         ensures { result ≡ 2 }
     {
-        // Where standard error can't be written there is nobody to report to.
+        // If standard error can't be written, there is no one to report to.
         let _ = match self {
             Failure::Usage(error) => error.print(rt),
             _ => match self.text(rt.alloc(), causes) {
@@ -109,7 +109,7 @@ impl Failure {
         REFUSED
     }
 
-    // The line of a failure, and its cause as it is asked for.
+    // Returns the line of a failure, and its cause as it is asked for.
     fn text(&self, alloc: Global, causes: Causes) -> Result<String, AllocError> {
         let line = self.line(alloc)?;
         if causes == Causes::Hidden {
@@ -122,7 +122,8 @@ impl Failure {
         }
     }
 
-    /// The line that is reported, without its end. Usage has clap's text in its place.
+    /// Returns the line that is printed, without its end. For a usage error it is empty: clap's text is
+    /// printed instead.
     pub fn line(&self, alloc: Global) -> Result<String, AllocError>
         ensures { IfOk result (λ line. IsLineOf self.now (string_bytes line)) }
     {
@@ -139,12 +140,12 @@ impl Failure {
         }
     }
 
-    // What is known of the cause, and what to do.
+    // Returns what is known of the cause, and what to do.
     fn cause(&self, alloc: Global) -> Result<Option<String>, AllocError> {
         match self {
             Failure::CannotRead(_, error) => Ok(Some(cause_of(alloc, error, "")?)),
             Failure::CannotWrite(_, error) => {
-                Ok(Some(cause_of(alloc, error, "; its folder must be there")?))
+                Ok(Some(cause_of(alloc, error, "; its directory must exist")?))
             }
             Failure::TooLarge(_) => {
                 Ok(Some(String::from_str(alloc, "an input has at most 1073741824 bytes")?))
@@ -156,8 +157,8 @@ impl Failure {
     }
 }
 
-/// The cause of an error of the system in its words, and what to do about it; where a part of the path
-/// isn't there, the last text says that.
+/// Returns the cause of an error of the system in its own text, and what to do. The last text is added
+/// if a part of the path doesn't exist.
 pub(crate) fn cause_of(
     alloc: Global,
     error: &io::Error,
@@ -172,18 +173,18 @@ pub(crate) fn cause_of(
     format!(in alloc; "{error}{advice}")
 }
 
-// What is to be done about a fault that the library finds, where its line doesn't say it.
+// Returns what to do about an error of the library, if its line doesn't say it.
 fn cause_of_fault(alloc: Global, fault: &RunFault) -> Result<Option<String>, AllocError> {
     let cause = match fault {
-        RunFault::Hex => "it has an odd number of digits, or a character that is none",
-        RunFault::Jobs(_) => "the command check-jobs says of each line what is wrong",
+        RunFault::Hex => "odd number of digits, or a character that is not a hex digit",
+        RunFault::Jobs(_) => "ix_export check-jobs reports what is wrong with each line",
         RunFault::Write(_) => "its header could not be written: is the disk full?",
         _ => return Ok(None),
     };
     Ok(Some(String::from_str(alloc, cause)?))
 }
 
-// The path that is named where an error is reported, unless there is no memory.
+// Returns a copy of the path that an error names, or None if memory ran out.
 fn name_of(alloc: Global, path: &str, error: &io::Error) -> Option<String>
     ensures named { IfSome result (λ name. string_bytes name ≡ path.now) }
     ensures memory { WantsMemory error.now → IsNone result }

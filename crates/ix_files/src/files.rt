@@ -1,4 +1,4 @@
-//! Files, as they are read.
+//! Reads input files.
 
 ghost use Rattle.std.specs.Prelude.{IfErr};
 ghost use Rattle.ix_files.specs.Failure.{IsInputFailure, IsRead, IsReadFrom};
@@ -10,13 +10,13 @@ use std::fs::{self, OpenFile};
 use std::io::Read;
 use std::rt::{Clock, Files};
 
-// The greatest input, in bytes.
+// The greatest size of an input, in bytes.
 const LARGEST_INPUT: u64 = 1 << 30;
 
 /// The path that names standard input.
 pub const STANDARD_INPUT: &str = "-";
 
-/// The bytes of a file, whose size is judged before it is read, or of standard input where the path is `-`.
+/// Reads a file, or standard input if the path is `-`. The size of a file is checked before it is read.
 pub fn read_input<R: AllocGlobal + Files + Input>(rt: &R, path: &str) -> Result<Vec<u8>, Failure>
     ensures { IsRead path.now result }
 {
@@ -27,7 +27,7 @@ pub fn read_input<R: AllocGlobal + Files + Input>(rt: &R, path: &str) -> Result<
     read_all(rt.alloc(), file, size, path)
 }
 
-/// The same, of which it is told how it goes on.
+/// Reads an input as `read_input` does, and shows progress.
 pub fn load_input<R: AllocGlobal + Clock + Eprint + Files + Input>(
     rt: &R,
     path: &str,
@@ -43,7 +43,7 @@ pub fn load_input<R: AllocGlobal + Clock + Eprint + Files + Input>(
     read_all(rt.alloc(), Loading::new(file, progress), size, path)
 }
 
-// A file and its size, which isn't too large.
+// Opens a file and returns it with its size, which isn't too large.
 fn open_file<R: Files + AllocGlobal>(rt: &R, path: &str) -> Result<(R::File, usize), Failure>
     ensures refused { IfErr result (IsInputFailure path.now) }
 {
@@ -62,8 +62,8 @@ fn open_file<R: Files + AllocGlobal>(rt: &R, path: &str) -> Result<(R::File, usi
     Ok((file, size as usize))
 }
 
-/// All that a reader gives, up to the greatest size. Room is made at first for as many bytes as
-/// are expected.
+/// Reads all that a reader gives, up to 1 GiB. Room for the expected number of bytes is allocated
+/// first.
 pub fn read_all<R: Read + Drop>(
     alloc: Global,
     reader: R,

@@ -1,4 +1,4 @@
-//! The help and the version of the program, which are no failure.
+//! The help and the version, which are not errors.
 
 ghost use Rattle.std.specs.Prelude.{IfOk, IfErr, codes};
 ghost use Rattle.ix_files.specs.Failure.{IsMistake, IsUsageOf, RefusesPath};
@@ -8,14 +8,14 @@ use crate::fault::Failure;
 // The path that names standard output.
 const STANDARD_OUTPUT: &str = "-";
 
-/// A text that the words of the program asked for: its help, or its version.
+/// A text that the arguments asked for: the help, or the version.
 #[derive(Debug, Drop)]
 pub struct Help {
     text: clap::Error,
 }
 
 impl Help {
-    /// The text that the words asked for, or why they are no command.
+    /// Returns the text that the arguments asked for, or the error if they aren't valid.
     pub fn asked_for(error: clap::Error) -> Result<Help, Failure>
         ensures asked { IfOk result (λ help. IsMistake error → ⊥) }
         ensures refused { IfErr result (λ failure. IsMistake error × IsUsageOf error failure) }
@@ -27,7 +27,7 @@ impl Help {
         }
     }
 
-    /// Prints it on standard output.
+    /// Prints the text to standard output.
     pub fn print<R: AllocGlobal + Eprint + Print>(&self, rt: &R) -> Result<(), Failure>
         ensures { RefusesPath (codes "-") result }
     {

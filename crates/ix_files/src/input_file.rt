@@ -6,7 +6,7 @@ use std::fs;
 use std::io::{self, ErrorKind};
 use std::rt::Files;
 
-// Where standard input has a name, if the system tells it.
+// The paths of standard input, where the system has them.
 const STANDARD_INPUT_PATHS: [&str; 2] = ["/dev/stdin", "/proc/self/fd/0"];
 
 /// Which file an input is.
@@ -14,13 +14,13 @@ const STANDARD_INPUT_PATHS: [&str; 2] = ["/dev/stdin", "/proc/self/fd/0"];
 pub(crate) enum InputFile {
     /// This one.
     Known(FileId),
-    /// None that an output could be: it is no longer there.
+    /// No file that an output could be: it is gone.
     Gone,
-    /// Standard input, of which nobody says which file it is.
+    /// Standard input, and the system doesn't say which file it is.
     Unknown,
 }
 
-/// Which file the input at a path is, where `-` is standard input.
+/// Returns which file the input at a path is; `-` is standard input.
 pub(crate) fn identify<R: Files>(rt: &R, path: &str) -> InputFile {
     if path != STANDARD_INPUT {
         return file_id(rt, path).map_or(InputFile::Gone, InputFile::Known);
@@ -33,7 +33,7 @@ pub(crate) fn identify<R: Files>(rt: &R, path: &str) -> InputFile {
     InputFile::Unknown
 }
 
-/// Refuses an output whose path, or whose part, is one of the inputs, under whatever name, or may be one.
+/// Rejects an output if its path, or its part, is one of the inputs under any name, or may be one.
 pub(crate) fn check_no_input<R: Files>(
     rt: &R,
     path: &str,
@@ -62,7 +62,7 @@ pub(crate) fn check_no_input<R: Files>(
     Ok(())
 }
 
-// What the file at a path is, where there is one. Links are followed.
+// Returns which file is at a path, if there is one. Links are followed.
 fn file_id<R: Files>(rt: &R, path: &str) -> Option<FileId> {
     match fs::metadata(rt, path) {
         Ok(metadata) => Some(FileId::of(&metadata)),

@@ -1,10 +1,9 @@
-//! What the program reads, writes and tells: its inputs and outputs, how a run goes on, and why it
-//! ends early.
+//! The files and messages of the program: inputs, outputs, progress, and errors.
 //!
-//! An input has at most 1 GiB, and is all that its reader has where that is known. There is an
-//! output for each job, as `.part` until `name_outputs` gives it the final name; `make_output` and
-//! `name_complete_output` are the same for one path. A failure names its path, or is memory that ran out,
-//! and its status is 2; the help and the version are no failure. No contract says what files hold.
+//! An input has at most 1 GiB, and is all that its reader has, if that is known. Each job has an output,
+//! which is `.part` until `name_outputs` renames it; `make_output` and `name_complete_output` do the same
+//! for one path. A failure names its path, or says that memory ran out, and its status is 2. The help and
+//! the version are not failures. No contract says what is in files.
 //!
 //! ```rust
 //! let car = read_input(rt, "library.car")?;

@@ -1,4 +1,4 @@
-//! Names for the archives of a run.
+//! Renames the archives of a run to their final names.
 
 ghost use Rattle.std.specs.Prelude.{◌≡◌, IfOk, is_none};
 ghost use Rattle.ix_run.specs.Complete.{is_complete};
@@ -18,7 +18,7 @@ use std::fs::File;
 use std::io;
 use std::rt::Files;
 
-/// Which archives of a run get their names.
+/// Which archives of a run are renamed.
 #[derive(Debug, Drop, Clone, Copy, PartialEq, Eq)]
 pub enum Naming {
     /// Those whose jobs ended with done or limit.
@@ -27,10 +27,10 @@ pub enum Naming {
     Complete,
 }
 
-/// Gives its name to each archive that is to get one, in the order of the jobs. One whose file is no longer
-/// where it was made gets none, and the others stay as they were written. The first failure is the answer,
-/// and the names after it are given nevertheless. What the user should know besides is returned, a line
-/// each: which archive was left and why, and which replaced a file by one that isn't complete.
+/// Renames each archive that is to get its final name, in the order of the jobs. It isn't renamed if
+/// its file is no longer where it was created. Returns the first failure, and renames those after it
+/// nevertheless. Otherwise it returns notes for the user, one line each: which archive stays as `.part`
+/// and why, and which replaced a file though it isn't complete.
 pub fn name_outputs<'a, R: AllocGlobal + Files<File = File>>(
     rt: &R,
     folder: &str,
@@ -52,7 +52,7 @@ pub fn name_outputs<'a, R: AllocGlobal + Files<File = File>>(
     notes
 }
 
-// The notes with one more, or the first failure.
+// Adds a note to the notes, or returns the first failure.
 fn joined(
     notes: Result<String, Failure>,
     note: Result<Option<String>, Failure>,
@@ -69,8 +69,8 @@ fn joined(
     }
 }
 
-/// The same of the one archive that was written for a path: it gets its name where its job is done with no
-/// root skipped, and else stays as it was written, and why is returned.
+/// Renames the one archive of a path if its job is done with no root skipped. Otherwise it stays as
+/// `.part`, and the reason is returned.
 pub fn name_complete_output<'a, R: AllocGlobal + Files<File = File>>(
     rt: &R,
     path: &str,
@@ -87,7 +87,7 @@ pub fn name_complete_output<'a, R: AllocGlobal + Files<File = File>>(
     }
 }
 
-// Gives an archive its name where it is to get one, and returns what the user should know of that.
+// Renames an archive if it is to be renamed, and returns what the user should know.
 fn name_or_leave<'a, R: AllocGlobal + Files<File = File>>(
     rt: &R,
     path: &str,
@@ -111,8 +111,8 @@ fn name_or_leave<'a, R: AllocGlobal + Files<File = File>>(
     Ok(Some(replaced_line(rt.alloc(), path, job, outcome)?))
 }
 
-/// What is reported of the jobs whose archives could not be written, if there are any: the first of them, how
-/// many more there are, and the first error of a write.
+/// Returns the note on jobs whose archives could not be written, if there are any: the first of them,
+/// how many more there are, and the first error of a write.
 pub fn failed_writes(
     alloc: Global,
     folder: &str,
@@ -135,7 +135,7 @@ pub fn failed_writes(
     }
 }
 
-/// The same of the one archive that was written for a path.
+/// Returns the same note for the one archive of a path.
 pub fn failed_write(
     alloc: Global,
     path: &str,
@@ -149,19 +149,19 @@ pub fn failed_write(
     format!(in alloc; "cannot write {path}: {cause}\n")
 }
 
-// Whether a job ended since its archive could not be written.
+// Returns whether a job ended because its archive could not be written.
 fn has_failed_write(outcome: &JobResult) -> bool {
     matches!(outcome.end, End::Write)
 }
 
-/// Whether a job has all that it asks for, and has met nothing but its roots.
+/// Returns whether a job is complete and found nothing but its roots.
 pub fn met_roots_alone(job: &Job, told: &JobResult) -> bool
     ensures { result ≡ met_roots_alone job.now told.now }
 {
     is_complete(job, told) && told.counts.visits as usize == job.roots().len()
 }
 
-// Why an archive didn't get its path.
+// Returns the note on an archive that stays as `.part`.
 fn left_line(
     alloc: Global,
     path: &str,
@@ -172,7 +172,7 @@ fn left_line(
     format!(in alloc; "left {path}.part: {why}\n")
 }
 
-// What an archive that is not complete has replaced.
+// Returns the note on an archive that isn't complete and replaced a file.
 fn replaced_line(
     alloc: Global,
     path: &str,
@@ -180,10 +180,10 @@ fn replaced_line(
     outcome: &JobResult,
 ) -> Result<String, AllocError> {
     let why = lack_of(alloc, job, outcome)?;
-    format!(in alloc; "warning: {path} replaced the file that was there: {why}\n")
+    format!(in alloc; "warning: {path} replaced an existing file: {why}\n")
 }
 
-// Why the archive of a job isn't complete.
+// Returns why the archive of a job isn't complete.
 fn lack_of(alloc: Global, job: &Job, outcome: &JobResult) -> Result<String, AllocError> {
     let mut skips = outcome.skips.iter();
     match (outcome.end, skips.find(|skip| is_root(job, &skip.cid))) {

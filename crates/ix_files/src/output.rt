@@ -1,4 +1,4 @@
-//! What an archive is written to.
+//! The outputs that archives are written to.
 
 ghost use Rattle.std.specs.Prelude.{◌≡◌};
 
@@ -8,29 +8,29 @@ use std::cell::Cell;
 use std::fs::OpenFile;
 use std::io::{self, BufWriter, Write};
 
-// How many bytes of an output wait in memory.
+// The size of an output's buffer, in bytes.
 const BUFFER: usize = 16 * 1024;
 
-/// The first error of a run's writes, if one failed. One thread notes it.
+/// The first error of a run's writes, if one failed. One thread records it.
 #[derive(Drop)]
 pub struct WriteErrors {
     first: Cell<Option<io::Error>>,
 }
 
 impl WriteErrors {
-    /// No write has failed so far.
+    /// Returns a record of no error.
     pub fn new() -> WriteErrors {
         WriteErrors {
             first: Cell::new(None),
         }
     }
 
-    /// The first error, if a write failed.
+    /// Returns the first error, if a write failed.
     pub fn first(&self) -> Option<io::Error> {
         self.first.get()
     }
 
-    /// What is reported as the cause of a failed write.
+    /// Returns the cause of a failed write as it is reported.
     pub(crate) fn cause(&self, alloc: Global) -> Result<String, AllocError> {
         match self.first() {
             Some(error) => cause_of(alloc, &error, ""),
@@ -38,7 +38,7 @@ impl WriteErrors {
         }
     }
 
-    // Keeps an error, unless one came before.
+    // Records an error, unless there was one before.
     fn note<T>(&self, answer: &io::Result<T>) {
         if let (Err(error), None) = (answer, self.first.get()) {
             self.first.set(Some(*error));
@@ -46,7 +46,7 @@ impl WriteErrors {
     }
 }
 
-/// A writer whose errors are noted.
+/// A writer whose first error is recorded.
 #[derive(Drop)]
 pub struct Noted<'a, W> {
     writer: W,
@@ -54,7 +54,7 @@ pub struct Noted<'a, W> {
 }
 
 impl<'a, W> Noted<'a, W> {
-    /// Notes the errors of a writer.
+    /// Wraps a writer to record its first error.
     pub fn new(writer: W, errors: &'a WriteErrors) -> Noted<'a, W>
         ensures { result.writer ≡ writer }
     {
@@ -79,8 +79,8 @@ impl<'a, W: Write> Write for Noted<'a, W> {
     }
 }
 
-/// A file that a flush puts on the disk, where that is asked for. An error that the system would else report
-/// when the file is closed, where nobody hears of it, then comes from the flush.
+/// A file that a flush syncs to disk, if that is asked for. An error that the system would otherwise
+/// report at the close, where nobody sees it, is then returned by the flush.
 #[derive(Drop)]
 pub struct Synced<F> {
     file: F,
@@ -104,18 +104,18 @@ impl<F: Write + OpenFile> Write for Synced<F> {
     }
 }
 
-/// The output of a run that is a file, with what waits in memory.
+/// The output of a run that is a file, with its buffer.
 pub type Output<'a, F> = BufWriter<Noted<'a, Synced<F>>>;
 
-/// How the outputs of a run are written: whether each is on the disk before its job counts as done, and
-/// where the first error is noted.
+/// How the outputs of a run are written: whether each is synced before its job counts as done, and
+/// where the first error is recorded.
 #[derive(Clone, Copy)]
 pub struct Writing<'a> {
     pub is_synced: bool,
     pub errors: &'a WriteErrors,
 }
 
-/// The output to a file.
+/// Makes the output to a file.
 pub(crate) fn output_to<'a, F: Write + OpenFile + Drop>(
     alloc: Global,
     file: F,
@@ -129,7 +129,7 @@ pub(crate) fn output_to<'a, F: Write + OpenFile + Drop>(
     )
 }
 
-/// The file of an output.
+/// Returns the file of an output.
 pub(crate) fn file_of<'o, F: Write + OpenFile + Drop>(output: &'o Output<'_, F>) -> &'o F {
     &output.get_ref().writer.file
 }

@@ -1,8 +1,8 @@
-//! The outputs of a run: files that get their names once their archives are whole.
+//! The outputs of a run: files that are renamed once their archives are whole.
 //!
-//! The archive of a job is written to `DIR/NAME.car.part`, and renamed to `DIR/NAME.car` when the run
-//! has ended and the job is told as done or limit, before the report is printed. An output of one path
-//! goes the same way, from `PATH.part` to `PATH`.
+//! The archive of a job is written to `DIR/NAME.car.part`. It is renamed to `DIR/NAME.car` when the run
+//! has ended and the job is reported as done or limit, before the report is printed. An output of one
+//! path is written to `PATH.part` and renamed to `PATH` in the same way.
 
 ghost use Rattle.std.specs.Prelude.{◌≡◌, IfOk, string_bytes};
 ghost use Rattle.ix_files.specs.Failure.{output_path, MakesOutputs, RefusesOutputOf, RefusesPath};
@@ -17,7 +17,7 @@ use std::fs::{self, File};
 use std::io::{self, ErrorKind};
 use std::rt::Files;
 
-/// The path of a job's archive.
+/// Returns the path of a job's archive.
 pub(crate) fn path_of(alloc: Global, folder: &str, job: &Job) -> Result<String, AllocError>
     ensures { IfOk result (λ path. string_bytes path ≡ output_path folder.now job.now.name) }
 {
@@ -25,7 +25,7 @@ pub(crate) fn path_of(alloc: Global, folder: &str, job: &Job) -> Result<String, 
     format!(in alloc; "{folder}/{name}.car")
 }
 
-/// Does what is to be done at the path of a job's archive, which a failure names.
+/// Calls a function with the path of a job's archive, which a failure names.
 pub(crate) fn at_output<T: Drop, F: FnOnce(&str) -> io::Result<T>>(
     alloc: Global,
     folder: &str,
@@ -42,10 +42,10 @@ pub(crate) fn at_output<T: Drop, F: FnOnce(&str) -> io::Result<T>>(
     }
 }
 
-/// The files of the archives, one for each job, in a folder that is there, each locked until it is
-/// closed. An output that is a folder, or one of the files with the paths `inputs` under whatever
-/// name, where `-` is standard input, or that another run writes, is refused before anything is made;
-/// where a file can't be made, those made before it are removed.
+/// Creates the files of the archives, one for each job, in a directory that exists. Each is locked
+/// until it is closed. An output is rejected before any file is created if it is a directory, an input
+/// under any name (`-` is standard input), or a file that another run writes. If a file can't be
+/// created, those created before it are removed.
 pub fn make_outputs<'a, R: Files<File = File> + AllocGlobal>(
     rt: &R,
     folder: &str,
@@ -76,9 +76,9 @@ pub fn make_outputs<'a, R: Files<File = File> + AllocGlobal>(
     Ok(outputs)
 }
 
-/// The file of an output of one path, locked until it is closed. Refused is one where something other
-/// than a file is, as a folder or a device, one that is the file of the path `input` under whatever
-/// name, where `-` is standard input, and one that another run writes.
+/// Creates the file of one output, which is locked until it is closed. It is rejected if the path is a
+/// directory, a device or the like, if it is the file of the path `input` under any name (`-` is
+/// standard input), or if another run writes it.
 pub fn make_output<'a, R: Files<File = File> + AllocGlobal>(
     rt: &R,
     path: &str,
@@ -103,7 +103,7 @@ fn checked_output<'a, R: Files<File = File> + AllocGlobal>(
     make_part(rt, path, writing)
 }
 
-// Refuses an output of one path where something other than a file is, or that `check_output` refuses.
+// Rejects one output if something other than a file is at its path, or if `check_output` rejects it.
 fn check_file<R: Files<File = File> + AllocGlobal>(
     rt: &R,
     path: &str,
@@ -111,7 +111,7 @@ fn check_file<R: Files<File = File> + AllocGlobal>(
 ) -> io::Result<()> {
     match fs::metadata(rt, path) {
         Ok(metadata) if !metadata.is_file() && !metadata.is_dir() => {
-            return Err(io::Error::new(ErrorKind::AlreadyExists, "it is no regular file"));
+            return Err(io::Error::new(ErrorKind::AlreadyExists, "not a regular file"));
         }
         _ => {}
     }
@@ -119,7 +119,7 @@ fn check_file<R: Files<File = File> + AllocGlobal>(
     check_output(rt, path, [input, input])
 }
 
-// Refuses an output that is a folder or an input, or that another run writes.
+// Rejects an output that is a directory or an input, or that another run writes.
 fn check_output<R: Files<File = File> + AllocGlobal>(
     rt: &R,
     path: &str,
@@ -128,7 +128,7 @@ fn check_output<R: Files<File = File> + AllocGlobal>(
     let part = part_path(rt.alloc(), path)?;
     match fs::metadata(rt, path) {
         Ok(metadata) if metadata.is_dir() => {
-            return Err(io::Error::new(ErrorKind::AlreadyExists, "a folder is there"));
+            return Err(io::Error::new(ErrorKind::AlreadyExists, "is a directory"));
         }
         _ => {}
     }
@@ -137,8 +137,8 @@ fn check_output<R: Files<File = File> + AllocGlobal>(
     check_part(rt, part.as_str())
 }
 
-/// Removes what was written of the first jobs, so many, and has no final name. What can't be removed
-/// stays: there is nothing more to be done about it. So does what another run has made there since.
+/// Removes the `.part` files of the first jobs, so many. What can't be removed stays, and so does what
+/// another run has created there since.
 pub fn remove_outputs<R: Files<File = File> + AllocGlobal>(
     rt: &R,
     folder: &str,
@@ -152,7 +152,7 @@ pub fn remove_outputs<R: Files<File = File> + AllocGlobal>(
     }
 }
 
-/// The same of what is written for one path.
+/// Removes the `.part` file of one path, in the same way.
 pub fn remove_output<R: Files<File = File> + AllocGlobal>(rt: &R, path: &str) {
     if let Ok(part) = part_path(rt.alloc(), path) {
         let _ = remove_stale(rt, part.as_str());

@@ -1,8 +1,8 @@
-//! The file in which an output is written before it gets its name.
+//! The file to which an output is written before it is renamed.
 //!
-//! What gets the name `PATH` in the end is written to `PATH.part`. From when that is made until it has its
-//! name, the file is locked by the advisory lock of its system that goes with the process, so that no
-//! other run takes it for one that was left there. Where a file system has no locks, runs go on without.
+//! The output `PATH` is written to `PATH.part`. From its creation until it is renamed, the file has an
+//! advisory lock of the process, so no other run takes it for a stale one. Where a file system has no
+//! locks, runs go on without.
 
 use crate::output::{Output, Writing, file_of, output_to};
 use std::alloc::{AllocError, Global};
@@ -11,21 +11,21 @@ use std::io::{self, ErrorKind};
 use std::os::unix::fs::{MetadataExt, PermissionsExt};
 use std::rt::Files;
 
-// What the system answers where a file system has no locks: ENOLCK, ENOSYS, EOPNOTSUPP.
+// The error numbers of file systems without locks: ENOLCK, ENOSYS, EOPNOTSUPP.
 const NO_LOCKS: [i32; 3] = [37, 38, 95];
 
-// How often a file that was just made is locked, where another run has locked it for a moment.
+// How many times a new file is tried to be locked while another run has it locked for a moment.
 const LOCK_TRIES: u32 = 1_000;
 
-// Who may read, write and run a file.
+// The permission bits of a file.
 const PERMISSION_BITS: u32 = 0o777;
 
-/// Where what gets this path in the end is written before.
+/// Returns the path at which an output is written before it is renamed.
 pub(crate) fn part_path(alloc: Global, path: &str) -> Result<String, AllocError> {
     format!(in alloc; "{path}.part")
 }
 
-/// A file apart from its names: its device, and its number there.
+/// The identity of a file, whatever its names: its device and its inode number.
 #[derive(Clone, Copy, PartialEq, Eq)]
 pub(crate) struct FileId {
     device: u64,
@@ -33,7 +33,7 @@ pub(crate) struct FileId {
 }
 
 impl FileId {
-    /// The file of which this is known.
+    /// Returns the identity from a file's metadata.
     pub(crate) fn of(metadata: &Metadata) -> FileId {
         FileId {
             device: metadata.dev(),
@@ -42,16 +42,16 @@ impl FileId {
     }
 }
 
-// What is at a path at which a part is written.
+// What is at the path of a part.
 enum Left {
     Nothing,
-    // A file, which some run may still write.
+    // A file, which some run may still be writing.
     Stale,
-    // A link, a folder or a device, which no run makes.
+    // A link, a directory or a device, which no run creates.
     Other,
 }
 
-// What was left at a path, where links aren't followed.
+// Returns what is at the path of a part. Links aren't followed.
 fn left_at<R: Files>(rt: &R, part: &str) -> io::Result<Left> {
     match fs::symlink_metadata(rt, part) {
         Ok(metadata) if metadata.is_file() => Ok(Left::Stale),
@@ -61,7 +61,7 @@ fn left_at<R: Files>(rt: &R, part: &str) -> io::Result<Left> {
     }
 }
 
-/// Refuses an output where its part is written by another run, or can't be.
+/// Rejects an output if another run writes its part, or if it can't be written.
 pub(crate) fn check_part<R: Files<File = File>>(rt: &R, part: &str) -> io::Result<()> {
     match left_at(rt, part)? {
         Left::Nothing => Ok(()),
@@ -70,7 +70,7 @@ pub(crate) fn check_part<R: Files<File = File>>(rt: &R, part: &str) -> io::Resul
     }
 }
 
-// The file that was left at a path, locked, unless another run writes it.
+// Opens and locks the stale file at a path, unless another run writes it.
 fn lock_stale<R: Files<File = File>>(rt: &R, part: &str) -> io::Result<File> {
     let file = open_stale(rt, part)?;
     lock(&file)?;
@@ -81,8 +81,8 @@ fn lock_stale<R: Files<File = File>>(rt: &R, part: &str) -> io::Result<File> {
     }
 }
 
-// Over NFS only a file that is open for writing can be locked so that nobody else is. One that may not be
-// written is opened for reading.
+// Opens a stale file for writing, since over NFS only such a file can be locked exclusively. One that
+// may not be written is opened for reading.
 fn open_stale<R: Files<File = File>>(rt: &R, part: &str) -> io::Result<File> {
     match OpenOptions::new().read(true).write(true).open(rt, part) {
         Err(error) if error.kind() == ErrorKind::PermissionDenied => fs::open(rt, part),
@@ -90,7 +90,7 @@ fn open_stale<R: Files<File = File>>(rt: &R, part: &str) -> io::Result<File> {
     }
 }
 
-// Locks a file, where its file system has locks, unless another run has locked it.
+// Locks a file, if its file system has locks, unless another run has locked it.
 fn lock(file: &File) -> io::Result<()> {
     match file.try_lock() {
         Ok(()) => Ok(()),
@@ -107,7 +107,7 @@ fn has_no_locks(error: &io::Error) -> bool {
     }
 }
 
-// Another run writes the output.
+// Returns the error that another run writes the output.
 fn in_use() -> io::Error {
     io::Error::new(ErrorKind::WouldBlock, "another run is writing it")
 }
@@ -119,8 +119,8 @@ fn other_than_file() -> io::Error {
     )
 }
 
-/// Removes what was left at the part of an output, unless another run writes it. It is locked from when it
-/// was seen until it is gone, so nothing is removed but what was seen. What can't be removed stays.
+/// Removes the stale part of an output, unless another run writes it. It is locked until it is removed,
+/// so nothing else is removed. What can't be removed stays.
 pub(crate) fn remove_stale<R: Files<File = File>>(rt: &R, part: &str) -> io::Result<()> {
     match left_at(rt, part)? {
         Left::Nothing => Ok(()),
@@ -134,8 +134,8 @@ pub(crate) fn remove_stale<R: Files<File = File>>(rt: &R, part: &str) -> io::Res
     }
 }
 
-/// Makes the file to which the output of one path is written, in place of one that was left there, and
-/// locks it. Where anything fails after that, the file is removed.
+/// Creates the part of an output, in place of a stale one, and locks it. If anything fails after that,
+/// the file is removed.
 pub(crate) fn make_part<'a, R: Files<File = File> + AllocGlobal>(
     rt: &R,
     path: &str,
@@ -153,14 +153,14 @@ pub(crate) fn make_part<'a, R: Files<File = File> + AllocGlobal>(
     output_to(alloc, file, writing).inspect_err(|_| remove_made(rt, part))
 }
 
-// Locks a file that was just made at a path, or removes it. A run that begins at the same time may have
-// locked it first, to look at it or to take it away.
+// Locks a file that was just created at a path, or removes it. A run that starts at the same time may
+// have locked it first, to look at it or to remove it.
 fn lock_made<R: Files<File = File>>(rt: &R, file: &File, part: &str) -> io::Result<()> {
     match lock_again(file) {
         Ok(()) if is_at(rt, file, part) => Ok(()),
         Ok(()) => Err(in_use()),
         Err(error) => {
-            // Where it isn't another run that has the lock, nobody can lock it.
+            // If it isn't another run that has the lock, nobody can lock it.
             if error.kind() != ErrorKind::WouldBlock && is_at(rt, file, part) {
                 let _ = fs::remove_file(rt, part);
             }
@@ -180,13 +180,13 @@ fn lock_again(file: &File) -> io::Result<()> {
     lock(file)
 }
 
-// Removes a file that was made and is closed.
+// Removes a file that was created and is closed.
 fn remove_made<R: Files<File = File>>(rt: &R, part: &str) {
     let _ = remove_stale(rt, part);
 }
 
-/// Gives what was written for a path its name, with the permission bits of the file that it replaces, and
-/// says whether something was there. It gets none where its file is no longer where it was made.
+/// Renames the part to its path, with the permission bits of the file that it replaces, and returns
+/// whether something was there. It isn't renamed if the file is no longer where it was created.
 pub(crate) fn publish<'a, R: Files<File = File> + AllocGlobal>(
     rt: &R,
     path: &str,
@@ -208,7 +208,7 @@ pub(crate) fn publish<'a, R: Files<File = File> + AllocGlobal>(
     Ok(replaced.is_ok())
 }
 
-// Gives a file the permission bits of the file that it replaces, where it has others.
+// Copies the permission bits of the file that is replaced, if they differ.
 fn keep_permissions(file: &File, replaced: &Metadata) -> io::Result<()> {
     let wanted = replaced.permissions().mode() & PERMISSION_BITS;
     if !replaced.is_file() || file.metadata()?.permissions().mode() & PERMISSION_BITS == wanted {
@@ -217,7 +217,7 @@ fn keep_permissions(file: &File, replaced: &Metadata) -> io::Result<()> {
     file.set_permissions(Permissions::from_mode(wanted))
 }
 
-// Whether an open file is the one at a path.
+// Returns whether an open file is the one at a path.
 fn is_at<R: Files>(rt: &R, file: &R::File, path: &str) -> bool {
     match (file.metadata(), fs::symlink_metadata(rt, path)) {
         (Ok(open), Ok(named)) => FileId::of(&open) == FileId::of(&named),

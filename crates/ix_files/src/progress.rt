@@ -1,4 +1,4 @@
-//! How a run goes on, on standard error.
+//! Shows progress on standard error.
 
 ghost use Rattle.std.specs.Prelude.{◌≡◌};
 ghost use Rattle.ix_files.specs.Progress.{is_told};
@@ -8,35 +8,35 @@ use std::cell::Cell;
 use std::io::{self, Read};
 use std::rt::Clock;
 
-// After so many visits a line is told, where lines are.
+// How many visits are between two lines.
 const VISITS_A_LINE: u64 = 100_000;
 
-// How many milliseconds lie between two lines at least, and between two states of the one that is
-// rewritten.
+// The least time between two lines, and between two updates of the line that is rewritten, in
+// milliseconds.
 const BETWEEN_LINES: u64 = 1_000;
 
 const BETWEEN_STATES: u64 = 500;
 
-// After so many visits, or KiB written, the clock is looked at.
+// How much work there is between two looks at the clock, in visits or KiB written.
 const WORK_A_LOOK: u64 = 256;
 
-// How many bytes are read at once where it is told.
+// How many bytes are read at once while progress is shown.
 const PIECE: usize = 4 * 1024 * 1024;
 
-/// How it is told how a run goes on.
+/// How progress is shown.
 #[derive(Debug, Drop, Clone, Copy, PartialEq, Eq)]
 pub enum Telling {
     /// Not at all.
     Nothing,
-    /// In lines, at most one a second: at a close, and after each 100,000 visits.
+    /// In lines, at most one per second: at each close, and after each 100,000 visits.
     Lines,
-    /// In one line of a terminal, which is rewritten at most twice a second, from so many
-    /// milliseconds on.
+    /// In one line of a terminal, rewritten at most twice a second, after so many milliseconds.
     OneLine(u64),
 }
 
-/// Tells on standard error how many bytes of blocks were read, and then how many jobs of all are closed, how many visits
-/// were delivered, and how many bytes of archives were written. It is told by one thread.
+/// Shows progress on standard error: how many bytes of blocks were read; then how many jobs are closed,
+/// how many visits were delivered, and how many bytes of archives were written. Only one thread reports
+/// it.
 #[derive(Drop)]
 pub struct Progress<'a, R> {
     rt: &'a R,
@@ -48,19 +48,19 @@ pub struct Progress<'a, R> {
     closed: Cell<usize>,
     visits: Cell<u64>,
     bytes: Cell<u64>,
-    // How many bytes of blocks were read, and how many there are, where that is known.
+    // How many bytes of blocks were read, and how many there are, if that is known.
     loaded: Cell<u64>,
     size: Cell<u64>,
-    // When something was told last.
+    // When something was shown last.
     told: Cell<Option<u64>>,
-    // What was done since the clock was looked at.
+    // The work since the last look at the clock.
     work: Cell<u64>,
-    // Whether the line that is rewritten stands there.
+    // Whether the line that is rewritten is on the terminal.
     stands: Cell<bool>,
 }
 
 impl<'a, R: AllocGlobal + Clock + Eprint> Progress<'a, R> {
-    /// The progress of a run of which nothing was told so far.
+    /// Returns the progress of a run of which nothing was shown so far.
     pub fn new(rt: &'a R, telling: Telling) -> Progress<'a, R>
         ensures { result.telling ≡ telling }
     {
@@ -81,19 +81,19 @@ impl<'a, R: AllocGlobal + Clock + Eprint> Progress<'a, R> {
         }
     }
 
-    /// Whether anything is told.
+    /// Returns whether progress is shown at all.
     pub fn is_told(&self) -> bool
         ensures { result ≡ is_told self.now.telling }
     {
         self.telling != Telling::Nothing
     }
 
-    /// So many bytes of blocks are there to be read.
+    /// Sets how many bytes of blocks there are to be read.
     pub(crate) fn expect(&self, size: u64) {
         self.size.set(size);
     }
 
-    // So many more bytes of blocks were read.
+    // Counts so many more bytes of blocks that were read.
     fn add_loaded(&self, bytes: u64) {
         self.loaded.set(self.loaded.get().saturating_add(bytes));
         if self.is_due(false) {
@@ -106,20 +106,21 @@ impl<'a, R: AllocGlobal + Clock + Eprint> Progress<'a, R> {
         }
     }
 
-    /// The run of so many jobs begins.
+    /// Starts the run of so many jobs.
     pub fn begin(&self, jobs: usize) {
         self.jobs.set(jobs);
         self.run_start.set(now(self.rt));
     }
 
-    /// Nothing more is told: the line that is rewritten ends.
+    /// Ends the line that is rewritten, since nothing more is shown.
     pub fn end(&self) {
         if self.stands.replace(false) {
             let _ = eprint!(self.rt; "\n");
         }
     }
 
-    // Whether the line of a terminal is to be rewritten now, which is noted; the last state is.
+    // Returns whether the line of a terminal is due to be rewritten, and records it. The last state is
+    // always due.
     fn is_due(&self, is_last: bool) -> bool {
         let Telling::OneLine(after) = self.telling else {
             return false;
@@ -136,7 +137,7 @@ impl<'a, R: AllocGlobal + Clock + Eprint> Progress<'a, R> {
         true
     }
 
-    // Rewrites the line of a terminal, where it is due.
+    // Rewrites the line of a terminal if it is due.
     fn rewrite(&self, is_last: bool) {
         if !self.is_due(is_last) {
             return;
@@ -144,14 +145,14 @@ impl<'a, R: AllocGlobal + Clock + Eprint> Progress<'a, R> {
         let (jobs, closed) = (self.jobs.get(), self.closed.get());
         let (visits, written) = (self.visits.get(), mebibytes(self.bytes.get()));
         let rate = a_second(visits, now(self.rt).saturating_sub(self.run_start.get()));
-        // The terminal cuts a line that is too long for it, where it would else go on in the next one. Where
-        // standard error can't be written there is nobody to tell.
+        // The terminal cuts a line that is too long, instead of wrapping it. If standard error can't be
+        // written, there is no one to report to.
         let _ = eprint!(self.rt;
             "\r\u{1b}[?7l{closed} of {jobs} jobs closed, {written} MiB, {visits} visits, {rate} a second\u{1b}[K\u{1b}[?7h"
         );
     }
 
-    // Prints a line, unless one was told a moment ago; the last one is printed.
+    // Prints a line, unless one was printed a moment ago. The last one is always printed.
     fn print(&self, is_last: bool) {
         let now = now(self.rt);
         if !is_last && !is_past(self.told.get(), now, BETWEEN_LINES) {
@@ -165,7 +166,7 @@ impl<'a, R: AllocGlobal + Clock + Eprint> Progress<'a, R> {
         );
     }
 
-    // Looks at the clock where enough was done since.
+    // Looks at the clock after enough work.
     fn add_work(&self, work: u64) {
         let work = self.work.get().saturating_add(work);
         if work < WORK_A_LOOK {
@@ -205,7 +206,7 @@ impl<'a, R: AllocGlobal + Clock + Eprint> Watch for Progress<'a, R> {
     }
 }
 
-/// A reader of blocks of which it is told how many bytes were read.
+/// A reader of blocks that counts the bytes read.
 #[derive(Drop)]
 pub(crate) struct Loading<'a, F, R> {
     file: F,
@@ -213,7 +214,7 @@ pub(crate) struct Loading<'a, F, R> {
 }
 
 impl<'a, F, R> Loading<'a, F, R> {
-    /// The reader, of which nothing was read so far.
+    /// Wraps a reader of which nothing was read so far.
     pub(crate) fn new(file: F, progress: &'a Progress<'a, R>) -> Loading<'a, F, R> {
         Loading { file, progress }
     }
@@ -231,7 +232,7 @@ impl<'a, F: Read, R: AllocGlobal + Clock + Eprint> Read for Loading<'a, F, R> {
     }
 }
 
-// The time of the clock in milliseconds, 0 where it has none.
+// Returns the time of the clock in milliseconds, or 0 if it has none.
 fn now<R: Clock>(rt: &R) -> u64 {
     match rt.monotonic() {
         Ok(time) => u64::try_from(time.as_millis()).unwrap_or(u64::MAX),
@@ -239,7 +240,7 @@ fn now<R: Clock>(rt: &R) -> u64 {
     }
 }
 
-// Whether so many milliseconds passed since something was told, or nothing was.
+// Returns whether so many milliseconds passed since something was shown, or nothing was.
 fn is_past(told: Option<u64>, now: u64, pause: u64) -> bool {
     match told {
         Some(told) => now.saturating_sub(told) >= pause,
@@ -247,12 +248,12 @@ fn is_past(told: Option<u64>, now: u64, pause: u64) -> bool {
     }
 }
 
-// How many whole MiB there are.
+// Returns the number of whole MiB.
 fn mebibytes(bytes: u64) -> u64 {
     bytes / (1024 * 1024)
 }
 
-// How many there are a second, of so many in so many milliseconds.
+// Returns the rate per second, of a count in so many milliseconds.
 fn a_second(count: u64, milliseconds: u64) -> u64 {
     count.saturating_mul(1_000) / milliseconds.max(1)
 }

@@ -1,8 +1,8 @@
-//! The report on standard error.
+//! Prints the report to standard error.
 
 use std::str;
 
-/// Tells the report of a run on standard error. Where that can't be written there is nobody to tell.
+/// Prints the report of a run to standard error. If it can't be written, there is no one to report to.
 pub fn tell_report<R: Eprint>(rt: &R, report: &[u8]) {
     // A report is ASCII text.
     if let Ok(text) = str::from_utf8(report) {

@@ -1,4 +1,4 @@
-//! The standard streams, where they are closed.
+//! Occupies the standard streams that are closed.
 
 ghost use Rattle.std.specs.Prelude.{codes};
 ghost use Rattle.ix_files.specs.Failure.{RefusesPath};
@@ -9,13 +9,13 @@ use std::io;
 use std::os::fd::{AsRawFd, OwnedFd};
 use std::rt::Files;
 
-// A file that is mostly there, and has no bytes.
+// A file that usually exists, and reads as empty.
 const DEV_NULL: &str = "/dev/null";
 
-// The greatest number of a standard stream.
+// The greatest file descriptor of a standard stream.
 const STANDARD_ERROR: i32 = 2;
 
-/// What is open in place of the standard streams that are closed.
+/// The files that are open in place of closed standard streams.
 #[derive(Drop)]
 pub struct StandIns {
     _input: Option<OwnedFd>,
@@ -23,10 +23,10 @@ pub struct StandIns {
     _error: Option<OwnedFd>,
 }
 
-/// Opens something in place of each standard stream that is closed. A file that is opened takes the lowest
-/// number that is free, so without this what is printed could end in an output. What is opened can't be
-/// written, so a stream that is closed stays one that refuses what is printed. Where a number stays free,
-/// standard output can't be written.
+/// Opens a file in place of each standard stream that is closed. A new file takes the lowest free
+/// descriptor, so without this an output could receive what is printed. These files can't be written,
+/// so printing to a closed stream still fails. If a descriptor stays free, the error is that standard
+/// output can't be written.
 pub fn stand_in<R: AllocGlobal + Files<File = File>>(rt: &R) -> Result<StandIns, Failure>
     ensures refused { RefusesPath (codes "-") result }
 {
@@ -36,7 +36,7 @@ pub fn stand_in<R: AllocGlobal + Files<File = File>>(rt: &R) -> Result<StandIns,
     }
 }
 
-// At most three of the numbers are free.
+// At most three of the descriptors are free.
 fn stand_ins<R: Files<File = File>>(rt: &R) -> io::Result<StandIns> {
     Ok(StandIns {
         _input: at_standard_stream(rt)?,
@@ -45,13 +45,13 @@ fn stand_ins<R: Files<File = File>>(rt: &R) -> io::Result<StandIns> {
     })
 }
 
-// Something that can't be written, at the lowest number that is free, if that is one of a standard stream.
+// Opens a file that can't be written. It is kept if its descriptor is that of a standard stream.
 fn at_standard_stream<R: Files<File = File>>(rt: &R) -> io::Result<Option<OwnedFd>> {
     let opened = unwritable(rt)?;
     Ok((opened.as_raw_fd() <= STANDARD_ERROR).then_some(opened))
 }
 
-// Without /dev/null it is the end of a pipe from which it would be read; the other end is closed at once.
+// Opens /dev/null for reading, or else the read end of a pipe, whose other end is closed at once.
 fn unwritable<R: Files<File = File>>(rt: &R) -> io::Result<OwnedFd> {
     match fs::open(rt, DEV_NULL) {
         Ok(file) => Ok(OwnedFd::from(file)),

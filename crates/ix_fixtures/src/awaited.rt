@@ -1,12 +1,12 @@
-//! What one side waits for while another comes to it.
+//! An event that one side waits for and another signals.
 
 use std::sync::atomic::{AtomicBool, AtomicU32, Ordering};
 use std::thread;
 
-/// How often a side looks whether what it waits for began.
+/// How many times a side checks whether the event has started.
 pub const TURNS: u32 = 10_000_000;
 
-/// Something that is to begin while another side waits for it.
+/// An event that is to start while another side waits for it.
 #[derive(Drop)]
 pub struct Awaited {
     count: AtomicU32,
@@ -16,7 +16,7 @@ pub struct Awaited {
 }
 
 impl Awaited {
-    /// It has begun once it was told so many times.
+    /// It counts as started once it was signaled so many times.
     pub fn new(wanted: u32) -> Awaited {
         Awaited {
             count: AtomicU32::new(0),
@@ -26,17 +26,17 @@ impl Awaited {
         }
     }
 
-    /// Tells of it, once more.
+    /// Signals it once more.
     pub fn tell(&self) {
         self.count.fetch_add(1, Ordering::SeqCst);
     }
 
-    /// Whether it has begun.
+    /// Returns whether it has started.
     pub fn has_begun(&self) -> bool {
         self.count.load(Ordering::SeqCst) >= self.wanted
     }
 
-    /// Waits until it began, for so many turns. It is missed where it never does.
+    /// Waits until it has started, for so many turns, and records a miss if it never does.
     pub fn wait(&self, turns: u32) {
         self.waits.fetch_add(1, Ordering::SeqCst);
         for _ in 0..turns {
@@ -48,12 +48,12 @@ impl Awaited {
         self.is_missed.store(true, Ordering::SeqCst);
     }
 
-    /// Whether a side waited for it, and it never began.
+    /// Returns whether a side waited for it, and it never started.
     pub fn is_missed(&self) -> bool {
         self.is_missed.load(Ordering::SeqCst)
     }
 
-    /// Whether one side waited for it, and didn't miss it.
+    /// Returns whether one side waited for it and didn't miss it.
     pub fn is_met(&self) -> bool {
         self.waits.load(Ordering::SeqCst) == 1 && !self.is_missed()
     }

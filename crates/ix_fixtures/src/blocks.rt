@@ -1,14 +1,14 @@
-//! Blocks in hexadecimal, the stores of them, and the archives that jobs over these leave.
+//! Blocks in hex, their stores, and the archives of jobs over these.
 
 use ix_cid::Cid;
 use ix_store::Store;
 use std::alloc::Global;
 use std::test::Fail;
 
-/// A section in hexadecimal: how many bytes are behind that number, a CID and a block.
+/// A section in hex: how many bytes are after that number, a CID and a block.
 pub type Section = (&'static str, &'static str, &'static str);
 
-// What stands before and behind the CID in the header of an archive.
+// What is before and after the CID in the header of an archive.
 const ROOTS: &str = "3aa265726f6f747381d82a582500";
 
 const VERSION: &str = "6776657273696f6e01";
@@ -53,7 +53,7 @@ pub const CHAIN: [Section; 4] = [
     ABC_SECTION,
 ];
 
-/// A CID under which another block than its own stands.
+/// A CID under which another block than its own is stored.
 pub const DAMAGED: &str =
     "01711220530e239c204f4923f6392cfa40cd12101b2a857704552ef7152f21d00f17bb2d";
 
@@ -74,7 +74,7 @@ pub const LIST_SECTION: Section = (
     "82d82a58250001711220530e239c204f4923f6392cfa40cd12101b2a857704552ef7152f21d00f17bb2dd82a5825000171122021e288dd95d20c03227dc4c449b3a8885fcb420f614135142435f3b33b428832",
 );
 
-/// The bytes of hexadecimal texts, one behind another.
+/// The bytes of hex texts, one after another.
 pub fn bytes_of(alloc: Global, pieces: &[&str]) -> Result<Vec<u8>, Fail> {
     let mut bytes = Vec::new(alloc);
     for piece in pieces {
@@ -84,7 +84,7 @@ pub fn bytes_of(alloc: Global, pieces: &[&str]) -> Result<Vec<u8>, Fail> {
     Ok(bytes)
 }
 
-/// The bytes of sections, one behind another.
+/// The bytes of sections, one after another.
 pub fn sections_of(alloc: Global, sections: &[Section]) -> Result<Vec<u8>, Fail> {
     let mut bytes = Vec::new(alloc);
     for (length, cid, block) in sections {
@@ -103,7 +103,7 @@ pub fn archive_with(alloc: Global, root: &[u8], sections: &[u8]) -> Result<Vec<u
     Ok(archive)
 }
 
-/// The archive of a root in hexadecimal, with these sections.
+/// The archive of a root in hex, with these sections.
 pub fn archive_of(alloc: Global, root: &str, sections: &[Section]) -> Result<Vec<u8>, Fail> {
     let root = bytes_of(alloc, &[root])?;
     let sections = sections_of(alloc, sections)?;
@@ -121,14 +121,14 @@ pub fn list_archive(alloc: Global) -> Result<Vec<u8>, Fail> {
     archive_of(alloc, LIST, sections.as_slice())
 }
 
-/// The CID of a hexadecimal text.
+/// The CID of a hex text.
 pub fn cid_of(alloc: Global, text: &str) -> Result<Cid, Fail> {
     let bytes = hex::decode(alloc, text)?;
     let (cid, _) = Cid::read(alloc, bytes.as_slice())?;
     Ok(cid)
 }
 
-/// The store of the blocks of sections under their CIDs, which keeps what is found of them.
+/// The store of the blocks of sections under their CIDs, which caches what is found of them.
 pub fn store_of(alloc: Global, sections: &[Section]) -> Result<Store, Fail> {
     let mut store = Store::new(alloc);
     for (_, cid, block) in sections {

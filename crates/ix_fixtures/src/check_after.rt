@@ -1,4 +1,4 @@
-//! A check before which something else is done, and one that finds no memory for one visit.
+//! A check before which something else is done, and one that runs out of memory at one visit.
 
 ghost use Rattle.ix_archive.specs.Headline.{IsUnusedCheck};
 
@@ -9,7 +9,7 @@ use std::alloc::{AllocError, Global};
 
 /// What is done before a visit is checked.
 pub trait Before {
-    /// Tells another side, waits for one, or finds no memory, before this visit is checked.
+    /// Signals another side, waits for one, or runs out of memory, before this visit is checked.
     fn before(&self, visit: &Visit) -> Result<(), AllocError>;
 }
 
@@ -23,7 +23,7 @@ pub struct CheckAfter<B> {
 }
 
 impl<B> CheckAfter<B> {
-    /// A check that has checked nothing so far.
+    /// Makes a check that has checked nothing so far.
     pub fn new(alloc: Global, first: B) -> CheckAfter<B>
         ensures { IsUnusedCheck (λ c. c.check) result }
     {
@@ -51,7 +51,7 @@ impl<B: Before> Check for CheckAfter<B> {
 // The third visit of the first job.
 const REFUSED: (u32, u32) = (0, 2);
 
-/// Finds no memory for the third visit of the first job.
+/// Runs out of memory at the third visit of the first job.
 #[derive(Drop)]
 pub struct Refusing;
 

@@ -13,14 +13,14 @@ use std::test::Fail;
 /// The selector of everything below.
 pub const ALL: &str = "a16152a2616ca1646e6f6e65a0623a3ea16161a1613ea16140a0";
 
-// The selector in hexadecimal.
+// The selector in hex.
 fn selector_of(alloc: Global, text: &str) -> Result<Selector, Fail> {
     let block = hex::decode(alloc, text)?;
     let tree = decode(alloc, block.as_slice())?;
     Ok(Selector::read(alloc, &tree)?)
 }
 
-/// The job of a root, a selector in hexadecimal and a limit.
+/// The job of a root, a selector in hex and a limit.
 pub fn job_at(alloc: Global, root: Cid, selector: &str, limit: u32) -> Result<Job, Fail>
     ensures { IfOk result (λ job. job.limit ≡ limit) }
 {
@@ -29,14 +29,14 @@ pub fn job_at(alloc: Global, root: Cid, selector: &str, limit: u32) -> Result<Jo
     Ok(Job::new(name, vec![in alloc; root]?, selector, limit)?)
 }
 
-/// The same of a root in hexadecimal.
+/// The same of a root in hex.
 pub fn job_of(alloc: Global, root: &str, selector: &str, limit: u32) -> Result<Job, Fail>
     ensures { IfOk result (λ job. job.limit ≡ limit) }
 {
     job_at(alloc, cid_of(alloc, root)?, selector, limit)
 }
 
-/// So many jobs of everything below a root in hexadecimal.
+/// So many jobs of everything below a root in hex.
 pub fn jobs_of(alloc: Global, root: &str, count: u32, limit: u32) -> Result<Vec<Job>, Fail>
     requires { limit ≤ 1000000 }
     ensures small { IfOk result (λ jobs. All (λ job. job.limit ≤ 1000000) jobs.items) }

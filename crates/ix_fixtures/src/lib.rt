@@ -1,5 +1,5 @@
-//! What tests share: blocks under their CIDs, jobs over them, a sink that keeps what it is told, what
-//! one side waits for, and checks before which something else is done.
+//! Shared test fixtures: blocks under their CIDs, jobs over them, a sink that records what it receives,
+//! events to wait for, and checks before which something else is done.
 //!
 //! Jobs have the root, selector and limit that are given, and as many as are asked for. A log keeps
 //! each delivery and the close, as a sink is to.

@@ -1,4 +1,4 @@
-//! A sink that keeps what it is told.
+//! A sink that records what it receives.
 
 ghost use Rattle.std.specs.Prelude.{◌≡◌, ◌≤◌, ◌++◌, [], map, option_to_list, vec_capacity, IfOk};
 ghost use Rattle.ix_archive.specs.Events.{delivery, close as closing};
@@ -8,7 +8,7 @@ use ix_check::Verdict;
 use ix_walk::Visit;
 use std::alloc::{AllocError, Global};
 
-/// Keeps what it is told, for which room was made, and fails to write once it has so many deliveries.
+/// Records what it receives, for which room was allocated, and fails to write once it has so many deliveries.
 #[derive(Drop)]
 pub struct Log {
     room: usize,
@@ -22,7 +22,7 @@ pub struct Log {
 }
 
 impl Log {
-    /// Nothing was told so far, and there is room for so many deliveries.
+    /// Makes a log that has received nothing, with room for so many deliveries.
     pub fn new(alloc: Global, room: usize) -> Result<Log, AllocError>
         ensures events { IfOk result (λ s. map delivery s.deliveries.items
             ++ map closing (option_to_list s.closed) ≡ []) }

@@ -1,4 +1,4 @@
--- Sinks that were closed with one end, and told nothing else.
+-- Sinks that were closed with one end, and received nothing else.
 use Rattle.std.proofs.Common.{◌≡◌, ◌⊎◌, ℕ, zero, suc, ◌+◌, ◌<◌, ◌≤◌, List, [], ◌∷◌, ◌++◌, length, get_or, set, take, drop, slice_get, Some, None, All, Contains, refl, sym, ◌∙◌, ap, subst, inl, inr, arith, take_all, drop-set-lt}
 use Rattle.std.proofs.lemmas.Bool.{cases_lt}
 use Rattle.std.proofs.lemmas.List.{take_more_set, drop_more}
@@ -21,12 +21,14 @@ use Rattle.ix_stages.specs.declared.shared.Task.{Task}
 use Rattle.ix_flow.specs.Closed.{EachClosed}
 use Rattle.ix_flow.specs.Flowing.{AreVisitsOnce, IsFlown}
 
+-- replacing the i-th sink by one that keeps the i-th's promise keeps all promises
 pub kept_set : {S : Type 0} (fact : Fact S) (ss ts : List S) (i : ℕ) (x y : S) → EachKept fact ss ts → x ≡ get_or ts i x → Keeps fact x y → EachKept fact ss (set ts i y)
 kept_set fact [] [] i x y h at keeps = tt
 kept_set {S = S} fact (s ∷ ss) (t ∷ ts) zero x y h at keeps = ((λ store job first p. keeps store job first (subst (λ (z : S). fact z store job first) (sym at) (h.0 store job first p))), h.1)
 kept_set fact (s ∷ ss) (t ∷ ts) (suc i) x y h at keeps = (h.0, kept_set fact ss ts i x y h.1 at keeps)
 kept_set fact ss ts i x y h at keeps = absurd h
 
+-- lists of sinks that keep each other's promises have the same length
 pub kept_length : {S : Type 0} (fact : Fact S) (ss ts : List S) → EachKept fact ss ts → length ss ≡ length ts
 kept_length fact [] [] h = refl
 kept_length fact (s ∷ ss) (t ∷ ts) h = ap suc (kept_length fact ss ts h.1)
@@ -62,10 +64,11 @@ module _ {S : Type 0} (events : S → List Event) (failed : S → List Delivery)
     kept = kept_same fact first;
   }
 
-  -- the next sink is fresh, and so are those behind it
+  -- the next sink is fresh, and so are those after it
   split_fresh : (fact : Fact S) (i : ℕ) (es : List End) (first sinks : List S) (s : S) → IsClosedTo events failed fact end i es first sinks → i < length sinks → EachFresh events failed (get_or sinks i s ∷ drop (i + 1) sinks)
   split_fresh fact i es first sinks s t lt = subst (λ (l : List S). EachFresh events failed l) (drop_more sinks i s lt) t.fresh
 
+  -- the next sink to close is still fresh
   pub next_fresh : (fact : Fact S) (i : ℕ) (es : List End) (first sinks : List S) (s : S) → IsClosedTo events failed fact end i es first sinks → i < length sinks → s ≡ get_or sinks i s → (events s ≡ []) × (failed s ≡ [])
   next_fresh fact i es first sinks s t lt at =
       let all = split_fresh fact i es first sinks s t lt in subst (λ (x : S). (events x ≡ []) × (failed x ≡ [])) (sym at) all.0
@@ -90,7 +93,7 @@ module _ {S : Type 0} (events : S → List Event) (failed : S → List Delivery)
   pub all_closed : (fact : Fact S) (i : ℕ) (es : List End) (first sinks : List S) → length sinks ≤ i → IsClosedTo events failed fact end i es first sinks → EachClosed events failed end es sinks
   all_closed fact i es first sinks past t = subst (λ (l : List S). EachClosed events failed end es l) (take_all i sinks past) t.closed
 
-  -- a job of which nothing is delivered for want of memory or of threads is delivered faithfully
+  -- a job of which nothing is delivered for lack of memory or of threads is delivered faithfully
   faithful_closed : (store : Blocks) (number : ℕ) (job : JobMeaning) (e : End) (told : List Event) (refused : List Delivery)
       → (end ≡ Start) ⊎ (end ≡ Memory) → e ≡ end → told ≡ close end ∷ [] → refused ≡ [] → IsFaithful store number job e told refused
   faithful_closed store number job e told refused which is events none = record {
@@ -103,6 +106,7 @@ module _ {S : Type 0} (events : S → List Event) (failed : S → List Delivery)
     ];
   }
 
+  -- by induction over the jobs: sinks that were closed alone are delivered to faithfully
   delivered_from : (store : Blocks) (n : ℕ) (jobs : List JobMeaning) (es : List End) (ss : List S) → EachClosed events failed end es ss → length jobs ≡ length ss → (end ≡ Start) ⊎ (end ≡ Memory) → EachDelivered events failed store n jobs es ss
   delivered_from store n [] [] [] h same which = tt
   delivered_from store n (j ∷ js) (e ∷ es) (s ∷ ss) h same which =
@@ -114,7 +118,7 @@ module _ {S : Type 0} (events : S → List Event) (failed : S → List Delivery)
   delivered_from store n (j ∷ js) (e ∷ es) [] h same which = absurd h
   delivered_from store n (j ∷ js) [] (s ∷ ss) h same which = absurd h
 
-  -- sinks that were closed alone are delivered to faithfully, where their jobs ended for want of memory or of threads
+  -- sinks that were closed alone are delivered to faithfully, where their jobs ended for lack of memory or of threads
   pub delivered_of_closed : (store : Blocks) (jobs : List JobMeaning) (es : List End) (ss : List S) → EachClosed events failed end es ss → length jobs ≡ length ss → (end ≡ Start) ⊎ (end ≡ Memory) → EachDelivered events failed store 0 jobs es ss
   delivered_of_closed store jobs es ss h same which = delivered_from store 0 jobs es ss h same which
 
@@ -143,6 +147,7 @@ module _ {S : Type 0} (events : S → List Event) (failed : S → List Delivery)
   all_of_none store (j ∷ js) es [] job seq h same which walked lt = omega arith
   all_of_none store (j ∷ js) es (s ∷ ss) job seq h same which walked lt = none_walked es s ss h which walked
 
+  -- each of the closed sinks has this end
   closed_get : (es : List End) (ss : List S) (i : ℕ) → EachClosed events failed end es ss → i < length ss → slice_get es i ≡ Some end
   closed_get [] [] i h lt = absurd (omega arith)
   closed_get (e ∷ es) (s ∷ ss) zero h lt = let here = h.0 in ap (λ (x : End). Some x) here.0
@@ -172,7 +177,7 @@ module _ {S : Type 0} (events : S → List Event) (failed : S → List Delivery)
     all = λ walked job seq lt. absurd (all_of_none store jobs es ss job seq h same which walked lt);
   }
 
--- where every sink was closed with Start and told nothing else, the flow has left what it is to leave
+-- where every sink was closed with Start and received nothing else, the flow has left what it is to leave
 pub flown_of_closed : {S C G : Type 0} (events : S → List Event) (failed : S → List Delivery) (fact : Fact S) (checked : C → List (ℕ × ℕ)) (task : Task G) (first sinks : List S) (out : Outcome C)
     → length first ≡ length task.jobs.now → EachClosed events failed Start out.ends.items sinks → EachKept fact first sinks → AreVisitsOnce checked task out.checks.items
     → IsFlown events failed fact checked task first sinks out

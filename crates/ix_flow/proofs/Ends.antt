@@ -21,12 +21,14 @@ module _ {C : Type 0} where
   lanes_back (x ∷ hs) (i ∷ is) (o ∷ os) [] h b s = absurd s
   lanes_back (x ∷ hs) (i ∷ is) (o ∷ os) (p ∷ ps) h b s = (lane_same x.promise.verifier.value.lane i o p b.0 s.0 h.0, lanes_back hs is os ps h.1 b.1 s.1)
 
+  -- one more handle with the receiver of its lane, at the end of both lists
   pub out_push : (hs : List (PromisedHandle (Verifier C) (Began C))) (os : List LaneOut) (x : PromisedHandle (Verifier C) (Began C)) (o : LaneOut) → EachOut hs os → IsLane x.promise.verifier.value.lane o → EachOut (hs ++ x ∷ []) (os ++ o ∷ [])
   out_push [] [] x o h l = (l, tt)
   out_push [] (p ∷ os) x o h l = absurd h
   out_push (y ∷ hs) [] x o h l = absurd h
   out_push (y ∷ hs) (p ∷ os) x o h l = (h.0, out_push hs os x o h.1 l)
 
+  -- one more joined handle with the sender it gave back, at the end of both lists
   pub back_push : (hs : List (PromisedHandle (Verifier C) (Began C))) (is : List LaneIn) (x : PromisedHandle (Verifier C) (Began C)) (i : LaneIn) → EachBack hs is → SameIn x.promise.verifier.value.lane i → EachBack (hs ++ x ∷ []) (is ++ i ∷ [])
   back_push [] [] x i h l = (l, tt)
   back_push [] (j ∷ is) x i h l = absurd h

@@ -25,7 +25,7 @@ module _ {S : Type 0} (events : S → List Event) (failed : S → List Delivery)
     lanes = each_same_trans outs next last h.lanes lanes;
   }
 
-  -- one behind the other
+  -- one after the other
   pub gathers_trans : (a b c : Collector) (outs next last : List LaneOut) (first then sinks : List S) → Gathers events failed fact a b outs next first then → Gathers events failed fact b c next last then sinks → Gathers events failed fact a c outs last first sinks
   gathers_trans a b c outs next last first then sinks h k =
       record { collector = on_trans events failed fact a b c first then sinks h.collector k.collector; collected = k.collected; lanes = each_same_trans outs next last h.lanes k.lanes }

@@ -12,11 +12,13 @@ use Rattle.ix_stages.specs.Walking.{IsReady}
 use Rattle.ix_flow.proofs.Lists.{all_count}
 
 module _ (store : Blocks) (jobs : List JobMeaning) (t : TableId) (course : List JobVisits) (all : ℕ) (same : course ≡ course_of store jobs) where
+  -- the new seats of so many jobs are ready, as each is new
   pub seats_ready : (n : ℕ) (seats : List JobView) → n ≡ length jobs → seats ≡ map (new_job t course all) (count_up 0 n) → All (IsReady store jobs t) seats
   seats_ready n seats many is =
       subst (All (IsReady store jobs t)) (sym is)
       (all_count (IsReady store jobs t) (new_job t course all) 0 n (length jobs) (omega (arith, many)) (λ j lt. record { table = refl; job = lt; begins = (refl, refl); course = same }))
 
+  -- the seats of a run of numbers have these job numbers
   jobs_counted : (n k : ℕ) → map (λ s. s.job) (map (new_job t course all) (count_up n k)) ≡ count_up n k
   jobs_counted n zero = refl
   jobs_counted n (suc k) = ap (λ (l : List ℕ). n ∷ l) (jobs_counted (suc n) k)
@@ -25,6 +27,7 @@ module _ (store : Blocks) (jobs : List JobMeaning) (t : TableId) (course : List 
   pub seats_each : (n : ℕ) (seats : List JobView) → n ≡ length jobs → seats ≡ map (new_job t course all) (count_up 0 n) → map (λ s. s.job) seats ≡ count_up 0 (length jobs)
   seats_each n seats many is = ap (λ (l : List JobView). map (λ s. s.job) l) is ∙ (jobs_counted 0 n ∙ ap (count_up 0) many)
 
+  -- new takers are ready, as each has taken nothing
   pub takers_ready : (n : ℕ) (takers : List SeatView) → IsCourseOf store (course_of store jobs) → takers ≡ replicate n (new_taker t course all) → All (λ s. (s.table ≡ t) × IsCourseOf store s.pass.course × (s.pass.taken ≡ [])) takers
   takers_ready n takers of is =
       let P : SeatView → Type 0 = λ s. (s.table ≡ t) × IsCourseOf store s.pass.course × (s.pass.taken ≡ []) in

@@ -25,7 +25,7 @@ use Rattle.ix_flow.specs.Sinks.{AreFreshSinks}
 use Rattle.ix_flow.specs.Verifiers.{IsUnstarted, IsBegan, HasRunningRoom, HasJoinRoom}
 
 module _ {S C G : Type 0} (events : S → List Event) (failed : S → List Delivery) (fact : Fact S) (checked : C → List (ℕ × ℕ)) (x : Task G) (first sinks : List S) where
-  -- each sink was told what its job calls for and keeps what it promised, each visit was checked as often as it is to be, and threads were wanting for no job or for all
+  -- each sink received what its job calls for and keeps what it promised, each visit was checked as often as it is to be, and no job ended for lack of threads, or every job did
   pub record IsFlown (out : Outcome C) : Type 0 where
     pub delivered : EachDelivered events failed x.store.now 0 x.jobs.now out.ends.items sinks
     pub kept : EachKept fact first sinks
@@ -72,7 +72,7 @@ pub record CanFlow {C G : Type 0} (checked : C → List (ℕ × ℕ)) (x : Share
   pub claimers : All (IsOfClaims x.claims.now) w.claimers.items
   pub caller : IsCallerIn x (vec_len w.unstarted) w.caller
 
--- the same, with sinks that were told nothing
+-- the same, with sinks that received nothing
 pub record CanFlowTo {S C G : Type 0} (events : S → List Event) (failed : S → List Delivery) (checked : C → List (ℕ × ℕ)) (x : Shared G) (sinks : List S) (w : Inputs C) : Type 0 where
   pub can : CanFlow checked x w
   pub fresh : AreFreshSinks events failed (length (jobs_of x)) sinks

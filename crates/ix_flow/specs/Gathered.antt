@@ -10,7 +10,7 @@ use Rattle.ix_collect.specs.declared.collector.Collector.{Collector}
 use Rattle.ix_collect.specs.Collecting.{CanCollect, GoesOn, HasCollected}
 
 module _ {S : Type 0} (events : S → List Event) (failed : S → List Delivery) where
-  -- each sink was told what these items say, if they are good, and may be told what comes next
+  -- each sink received what these items say, if they are good, and may receive what comes next
   pub record IsTold (got : List Verdicted) (c : Collector) (sinks : List S) : Type 0 where
     pub can : CanCollect events failed c sinks
     pub collected : HasCollected events failed got c sinks

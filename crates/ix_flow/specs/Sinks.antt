@@ -7,12 +7,12 @@ use Rattle.ix_archive.specs.Events.{Event}
 use Rattle.ix_archive.specs.Headline.{EachFresh}
 
 module _ {S : Type 0} (events : S → List Event) (failed : S → List Delivery) where
-  -- so many sinks, each of which was told nothing
+  -- so many sinks, none of which received anything
   pub record AreFreshSinks (count : ℕ) (sinks : List S) : Type 0 where
     pub sized : length sinks ≡ count
     pub fresh : EachFresh events failed sinks
 
-  -- sinks that were told nothing, and room for the end of each
+  -- sinks that received nothing, and room for the end of each
   pub record CanCloseAll (sinks : List S) (ends : Vec End) : Type 0 where
     pub room : (ends.items ≡ []) × (length sinks ≤ vec_capacity ends)
     pub fresh : EachFresh events failed sinks

@@ -1,4 +1,4 @@
-//! Exports of which nothing is delivered, since no thread could be started.
+//! Exports of which nothing is delivered, because no thread could be started.
 
 ghost use Rattle.std.specs.Prelude.{◌≡◌};
 ghost use Rattle.ix_archive.specs.declared.sink.End.TheVariants.{Start};

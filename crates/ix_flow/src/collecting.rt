@@ -1,5 +1,4 @@
-//! The caller's part: it receives while the threads run, stops the verifiers, and receives what is
-//! left.
+//! The caller's part: it receives while the threads run, stops the verifiers, and receives the rest.
 
 ghost use Rattle.std.specs.Prelude.{◌≡◌, []};
 ghost use Rattle.ix_handover.specs.Lanes.{EachLane, all_received, all_sent};
@@ -16,7 +15,7 @@ use ix_stages::{LaneIn, LaneOut, StopSeat, VisitQueue, Waiting};
 use std::alloc::Global;
 use std::sync::Wait;
 
-// Waits on, or begins to wait anew where something came.
+// Backs off further, or resets the backoff if something came.
 fn wait_on<R: Wait>(rt: &R, waiting: &mut Waiting, came: bool) {
     if came {
         *waiting = Waiting::new();
@@ -25,7 +24,7 @@ fn wait_on<R: Wait>(rt: &R, waiting: &mut Waiting, came: bool) {
     }
 }
 
-// Receives from all lanes until every sink was closed. It looks for that only where nothing came.
+// Receives from all lanes until every sink is closed. It checks for that only when nothing came.
 fn collect<R: Wait, S: Sink>(
     rt: &R,
     alloc: Global,
@@ -51,7 +50,7 @@ fn collect<R: Wait, S: Sink>(
     unreachable!()
 }
 
-/// What stops so many verifiers: a seat that puts a Stop for each into their queue.
+/// The stopper of so many verifiers: a seat that puts a Stop for each into their queue.
 #[derive(Drop)]
 pub(crate) struct Stopper<'q> {
     pub queue: &'q VisitQueue,
@@ -59,8 +58,8 @@ pub(crate) struct Stopper<'q> {
     pub verifiers: usize,
 }
 
-// Puts Stops while the queue has room and fewer were put than there are verifiers. Says how many were
-// put by then.
+// Puts Stops while the queue has room and fewer were put than there are verifiers. Returns how many
+// were put so far.
 fn put_stops<R: Wait>(
     rt: &R,
     queue: &VisitQueue,
@@ -79,9 +78,9 @@ fn put_stops<R: Wait>(
     verifiers
 }
 
-/// Collects from the first item to the verifiers' last: until every sink was closed. It then puts a Stop
-/// for each verifier, and receives on, so that nobody waits for ever at a full queue or lane, until each
-/// has sent its last item. Gives the seat that stops them back.
+/// Collects from the first item to the verifiers' last. When every sink is closed, it puts a Stop for
+/// each verifier, and goes on receiving until each has sent its last item, so that nobody waits for
+/// ever at a full queue or lane. Returns the seat that stops them.
 pub(crate) fn gather<R: Wait, S: Sink>(
     rt: &R,
     alloc: Global,
@@ -120,8 +119,8 @@ pub(crate) fn gather<R: Wait, S: Sink>(
     unreachable!()
 }
 
-/// Puts a Stop for each verifier, where no walker has put anything: each takes one, and its lane has
-/// room for what it sends then. Gives the seat back.
+/// Puts a Stop for each verifier, when no walker has put anything: each takes one, and its lane has
+/// room for what it then sends. Returns the seat.
 pub(crate) fn stop_idle<R: Wait>(rt: &R, stopper: Stopper<'_>) -> StopSeat
     requires { CanStop stopper }
     ensures { IsSeatOf stopper.entry.seat result }
@@ -143,7 +142,7 @@ pub(crate) fn stop_idle<R: Wait>(rt: &R, stopper: Stopper<'_>) -> StopSeat
     unreachable!()
 }
 
-/// Receives what is left in the lanes, of which all ends are here.
+/// Receives what is left in the lanes, whose senders are all closed.
 pub(crate) fn receive_rest<R: Wait, S: Sink>(
     rt: &R,
     alloc: Global,

@@ -1,4 +1,4 @@
-//! The flow: threads in a scope, and the caller collects while they run.
+//! The flow: threads in a scope, while the caller collects.
 
 ghost use Rattle.std.specs.Prelude.{◌≡◌, [], length, vec_len};
 ghost use Rattle.ix_archive.specs.Headline.{EachUnused};
@@ -23,16 +23,16 @@ use std::sync::Wait;
 use std::thread;
 use std::thread::{PromisedHandle, Scope, Threads};
 
-/// What an export leaves.
+/// The result of an export.
 #[derive(Drop)]
 pub struct Outcome<C> {
-    /// The checks of the verifiers that were started, in the order in which they were handed in.
+    /// The checks of the verifiers that were started, in the order in which they were given.
     pub checks: Vec<C>,
     /// How each job ended, in the order of the jobs.
     pub ends: Vec<End>,
 }
 
-/// What the caller keeps while the threads run, and room for what they give back.
+/// The caller's state while the threads run, and room for their results.
 #[derive(Drop)]
 pub(crate) struct CallerState<C> {
     pub collector: Collector,
@@ -41,7 +41,7 @@ pub(crate) struct CallerState<C> {
     pub ends: Vec<End>,
 }
 
-/// What the threads are handed, and what the caller keeps.
+/// The inputs of the threads, and the caller's state.
 #[derive(Drop)]
 pub(crate) struct Inputs<C: Check + Drop> {
     pub unstarted: Vec<UnstartedVerifier<C>>,
@@ -50,13 +50,13 @@ pub(crate) struct Inputs<C: Check + Drop> {
     pub caller: CallerState<C>,
 }
 
-/// Where the scope puts what the flow leaves.
+/// Where the scope puts the result of the flow.
 #[derive(Drop)]
 pub(crate) struct FlowResult<C> {
     pub outcome: Option<Outcome<C>>,
 }
 
-// Stops and joins verifiers that have nothing to check. Gives back their checks, and the caller's room for
+// Stops and joins verifiers that have nothing to check. Returns their checks, and the caller's room for
 // ends.
 fn stop_early<R: Threads + Wait, C: Check + Drop, G>(
     rt: &R,
@@ -137,7 +137,7 @@ fn collect_all<R: Threads + Wait, S: Sink, C: Check + Drop, G>(
     Outcome { checks, ends }
 }
 
-// All that goes on in the scope.
+// The body of the scope.
 fn flow_in<'s, 'e, S, C, G, R>(
     scope: &'s Scope<'s, &'e ()>,
     rt: &'e R,
@@ -173,9 +173,9 @@ where
     collect_all(rt, alloc, shared, sinks, running, caller)
 }
 
-// The scope. What its closure wrote through references is known only where it gives them back, and to
-// the caller only where this function gives them back: so this is a function of its own, and what the
-// flow leaves goes through a reference too.
+// Runs the scope. What its closure wrote through references is known only when the closure returns
+// them, and to the caller only when this function returns them. So this is a function of its own, and
+// the result of the flow is passed through a reference too.
 fn flow_scoped<'a, 'b, S, C, G, R>(
     rt: &R,
     alloc: Global,
@@ -211,8 +211,8 @@ where
     )
 }
 
-/// Exports every job into its sink, by walkers and verifiers that run together, and says how each job
-/// ended. A job ends with Start only where no verifier or no walker could be started.
+/// Exports every job into its sink, by walkers and verifiers that run together, and returns how each
+/// job ended. A job ends with Start only if no verifier or no walker could be started.
 pub fn flow<S, C, G, R>(
     rt: &R,
     alloc: Global,

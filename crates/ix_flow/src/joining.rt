@@ -1,4 +1,4 @@
-//! The joins: what the verifiers took and sent is known.
+//! The joins: after them it is known what the verifiers took and sent.
 
 ghost use Rattle.std.specs.Prelude.{◌≡◌, ◌≤◌, All, vec_len};
 ghost use Rattle.ix_handover.specs.Course.{course_of};
@@ -13,7 +13,7 @@ use ix_stages::{LaneIn, Shared, StopSeat, TakeSeat};
 use std::alloc::Global;
 use std::thread::{PromisedHandle, Threads};
 
-/// What the verifiers gave back.
+/// The results of the verifiers.
 #[derive(Drop)]
 pub(crate) struct Joined<C> {
     pub takers: Vec<TakeSeat>,
@@ -49,7 +49,7 @@ pub(crate) fn join_verifiers<R: Threads, C: Check + Drop>(
     }
 }
 
-/// Joins the seats of the queue. What was sent for what they took is then known to be good.
+/// Joins the seats of the queue. What was sent for the items they took is then known to be good.
 pub(crate) fn settle<G>(
     alloc: Global,
     shared: &Shared<'_, G>,

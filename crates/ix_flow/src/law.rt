@@ -5,7 +5,8 @@ ghost use Rattle.ix_walk.specs.JobMeaning.{IsJob};
 
 use ix_walk::Job;
 
-/// Each of the jobs is one: its type says what every `Job` keeps, so there is nothing to look at.
+/// Each of the jobs has the properties of a `Job`: its type guarantees them, so nothing is checked at
+/// run time.
 pub(crate) fn each_is_job(jobs: &[Job])
     ensures { All IsJob jobs.now }
 {}

@@ -1,10 +1,9 @@
-//! The pipeline: walkers put visits through a queue to verifiers, which send through lanes to the
-//! caller, who tells each job's sink.
+//! The pipeline: walkers send visits through a queue to verifiers. These send verdicts through lanes
+//! (SPSC channels) to the caller, which delivers to each job's sink.
 //!
-//! In every schedule, and whichever threads can't be started: each sink is told what its job calls
-//! for, and each visit is checked as often as it is to be. Memory whose amount is known before is
-//! taken by `Prepared::new`; `flow` has no refusal, and a job for which memory runs out ends with
-//! Memory.
+//! In every schedule, and whichever threads can't be started: each sink receives what its job calls
+//! for, and each visit is checked as often as it is to be. `Prepared::new` allocates all memory whose
+//! size is known beforehand. `flow` returns no error: a job for which memory runs out ends with Memory.
 //!
 //! ```rust
 //! let plan = Plan { walkers: 4, queue: 1024, lane: 256 };

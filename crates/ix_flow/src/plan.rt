@@ -1,13 +1,13 @@
-//! How an export is laid out.
+//! The plan of an export.
 
-/// How many walkers there are, and how much room the queue of visits and each lane have. The
-/// exporter on one thread has neither.
+/// The number of walkers, and the capacity of the visit queue and of each lane. The single-threaded
+/// exporter uses none of them.
 #[derive(Debug, Drop, Clone, Copy, PartialEq, Eq)]
 pub struct Plan {
-    /// How many threads walk jobs.
+    /// The number of threads that walk jobs.
     pub walkers: u32,
-    /// How many visits may wait to be checked.
+    /// The number of visits that may wait to be checked.
     pub queue: u32,
-    /// How many verdicts may wait in each lane.
+    /// The number of verdicts that may wait in each lane.
     pub lane: u32,
 }

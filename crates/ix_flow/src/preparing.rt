@@ -1,4 +1,4 @@
-//! What is made before the first thread.
+//! Everything that is allocated before the first thread.
 
 ghost use Rattle.std.specs.Prelude.{◌≡◌, ◌<◌, ◌≤◌, [], vec_len, vec_capacity, IfOk};
 ghost use Rattle.ix_walk.specs.JobMeaning.{AreFew};
@@ -21,7 +21,7 @@ use ix_walk::Job;
 use std::alloc::{AllocError, Global};
 use std::snapshot::Snapshot;
 
-// Names the course of the jobs.
+// Names the course (expected sequence) of the jobs.
 #[derive(Drop)]
 struct JobCourse {
     store: Snapshot<Store>,
@@ -34,7 +34,7 @@ impl Course for JobCourse {
     ghost plan = { λ c. course_of c.store.value c.jobs.value.items };
 }
 
-/// A verifier's seat, and both ends of its lane.
+/// A verifier's seat (its consumer of the queue), and both ends of its lane.
 #[derive(Drop)]
 pub(crate) struct VerifierSlot {
     pub seat: TakeSeat,
@@ -42,7 +42,7 @@ pub(crate) struct VerifierSlot {
     pub out: LaneOut,
 }
 
-/// A queue, claims, lanes, and room for all that a flow keeps, whose amount is known before.
+/// The queue, the claims, the lanes, and room for everything of a flow whose size is known beforehand.
 #[derive(Drop)]
 pub struct Prepared<C: Check + Drop> {
     pub(crate) queue: VisitQueue,
@@ -54,7 +54,7 @@ pub struct Prepared<C: Check + Drop> {
     pub(crate) caller: CallerState<C>,
 }
 
-// A lane for each seat.
+// Makes a lane for each seat.
 fn make_slots(
     alloc: Global,
     takers: Vec<TakeSeat>,
@@ -75,7 +75,7 @@ fn make_slots(
     Ok(slots)
 }
 
-// Room for so many verifiers that run.
+// Allocates room for so many running verifiers.
 fn make_running<C: Check + Drop>(
     alloc: Global,
     verifiers: usize,
@@ -88,7 +88,7 @@ fn make_running<C: Check + Drop>(
     })
 }
 
-// Room for what so many verifiers give back.
+// Allocates room for the results of so many verifiers.
 fn make_joined<C: Drop>(alloc: Global, verifiers: usize) -> Result<Joined<C>, AllocError>
     ensures { IfOk result (λ joined. HasJoinRoom verifiers joined) }
 {
@@ -125,7 +125,8 @@ pub(crate) fn assign_checks<C: Check + Drop>(
 }
 
 impl<C: Check + Drop> Prepared<C> {
-    /// A queue, claims and lanes for the export of these jobs by so many verifiers, and room.
+    /// Allocates the queue, claims and lanes for the export of these jobs by so many verifiers, and the
+    /// room.
     pub fn new(
         alloc: Global,
         store: &Store,

@@ -1,4 +1,4 @@
-//! The verifiers' threads, and what they promise.
+//! The verifier threads and what they guarantee.
 
 ghost use Rattle.std.specs.Prelude.{◌≡◌, ◌≤◌, [], vec_len, IfSome};
 ghost use Rattle.ix_handover.specs.Lanes.{all_received};
@@ -15,7 +15,7 @@ use std::snapshot::Snapshot;
 use std::sync::Wait;
 use std::thread::{Promise, PromisedHandle, Scope, Threads};
 
-/// What a verifier's thread is handed, and gives back.
+/// The inputs of a verifier thread, which it gives back.
 #[derive(Drop)]
 pub(crate) struct Verifier<C> {
     pub seat: TakeSeat,
@@ -23,7 +23,7 @@ pub(crate) struct Verifier<C> {
     pub check: C,
 }
 
-/// What a verifier began with, for the fact about what it gives back.
+/// The state with which a verifier started, for the guarantee about its result.
 #[derive(Drop)]
 pub(crate) struct Began<C> {
     pub verifier: Snapshot<Verifier<C>>,
@@ -36,21 +36,21 @@ impl<C: Check> Promise<Verifier<C>> for Began<C> {
     ghost kept_by = { λ p r. HasWorked C.checked p.store.value p.verifier.value r };
 }
 
-/// A verifier that wasn't started yet, with the caller's end of its lane.
+/// A verifier that isn't started yet, with the receiver of its lane.
 #[derive(Drop)]
 pub(crate) struct UnstartedVerifier<C> {
     pub verifier: Verifier<C>,
     pub out: LaneOut,
 }
 
-/// The verifiers that run, and the caller's ends of their lanes.
+/// The running verifiers and the receivers of their lanes.
 #[derive(Drop)]
 pub(crate) struct RunningVerifiers<C: Check + Drop> {
     pub handles: Vec<PromisedHandle<Verifier<C>, Began<C>>>,
     pub outs: Vec<LaneOut>,
 }
 
-// Starts one verifier. Where no thread can be made, what it was handed is lost.
+// Starts one verifier. If no thread can be started, its inputs are lost.
 fn start_verifier<'s, 'e, R: Threads + Wait + Sync + 'e, C: Check + Send + Drop + 'e>(
     scope: &'s Scope<'s, &'e ()>,
     rt: &'e R,
@@ -82,7 +82,7 @@ fn start_verifier<'s, 'e, R: Threads + Wait + Sync + 'e, C: Check + Send + Drop 
         .ok()
 }
 
-/// Starts the verifiers. What those are handed whose start is refused is lost.
+/// Starts the verifiers. The inputs of those that can't be started are lost.
 pub(crate) fn start_verifiers<'s, 'e, R, C, G>(
     scope: &'s Scope<'s, &'e ()>,
     rt: &'e R,

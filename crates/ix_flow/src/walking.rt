@@ -1,4 +1,4 @@
-//! The walkers' threads.
+//! The walker threads.
 
 ghost use Rattle.std.specs.Prelude.{All};
 ghost use Rattle.ix_handover.specs.Claims.{IsOfClaims};
@@ -9,7 +9,7 @@ use std::alloc::Global;
 use std::sync::Wait;
 use std::thread::{Scope, Threads};
 
-// Starts one walker. False is that no thread could be made.
+// Starts one walker. Returns false if no thread could be started.
 fn start_walker<'s, 'e, R: Threads + Wait + Sync + 'e, G: Gate + Sync + 'e>(
     scope: &'s Scope<'s, &'e ()>,
     rt: &'e R,
@@ -28,7 +28,7 @@ fn start_walker<'s, 'e, R: Threads + Wait + Sync + 'e, G: Gate + Sync + 'e>(
         .is_ok()
 }
 
-/// Starts a walker for each seat. False is that none could be started.
+/// Starts a walker for each seat. Returns false if none could be started.
 pub(crate) fn start_walkers<'s, 'e, R: Threads + Wait + Sync + 'e, G: Gate + Sync + 'e>(
     scope: &'s Scope<'s, &'e ()>,
     rt: &'e R,

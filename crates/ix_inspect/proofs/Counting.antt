@@ -10,6 +10,7 @@ use Rattle.ix_cid.proofs.Lists.{drop_read}
 use Rattle.ix_store.specs.Store.{Blocks, has_cid, with_block}
 use Rattle.ix_inspect.specs.Counted.{has_stood, repeats_behind, repeats, share_of, in_share}
 
+-- a store with one more block has its CID and those before
 has_cid-push : (store : Blocks) (p : List ℕ × List ℕ) (c : List ℕ) → has_cid (store ++ p ∷ []) c ≡ (has_cid store c || bytes_eq p.0 c)
 has_cid-push [] p c = or-false (bytes_eq p.0 c)
 has_cid-push (e ∷ store) p c = on_first (bytes_eq e.0 c) (has_cid-push store p c) where
@@ -28,6 +29,7 @@ has_cid-with store p c = on_there (has_cid store p.0) refl where
   on_there true is = same_there (bytes_eq p.0 c) refl is
   on_there false is = has_cid-push store p c
 
+-- a condition counts as at most one
 at-most-one : (b : Bool) → (if b then 1 else 0) ≤ 1
 at-most-one true = omega arith
 at-most-one false = omega arith
@@ -40,7 +42,7 @@ front-more cids i x lt is = take_more cids i x lt ∙ ap (λ (y : List ℕ). tak
 share-with : (n t : ℕ) (xs : List (List ℕ)) (x : List ℕ) (there : Bool) → (share_of n x == t) ≡ there → in_share n t (xs ++ x ∷ []) ≡ in_share n t xs ++ (if there then x ∷ [] else [])
 share-with n t xs x there is = filter-append (λ c. share_of n c == t) xs (x ∷ []) ∙ ap (λ (b : Bool). in_share n t xs ++ (if b then x ∷ [] else [])) is
 
--- the CIDs of the share so far stand in the store, and how many of them had stood before is counted
+-- the CIDs of the share so far are in the store, and how many of them had was before is counted
 pub record IsSoFar (n t : ℕ) (cids : List (List ℕ)) (i : ℕ) (store : Blocks) (count : ℕ) : Type 0 where
   pub seen : (c : List ℕ) → has_cid store c ≡ has_stood (in_share n t (take i cids)) c
   pub counted : count + repeats_behind (in_share n t (take i cids)) (in_share n t (drop i cids)) ≡ repeats (in_share n t cids)

@@ -5,9 +5,11 @@ use Rattle.std.specs.List.{fold}
 use Rattle.std.proofs.lemmas.List.{take-append-drop}
 use Rattle.ix_inspect.specs.Counted.{if_any, code_count}
 
+-- a count above zero is kept
 pub if_any-more : (n : ℕ) → if_any (n + 1) ≡ Some (n + 1)
 if_any-more n = ap if_any (add-one n) ∙ ap (λ (k : ℕ). Some k) (sym (add-one n))
 
+-- a missing count is zero
 pub unwrap-if_any : (n : ℕ) → unwrap_or (if_any n) 0 ≡ n
 unwrap-if_any zero = refl
 unwrap-if_any (suc n) = refl
@@ -21,12 +23,14 @@ count_from code a (x ∷ xs) =
     let more : fold (λ b y. b + (if y == code then 1 else 0)) a (x ∷ xs) ≡ (a + one) + code_count code xs = count_from code (a + one) xs in
     omega (arith, whole, more)
 
+-- the first code counts if it is the one
 pub code_count-cons : (code x : ℕ) (xs : List ℕ) → code_count code (x ∷ xs) ≡ (if x == code then 1 else 0) + code_count code xs
 code_count-cons code x xs =
     let one = if x == code then 1 else 0 in
     let whole : code_count code (x ∷ xs) ≡ (0 + one) + code_count code xs = count_from code (0 + one) xs in
     omega (arith, whole)
 
+-- the count of two lists is the sum of their counts
 pub code_count-append : (code : ℕ) (xs ys : List ℕ) → code_count code (xs ++ ys) ≡ code_count code xs + code_count code ys
 code_count-append code [] ys = let none : code_count code [] ≡ 0 = refl in omega (arith, none)
 code_count-append code (x ∷ xs) ys =
@@ -35,7 +39,7 @@ code_count-append code (x ∷ xs) ys =
     let more : code_count code (xs ++ ys) ≡ code_count code xs + code_count code ys = code_count-append code xs ys in
     omega (arith, all, front, more)
 
--- what is left behind a run
+-- what is left after a run
 pub run-behind : (done : List ℕ) (code : ℕ) (behind : List ℕ) (run : ℕ) (rest back codes : List ℕ) → rest ≡ code ∷ behind → back ≡ drop run behind → done ++ rest ≡ codes → (done ++ code ∷ take run behind) ++ back ≡ codes
 run-behind done code behind run rest back codes first cut whole =
     append_assoc done (code ∷ take run behind) back

@@ -1,4 +1,4 @@
--- CIDs that have stood before, share by share.
+-- CIDs that have was before, share by share.
 use Rattle.std.proofs.Common.{◌≡◌, inl, inr, ℕ, zero, suc, ◌+◌, ◌-◌, ◌<◌, ◌≤◌, Bool, true, false, ◌||◌, List, [], ◌∷◌, ◌++◌, length, refl, sym, ◌∙◌, ap, subst, arith, ltb}
 use Rattle.std.specs.Prelude.{Option, Some, None, slice_get, slice_index_or, bytes_eq, ◌==◌, if◌then◌else◌, Result, Ok, IfOk}
 use Rattle.std.proofs.lemmas.Bool.{cases_Bool, false≢true, ltb-true, ltb-false, eqb-true, eq-eqb, ne_eqb}
@@ -15,18 +15,22 @@ abbrev pub sum_below : (ℕ → ℕ) → ℕ → ℕ
 sum_below f zero = 0
 sum_below f (suc n) = sum_below f n + f n
 
+-- equal terms have equal sums
 sum-same : (f g : ℕ → ℕ) (n : ℕ) → ((i : ℕ) → f i ≡ g i) → sum_below f n ≡ sum_below g n
 sum-same f g zero h = refl
 sum-same f g (suc n) h = let more = sum-same f g n h in omega (arith, more, h n)
 
+-- the sum of sums is the sum of both
 sum-both : (f g : ℕ → ℕ) (n : ℕ) → sum_below (λ i. f i + g i) n ≡ sum_below f n + sum_below g n
 sum-both f g zero = refl
 sum-both f g (suc n) = let more = sum-both f g n in omega (arith, more)
 
+-- a sum of zeros is zero
 sum-none : (n : ℕ) → sum_below (λ i. 0) n ≡ 0
 sum-none zero = refl
 sum-none (suc n) = let more = sum-none n in omega (arith, more)
 
+-- a sum of fewer terms is no greater
 pub sum-within : (f : ℕ → ℕ) (k n : ℕ) → k ≤ n → sum_below f k ≤ sum_below f n
 sum-within f zero n h = omega arith
 sum-within f (suc k) zero h = absurd (omega (arith, h))
@@ -41,9 +45,11 @@ sum-within f (suc k) (suc n) h = elim (cases_Bool (ltb k n)) [
 abbrev only : ℕ → ℕ → ℕ → ℕ
 only k one i = if k == i then one else 0
 
+-- a function that is zero but at k is zero at any other number
 elsewhere : (k one i : ℕ) → (k ≡ i → ⊥) → only k one i ≡ 0
 elsewhere k one i apart = ap (λ (b : Bool). if b then one else 0) (ne_eqb k i apart)
 
+-- its sum below k is zero
 sum-before : (k one n : ℕ) → n ≤ k → sum_below (only k one) n ≡ 0
 sum-before k one zero h = refl
 sum-before k one (suc n) h =
@@ -51,6 +57,7 @@ sum-before k one (suc n) h =
     let none = elsewhere k one n (λ (is : k ≡ n). omega (arith, h, is)) in
     omega (arith, more, none)
 
+-- its sum past k is the value at k
 sum-only : (k one n : ℕ) → k < n → sum_below (only k one) n ≡ one
 sum-only k one zero h = absurd (omega (arith, h))
 sum-only k one (suc n) h = elim (cases_Bool (ltb k n)) [
@@ -68,10 +75,12 @@ sum-only k one (suc n) h = elim (cases_Bool (ltb k n)) [
 
 -- ---- shares
 
+-- a share is below the number of shares, as a remainder is
 share_by-below : (n : ℕ) (o : Option ℕ) → 0 < n → share_by n o < n
 share_by-below n None h = h
 share_by-below n (Some byte) h = mod_below byte n h
 
+-- the same for a CID
 share-below : (n : ℕ) (c : List ℕ) → 0 < n → share_of n c < n
 share-below n c h = share_by-below n (slice_get c (length c - 1)) h
 
@@ -120,9 +129,11 @@ repeats-shared n some before (x ∷ cids) =
     let more = repeats-shared n some (before ++ x ∷ []) cids in
     each ∙ both ∙ omega (arith, here, more)
 
+-- the repeats of all are the sum of those of the shares, as equal CIDs are in one share
 pub repeats-of_shares : (n : ℕ) → 0 < n → (cids : List (List ℕ)) → sum_below (λ t. repeats (in_share n t cids)) n ≡ repeats cids
 repeats-of_shares n some cids = repeats-shared n some [] cids
 
+-- there are no more repeats than CIDs
 repeats-few : (before cids : List (List ℕ)) → repeats_behind before cids ≤ length cids
 repeats-few before [] = omega arith
 repeats-few before (x ∷ cids) = on_stood (has_stood before x) (repeats-few (before ++ x ∷ []) cids) where

@@ -29,7 +29,7 @@ if_any (suc n) = Some (suc n)
 abbrev pub code_count : ℕ → List ℕ → ℕ
 code_count code codes = count_by (λ c. c == code) codes
 
--- each code that comes stands in the tally with how often it comes, and no other does
+-- each code that comes is in the tally with how often it comes, and no other does
 abbrev pub IsTallyOf : List ℕ → BTreeMap ℕ ℕ → Type 0
 IsTallyOf codes tally = (code : ℕ) → get nat_cmp tally code ≡ if_any (code_count code codes)
 
@@ -37,7 +37,7 @@ IsTallyOf codes tally = (code : ℕ) → get nat_cmp tally code ≡ if_any (code
 abbrev pub has_stood : List (List ℕ) → List ℕ → Bool
 has_stood before c = list_any (λ d. bytes_eq d c) before
 
--- how many of CIDs have stood before, among them or in front of them
+-- how many of CIDs have was before, among them or in front of them
 abbrev pub repeats_behind : List (List ℕ) → List (List ℕ) → ℕ
 repeats_behind before [] = 0
 repeats_behind before (c ∷ cs) = (if has_stood before c then 1 else 0) + repeats_behind (before ++ c ∷ []) cs
@@ -57,7 +57,7 @@ share_of shares c = share_by shares (slice_get c (length c - 1))
 abbrev pub in_share : ℕ → ℕ → List (List ℕ) → List (List ℕ)
 in_share shares share cids = filter (λ c. share_of shares c == share) cids
 
--- for each of so many shares, how many of its CIDs have stood before
+-- for each of so many shares, how many of its CIDs have was before
 abbrev pub AreCounted : ℕ → List (List ℕ) → List (Result ℕ AllocError) → Type 0
 AreCounted shares cids counts =
     (share : ℕ) (d : Result ℕ AllocError) → share < shares → IfOk (slice_index_or counts share d) (λ n. n ≡ repeats (in_share shares share cids))

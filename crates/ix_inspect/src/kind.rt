@@ -1,10 +1,10 @@
-//! What a file is by its first bytes.
+//! The kind of a file, by its first bytes.
 
 ghost use Rattle.std.specs.Prelude.{◌≡◌, take, drop};
 ghost use Rattle.std.specs.List.{list_all};
 ghost use Rattle.ix_inspect.specs.Kinds.{kind_of, kind_of_text, is_printed, opens_json, first_printed, is_space};
 
-// How a CARv2 file begins: the length of a map, and the map with the version 2.
+// The beginning of a CARv2 file: the length of a map, and the map with the version 2.
 const CAR_2: &[u8] = b"\x0a\xa1\x67version\x02";
 
 const GZIP: &[u8] = b"\x1f\x8b";
@@ -13,15 +13,15 @@ const ZSTD: &[u8] = b"\x28\xb5\x2f\xfd";
 
 const BZIP2: &[u8] = b"BZh";
 
-// Where the word of a tar archive's first header stands, and the word.
+// The offset of the magic word in a tar archive's first header, and the word.
 const TAR_PLACE: usize = 257;
 
 const TAR: &[u8] = b"ustar";
 
-// By so many bytes a text is told.
+// How many bytes are examined to recognize a text.
 const FRONT: usize = 512;
 
-/// What a file is that is no CARv1 file, as far as its first bytes tell.
+/// The kind of a file that is not a CARv1, as far as its first bytes show.
 #[derive(Debug, Drop, Clone, Copy, PartialEq, Eq)]
 pub enum Kind {
     /// A CARv2 file (its pragma: a map with the version 2).
@@ -33,7 +33,7 @@ pub enum Kind {
     Bzip2,
     /// A tar archive (POSIX ustar).
     Tar,
-    /// A text whose first character behind spaces opens an object or an array (RFC 8259).
+    /// A text whose first character after spaces opens an object or an array (RFC 8259).
     Json,
     Text,
     /// No bytes.
@@ -41,7 +41,7 @@ pub enum Kind {
     Other,
 }
 
-/// What bytes are, by the first of them.
+/// Returns the kind of a file, by its first bytes.
 pub fn kind_of(bytes: &[u8]) -> Kind
     ensures { result ≡ kind_of bytes.now }
 {
@@ -60,7 +60,7 @@ pub fn kind_of(bytes: &[u8]) -> Kind
     }
 }
 
-// What stands behind so many bytes.
+// Returns the bytes after so many.
 fn behind(bytes: &[u8], start: usize) -> &[u8]
     ensures { result.now ≡ drop start bytes.now }
 {
@@ -68,7 +68,7 @@ fn behind(bytes: &[u8], start: usize) -> &[u8]
     rest
 }
 
-// So many bytes at the front, or all.
+// Returns so many bytes at the front, or all.
 fn front(bytes: &[u8], size: usize) -> &[u8]
     ensures { result.now ≡ take size bytes.now }
 {
@@ -76,7 +76,7 @@ fn front(bytes: &[u8], size: usize) -> &[u8]
     front
 }
 
-// What a text is by its front, if it is one.
+// Returns the kind of a text by its front, if it is one.
 fn kind_of_text(front: &[u8]) -> Kind
     ensures { result ≡ kind_of_text front.now }
 {
@@ -91,7 +91,7 @@ fn kind_of_text(front: &[u8]) -> Kind
     }
 }
 
-// Whether there is no control character but tabs and line ends.
+// Returns whether there is no control character but tabs and line ends.
 fn are_printed(front: &[u8]) -> bool
     ensures { result ≡ list_all is_printed front.now }
 {
@@ -104,7 +104,7 @@ fn first_printed(front: &[u8]) -> Option<u8>
     front.iter().copied().find(|byte| !is_space(*byte))
 }
 
-// Whether an object or an array is opened.
+// Returns whether an object or an array is opened.
 fn is_opening(byte: Option<u8>) -> bool
     ensures { result ≡ opens_json byte }
 {

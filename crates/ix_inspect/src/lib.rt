@@ -1,4 +1,4 @@
-//! What a file of blocks is, and what stands in it, without hashing.
+//! Describes a CAR file and its contents, without hashing.
 //!
 //! ```rust
 //! match read_sections(alloc, bytes) {

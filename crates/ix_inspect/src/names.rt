@@ -1,6 +1,6 @@
 //! The names of the multicodec table.
 
-/// The name of a codec, for the common ones.
+/// Returns the name of a common codec.
 pub fn codec_name(code: u64) -> Option<&'static str> {
     match code {
         0x51 => Some("cbor"),
@@ -18,7 +18,7 @@ pub fn codec_name(code: u64) -> Option<&'static str> {
     }
 }
 
-/// The name of a hash function, for the common ones.
+/// Returns the name of a common hash function.
 pub fn hash_name(code: u64) -> Option<&'static str> {
     match code {
         0x00 => Some("identity"),

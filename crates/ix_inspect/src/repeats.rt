@@ -1,7 +1,7 @@
-//! How many CIDs occurred before.
+//! The number of CIDs that occurred before.
 //!
-//! The CIDs fall into shares, each by its last byte: alike ones into one. So the repeats of all are those of each share
-//! together, and each thread counts those of its own.
+//! The last byte of a CID gives its share, so equal CIDs are in one share. The number of repeats is the sum
+//! over the shares, and each thread counts those of its own.
 
 ghost use Rattle.std.specs.Prelude.{◌≡◌, ◌<◌, [], length, vec_len, if◌then◌else◌, IfOk, OnOk};
 ghost use Rattle.std.specs.NonZero.{non_zero_usize_get};
@@ -14,13 +14,13 @@ use std::alloc::{AllocError, Global};
 use std::num::NonZeroUsize;
 use std::thread::{Threads, map_indices};
 
-// How many shares there are at most: the last byte tells no more apart.
+// The most shares: the last byte has no more values.
 const MOST_SHARES: usize = 256;
 
-// The repeats of a share.
+// The number of repeats in a share.
 type Count = Result<usize, AllocError>;
 
-// How many occurred before, counted by so many threads.
+// Counts the CIDs that occurred before, with so many threads.
 pub(crate) fn repeats_of<R: Threads + Sync>(
     rt: &R,
     alloc: Global,
@@ -34,7 +34,7 @@ pub(crate) fn repeats_of<R: Threads + Sync>(
     sum_of(cids, counts.as_slice())
 }
 
-// The repeats of each of so many shares.
+// Counts the repeats of each of so many shares.
 fn counts_of<R: Threads + Sync>(
     rt: &R,
     alloc: Global,
@@ -53,7 +53,7 @@ fn counts_of<R: Threads + Sync>(
     )
 }
 
-// The sum of what was counted of the shares of CIDs, which are no more than these.
+// Returns the sum of the counts of the shares, which are no more than the CIDs.
 fn sum_of(cids: &[CidRef<'_>], counts: &[Count]) -> Result<usize, AllocError>
     requires some { 0 < length counts.now }
     requires counted { AreCounted (length counts.now) cids.now counts.now }
@@ -66,7 +66,7 @@ fn sum_of(cids: &[CidRef<'_>], counts: &[Count]) -> Result<usize, AllocError>
     Ok(repeats)
 }
 
-// Of those that fall into a share, how many occurred before.
+// Counts the repeats among the CIDs of a share.
 fn repeats_in(alloc: Global, cids: &[CidRef<'_>], shares: NonZeroUsize, share: usize) -> Count
     ensures { IfOk result (λ n.
         n ≡ repeats (in_share (non_zero_usize_get shares) share cids.now)) }
@@ -81,7 +81,7 @@ fn repeats_in(alloc: Global, cids: &[CidRef<'_>], shares: NonZeroUsize, share: u
     Ok(repeats)
 }
 
-// One where the CID is there, and none where it is added.
+// Returns one if the CID is in the set, and zero if it is added.
 fn repeats_with(alloc: Global, seen: &mut Store, cid: &CidRef<'_>) -> Result<usize, AllocError>
     ensures counted { IfOk result (λ n. n ≡ (if has_cid seen.old cid.now then 1 else 0)) }
     ensures added { OnOk result (seen.new ≡ with_block seen.old (cid.now, [])) }
@@ -90,7 +90,7 @@ fn repeats_with(alloc: Global, seen: &mut Store, cid: &CidRef<'_>) -> Result<usi
     Ok(usize::from(!is_new))
 }
 
-// Into which of so many shares a CID falls.
+// Returns the share of a CID, of so many.
 fn share_of(cid: &CidRef<'_>, shares: NonZeroUsize) -> usize
     ensures { result ≡ share_of (non_zero_usize_get shares) cid.now }
 {

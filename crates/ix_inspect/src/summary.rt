@@ -1,4 +1,4 @@
-//! What stands in a file, counted.
+//! The summary of a file.
 
 ghost use Rattle.std.specs.Prelude.{◌≡◌, ◌-◌, ◌/◌, length, slice_get, IfOk, IsSorted, IsPermutation};
 ghost use Rattle.std.specs.Ordering.{nat_cmp};
@@ -11,13 +11,13 @@ use ix_cid::CidRef;
 use std::alloc::{AllocError, Global};
 use std::thread::Threads;
 
-/// What is counted of sections.
+/// The summary of a file's sections.
 #[derive(Drop)]
 pub struct Summary {
     pub sections: usize,
-    /// How many of them have a CID that has stood before.
+    /// The number of sections whose CID occurred before.
     pub repeated: usize,
-    /// How many there are of each codec, and of each hash function, by their codes.
+    /// The number of sections of each codec, and of each hash function, by their codes.
     pub codecs: Tally,
     pub hashes: Tally,
     /// The sizes of the blocks, from the smallest to the greatest.
@@ -25,14 +25,14 @@ pub struct Summary {
 }
 
 impl Summary {
-    /// The size of the smallest block.
+    /// Returns the size of the smallest block.
     pub fn smallest(&self) -> Option<usize>
         ensures { result ≡ slice_get self.now.sizes.items 0 }
     {
         self.sizes.first().copied()
     }
 
-    /// The size in the middle: where there are two, the lesser.
+    /// Returns the median size; of two in the middle, the lesser.
     pub fn median(&self) -> Option<usize>
         ensures { result ≡ slice_get self.now.sizes.items ((length self.now.sizes.items - 1) / 2) }
     {
@@ -40,7 +40,7 @@ impl Summary {
         self.sizes.get(middle).copied()
     }
 
-    /// The size of the greatest block.
+    /// Returns the size of the greatest block.
     pub fn greatest(&self) -> Option<usize>
         ensures { result ≡ slice_get self.now.sizes.items (length self.now.sizes.items - 1) }
     {
@@ -48,7 +48,7 @@ impl Summary {
     }
 }
 
-/// What is counted of sections, whose CIDs so many threads look up. Nothing is hashed.
+/// Summarizes sections; so many threads look up their CIDs. Nothing is hashed.
 ///
 /// The CIDs are kept without the sections while they are looked up, which takes the most memory.
 pub fn summary_of<R: Threads + Sync>(
@@ -78,7 +78,7 @@ pub fn summary_of<R: Threads + Sync>(
     })
 }
 
-// How many sections there are of each codec.
+// Counts the sections of each codec.
 fn codec_tally(alloc: Global, sections: &[Section<'_>]) -> Result<Tally, AllocError>
     ensures { IfOk result (IsTallyOf (codecs_of sections.now)) }
 {
@@ -86,7 +86,7 @@ fn codec_tally(alloc: Global, sections: &[Section<'_>]) -> Result<Tally, AllocEr
     tally_of(alloc, codecs.as_slice())
 }
 
-// How many there are of each hash function.
+// Counts the sections of each hash function.
 fn hash_tally(alloc: Global, sections: &[Section<'_>]) -> Result<Tally, AllocError>
     ensures { IfOk result (IsTallyOf (hash_codes_of sections.now)) }
 {
@@ -94,7 +94,7 @@ fn hash_tally(alloc: Global, sections: &[Section<'_>]) -> Result<Tally, AllocErr
     tally_of(alloc, hashes.as_slice())
 }
 
-// The CID of each.
+// Returns the CID of each section.
 fn cids_of(alloc: Global, sections: Vec<Section<'_>>) -> Result<Vec<CidRef<'_>>, AllocError>
     ensures { IfOk result (λ cids. cids.items ≡ cids_of sections.entry.items) }
 {
@@ -104,7 +104,7 @@ fn cids_of(alloc: Global, sections: Vec<Section<'_>>) -> Result<Vec<CidRef<'_>>,
         .collect(alloc)
 }
 
-// The codec of each.
+// Returns the codec of each section.
 fn codecs_of(alloc: Global, sections: &[Section<'_>]) -> Result<Vec<u64>, AllocError>
     ensures { IfOk result (λ v. v.items ≡ codecs_of sections.now) }
 {
@@ -114,7 +114,7 @@ fn codecs_of(alloc: Global, sections: &[Section<'_>]) -> Result<Vec<u64>, AllocE
         .collect(alloc)
 }
 
-// The code of the hash function of each.
+// Returns the code of each section's hash function.
 fn hashes_of(alloc: Global, sections: &[Section<'_>]) -> Result<Vec<u64>, AllocError>
     ensures { IfOk result (λ v. v.items ≡ hash_codes_of sections.now) }
 {
@@ -124,7 +124,7 @@ fn hashes_of(alloc: Global, sections: &[Section<'_>]) -> Result<Vec<u64>, AllocE
         .collect(alloc)
 }
 
-// The size of each block, from the smallest to the greatest.
+// Returns the size of each block, from the smallest to the greatest.
 fn sizes_of(alloc: Global, sections: &[Section<'_>]) -> Result<Vec<usize>, AllocError>
     ensures sizes { IfOk result (λ v. IsPermutation (sizes_of sections.now) v.items) }
     ensures sorted { IfOk result (λ v. IsSorted nat_cmp v.items) }

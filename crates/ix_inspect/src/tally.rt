@@ -1,4 +1,4 @@
-//! How often codes come.
+//! Counts of codes.
 
 ghost use Rattle.std.specs.Prelude.{◌≡◌, ℕ, ◌≤◌, ◌==◌, length, take, if◌then◌else◌, IfOk};
 ghost use Rattle.ix_inspect.specs.Counted.{IsTallyOf, code_count};
@@ -6,10 +6,10 @@ ghost use Rattle.ix_inspect.specs.Counted.{IsTallyOf, code_count};
 use std::alloc::{AllocError, Global};
 use std::collections::BTreeMap;
 
-/// How often each code comes, in the order of the codes.
+/// The count of each code, in the order of the codes.
 pub type Tally = BTreeMap<u64, usize>;
 
-// How often each of these codes comes. Those that are alike and stand together are looked up once.
+// Counts each of these codes. A run of equal codes is looked up once.
 pub(crate) fn tally_of(alloc: Global, codes: &[u64]) -> Result<Tally, AllocError>
     ensures { IfOk result (IsTallyOf codes.now) }
 {
@@ -24,7 +24,7 @@ pub(crate) fn tally_of(alloc: Global, codes: &[u64]) -> Result<Tally, AllocError
     Ok(tally)
 }
 
-// How many codes at the front are this one.
+// Returns how many codes at the front are this one.
 fn run_of(code: u64, codes: &[u64]) -> usize
     ensures within { result ≤ length codes.now }
     ensures alike { (c : ℕ) → code_count c (take result codes.now) ≡ (if code == c then result else 0) }

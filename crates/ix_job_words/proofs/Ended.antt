@@ -1,9 +1,10 @@
--- The hexadecimal of a selector ends with a line end.
+-- The hex of a selector ends with a line end.
 use Rattle.std.proofs.Common.{◌≡◌, ℕ, List, [], ◌∷◌, ◌++◌}
 use Rattle.ix_job_words.specs.declared.selector.SelectorWord.{SelectorWord}
 use Rattle.ix_job_words.specs.declared.selector.SelectorWord.TheVariants.{Everything, Json, Hex}
 use Rattle.ix_job_words.specs.Words.{everything_hex, IsSpelledBy}
 
+-- the line of a selector is its hex and a line end
 pub IsSpelledBy-ended : (selector : SelectorWord) (line : List ℕ) → IsSpelledBy selector line → (hex : List ℕ) × (line ≡ hex ++ 10 ∷ [])
 IsSpelledBy-ended Everything line h = (everything_hex, h)
 IsSpelledBy-ended (Json text) line h = (_, h.printed)

@@ -23,12 +23,15 @@ use Rattle.ix_job_words.specs.Line.{is_visible, is_word, line_of, IsRefusedBy}
 no_space : (b : ℕ) → is_visible b ≡ true → (b == 32) ≡ false
 no_space b h = let above : nat_lt 32 b ≡ true = (and_parts (nat_lt 32 b) (nat_le b 126) h).0 in grind (arith, nat_tests)
 
+-- a visible character is no line end
 no_end : (b : ℕ) → is_visible b ≡ true → (b == 10) ≡ false
 no_end b h = let above : nat_lt 32 b ≡ true = (and_parts (nat_lt 32 b) (nat_le b 126) h).0 in grind (arith, nat_tests)
 
+-- a visible character is no carriage return
 no_return : (b : ℕ) → is_visible b ≡ true → (b == 13) ≡ false
 no_return b h = let above : nat_lt 32 b ≡ true = (and_parts (nat_lt 32 b) (nat_le b 126) h).0 in grind (arith, nat_tests)
 
+-- a visible character is printable
 visible-printable : (b : ℕ) → is_visible b ≡ true → (nat_le 32 b && nat_le b 126) ≡ true
 visible-printable b h =
     let parts = and_parts (nat_lt 32 b) (nat_le b 126) h in
@@ -40,14 +43,17 @@ visible-printable b h =
 of_name : (b : ℕ) → is_name_byte b ≡ true → (is_visible b ≡ true) × ((b == 35) ≡ false)
 of_name b h = (grind (arith, nat_tests), grind (arith, nat_tests))
 
+-- what holds of visible characters holds of all bytes of a word
 All-visible : (P : ℕ → Type 0) → ((b : ℕ) → is_visible b ≡ true → P b) → (w : List ℕ) → list_all is_visible w ≡ true → All P w
 All-visible P f [] h = All-nil P
 All-visible P f (b ∷ bs) h = let parts = and_parts (is_visible b) (list_all is_visible bs) h in All-cons P b bs (f b parts.0) (All-visible P f bs parts.1)
 
+-- a word of visible characters is text
 text_of : (w : List ℕ) → list_all is_visible w ≡ true → is_text w ≡ true
 text_of [] h = refl
 text_of (b ∷ bs) h = let parts = and_parts (is_visible b) (list_all is_visible bs) h in and_from (nat_le 32 b && nat_le b 126) (is_text bs) (visible-printable b parts.0) (text_of bs parts.1)
 
+-- the bytes of a name are visible
 name_visible : (w : List ℕ) → list_all is_name_byte w ≡ true → list_all is_visible w ≡ true
 name_visible [] h = refl
 name_visible (b ∷ bs) h = let parts = and_parts (is_name_byte b) (list_all is_name_byte bs) h in and_from (is_visible b) (list_all is_visible bs) (of_name b parts.0).0 (name_visible bs parts.1)
@@ -57,11 +63,13 @@ pub record IsWord (w : List ℕ) : Type 0 where
   pub visible : list_all is_visible w ≡ true
   pub some : (length w == 0) ≡ false
 
+-- a text that passes the test of a single word is one
 pub IsWord-word : (w : List ℕ) → is_word w ≡ true → IsWord w
 IsWord-word w h =
     let parts = and_parts (not (length w == 0)) (list_all is_visible w) h in
     record { visible = parts.1; some = not-true (length w == 0) parts.0 }
 
+-- a name is a single word
 name_word : (name : List ℕ) → is_name name ≡ true → IsWord name
 name_word [] h = absurd cc
 name_word (b ∷ bs) h =
@@ -74,9 +82,11 @@ module _ (P : ℕ → Type 0) (visible : (b : ℕ) → is_visible b ≡ true →
   all_behind : (w rest : List ℕ) → IsWord w → All P rest → All P (w ++ 32 ∷ rest)
   all_behind w rest is more = All-append P w (32 ∷ rest) (All-visible P visible w is.visible) (All-cons P 32 rest space more)
 
+-- a word, a space and text are text
 text_behind : (w rest : List ℕ) → IsWord w → is_text rest ≡ true → is_text (w ++ 32 ∷ rest) ≡ true
 text_behind w rest is more = list_all-append (λ b. nat_le 32 b && nat_le b 126) w (32 ∷ rest) ∙ and_from (is_text w) (is_text rest) (text_of w is.visible) more
 
+-- a line that begins with a name is not ignored, as no name is empty or begins with #
 not_ignored : (name rest : List ℕ) → is_name name ≡ true → is_ignored (name ++ rest) ≡ false
 not_ignored [] rest h = absurd cc
 not_ignored (b ∷ bs) rest h =
@@ -138,7 +148,7 @@ module _ (name roots limit selector : List ℕ) where
         ∙ ap (λ (t : Bool). if t then Ok [] else line_job body >>= joined 1000 []) (not_ignored name (32 ∷ (roots ++ (32 ∷ (limit ++ (32 ∷ selector))))) named)
         ∙ ap (λ (r : Result JobMeaning JobsKind). r >>= joined 1000 []) job
 
-    -- a file of the line has the job of the four words, or is refused as they are
+    -- a file of the line has the job of the four words, or is rejected as they are
     pub read_alone : jobs_of (line_of name roots limit selector) ≡ (at_line 1 (job_of_fields name roots limit selector) >>= (λ j. Ok (j ∷ [])))
     read_alone =
         let with_first : Result (List JobMeaning) JobsKind → Result (List JobMeaning) (JobsKind × ℕ) = λ r. at_line 1 r >>= (λ jobs. jobs_from 1000 (1 + 1) jobs ([] ∷ [])) in
@@ -163,7 +173,7 @@ pub IsRefusedBy-line : (IsSpelled : List ℕ → Type 0) (IsUnspelled : Notation
 IsRefusedBy-line IsSpelled IsUnspelled name roots limit hex line Memory n made alone h = tt
 IsRefusedBy-line IsSpelled IsUnspelled name roots limit hex line kind n made alone h = inr (record { selector = hex; spelled = made; refused = was_refused (job_of_fields name roots limit hex) kind n (sym alone ∙ h) })
 
--- the hexadecimal of a selector, and its line end
+-- the hex of a selector, and its line end
 pub without_end : (line hex : List ℕ) → line ≡ hex ++ 10 ∷ [] → take (length line - 1) line ++ 10 ∷ [] ≡ line
 without_end line hex is =
     let count : length line ≡ length hex + 1 = ap length is ∙ length-append hex (10 ∷ []) in

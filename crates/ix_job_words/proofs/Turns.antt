@@ -16,11 +16,11 @@ use Rattle.ix_jobs.proofs.Pieces.{slice_split_whole}
 use Rattle.ix_jobs.proofs.LinesInTurn.{is_end}
 use Rattle.ix_job_words.specs.Faults.{fault_behind, jobs_behind, told, faults_from}
 
--- what is told of a line and of those behind it
+-- the reported errors of a line and of those after it
 abbrev in_turn : ℕ → List JobMeaning → List ℕ → List ℕ → List JobsFault
 in_turn n before line rest = told n (fault_behind before (jobs_of line)) ++ faults_from (n + 1) (jobs_behind before (jobs_of line)) (slice_split is_end rest)
 
--- the first line, then those behind it
+-- the first line, then those after it
 pub faults_from-first : (n : ℕ) (before : List JobMeaning) (bs : List ℕ) → 0 < length bs → faults_from n before (slice_split is_end bs) ≡ in_turn n before (before_first is_end bs) (after_first is_end bs)
 faults_from-first n before bs some = ⊎_elim on_more on_last (cases_lt (position_or_len is_end bs) (length bs)) where
   on_more : position_or_len is_end bs < length bs → faults_from n before (slice_split is_end bs) ≡ in_turn n before (before_first is_end bs) (after_first is_end bs)
@@ -33,7 +33,7 @@ faults_from-first n before bs some = ⊎_elim on_more on_last (cases_lt (positio
       let rest : after_first is_end bs ≡ [] = drop_all (position_or_len is_end bs + 1) bs (omega (arith, le)) in
       ap (faults_from n before) (slice_split_whole is_end bs same) ∙ ap (λ l. in_turn n before l []) (sym line) ∙ ap (in_turn n before (before_first is_end bs)) (sym rest)
 
--- a turn of the loop over lines: what is told, and what is left to tell
+-- a turn of the loop over lines: what is reported, and what is left to report
 pub a_line_more : (first n : ℕ) (before : List JobMeaning) (old new whole : List JobsFault) (bs line rest : List ℕ) (kind : Option JobsKind) → 0 < length bs → line ≡ before_first (λ b. b == 10) bs → rest ≡ after_first (λ b. b == 10) bs → kind ≡ fault_behind before (jobs_of line)
     → new ≡ old ++ filter (λ f. nat_lt first f.line) (told n kind) → old ++ filter (λ f. nat_lt first f.line) (faults_from n before (slice_split (λ b. b == 10) bs)) ≡ whole
     → new ++ filter (λ f. nat_lt first f.line) (faults_from (n + 1) (jobs_behind before (jobs_of line)) (slice_split (λ b. b == 10) rest)) ≡ whole
@@ -48,11 +48,12 @@ a_line_more first n before old new whole bs line rest kind some is_line is_rest 
     ∙ ap (λ l. old ++ filter p l) (sym in_lines)
     ∙ so_far
 
--- where no byte is left, all is told
+-- where no byte is left, all is reported
 pub all_told : (first n : ℕ) (before : List JobMeaning) (all whole : List JobsFault) (rest : List ℕ) → length rest ≡ 0 → all ++ filter (λ f. nat_lt first f.line) (faults_from n before (slice_split (λ b. b == 10) rest)) ≡ whole → all ≡ whole
 all_told first n before all whole [] none so_far = sym (append-nil all) ∙ so_far
 all_told first n before all whole (b ∷ bs) none so_far = absurd (omega (arith, none))
 
+-- a list with a first job is that job and more
 first_of : (jobs : List JobMeaning) (job : JobMeaning) → Some job ≡ slice_get jobs 0 → (more : List JobMeaning) × (jobs ≡ job ∷ more)
 first_of [] job h = absurd cc
 first_of (j ∷ js) job h = (js, let same : job ≡ j = cc in ap (λ x. x ∷ js) (sym same))

@@ -7,7 +7,7 @@ use Rattle.ix_jobs.specs.declared.fault.JobsKind.TheVariants.{Repeated}
 use Rattle.ix_jobs.specs.declared.fault.JobsFault.{JobsFault}
 use Rattle.ix_jobs.specs.Jobs.{jobs_of, is_taken}
 
--- why a line is faulty behind lines with these jobs: for what a file of this line alone has, or for its name
+-- why a line is faulty after lines with these jobs: for what a file of this line alone has, or for its name
 abbrev pub fault_behind : List JobMeaning → Result (List JobMeaning) (JobsKind × ℕ) → Option JobsKind
 fault_behind before (Err fault) = Some fault.0
 fault_behind before (Ok []) = None
@@ -19,25 +19,25 @@ jobs_behind before (Err fault) = before
 jobs_behind before (Ok []) = before
 jobs_behind before (Ok (job ∷ more)) = if is_taken before job.name then before else before ++ job ∷ []
 
--- what is told of the line with this number
+-- what is reported of the line with this number
 abbrev pub told : ℕ → Option JobsKind → List JobsFault
 told line None = []
 told line (Some kind) = record { kind = kind; line = line } ∷ []
 
--- the faults of the lines from a number on, behind those with these jobs
+-- the faults of the lines from a number on, after those with these jobs
 abbrev pub faults_from : ℕ → List JobMeaning → List (List ℕ) → List JobsFault
 faults_from line before [] = []
 faults_from line before (l ∷ ls) = told line (fault_behind before (jobs_of l)) ++ faults_from (line + 1) (jobs_behind before (jobs_of l)) ls
 
--- those of the lines behind one
+-- those of the lines after one
 abbrev pub later : ℕ → List JobsFault → List JobsFault
 later first faults = filter (λ f. nat_lt first f.line) faults
 
--- the faults of the lines behind one
+-- the faults of the lines after one
 abbrev pub faults_after : ℕ → List ℕ → List JobsFault
 faults_after first b = later first (faults_from 1 [] (slice_split (λ b. b == 10) b))
 
--- none where the file has jobs; else the one for which it is refused, and those of the lines behind
+-- none where the file has jobs; else the one for which it is rejected, and those of the lines after
 abbrev pub AreFaultsOf : List ℕ → List JobsFault → Type 0
 AreFaultsOf b [] = (jobs : List JobMeaning) × (jobs_of b ≡ Ok jobs)
 AreFaultsOf b (f ∷ fs) = (jobs_of b ≡ Err (f.kind, f.line)) × (fs ≡ faults_after f.line b)

@@ -22,9 +22,9 @@ is_word text = not (length text == 0) && list_all is_visible text
 abbrev pub line_of : List ℕ → List ℕ → List ℕ → List ℕ → List ℕ
 line_of name roots limit selector = name ++ (32 ∷ (roots ++ (32 ∷ (limit ++ (32 ∷ (selector ++ 10 ∷ []))))))
 
--- The line of the job of a name, roots, a limit and a selector, of whose hexadecimal with a line end this is known: a job file of it has this job alone.
+-- The line of the job of a name, roots, a limit and a selector, of whose hex with a line end this is known: a job file of it has this job alone.
 pub record IsLineBy (IsSpelled : List ℕ → Type 0) (name roots limit line : List ℕ) : Type 0 where
-  -- the hexadecimal of the selector
+  -- the hex of the selector
   pub selector : List ℕ
   pub job : JobMeaning
   pub spelled : IsSpelled (selector ++ 10 ∷ [])
@@ -43,7 +43,7 @@ pub record IsNoJob (IsSpelled : List ℕ → Type 0) (name roots limit : List �
   pub spelled : IsSpelled (selector ++ 10 ∷ [])
   pub refused : job_of_fields name roots limit selector ≡ Err kind
 
--- the hexadecimal of the selector is no single word
+-- the hex of the selector is no single word
 pub record IsNoHex (IsSpelled : List ℕ → Type 0) : Type 0 where
   pub selector : List ℕ
   pub spelled : IsSpelled (selector ++ 10 ∷ [])
@@ -62,7 +62,7 @@ IsNoWord IsSpelled name roots limit kinds.Repeated = ⊥
 IsNoWord IsSpelled name roots limit kinds.TooMany = ⊥
 IsNoWord IsSpelled name roots limit kinds.Memory = ⊥
 
--- why the words are those of no job, where this is known of a selector that has no hexadecimal, or memory ran out
+-- why the words are those of no job, where this is known of a selector that has not hex, or memory ran out
 abbrev pub IsRefusedBy : (List ℕ → Type 0) → (NotationFault → Type 0) → List ℕ → List ℕ → List ℕ → LineFault → Type 0
 IsRefusedBy IsSpelled IsUnspelled name roots limit (Selector fault told) = IsUnspelled fault
 IsRefusedBy IsSpelled IsUnspelled name roots limit (Field kinds.Memory) = Unit {0}

@@ -12,17 +12,17 @@ use Rattle.ix_job_words.specs.declared.selector.SelectorWord.TheVariants.{Everyt
 use Rattle.ix_job_words.specs.declared.job.JobWords.{JobWords}
 use Rattle.ix_job_words.specs.Line.{IsLineBy, IsReadBy, IsRefusedBy}
 
--- the selector that goes into every child, as long as there are any, in hexadecimal
+-- the selector that enters every child, as long as there are any, in hex
 abbrev pub everything_hex : List ℕ
 everything_hex = codes "a16152a2616ca1646e6f6e65a0623a3ea16161a1613ea16140a0"
 
--- the hexadecimal of a selector, and a line end
+-- the hex of a selector, and a line end
 abbrev pub IsSpelledBy : SelectorWord → List ℕ → Type 0
 IsSpelledBy Everything line = line ≡ everything_hex ++ 10 ∷ []
 IsSpelledBy (Json text) line = IsSelectorHex text.now line
 IsSpelledBy (Hex text) line = line ≡ text.now ++ 10 ∷ []
 
--- why a selector has none: its JSON is that of no selector
+-- why a selector has none: its JSON is not that of a selector
 abbrev pub IsNoSelector : SelectorWord → NotationFault → Type 0
 IsNoSelector Everything fault = ⊥
 IsNoSelector (Json text) fault = IsJsonRefused text.now fault

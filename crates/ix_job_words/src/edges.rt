@@ -1,4 +1,4 @@
-//! Whether the recursions of a selector have edges.
+//! Finds recursions of a selector without an edge.
 
 use crate::line::LineFault;
 use crate::selector::{SelectorWord, hex_line};
@@ -7,42 +7,41 @@ use ix_cbor::{CborKind, Node, Tree, decode};
 use ix_jobs::JobsKind;
 use std::alloc::Global;
 
-// What a part of a selector's data is.
+// The role of a part of a selector's data.
 #[derive(Debug, Drop, Clone, Copy, PartialEq, Eq)]
 enum SelectorPart {
     Selector,
-    // Behind `a`, `i` and `r`: a map in which a selector stands behind `>`.
+    // After `a`, `i` and `r`: a map in which a selector is after `>`.
     Step,
-    // Behind `f`: a map in which `f>` has the names.
+    // After `f`: a map in which `f>` has the names.
     Fields,
     // A map of names, with a selector for each.
     Names,
-    // Behind `R`: a map in which a selector stands behind `:>`.
+    // After `R`: a map in which a selector is after `:>`.
     Recursion,
-    // Behind `|`: a list of selectors.
+    // After `|`: a list of selectors.
     Members,
     Edge,
-    // What has no selector inside.
+    // A part without a selector inside.
     Other,
 }
 
-// What is seen of a part of a selector: whether an edge of the recursion round it stands there, and whether
-// a recursion without one does.
+// What a part of a selector has: an edge of the recursion around it, and a recursion without an edge.
 #[derive(Debug, Drop, Clone, Copy)]
 struct Seen {
     has_edge: bool,
     lacks_edge: bool,
 }
 
-/// Whether a recursion of the selector has no edge of its own, so that it begins again nowhere and enters
-/// no more than its sequence does. Words that spell no selector are refused.
+/// Returns whether a recursion of the selector has no edge of its own, so it never recurs and enters no
+/// more than its sequence does. A text that is not a selector is rejected.
 pub fn lacks_an_edge(alloc: Global, selector: &SelectorWord<'_>) -> Result<bool, LineFault> {
     let line = hex_line(alloc, selector)?;
     let tree = tree_of(alloc, line.as_str().trim_end())?;
     Ok(seen_in(tree.root(), SelectorPart::Selector).lacks_edge)
 }
 
-// The tree of a block in hexadecimal.
+// Returns the tree of a block in hex.
 fn tree_of(alloc: Global, text: &str) -> Result<Tree, LineFault> {
     let bytes = match hex::decode(alloc, text) {
         Ok(bytes) => bytes,
@@ -56,7 +55,7 @@ fn tree_of(alloc: Global, text: &str) -> Result<Tree, LineFault> {
     }
 }
 
-// What is seen of the data that this part is.
+// Returns what the data of this role has.
 fn seen_in(node: &Node, part: SelectorPart) -> Seen {
     let mut seen = Seen {
         has_edge: part == SelectorPart::Edge,
@@ -79,7 +78,7 @@ fn seen_in(node: &Node, part: SelectorPart) -> Seen {
 }
 
 impl SelectorPart {
-    // The part behind a key of this one, where it is a map.
+    // Returns the role of the value of a key of this part, if it is a map.
     fn behind(self, key: &[u8]) -> SelectorPart {
         match (self, key) {
             (SelectorPart::Selector, b"a" | b"i" | b"r") => SelectorPart::Step,
@@ -96,7 +95,7 @@ impl SelectorPart {
         }
     }
 
-    // The part that each member of this one is, where it is a list.
+    // Returns the role of each element of this part, if it is a list.
     fn of_members(self) -> SelectorPart {
         match self {
             SelectorPart::Members => SelectorPart::Selector,
@@ -106,7 +105,7 @@ impl SelectorPart {
 }
 
 impl Seen {
-    // What is seen of two parts.
+    // Combines what two parts have.
     fn and(self, other: Seen) -> Seen {
         Seen {
             has_edge: self.has_edge || other.has_edge,
@@ -114,7 +113,7 @@ impl Seen {
         }
     }
 
-    // What is seen of a part from outside of it: the edges inside a recursion are its own.
+    // Returns what a part has, seen from outside: the edges inside a recursion are its own.
     fn from_outside(self, part: SelectorPart) -> Seen {
         match part {
             SelectorPart::Recursion => Seen {

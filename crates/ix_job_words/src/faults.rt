@@ -9,7 +9,7 @@ use std::alloc::{AllocError, Global};
 use std::collections::BTreeSet;
 
 /// The faults of a job file, in the order of its lines: none where `read_jobs` takes it, else at
-/// first the one that it tells, and behind that the fault of each later line that is faulty by
+/// first the one that it reports, and after that the fault of each later line that is faulty by
 /// itself, or whose name an earlier line has.
 pub fn job_faults(alloc: Global, bytes: &[u8]) -> Result<Vec<JobsFault>, AllocError>
     ensures { IfOk result (λ faults. AreFaultsOf bytes.now faults.items) }
@@ -25,7 +25,7 @@ pub fn job_faults(alloc: Global, bytes: &[u8]) -> Result<Vec<JobsFault>, AllocEr
     Ok(faults)
 }
 
-// Appends the faults of the lines behind the first faulty one.
+// Appends the faults of the lines after the first faulty one.
 fn push_later(
     alloc: Global,
     faults: &mut Vec<JobsFault>,
@@ -47,7 +47,7 @@ fn push_later(
     Ok(())
 }
 
-// Why a line is faulty, by itself or for its name, behind lines whose jobs have these names.
+// Why a line is faulty, by itself or for its name, after lines whose jobs have these names.
 fn fault_behind(
     alloc: Global,
     names: &mut BTreeSet<String>,
@@ -75,7 +75,7 @@ fn fault_behind(
     Ok(None)
 }
 
-// Appends what is told of a line, if it stands behind the first faulty one.
+// Appends what is reported of a line, if it is after the first faulty one.
 fn push_told(
     faults: &mut Vec<JobsFault>,
     first: u64,

@@ -1,4 +1,4 @@
-//! The job of words, without a job file.
+//! Makes a job from its fields, without a job file.
 
 ghost use Rattle.std.specs.Prelude.{◌≡◌, length, map, IfOk, IfErr};
 ghost use Rattle.ix_walk.specs.JobMeaning.{walked};
@@ -11,8 +11,8 @@ use ix_jobs::JobsKind;
 use ix_walk::Job;
 use std::alloc::{AllocError, Global};
 
-/// The words of one job: its name, the texts of its roots with one comma between, its limit in decimal
-/// digits, and its selector.
+/// The fields of one job: its name, its comma-separated roots, its limit in decimal digits, and its
+/// selector.
 #[derive(Debug, Drop, Clone, Copy)]
 pub struct JobWords<'a> {
     pub name: &'a str,
@@ -21,8 +21,9 @@ pub struct JobWords<'a> {
     pub selector: SelectorWord<'a>,
 }
 
-/// The one job of words: that of a job file with the line that these words are. It goes into a CID once
-/// where that is asked for, and else at every arrival. The words are judged in the order of `job_line`.
+/// Returns the one job of these fields, which is that of a job file with their line. It expands a CID
+/// once if that is asked for, and else at every link. The fields are checked in the order of
+/// `job_line`.
 pub fn jobs_of_words(alloc: Global, words: &JobWords<'_>, once: bool) -> Result<Vec<Job>, LineFault>
     ensures jobs { IfOk result (λ jobs. AreJobsOf words.now once jobs.items) }
     ensures one { IfOk result (λ jobs. length jobs.items ≡ 1) }
@@ -32,7 +33,7 @@ pub fn jobs_of_words(alloc: Global, words: &JobWords<'_>, once: bool) -> Result<
     Ok(walked(alloc, jobs, once)?)
 }
 
-// The same jobs, each of which goes into a CID once, or as they are.
+// Returns the same jobs, which expand each CID once if that is asked for.
 fn walked(alloc: Global, jobs: Vec<Job>, once: bool) -> Result<Vec<Job>, AllocError>
     ensures { IfOk result (λ walked_jobs. walked_jobs.items ≡ walked once jobs.items) }
 {
@@ -43,8 +44,9 @@ fn walked(alloc: Global, jobs: Vec<Job>, once: bool) -> Result<Vec<Job>, AllocEr
     }
 }
 
-/// Tells why words are those of no job: `--limit: what is wrong, and what would be right`, since they are typed
-/// as options, and of a selector in JSON the line of the command `selector`, with the part that is refused.
+/// Returns why fields aren't those of a job: `--limit: what is wrong, and what would be right`, since
+/// they are typed as options. For a selector in JSON it is the line of the command `selector`, with the
+/// part that is rejected.
 pub fn job_fault_words(
     alloc: Global,
     fault: &LineFault,

@@ -1,10 +1,10 @@
-//! What is wrong with a job file, line by line, and the line of a job out of its words.
+//! The errors of a job file, line by line, and the line of a job from its fields.
 //!
-//! `job_faults` tells none exactly where `read_jobs` takes the file, and else at first the fault that
-//! it tells; behind that, each later line that is faulty by itself or for its name. `fault_lines` says
-//! them in words. `job_line` puts the words of a job together: a job file of that line has this job
-//! alone, and `jobs_of_words` makes it without a file. What is refused has a reason, and
-//! `line_fault_words` and `job_fault_words` say it.
+//! `job_faults` returns no error exactly if `read_jobs` accepts the file. Otherwise the first is that of
+//! `read_jobs`, followed by each later line that is faulty by itself or for its name. `fault_lines`
+//! returns them as text. `job_line` makes the line of a job: a job file of that line has this job alone,
+//! and `jobs_of_words` makes the job without a file. Fields are rejected with a reason, which
+//! `line_fault_words` and `job_fault_words` return as text.
 //!
 //! ```rust
 //! let line = job_line(alloc, "a", "bafkqaaa", "1", b"{\".\":{}}")?;

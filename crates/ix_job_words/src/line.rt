@@ -1,4 +1,4 @@
-//! The line of a job out of its words.
+//! Makes the line of a job from its fields.
 
 ghost use Rattle.std.specs.Prelude.{◌≡◌, ◌<◌, ◌-◌, length, take, IfOk, IfErr, string_bytes};
 ghost use Rattle.std.specs.List.{list_all};
@@ -12,20 +12,20 @@ use ix_notation::{NotationFault, fault_line};
 use ix_walk::{Job, is_name};
 use std::alloc::{AllocError, Global};
 
-/// Why words are those of no job.
+/// Why fields aren't those of a job.
 #[derive(Debug, Drop)]
 pub enum LineFault {
-    /// The name, the roots or the limit, as a job file would be refused for it; or `Memory`.
+    /// The name, the roots or the limit, with the error of a job file; or `Memory`.
     Field(JobsKind),
-    /// The text that is no selector, and the line that tells so with the part that is refused, where there
-    /// was memory for it.
+    /// The text that is not a selector, and the line that says so with the part that is rejected,
+    /// unless memory ran out for it.
     Selector(NotationFault, Option<String>),
 }
 
-/// The line of a job file for the job of a name, the texts of its roots with one comma between, its
-/// limit in decimal digits, and its selector as JSON. A job file of this line alone has that job and
-/// no other. The name is judged first, then whether the roots and the limit are single words, then
-/// the selector, and then the roots and the limit as such.
+/// Returns the line of a job file for a job: its name, its comma-separated roots, its limit in decimal
+/// digits, and its selector as JSON. A job file of this line alone has that job and no other. The name
+/// is checked first, then whether the roots and the limit are single words, then the selector, and then
+/// the roots and the limit as such.
 pub fn job_line(
     alloc: Global,
     name: &str,
@@ -40,7 +40,7 @@ pub fn job_line(
     Ok(line)
 }
 
-/// The same of a selector of any kind, and the job of the line.
+/// Returns the same line for a selector of any kind, and its job.
 pub(crate) fn line_by(
     alloc: Global,
     name: &str,
@@ -71,21 +71,21 @@ pub(crate) fn line_by(
     }
 }
 
-// Whether a text is a single word: one visible ASCII character at least, and no other byte.
+// Returns whether a text is a single word: one visible ASCII character at least, and no other byte.
 fn is_word(text: &[u8]) -> bool
     ensures { result ≡ is_word text.now }
 {
     !text.is_empty() && is_visible(text)
 }
 
-// Whether each byte is a visible ASCII character.
+// Returns whether each byte is a visible ASCII character.
 fn is_visible(text: &[u8]) -> bool
     ensures { result ≡ list_all is_visible text.now }
 {
     text.iter().all(|byte| matches!(*byte, b'!'..=b'~'))
 }
 
-// A line without its last byte.
+// Returns a line without its last byte.
 fn without_end(line: &[u8]) -> &[u8]
     requires { 0 < length line.now }
     ensures { result.now ≡ take (length line.now - 1) line.now }
@@ -93,8 +93,8 @@ fn without_end(line: &[u8]) -> &[u8]
     &line[..line.len() - 1]
 }
 
-/// Tells why words are those of no job: `NAME: what is wrong, and what would be right`, and of a
-/// selector the line of the command `selector`, with the part that is refused.
+/// Returns why fields aren't those of a job: `NAME: what is wrong, and what would be right`. For a
+/// selector it is the line of the command `selector`, with the part that is rejected.
 pub fn line_fault_words(
     alloc: Global,
     fault: &LineFault,
@@ -105,7 +105,7 @@ pub fn line_fault_words(
     fault_words(alloc, fault, &LINE_FIELDS, [name, roots, limit])
 }
 
-/// What the fields of a job are called where they are typed.
+/// The names of a job's fields, as they are typed.
 pub(crate) struct FieldNames {
     pub name: &'static str,
     pub roots: &'static str,
@@ -113,7 +113,7 @@ pub(crate) struct FieldNames {
     pub selector: &'static str,
 }
 
-/// In a line of a job file.
+/// The names in a line of a job file.
 pub(crate) static LINE_FIELDS: FieldNames = FieldNames {
     name: "NAME",
     roots: "ROOT",
@@ -121,7 +121,7 @@ pub(crate) static LINE_FIELDS: FieldNames = FieldNames {
     selector: "SELECTOR",
 };
 
-/// As options of a command.
+/// The names of a command's options.
 pub(crate) static OPTION_FIELDS: FieldNames = FieldNames {
     name: "--name",
     roots: "--root",
@@ -129,7 +129,7 @@ pub(crate) static OPTION_FIELDS: FieldNames = FieldNames {
     selector: "--selector-hex",
 };
 
-/// The same words for a name, roots and a limit that are called so.
+/// Returns the same text for fields with these names.
 pub(crate) fn fault_words(
     alloc: Global,
     fault: &LineFault,

@@ -1,4 +1,4 @@
-//! What is wrong with the lines of a job file, in words.
+//! Says what is wrong with the lines of a job file.
 
 use crate::words::{JSON_WORDS, limit_fault, name_fault, roots_fault, selector_fault};
 use ix_jobs::{JobsFault, JobsKind, split_line};
@@ -6,7 +6,7 @@ use std::alloc::{AllocError, Global};
 use std::collections::BTreeMap;
 use std::str;
 
-// What the fields of a line are called.
+// The names of a line's fields.
 const NAME: &str = "NAME";
 
 const ROOT: &str = "ROOT";
@@ -17,16 +17,16 @@ const SELECTOR: &str = "SELECTOR";
 
 const FIELDS: [&str; 4] = [NAME, ROOT, LIMIT, SELECTOR];
 
-// Said of a job behind the most that a run takes.
+// Reported for a job after the most that a run takes.
 const MANY_WORDS: &str =
-    "behind 1000 jobs, which is all that a run takes; jobs --part runs a part of more";
+    "after 1000 jobs, the most that a run takes; jobs --part runs a part of more";
 
-// Said of a space that parts the roots of a job.
-const COMMA_WORDS: &str = "a space behind a comma, and none is wanted";
+// Reported for a space between the roots of a job.
+const COMMA_WORDS: &str = "a space after a comma, expected none";
 
-/// The faults of a job file in words, a line each: `line N, FIELD: what is wrong`, or `line N: what is
-/// wrong`, and what would be right. The faults stand in the order of their lines, one a line at most;
-/// where one is that of a field, each other faulty field of its line is told too.
+/// Returns the errors of a job file as text, a line each: `line N, FIELD: what is wrong`, or `line N:
+/// what is wrong`, and what would be right. They are in the order of their lines, one per line at most;
+/// if one is that of a field, each other faulty field of its line is reported too.
 pub fn fault_lines(
     alloc: Global,
     bytes: &[u8],
@@ -52,7 +52,7 @@ pub fn fault_lines(
     Ok(text)
 }
 
-// Notes where a name stands first.
+// Records where a name is first.
 fn note_name(
     alloc: Global,
     names: &mut BTreeMap<String, u64>,
@@ -66,7 +66,7 @@ fn note_name(
     Ok(())
 }
 
-// The field before the first space of a line, where it is text.
+// Returns the field before the first space of a line, if it is text.
 fn first_field(line: &[u8]) -> &str {
     match line.split(|byte| *byte == b' ').next() {
         Some(field) => str::from_utf8(field).unwrap_or(""),
@@ -88,8 +88,8 @@ fn push_fault(
         JobsKind::Text => push_bytes_fault(text, number, line),
         JobsKind::Fields => push_fields_fault(text, number, str::from_utf8(line).unwrap_or("")),
         JobsKind::Repeated => match names.get(first_field(line)) {
-            Some(first) => writeln!(text, "line {number}, NAME: stands in line {first} too"),
-            None => push_of_field(text, number, NAME, "stands in an earlier line too"),
+            Some(first) => writeln!(text, "line {number}, NAME: also in line {first}"),
+            None => push_of_field(text, number, NAME, "also in an earlier line"),
         },
         JobsKind::TooMany => push_of_line(text, number, MANY_WORDS),
         _ => push_each_fault(alloc, text, number, str::from_utf8(line).unwrap_or("")),
@@ -111,7 +111,7 @@ fn push_of_field(
     writeln!(text, "line {number}, {field}: {words}")
 }
 
-// A line without the carriage return at its end.
+// Returns a line without the carriage return at its end.
 fn without_return(line: &[u8]) -> &[u8] {
     match line.split_last() {
         Some((b'\r', front)) => front,
@@ -142,7 +142,7 @@ fn push_each_fault(
     Ok(())
 }
 
-// Appends which byte of a line is none of text: the first one.
+// Appends which byte of a line isn't text: the first one.
 fn push_bytes_fault(text: &mut String, number: u64, line: &[u8]) -> Result<(), AllocError> {
     let Some(place) = line.iter().position(|byte| !matches!(*byte, b' '..=b'~')) else {
         return Ok(());
@@ -153,29 +153,27 @@ fn push_bytes_fault(text: &mut String, number: u64, line: &[u8]) -> Result<(), A
     }
     let field = FIELDS[spaces(before).min(3)];
     match behind {
-        [b'\t', ..] => { writeln!(text, "line {number}: a tab and not a space behind {field}") }
+        [b'\t', ..] => { writeln!(text, "line {number}: a tab and not a space after {field}") }
         [byte, ..] => writeln!(
             text,
-            "line {number}, {field}: a byte {byte:02x}, and ASCII text alone is wanted"
+            "line {number}, {field}: a byte {byte:02x}, expected ASCII text alone"
         ),
         [] => Ok(()),
     }
 }
 
-// What stands behind so many bytes of text, where that has a name whatever field it is in.
+// Names what is after so many bytes of text, if it has a name in every field.
 fn bytes_words(before: &[u8], behind: &[u8]) -> Option<&'static str> {
     match behind {
         [b'\t'] => Some("a trailing tab"),
         [b'\t', ..] if before.is_empty() => Some("a tab before NAME"),
-        [0xef, 0xbb, 0xbf, ..] if before.is_empty() => {
-            Some("a byte order mark, and none is wanted")
-        }
-        [0xc2, 0xa0, ..] => Some("a no-break space, and a space is wanted"),
+        [0xef, 0xbb, 0xbf, ..] if before.is_empty() => { Some("a byte order mark, expected none") }
+        [0xc2, 0xa0, ..] => Some("a no-break space, expected a space"),
         _ => None,
     }
 }
 
-// How many spaces there are.
+// Returns the number of spaces.
 fn spaces(line: &[u8]) -> usize {
     line.iter().filter(|byte| **byte == b' ').count()
 }
@@ -196,20 +194,20 @@ fn push_fields_fault(text: &mut String, number: u64, line: &str) -> Result<(), A
             let field = FIELDS[(place - 1).min(3)];
             writeln!(
                 text,
-                "line {number}: two spaces behind {field}, and one is wanted"
+                "line {number}: two spaces after {field}, expected one"
             )
         }
         None => {
             let fields = if count == 1 { "field" } else { "fields" };
             writeln!(
                 text,
-                "line {number}: {count} {fields}, and the four NAME ROOTS LIMIT SELECTOR are wanted"
+                "line {number}: {count} {fields}, expected the four NAME ROOTS LIMIT SELECTOR"
             )
         }
     }
 }
 
-// The field behind so many spaces of a line, or none.
+// Returns the field after so many spaces of a line, or none.
 fn field_at(line: &str, place: usize) -> &str {
     line.split(' ').skip(place).next().unwrap_or("")
 }

@@ -1,4 +1,4 @@
-//! The selector of a job as it stands among words.
+//! The selector of a job as it is given in the arguments.
 
 ghost use Rattle.std.specs.Prelude.{◌<◌, length, IfOk, IfErr, string_bytes};
 ghost use Rattle.ix_job_words.specs.Words.{IsSpelledBy, IsUnspelled};
@@ -8,21 +8,21 @@ use ix_notation::{hex_of_json, json_fault_line};
 use std::alloc::Global;
 
 // The selector of everything, `{"R":{"l":{"none":{}},":>":{"a":{">":{"@":{}}}}}}`, as DAG-CBOR in
-// hexadecimal.
+// hex.
 const EVERYTHING: &str = "a16152a2616ca1646e6f6e65a0623a3ea16161a1613ea16140a0";
 
-/// The selector of a job as it stands among words.
+/// The selector of a job as it is given in the arguments.
 #[derive(Debug, Drop, Clone, Copy)]
 pub enum SelectorWord<'a> {
     /// Everything below each root.
     Everything,
     /// As JSON with the keys of the IPLD Selectors specification.
     Json(&'a [u8]),
-    /// As DAG-CBOR in hexadecimal.
+    /// As DAG-CBOR in hex.
     Hex(&'a str),
 }
 
-/// The hexadecimal of a selector and a line end. Hexadecimal is taken as it stands, and isn't judged.
+/// Returns the hex of a selector and a line end. Hex is taken as it is, and isn't checked.
 pub(crate) fn hex_line(alloc: Global, selector: &SelectorWord<'_>) -> Result<String, LineFault>
     ensures spelled { IfOk result (λ line. IsSpelledBy selector.now (string_bytes line)) }
     ensures some { IfOk result (λ line. 0 < length (string_bytes line)) }

@@ -1,4 +1,4 @@
-//! What is wrong with a field of a job's line, in words, and what would be right.
+//! Says what is wrong with a field of a job's line, and what would be right.
 
 use ix_cid::{Cid, CidFault};
 use ix_notation::{NotationFault, hex_fault_line, json_of_hex};
@@ -8,31 +8,31 @@ use std::alloc::{AllocError, Global};
 // The digits of base32 (RFC 4648, section 6) in lower case.
 const BASE32: [u8; 32] = *b"abcdefghijklmnopqrstuvwxyz234567";
 
-// How many bytes a name may have.
+// The most bytes of a name.
 const LONGEST_NAME: usize = 64;
 
-/// What is wrong with a name, if anything.
+/// Returns what is wrong with a name, if anything.
 pub(crate) fn name_fault(name: &str) -> Option<&'static str> {
     if is_name(name) {
         return None;
     }
     let bytes = name.as_bytes();
     if bytes.is_empty() {
-        Some("empty, and 1 to 64 of a to z, 0 to 9, - and _ are wanted")
+        Some("empty, expected 1 to 64 of a to z, 0 to 9, - and _")
     } else if bytes.len() > LONGEST_NAME {
-        Some("longer than 64 bytes, and 1 to 64 are wanted")
+        Some("longer than 64 bytes, expected 1 to 64")
     } else if bytes.iter().any(|byte| byte.is_ascii_uppercase()) {
-        Some("upper case, and a to z, 0 to 9, - and _ are wanted")
+        Some("upper case, expected a to z, 0 to 9, - and _")
     } else {
         Some("another byte than a to z, 0 to 9, - and _")
     }
 }
 
-/// What is wrong with the texts of roots, if anything: the first that is no CIDv1 in base32.
+/// Returns what is wrong with the roots, if anything: the first that is not a CIDv1 in base32.
 pub(crate) fn roots_fault(alloc: Global, roots: &str) -> Result<Option<String>, AllocError> {
     let count = roots.split(',').count();
     if count > MOST_ROOTS {
-        let words = format!(in alloc; "{count} texts, and 1 to 64 are wanted")?;
+        let words = format!(in alloc; "{count} texts, expected 1 to 64")?;
         return Ok(Some(words));
     }
     for root in roots.split(',') {
@@ -43,7 +43,7 @@ pub(crate) fn roots_fault(alloc: Global, roots: &str) -> Result<Option<String>, 
     Ok(None)
 }
 
-// What is wrong with one of so many roots.
+// Returns what is wrong with one of so many roots.
 fn root_words(
     alloc: Global,
     root: &str,
@@ -59,7 +59,7 @@ fn root_words(
         None => cid_words(fault),
     };
     if root.is_empty() {
-        let words = "no text beside a comma, and CIDs with one comma between are wanted";
+        let words = "no text beside a comma, expected comma-separated CIDs";
         String::from_str(alloc, words)
     } else if count == 1 {
         String::from_str(alloc, words)
@@ -68,20 +68,20 @@ fn root_words(
     }
 }
 
-// The form that a text has in place of base32, where it shows.
+// Returns the form that a text has instead of base32, if it is recognized.
 fn form_words(root: &str) -> Option<&'static str> {
     if root.starts_with("ipfs://") {
-        return Some("an ipfs:// address, and the CID alone is wanted");
+        return Some("an ipfs:// address, expected the CID alone");
     }
     if root.starts_with("/ipfs/") {
-        return Some("a path of /ipfs/, and the CID alone is wanted");
+        return Some("a path of /ipfs/, expected the CID alone");
     }
     if root.starts_with("http://") || root.starts_with("https://") {
-        return Some("a URL, and the CID alone is wanted");
+        return Some("a URL, expected the CID alone");
     }
     if root.starts_with("Qm") {
         return Some(
-            "base58 of a CIDv0, which names UnixFS, and a CIDv1 in base32 beginning with b is wanted",
+            "base58 of a CIDv0, which names UnixFS, expected a CIDv1 in base32 beginning with b",
         );
     }
     match root.as_bytes().split_first()? {
@@ -90,44 +90,42 @@ fn form_words(root: &str) -> Option<&'static str> {
     }
 }
 
-// The base of a text that begins with this byte, as the multibase table has it, where it is another
-// than base32 in lower case.
+// Returns the base of a text that begins with this byte, by the multibase table, if it is another than
+// base32 in lower case.
 fn base_words(first: u8) -> Option<&'static str> {
     match first {
         b'z' | b'Z' => Some(
-            "base58, and base32 beginning with b is wanted: ipfs cid base32 converts it",
+            "base58, expected base32 beginning with b: ipfs cid base32 converts it",
         ),
-        b'f' | b'F' => Some(
-            "hexadecimal, and base32 beginning with b is wanted: ipfs cid base32 converts it",
-        ),
+        b'f' | b'F' => Some("hex, expected base32 beginning with b: ipfs cid base32 converts it"),
         b'k' | b'K' => Some(
-            "base36, and base32 beginning with b is wanted: ipfs cid base32 converts it",
+            "base36, expected base32 beginning with b: ipfs cid base32 converts it",
         ),
         b'm' | b'M' | b'u' | b'U' => Some(
-            "base64, and base32 beginning with b is wanted: ipfs cid base32 converts it",
+            "base64, expected base32 beginning with b: ipfs cid base32 converts it",
         ),
         b'v' | b'V' | b't' | b'T' => Some(
-            "base32hex, and base32 beginning with b is wanted: ipfs cid base32 converts it",
+            "base32hex, expected base32 beginning with b: ipfs cid base32 converts it",
         ),
-        b'B' | b'C' => Some("base32 in upper case, and lower case is wanted, beginning with b"),
+        b'B' | b'C' => Some("base32 in upper case, expected lower case, beginning with b"),
         _ => None,
     }
 }
 
-// What is wrong with a text that shows no other form.
+// Returns what is wrong with a text of no other known form.
 fn cid_words(fault: CidFault) -> &'static str {
     match fault {
-        CidFault::Multibase => "no CID: a CIDv1 in base32, beginning with b, is wanted",
-        CidFault::Base32 => "no base32: behind b stand a to z and 2 to 7, in lower case",
+        CidFault::Multibase => "not a CID, expected a CIDv1 in base32, beginning with b",
+        CidFault::Base32 => "not base32: after b come a to z and 2 to 7, in lower case",
         CidFault::Truncated => "a CID that ends early",
         CidFault::Varint => "a CID with a number that isn't in its shortest form",
         CidFault::Version(_) => "a CID of another version than 1",
-        CidFault::Rest => "a CID with more behind it",
+        CidFault::Rest => "a CID with more after it",
         CidFault::Memory => "no memory",
     }
 }
 
-// What is wrong with a text behind b that is no base32: a character of it, or where it ends.
+// Returns what is wrong with a text after b that is not base32: a character of it, or where it ends.
 fn base32_words(alloc: Global, root: &str) -> Result<&'static str, AllocError> {
     let Some(whole) = whole_bytes(alloc, root)? else {
         return Ok(cid_words(CidFault::Base32));
@@ -141,7 +139,7 @@ fn base32_words(alloc: Global, root: &str) -> Result<&'static str, AllocError> {
     }
 }
 
-// The text of the whole bytes that a text of base32 begins with, unless it has another character.
+// Returns the front of a base32 text that has whole bytes, unless the text has another character.
 fn whole_bytes(alloc: Global, root: &str) -> Result<Option<String>, AllocError> {
     let mut text = String::new(alloc);
     let Some((_, digits)) = root.as_bytes().split_first() else {
@@ -169,31 +167,31 @@ fn whole_bytes(alloc: Global, root: &str) -> Result<Option<String>, AllocError> 
     Ok(Some(text))
 }
 
-/// What is wrong with a limit, if anything.
+/// Returns what is wrong with a limit, if anything.
 pub(crate) fn limit_fault(limit: &str) -> Option<&'static str> {
     let digits = limit.as_bytes();
     if digits.is_empty() || !digits.iter().all(|digit| digit.is_ascii_digit()) {
-        return Some("no number in decimal digits alone, and 1 to 1000000 is wanted");
+        return Some("not a number in decimal digits, expected 1 to 1000000");
     }
     if limit == "0" {
-        return Some("0, and 1 to 1000000 is wanted");
+        return Some("0, expected 1 to 1000000");
     }
     if let Some(b'0') = digits.first() {
-        return Some("a leading zero, and 1 to 1000000 is wanted without one");
+        return Some("a leading zero, expected 1 to 1000000 without one");
     }
     match limit.parse::<u32>() {
         Ok(number) if number <= GREATEST_LIMIT => None,
-        _ => Some("greater than 1000000, and 1 to 1000000 is wanted"),
+        _ => Some("greater than 1000000, expected 1 to 1000000"),
     }
 }
 
-/// What is wrong with a selector in hexadecimal, if anything.
+/// Returns what is wrong with a selector in hex, if anything.
 pub(crate) fn selector_fault(alloc: Global, text: &str) -> Result<Option<String>, AllocError> {
     if text.starts_with('{') {
         return String::from_str(alloc, JSON_WORDS).map(|words| Some(words));
     }
     match json_of_hex(alloc, text) {
-        // A name that is no UTF-8 is no fault of a selector.
+        // A name that is not UTF-8 is not an error of a selector.
         Ok(_) | Err(NotationFault::Name) => Ok(None),
         Err(NotationFault::Memory) => Err(AllocError),
         Err(NotationFault::Hex) => {
@@ -207,20 +205,20 @@ pub(crate) fn selector_fault(alloc: Global, text: &str) -> Result<Option<String>
     }
 }
 
-/// Said where JSON stands in place of hexadecimal.
-pub(crate) const JSON_WORDS: &str = "JSON, made hexadecimal by ix_export selector";
+/// Reported for JSON instead of hex.
+pub(crate) const JSON_WORDS: &str = "JSON, converted to hex by ix_export selector";
 
-// What is wrong with a text that is no hexadecimal.
+// Returns what is wrong with a text that is not hex.
 fn hex_words(text: &str) -> &'static str {
     if text.starts_with("0x") {
-        "0x, and hexadecimal digits alone are wanted"
+        "0x, expected hex digits alone"
     } else if text
         .as_bytes()
         .iter()
         .all(|digit| digit.is_ascii_hexdigit())
     {
-        "an odd number of hexadecimal digits, and two for each byte are wanted"
+        "an odd number of hex digits, expected two for each byte"
     } else {
-        "no hexadecimal: the line of ix_export selector is wanted"
+        "not hex, expected the line of ix_export selector"
     }
 }

@@ -16,7 +16,7 @@ use Rattle.ix_jobs.specs.Parts.{own_line, job_lines_from, job_lines}
 use Rattle.ix_jobs.proofs.Pieces.{slice_split_whole}
 use Rattle.ix_jobs.proofs.LinesInTurn.{is_end}
 
--- the first line, then those behind it
+-- the first line, then those after it
 pub job_lines-first : (n : ℕ) (bs : List ℕ) → 0 < length bs
     → job_lines_from n (slice_split (λ b. b == 10) bs)
     ≡ own_line n (before_first (λ b. b == 10) bs) ++ job_lines_from (n + 1) (slice_split (λ b. b == 10) (after_first (λ b. b == 10) bs))
@@ -59,7 +59,7 @@ job_lines-many n m (l ∷ ls) = by_line (is_ignored (strip_carriage_return l)) (
   by_line true same = same
   by_line false same = ap (λ k. suc k) same
 
--- what stands behind the first
+-- what follows the first
 pub get_or-behind : (x : ℕ) (xs : List ℕ) (i : ℕ) → 0 < i → get_or (x ∷ xs) i 0 ≡ get_or xs (i - 1) 0
 get_or-behind x xs zero some = absurd (omega (arith, some))
 get_or-behind x xs (suc i) some = let before : suc i - 1 ≡ i = omega arith in ap (λ k. get_or xs k 0) (sym before)
@@ -86,5 +86,6 @@ from-many most n before jobs (l ∷ ls) h =
     behind-many most n before jobs (own_line n l) ls (with_line most before (strip_carriage_return l)) (λ more e. from-many most (n + 1) more jobs ls e)
     (λ more e. line-more most n before more (is_ignored (strip_carriage_return l)) (line_job (strip_carriage_return l)) e) h
 
+-- an accepted job file has a line for each job
 pub job_lines-are : (most : ℕ) (b : List ℕ) (jobs : List JobMeaning) → jobs_up_to most b ≡ Ok jobs → length (job_lines b) ≡ length jobs
 job_lines-are most b jobs h = let same : length jobs ≡ 0 + length (job_lines b) = from-many most 1 [] jobs (slice_split is_end b) h in omega (arith, same)

@@ -15,13 +15,16 @@ use Rattle.ix_jobs.specs.Jobs.{limit_in}
 own : IsNumeralModel (λ ds. all_ascii_digits ds ≡ true) (digits_value 10)
 own = numerals_by_value _ tells_all_ascii_digits
 
+-- more digits make no smaller number
 value_after-above : (n : ℕ) (cs : List ℕ) → n ≤ digits_value_after 10 n cs
 value_after-above n [] = omega arith
 value_after-above n (c ∷ cs) = omega (arith, value_after-above (n * 10 + digit_value c) cs)
 
+-- a digit from 1 to 9 is at least 1
 digit_above : (d : ℕ) → 49 ≤ d → d ≤ 57 → 1 ≤ digit_value d
 digit_above d low high = grind (arith, nat_tests)
 
+-- digits without a leading zero make at least 1
 value_above : (d : ℕ) (ds : List ℕ) → 49 ≤ d → d ≤ 57 → 1 ≤ digits_value 10 (d ∷ ds)
 value_above d ds low high = omega (arith, value_after-above (0 * 10 + digit_value d) ds, digit_above d low high)
 
@@ -31,15 +34,19 @@ fits d ds = (all_ascii_digits (d ∷ ds) && not (d == 48)) && nat_le (digits_val
 limit_if : ℕ → List ℕ → Bool → Result ℕ JobsKind
 limit_if d ds b = if b then Ok (digits_value 10 (d ∷ ds)) else Err Limit
 
+-- a digit from 1 to 9 is not 0
 first_fits : (d : ℕ) → 49 ≤ d → not (d == 48) ≡ true
 first_fits d low = grind (arith, nat_tests)
 
+-- a digit is no plus sign
 no_plus : (d : ℕ) → 49 ≤ d → d ≢ 43
 no_plus d low e = omega (arith, e)
 
+-- a limit of at most 1,000,000 passes the test
 limit-passes : (v : ℕ) → v ≤ 1000000 → nat_le v 1000000 ≡ true
 limit-passes v h = grind (arith, nat_tests)
 
+-- a limit that passes the test is at most 1,000,000
 limit-small : (v : ℕ) → nat_le v 1000000 ≡ true → v ≤ 1000000
 limit-small v h = grind (arith, nat_tests)
 

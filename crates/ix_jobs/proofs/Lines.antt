@@ -9,6 +9,7 @@ use Rattle.ix_archive.specs.declared.archive.Skip.{Skip}
 use Rattle.ix_jobs.specs.Report.{is_done, skip_lines, job_line, all_lines, done_count, skip_count, total_line, status_of}
 use Rattle.ix_jobs.specs.declared.outcome.JobResult.{JobResult}
 
+-- lines in two groups are the same lines
 regrouped : (old line more rest : List ℕ) → old ++ line ++ more ++ rest ≡ old ++ (line ++ more ++ rest)
 regrouped old line more rest = simp append_assoc
 
@@ -21,10 +22,12 @@ a_job_more old mid new all job r skips jobs later_jobs rs later_rs first second 
     ∙ sym (ap (λ (a : List JobMeaning). old ++ all_lines a rs) first)
     ∙ before
 
+-- without results there are no lines
 no_results : (jobs : List JobMeaning) → all_lines jobs [] ≡ []
 no_results [] = refl
 no_results (job ∷ jobs) = refl
 
+-- without more jobs or results there are no lines
 no_more : (jobs : List JobMeaning) (rs : List JobResult) → (jobs ≡ []) ⊎ (rs ≡ []) → all_lines jobs rs ≡ []
 no_more jobs rs (inl e) = ap (λ (a : List JobMeaning). all_lines a rs) e
 no_more jobs rs (inr e) = ap (λ (b : List JobResult). all_lines jobs b) e ∙ no_results jobs
@@ -38,8 +41,10 @@ pub total_line-same : (text : List ℕ) (jobs : ℕ) (rs : List JobResult) (done
 total_line-same text jobs rs done skips d s =
     ap (λ (n : ℕ). text ++ total_line jobs n skips) d ∙ ap (λ (n : ℕ). text ++ total_line jobs (done_count rs) n) s
 
+-- if all jobs are done and there are skips, the status is 3
 pub status_with_skips : (rs : List JobResult) → list_all (λ (r : JobResult). is_done r.end) rs ≡ true → 0 < skip_count rs → 3 ≡ status_of rs
 status_with_skips rs done some = rw (done, lt-ltb _ _ some) refl
 
+-- if all jobs are done and there are no skips, the status is 0
 pub status_without_skips : (rs : List JobResult) → list_all (λ (r : JobResult). is_done r.end) rs ≡ true → skip_count rs ≤ 0 → 0 ≡ status_of rs
 status_without_skips rs done none = rw (done, le-ltb _ _ none) refl

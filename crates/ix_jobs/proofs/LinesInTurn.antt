@@ -17,7 +17,7 @@ use Rattle.ix_jobs.proofs.Pieces.{slice_split_whole}
 abbrev pub is_end : ℕ → Bool
 is_end b = b == 10
 
--- the first line, then those behind it
+-- the first line, then those after it
 pub jobs_from-first : (most n : ℕ) (before : List JobMeaning) (bs : List ℕ) → 0 < length bs
     → jobs_from most n before (slice_split (λ b. b == 10) bs)
     ≡ (at_line n (with_line most before (strip_carriage_return (before_first (λ b. b == 10) bs))) >>= (λ jobs. jobs_from most (n + 1) jobs (slice_split (λ b. b == 10) (after_first (λ b. b == 10) bs))))
@@ -50,5 +50,6 @@ jobs_from-err kind most n before bs some h =
     let more : List JobMeaning → Result (List JobMeaning) (JobsKind × ℕ) = λ jobs. jobs_from most (n + 1) jobs (slice_split is_end (after_first is_end bs)) in
     jobs_from-first most n before bs some ∙ ap (λ (r : Result (List JobMeaning) JobsKind). at_line n r >>= more) h
 
+-- what follows the first line is shorter
 pub rest-shorter : (bs : List ℕ) → 0 < length bs → length (after_first (λ b. b == 10) bs) + 1 ≤ length bs
 rest-shorter bs some = omega (arith, length-drop (position_or_len is_end bs + 1) bs)

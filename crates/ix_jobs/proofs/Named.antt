@@ -8,7 +8,7 @@ use Rattle.ix_walk.specs.JobMeaning.{JobMeaning}
 use Rattle.ix_jobs.specs.Named.{HasNames}
 use Rattle.ix_jobs.specs.Jobs.{is_taken}
 
--- what a look-up in the set tells of the jobs
+-- what a look-up in the set says of the jobs
 pub taken-by_name : {Y : Type 0} (names : BTreeSet (String Y)) (jobs now : List JobMeaning) (name : List ℕ) (found : Bool) → HasNames names jobs → jobs ≡ now → found ≡ contains_text names name → found ≡ is_taken now name
 taken-by_name names jobs now name found h is looked = looked ∙ h.names_are name ∙ ap (λ l. is_taken l name) is
 

@@ -15,14 +15,17 @@ cut-rises j k n len some le =
     let high : j * len ≤ k * len = mul-le-mul_right len le in
     le-div (j * len / n) (k * len) n some (omega (arith, low, high))
 
+-- the first part begins at 0
 cut-none : (n len : ℕ) → cut 0 n len ≡ 0
 cut-none n len =
     let below : cut 0 n len ≤ 0 = div-le_of_le-mul n (omega arith) in
     omega (arith, below)
 
+-- the last part ends at the end of the list
 cut-all : (n len : ℕ) → 0 < n → cut n n len ≡ len
 cut-all n len some = mul-div_cancel_left len some
 
+-- no part ends past the end of the list
 pub cut-within : (k n len : ℕ) → 0 < n → k ≤ n → cut k n len ≤ len
 cut-within k n len some le = subst (λ m. cut k n len ≤ m) (cut-all n len some) (cut-rises k n n len some le)
 
@@ -30,9 +33,11 @@ module _ {A : Type 0} (n : ℕ) (some : 0 < n) (xs : List A) where
   abbrev at : ℕ → ℕ
   at k = cut k n (length xs)
 
+  -- a part is the range between two cuts
   part-at : (a : ℕ) → part_of (a + 1) n xs ≡ slice_range xs (at a) (at (a + 1))
   part-at a = let before : a + 1 - 1 ≡ a = omega arith in ap (λ k. slice_range xs (at k) (at (a + 1))) before
 
+  -- by induction over the parts: the parts from one on are the rest of the list
   from : (m a : ℕ) → flat_map (λ k. part_of k n xs) (range_with_len (a + 1) m) ++ drop (at (a + m)) xs ≡ drop (at a) xs
   from zero a = let same : a + 0 ≡ a = omega arith in ap (λ k. drop (at k) xs) same
   from (suc m) a =
@@ -44,6 +49,7 @@ module _ {A : Type 0} (n : ℕ) (some : 0 < n) (xs : List A) where
       ∙ ap (λ l. l ++ drop (at (a + 1)) xs) (part-at a)
       ∙ sym (drop_split xs (at a) (at (a + 1)) (cut-rises a (a + 1) n (length xs) some (omega arith)))
 
+  -- all parts, concatenated, are the list
   pub parts-whole : all_parts n xs ≡ xs
   parts-whole =
       let ends : at n ≡ length xs = cut-all n (length xs) some in

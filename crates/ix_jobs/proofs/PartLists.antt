@@ -19,11 +19,13 @@ module _ {A : Type 0} (xs : List A) (x : A) (start end : ℕ) where
       ∙ take_all (end - start) (drop start xs ++ x ∷ []) (omega (arith, from, below, many, more))
       ∙ ap (λ l. l ++ x ∷ []) (sym all)
 
+  -- a job before the part adds nothing to it
   before-window : length xs < start → slice_range (xs ++ x ∷ []) start end ≡ slice_range xs start end
   before-window below =
       let more : length (xs ++ x ∷ []) ≡ length xs + 1 = length-append xs (x ∷ []) in
       ap (take (end - start)) (drop_all start (xs ++ x ∷ []) (omega (arith, below, more)) ∙ sym (drop_all start xs (omega (arith, below))))
 
+  -- a job after the part adds nothing to it
   behind-window : start ≤ length xs → end ≤ length xs → slice_range (xs ++ x ∷ []) start end ≡ slice_range xs start end
   behind-window from above =
       let many : length (drop start xs) ≡ length xs - start = length-drop start xs in
@@ -38,8 +40,10 @@ module _ {A : Type 0} (xs : List A) (x : A) (start end : ℕ) where
 pub joined-taken : (most : ℕ) (before : List JobMeaning) (job : JobMeaning) → is_taken before job.name ≡ true → joined most before job ≡ Err Repeated
 joined-taken most before job taken = rw taken refl
 
+-- a full list rejects a job with a free name
 pub joined-full : (most : ℕ) (before : List JobMeaning) (job : JobMeaning) → is_taken before job.name ≡ false → most ≤ length before → joined most before job ≡ Err TooMany
 joined-full most before job free full = rw (free, le-leb most (length before) full) refl
 
+-- a list with room takes a job with a free name
 pub joined-free : (most : ℕ) (before : List JobMeaning) (job : JobMeaning) → is_taken before job.name ≡ false → length before < most → joined most before job ≡ Ok (before ++ job ∷ [])
 joined-free most before job free few = rw (free, lt-leb most (length before) few) refl

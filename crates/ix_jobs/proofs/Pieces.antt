@@ -21,15 +21,19 @@ position-found p xs r n found is = found_by p xs n (sym found ∙ is)
 pub position-none : (p : ℕ → Bool) (xs : List ℕ) (r : Option ℕ) → r ≡ (if nat_lt (position_or_len p xs) (length xs) then Some (position_or_len p xs) else None) → r ≡ None → length xs ≤ position_or_len p xs
 position-none p xs r found is = ⊎_elim (λ lt. absurd (none-some (position_or_len p xs) (sym is ∙ found ∙ cond-true _ _ _ (lt-ltb (position_or_len p xs) (length xs) lt)))) (λ le. le) (cases_lt (position_or_len p xs) (length xs))
 
+-- what is before the first match is the front of the list
 pub before_first_at : (p : ℕ → Bool) (xs : List ℕ) (n : ℕ) → (position_or_len p xs ≡ n) × (n < length xs) → take n xs ≡ before_first p xs
 before_first_at p xs n h = ap (λ i. take i xs) (sym h.0)
 
+-- what is after the first match is the end of the list
 pub after_first_at : (p : ℕ → Bool) (xs : List ℕ) (n : ℕ) → (position_or_len p xs ≡ n) × (n < length xs) → take (length xs - (n + 1)) (drop (n + 1) xs) ≡ after_first p xs
 after_first_at p xs n h = take_all (length xs - (n + 1)) (drop (n + 1) xs) (omega (arith, length-drop (n + 1) xs)) ∙ ap (λ i. drop (i + 1) xs) (sym h.0)
 
+-- without a match, the whole list is before it
 pub before_first_whole : (p : ℕ → Bool) (xs : List ℕ) → length xs ≤ position_or_len p xs → xs ≡ before_first p xs
 before_first_whole p xs h = sym (take_all (position_or_len p xs) xs h)
 
+-- without a match, nothing is after it
 pub after_first_whole : (p : ℕ → Bool) (xs : List ℕ) → length xs ≤ position_or_len p xs → [] ≡ after_first p xs
 after_first_whole p xs h = sym (drop_all (position_or_len p xs + 1) xs (omega (arith, h)))
 
@@ -80,12 +84,15 @@ first_field_empty p xs a rest lt is_a is_rest none =
 pub first_field_none : (p : ℕ → Bool) (xs : List ℕ) → position_or_len p xs ≡ length xs → first_field (slice_split p xs) ≡ Err Fields
 first_field_none p xs e = ap first_field (slice_split_whole p xs e)
 
+-- without a space, a text that isn't empty is the last field
 pub last_field_found : (p : ℕ → Bool) (xs : List ℕ) → position_or_len p xs ≡ length xs → (length xs == 0) ≡ false → last_field (slice_split p xs) ≡ Ok xs
 last_field_found p xs e some = ap last_field (slice_split_whole p xs e) ∙ ap (λ (t : Bool). if t then Err Fields else Ok xs) some
 
+-- without a space, an empty text is no field
 pub last_field_empty : (p : ℕ → Bool) (xs : List ℕ) → position_or_len p xs ≡ length xs → (length xs == 0) ≡ true → last_field (slice_split p xs) ≡ Err Fields
 last_field_empty p xs e none = ap last_field (slice_split_whole p xs e) ∙ ap (λ (t : Bool). if t then Err Fields else Ok xs) none
 
+-- with a space, a text is not the last field
 pub last_field_more : (p : ℕ → Bool) (xs : List ℕ) → position_or_len p xs < length xs → last_field (slice_split p xs) ≡ Err Fields
 last_field_more p xs lt =
     let pieces = slice_split_some p (after_first p xs) in
@@ -115,6 +122,7 @@ passes_on : {A B : Type 0} (t more : Bool) (x : A) (g : A → Result B JobsKind)
 passes_on true more x g y h = refl
 passes_on false more x g y h = h
 
+-- reading the four fields one by one gives the fields of the pieces
 pub four_fields_in_turn : (pieces : List (List ℕ)) → four_fields pieces ≡ fields_in_turn pieces
 four_fields_in_turn [] = refl
 four_fields_in_turn (a ∷ []) = refl

@@ -15,7 +15,7 @@ One = Result (List ℕ) JobsKind
 abbrev Many : Type 0
 Many = Result (List (List ℕ)) JobsKind
 
--- those of one, and behind them those of another
+-- those of one, and after them those of another
 abbrev then_those : Many → Many → Many
 then_those s t = s >>= (λ cs. t >>= (λ ds. Ok (cs ++ ds)))
 
@@ -28,10 +28,12 @@ before_those c (Err e) t = refl
 before_those c (Ok cs) (Err e) = refl
 before_those c (Ok cs) (Ok ds) = refl
 
+-- the first root, and then those of both lists
 first_before : (r : One) (s t both : Many) → both ≡ then_those s t → (r >>= (λ c. before c both)) ≡ then_those (r >>= (λ c. before c s)) t
 first_before (Err e) s t both h = refl
 first_before (Ok c) s t both h = ap (before c) h ∙ before_those c s t
 
+-- no roots before others leave them
 only_those : (t : Many) → t ≡ then_those (Ok []) t
 only_those (Err e) = refl
 only_those (Ok ds) = refl
@@ -54,7 +56,7 @@ cut_at : (xs : List (List ℕ)) (n : ℕ) (x : List ℕ) → n < length xs → x
 cut_at xs n x lt is =
     sym (take-append-drop n xs) ∙ ap (λ (l : List (List ℕ)). take n xs ++ l) (drop-cons xs n x lt) ∙ ap (λ (y : List ℕ). take n xs ++ y ∷ drop (suc n) xs) (sym is) ∙ ap (λ (m : ℕ). take n xs ++ x ∷ drop m xs) (sym (add-one n))
 
--- a text is faulty behind so many that were read
+-- a text is faulty after so many that were read
 pub one_faulty : (parts ts : List (List ℕ)) (n : ℕ) (t : List ℕ) (cs : List (List ℕ)) (kind : JobsKind) → ts ≡ take n parts → n < length parts → t ≡ get_or parts n t → cids_in ts ≡ Ok cs → FailsAs kind kind (root_in t)
     → FailsAs kind kind (cids_in parts)
 one_faulty parts ts n t cs Memory so_far lt here h k = tt
@@ -65,6 +67,7 @@ one_faulty parts ts n t cs kind so_far lt here h k =
 pub too_many : (text : List ℕ) (n : ℕ) → n ≡ length (root_texts text) → 64 < n → roots_in text ≡ Err Root
 too_many text n is many = ap (λ (b : Bool). if b then Err Root else cids_in (root_texts text)) (lt-ltb 64 (length (root_texts text)) (subst (λ (m : ℕ). 64 < m) is many))
 
+-- at most 64 roots are read as the CIDs of their texts
 pub not_too_many : (text : List ℕ) (n : ℕ) → n ≡ length (root_texts text) → n ≤ 64 → roots_in text ≡ cids_in (root_texts text)
 not_too_many text n is few = ap (λ (b : Bool). if b then Err Root else cids_in (root_texts text)) (le-ltb 64 (length (root_texts text)) (subst (λ (m : ℕ). m ≤ 64) is few))
 

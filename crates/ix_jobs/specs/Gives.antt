@@ -1,10 +1,10 @@
--- What a call that reads a part of a job file answers.
+-- The results of calls that read a part of a job file.
 use Rattle.std.specs.Prelude.{◌≡◌, ℕ, Result, Ok, Err}
 use Rattle.ix_jobs.specs.declared.fault.JobsKind.{JobsKind}
 use Rattle.ix_jobs.specs.declared.fault.JobsKind.TheVariants.{Memory}
 use Rattle.ix_jobs.specs.declared.fault.JobsFault.{JobsFault}
 
--- want of memory, or the definition gives this fault
+-- lack of memory, or the definition gives this fault
 abbrev pub FailsAs : {A E : Type 0} → JobsKind → E → Result A E → Type 0
 FailsAs Memory fault meant = Unit {0}
 FailsAs kind fault meant = meant ≡ Err fault

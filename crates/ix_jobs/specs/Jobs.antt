@@ -15,7 +15,7 @@ use Rattle.ix_walk.specs.JobMeaning.{JobMeaning, is_name}
 use Rattle.ix_jobs.specs.declared.fault.JobsKind.{JobsKind}
 use Rattle.ix_jobs.specs.declared.fault.JobsKind.TheVariants.{Fields, Name, Root, Limit, Hex, Selector, Repeated, TooMany, Text}
 
--- the same, with any fault told as this one
+-- the same, with any error reported as this one
 abbrev pub or_fault : {A E : Type 0} → JobsKind → Result A E → Result A JobsKind
 or_fault kind (Ok x) = Ok x
 or_fault kind (Err e) = Err kind
@@ -56,14 +56,14 @@ root_texts text = slice_split (λ b. b == 44) text
 abbrev pub roots_in : List ℕ → Result (List (List ℕ)) JobsKind
 roots_in text = if nat_lt 64 (length (root_texts text)) then Err Root else cids_in (root_texts text)
 
--- an even number of hexadecimal digits, in either case
+-- an even number of hex digits, in either case
 abbrev pub bytes_in : List ℕ → Result (List ℕ) JobsKind
 bytes_in digits = or_fault Hex (decode_of digits)
 
 abbrev pub data_in : List ℕ → Result Data JobsKind
 data_in bytes = or_fault Selector (decoded bytes)
 
--- the selector that bytes in hexadecimal spell
+-- the selector that bytes in hex spell
 abbrev pub selector_in : List ℕ → Result Pattern JobsKind
 selector_in digits = bytes_in digits >>= (λ bytes. data_in bytes >>= (λ d. or_fault Selector (selector_of d)))
 
@@ -101,7 +101,7 @@ joined most before job =
 abbrev pub with_line : ℕ → List JobMeaning → List ℕ → Result (List JobMeaning) JobsKind
 with_line most before line = if is_ignored line then Ok before else line_job line >>= joined most before
 
--- the same of a line as it stands in a file, with or without a carriage return at its end
+-- the same of a line as it is in a file, with or without a carriage return at its end
 abbrev pub with_file_line : ℕ → List JobMeaning → List ℕ → Result (List JobMeaning) JobsKind
 with_file_line most before line = with_line most before (strip_carriage_return line)
 
@@ -110,7 +110,7 @@ abbrev pub at_line : {A : Type 0} → ℕ → Result A JobsKind → Result A (Jo
 at_line line (Ok x) = Ok x
 at_line line (Err kind) = Err (kind, line)
 
--- the jobs of the lines from a number on, behind those before
+-- the jobs of the lines from a number on, after those before
 abbrev pub jobs_from : ℕ → ℕ → List JobMeaning → List (List ℕ) → Result (List JobMeaning) (JobsKind × ℕ)
 jobs_from most line before [] = Ok before
 jobs_from most line before (l ∷ ls) = at_line line (with_file_line most before l) >>= (λ jobs. jobs_from most (line + 1) jobs ls)

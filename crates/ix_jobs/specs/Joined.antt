@@ -1,18 +1,18 @@
--- Jobs and what was told of them, in several lists.
+-- Jobs and their results, in several lists.
 use Rattle.std.specs.Prelude.{◌≡◌, ℕ, List, ◌++◌, length, flat_map, sum_by}
 use Rattle.ix_walk.specs.JobMeaning.{JobMeaning}
 use Rattle.ix_jobs.specs.declared.outcome.JobResult.{JobResult}
 use Rattle.ix_jobs.specs.Report.{all_lines, done_count, skip_count, total_line}
 
--- the jobs of some run, and what was told of each
+-- the jobs of some run, and the result of each
 abbrev pub Told : Type 0
 Told = List JobMeaning × List JobResult
 
--- of each job something was told
+-- each job has a result
 abbrev pub IsWhole : Told → Type 0
 IsWhole t = length t.0 ≡ length t.1
 
--- the jobs of all lists, and what was told of them
+-- the jobs of all lists, and their results
 abbrev pub jobs_of_all : List Told → List JobMeaning
 jobs_of_all ts = flat_map (λ t. t.0) ts
 

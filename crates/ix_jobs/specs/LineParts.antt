@@ -9,7 +9,7 @@ use Rattle.ix_jobs.specs.Jobs.{is_empty}
 abbrev pub pieces : List ℕ → List (List ℕ)
 pieces text = slice_split (λ b. b == 32) text
 
--- a field that isn't empty, and the pieces behind it, of which there is one at least
+-- a field that isn't empty, and the pieces after it, of which there is one at least
 abbrev pub first_field : List (List ℕ) → Result (List ℕ × List (List ℕ)) JobsKind
 first_field [] = Err Fields
 first_field (a ∷ []) = Err Fields

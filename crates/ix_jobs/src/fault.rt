@@ -1,36 +1,36 @@
-//! Why a job file is refused.
+//! Why a job file is rejected.
 
 use std::alloc::{AllocError, AllocFailed};
 use std::fmt;
 
-/// What is wrong with a line. The tests on a line come in the order of the kinds, so the first test
-/// that fails gives the kind; want of memory may come at any of them.
+/// What is wrong with a line. The checks of a line are in the order of the kinds, so the first check
+/// that fails gives the kind. Memory may run out at any of them.
 #[derive(Debug, Drop, Clone, Copy, PartialEq, Eq)]
 pub enum JobsKind {
     /// The line has a byte outside `20` to `7e`.
     Text,
     /// The line isn't four fields, none empty, with one space between.
     Fields,
-    /// The first field is no name: 1 to 64 bytes of `a` to `z`, `0` to `9`, `-` and `_`.
+    /// The first field is not a name: 1 to 64 bytes of `a` to `z`, `0` to `9`, `-` and `_`.
     Name,
-    /// The second field isn't one to 64 texts of CIDv1s with one comma between.
+    /// The second field isn't one to 64 comma-separated CIDv1s.
     Root,
     /// The third field isn't decimal digits without a leading zero, from 1 to 1,000,000.
     Limit,
-    /// The fourth field isn't an even number of hexadecimal digits.
+    /// The fourth field isn't an even number of hex digits.
     Hex,
-    /// The bytes of the fourth field spell no selector.
+    /// The bytes of the fourth field are not a selector.
     Selector,
     /// An earlier line has the name.
     Repeated,
     /// There are 1,000 jobs before this one, in the file or in the part of it that is run; or 1,000,000
     /// in a file that is run by parts.
     TooMany,
-    /// No memory was left.
+    /// Memory ran out.
     Memory,
 }
 
-/// Why a job file is refused: what is wrong with its first faulty line.
+/// Why a job file is rejected: what is wrong with its first faulty line.
 #[derive(Debug, Drop, Clone, Copy, PartialEq, Eq)]
 pub struct JobsFault {
     pub kind: JobsKind,

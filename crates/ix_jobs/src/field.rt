@@ -13,7 +13,7 @@ use ix_selector::{SelFault, Selector};
 use ix_walk::{GREATEST_LIMIT, MOST_ROOTS};
 use std::alloc::Global;
 
-/// The CIDv1s of one to 64 texts with one comma between.
+/// Parses one to 64 comma-separated CIDv1s.
 pub(crate) fn roots_in(alloc: Global, text: &str) -> Result<Vec<Cid>, JobsKind>
     ensures exact { Gives (λ roots. roots.items) result (roots_in text.now) }
     ensures within { IfOk result (λ roots. (1 ≤ length roots.items) × (length roots.items ≤ 64)) }
@@ -28,7 +28,7 @@ pub(crate) fn roots_in(alloc: Global, text: &str) -> Result<Vec<Cid>, JobsKind>
     Ok(roots)
 }
 
-// The CIDv1 with a text.
+// Parses the text of a CIDv1.
 fn root_in(alloc: Global, text: &str) -> Result<Cid, JobsKind>
     ensures { Gives (λ cid. cid) result (root_in text.now) }
 {
@@ -39,7 +39,7 @@ fn root_in(alloc: Global, text: &str) -> Result<Cid, JobsKind>
     }
 }
 
-/// The number that decimal digits without a leading zero spell, from 1 to 1,000,000.
+/// Parses decimal digits without a leading zero as a number from 1 to 1,000,000.
 pub(crate) fn limit_in(text: &str) -> Result<u32, JobsKind>
     ensures exact { Reads (λ limit. limit) result (limit_in text.now) }
     ensures within { IfOk result (λ limit. (1 ≤ limit) × (limit ≤ 1000000)) }
@@ -53,7 +53,7 @@ pub(crate) fn limit_in(text: &str) -> Result<u32, JobsKind>
     }
 }
 
-/// The selector that bytes in hexadecimal spell.
+/// Parses a selector in hex.
 pub(crate) fn selector_in(alloc: Global, text: &str) -> Result<Selector, JobsKind>
     ensures { Gives (λ selector. selector) result (selector_in text.now) }
 {
@@ -65,7 +65,7 @@ pub(crate) fn selector_in(alloc: Global, text: &str) -> Result<Selector, JobsKin
     }
 }
 
-// The bytes of hexadecimal digits, in either case (RFC 4648, section 8).
+// Decodes hex digits, in either case (RFC 4648, section 8).
 fn bytes_in(alloc: Global, text: &str) -> Result<Vec<u8>, JobsKind>
     ensures { Gives (λ bytes. bytes.items) result (bytes_in text.now) }
 {
@@ -76,7 +76,7 @@ fn bytes_in(alloc: Global, text: &str) -> Result<Vec<u8>, JobsKind>
     }
 }
 
-// The tree that bytes spell, which are let go of before it is read as a selector.
+// Decodes the tree of bytes, which are dropped before it is read as a selector.
 fn tree_in(alloc: Global, bytes: Vec<u8>) -> Result<Tree, JobsKind>
     ensures { Gives (λ tree. tree) result (data_in bytes.items) }
 {

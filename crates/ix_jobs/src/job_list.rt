@@ -1,4 +1,4 @@
-//! The jobs of the lines so far.
+//! The list of the jobs of the lines so far.
 
 ghost use Rattle.std.specs.Prelude.{◌≡◌, [], ◌∷◌, ◌++◌, OnErr};
 ghost use Rattle.ix_cid.specs.Results.{Reads};
@@ -11,10 +11,10 @@ use std::alloc::Global;
 use std::collections::BTreeSet;
 use std::marker::Model;
 
-// How many jobs a file may have.
+// The most jobs that a file may have.
 const MOST_JOBS: usize = 1_000;
 
-/// Jobs and their names, seen as the list of the jobs in the order of adding.
+/// Jobs and the set of their names, seen as the list of the jobs in the order of adding.
 #[derive(Drop)]
 pub(crate) struct JobList {
     jobs: Vec<Job>,
@@ -38,7 +38,7 @@ impl Model for JobList {
 }
 
 impl JobList {
-    /// A list without jobs.
+    /// Makes a list without jobs.
     pub(crate) fn new(alloc: Global) -> JobList
         ensures { result ≡ [] }
     {
@@ -54,7 +54,7 @@ impl JobList {
         ensures err { OnErr result (self.new ≡ self.old) }
     {
         self.may_join(&job)?;
-        // Room comes first, so that want of memory leaves the list as it was.
+        // Room is allocated first, so the list stays as it was if memory runs out.
         let name = String::from_str(alloc, job.name())?;
         self.jobs.reserve(1)?;
         self.names.insert(name)?;
@@ -62,7 +62,7 @@ impl JobList {
         Ok(())
     }
 
-    // Whether a job may join those before it, or why not.
+    // Returns whether a job may be added, or why not.
     fn may_join(&self, job: &Job) -> Result<(), JobsKind>
         ensures { Reads (λ _. self.now ++ job.now ∷ []) result (joined 1000 self.now job.now) }
     {
@@ -75,14 +75,14 @@ impl JobList {
         Ok(())
     }
 
-    // Whether a job has the name.
+    // Returns whether a job has the name.
     fn is_taken(&self, name: &str) -> bool
         ensures { result ≡ is_taken self.now name.now }
     {
         self.names.contains(name)
     }
 
-    /// The jobs, in the order of adding.
+    /// Returns the jobs, in the order of adding.
     pub(crate) fn into_jobs(self) -> Vec<Job>
         ensures { result.items ≡ self }
     {

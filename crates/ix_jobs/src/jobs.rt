@@ -2,8 +2,8 @@
 //!
 //! A file is cut into lines at `0a`, and one `0d` at the end of a line is dropped. Empty lines and
 //! lines that begin with `#` are ignored, whatever bytes they have. Each other line is one job: its
-//! name, the texts of its roots' CIDs with one comma between, its limit of visits and its selector in
-//! hexadecimal, with one space between.
+//! name, the comma-separated CIDs of its roots, its limit of visits and its selector in hex, with one
+//! space between.
 
 ghost use Rattle.std.specs.Prelude.{◌≡◌, ◌==◌, Ok, IfOk, IfErr};
 ghost use Rattle.std.specs.List.{before_first, after_first};
@@ -16,7 +16,7 @@ use crate::line::add_line;
 use ix_walk::Job;
 use std::alloc::Global;
 
-/// The jobs of a job file, in its order, or its first fault.
+/// Returns the jobs of a job file, in order, or its first error.
 pub fn read_jobs(alloc: Global, bytes: &[u8]) -> Result<Vec<Job>, JobsFault>
     ensures jobs { IfOk result (λ jobs. jobs_of bytes.now ≡ Ok jobs.items) }
     ensures fault { IfErr result (λ fault. IsFaultOf fault (jobs_of bytes.now)) }
@@ -35,7 +35,7 @@ pub fn read_jobs(alloc: Global, bytes: &[u8]) -> Result<Vec<Job>, JobsFault>
     Ok(jobs.into_jobs())
 }
 
-/// The first line, without its `0a`, and what follows that; nothing follows where there is none.
+/// Splits off the first line, without its `0a`. Nothing follows if there is no `0a`.
 pub fn split_line(bytes: &[u8]) -> (&[u8], &[u8])
     ensures line { result.0.now ≡ before_first (λ b. b == 10) bytes.now }
     ensures rest { result.1.now ≡ after_first (λ b. b == 10) bytes.now }

@@ -1,13 +1,14 @@
-//! The laws of parts: what is put end to end.
+//! The laws of parts: their concatenation.
 
 ghost use Rattle.ix_jobs.specs.Laws.{ArePartsWhole, AreReportsMerged};
 
-/// The parts of a list, put end to end, are the list.
+/// Says that the parts of a list, concatenated, are the list.
 pub fn parts_are_the_whole<T>()
     ensures { ArePartsWhole T }
 {}
 
-/// The report of jobs that are put end to end has the lines of their reports but the last ones, and then one with their sums.
+/// Says that the report of concatenated jobs has the lines of their reports but the last ones, and then
+/// one with their sums.
 pub fn reports_are_merged()
     ensures { AreReportsMerged }
 {}

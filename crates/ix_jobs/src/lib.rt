@@ -1,8 +1,8 @@
 //! The job file and the report.
 //!
-//! A job file is read as its jobs, or refused with its first fault and the number of its line.
-//! A file with more jobs than one run takes is read by parts, of which each is told the faults of all.
-//! `report` and `status` are what the definitions have for the jobs and what was told of each.
+//! A job file is read as its jobs, or rejected with its first error and the number of its line. A file
+//! with more jobs than one run takes is read by parts; every part reports the errors of the whole file.
+//! `report` and `status` are those of the definitions for the jobs and their results.
 //!
 //! ```rust
 //! let root = "bafkreif2pall7dybz7vecqka3zo24irdwabwdi4wc55jznaq75q7eaavvu";

@@ -26,7 +26,7 @@ pub(crate) fn add_line(alloc: Global, jobs: &mut JobList, line: &[u8]) -> Result
     jobs.add(alloc, job)
 }
 
-/// A line without one carriage return at its end.
+/// Returns a line without one carriage return at its end.
 pub(crate) fn without_return(line: &[u8]) -> &[u8]
     ensures { result.now ≡ strip_carriage_return line.now }
 {
@@ -36,14 +36,14 @@ pub(crate) fn without_return(line: &[u8]) -> &[u8]
     }
 }
 
-/// Whether a line, without its carriage return, is empty or a comment.
+/// Returns whether a line, without its carriage return, is empty or a comment.
 pub(crate) fn is_ignored(line: &[u8]) -> bool
     ensures { result ≡ is_ignored line.now }
 {
     matches!(line.first(), None | Some(b'#'))
 }
 
-/// The job of a line that isn't ignored.
+/// Returns the job of a line that isn't ignored.
 pub(crate) fn line_job(alloc: Global, line: &[u8]) -> Result<Job, JobsKind>
     ensures { Gives (λ job. job) result (line_job line.now) }
 {
@@ -52,7 +52,7 @@ pub(crate) fn line_job(alloc: Global, line: &[u8]) -> Result<Job, JobsKind>
     job_of_fields(alloc, name, roots, limit, selector)
 }
 
-// The text of a line, of printable bytes alone.
+// Returns the text of a line if all its bytes are printable.
 fn text_in(line: &[u8]) -> Result<&str, JobsKind>
     ensures { Reads (λ text. text.now) result (text_in line.now) }
 {
@@ -65,14 +65,14 @@ fn text_in(line: &[u8]) -> Result<&str, JobsKind>
     }
 }
 
-// Whether each byte is printable.
+// Returns whether each byte is printable.
 fn is_text(line: &[u8]) -> bool
     ensures { result ≡ is_text line.now }
 {
     line.iter().all(|byte| matches!(*byte, b' '..=b'~'))
 }
 
-// The four fields of a line.
+// Splits a line into its four fields.
 fn fields_in(text: &str) -> Result<(&str, &str, &str, &str), JobsKind>
     ensures { Reads (λ f. (f.0.now, f.1.now, f.2.now, f.3.now)) result (fields_in text.now) }
 {
@@ -83,7 +83,7 @@ fn fields_in(text: &str) -> Result<(&str, &str, &str, &str), JobsKind>
     Ok((name, roots, limit, selector))
 }
 
-// The field before the first space, and what stands behind the space.
+// Splits a line at its first space.
 fn first_field(text: &str) -> Result<(&str, &str), JobsKind>
     ensures { Reads (λ f. (f.0.now, pieces f.1.now)) result (first_field (pieces text.now)) }
 {
@@ -93,7 +93,7 @@ fn first_field(text: &str) -> Result<(&str, &str), JobsKind>
     }
 }
 
-// A field with no space behind it.
+// Returns a field that has no space after it.
 fn last_field(text: &str) -> Result<&str, JobsKind>
     ensures { Reads (λ field. field.now) result (last_field (pieces text.now)) }
 {
@@ -103,7 +103,7 @@ fn last_field(text: &str) -> Result<&str, JobsKind>
     }
 }
 
-// The job of four fields. What `Job::new` refuses has been refused before.
+// Returns the job of four fields. Whatever `Job::new` rejects was rejected before.
 fn job_of_fields(
     alloc: Global,
     name: &str,

@@ -17,7 +17,7 @@ use ix_archive::{Counts, End, Skip};
 use ix_walk::Job;
 use std::alloc::{AllocError, Global};
 
-/// How a job ended.
+/// The result of a job.
 #[derive(Debug, Drop)]
 pub struct JobResult {
     pub end: End,
@@ -26,7 +26,7 @@ pub struct JobResult {
 }
 
 impl JobResult {
-    // Whether the job came to its end.
+    // Returns whether the job is done.
     fn is_done(&self) -> bool
         ensures { result ≡ is_done self.now.end }
     {
@@ -34,13 +34,13 @@ impl JobResult {
     }
 }
 
-/// The report of jobs and how they ended, a line each, ended by `0a`, with numbers in decimal: for
-/// each job in order `NAME END visits=V kept=K sections=S bytes=B`, then for each of its skips two
+/// Returns the report of jobs and their results, a line each, ended by `0a`, with numbers in decimal:
+/// for each job in order `NAME END visits=V kept=K sections=S bytes=B`, then for each of its skips two
 /// spaces and `SEQ VERDICT CIDTEXT`; at last `total jobs=N done=D skips=T`.
 ///
 /// The ends are `done`, `limit`, `memory`, `write` and `start`; the verdicts of skips `codec`,
 /// `hash`, `missing`, `damaged` and `malformed`. The text of a CIDv1 is `b` and base32, that of a
-/// CIDv0 `v0-` and hexadecimal in lower case.
+/// CIDv0 `v0-` and hex in lower case.
 pub fn report(alloc: Global, jobs: &[Job], results: &[JobResult]) -> Result<Vec<u8>, AllocError>
     requires { length jobs.now ≡ length results.now }
     ensures { IfOk result (λ text. text.items ≡ report_of jobs.now results.now) }
@@ -56,7 +56,7 @@ pub fn report(alloc: Global, jobs: &[Job], results: &[JobResult]) -> Result<Vec<
     Ok(text.into_bytes())
 }
 
-/// The exit status: 4 where some job's end isn't done, else 3 where there is some skip, else 0.
+/// Returns the exit status: 4 if some job's end isn't done, else 3 if there is a skip, else 0.
 pub fn status(results: &[JobResult]) -> u8
     ensures { result ≡ status_of results.now }
 {
@@ -119,15 +119,15 @@ fn push_total_line(
     writeln!(text, "total jobs={jobs} done={done} skips={skips}")
 }
 
-// How many jobs came to their end.
+// Returns the number of jobs that are done.
 fn done_count(results: &[JobResult]) -> usize
     ensures { result ≡ done_count results.now }
 {
     results.iter().filter(|outcome| outcome.is_done()).count()
 }
 
-// How many skips there are. Their sum is below 2^128, since a slice and a `Vec` have fewer than
-// 2^64 elements.
+// Returns the number of skips. Their sum is below 2^128, since a slice and a `Vec` have fewer than 2^64
+// elements.
 fn skip_count(results: &[JobResult]) -> u128
     ensures { result ≡ skip_count results.now }
 {

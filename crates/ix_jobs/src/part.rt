@@ -1,14 +1,14 @@
-//! Which part of a list.
+//! Parts of a list.
 
 ghost use Rattle.std.specs.Prelude.{◌≤◌};
 
-/// Which of so many parts of a list, counted from 1. The parts have as many elements as one another, or one more, and put end to
-/// end they are the list.
+/// One of so many parts of a list, counted from 1. Parts have equal lengths, or one element more, and
+/// their concatenation is the list.
 #[derive(Debug, Drop, Clone, Copy, PartialEq, Eq)]
 pub struct Part {
-    /// Which of them, from 1.
+    /// The number of the part, from 1.
     pub number: u32,
-    /// How many there are, at most 1,000,000.
+    /// The number of parts, at most 1,000,000.
     pub of: u32,
     ghost from_one: { 1 ≤ number },
     ghost there: { number ≤ of },

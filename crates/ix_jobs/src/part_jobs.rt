@@ -1,6 +1,6 @@
 //! A part of the jobs of a job file.
 //!
-//! The whole file is read and judged, whatever the part.
+//! The whole file is read and checked, whatever the part.
 
 ghost use Rattle.std.specs.Prelude.{◌≡◌, ◌≤◌, length, get_or, Ok, IfOk, IfErr};
 ghost use Rattle.ix_walk.specs.JobMeaning.{AreFew};
@@ -16,11 +16,12 @@ use crate::part_list::PartList;
 use ix_walk::Job;
 use std::alloc::Global;
 
-// How many jobs a part may have.
+// The most jobs that a part may have.
 const MOST_JOBS: usize = 1_000;
 
-/// The jobs of a part of a job file that may have 1,000,000, in its order; or the first fault of the file; or, where it has none,
-/// that there are too many jobs in the part, with the line of the first of them for which there is no room.
+/// Returns the jobs of a part of a job file that may have 1,000,000, in order. Returns the first error
+/// of the file, or, if it has none, that the part has too many jobs, with the line of the first of them
+/// that is too many.
 pub fn read_jobs_part(alloc: Global, bytes: &[u8], part: Part) -> Result<Vec<Job>, JobsFault>
     ensures jobs { IfOk result (λ jobs. jobs_of_part part bytes.now ≡ Ok jobs.items) }
     ensures few { IfOk result (λ jobs. AreFew jobs.items) }
@@ -40,7 +41,8 @@ pub fn read_jobs_part(alloc: Global, bytes: &[u8], part: Part) -> Result<Vec<Job
     Ok(jobs)
 }
 
-// The jobs that are numbered from `start` up to, and not including, `end`, or the first fault of the file.
+// Returns the jobs that are numbered from `start` up to, and not including, `end`, or the first error
+// of the file.
 fn read_window(alloc: Global, bytes: &[u8], start: usize, end: usize) -> Result<Vec<Job>, JobsFault>
     ensures jobs { IfOk result (λ kept. AreJobsBetween start end bytes.now kept.items) }
     ensures fault { IfErr result (λ fault. IsFaultOf fault (jobs_up_to 1000000 bytes.now)) }
@@ -59,7 +61,7 @@ fn read_window(alloc: Global, bytes: &[u8], start: usize, end: usize) -> Result<
     Ok(jobs.into_jobs())
 }
 
-// How many jobs a file has, if none of its lines is faulty.
+// Returns the number of jobs of a file, if none of its lines is faulty.
 fn job_count(bytes: &[u8]) -> usize
     ensures count { result ≡ length (job_lines bytes.now) }
     ensures within { result ≤ length bytes.now }
@@ -76,7 +78,7 @@ fn job_count(bytes: &[u8]) -> usize
     count
 }
 
-// The number of the line of a job, which is numbered from 0, or 0 where it has none.
+// Returns the line number of a job, which is numbered from 0, or 0 if there is no such job.
 fn line_of_job(bytes: &[u8], job: usize) -> u64
     ensures { result ≡ get_or (job_lines bytes.now) job 0 }
 {

@@ -10,22 +10,23 @@ use ix_walk::Job;
 use std::alloc::Global;
 use std::collections::BTreeSet;
 
-// How many jobs a file that is cut into parts may have.
+// The most jobs of a file that is cut into parts.
 const MOST_JOBS: usize = 1_000_000;
 
-/// The jobs from one on up to another, and the names of all.
+/// The jobs from one number up to another, and the names of all.
 #[derive(Drop)]
 pub(crate) struct PartList {
     jobs: Vec<Job>,
     names: BTreeSet<String>,
-    // How many jobs there are, kept or not.
+    // The number of jobs, kept or not.
     count: usize,
     start: usize,
     end: usize,
 }
 
 impl PartList {
-    /// A list without jobs, which keeps those that are numbered from `start` up to, and not including, `end`.
+    /// Makes a list without jobs, which keeps those that are numbered from `start` up to, and not
+    /// including, `end`.
     pub(crate) fn new(alloc: Global, start: usize, end: usize) -> PartList
         ensures { Keeps start end [] result }
     {
@@ -71,7 +72,7 @@ impl PartList {
         Ok(())
     }
 
-    /// The jobs that were kept, in the order of adding.
+    /// Returns the jobs that were kept, in the order of adding.
     pub(crate) fn into_jobs(self) -> Vec<Job>
         ensures { result.items ≡ self.jobs.items }
     {

@@ -14,17 +14,17 @@ use Rattle.ix_cbor.proofs.Keys.{key_total, key_exact}
 use Rattle.ix_notation.specs.Saying.{key_of}
 use Rattle.ix_notation.proofs.Sayings.{Entry}
 
--- the key stands below each of these
+-- the key is below each of these
 abbrev pub IsBelow : List ℕ → List Entry → Type 0
 IsBelow k [] = Unit {0}
 IsBelow k (e ∷ es) = (key_cmp k (key_of e) ≡ Less) × IsBelow k es
 
--- each key stands below those behind it
+-- each key is below those after it
 abbrev pub AreSorted : List Entry → Type 0
 AreSorted [] = Unit {0}
 AreSorted (e ∷ es) = IsBelow (key_of e) es × AreSorted es
 
--- below what another stands below
+-- below what another is below
 below_more : (a b : List ℕ) (es : List Entry) → key_cmp a b ≡ Less → IsBelow b es → IsBelow a es
 below_more a b [] low h = tt
 below_more a b (e ∷ es) low h = (key_total.trans a b (key_of e) low h.0, below_more a b es low h.1)
@@ -32,11 +32,12 @@ below_more a b (e ∷ es) low h = (key_total.trans a b (key_of e) low h.0, below
 abbrev pub Rise : List Entry → Type 0
 Rise es = AllAdjacentBelow (λ a b. key_cmp (key_of a) (key_of b) ≡ Less) es (length es)
 
+-- in a sorted list of entries the first key is below the others
 first_below : (e : Entry) (es : List Entry) → Rise (e ∷ es) → AreSorted es → IsBelow (key_of e) es
 first_below e [] h sorted = tt
 first_below e (f ∷ es) h sorted = let low : key_cmp (key_of e) (key_of f) ≡ Less = h 0 e (omega arith) in (low, below_more (key_of e) (key_of f) es low sorted.0)
 
--- where each stands below the next
+-- where each is below the next
 pub sorted_from_rise : (es : List Entry) → Rise es → AreSorted es
 sorted_from_rise [] h = tt
 sorted_from_rise (e ∷ es) h = let rest = sorted_from_rise es behind in (first_below e es h rest, rest) where
@@ -45,12 +46,13 @@ sorted_from_rise (e ∷ es) h = let rest = sorted_from_rise es behind in (first_
       let next : suc k + 1 ≡ suc (k + 1) = omega arith in
       subst (λ n. key_cmp (key_of (get_or es k d)) (key_of (get_or (e ∷ es) n d)) ≡ Less) next (h (suc k) d (omega arith))
 
+-- two keys of which neither is below the other are equal
 only_equal : (o p : Ordering) → o ≡ ordering_reverse p → is_lt p ≡ false → is_lt o ≡ false → o ≡ Equal
 only_equal o Less e p q = absurd cc
 only_equal o Equal e p q = e
 only_equal o Greater e p q = let less : is_lt Less ≡ false = ap is_lt (sym e) ∙ q in absurd cc
 
--- neither of two keys that are one stands below the other, and only of such
+-- neither of two keys that are one is below the other, and only of such
 pub tied : (a b : List ℕ) → is_lt (key_cmp b a) ≡ false → is_lt (key_cmp a b) ≡ false → a ≡ b
 tied a b p q = key_exact a b (only_equal (key_cmp a b) (key_cmp b a) (key_total.antisymm a b) p q)
 
@@ -58,6 +60,7 @@ tied a b p q = key_exact a b (only_equal (key_cmp a b) (key_cmp b a) (key_total.
 abbrev lent : Entry → Key
 lent e = record { ref_ptr = (0, 0); now = key_of e }
 
+-- the borrowed entries have the same keys
 lent_keys : (es : List Entry) → texts (map lent es) ≡ map key_of es
 lent_keys [] = refl
 lent_keys (e ∷ es) = ap (λ ks. key_of e ∷ ks) (lent_keys es)

@@ -1,4 +1,4 @@
--- What is pushed, behind a bracket.
+-- What is pushed, after a bracket.
 use Rattle.std.proofs.Common.{◌≡◌, ℕ, ◌++◌, List, [], ◌∷◌, sym, ap, ◌∙◌, append_assoc}
 use Rattle.std.specs.Prelude.{OnOk, Result}
 use Rattle.std.specs.Global.{Vec}

@@ -10,7 +10,7 @@ use Rattle.ix_notation.proofs.Selectors.{selector_plain}
 use Rattle.ix_notation.specs.Printed.{HasBadText, ItemsHaveBadText, EntriesHaveBadText, HasOtherKind, ItemsHaveOtherKind, EntriesHaveOtherKind, IsUnprinted}
 use Rattle.ix_notation.proofs.Sayings.{Entry}
 
--- the same refusal, where what it says of a part holds of the whole
+-- the same error, where what it says of a part holds of the whole
 pub unprinted_weaker : {P Q R S : Type 0} (e : NotationFault) → (P → R) → (Q → S) → IsUnprinted P Q e → IsUnprinted R S e
 unprinted_weaker (Json p) f g h = h
 unprinted_weaker Repeated f g h = h
@@ -21,38 +21,43 @@ unprinted_weaker (Selector s) f g h = g h
 unprinted_weaker Name f g h = f h
 unprinted_weaker Memory f g h = h
 
+-- a list with an element of a bad text has one
 bad_member : (nodes : List Node) (i : ℕ) (d : Node) → i < length nodes → HasBadText (data_of (get_or nodes i d)) → ItemsHaveBadText (node_items nodes)
 bad_member [] i d l h = absurd (omega arith)
 bad_member (x ∷ nodes) zero d l h = inl h
 bad_member (x ∷ nodes) (suc i) d l h = inr (bad_member nodes i d (omega arith) h)
 
+-- a list with an element of another kind has one
 other_member : (nodes : List Node) (i : ℕ) (d : Node) → i < length nodes → HasOtherKind (data_of (get_or nodes i d)) → ItemsHaveOtherKind (node_items nodes)
 other_member [] i d l h = absurd (omega arith)
 other_member (x ∷ nodes) zero d l h = inl h
 other_member (x ∷ nodes) (suc i) d l h = inr (other_member nodes i d (omega arith) h)
 
--- what a member's refusal says of the list
+-- what a member's error says of the list
 pub member_unprinted : (nodes : List Node) (i : ℕ) (x : Node) (e : NotationFault) → i < length nodes → x ≡ get_or nodes i x
     → IsUnprinted (HasBadText (data_of x)) (HasOtherKind (data_of x)) e → IsUnprinted (ItemsHaveBadText (node_items nodes)) (ItemsHaveOtherKind (node_items nodes)) e
 member_unprinted nodes i x e l is h =
     unprinted_weaker e (λ b. bad_member nodes i x l (subst (λ y. HasBadText (data_of y)) is b)) (λ o. other_member nodes i x l (subst (λ y. HasOtherKind (data_of y)) is o)) h
 
+-- a map with a key that is not UTF-8 has a bad text
 bad_key : (entries : List Entry) (i : ℕ) (d : Entry) → i < length entries → ¬ IsUtf8 (get_or entries i d).0.items → EntriesHaveBadText (node_entries entries)
 bad_key [] i d l h = absurd (omega arith)
 bad_key (x ∷ entries) zero d l h = inl h
 bad_key (x ∷ entries) (suc i) d l h = inr (inr (bad_key entries i d (omega arith) h))
 
+-- a map with a value of a bad text has one
 bad_value : (entries : List Entry) (i : ℕ) (d : Entry) → i < length entries → HasBadText (data_of (get_or entries i d).1) → EntriesHaveBadText (node_entries entries)
 bad_value [] i d l h = absurd (omega arith)
 bad_value (x ∷ entries) zero d l h = inr (inl h)
 bad_value (x ∷ entries) (suc i) d l h = inr (inr (bad_value entries i d (omega arith) h))
 
+-- a map with a value of another kind has one
 other_value : (entries : List Entry) (i : ℕ) (d : Entry) → i < length entries → HasOtherKind (data_of (get_or entries i d).1) → EntriesHaveOtherKind (node_entries entries)
 other_value [] i d l h = absurd (omega arith)
 other_value (x ∷ entries) zero d l h = inl h
 other_value (x ∷ entries) (suc i) d l h = inr (other_value entries i d (omega arith) h)
 
--- what a key's refusal says of the map
+-- what a key's error says of the map
 pub key_unprinted : (entries : List Entry) (i : ℕ) (x : Entry) (k : List ℕ) (e : NotationFault) → i < length entries → x ≡ get_or entries i x → k ≡ x.0.items
     → (e ≡ Name) × ¬ IsUtf8 k → IsUnprinted (EntriesHaveBadText (node_entries entries)) (EntriesHaveOtherKind (node_entries entries)) e
 key_unprinted entries i x k e l is same h =

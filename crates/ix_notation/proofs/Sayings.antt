@@ -18,14 +18,16 @@ use Rattle.ix_cbor.specs.Data.{Data, data_of, entry_of}
 use Rattle.ix_cbor.proofs.Fitting.{data_of-map}
 use Rattle.ix_notation.specs.Saying.{Says, ItemsSay, MembersSay, EntriesSay, key_of}
 
--- what the rest of the items says, behind the nodes so far, all of them say
+-- what the rest of the items says, after the nodes so far, all of them say
 abbrev pub ItemsSoFar : {A : Type 0} → List (Value A) → ℕ → List Node → Type 0
 ItemsSoFar values i nodes = (more : List Data) → ItemsSay (items_view (drop i values)) more → ItemsSay (items_view values) (map data_of nodes ++ more)
 
+-- an element at the front of the rest is one at the end of the first part
 pub shifted : {A : Type 0} (xs : List A) (x : A) (ys : List A) → xs ++ x ∷ ys ≡ (xs ++ x ∷ []) ++ ys
 shifted [] x ys = refl
 shifted (y ∷ xs) x ys = ap (λ l. y ∷ l) (shifted xs x ys)
 
+-- one more element of an array is represented by one more node
 pub one_more_item : {A : Type 0} (values : List (Value A)) (i : ℕ) (x : Value A) (nodes after : List Node) (n : Node) → i < length values → x ≡ get_or values i x
     → Says (value_view x) (data_of n) → after ≡ nodes ++ n ∷ [] → ItemsSoFar values i nodes → ItemsSoFar values (i + 1) after
 one_more_item values i x nodes after n l is says pushed so_far more h =
@@ -35,6 +37,7 @@ one_more_item values i x nodes after n l is says pushed so_far more h =
     shifted (map data_of nodes) (data_of n) more ∙ ap (λ ds. ds ++ more) (sym (map_push data_of nodes n) ∙ ap (map data_of) (sym pushed)) in
     subst (ItemsSay (items_view values)) same (so_far (data_of n ∷ more) here)
 
+-- at the end of the array its nodes represent all elements
 pub all_items : {A : Type 0} (values : List (Value A)) (i : ℕ) (nodes : List Node) → length values ≤ i → ItemsSoFar values i nodes → ItemsSay (items_view values) (map data_of nodes)
 all_items values i nodes l so_far =
     subst (ItemsSay (items_view values)) (append-nil (map data_of nodes)) (so_far [] (subst (λ vs. ItemsSay (items_view vs) []) (sym (drop_all i values l)) refl))
@@ -45,11 +48,12 @@ Member A = Bor (List ℕ) × Value A
 abbrev pub Entry : Type 0
 Entry = Vec ℕ × Node
 
--- what the rest of the members says, behind the entries so far, all of them say
+-- what the rest of the members says, after the entries so far, all of them say
 abbrev pub MembersSoFar : {A : Type 0} → List (Member A) → ℕ → List Entry → Type 0
 MembersSoFar values i entries =
     (more : List (List ℕ × Data)) → MembersSay (members_view (drop i values)) more → MembersSay (members_view values) (map entry_of entries ++ more)
 
+-- one more member of an object is represented by one more entry
 pub one_more_member : {A : Type 0} (values : List (Member A)) (i : ℕ) (x : Member A) (entries after : List Entry) (k : Vec ℕ) (n : Node)
     → i < length values → x ≡ get_or values i x → k.items ≡ x.0.now → Says (value_view x.1) (data_of n) → after ≡ entries ++ (k, n) ∷ []
     → MembersSoFar values i entries → MembersSoFar values (i + 1) after
@@ -62,6 +66,7 @@ one_more_member values i x entries after k n l is named says pushed so_far more 
     shifted (map entry_of entries) (x.0.now, data_of n) more ∙ ap (λ es. es ++ more) grown in
     subst (MembersSay (members_view values)) same (so_far ((x.0.now, data_of n) ∷ more) here)
 
+-- at the end of the object its entries represent all members
 pub all_members : {A : Type 0} (values : List (Member A)) (i : ℕ) (entries : List Entry) → length values ≤ i → MembersSoFar values i entries → MembersSay (members_view values) (map entry_of entries)
 all_members values i entries l so_far =
     subst (MembersSay (members_view values)) (append-nil (map entry_of entries)) (so_far [] (subst (λ vs. MembersSay (members_view vs) []) (sym (drop_all i values l)) refl))
@@ -71,6 +76,7 @@ pub said_keys : (ms : Members) (es : List (List ℕ × Data)) → MembersSay ms 
 said_keys no_members es h = ap (map (λ e. e.0)) h
 said_keys (member k j ms) es h = ap (map (λ e. e.0)) h.4 ∙ ap (λ ks. k ∷ ks) (said_keys ms h.1 h.3)
 
+-- the entries of data have the keys of the nodes
 entry_keys : (es : List Entry) → map (λ e. e.0) (map entry_of es) ≡ map key_of es
 entry_keys [] = refl
 entry_keys (e ∷ es) = ap (λ ks. key_of e ∷ ks) (entry_keys es)

@@ -8,14 +8,17 @@ use Rattle.ix_selector.specs.Spelled.{AreLabels, no_label, label, SpellsLimit, a
 use Rattle.ix_selector.proofs.SpelledAgain.{selector_of-iff}
 use Rattle.ix_notation.specs.Printed.{HasOtherKind, ItemsHaveOtherKind, EntriesHaveOtherKind}
 
+-- what is neither of two is not one of them
 neither : {P Q : Type 0} → ¬ P → ¬ Q → ¬ (P ⊎ Q)
 neither p q (inl h) = p h
 neither p q (inr h) = q h
 
+-- the entries of a label have no other kind
 labels_plain : (es : Entries) → AreLabels es → ¬ EntriesHaveOtherKind es
 labels_plain es no_label h = h
 labels_plain es (label more) h = neither (λ x. x) (labels_plain _ more) h
 
+-- a limit has no other kind
 limit_plain : (d : Data) (limit : Option ℕ) → SpellsLimit d limit → ¬ HasOtherKind d
 limit_plain d limit as_no_limit h = neither (λ x. x) (λ x. x) h
 limit_plain d limit as_depth h = neither (λ x. x) (λ x. x) h
@@ -39,6 +42,7 @@ mutual
   members_plain ds ss as_no_members h = h
   members_plain ds ss (as_member d more) h = neither (pattern_plain _ _ d) (members_plain _ _ more) h
 
+-- data of a selector has no float, byte string or link, by induction over the selector
 spelled_plain : (d : Data) (s : Pattern) → SpellsSelector d s → ¬ HasOtherKind d
 spelled_plain d s (alone p) h = pattern_plain _ _ p h
 spelled_plain d s (in_envelope p) h = neither (pattern_plain _ _ p) (λ x. x) h

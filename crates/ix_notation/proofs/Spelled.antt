@@ -23,6 +23,7 @@ use Rattle.ix_notation.proofs.Sayings.{Entry, Member}
 use Rattle.ix_notation.proofs.KeyOrder.{IsBelow, AreSorted, sorted_from_rise}
 use Rattle.ix_notation.proofs.Unread.{item_integers, item_within, member_integers, member_within}
 
+-- data that fits a depth fits a greater one
 fits_deeper : (m n : ℕ) (d : Data) → m ≤ n → Fits m d → Fits n d
 fits_deeper m n d l h = record { parts = h.parts; nesting = omega (arith, h.nesting) }
 
@@ -31,6 +32,7 @@ abbrev pub NodesFit : ℕ → List Node → Type 0
 NodesFit n [] = Unit {0}
 NodesFit n (x ∷ nodes) = Fits n (data_of x) × NodesFit n nodes
 
+-- one more node that fits, at the end
 nodes_push : (n : ℕ) (nodes : List Node) (x : Node) → NodesFit n nodes → Fits n (data_of x) → NodesFit n (nodes ++ x ∷ [])
 nodes_push n [] x h fits = (fits, tt)
 nodes_push n (y ∷ nodes) x h fits = (h.0, nodes_push n nodes x h.1 fits)
@@ -38,6 +40,7 @@ nodes_push n (y ∷ nodes) x h fits = (h.0, nodes_push n nodes x h.1 fits)
 abbrev pub ItemsFitSoFar : {A : Type 0} → List (Value A) → List Node → Type 0
 ItemsFitSoFar values nodes = ItemsAreIntegers (items_view values) → NodesFit (items_depth (items_view values)) nodes
 
+-- one more element that fits
 pub one_more_fits : {A : Type 0} (values : List (Value A)) (i : ℕ) (x : Value A) (nodes after : List Node) (n : Node) → i < length values → x ≡ get_or values i x
     → (AreIntegers (value_view x) → Fits (depth (value_view x)) (data_of n)) → after ≡ nodes ++ n ∷ [] → ItemsFitSoFar values nodes → ItemsFitSoFar values after
 one_more_fits {A} values i x nodes after n l is fits pushed so_far integers =
@@ -45,6 +48,7 @@ one_more_fits {A} values i x nodes after n l is fits pushed so_far integers =
     let within : depth (value_view x) ≤ items_depth (items_view values) = subst (λ (y : Value A). depth (value_view y) ≤ items_depth (items_view values)) (sym is) (item_within values i x l) in
     subst (NodesFit (items_depth (items_view values))) (sym pushed) (nodes_push _ nodes n (so_far integers) (fits_deeper _ _ (data_of n) within (fits mine)))
 
+-- nodes that fit are a list that fits
 pub all_items_fit : (n : ℕ) (nodes : List Node) → NodesFit n nodes → ItemsFit n (node_items nodes)
 all_items_fit n [] h = record { parts = tt; nesting = omega arith }
 all_items_fit n (x ∷ nodes) h = let more = all_items_fit n nodes h.1 in record { parts = (h.0.parts, more.parts); nesting = omega (arith, h.0.nesting, more.nesting) }

@@ -1,4 +1,4 @@
--- The words for why a text is no selector.
+-- The texts for why a text is not a selector.
 use Rattle.std.specs.Prelude.{◌≡◌, ℕ, List, ◌++◌, codes}
 use Rattle.std.specs.Fmt.{decimal}
 use Rattle.ix_cbor.specs.declared.fault.CborKind.{CborKind}

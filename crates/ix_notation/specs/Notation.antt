@@ -24,7 +24,7 @@ pub record IsSelectorOf (d : Data) : Type 0 where
   pub pattern : Pattern
   pub read : selector_of d ≡ Ok pattern
 
--- the text is the JSON of data that stands for a selector, and the line is the hexadecimal of its one spelling and a line end
+-- the text is the JSON of data that stands for a selector, and the line is the hex of its one spelling and a line end
 pub record IsSelectorHex (text line : List ℕ) : Type 0 where
   pub selector_data : Data
   pub read : IsJsonOf text selector_data
@@ -59,7 +59,7 @@ abbrev mutual
   entries_tokens no_entries = Token.end_object ∷ []
   entries_tokens (entry k d es) = Token.key k ∷ (tokens_of d ++ entries_tokens es)
 
--- the text is the hexadecimal of a block that stands for a selector, and the line is its JSON and a line end
+-- the text is the hex of a block that stands for a selector, and the line is its JSON and a line end
 pub record IsSelectorJson (text line : List ℕ) : Type 0 where
   pub block : List ℕ
   pub selector_data : Data
@@ -68,7 +68,7 @@ pub record IsSelectorJson (text line : List ℕ) : Type 0 where
   pub selector : IsSelectorOf selector_data
   pub printed : line ≡ print (tokens_of selector_data) ++ 10 ∷ []
 
--- the data is refused with this fault, or memory ran out
+-- the data is rejected with this fault, or memory ran out
 abbrev pub IsRefused : Data → NotationFault → Type 0
 IsRefused d (Selector fault) = selector_of d ≡ Err fault
 IsRefused d Memory = Unit {0}
@@ -79,33 +79,33 @@ IsRefused d Hex = ⊥
 IsRefused d (Block fault) = ⊥
 IsRefused d Name = ⊥
 
--- the text is the hexadecimal of a block, and the fault is the first one of the block
+-- the text is the hex of a block, and the fault is the first one of the block
 pub record IsBlockRefused (text : List ℕ) (fault : CborFault) : Type 0 where
   pub block : List ℕ
   pub decoded : decode_of text ≡ Ok block
   pub first : IsFirstOf block fault
   pub kind : fault.kind ≢ kinds.Memory
 
--- the text is the hexadecimal of a block that spells the data
+-- the text is the hex of a block that spells the data
 pub record IsHexOf (text : List ℕ) (d : Data) : Type 0 where
   pub block : List ℕ
   pub decoded : decode_of text ≡ Ok block
   pub spelled : Spells block d
 
--- the text is the hexadecimal of a block, and its data is no selector for this reason
+-- the text is the hex of a block, and its data is no selector for this reason
 pub record IsDataRefused (text : List ℕ) (fault : SelFault) : Type 0 where
   pub block_data : Data
   pub spelled : IsHexOf text block_data
   pub refused : selector_of block_data ≡ Err fault
 
--- the text is the hexadecimal of a block that stands for a selector, and a name or a label in it is not UTF-8
+-- the text is the hex of a block that stands for a selector, and a name or a label in it is not UTF-8
 pub record IsNameRefused (text : List ℕ) : Type 0 where
   pub selector_data : Data
   pub spelled : IsHexOf text selector_data
   pub selector : IsSelectorOf selector_data
   pub name : HasBadText selector_data
 
--- why the text is no hexadecimal of a selector that JSON can tell, or memory ran out
+-- why the text is not hex of a selector that JSON can represent, or memory ran out
 abbrev pub IsHexRefused : List ℕ → NotationFault → Type 0
 IsHexRefused text Hex = IsErr (decode_of text)
 IsHexRefused text (Block fault) = IsBlockRefused text fault
@@ -116,14 +116,14 @@ IsHexRefused text (Json place) = ⊥
 IsHexRefused text Repeated = ⊥
 IsHexRefused text Number = ⊥
 
--- the text is a JSON value, and the data that it says are no selector for this reason
+-- the text is a JSON value, and its data is not a selector, for this reason
 pub record IsSayingRefused (text : List ℕ) (fault : SelFault) : Type 0 where
   pub said_data : Data
   pub read : IsJsonOf text said_data
   pub canonical : IsCanonical said_data
   pub refused : selector_of said_data ≡ Err fault
 
--- why the text is no JSON of a selector, or memory ran out
+-- why the text is not the JSON of a selector, or memory ran out
 abbrev pub IsJsonRefused : List ℕ → NotationFault → Type 0
 IsJsonRefused text (Json place) = IsNoJson text place
 IsJsonRefused text Repeated = IsOtherJson text HasUniqueKeys

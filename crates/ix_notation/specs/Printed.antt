@@ -1,4 +1,4 @@
--- What is printed of data, and what JSON can't tell of it: a text that is not UTF-8, and a float, a byte string or a link.
+-- What is printed of data, and what JSON can't represent: a text that is not UTF-8, and a float, a byte string or a link.
 use Rattle.std.specs.Prelude.{◌≡◌, ◌⊎◌, List, ◌++◌, Result, OnOk}
 use Rattle.std.specs.Str.{IsUtf8}
 use Rattle.json.specs.Token.{Token}
@@ -8,7 +8,7 @@ use Rattle.ix_cbor.specs.Data as data_model
 use Rattle.ix_notation.specs.declared.fault.NotationFault.{NotationFault}
 use Rattle.ix_notation.specs.declared.fault.NotationFault.TheVariants.{Json, Repeated, Number, Hex, Block, Selector, Name, Memory}
 
--- a writer has these tokens behind those that it had, unless that fails; what stood before its tokens stays
+-- a writer has these tokens after those that it had, unless that fails; what was before its tokens stays
 abbrev pub Pushes : {T : Type 0} → Written → Written → List Token → Result T NotationFault → Type 0
 Pushes old new tokens result = OnOk result (new.tokens ≡ old.tokens ++ tokens) × (new.before ≡ old.before)
 
@@ -54,7 +54,7 @@ abbrev mutual
   EntriesHaveOtherKind no_entries = ⊥
   EntriesHaveOtherKind (entry k d es) = HasOtherKind d ⊎ EntriesHaveOtherKind es
 
--- Name comes for a bad text, a refusal of the selector for another kind, and else memory ran out
+-- Name comes for a bad text, an error of the selector for another kind, and else memory ran out
 abbrev pub IsUnprinted : Type 0 → Type 0 → NotationFault → Type 0
 IsUnprinted bad_text other_kind Name = bad_text
 IsUnprinted bad_text other_kind (Selector fault) = other_kind

@@ -23,7 +23,7 @@ use Rattle.ix_notation.specs.declared.fault.NotationFault.TheVariants.{Json as N
 abbrev pub json_of : List ℕ → Option Json
 json_of text = option_and_then (λ p. if_last p.0 p.1) (value 512 (tokens text))
 
--- decimal digits alone behind a sign or none, and the integer that they write
+-- decimal digits alone after a sign or none, and the integer that they write
 pub record IsInteger (digits : List ℕ) (n : ℤ) : Type 0 where
   pub numeral : IsNumeral 10 (without_leading_sign digits)
   pub same : n ≡ signed_digits_value 10 digits

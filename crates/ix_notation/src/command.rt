@@ -11,13 +11,13 @@ use ix_cbor::{CborKind, Tree, decode, encode};
 use ix_selector::{SelFault, Selector};
 use std::alloc::Global;
 
-/// The selector of a JSON text with the keys of the IPLD Selectors specification, as DAG-CBOR in
-/// lower-case hexadecimal with a line end, whatever the order of the keys. Refused are a text that is
-/// not UTF-8, or no JSON value with arrays and objects at most 512 deep (`Json`); a value with an
-/// object that has a key twice (`Repeated`); a value with a number that is no integer in decimal
-/// digits alone, or none from -2^64 to 2^64 - 1 (`Number`); and data that is no selector (`Selector`).
-/// A value that is both of `Repeated` and `Number` is told one of them. No other refusal comes, but
-/// for want of memory.
+/// Returns the selector of a JSON text with the keys of the IPLD Selectors specification, as DAG-CBOR
+/// in lower-case hex with a line end, whatever the order of the keys. It rejects a text that is not
+/// UTF-8, or not a JSON value with arrays and objects at most 512 deep (`Json`); a value with an object
+/// that has a key twice (`Repeated`); a value with a number that is not an integer in decimal digits
+/// alone, or not one from -2^64 to 2^64 - 1 (`Number`); and data that is not a selector (`Selector`). A
+/// value that is both of `Repeated` and `Number` is reported as one of them. The only other error is
+/// out of memory.
 pub fn hex_of_json(alloc: Global, text: &[u8]) -> Result<String, NotationFault>
     ensures selector { IfOk result (λ line. IsSelectorHex text.now (string_bytes line)) }
     ensures refused { IfErr result (IsJsonRefused text.now) }
@@ -30,10 +30,10 @@ pub fn hex_of_json(alloc: Global, text: &[u8]) -> Result<String, NotationFault>
     Ok(line)
 }
 
-/// The same selector as JSON with a line end, out of its DAG-CBOR in hexadecimal. Refused are, in
-/// this order: a text that is no hexadecimal (`Hex`); bytes that are no block, with the first fault of
-/// the block (`Block`); data that is no selector (`Selector`); and a selector in which a name or a
-/// label is not UTF-8 (`Name`). No other refusal comes, but for want of memory.
+/// Returns the selector of DAG-CBOR in hex as JSON with a line end. It rejects, in this order: a text
+/// that is not hex (`Hex`); bytes that are not a block, with the first error of the block (`Block`);
+/// data that is not a selector (`Selector`); and a selector in which a name or a label is not UTF-8
+/// (`Name`). The only other error is out of memory.
 pub fn json_of_hex(alloc: Global, text: &str) -> Result<String, NotationFault>
     ensures selector { IfOk result (λ line. IsSelectorJson text.now (string_bytes line)) }
     ensures refused { IfErr result (IsHexRefused text.now) }
@@ -56,7 +56,7 @@ pub fn json_of_hex(alloc: Global, text: &str) -> Result<String, NotationFault>
     Ok(line)
 }
 
-// Whether a tree stands for a selector.
+// Returns whether a tree represents a selector.
 fn judge(alloc: Global, tree: &Tree) -> Result<(), NotationFault>
     ensures selector { IfOk result (λ _. IsSelectorOf tree.now) }
     ensures refused { IfErr result (IsRefused tree.now) }

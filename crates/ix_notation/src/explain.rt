@@ -1,4 +1,4 @@
-//! The line of a refusal, with the part of the selector that is refused.
+//! The line of an error, with the part of the selector that is rejected.
 
 ghost use Rattle.std.specs.Prelude.{IfOk, string_bytes};
 ghost use Rattle.ix_notation.specs.FaultWords.{line_of, Continues};
@@ -9,9 +9,9 @@ use crate::read::tree_of;
 use ix_cbor::{Tree, decode};
 use std::alloc::{AllocError, Global};
 
-/// The line of `fault_line` for a refusal of this JSON text, and behind it, where data is no selector, the key and
-/// the place of the part that is refused: `selector: unknown key "x" at /f/f>/album`. A place is a JSON Pointer
-/// (RFC 6901), and none stands behind what is wrong with the whole.
+/// Returns the line of `fault_line` for an error of this JSON text. If data is not a selector, the key
+/// and the place of the part that is rejected follow: `selector: unknown key "x" at /f/f>/album`. A
+/// place is a JSON Pointer (RFC 6901), and is left out for an error of the whole.
 pub fn json_fault_line(
     alloc: Global,
     fault: &NotationFault,
@@ -26,7 +26,7 @@ pub fn json_fault_line(
     }
 }
 
-/// The same for a refusal of a text in hexadecimal.
+/// Returns the same for an error of a text in hex.
 pub fn hex_fault_line(
     alloc: Global,
     fault: &NotationFault,
@@ -44,7 +44,7 @@ pub fn hex_fault_line(
     }
 }
 
-// The line for the refusal of a tree, with the part that is refused.
+// Returns the line for the error of a tree, with the part that is rejected.
 fn with_place(alloc: Global, line: String, tree: &Tree) -> Result<String, AllocError>
     ensures { IfOk result (λ told. Continues (string_bytes line) (string_bytes told)) }
 {

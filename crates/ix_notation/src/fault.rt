@@ -1,4 +1,4 @@
-//! Why a text is no selector.
+//! Why a text is not a selector.
 
 ghost use Rattle.std.specs.Prelude.{◌≡◌, IfOk, string_bytes};
 ghost use Rattle.ix_notation.specs.FaultWords.{block_words, selector_words, form_words, line_of};
@@ -7,24 +7,24 @@ use ix_cbor::{CborFault, CborKind};
 use ix_selector::{Form, SelFault};
 use std::alloc::{AllocError, AllocFailed, Global};
 
-/// Why a text is no selector.
+/// Why a text is not a selector.
 #[derive(Debug, Drop)]
 pub enum NotationFault {
-    /// The text is not UTF-8, or no JSON value (RFC 8259): where reading stopped, in bytes.
+    /// The text is not UTF-8, or not a JSON value (RFC 8259): where reading stopped, in bytes.
     Json(usize),
-    /// A key stands twice in one object.
+    /// A key is twice in one object.
     Repeated,
-    /// A number is no integer in decimal digits alone, or none from -2^64 to 2^64 - 1.
+    /// A number is not an integer in decimal digits alone, or not one from -2^64 to 2^64 - 1.
     Number,
-    /// The text is no hexadecimal.
+    /// The text is not hex.
     Hex,
-    /// The bytes are no block of DAG-CBOR.
+    /// The bytes are not a block of DAG-CBOR.
     Block(CborFault),
-    /// The data is no selector.
+    /// The data is not a selector.
     Selector(SelFault),
-    /// A name or a label is not UTF-8, so that JSON doesn't have it.
+    /// A name or a label is not UTF-8, so JSON can't have it.
     Name,
-    /// No memory was left.
+    /// Memory ran out.
     Memory,
 }
 
@@ -50,7 +50,7 @@ impl<T: Drop> From<AllocFailed<T>> for NotationFault {
     }
 }
 
-/// The line that the program prints for a refusal, without its end.
+/// Returns the line that the program prints for an error, without its end.
 pub fn fault_line(alloc: Global, fault: &NotationFault) -> Result<String, AllocError>
     ensures { IfOk result (λ line. string_bytes line ≡ line_of fault.now) }
 {
@@ -76,7 +76,7 @@ pub fn fault_line(alloc: Global, fault: &NotationFault) -> Result<String, AllocE
     }
 }
 
-// The words for what is wrong with a block.
+// Returns the text for what is wrong with a block.
 fn block_words(kind: CborKind) -> &'static str
     ensures { result.now ≡ block_words kind }
 {
@@ -96,7 +96,7 @@ fn block_words(kind: CborKind) -> &'static str
     }
 }
 
-// The words for the first refusal of a selector.
+// Returns the text for the first error of a selector.
 fn selector_words(fault: SelFault) -> &'static str
     ensures { result.now ≡ selector_words fault }
 {
@@ -114,7 +114,7 @@ fn selector_words(fault: SelFault) -> &'static str
     }
 }
 
-// The words for a form that is refused by name.
+// Returns the text for a form that is rejected by name.
 fn form_words(form: Form) -> &'static str
     ensures { result.now ≡ form_words form }
 {

@@ -1,9 +1,9 @@
-//! Selectors as JSON, with the keys of the IPLD Selectors specification, and in hexadecimal.
+//! Selectors as JSON, with the keys of the IPLD Selectors specification, and in hex.
 //!
-//! Both ways go through the same data: JSON of a selector becomes the hexadecimal of its one
-//! spelling and a line end, and that becomes JSON again. What is refused has a reason, each its own
-//! fault, and `fault_line` is the line that the program prints for it; `json_fault_line` and
-//! `hex_fault_line` say the part of a selector that is refused too.
+//! Both conversions use the same data: JSON of a selector becomes the hex of its one encoding and a line
+//! end, and that becomes JSON again. A text is rejected for a reason, each with its own error, and
+//! `fault_line` returns the line that the program prints for it. `json_fault_line` and `hex_fault_line`
+//! also name the part of a selector that is rejected.
 //!
 //! ```rust
 //! let line = hex_of_json(alloc, b"{\".\":{}}")?;

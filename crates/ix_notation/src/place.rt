@@ -1,16 +1,16 @@
-//! Where a selector is at fault.
+//! Finds the part of a selector that is rejected.
 //!
-//! `Selector::read` answers the first refusal and no place, since data stands nowhere. Here the data is gone
-//! through in the same order, to the part that is refused.
+//! `Selector::read` returns the first error without a place, since data has no places. This module visits
+//! the data in the same order, up to the part that is rejected.
 
 use crate::spot::{Spot, Wrong};
 use ix_cbor::Node;
 use std::alloc::{AllocError, Global};
 
-// How deep a selector may nest, itself counted.
+// The deepest nesting of a selector, itself counted.
 const LEVELS: u32 = 128;
 
-// What stands round a selector: no recursion, or the innermost one, with a step between or none.
+// What is around a selector: no recursion, or the innermost one, with a step between or none.
 #[derive(Drop, Clone, Copy)]
 enum Around {
     Outside,
@@ -18,18 +18,18 @@ enum Around {
     Guarded,
 }
 
-// A form without a fault of its own, with what stands inside, or a fault.
+// A form without an error of its own, with what is inside, or an error.
 #[derive(Drop, Clone, Copy)]
 enum Part<'t> {
     Leaf,
-    // A selector behind a path.
+    // A selector after a path.
     Inside(&'static str, &'t Node, Around),
     Fields(&'t [(Vec<u8>, Node)]),
     Members(&'t [Node]),
     Faulty(&'static str, Wrong<'t>),
 }
 
-/// The first part of data that is refused as a selector, if one is.
+/// Returns the first part of data that is rejected as a selector, if there is one.
 pub(crate) fn first_fault(alloc: Global, node: &Node) -> Result<Option<Spot>, AllocError> {
     match only(node, b"selector") {
         Some(inner) => {
@@ -40,7 +40,7 @@ pub(crate) fn first_fault(alloc: Global, node: &Node) -> Result<Option<Spot>, Al
     }
 }
 
-// The value of a key that stands alone.
+// Returns the value of the only key.
 fn only<'t>(node: &'t Node, key: &[u8]) -> Option<&'t Node> {
     let Node::Map(entries) = node else {
         return None;
@@ -51,7 +51,7 @@ fn only<'t>(node: &'t Node, key: &[u8]) -> Option<&'t Node> {
     }
 }
 
-// The first fault of a selector that nests at most so deep.
+// Returns the first error of a selector that nests at most so deep.
 #[cycle(places)]
 fn in_selector(
     alloc: Global,
@@ -80,7 +80,7 @@ fn in_selector(
     }
 }
 
-// The first fault of the selectors of names.
+// Returns the first error of the selectors of names.
 #[cycle(places)]
 fn in_fields(
     alloc: Global,
@@ -96,7 +96,7 @@ fn in_fields(
     Ok(None)
 }
 
-// The first fault of the members of a union.
+// Returns the first error of the members of a union.
 #[cycle(places)]
 fn in_members(
     alloc: Global,
@@ -113,7 +113,7 @@ fn in_members(
     Ok(None)
 }
 
-// What was found, behind a path.
+// Returns what was found, with a path before it.
 fn behind(alloc: Global, path: &str, found: Option<Spot>) -> Result<Option<Spot>, AllocError> {
     match found {
         Some(spot) => Ok(Some(spot.behind(alloc, path)?)),
@@ -121,7 +121,7 @@ fn behind(alloc: Global, path: &str, found: Option<Spot>) -> Result<Option<Spot>
     }
 }
 
-// What stands round what is behind a step.
+// Returns what is around the selector after a step.
 fn around_step(around: Around) -> Around {
     match around {
         Around::Outside => Around::Outside,
@@ -129,7 +129,7 @@ fn around_step(around: Around) -> Around {
     }
 }
 
-// What a selector is by its own key and the keys of its body.
+// Returns the form of a selector by its own key and the keys of its body.
 fn part_of(node: &Node, around: Around) -> Part<'_> {
     let Node::Map(entries) = node else {
         return Part::Faulty("", Wrong::Value);
@@ -159,7 +159,8 @@ fn form_of<'t>(key: &'t [u8], body: &'t Node, around: Around) -> Part<'t> {
     }
 }
 
-// A form whose body has exactly these keys, of which `>` has the selector inside, and the others integers.
+// Checks a form whose body has exactly these keys, of which `>` has the selector inside, and the others
+// integers.
 fn with_keys<'t>(
     body: &'t Node,
     at: &'static str,
@@ -173,7 +174,7 @@ fn with_keys<'t>(
     if let Some(wrong) = Wrong::of_keys(entries, keys) {
         return Part::Faulty(at, wrong);
     }
-    // The start of a range is tested before its end.
+    // The start of a range is checked before its end.
     for (key, path) in [(b"i", "/i/i"), (b"^", "/r/^"), (b"$", "/r/$")] {
         if let Some(value) = value_of(entries, key)
             && !is_integer(value)
@@ -187,7 +188,7 @@ fn with_keys<'t>(
     }
 }
 
-// A matcher may have a label, which is a text.
+// Checks a matcher, which may have a label, a text.
 fn matcher(body: &Node) -> Part<'_> {
     let Node::Map(entries) = body else {
         return Part::Faulty("/.", Wrong::Value);
@@ -216,7 +217,7 @@ fn fields(body: &Node) -> Part<'_> {
     }
 }
 
-// The limit is tested before the sequence.
+// Checks a recursion: the limit before the sequence.
 fn recursive(body: &Node) -> Part<'_> {
     let Node::Map(entries) = body else {
         return Part::Faulty("/R", Wrong::Value);
@@ -236,7 +237,7 @@ fn recursive(body: &Node) -> Part<'_> {
     }
 }
 
-// What is wrong with a limit, which is `none` with an empty map or `depth` with a number.
+// Returns what is wrong with a limit, which is `none` with an empty map or `depth` with a number.
 fn limit_fault(limit: &Node) -> Option<(&'static str, Wrong<'_>)> {
     let Node::Map(entries) = limit else {
         return Some(("/R/l", Wrong::Value));
@@ -254,7 +255,7 @@ fn limit_fault(limit: &Node) -> Option<(&'static str, Wrong<'_>)> {
     }
 }
 
-// What is wrong with the value of `none`, which is an empty map.
+// Returns what is wrong with the value of `none`, which is an empty map.
 fn no_limit_fault(value: &Node) -> Option<(&'static str, Wrong<'_>)> {
     let Node::Map(entries) = value else {
         return Some(("/R/l/none", Wrong::Value));
@@ -265,7 +266,7 @@ fn no_limit_fault(value: &Node) -> Option<(&'static str, Wrong<'_>)> {
     }
 }
 
-// An edge has an empty body, and stands behind a step in a recursion.
+// Checks an edge, which has an empty body, and is after a step in a recursion.
 fn edge(body: &Node, around: Around) -> Part<'_> {
     let Node::Map(entries) = body else {
         return Part::Faulty("/@", Wrong::Value);
@@ -279,7 +280,7 @@ fn edge(body: &Node, around: Around) -> Part<'_> {
     }
 }
 
-// The value of a key.
+// Returns the value of a key.
 fn value_of<'t>(entries: &'t [(Vec<u8>, Node)], key: &[u8]) -> Option<&'t Node> {
     for (name, value) in entries {
         if name.as_slice() == key {

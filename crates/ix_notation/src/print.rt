@@ -1,4 +1,4 @@
-//! Data as JSON.
+//! Prints data as JSON.
 
 ghost use Rattle.std.specs.Prelude.{◌≡◌, IfOk, IfErr};
 ghost use Rattle.std.specs.Str.{IsUtf8};
@@ -13,8 +13,8 @@ use ix_selector::SelFault;
 use json::Writer;
 use std::alloc::Global;
 
-// The JSON text of data that a selector has, without blanks. No selector has a float, a byte string
-// or a link.
+// Returns the JSON text of a selector's data, without blanks. No selector has a float, a byte string or
+// a link.
 pub(crate) fn text_of(alloc: Global, node: &Node) -> Result<Vec<u8>, NotationFault>
     ensures text { IfOk result (λ text. text.items ≡ print (tokens_of (data_of node.now))) }
     ensures utf8 { IfOk result (λ text. IsUtf8 text.items) }
@@ -50,7 +50,7 @@ fn push_node(alloc: Global, out: &mut Writer, node: &Node) -> Result<(), Notatio
     }
 }
 
-// Appends the members of a list and the closing bracket.
+// Appends the elements of a list and the closing bracket.
 #[cycle(push_node)]
 fn push_members(alloc: Global, out: &mut Writer, members: &[Node]) -> Result<(), NotationFault>
     ensures pushes { Pushes out.old out.new (items_tokens (node_items members.now)) result }
@@ -62,7 +62,7 @@ fn push_members(alloc: Global, out: &mut Writer, members: &[Node]) -> Result<(),
     Ok(out.end_array()?)
 }
 
-// Appends the keys and values of a map and the closing brace.
+// Appends the entries of a map and the closing brace.
 #[cycle(push_node)]
 fn push_entries(
     alloc: Global,
@@ -88,7 +88,7 @@ fn push_integer(alloc: Global, out: &mut Writer, integer: i128) -> Result<(), No
     Ok(out.number(digits.as_str())?)
 }
 
-// A name or a label as text.
+// Returns a name or a label as text.
 fn name_of(bytes: &[u8]) -> Result<&str, NotationFault>
     ensures same { IfOk result (λ text. text.now ≡ bytes.now) }
     ensures refused { IfErr result (λ e. (e ≡ NotationFault.Name) × ¬ IsUtf8 bytes.now) }

@@ -1,4 +1,4 @@
-//! Data out of JSON.
+//! Reads data from JSON.
 
 ghost use Rattle.std.specs.Prelude.{◌≡◌, IfOk, IfErr, map};
 ghost use Rattle.std.specs.Ordering.{is_lt};
@@ -17,12 +17,11 @@ use json::{Error, Reader, Scratch, Value};
 use std::alloc::Global;
 use std::cmp::Ordering;
 
-// How deep arrays and objects may nest, as lists and maps of a block.
+// The deepest nesting of arrays and objects, as of lists and maps of a block.
 pub(crate) const DEPTH: usize = 512;
 
-// The tree that a JSON text has: null, truth values, integers, texts, lists and maps stand for
-// themselves, whatever the order of the keys. A text that has none is refused by `Json`, `Repeated`
-// or `Number`.
+// Returns the tree of a JSON text: null, booleans, integers, strings, lists and maps are themselves,
+// whatever the order of the keys. A text that has none is rejected as `Json`, `Repeated` or `Number`.
 pub(crate) fn tree_of(alloc: Global, text: &[u8]) -> Result<Tree, NotationFault>
     ensures says { IfOk result (λ t. IsJsonOf text.now t) }
     ensures refused { IfErr result (IsJsonRefused text.now) }
@@ -53,14 +52,14 @@ fn tree_of_value(alloc: Global, document: &str) -> Result<Tree, NotationFault>
     if reader.next().is_some() {
         return Err(NotationFault::Json(reader.offset()));
     }
-    // Keys rise and nesting is bounded, so an integer is the one thing that can have no spelling.
+    // Keys are sorted and nesting is bounded, so only an integer can have no encoding.
     match Tree::new(node_of(alloc, &value)?) {
         Ok(tree) => Ok(tree),
         Err(_) => Err(NotationFault::Number),
     }
 }
 
-// The node of a value, which has a spelling where each number is an integer that has one.
+// Returns the node of a value, which has an encoding if each number is an integer that has one.
 #[cycle(node_of)]
 fn node_of(alloc: Global, value: &Value<'_>) -> Result<Node, NotationFault>
     ensures says { IfOk result (λ n. Says (value_view value.now) (data_of n)) }
@@ -80,7 +79,7 @@ fn node_of(alloc: Global, value: &Value<'_>) -> Result<Node, NotationFault>
     }
 }
 
-// The nodes of an array's values.
+// Returns the nodes of an array's elements.
 #[cycle(node_of)]
 fn members_of(alloc: Global, values: &[Value<'_>]) -> Result<Vec<Node>, NotationFault>
     ensures says { IfOk result (λ v. ItemsSay (items_view values.now) (map data_of v.items)) }
@@ -94,7 +93,7 @@ fn members_of(alloc: Global, values: &[Value<'_>]) -> Result<Vec<Node>, Notation
     Ok(members)
 }
 
-// The keys and nodes of an object's members, in the order of the keys in data.
+// Returns the keys and nodes of an object's members, in the order of the keys in data.
 #[cycle(node_of)]
 fn entries_of(
     alloc: Global,
@@ -112,7 +111,7 @@ fn entries_of(
     in_order(entries)
 }
 
-// The same entries in the order of their keys, unless two have one key.
+// Returns the same entries in the order of their keys, unless two have the same key.
 pub(crate) fn in_order(
     mut entries: Vec<(Vec<u8>, Node)>,
 ) -> Result<Vec<(Vec<u8>, Node)>, NotationFault>

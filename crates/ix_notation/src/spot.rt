@@ -1,4 +1,4 @@
-//! A part of data that is refused, in words.
+//! Describes a part of data that is rejected.
 
 ghost use Rattle.std.specs.Prelude.{IfOk, string_bytes};
 ghost use Rattle.ix_notation.specs.FaultWords.{Continues};
@@ -6,19 +6,19 @@ ghost use Rattle.ix_notation.specs.FaultWords.{Continues};
 use ix_cbor::Node;
 use std::alloc::{AllocError, Global};
 
-// How many characters of a key are shown.
+// The most characters of a key that are shown.
 const MOST_SHOWN: usize = 40;
 
-/// What is wrong with a part, beside the words for its kind.
+/// What is wrong with a part, besides the text for its kind.
 #[derive(Drop, Clone, Copy)]
 pub(crate) enum Wrong<'t> {
-    /// The value that stands there.
+    /// The value that is there.
     Value,
-    /// A map that is to have a key has none.
+    /// A map that must have a key has none.
     NoKey,
-    /// The second key of a map that is to have one.
+    /// The second key of a map that must have one.
     Second(&'t [u8], &'t [u8]),
-    /// A key that its map is not to have.
+    /// A key that its map must not have.
     Extra(&'t [u8]),
     /// A key that its map lacks.
     Missing(&'static [u8]),
@@ -26,12 +26,12 @@ pub(crate) enum Wrong<'t> {
     Unknown(&'t [u8]),
     /// The value of this key.
     Field(&'t [u8]),
-    /// That it stands too deep, for which no place is told.
+    /// It nests too deep, for which no place is reported.
     Deep,
 }
 
-/// Where data is refused: the words for what is wrong with the part, and its place as a JSON Pointer
-/// (RFC 6901), which is empty for the whole, or none where it isn't told.
+/// Where data is rejected: the text for what is wrong with the part, and its place as a JSON Pointer
+/// (RFC 6901), which is empty for the whole, or none if it isn't reported.
 #[derive(Drop)]
 pub(crate) struct Spot {
     words: String,
@@ -39,7 +39,7 @@ pub(crate) struct Spot {
 }
 
 impl<'t> Wrong<'t> {
-    /// What is wrong with a map that is to have one key, and hasn't.
+    /// Returns what is wrong with a map that must have one key, and hasn't.
     pub(crate) fn of_one(entries: &'t [(Vec<u8>, Node)]) -> Wrong<'t> {
         match entries {
             [(first, _), (second, _), ..] => Wrong::Second(first.as_slice(), second.as_slice()),
@@ -47,7 +47,7 @@ impl<'t> Wrong<'t> {
         }
     }
 
-    /// What is wrong with a map that is to have exactly these keys, if anything.
+    /// Returns what is wrong with a map that must have exactly these keys, if anything.
     pub(crate) fn of_keys(
         entries: &'t [(Vec<u8>, Node)],
         keys: &[&'static [u8]],
@@ -65,7 +65,7 @@ impl<'t> Wrong<'t> {
         None
     }
 
-    // The words for it, behind those for its kind.
+    // Returns the text for it, which follows that for its kind.
     fn words(self, alloc: Global) -> Result<String, AllocError> {
         match self {
             Wrong::Value | Wrong::Field(_) | Wrong::Deep => Ok(String::new(alloc)),
@@ -92,7 +92,7 @@ impl<'t> Wrong<'t> {
 }
 
 impl Spot {
-    /// What is wrong at a path.
+    /// Makes the error at a path.
     pub(crate) fn new(alloc: Global, path: &str, wrong: Wrong<'_>) -> Result<Spot, AllocError> {
         let words = wrong.words(alloc)?;
         let mut path = String::from_str(alloc, path)?;
@@ -107,7 +107,7 @@ impl Spot {
         })
     }
 
-    /// The same part, of data that stands behind a path.
+    /// Returns the same part, with a path before it.
     pub(crate) fn behind(self, alloc: Global, path: &str) -> Result<Spot, AllocError> {
         let Spot { words, path: inner } = self;
         let path = match inner {
@@ -117,14 +117,14 @@ impl Spot {
         Ok(Spot { words, path })
     }
 
-    /// The same part, of data that stands behind a key.
+    /// Returns the same part, with a key before it.
     pub(crate) fn behind_key(self, alloc: Global, key: &[u8]) -> Result<Spot, AllocError> {
         let mut path = String::new(alloc);
         push_segment(alloc, &mut path, key)?;
         self.behind(alloc, path.as_str())
     }
 
-    /// A line that says what is wrong, with the part and its place behind it.
+    /// Returns a line that says what is wrong, with the part and its place.
     pub(crate) fn told(&self, alloc: Global, line: &str) -> Result<String, AllocError>
         ensures { IfOk result (λ told. Continues line.now (string_bytes told)) }
     {
@@ -147,7 +147,7 @@ fn push_segment(alloc: Global, path: &mut String, key: &[u8]) -> Result<(), Allo
     push_shown(alloc, path, key, true)
 }
 
-// A key in quotes.
+// Returns a key in quotes.
 fn quoted(alloc: Global, key: &[u8]) -> Result<String, AllocError> {
     let mut text = String::from_str(alloc, "\"")?;
     push_shown(alloc, &mut text, key, false)?;
@@ -155,8 +155,8 @@ fn quoted(alloc: Global, key: &[u8]) -> Result<String, AllocError> {
     Ok(text)
 }
 
-// Appends the characters of a key, of a long one the first. What could write over a terminal is escaped as in
-// JSON, and a byte that is no text is told by its number.
+// Appends the characters of a key, or the first ones of a long key. Characters that could write over a
+// terminal are escaped as in JSON, and a byte that isn't text is printed as its number.
 fn push_shown(
     alloc: Global,
     text: &mut String,

@@ -38,6 +38,7 @@ delivered_at store number start (suc count) (a ∷ found) d h =
 pub count_some : (store : Blocks) (jobs : List JobMeaning) (n : ℕ) (j : JobMeaning) → slice_get jobs n ≡ Some j → visit_count store jobs n ≡ length (visits_of store n j)
 count_some store jobs n j e = rw e refl
 
+-- a job number that is not in the list has no visits
 pub count_none : (store : Blocks) (jobs : List JobMeaning) (n : ℕ) → slice_get jobs n ≡ None → visit_count store jobs n ≡ 0
 count_none store jobs n e = rw e refl
 
@@ -48,6 +49,7 @@ module _ {S : Type 0} (events : S → List Event) (failed : S → List Delivery)
   EachExported store n (j ∷ js) (e ∷ es) (s ∷ ss) (k ∷ ks) = IsExported store n j e (events s) (failed s) k × EachExported store (n + 1) js es ss ks
   EachExported store n js es ss ks = ⊥
 
+  -- each exported sink was delivered to faithfully, by induction over the jobs
   pub delivers : (store : Blocks) (n : ℕ) (js : List JobMeaning) (es : List End) (ss : List S) (ks : List ℕ) → EachExported store n js es ss ks → EachDelivered events failed store n js es ss
   delivers store n [] [] [] [] h = tt
   delivers store n (j ∷ js) (e ∷ es) (s ∷ ss) (k ∷ ks) h = let x = h.0 in (x.faithful, delivers store (n + 1) js es ss ks h.1)
@@ -68,6 +70,7 @@ module _ {S : Type 0} (events : S → List Event) (failed : S → List Delivery)
   exported_push store n m (j' ∷ js) (e' ∷ es) (s' ∷ ss) (k' ∷ ks) j e s k at h x = (h.0, exported_push store (n + 1) m js es ss ks j e s k (omega arith) h.1 x)
   exported_push store n m js es ss ks j e s k at h x = absurd h
 
+  -- on one thread no job ends with Start, as each was walked
   none_is_start : (store : Blocks) (n : ℕ) (js : List JobMeaning) (es : List End) (ss : List S) (ks : List ℕ) → EachExported store n js es ss ks → NoneIsStart es
   none_is_start store n [] [] [] [] h = λ (c : Contains [] Start). none_in Start c
   none_is_start store n (j ∷ js) (e ∷ es) (s ∷ ss) (k ∷ ks) h =
@@ -110,7 +113,7 @@ module _ {S : Type 0} (events : S → List Event) (failed : S → List Delivery)
       (all_at store (n + 1) js es ss ks i j job seq h.1 walked (omega arith) found lt)
   all_at store n js es ss ks i j job seq h walked at found lt = absurd h
 
-  -- what was told of a job is checked
+  -- what was delivered of a job is checked
   told_here : (store : Blocks) (n : ℕ) (j : JobMeaning) (e : End) (told : List Event) (refused : List Delivery) (k : ℕ) (d : Delivery) → IsExported store n j e told refused k → Contains told (delivery d) → Contains (pairs_of n k) (d.visit.job, d.visit.seq)
   told_here store n j e told refused k d x c =
       let f = x.faithful in
@@ -156,11 +159,12 @@ module _ {S : Type 0} (events : S → List Event) (failed : S → List Delivery)
     all = λ walked job seq lt. all_of store jobs es ss ks job seq (slice_get jobs job) h (λ e. walked.0 (has_got es job Memory e)) refl lt;
   }
 
+-- the sinks after the next one are fresh if those from it on are
 rest_fresh : {S : Type 0} (events : S → List Event) (failed : S → List Delivery) (i : ℕ) (sinks : List S) (s : S) → i < length sinks → EachFresh events failed (drop i sinks) → EachFresh events failed (drop (i + 1) sinks)
 rest_fresh {S = S} events failed i sinks s lt h =
     let all : EachFresh events failed (get_or sinks i s ∷ drop (i + 1) sinks) = subst (λ (l : List S). EachFresh events failed l) (drop_more sinks i s lt) h in all.1
 
--- Of the jobs the first were exported into their sinks, the sinks behind are fresh, and each still promises what it did.
+-- Of the jobs the first were exported into their sinks, the sinks after are fresh, and each still promises what it did.
 pub record IsThrough {S : Type 0} (events : S → List Event) (failed : S → List Delivery) (fact : Fact S) (store : Blocks) (jobs : List JobMeaning) (i : ℕ) (es : List End) (first sinks : List S) (pairs : List (ℕ × ℕ)) : Type 0 where
   pub counts : List ℕ
   pub counted : length counts ≡ i
@@ -215,12 +219,15 @@ module _ {S : Type 0} (events : S → List Event) (failed : S → List Delivery)
       let short : length sinks ≤ i = omega arith in
       (t.counts, subst (λ (l : List JobMeaning). EachExported events failed store 0 l es sinks t.counts) (take_all i jobs past) (subst (λ (l : List S). EachExported events failed store 0 (take i jobs) es l t.counts) (take_all i sinks short) t.exported), t.checked)
 
+  -- when all jobs are exported, each sink was delivered to faithfully
   pub all_delivered : (i : ℕ) (es : List End) (first sinks : List S) (pairs : List (ℕ × ℕ)) → length jobs ≤ i → IsThrough events failed fact store jobs i es first sinks pairs → EachDelivered events failed store 0 jobs es sinks
   all_delivered i es first sinks pairs past t = let a = through_all i es first sinks pairs past t in delivers events failed store 0 jobs es sinks a.0 a.1
 
+  -- when all jobs are exported, none ended with Start
   pub all_started : (i : ℕ) (es : List End) (first sinks : List S) (pairs : List (ℕ × ℕ)) → length jobs ≤ i → IsThrough events failed fact store jobs i es first sinks pairs → NoneIsStart es
   all_started i es first sinks pairs past t = let a = through_all i es first sinks pairs past t in none_is_start events failed store 0 jobs es sinks a.0 a.1
 
+  -- when all jobs are exported, each visit was checked once
   pub all_checked : (i : ℕ) (es : List End) (first sinks : List S) (pairs : List (ℕ × ℕ)) → length jobs ≤ i → IsThrough events failed fact store jobs i es first sinks pairs → IsCheckedOnce events store jobs es sinks pairs
   all_checked i es first sinks pairs past t =
       let a = through_all i es first sinks pairs past t in subst (λ (l : List (ℕ × ℕ)). IsCheckedOnce events store jobs es sinks l) (sym a.2) (checked_once events failed store jobs es sinks a.0 a.1)

@@ -20,12 +20,14 @@ in_pairs number (suc k) job seq h =
           (let same : k ≡ seq = ap (λ (p : ℕ × ℕ). p.1) last in (sym (ap (λ (p : ℕ × ℕ). p.0) last), omega arith))
     ]
 
+-- a number below the next of b is below b, or is b
 below_or : (a b : ℕ) → a < suc b → (a < b) ⊎ (b ≡ a)
 below_or zero zero h = inr refl
 below_or zero (suc b) h = inl (omega arith)
 below_or (suc a) zero h = absurd (omega arith)
 below_or (suc a) (suc b) h = elim (below_or a b (omega arith)) [ inl l ↦ inl (omega arith) | inr e ↦ inr (ap suc e) ]
 
+-- the pairs of a job have each visit number below the count
 pub has_pair : (number k seq : ℕ) → seq < k → Contains (pairs_of number k) (number, seq)
 has_pair number zero seq lt = absurd (omega arith)
 has_pair number (suc k) seq lt =
@@ -42,6 +44,7 @@ once_append (x ∷ xs) ys a b apart = (
   once_append xs ys a.1 b (λ p l r. apart p (has_rest x xs p l) r),
 )
 
+-- the pairs of one job are distinct, as their visit numbers are
 pub once_pairs : (number k : ℕ) → IsEachOnce (pairs_of number k)
 once_pairs number zero = tt
 once_pairs number (suc k) =
@@ -59,6 +62,7 @@ in_over n (k ∷ ks) p h =
       | inr r ↦ (let m : n + 1 ≤ p.0 = in_over (n + 1) ks p r in omega arith)
     ]
 
+-- the pairs of several jobs are distinct, as their job numbers are
 pub once_over : (n : ℕ) (ks : List ℕ) → IsEachOnce (pairs_over n ks)
 once_over n [] = tt
 once_over n (k ∷ ks) =

@@ -1,4 +1,4 @@
--- A job under way: what its walk has left, and what was told of it so far.
+-- A job under way: what its walk has left, and what was delivered of it so far.
 use Rattle.std.proofs.Common.{◌≡◌, ◌⊎◌, ℕ, zero, suc, ◌<◌, ◌≤◌, false, List, [], ◌∷◌, ◌++◌, length, take, drop, map, Ok, Err, Some, None, refl, sym, ◌∙◌, ap, subst, inl, inr, arith, append_assoc, append-nil}
 use Rattle.std.specs.declared.alloc.AllocError.{AllocError}
 use Rattle.std.proofs.lemmas.List.{map-append, drop-map, length-map}
@@ -40,18 +40,21 @@ take_next zero (y ∷ ys) x more e = let h : y ≡ x = cc in ap (λ z. z ∷ [])
 take_next (suc k) [] x more e = cc
 take_next (suc k) (y ∷ ys) x more e = ap (λ l. y ∷ l) (take_next k ys x more e)
 
+-- the list after one more element
 drop_next : {X : Type 0} → (k : ℕ) (xs : List X) (x : X) (more : List X) → drop k xs ≡ x ∷ more → drop (suc k) xs ≡ more
 drop_next zero [] x more e = cc
 drop_next zero (y ∷ ys) x more e = cc
 drop_next (suc k) [] x more e = cc
 drop_next (suc k) (y ∷ ys) x more e = drop_next k ys x more e
 
+-- an element after the first k is within the list
 pub less_next : {X : Type 0} → (k : ℕ) (xs : List X) (x : X) (more : List X) → drop k xs ≡ x ∷ more → k < length xs
 less_next zero [] x more e = cc
 less_next zero (y ∷ ys) x more e = omega arith
 less_next (suc k) [] x more e = cc
 less_next (suc k) (y ∷ ys) x more e = let h : k < length ys = less_next k ys x more e in omega arith
 
+-- if nothing is after the first k elements, there are no more than k
 none_next : {X : Type 0} → (k : ℕ) (xs : List X) → drop k xs ≡ [] → length xs ≤ k
 none_next zero [] e = omega arith
 none_next zero (y ∷ ys) e = cc
@@ -95,6 +98,7 @@ pub next_of_store : (store : Blocks) (number : ℕ) (job : JobMeaning) (walk aft
 next_of_store store number job walk after state before told v u g =
     let h = visit_next store number u.given job v after.visits (next_at store number job walk after state before told v u g) in h.of_store
 
+-- a checked visit adds the next pair
 pairs_more : (number k : ℕ) (before old new : List (ℕ × ℕ)) (v : Visit) → v.job ≡ number → v.seq ≡ k → old ≡ before ++ pairs_of number k → new ≡ old ++ (v.job, v.seq) ∷ [] → new ≡ before ++ pairs_of number (suc k)
 pairs_more number k before old new v job seq was is =
     is
@@ -118,6 +122,7 @@ failed_here : (store : Blocks) (given : ℕ) (vs : List Visit) (v : Visit) (more
 failed_here store given vs v more failed at is =
     is ∙ sym (ap (λ (l : List Delivery). take 1 l) (drop-map (judged store) given vs ∙ ap (λ (l : List Visit). map (judged store) l) at))
 
+-- handling the next visit keeps the state of a job that is under way
 pub on_next : (store : Blocks) (given : ℕ) (vs : List Visit) (v : Visit) (more : List Visit) (state after : SinkState) (told new : Told)
     → drop given vs ≡ v ∷ more → IsOn state given (map (judged store) vs) told.events told.failed → HandsOn store v state told (Ok after) new → IsOn after (suc given) (map (judged store) vs) new.events new.failed
 on_next store given vs v more Taking Taking told new at on h = (events_more store given vs v more told.events new.events at on.0 h.0, h.1)
@@ -146,7 +151,7 @@ hands store number job walk left state after before told new v u g h =
       pairs = pairs_more number u.given before told.pairs new.pairs v is.job is.seq u.pairs (checks_of store v state after told new h);
     }
 
--- want of memory ends a job that is under way
+-- lack of memory ends a job that is under way
 pub on_memory : (store : Blocks) (number : ℕ) (job : JobMeaning) (state : SinkState) (given checks : ℕ) (before : List (ℕ × ℕ)) (new : Told)
     → IsOn state given (judged_visits store number job) new.events new.failed → given ≤ checks → checks ≤ length (visits_of store number job) → new.pairs ≡ before ++ pairs_of number checks → IsWalked store number job Memory before new
 on_memory store number job Taking given checks before new on more within pairs = record {
@@ -176,15 +181,17 @@ on_memory store number job Failed given checks before new on more within pairs =
 pub stops : (store : Blocks) (number : ℕ) (job : JobMeaning) (walk : WalkLeft) (state : SinkState) (before : List (ℕ × ℕ)) (told : Told) → IsUnderWay store number job walk state before told → IsWalked store number job Memory before told
 stops store number job walk state before told u = on_memory store number job state u.given u.given before told u.on (omega arith) u.within u.pairs
 
+-- a visit that can't be handled for lack of memory changes nothing that was delivered
 none_of : (store : Blocks) (v : Visit) (state : SinkState) (told new : Told) (e : AllocError) → HandsOn store v state told (Err e) new → (new.events ≡ told.events) × (new.failed ≡ told.failed) × ((new.pairs ≡ told.pairs) ⊎ Checks v told new)
 none_of store v Taking told new e h = h
 none_of store v Failed told new e h = h
 
+-- the state depends only on the events and the failed deliveries
 pub on_same : (state : SinkState) (given : ℕ) (all : List Delivery) (told new : Told) → new.events ≡ told.events → new.failed ≡ told.failed → IsOn state given all told.events told.failed → IsOn state given all new.events new.failed
 on_same Taking given all told new events failed on = (events ∙ on.0, failed ∙ on.1)
 on_same Failed given all told new events failed on = (on.0, on.1, events ∙ on.2, failed ∙ on.3)
 
--- a visit can't be handed on for want of memory
+-- a visit can't be handed on for lack of memory
 pub hands_none : (store : Blocks) (number : ℕ) (job : JobMeaning) (walk left : WalkLeft) (state : SinkState) (before : List (ℕ × ℕ)) (told new : Told) (v : Visit) (e : AllocError)
     → IsUnderWay store number job walk state before told → GivesNext walk (Some (Ok v)) left → HandsOn store v state told (Err e) new → IsWalked store number job Memory before new
 hands_none store number job walk left state before told new v e u g h =
@@ -240,7 +247,7 @@ walk-ends store number job walk left state before told u g =
     on_end store number job state Done u.given before told u.on (all_given store number job walk state before told u g.0) u.pairs
     (λ (m : ℕ) all failed. (all, sym u.limited ∙ g.1, failed)) (λ (e : Done ≡ Start). cc)
 
--- the walk has met its limit
+-- the walk has reached its limit
 pub limits : (store : Blocks) (number : ℕ) (job : JobMeaning) (walk left : WalkLeft) (state : SinkState) (before : List (ℕ × ℕ)) (told : Told) → IsUnderWay store number job walk state before told → GivesNext walk (Some (Err reasons.Limit)) left → IsWalked store number job (end_on state Limit) before told
 limits store number job walk left state before told u g =
     on_end store number job state Limit u.given before told u.on (all_given store number job walk state before told u g.1) u.pairs

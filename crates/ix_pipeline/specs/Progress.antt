@@ -21,17 +21,17 @@ abbrev pub end_on : SinkState → End → End
 end_on Taking end = end
 end_on Failed end = Write
 
--- how a job ends, of which want of memory is left
+-- how a job ends, of which lack of memory is left
 abbrev pub end_of : Result End AllocError → End
 end_of result = result_unwrap_or result Memory
 
--- what a sink was told, the deliveries at which a write failed, and the pairs that were checked
+-- what a sink received, the deliveries at which a write failed, and the pairs that were checked
 pub record Told : Type 0 where
   pub events : List Event
   pub failed : List Delivery
   pub pairs : List (ℕ × ℕ)
 
--- what this sink was told, and the pairs that this check has checked
+-- what this sink received, and the pairs that this check has checked
 abbrev pub told_by : {S C : Type 0} → (S → List Event) → (S → List Delivery) → (C → List (ℕ × ℕ)) → S → C → Told
 told_by events failed checked sink check = record { events = events sink; failed = failed sink; pairs = checked check }
 
@@ -44,7 +44,7 @@ CanHand Failed events failed = Unit {0}
 abbrev pub Checks : Visit → Told → Told → Type 0
 Checks v old new = new.pairs ≡ old.pairs ++ (v.job, v.seq) ∷ []
 
--- what handing on a visit tells: it is checked, and delivered as long as no write failed; want of memory tells the sink nothing
+-- the events of handling a visit: it is checked, and delivered as long as no write failed; if memory runs out, the sink receives nothing
 abbrev pub HandsOn : Blocks → Visit → SinkState → Told → Result SinkState AllocError → Told → Type 0
 HandsOn store v Taking old (Ok Taking) new = (new.events ≡ old.events ++ delivery (judged store v) ∷ []) × (new.failed ≡ []) × Checks v old new
 HandsOn store v Taking old (Ok Failed) new = (new.events ≡ old.events) × (new.failed ≡ judged store v ∷ []) × Checks v old new
@@ -81,7 +81,7 @@ pub record IsExported (store : Blocks) (number : ℕ) (job : JobMeaning) (end : 
 abbrev pub Exports : Blocks → ℕ → JobMeaning → End → List Event → List Delivery → List (ℕ × ℕ) → List (ℕ × ℕ) → Type 0
 Exports store number job end events failed old new = (checks : ℕ) × IsExported store number job end events failed checks × (new ≡ old ++ pairs_of number checks)
 
--- a delivery is taken, or its write fails, as long as none has failed; want of memory tells the sink nothing, and behind a failed write there is none
+-- a delivery is taken, or its write fails, as long as none has failed; if memory runs out, the sink receives nothing, and after a failed write there is none
 abbrev pub Delivers : Delivery → SinkState → List Event → List Delivery → Result SinkState AllocError → List Event → List Delivery → Type 0
 Delivers d Taking events failed (Ok Taking) told refused = (told ≡ events ++ delivery d ∷ []) × (refused ≡ [])
 Delivers d Taking events failed (Ok Failed) told refused = (told ≡ events) × (refused ≡ d ∷ [])

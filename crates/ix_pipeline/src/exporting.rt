@@ -1,4 +1,4 @@
-//! The exporter by walkers and verifiers.
+//! The exporter with walkers and verifiers.
 
 ghost use Rattle.std.specs.Prelude.{◌≡◌, length, vec_len, IfOk, IfErr};
 ghost use Rattle.std.specs.Arc.{arc_value};
@@ -16,21 +16,21 @@ use std::alloc::Global;
 use std::sync::{Arc, Wait};
 use std::thread::Threads;
 
-/// An export that wasn't begun, for want of memory before any thread was started.
+/// An export that wasn't started, because memory ran out before any thread was started.
 #[derive(Drop)]
 pub struct NotStarted<C> {
-    /// All checks, as they were handed in.
+    /// All checks, as they were given.
     pub checks: Vec<C>,
 }
 
-/// Exports every job into its sink, by as many walkers as the plan has and as many verifiers as
-/// there are checks, and says how each job ended.
+/// Exports every job into its sink, with as many walkers as the plan has and as many verifiers as there
+/// are checks, and returns how each job ended.
 ///
-/// Walkers claim jobs and put their visits into a queue, verifiers take them from it, check them,
-/// each visit once, and send their verdicts, and the caller delivers each job's visits in their order
-/// with their verdicts and closes its sink, all at the same time. Jobs end with Start only where no
-/// walker or no verifier could be started, and then all do. Whoever walks a job passes the gate with
-/// each visit. Every visit of a job that ends neither with Memory nor with Start was checked.
+/// Walkers claim jobs and put their visits into a queue. Verifiers take them from it, check each visit
+/// once, and send the verdicts. The caller delivers each job's visits in order with their verdicts, and
+/// closes its sink. All of that runs concurrently. Jobs end with Start only if no walker or no verifier
+/// could be started, and then all do. The gate (a probe for tests) is called for each visit of a
+/// walker. Every visit of a job that ends neither with Memory nor with Start was checked.
 pub fn export<S, C, G, R>(
     rt: &R,
     alloc: Global,

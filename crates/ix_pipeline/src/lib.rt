@@ -1,9 +1,9 @@
-//! The exporter: on one thread, and by walkers and verifiers.
+//! The exporter: single-threaded, or with walkers and verifiers.
 //!
-//! By 1 to 64 walkers and as many verifiers, in every schedule and whichever threads can't be
-//! started: each sink is told its job's first visits with their verdicts, in order and once each,
-//! and one close, last; its archive is that of the job at Done and else a beginning of it. Where
-//! nothing was started, sinks and checks are as they were.
+//! With 1 to 64 walkers and as many verifiers, in every schedule and whichever threads can't be
+//! started: each sink receives its job's first visits with their verdicts, in order and once each,
+//! and then one close. Its archive is that of the job if it ends with Done, and else a prefix of it.
+//! If nothing was started, sinks and checks are as they were.
 //!
 //! ```rust
 //! let plan = Plan { walkers: 4, queue: 1024, lane: 256 };

@@ -1,4 +1,4 @@
-//! The exporter on one thread.
+//! The single-threaded exporter.
 
 ghost use Rattle.std.specs.Prelude.{◌≡◌, [], length, IfOk, OnErr};
 ghost use Rattle.ix_walk.specs.JobMeaning.{AreFew};
@@ -14,9 +14,9 @@ use ix_store::Store;
 use ix_walk::{Job, Visit, Walk, WalkStop};
 use std::alloc::{AllocError, Global};
 
-/// Exports every job into its sink, on one thread, and says how each job ended. Each visit of a job
-/// is checked once and, as long as no write failed, delivered with its verdict; behind the last
-/// visit the sink is closed. An `Err` is want of memory before the first event.
+/// Exports every job into its sink, on one thread, and returns how each job ended. Each visit of a job
+/// is checked once and, as long as no write failed, delivered with its verdict. After the last visit
+/// the sink is closed. An `Err` means that memory ran out before the first event.
 pub fn export_plain<S: Sink, C: Check>(
     alloc: Global,
     store: &Store,
@@ -67,8 +67,8 @@ fn export_job<S: Sink, C: Check>(
     end
 }
 
-// Walks a job, and hands on each of its visits. Says how the job ends; on want of memory it ends
-// at once.
+// Walks a job and handles each of its visits. Returns how the job ends; if memory runs out, it ends at
+// once.
 fn walk_job<S: Sink, C: Check>(
     alloc: Global,
     store: &Store,
@@ -94,8 +94,8 @@ fn walk_job<S: Sink, C: Check>(
     Ok(state.end(End::Done))
 }
 
-// Checks a visit, and delivers it with its verdict if no write failed so far. Says what becomes of
-// the visits behind it.
+// Checks a visit, and delivers it with its verdict if no write failed so far. Returns what happens to
+// the visits after it.
 fn hand_on<S: Sink, C: Check>(
     alloc: Global,
     store: &Store,
@@ -113,8 +113,8 @@ fn hand_on<S: Sink, C: Check>(
     deliver_one(alloc, visit, verdict, state, sink)
 }
 
-// Delivers a visit with its verdict if no write failed so far. Says what becomes of the visits
-// behind it.
+// Delivers a visit with its verdict if no write failed so far. Returns what happens to the visits after
+// it.
 fn deliver_one<S: Sink>(
     alloc: Global,
     visit: Visit,

@@ -1,11 +1,11 @@
-//! What becomes of the visits of a job.
+//! The state of a job's sink.
 
 ghost use Rattle.std.specs.Prelude.{◌≡◌};
 ghost use Rattle.ix_pipeline.specs.Progress.{end_on};
 
 use ix_archive::End;
 
-/// What becomes of the visits of a job that are still to come.
+/// What happens to the visits of a job that are still to come.
 #[derive(Drop, Clone, Copy, PartialEq, Eq)]
 pub(crate) enum SinkState {
     /// They are checked, and delivered with their verdicts.
@@ -15,7 +15,7 @@ pub(crate) enum SinkState {
 }
 
 impl SinkState {
-    // How a job ends that would end so if no write had failed.
+    // Returns the end of a job, given how it would end if no write had failed.
     pub(crate) fn end(self, end: End) -> End
         ensures { result ≡ end_on self end }
     {

@@ -1,4 +1,4 @@
--- What is exported of a root, from what was told of its job.
+-- The archive of a root, from the result of its job.
 use Rattle.std.proofs.Common.{◌≡◌, ℕ, List, [], ◌∷◌, refl, sym, ◌∙◌, ap, subst, Bool, true, true≢false, length, arith, ◌++◌}
 use Rattle.std.specs.Prelude.{Option, Some, Ok, take}
 use Rattle.std.proofs.lemmas.List.{take_all}
@@ -18,7 +18,7 @@ use Rattle.ix_run.specs.Root.{root_job, exported, exported_from, is_whole_end, i
 use Rattle.ix_run.specs.Run.{IsEndOf, IsRun, EachRun}
 use Rattle.ix_run.proofs.Told.{same_deliveries}
 
--- where an end is told by which all was written, the job was closed by such an end
+-- if the reported end says that all was written, the job was closed with such an end
 whole_close : (end told : End) → IsEndOf end told → is_whole_end told ≡ true → is_whole_end end ≡ true
 whole_close Done told h w = refl
 whole_close Limit told h w = refl

@@ -14,20 +14,24 @@ use Rattle.ix_cid.proofs.Results.{ok_same}
 use Rattle.ix_jobs.specs.Jobs.{◌>>=◌, is_ignored, line_job, joined, with_line, at_line, jobs_from, jobs_of, is_taken}
 
 module _ (before jobs : List JobMeaning) (few : length before ≤ 1000) where
+  -- a list with room for one more job has at most 1,000 with it
   one_more : (job : JobMeaning) (full : Bool) → leb 1000 (length before) ≡ full → cond full (Err TooMany) (Ok (before ++ job ∷ [])) ≡ Ok jobs → length jobs ≤ 1000
   one_more job true e h = absurd cc
   one_more job false e h =
       let same : length (before ++ job ∷ []) ≡ length jobs = ap length (ok_same (before ++ job ∷ []) jobs h) in
       omega (arith, same, length-append before (job ∷ []), leb-false 1000 (length before) e)
 
+  -- a job that is added with a free name leaves at most 1,000
   joined-few : (job : JobMeaning) (taken : Bool) → cond taken (Err Repeated) (cond (leb 1000 (length before)) (Err TooMany) (Ok (before ++ job ∷ []))) ≡ Ok jobs → length jobs ≤ 1000
   joined-few job true h = absurd cc
   joined-few job false h = one_more job (leb 1000 (length before)) refl h
 
+  -- the same for a job that is read first
   read-few : (read : Result JobMeaning JobsKind) → (read >>= joined 1000 before) ≡ Ok jobs → length jobs ≤ 1000
   read-few (Ok job) h = joined-few job (is_taken before job.name) h
   read-few (Err kind) h = absurd cc
 
+  -- the same for a line, which may be ignored
   line-few : (ignored : Bool) (read : Result JobMeaning JobsKind) → cond ignored (Ok before) (read >>= joined 1000 before) ≡ Ok jobs → length jobs ≤ 1000
   line-few true read h = subst (λ l. length l ≤ 1000) (ok_same before jobs h) few
   line-few false read h = read-few read h
@@ -37,12 +41,14 @@ behind-few : (line : ℕ) (jobs : List JobMeaning) (ls : List (List ℕ)) (read 
 behind-few line jobs ls (Ok more) rest few h = rest more (few more refl) h
 behind-few line jobs ls (Err kind) rest few h = absurd cc
 
+-- by induction over the lines: at most 1,000 jobs are read
 from-few : (line : ℕ) (before jobs : List JobMeaning) (lines : List (List ℕ)) → length before ≤ 1000 → jobs_from 1000 line before lines ≡ Ok jobs → length jobs ≤ 1000
 from-few line before jobs [] few h = subst (λ l. length l ≤ 1000) (ok_same before jobs h) few
 from-few line before jobs (l ∷ ls) few h =
     behind-few line jobs ls (with_line 1000 before (strip_carriage_return l)) (λ more f e. from-few (line + 1) more jobs ls f e)
     (λ more e. line-few before more few (is_ignored (strip_carriage_return l)) (line_job (strip_carriage_return l)) e) h
 
+-- a job file that is accepted has at most 1,000 jobs
 pub few_jobs : (b : List ℕ) (jobs : List JobMeaning) → jobs_of b ≡ Ok jobs → length jobs ≤ 1000
 few_jobs b jobs h = from-few 1 [] jobs (slice_split (λ x. eqb x 10) b) (omega arith) h
 

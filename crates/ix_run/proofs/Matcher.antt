@@ -13,10 +13,12 @@ matcher_bytes = 0xa1 ∷ 0x61 ∷ 0x2e ∷ 0xa0 ∷ []
 abbrev matcher_data : Data
 matcher_data = map (entry (codes ".") (map no_entries) no_entries)
 
+-- the bytes decode to the data, by computation
 is_decoded : decoded matcher_bytes ≡ Ok matcher_data
 unfolding item_at
 is_decoded = refl
 
+-- the data is the matcher selector, by computation
 is_read : selector_of matcher_data ≡ Ok matcher
 unfolding selector_at
 is_read = refl

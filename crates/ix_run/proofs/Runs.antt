@@ -1,4 +1,4 @@
--- What a run leaves of each job, from what its sink was told.
+-- The result of each job, from what its sink received.
 use Rattle.std.proofs.Common.{◌≡◌, ℕ, suc, ◌+◌, take, drop, List, [], ◌∷◌, ◌++◌, refl, sym, ◌∙◌, ap, subst, map, length, inl, inr}
 use Rattle.std.specs.Prelude.{Option, Some, None}
 use Rattle.std.specs.Io.KnownBytes as known
@@ -19,7 +19,7 @@ use Rattle.ix_archive.proofs.Archives.{told-back, written-tells}
 use Rattle.ix_run.specs.Run.{IsEndOf, IsRun, EachRun, EachBegun, IsEnded, EachEnded}
 use Rattle.ix_run.proofs.Told.{same_deliveries}
 
--- an end that is told as done is that of a close with done
+-- an end that is reported as done is that of a close with done
 done_is_done : (end told : End) → IsEndOf end told → told ≡ ends.Done → end ≡ ends.Done
 done_is_done ends.Done told h d = refl
 done_is_done ends.Limit told (inl h) d = absurd (let bad : ends.Limit ≡ ends.Done = sym h ∙ d in cc)
@@ -28,13 +28,13 @@ done_is_done ends.Memory told h d = sym h ∙ d
 done_is_done ends.Write told h d = sym h ∙ d
 done_is_done ends.Start told h d = sym h ∙ d
 
--- bytes that are told stay told
+-- a sink that has received bytes keeps them
 keeps_told : (old new : Option (List ℕ)) (bytes : List ℕ) → known.Keeps old new → old ≡ Some bytes → new ≡ Some bytes
 keeps_told None new bytes h e = absurd cc
 keeps_told (Some xs) None bytes h e = absurd h
 keeps_told (Some xs) (Some ys) bytes h e = ap (λ l. Some l) (h ∙ same_Some xs bytes e)
 
--- the number of bytes is that of the bytes that are told in the end
+-- the number of bytes is that of the bytes in the end
 count_kept : (old new : Option (List ℕ)) (taken : ℕ) (bytes : List ℕ) → known.Keeps old new → old ≡ Some bytes → IsCountOf taken old → IsCountOf taken new
 count_kept old new taken bytes keeps e counts more h =
     let same : bytes ≡ more = same_Some bytes more (sym (keeps_told old new bytes keeps e) ∙ h) in
@@ -135,7 +135,7 @@ module _ {W : Type 0} (told : W → Option (List ℕ)) where
   EachEnded-more (a ∷ xs) (e ∷ es) (r ∷ rs) [] archive end result writer so_far one = absurd so_far
   EachEnded-more (a ∷ xs) (e ∷ es) (r ∷ rs) (w ∷ ws) archive end result writer so_far one = (so_far.0, EachEnded-more xs es rs ws archive end result writer so_far.1 one)
 
-  -- as many archives as jobs, none of them told anything
+  -- as many archives as jobs, none of which received anything
   pub begun-length : (store : Blocks) (jobs : List JobMeaning) (writers : List W) (archives : List (ArchiveMeaning W)) → EachBegun told store jobs writers archives → length archives ≡ length jobs
   begun-length store [] [] [] h = refl
   begun-length store [] [] (a ∷ xs) h = absurd h
@@ -146,9 +146,11 @@ module _ {W : Type 0} (told : W → Option (List ℕ)) where
   begun-length store (j ∷ js) (w ∷ ws) [] h = absurd h
   begun-length store (j ∷ js) (w ∷ ws) (a ∷ xs) h = ap suc (begun-length store js ws xs h.1)
 
+  -- an archive that was just started has no events
   no_events : (store : Blocks) (roots : List (List ℕ)) (a : ArchiveMeaning W) → IsBegun a store roots → events_of a ≡ []
   no_events store roots a h = ap (λ ds. map delivery ds ++ map close a.closed) h.no_deliveries ∙ ap (λ l. map close l) h.not_closed
 
+  -- archives that were just started are fresh sinks
   pub begun-fresh : (store : Blocks) (jobs : List JobMeaning) (writers : List W) (archives : List (ArchiveMeaning W)) → EachBegun told store jobs writers archives → EachFresh events_of (λ a. a.failed) archives
   begun-fresh store [] [] [] h = tt
   begun-fresh store [] [] (a ∷ xs) h = absurd h
@@ -170,6 +172,7 @@ module _ {W : Type 0} (told : W → Option (List ℕ)) where
   delivered-length store n (j ∷ js) (e ∷ es) [] h = absurd h
   delivered-length store n (j ∷ js) (e ∷ es) (s ∷ ss) h = ap suc (delivered-length store (n + 1) js es ss h.1)
 
+  -- there are as many archives at the end as at the start
   pub kept-length : (first last : List (ArchiveMeaning W)) → EachKept (HasArchived told) first last → length last ≡ length first
   kept-length [] [] h = refl
   kept-length [] (l ∷ ls) h = absurd h
@@ -199,7 +202,7 @@ module _ {W : Type 0} (told : W → Option (List ℕ)) where
 pub whole_again : {A : Type 0} (n : ℕ) (new old : List A) → length new ≡ n → take n (new ++ drop (length new) old) ≡ new
 whole_again n new old h = ap (λ m. take m (new ++ drop (length new) old)) (sym h) ∙ take-append_seam new (drop (length new) old)
 
--- what was told of archives that were handed out as sinks, and then ended
+-- the results of archives that were used as sinks, and then ended
 pub ended_sinks : {W : Type 0} (told : W → Option (List ℕ)) (at store : Blocks) (listed jobs : List JobMeaning) (before after : List W) (archives first sinks : List (ArchiveMeaning W)) (n : ℕ) (es given : List End) (results : List JobResult)
     → at ≡ store → listed ≡ jobs → EachBegun told at listed before archives → first ≡ archives → length first ≡ n → EachKept (HasArchived told) first sinks
     → EachDelivered events_of (λ a. a.failed) store 0 jobs es sinks → EachArchived events_of (λ a. a.failed) store 0 jobs es sinks → given ≡ es

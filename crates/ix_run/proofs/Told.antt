@@ -1,10 +1,10 @@
--- What the events of an archive tell.
+-- The results that the events of an archive give.
 use Rattle.std.proofs.Common.{◌≡◌, List, [], ◌∷◌, ◌++◌, sym, ◌∙◌, ap, map}
 use Rattle.ix_archive.specs.declared.sink.Delivery.{Delivery}
 use Rattle.ix_archive.specs.declared.sink.End.{End}
 use Rattle.ix_archive.specs.Events.{delivery, close, deliveries_of}
 use Rattle.ix_archive.proofs.Archives.{told-back}
 
--- what was delivered, where it was told as deliveries and one close
+-- the deliveries, where the events are deliveries and one close
 pub same_deliveries : (ds : List Delivery) (ends : List End) (told : List Delivery) (end : End) → map delivery ds ++ map close ends ≡ map delivery told ++ close end ∷ [] → ds ≡ told
 same_deliveries ds ends told end h = sym (told-back ds ends) ∙ ap deliveries_of h ∙ told-back told (end ∷ [])

@@ -1,4 +1,4 @@
--- The line that the program prints for a refusal.
+-- The line that the program prints for an error.
 use Rattle.std.specs.Prelude.{ℕ, List, ◌++◌, codes}
 use Rattle.std.specs.Fmt.{decimal}
 use Rattle.ix_cid.specs.FaultWords.{fault_words}

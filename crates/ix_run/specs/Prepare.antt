@@ -1,4 +1,4 @@
--- What is read of the files of a run, and why they are refused.
+-- What is read from the files of a run, and why they are rejected.
 use Rattle.std.specs.Prelude.{◌≡◌, ℕ, List, Result, Ok}
 use Rattle.std.specs.Arc.{arc_value}
 use Rattle.std.specs.Global.{Global, Vec}

@@ -36,13 +36,13 @@ is_whole_end Memory = false
 is_whole_end Write = false
 is_whole_end Start = false
 
--- one job, of which this is told
+-- one job with this result
 abbrev pub is_whole : List JobResult → Bool
 is_whole [] = false
 is_whole (r ∷ []) = is_whole_end r.end
 is_whole (r ∷ s ∷ rs) = false
 
--- what is told of a job that runs alone, and what was written to memory, from nothing on
+-- the result of a job that runs alone, and what was written to memory, from nothing on
 abbrev pub IsRunAlone : Blocks → JobMeaning → List JobResult → List (Vec ℕ) → Type 0
 IsRunAlone store job results archives = (empty : Vec ℕ) × (empty.items ≡ []) × EachRun (λ v. Some v.items) store 0 (job ∷ []) (empty ∷ []) results archives
 
@@ -50,7 +50,7 @@ IsRunAlone store job results archives = (empty : Vec ℕ) × (empty.items ≡ []
 abbrev pub IsLast : List (Vec ℕ) → Vec ℕ → Type 0
 IsLast archives archive = (before : List (Vec ℕ)) × (archives ≡ before ++ archive ∷ [])
 
--- why a file is refused: the first fault of its blocks, or memory ran out
+-- why a file is rejected: the first fault of its blocks, or memory ran out
 abbrev pub IsRefusalOf : List ℕ → RunFault → Type 0
 IsRefusalOf car (faults.Car fault) = IsFaultOf car fault (blocks_of car)
 IsRefusalOf car faults.Memory = Unit {0}

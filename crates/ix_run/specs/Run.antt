@@ -21,11 +21,11 @@ use Rattle.ix_run.specs.declared.fault.RunFault.{RunFault}
 use Rattle.ix_run.specs.declared.fault.RunFault.TheVariants.{Hex, Root, Car, Jobs, Write, Memory}
 use Rattle.ix_run.specs.declared.execution.RunOut.{RunOut}
 
--- a run can be begun: there is a writer for each job, and there are at most 1,000
+-- a run can be started: there is a writer for each job, and there are at most 1,000
 abbrev pub CanRun : {W : Type 0} → List JobMeaning → List W → Type 0
 CanRun jobs writers = (length writers ≡ length jobs) × AreFew jobs
 
--- The end that is told of a job: that of its close, or a failed write, where the last bytes of a whole archive couldn't be flushed.
+-- The end in the report of a job: that of its close, or a failed write if the last bytes of a whole archive couldn't be flushed.
 abbrev pub IsEndOf : End → End → Type 0
 IsEndOf ends.Done told = (told ≡ ends.Done) ⊎ (told ≡ ends.Write)
 IsEndOf ends.Limit told = (told ≡ ends.Limit) ⊎ (told ≡ ends.Write)
@@ -33,7 +33,7 @@ IsEndOf ends.Memory told = told ≡ ends.Memory
 IsEndOf ends.Write told = told ≡ ends.Write
 IsEndOf ends.Start told = told ≡ ends.Start
 
--- What a run told of the job with this number, and what its writer tells, where it told at first that it had no bytes.
+-- The result of the job with this number and the state of its writer, if the writer had no bytes at first.
 pub record IsRun {W : Type 0} (told : W → Option (List ℕ)) (store : Blocks) (number : ℕ) (job : JobMeaning) (before : W) (result : JobResult) (after : W) : Type 0 where
   -- the end of the close, the visits that were delivered with their verdicts, and the failed ones
   pub end : End
@@ -58,17 +58,17 @@ module _ {W : Type 0} (told : W → Option (List ℕ)) where
   EachRun store n (j ∷ js) (b ∷ bs) (r ∷ rs) (a ∷ xs) = IsRun told store n j b r a × EachRun store (n + 1) js bs rs xs
   EachRun store n js bs rs xs = ⊥
 
-  -- all jobs were run: what was told of them, and their writers
+  -- all jobs were run: their results, and their writers
   abbrev pub HaveRun : Blocks → List JobMeaning → List W → Vec JobResult × Vec W → Type 0
   HaveRun store jobs before out = EachRun store 0 jobs before out.0.items out.1.items
 
-  -- an archive for each job and its writer, told nothing so far
+  -- an archive for each job and its writer, which has received nothing so far
   abbrev pub EachBegun : Blocks → List JobMeaning → List W → List (ArchiveMeaning W) → Type 0
   EachBegun store [] [] [] = Unit {0}
   EachBegun store (j ∷ js) (w ∷ ws) (a ∷ xs) = (IsBegun a store j.roots × HasArchived told a store j (told w)) × EachBegun store js ws xs
   EachBegun store js ws xs = ⊥
 
-  -- what was told of an archive, and its writer, which was flushed
+  -- the result of an archive, and its writer, which was flushed
   pub record IsEnded (a : ArchiveMeaning W) (end : End) (result : JobResult) (after : W) : Type 0 where
     pub ended : IsEndOf end result.end
     pub skips : result.skips.items ≡ skips_of a.deliveries
@@ -80,22 +80,22 @@ module _ {W : Type 0} (told : W → Option (List ℕ)) where
   EachEnded (a ∷ xs) (e ∷ es) (r ∷ rs) (w ∷ ws) = IsEnded a e r w × EachEnded xs es rs ws
   EachEnded xs es rs ws = ⊥
 
--- what is left of a run of which these results were told
+-- the result of a run whose jobs have these results
 pub record IsLeftOf {W : Type 0} (jobs : List JobMeaning) (results : List JobResult) (out : RunOut W) : Type 0 where
   pub report : out.report.items ≡ report_of jobs results
   pub status : out.status ≡ status_of results
-  -- the ends are those that the report tells
+  -- the ends are those in the report
   pub ends : out.ends.items ≡ map (λ r. r.end) results
   -- and so is what is handed out of each
   pub told_of : out.results.items ≡ results
 
--- each job was run, and the report and the status are those of what was told
+-- each job was run, and the report and the status are those of the results
 pub record HasRun {W : Type 0} (told : W → Option (List ℕ)) (store : Blocks) (jobs : List JobMeaning) (before : List W) (out : RunOut W) : Type 0 where
   pub results : List JobResult
   pub ran : EachRun told store 0 jobs before results out.writers.items
   pub left : IsLeftOf jobs results out
 
--- a run that isn't refused leaves this
+-- a run that isn't rejected leaves this
 abbrev pub RunsTo : {W : Type 0} → (W → Option (List ℕ)) → Arc Blocks Global → Arc (Vec JobMeaning) Global → List W → Result (RunOut W) RunFault → Type 0
 RunsTo told store jobs before result = IfOk result (λ out. HasRun told (arc_value store) (arc_value jobs).items before out)
 

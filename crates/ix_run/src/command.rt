@@ -10,7 +10,7 @@ use crate::root::export_root;
 use ix_cid::Cid;
 use std::alloc::Global;
 
-/// The CIDv1 with this text.
+/// Parses the text of a CIDv1.
 pub fn root_of_text(alloc: Global, text: &str) -> Result<Cid, RunFault>
     ensures root { IfOk result (λ cid. cid_of_text text.now ≡ Ok cid) }
     ensures refused { IfErr result (λ fault. IsTextRefusal text.now fault) }
@@ -18,8 +18,8 @@ pub fn root_of_text(alloc: Global, text: &str) -> Result<Cid, RunFault>
     Ok(Cid::from_text(alloc, text)?)
 }
 
-/// What the command prints: the archive of the root, out of a CARv1 file in hexadecimal, in
-/// lower-case hexadecimal with a line end.
+/// Returns what the command prints: the archive of the root, from a CARv1 file in hex, as lower-case
+/// hex with a line end.
 pub fn printed_root(alloc: Global, root: Cid, input: &[u8]) -> Result<String, RunFault>
     ensures prints { IfOk result (λ text. PrintsRoot input.now root (string_bytes text)) }
     ensures refused { IfErr result (λ fault. IsPrintRefusal input.now fault) }

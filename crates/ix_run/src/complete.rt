@@ -1,4 +1,4 @@
-//! Which archives have all that their jobs ask for.
+//! Complete archives: those that have all that their jobs ask for.
 
 ghost use Rattle.std.specs.Prelude.{◌≡◌};
 ghost use Rattle.std.specs.List.{list_any};
@@ -10,29 +10,29 @@ use ix_cid::Cid;
 use ix_jobs::JobResult;
 use ix_walk::Job;
 
-/// Whether the job is done and no root of it was skipped, so that each has its section in the
-/// archive; a root whose CID is an identity has none, and needs none.
+/// Returns whether the job is done and no root of it was skipped, so each root has its section in the
+/// archive. A root that is an identity CID has none, and needs none.
 pub fn is_complete(job: &Job, told: &JobResult) -> bool
     ensures { result ≡ is_complete job.now told.now }
 {
     is_done(told.end) && !has_root(job, told.skips.as_slice())
 }
 
-// Whether a job with this end came to it.
+// Returns whether this end is that of a complete job.
 fn is_done(end: End) -> bool
     ensures { result ≡ is_done end }
 {
     matches!(end, End::Done)
 }
 
-// Whether a root of the job is among what was skipped.
+// Returns whether a root of the job is among the skips.
 fn has_root(job: &Job, skips: &[Skip]) -> bool
     ensures { result ≡ list_any (λ skip. is_root job.now skip.cid) skips.now }
 {
     skips.iter().any(|skip| is_root(job, &skip.cid))
 }
 
-/// Whether a CID is that of a root of the job.
+/// Returns whether a CID is that of a root of the job.
 pub fn is_root(job: &Job, cid: &Cid) -> bool
     ensures { result ≡ is_root job.now cid.now }
 {

@@ -1,4 +1,4 @@
-//! A run: every job's archive, the report and the status.
+//! Runs: every job's archive, the report and the status.
 
 ghost use Rattle.std.specs.Prelude.{◌≡◌, length, map, vec_len, IfOk, IfErr};
 ghost use Rattle.std.specs.Arc.{arc_value};
@@ -29,8 +29,8 @@ use std::io::Write;
 use std::sync::{Arc, Wait};
 use std::thread::Threads;
 
-/// What a run leaves: the report, the exit status, and, in the order of the jobs, the ends that the
-/// report tells, all that it tells of each, and the writers.
+/// The result of a run: the report, the exit status, and, in the order of the jobs, the ends and the
+/// results in the report, and the writers.
 #[derive(Drop)]
 pub struct RunOut<W> {
     pub report: Vec<u8>,
@@ -40,11 +40,11 @@ pub struct RunOut<W> {
     pub writers: Vec<W>,
 }
 
-/// Runs the jobs over the store, by the plan's walkers and so many verifiers, and writes the archive
+/// Runs the jobs over the store, with the plan's walkers and so many verifiers, and writes the archive
 /// of each to its writer.
 ///
-/// All headers are written first; the first that can't be written is the refusal. A writer whose
-/// flush fails in the end has its job told as ended by a failed write.
+/// All headers are written first; the first that can't be written is the error. If the flush of a
+/// writer fails in the end, its job is reported as ended by a failed write.
 pub fn run<R: Threads + Wait + Sync, W: Write + Drop>(
     rt: &R,
     alloc: Global,
@@ -68,18 +68,18 @@ pub fn run<R: Threads + Wait + Sync, W: Write + Drop>(
     run_watched(rt, alloc, input, writers, &Unwatched)
 }
 
-/// What a run is given beside its writers: the blocks, the jobs, and how many threads work.
+/// The inputs of a run besides its writers: the blocks, the jobs, and the number of threads.
 #[derive(Drop)]
 pub struct RunInput<'a> {
     pub store: &'a Arc<Store>,
     pub jobs: &'a Arc<Vec<Job>>,
-    /// How many verifiers hash.
+    /// The number of verifiers.
     pub verifiers: u32,
     pub plan: Plan,
 }
 
-/// As `run`, of which a watch is told while it goes on: at first of the bytes of each header, then of
-/// each delivery and its bytes, and of each close.
+/// Runs the jobs as `run` does, and notifies a watch: first of the bytes of each header, then of each
+/// delivery and its bytes, and of each close.
 pub fn run_watched<R: Threads + Wait + Sync, W: Write + Drop, V: Watch>(
     rt: &R,
     alloc: Global,
@@ -110,7 +110,7 @@ pub fn run_watched<R: Threads + Wait + Sync, W: Write + Drop, V: Watch>(
     Ok(left_of(alloc, jobs.as_slice(), results, writers)?)
 }
 
-// What is left of a run of which this was told, with these writers.
+// Returns the result of a run from the jobs' results and their writers.
 fn left_of<W: Drop>(
     alloc: Global,
     jobs: &[Job],
@@ -133,14 +133,14 @@ fn left_of<W: Drop>(
     })
 }
 
-// How each job ended.
+// Returns how each job ended.
 fn ends_of(alloc: Global, results: &[JobResult]) -> Result<Vec<End>, AllocError>
     ensures { IfOk result (λ ends. ends.items ≡ map (λ r. r.end) results.now) }
 {
     results.iter().map(|told| told.end).collect(alloc)
 }
 
-// So many checks that have checked nothing so far.
+// Makes so many checks that have checked nothing so far.
 fn sha_checks(alloc: Global, count: u32) -> Result<Vec<ShaCheck>, AllocError>
     ensures unused { IfOk result (λ checks. EachUnused (λ c. c) checks.items) }
     ensures count { IfOk result (λ checks. vec_len checks ≡ count) }
@@ -152,7 +152,7 @@ fn sha_checks(alloc: Global, count: u32) -> Result<Vec<ShaCheck>, AllocError>
     Ok(checks)
 }
 
-/// Runs the jobs over the store on one thread: what was told of each, and its writer.
+/// Runs the jobs over the store on one thread. Returns the result of each and its writer.
 pub fn run_jobs<W: Write + Drop, C: Check>(
     alloc: Global,
     store: &Store,
@@ -171,7 +171,7 @@ pub fn run_jobs<W: Write + Drop, C: Check>(
     Ok(ended(alloc, archives, ends.as_slice())?)
 }
 
-// An archive for each job, with its header written, of which the watch is told.
+// Makes an archive for each job, writes its header, and notifies the watch.
 fn begun<'a, W: Write + Drop, V: Watch>(
     alloc: Global,
     store: &'a Store,
@@ -195,7 +195,7 @@ fn begun<'a, W: Write + Drop, V: Watch>(
     Ok(archives)
 }
 
-// The results of the archives with these ends, and their writers.
+// Returns the results of the archives with these ends, and their writers.
 fn ended<'a, W: Write + Drop, V: Watch>(
     alloc: Global,
     archives: Vec<Watched<'a, W, V>>,
@@ -216,8 +216,8 @@ fn ended<'a, W: Write + Drop, V: Watch>(
     Ok((results, writers))
 }
 
-// The end of a job whose writer is flushed: a flush that fails is a failed write. Want of memory
-// is told before it.
+// Flushes the writer of a job and returns the job's end: a flush that fails is a failed write. If
+// memory ran out, that is reported first.
 fn flushed<W: Write>(writer: &mut W, end: End) -> End
     ensures end { IsEndOf end result }
     ensures bytes { Keeps (W.contents writer.old) (W.contents writer.new) }

@@ -1,4 +1,4 @@
-//! Why a command of the program refuses.
+//! The errors of a run and of the command `root`.
 
 ghost use Rattle.std.specs.Prelude.{◌≡◌, IfOk, string_bytes};
 ghost use Rattle.ix_run.specs.FaultLine.{line_of};
@@ -9,25 +9,25 @@ use ix_jobs::JobsFault;
 use std::alloc::{AllocError, AllocFailed, Global};
 use thiserror::Error;
 
-/// Why a command refuses.
+/// Why a command of the program fails.
 #[derive(Debug, Drop, Error)]
 pub enum RunFault {
-    /// Standard input is not hexadecimal.
+    /// Standard input is not hex.
     #[error("the input is not hexadecimal")]
     Hex,
-    /// The text of the root is no CIDv1.
+    /// The text of the root is not a CIDv1.
     #[error("the root is no CID: {0}")]
     Root(CidFault),
-    /// The input is no CARv1 file.
+    /// The input is not a CARv1 file.
     #[error("the input is no CARv1 file: {0:?}")]
     Car(CarFault),
-    /// The job file is refused.
+    /// The job file is rejected.
     #[error("the job file is refused: {0:?}")]
     Jobs(JobsFault),
     /// The header of the archive of the job with this number, from 0, could not be written.
     #[error("the archive of job {0} could not be begun")]
     Write(u32),
-    /// No memory was left.
+    /// Memory ran out.
     #[error("out of memory")]
     Memory,
 }
@@ -87,7 +87,7 @@ impl From<JobsFault> for RunFault {
     }
 }
 
-/// The line that the program prints for a refusal, without its end.
+/// Returns the line that the program prints for an error, without its end.
 pub fn fault_line(alloc: Global, fault: &RunFault) -> Result<String, AllocError>
     ensures { IfOk result (λ line. string_bytes line ≡ line_of fault.now) }
 {

@@ -8,8 +8,8 @@ use crate::fault::RunFault;
 use hex::FromHexError;
 use std::alloc::Global;
 
-/// The bytes that a text gives in hexadecimal, in either case (RFC 4648, section 8). Spaces, tabs
-/// and line ends are skipped wherever they stand.
+/// Decodes a text in hex, in either case (RFC 4648, section 8). Spaces, tabs and line ends are skipped
+/// anywhere.
 pub fn bytes_of_hex(alloc: Global, text: &[u8]) -> Result<Vec<u8>, RunFault>
     ensures bytes { IfOk result (λ bytes. decode_of (without_blanks text.now) ≡ Ok bytes.items) }
     ensures refused { IfErr result (IsInputFault text.now) }

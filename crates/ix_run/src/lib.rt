@@ -1,9 +1,9 @@
-//! A run over a file of blocks and a job file, the archive of one root, and the lines of refusals.
+//! Runs over a block file and a job file, the archive of one root, and the lines of errors.
 //!
-//! `prepare` reads both files, or tells the first fault; `load_part` takes a part of the jobs. `run` walks each job and writes its
-//! archive. In every schedule: the report and the status are those of what was told of the jobs,
-//! and each archive, over a writer that had no bytes, is that of its job at Done and else a
-//! beginning of it.
+//! `prepare` reads both files, or returns the first error; `load_part` takes a part of the jobs. `run`
+//! walks each job and writes its archive. In every schedule: the report and the status are those of the
+//! jobs' results. Each archive, over a writer that had no bytes, is that of its job if it ends with Done,
+//! and else a prefix of it.
 //!
 //! ```rust
 //! let (store, jobs) = prepare(alloc, car, job_file)?;

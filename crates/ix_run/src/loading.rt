@@ -1,4 +1,4 @@
-//! What a run needs, where its jobs are chosen and several threads index the blocks.
+//! Loads what a run needs, if its jobs are chosen and several threads index the blocks.
 
 ghost use Rattle.std.specs.Prelude.{◌≡◌, IfOk, IfErr, Ok};
 ghost use Rattle.std.specs.Arc.{arc_value};
@@ -23,13 +23,13 @@ use std::thread::Threads;
 pub struct Choice {
     /// The part of its jobs, or all.
     pub part: Option<Part>,
-    /// Whether each goes into a CID once, and not at every arrival.
+    /// Whether each job expands a CID once, and not at every link to it.
     pub once: bool,
 }
 
-/// The blocks of a CARv1 file, whose bytes the store takes over, and the chosen jobs of a job file,
-/// which is judged as a whole. So many threads index the blocks if they are many. Where both files
-/// are refused, the fault is that of the CARv1 file.
+/// Loads the blocks of a CARv1 file, whose bytes the store owns from then on, and the chosen jobs of a
+/// job file, which is checked as a whole. So many threads index the blocks if they are many. If both
+/// files are rejected, the error is that of the CARv1 file.
 pub fn load_by<R: Threads + Sync>(
     rt: &R,
     alloc: Global,
@@ -49,7 +49,7 @@ pub fn load_by<R: Threads + Sync>(
     Ok(shared(alloc, store, jobs)?)
 }
 
-// The jobs of a file, or of a part of it.
+// Reads the jobs of a file, or of a part of it.
 fn read_chosen(alloc: Global, job_file: &[u8], part: Option<Part>) -> Result<Vec<Job>, JobsFault>
     ensures jobs { IfOk result (λ jobs. jobs_in part job_file.now ≡ Ok jobs.items) }
     ensures few { IfOk result (λ jobs. AreFew jobs.items) }
@@ -61,7 +61,7 @@ fn read_chosen(alloc: Global, job_file: &[u8], part: Option<Part>) -> Result<Vec
     }
 }
 
-// The same jobs, each of which goes into a CID once, or as they are.
+// Returns the same jobs, which expand each CID once if that is asked for.
 fn walked(alloc: Global, jobs: Vec<Job>, once: bool) -> Result<Vec<Job>, AllocError>
     ensures { IfOk result (λ walked_jobs. walked_jobs.items ≡ walked once jobs.items) }
 {

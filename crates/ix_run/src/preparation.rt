@@ -1,4 +1,4 @@
-//! What a run needs: the store of blocks and the list of jobs.
+//! Loads what a run needs: the block store and the list of jobs.
 
 ghost use Rattle.std.specs.Prelude.{◌≡◌, Some, IfOk, IfErr};
 ghost use Rattle.std.specs.Arc.{arc_value};
@@ -14,8 +14,8 @@ use ix_walk::Job;
 use std::alloc::{AllocError, Global};
 use std::sync::Arc;
 
-/// The blocks of a CARv1 file and the jobs of a job file. Where both are refused, the fault is
-/// that of the CARv1 file.
+/// Loads the blocks of a CARv1 file and the jobs of a job file. If both are rejected, the error is that
+/// of the CARv1 file.
 pub fn prepare(
     alloc: Global,
     car: &[u8],
@@ -29,7 +29,7 @@ pub fn prepare(
     Ok(shared(alloc, store, jobs)?)
 }
 
-/// The same of a CARv1 file whose bytes the store takes over, so that no block is copied.
+/// Loads the same from a CARv1 file whose bytes the store owns from then on, so no block is copied.
 pub fn load(
     alloc: Global,
     car: Vec<u8>,
@@ -43,7 +43,7 @@ pub fn load(
     Ok(shared(alloc, store, jobs)?)
 }
 
-/// The same of a part of the job file's jobs. The job file is judged as a whole, whatever the part.
+/// Loads the same, with a part of the jobs. The job file is checked as a whole, whatever the part.
 pub fn load_part(
     alloc: Global,
     car: Vec<u8>,
@@ -58,7 +58,7 @@ pub fn load_part(
     Ok(shared(alloc, blocks, jobs)?)
 }
 
-/// The blocks and the jobs as the threads of a run share them.
+/// Shares the blocks and the jobs between the threads of a run.
 pub(crate) fn shared(
     alloc: Global,
     store: Store,

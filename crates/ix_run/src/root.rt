@@ -21,7 +21,7 @@ use std::slice;
 // The matcher selector in DAG-CBOR: a map with the key `.` and an empty map.
 const MATCHER: &[u8; 4] = b"\xa1\x61\x2e\xa0";
 
-/// The CARv1 archive of one root: what is kept of the visits of the job with that root, the
+/// Returns the CARv1 archive of one root: what is kept of the visits of the job with that root, the
 /// matcher selector and a limit of one visit, over the blocks of a CARv1 file.
 pub fn export_root(alloc: Global, car: &[u8], root: Cid) -> Result<Vec<u8>, RunFault>
     ensures archive { IfOk result (λ archive. exported_from car.now root ≡ Ok archive.items) }
@@ -33,7 +33,7 @@ pub fn export_root(alloc: Global, car: &[u8], root: Cid) -> Result<Vec<u8>, RunF
     whole_archive(results.as_slice(), archives).ok_or(RunFault::Memory)
 }
 
-// What is told of a job that runs alone, and what was written.
+// The result of a job that runs alone, and what was written.
 fn run_alone(
     alloc: Global,
     store: &Store,
@@ -43,14 +43,14 @@ fn run_alone(
 {
     let writers = vec![in alloc; Vec::new(alloc)]?;
     let mut check = ShaCheck::new(alloc);
-    // A vector takes what it is given while there is memory.
+    // A vector accepts every write while there is memory.
     match run_jobs(alloc, store, slice::from_ref(job), writers, &mut check) {
         Ok(ran) => Ok(ran),
         Err(_) => Err(AllocError),
     }
 }
 
-// The archive of one job, where it is whole.
+// Returns the archive of one job, if it is whole.
 fn whole_archive(results: &[JobResult], mut archives: Vec<Vec<u8>>) -> Option<Vec<u8>>
     ensures whole { IfSome result (λ archive.
         (is_whole results.now ≡ true) × IsLast archives.items archive) }
@@ -63,7 +63,7 @@ fn whole_archive(results: &[JobResult], mut archives: Vec<Vec<u8>>) -> Option<Ve
     }
 }
 
-// Whether one job was walked to its end or to its limit, and all was written.
+// Returns whether one job was walked to its end or to its limit, and all was written.
 fn is_whole(results: &[JobResult]) -> bool
     ensures { result ≡ is_whole results.now }
 {
@@ -73,25 +73,25 @@ fn is_whole(results: &[JobResult]) -> bool
     }
 }
 
-// The job of a root: the matcher, and one visit.
+// Returns the job of a root: the matcher, and one visit.
 fn root_job(alloc: Global, root: Cid) -> Result<Job, AllocError>
     ensures { IfOk result (λ job. job ≡ root_job root) }
 {
     let name = String::from_str(alloc, "root")?;
     let roots = vec![in alloc; root]?;
     let selector = matcher(alloc)?;
-    // The name, the one root and the limit are those of a job.
+    // The name, the one root and the limit are valid.
     match Job::new(name, roots, selector, 1) {
         Ok(job) => Ok(job),
         Err(_) => Err(AllocError),
     }
 }
 
-// The selector that enters the root alone.
+// Returns the selector that matches the root alone.
 fn matcher(alloc: Global) -> Result<Selector, AllocError>
     ensures { IfOk result (λ selector. selector ≡ matcher) }
 {
-    // The bytes spell a selector, so only memory can be refused.
+    // The bytes are a selector, so the only error is out of memory.
     let Ok(tree) = decode(alloc, MATCHER) else {
         return Err(AllocError);
     };

@@ -1,4 +1,4 @@
-//! What is told of a run while it goes on.
+//! The observer of a run in progress.
 
 ghost use Rattle.std.specs.Prelude.{◌≡◌};
 ghost use Rattle.ix_archive.specs.Report.{skips_of, counts_of};
@@ -10,8 +10,7 @@ use std::alloc::Global;
 use std::io::Write;
 use std::marker::Model;
 
-/// Is told how a run goes on, by the one thread that delivers. What it does with that changes nothing
-/// of the run.
+/// An observer of a run. The one thread that delivers calls it. What it does has no effect on the run.
 pub trait Watch {
     /// So many more bytes of archives were written.
     fn written(&self, bytes: u64);
@@ -23,7 +22,7 @@ pub trait Watch {
     fn closed(&self);
 }
 
-/// A watch that tells nobody.
+/// A watch that ignores everything.
 #[derive(Drop)]
 pub struct Unwatched;
 
@@ -35,8 +34,8 @@ impl Watch for Unwatched {
     fn closed(&self) {}
 }
 
-/// An archive of which a watch is told. It hands everything on, and contracts see it as the archive
-/// inside: its events, its failed deliveries and its fact are those.
+/// An archive that notifies a watch. It forwards every call, and contracts see it as the archive
+/// inside: its events, its failed deliveries and its guarantee are those.
 #[derive(Drop)]
 pub struct Watched<'a, W: Write, V: Watch> {
     archive: Archive<'a, W>,
@@ -52,7 +51,7 @@ impl<'a, W: Write, V: Watch> Model for Watched<'a, W, V> {
 }
 
 impl<'a, W: Write, V: Watch> Watched<'a, W, V> {
-    /// Has a watch told of an archive, and at once of the bytes that it has so far.
+    /// Wraps an archive, and notifies the watch at once of the bytes that it has so far.
     pub fn new(archive: Archive<'a, W>, watch: &'a V) -> Watched<'a, W, V>
         ensures { result ≡ archive.entry }
     {
@@ -60,7 +59,7 @@ impl<'a, W: Write, V: Watch> Watched<'a, W, V> {
         Watched { archive, watch }
     }
 
-    /// The writer, the skips and the counts of the archive.
+    /// Returns the writer, the skips and the counts of the archive.
     pub fn into_parts(self) -> (W, Vec<Skip>, Counts)
         ensures writer { result.0 ≡ self.entry.writer }
         ensures skips { result.1.items ≡ skips_of self.entry.deliveries }

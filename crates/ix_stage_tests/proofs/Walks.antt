@@ -19,9 +19,11 @@ use Rattle.ix_handover.specs.Queue.{table_of}
 use Rattle.ix_handover.specs.Seats.{JobView, IsNext, new_job, new_taker}
 use Rattle.ix_stage_tests.specs.Walkers.{CanWalk, HasLeft, IsLeft, IsTaker}
 
+-- new seats can walk, as each has put nothing
 pub new_jobs-walk : (queue : VisitQueue) (course : List JobVisits) (all : ℕ) (numbers : List ℕ) → All (CanWalk queue course) (map (new_job (table_of queue) course all) numbers)
 new_jobs-walk queue course all numbers = All-map (CanWalk queue course) (new_job (table_of queue) course all) numbers (λ k d lt. (refl, refl, refl, refl))
 
+-- new takers can take, as each has taken nothing
 pub new_takers-take : (queue : VisitQueue) (course : List JobVisits) (all n : ℕ) → All (IsTaker queue) (replicate n (new_taker (table_of queue) course all))
 new_takers-take queue course all n = All-replicate (IsTaker queue) n (new_taker (table_of queue) course all) refl
 
@@ -42,13 +44,14 @@ begins_left sized visits over visit store jobs s job w course begins at whole =
       limited = ap (λ (x : WalkLeft). x.limited) whole ∙ sym (ap (λ (k : List JobVisits). course_over k s.job) course ∙ over store jobs s.job job at);
     }
 
--- the visit that it gives is the next of the seat, and the rest is left behind it
+-- the visit that it gives is the next of the seat, and the rest is left after it
 pub visit_is_next : (s : JobView) (v : Visit) (w x : WalkLeft) → IsLeft s w → GivesNext w (Some (Ok v)) x → IsNext s (item.Visit v)
 visit_is_next s v w x h gives =
     let next = next_at (course_visits s.pass.course s.job) x.visits s.next v (h.left ∙ gives.1) in
     let is = h.numbered s.next v next.0 in
     (eq-eqb v.job s.job is.0, is.1, subst (λ (j : ℕ). slice_get (course_visits s.pass.course j) v.seq ≡ Some v) (sym is.0) (subst (λ (n : ℕ). slice_get (course_visits s.pass.course s.job) n ≡ Some v) (sym is.1) next.0))
 
+-- after a visit, the rest of the walk is what is left of it
 pub left_behind : (s : JobView) (v : Visit) (w x : WalkLeft) → IsLeft s w → GivesNext w (Some (Ok v)) x → HasLeft s.pass.course s.job (s.next + 1) x
 left_behind s v w x h gives =
     let next = next_at (course_visits s.pass.course s.job) x.visits s.next v (h.left ∙ gives.1) in

@@ -115,7 +115,7 @@ fn visit_of(alloc: Global, seq: u32, cid: &str, depth: u32) -> Result<Visit, Fai
     })
 }
 
-// Delivers visits up to the first fault, which it answers, and closes where there is none.
+// Delivers visits up to the first error, which it returns, and closes if there is none.
 fn deliver_all<W: Write>(
     alloc: Global,
     archive: &mut Archive<'_, W>,
@@ -136,7 +136,7 @@ fn deliver_all<W: Write>(
     Ok(None)
 }
 
-// What comes of an archive: no counts where none could be begun.
+// What comes of an archive: no counts where none could be started.
 #[derive(Drop)]
 struct Outcome {
     bytes: Vec<u8>,
@@ -145,7 +145,7 @@ struct Outcome {
     fault: Option<SinkFault>,
 }
 
-// What comes of an archive that could not be begun.
+// What comes of an archive that could not be started.
 fn not_begun(alloc: Global, fault: ArchiveNew<Narrow>) -> Result<Outcome, Fail> {
     match fault {
         ArchiveNew::Memory(_) => Err(Fail::from(AllocError)),
@@ -158,7 +158,7 @@ fn not_begun(alloc: Global, fault: ArchiveNew<Narrow>) -> Result<Outcome, Fail> 
     }
 }
 
-// What comes of an archive that was told nothing so far.
+// What comes of an archive that received nothing so far.
 fn outcome_of(
     alloc: Global,
     archive: Archive<'_, Narrow>,

@@ -81,7 +81,7 @@ fn lane_of(alloc: Global, capacity: u32, items: &[Sent]) -> Result<(LaneIn, Lane
     Ok((sender, receiver))
 }
 
-// A collector, and a log for each of its jobs, which may be told what comes next.
+// A collector, and a log for each of its jobs, which may receive what comes next.
 #[derive(Drop)]
 struct Gathering<const N: usize> {
     collector: Collector,
@@ -220,7 +220,7 @@ fn ends_of_four_jobs(rt: HostRuntime) -> Result<(), Fail> {
 }
 
 // Items of which the last can't come: a number that was passed, one that is taken, one too far above
-// the next, a second close, an item behind the close of the sink, and one of a job that isn't there.
+// the next, a second close, an item after the close of the sink, and one of a job that isn't there.
 const STRAYS: [[Sent; 2]; 6] = [
     [Sent::Checked(0, 0), Sent::Checked(0, 0)],
     [Sent::Checked(0, 1), Sent::Unchecked(0, 1)],
@@ -230,7 +230,7 @@ const STRAYS: [[Sent; 2]; 6] = [
     [Sent::Checked(0, 1), Sent::Checked(1, 0)],
 ];
 
-// Whether a stray was noted, and what the only log was told so far: how many deliveries, and the close.
+// Whether a stray was noted, and what the only log received so far: how many deliveries, and the close.
 fn noted_and_told(gathering: &Gathering<1>) -> (bool, (usize, Option<End>)) {
     let log = &gathering.logs[0];
     (
@@ -239,7 +239,7 @@ fn noted_and_told(gathering: &Gathering<1>) -> (bool, (usize, Option<End>)) {
     )
 }
 
-// A collector for one job notes the second of these items, and not the first, and its sink is told no
+// A collector for one job notes the second of these items, and not the first, and its sink receives no
 // more by it.
 fn notes_the_second(rt: &impl Abort, alloc: Global, items: &[Sent; 2]) -> Result<(), Fail> {
     let mut gathering = Gathering::new(alloc, [Log::new(alloc, 9)?])?;

@@ -26,14 +26,14 @@ fn seq_of(item: &Verdicted) -> Option<u32> {
     }
 }
 
-// Sends an item, or answers the number of the one that comes back.
+// Sends an item, or returns the number of the one that comes back.
 fn send_one(sender: &mut LaneIn, seq: u32) -> Result<(), Option<u32>>
     ensures { SameIn sender.old sender.new }
 {
     sender.try_send(item(seq)).map_err(|back| seq_of(&back))
 }
 
-// Receives an item, and answers its number.
+// Receives an item, and returns its number.
 fn receive_one(receiver: &mut LaneOut) -> Option<Option<u32>> {
     receiver.try_recv().as_ref().map(seq_of)
 }
@@ -169,7 +169,7 @@ struct Claimed {
     found: Vec<(u32, u32)>,
 }
 
-// Claims until all are claimed, once four threads have begun.
+// Claims until all are claimed, once four threads have started.
 fn claim_all(
     alloc: Global,
     claims: &Claims<u32>,

@@ -1,7 +1,7 @@
 //! Tests of the ring, lanes, claims, the visit queue, the collector and archives, call by call and
 //! among threads.
 //!
-//! It has no public call and promises nothing: what its tests find is what they say. A test is as
+//! It has no public call and no contract: its tests are its results. A test looks like this:
 //!
 //! ```rust
 //! #[test]

@@ -275,7 +275,7 @@ fn out_of<'a>(queue: &'a VisitQueue, takers: Vec<TakeSeat>) -> Result<QueueOut<'
 }
 
 // A walker for each seat, in a thread of its own: it puts the visits of the seat's job, and the close.
-// The seat stays open where memory is wanting.
+// The seat stays open if memory runs out.
 fn walk_all<R: Threads + Wait + Sync>(
     rt: &R,
     alloc: Global,
@@ -309,7 +309,7 @@ struct Taken {
     numbers: Vec<(u32, u32)>,
 }
 
-// Takes an item and notes its job and number. False where it is a Stop, or memory is wanting.
+// Takes an item and notes its job and number. Returns false if it is a Stop, or if memory runs out.
 fn take_number<R: Wait>(
     rt: &R,
     queue: &VisitQueue,
@@ -629,7 +629,7 @@ fn try_next<R: Wait>(
 }
 
 // Whether the walk's first visit fills a queue with room for one, so that the second comes back,
-// and then the first is taken and nothing behind it.
+// and then the first is taken and nothing after it.
 fn fits_one<R: Wait>(
     rt: &R,
     queue: &VisitQueue,

@@ -4,14 +4,14 @@ use ix_ring::{Ring, RingFault};
 use std::process::Abort;
 use std::test::Fail;
 
-// A call on a ring, and what it answers.
+// A call on a ring, and its expected result.
 #[derive(Drop)]
 enum Call {
     Place(u32, char, Result<(), RingFault<char>>),
     Pop(Option<char>),
 }
 
-// Each call, with the number that is the next one behind it.
+// Each call, with the number that is the next one after it.
 const CALLS: [(Call, u64); 12] = [
     (Call::Place(2, 'c', Ok(())), 0),
     (Call::Place(0, 'a', Ok(())), 0),
@@ -27,7 +27,7 @@ const CALLS: [(Call, u64); 12] = [
     (Call::Pop(None), 3),
 ];
 
-// The ring answers the call as it is to.
+// The ring returns the expected result of the call.
 fn answers(rt: &impl Abort, ring: &mut Ring<char>, call: &Call, next: u64) {
     match call {
         Call::Place(seq, letter, answer) => {

@@ -101,12 +101,13 @@ sections-sound store place (d ∷ ds) sound =
 pub written-sound : (store : Blocks) (roots : List (List ℕ)) (ds : List Delivery) → All (IsJudged store) ds → All IsSoundByItself (written_sections store roots ds)
 written-sound store roots ds judged = sections-sound store (length (header_of roots)) (first_sound ds) (All-first_sound store ds judged)
 
--- where each section is sound none is told
+-- where each section is sound none is reported
 none-unsound : (ss : List SectionMeaning) → All IsSoundByItself ss → unsound_of ss ≡ []
 none-unsound [] sound = refl
 none-unsound (s ∷ ss) sound =
     ap (λ (v : Verdict). if not (is_sound v) then told_of s ∷ unsound_of ss else unsound_of ss) (All-head IsSoundByItself s ss sound) ∙ none-unsound ss (All-tail IsSoundByItself s ss sound)
 
+-- two results that are equal have equal sections
 sections_same : (ss ts : List SectionMeaning) → ◌≡◌ {A = Result (List SectionMeaning) Fault} (Ok ss) (Ok ts) → ss ≡ ts
 sections_same ss ts h = cc
 

@@ -39,6 +39,7 @@ unseen-new seen c b cs isnt =
 abbrev pub AreFirst : List (List ℕ) → Blocks → ℕ → List (List ℕ) → Type 0
 AreFirst roots seen i distinct = distinct ++ unseen (has_cid seen) (drop i roots) ≡ first_ones roots
 
+-- before any root is read, no root is kept
 pub first-none : (roots : List (List ℕ)) → AreFirst roots [] 0 []
 first-none roots = unseen-none roots
 

@@ -25,6 +25,7 @@ fault-along b e h = (h.0, FailsAs-along e.kind _ (blocks_of b) (section_list b) 
 store-of_sections : (b : List ℕ) (sections : List SectionMeaning) → section_list b ≡ Ok sections → blocks_of b ≡ Ok (with_sections [] sections)
 store-of_sections b sections read = blocks-of_sections b ∙ ap first_of_each read
 
+-- two results that are equal have equal stores
 one_store : (store other : Blocks) → ◌≡◌ {A = Result Blocks Fault} (Ok store) (Ok other) → store ≡ other
 one_store store other h = cc
 

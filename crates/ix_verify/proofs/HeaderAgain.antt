@@ -13,6 +13,7 @@ use Rattle.ix_car.specs.Reading.{Fault, ◌>>=◌, are_links, version_fault, hea
 use Rattle.ix_car.specs.Sections.{links_in, roots_in, roots_behind, roots_of}
 use Rattle.ix_verify.proofs.TextsAgain.{text_again}
 
+-- a link takes at least three bytes more than its CID
 link_size : (c : List ℕ) → length c + 3 ≤ length (link_spelling c)
 link_size c = omega (arith, length-append (head_of 2 (length c + 1)) (0 ∷ c))
 
@@ -27,6 +28,7 @@ links_spellable (c ∷ cs) are short =
     let size = length-append (link_spelling c) (items_spelling (links_to cs)) in
     ((omega (arith, short, size, link_size c), All-head IsCid c cs are), links_spellable cs (All-tail IsCid c cs are) (omega (arith, short, size)))
 
+-- a list of links nests nothing
 links_flat : (roots : List (List ℕ)) → items_nesting (links_to roots) ≡ 0
 links_flat [] = refl
 links_flat (c ∷ cs) = ap (λ n. max 0 n) (links_flat cs)
@@ -55,15 +57,17 @@ header_read roots are short =
     let d = header_data roots in
     ap result_ok (decoded-complete (spelling_of d) d (record { canonical = header_canonical roots are (omega (arith, short, header_links roots)); spelled = refl }))
 
+-- a list of links has links alone
 links-are_links : (roots : List (List ℕ)) → are_links (links_to roots) ≡ true
 links-are_links [] = refl
 links-are_links (c ∷ cs) = links-are_links cs
 
+-- the links of a list of links are its CIDs
 links_in-links : (roots : List (List ℕ)) → links_in (links_to roots) ≡ roots
 links_in-links [] = refl
 links_in-links (c ∷ cs) = ap (λ (l : List (List ℕ)). c ∷ l) (links_in-links cs)
 
--- behind the header stands what follows it
+-- after the header stands what follows it
 pub header_again : (roots : List (List ℕ)) (rest : List ℕ) → All IsCid roots → length (spelling_of (header_data roots)) < 2 ^ 63 → header_at (header_of roots ++ rest) ≡ Ok rest
 header_again roots rest are short =
     let b = header_of roots ++ rest in

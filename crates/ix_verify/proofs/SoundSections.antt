@@ -35,6 +35,7 @@ sound_by true (Some Sha2_512) c block h = h
 pub sound-section : (store : Blocks) (c block : List ℕ) → verdict_of store c ≡ Sound → block_of store c ≡ Some block → section_verdict c block ≡ Sound
 sound-section store c block sound there = sound_by (has_codec c) (hash_function_of (parts_of c)) c block (ap (verdict_with c) (sym there) ∙ sound)
 
+-- only the verdict Sound is sound
 is_sound-Sound : (v : Verdict) → is_sound v ≡ true → v ≡ Sound
 is_sound-Sound Sound h = refl
 is_sound-Sound Codec h = absurd cc
@@ -44,17 +45,19 @@ is_sound-Sound Damaged h = absurd cc
 is_sound-Sound Malformed h = absurd cc
 is_sound-Sound Inline h = absurd cc
 
+-- the deliveries of arrivals have the store's verdicts, as each was judged by it
 All-judged : (store : Blocks) (number : ℕ) (all arrivals : List Arrival) → All (IsJudged store) (map (λ a. judged store (visit_of store number (number_among 0 all a) a)) arrivals)
 All-judged store number all [] = All-nil (IsJudged store)
 All-judged store number all (a ∷ more) =
     All-cons (IsJudged store) (judged store (visit_of store number (number_among 0 all a) a)) (map (λ b. judged store (visit_of store number (number_among 0 all b) b)) more) refl (All-judged store number all more)
 
+-- the deliveries of visits have the store's verdicts
 All-judged_visits : (store : Blocks) (visits : List Visit) → All (IsJudged store) (map (judged store) visits)
 All-judged_visits store [] = All-nil (IsJudged store)
 All-judged_visits store (v ∷ visits) =
     All-cons (IsJudged store) (judged store v) (map (judged store) visits) refl (All-judged_visits store visits)
 
--- whether the job goes into a CID once or not
+-- whether the job expands a CID once or not
 All-verified_if : (store : Blocks) (number : ℕ) (job : JobMeaning) (once : Bool)
     → All (IsJudged store) (if once then all_judged store number job else map (λ a. judged store (visit_of store number (number_among 0 (believed store job) a) a)) (verified_arrivals store job))
 All-verified_if store number job true = All-judged_visits store (visits_from store number 0 (arrivals_of store job))

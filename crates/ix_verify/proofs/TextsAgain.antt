@@ -1,4 +1,4 @@
--- Texts, CIDs and sections are read where they stand.
+-- Texts, CIDs and sections are read anywhere.
 use Rattle.std.proofs.Common.{◌≡◌, ℕ, ◌+◌, ◌-◌, ◌<◌, ◌^◌, Bool, false, cond, ltb, List, [], ◌++◌, length, take, drop, sym, ◌∙◌, ap, arith, append_assoc, append-nil, length-append}
 use Rattle.std.specs.Prelude.{Result, Ok}
 use Rattle.std.proofs.lemmas.Bool.{le-ltb}
@@ -14,7 +14,7 @@ use Rattle.ix_car.specs.declared.fault.CarKind.TheVariants.{Truncated}
 use Rattle.ix_car.specs.Writing.{with_length}
 use Rattle.ix_car.specs.Reading.{Fault, ◌>>=◌, fails, text_at, text_behind, pair_of, section_at}
 
--- a text that stands behind its length
+-- a text that is after its length
 behind_again : (v text rest : List ℕ) → text_behind ((v ++ text) ++ rest) (Ok (length text, length v)) ≡ Ok (text, rest)
 behind_again v text rest =
     let b = (v ++ text) ++ rest in

@@ -22,10 +22,11 @@ told_among-unsound (s ∷ ss) = on_verdict (is_sound (verdict_in s)) (told_among
   on_verdict true more = more
   on_verdict false more = ap (λ l. told_of (section_of s) ∷ l) more
 
--- a section that isn't sound is told
+-- a section that isn't sound is reported
 pub told-faulty : (s : Section) (v : Verdict) → is_sound v ≡ false → told_if s v ≡ record { place = s.place; cid = s.cid; verdict = v } ∷ []
 told-faulty s v faulty = ap (λ (t : Bool). if t then [] else record { place = s.place; cid = s.cid; verdict = v } ∷ []) faulty
 
+-- a section is listed at most once
 few-told : (s : Section) (v : Verdict) → length (told_if s v) ≤ 1
 few-told s v = on_verdict (is_sound v) where
   one : Unsound
@@ -35,12 +36,13 @@ few-told s v = on_verdict (is_sound v) where
   on_verdict true = omega arith
   on_verdict false = omega arith
 
--- no more are told than there are sections
+-- no more are reported than there are sections
 few-among : (ss : List Section) (vs : List Verdict) → length (told_among ss vs) ≤ length ss
 few-among [] vs = omega arith
 few-among (s ∷ ss) [] = omega arith
 few-among (s ∷ ss) (v ∷ vs) = omega (arith, length-append (told_if s v) (told_among ss vs), few-told s v, few-among ss vs)
 
+-- without sections or verdicts nothing is listed
 none-told : (ss : List Section) (vs : List Verdict) → (ss ≡ []) ⊎ (vs ≡ []) → told_among ss vs ≡ []
 none-told ss vs (inl e) = ap (λ (a : List Section). told_among a vs) e
 none-told [] vs (inr e) = refl
@@ -60,7 +62,7 @@ module _ (most : ℕ) (ss : List Section) (vs : List Verdict) where
       noted-more most (told_among ss vs) (told_if s v) (told_among later_ss later_vs) old mid new
       (subst (λ (l : List Unsound). AreNoted most (told_among ss vs) l old mid) left so_far) more
 
-  -- where no pair is left, all are told
+  -- where no pair is left, all are reported
   pub all-told : (now_ss : List Section) (now_vs : List Verdict) (old new : Noted Unsound) → (now_ss ≡ []) ⊎ (now_vs ≡ []) → AreToldTo now_ss now_vs old new → NotesMore most (told_among ss vs) old new
   all-told now_ss now_vs old new none so_far = noted-all most (told_among ss vs) (told_among now_ss now_vs) old new (none-told now_ss now_vs none) so_far
 

@@ -20,7 +20,7 @@ use Rattle.ix_verify.specs.Found.{skip_of, skips_below, IsWalkOf}
 use Rattle.ix_verify.specs.Walked.{skip_at}
 use Rattle.ix_verify.proofs.Notes.{AreNoted, noted-none, noted-more, noted-all}
 
--- what is told of visits
+-- what is reported of visits
 abbrev pub skips_in : Blocks → List Visit → List Skip
 skips_in store vs = map skip_of (filter (λ d. not (passes d.verdict)) (map (judged store) vs))
 
@@ -38,7 +38,7 @@ gives-visit walk left r v gives is = subst (λ (x : Result Visit WalkStop). Give
 pub gives-limit : (walk left : WalkLeft) (r : Result Visit WalkStop) → GivesNext walk (Some r) left → r ≡ Err Limit → GivesNext walk (Some (Err Limit)) left
 gives-limit walk left r gives is = subst (λ (x : Result Visit WalkStop). GivesNext walk (Some x) left) is gives
 
--- So many visits were given, and what is told of them was noted.
+-- So many visits were given, and what is reported of them was noted.
 pub record IsOnWalk (store : Blocks) (job : JobMeaning) (most : ℕ) (walk : WalkLeft) (start skips : Noted Skip) : Type 0 where
   pub given : ℕ
   pub visits : walk.visits ≡ drop given (visits_of store 0 job)

@@ -45,10 +45,12 @@ abbrev first_of : Option (List ℕ) → Option (List ℕ) → Option (List ℕ)
 first_of (Some x) o = Some x
 first_of None o = o
 
+-- nothing after an option leaves it
 first_of-none : (o : Option (List ℕ)) → first_of o None ≡ o
 first_of-none (Some x) = refl
 first_of-none None = refl
 
+-- the first of three does not depend on the grouping
 first_of-twice : (a b c : Option (List ℕ)) → first_of (first_of a b) c ≡ first_of a (first_of b c)
 first_of-twice (Some x) b c = refl
 first_of-twice None b c = refl
@@ -57,6 +59,7 @@ first_of-twice None b c = refl
 abbrev block_if : Bool → List ℕ → Option (List ℕ)
 block_if same block = if same then Some block else None
 
+-- a CID is looked up in the first store, and then in the second
 block-append : (xs ys : Blocks) (c : List ℕ) → block_of (xs ++ ys) c ≡ first_of (block_of xs c) (block_of ys c)
 block-append [] ys c = refl
 block-append (e ∷ xs) ys c = on_first (bytes_eq e.0 c) (block-append xs ys c) where
@@ -65,6 +68,7 @@ block-append (e ∷ xs) ys c = on_first (bytes_eq e.0 c) (block-append xs ys c) 
   on_first true more = refl
   on_first false more = more
 
+-- a store that has a CID has a block under it
 block-there : (store : Blocks) (c : List ℕ) → has_cid store c ≡ true → (block : List ℕ) × (block_of store c ≡ Some block)
 block-there [] c h = absurd cc
 block-there (e ∷ store) c h = on_first (bytes_eq e.0 c) h (block-there store c) where
@@ -144,7 +148,7 @@ sound-among (d ∷ ds) c h = on_sound (is_sound d.verdict) (bytes_eq d.visit.cid
   on_sound true false is h more = ap (λ (b : Bool). b || is_among (filter (λ e. not (bytes_eq e.visit.cid d.visit.cid)) (first_sound ds)) c) is ∙ others-among c d.visit.cid is (first_sound ds) (more h)
   on_sound false same is h more = more h
 
--- a CID is arrived at
+-- the walk visits a CID
 abbrev is_met : List Arrival → List ℕ → Bool
 is_met arrivals c = list_any (λ a. bytes_eq a.cid c) arrivals
 
@@ -179,20 +183,24 @@ value_by f c o = if is_sound_by f (digest_of c) o then (if is_dag_cbor c then op
 abbrev IsSame : Option HashFunction → List ℕ → Option (List ℕ) → Option (List ℕ) → Type 0
 IsSame f c o p = (verdict_by_codec f c p ≡ verdict_by_codec f c o) × (value_by f c p ≡ value_by f c o)
 
+-- a verdict that passes is sound, if a block may only be malformed
 sound-if : (bad : Bool) → passes (if bad then Malformed else Sound) ≡ true → is_sound (if bad then Malformed else Sound) ≡ true
 sound-if true h = absurd cc
 sound-if false h = refl
 
+-- the same if its hash may differ too
 sound-on : (agrees bad : Bool) → passes (if agrees then (if bad then Malformed else Sound) else Damaged) ≡ true → is_sound (if agrees then (if bad then Malformed else Sound) else Damaged) ≡ true
 sound-on true bad h = sound-if bad h
 sound-on false bad h = absurd cc
 
+-- the same by the CID's codec
 sound-under : (hash : List ℕ → List ℕ) (c : List ℕ) (codec : Bool) (o : Option (List ℕ)) → passes (if codec then verdict_under hash c o else Codec) ≡ true
     → (block : List ℕ) × (o ≡ Some block) × (is_sound (if codec then verdict_under hash c o else Codec) ≡ true)
 sound-under hash c false o h = absurd cc
 sound-under hash c true None h = absurd cc
 sound-under hash c true (Some block) h = (block, refl, sound-on (bytes_eq (hash block) (digest_of c)) (is_no_data c block) h)
 
+-- without a hash function no verdict passes
 no-function : (codec : Bool) → passes (if codec then Hash else Codec) ≡ true → ⊥
 no-function true h = cc
 no-function false h = cc
@@ -213,7 +221,7 @@ same-by (Some Sha2_512) c o p h there =
 -- ---- going in once
 
 module _ {R : Type 0} (enters : Path → Bool) (rest : Path → R) (same : R → R → Bool) where
-  -- where the same is gone into at each arrival, the arrivals are the same
+  -- if the same is expanded at each visit, the visits are the same
   once-inside : (inside other : Inside) (n : ℕ) (gone : List (List ℕ × R)) (waiting : List Arrival)
       → AllByRecursion (λ a. other a.cid ≡ inside a.cid) (once enters rest same inside n gone waiting) → once enters rest same other n gone waiting ≡ once enters rest same inside n gone waiting
   once-inside inside other zero gone waiting h = refl
@@ -224,7 +232,7 @@ module _ {R : Type 0} (enters : Path → Bool) (rest : Path → R) (same : R →
       ap behind h.0
       ∙ ap (λ (l : List Arrival). a ∷ l) (once-inside inside other n (gone_behind enters rest same inside (here (inside a.cid)) a gone) (when_some (here (inside a.cid)) (λ d. links_below enters d a) ++ more) h.1)
 
-  -- where all were arrived at, a greater bound brings no more
+  -- if all were visited, a greater bound adds nothing
   once-enough : (inside : Inside) (n m : ℕ) (gone : List (List ℕ × R)) (waiting : List Arrival) → n ≤ m → length (once enters rest same inside n gone waiting) < n
       → once enters rest same inside m gone waiting ≡ once enters rest same inside n gone waiting
   once-enough inside zero m gone waiting le short = absurd (omega (arith, short))

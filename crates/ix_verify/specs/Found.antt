@@ -20,7 +20,7 @@ use Rattle.ix_verify.specs.declared.found.Reach.TheVariants.{Blocks as OfBlocks,
 use Rattle.ix_verify.specs.declared.found.Unsound.{Unsound}
 use Rattle.ix_verify.specs.declared.found.Findings.{Findings}
 
--- what is told of a section: its place, its CID and the verdict on its own block
+-- the report on a section: its place, its CID and the verdict on its own block
 abbrev pub told_of : SectionMeaning → Unsound
 told_of s = record { place = s.place; cid = s.cid; verdict = section_verdict s.cid s.block }
 
@@ -36,11 +36,11 @@ job_below name limit roots = record { name = name; roots = roots; selector = eve
 abbrev pub roots_job : List (List ℕ) → JobMeaning
 roots_job roots = job_below (codes "verify") 1000000 (few_roots roots)
 
--- what is told of a visit whose verdict isn't good
+-- the report on a visit whose verdict isn't good
 abbrev pub skip_of : Delivery → Skip
 skip_of d = record { seq = d.visit.seq; cid = d.visit.cid; verdict = d.verdict }
 
--- what is told of the visits of a job
+-- the reports on the visits of a job
 abbrev pub skips_below : Blocks → JobMeaning → List Skip
 skips_below store job = map skip_of (filter (λ d. not (passes d.verdict)) (judged_visits store 0 job))
 

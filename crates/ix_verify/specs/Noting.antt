@@ -7,7 +7,7 @@ pub record IsNoted {T : Type 0} (most : ℕ) (all : List T) (n : Noted T) : Type
   pub count : n.count ≡ length all
   pub first : n.first.items ≡ take most all
 
--- these are noted behind whatever was noted before
+-- these are noted after whatever was noted before
 pub record NotesMore {T : Type 0} (most : ℕ) (more : List T) (old new : Noted T) : Type 0 where
   pub noted : (before : List T) → IsNoted most before old → IsNoted most (before ++ more) new
   pub few : new.count ≤ old.count + length more

@@ -10,7 +10,7 @@ use Rattle.ix_archive.specs.declared.archive.Skip.{Skip}
 use Rattle.ix_verify.specs.Found.{skip_of, IsWalkOf, IsReached}
 use Rattle.ix_verify.specs.declared.reach.Reached.{Reached}
 
--- what is told of a visit, if anything
+-- the report on a visit, if any
 abbrev pub skip_at : Blocks → Visit → List Skip
 skip_at store visit = if passes (verdict_of store visit.cid) then [] else skip_of (judged store visit) ∷ []
 

@@ -10,17 +10,17 @@ use Rattle.ix_archive.specs.Archive.{first_sound, section_of, archive_with}
 use Rattle.ix_car.specs.Sections.{SectionMeaning}
 use Rattle.ix_verify.specs.Judged.{section_verdict}
 
--- the section of a CID where it stands, or none where there is no block
+-- the section of a CID at its offset, or none if there is no block
 abbrev pub section_where : ℕ → List ℕ → Option (List ℕ) → List SectionMeaning
 section_where place c None = []
 section_where place c (Some block) = record { place = place; cid = c; block = block } ∷ []
 
--- the sections of deliveries, each with the store's block; the first stands at this place
+-- the sections of deliveries, each with the store's block; the first is at this place
 abbrev pub sections_from : Blocks → ℕ → List Delivery → List SectionMeaning
 sections_from store place [] = []
 sections_from store place (d ∷ ds) = section_where place d.visit.cid (block_of store d.visit.cid) ++ sections_from store (place + length (section_of store d)) ds
 
--- the sections of the archive of roots and deliveries: behind the header, one for each CID that is sound, at its first delivery
+-- the sections of the archive of roots and deliveries: after the header, one for each CID that is sound, at its first delivery
 abbrev pub written_sections : Blocks → List (List ℕ) → List Delivery → List SectionMeaning
 written_sections store roots ds = sections_from store (length (header_of roots)) (first_sound ds)
 

@@ -16,24 +16,24 @@ use std::alloc::{AllocError, Global};
 const EVERYTHING: &[u8; 26] =
     b"\xa1\x61R\xa2\x61l\xa1\x64none\xa0\x62:>\xa1\x61a\xa1\x61>\xa1\x61@\xa0";
 
-// A CIDv1 of DAG-CBOR that holds its block itself (identity), up to the block's length.
+// The front of an identity CIDv1 of DAG-CBOR, up to the block's length.
 const HOLDER: &[u8; 3] = b"\x01\x71\x00";
 
-// The job of everything below roots, of which there is one at least: its walk goes into each CID once.
+// Makes the job of everything below roots, at least one: its walk expands each CID once.
 pub(crate) fn roots_job(alloc: Global, roots: Vec<Cid>) -> Result<Job, AllocError>
     ensures { IfOk result (λ job. job ≡ roots_job roots.items) }
 {
     let name = String::from_str(alloc, "verify")?;
     let selector = everything(alloc)?;
     let few = few_roots(alloc, roots)?;
-    // The name, the number of roots and the limit are those of a job.
+    // The name, the number of roots and the limit are valid.
     match Job::new(name, few, selector, GREATEST_LIMIT) {
         Ok(job) => Ok(job.once()),
         Err(_) => Err(AllocError),
     }
 }
 
-// Roots as a job takes them: more than it may have are held by one.
+// Returns roots as a job takes them: if there are too many, one identity CID has them all.
 fn few_roots(alloc: Global, roots: Vec<Cid>) -> Result<Vec<Cid>, AllocError>
     ensures { IfOk result (λ few. few.items ≡ few_roots roots.items) }
 {
@@ -44,25 +44,25 @@ fn few_roots(alloc: Global, roots: Vec<Cid>) -> Result<Vec<Cid>, AllocError>
     Ok(vec![in alloc; holder]?)
 }
 
-// A CID that holds the header with these roots itself, so that a walk from it goes on to each of them.
+// Returns an identity CID of the header with these roots, so a walk from it continues at each of them.
 fn holder_of(alloc: Global, roots: &[Cid]) -> Result<Cid, AllocError>
     ensures { IfOk result (λ cid. cid ≡ holder_of roots.now) }
 {
     let header = header_of(alloc, roots)?;
     let mut bytes = Vec::from_slice(alloc, HOLDER)?;
     bytes.extend_from_slice(header.as_slice())?;
-    // The bytes are a CID, so only memory can be refused.
+    // The bytes are a CID, so the only error is out of memory.
     match Cid::read(alloc, bytes.as_slice()) {
         Ok((cid, _)) if cid.as_bytes() == bytes.as_slice() => Ok(cid),
         _ => Err(AllocError),
     }
 }
 
-// The selector that enters everything.
+// Returns the selector of everything.
 fn everything(alloc: Global) -> Result<Selector, AllocError>
     ensures { IfOk result (λ selector. selector ≡ everything) }
 {
-    // The bytes spell a selector, so only memory can be refused.
+    // The bytes are a selector, so the only error is out of memory.
     let Ok(tree) = decode(alloc, EVERYTHING) else {
         return Err(AllocError);
     };

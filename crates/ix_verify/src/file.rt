@@ -1,4 +1,4 @@
-//! Files, verified.
+//! Verifies files.
 
 ghost use Rattle.std.specs.Prelude.{◌≡◌, ◌+◌, ◌^◌, ◌<◌, ◌≤◌, map, length, IfOk, IfErr, OnOk};
 ghost use Rattle.std.specs.Arc.{arc_value};
@@ -25,16 +25,16 @@ use std::num::NonZeroUsize;
 use std::sync::Arc;
 use std::thread::Threads;
 
-// How many sections are judged at a time, so that no list of all stands beside the store.
+// How many sections are checked at a time: the store is never in memory together with a list of all sections.
 const BATCH: usize = 65_536;
 
-/// What is found of a CARv1 file whose sections are hashed by at most so many threads, or the file's first
-/// fault, which is that of `read_car`. Of the sections that aren't sound, and of the links that lead to nothing sound, at
-/// most so many are kept, the first ones; all are counted.
+/// Verifies a CARv1 file, whose sections are hashed by at most so many threads. An error is the file's first
+/// one, which is that of `read_car`. All sections that aren't sound and all links that lead to nothing sound
+/// are counted, and at most so many of each are kept, the first ones.
 ///
-/// Every section is judged by its own bytes. Where the roots are to be walked from, everything below them is looked at by
-/// one walk: it begins at each root where it is named first, goes into each block once, and ends at 1,000,000 visits. A
-/// visit is an arrival at a root or by a link; where there are more than 64 roots, one is spent on the list of them.
+/// Every section is checked by its own bytes. If the roots are to be walked, one walk visits everything below
+/// them: it starts at each root once, expands each block once, and ends at 1,000,000 visits. A visit is a root
+/// or a link; if there are more than 64 roots, one visit is spent on the list of them.
 pub fn verify<R: Threads + Sync>(
     rt: &R,
     alloc: Global,
@@ -55,7 +55,7 @@ pub fn verify<R: Threads + Sync>(
     }
 }
 
-// What is found of a file by its sections alone.
+// Verifies a file by its sections alone.
 fn verify_blocks<R: Threads + Sync>(
     rt: &R,
     alloc: Global,
@@ -70,8 +70,8 @@ fn verify_blocks<R: Threads + Sync>(
     Ok(judged.with(Reached::nothing(alloc)))
 }
 
-// What is found of a file by its sections and from its roots on. Its blocks are in a store, which keeps for the walk what
-// the threads find of them.
+// Verifies a file by its sections and from its roots. Its blocks are in a store, which caches for the
+// walk what the threads find.
 fn verify_all<R: Threads + Sync>(
     rt: &R,
     alloc: Global,
@@ -94,7 +94,7 @@ fn verify_all<R: Threads + Sync>(
     }
 }
 
-// What is found of the sections of a file, and its roots.
+// The verdicts on the sections of a file, and its roots.
 #[derive(Drop)]
 struct Judged {
     roots: Vec<Cid>,
@@ -103,7 +103,7 @@ struct Judged {
 }
 
 impl Judged {
-    // The same, and what was met from roots on.
+    // Returns the findings with those of the walk from the roots.
     fn with(self, reached: Reached) -> Findings
         ensures { result ≡ findings_of self reached }
     {
@@ -116,7 +116,7 @@ impl Judged {
     }
 }
 
-// What is found of the sections of a file, beside the store of its blocks where there is one.
+// Checks the sections of a file, with the store of its blocks if there is one.
 fn judge_file<R: Threads + Sync>(
     rt: &R,
     alloc: Global,
@@ -181,7 +181,8 @@ fn no_memory(place: usize) -> CarFault
     }
 }
 
-// Notes the sections that aren't sound. Where there is a store, it may have the first section at this place.
+// Records the sections that aren't sound. If there is a store, it may have the first section at this
+// position.
 fn judge_sections<R: Threads + Sync>(
     rt: &R,
     alloc: Global,
@@ -214,7 +215,7 @@ fn note_sections(
     Ok(())
 }
 
-// Notes a section, unless it is sound.
+// Records a section, unless it is sound.
 fn note_section(
     alloc: Global,
     section: &Section<'_>,

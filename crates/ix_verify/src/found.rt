@@ -1,4 +1,4 @@
-//! What is found of a file.
+//! The findings of a file.
 
 ghost use Rattle.std.specs.Prelude.{◌≡◌};
 ghost use Rattle.ix_verify.specs.Found.{is_sound_file};
@@ -11,7 +11,7 @@ use ix_cid::Cid;
 /// How far a file is verified.
 #[derive(Debug, Drop, Clone, Copy, PartialEq, Eq)]
 pub enum Reach {
-    /// Each section by its own bytes.
+    /// Each section, by its own bytes.
     Blocks,
     /// The same, and everything below the roots.
     Roots,
@@ -20,28 +20,29 @@ pub enum Reach {
 /// A section that isn't sound.
 #[derive(Drop)]
 pub struct Unsound {
-    /// Where its length stands, in bytes from the front of the file.
+    /// Its offset in bytes: where its length begins.
     pub place: usize,
     pub cid: Cid,
     pub verdict: Verdict,
 }
 
-/// What is found of a CARv1 file.
+/// The findings of a CARv1 file.
 #[derive(Drop)]
 pub struct Findings {
-    /// How many sections it has.
+    /// The number of sections.
     pub sections: usize,
-    /// Those that aren't sound, in their order.
+    /// The sections that aren't sound, in order.
     pub unsound: Noted<Unsound>,
-    /// The links below the roots that lead to nothing sound, in the order of the walk; none where no root was to be
-    /// walked from.
+    /// The links below the roots that lead to nothing sound, in the order of the walk. There are none
+    /// if the roots weren't walked.
     pub skips: Noted<Skip>,
-    /// The walk from the roots comes to more than the 1,000,000 links and roots at which it ends.
+    /// Whether the walk from the roots has more than the 1,000,000 links and roots at which it ends.
     pub is_over_limit: bool,
 }
 
 impl Findings {
-    /// Whether each section is sound and nothing is missing below the roots, as far as the file was to be verified.
+    /// Returns whether each section is sound and nothing is missing below the roots, as far as the file
+    /// was to be verified.
     pub fn is_sound(&self) -> bool
         ensures { result ≡ is_sound_file self.now }
     {

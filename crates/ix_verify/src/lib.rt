@@ -1,8 +1,8 @@
-//! Whether a CARv1 file is sound: each section by its own bytes, and what its roots call for.
+//! Verifies CARv1 files: each section by its own bytes, and everything below the roots.
 //!
-//! `verify` judges every section of the file, those too whose CID occurred before, and then follows all links from the
-//! roots that the header names, in one walk. What is found is a function of the bytes, however many threads hash. All
-//! findings are counted, and as many of the first are kept as the caller asks for.
+//! `verify` checks every section of the file, also those whose CID occurred before, and then follows all
+//! links from the roots in the header, in one walk. The findings are a function of the bytes, however many
+//! threads hash. All findings are counted, and as many of the first are kept as the caller asks for.
 //!
 //! ```rust
 //! let found = verify(rt, alloc, car, threads, Reach::Roots, 20)?;

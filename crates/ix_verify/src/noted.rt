@@ -1,11 +1,11 @@
-//! What is counted, of which the first are kept.
+//! Counted findings, of which the first are kept.
 
 ghost use Rattle.std.specs.Prelude.{◌≡◌, ℕ, ◌+◌, ◌^◌, ◌<◌, [], ◌∷◌, false, nat_lt, length, OnOk};
 ghost use Rattle.ix_verify.specs.Noting.{IsNoted, NotesMore};
 
 use std::alloc::{AllocError, Global};
 
-/// How many there are, and the first of them: no more than are to be kept.
+/// The number of findings, and the first of them: no more than are to be kept.
 #[derive(Drop)]
 pub struct Noted<T> {
     pub count: usize,
@@ -13,7 +13,7 @@ pub struct Noted<T> {
 }
 
 impl<T: Drop> Noted<T> {
-    // None so far.
+    // Returns no findings.
     pub(crate) fn new(alloc: Global) -> Noted<T>
         ensures { (most : ℕ) → IsNoted most [] result }
     {
@@ -23,14 +23,14 @@ impl<T: Drop> Noted<T> {
         }
     }
 
-    // Whether one more is kept, where so many are to be.
+    // Returns whether one more is kept, if so many are to be.
     pub(crate) fn has_room(&self, most: usize) -> bool
         ensures { result ≡ nat_lt (length self.now.first.items) most }
     {
         self.first.len() < most
     }
 
-    // One more that is counted alone, whatever it is: as many as are to be kept are there.
+    // Counts one more, without keeping it: as many as are to be kept are there.
     pub(crate) fn count(&mut self, most: usize)
         requires full { nat_lt (length self.old.first.items) most ≡ false }
         requires fits { self.old.count + 1 < 2 ^ 64 }
@@ -39,7 +39,7 @@ impl<T: Drop> Noted<T> {
         self.count += 1;
     }
 
-    // One more, which is kept where it is among the first.
+    // Counts one more, and keeps it if it is among the first.
     pub(crate) fn note(&mut self, most: usize, item: T) -> Result<(), AllocError>
         requires { self.old.count + 1 < 2 ^ 64 }
         ensures { OnOk result (NotesMore most (item ∷ []) self.old self.new) }

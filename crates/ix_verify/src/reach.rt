@@ -1,4 +1,4 @@
-//! What the roots of a file call for.
+//! Walks everything below the roots of a file.
 
 ghost use Rattle.std.specs.Prelude.{◌≡◌, ◌≤◌, IfOk, OnOk};
 ghost use Rattle.ix_walk.specs.Once.{first_ones};
@@ -16,7 +16,7 @@ use ix_store::Store;
 use ix_walk::{Job, Visit, Walk, WalkStop};
 use std::alloc::{AllocError, Global};
 
-// What was met on the way from roots.
+// The findings of a walk from roots.
 #[derive(Drop)]
 pub(crate) struct Reached {
     pub(crate) skips: Noted<Skip>,
@@ -24,7 +24,7 @@ pub(crate) struct Reached {
 }
 
 impl Reached {
-    // Nothing, from no root.
+    // Returns no findings, for no roots.
     pub(crate) fn nothing(alloc: Global) -> Reached
         ensures { IsReachedFromNone result }
     {
@@ -35,7 +35,7 @@ impl Reached {
     }
 }
 
-// What is met from these roots on, by one walk. So many links that lead to nothing sound are kept at most.
+// Walks everything below these roots once, and keeps at most so many links that lead to nothing sound.
 pub(crate) fn walk_roots(
     alloc: Global,
     store: &Store,
@@ -52,7 +52,7 @@ pub(crate) fn walk_roots(
     walk_job(alloc, store, &job, most)
 }
 
-// Each root where it is named first.
+// Returns each root once, in the order of first occurrences.
 fn distinct_roots(alloc: Global, roots: &[Cid]) -> Result<Vec<Cid>, AllocError>
     ensures { IfOk result (λ distinct. distinct.items ≡ first_ones roots.now) }
 {
@@ -67,7 +67,7 @@ fn distinct_roots(alloc: Global, roots: &[Cid]) -> Result<Vec<Cid>, AllocError>
     Ok(distinct)
 }
 
-// What is met on the walk of a job.
+// Walks a job and returns its findings.
 fn walk_job(alloc: Global, store: &Store, job: &Job, most: usize) -> Result<Reached, AllocError>
     ensures { IfOk result (IsReachedBy store.now job.now most) }
 {
@@ -90,7 +90,7 @@ fn walk_job(alloc: Global, store: &Store, job: &Job, most: usize) -> Result<Reac
     })
 }
 
-// Notes a visit whose verdict isn't good.
+// Records a visit whose verdict isn't good.
 fn note_visit(
     alloc: Global,
     store: &Store,
@@ -114,12 +114,12 @@ fn note_visit(
     skips.note(most, skip)
 }
 
-// The verdict on a visit.
+// Returns the verdict on a visit.
 fn verdict_of(alloc: Global, store: &Store, visit: &Visit) -> Result<Verdict, AllocError>
     requires { IsVisitOf store.now visit.now }
     ensures { IfOk result (λ verdict. verdict ≡ verdict_of store.now visit.now.cid) }
 {
-    // The check notes each visit, so it is kept no longer than for one.
+    // The check records each visit, so it is kept for one visit only.
     let mut check = ShaCheck::new(alloc);
     check.check(alloc, store, &visit)
 }

@@ -1,4 +1,4 @@
-//! Sections, judged by their own bytes.
+//! Checks sections by their own bytes.
 
 ghost use Rattle.std.specs.Prelude.{◌≡◌, ℕ, ◌<◌, length, slice_index_or, bytes_eq, is_none, map, slice_get, Some, IfOk, IfSome};
 ghost use Rattle.sha2.specs.Sha256.{sha256};
@@ -19,8 +19,8 @@ use std::num::NonZeroUsize;
 use std::thread;
 use std::thread::Threads;
 
-/// The verdict on a section: whether its own block, and no other with its CID, is what the CID names. Under
-/// identity that is the CID's digest. It is none of `Missing` and `Inline`.
+/// Returns the verdict on a section: whether its own block, and no other with its CID, is what the CID
+/// names. For an identity CID that is the CID's digest. The verdict is neither `Missing` nor `Inline`.
 pub fn judge(section: &Section<'_>) -> Verdict
     ensures { result ≡ verdict_in section.now }
 {
@@ -42,7 +42,7 @@ pub fn judge(section: &Section<'_>) -> Verdict
     }
 }
 
-/// The verdicts on sections, in their order, by at most so many threads.
+/// Returns the verdicts on sections, in order, with at most so many threads.
 pub fn judge_all<R: Threads + Sync>(
     rt: &R,
     alloc: Global,
@@ -54,9 +54,9 @@ pub fn judge_all<R: Threads + Sync>(
     judge_beside(rt, alloc, (None, 0), sections, threads)
 }
 
-// The same beside a store, where there is one, which may have the first section at this place. Where it has the very block
-// of a section under the section's CID, what it finds of that counts: a block is hashed once, and a settled store keeps
-// what is found.
+// Returns the same with a store, if there is one, which may have the first section at this position.
+// If it has the very block of a section under the section's CID, its verdict counts: a block is hashed
+// once, and a settled store caches it.
 pub(crate) fn judge_beside<R: Threads + Sync>(
     rt: &R,
     alloc: Global,
@@ -100,7 +100,8 @@ fn judge_each<R: Threads + Sync>(
     );
 }
 
-// The verdict on the section at a place. Where there is a store, the section may stand as far after the first one there.
+// Returns the verdict on the section at a place. If there is a store, the section may be as far after
+// the first one there.
 fn judge_at(
     alloc: Global,
     beside: (Option<&Store>, usize),
@@ -120,8 +121,8 @@ fn judge_at(
     }
 }
 
-// Where the very block of a section stands in a store under the section's CID. The place that is guessed is looked at
-// first.
+// Returns where the very block of a section is in a store under the section's CID. The guessed place is
+// looked at first.
 fn place_in(alloc: Global, store: &Store, guess: usize, section: &Section<'_>) -> Option<usize>
     ensures { IfSome result (λ place. slice_get store.now place ≡ Some (section_pair section.now)) }
 {
@@ -134,7 +135,7 @@ fn place_in(alloc: Global, store: &Store, guess: usize, section: &Section<'_>) -
     }
 }
 
-// The verdict on a section that stands at a place of a store, by what the store finds.
+// Returns the verdict on a section that is at a place of a store, by what the store finds.
 fn judge_stored(store: &Store, place: usize, section: &Section<'_>) -> Verdict
     requires { slice_get store.now place ≡ Some (section_pair section.now) }
     ensures { result ≡ verdict_in section.now }
@@ -156,21 +157,21 @@ fn judge_stored(store: &Store, place: usize, section: &Section<'_>) -> Verdict
     }
 }
 
-// Raw or DAG-CBOR.
+// Returns whether the codec is raw or DAG-CBOR.
 fn is_codec(codec: u64) -> bool
     ensures { result ≡ is_codec codec }
 {
     matches!(codec, RAW | DAG_CBOR)
 }
 
-// Whether a block spells no data.
+// Returns whether a block doesn't decode.
 fn is_faulty(block: &[u8]) -> bool
     ensures { result ≡ is_none (data_at block.now) }
 {
     check(block).is_err()
 }
 
-// Whether a digest is that of a block by this hash function.
+// Returns whether a digest is that of a block by this hash function.
 fn has_digest(function: HashFunction, block: &[u8], digest: &[u8]) -> bool
     ensures { result ≡ bytes_eq (digest_by function block.now) digest.now }
 {
@@ -181,7 +182,7 @@ fn has_digest(function: HashFunction, block: &[u8], digest: &[u8]) -> bool
     }
 }
 
-// The hashers stand in functions of their own, so that a block pays for the room of the one that it needs.
+// The hashers are in functions of their own, so that a block only needs stack for the one it uses.
 #[inline(never)]
 fn is_sha2_256(block: &[u8], digest: &[u8]) -> bool
     ensures { result ≡ bytes_eq (sha256 block.now) digest.now }

@@ -1,4 +1,4 @@
-/* A block of more than three bytes is told as added and isn't. */
+/* A block of more than three bytes is reported as added and isn't. */
 /* Fails: calls threads cases */
 #include <ix_export.h>
 

@@ -1,4 +1,4 @@
-/* Each share of a store takes one more that no handle has, so the store is never let go of. */
+/* Each share of a store takes one more that no handle has, so the store is never freed. */
 /* Fails: threads memory */
 #include <ix_export.h>
 

@@ -1,4 +1,4 @@
-/* Why a visit was skipped is told by the number behind the right one. */
+/* Why a visit was skipped is reported by the number after the right one. */
 /* Fails: calls threads cases */
 #include <ix_export.h>
 

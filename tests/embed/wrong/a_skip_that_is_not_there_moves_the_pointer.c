@@ -1,4 +1,4 @@
-/* Where there is no such skip, its CID is told as standing nowhere. */
+/* Where there is no such skip, its CID is reported as nowhere. */
 /* Fails: calls */
 #include <ix_export.h>
 

@@ -1,4 +1,4 @@
-/* The text of a selector is told as the line of a refusal. */
+/* The text of a selector is reported as the line of an error. */
 /* Fails: calls */
 #include <ix_export.h>
 

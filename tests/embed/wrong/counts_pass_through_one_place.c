@@ -1,4 +1,4 @@
-/* What is told of a job stands for a while where every thread writes. One thread alone sees nothing of it. */
+/* The report on a job is for a while where every thread writes. One thread alone sees nothing of it. */
 /* Fails: threads */
 /* Passes: calls cases python */
 #include <ix_export.h>

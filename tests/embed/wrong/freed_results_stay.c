@@ -1,4 +1,4 @@
-/* A result isn't let go of, and its handle is emptied. */
+/* A result isn't freed, and its handle is emptied. */
 /* Fails: calls threads memory */
 #include <ix_export.h>
 

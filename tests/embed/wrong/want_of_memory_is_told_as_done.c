@@ -1,4 +1,4 @@
-/* A store that found no memory to be frozen is told as frozen. */
+/* A store that can't be frozen for lack of memory is reported as frozen. */
 /* Fails: memory */
 #include <ix_export.h>
 

@@ -7,7 +7,7 @@ use Rattle.ix_check.specs.declared.verdict.Verdict.TheVariants.{Sound}
 use Rattle.ix_verify.specs.Judged.{verdict_in}
 use Rattle.ix_verify.proofs.section.judge_beside.Goals as goal
 
--- the whole of what was written to a vector is what stands in it
+-- the whole of what was written to a vector is what is in it
 whole_front : (size : ℕ) (written behind wanted : List Verdict) → size ≡ length written → written ≡ wanted → take size (written ++ behind) ≡ wanted
 whole_front size written behind wanted full same = ap (λ (n : ℕ). take n (written ++ behind)) full ∙ take-append_seam written behind ∙ same
 
