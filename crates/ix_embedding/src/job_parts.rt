@@ -115,7 +115,7 @@ fn selector_in(alloc: Global, bytes: &[u8]) -> Result<Selector, PartsFault>
     ensures { Gives (λ selector. selector) result (selector_in bytes.now) }
 {
     let tree = tree_in(alloc, bytes)?;
-    match Selector::read_out(alloc, tree) {
+    match Selector::read_owned(alloc, tree) {
         Ok(selector) => Ok(selector),
         Err(SelFault::Memory) => Err(PartsFault::Memory),
         Err(fault) => Err(PartsFault::Selector(fault)),

@@ -58,7 +58,7 @@ pub(crate) fn selector_in(alloc: Global, text: &str) -> Result<Selector, JobsKin
     ensures { Gives (λ selector. selector) result (selector_in text.now) }
 {
     let tree = tree_in(alloc, bytes_in(alloc, text)?)?;
-    match Selector::read_out(alloc, tree) {
+    match Selector::read_owned(alloc, tree) {
         Ok(selector) => Ok(selector),
         Err(SelFault::Memory) => Err(JobsKind::Memory),
         Err(_) => Err(JobsKind::Selector),

@@ -24,7 +24,7 @@ pub fn hex_of_json(alloc: Global, text: &[u8]) -> Result<String, NotationFault>
 {
     let tree = tree_of(alloc, text)?;
     let bytes = encode(alloc, &tree)?;
-    judge_out(alloc, tree)?;
+    judge_owned(alloc, tree)?;
     let mut line = hex::encode(alloc, bytes.as_slice())?;
     line.push('\n')?;
     Ok(line)
@@ -68,12 +68,12 @@ fn judge(alloc: Global, tree: &Tree) -> Result<(), NotationFault>
     }
 }
 
-// The same of a tree that is let go of as soon as it is read.
-fn judge_out(alloc: Global, tree: Tree) -> Result<(), NotationFault>
+// Does the same for a tree, which is dropped as soon as it is read.
+fn judge_owned(alloc: Global, tree: Tree) -> Result<(), NotationFault>
     ensures selector { IfOk result (λ _. IsSelectorOf tree) }
     ensures refused { IfErr result (IsRefused tree) }
 {
-    match Selector::read_out(alloc, tree) {
+    match Selector::read_owned(alloc, tree) {
         Ok(_) => Ok(()),
         Err(SelFault::Memory) => Err(NotationFault::Memory),
         Err(refusal) => Err(NotationFault::Selector(refusal)),

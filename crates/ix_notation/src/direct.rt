@@ -1,6 +1,6 @@
-//! Data out of the tokens of JSON, with no value between.
+//! Reads data from the tokens of JSON, with no tree of JSON values between.
 //!
-//! A fault that is found here need not be the first one of a text.
+//! An error that is found here need not be the first one of the text.
 
 ghost use Rattle.std.specs.Prelude.{◌≡◌, ◌<◌, ◌++◌, ◌∷◌, [], length, map, option_map, Some, IfOk, OnOk};
 ghost use Rattle.json.specs.Json.{read_key};
@@ -14,7 +14,8 @@ use ix_cbor::{Node, Tree};
 use json::{Reader, Scratch, Token};
 use std::alloc::Global;
 
-/// The tree that a JSON text has. A tree of JSON takes more room than the text and its data together, so none is made.
+/// Returns the tree of a JSON text. It makes no tree of JSON values, which would take more memory than
+/// the text and its data together.
 pub(crate) fn direct_tree(alloc: Global, document: &str) -> Result<Tree, NotationFault>
     ensures { IfOk result (λ t. IsJsonOf document.now t) }
 {
@@ -30,7 +31,7 @@ pub(crate) fn direct_tree(alloc: Global, document: &str) -> Result<Tree, Notatio
     }
 }
 
-// The node of the next value, in which arrays and objects nest at most so deep.
+// Returns the node of the next value, in which arrays and objects nest at most `depth` deep.
 #[cycle(next_node)]
 fn next_node(alloc: Global, reader: &mut Reader<'_>, depth: usize) -> Result<Node, NotationFault>
     ensures says { IfOk result (λ n. SaysNext depth reader.old reader.new (data_of n)) }
@@ -54,7 +55,7 @@ fn next_node(alloc: Global, reader: &mut Reader<'_>, depth: usize) -> Result<Nod
     }
 }
 
-// The nodes of an array's values, up to its end.
+// Returns the nodes of an array's elements, up to its end.
 #[cycle(next_node)]
 fn next_members(
     alloc: Global,
@@ -73,7 +74,7 @@ fn next_members(
     Ok(members)
 }
 
-// The keys and nodes of an object's members, up to its end, in the order of the keys in data.
+// Returns the keys and nodes of an object's members, up to its end, in the order of keys in DAG-CBOR.
 #[cycle(next_node)]
 fn next_entries(
     alloc: Global,
@@ -92,7 +93,7 @@ fn next_entries(
     in_order(entries)
 }
 
-// The key of the next member, or none at the end of the object.
+// Returns the key of the next member, or `None` at the end of the object.
 fn next_name<'a>(reader: &mut Reader<'a>) -> Result<Option<&'a str>, NotationFault>
     ensures { IfOk result (λ k. read_key reader.old ≡ Some (option_map (λ s. s.now) k, reader.new)) }
 {
@@ -102,7 +103,8 @@ fn next_name<'a>(reader: &mut Reader<'a>) -> Result<Option<&'a str>, NotationFau
     }
 }
 
-// Appends, where the first takes room for itself alone: most maps of a selector have one key.
+// Appends an item; the first one allocates room for itself alone, since most maps of a selector have one
+// key.
 fn push_tight<T: Drop>(items: &mut Vec<T>, item: T) -> Result<(), NotationFault>
     ensures { OnOk result (items.new.items ≡ items.old.items ++ item ∷ []) }
 {

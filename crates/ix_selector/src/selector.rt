@@ -55,7 +55,7 @@ fn sel_of(alloc: Global, tree: &Tree) -> Result<Sel, SelFault>
 }
 
 // Does the same for a tree, which is dropped.
-fn sel_out_of(alloc: Global, tree: Tree) -> Result<Sel, SelFault>
+fn sel_of_owned(alloc: Global, tree: Tree) -> Result<Sel, SelFault>
     ensures exact { Gives pattern_of result (selector_of tree) }
     ensures sound { IfOk result (λ sel. IsSound (pattern_of sel)) }
 {
@@ -74,11 +74,11 @@ impl Selector {
 
     /// Does the same, and drops the tree as soon as it is read, so a large tree and what is made of
     /// it aren't in memory together.
-    pub fn read_out(alloc: Global, tree: Tree) -> Result<Selector, SelFault>
+    pub fn read_owned(alloc: Global, tree: Tree) -> Result<Selector, SelFault>
         ensures exact { Gives (λ s. s) result (selector_of tree) }
         ensures selector { IfOk result (λ s. IsSelector s) }
     {
-        let sel = sel_out_of(alloc, tree)?;
+        let sel = sel_of_owned(alloc, tree)?;
         Ok(Selector::laid(alloc, &sel)?)
     }
 
