@@ -61,8 +61,9 @@ MIB = 1 << 20
 # Of address space: more than any run takes, and so few that some runs find no memory, or none for their threads.
 KIB_A_RUN = 4_000_000
 FEW_KIB = (20_000, 40_000, 300_000)
-# Of memory, for each byte of a selector in JSON: its data as a tree, and beside that the selector that is read of it.
-BYTES_A_BYTE_OF_JSON = 28
+# Of memory, for each byte of a selector in JSON, or of a job's line: its data as a tree, and then the selector that is read.
+BYTES_A_BYTE_OF_JSON = 19
+BYTES_A_BYTE_OF_A_LINE = 15
 # Three to four is usual; a busy machine may add half of that to what it measures.
 MOST_TIMES_HONEST = 6
 
@@ -626,6 +627,33 @@ def long_selector(runner):
         raise Wrong(f"JSON of {len(given)} bytes, status {told['status']}, took {told['peak']} of memory")
 
 
+def long_line(runner):
+    """A job line with a selector of a million fields, 26 MB in hex: what is taken is bounded by the line."""
+    fields = b"".join(b"\x68%08d\xa1\x61.\xa0" % number for number in range(1_000_000))
+    selector = b"\xa1\x61f\xa1\x62f>" + head(5, 1_000_000) + fields
+    given = f"a {text(cid(RAW, b'abc'))} 1 {selector.hex()}\n".encode()
+    told = measured_words(runner, ["check-jobs", "-"], given)
+    if told["status"] != 0 or told["peak"] > BYTES_A_BYTE_OF_A_LINE * len(given) + 32 * MIB:
+        raise Wrong(f"a line of {len(given)} bytes, status {told['status']}, took {told['peak']} of memory")
+
+
+def small_sections(runner):
+    """A million sections of 8 bytes: `inspect` and `verify` take at most a tenth more memory than `jobs` does."""
+    car = NO_ROOTS + b"".join(b"\x07\x01\x55\0\x03" + number.to_bytes(3, "big") for number in range(1_000_000))
+    (runner.room / "small.car").write_bytes(car)
+    (runner.room / "no-jobs.txt").write_bytes(b"")
+    (runner.room / "no-archives").mkdir(exist_ok=True)
+    jobs = ["jobs", "--blocks", "small.car", "--jobs", "no-jobs.txt", "--out", "no-archives"]
+    peaks = {}
+    for words in (jobs, ["inspect", "small.car"], ["verify", "small.car"]):
+        told = measured_words(runner, words)
+        if told["status"] != 0:
+            raise Wrong(f"{words[0]} ended with status {told['status']}: {told['error'][:200]!r}")
+        peaks[words[0]] = told["peak"]
+    if max(peaks.values()) > 1.1 * peaks["jobs"]:
+        raise Wrong(f"{len(car)} bytes of small sections took {peaks}")
+
+
 def verified(runner, car, status, line):
     """The command `verify` ends with this status, the first of at most 22 lines says this of the file, and it takes no more
     memory than the file and 64 MiB, and few seconds of the processor."""
@@ -740,6 +768,8 @@ PARTS = (
     keys_in_any_order,
     ignored_keys,
     long_selector,
+    long_line,
+    small_sections,
     root_named_often,
     roots_with_one_graph,
 )
