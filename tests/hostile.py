@@ -638,16 +638,17 @@ def long_line(runner):
 
 
 def small_sections(runner):
-    """A million sections of 8 bytes: `inspect` and `verify` take at most a tenth more memory than `jobs` does."""
+    """A million sections of 8 bytes, none of which is sound: `inspect` and `verify` take at most a tenth more memory than `jobs`
+    does."""
     car = NO_ROOTS + b"".join(b"\x07\x01\x55\0\x03" + number.to_bytes(3, "big") for number in range(1_000_000))
     (runner.room / "small.car").write_bytes(car)
     (runner.room / "no-jobs.txt").write_bytes(b"")
     (runner.room / "no-archives").mkdir(exist_ok=True)
     jobs = ["jobs", "--blocks", "small.car", "--jobs", "no-jobs.txt", "--out", "no-archives"]
     peaks = {}
-    for words in (jobs, ["inspect", "small.car"], ["verify", "small.car"]):
+    for words, status in ((jobs, 0), (["inspect", "small.car"], 0), (["verify", "small.car"], 3)):
         told = measured_words(runner, words)
-        if told["status"] != 0:
+        if told["status"] != status:
             raise Wrong(f"{words[0]} ended with status {told['status']}: {told['error'][:200]!r}")
         peaks[words[0]] = told["peak"]
     if max(peaks.values()) > 1.1 * peaks["jobs"]:
