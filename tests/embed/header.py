@@ -34,7 +34,7 @@ def in_c(kind):
 
 
 def of_source():
-    text = (TOP / "crates/ix_c/src/lib.rt").read_text()
+    text = (TOP / "crates/ix_capi/src/lib.rt").read_text()
     found = {}
     for name, params, result in re.findall(r'pub extern "C" fn (\w+)\((.*?)\)(?: -> (\w+))?\s*\n', text, re.S):
         kinds = []
@@ -60,10 +60,10 @@ def of_header():
 
 def structs_of_source():
     found = {}
-    for path in sorted((TOP / "crates/ix_c/src").glob("*.rt")):
+    for path in sorted((TOP / "crates/ix_capi/src").glob("*.rt")):
         for name, body in re.findall(r"#\[repr\(C\)\](?:\n#\[.*?\])*\npub struct (\w+) \{(.*?)\n\}", path.read_text(), re.S):
             fields = re.findall(r"^    (?:pub )?(\w+): (.*?),$", body, re.M)
-            kinds = [NUMBERS.get(kind) or {"*mut u8": "void *", "Pointed": "void *"}[kind] for _, kind in fields]
+            kinds = [NUMBERS.get(kind) or {"*mut u8": "void *", "RawBox": "void *"}[kind] for _, kind in fields]
             found[STRUCTS.get(name, name)] = [spaced(it) for it in kinds]
     return found
 

@@ -26,28 +26,28 @@ use Rattle.ix_archive.proofs.Numbers.{kept-verified, kept-beginning}
 -- ---- beginnings
 
 -- what the second of two lists adds to the first sound deliveries of the first
-abbrev first_behind : List Delivery → List Delivery → List Delivery
-first_behind [] ys = first_sound ys
-first_behind (d ∷ ds) ys = if is_sound d.verdict then filter (λ e. not (bytes_eq e.visit.cid d.visit.cid)) (first_behind ds ys) else first_behind ds ys
+abbrev first_after : List Delivery → List Delivery → List Delivery
+first_after [] ys = first_sound ys
+first_after (d ∷ ds) ys = if is_sound d.verdict then filter (λ e. not (bytes_eq e.visit.cid d.visit.cid)) (first_after ds ys) else first_after ds ys
 
 -- the sections of a concatenation are those of its front, and then those of the rest that are new
-first_sound-append : (xs ys : List Delivery) → first_sound (xs ++ ys) ≡ first_sound xs ++ first_behind xs ys
+first_sound-append : (xs ys : List Delivery) → first_sound (xs ++ ys) ≡ first_sound xs ++ first_after xs ys
 first_sound-append [] ys = refl
 first_sound-append (d ∷ ds) ys =
     let other : Delivery → Bool = λ e. not (bytes_eq e.visit.cid d.visit.cid) in
-    elim (is_sound d.verdict) as (λ b. (if b then d ∷ filter other (first_sound (ds ++ ys)) else first_sound (ds ++ ys)) ≡ (if b then d ∷ filter other (first_sound ds) else first_sound ds) ++ (if b then filter other (first_behind ds ys) else first_behind ds ys))
-    [ true ↦ ap (λ l. d ∷ filter other l) (first_sound-append ds ys) ∙ ap (λ l. d ∷ l) (filter-append other (first_sound ds) (first_behind ds ys)) | false ↦ first_sound-append ds ys ]
+    elim (is_sound d.verdict) as (λ b. (if b then d ∷ filter other (first_sound (ds ++ ys)) else first_sound (ds ++ ys)) ≡ (if b then d ∷ filter other (first_sound ds) else first_sound ds) ++ (if b then filter other (first_after ds ys) else first_after ds ys))
+    [ true ↦ ap (λ l. d ∷ filter other l) (first_sound-append ds ys) ∙ ap (λ l. d ∷ l) (filter-append other (first_sound ds) (first_after ds ys)) | false ↦ first_sound-append ds ys ]
 
 -- so the archive of a front begins the archive
-archive-append : (store : Blocks) (roots : List (List ℕ)) (xs ys : List Delivery) → archive_with store roots (xs ++ ys) ≡ archive_with store roots xs ++ flat_map (section_of store) (first_behind xs ys)
+archive-append : (store : Blocks) (roots : List (List ℕ)) (xs ys : List Delivery) → archive_with store roots (xs ++ ys) ≡ archive_with store roots xs ++ flat_map (section_of store) (first_after xs ys)
 archive-append store roots xs ys =
     ap (λ l. header_of roots ++ flat_map (section_of store) l) (first_sound-append xs ys)
-    ∙ ap (λ l. header_of roots ++ l) (flat_map-append (section_of store) (first_sound xs) (first_behind xs ys))
-    ∙ sym (append_assoc (header_of roots) (flat_map (section_of store) (first_sound xs)) (flat_map (section_of store) (first_behind xs ys)))
+    ∙ ap (λ l. header_of roots ++ l) (flat_map-append (section_of store) (first_sound xs) (first_after xs ys))
+    ∙ sym (append_assoc (header_of roots) (flat_map (section_of store) (first_sound xs)) (flat_map (section_of store) (first_after xs ys)))
 
 -- the archive of the beginning of a list is a beginning of its archive
 pub archive-beginning : (store : Blocks) (roots : List (List ℕ)) (xs ys all : List Delivery) → xs ++ ys ≡ all → IsBeginning (archive_with store roots xs) (archive_with store roots all)
-archive-beginning store roots xs ys all e = (flat_map (section_of store) (first_behind xs ys), sym (archive-append store roots xs ys) ∙ ap (archive_with store roots) e)
+archive-beginning store roots xs ys all e = (flat_map (section_of store) (first_after xs ys), sym (archive-append store roots xs ys) ∙ ap (archive_with store roots) e)
 
 -- what is kept of the first visits is a beginning of the verified traversal
 kept-first_visits : (store : Blocks) (number : ℕ) (job : JobMeaning) (m : ℕ) → (more : List Delivery) × (kept (take m (judged_visits store number job)) ++ more ≡ verified store number job)
@@ -133,10 +133,10 @@ pub written-tells : (told : Option (List ℕ)) (store : Blocks) (roots : List (L
 written-tells told store roots ds [] written = (archive_with store roots (kept ds), written)
 written-tells told store roots ds (d ∷ more) written = (written.0, written.1)
 
-module _ {W : Type 0} (told : W → Option (List ℕ)) (a : ArchiveMeaning W) (store : Blocks) (number : ℕ) (job : JobMeaning) (fact : HasArchived told a store job (Some [])) where
+module _ {W : Type 0} (told : W → Option (List ℕ)) (a : ArchiveMeaning W) (store : Blocks) (number : ℕ) (job : JobMeaning) (guarantee : HasArchived told a store job (Some [])) where
   -- and it has written what its events call for
   written-back : HasWritten (told a.writer) store job.roots (deliveries_of (events_of a)) a.failed
-  written-back = subst (λ l. HasWritten (told a.writer) store job.roots l a.failed) (sym (told-back a.deliveries a.closed)) (fact.written refl)
+  written-back = subst (λ l. HasWritten (told a.writer) store job.roots l a.failed) (sym (told-back a.deliveries a.closed)) (guarantee.written refl)
 
   -- the law `HasWholeArchive`
   pub archive-whole : IsFaithful store number job Done (events_of a) a.failed → told a.writer ≡ Some (archive_of store number job)

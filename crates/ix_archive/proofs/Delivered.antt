@@ -19,7 +19,7 @@ use Rattle.ix_car.specs.Writing.{header_of}
 use Rattle.ix_archive.specs.Archive.{archive_with}
 use Rattle.ix_archive.specs.Report.{at_most}
 use Rattle.ix_archive.specs.ArchiveMeaning.{ArchiveMeaning, events_of, HasWritten, IsCountOf, HasArchived, IsProperPrefix, TookPartOfHeader}
-use Rattle.ix_archive.specs.Archiving.{cut_behind, place_due, text_due, HasTaken, IsAdded, IsFailed, IsDelivered}
+use Rattle.ix_archive.specs.Archiving.{cut_behind, unwritten_block, text_due, HasTaken, IsAdded, IsFailed, IsDelivered}
 use Rattle.ix_car.proofs.Growth.{appended}
 use Rattle.ix_archive.proofs.Prefixes.{proper-behind, proper-take}
 use Rattle.ix_archive.proofs.FirstSound.{archive-due, due-section, due-told}
@@ -143,7 +143,7 @@ adds-nothing told d store roots ds es failed closed taken writer none within lon
     }
 
 -- a section is what is due
-pub section-text : (store : Blocks) (ds : List Delivery) (d : Delivery) (place : ℕ) (head block : List ℕ) → is_below (cut_behind ds) d.visit.depth ≡ false → place_due store (kept ds) d ≡ Some place → slice_get (map (λ e. e.1) store) place ≡ Some block
+pub section-text : (store : Blocks) (ds : List Delivery) (d : Delivery) (place : ℕ) (head block : List ℕ) → is_below (cut_behind ds) d.visit.depth ≡ false → unwritten_block store (kept ds) d ≡ Some place → slice_get (map (λ e. e.1) store) place ≡ Some block
     → head ≡ varint_of (length (d.visit.cid ++ block)) ++ d.visit.cid → head ++ block ≡ text_due store ds d
 section-text store ds d place head block uncut due at is =
     let found : position_of store d.visit.cid ≡ Some place = (due-told store (kept ds) d place due).2 in
@@ -151,7 +151,7 @@ section-text store ds d place head block uncut due at is =
     ∙ sym (due-section store ds d place block uncut due (block_at place store d.visit.cid block (sym found) at))
 
 -- the position of the block of a section that is due
-pub due-within : (store : Blocks) (ks : List Delivery) (d : Delivery) (place : ℕ) → place_due store ks d ≡ Some place → place < length store
+pub due-within : (store : Blocks) (ks : List Delivery) (d : Delivery) (place : ℕ) → unwritten_block store ks d ≡ Some place → place < length store
 due-within store ks d place due = place_within place store d.visit.cid (sym (due-told store ks d place due).2)
 
 -- a delivery whose section was written whole

@@ -11,13 +11,13 @@ use Rattle.std.proofs.Math.Bool.{or-false}
 use Rattle.ix_check.specs.Verdict.{passes}
 use Rattle.ix_check.specs.declared.verdict.Verdict.{Verdict}
 use Rattle.ix_check.specs.declared.verdict.Verdict.TheVariants.{Codec, Hash, Missing, Damaged, Malformed, Sound, Inline}
-use Rattle.ix_store.specs.Store.{Blocks, block_of, position_behind, position_of}
+use Rattle.ix_store.specs.Store.{Blocks, block_of, position_after, position_of}
 use Rattle.ix_archive.specs.declared.archive.Skip.{Skip}
 use Rattle.ix_archive.specs.declared.sink.Delivery.{Delivery}
 use Rattle.ix_archive.specs.Kept.{is_below, kept}
 use Rattle.ix_car.specs.Writing.{header_of, section_with, with_length}
 use Rattle.ix_archive.specs.Archive.{is_sound, first_sound, section_of, sections_of, archive_with}
-use Rattle.ix_archive.specs.Archiving.{cut_behind, is_told, place_due, text_behind, text_due}
+use Rattle.ix_archive.specs.Archiving.{cut_behind, is_told, unwritten_block, text_after, text_due}
 use Rattle.ix_archive.proofs.Pruning.{kept-append, cut_after-append}
 
 -- what is sound passes
@@ -82,13 +82,13 @@ first-text f true true d = refl
 first-text f true false d = append-nil (f d)
 
 -- one more kept delivery writes its text at the end of the archive
-pub archive-push : (store : Blocks) (roots : List (List ℕ)) (ks : List Delivery) (d : Delivery) → archive_with store roots (ks ++ d ∷ []) ≡ archive_with store roots ks ++ text_behind store ks d
+pub archive-push : (store : Blocks) (roots : List (List ℕ)) (ks : List Delivery) (d : Delivery) → archive_with store roots (ks ++ d ∷ []) ≡ archive_with store roots ks ++ text_after store ks d
 archive-push store roots ks d =
     ap (λ l. header_of roots ++ flat_map (section_of store) l) (first_sound-push ks d)
     ∙ ap (λ l. header_of roots ++ l)
     (flat_map-append (section_of store) (first_sound ks) (first_of ks d)
     ∙ ap (λ l. flat_map (section_of store) (first_sound ks) ++ l) (first-text (section_of store) (is_sound d.verdict) (is_told ks d.visit.cid) d))
-    ∙ sym (append_assoc (header_of roots) (flat_map (section_of store) (first_sound ks)) (text_behind store ks d))
+    ∙ sym (append_assoc (header_of roots) (flat_map (section_of store) (first_sound ks)) (text_after store ks d))
 
 -- what is kept with one more delivery
 pub kept-push : (ds : List Delivery) (d : Delivery) → kept (ds ++ d ∷ []) ≡ (if is_below (cut_behind ds) d.visit.depth then kept ds else kept ds ++ d ∷ [])
@@ -104,7 +104,7 @@ cut-push ds d = cut_after-append (λ e. e.visit.depth) (λ e. passes e.verdict) 
 pub archive-due : (store : Blocks) (roots : List (List ℕ)) (ds : List Delivery) (d : Delivery) → archive_with store roots (kept (ds ++ d ∷ [])) ≡ archive_with store roots (kept ds) ++ text_due store ds d
 archive-due store roots ds d =
     ap (λ ks. archive_with store roots ks) (kept-push ds d)
-    ∙ elim (is_below (cut_behind ds) d.visit.depth) as (λ b. archive_with store roots (if b then kept ds else kept ds ++ d ∷ []) ≡ archive_with store roots (kept ds) ++ (if b then [] else text_behind store (kept ds) d))
+    ∙ elim (is_below (cut_behind ds) d.visit.depth) as (λ b. archive_with store roots (if b then kept ds else kept ds ++ d ∷ []) ≡ archive_with store roots (kept ds) ++ (if b then [] else text_after store (kept ds) d))
     [ true ↦ sym (append-nil (archive_with store roots (kept ds))) | false ↦ archive-push store roots (kept ds) d ]
 
 -- the skips of kept deliveries
@@ -133,16 +133,16 @@ sections-push store ks d =
     ∙ filter-append (λ e. is_some (block_of store e.visit.cid)) (first_sound ks) (first_of ks d)
 
 -- whether a CID has a block, and whether it has a place
-pub block-none : (n : ℕ) (store : Blocks) (c : List ℕ) → position_behind n store c ≡ None → block_of store c ≡ None
+pub block-none : (n : ℕ) (store : Blocks) (c : List ℕ) → position_after n store c ≡ None → block_of store c ≡ None
 block-none n [] c h = refl
 block-none n (e ∷ es) c h =
-    elim (bytes_eq e.0 c) as (λ b. (if b then Some n else position_behind (n + 1) es c) ≡ None → (if b then Some e.1 else block_of es c) ≡ None) [ true ↦ (λ k. cc) | false ↦ (λ k. block-none (n + 1) es c k) ] h
+    elim (bytes_eq e.0 c) as (λ b. (if b then Some n else position_after (n + 1) es c) ≡ None → (if b then Some e.1 else block_of es c) ≡ None) [ true ↦ (λ k. cc) | false ↦ (λ k. block-none (n + 1) es c k) ] h
 
 -- a CID with a position has a block
-pub block-some : (n place : ℕ) (store : Blocks) (c : List ℕ) → position_behind n store c ≡ Some place → is_some (block_of store c) ≡ true
+pub block-some : (n place : ℕ) (store : Blocks) (c : List ℕ) → position_after n store c ≡ Some place → is_some (block_of store c) ≡ true
 block-some n place [] c h = cc
 block-some n place (e ∷ es) c h =
-    elim (bytes_eq e.0 c) as (λ b. (if b then Some n else position_behind (n + 1) es c) ≡ Some place → is_some (if b then Some e.1 else block_of es c) ≡ true) [ true ↦ (λ k. refl) | false ↦ (λ k. block-some (n + 1) place es c k) ] h
+    elim (bytes_eq e.0 c) as (λ b. (if b then Some n else position_after (n + 1) es c) ≡ Some place → is_some (if b then Some e.1 else block_of es c) ≡ true) [ true ↦ (λ k. refl) | false ↦ (λ k. block-some (n + 1) place es c k) ] h
 
 -- a delivery that isn't sound has no section
 pub sections-unsound : (store : Blocks) (ks : List Delivery) (d : Delivery) → is_sound d.verdict ≡ false → sections_of store (ks ++ d ∷ []) ≡ sections_of store ks
@@ -158,7 +158,7 @@ no-place true true place d p h none = refl
 no-place true false place d p h none = ap (λ b. if b then d ∷ [] else []) (h none)
 
 -- a delivery that writes no section adds none
-pub sections-repeat : (store : Blocks) (ks : List Delivery) (d : Delivery) → place_due store ks d ≡ None → sections_of store (ks ++ d ∷ []) ≡ sections_of store ks
+pub sections-repeat : (store : Blocks) (ks : List Delivery) (d : Delivery) → unwritten_block store ks d ≡ None → sections_of store (ks ++ d ∷ []) ≡ sections_of store ks
 sections-repeat store ks d none =
     sections-push store ks d
     ∙ ap (λ l. sections_of store ks ++ l)
@@ -166,7 +166,7 @@ sections-repeat store ks d none =
     ∙ append-nil (sections_of store ks)
 
 -- a position that is due belongs to a sound delivery of a CID that wasn't delivered
-pub due-told : (store : Blocks) (ks : List Delivery) (d : Delivery) (place : ℕ) → place_due store ks d ≡ Some place → (is_sound d.verdict ≡ true) × (is_told ks d.visit.cid ≡ false) × (position_of store d.visit.cid ≡ Some place)
+pub due-told : (store : Blocks) (ks : List Delivery) (d : Delivery) (place : ℕ) → unwritten_block store ks d ≡ Some place → (is_sound d.verdict ≡ true) × (is_told ks d.visit.cid ≡ false) × (position_of store d.visit.cid ≡ Some place)
 due-told store ks d place due =
     elim (is_sound d.verdict) as (λ s. (if s then (if is_told ks d.visit.cid then None else position_of store d.visit.cid) else None) ≡ Some place → (s ≡ true) × (is_told ks d.visit.cid ≡ false) × (position_of store d.visit.cid ≡ Some place)) [
       | true ↦ elim (is_told ks d.visit.cid) as (λ b. (if b then None else position_of store d.visit.cid) ≡ Some place → (true ≡ true) × (b ≡ false) × (position_of store d.visit.cid ≡ Some place)) [ true ↦ (λ h. cc) | false ↦ (λ h. (refl, refl, h)) ]
@@ -174,7 +174,7 @@ due-told store ks d place due =
     ] due
 
 -- and one that does adds one
-pub sections-due : (store : Blocks) (ks : List Delivery) (d : Delivery) (place : ℕ) → place_due store ks d ≡ Some place → length (sections_of store (ks ++ d ∷ [])) ≡ length (sections_of store ks) + 1
+pub sections-due : (store : Blocks) (ks : List Delivery) (d : Delivery) (place : ℕ) → unwritten_block store ks d ≡ Some place → length (sections_of store (ks ++ d ∷ [])) ≡ length (sections_of store ks) + 1
 sections-due store ks d place due =
     let found = due-told store ks d place due in
     let has : is_some (block_of store d.visit.cid) ≡ true = block-some 0 place store d.visit.cid found.2 in
@@ -186,8 +186,8 @@ sections-due store ks d place due =
     ∙ length-append (sections_of store ks) (d ∷ [])
 
 -- a delivery that isn't cut off writes what it writes after the kept ones
-due-kept : (store : Blocks) (ds : List Delivery) (d : Delivery) → is_below (cut_behind ds) d.visit.depth ≡ false → text_due store ds d ≡ text_behind store (kept ds) d
-due-kept store ds d uncut = ap (λ b. if b then [] else text_behind store (kept ds) d) uncut
+due-kept : (store : Blocks) (ds : List Delivery) (d : Delivery) → is_below (cut_behind ds) d.visit.depth ≡ false → text_due store ds d ≡ text_after store (kept ds) d
+due-kept store ds d uncut = ap (λ b. if b then [] else text_after store (kept ds) d) uncut
 
 -- what doesn't pass writes nothing
 pub due-refused : (store : Blocks) (ds : List Delivery) (d : Delivery) → is_below (cut_behind ds) d.visit.depth ≡ false → passes d.verdict ≡ false → text_due store ds d ≡ []
@@ -201,13 +201,13 @@ no-text true true place text h none = refl
 no-text true false place text h none = h none
 
 -- nothing, if its CID has a section
-pub due-repeat : (store : Blocks) (ds : List Delivery) (d : Delivery) → is_below (cut_behind ds) d.visit.depth ≡ false → place_due store (kept ds) d ≡ None → text_due store ds d ≡ []
+pub due-repeat : (store : Blocks) (ds : List Delivery) (d : Delivery) → is_below (cut_behind ds) d.visit.depth ≡ false → unwritten_block store (kept ds) d ≡ None → text_due store ds d ≡ []
 due-repeat store ds d uncut none =
     due-kept store ds d uncut
     ∙ no-text (is_sound d.verdict) (is_told (kept ds) d.visit.cid) (position_of store d.visit.cid) (section_of store d) (λ h. ap (λ o. section_with d.visit.cid o) (block-none 0 store d.visit.cid h)) none
 
 -- and else its section
-pub due-section : (store : Blocks) (ds : List Delivery) (d : Delivery) (place : ℕ) (block : List ℕ) → is_below (cut_behind ds) d.visit.depth ≡ false → place_due store (kept ds) d ≡ Some place → block_of store d.visit.cid ≡ Some block
+pub due-section : (store : Blocks) (ds : List Delivery) (d : Delivery) (place : ℕ) (block : List ℕ) → is_below (cut_behind ds) d.visit.depth ≡ false → unwritten_block store (kept ds) d ≡ Some place → block_of store d.visit.cid ≡ Some block
     → text_due store ds d ≡ with_length (d.visit.cid ++ block)
 due-section store ds d place block uncut due at =
     let found = due-told store (kept ds) d place due in

@@ -23,7 +23,7 @@ use Rattle.ix_walk.proofs.Reaches.{contains-in, in-contains, limit-cids, once-re
 use Rattle.ix_check.specs.Verdict.{is_no_data, verdict_by, has_codec, verdict_with, verdict_of}
 use Rattle.ix_check.specs.declared.verdict.Verdict.TheVariants.{Codec, Malformed, Inline}
 use Rattle.ix_archive.specs.declared.sink.Delivery.{Delivery}
-use Rattle.ix_archive.specs.Kept.{is_below, cut_at, kept_behind}
+use Rattle.ix_archive.specs.Kept.{is_below, cut_at, kept_after}
 use Rattle.ix_archive.specs.Verified.{is_good, verified_arrivals, number_among, judged, verified}
 use Rattle.ix_car.specs.Writing.{section_with, header_of}
 use Rattle.ix_archive.specs.Archive.{is_sound, first_sound, sections_of, archive_with, archive_of}
@@ -163,10 +163,10 @@ verified-sound : (store : Blocks) (job : JobMeaning) → verified_arrivals store
 verified-sound store job = λ i. arrivals_from (is_entered job.selector) (λ c. passing-sound store c i) job.limit 0 job.roots
 
 -- what is kept isn't more
-kept-length : {X : Type 0} (depth : X → ℕ) (pass : X → Bool) (cut : Option ℕ) (xs : List X) → length (kept_behind depth pass cut xs) ≤ length xs
+kept-length : {X : Type 0} (depth : X → ℕ) (pass : X → Bool) (cut : Option ℕ) (xs : List X) → length (kept_after depth pass cut xs) ≤ length xs
 kept-length depth pass cut [] = omega arith
 kept-length depth pass cut (x ∷ xs) =
-    elim (is_below cut (depth x)) as (λ b. length (if b then kept_behind depth pass cut xs else x ∷ kept_behind depth pass (cut_at depth pass x) xs) ≤ suc (length xs))
+    elim (is_below cut (depth x)) as (λ b. length (if b then kept_after depth pass cut xs else x ∷ kept_after depth pass (cut_at depth pass x) xs) ≤ suc (length xs))
     [ true ↦ (let h = kept-length depth pass cut xs in omega (arith, h)) | false ↦ (let h = kept-length depth pass (cut_at depth pass x) xs in omega (arith, h)) ]
 
 -- where a job is within its limit, so is its verified traversal
@@ -174,7 +174,7 @@ verified-within : (store : Blocks) (job : JobMeaning) → is_over_limit store (g
 verified-within store job within =
     let all : length (believed store job) ≤ job.limit = ltb-false job.limit (length (believed store job)) within in
     let kept = kept-length (λ a. a.depth) (λ a. is_good store a.cid) None (believed store job) in
-    let size : length (kept_behind (λ a. a.depth) (λ a. is_good store a.cid) None (believed store job)) ≡ length (arrivals_from (is_entered job.selector) (sound_value store) job.limit 0 job.roots) =
+    let size : length (kept_after (λ a. a.depth) (λ a. is_good store a.cid) None (believed store job)) ≡ length (arrivals_from (is_entered job.selector) (sound_value store) job.limit 0 job.roots) =
     ap length (pruning (is_good store) (is_entered job.selector) (value_of store) job.limit 0 job.roots ∙ verified-sound store job) in
     omega (arith, all, kept, size)
 

@@ -10,11 +10,11 @@ use Rattle.ix_walk.specs.Arrivals.{Arrival, Inside, when_some}
 use Rattle.ix_walk.specs.JobMeaning.{JobMeaning}
 use Rattle.ix_store.specs.Store.{Blocks, value_of}
 use Rattle.ix_walk.specs.Visits.{visit_of, visits_from}
-use Rattle.ix_walk.specs.Once.{roots_from, links_below, was_gone_into, gone_behind, once, sound_value, once_arrivals}
+use Rattle.ix_walk.specs.Once.{roots_from, links_below, was_expanded, expanded_after, once, sound_value, once_arrivals}
 use Rattle.ix_walk.proofs.Links.{all-append, all-weaker, links-depth, roots-depth}
 use Rattle.ix_check.specs.Verdict.{passes}
 use Rattle.ix_archive.specs.declared.sink.Delivery.{Delivery}
-use Rattle.ix_archive.specs.Kept.{is_below, kept_behind, kept}
+use Rattle.ix_archive.specs.Kept.{is_below, kept_after, kept}
 use Rattle.ix_archive.specs.Verified.{is_good, judged}
 use Rattle.ix_archive.proofs.SoundValues.{passing-sound}
 
@@ -59,37 +59,37 @@ module _ (pass : List ℕ → Bool) where
     abbrev links_of : Option Data → Arrival → List Arrival
     links_of o a = when_some o (λ d. links_below enters d a)
 
-    falling_behind : (o : Option Data) (a : Arrival) (more : List Arrival) → AreFalling (a ∷ more) → AreFalling (links_of o a ++ more)
-    falling_behind o a more h =
+    falling_after : (o : Option Data) (a : Arrival) (more : List Arrival) → AreFalling (a ∷ more) → AreFalling (links_of o a ++ more)
+    falling_after o a more h =
         falling-same (a.depth + 1) (links_of o a) more (links-depth enters inside a o) (all-weaker (λ b. b.depth ≤ a.depth) (λ b. b.depth ≤ a.depth + 1) (λ b g. omega (arith, g)) more h.0) h.1
 
     -- nothing is below what isn't good
-    above_behind : (good : Bool) (o : Option Data) (a : Arrival) (more : List Arrival) → (good ≡ false → o ≡ None) → AreFalling (a ∷ more) → IsAbove (if good then None else Some a.depth) (links_of o a ++ more)
-    above_behind true o a more none h = tt
-    above_behind false o a more none h =
+    above_after : (good : Bool) (o : Option Data) (a : Arrival) (more : List Arrival) → (good ≡ false → o ≡ None) → AreFalling (a ∷ more) → IsAbove (if good then None else Some a.depth) (links_of o a ++ more)
+    above_after true o a more none h = tt
+    above_after false o a more none h =
         subst (λ p. AllByRecursion (λ b. b.depth ≤ a.depth) (links_of p a ++ more)) (sym (none refl)) h.0
 
     nothing_inside : (was : Bool) (o : Option Data) → o ≡ None → (if was then None else o) ≡ None
     nothing_inside true o h = refl
     nothing_inside false o h = h
 
-    once-none_cut : (n : ℕ) (gone : List (List ℕ × R)) (waiting : List Arrival) (cut : Option ℕ) → AreFalling waiting → IsAbove cut waiting → NoneCut cut (once enters rest same inside n gone waiting)
-    once-none_cut zero gone waiting cut falling above = tt
-    once-none_cut (suc n) gone [] cut falling above = tt
-    once-none_cut (suc n) gone (a ∷ more) cut falling above =
-        let o : Option Data = if was_gone_into enters rest same inside gone a then None else inside a.cid in (
+    once-none_cut : (n : ℕ) (expanded : List (List ℕ × R)) (waiting : List Arrival) (cut : Option ℕ) → AreFalling waiting → IsAbove cut waiting → NoneCut cut (once enters rest same inside n expanded waiting)
+    once-none_cut zero expanded waiting cut falling above = tt
+    once-none_cut (suc n) expanded [] cut falling above = tt
+    once-none_cut (suc n) expanded (a ∷ more) cut falling above =
+        let o : Option Data = if was_expanded enters rest same inside expanded a then None else inside a.cid in (
           above_cut cut a more above,
-          once-none_cut n (gone_behind enters rest same inside o a gone) (links_of o a ++ more) (if pass a.cid then None else Some a.depth) (falling_behind o a more falling)
-              (above_behind (pass a.cid) o a more (λ bad. nothing_inside (was_gone_into enters rest same inside gone a) (inside a.cid) (stays a.cid bad)) falling),
+          once-none_cut n (expanded_after enters rest same inside o a expanded) (links_of o a ++ more) (if pass a.cid then None else Some a.depth) (falling_after o a more falling)
+              (above_after (pass a.cid) o a more (λ bad. nothing_inside (was_expanded enters rest same inside expanded a) (inside a.cid) (stays a.cid bad)) falling),
         )
 
 -- nothing is cut of their deliveries
 kept-uncut : (store : Blocks) (number n : ℕ) (cut : Option ℕ) (xs : List Arrival) → NoneCut (is_good store) cut xs
-    → kept_behind (λ d. d.visit.depth) (λ d. passes d.verdict) cut (map (judged store) (visits_from store number n xs)) ≡ map (judged store) (visits_from store number n xs)
+    → kept_after (λ d. d.visit.depth) (λ d. passes d.verdict) cut (map (judged store) (visits_from store number n xs)) ≡ map (judged store) (visits_from store number n xs)
 kept-uncut store number n cut [] h = refl
 kept-uncut store number n cut (x ∷ xs) h =
     let d : Delivery = judged store (visit_of store number n x) in
-    let behind : Option ℕ → List Delivery = λ c. kept_behind (λ e. e.visit.depth) (λ e. passes e.verdict) c (map (judged store) (visits_from store number (n + 1) xs)) in
+    let behind : Option ℕ → List Delivery = λ c. kept_after (λ e. e.visit.depth) (λ e. passes e.verdict) c (map (judged store) (visits_from store number (n + 1) xs)) in
     let next : Option ℕ = if is_good store x.cid then None else Some x.depth in
     ap (λ b. if b then behind cut else d ∷ behind next) h.0 ∙ ap (λ l. d ∷ l) (kept-uncut store number (n + 1) next xs h.1)
 

@@ -12,7 +12,7 @@ use Rattle.ix_walk.specs.Arrivals.{Arrival}
 use Rattle.ix_walk.specs.Visits.{believed, arrivals_of, visit_of, visits_from, is_over_limit}
 use Rattle.ix_check.specs.Verdict.{passes}
 use Rattle.ix_archive.specs.declared.sink.Delivery.{Delivery}
-use Rattle.ix_archive.specs.Kept.{is_below, kept_behind, kept}
+use Rattle.ix_archive.specs.Kept.{is_below, kept_after, kept}
 use Rattle.ix_archive.specs.Verified.{is_good, judged, judged_visits, all_judged, verified, verified_arrivals, same_step, same_path, number_among}
 use Rattle.ix_archive.proofs.Pruning.{kept_arrivals, pruning, kept-take}
 use Rattle.ix_archive.proofs.RisingKeys.{value_of-rising}
@@ -96,10 +96,10 @@ kept-believed store job = pruning (is_good store) (is_entered job.selector) (val
 
 -- numbers don't matter to what is kept
 kept-numbered : (store : Blocks) (number : ℕ) (number_of : Arrival → ℕ) (cut : Option ℕ) (xs : List Arrival)
-    → kept_behind (λ d. d.visit.depth) (λ d. passes d.verdict) cut (numbered store number number_of xs) ≡ numbered store number number_of (kept_arrivals (is_good store) cut xs)
+    → kept_after (λ d. d.visit.depth) (λ d. passes d.verdict) cut (numbered store number number_of xs) ≡ numbered store number number_of (kept_arrivals (is_good store) cut xs)
 kept-numbered store number number_of cut [] = refl
 kept-numbered store number number_of cut (a ∷ xs) =
-    let behind : Option ℕ → List Delivery = λ c. kept_behind (λ d. d.visit.depth) (λ d. passes d.verdict) c (numbered store number number_of xs) in
+    let behind : Option ℕ → List Delivery = λ c. kept_after (λ d. d.visit.depth) (λ d. passes d.verdict) c (numbered store number number_of xs) in
     let next : Option ℕ = if is_good store a.cid then None else Some a.depth in
     elim (is_below cut a.depth) as (λ b. (if b then behind cut else judged_at store number (number_of a) a ∷ behind next) ≡ numbered store number number_of (if b then kept_arrivals (is_good store) cut xs else a ∷ kept_arrivals (is_good store) next xs))
     [ true ↦ kept-numbered store number number_of cut xs | false ↦ ap (λ l. judged_at store number (number_of a) a ∷ l) (kept-numbered store number number_of next xs) ]

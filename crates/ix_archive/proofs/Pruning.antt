@@ -6,7 +6,7 @@ use Rattle.ix_cbor.specs.Data as nodes
 use Rattle.ix_cbor.specs.Data.{Data, Items, Entries, no_items, item, no_entries, entry}
 use Rattle.ix_selector.specs.Enters.{key, nth, Path}
 use Rattle.ix_walk.specs.Arrivals.{Arrival, Crossing, Inside, behind, when_some, arrivals_below, arrivals_in_items, arrivals_in_entries, arrivals_at, arrivals_from}
-use Rattle.ix_archive.specs.Kept.{is_below, cut_at, kept_behind, kept_of, without_deeper, cut_after as cut_of}
+use Rattle.ix_archive.specs.Kept.{is_below, cut_at, kept_after, kept_of, without_deeper, cut_after as cut_of}
 use Rattle.ix_archive.specs.Verified.{only_passing}
 
 module _ {X : Type 0} (depth : X → ℕ) (pass : X → Bool) where
@@ -15,10 +15,10 @@ module _ {X : Type 0} (depth : X → ℕ) (pass : X → Bool) where
   cut_after = cut_of depth pass
 
   -- what is kept of a concatenation, part by part
-  pub kept-append : (cut : Option ℕ) (xs ys : List X) → kept_behind depth pass cut (xs ++ ys) ≡ kept_behind depth pass cut xs ++ kept_behind depth pass (cut_after cut xs) ys
+  pub kept-append : (cut : Option ℕ) (xs ys : List X) → kept_after depth pass cut (xs ++ ys) ≡ kept_after depth pass cut xs ++ kept_after depth pass (cut_after cut xs) ys
   kept-append cut [] ys = refl
   kept-append cut (x ∷ xs) ys =
-      elim (is_below cut (depth x)) as (λ b. (if b then kept_behind depth pass cut (xs ++ ys) else x ∷ kept_behind depth pass (cut_at depth pass x) (xs ++ ys)) ≡ (if b then kept_behind depth pass cut xs else x ∷ kept_behind depth pass (cut_at depth pass x) xs) ++ kept_behind depth pass (if b then cut_after cut xs else cut_after (cut_at depth pass x) xs) ys)
+      elim (is_below cut (depth x)) as (λ b. (if b then kept_after depth pass cut (xs ++ ys) else x ∷ kept_after depth pass (cut_at depth pass x) (xs ++ ys)) ≡ (if b then kept_after depth pass cut xs else x ∷ kept_after depth pass (cut_at depth pass x) xs) ++ kept_after depth pass (if b then cut_after cut xs else cut_after (cut_at depth pass x) xs) ys)
       [ true ↦ kept-append cut xs ys | false ↦ ap (λ l. x ∷ l) (kept-append (cut_at depth pass x) xs ys) ]
 
   -- and where it is cut after both
@@ -46,7 +46,7 @@ not_below k (Some d) h = le-ltb d k h
 module _ (pass : List ℕ → Bool) where
   -- what is kept of visits
   abbrev pub kept_arrivals : Option ℕ → List Arrival → List Arrival
-  kept_arrivals = kept_behind (λ a. a.depth) (λ a. pass a.cid)
+  kept_arrivals = kept_after (λ a. a.depth) (λ a. pass a.cid)
 
   -- where they are cut after all
   abbrev pub after_arrivals : Option ℕ → List Arrival → Option ℕ
@@ -72,8 +72,8 @@ module _ (pass : List ℕ → Bool) where
       }
 
   -- what is cut off of a concatenation, part by part
-  gone-append : (d : ℕ) (a b : List Arrival) → Gone d a → Gone d b → Gone d (a ++ b)
-  gone-append d a b first second =
+  expanded-append : (d : ℕ) (a b : List Arrival) → Gone d a → Gone d b → Gone d (a ++ b)
+  expanded-append d a b first second =
       record {
         left = kept-append (λ x. x.depth) (λ x. pass x.cid) (Some d) a b ∙ (λ i. first.left i ++ kept_arrivals (first.after i) b) ∙ second.left;
         after = cut_after-append (λ x. x.depth) (λ x. pass x.cid) (Some d) a b ∙ ap (λ c. after_arrivals c b) first.after ∙ second.after;
@@ -121,29 +121,29 @@ module _ (pass : List ℕ → Bool) where
     none : Gone d []
     none = record { left = refl; after = refl }
 
-    chosen_gone : (b : Bool) (x : List Arrival) → Gone d x → Gone d (if b then x else [])
-    chosen_gone true x y = y
-    chosen_gone false x y = none
+    chosen_expanded : (b : Bool) (x : List Arrival) → Gone d x → Gone d (if b then x else [])
+    chosen_expanded true x y = y
+    chosen_expanded false x y = none
 
     mutual
-      gone_below : (n : Data) (p : Path) → Gone d (arrivals_below enters cross n p)
-      gone_below nodes.null p = none
-      gone_below (nodes.boolean b) p = none
-      gone_below (nodes.integer n) p = none
-      gone_below (nodes.float bits) p = none
-      gone_below (nodes.bytes b) p = none
-      gone_below (nodes.text t) p = none
-      gone_below (nodes.list ds) p = gone_items 0 ds p
-      gone_below (nodes.map es) p = gone_entries es p
-      gone_below (nodes.link c) p = h c p
+      expanded_below : (n : Data) (p : Path) → Gone d (arrivals_below enters cross n p)
+      expanded_below nodes.null p = none
+      expanded_below (nodes.boolean b) p = none
+      expanded_below (nodes.integer n) p = none
+      expanded_below (nodes.float bits) p = none
+      expanded_below (nodes.bytes b) p = none
+      expanded_below (nodes.text t) p = none
+      expanded_below (nodes.list ds) p = expanded_items 0 ds p
+      expanded_below (nodes.map es) p = expanded_entries es p
+      expanded_below (nodes.link c) p = h c p
 
-      gone_items : (n : ℕ) (ds : Items) (p : Path) → Gone d (arrivals_in_items enters cross n ds p)
-      gone_items n no_items p = none
-      gone_items n (item x ds) p = gone-append d _ _ (chosen_gone (enters (behind p (nth n))) _ (gone_below x (behind p (nth n)))) (gone_items (n + 1) ds p)
+      expanded_items : (n : ℕ) (ds : Items) (p : Path) → Gone d (arrivals_in_items enters cross n ds p)
+      expanded_items n no_items p = none
+      expanded_items n (item x ds) p = expanded-append d _ _ (chosen_expanded (enters (behind p (nth n))) _ (expanded_below x (behind p (nth n)))) (expanded_items (n + 1) ds p)
 
-      gone_entries : (es : Entries) (p : Path) → Gone d (arrivals_in_entries enters cross es p)
-      gone_entries no_entries p = none
-      gone_entries (entry l x es) p = gone-append d _ _ (chosen_gone (enters (behind p (key l))) _ (gone_below x (behind p (key l)))) (gone_entries es p)
+      expanded_entries : (es : Entries) (p : Path) → Gone d (arrivals_in_entries enters cross es p)
+      expanded_entries no_entries p = none
+      expanded_entries (entry l x es) p = expanded-append d _ _ (chosen_expanded (enters (behind p (key l))) _ (expanded_below x (behind p (key l)))) (expanded_entries es p)
 
   -- an entry that isn't cut off is left, with what is left after it
   entry_left : (root k : ℕ) (cut : Option ℕ) (p : Path) (c : List ℕ) (rest : List Arrival) → AtLeast k cut
@@ -158,8 +158,8 @@ module _ (pass : List ℕ → Bool) where
       ap (λ b. if b then after_arrivals cut rest else after_arrivals (if pass c then None else Some k) rest) (not_below k cut a)
 
   -- an entry deeper than the cut is cut off, and so is what is cut off after it
-  gone-entry : (d : ℕ) (x : Arrival) (rest : List Arrival) → d < x.depth → Gone d rest → Gone d (x ∷ rest)
-  gone-entry d x rest deep h =
+  expanded-entry : (d : ℕ) (x : Arrival) (rest : List Arrival) → d < x.depth → Gone d rest → Gone d (x ∷ rest)
+  expanded-entry d x rest deep h =
       record {
         left = ap (λ b. if b then kept_arrivals (Some d) rest else x ∷ kept_arrivals (if pass x.cid then None else Some x.depth) rest) (lt-ltb d x.depth deep) ∙ h.left;
         after = ap (λ b. if b then after_arrivals (Some d) rest else after_arrivals (if pass x.cid then None else Some x.depth) rest) (lt-ltb d x.depth deep) ∙ h.after;
@@ -176,14 +176,14 @@ module _ (pass : List ℕ → Bool) where
     abbrev rest_at : Crossing → Option Data → Path → List Arrival
     rest_at cross o p = when_some o (λ n. arrivals_below enters cross n p)
 
-    gone_rest : (d : ℕ) (cross : Crossing) → Goes d cross → (o : Option Data) (p : Path) → Gone d (rest_at cross o p)
-    gone_rest d cross h None p = record { left = refl; after = refl }
-    gone_rest d cross h (Some n) p = gone_below enters d cross h n p
+    expanded_rest : (d : ℕ) (cross : Crossing) → Goes d cross → (o : Option Data) (p : Path) → Gone d (rest_at cross o p)
+    expanded_rest d cross h None p = record { left = refl; after = refl }
+    expanded_rest d cross h (Some n) p = expanded_below enters d cross h n p
 
-    at_gone : (root links d k : ℕ) → d < k → Goes d (whole_at root links k)
-    at_gone root zero d k deep c p = gone-entry d (record { root = root; path = p; depth = k; cid = c }) [] deep (record { left = refl; after = refl })
-    at_gone root (suc links) d k deep c p =
-        gone-entry d (record { root = root; path = p; depth = k; cid = c }) _ deep (gone_rest d (whole_at root links (k + 1)) (at_gone root links d (k + 1) (omega arith)) (inside c) p)
+    at_expanded : (root links d k : ℕ) → d < k → Goes d (whole_at root links k)
+    at_expanded root zero d k deep c p = expanded-entry d (record { root = root; path = p; depth = k; cid = c }) [] deep (record { left = refl; after = refl })
+    at_expanded root (suc links) d k deep c p =
+        expanded-entry d (record { root = root; path = p; depth = k; cid = c }) _ deep (expanded_rest d (whole_at root links (k + 1)) (at_expanded root links d (k + 1) (omega arith)) (inside c) p)
 
     deeper : (k : ℕ) (cross pruned : Crossing) → Prunes (k + 1) cross pruned → (o : Option Data) (p : Path) → Pruned k None (rest_at cross o p) (rest_at pruned o p)
     deeper k cross pruned h None p = record { left = refl; after = tt }
@@ -195,16 +195,16 @@ module _ (pass : List ℕ → Bool) where
     cut_off k rest h = let least : AtLeast k (Some k) = omega arith in record { left = h.left; after = subst (AtLeast k) (sym h.after) least }
 
     -- after an entry that passes, or doesn't
-    behind_it : (k : ℕ) (cross pruned : Crossing) → Prunes (k + 1) cross pruned → Goes k cross → (o : Option Data) (p : Path) (b : Bool) → Pruned k (if b then None else Some k) (rest_at cross o p) (rest_at pruned (if b then o else None) p)
-    behind_it k cross pruned h g o p true = deeper k cross pruned h o p
-    behind_it k cross pruned h g o p false = cut_off k _ (gone_rest k cross g o p)
+    after_it : (k : ℕ) (cross pruned : Crossing) → Prunes (k + 1) cross pruned → Goes k cross → (o : Option Data) (p : Path) (b : Bool) → Pruned k (if b then None else Some k) (rest_at cross o p) (rest_at pruned (if b then o else None) p)
+    after_it k cross pruned h g o p true = deeper k cross pruned h o p
+    after_it k cross pruned h g o p false = cut_off k _ (expanded_rest k cross g o p)
 
     at_prunes : (root links k : ℕ) → Prunes k (whole_at root links k) (pruned_at root links k)
     at_prunes root zero k cut c p a =
         let one : (b : Bool) → AtLeast k (if b then None else Some k) = λ b. elim b as (λ v. AtLeast k (if v then None else Some k)) [ true ↦ tt | false ↦ omega arith ] in
         record { left = entry_left root k cut p c [] a; after = subst (AtLeast k) (sym (after_entry root k cut p c [] a)) (one (pass c)) }
     at_prunes root (suc links) k cut c p a =
-        let rest = behind_it k (whole_at root links (k + 1)) (pruned_at root links (k + 1)) (at_prunes root links (k + 1)) (at_gone root links k (k + 1) (omega arith)) (inside c) p (pass c) in record {
+        let rest = after_it k (whole_at root links (k + 1)) (pruned_at root links (k + 1)) (at_prunes root links (k + 1)) (at_expanded root links k (k + 1) (omega arith)) (inside c) p (pass c) in record {
           left = entry_left root k cut p c _ a ∙ ap (λ l. record { root = root; path = p; depth = k; cid = c } ∷ l) rest.left;
           after = subst (AtLeast k) (sym (after_entry root k cut p c _ a)) rest.after;
         }
@@ -227,23 +227,23 @@ module _ (pass : List ℕ → Bool) where
     pruning links root cs = (from_prunes links root cs None tt).left
 
 -- what is left of the beginning of a list is the beginning of what is left
-pub kept-take : {X : Type 0} (depth : X → ℕ) (pass : X → Bool) (cut : Option ℕ) (n : ℕ) (xs : List X) → (m : ℕ) × (kept_behind depth pass cut (take n xs) ≡ take m (kept_behind depth pass cut xs))
+pub kept-take : {X : Type 0} (depth : X → ℕ) (pass : X → Bool) (cut : Option ℕ) (n : ℕ) (xs : List X) → (m : ℕ) × (kept_after depth pass cut (take n xs) ≡ take m (kept_after depth pass cut xs))
 kept-take depth pass cut zero xs = (0, refl)
 kept-take depth pass cut (suc n) [] = (0, refl)
 kept-take depth pass cut (suc n) (x ∷ xs) =
-    elim (is_below cut (depth x)) as (λ b. (m : ℕ) × ((if b then kept_behind depth pass cut (take n xs) else x ∷ kept_behind depth pass (cut_at depth pass x) (take n xs)) ≡ take m (if b then kept_behind depth pass cut xs else x ∷ kept_behind depth pass (cut_at depth pass x) xs)))
+    elim (is_below cut (depth x)) as (λ b. (m : ℕ) × ((if b then kept_after depth pass cut (take n xs) else x ∷ kept_after depth pass (cut_at depth pass x) (take n xs)) ≡ take m (if b then kept_after depth pass cut xs else x ∷ kept_after depth pass (cut_at depth pass x) xs)))
     [ true ↦ kept-take depth pass cut n xs | false ↦ (let r = kept-take depth pass (cut_at depth pass x) n xs in (suc r.0, ap (λ l. x ∷ l) r.1)) ]
 
 -- after an entry that doesn't pass, its longest prefix of deeper entries is left out
-pub kept-cut : {X : Type 0} (depth : X → ℕ) (pass : X → Bool) (d : ℕ) (xs : List X) → kept_behind depth pass (Some d) xs ≡ kept_of depth pass (without_deeper depth pass d xs)
+pub kept-cut : {X : Type 0} (depth : X → ℕ) (pass : X → Bool) (d : ℕ) (xs : List X) → kept_after depth pass (Some d) xs ≡ kept_of depth pass (without_deeper depth pass d xs)
 kept-cut depth pass d [] = refl
 kept-cut depth pass d (x ∷ xs) =
-    elim (nat_lt d (depth x)) as (λ b. (if b then kept_behind depth pass (Some d) xs else x ∷ kept_behind depth pass (cut_at depth pass x) xs) ≡ kept_of depth pass (if b then without_deeper depth pass d xs else x ∷ xs))
+    elim (nat_lt d (depth x)) as (λ b. (if b then kept_after depth pass (Some d) xs else x ∷ kept_after depth pass (cut_at depth pass x) xs) ≡ kept_of depth pass (if b then without_deeper depth pass d xs else x ∷ xs))
     [ true ↦ kept-cut depth pass d xs | false ↦ refl ]
 
 -- the first entry is kept; what follows is kept as by itself where it passes, and else without what is deeper at its front
 pub kept-first : {X : Type 0} (depth : X → ℕ) (pass : X → Bool) (x : X) (xs : List X)
     → kept_of depth pass (x ∷ xs) ≡ x ∷ (if pass x then kept_of depth pass xs else kept_of depth pass (without_deeper depth pass (depth x) xs))
 kept-first depth pass x xs =
-    ap (λ l. x ∷ l) (elim (pass x) as (λ b. kept_behind depth pass (if b then None else Some (depth x)) xs ≡ (if b then kept_of depth pass xs else kept_of depth pass (without_deeper depth pass (depth x) xs)))
+    ap (λ l. x ∷ l) (elim (pass x) as (λ b. kept_after depth pass (if b then None else Some (depth x)) xs ≡ (if b then kept_of depth pass xs else kept_of depth pass (without_deeper depth pass (depth x) xs)))
     [ true ↦ refl | false ↦ kept-cut depth pass (depth x) xs ])

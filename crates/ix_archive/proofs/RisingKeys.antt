@@ -10,7 +10,7 @@ use Rattle.ix_cbor.specs.declared.fault.CborKind.TheVariants.{Tag, Link, KeyKind
 use Rattle.ix_cbor.specs.Data as nodes
 use Rattle.ix_cbor.specs.Data.{Data, Items, Entries, no_items, item, no_entries, entry}
 use Rattle.ix_cbor.specs.Spelling.{key_cmp}
-use Rattle.ix_cbor.specs.Reading.{Fault, ◌>>=◌, Parse, fails, take_at, string_of_major, rises, key_at, float_at, simple_at, link_of, link_at, Own, leaf, list_of, map_of, own_with, own_behind, own_at, argument_at, items_at, entries_at, with_members, item_with, item_at, nothing_after, decoded, data_at}
+use Rattle.ix_cbor.specs.Reading.{Fault, ◌>>=◌, Parse, fails, take_at, string_of_major, rises, key_at, float_at, simple_at, link_of, link_at, Own, leaf, list_of, map_of, own_with, own_after, own_at, argument_at, items_at, entries_at, with_members, item_with, item_at, nothing_after, decoded, data_at}
 use Rattle.ix_cbor.proofs.Keys.{less_from_test, key_total, less_not_equal}
 use Rattle.ix_store.specs.Store.{Blocks, bytes_of, is_dag_cbor, value_of}
 
@@ -141,8 +141,8 @@ own_with_rising at major n b =
     search (reads-if, as_bytes, as_text, as_link) depth 12
 
 -- by its additional information
-behind_rising : (at : List ℕ) (major info : ℕ) (b : List ℕ) → Reads IsRisingOwn (own_behind at major info b)
-behind_rising at major info b =
+after_rising : (at : List ℕ) (major info : ℕ) (b : List ℕ) → Reads IsRisingOwn (own_after at major info b)
+after_rising at major info b =
     let simple = leaf_rising (simple_at at info b) (simple_rising at info b) in
     let other = reads-any IsRisingOwn (argument_at at info b) (λ n. own_with at major n.0 n.1) (λ n. own_with_rising at major n.0 n.1) in
     search (reads-if, simple, other)
@@ -150,7 +150,7 @@ behind_rising at major info b =
 -- and by its first byte
 own_rising : (b : List ℕ) → Reads IsRisingOwn (own_at b)
 own_rising [] = tt
-own_rising (h ∷ b) = behind_rising (h ∷ b) (h / 32) (h % 32) b
+own_rising (h ∷ b) = after_rising (h ∷ b) (h / 32) (h % 32) b
 
 -- ---- members
 

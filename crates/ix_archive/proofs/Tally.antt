@@ -9,7 +9,7 @@ use Rattle.ix_check.specs.Verdict.{passes}
 use Rattle.ix_store.specs.Store.{Blocks, position_of}
 use Rattle.ix_store.specs.declared.places.PlaceSet.{PlaceSet}
 use Rattle.ix_store.specs.PlaceSet.{contains_place}
-use Rattle.ix_walk.proofs.Goes.{one_behind}
+use Rattle.ix_walk.proofs.Goes.{one_after}
 use Rattle.ix_archive.specs.declared.archive.Skip.{Skip}
 use Rattle.ix_archive.specs.declared.sink.Delivery.{Delivery}
 use Rattle.ix_archive.specs.declared.sink.End.{End}
@@ -17,7 +17,7 @@ use Rattle.ix_archive.specs.Kept.{is_below, kept}
 use Rattle.ix_archive.specs.Archive.{is_sound, sections_of}
 use Rattle.ix_archive.specs.declared.archive.Counts.{Counts}
 use Rattle.ix_archive.specs.Report.{at_most, counts_of}
-use Rattle.ix_archive.specs.Archiving.{IsTally, cut_behind, is_told, place_due}
+use Rattle.ix_archive.specs.Archiving.{IsTally, cut_behind, is_told, unwritten_block}
 use Rattle.ix_archive.proofs.FirstSound.{sound_passes, refused_unsound, kept-push, cut-push, told-push, skips_in, skips-passing, skips-refused, sections-unsound, sections-repeat, sections-due, due-told}
 
 -- a count that stops, one higher
@@ -145,13 +145,13 @@ told-again store ks d c place none at =
     by (bytes_eq d.visit.cid c) (is_told ks d.visit.cid) refl refl
 
 -- nor by any that has no place that is due
-repeat-told : (store : Blocks) (ks : List Delivery) (d : Delivery) (c : List ℕ) (place : ℕ) → place_due store ks d ≡ None → position_of store c ≡ Some place → (is_told ks c || (is_sound d.verdict && bytes_eq d.visit.cid c)) ≡ is_told ks c
+repeat-told : (store : Blocks) (ks : List Delivery) (d : Delivery) (c : List ℕ) (place : ℕ) → unwritten_block store ks d ≡ None → position_of store c ≡ Some place → (is_told ks c || (is_sound d.verdict && bytes_eq d.visit.cid c)) ≡ is_told ks c
 repeat-told store ks d c place none at =
     elim (is_sound d.verdict) as (λ s. (if s then (if is_told ks d.visit.cid then None else position_of store d.visit.cid) else None) ≡ None → (is_told ks c || (s && bytes_eq d.visit.cid c)) ≡ is_told ks c)
     [ true ↦ (λ h. told-again store ks d c place h at) | false ↦ (λ h. or-nothing (is_told ks c) false refl) ] none
 
 -- one that passes and has no place that is due
-pub tally-repeat : (store : Blocks) (ds es failed : List Delivery) (closed : List End) (d : Delivery) (cut : Option ℕ) (c : Counts) (n k : ℕ) (w : PlaceSet) (skips : List Skip) → IsTally store ds failed closed cut c w skips → is_below (cut_behind ds) d.visit.depth ≡ false → passes d.verdict ≡ true → place_due store (kept ds) d ≡ None
+pub tally-repeat : (store : Blocks) (ds es failed : List Delivery) (closed : List End) (d : Delivery) (cut : Option ℕ) (c : Counts) (n k : ℕ) (w : PlaceSet) (skips : List Skip) → IsTally store ds failed closed cut c w skips → is_below (cut_behind ds) d.visit.depth ≡ false → passes d.verdict ≡ true → unwritten_block store (kept ds) d ≡ None
     → es ≡ ds ++ d ∷ [] → n ≡ at_most 32 (c.visits + 1) → k ≡ at_most 32 (c.kept + 1) → IsTally store es failed closed None (record { visits = n; kept = k; sections = c.sections; bytes = c.bytes }) w skips
 tally-repeat store ds es failed closed d cut c n k w skips h uncut passing none longer visits keeps =
     let left : kept es ≡ kept ds ++ d ∷ [] = ap kept longer ∙ kept-uncut ds d uncut in
@@ -176,14 +176,14 @@ put-place store ks w v d c here place updates at there was =
       | true ↦ (λ e. let one : position_of store c ≡ Some here = ap (λ x. position_of store x) (sym ((bytes_eq-Decides d c).0 e)) ∙ at in
           let same_place : here ≡ place = some-same here place (sym one ∙ there) in
           ap (λ b. b || contains_place w place) (eq-eqb here place same_place) ∙ sym (or-true (is_told ks c)))
-      | false ↦ (λ e. let apart : here ≡ place → ⊥ = λ p. false≢true (sym e ∙ (bytes_eq-Decides d c).1 (one_behind 0 place store d c (at ∙ ap Some p) there)) in
+      | false ↦ (λ e. let apart : here ≡ place → ⊥ = λ p. false≢true (sym e ∙ (bytes_eq-Decides d c).1 (one_after 0 place store d c (at ∙ ap Some p) there)) in
           ap (λ b. b || contains_place w place) (ne_eqb here place apart) ∙ was ∙ sym (or-nothing (is_told ks c) false refl))
     ] in
     updates place ∙ by (bytes_eq d c) refl
 
 -- a section
 pub tally-section : (store : Blocks) (ds es failed : List Delivery) (closed : List End) (d : Delivery) (cut : Option ℕ) (c : Counts) (n k s t here : ℕ) (w v : PlaceSet) (skips : List Skip) → IsTally store ds failed closed cut c w skips → is_below (cut_behind ds) d.visit.depth ≡ false
-    → place_due store (kept ds) d ≡ Some here → ((n : ℕ) → contains_place v n ≡ ((here == n) || contains_place w n)) → es ≡ ds ++ d ∷ [] → n ≡ at_most 32 (c.visits + 1) → k ≡ at_most 32 (c.kept + 1) → s ≡ at_most 32 (c.sections + 1) → t ≤ 2 ^ 64 - 1
+    → unwritten_block store (kept ds) d ≡ Some here → ((n : ℕ) → contains_place v n ≡ ((here == n) || contains_place w n)) → es ≡ ds ++ d ∷ [] → n ≡ at_most 32 (c.visits + 1) → k ≡ at_most 32 (c.kept + 1) → s ≡ at_most 32 (c.sections + 1) → t ≤ 2 ^ 64 - 1
     → IsTally store es failed closed None (record { visits = n; kept = k; sections = s; bytes = t }) v skips
 tally-section store ds es failed closed d cut c n k s t here w v skips h uncut due updates longer visits keeps sections within =
     let left : kept es ≡ kept ds ++ d ∷ [] = ap kept longer ∙ kept-uncut ds d uncut in

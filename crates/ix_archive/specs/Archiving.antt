@@ -30,16 +30,16 @@ abbrev pub is_told : List Delivery → List ℕ → Bool
 is_told ds c = list_any (λ d. is_sound d.verdict && bytes_eq d.visit.cid c) ds
 
 -- the position of the block of the section that a kept delivery writes after these kept ones
-abbrev pub place_due : Blocks → List Delivery → Delivery → Option ℕ
-place_due store ks d = if is_sound d.verdict then (if is_told ks d.visit.cid then None else position_of store d.visit.cid) else None
+abbrev pub unwritten_block : Blocks → List Delivery → Delivery → Option ℕ
+unwritten_block store ks d = if is_sound d.verdict then (if is_told ks d.visit.cid then None else position_of store d.visit.cid) else None
 
 -- what a kept delivery writes after these kept ones
-abbrev pub text_behind : Blocks → List Delivery → Delivery → List ℕ
-text_behind store ks d = if is_sound d.verdict then (if is_told ks d.visit.cid then [] else section_of store d) else []
+abbrev pub text_after : Blocks → List Delivery → Delivery → List ℕ
+text_after store ks d = if is_sound d.verdict then (if is_told ks d.visit.cid then [] else section_of store d) else []
 
 -- what a delivery writes after these
 abbrev pub text_due : Blocks → List Delivery → Delivery → List ℕ
-text_due store ds d = if is_cut_off ds d.visit.depth then [] else text_behind store (kept ds) d
+text_due store ds d = if is_cut_off ds d.visit.depth then [] else text_after store (kept ds) d
 
 -- what an archive keeps, besides these deliveries, those at which a write failed, and the close
 pub record IsTally (store : Blocks) (ds failed : List Delivery) (closed : List End) (cut : Option ℕ) (counts : Counts) (written : PlaceSet) (skips : List Skip) : Type 0 where
@@ -91,7 +91,7 @@ KeepsAt a depth = (a.failed ≡ []) × (is_cut_off a.deliveries depth ≡ false)
 
 -- the position of the block of the section that a kept delivery writes into an archive
 abbrev pub section_due : {W : Type 0} → ArchiveMeaning W → Delivery → Option ℕ
-section_due a d = place_due a.store (kept a.deliveries) d
+section_due a d = unwritten_block a.store (kept a.deliveries) d
 
 -- what an archive has counted
 abbrev pub counts_in : {W : Type 0} → ArchiveMeaning W → Counts

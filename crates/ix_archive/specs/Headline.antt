@@ -39,13 +39,13 @@ Fact S = S → Blocks → JobMeaning → Option (List ℕ) → Type 0
 
 -- what a sink guaranteed before, it guarantees now
 abbrev pub Keeps : {S : Type 0} → Fact S → S → S → Type 0
-Keeps fact s t = (store : Blocks) (job : JobMeaning) (first : Option (List ℕ)) → fact s store job first → fact t store job first
+Keeps guarantee s t = (store : Blocks) (job : JobMeaning) (first : Option (List ℕ)) → guarantee s store job first → guarantee t store job first
 
 -- sink by sink
 abbrev pub EachKept : {S : Type 0} → Fact S → List S → List S → Type 0
-EachKept fact [] [] = Unit {0}
-EachKept fact (s ∷ ss) (t ∷ ts) = Keeps fact s t × EachKept fact ss ts
-EachKept fact ss ts = ⊥
+EachKept guarantee [] [] = Unit {0}
+EachKept guarantee (s ∷ ss) (t ∷ ts) = Keeps guarantee s t × EachKept guarantee ss ts
+EachKept guarantee ss ts = ⊥
 
 -- a check has checked nothing so far
 abbrev pub IsUnusedCheck : {C : Type 0} → (C → List (ℕ × ℕ)) → C → Type 0

@@ -14,9 +14,9 @@ module _ {X : Type 0} (depth : X → ℕ) (pass : X → Bool) where
   cut_at x = if pass x then None else Some (depth x)
 
   -- the entries that aren't cut off, after one at which the list may be cut
-  abbrev pub kept_behind : Option ℕ → List X → List X
-  kept_behind cut [] = []
-  kept_behind cut (x ∷ xs) = if is_below cut (depth x) then kept_behind cut xs else x ∷ kept_behind (cut_at x) xs
+  abbrev pub kept_after : Option ℕ → List X → List X
+  kept_after cut [] = []
+  kept_after cut (x ∷ xs) = if is_below cut (depth x) then kept_after cut xs else x ∷ kept_after (cut_at x) xs
 
   -- where the list is cut after these entries
   abbrev pub cut_after : Option ℕ → List X → Option ℕ
@@ -25,7 +25,7 @@ module _ {X : Type 0} (depth : X → ℕ) (pass : X → Bool) where
 
   -- the entries that aren't cut off
   abbrev pub kept_of : List X → List X
-  kept_of = kept_behind None
+  kept_of = kept_after None
 
   -- a list without its longest prefix of entries deeper than this
   abbrev pub without_deeper : ℕ → List X → List X

@@ -64,7 +64,7 @@ pub struct Archive<'a, W: Write> {
     failed: Option<Delivery>,
     closed: Option<End>,
     // The depth of the delivery below which the list is cut off.
-    cut: Option<u32>,
+    pruned_below: Option<u32>,
     counts: Counts,
     // The positions in the store of the blocks that were written; emptied when the archive is
     // closed.
@@ -84,7 +84,7 @@ impl<'a, W: Write> Model for Archive<'a, W> {
 
     ghost view = { λ a. record { store = a.store.now; roots = a.job.value.roots; deliveries = a.deliveries; failed = option_to_list a.failed; closed = option_to_list a.closed; taken = a.counts.bytes; writer = a.writer } };
 
-    ghost invariant = { λ a. IsTally a.store.now a.deliveries (option_to_list a.failed) (option_to_list a.closed) a.cut a.counts a.written a.skips.items };
+    ghost invariant = { λ a. IsTally a.store.now a.deliveries (option_to_list a.failed) (option_to_list a.closed) a.pruned_below a.counts a.written a.skips.items };
 }
 
 impl<'a, W: Write> Archive<'a, W> {
@@ -98,7 +98,7 @@ impl<'a, W: Write> Archive<'a, W> {
         mut writer: W,
     ) -> Result<Archive<'a, W>, ArchiveNew<W>>
         ensures begun { IfOk result (λ a. IsBegun a store.now job.now.roots) }
-        ensures fact { IfOk result (λ a. HasArchived W.contents a store.now job.now (W.contents writer)) }
+        ensures guarantee { IfOk result (λ a. HasArchived W.contents a store.now job.now (W.contents writer)) }
         ensures refused { IfErr result (λ e. IsNoArchive W.contents writer job.now.roots e) }
     {
         let Ok(header) = header_of(alloc, job.roots()) else {
@@ -114,7 +114,7 @@ impl<'a, W: Write> Archive<'a, W> {
             deliveries: History::new(),
             failed: None,
             closed: None,
-            cut: None,
+            pruned_below: None,
             counts: Counts {
                 visits: 0,
                 kept: 0,
@@ -164,7 +164,7 @@ impl<'a, W: Write> Archive<'a, W> {
         if !delivery.verdict.passes() {
             return self.add_skip(delivery);
         }
-        match self.place_due(&delivery) {
+        match self.unwritten_block(&delivery) {
             Some(place) => self.add_section(delivery, place),
             None => {
                 self.add_without_section(&delivery);
@@ -177,7 +177,7 @@ impl<'a, W: Write> Archive<'a, W> {
     fn is_cut_off(&self, depth: u32) -> bool
         ensures { result ≡ is_cut_off self.now.deliveries depth }
     {
-        match self.cut {
+        match self.pruned_below {
             None => false,
             Some(cut) => cut < depth,
         }
@@ -185,7 +185,7 @@ impl<'a, W: Write> Archive<'a, W> {
 
     // Returns the position of the block of the section that a kept delivery writes: `None` for a
     // CID that has its section, has no block, or is inline.
-    fn place_due(&self, delivery: &Delivery) -> Option<usize>
+    fn unwritten_block(&self, delivery: &Delivery) -> Option<usize>
         requires unfailed { self.now.failed ≡ [] }
         requires unclosed { self.now.closed ≡ [] }
         ensures { result ≡ section_due self.now delivery.now }
@@ -206,8 +206,8 @@ impl<'a, W: Write> Archive<'a, W> {
         requires cut_off { is_cut_off self.old.deliveries delivery.now.visit.depth ≡ true }
         ensures { IsAdded W.contents delivery.now [] self.old self.new }
     {
-        self.deliveries.note(delivery);
-        self.counts.visits = one_more(self.counts.visits);
+        self.deliveries.push(delivery);
+        self.counts.visits = saturating_inc(self.counts.visits);
     }
 
     // Adds a kept delivery that isn't good.
@@ -219,10 +219,10 @@ impl<'a, W: Write> Archive<'a, W> {
         if self.skips.reserve(1).is_err() {
             return Err(SinkFault::Memory);
         }
-        self.deliveries.note(&delivery);
-        self.cut = Some(delivery.visit.depth);
-        self.counts.visits = one_more(self.counts.visits);
-        self.counts.kept = one_more(self.counts.kept);
+        self.deliveries.push(&delivery);
+        self.pruned_below = Some(delivery.visit.depth);
+        self.counts.visits = saturating_inc(self.counts.visits);
+        self.counts.kept = saturating_inc(self.counts.kept);
         self.skips.push_reserved(Skip {
             seq: delivery.visit.seq,
             cid: delivery.visit.cid,
@@ -238,10 +238,10 @@ impl<'a, W: Write> Archive<'a, W> {
         requires none_due { section_due self.old delivery.now ≡ None }
         ensures { IsAdded W.contents delivery.now [] self.old self.new }
     {
-        self.deliveries.note(delivery);
-        self.cut = None;
-        self.counts.visits = one_more(self.counts.visits);
-        self.counts.kept = one_more(self.counts.kept);
+        self.deliveries.push(delivery);
+        self.pruned_below = None;
+        self.counts.visits = saturating_inc(self.counts.visits);
+        self.counts.kept = saturating_inc(self.counts.kept);
     }
 
     // Adds a kept delivery with its section, whose block is at this position.
@@ -266,11 +266,11 @@ impl<'a, W: Write> Archive<'a, W> {
             self.failed = Some(delivery);
             return Err(SinkFault::Write);
         }
-        self.deliveries.note(&delivery);
-        self.cut = None;
-        self.counts.visits = one_more(self.counts.visits);
-        self.counts.kept = one_more(self.counts.kept);
-        self.counts.sections = one_more(self.counts.sections);
+        self.deliveries.push(&delivery);
+        self.pruned_below = None;
+        self.counts.visits = saturating_inc(self.counts.visits);
+        self.counts.kept = saturating_inc(self.counts.kept);
+        self.counts.sections = saturating_inc(self.counts.sections);
         Ok(())
     }
 }
@@ -282,7 +282,7 @@ impl<'a, W: Write> Sink for Archive<'a, W> {
 
     ghost failed = { λ a. a.failed };
 
-    ghost fact = { HasArchived W.contents };
+    ghost guarantee = { HasArchived W.contents };
 
     fn deliver(&mut self, _alloc: Global, visit: Visit, verdict: Verdict) -> Result<(), SinkFault> {
         self.take(Delivery { visit, verdict })
@@ -305,7 +305,7 @@ fn scratch_of(alloc: Global, header: Vec<u8>) -> Vec<u8> {
 }
 
 // Returns a count plus one; it saturates.
-fn one_more(count: u32) -> u32
+fn saturating_inc(count: u32) -> u32
     ensures { result ≡ at_most 32 (count + 1) }
 {
     count.saturating_add(1)

@@ -8,25 +8,25 @@ use std::snapshot::Snapshot;
 
 // What was recorded: nothing, or an item after what was recorded before.
 #[derive(Drop)]
-enum Past<T> {
-    Empty,
-    More(Snapshot<Past<T>>, Snapshot<T>),
+enum GhostList<T> {
+    Nil,
+    Snoc(Snapshot<GhostList<T>>, Snapshot<T>),
 }
 
 /// A list of items that only contracts read: it has no bytes, and recording an item keeps nothing
 /// of it.
 #[derive(Drop)]
 pub struct History<T> {
-    past: Snapshot<Past<T>>,
+    past: Snapshot<GhostList<T>>,
 }
 
 impl<T> Model for History<T> {
     ghost use Rattle.std.specs.Prelude.{List};
-    ghost use Rattle.ix_archive.specs.History.{recalled};
+    ghost use Rattle.ix_archive.specs.History.{listed};
 
     ghost Value = { List T };
 
-    ghost view = { λ h. recalled h.past.value };
+    ghost view = { λ h. listed h.past.value };
 }
 
 impl<T> History<T> {
@@ -35,16 +35,16 @@ impl<T> History<T> {
         ensures { result ≡ [] }
     {
         History {
-            past: Snapshot::of(&Past::Empty),
+            past: Snapshot::of(&GhostList::Nil),
         }
     }
 
     /// Appends an item.
-    pub fn note(&mut self, item: &T)
+    pub fn push(&mut self, item: &T)
         ensures { self.new ≡ self.old ++ item.now ∷ [] }
     {
         let before = mem::replace(self, History::new());
-        let past = Past::More(before.past, Snapshot::of(item));
+        let past = GhostList::Snoc(before.past, Snapshot::of(item));
         self.past = Snapshot::of(&past);
     }
 }

@@ -70,7 +70,7 @@ pub trait Sink {
 
     /// What a sink guarantees of itself for good, over a store, a job and the bytes that its writer
     /// had at first, if they are known.
-    ghost fact: { Self → Blocks → JobMeaning → Option (List ℕ) → Type 0 };
+    ghost guarantee: { Self → Blocks → JobMeaning → Option (List ℕ) → Type 0 };
 
     /// Accepts a visit with its verdict, which is then the last event. It may be called until the
     /// close and until a write fails. After an error the events are unchanged, and if memory ran
@@ -83,7 +83,7 @@ pub trait Sink {
         ensures err { OnErr result (events self.new ≡ events self.old) }
         ensures refused { IfErr result (λ e. IsRefusal e (with_verdict visit verdict) (failed self.new)) }
         ensures memory { result ≡ Err Memory → self.new ≡ self.old }
-        ensures kept { Keeps fact self.old self.new };
+        ensures kept { Keeps guarantee self.old self.new };
 
     /// Closes the sink with the job's end, which is the last event. It may be called once, also
     /// after a failed write.
@@ -91,5 +91,5 @@ pub trait Sink {
         requires { IsOpen (events self.old) }
         ensures closed { events self.new ≡ events self.old ++ closing end ∷ [] }
         ensures failed { failed self.new ≡ failed self.old }
-        ensures kept { Keeps fact self.old self.new };
+        ensures kept { Keeps guarantee self.old self.new };
 }

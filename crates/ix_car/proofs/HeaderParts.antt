@@ -7,14 +7,14 @@ use Rattle.ix_cbor.specs.declared.front.Front.{Front}
 use Rattle.ix_cbor.specs.declared.front.Front.TheVariants.{Null, Bool as BoolFront, Int, Bits64, Bytes, Text, Link, List as ListFront, Map}
 use Rattle.ix_cbor.specs.Data.{Data, Items, Entries, null, boolean, integer, float, bytes, text, list, map, link, no_items, item, no_entries, entry}
 use Rattle.ix_cbor.specs.Reading.{Fault, Parse, ◌>>=◌, Own, leaf, list_of, map_of, own_at, key_at, item_at, items_at, entries_at, with_members, decoded, nothing_after, data_at}
-use Rattle.ix_cbor.specs.Fronts.{own_of_front, behind, behind_item, judged}
-use Rattle.ix_cbor.proofs.Steps.{items_behind, with_item, value_behind, entries_behind, with_entry, as_list, as_map, ok_data, no_ok, bind_err}
+use Rattle.ix_cbor.specs.Fronts.{own_of_front, behind, after_item, judged}
+use Rattle.ix_cbor.proofs.Steps.{items_after, with_item, value_behind, entries_after, with_entry, as_list, as_map, ok_data, no_ok, bind_err}
 use Rattle.ix_cbor.proofs.Fronts.{item_at-above}
 use Rattle.ix_cbor.proofs.Deeper.{item_deeper}
 use Rattle.ix_car.specs.declared.fault.CarKind.TheVariants.{Header}
 use Rattle.ix_car.specs.Reading.{value_at, are_links, has_roots, version_fault, header_fault}
 use Rattle.ix_car.specs.Sections.{links_in, links_of, roots_in}
-use Rattle.ix_car.specs.Standing.{StandsAt, EntriesStandAt, MembersStandAt, ValueStandsAt, IsMapAt, IsListAt, integer_in, own_integer, own_map, own_list, own_is_link, own_links}
+use Rattle.ix_car.specs.Standing.{StandsAt, EntriesAreAt, MembersAreAt, ValueIsAt, IsMapAt, IsListAt, integer_in, own_integer, own_map, own_list, own_is_link, own_links}
 
 -- ---- an item by its own head
 
@@ -117,23 +117,23 @@ integer_told read (list_of n) b rest r d e = ap (λ y. integer_in (Some y)) (sym
 integer_told read (map_of n) b rest r d e = ap (λ y. integer_in (Some y)) (sym (map_is read n rest r d e).1)
 
 -- the integer of a value
-pub integer_found : (value : Bor (List ℕ)) (own : Own) (rest : List ℕ) → own_at value.now ≡ Ok (own, rest) → (d : Option Data) → ValueStandsAt (Some value) d → own_integer own ≡ integer_in d
+pub integer_found : (value : Bor (List ℕ)) (own : Own) (rest : List ℕ) → own_at value.now ≡ Ok (own, rest) → (d : Option Data) → ValueIsAt (Some value) d → own_integer own ≡ integer_in d
 integer_found value own rest e None h = absurd h
 integer_found value own rest e (Some d) h = integer_told (item_at 510) own value.now rest h.0 d (with_own 511 value.now d own rest (omega arith) e h)
 
 -- a value has a head
-pub value_headed : (value : Bor (List ℕ)) (f : Fault) → own_at value.now ≡ Err f → (d : Option Data) → ValueStandsAt (Some value) d → ⊥
+pub value_headed : (value : Bor (List ℕ)) (f : Fault) → own_at value.now ≡ Err f → (d : Option Data) → ValueIsAt (Some value) d → ⊥
 value_headed value f e None h = h
 value_headed value f e (Some d) h = has_head 511 value.now d f (omega arith) e h
 
 -- ---- keys and values
 
 -- what is left after an item that is skipped
-pub skipped : (b next : List ℕ) (d : Data × List ℕ) → item_at 511 b ≡ Ok d → behind_item 512 b ≡ Ok next → next ≡ d.1
+pub skipped : (b next : List ℕ) (d : Data × List ℕ) → item_at 511 b ≡ Ok d → after_item 512 b ≡ Ok next → next ≡ d.1
 skipped b next d e over = ok_same next d.1 (sym over ∙ ap (λ r. r >>= behind) (item_deeper 511 b d e))
 
 -- what is read can be skipped
-pub is_skipped : (b : List ℕ) (f : Fault) (d : Data × List ℕ) → item_at 511 b ≡ Ok d → behind_item 512 b ≡ Err f → ⊥
+pub is_skipped : (b : List ℕ) (f : Fault) (d : Data × List ℕ) → item_at 511 b ≡ Ok d → after_item 512 b ≡ Err f → ⊥
 is_skipped b f d e over = no_ok f d.1 (sym over ∙ ap (λ r. r >>= behind) (item_deeper 511 b d e))
 
 module _ (last : Option (List ℕ)) (count i : ℕ) (b : List ℕ) (es : Entries) (after : List ℕ) where
@@ -146,7 +146,7 @@ module _ (last : Option (List ℕ)) (count i : ℕ) (b : List ℕ) (es : Entries
       let less : count - i ≡ suc n = omega arith in
       let whole : entries_at (item_at 511) last (suc n) b ≡ Ok (es, after) = ap (λ m. entries_at (item_at 511) last m b) (sym less) ∙ e in
       let k = bind_ok (key_at last b) (value_behind (item_at 511) n) (es, after) whole in
-      let d = bind_ok (item_at 511 k.0.1) (entries_behind (item_at 511) n k.0.0) (es, after) k.2 in
+      let d = bind_ok (item_at 511 k.0.1) (entries_after (item_at 511) n k.0.0) (es, after) k.2 in
       let more = bind_ok (entries_at (item_at 511) (Some k.0.0) n d.0.1) (with_entry k.0.0 d.0.0) (es, after) d.2 in
       let is = ok_same (entry k.0.0 d.0.0 more.0.0, more.0.1) (es, after) more.2 in
       (k.0, d.0, more.0.0, k.1, d.1, more.1 ∙ ap (λ l. Ok (more.0.0, l)) (ap (λ p. p.1) is), sym (ap (λ p. p.0) is))
@@ -157,33 +157,33 @@ module _ (last : Option (List ℕ)) (count i : ℕ) (b : List ℕ) (es : Entries
 
   module _ (key : List ℕ) (k : List ℕ × List ℕ) (lt : i < count) (e : entries_at (item_at 511) last (count - i) b ≡ Ok (es, after)) (named : key_at last b ≡ Ok k) where
     -- and neither can its value
-    pub value_is_read : (f : Fault) → behind_item 512 k.1 ≡ Err f → ⊥
+    pub value_is_read : (f : Fault) → after_item 512 k.1 ≡ Err f → ⊥
     value_is_read f miss =
         let x = entry_read lt e in
         let same : x.0 ≡ k = ok_same x.0 k (sym x.3 ∙ named) in
         is_skipped k.1 f x.1 (ap (λ p. item_at 511 p.1) (sym same) ∙ x.4) miss
 
     -- the value is after its key
-    pub value_found : (value : Bor (List ℕ)) → value.now ≡ k.1 → bytes_eq k.0 key ≡ true → ValueStandsAt (Some value) (value_at key es)
+    pub value_found : (value : Bor (List ℕ)) → value.now ≡ k.1 → bytes_eq k.0 key ≡ true → ValueIsAt (Some value) (value_at key es)
     value_found value lent found =
         let x = entry_read lt e in
         let same : x.0 ≡ k = ok_same x.0 k (sym x.3 ∙ named) in
         let here : value_at key (entry x.0.0 x.1.0 x.2) ≡ Some x.1.0 =
         ap (λ t. if t then Some x.1.0 else value_at key x.2) (ap (λ p. bytes_eq p.0 key) same ∙ found) in
-        subst (ValueStandsAt (Some value)) (sym (ap (value_at key) x.6 ∙ here))
+        subst (ValueIsAt (Some value)) (sym (ap (value_at key) x.6 ∙ here))
         (x.1.1, ap (item_at 511) (lent ∙ ap (λ p. p.1) (sym same)) ∙ x.4)
 
     -- another key is passed
-    pub value_passed : (next : List ℕ) → bytes_eq k.0 key ≡ false → behind_item 512 k.1 ≡ Ok next
+    pub value_passed : (next : List ℕ) → bytes_eq k.0 key ≡ false → after_item 512 k.1 ≡ Ok next
         → (more : Entries) × (entries_at (item_at 511) (Some k.0) (count - (i + 1)) next ≡ Ok (more, after)) × (value_at key es ≡ value_at key more)
     value_passed next other over =
         let x = entry_read lt e in
         let same : x.0 ≡ k = ok_same x.0 k (sym x.3 ∙ named) in
-        let behind_it : next ≡ x.1.1 = skipped k.1 next x.1 (ap (λ p. item_at 511 p.1) (sym same) ∙ x.4) over in
+        let after_it : next ≡ x.1.1 = skipped k.1 next x.1 (ap (λ p. item_at 511 p.1) (sym same) ∙ x.4) over in
         let past : value_at key (entry x.0.0 x.1.0 x.2) ≡ value_at key x.2 =
         ap (λ t. if t then Some x.1.0 else value_at key x.2) (ap (λ p. bytes_eq p.0 key) same ∙ other) in (
           x.2,
-          ap (entries_at (item_at 511) (Some k.0) (count - (i + 1))) behind_it ∙ ap (λ p. entries_at (item_at 511) (Some p.0) (count - (i + 1)) x.1.1) (sym same) ∙ x.5,
+          ap (entries_at (item_at 511) (Some k.0) (count - (i + 1))) after_it ∙ ap (λ p. entries_at (item_at 511) (Some p.0) (count - (i + 1)) x.1.1) (sym same) ∙ x.5,
           ap (value_at key) x.6 ∙ past,
         )
 
@@ -203,7 +203,7 @@ module _ (count i : ℕ) (b : List ℕ) (ds : Items) (after : List ℕ) (lt : i 
       let n = count - (i + 1) in
       let less : count - i ≡ suc n = omega arith in
       let whole : items_at (item_at 510) (suc n) b ≡ Ok (ds, after) = ap (λ m. items_at (item_at 510) m b) (sym less) ∙ e in
-      let d = bind_ok (item_at 510 b) (items_behind (item_at 510) n) (ds, after) whole in
+      let d = bind_ok (item_at 510 b) (items_after (item_at 510) n) (ds, after) whole in
       let more = bind_ok (items_at (item_at 510) n d.0.1) (with_item d.0.0) (ds, after) d.2 in
       let is = ok_same (item d.0.0 more.0.0, more.0.1) (ds, after) more.2 in
       (d.0, more.0.0, d.1, more.1 ∙ ap (λ l. Ok (more.0.0, l)) (ap (λ p. p.1) is), sym (ap (λ p. p.0) is))
@@ -213,7 +213,7 @@ module _ (count i : ℕ) (b : List ℕ) (ds : Items) (after : List ℕ) (lt : i 
   member_headed f miss = let x = member_read in has_head 510 b x.0.0 f (omega arith) miss (x.0.1, x.2)
 
   -- and can be skipped
-  pub member_skipped : (f : Fault) → behind_item 512 b ≡ Err f → ⊥
+  pub member_skipped : (f : Fault) → after_item 512 b ≡ Err f → ⊥
   member_skipped f miss = let x = member_read in is_skipped b f x.0 (item_deeper 510 b x.0 x.2) miss
 
   module _ (own : Own) (rest : List ℕ) (head : own_at b ≡ Ok (own, rest)) where
@@ -280,12 +280,12 @@ module _ (count i : ℕ) (b : List ℕ) (ds : Items) (after : List ℕ) (lt : i 
     links_told (map_of n) d r more w = ap (λ y. links_in (item y more)) (map_is (item_at 509) n rest r d w).1
 
     -- a member is passed, whose link is one of those
-    pub member_passed : (next : List ℕ) → behind_item 512 b ≡ Ok next → (more : Items) × (items_at (item_at 510) (count - (i + 1)) next ≡ Ok (more, after)) × (links_in ds ≡ own_links own ++ links_in more)
+    pub member_passed : (next : List ℕ) → after_item 512 b ≡ Ok next → (more : Items) × (items_at (item_at 510) (count - (i + 1)) next ≡ Ok (more, after)) × (links_in ds ≡ own_links own ++ links_in more)
     member_passed next over =
         let x = member_read in
-        let behind_it : next ≡ x.0.1 = skipped b next x.0 (item_deeper 510 b x.0 x.2) over in (
+        let after_it : next ≡ x.0.1 = skipped b next x.0 (item_deeper 510 b x.0 x.2) over in (
           x.1,
-          ap (items_at (item_at 510) (count - (i + 1))) behind_it ∙ x.3,
+          ap (items_at (item_at 510) (count - (i + 1))) after_it ∙ x.3,
           ap links_in x.4 ∙ links_told own x.0.0 x.0.1 x.1 (with_own 510 b x.0.0 own rest (omega arith) head (x.0.1, x.2)),
         )
 
@@ -348,7 +348,7 @@ has_no_list (map es) h = (refl, refl)
 has_no_list (link c) h = (refl, refl)
 
 -- data whose keys and values are there are a map
-pub map_stands : (m : ℕ × Bor (List ℕ)) (d : Data) → IsMapAt (Some m) d → (es : Entries) × (d ≡ map es) × EntriesStandAt m.0 m.1.now es
+pub map_stands : (m : ℕ × Bor (List ℕ)) (d : Data) → IsMapAt (Some m) d → (es : Entries) × (d ≡ map es) × EntriesAreAt m.0 m.1.now es
 map_stands m null h = absurd h
 map_stands m (boolean t) h = absurd h
 map_stands m (integer n) h = absurd h
@@ -360,7 +360,7 @@ map_stands m (map es) h = (es, refl, h)
 map_stands m (link c) h = absurd h
 
 -- and those with members a list
-pub list_stands : (m : ℕ × Bor (List ℕ)) (d : Data) → IsListAt (Some m) d → (ds : Items) × (d ≡ list ds) × MembersStandAt m.0 m.1.now ds
+pub list_stands : (m : ℕ × Bor (List ℕ)) (d : Data) → IsListAt (Some m) d → (ds : Items) × (d ≡ list ds) × MembersAreAt m.0 m.1.now ds
 list_stands m null h = absurd h
 list_stands m (boolean t) h = absurd h
 list_stands m (integer n) h = absurd h
@@ -388,16 +388,16 @@ version_told (Some (link c)) roots = refl
 module _ (value : Bor (List ℕ)) where
   module _ (m : ℕ × Bor (List ℕ)) (is : (d : Data) → StandsAt 511 value.now d → IsListAt (Some m) d) where
     -- whether the members of a list are links
-    pub roots_told : (answer : Bool) → ((ds : Items) → MembersStandAt m.0 m.1.now ds → answer ≡ are_links ds) → (d : Option Data) → ValueStandsAt (Some value) d → answer ≡ has_roots d
+    pub roots_told : (answer : Bool) → ((ds : Items) → MembersAreAt m.0 m.1.now ds → answer ≡ are_links ds) → (d : Option Data) → ValueIsAt (Some value) d → answer ≡ has_roots d
     roots_told answer told None h = absurd h
     roots_told answer told (Some d) h = let x = list_stands m d (is d h) in told x.0 x.2 ∙ ap (λ y. has_roots (Some y)) (sym x.1)
 
     -- and the links among them
-    pub links_listed : (links : List (List ℕ)) → ((ds : Items) → MembersStandAt m.0 m.1.now ds → links ≡ links_in ds) → (d : Option Data) → ValueStandsAt (Some value) d → links ≡ links_of d
+    pub links_listed : (links : List (List ℕ)) → ((ds : Items) → MembersAreAt m.0 m.1.now ds → links ≡ links_in ds) → (d : Option Data) → ValueIsAt (Some value) d → links ≡ links_of d
     links_listed links told None h = absurd h
     links_listed links told (Some d) h = let x = list_stands m d (is d h) in told x.0 x.2 ∙ ap (λ y. links_of (Some y)) (sym x.1)
 
   -- a value that is no list
-  pub roots_missing : ((d : Data) → StandsAt 511 value.now d → IsListAt None d) → (d : Option Data) → ValueStandsAt (Some value) d → (false ≡ has_roots d) × ([] ≡ links_of d)
+  pub roots_missing : ((d : Data) → StandsAt 511 value.now d → IsListAt None d) → (d : Option Data) → ValueIsAt (Some value) d → (false ≡ has_roots d) × ([] ≡ links_of d)
   roots_missing is None h = absurd h
   roots_missing is (Some d) h = has_no_list d (is d h)

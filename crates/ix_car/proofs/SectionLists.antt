@@ -6,7 +6,7 @@ use Rattle.ix_car.specs.declared.fault.CarKind.{CarKind}
 use Rattle.ix_car.specs.declared.fault.CarKind.TheVariants.{Memory}
 use Rattle.ix_car.specs.Gives.{FailsAs}
 use Rattle.ix_car.specs.Reading.{Fault, ◌>>=◌, section_at, sections_at, header_at, blocks_of}
-use Rattle.ix_car.specs.Sections.{SectionMeaning, placed, sections_behind, section_list, with_sections, first_of_each}
+use Rattle.ix_car.specs.Sections.{SectionMeaning, placed, sections_after, section_list, with_sections, first_of_each}
 use Rattle.ix_car.proofs.Sections.{section_at-shorter}
 
 -- the list with the section at the front of the rest
@@ -14,47 +14,47 @@ abbrev pub with_next : ℕ → List SectionMeaning → List ℕ → List ℕ × 
 with_next size so_far rest p = so_far ++ placed (size - length rest) p ∷ []
 
 -- a greater bound on the number of sections changes nothing
-pub sections_behind-enough : (size n m : ℕ) (so_far : List SectionMeaning) (b : List ℕ) → length b ≤ n → length b ≤ m → sections_behind size n so_far b ≡ sections_behind size m so_far b
-unfolding sections_behind
-sections_behind-enough size n m so_far [] h k = refl
-sections_behind-enough size zero m so_far (x ∷ b) h k = absurd (omega arith)
-sections_behind-enough size (suc n) zero so_far (x ∷ b) h k = absurd (omega arith)
-sections_behind-enough size (suc n) (suc m) so_far (x ∷ b) h k = on_read (section_at (x ∷ b)) (section_at-shorter (x ∷ b)) (sections_behind-enough size n m) where
+pub sections_after-enough : (size n m : ℕ) (so_far : List SectionMeaning) (b : List ℕ) → length b ≤ n → length b ≤ m → sections_after size n so_far b ≡ sections_after size m so_far b
+unfolding sections_after
+sections_after-enough size n m so_far [] h k = refl
+sections_after-enough size zero m so_far (x ∷ b) h k = absurd (omega arith)
+sections_after-enough size (suc n) zero so_far (x ∷ b) h k = absurd (omega arith)
+sections_after-enough size (suc n) (suc m) so_far (x ∷ b) h k = on_read (section_at (x ∷ b)) (section_at-shorter (x ∷ b)) (sections_after-enough size n m) where
   on_read : (read : Result ((List ℕ × List ℕ) × List ℕ) Fault) → ((s : (List ℕ × List ℕ) × List ℕ) → read ≡ Ok s → length s.1 < length (x ∷ b))
-      → ((more : List SectionMeaning) (rest : List ℕ) → length rest ≤ n → length rest ≤ m → sections_behind size n more rest ≡ sections_behind size m more rest)
-      → (read >>= (λ s. sections_behind size n (with_next size so_far (x ∷ b) s.0) s.1)) ≡ (read >>= (λ s. sections_behind size m (with_next size so_far (x ∷ b) s.0) s.1))
+      → ((more : List SectionMeaning) (rest : List ℕ) → length rest ≤ n → length rest ≤ m → sections_after size n more rest ≡ sections_after size m more rest)
+      → (read >>= (λ s. sections_after size n (with_next size so_far (x ∷ b) s.0) s.1)) ≡ (read >>= (λ s. sections_after size m (with_next size so_far (x ∷ b) s.0) s.1))
   on_read (Ok s) shorter rest = let less = shorter s refl in rest (with_next size so_far (x ∷ b) s.0) s.1 (omega (arith, less, h)) (omega (arith, less, k))
   on_read (Err f) shorter rest = refl
 
 -- what the sections from a place on give, after those so far, whatever the bound on their number
 abbrev pub ListGoesOn : ℕ → List SectionMeaning → List ℕ → Result (List SectionMeaning) Fault → Type 0
-ListGoesOn size so_far rest whole = (n : ℕ) → length rest ≤ n → sections_behind size n so_far rest ≡ whole
+ListGoesOn size so_far rest whole = (n : ℕ) → length rest ≤ n → sections_after size n so_far rest ≡ whole
 
 -- before the first section the list is empty
-pub ListGoesOn-first : (size : ℕ) (b : List ℕ) → ListGoesOn size [] b (sections_behind size (length b) [] b)
-ListGoesOn-first size b n h = sections_behind-enough size n (length b) [] b h (omega arith)
+pub ListGoesOn-first : (size : ℕ) (b : List ℕ) → ListGoesOn size [] b (sections_after size (length b) [] b)
+ListGoesOn-first size b n h = sections_after-enough size n (length b) [] b h (omega arith)
 
 -- the loop's step: one more section
 pub ListGoesOn-more : (size : ℕ) (so_far : List SectionMeaning) (rest : List ℕ) (whole : Result (List SectionMeaning) Fault) (s : (List ℕ × List ℕ) × List ℕ)
     → 0 < length rest → section_at rest ≡ Ok s → ListGoesOn size so_far rest whole → ListGoesOn size (with_next size so_far rest s.0) s.1 whole
-unfolding sections_behind
+unfolding sections_after
 ListGoesOn-more size so_far [] whole s some e goes_on n h = absurd (omega (arith, some))
 ListGoesOn-more size so_far (x ∷ b) whole s some e goes_on n h =
     let shorter = section_at-shorter (x ∷ b) s e in
-    sections_behind-enough size n (length b) (with_next size so_far (x ∷ b) s.0) s.1 h (omega (arith, shorter))
-    ∙ ap (λ read. read >>= (λ t. sections_behind size (length b) (with_next size so_far (x ∷ b) t.0) t.1)) (sym e) ∙ goes_on (suc (length b)) (omega arith)
+    sections_after-enough size n (length b) (with_next size so_far (x ∷ b) s.0) s.1 h (omega (arith, shorter))
+    ∙ ap (λ read. read >>= (λ t. sections_after size (length b) (with_next size so_far (x ∷ b) t.0) t.1)) (sym e) ∙ goes_on (suc (length b)) (omega arith)
 
 -- an error of a section is that of the file
 pub ListGoesOn-fails : (size : ℕ) (so_far : List SectionMeaning) (rest : List ℕ) (whole : Result (List SectionMeaning) Fault)
     → 0 < length rest → ListGoesOn size so_far rest whole → (f : Fault) → section_at rest ≡ Err f → whole ≡ Err f
-unfolding sections_behind
+unfolding sections_after
 ListGoesOn-fails size so_far [] whole some goes_on f e = absurd (omega (arith, some))
 ListGoesOn-fails size so_far (x ∷ b) whole some goes_on f e =
-    sym (goes_on (suc (length b)) (omega arith)) ∙ ap (λ read. read >>= (λ t. sections_behind size (length b) (with_next size so_far (x ∷ b) t.0) t.1)) e
+    sym (goes_on (suc (length b)) (omega arith)) ∙ ap (λ read. read >>= (λ t. sections_after size (length b) (with_next size so_far (x ∷ b) t.0) t.1)) e
 
 -- at the end the list is complete
 pub ListGoesOn-last : (size : ℕ) (so_far : List SectionMeaning) (rest : List ℕ) (whole : Result (List SectionMeaning) Fault) → length rest ≡ 0 → ListGoesOn size so_far rest whole → whole ≡ Ok so_far
-unfolding sections_behind
+unfolding sections_after
 ListGoesOn-last size so_far [] whole none goes_on = sym (goes_on 0 (omega arith))
 ListGoesOn-last size so_far (x ∷ b) whole none goes_on = absurd (omega (arith, none))
 
@@ -64,15 +64,15 @@ with_sections-append store [] s = refl
 with_sections-append store (t ∷ ss) s = with_sections-append (with_block store (t.cid, t.block)) ss s
 
 -- the blocks from a place on are those of the sections from there on
-blocks-behind : (size n : ℕ) (so_far : List SectionMeaning) (b : List ℕ) → sections_at n (with_sections [] so_far) b ≡ first_of_each (sections_behind size n so_far b)
-unfolding sections_at sections_behind
+blocks-behind : (size n : ℕ) (so_far : List SectionMeaning) (b : List ℕ) → sections_at n (with_sections [] so_far) b ≡ first_of_each (sections_after size n so_far b)
+unfolding sections_at sections_after
 blocks-behind size n so_far [] = refl
 blocks-behind size zero so_far (x ∷ b) = refl
 blocks-behind size (suc n) so_far (x ∷ b) = on_read (section_at (x ∷ b)) (blocks-behind size n) where
   on_read : (read : Result ((List ℕ × List ℕ) × List ℕ) Fault)
-      → ((more : List SectionMeaning) (rest : List ℕ) → sections_at n (with_sections [] more) rest ≡ first_of_each (sections_behind size n more rest))
+      → ((more : List SectionMeaning) (rest : List ℕ) → sections_at n (with_sections [] more) rest ≡ first_of_each (sections_after size n more rest))
       → (read >>= (λ s. sections_at n (with_block (with_sections [] so_far) s.0) s.1))
-      ≡ first_of_each (read >>= (λ s. sections_behind size n (with_next size so_far (x ∷ b) s.0) s.1))
+      ≡ first_of_each (read >>= (λ s. sections_after size n (with_next size so_far (x ∷ b) s.0) s.1))
   on_read (Ok s) rest = ap (λ (store : Blocks). sections_at n store s.1) (sym (with_sections-append [] so_far (placed (size - length (x ∷ b)) s.0))) ∙ rest (with_next size so_far (x ∷ b) s.0) s.1
   on_read (Err f) rest = refl
 
@@ -80,7 +80,7 @@ blocks-behind size (suc n) so_far (x ∷ b) = on_read (section_at (x ∷ b)) (bl
 pub blocks-of_sections : (b : List ℕ) → blocks_of b ≡ first_of_each (section_list b)
 blocks-of_sections b = on_header (header_at b) where
   on_header : (read : Result (List ℕ) Fault)
-      → (read >>= (λ rest. sections_at (length rest) [] rest)) ≡ first_of_each (read >>= (λ rest. sections_behind (length b) (length rest) [] rest))
+      → (read >>= (λ rest. sections_at (length rest) [] rest)) ≡ first_of_each (read >>= (λ rest. sections_after (length b) (length rest) [] rest))
   on_header (Ok rest) = blocks-behind (length b) (length rest) [] rest
   on_header (Err f) = refl
 

@@ -15,7 +15,7 @@ use Rattle.ix_car.specs.declared.fault.CarKind.{CarKind}
 use Rattle.ix_car.specs.declared.fault.CarKind.TheVariants.{Memory}
 use Rattle.ix_car.specs.Gives.{FailsAs}
 use Rattle.ix_car.specs.Reads.{IsEnd}
-use Rattle.ix_car.specs.Reading.{Fault, ◌>>=◌, text_at, text_behind, pair_of, section_at, sections_at}
+use Rattle.ix_car.specs.Reading.{Fault, ◌>>=◌, text_at, text_after, pair_of, section_at, sections_at}
 
 -- a varint takes a byte at least
 varint_at-some : (b : List ℕ) (v : ℕ × ℕ) → varint_at b ≡ Ok v → 1 ≤ v.1
@@ -30,17 +30,17 @@ varint_at-some b v h =
     omega (arith, size)
 
 -- a text with its length before it takes a byte at least
-text_behind-shorter : (b : List ℕ) (t : List ℕ × List ℕ) (r : Result (ℕ × ℕ) VarintFault) → ((v : ℕ × ℕ) → r ≡ Ok v → 1 ≤ v.1) → text_behind b r ≡ Ok t → length t.1 < length b
-text_behind-shorter b t (Ok v) some h =
+text_after-shorter : (b : List ℕ) (t : List ℕ × List ℕ) (r : Result (ℕ × ℕ) VarintFault) → ((v : ℕ × ℕ) → r ≡ Ok v → 1 ≤ v.1) → text_after b r ≡ Ok t → length t.1 < length b
+text_after-shorter b t (Ok v) some h =
     let enough = past_test (ltb (length b) (v.1 + v.0)) _ (Ok (take v.0 (drop v.1 b), drop (v.1 + v.0) b)) t h in
     let room : v.1 + v.0 ≤ length b = ltb-false (length b) (v.1 + v.0) enough.0 in
     let same : (take v.0 (drop v.1 b), drop (v.1 + v.0) b) ≡ t = ok_same _ _ enough.1 in
     let rest : drop (v.1 + v.0) b ≡ t.1 = ap (λ (p : List ℕ × List ℕ). p.1) same in
     let some : 1 ≤ v.1 = some v refl in
     omega (arith, ap length rest, length-drop (v.1 + v.0) b)
-text_behind-shorter b t (Err varints.Truncated) some h = absurd cc
-text_behind-shorter b t (Err varints.TooLong) some h = absurd cc
-text_behind-shorter b t (Err varints.NotMinimal) some h = absurd cc
+text_after-shorter b t (Err varints.Truncated) some h = absurd cc
+text_after-shorter b t (Err varints.TooLong) some h = absurd cc
+text_after-shorter b t (Err varints.NotMinimal) some h = absurd cc
 
 -- a section takes a byte at least
 pub section_at-shorter : (b : List ℕ) (s : (List ℕ × List ℕ) × List ℕ) → section_at b ≡ Ok s → length s.1 < length b
@@ -50,7 +50,7 @@ section_at-shorter b s h =
     let pair = bind_ok (pair_of b t.0 (cid_at t.0)) (λ p. Ok (p, t.1)) s text.2 in
     let same : (pair.0, t.1) ≡ s = ok_same _ _ pair.2 in
     let rest : t.1 ≡ s.1 = ap (λ (p : (List ℕ × List ℕ) × List ℕ). p.1) same in
-    omega (arith, ap length rest, text_behind-shorter b t (varint_at b) (varint_at-some b) text.1)
+    omega (arith, ap length rest, text_after-shorter b t (varint_at b) (varint_at-some b) text.1)
 
 -- a greater bound on the number of sections changes nothing
 pub sections_at-enough : (n m : ℕ) (store : Blocks) (b : List ℕ) → length b ≤ n → length b ≤ m → sections_at n store b ≡ sections_at m store b

@@ -17,14 +17,14 @@ placed place p = record { place = place; cid = p.0; block = p.1 }
 
 -- The sections up to the end of a file of so many bytes, after those so far. A section takes a byte at least, so the number of
 -- bytes is a bound on their number.
-unfoldable pub sections_behind : ℕ → ℕ → List SectionMeaning → List ℕ → Result (List SectionMeaning) Fault
-sections_behind size n so_far [] = Ok so_far
-sections_behind size zero so_far (x ∷ b) = Ok so_far
-sections_behind size (suc n) so_far (x ∷ b) = section_at (x ∷ b) >>= (λ s. sections_behind size n (so_far ++ placed (size - length (x ∷ b)) s.0 ∷ []) s.1)
+unfoldable pub sections_after : ℕ → ℕ → List SectionMeaning → List ℕ → Result (List SectionMeaning) Fault
+sections_after size n so_far [] = Ok so_far
+sections_after size zero so_far (x ∷ b) = Ok so_far
+sections_after size (suc n) so_far (x ∷ b) = section_at (x ∷ b) >>= (λ s. sections_after size n (so_far ++ placed (size - length (x ∷ b)) s.0 ∷ []) s.1)
 
 -- the sections in the bytes that end a file of so many, or the first error
 abbrev pub sections_in : ℕ → List ℕ → Result (List SectionMeaning) Fault
-sections_in size b = sections_behind size (length b) [] b
+sections_in size b = sections_after size (length b) [] b
 
 -- the sections of a file, or the first error
 abbrev pub section_list : List ℕ → Result (List SectionMeaning) Fault
@@ -49,13 +49,13 @@ roots_in (Some (map es)) = links_of (value_at (codes "roots") es)
 roots_in (Some other) = []
 
 -- the roots that the header's bytes name
-abbrev pub roots_behind : Result (List ℕ × List ℕ) Fault → List (List ℕ)
-roots_behind (Ok t) = roots_in (data_at t.0)
-roots_behind (Err e) = []
+abbrev pub roots_after : Result (List ℕ × List ℕ) Fault → List (List ℕ)
+roots_after (Ok t) = roots_in (data_at t.0)
+roots_after (Err e) = []
 
 -- the roots of a file; none if it has no header
 abbrev pub roots_of : List ℕ → List (List ℕ)
-roots_of b = roots_behind (text_at b)
+roots_of b = roots_after (text_at b)
 
 -- a store with the blocks of sections, the first of each CID
 abbrev pub with_sections : Blocks → List SectionMeaning → Blocks

@@ -9,30 +9,30 @@ abbrev pub StandsAt : ℕ → List ℕ → Data → Type 0
 StandsAt n b d = (rest : List ℕ) × (item_at n b ≡ Ok (d, rest))
 
 -- the bytes begin with so many entries of a block's map
-abbrev pub EntriesStandAt : ℕ → List ℕ → Entries → Type 0
-EntriesStandAt count b es = (rest : List ℕ) × (entries_at (item_at 511) None count b ≡ Ok (es, rest))
+abbrev pub EntriesAreAt : ℕ → List ℕ → Entries → Type 0
+EntriesAreAt count b es = (rest : List ℕ) × (entries_at (item_at 511) None count b ≡ Ok (es, rest))
 
 -- the bytes begin with so many elements of a list in a block's map
-abbrev pub MembersStandAt : ℕ → List ℕ → Items → Type 0
-MembersStandAt count b ds = (rest : List ℕ) × (items_at (item_at 510) count b ≡ Ok (ds, rest))
+abbrev pub MembersAreAt : ℕ → List ℕ → Items → Type 0
+MembersAreAt count b ds = (rest : List ℕ) × (items_at (item_at 510) count b ≡ Ok (ds, rest))
 
 -- the value in a block's map is at the bytes, or there is neither
-abbrev pub ValueStandsAt : Option (Bor (List ℕ)) → Option Data → Type 0
-ValueStandsAt (Some b) (Some d) = StandsAt 511 b.now d
-ValueStandsAt (Some b) None = ⊥
-ValueStandsAt None (Some d) = ⊥
-ValueStandsAt None None = Unit {0}
+abbrev pub ValueIsAt : Option (Bor (List ℕ)) → Option Data → Type 0
+ValueIsAt (Some b) (Some d) = StandsAt 511 b.now d
+ValueIsAt (Some b) None = ⊥
+ValueIsAt None (Some d) = ⊥
+ValueIsAt None None = Unit {0}
 
 -- the count of a map and the bytes of its entries, or none for data that is not a map
 abbrev pub IsMapAt : Option (ℕ × Bor (List ℕ)) → Data → Type 0
-IsMapAt (Some m) (map es) = EntriesStandAt m.0 m.1.now es
+IsMapAt (Some m) (map es) = EntriesAreAt m.0 m.1.now es
 IsMapAt (Some m) other = ⊥
 IsMapAt None (map es) = ⊥
 IsMapAt None other = Unit {0}
 
 -- the same of a list
 abbrev pub IsListAt : Option (ℕ × Bor (List ℕ)) → Data → Type 0
-IsListAt (Some m) (list ds) = MembersStandAt m.0 m.1.now ds
+IsListAt (Some m) (list ds) = MembersAreAt m.0 m.1.now ds
 IsListAt (Some m) other = ⊥
 IsListAt None (list ds) = ⊥
 IsListAt None other = Unit {0}

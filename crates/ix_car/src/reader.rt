@@ -76,7 +76,7 @@ fn store_of_file(alloc: Global, file: &Arc<Vec<u8>>) -> Result<Store, FaultAt>
 {
     let sections = header_at(file.as_slice())?;
     let mut store = store_of_sections(alloc, file, sections)?;
-    if store.settle().is_err() {
+    if store.enable_memo().is_err() {
         return Err(FaultAt {
             kind: CarKind::Memory,
             left: 0,

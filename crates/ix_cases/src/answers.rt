@@ -3,7 +3,7 @@
 use crate::example::Example;
 use crate::{jobs, runs, stores, walks};
 use anyhow::{Result, bail};
-use ix_case_words::{cids, selectors, trees};
+use ix_case_formats::{cids, selectors, trees};
 use std::alloc::Global;
 use std::sync::Wait;
 use std::thread::Threads;

@@ -3,7 +3,7 @@
 use crate::answers::answer;
 use crate::example::Example;
 use anyhow::{Context, Error, Result};
-use ix_case_words::Names;
+use ix_case_formats::Names;
 use std::alloc::{AllocError, Global};
 use std::sync::Wait;
 use std::thread::Threads;

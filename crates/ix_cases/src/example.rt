@@ -3,8 +3,8 @@
 use crate::walks::{MATCHER, job_of};
 use anyhow::{Context, Error, Result, bail};
 use ix_archive::{Counts, End, Skip};
-use ix_case_words::cids::cid_of;
-use ix_case_words::texts::{bytes_of_hex, two_words};
+use ix_case_formats::cids::cid_of;
+use ix_case_formats::texts::{bytes_of_hex, two_words};
 use ix_check::Verdict;
 use ix_jobs::JobResult;
 use ix_store::Store;

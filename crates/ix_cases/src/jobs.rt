@@ -1,8 +1,8 @@
 //! Job files, what a run needs, and the archive of one root.
 
 use anyhow::{Error, Result};
-use ix_case_words::cids::{cid_of, text_of_cids};
-use ix_case_words::texts::{bytes_of_hex, escaped, hex_of, two_words, unescaped};
+use ix_case_formats::cids::{cid_of, text_of_cids};
+use ix_case_formats::texts::{bytes_of_hex, escaped, hex_of, two_words, unescaped};
 use ix_jobs::{JobsFault, read_jobs};
 use ix_run::{RunFault, export_root, fault_line, prepare, printed_root, root_of_text};
 use ix_walk::Job;

@@ -108,13 +108,13 @@ fn try_line<R: AllocGlobal + Eprint + Threads + Wait + Sync>(
     tally: &mut Tally,
 ) -> Result<()> {
     let outcome = bench.outcome_of(rt, line)?;
-    tell_difference(rt, path, number, bench.example_name(), &outcome)?;
+    print_difference(rt, path, number, bench.example_name(), &outcome)?;
     tally.count(&outcome);
     Ok(())
 }
 
 // Reports a case that differs, with its file, its line and its example.
-fn tell_difference<R: Eprint>(
+fn print_difference<R: Eprint>(
     rt: &R,
     path: &str,
     number: u64,

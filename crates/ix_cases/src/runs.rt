@@ -8,7 +8,7 @@ ghost use Rattle.ix_pipeline.specs.Planned.{IsPlan};
 use crate::example::Example;
 use crate::jobs::line_of_fault;
 use anyhow::{Error, Result, bail};
-use ix_case_words::texts::{escaped, hex_of};
+use ix_case_formats::texts::{escaped, hex_of};
 use ix_jobs::{report, status};
 use ix_pipeline::Plan;
 use ix_run::{RunOut, prepare, run};

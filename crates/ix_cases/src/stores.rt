@@ -3,8 +3,8 @@
 use crate::example::Example;
 use anyhow::{Error, Result, bail};
 use ix_car::{CarFault, read_car};
-use ix_case_words::cids::cid_of;
-use ix_case_words::texts::{bytes_of_hex, hex_of, two_words};
+use ix_case_formats::cids::cid_of;
+use ix_case_formats::texts::{bytes_of_hex, hex_of, two_words};
 use ix_store::Store;
 use std::alloc::Global;
 
@@ -64,7 +64,7 @@ pub fn blocks(alloc: Global, store: &Store) -> Result<String> {
 
 /// `settle = COUNT` of blocks whose verdicts are cached from here on
 pub fn settle(alloc: Global, store: &mut Store) -> Result<String> {
-    store.settle()?;
+    store.enable_memo()?;
     store.len().to_string(alloc).map_err(Error::from)
 }
 
@@ -74,9 +74,9 @@ pub fn found_of_block(alloc: Global, store: &Store, input: &str) -> Result<Strin
     if place >= store.len() {
         return String::from_str(alloc, "none").map_err(Error::from);
     }
-    let agrees = store.agrees(place);
-    let is_faulty = store.is_faulty(place);
-    format!(in alloc; "{agrees} {is_faulty}").map_err(Error::from)
+    let agrees = store.hash_matches(place);
+    let is_malformed = store.is_malformed(place);
+    format!(in alloc; "{agrees} {is_malformed}").map_err(Error::from)
 }
 
 /// `car HEX = COUNT` of blocks, which are the store after it, or `KIND at PLACE`; `car = ..` reads

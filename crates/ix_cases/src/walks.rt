@@ -3,9 +3,9 @@
 ghost use Rattle.ix_check.specs.Visits.{IsVisitOf};
 
 use anyhow::{Error, Result, bail, ensure};
-use ix_case_words::cids::{cids_of, hex_of_cids};
-use ix_case_words::selectors::selector_of;
-use ix_case_words::texts::two_words;
+use ix_case_formats::cids::{cids_of, hex_of_cids};
+use ix_case_formats::selectors::selector_of;
+use ix_case_formats::texts::two_words;
 use ix_check::{Check, ShaCheck, Verdict};
 use ix_store::Store;
 use ix_walk::{Job, JobFault, Visit, Walk, WalkStop};
@@ -82,7 +82,7 @@ fn text_of_numbered(alloc: Global, store: &Store, job: &Job, number: &str) -> Re
 // The visits of a walk, and the stop after them.
 fn text_of_walk(alloc: Global, store: &Store, walk: &mut Walk<'_>) -> Result<String> {
     let answer = text_of_visits(alloc, store, walk)?;
-    ensure!(is_over(walk), "the walk goes on behind its end");
+    ensure!(is_over(walk), "the walk goes on after its end");
     Ok(answer)
 }
 

@@ -5,7 +5,7 @@ use Rattle.ix_cbor.specs.Data.{Data, Items, Entries, null, boolean, integer, flo
 use Rattle.ix_cbor.specs.Spelling.{head_of, key_spelling, spelling_of, items_spelling, entries_spelling, item_count, entry_count, IsSpellable, AreSpellable, AreRising, nesting_of, items_nesting, entries_nesting}
 use Rattle.ix_cbor.specs.Reading.{Parse, ◌>>=◌, key_at, own_at, Own, leaf, list_of, map_of, items_at, entries_at, with_members, item_with, item_at}
 use Rattle.ix_cbor.specs.Fits.{RisesAbove}
-use Rattle.ix_cbor.proofs.Steps.{with_item, items_behind, with_entry, entries_behind, value_behind, as_list, as_map}
+use Rattle.ix_cbor.proofs.Steps.{with_item, items_after, with_entry, entries_after, value_behind, as_list, as_map}
 use Rattle.ix_cbor.proofs.Keys.{key_again, rises_at}
 use Rattle.ix_cbor.proofs.Owns.{own_spelling, IsOwn, own_again}
 
@@ -17,13 +17,13 @@ IsComplete n read = (d : Data) (rest : List ℕ) → IsSpellable d → nesting_o
 items_read : (read : Parse Data) (k : ℕ) (b middle rest : List ℕ) (d : Data) (ds : Items) → read b ≡ Ok (d, middle) → items_at read k middle ≡ Ok (ds, rest)
     → items_at read (k + 1) b ≡ Ok (item d ds, rest)
 items_read read k b middle rest d ds first others =
-    ap (λ (j : ℕ). items_at read j b) (add-one k) ∙ ap (λ x. x >>= items_behind read k) first ∙ ap (λ x. x >>= with_item d) others
+    ap (λ (j : ℕ). items_at read j b) (add-one k) ∙ ap (λ x. x >>= items_after read k) first ∙ ap (λ x. x >>= with_item d) others
 
 -- a key and a value before others
 entries_read : (read : Parse Data) (before : Option (List ℕ)) (j : ℕ) (b at middle rest k : List ℕ) (d : Data) (es : Entries) → key_at before b ≡ Ok (k, at)
     → read at ≡ Ok (d, middle) → entries_at read (Some k) j middle ≡ Ok (es, rest) → entries_at read before (j + 1) b ≡ Ok (entry k d es, rest)
 entries_read read before j b at middle rest k d es key value others =
-    ap (λ (i : ℕ). entries_at read before i b) (add-one j) ∙ ap (λ x. x >>= value_behind read j) key ∙ ap (λ x. x >>= entries_behind read j k) value ∙ ap (λ x. x >>= with_entry k d) others
+    ap (λ (i : ℕ). entries_at read before i b) (add-one j) ∙ ap (λ x. x >>= value_behind read j) key ∙ ap (λ x. x >>= entries_after read j k) value ∙ ap (λ x. x >>= with_entry k d) others
 
 -- an item whose members are read
 members_read : (inner : Option (Parse Data)) (part : Own) (b behind rest : List ℕ) (d : Data) → b ≡ own_spelling part ++ behind → IsOwn part

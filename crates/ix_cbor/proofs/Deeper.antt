@@ -4,7 +4,7 @@ use Rattle.std.specs.Prelude.{Option, Some, None, Ok, if◌then◌else◌}
 use Rattle.ix_cbor.specs.declared.fault.CborKind.TheVariants.{KeyKind, KeyOrder}
 use Rattle.ix_cbor.specs.Data.{Data, Items, Entries}
 use Rattle.ix_cbor.specs.Reading.{Parse, ◌>>=◌, fails, string_of_major, rises, key_at, own_at, Own, leaf, list_of, map_of, items_at, entries_at, with_members, item_with, item_at}
-use Rattle.ix_cbor.proofs.Steps.{bind_ok, no_ok, past_guard, with_item, items_behind, with_entry, entries_behind, value_behind, as_list, as_map}
+use Rattle.ix_cbor.proofs.Steps.{bind_ok, no_ok, past_guard, with_item, items_after, with_entry, entries_after, value_behind, as_list, as_map}
 
 -- what one reading gives another gives too
 abbrev pub IsAlso : Parse Data → Parse Data → Type 0
@@ -15,18 +15,18 @@ module _ (read other : Parse Data) (also : IsAlso read other) where
   pub items_also : (count : ℕ) (b : List ℕ) (x : Items × List ℕ) → items_at read count b ≡ Ok x → items_at other count b ≡ Ok x
   items_also zero b x e = e
   items_also (suc count) b x e =
-      let a = bind_ok (read b) (items_behind read count) x e in
+      let a = bind_ok (read b) (items_after read count) x e in
       let m = bind_ok (items_at read count a.0.1) (with_item a.0.0) x a.2 in
-      ap (λ r. r >>= items_behind other count) (also b a.0 a.1) ∙ ap (λ r. r >>= with_item a.0.0) (items_also count a.0.1 m.0 m.1) ∙ m.2
+      ap (λ r. r >>= items_after other count) (also b a.0 a.1) ∙ ap (λ r. r >>= with_item a.0.0) (items_also count a.0.1 m.0 m.1) ∙ m.2
 
   -- and so it is for entries
   pub entries_also : (before : Option (List ℕ)) (count : ℕ) (b : List ℕ) (x : Entries × List ℕ) → entries_at read before count b ≡ Ok x → entries_at other before count b ≡ Ok x
   entries_also before zero b x e = e
   entries_also before (suc count) b x e =
       let k = bind_ok (key_at before b) (value_behind read count) x e in
-      let a = bind_ok (read k.0.1) (entries_behind read count k.0.0) x k.2 in
+      let a = bind_ok (read k.0.1) (entries_after read count k.0.0) x k.2 in
       let m = bind_ok (entries_at read (Some k.0.0) count a.0.1) (with_entry k.0.0 a.0.0) x a.2 in
-      ap (λ r. r >>= value_behind other count) k.1 ∙ ap (λ r. r >>= entries_behind other count k.0.0) (also k.0.1 a.0 a.1)
+      ap (λ r. r >>= value_behind other count) k.1 ∙ ap (λ r. r >>= entries_after other count k.0.0) (also k.0.1 a.0 a.1)
       ∙ ap (λ r. r >>= with_entry k.0.0 a.0.0) (entries_also (Some k.0.0) count a.0.1 m.0 m.1) ∙ m.2
 
   -- and for whatever an item has inside

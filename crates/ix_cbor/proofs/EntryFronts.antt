@@ -3,7 +3,7 @@ use Rattle.std.proofs.Common.{◌≡◌, ◌+◌, ◌<◌, ◌≤◌, ◌-◌, a
 use Rattle.std.specs.Prelude.{Option, Some, Result, Ok, Err}
 use Rattle.ix_cbor.specs.Data.{Data, Entries, no_entries, entry, entries_of}
 use Rattle.ix_cbor.specs.Reading.{Fault, Parse, ◌>>=◌, key_at, entries_at}
-use Rattle.ix_cbor.proofs.Steps.{entries_behind, value_behind}
+use Rattle.ix_cbor.proofs.Steps.{entries_after, value_behind}
 
 -- entries in front of others
 abbrev pub before : List (List ℕ × Data) → Entries → Entries
@@ -36,13 +36,13 @@ module _ (front : List (List ℕ × Data)) (read : Parse Data) (last : Option (L
 
   -- a key is read, and its value can't be
   pub value_none : (k value : List ℕ) (f : Fault) → key_at last b ≡ Ok (k, value) → read value ≡ Err f → with_front front (entries_at read last (suc n) b) ≡ Err f
-  value_none k value f e g = ap (λ r. with_front front (r >>= value_behind read n)) e ∙ ap (λ r. with_front front (r >>= entries_behind read n k)) g
+  value_none k value f e g = ap (λ r. with_front front (r >>= value_behind read n)) e ∙ ap (λ r. with_front front (r >>= entries_after read n k)) g
 
   -- one entry more is read
   pub read_more : (k value next : List ℕ) (d : Data) → key_at last b ≡ Ok (k, value) → read value ≡ Ok (d, next)
       → with_front (front ++ (k, d) ∷ []) (entries_at read (Some k) n next) ≡ with_front front (entries_at read last (suc n) b)
   read_more k value next d e g =
-      with_front-append front k d (entries_at read (Some k) n next) ∙ ap (λ r. with_front front (r >>= entries_behind read n k)) (sym g) ∙ ap (λ r. with_front front (r >>= value_behind read n)) (sym e)
+      with_front-append front k d (entries_at read (Some k) n next) ∙ ap (λ r. with_front front (r >>= entries_after read n k)) (sym g) ∙ ap (λ r. with_front front (r >>= value_behind read n)) (sym e)
 
 -- The same in a loop that counts up, where whole is what is read in all.
 module _ (front : List (List ℕ × Data)) (read : Parse Data) (last : Option (List ℕ)) (count i : ℕ) (b : List ℕ) (whole : Result (Entries × List ℕ) Fault) where

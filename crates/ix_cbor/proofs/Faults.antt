@@ -8,7 +8,7 @@ use Rattle.ix_cbor.specs.Spelling.{head_of, key_spelling, spelling_of, items_spe
 use Rattle.ix_cbor.specs.Reading.{Fault, Parse, ◌>>=◌, key_at, rises, own_at, Own, leaf, list_of, map_of, items_at, entries_at, with_members, item_with, item_at, nothing_after, decoded}
 use Rattle.ix_cbor.specs.FirstFault.{last_key, BeginsMap, FaultAt, own, list_too_deep, map_too_deep, in_list, at_key, in_map, HasRest, FirstFault}
 use Rattle.ix_cbor.proofs.Bytes.{IsBytes, IsBytes-from_are_bytes, IsBytes-behind}
-use Rattle.ix_cbor.proofs.Steps.{bind_err, no_err, fault_same, with_item, items_behind, with_entry, entries_behind, value_behind, as_list, as_map}
+use Rattle.ix_cbor.proofs.Steps.{bind_err, no_err, fault_same, with_item, items_after, with_entry, entries_after, value_behind, as_list, as_map}
 use Rattle.ix_cbor.proofs.Keys.{key_taken, RisesFrom-from_test}
 use Rattle.ix_cbor.proofs.Owns.{OwnTaken, own_taken, own_spelling}
 use Rattle.ix_cbor.proofs.Sound.{Takes, IsSound, item_sound}
@@ -110,7 +110,7 @@ module _ (n : ℕ) (read : Parse Data) (sound : IsSound n read) (first : IsFirst
       → whole ≡ head_of 4 count ++ (items_spelling before ++ b) → items_at read left b ≡ Err f → FaultAt (suc n) whole f
   items_fault whole count before zero b f bytes fits sum spelled nest is e = no_err (no_items, b) f e
   items_fault whole count before (suc left) b f bytes fits sum spelled nest is e =
-      elim (bind_err (read b) (items_behind read left) f e) [
+      elim (bind_err (read b) (items_after read left) f e) [
         | inl here ↦ in_list count before b (record { count_fits = fits; more = omega arith; spelled = spelled; nesting = nest }) is (first b f bytes here)
         | inr behind ↦
             let x = behind.0 in
@@ -133,13 +133,13 @@ module _ (n : ℕ) (read : Parse Data) (sound : IsSound n read) (first : IsFirst
       let begins : BeginsMap n count before = record { count_fits = fits; more = omega arith; spelled = rising; nesting = nest } in
       elim (bind_err (key_at last b) (value_behind read left) f e) [
         | inl here ↦ at_key count before b begins is (ap (λ l. key_at l b) last_is ∙ here)
-        | inr behind_key ↦
-            let k = behind_key.0 in
-            let s = key_taken last b k.0 k.1 bytes behind_key.1 in
+        | inr after_key ↦
+            let k = after_key.0 in
+            let s = key_taken last b k.0 k.1 bytes after_key.1 in
             let key_bytes = IsBytes-behind b (key_spelling k.0) k.1 bytes s.parts in
             let above : rises (last_key None before) k.0 ≡ true = ap (λ l. rises l k.0) last_is ∙ s.above in
             let key_is : whole ≡ head_of 5 count ++ (entries_spelling before ++ (key_spelling k.0 ++ k.1)) = is ∙ ap (λ l. head_of 5 count ++ (entries_spelling before ++ l)) s.parts in
-            elim (bind_err (read k.1) (entries_behind read left k.0) f behind_key.2) [
+            elim (bind_err (read k.1) (entries_after read left k.0) f after_key.2) [
               | inl below ↦ in_map count before k.0 k.1 begins s.below above key_is (first k.1 f key_bytes below)
               | inr behind ↦
                   let x = behind.0 in

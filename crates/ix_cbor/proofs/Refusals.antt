@@ -8,7 +8,7 @@ use Rattle.ix_cbor.specs.Spelling.{head_of, key_spelling, spelling_of, items_spe
 use Rattle.ix_cbor.specs.Reading.{Fault, Parse, ◌>>=◌, key_at, rises, own_at, list_of, map_of, items_at, entries_at, with_members, item_with, item_at, nothing_after, decoded}
 use Rattle.ix_cbor.specs.FirstFault.{last_key, BeginsList, BeginsMap, FaultAt, own, list_too_deep, map_too_deep, in_list, at_key, in_map, FirstFault}
 use Rattle.ix_cbor.specs.Fits.{RisesAbove}
-use Rattle.ix_cbor.proofs.Steps.{fault_same, no_err, with_item, items_behind, with_entry, entries_behind, value_behind, as_list, as_map}
+use Rattle.ix_cbor.proofs.Steps.{fault_same, no_err, with_item, items_after, with_entry, entries_after, value_behind, as_list, as_map}
 use Rattle.ix_cbor.proofs.Keys.{key_again, rises_at}
 use Rattle.ix_cbor.proofs.Owns.{own_again}
 use Rattle.ix_cbor.proofs.Complete.{IsComplete, item_complete}
@@ -37,7 +37,7 @@ module _ (n : ℕ) (read : Parse Data) (complete : IsComplete n read) where
   items_refused (item d ds) left after f spellable nesting e =
       let count : item_count ds + 1 + left ≡ suc (item_count ds + left) = omega arith in
       ap (λ (k : ℕ). items_at read k ((spelling_of d ++ items_spelling ds) ++ after)) count
-      ∙ ap (λ x. x >>= items_behind read (item_count ds + left)) (ap read (append_assoc (spelling_of d) (items_spelling ds) after) ∙ complete d (items_spelling ds ++ after) spellable.0 (omega arith))
+      ∙ ap (λ x. x >>= items_after read (item_count ds + left)) (ap read (append_assoc (spelling_of d) (items_spelling ds) after) ∙ complete d (items_spelling ds ++ after) spellable.0 (omega arith))
       ∙ ap (λ x. x >>= with_item d) (items_refused ds left after f spellable.1 (omega arith) e)
 
   -- after keys and values that are spelled
@@ -50,7 +50,7 @@ module _ (n : ℕ) (read : Parse Data) (complete : IsComplete n read) where
       let at = spelling_of d ++ (entries_spelling es ++ after) in
       ap (λ (j : ℕ). entries_at read last j (entries_spelling (entry k d es) ++ after)) count
       ∙ ap (λ x. x >>= value_behind read (entry_count es + left)) (ap (key_at last) (entry_parts k d es after) ∙ key_again last k at rising.0 (rises_at last k d es above))
-      ∙ ap (λ x. x >>= entries_behind read (entry_count es + left) k) (complete d (entries_spelling es ++ after) rising.1 (omega arith))
+      ∙ ap (λ x. x >>= entries_after read (entry_count es + left) k) (complete d (entries_spelling es ++ after) rising.1 (omega arith))
       ∙ ap (λ x. x >>= with_entry k d) (entries_refused (Some k) es left after f rising.3 rising.2 (omega arith) e)
 
   -- after the head of a list
@@ -63,7 +63,7 @@ module _ (n : ℕ) (read : Parse Data) (complete : IsComplete n read) where
       let behind = items_spelling before ++ after in
       ap (λ x. x >>= with_members (Some read) b) (ap own_at is ∙ own_again (list_of count) behind begins.count_fits)
       ∙ ap (λ (k : ℕ). items_at read k behind >>= as_list) sum
-      ∙ ap (λ x. x >>= as_list) (items_refused before (suc left) after f begins.spelled begins.nesting (ap (λ x. x >>= items_behind read left) e))
+      ∙ ap (λ x. x >>= as_list) (items_refused before (suc left) after f begins.spelled begins.nesting (ap (λ x. x >>= items_after read left) e))
 
   -- after the head of a map, where no entry can be read
   map_refused : (b : List ℕ) (f : Fault) (count : ℕ) (before : Entries) (after : List ℕ) → BeginsMap n count before
@@ -88,7 +88,7 @@ module _ (n : ℕ) (read : Parse Data) (complete : IsComplete n read) where
   value_refused : (last : Option (List ℕ)) (k after : List ℕ) (f : Fault) (left : ℕ) → length k < 2 ^ 64 → rises last k ≡ true → read after ≡ Err f
       → entries_at read last (suc left) (key_spelling k ++ after) ≡ Err f
   value_refused last k after f left below above e =
-      ap (λ x. x >>= value_behind read left) (key_again last k after below above) ∙ ap (λ x. x >>= entries_behind read left k) e
+      ap (λ x. x >>= value_behind read left) (key_again last k after below above) ∙ ap (λ x. x >>= entries_after read left k) e
 
 -- a fault at or below an item is what reading it answers
 pub item_refused : {n : ℕ} {b : List ℕ} {f : Fault} → FaultAt n b f → item_at n b ≡ Err f

@@ -4,8 +4,8 @@ use Rattle.std.specs.Prelude.{Option, Some, Result, Ok, Err}
 use Rattle.ix_cbor.specs.declared.fault.CborKind.TheVariants.{Rest}
 use Rattle.ix_cbor.specs.Data.{Data, Items, Entries}
 use Rattle.ix_cbor.specs.Reading.{Fault, Parse, ◌>>=◌, key_at, items_at, entries_at, item_at, nothing_after}
-use Rattle.ix_cbor.specs.Fronts.{behind, behind_item, judged}
-use Rattle.ix_cbor.proofs.Steps.{with_item, items_behind, with_entry, entries_behind, value_behind}
+use Rattle.ix_cbor.specs.Fronts.{behind, after_item, judged}
+use Rattle.ix_cbor.proofs.Steps.{with_item, items_after, with_entry, entries_after, value_behind}
 use Rattle.ix_cbor.proofs.Within.{item_within, err_within, ok_within}
 
 -- what was read, where its rest is known
@@ -35,7 +35,7 @@ item_over read count i b next whole lt e so_far =
     let n = count - (i + 1) in
     let k : count - i ≡ suc n = omega arith in
     let x = read_before (read b) next e in
-    sym (past_item x.0 (items_at read n next)) ∙ ap (λ r. r >>= items_behind read n >>= behind) (sym x.1) ∙ ap (λ m. items_at read m b >>= behind) (sym k) ∙ so_far
+    sym (past_item x.0 (items_at read n next)) ∙ ap (λ r. r >>= items_after read n >>= behind) (sym x.1) ∙ ap (λ m. items_at read m b >>= behind) (sym k) ∙ so_far
 
 module _ (read : Parse Data) (last : Option (List ℕ)) (count i : ℕ) (b : List ℕ) (whole : Result (List ℕ) Fault) where
   -- one key and value more are gone over
@@ -45,7 +45,7 @@ module _ (read : Parse Data) (last : Option (List ℕ)) (count i : ℕ) (b : Lis
       let n = count - (i + 1) in
       let k : count - i ≡ suc n = omega arith in
       let x = read_before (read value) next e in
-      sym (past_entry key x.0 (entries_at read (Some key) n next)) ∙ ap (λ r. r >>= entries_behind read n key >>= behind) (sym x.1)
+      sym (past_entry key x.0 (entries_at read (Some key) n next)) ∙ ap (λ r. r >>= entries_after read n key >>= behind) (sym x.1)
       ∙ ap (λ r. r >>= value_behind read n >>= behind) (sym named) ∙ ap (λ m. entries_at read last m b >>= behind) (sym k) ∙ so_far
 
   -- a key can't be read
@@ -62,21 +62,21 @@ module _ (read : Parse Data) (last : Option (List ℕ)) (count i : ℕ) (b : Lis
       let n = count - (i + 1) in
       let k : count - i ≡ suc n = omega arith in
       sym so_far ∙ ap (λ m. entries_at read last m b >>= behind) k ∙ ap (λ r. r >>= value_behind read n >>= behind) named
-      ∙ ap (λ r. r >>= entries_behind read n key >>= behind) (fault_before (read value) f e)
+      ∙ ap (λ r. r >>= entries_after read n key >>= behind) (fault_before (read value) f e)
 
 -- a block with bytes after its item
-pub judged_more : (b next : List ℕ) → behind_item 512 b ≡ Ok next → 1 ≤ length next → judged b ≡ Err (record { kind = Rest; left = length next })
+pub judged_more : (b next : List ℕ) → after_item 512 b ≡ Ok next → 1 ≤ length next → judged b ≡ Err (record { kind = Rest; left = length next })
 judged_more b [] e h = absurd (omega (arith, h))
 judged_more b (y ∷ next) e h = let x = read_before (item_at 512 b) (y ∷ next) e in ap (λ r. r >>= nothing_after >>= (λ d. Ok tt)) x.1
 
 -- a block whose item has a fault
-pub judged_fault : (b : List ℕ) (f : Fault) → behind_item 512 b ≡ Err f → judged b ≡ Err f
+pub judged_fault : (b : List ℕ) (f : Fault) → after_item 512 b ≡ Err f → judged b ≡ Err f
 judged_fault b f e = ap (λ r. r >>= nothing_after >>= (λ d. Ok tt)) (fault_before (item_at 512 b) f e)
 
 -- the place of an item's fault
-pub skip_within : (b : List ℕ) (f : Fault) → behind_item 512 b ≡ Err f → f.left ≤ length b
+pub skip_within : (b : List ℕ) (f : Fault) → after_item 512 b ≡ Err f → f.left ≤ length b
 skip_within b f e = err_within (length b) (item_at 512 b) f (item_within (length b) 512 b (omega arith)) (fault_before (item_at 512 b) f e)
 
 -- what is left after an item
-pub rest_is_within : (b next : List ℕ) → behind_item 512 b ≡ Ok next → length next ≤ length b
+pub rest_is_within : (b next : List ℕ) → after_item 512 b ≡ Ok next → length next ≤ length b
 rest_is_within b next e = let x = read_before (item_at 512 b) next e in ok_within (length b) (item_at 512 b) (x.0, next) (item_within (length b) 512 b (omega arith)) x.1

@@ -7,7 +7,7 @@ use Rattle.ix_cbor.specs.Spelling.{head_of, key_spelling, spelling_of, items_spe
 use Rattle.ix_cbor.specs.Reading.{Parse, ◌>>=◌, key_at, own_at, Own, leaf, list_of, map_of, items_at, entries_at, with_members, item_with, item_at}
 use Rattle.ix_cbor.specs.Fits.{RisesAbove}
 use Rattle.ix_cbor.proofs.Bytes.{IsBytes, IsBytes-behind}
-use Rattle.ix_cbor.proofs.Steps.{bind_ok, no_ok, ok_same, ok_data, with_item, items_behind, with_entry, entries_behind, value_behind, as_list, as_map}
+use Rattle.ix_cbor.proofs.Steps.{bind_ok, no_ok, ok_same, ok_data, with_item, items_after, with_entry, entries_after, value_behind, as_list, as_map}
 use Rattle.ix_cbor.proofs.Keys.{KeyTaken, key_taken, RisesFrom-from_test}
 use Rattle.ix_cbor.proofs.Owns.{OwnTaken, own_taken, own_spelling}
 
@@ -80,7 +80,7 @@ module _ (n : ℕ) (read : Parse Data) (sound : IsSound n read) where
   items_taken zero b ds rest fits e =
       subst (λ (x : Items × List ℕ). TakesItems n 0 b x.0 x.1) (ok_same (no_items, b) (ds, rest) e) (record { whole = refl; counted = refl; spellable = tt; nesting = omega arith })
   items_taken (suc count) b ds rest fits e =
-      let a = bind_ok (read b) (items_behind read count) (ds, rest) e in
+      let a = bind_ok (read b) (items_after read count) (ds, rest) e in
       let t = sound b a.0.0 a.0.1 fits a.1 in
       let m = bind_ok (items_at read count a.0.1) (with_item a.0.0) (ds, rest) a.2 in
       let ts = items_taken count a.0.1 m.0.0 m.0.1 (IsBytes-behind b (spelling_of a.0.0) a.0.1 fits t.whole) m.1 in
@@ -101,10 +101,10 @@ module _ (n : ℕ) (read : Parse Data) (sound : IsSound n read) where
 
   -- the value and the entries after a key
   value_taken : (count : ℕ) → AreSound count → (before : Option (List ℕ)) (b at k : List ℕ) (es : Entries) (rest : List ℕ) → IsBytes b → KeyTaken before b k at
-      → (read at >>= entries_behind read count k) ≡ Ok (es, rest) → TakesEntries n before (suc count) b es rest
+      → (read at >>= entries_after read count k) ≡ Ok (es, rest) → TakesEntries n before (suc count) b es rest
   value_taken count others before b at k es rest fits s e =
       let at_fits = IsBytes-behind b (key_spelling k) at fits s.parts in
-      let v = bind_ok (read at) (entries_behind read count k) (es, rest) e in
+      let v = bind_ok (read at) (entries_after read count k) (es, rest) e in
       others_taken count others before b at v.0.1 k v.0.0 es rest at_fits s (sound at v.0.0 v.0.1 at_fits v.1) v.2
 
   -- keys and values that are read

@@ -46,20 +46,20 @@ abbrev pub with_item : Data → Items × List ℕ → Result (Items × List ℕ)
 with_item d ds = Ok (item d ds.0, ds.1)
 
 -- the members after one
-abbrev pub items_behind : Parse Data → ℕ → Data × List ℕ → Result (Items × List ℕ) Fault
-items_behind read n d = items_at read n d.1 >>= with_item d.0
+abbrev pub items_after : Parse Data → ℕ → Data × List ℕ → Result (Items × List ℕ) Fault
+items_after read n d = items_at read n d.1 >>= with_item d.0
 
 -- a key and a value before others
 abbrev pub with_entry : List ℕ → Data → Entries × List ℕ → Result (Entries × List ℕ) Fault
 with_entry k d es = Ok (entry k d es.0, es.1)
 
 -- the entries after a key and its value
-abbrev pub entries_behind : Parse Data → ℕ → List ℕ → Data × List ℕ → Result (Entries × List ℕ) Fault
-entries_behind read n k d = entries_at read (Some k) n d.1 >>= with_entry k d.0
+abbrev pub entries_after : Parse Data → ℕ → List ℕ → Data × List ℕ → Result (Entries × List ℕ) Fault
+entries_after read n k d = entries_at read (Some k) n d.1 >>= with_entry k d.0
 
 -- the value and the entries after a key
 abbrev pub value_behind : Parse Data → ℕ → List ℕ × List ℕ → Result (Entries × List ℕ) Fault
-value_behind read n k = read k.1 >>= entries_behind read n k.0
+value_behind read n k = read k.1 >>= entries_after read n k.0
 
 -- members as a list
 abbrev pub as_list : Items × List ℕ → Result (Data × List ℕ) Fault

@@ -24,8 +24,8 @@ abbrev pub behind : {A : Type 0} → A × List ℕ → Result (List ℕ) Fault
 behind x = Ok x.1
 
 -- the bytes after an item in which lists and maps may nest n deep, or its first error
-abbrev pub behind_item : ℕ → List ℕ → Result (List ℕ) Fault
-behind_item n b = item_at n b >>= behind
+abbrev pub after_item : ℕ → List ℕ → Result (List ℕ) Fault
+after_item n b = item_at n b >>= behind
 
 -- whether a block decodes, or its first error
 abbrev pub judged : List ℕ → Result (Unit {0}) Fault

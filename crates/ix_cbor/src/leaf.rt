@@ -2,7 +2,7 @@
 
 ghost use Rattle.std.specs.Prelude.{◌≡◌, IfOk};
 ghost use Rattle.ix_cbor.specs.Data.{float, link};
-ghost use Rattle.ix_cbor.specs.Reading.{tag_content_at, float_at, is_cid, link_of, link_at, own_behind, own_at};
+ghost use Rattle.ix_cbor.specs.Reading.{tag_content_at, float_at, is_cid, link_of, link_at, own_after, own_at};
 ghost use Rattle.ix_cbor.specs.Majors.{number_of};
 ghost use Rattle.ix_cbor.specs.Fronts.{HasCid};
 ghost use Rattle.ix_cbor.specs.Answered.{Reads};
@@ -41,7 +41,7 @@ fn simple<'a>(
     information: u8,
     bytes: &'a [u8],
 ) -> Result<(Front<'a>, &'a [u8]), PlacedFault>
-    ensures { Reads front_and_rest result (own_behind at.now 7 information bytes.now) }
+    ensures { Reads front_and_rest result (own_after at.now 7 information bytes.now) }
 {
     match information {
         FALSE => Ok((Front::Bool(false), bytes)),
@@ -112,7 +112,7 @@ fn of_major<'a>(
     information: u8,
     bytes: &'a [u8],
 ) -> Result<(Front<'a>, &'a [u8]), PlacedFault>
-    ensures { Reads front_and_rest result (own_behind at.now (number_of major) information bytes.now) }
+    ensures { Reads front_and_rest result (own_after at.now (number_of major) information bytes.now) }
 {
     if let Major::Simple = major {
         return simple(at, information, bytes);

@@ -2,7 +2,7 @@
 
 ghost use Rattle.std.specs.Prelude.{None};
 ghost use Rattle.ix_cbor.specs.Reading.{◌>>=◌ as ◌then◌, item_with, branch_at, members_at, fields_at};
-ghost use Rattle.ix_cbor.specs.Fronts.{Answers, behind, behind_item, judged};
+ghost use Rattle.ix_cbor.specs.Fronts.{Answers, behind, after_item, judged};
 ghost use Rattle.ix_cbor.specs.Answered.{Reads};
 
 use crate::canonical::LEVELS;
@@ -13,7 +13,7 @@ use crate::leaf::front_of_item;
 use crate::read::PlacedFault;
 
 // Returns the bytes after one item where no list or map is allowed.
-fn behind_leaf(bytes: &[u8]) -> Result<&[u8], PlacedFault>
+fn after_leaf(bytes: &[u8]) -> Result<&[u8], PlacedFault>
     ensures { Reads (λ r. r.now) result (item_with None bytes.now then behind) }
 {
     let (front, rest) = front_of_item(bytes)?;
@@ -24,52 +24,52 @@ fn behind_leaf(bytes: &[u8]) -> Result<&[u8], PlacedFault>
 }
 
 // Returns the bytes after one item where a list or map is allowed, in which others nest so deep.
-#[cycle(behind_item)]
-fn behind_branch(bytes: &[u8], levels: u32) -> Result<&[u8], PlacedFault>
+#[cycle(after_item)]
+fn after_branch(bytes: &[u8], levels: u32) -> Result<&[u8], PlacedFault>
     ensures { Reads (λ r. r.now) result (branch_at levels bytes.now then behind) }
 {
     let (front, rest) = front_of_item(bytes)?;
     match front {
-        Front::List(count) => behind_items(rest, count, levels),
-        Front::Map(count) => behind_entries(rest, count, levels),
+        Front::List(count) => after_items(rest, count, levels),
+        Front::Map(count) => after_entries(rest, count, levels),
         _ => Ok(rest),
     }
 }
 
 // Returns the bytes after one item in which lists and maps may nest so deep.
-#[cycle(behind_item)]
-fn behind_item(bytes: &[u8], levels: u32) -> Result<&[u8], PlacedFault>
-    ensures { Reads (λ r. r.now) result (behind_item levels bytes.now) }
+#[cycle(after_item)]
+fn after_item(bytes: &[u8], levels: u32) -> Result<&[u8], PlacedFault>
+    ensures { Reads (λ r. r.now) result (after_item levels bytes.now) }
 {
     if levels == 0 {
-        behind_leaf(bytes)
+        after_leaf(bytes)
     } else {
-        behind_branch(bytes, levels - 1)
+        after_branch(bytes, levels - 1)
     }
 }
 
 // Returns the bytes after `count` elements of a list, in which lists and maps may nest so deep.
-#[cycle(behind_item)]
-fn behind_items(bytes: &[u8], count: u64, levels: u32) -> Result<&[u8], PlacedFault>
+#[cycle(after_item)]
+fn after_items(bytes: &[u8], count: u64, levels: u32) -> Result<&[u8], PlacedFault>
     ensures { Reads (λ r. r.now) result (members_at levels count bytes.now then behind) }
 {
     let mut rest = bytes;
     for _ in 0..count {
-        rest = behind_item(rest, levels)?;
+        rest = after_item(rest, levels)?;
     }
     Ok(rest)
 }
 
 // Returns the bytes after `count` entries of a map, in which lists and maps may nest so deep.
-#[cycle(behind_item)]
-fn behind_entries(bytes: &[u8], count: u64, levels: u32) -> Result<&[u8], PlacedFault>
+#[cycle(after_item)]
+fn after_entries(bytes: &[u8], count: u64, levels: u32) -> Result<&[u8], PlacedFault>
     ensures { Reads (λ r. r.now) result (fields_at levels count bytes.now then behind) }
 {
     let mut rest = bytes;
     let mut before = None;
     for _ in 0..count {
         let (name, value) = key(before, rest)?;
-        rest = behind_item(value, levels)?;
+        rest = after_item(value, levels)?;
         before = Some(name);
     }
     Ok(rest)
@@ -78,9 +78,9 @@ fn behind_entries(bytes: &[u8], count: u64, levels: u32) -> Result<&[u8], Placed
 /// Returns the bytes after the item that begins here, in which lists and maps nest at most 512
 /// deep. The offset of an error is counted from here, and means what that of `decode` does.
 pub fn skip_item(bytes: &[u8]) -> Result<&[u8], CborFault>
-    ensures { Answers (λ r. r.now) bytes.now result (behind_item 512 bytes.now) }
+    ensures { Answers (λ r. r.now) bytes.now result (after_item 512 bytes.now) }
 {
-    match behind_item(bytes, LEVELS) {
+    match after_item(bytes, LEVELS) {
         Ok(rest) => Ok(rest),
         Err(fault) => Err(fault.within(bytes)),
     }
@@ -91,7 +91,7 @@ pub fn skip_item(bytes: &[u8]) -> Result<&[u8], CborFault>
 pub fn check(bytes: &[u8]) -> Result<(), CborFault>
     ensures { Answers (λ _. tt) bytes.now result (judged bytes.now) }
 {
-    match behind_item(bytes, LEVELS) {
+    match after_item(bytes, LEVELS) {
         Ok([]) => Ok(()),
         Ok(rest) => Err(PlacedFault::at(CborKind::Rest, rest).within(bytes)),
         Err(fault) => Err(fault.within(bytes)),

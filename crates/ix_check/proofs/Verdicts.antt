@@ -6,7 +6,7 @@ use Rattle.sha2.specs.Sha512.{sha512}
 use Rattle.ix_cid.specs.Cid.{parts_of, digest_of, hash_function_of}
 use Rattle.ix_cid.specs.declared.hash_function.HashFunction.{HashFunction}
 use Rattle.ix_cid.specs.declared.hash_function.HashFunction.TheVariants.{Sha2_256, Sha2_512}
-use Rattle.ix_store.specs.Mark.{agrees_by, agrees}
+use Rattle.ix_store.specs.Memo.{hash_matches_by, hash_matches}
 use Rattle.ix_store.specs.Store.{Blocks, block_of, position_of, bytes_by, bytes_of}
 use Rattle.ix_store.proofs.Blocks.{none_behind}
 use Rattle.ix_walk.specs.Visits.{is_malformed}
@@ -44,9 +44,9 @@ module _ (store : Blocks) (c : List ℕ) (codec : has_codec c ≡ true) where
   verdict_absent f (inr is) known place = verdict_missing Sha2_512 sha512 (λ block. refl) (λ block. refl) (known ∙ ap Some is) place
 
   -- a block under one of them, by what the store says of it
-  pub verdict_there : (f : HashFunction) → (f ≡ Sha2_256) ⊎ (f ≡ Sha2_512) → hash_function_of (parts_of c) ≡ Some f → (b : List ℕ) (agreed m : Bool) → block_of store c ≡ Some b → agreed ≡ agrees (c, b) → is_malformed store c ≡ m
+  pub verdict_there : (f : HashFunction) → (f ≡ Sha2_256) ⊎ (f ≡ Sha2_512) → hash_function_of (parts_of c) ≡ Some f → (b : List ℕ) (agreed m : Bool) → block_of store c ≡ Some b → agreed ≡ hash_matches (c, b) → is_malformed store c ≡ m
       → (if agreed then (if m then Malformed else Sound) else Damaged) ≡ verdict_of store c
   verdict_there f (inl is) known b agreed m block told =
-      verdict_read Sha2_256 sha256 (λ block. refl) (λ block. refl) (known ∙ ap Some is) b agreed m block (told ∙ ap (λ g. agrees_by g (digest_of c) b) (known ∙ ap Some is))
+      verdict_read Sha2_256 sha256 (λ block. refl) (λ block. refl) (known ∙ ap Some is) b agreed m block (told ∙ ap (λ g. hash_matches_by g (digest_of c) b) (known ∙ ap Some is))
   verdict_there f (inr is) known b agreed m block told =
-      verdict_read Sha2_512 sha512 (λ block. refl) (λ block. refl) (known ∙ ap Some is) b agreed m block (told ∙ ap (λ g. agrees_by g (digest_of c) b) (known ∙ ap Some is))
+      verdict_read Sha2_512 sha512 (λ block. refl) (λ block. refl) (known ∙ ap Some is) b agreed m block (told ∙ ap (λ g. hash_matches_by g (digest_of c) b) (known ∙ ap Some is))

@@ -18,21 +18,21 @@ visit_at : (store : Blocks) (number seq : ℕ) (a : Arrival) → IsVisitAt store
 visit_at store number seq a = record { of_store = record { block = refl; malformed = refl }; job = refl; seq = refl }
 
 -- the visit at a position has that number
-visit_behind : (store : Blocks) (number start k : ℕ) (found : List Arrival) (v : Visit) (more : List Visit) → drop k (visits_from store number start found) ≡ v ∷ more → IsVisitAt store number (start + k) v
-visit_behind store number start k [] v more e = absurd (nothing k e) where
+visit_after : (store : Blocks) (number start k : ℕ) (found : List Arrival) (v : Visit) (more : List Visit) → drop k (visits_from store number start found) ≡ v ∷ more → IsVisitAt store number (start + k) v
+visit_after store number start k [] v more e = absurd (nothing k e) where
   nothing : (k : ℕ) → drop k [] ≡ v ∷ more → ⊥
   nothing zero e = cc
   nothing (suc k) e = cc
-visit_behind store number start zero (a ∷ found) v more e =
+visit_after store number start zero (a ∷ found) v more e =
     let head : visit_of store number start a ≡ v = cc in
     let at : start ≡ start + 0 = omega arith in
     subst (λ n. IsVisitAt store number n v) at (subst (λ w. IsVisitAt store number start w) head (visit_at store number start a))
-visit_behind store number start (suc k) (a ∷ found) v more e =
+visit_after store number start (suc k) (a ∷ found) v more e =
     let at : (start + 1) + k ≡ start + suc k = omega arith in
-    subst (λ n. IsVisitAt store number n v) at (visit_behind store number (start + 1) k found v more e)
+    subst (λ n. IsVisitAt store number n v) at (visit_after store number (start + 1) k found v more e)
 
 -- what comes after the first k visits of a job is its visit with the number k
 pub visit_next : (store : Blocks) (number k : ℕ) (job : JobMeaning) (v : Visit) (more : List Visit) → drop k (visits_of store number job) ≡ v ∷ more → IsVisitAt store number k v
 visit_next store number k job v more e =
     let at : 0 + k ≡ k = omega arith in
-    subst (λ n. IsVisitAt store number n v) at (visit_behind store number 0 k (take job.limit (arrivals_of store job)) v more e)
+    subst (λ n. IsVisitAt store number n v) at (visit_after store number 0 k (take job.limit (arrivals_of store job)) v more e)

@@ -97,7 +97,7 @@ fn verdict_of(store: &Store, visit: &Visit) -> Verdict
         HashFunction::Identity => inline_verdict(visit.malformed),
         HashFunction::Sha2_256 | HashFunction::Sha2_512 => match visit.block {
             None => Verdict::Missing,
-            Some(place) => block_verdict(store.agrees(place), visit.malformed),
+            Some(place) => block_verdict(store.hash_matches(place), visit.malformed),
         },
     }
 }
@@ -121,10 +121,10 @@ fn inline_verdict(malformed: bool) -> Verdict
 }
 
 // Returns the verdict on a block that is there, by whether its hash matches its CID.
-fn block_verdict(agrees: bool, malformed: bool) -> Verdict
-    ensures { result ≡ (if agrees then (if malformed then Malformed else Sound) else Damaged) }
+fn block_verdict(hash_matches: bool, malformed: bool) -> Verdict
+    ensures { result ≡ (if hash_matches then (if malformed then Malformed else Sound) else Damaged) }
 {
-    if !agrees {
+    if !hash_matches {
         Verdict::Damaged
     } else if malformed {
         Verdict::Malformed

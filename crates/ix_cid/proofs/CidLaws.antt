@@ -66,20 +66,20 @@ regroup : (a b c e d rest : List ℕ) → (a ++ (b ++ (c ++ (e ++ d)))) ++ rest 
 regroup a b c e d rest = simp append_assoc
 
 -- what is read in turn after each part
-abbrev behind_size : ℕ → ℕ → List ℕ × List ℕ → Result (Parts × List ℕ) CidFault
-behind_size codec hash digest = Ok (version_1 codec hash digest.0, digest.1)
+abbrev after_size : ℕ → ℕ → List ℕ × List ℕ → Result (Parts × List ℕ) CidFault
+after_size codec hash digest = Ok (version_1 codec hash digest.0, digest.1)
 
 -- reads the digest, given codec, hash code and length
-abbrev behind_hash : ℕ → ℕ → ℕ × List ℕ → Result (Parts × List ℕ) CidFault
-behind_hash codec hash size = bytes_at size.0 size.1 >>= behind_size codec hash
+abbrev after_hash : ℕ → ℕ → ℕ × List ℕ → Result (Parts × List ℕ) CidFault
+after_hash codec hash size = bytes_at size.0 size.1 >>= after_size codec hash
 
 -- reads the length of the digest, given codec and hash code
-abbrev behind_codec : ℕ → ℕ × List ℕ → Result (Parts × List ℕ) CidFault
-behind_codec codec hash = number_at hash.1 >>= behind_hash codec hash.0
+abbrev after_codec : ℕ → ℕ × List ℕ → Result (Parts × List ℕ) CidFault
+after_codec codec hash = number_at hash.1 >>= after_hash codec hash.0
 
 -- reads the hash code, given the codec
-abbrev behind_version : ℕ × List ℕ → Result (Parts × List ℕ) CidFault
-behind_version codec = number_at codec.1 >>= behind_codec codec.0
+abbrev after_version : ℕ × List ℕ → Result (Parts × List ℕ) CidFault
+after_version codec = number_at codec.1 >>= after_codec codec.0
 
 -- reads the parts, given the version, which must be 1
 abbrev if_version_1 : ℕ × List ℕ → Result (Parts × List ℕ) CidFault
@@ -88,19 +88,19 @@ if_version_1 version = cond (eqb version.0 1) (version_1_at version.1) (Err (Ver
 -- the parts after the version are read
 version_1_spelled : (b c e d rest : List ℕ) (codec hash : ℕ) → IsVarint b codec → IsVarint c hash → IsVarint e (length d) → version_1_at (b ++ (c ++ (e ++ (d ++ rest)))) ≡ Ok (version_1 codec hash d, rest)
 version_1_spelled b c e d rest codec hash hb hc he =
-    let behind_b = c ++ (e ++ (d ++ rest)) in
-    let behind_c = e ++ (d ++ rest) in
-    let behind_e = d ++ rest in
-    bind_to (number_at (b ++ behind_b)) (codec, behind_b) behind_version (number_spelled b codec behind_b hb)
-    ∙ (bind_to (number_at (c ++ behind_c)) (hash, behind_c) (behind_codec codec) (number_spelled c hash behind_c hc)
-    ∙ (bind_to (number_at (e ++ behind_e)) (length d, behind_e) (behind_hash codec hash) (number_spelled e (length d) behind_e he)
-    ∙ bind_to (bytes_at (length d) (d ++ rest)) (d, rest) (behind_size codec hash) (bytes_again d rest)))
+    let after_b = c ++ (e ++ (d ++ rest)) in
+    let after_c = e ++ (d ++ rest) in
+    let after_e = d ++ rest in
+    bind_to (number_at (b ++ after_b)) (codec, after_b) after_version (number_spelled b codec after_b hb)
+    ∙ (bind_to (number_at (c ++ after_c)) (hash, after_c) (after_codec codec) (number_spelled c hash after_c hc)
+    ∙ (bind_to (number_at (e ++ after_e)) (length d, after_e) (after_hash codec hash) (number_spelled e (length d) after_e he)
+    ∙ bind_to (bytes_at (length d) (d ++ rest)) (d, rest) (after_size codec hash) (bytes_again d rest)))
 
 -- the parts and the version before them are read
 numbered_spelled : (a b c e d rest : List ℕ) (codec hash : ℕ) → IsVarint a 1 → IsVarint b codec → IsVarint c hash → IsVarint e (length d) → numbered_at (a ++ (b ++ (c ++ (e ++ (d ++ rest))))) ≡ Ok (version_1 codec hash d, rest)
 numbered_spelled a b c e d rest codec hash ha hb hc he =
-    let behind_a = b ++ (c ++ (e ++ (d ++ rest))) in
-    bind_to (number_at (a ++ behind_a)) (1, behind_a) if_version_1 (number_spelled a 1 behind_a ha)
+    let after_a = b ++ (c ++ (e ++ (d ++ rest))) in
+    bind_to (number_at (a ++ after_a)) (1, after_a) if_version_1 (number_spelled a 1 after_a ha)
     ∙ version_1_spelled b c e d rest codec hash hb hc he
 
 -- the parts of a CIDv1, put together
@@ -132,25 +132,25 @@ rejoin : (b x y : List ℕ) (n m : ℕ) → b ≡ varint_of n ++ x → n ≡ m �
 rejoin b x y n m is number left = is ∙ (ap (λ k. varint_of k ++ x) number ∙ ap (λ r. varint_of m ++ r) left)
 
 -- what is read after the length of the digest
-digest_read : (codec hash n : ℕ) (b : List ℕ) (p : Parts) (rest : List ℕ) → behind_hash codec hash (n, b) ≡ Ok (p, rest) → (p ≡ version_1 codec hash p.digest) × (length p.digest ≡ n) × (b ≡ p.digest ++ rest)
+digest_read : (codec hash n : ℕ) (b : List ℕ) (p : Parts) (rest : List ℕ) → after_hash codec hash (n, b) ≡ Ok (p, rest) → (p ≡ version_1 codec hash p.digest) × (length p.digest ≡ n) × (b ≡ p.digest ++ rest)
 digest_read codec hash n b p rest h =
-    let found = bind_ok (bytes_at n b) (behind_size codec hash) (p, rest) h in
+    let found = bind_ok (bytes_at n b) (after_size codec hash) (p, rest) h in
     let d : List ℕ = found.0.0 in
     let is : (length d ≡ n) × (b ≡ d ++ found.0.1) = bytes_read n b d found.0.1 found.1 in
     let Q : Parts × List ℕ → Type 0 = λ q. (q.0 ≡ version_1 codec hash q.0.digest) × (length q.0.digest ≡ n) × (b ≡ q.0.digest ++ q.1) in
     subst Q (ok_same (version_1 codec hash d, found.0.1) (p, rest) found.2) (refl, is.0, is.1)
 
 -- what is read after the hash code
-size_read : (codec hash : ℕ) (b : List ℕ) (p : Parts) (rest : List ℕ) → AreBytes b → behind_codec codec (hash, b) ≡ Ok (p, rest) → (p ≡ version_1 codec hash p.digest) × (length p.digest < 2 ^ 63) × (b ≡ varint_of (length p.digest) ++ (p.digest ++ rest))
+size_read : (codec hash : ℕ) (b : List ℕ) (p : Parts) (rest : List ℕ) → AreBytes b → after_codec codec (hash, b) ≡ Ok (p, rest) → (p ≡ version_1 codec hash p.digest) × (length p.digest < 2 ^ 63) × (b ≡ varint_of (length p.digest) ++ (p.digest ++ rest))
 size_read codec hash b p rest bytes h =
-    let found = field_read b (behind_hash codec hash) (p, rest) bytes h in
+    let found = field_read b (after_hash codec hash) (p, rest) bytes h in
     let is = digest_read codec hash found.0 found.1 p rest found.5 in
     (is.0, subst (λ m. m < 2 ^ 63) (sym is.1) found.2, rejoin b found.1 (p.digest ++ rest) found.0 (length p.digest) found.3 (sym is.1) is.2)
 
 -- what is read after the codec
-hash_read : (codec : ℕ) (b : List ℕ) (p : Parts) (rest : List ℕ) → AreBytes b → behind_version (codec, b) ≡ Ok (p, rest) → (p ≡ version_1 codec p.hash_code p.digest) × (p.hash_code < 2 ^ 63) × (length p.digest < 2 ^ 63) × (b ≡ varint_of p.hash_code ++ (varint_of (length p.digest) ++ (p.digest ++ rest)))
+hash_read : (codec : ℕ) (b : List ℕ) (p : Parts) (rest : List ℕ) → AreBytes b → after_version (codec, b) ≡ Ok (p, rest) → (p ≡ version_1 codec p.hash_code p.digest) × (p.hash_code < 2 ^ 63) × (length p.digest < 2 ^ 63) × (b ≡ varint_of p.hash_code ++ (varint_of (length p.digest) ++ (p.digest ++ rest)))
 hash_read codec b p rest bytes h =
-    let found = field_read b (behind_codec codec) (p, rest) bytes h in
+    let found = field_read b (after_codec codec) (p, rest) bytes h in
     let is = size_read codec found.0 found.1 p rest found.4 found.5 in
     let number : found.0 ≡ p.hash_code = sym (ap (λ (q : Parts). q.hash_code) is.0) in
     let put : ℕ → Parts = λ k. version_1 codec k p.digest in (
@@ -163,7 +163,7 @@ hash_read codec b p rest bytes h =
 -- what is read after the version 1
 version_1_read : (b : List ℕ) (p : Parts) (rest : List ℕ) → AreBytes b → version_1_at b ≡ Ok (p, rest) → IsVersion1 p × (b ≡ varint_of p.codec ++ (varint_of p.hash_code ++ (varint_of (length p.digest) ++ (p.digest ++ rest))))
 version_1_read b p rest bytes h =
-    let found = field_read b behind_version (p, rest) bytes h in
+    let found = field_read b after_version (p, rest) bytes h in
     let is = hash_read found.0 found.1 p rest found.4 found.5 in
     let number : found.0 ≡ p.codec = sym (ap (λ (q : Parts). q.codec) is.0) in (
       record {

@@ -7,30 +7,30 @@ use Rattle.ix_cid.specs.declared.fault.CidFault.TheVariants.{Version}
 use Rattle.ix_cid.proofs.Fronts.{chosen, Again, ReadsFront, ReadsFront-bind, ReadsFront-done, ReadsFront-guard, ReadsFront-fewer, bytes_at-reads, number_at-reads}
 
 -- after the length of the digest
-abbrev digest_behind : ℕ → ℕ → ℕ → List ℕ → Result (Parts × List ℕ) CidFault
-digest_behind codec hash size bytes = bytes_at size bytes >>= (λ digest. Ok (record { version = 1; codec = codec; hash_code = hash; digest = digest.0 }, digest.1))
+abbrev digest_after : ℕ → ℕ → ℕ → List ℕ → Result (Parts × List ℕ) CidFault
+digest_after codec hash size bytes = bytes_at size bytes >>= (λ digest. Ok (record { version = 1; codec = codec; hash_code = hash; digest = digest.0 }, digest.1))
 
 -- after the hash code
-abbrev size_behind : ℕ → ℕ → List ℕ → Result (Parts × List ℕ) CidFault
-size_behind codec hash bytes = number_at bytes >>= (λ size. digest_behind codec hash size.0 size.1)
+abbrev size_after : ℕ → ℕ → List ℕ → Result (Parts × List ℕ) CidFault
+size_after codec hash bytes = number_at bytes >>= (λ size. digest_after codec hash size.0 size.1)
 
 -- after the codec
 abbrev hash_behind : ℕ → List ℕ → Result (Parts × List ℕ) CidFault
-hash_behind codec bytes = number_at bytes >>= (λ hash. size_behind codec hash.0 hash.1)
+hash_behind codec bytes = number_at bytes >>= (λ hash. size_after codec hash.0 hash.1)
 
 -- the digest
-digest_behind-reads : (codec hash size : ℕ) → ReadsFront 0 (digest_behind codec hash size)
-digest_behind-reads codec hash size =
+digest_after-reads : (codec hash size : ℕ) → ReadsFront 0 (digest_after codec hash size)
+digest_after-reads codec hash size =
     let done : List ℕ → List ℕ → Result (Parts × List ℕ) CidFault = λ d bytes. Ok (record { version = 1; codec = codec; hash_code = hash; digest = d }, bytes) in
     ReadsFront-bind 0 0 (bytes_at size) done (ReadsFront-fewer 0 size (bytes_at size) (omega arith) (bytes_at-reads size)) (λ d. ReadsFront-done (record { version = 1; codec = codec; hash_code = hash; digest = d }))
 
 -- its length, and the digest
-size_behind-reads : (codec hash : ℕ) → ReadsFront 1 (size_behind codec hash)
-size_behind-reads codec hash = ReadsFront-bind 1 0 number_at (digest_behind codec hash) number_at-reads (digest_behind-reads codec hash)
+size_after-reads : (codec hash : ℕ) → ReadsFront 1 (size_after codec hash)
+size_after-reads codec hash = ReadsFront-bind 1 0 number_at (digest_after codec hash) number_at-reads (digest_after-reads codec hash)
 
 -- the hash code, and what is after it
 hash_behind-reads : (codec : ℕ) → ReadsFront 2 (hash_behind codec)
-hash_behind-reads codec = ReadsFront-bind 1 1 number_at (size_behind codec) number_at-reads (size_behind-reads codec)
+hash_behind-reads codec = ReadsFront-bind 1 1 number_at (size_after codec) number_at-reads (size_after-reads codec)
 
 -- after the version 1
 pub version_1_at-reads : ReadsFront 3 version_1_at

@@ -9,7 +9,7 @@ pub fn varint_has_one_spelling()
 {}
 
 /// States that a varint at the front is read, whatever follows it, and nothing else is read.
-pub fn varint_is_read_where_it_stands()
+pub fn varint_is_read_in_place()
     ensures read { ReadsVarint }
     ensures only { ReadsOnlyVarints }
 {}
@@ -21,7 +21,7 @@ pub fn no_varint_begins_another()
 
 /// States that a CID by the table is read at the front, whatever follows it, and nothing else is
 /// read.
-pub fn cid_is_read_where_it_stands()
+pub fn cid_is_read_in_place()
     ensures read { ReadsCid }
     ensures only { ReadsOnlyCids }
     ensures front { ReadsFront }

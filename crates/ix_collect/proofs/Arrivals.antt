@@ -5,14 +5,14 @@ use Rattle.std.proofs.lemmas.Bool.{cases_lt, cases_Bool}
 use Rattle.std.proofs.lemmas.Option.{slice_get_within}
 use Rattle.ix_archive.specs.declared.sink.Delivery.{Delivery}
 use Rattle.ix_archive.specs.Events.{Event}
-use Rattle.ix_ring.specs.declared.fault.RingFault.{RingFault}
-use Rattle.ix_ring.specs.declared.fault.RingFault.TheVariants as faults
+use Rattle.ix_reorder.specs.declared.fault.RingFault.{RingFault}
+use Rattle.ix_reorder.specs.declared.fault.RingFault.TheVariants as faults
 use Rattle.ix_collect.specs.declared.job_progress.JobProgress.{JobProgress}
 use Rattle.ix_collect.specs.declared.job_progress.Stage.{Stage}
 use Rattle.ix_collect.specs.declared.job_progress.Stage.TheVariants.{Delivering, Failed, Stopped}
 use Rattle.ix_collect.specs.declared.job_progress.WalkEnd.{WalkEnd}
-use Rattle.ix_ring.specs.Numbered.{Numbered, found, IsPlaced, IsRefused, IsMemory}
-use Rattle.ix_handover.specs.Received.{Tally, seen, point}
+use Rattle.ix_reorder.specs.Numbered.{Numbered, found, IsPlaced, IsRefused, IsMemory}
+use Rattle.ix_channels.specs.Received.{Tally, seen, point}
 use Rattle.ix_collect.specs.JobProgress.{IsFine, Adds, none_of, IsArrival, IsHeld, IsWaiting, IsOn, IsCloseKnown, IsUnderWay}
 use Rattle.ix_collect.proofs.Counting.{point_here, point_else, few_items}
 

@@ -9,9 +9,9 @@ use Rattle.ix_archive.specs.Headline.{EachFresh}
 use Rattle.ix_collect.specs.declared.job_progress.JobProgress.{JobProgress}
 use Rattle.ix_collect.specs.declared.job_progress.Stage.{Stage}
 use Rattle.ix_collect.specs.declared.job_progress.WalkEnd.{WalkEnd}
-use Rattle.ix_ring.specs.Numbered.{Numbered, found}
-use Rattle.ix_handover.specs.Received.{tally}
-use Rattle.ix_handover.specs.Good.{judged_at, over_at}
+use Rattle.ix_reorder.specs.Numbered.{Numbered, found}
+use Rattle.ix_channels.specs.Received.{tally}
+use Rattle.ix_channels.specs.Good.{judged_at, over_at}
 use Rattle.ix_collect.specs.JobProgress.{IsNew, IsSafe, IsSafeAt, IsUnderWay, IsCalm, IsCome, IsComeTo, IsOn, IsCloseKnown}
 use Rattle.ix_collect.specs.Collected.{AllNew, EachSafe, EachCome}
 

@@ -10,8 +10,8 @@ use Rattle.ix_collect.specs.declared.job_progress.JobProgress.{JobProgress}
 use Rattle.ix_collect.specs.declared.job_progress.Stage.{Stage}
 use Rattle.ix_collect.specs.declared.job_progress.Stage.TheVariants.{Delivering, Failed, Stopped}
 use Rattle.ix_collect.specs.declared.job_progress.WalkEnd.{WalkEnd}
-use Rattle.ix_ring.specs.Numbered.{Numbered}
-use Rattle.ix_handover.specs.Received.{Tally, seen, point}
+use Rattle.ix_reorder.specs.Numbered.{Numbered}
+use Rattle.ix_channels.specs.Received.{Tally, seen, point}
 use Rattle.ix_collect.specs.JobProgress.{IsFine, Adds, none_of, IsCloseArrival, IsWaiting, IsOn, IsCloseKnown, IsUnderWay}
 use Rattle.ix_collect.proofs.Counting.{point_here, few_items}
 use Rattle.ix_collect.proofs.Arrivals.{Stays, held_adds, checked_adds}

@@ -7,15 +7,15 @@ use Rattle.ix_archive.specs.declared.sink.End.{End}
 use Rattle.ix_archive.specs.declared.sink.End.TheVariants.{Done, Limit, Memory, Write, Start}
 use Rattle.ix_archive.specs.Events.{Event, close}
 use Rattle.ix_archive.specs.Faithful.{EndFits}
-use Rattle.ix_handover.specs.declared.verdicted.Verdicted.{Verdicted}
-use Rattle.ix_handover.specs.declared.verdicted.Verdicted.TheVariants as items
+use Rattle.ix_channels.specs.declared.verdicted.Verdicted.{Verdicted}
+use Rattle.ix_channels.specs.declared.verdicted.Verdicted.TheVariants as items
 use Rattle.ix_collect.specs.declared.job_progress.JobProgress.{JobProgress}
 use Rattle.ix_collect.specs.declared.job_progress.Stage.{Stage}
 use Rattle.ix_collect.specs.declared.job_progress.Stage.TheVariants.{Delivering, Failed, Stopped}
 use Rattle.ix_collect.specs.declared.job_progress.WalkEnd.{WalkEnd}
-use Rattle.ix_ring.specs.Numbered.{Numbered, found}
-use Rattle.ix_handover.specs.Received.{Tally, point}
-use Rattle.ix_handover.specs.Good.{IsCloseOf}
+use Rattle.ix_reorder.specs.Numbered.{Numbered, found}
+use Rattle.ix_channels.specs.Received.{Tally, point}
+use Rattle.ix_channels.specs.Good.{IsCloseOf}
 use Rattle.ix_collect.specs.JobProgress.{IsItem, IsComeTo, IsCome, IsFine, IsOn, IsCloseKnown, IsUnderWay, IsOver, IsCalm, end_of}
 use Rattle.ix_collect.proofs.Counting.{full, no_more}
 use Rattle.ix_collect.proofs.Arrivals.{on_delivering}

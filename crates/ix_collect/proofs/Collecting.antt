@@ -4,12 +4,12 @@ use Rattle.ix_store.specs.Store.{Blocks}
 use Rattle.ix_walk.specs.JobMeaning.{JobMeaning}
 use Rattle.ix_archive.specs.declared.sink.Delivery.{Delivery}
 use Rattle.ix_archive.specs.Events.{Event}
-use Rattle.ix_handover.specs.declared.verdicted.Verdicted.{Verdicted}
-use Rattle.ix_handover.specs.declared.verdicted.Verdicted.TheVariants.{Checked, Unchecked, Close, Last}
+use Rattle.ix_channels.specs.declared.verdicted.Verdicted.{Verdicted}
+use Rattle.ix_channels.specs.declared.verdicted.Verdicted.TheVariants.{Checked, Unchecked, Close, Last}
 use Rattle.ix_collect.specs.declared.job_progress.JobProgress.{JobProgress}
 use Rattle.ix_collect.specs.declared.collector.Collector.{Collector}
-use Rattle.ix_handover.specs.Received.{Tally, tally, Inserts, job_of}
-use Rattle.ix_handover.specs.Good.{judged_at, over_at, IsAllowed, IsGood}
+use Rattle.ix_channels.specs.Received.{Tally, tally, Inserts, job_of}
+use Rattle.ix_channels.specs.Good.{judged_at, over_at, IsAllowed, IsGood}
 use Rattle.std.specs.Prelude.{not, ◌||◌}
 use Rattle.ix_collect.specs.JobProgress.{IsFine, IsItem, IsSafe, IsCome, IsEnded, IsMisplaced}
 use Rattle.std.proofs.lemmas.List.{take_more}

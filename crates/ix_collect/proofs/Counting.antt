@@ -4,7 +4,7 @@ use Rattle.std.specs.Prelude.{◌==◌}
 use Rattle.std.proofs.lemmas.Bool.{cases_lt}
 use Rattle.std.proofs.lemmas.Bool.Decides.{nat_tests}
 use Rattle.ix_archive.specs.declared.sink.Delivery.{Delivery}
-use Rattle.ix_handover.specs.Received.{Tally, seen, point}
+use Rattle.ix_channels.specs.Received.{Tally, seen, point}
 use Rattle.ix_collect.specs.JobProgress.{below, IsFine}
 
 -- a point is 1 at itself

@@ -11,7 +11,7 @@ use Rattle.ix_archive.proofs.Delivered.{open-push}
 use Rattle.ix_collect.specs.declared.job_progress.JobProgress.{JobProgress}
 use Rattle.ix_collect.specs.declared.job_progress.Stage.{Stage}
 use Rattle.ix_collect.specs.declared.job_progress.Stage.TheVariants.{Delivering, Failed, Stopped}
-use Rattle.ix_handover.specs.Received.{Tally}
+use Rattle.ix_channels.specs.Received.{Tally}
 use Rattle.ix_collect.specs.JobProgress.{IsSafe, IsSafeAt, MayDeliver, IsOn, IsUnderWay, IsPoppedUnderWay}
 
 -- one element more: those before a position and the one there

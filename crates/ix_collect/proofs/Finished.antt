@@ -18,12 +18,12 @@ use Rattle.ix_archive.specs.Verified.{judged, judged_visits}
 use Rattle.ix_archive.specs.Faithful.{IsFaithful, EndFits}
 use Rattle.ix_archive.specs.Headline.{EachDelivered, IsCheckedOnce, IsEachOnce, NoneIsStart, visit_count}
 use Rattle.ix_collect.proofs.Members.{cases_cons, none_in, has_first, has_rest, has_got}
-use Rattle.ix_handover.specs.declared.verdicted.Verdicted.{Verdicted}
-use Rattle.ix_handover.specs.declared.verdicted.Verdicted.TheVariants.{Checked, Unchecked, Close, Last}
+use Rattle.ix_channels.specs.declared.verdicted.Verdicted.{Verdicted}
+use Rattle.ix_channels.specs.declared.verdicted.Verdicted.TheVariants.{Checked, Unchecked, Close, Last}
 use Rattle.ix_collect.specs.declared.job_progress.JobProgress.{JobProgress}
-use Rattle.ix_handover.specs.Received.{point, is_checked, is_unchecked, is_close, Tally, tally, pairs_of}
-use Rattle.ix_handover.specs.Good.{judged_at, over_at, IsAllowed, IsGood}
-use Rattle.ix_handover.specs.Totals.{total}
+use Rattle.ix_channels.specs.Received.{point, is_checked, is_unchecked, is_close, Tally, tally, pairs_of}
+use Rattle.ix_channels.specs.Good.{judged_at, over_at, IsAllowed, IsGood}
+use Rattle.ix_channels.specs.Totals.{total}
 use Rattle.ix_collect.specs.JobProgress.{IsOver, IsCome, IsComeTo}
 use Rattle.ix_collect.specs.Collected.{EachCome, AllEnded, EachEnded}
 use Rattle.ix_collect.proofs.Counting.{point_here}

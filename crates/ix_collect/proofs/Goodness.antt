@@ -10,13 +10,13 @@ use Rattle.ix_walk.specs.JobMeaning.{JobMeaning}
 use Rattle.ix_archive.specs.declared.sink.Delivery.{Delivery}
 use Rattle.ix_archive.specs.declared.sink.End.{End}
 use Rattle.ix_archive.specs.declared.sink.End.TheVariants.{Done, Limit, Memory, Write, Start}
-use Rattle.ix_handover.specs.declared.verdicted.Verdicted.{Verdicted}
-use Rattle.ix_handover.specs.declared.verdicted.Verdicted.TheVariants.{Checked, Unchecked, Close, Last}
-use Rattle.ix_handover.specs.Received.{point, is_checked, is_unchecked, is_close, is_of, tally, seen, Inserts, job_of}
-use Rattle.ix_handover.specs.Good.{judged_at, over_at, IsCloseOf, IsAllowed, IsGood}
-use Rattle.ix_handover.specs.Totals.{total}
-use Rattle.ix_handover.proofs.Running.{one_if}
-use Rattle.ix_handover.proofs.Totals.{total_append}
+use Rattle.ix_channels.specs.declared.verdicted.Verdicted.{Verdicted}
+use Rattle.ix_channels.specs.declared.verdicted.Verdicted.TheVariants.{Checked, Unchecked, Close, Last}
+use Rattle.ix_channels.specs.Received.{point, is_checked, is_unchecked, is_close, is_of, tally, seen, Inserts, job_of}
+use Rattle.ix_channels.specs.Good.{judged_at, over_at, IsCloseOf, IsAllowed, IsGood}
+use Rattle.ix_channels.specs.Totals.{total}
+use Rattle.ix_channels.proofs.Running.{one_if}
+use Rattle.ix_channels.proofs.Totals.{total_append}
 use Rattle.ix_collect.specs.JobProgress.{below, IsFine, IsItem}
 use Rattle.ix_collect.proofs.Counting.{point_here, point_else}
 

@@ -2,20 +2,20 @@
 use Rattle.std.proofs.Common.{◌≡◌, ℕ, zero, suc, List, [], ◌∷◌, get_or, set, sym, subst}
 use Rattle.ix_archive.specs.Headline.{Fact, Keeps, EachKept}
 
-module _ {S : Type 0} (fact : Fact S) where
+module _ {S : Type 0} (guarantee : Fact S) where
   -- no call keeps each fact
-  pub kept_same : (ss : List S) → EachKept fact ss ss
+  pub kept_same : (ss : List S) → EachKept guarantee ss ss
   kept_same [] = tt
   kept_same (s ∷ ss) = ((λ store job first p. p), kept_same ss)
 
   -- one sink keeps its fact, and the others are the same
-  pub kept_set : (ss : List S) (i : ℕ) (s t : S) → s ≡ get_or ss i s → Keeps fact s t → EachKept fact ss (set ss i t)
+  pub kept_set : (ss : List S) (i : ℕ) (s t : S) → s ≡ get_or ss i s → Keeps guarantee s t → EachKept guarantee ss (set ss i t)
   kept_set [] i s t at keeps = tt
-  kept_set (x ∷ ss) zero s t at keeps = ((λ store job first p. keeps store job first (subst (λ (z : S). fact z store job first) (sym at) p)), kept_same ss)
+  kept_set (x ∷ ss) zero s t at keeps = ((λ store job first p. keeps store job first (subst (λ (z : S). guarantee z store job first) (sym at) p)), kept_same ss)
   kept_set (x ∷ ss) (suc i) s t at keeps = ((λ store job first p. p), kept_set ss i s t at keeps)
 
   -- facts are kept over two steps
-  pub kept_trans : (xs ys zs : List S) → EachKept fact xs ys → EachKept fact ys zs → EachKept fact xs zs
+  pub kept_trans : (xs ys zs : List S) → EachKept guarantee xs ys → EachKept guarantee ys zs → EachKept guarantee xs zs
   kept_trans [] [] [] h k = tt
   kept_trans [] [] (z ∷ zs) h k = absurd k
   kept_trans [] (y ∷ ys) zs h k = absurd h

@@ -10,14 +10,14 @@ use Rattle.ix_check.specs.declared.verdict.Verdict.{Verdict}
 use Rattle.ix_archive.specs.declared.sink.Delivery.{Delivery}
 use Rattle.ix_archive.specs.declared.sink.End.{End}
 use Rattle.ix_archive.specs.Verified.{judged}
-use Rattle.ix_handover.specs.declared.item.Item.{Item}
-use Rattle.ix_handover.specs.declared.item.Item.TheVariants as taken
-use Rattle.ix_handover.specs.declared.verdicted.Verdicted.{Verdicted}
-use Rattle.ix_handover.specs.declared.verdicted.Verdicted.TheVariants.{Checked, Unchecked, Close, Last}
-use Rattle.ix_handover.specs.Received.{point, is_checked, is_unchecked, is_close, pairs_of}
-use Rattle.ix_handover.specs.Good.{judged_at, IsAllowed, IsGood}
-use Rattle.ix_handover.specs.Sent.{visits_at, Answers, SentFor, IsOfCourse, is_item, is_end, IsGoodTaken}
-use Rattle.ix_handover.specs.Totals.{total}
+use Rattle.ix_channels.specs.declared.item.Item.{Item}
+use Rattle.ix_channels.specs.declared.item.Item.TheVariants as taken
+use Rattle.ix_channels.specs.declared.verdicted.Verdicted.{Verdicted}
+use Rattle.ix_channels.specs.declared.verdicted.Verdicted.TheVariants.{Checked, Unchecked, Close, Last}
+use Rattle.ix_channels.specs.Received.{point, is_checked, is_unchecked, is_close, pairs_of}
+use Rattle.ix_channels.specs.Good.{judged_at, IsAllowed, IsGood}
+use Rattle.ix_channels.specs.Sent.{visits_at, Answers, SentFor, IsOfCourse, is_item, is_end, IsGoodTaken}
+use Rattle.ix_channels.specs.Totals.{total}
 
 -- the element of a mapped list
 get_map : {X Y : Type 0} (f : X → Y) (xs : List X) (k : ℕ) (x : X) → slice_get xs k ≡ Some x → slice_get (map f xs) k ≡ Some (f x)

@@ -6,13 +6,13 @@ use Rattle.ix_walk.specs.JobMeaning.{JobMeaning}
 use Rattle.ix_archive.specs.declared.sink.Delivery.{Delivery}
 use Rattle.ix_archive.specs.declared.sink.End.{End}
 use Rattle.ix_archive.specs.Events.{Event}
-use Rattle.ix_handover.specs.declared.verdicted.Verdicted.{Verdicted}
+use Rattle.ix_channels.specs.declared.verdicted.Verdicted.{Verdicted}
 use Rattle.ix_collect.specs.declared.job_progress.JobProgress.{JobProgress}
 use Rattle.ix_collect.specs.declared.collector.Collector.{Collector}
-use Rattle.ix_handover.specs.declared.verdicted.Verdicted.TheVariants.{Checked, Unchecked, Close, Last}
-use Rattle.ix_handover.specs.Received.{tally}
-use Rattle.ix_handover.specs.Good.{IsGood, judged_at, over_at}
-use Rattle.ix_handover.specs.Totals.{total}
+use Rattle.ix_channels.specs.declared.verdicted.Verdicted.TheVariants.{Checked, Unchecked, Close, Last}
+use Rattle.ix_channels.specs.Received.{tally}
+use Rattle.ix_channels.specs.Good.{IsGood, judged_at, over_at}
+use Rattle.ix_channels.specs.Totals.{total}
 use Rattle.ix_collect.specs.JobProgress.{IsNew, IsSafe, IsCome, IsEnded, IsMisplaced}
 
 -- of no job was anything received
@@ -57,12 +57,12 @@ abbrev pub job_count : Collector → ℕ
 job_count c = length c.jobs.items
 
 -- an unexpected item came
-abbrev pub has_stray : Collector → Bool
-has_stray c = c.stray
+abbrev pub has_unexpected : Collector → Bool
+has_unexpected c = c.unexpected
 
 -- nothing was received
 abbrev pub IsUnused : Collector → Type 0
-IsUnused c = AllNew c.jobs.items × (c.stray ≡ false)
+IsUnused c = AllNew c.jobs.items × (c.unexpected ≡ false)
 
 -- every sink was closed
 abbrev pub IsDone : Collector → Type 0
@@ -96,7 +96,7 @@ module _ {S : Type 0} (events : S → List Event) (failed : S → List Delivery)
 
   -- If these items are good, none was unexpected, and each sink got what they say. The order of the items makes no difference.
   abbrev pub IsCollected : Blocks → List JobMeaning → List Verdicted → Collector → List S → Type 0
-  IsCollected store jobs got c sinks = IsGood store jobs got → job_count c ≡ length jobs → (has_stray c ≡ false) × EachCome store jobs got 0 c.jobs.items sinks
+  IsCollected store jobs got c sinks = IsGood store jobs got → job_count c ≡ length jobs → (has_unexpected c ≡ false) × EachCome store jobs got 0 c.jobs.items sinks
 
   -- the items were good, of these jobs, and the collector received them
   pub record IsCollectedFrom (store : Blocks) (jobs : List JobMeaning) (got : List Verdicted) (c : Collector) (sinks : List S) : Type 0 where

@@ -6,13 +6,13 @@ use Rattle.ix_archive.specs.declared.sink.Delivery.{Delivery}
 use Rattle.ix_archive.specs.declared.sink.End.{End}
 use Rattle.ix_archive.specs.Events.{Event}
 use Rattle.ix_archive.specs.Headline.{EachDelivered, EachKept, Fact, IsCheckedOnce, NoneIsStart}
-use Rattle.ix_handover.specs.declared.lanes.LaneIn.{LaneIn}
-use Rattle.ix_handover.specs.declared.lanes.LaneOut.{LaneOut}
-use Rattle.ix_handover.specs.declared.verdicted.Verdicted.{Verdicted}
-use Rattle.ix_handover.specs.Lanes.{EachLane}
-use Rattle.ix_handover.specs.Received.{Inserts, job_of, pairs_of}
+use Rattle.ix_channels.specs.declared.lanes.LaneIn.{LaneIn}
+use Rattle.ix_channels.specs.declared.lanes.LaneOut.{LaneOut}
+use Rattle.ix_channels.specs.declared.verdicted.Verdicted.{Verdicted}
+use Rattle.ix_channels.specs.Lanes.{EachLane}
+use Rattle.ix_channels.specs.Received.{Inserts, job_of, pairs_of}
 use Rattle.ix_collect.specs.declared.collector.Collector.{Collector}
-use Rattle.ix_collect.specs.Collected.{job_count, has_stray, IsDone, IsStray, MayTell, IsCollected, IsCollectedFrom}
+use Rattle.ix_collect.specs.Collected.{job_count, has_unexpected, IsDone, IsStray, MayTell, IsCollected, IsCollectedFrom}
 
 -- what holds if the item is unexpected
 abbrev pub IfStray : Collector → Verdicted → Type 0 → Type 0
@@ -31,11 +31,11 @@ module _ {S : Type 0} (events : S → List Event) (failed : S → List Delivery)
 
   -- the collector went on from c to d: it can still collect for as many jobs, each sink's fact is kept, and if it was done it
   -- still is
-  pub record GoesOn (fact : Fact S) (c d : Collector) (first last : List S) : Type 0 where
+  pub record GoesOn (guarantee : Fact S) (c d : Collector) (first last : List S) : Type 0 where
     pub sinks : length last ≡ job_count d
     pub jobs : job_count d ≡ job_count c
     pub may : MayTell events failed d last
-    pub kept : EachKept fact first last
+    pub kept : EachKept guarantee first last
     pub done : IsDone c → IsDone d
 
   -- these items were collected, whatever the blocks and jobs are
@@ -48,19 +48,19 @@ module _ {S : Type 0} (events : S → List Event) (failed : S → List Delivery)
 
   -- the collector went on, and collected this of one lane, if it had collected the old before; what other lanes gave is before
   -- and after it
-  pub record CollectsAmong (fact : Fact S) (old new : List Verdicted) (c d : Collector) (first last : List S) : Type 0 where
-    pub on : GoesOn fact c d first last
+  pub record CollectsAmong (guarantee : Fact S) (old new : List Verdicted) (c d : Collector) (first last : List S) : Type 0 where
+    pub on : GoesOn guarantee c d first last
     pub collected : (store : Blocks) (jobs : List JobMeaning) (before after : List Verdicted) → IsCollected events failed store jobs (before ++ old ++ after) c first → IsCollected events failed store jobs (before ++ new ++ after) d last
 
   -- the same for all lanes; what was received from elsewhere is before it
-  pub record CollectsBehind (fact : Fact S) (old new : List Verdicted) (c d : Collector) (first last : List S) : Type 0 where
-    pub on : GoesOn fact c d first last
+  pub record CollectsAfter (guarantee : Fact S) (old new : List Verdicted) (c d : Collector) (first last : List S) : Type 0 where
+    pub on : GoesOn guarantee c d first last
     pub collected : (store : Blocks) (jobs : List JobMeaning) (before : List Verdicted) → IsCollected events failed store jobs (before ++ old) c first → IsCollected events failed store jobs (before ++ new) d last
 
   -- what follows from these items: none was unexpected, each sink got what its job calls for, and each visit was checked as
   -- often as it is to be
   pub record IsExported (store : Blocks) (jobs : List JobMeaning) (got : List Verdicted) (c : Collector) (sinks : List S) (ends : List End) : Type 0 where
-    pub none : has_stray c ≡ false
+    pub none : has_unexpected c ≡ false
     pub delivered : EachDelivered events failed store 0 jobs ends sinks
     pub checked : IsCheckedOnce events store jobs ends sinks (pairs_of got)
     pub started : NoneIsStart ends

@@ -5,15 +5,15 @@ use Rattle.ix_archive.specs.declared.sink.End.{End}
 use Rattle.ix_archive.specs.declared.sink.End.TheVariants.{Memory, Write, Start}
 use Rattle.ix_archive.specs.Events.{Event, delivery, close, IsOpen}
 use Rattle.ix_archive.specs.Faithful.{EndFits}
-use Rattle.ix_handover.specs.declared.verdicted.Verdicted.{Verdicted}
-use Rattle.ix_handover.specs.declared.verdicted.Verdicted.TheVariants.{Checked, Unchecked, Close, Last}
+use Rattle.ix_channels.specs.declared.verdicted.Verdicted.{Verdicted}
+use Rattle.ix_channels.specs.declared.verdicted.Verdicted.TheVariants.{Checked, Unchecked, Close, Last}
 use Rattle.ix_collect.specs.declared.job_progress.JobProgress.{JobProgress}
 use Rattle.ix_collect.specs.declared.job_progress.Stage.{Stage}
 use Rattle.ix_collect.specs.declared.job_progress.Stage.TheVariants.{Delivering, Failed, Stopped}
 use Rattle.ix_collect.specs.declared.job_progress.WalkEnd.{WalkEnd}
-use Rattle.ix_ring.specs.Numbered.{Numbered, found, IsFree}
-use Rattle.ix_handover.specs.Received.{Tally, seen, point}
-use Rattle.ix_handover.specs.Good.{IsCloseOf}
+use Rattle.ix_reorder.specs.Numbered.{Numbered, found, IsFree}
+use Rattle.ix_channels.specs.Received.{Tally, seen, point}
+use Rattle.ix_channels.specs.Good.{IsCloseOf}
 
 -- the sum of f below n
 abbrev pub below : (ℕ → ℕ) → ℕ → ℕ

@@ -6,11 +6,11 @@ use Rattle.ix_archive.specs.declared.sink.Delivery.{Delivery}
 use Rattle.ix_archive.specs.declared.sink.End.{End}
 use Rattle.ix_archive.specs.Events.{Event}
 use Rattle.ix_archive.specs.Headline.{EachFresh, IsEachOnce, visit_count}
-use Rattle.ix_handover.specs.declared.item.Item.{Item}
-use Rattle.ix_handover.specs.declared.verdicted.Verdicted.{Verdicted}
-use Rattle.ix_handover.specs.Good.{IsGood}
-use Rattle.ix_handover.specs.Received.{pairs_of}
-use Rattle.ix_handover.specs.Sent.{SentFor, IsGoodTaken}
+use Rattle.ix_channels.specs.declared.item.Item.{Item}
+use Rattle.ix_channels.specs.declared.verdicted.Verdicted.{Verdicted}
+use Rattle.ix_channels.specs.Good.{IsGood}
+use Rattle.ix_channels.specs.Received.{pairs_of}
+use Rattle.ix_channels.specs.Sent.{SentFor, IsGoodTaken}
 use Rattle.ix_collect.specs.declared.collector.Collector.{Collector}
 use Rattle.ix_collect.specs.Collected.{job_count, HasEnds, IsUnused, MayTell}
 use Rattle.ix_collect.specs.Collecting.{HasCollected, IfCollected}

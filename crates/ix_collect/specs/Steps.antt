@@ -3,8 +3,8 @@ use Rattle.std.specs.Prelude.{◌≡◌, Bool, true, List, Option, None}
 use Rattle.ix_archive.specs.declared.sink.Delivery.{Delivery}
 use Rattle.ix_archive.specs.Events.{Event}
 use Rattle.ix_archive.specs.Headline.{Fact, Keeps}
-use Rattle.ix_handover.specs.declared.verdicted.Verdicted.{Verdicted}
-use Rattle.ix_handover.specs.Received.{Tally}
+use Rattle.ix_channels.specs.declared.verdicted.Verdicted.{Verdicted}
+use Rattle.ix_channels.specs.Received.{Tally}
 use Rattle.ix_collect.specs.declared.job_progress.JobProgress.{JobProgress}
 use Rattle.ix_collect.specs.declared.job_progress.Stage.TheVariants.{Delivering}
 use Rattle.ix_collect.specs.JobProgress.{IsFine, IsItem, IsUnderWay, IsPoppedUnderWay, IsCalm, IsCome, IsSafe}
@@ -38,11 +38,11 @@ module _ {S : Type 0} (events : S → List Event) (failed : S → List Delivery)
 
   -- the sink may be called with what comes next, and keeps its fact
   abbrev pub KeepsSafe : Fact S → JobProgress → S → S → Type 0
-  KeepsSafe fact q s r = IsSafeFor q r × Keeps fact s r
+  KeepsSafe guarantee q s r = IsSafeFor q r × Keeps guarantee s r
 
   -- the sink isn't closed, may be called with what comes next, and keeps its fact
   abbrev pub KeepsOpen : Fact S → JobProgress → S → S → Type 0
-  KeepsOpen fact q s r = IsOpenFor q r × Keeps fact s r
+  KeepsOpen guarantee q s r = IsOpenFor q r × Keeps guarantee s r
 
   -- what was popped from the ring was delivered, or stopped the deliveries
   abbrev pub IsHandedOn : Option Delivery → JobProgress → S → JobProgress → S → Type 0

@@ -2,13 +2,13 @@
 
 ghost use Rattle.std.specs.Prelude.{◌≡◌, ◌≤◌, [], length, IfOk, IsTrue, ◌↔◌, vec_capacity, true, false};
 ghost use Rattle.ix_archive.specs.Headline.{EachKept};
-ghost use Rattle.ix_handover.specs.Received.{job_of};
-ghost use Rattle.ix_collect.specs.Collected.{job_count, has_stray, IsUnused, IsDone, MayTell, HasEnds};
+ghost use Rattle.ix_channels.specs.Received.{job_of};
+ghost use Rattle.ix_collect.specs.Collected.{job_count, has_unexpected, IsUnused, IsDone, MayTell, HasEnds};
 ghost use Rattle.ix_collect.specs.Collecting.{CollectsItem, IfStray};
 
 use crate::job_progress::JobProgress;
 use ix_archive::{End, Sink};
-use ix_handover::Verdicted;
+use ix_channels::Verdicted;
 use std::alloc::{AllocError, Global};
 
 /// A collector: receives what the verifiers send, in any order, and calls each job's sink.
@@ -20,7 +20,7 @@ use std::alloc::{AllocError, Global};
 pub struct Collector {
     jobs: Vec<JobProgress>,
     // Whether an unexpected item came.
-    stray: bool,
+    unexpected: bool,
 }
 
 // Returns the number of the item's job.
@@ -47,7 +47,7 @@ impl Collector {
         }
         Ok(Collector {
             jobs: all,
-            stray: false,
+            unexpected: false,
         })
     }
 
@@ -63,12 +63,12 @@ impl Collector {
         ensures sinks { length sinks.new ≡ length sinks.old }
         ensures jobs { job_count self.new ≡ job_count self.old }
         ensures may { MayTell S.events S.failed self.new sinks.new }
-        ensures kept { EachKept S.fact sinks.old sinks.new }
+        ensures kept { EachKept S.guarantee sinks.old sinks.new }
         ensures done { IsDone self.old → IsDone self.new }
         ensures last { job_of item ≡ None → (self.new ≡ self.old) × (sinks.new ≡ sinks.old) }
-        ensures stray { IfStray self.old item ((has_stray self.new ≡ true) × (sinks.new ≡ sinks.old)) }
-        ensures stays { has_stray self.old ≡ true → has_stray self.new ≡ true }
-        ensures guarded { has_stray self.old ≡ false → has_stray self.new ≡ true → sinks.new ≡ sinks.old }
+        ensures unexpected { IfStray self.old item ((has_unexpected self.new ≡ true) × (sinks.new ≡ sinks.old)) }
+        ensures stays { has_unexpected self.old ≡ true → has_unexpected self.new ≡ true }
+        ensures guarded { has_unexpected self.old ≡ false → has_unexpected self.new ≡ true → sinks.new ≡ sinks.old }
         ensures collected { CollectsItem S.events S.failed item self.old self.new sinks.old sinks.new }
     {
         let Some(job) = job_of(&item) else {
@@ -76,18 +76,18 @@ impl Collector {
         };
         let job = job as usize;
         if job >= self.jobs.len() {
-            self.stray = true;
+            self.unexpected = true;
             return;
         }
         let fine = self.jobs[job].receive(alloc, item, &mut sinks[job]);
-        self.stray |= !fine;
+        self.unexpected |= !fine;
     }
 
     /// Whether an unexpected item came.
-    pub fn has_stray(&self) -> bool
-        ensures { result ≡ has_stray self.now }
+    pub fn has_unexpected(&self) -> bool
+        ensures { result ≡ has_unexpected self.now }
     {
-        self.stray
+        self.unexpected
     }
 
     /// Whether every sink was closed.

@@ -1,15 +1,15 @@
 //! Receives from all lanes.
 
 ghost use Rattle.std.specs.Prelude.{◌≡◌, cond};
-ghost use Rattle.ix_handover.specs.Lanes.{sent_by, received_by, all_received, all_sent};
-ghost use Rattle.ix_handover.specs.Lanes.{IsLane, IsSameLane, EachSameOut};
+ghost use Rattle.ix_channels.specs.Lanes.{sent_by, received_by, all_received, all_sent};
+ghost use Rattle.ix_channels.specs.Lanes.{IsLane, IsSameLane, EachSameOut};
 ghost use Rattle.ix_collect.specs.Collected.{is_last};
 ghost use Rattle.ix_collect.specs.Received.{HasCounted};
-ghost use Rattle.ix_collect.specs.Collecting.{CanCollect, CanFinish, CollectsAmong, CollectsBehind};
+ghost use Rattle.ix_collect.specs.Collecting.{CanCollect, CanFinish, CollectsAmong, CollectsAfter};
 
 use crate::collector::Collector;
 use ix_archive::Sink;
-use ix_handover::{LaneIn, LaneOut, Verdicted, lane_rest};
+use ix_channels::{LaneIn, LaneOut, Verdicted, lane_rest};
 use std::alloc::Global;
 use std::sync::Wait;
 
@@ -26,12 +26,12 @@ pub struct Received {
     /// The number of items.
     pub items: usize,
     /// How many of them were a verifier's last.
-    pub lasts: usize,
+    pub ended_lanes: usize,
 }
 
 /// Receives one item from each lane that has one, and returns how many came. What was received from
 /// elsewhere counts as received before what the lanes gave.
-pub fn round<S: Sink>(
+pub fn poll_lanes<S: Sink>(
     alloc: Global,
     collector: &mut Collector,
     lanes: &mut [LaneOut],
@@ -40,25 +40,25 @@ pub fn round<S: Sink>(
     requires { CanCollect S.events S.failed collector.old sinks.old }
     ensures lanes { EachSameOut lanes.old lanes.new }
     ensures counted { HasCounted (all_received lanes.old) (all_received lanes.new) result }
-    ensures collected { CollectsBehind S.events S.failed S.fact
+    ensures collected { CollectsAfter S.events S.failed S.guarantee
         (all_received lanes.old) (all_received lanes.new) collector.old collector.new
         sinks.old sinks.new }
 {
     let mut items = 0;
-    let mut lasts = 0;
+    let mut ended_lanes = 0;
     for i in 0..lanes.len() {
         if let Some(item) = lanes[i].try_recv() {
             items += 1;
-            lasts += usize::from(is_last(&item));
+            ended_lanes += usize::from(is_last(&item));
             collector.receive(alloc, item, sinks);
         }
     }
-    Received { items, lasts }
+    Received { items, ended_lanes }
 }
 
 /// Receives what is left in a lane whose two ends are both here. What other lanes gave counts as
 /// received before and after it.
-pub fn drain<R: Wait, S: Sink>(
+pub fn drain_lane<R: Wait, S: Sink>(
     rt: &R,
     alloc: Global,
     collector: &mut Collector,
@@ -69,7 +69,7 @@ pub fn drain<R: Wait, S: Sink>(
     requires lane { IsLane sender.old receiver.old }
     requires collector { CanCollect S.events S.failed collector.old sinks.old }
     ensures lane { IsSameLane sender.old sender.new receiver.old receiver.new }
-    ensures collected { CollectsAmong S.events S.failed S.fact
+    ensures collected { CollectsAmong S.events S.failed S.guarantee
         (received_by receiver.old) (sent_by sender.old) collector.old collector.new
         sinks.old sinks.new }
 {
@@ -84,7 +84,7 @@ pub fn drain<R: Wait, S: Sink>(
 
 /// Receives what is left in all lanes, whose ends are all here. All that was sent has then been
 /// received. What was received from elsewhere counts as received before it.
-pub fn finish<R: Wait, S: Sink>(
+pub fn drain_all<R: Wait, S: Sink>(
     rt: &R,
     alloc: Global,
     collector: &mut Collector,
@@ -94,12 +94,12 @@ pub fn finish<R: Wait, S: Sink>(
 )
     requires { CanFinish S.events S.failed senders.old receivers.old collector.old sinks.old }
     ensures sent { all_sent senders.new ≡ all_sent senders.old }
-    ensures collected { CollectsBehind S.events S.failed S.fact
+    ensures collected { CollectsAfter S.events S.failed S.guarantee
         (all_received receivers.old) (all_sent senders.new) collector.old collector.new
         sinks.old sinks.new }
 {
     for i in 0..senders.len() {
-        drain(
+        drain_lane(
             rt,
             alloc,
             collector,

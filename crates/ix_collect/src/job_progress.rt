@@ -4,14 +4,14 @@ ghost use Rattle.std.specs.Prelude.{◌≡◌, ◌+◌, Some, false, IfOk, IsTru
 ghost use Rattle.ix_archive.specs.declared.sink.End.TheVariants.{Memory};
 ghost use Rattle.ix_collect.specs.declared.job_progress.Stage.TheVariants.{Delivering};
 ghost use Rattle.ix_collect.specs.declared.job_progress.WalkEnd.{WalkEnd};
-ghost use Rattle.ix_ring.specs.Numbered.{IsFree};
+ghost use Rattle.ix_reorder.specs.Numbered.{IsFree};
 ghost use Rattle.ix_collect.specs.JobProgress.{IsArrival, IsCloseArrival, IsItem, IsNew, IsEnded, IsMisplaced, end_of};
 ghost use Rattle.ix_collect.specs.Steps.{HasCome, HasDelivered, HasFinished, IsHandedOn, IsNoted};
 ghost use Rattle.ix_collect.specs.Steps.{IsDeliveringTo, IsOpenFor, IsSafeFor, KeepsOpen, KeepsSafe};
 
 use ix_archive::{Delivery, End, Sink, SinkFault};
-use ix_handover::Verdicted;
-use ix_ring::Ring;
+use ix_channels::Verdicted;
+use ix_reorder::Ring;
 use std::alloc::{AllocError, Global};
 
 /// What happens to the visits of a job that are next.
@@ -72,16 +72,16 @@ impl JobProgress {
 
     // Accepts a visit: with its verdict, or without if its check ran out of memory. Returns false
     // if its number is unexpected.
-    fn take(&mut self, seq: u32, judged: Option<Delivery>) -> bool
+    fn accept_visit(&mut self, seq: u32, delivery: Option<Delivery>) -> bool
         ensures misplaced { self.old.stage ≡ Delivering → (IsFree self.old.ring seq → ⊥) → result ≡ false }
-        ensures taken { IsNoted (λ all over. IsArrival all seq judged) self.old result self.new }
+        ensures taken { IsNoted (λ all over. IsArrival all seq delivery) self.old result self.new }
     {
         self.arrived = self.arrived.saturating_add(1);
-        self.out_of_memory |= judged.is_none();
+        self.out_of_memory |= delivery.is_none();
         if self.stage != Stage::Delivering {
             return true;
         }
-        let Err(fault) = self.ring.place(seq, judged) else {
+        let Err(fault) = self.ring.place(seq, delivery) else {
             return true;
         };
         if !fault.is_memory() {
@@ -93,7 +93,7 @@ impl JobProgress {
     }
 
     // Accepts the close of the job's walk. Returns false if it is a second one.
-    fn note_close(&mut self, seq: u32, end: End) -> bool
+    fn accept_close(&mut self, seq: u32, end: End) -> bool
         ensures second { (w : WalkEnd) → self.old.close ≡ Some w → result ≡ false }
         ensures noted { IsNoted (λ all over. IsCloseArrival all over seq end) self.old result self.new }
     {
@@ -107,13 +107,13 @@ impl JobProgress {
     }
 
     // Delivers the visit that came out of the ring, or stops at one without a verdict.
-    fn hand_on<S: Sink>(&mut self, alloc: Global, judged: Option<Delivery>, sink: &mut S)
+    fn deliver_one<S: Sink>(&mut self, alloc: Global, delivery: Option<Delivery>, sink: &mut S)
         requires { IsDeliveringTo S.events S.failed self.old sink.old }
         ensures ring { self.new.ring ≡ self.old.ring }
-        ensures kept { KeepsOpen S.events S.failed S.fact self.new sink.old sink.new }
-        ensures handed { IsHandedOn S.events S.failed judged self.old sink.old self.new sink.new }
+        ensures kept { KeepsOpen S.events S.failed S.guarantee self.new sink.old sink.new }
+        ensures handed { IsHandedOn S.events S.failed delivery self.old sink.old self.new sink.new }
     {
-        let Some(Delivery { visit, verdict }) = judged else {
+        let Some(Delivery { visit, verdict }) = delivery else {
             self.stage = Stage::Stopped;
             return;
         };
@@ -130,21 +130,21 @@ impl JobProgress {
     // Delivers what is next, as long as there is something.
     fn deliver<S: Sink>(&mut self, alloc: Global, sink: &mut S)
         requires open { IsOpenFor S.events S.failed self.old sink.old }
-        ensures kept { KeepsOpen S.events S.failed S.fact self.new sink.old sink.new }
+        ensures kept { KeepsOpen S.events S.failed S.guarantee self.new sink.old sink.new }
         ensures delivered { HasDelivered S.events S.failed self.old sink.old self.new sink.new }
     {
         while self.stage == Stage::Delivering {
-            let Some(judged) = self.ring.pop() else {
+            let Some(delivery) = self.ring.pop() else {
                 return;
             };
-            self.hand_on(alloc, judged, sink);
+            self.deliver_one(alloc, delivery, sink);
         }
     }
 
     // Closes the sink, if all has arrived.
     fn finish<S: Sink>(&mut self, sink: &mut S)
         requires open { IsOpenFor S.events S.failed self.old sink.old }
-        ensures kept { KeepsSafe S.events S.failed S.fact self.new sink.old sink.new }
+        ensures kept { KeepsSafe S.events S.failed S.guarantee self.new sink.old sink.new }
         ensures finished { HasFinished S.events S.failed self.old sink.old self.new sink.new }
     {
         let Some(close) = self.close else {
@@ -188,7 +188,7 @@ impl JobProgress {
     // Receives an item of the job. Returns false if it is unexpected.
     pub(crate) fn receive<S: Sink>(&mut self, alloc: Global, item: Verdicted, sink: &mut S) -> bool
         requires safe { IsSafeFor S.events S.failed self.old sink.old }
-        ensures kept { KeepsSafe S.events S.failed S.fact self.new sink.old sink.new }
+        ensures kept { KeepsSafe S.events S.failed S.guarantee self.new sink.old sink.new }
         ensures ended { IsEnded self.old → IsEnded self.new }
         ensures late { IsEnded self.old → result ≡ false }
         ensures misplaced { IsMisplaced self.old item → result ≡ false }
@@ -198,7 +198,7 @@ impl JobProgress {
         if self.end.is_some() {
             return false;
         }
-        if !self.note(item) {
+        if !self.accept(item) {
             return false;
         }
         self.deliver(alloc, sink);
@@ -207,17 +207,17 @@ impl JobProgress {
     }
 
     // Accepts an item, whether or not it is next. Returns false if it is unexpected.
-    fn note(&mut self, item: Verdicted) -> bool
+    fn accept(&mut self, item: Verdicted) -> bool
         ensures misplaced { IsMisplaced self.old item → result ≡ false }
         ensures noted { IsNoted (λ all over. IsItem all over item) self.old result self.new }
     {
         match item {
             Verdicted::Checked { visit, verdict } => {
                 let seq = visit.seq;
-                self.take(seq, Some(Delivery { visit, verdict }))
+                self.accept_visit(seq, Some(Delivery { visit, verdict }))
             }
-            Verdicted::Unchecked { seq, .. } => self.take(seq, None),
-            Verdicted::Close { seq, end, .. } => self.note_close(seq, end),
+            Verdicted::Unchecked { seq, .. } => self.accept_visit(seq, None),
+            Verdicted::Close { seq, end, .. } => self.accept_close(seq, end),
             Verdicted::Last => false,
         }
     }

@@ -24,4 +24,4 @@ mod job_progress;
 pub mod law;
 
 pub use collector::Collector;
-pub use gather::{Received, drain, finish, round};
+pub use gather::{Received, drain_all, drain_lane, poll_lanes};

@@ -6,14 +6,14 @@ ghost use Rattle.ix_run.specs.Complete.{is_complete};
 
 use crate::get_words::{job_words, output_of, refused_output, refused_terminal};
 use crate::{
-    Terminals, explained, leave_to_the_system, loaders, run_by_words, tell_notes, telling,
+    Terminals, explained, forget_store, loaders, print_notes, progress_mode, run_by_words,
 };
 use clap::ArgMatches;
 use ix_car::load_car_by;
-use ix_files::{
+use ix_cli_io::{
     Failure, Noted, Output, Progress, STANDARD_INPUT, WriteErrors, Writing, failed_write,
-    load_input, make_output, met_roots_alone, name_complete_output, remove_output, stand_in,
-    tell_report,
+    load_input, make_output, met_roots_alone, name_complete_output, occupy_std_fds, print_report,
+    remove_output,
 };
 use ix_inspect::kind_of;
 use ix_job_words::{
@@ -57,19 +57,19 @@ pub(crate) fn get<
     }
     let job = job_words(words);
     match jobs_of_words(rt.alloc(), &job, !words.get_flag("every-arrival")) {
-        Ok(jobs) => get_told(rt, words, jobs, terminals.errors),
+        Ok(jobs) => get_reported(rt, words, jobs, terminals.errors),
         Err(fault) => refuse(rt, &job, &fault),
     }
 }
 
 // Loads the blocks and exports the one job, with its progress.
-fn get_told<
+fn get_reported<
     'a,
     R: AllocGlobal + Clock + Eprint + Files<File = File> + Input + Print + Threads + Wait + Sync,
 >(rt: &R, words: &ArgMatches<'a>, jobs: Vec<Job>, is_terminal: bool) -> Result<u8, Failure>
     requires { length jobs.items ≡ 1 }
 {
-    let progress = Progress::new(rt, telling(words, is_terminal));
+    let progress = Progress::new(rt, progress_mode(words, is_terminal));
     let status = match load_blocks(rt, words, &progress) {
         Ok(store) => get_below(rt, words, store, jobs, &progress),
         Err(failure) => Err(failure),
@@ -120,12 +120,12 @@ fn get_below<
     requires { length jobs.items ≡ 1 }
 {
     let jobs = Arc::new(rt.alloc(), jobs)?;
-    let status = match (stand_in(rt), output_of(words)) {
+    let status = match (occupy_std_fds(rt), output_of(words)) {
         (Err(failure), _) => Err(failure),
         (Ok(_streams), Some(path)) => get_file(rt, words, path, &store, &jobs, progress),
         (Ok(_streams), None) => get_stream(rt, words, &store, &jobs, progress),
     };
-    leave_to_the_system(store);
+    forget_store(store);
     status
 }
 
@@ -148,7 +148,7 @@ fn get_file<
     let ran = run_by_words(rt, words, store, jobs, writers, progress);
     progress.end();
     match ran {
-        Ok(out) => name_and_tell(rt, words, path, jobs.as_slice(), &out, &errors),
+        Ok(out) => name_and_report(rt, words, path, jobs.as_slice(), &out, &errors),
         Err(fault) => {
             remove_output(rt, path);
             Err(refusal(rt, path, fault, &errors))
@@ -176,7 +176,7 @@ fn file_writers<'a, 'o, R: AllocGlobal + Files<File = File>>(
 }
 
 // Renames the file and then reports, whether it was renamed or not.
-fn name_and_tell<'a, 'o, R: AllocGlobal + Eprint + Files<File = File>>(
+fn name_and_report<'a, 'o, R: AllocGlobal + Eprint + Files<File = File>>(
     rt: &R,
     words: &ArgMatches<'a>,
     path: &str,
@@ -185,15 +185,15 @@ fn name_and_tell<'a, 'o, R: AllocGlobal + Eprint + Files<File = File>>(
     errors: &WriteErrors,
 ) -> Result<u8, Failure> {
     let named = match name_file(rt, path, jobs, out) {
-        Ok(left) => Ok(tell_left(rt, left)),
+        Ok(left) => Ok(print_left(rt, left)),
         Err(failure) => Err(failure),
     };
-    let status = tell(rt, words, path, jobs, out, errors);
+    let status = print_outcome(rt, words, path, jobs, out, errors);
     named.map(|()| status)
 }
 
 // Prints why the file wasn't renamed, if it wasn't.
-fn tell_left<R: Eprint>(rt: &R, left: Option<String>) {
+fn print_left<R: Eprint>(rt: &R, left: Option<String>) {
     if let Some(line) = left {
         let _ = rt.eprint(line.as_str());
     }
@@ -232,7 +232,7 @@ fn get_stream<'a, R: AllocGlobal + Clock + Eprint + Print + Threads + Wait + Syn
     let ran = run_by_words(rt, words, store, jobs, writers, progress);
     progress.end();
     match ran {
-        Ok(out) => Ok(tell(rt, words, "-", jobs.as_slice(), &out, &errors)),
+        Ok(out) => Ok(print_outcome(rt, words, "-", jobs.as_slice(), &out, &errors)),
         Err(fault) => Err(refusal(rt, "-", fault, &errors)),
     }
 }
@@ -251,7 +251,7 @@ fn refusal<R: AllocGlobal>(rt: &R, path: &str, fault: RunFault, errors: &WriteEr
 
 // Prints the report and its notes to standard error, and returns the status. If standard error can't be
 // written, or memory runs out, there is no one to report to.
-fn tell<'a, R: AllocGlobal + Eprint, W>(
+fn print_outcome<'a, R: AllocGlobal + Eprint, W>(
     rt: &R,
     words: &ArgMatches<'a>,
     path: &str,
@@ -263,9 +263,9 @@ fn tell<'a, R: AllocGlobal + Eprint, W>(
         return INCOMPLETE;
     };
     let status = status_of(job, told, out.status);
-    tell_notes(rt, failed_write(rt.alloc(), path, told, errors));
+    print_notes(rt, failed_write(rt.alloc(), path, told, errors));
     if status != 0 || !words.get_flag("quiet") {
-        tell_report(rt, out.report.as_slice());
+        print_report(rt, out.report.as_slice());
     }
     if met_roots_alone(job, told) {
         let _ = rt.eprintln(NOTHING_BELOW);

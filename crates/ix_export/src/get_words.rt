@@ -1,10 +1,12 @@
 //! The arguments of the command `get`.
 
-use crate::commands::{BLOCKS, CommandWords, Given, PROGRESS, VERIFIERS, WALKERS, Word, refusal};
+use crate::commands::{
+    ArgKind, ArgSpec, BLOCKS, CommandSpec, PROGRESS, VERIFIERS, WALKERS, refusal,
+};
 use crate::words::refused_value;
 use clap::ArgMatches;
 use clap::error::ErrorKind;
-use ix_files::STANDARD_INPUT;
+use ix_cli_io::STANDARD_INPUT;
 use ix_job_words::{JobWords, SelectorWord};
 use std::alloc::{AllocError, Global};
 
@@ -41,58 +43,58 @@ error that has the cause.";
 const NAME: &str = "get";
 
 /// The command: the job, how it is exported, and where to.
-pub(crate) static GET: CommandWords = CommandWords {
+pub(crate) static GET: CommandSpec = CommandSpec {
     name: "get",
     about: ABOUT,
     help: HELP,
     words: &[
         BLOCKS,
-        Word {
+        ArgSpec {
             name: "root",
-            given: Given::Needed("CID[,CID..]"),
+            given: ArgKind::Required("CID[,CID..]"),
             help: "1 to 64 comma-separated CIDv1s in base32",
         },
-        Word {
+        ArgSpec {
             name: "selector",
-            given: Given::Without("JSON", "selector-hex"),
+            given: ArgKind::ConflictsWith("JSON", "selector-hex"),
             help: "IPLD selector as JSON [default: everything]",
         },
-        Word {
+        ArgSpec {
             name: "selector-hex",
-            given: Given::Free("HEX"),
+            given: ArgKind::Optional("HEX"),
             help: "IPLD selector as DAG-CBOR in hex",
         },
-        Word {
+        ArgSpec {
             name: "limit",
-            given: Given::Or("N", "1000000"),
+            given: ArgKind::Default("N", "1000000"),
             help: "Link budget, 1 to 1000000",
         },
-        Word {
+        ArgSpec {
             name: "every-arrival",
-            given: Given::Flag,
+            given: ArgKind::Flag,
             help: "Expand a block at every link to it, not once",
         },
-        Word {
+        ArgSpec {
             name: "out",
-            given: Given::Free("FILE"),
+            given: ArgKind::Optional("FILE"),
             help: "Archive to write [default: standard output]",
         },
         WALKERS,
         VERIFIERS,
-        Word {
+        ArgSpec {
             name: "sync",
-            given: Given::FlagWithout("no-sync"),
+            given: ArgKind::FlagWithout("no-sync"),
             help: "Sync FILE to disk before it is renamed [default]",
         },
-        Word {
+        ArgSpec {
             name: "no-sync",
-            given: Given::Flag,
+            given: ArgKind::Flag,
             help: "Rename FILE without waiting for the disk",
         },
         PROGRESS,
-        Word {
+        ArgSpec {
             name: "quiet",
-            given: Given::Flag,
+            given: ArgKind::Flag,
             help: "No progress, and no report if the status is 0",
         },
     ],

@@ -1,10 +1,10 @@
 //! The command `inspect`: describes a CARv1 file, or says what another file is.
 
 use crate::at_most_processors;
-use crate::commands::{CommandWords, Given, Word};
+use crate::commands::{ArgKind, ArgSpec, CommandSpec};
 use clap::ArgMatches;
 use ix_car::{CarFault, CarFile, CarKind, Section, read_sections};
-use ix_files::{Failure, STANDARD_INPUT, read_input};
+use ix_cli_io::{Failure, STANDARD_INPUT, read_input};
 use ix_inspect::{Kind, Summary, codec_name, hash_name, kind_of, summary_of};
 use ix_run::RunFault;
 use std::alloc::{AllocError, Global};
@@ -35,19 +35,19 @@ early, the line says how to keep its whole sections.\n\
 Status: 0, or 2 if the arguments or the file are rejected.";
 
 /// The command.
-pub(crate) static INSPECT: CommandWords = CommandWords {
+pub(crate) static INSPECT: CommandSpec = CommandSpec {
     name: "inspect",
     about: ABOUT,
     help: HELP,
     words: &[
-        Word {
+        ArgSpec {
             name: "file",
-            given: Given::Place("FILE"),
+            given: ArgKind::Positional("FILE"),
             help: "CARv1 file, or - for standard input",
         },
-        Word {
+        ArgSpec {
             name: "list",
-            given: Given::Flag,
+            given: ArgKind::Flag,
             help: "Print a line for each section: PLACE SIZE CID",
         },
     ],
@@ -228,23 +228,23 @@ fn refuse<R: AllocGlobal + Eprint>(
         return Err(Failure::Fault(RunFault::Memory));
     }
     if place == 0 {
-        tell_kind(rt, path, fault, words_of(kind_of(car)));
+        print_kind(rt, path, fault, words_of(kind_of(car)));
     } else if kind == CarKind::Truncated {
-        tell_kept(rt, path, fault, "its whole sections are");
+        print_kept(rt, path, fault, "its whole sections are");
     } else {
-        tell_kept(rt, path, fault, "the sections before are");
+        print_kept(rt, path, fault, "the sections before are");
     }
     Ok(2)
 }
 
 // Prints what a file is. If standard error can't be written, there is no one to report to.
-fn tell_kind<R: Eprint>(rt: &R, path: &str, fault: CarFault, words: &str) {
+fn print_kind<R: Eprint>(rt: &R, path: &str, fault: CarFault, words: &str) {
     let kind = fault.kind;
     let _ = eprintln!(rt; "{path}: {kind} at 0: {words}");
 }
 
 // Prints how to keep the bytes before an error.
-fn tell_kept<R: Eprint>(rt: &R, path: &str, fault: CarFault, words: &str) {
+fn print_kept<R: Eprint>(rt: &R, path: &str, fault: CarFault, words: &str) {
     let CarFault { kind, place } = fault;
     let _ = eprintln!(rt;
         "{path}: {kind} at {place}: {words} its first {place} bytes (head -c {place})"

@@ -2,7 +2,7 @@
 
 use crate::{print_all, print_answer, word};
 use clap::ArgMatches;
-use ix_files::{Failure, STANDARD_INPUT, read_all, read_input};
+use ix_cli_io::{Failure, STANDARD_INPUT, read_all, read_input};
 use ix_job_words::{LineFault, fault_lines, job_faults, job_line, line_fault_words};
 use ix_jobs::JobsFault;
 use ix_run::{RunFault, fault_line};
@@ -72,11 +72,11 @@ pub(crate) fn check_jobs<'a, R: AllocGlobal + Files + Input + Print>(
 ) -> Result<u8, Failure> {
     let file = read_input(rt, word(words, "file"))?;
     let faults = job_faults(rt.alloc(), file.as_slice())?;
-    tell_faults(rt, file.as_slice(), faults.as_slice())
+    print_faults(rt, file.as_slice(), faults.as_slice())
 }
 
 // Prints what is wrong with a job file that has these faults.
-fn tell_faults<R: AllocGlobal + Print>(
+fn print_faults<R: AllocGlobal + Print>(
     rt: &R,
     file: &[u8],
     faults: &[JobsFault],

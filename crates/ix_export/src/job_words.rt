@@ -1,6 +1,6 @@
 //! The arguments of the commands `job` and `check-jobs`.
 
-use crate::commands::{CommandWords, Given, Word};
+use crate::commands::{ArgKind, ArgSpec, CommandSpec};
 
 const JOB_ABOUT: &str = "Print the line of a job for a job file";
 
@@ -23,42 +23,42 @@ is faulty, in which field, what is wrong there and what would be right.\n\
 Status: 0 if the command `jobs` accepts the file, 2 otherwise.";
 
 /// The command `job`.
-pub(crate) static JOB: CommandWords = CommandWords {
+pub(crate) static JOB: CommandSpec = CommandSpec {
     name: "job",
     about: JOB_ABOUT,
     help: JOB_HELP,
     words: &[
-        Word {
+        ArgSpec {
             name: "name",
-            given: Given::Place("NAME"),
+            given: ArgKind::Positional("NAME"),
             help: "1 to 64 characters of [a-z0-9_-]",
         },
-        Word {
+        ArgSpec {
             name: "roots",
-            given: Given::Place("ROOT[,ROOT..]"),
+            given: ArgKind::Positional("ROOT[,ROOT..]"),
             help: "1 to 64 comma-separated CIDv1s in base32",
         },
-        Word {
+        ArgSpec {
             name: "limit",
-            given: Given::Place("LIMIT"),
+            given: ArgKind::Positional("LIMIT"),
             help: "Link budget, 1 to 1000000",
         },
-        Word {
+        ArgSpec {
             name: "json",
-            given: Given::Place("JSON"),
+            given: ArgKind::Positional("JSON"),
             help: "IPLD selector as JSON, or - for standard input",
         },
     ],
 };
 
 /// The command `check-jobs`.
-pub(crate) static CHECK_JOBS: CommandWords = CommandWords {
+pub(crate) static CHECK_JOBS: CommandSpec = CommandSpec {
     name: "check-jobs",
     about: CHECK_JOBS_ABOUT,
     help: CHECK_JOBS_HELP,
-    words: &[Word {
+    words: &[ArgSpec {
         name: "file",
-        given: Given::Place("FILE"),
+        given: ArgKind::Positional("FILE"),
         help: "Job file, or - for standard input",
     }],
 };

@@ -1,6 +1,6 @@
 //! `ix_export`: exports subgraphs of CARv1 files.
 //!
-//! It reads the arguments and the files, calls `ix_run` and `ix_notation`, prints their results and
+//! It reads the arguments and the files, calls `ix_run` and `ix_selector_json`, prints their results and
 //! returns the exit status. One line on standard error reports the first error, checked in this order:
 //! arguments, blocks, job file, their contents, outputs; the status is then 2. Tests, and no contract,
 //! show that it prints these results.
@@ -27,17 +27,17 @@ ghost use Rattle.ix_walk.specs.JobMeaning.{AreFew};
 use crate::job_file::{check_jobs, print_job};
 use clap::ArgMatches;
 use ix_car::CarKind;
-use ix_files::{
-    Causes, Failure, Help, Naming, Output, Progress, STANDARD_INPUT, Telling, WriteErrors, Writing,
-    failed_writes, load_input, make_outputs, name_outputs, read_all, read_input, remove_outputs,
-    stand_in,
+use ix_cli_io::{
+    Causes, Failure, Help, Naming, Output, Progress, ProgressMode, STANDARD_INPUT, WriteErrors,
+    Writing, failed_writes, load_input, make_outputs, name_outputs, occupy_std_fds, read_all,
+    read_input, remove_outputs,
 };
 use ix_inspect::{Kind, kind_of};
-use ix_notation::{hex_fault_line, hex_of_json, json_fault_line, json_of_hex};
 use ix_pipeline::Plan;
 use ix_run::{
-    Choice, RunFault, RunInput, RunOut, load_by, printed_root, root_of_text, run, run_watched,
+    JobChoice, RunFault, RunInput, RunOut, load_by, printed_root, root_of_text, run, run_observed,
 };
+use ix_selector_json::{hex_fault_line, hex_of_json, json_fault_line, json_of_hex};
 use ix_store::Store;
 use ix_walk::Job;
 use std::alloc::AllocError;
@@ -49,7 +49,7 @@ use std::rt::{Clock, Env, Files};
 use std::sync::{Arc, Wait};
 use std::thread::Threads;
 use std::{io, thread};
-use words::{arguments, command_line, judge_inputs, judge_output, part_of};
+use words::{arguments, check_folder, check_inputs, command_line, part_of};
 
 // The capacity of the queue, in visits, and of each verifier's lane, in verdicts: about as many as come
 // while a waiting thread sleeps a few times.
@@ -75,11 +75,11 @@ fn main(rt: HostRuntime) -> ExitCode {
         output: rt.stdout().is_terminal(),
         errors: rt.stderr().is_terminal(),
     };
-    ExitCode::from(obey(&rt, terminals))
+    ExitCode::from(dispatch(&rt, terminals))
 }
 
 // Runs the command that the arguments name, and returns the status.
-fn obey<
+fn dispatch<
     R: AllocGlobal
         + Clock
         + Env
@@ -92,20 +92,20 @@ fn obey<
         + Sync,
 >(rt: &R, terminals: Terminals) -> u8 {
     match arguments(rt) {
-        Ok(words) => obey_words(rt, words.as_slice(), terminals),
+        Ok(words) => dispatch_arguments(rt, words.as_slice(), terminals),
         Err(failure) => failure.report(rt, Causes::Hidden),
     }
 }
 
 // Runs the command that these arguments name.
-fn obey_words<
+fn dispatch_arguments<
     R: AllocGlobal + Clock + Eprint + Files<File = File> + Input + Print + Threads + Wait + Sync,
 >(rt: &R, words: &[String], terminals: Terminals) -> u8 {
     let Ok(commands) = command_line(rt.alloc()) else {
         return Failure::Fault(RunFault::Memory).report(rt, Causes::Hidden);
     };
     match commands.try_get_matches_from(words) {
-        Ok(matches) => obey_command(rt, &matches, terminals),
+        Ok(matches) => dispatch_command(rt, &matches, terminals),
         Err(error) => status_of(rt, print_help(rt, error), Causes::Hidden),
     }
 }
@@ -130,7 +130,7 @@ fn print_help<R: AllocGlobal + Eprint + Print>(rt: &R, error: clap::Error) -> Re
 
 // Runs a command. The errors of `jobs` and `root` have one line, and their cause on a second with
 // `--verbose`.
-fn obey_command<
+fn dispatch_command<
     'a,
     R: AllocGlobal + Clock + Eprint + Files<File = File> + Input + Print + Threads + Wait + Sync,
 >(rt: &R, matches: &ArgMatches<'a>, terminals: Terminals) -> u8 {
@@ -221,38 +221,38 @@ fn export_jobs<
     'a,
     R: AllocGlobal + Clock + Eprint + Files<File = File> + Input + Print + Threads + Wait + Sync,
 >(rt: &R, words: &ArgMatches<'a>, is_terminal: bool) -> Result<u8, Failure> {
-    let progress = Progress::new(rt, telling(words, is_terminal));
-    let status = export_told(rt, words, &progress);
+    let progress = Progress::new(rt, progress_mode(words, is_terminal));
+    let status = export_reported(rt, words, &progress);
     progress.end();
     status
 }
 
 // Returns how progress is shown.
-fn telling<'a>(words: &ArgMatches<'a>, is_terminal: bool) -> Telling {
+fn progress_mode<'a>(words: &ArgMatches<'a>, is_terminal: bool) -> ProgressMode {
     let is_asked = words.get_flag("progress");
     if words.get_flag("quiet") {
-        Telling::Nothing
+        ProgressMode::Off
     } else if is_terminal {
-        Telling::OneLine(if is_asked { 0 } else { SHORT_RUN })
+        ProgressMode::Line(if is_asked { 0 } else { SHORT_RUN })
     } else if is_asked {
-        Telling::Lines
+        ProgressMode::Lines
     } else {
-        Telling::Nothing
+        ProgressMode::Off
     }
 }
 
 // Runs the command `jobs` with this progress.
-fn export_told<
+fn export_reported<
     'a,
     R: AllocGlobal + Clock + Eprint + Files<File = File> + Input + Print + Threads + Wait + Sync,
 >(rt: &R, words: &ArgMatches<'a>, progress: &Progress<R>) -> Result<u8, Failure> {
-    let choice = Choice {
+    let choice = JobChoice {
         part: part_of(rt.alloc(), words)?,
         once: words.get_flag("once"),
     };
     let inputs = [word(words, "blocks"), word(words, "jobs")];
-    judge_inputs(rt.alloc(), inputs)?;
-    judge_output(rt.alloc(), word(words, "out"))?;
+    check_inputs(rt.alloc(), inputs)?;
+    check_folder(rt.alloc(), word(words, "out"))?;
     match load_files(rt, inputs, choice, loaders(rt, words), progress) {
         Ok((store, jobs)) => export_files(rt, words, inputs, store, &jobs, progress),
         Err(failure) => Err(failure),
@@ -279,17 +279,17 @@ fn export_files<
 ) -> Result<u8, Failure>
     requires { AreFew (arc_value jobs.now).items }
 {
-    let status = match stand_in(rt) {
+    let status = match occupy_std_fds(rt) {
         Ok(_streams) => export_loaded(rt, words, inputs, &store, jobs, progress),
         Err(failure) => Err(failure),
     };
-    leave_to_the_system(store);
+    forget_store(store);
     status
 }
 
 // Leaks the blocks, since only the status is left to return. At the end of the process the system takes
 // all memory back, in less time than a million blocks take to be freed.
-fn leave_to_the_system(store: Arc<Store>) {
+fn forget_store(store: Arc<Store>) {
     let _left = ManuallyDrop::new(store);
 }
 
@@ -297,7 +297,7 @@ fn leave_to_the_system(store: Arc<Store>) {
 fn load_files<R: AllocGlobal + Clock + Eprint + Files + Input + Threads + Sync>(
     rt: &R,
     inputs: [&str; 2],
-    choice: Choice,
+    choice: JobChoice,
     loaders: usize,
     progress: &Progress<R>,
 ) -> Result<(Arc<Store>, Arc<Vec<Job>>), Failure>
@@ -371,14 +371,14 @@ fn name_and_report<'a, 'o, R: AllocGlobal + Eprint + Files<File = File> + Print>
     let named = name_outputs(rt, folder, jobs, results, outputs, naming(words));
     print_all(rt, out.report.as_slice())?;
     let notes = named?;
-    tell_notes(rt, Ok(notes));
-    tell_notes(rt, failed_writes(rt.alloc(), folder, jobs, results, errors));
+    print_notes(rt, Ok(notes));
+    print_notes(rt, failed_writes(rt.alloc(), folder, jobs, results, errors));
     Ok(out.status)
 }
 
 // Prints notes to standard error. If it can't be written, or memory runs out, there is no one to report
 // to.
-pub(crate) fn tell_notes<R: Eprint>(rt: &R, notes: Result<String, AllocError>) {
+pub(crate) fn print_notes<R: Eprint>(rt: &R, notes: Result<String, AllocError>) {
     if let Ok(notes) = notes {
         let _ = rt.eprint(notes.as_str());
     }
@@ -411,7 +411,7 @@ fn run_by_words<'a, R: AllocGlobal + Clock + Eprint + Threads + Wait + Sync, W: 
         queue: QUEUE,
         lane: LANE,
     };
-    if !progress.is_told() {
+    if !progress.is_shown() {
         return run(rt, alloc, store, jobs, writers, verifiers, plan);
     }
     progress.begin(jobs.len());
@@ -421,7 +421,7 @@ fn run_by_words<'a, R: AllocGlobal + Clock + Eprint + Threads + Wait + Sync, W: 
         verifiers,
         plan,
     };
-    run_watched(rt, alloc, input, writers, progress)
+    run_observed(rt, alloc, input, writers, progress)
 }
 
 // Returns how many threads index the blocks: as many as walk and hash, but no more than processors.

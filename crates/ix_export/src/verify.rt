@@ -1,12 +1,12 @@
 //! The command `verify`: whether CARv1 files are sound.
 
-use crate::commands::{CommandWords, Given, VERIFIERS, Word};
+use crate::commands::{ArgKind, ArgSpec, CommandSpec, VERIFIERS};
 use crate::threads;
 use clap::ArgMatches;
 use ix_car::{CarFault, CarKind};
-use ix_files::{Causes, Failure, STANDARD_INPUT, read_input};
+use ix_cli_io::{Causes, Failure, STANDARD_INPUT, read_input};
 use ix_run::RunFault;
-use ix_verify::{Findings, Reach, Unsound, verify};
+use ix_verify::{Findings, Scope, Unsound, verify};
 use std::alloc::{AllocError, Global};
 use std::io::{self, BufWriter, ErrorKind, Write};
 use std::num::NonZeroUsize;
@@ -54,24 +54,24 @@ Status: 0 if all is sound, 3 if something isn't, 2 if the arguments or a file\n\
 are rejected.";
 
 /// The command.
-pub(crate) static VERIFY: CommandWords = CommandWords {
+pub(crate) static VERIFY: CommandSpec = CommandSpec {
     name: "verify",
     about: ABOUT,
     help: HELP,
     words: &[
-        Word {
+        ArgSpec {
             name: "file",
-            given: Given::Places("FILE"),
+            given: ArgKind::Many("FILE"),
             help: "CARv1 files, or - for standard input",
         },
-        Word {
+        ArgSpec {
             name: "blocks-only",
-            given: Given::Flag,
+            given: ArgKind::Flag,
             help: "Check the sections alone, without links",
         },
-        Word {
+        ArgSpec {
             name: "all",
-            given: Given::Flag,
+            given: ArgKind::Flag,
             help: "Print every finding, the line of the file last",
         },
         VERIFIERS,
@@ -111,17 +111,17 @@ fn verify_file<'a, R: AllocGlobal + Eprint + Files + Input + Print + Threads + S
     let alloc = rt.alloc();
     let car = read_input(rt, path)?;
     let bytes = car.len();
-    let reach = if words.get_flag("blocks-only") {
-        Reach::Blocks
+    let scope = if words.get_flag("blocks-only") {
+        Scope::Sections
     } else {
-        Reach::Roots
+        Scope::Graph
     };
     let threads = NonZeroUsize::new(threads(words, "verifiers") as usize).unwrap_or(
         NonZeroUsize::MIN,
     );
     let prints_all = words.get_flag("all");
     let most = if prints_all { usize::MAX } else { FIRST };
-    match verify(rt, alloc, car, threads, reach, most) {
+    match verify(rt, alloc, car, threads, scope, most) {
         Ok(found) => print_report(
             rt,
             &Report {

@@ -1,7 +1,8 @@
 //! The arguments of the command line.
 
 use crate::commands::{
-    BLOCKS, CommandWords, Given, PROGRESS, VERBOSE, VERIFIERS, WALKERS, Word, command_of, refusal,
+    ArgKind, ArgSpec, BLOCKS, CommandSpec, PROGRESS, VERBOSE, VERIFIERS, WALKERS, command_of,
+    refusal,
 };
 use crate::get_words::GET;
 use crate::inspect::INSPECT;
@@ -9,7 +10,7 @@ use crate::job_words::{CHECK_JOBS, JOB};
 use crate::verify::VERIFY;
 use clap::error::ErrorKind;
 use clap::{ArgMatches, Command};
-use ix_files::{Failure, STANDARD_INPUT};
+use ix_cli_io::{Failure, STANDARD_INPUT};
 use ix_jobs::Part;
 use std::alloc::{AllocError, Global};
 use std::env::{self, FillError};
@@ -192,14 +193,14 @@ fn push_command<'a>(
 }
 
 // The command `root`.
-static ROOT: CommandWords = CommandWords {
+static ROOT: CommandSpec = CommandSpec {
     name: "root",
     about: ROOT_ABOUT,
     help: ROOT_HELP,
     words: &[
-        Word {
+        ArgSpec {
             name: "cid",
-            given: Given::Needed("TEXT"),
+            given: ArgKind::Required("TEXT"),
             help: "CIDv1 of the root, in base32",
         },
         VERBOSE,
@@ -207,48 +208,48 @@ static ROOT: CommandWords = CommandWords {
 };
 
 // The command `jobs`.
-static JOBS: CommandWords = CommandWords {
+static JOBS: CommandSpec = CommandSpec {
     name: "jobs",
     about: JOBS_ABOUT,
     help: JOBS_HELP,
     words: &[
         BLOCKS,
-        Word {
+        ArgSpec {
             name: "jobs",
-            given: Given::Needed("FILE"),
+            given: ArgKind::Required("FILE"),
             help: "Job file, or - for standard input",
         },
-        Word {
+        ArgSpec {
             name: "out",
-            given: Given::Needed("DIR"),
+            given: ArgKind::Required("DIR"),
             help: "Directory for the archives; it must exist",
         },
-        Word {
+        ArgSpec {
             name: "part",
-            given: Given::Free("K/N"),
+            given: ArgKind::Optional("K/N"),
             help: "Run the K-th of N parts of the jobs, N up to 1000000",
         },
         WALKERS,
         VERIFIERS,
-        Word {
+        ArgSpec {
             name: "once",
-            given: Given::Flag,
+            given: ArgKind::Flag,
             help: "Expand a block once, not at every link to it",
         },
-        Word {
+        ArgSpec {
             name: "sync",
-            given: Given::Flag,
+            given: ArgKind::Flag,
             help: "Sync each archive to disk before its job is done",
         },
-        Word {
+        ArgSpec {
             name: "complete",
-            given: Given::Flag,
+            given: ArgKind::Flag,
             help: "Rename only archives of done jobs, no root skipped",
         },
         PROGRESS,
-        Word {
+        ArgSpec {
             name: "quiet",
-            given: Given::Flag,
+            given: ArgKind::Flag,
             help: "No progress",
         },
         VERBOSE,
@@ -256,26 +257,26 @@ static JOBS: CommandWords = CommandWords {
 };
 
 // The command `selector`.
-static SELECTOR: CommandWords = CommandWords {
+static SELECTOR: CommandSpec = CommandSpec {
     name: "selector",
     about: SELECTOR_ABOUT,
     help: SELECTOR_HELP,
     words: &[
-        Word {
+        ArgSpec {
             name: "json",
-            given: Given::FreePlace("JSON"),
+            given: ArgKind::OptionalPositional("JSON"),
             help: "IPLD selector as JSON",
         },
-        Word {
+        ArgSpec {
             name: "hex",
-            given: Given::Without("TEXT", "json"),
+            given: ArgKind::ConflictsWith("TEXT", "json"),
             help: "IPLD selector in hex, to be printed as JSON",
         },
     ],
 };
 
 /// Rejects standard input for both the blocks and the job file.
-pub fn judge_inputs(alloc: Global, inputs: [&str; 2]) -> Result<(), clap::Error> {
+pub fn check_inputs(alloc: Global, inputs: [&str; 2]) -> Result<(), clap::Error> {
     if inputs[0] == STANDARD_INPUT && inputs[1] == STANDARD_INPUT {
         return Err(refused_inputs(alloc)?);
     }
@@ -294,7 +295,7 @@ fn refused_inputs(alloc: Global) -> Result<clap::Error, AllocError> {
 }
 
 /// Rejects an empty output directory, which would be the root directory.
-pub fn judge_output(alloc: Global, folder: &str) -> Result<(), clap::Error> {
+pub fn check_folder(alloc: Global, folder: &str) -> Result<(), clap::Error> {
     if folder.is_empty() {
         return Err(refused_value(alloc, &JOBS, "ix_export jobs", "--out <DIR>")?);
     }
@@ -304,7 +305,7 @@ pub fn judge_output(alloc: Global, folder: &str) -> Result<(), clap::Error> {
 /// Makes the error for an option whose value is empty.
 pub(crate) fn refused_value(
     alloc: Global,
-    table: &'static CommandWords,
+    table: &'static CommandSpec,
     name: &str,
     option: &str,
 ) -> Result<clap::Error, AllocError> {

@@ -43,7 +43,7 @@ impl Meeting {
         } else {
             (&self.second, &self.first)
         };
-        mine.tell();
+        mine.signal();
         other.wait(TURNS);
     }
 

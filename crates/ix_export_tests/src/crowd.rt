@@ -46,10 +46,10 @@ impl Write for Slow {
 // A job file with so many jobs, each over all of the chain.
 fn job_file(alloc: Global) -> Result<String, Fail> {
     let (_, like_the_first) = CHAIN_JOBS.split_once('\n').unwrap_or(("", CHAIN_JOBS));
-    let (_, behind_its_name) = like_the_first.split_once(' ').unwrap_or(("", ""));
+    let (_, after_its_name) = like_the_first.split_once(' ').unwrap_or(("", ""));
     let mut text = String::new(alloc);
     for number in 0..JOBS {
-        text.push_str(format!(in alloc; "{number} {behind_its_name}")?.as_str())?;
+        text.push_str(format!(in alloc; "{number} {after_its_name}")?.as_str())?;
     }
     Ok(text)
 }

@@ -2,7 +2,7 @@
 
 use ix_car::{CarFault, CarKind};
 use ix_cid::CidFault;
-use ix_jobs::{JobsFault, JobsKind};
+use ix_jobs::{JobErrorKind, JobsFault};
 use ix_run::{RunFault, fault_line};
 use std::test::Fail;
 
@@ -10,7 +10,7 @@ fn car(kind: CarKind, place: usize) -> RunFault {
     RunFault::Car(CarFault { kind, place })
 }
 
-fn jobs(kind: JobsKind, line: u64) -> RunFault {
+fn jobs(kind: JobErrorKind, line: u64) -> RunFault {
     RunFault::Jobs(JobsFault { kind, line })
 }
 
@@ -24,10 +24,13 @@ fn fault_lines(rt: HostRuntime) -> Result<(), Fail> {
         (RunFault::Root(CidFault::Multibase), "root: multibase"),
         (RunFault::Root(CidFault::Version(18)), "root: version 18"),
         (RunFault::Root(CidFault::Memory), "root: memory"),
-        (jobs(JobsKind::Repeated, 2), "jobs: repeated at line 2"),
-        (jobs(JobsKind::Fields, 1), "jobs: fields at line 1"),
-        (jobs(JobsKind::TooMany, 1001), "jobs: too many at line 1001"),
-        (jobs(JobsKind::Memory, 1), "jobs: memory at line 1"),
+        (jobs(JobErrorKind::Repeated, 2), "jobs: repeated at line 2"),
+        (jobs(JobErrorKind::Fields, 1), "jobs: fields at line 1"),
+        (
+            jobs(JobErrorKind::TooMany, 1001),
+            "jobs: too many at line 1001",
+        ),
+        (jobs(JobErrorKind::Memory, 1), "jobs: memory at line 1"),
         (RunFault::Write(0), "cannot write job 0"),
         (RunFault::Hex, "input: hex"),
         (RunFault::Memory, "memory"),

@@ -87,7 +87,7 @@ fn report_of(alloc: Global, jobs: &[Job], results: &[JobResult]) -> Result<Vec<u
 }
 
 // Whether a run has this report, in which a job ends otherwise than done.
-fn tells<W>(ran: &Ran<W>, report: &str) -> bool {
+fn reports<W>(ran: &Ran<W>, report: &str) -> bool {
     ran.report.as_slice() == report.as_bytes() && ran.status == 4
 }
 
@@ -102,7 +102,7 @@ fn are_cut_and_whole(alloc: Global, writers: &[Vec<u8>]) -> Result<bool, Fail> {
 }
 
 #[test]
-fn want_of_memory(rt: HostRuntime) -> Result<(), Fail> {
+fn out_of_memory(rt: HostRuntime) -> Result<(), Fail> {
     let alloc = rt.alloc();
     let (store, jobs) = two_jobs(alloc)?;
     let mut check = CheckAfter::new(alloc, Refusing);
@@ -111,7 +111,7 @@ fn want_of_memory(rt: HostRuntime) -> Result<(), Fail> {
     let report = "a memory visits=2 kept=2 sections=2 bytes=217\n\
         b done visits=4 kept=4 sections=4 bytes=336\n\
         total jobs=2 done=1 skips=0\n";
-    assert!(rt; tells(&ran, report));
+    assert!(rt; reports(&ran, report));
     assert!(rt; are_cut_and_whole(alloc, ran.writers.as_slice())?);
     Ok(())
 }
@@ -141,7 +141,7 @@ fn failing_flush(rt: HostRuntime) -> Result<(), Fail> {
     let report = "a done visits=4 kept=4 sections=4 bytes=336\n\
         b write visits=4 kept=4 sections=4 bytes=336\n\
         total jobs=2 done=1 skips=0\n";
-    assert!(rt; tells(&ran, report));
+    assert!(rt; reports(&ran, report));
     assert!(rt; are_whole(alloc, ran.writers.as_slice())?);
     Ok(())
 }

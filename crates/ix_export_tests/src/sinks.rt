@@ -70,7 +70,7 @@ fn has_list(log: &Log, end: End, count: usize) -> bool {
 
 // Whether the sinks of three equal jobs received this and ended so, where the second fails to write at its third
 // delivery.
-fn are_told(logs: &[Log], ends: &[End]) -> bool {
+fn are_logged(logs: &[Log], ends: &[End]) -> bool {
     let [first, second, third] = logs else {
         return false;
     };
@@ -105,7 +105,7 @@ fn export_three<R: Threads + Wait + Sync>(
     ];
     let plan = plan_of(walkers, 1, 1);
     let out = started(export(rt, alloc, store, jobs, &mut logs, checks, &Open, plan))?;
-    Ok(are_told(&logs, out.ends.as_slice()))
+    Ok(are_logged(&logs, out.ends.as_slice()))
 }
 
 #[test]

@@ -33,12 +33,12 @@ const LAYER_COUNTS: Counts = Counts {
 
 // Records what it receives, and signals that its first delivery began.
 #[derive(Drop)]
-struct Telling<'a> {
+struct ProgressMode<'a> {
     log: Log,
     begun: &'a Awaited,
 }
 
-impl Sink for Telling<'_> {
+impl Sink for ProgressMode<'_> {
     ghost use Rattle.std.specs.Prelude.{◌++◌, map, option_to_list};
     ghost use Rattle.ix_archive.specs.Events.{delivery, close as closing};
 
@@ -46,10 +46,10 @@ impl Sink for Telling<'_> {
 
     ghost failed = { λ s. option_to_list s.log.failed };
 
-    ghost fact = { λ _ _ _ _. Unit {0} };
+    ghost guarantee = { λ _ _ _ _. Unit {0} };
 
     fn deliver(&mut self, alloc: Global, visit: Visit, verdict: Verdict) -> Result<(), SinkFault> {
-        self.begun.tell();
+        self.begun.signal();
         self.log.deliver(alloc, visit, verdict)
     }
 
@@ -75,13 +75,13 @@ impl Before for LastHeld<'_> {
 
 // Signals that a check began.
 #[derive(Drop)]
-struct CheckTelling<'a> {
+struct CheckSignals<'a> {
     begun: &'a Awaited,
 }
 
-impl Before for CheckTelling<'_> {
+impl Before for CheckSignals<'_> {
     fn before(&self, _visit: &Visit) -> Result<(), AllocError> {
-        self.begun.tell();
+        self.begun.signal();
         Ok(())
     }
 }
@@ -98,7 +98,7 @@ impl Before for Paced<'_> {
         if self.is_slow {
             self.begun.wait(10 * TURNS);
         } else {
-            self.begun.tell();
+            self.begun.signal();
         }
         Ok(())
     }
@@ -140,7 +140,7 @@ impl Gate for OneHeld<'_> {
         if job == self.job {
             self.begun.wait(TURNS);
         } else {
-            self.begun.tell();
+            self.begun.signal();
         }
     }
 }
@@ -151,7 +151,7 @@ fn delivery_begins_before_checking_has_ended(rt: HostRuntime) -> Result<(), Fail
     let ExportInput { store, jobs } = chain(alloc, 1)?;
     let begun = Awaited::new(1);
     let log = Log::new(alloc, 9)?;
-    let mut sinks = [Telling { log, begun: &begun }];
+    let mut sinks = [ProgressMode { log, begun: &begun }];
     let held = LastHeld { begun: &begun };
     let checks = vec![in alloc; CheckAfter::new(alloc, held)]?;
     let plan = plan_of(1, 256, 64);
@@ -171,7 +171,7 @@ fn checking_before_the_walk_ends(rt: HostRuntime) -> Result<(), Fail> {
     let ExportInput { store, jobs } = chain(alloc, 1)?;
     let begun = Awaited::new(1);
     let mut sinks = [Log::new(alloc, 9)?];
-    let telling = CheckTelling { begun: &begun };
+    let telling = CheckSignals { begun: &begun };
     let checks = vec![in alloc; CheckAfter::new(alloc, telling)]?;
     let gate = SecondHeld { begun: &begun };
     let plan = plan_of(1, 256, 64);

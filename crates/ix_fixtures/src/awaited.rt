@@ -27,7 +27,7 @@ impl Awaited {
     }
 
     /// Signals it once more.
-    pub fn tell(&self) {
+    pub fn signal(&self) {
         self.count.fetch_add(1, Ordering::SeqCst);
     }
 

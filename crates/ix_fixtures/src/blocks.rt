@@ -134,7 +134,7 @@ pub fn store_of(alloc: Global, sections: &[Section]) -> Result<Store, Fail> {
     for (_, cid, block) in sections {
         store.add(cid_of(alloc, cid)?, hex::decode(alloc, *block)?)?;
     }
-    store.settle()?;
+    store.enable_memo()?;
     Ok(store)
 }
 

@@ -45,7 +45,7 @@ impl Sink for Log {
 
     ghost failed = { λ s. option_to_list s.failed };
 
-    ghost fact = { λ _ _ _ _. Unit {0} };
+    ghost guarantee = { λ _ _ _ _. Unit {0} };
 
     fn deliver(&mut self, _alloc: Global, visit: Visit, verdict: Verdict) -> Result<(), SinkFault> {
         let delivery = Delivery { visit, verdict };

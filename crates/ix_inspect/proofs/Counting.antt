@@ -8,7 +8,7 @@ use Rattle.std.proofs.lemmas.Slice.Eq.{bytes_eq-Decides}
 use Rattle.std.proofs.Math.Bool.{or-false}
 use Rattle.ix_cid.proofs.Lists.{drop_read}
 use Rattle.ix_store.specs.Store.{Blocks, has_cid, with_block}
-use Rattle.ix_inspect.specs.Counted.{has_stood, repeats_behind, repeats, share_of, in_share}
+use Rattle.ix_inspect.specs.Counted.{has_stood, repeats_after, repeats, share_of, in_share}
 
 -- a store with one more block has its CID and those before
 has_cid-push : (store : Blocks) (p : List ℕ × List ℕ) (c : List ℕ) → has_cid (store ++ p ∷ []) c ≡ (has_cid store c || bytes_eq p.0 c)
@@ -45,7 +45,7 @@ share-with n t xs x there is = filter-append (λ c. share_of n c == t) xs (x ∷
 -- the CIDs of the share so far are in the store, and how many of them had was before is counted
 pub record IsSoFar (n t : ℕ) (cids : List (List ℕ)) (i : ℕ) (store : Blocks) (count : ℕ) : Type 0 where
   pub seen : (c : List ℕ) → has_cid store c ≡ has_stood (in_share n t (take i cids)) c
-  pub counted : count + repeats_behind (in_share n t (take i cids)) (in_share n t (drop i cids)) ≡ repeats (in_share n t cids)
+  pub counted : count + repeats_after (in_share n t (take i cids)) (in_share n t (drop i cids)) ≡ repeats (in_share n t cids)
   pub few : count ≤ i
 
 -- a CID of another share
@@ -56,8 +56,8 @@ so-far-other n t cids i x store count lt is other h =
     ap (in_share n t) (front-more cids i x lt is) ∙ share-with n t (take i cids) x false other ∙ append-nil (in_share n t (take i cids)) in
     let left : in_share n t (drop i cids) ≡ in_share n t (drop (i + 1) cids) =
     ap (in_share n t) (drop_read cids i x lt is) ∙ ap (λ (b : Bool). if b then x ∷ in_share n t (drop (i + 1) cids) else in_share n t (drop (i + 1) cids)) other in
-    let rest : repeats_behind (in_share n t (take (i + 1) cids)) (in_share n t (drop (i + 1) cids)) ≡ repeats_behind (in_share n t (take i cids)) (in_share n t (drop i cids)) =
-    ap (λ (l : List (List ℕ)). repeats_behind l (in_share n t (drop (i + 1) cids))) front ∙ ap (repeats_behind (in_share n t (take i cids))) (sym left) in
+    let rest : repeats_after (in_share n t (take (i + 1) cids)) (in_share n t (drop (i + 1) cids)) ≡ repeats_after (in_share n t (take i cids)) (in_share n t (drop i cids)) =
+    ap (λ (l : List (List ℕ)). repeats_after l (in_share n t (drop (i + 1) cids))) front ∙ ap (repeats_after (in_share n t (take i cids))) (sym left) in
     record {
       seen = λ c. h.seen c ∙ ap (λ (l : List (List ℕ)). has_stood l c) (sym front);
       counted = omega (arith, h.counted, rest);
@@ -73,8 +73,8 @@ so-far-more n t cids i x store new count one lt is here told added h =
     let front : in_share n t (take (i + 1) cids) ≡ before ++ x ∷ [] = ap (in_share n t) (front-more cids i x lt is) ∙ share-with n t (take i cids) x true here in
     let left : in_share n t (drop i cids) ≡ x ∷ later = ap (in_share n t) (drop_read cids i x lt is) ∙ ap (λ (b : Bool). if b then x ∷ later else later) here in
     let stood : one ≡ (if has_stood before x then 1 else 0) = told ∙ ap (λ (b : Bool). if b then 1 else 0) (h.seen x) in
-    let rest : repeats_behind (in_share n t (take (i + 1) cids)) later ≡ repeats_behind (before ++ x ∷ []) later = ap (λ (l : List (List ℕ)). repeats_behind l later) front in
-    let whole : repeats_behind before (in_share n t (drop i cids)) ≡ (if has_stood before x then 1 else 0) + repeats_behind (before ++ x ∷ []) later = ap (repeats_behind before) left in
+    let rest : repeats_after (in_share n t (take (i + 1) cids)) later ≡ repeats_after (before ++ x ∷ []) later = ap (λ (l : List (List ℕ)). repeats_after l later) front in
+    let whole : repeats_after before (in_share n t (drop i cids)) ≡ (if has_stood before x then 1 else 0) + repeats_after (before ++ x ∷ []) later = ap (repeats_after before) left in
     record {
       seen = λ c. ap (λ (s : Blocks). has_cid s c) added ∙ has_cid-with store (x, []) c ∙ ap (λ (b : Bool). b || bytes_eq x c) (h.seen c)
           ∙ ap (λ (b : Bool). has_stood before c || b) (sym (or-false (bytes_eq x c))) ∙ sym (list_any-append (λ (d : List ℕ). bytes_eq d c) before (x ∷ []))

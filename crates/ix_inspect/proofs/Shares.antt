@@ -7,7 +7,7 @@ use Rattle.std.proofs.lemmas.List.{append-nil}
 use Rattle.std.proofs.lemmas.List.Elements.{filter-append}
 use Rattle.std.proofs.lemmas.Slice.Eq.{bytes_eq-Decides}
 use Rattle.std.specs.declared.alloc.AllocError.{AllocError}
-use Rattle.ix_inspect.specs.Counted.{has_stood, repeats_behind, repeats, share_by, share_of, in_share, AreCounted}
+use Rattle.ix_inspect.specs.Counted.{has_stood, repeats_after, repeats, share_by, share_of, in_share, AreCounted}
 
 -- ---- sums
 
@@ -102,28 +102,28 @@ abbrev one_of : List (List ℕ) → List ℕ → ℕ
 one_of before x = if has_stood before x then 1 else 0
 
 counted-more : (n t : ℕ) (before cids : List (List ℕ)) (x : List ℕ)
-    → repeats_behind (in_share n t before) (in_share n t (x ∷ cids)) ≡ only (share_of n x) (one_of before x) t + repeats_behind (in_share n t (before ++ x ∷ [])) (in_share n t cids)
+    → repeats_after (in_share n t before) (in_share n t (x ∷ cids)) ≡ only (share_of n x) (one_of before x) t + repeats_after (in_share n t (before ++ x ∷ [])) (in_share n t cids)
 counted-more n t before cids x = on_share (share_of n x == t) refl where
   behind : (there : Bool) → (share_of n x == t) ≡ there → in_share n t (before ++ x ∷ []) ≡ in_share n t before ++ (if there then x ∷ [] else [])
   behind there is = filter-append (λ c. share_of n c == t) before (x ∷ []) ∙ ap (λ (b : Bool). in_share n t before ++ (if b then x ∷ [] else [])) is
 
   on_share : (there : Bool) → (share_of n x == t) ≡ there
-      → repeats_behind (in_share n t before) (if there then x ∷ in_share n t cids else in_share n t cids) ≡ (if there then one_of before x else 0) + repeats_behind (in_share n t (before ++ x ∷ [])) (in_share n t cids)
+      → repeats_after (in_share n t before) (if there then x ∷ in_share n t cids else in_share n t cids) ≡ (if there then one_of before x else 0) + repeats_after (in_share n t (before ++ x ∷ [])) (in_share n t cids)
   on_share true is =
       let one : one_of (in_share n t before) x ≡ one_of before x = ap (λ (k : ℕ). one_of (in_share n k before) x) (sym (eqb-true (share_of n x) t is)) ∙ ap (λ (b : Bool). if b then 1 else 0) (stood-in n x before) in
-      let rest : repeats_behind (in_share n t (before ++ x ∷ [])) (in_share n t cids) ≡ repeats_behind (in_share n t before ++ x ∷ []) (in_share n t cids) = ap (λ (l : List (List ℕ)). repeats_behind l (in_share n t cids)) (behind true is) in
+      let rest : repeats_after (in_share n t (before ++ x ∷ [])) (in_share n t cids) ≡ repeats_after (in_share n t before ++ x ∷ []) (in_share n t cids) = ap (λ (l : List (List ℕ)). repeats_after l (in_share n t cids)) (behind true is) in
       omega (arith, one, rest)
   on_share false is =
-      let rest : repeats_behind (in_share n t before) (in_share n t cids) ≡ repeats_behind (in_share n t (before ++ x ∷ [])) (in_share n t cids) = ap (λ (l : List (List ℕ)). repeats_behind l (in_share n t cids)) (sym (append-nil (in_share n t before)) ∙ sym (behind false is)) in
+      let rest : repeats_after (in_share n t before) (in_share n t cids) ≡ repeats_after (in_share n t (before ++ x ∷ [])) (in_share n t cids) = ap (λ (l : List (List ℕ)). repeats_after l (in_share n t cids)) (sym (append-nil (in_share n t before)) ∙ sym (behind false is)) in
       omega (arith, rest)
 
 -- the repeats of all are those of each share together
-repeats-shared : (n : ℕ) → 0 < n → (before cids : List (List ℕ)) → sum_below (λ t. repeats_behind (in_share n t before) (in_share n t cids)) n ≡ repeats_behind before cids
+repeats-shared : (n : ℕ) → 0 < n → (before cids : List (List ℕ)) → sum_below (λ t. repeats_after (in_share n t before) (in_share n t cids)) n ≡ repeats_after before cids
 repeats-shared n some before [] = sum-none n
 repeats-shared n some before (x ∷ cids) =
     let one = one_of before x in
-    let rest = λ (t : ℕ). repeats_behind (in_share n t (before ++ x ∷ [])) (in_share n t cids) in
-    let each = sum-same (λ t. repeats_behind (in_share n t before) (in_share n t (x ∷ cids))) (λ t. only (share_of n x) one t + rest t) n (λ t. counted-more n t before cids x) in
+    let rest = λ (t : ℕ). repeats_after (in_share n t (before ++ x ∷ [])) (in_share n t cids) in
+    let each = sum-same (λ t. repeats_after (in_share n t before) (in_share n t (x ∷ cids))) (λ t. only (share_of n x) one t + rest t) n (λ t. counted-more n t before cids x) in
     let both = sum-both (only (share_of n x) one) rest n in
     let here = sum-only (share_of n x) one n (share-below n x some) in
     let more = repeats-shared n some (before ++ x ∷ []) cids in
@@ -134,10 +134,10 @@ pub repeats-of_shares : (n : ℕ) → 0 < n → (cids : List (List ℕ)) → sum
 repeats-of_shares n some cids = repeats-shared n some [] cids
 
 -- there are no more repeats than CIDs
-repeats-few : (before cids : List (List ℕ)) → repeats_behind before cids ≤ length cids
+repeats-few : (before cids : List (List ℕ)) → repeats_after before cids ≤ length cids
 repeats-few before [] = omega arith
 repeats-few before (x ∷ cids) = on_stood (has_stood before x) (repeats-few (before ++ x ∷ []) cids) where
-  on_stood : (stood : Bool) → repeats_behind (before ++ x ∷ []) cids ≤ length cids → (if stood then 1 else 0) + repeats_behind (before ++ x ∷ []) cids ≤ suc (length cids)
+  on_stood : (stood : Bool) → repeats_after (before ++ x ∷ []) cids ≤ length cids → (if stood then 1 else 0) + repeats_after (before ++ x ∷ []) cids ≤ suc (length cids)
   on_stood true more = omega (arith, more)
   on_stood false more = omega (arith, more)
 

@@ -38,12 +38,12 @@ abbrev pub has_stood : List (List ℕ) → List ℕ → Bool
 has_stood before c = list_any (λ d. bytes_eq d c) before
 
 -- how many of CIDs have was before, among them or in front of them
-abbrev pub repeats_behind : List (List ℕ) → List (List ℕ) → ℕ
-repeats_behind before [] = 0
-repeats_behind before (c ∷ cs) = (if has_stood before c then 1 else 0) + repeats_behind (before ++ c ∷ []) cs
+abbrev pub repeats_after : List (List ℕ) → List (List ℕ) → ℕ
+repeats_after before [] = 0
+repeats_after before (c ∷ cs) = (if has_stood before c then 1 else 0) + repeats_after (before ++ c ∷ []) cs
 
 abbrev pub repeats : List (List ℕ) → ℕ
-repeats cids = repeats_behind [] cids
+repeats cids = repeats_after [] cids
 
 -- into which of so many shares a CID with this last byte falls
 abbrev pub share_by : ℕ → Option ℕ → ℕ

@@ -11,9 +11,9 @@ use Rattle.std.proofs.lemmas.List.Splits.{slice_split_at, slice_split_none}
 use Rattle.std.proofs.lemmas.Bool.{and_parts, and_from, not-true}
 use mathlib.Core.Logic.{inr}
 use Rattle.ix_walk.specs.JobMeaning.{JobMeaning, is_name, is_name_byte}
-use Rattle.ix_notation.specs.declared.fault.NotationFault.{NotationFault}
-use Rattle.ix_jobs.specs.declared.fault.JobsKind.{JobsKind}
-use Rattle.ix_jobs.specs.declared.fault.JobsKind.TheVariants.{Text, Memory}
+use Rattle.ix_selector_json.specs.declared.fault.NotationFault.{NotationFault}
+use Rattle.ix_jobs.specs.declared.fault.JobErrorKind.{JobErrorKind}
+use Rattle.ix_jobs.specs.declared.fault.JobErrorKind.TheVariants.{Text, Memory}
 use Rattle.ix_jobs.specs.Gives.{FailsAs}
 use Rattle.ix_jobs.specs.Jobs.{◌>>=◌, is_ignored, is_text, line_job, fields_in, four_fields, job_of_fields, joined, with_line, at_line, jobs_from, jobs_of}
 use Rattle.ix_job_words.specs.declared.line.LineFault.TheVariants.{Field}
@@ -79,12 +79,12 @@ name_word (b ∷ bs) h =
 
 -- a word, a space and what follows
 module _ (P : ℕ → Type 0) (visible : (b : ℕ) → is_visible b ≡ true → P b) (space : P 32) where
-  all_behind : (w rest : List ℕ) → IsWord w → All P rest → All P (w ++ 32 ∷ rest)
-  all_behind w rest is more = All-append P w (32 ∷ rest) (All-visible P visible w is.visible) (All-cons P 32 rest space more)
+  all_after : (w rest : List ℕ) → IsWord w → All P rest → All P (w ++ 32 ∷ rest)
+  all_after w rest is more = All-append P w (32 ∷ rest) (All-visible P visible w is.visible) (All-cons P 32 rest space more)
 
 -- a word, a space and text are text
-text_behind : (w rest : List ℕ) → IsWord w → is_text rest ≡ true → is_text (w ++ 32 ∷ rest) ≡ true
-text_behind w rest is more = list_all-append (λ b. nat_le 32 b && nat_le b 126) w (32 ∷ rest) ∙ and_from (is_text w) (is_text rest) (text_of w is.visible) more
+text_after : (w rest : List ℕ) → IsWord w → is_text rest ≡ true → is_text (w ++ 32 ∷ rest) ≡ true
+text_after w rest is more = list_all-append (λ b. nat_le 32 b && nat_le b 126) w (32 ∷ rest) ∙ and_from (is_text w) (is_text rest) (text_of w is.visible) more
 
 -- a line that begins with a name is not ignored, as no name is empty or begins with #
 not_ignored : (name rest : List ℕ) → is_name name ≡ true → is_ignored (name ++ rest) ≡ false
@@ -94,7 +94,7 @@ not_ignored (b ∷ bs) rest h =
     (of_name b (and_parts (is_name_byte b) (list_all is_name_byte bs) parts.1).0).1
 
 -- a job alone
-jobs_from-one : (r : Result JobMeaning JobsKind) → (at_line 1 (r >>= joined 1000 []) >>= (λ jobs. jobs_from 1000 (1 + 1) jobs ([] ∷ []))) ≡ (at_line 1 r >>= (λ j. Ok (j ∷ [])))
+jobs_from-one : (r : Result JobMeaning JobErrorKind) → (at_line 1 (r >>= joined 1000 []) >>= (λ jobs. jobs_from 1000 (1 + 1) jobs ([] ∷ []))) ≡ (at_line 1 r >>= (λ j. Ok (j ∷ [])))
 jobs_from-one (Ok j) = refl
 jobs_from-one (Err kind) = refl
 
@@ -107,10 +107,10 @@ module _ (name roots limit selector : List ℕ) where
 
   module _ (named : is_name name ≡ true) (is_roots : IsWord roots) (is_limit : IsWord limit) (is_selector : IsWord selector) where
     all_of_body : (P : ℕ → Type 0) → ((b : ℕ) → is_visible b ≡ true → P b) → P 32 → All P body
-    all_of_body P visible space = all_behind P visible space name _ (name_word name named) (all_behind P visible space roots _ is_roots (all_behind P visible space limit _ is_limit (All-visible P visible selector is_selector.visible)))
+    all_of_body P visible space = all_after P visible space name _ (name_word name named) (all_after P visible space roots _ is_roots (all_after P visible space limit _ is_limit (All-visible P visible selector is_selector.visible)))
 
     text_of_body : is_text body ≡ true
-    text_of_body = text_behind name _ (name_word name named) (text_behind roots _ is_roots (text_behind limit _ is_limit (text_of selector is_selector.visible)))
+    text_of_body = text_after name _ (name_word name named) (text_after roots _ is_roots (text_after limit _ is_limit (text_of selector is_selector.visible)))
 
     pieces : slice_split (λ b. b == 32) body ≡ name ∷ roots ∷ limit ∷ selector ∷ []
     pieces =
@@ -128,7 +128,7 @@ module _ (name roots limit selector : List ℕ) where
     job : line_job body ≡ job_of_fields name roots limit selector
     job =
         ap (λ (t : Bool). (if t then Ok body else Err Text) >>= (λ text. fields_in text >>= (λ f. job_of_fields f.0 f.1 f.2 f.3))) text_of_body
-        ∙ ap (λ (r : Result (List ℕ × List ℕ × List ℕ × List ℕ) JobsKind). r >>= (λ f. job_of_fields f.0 f.1 f.2 f.3)) fields
+        ∙ ap (λ (r : Result (List ℕ × List ℕ × List ℕ × List ℕ) JobErrorKind). r >>= (λ f. job_of_fields f.0 f.1 f.2 f.3)) fields
 
     some_byte : 0 < length body
     some_byte = omega (arith, length-append name (32 ∷ (roots ++ (32 ∷ (limit ++ (32 ∷ selector))))))
@@ -146,29 +146,29 @@ module _ (name roots limit selector : List ℕ) where
     joins =
         ap (with_line 1000 []) kept
         ∙ ap (λ (t : Bool). if t then Ok [] else line_job body >>= joined 1000 []) (not_ignored name (32 ∷ (roots ++ (32 ∷ (limit ++ (32 ∷ selector))))) named)
-        ∙ ap (λ (r : Result JobMeaning JobsKind). r >>= joined 1000 []) job
+        ∙ ap (λ (r : Result JobMeaning JobErrorKind). r >>= joined 1000 []) job
 
     -- a file of the line has the job of the four words, or is rejected as they are
     pub read_alone : jobs_of (line_of name roots limit selector) ≡ (at_line 1 (job_of_fields name roots limit selector) >>= (λ j. Ok (j ∷ [])))
     read_alone =
-        let with_first : Result (List JobMeaning) JobsKind → Result (List JobMeaning) (JobsKind × ℕ) = λ r. at_line 1 r >>= (λ jobs. jobs_from 1000 (1 + 1) jobs ([] ∷ [])) in
+        let with_first : Result (List JobMeaning) JobErrorKind → Result (List JobMeaning) (JobErrorKind × ℕ) = λ r. at_line 1 r >>= (λ jobs. jobs_from 1000 (1 + 1) jobs ([] ∷ [])) in
         ap (jobs_from 1000 1 []) lines ∙ ap with_first joins ∙ jobs_from-one (job_of_fields name roots limit selector)
 
 -- what was read
-pub was_read : (r : Result JobMeaning JobsKind) (jobs : List JobMeaning) → (at_line 1 r >>= (λ j. Ok (j ∷ []))) ≡ Ok jobs → (job : JobMeaning) × (r ≡ Ok job) × (jobs ≡ job ∷ [])
+pub was_read : (r : Result JobMeaning JobErrorKind) (jobs : List JobMeaning) → (at_line 1 r >>= (λ j. Ok (j ∷ []))) ≡ Ok jobs → (job : JobMeaning) × (r ≡ Ok job) × (jobs ≡ job ∷ [])
 was_read (Ok job) jobs h = (job, refl, cc)
 was_read (Err kind) jobs h = absurd cc
 
-abbrev kind_in : JobsKind → Result (List JobMeaning) (JobsKind × ℕ) → JobsKind
+abbrev kind_in : JobErrorKind → Result (List JobMeaning) (JobErrorKind × ℕ) → JobErrorKind
 kind_in other (Ok jobs) = other
 kind_in other (Err fault) = fault.0
 
-was_refused : (r : Result JobMeaning JobsKind) (kind : JobsKind) (line : ℕ) → (at_line 1 r >>= (λ j. Ok (j ∷ []))) ≡ Err (kind, line) → r ≡ Err kind
+was_refused : (r : Result JobMeaning JobErrorKind) (kind : JobErrorKind) (line : ℕ) → (at_line 1 r >>= (λ j. Ok (j ∷ []))) ≡ Err (kind, line) → r ≡ Err kind
 was_refused (Ok j) kind line h = absurd cc
-was_refused (Err other) kind line h = ap (λ (k : JobsKind). Err k) (ap (kind_in other) h)
+was_refused (Err other) kind line h = ap (λ (k : JobErrorKind). Err k) (ap (kind_in other) h)
 
 -- the fault of the line is that of the words
-pub IsRefusedBy-line : (IsSpelled : List ℕ → Type 0) (IsUnspelled : NotationFault → Type 0) (name roots limit hex line : List ℕ) (kind : JobsKind) (n : ℕ) → IsSpelled (hex ++ 10 ∷ []) → jobs_of line ≡ (at_line 1 (job_of_fields name roots limit hex) >>= (λ j. Ok (j ∷ []))) → FailsAs kind (kind, n) (jobs_of line)
+pub IsRefusedBy-line : (IsSpelled : List ℕ → Type 0) (IsUnspelled : NotationFault → Type 0) (name roots limit hex line : List ℕ) (kind : JobErrorKind) (n : ℕ) → IsSpelled (hex ++ 10 ∷ []) → jobs_of line ≡ (at_line 1 (job_of_fields name roots limit hex) >>= (λ j. Ok (j ∷ []))) → FailsAs kind (kind, n) (jobs_of line)
     → IsRefusedBy IsSpelled IsUnspelled name roots limit (Field kind)
 IsRefusedBy-line IsSpelled IsUnspelled name roots limit hex line Memory n made alone h = tt
 IsRefusedBy-line IsSpelled IsUnspelled name roots limit hex line kind n made alone h = inr (record { selector = hex; spelled = made; refused = was_refused (job_of_fields name roots limit hex) kind n (sym alone ∙ h) })

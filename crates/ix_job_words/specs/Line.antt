@@ -2,10 +2,10 @@
 use Rattle.std.specs.Prelude.{◌≡◌, ◌⊎◌, ℕ, Bool, false, not, ◌&&◌, ◌==◌, List, [], ◌∷◌, ◌++◌, length, nat_lt, nat_le, Ok, Err}
 use Rattle.std.specs.List.{list_all}
 use Rattle.ix_walk.specs.JobMeaning.{JobMeaning, is_name}
-use Rattle.ix_notation.specs.declared.fault.NotationFault.{NotationFault}
-use Rattle.ix_notation.specs.Notation.{IsSelectorHex, IsJsonRefused}
-use Rattle.ix_jobs.specs.declared.fault.JobsKind.{JobsKind}
-use Rattle.ix_jobs.specs.declared.fault.JobsKind.TheVariants as kinds
+use Rattle.ix_selector_json.specs.declared.fault.NotationFault.{NotationFault}
+use Rattle.ix_selector_json.specs.Notation.{IsSelectorHex, IsJsonRefused}
+use Rattle.ix_jobs.specs.declared.fault.JobErrorKind.{JobErrorKind}
+use Rattle.ix_jobs.specs.declared.fault.JobErrorKind.TheVariants as kinds
 use Rattle.ix_jobs.specs.Jobs.{job_of_fields, jobs_of}
 use Rattle.ix_job_words.specs.declared.line.LineFault.{LineFault}
 use Rattle.ix_job_words.specs.declared.line.LineFault.TheVariants.{Field, Selector}
@@ -38,7 +38,7 @@ pub record IsReadBy (IsSpelled : List ℕ → Type 0) (name roots limit line : L
   pub alone : jobs ≡ is.job ∷ []
 
 -- the words are those of no job, for this reason
-pub record IsNoJob (IsSpelled : List ℕ → Type 0) (name roots limit : List ℕ) (kind : JobsKind) : Type 0 where
+pub record IsNoJob (IsSpelled : List ℕ → Type 0) (name roots limit : List ℕ) (kind : JobErrorKind) : Type 0 where
   pub selector : List ℕ
   pub spelled : IsSpelled (selector ++ 10 ∷ [])
   pub refused : job_of_fields name roots limit selector ≡ Err kind
@@ -50,7 +50,7 @@ pub record IsNoHex (IsSpelled : List ℕ → Type 0) : Type 0 where
   pub no_word : is_word selector ≡ false
 
 -- the name is none, or the text is no single word
-abbrev pub IsNoWord : (List ℕ → Type 0) → List ℕ → List ℕ → List ℕ → JobsKind → Type 0
+abbrev pub IsNoWord : (List ℕ → Type 0) → List ℕ → List ℕ → List ℕ → JobErrorKind → Type 0
 IsNoWord IsSpelled name roots limit kinds.Name = is_name name ≡ false
 IsNoWord IsSpelled name roots limit kinds.Root = is_word roots ≡ false
 IsNoWord IsSpelled name roots limit kinds.Limit = is_word limit ≡ false

@@ -2,9 +2,9 @@
 use Rattle.std.specs.Prelude.{◌≡◌, ℕ, Bool, List, [], ◌∷◌, ◌++◌, codes, String, string_bytes}
 use Rattle.std.specs.Global.{Vec}
 use Rattle.ix_walk.specs.JobMeaning.{JobMeaning, walked}
-use Rattle.ix_notation.specs.declared.fault.NotationFault.{NotationFault}
-use Rattle.ix_notation.specs.Notation.{IsSelectorHex, IsJsonRefused}
-use Rattle.ix_jobs.specs.declared.fault.JobsKind.TheVariants as kinds
+use Rattle.ix_selector_json.specs.declared.fault.NotationFault.{NotationFault}
+use Rattle.ix_selector_json.specs.Notation.{IsSelectorHex, IsJsonRefused}
+use Rattle.ix_jobs.specs.declared.fault.JobErrorKind.TheVariants as kinds
 use Rattle.ix_job_words.specs.declared.line.LineFault.{LineFault}
 use Rattle.ix_job_words.specs.declared.line.LineFault.TheVariants as faults
 use Rattle.ix_job_words.specs.declared.selector.SelectorWord.{SelectorWord}

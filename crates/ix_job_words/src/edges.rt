@@ -1,10 +1,10 @@
 //! Finds recursions of a selector without an edge.
 
 use crate::line::LineFault;
-use crate::selector::{SelectorWord, hex_line};
+use crate::selector::{SelectorWord, selector_hex};
 use hex::FromHexError;
 use ix_cbor::{CborKind, Node, Tree, decode};
-use ix_jobs::JobsKind;
+use ix_jobs::JobErrorKind;
 use std::alloc::Global;
 
 // The role of a part of a selector's data.
@@ -36,7 +36,7 @@ struct Seen {
 /// Returns whether a recursion of the selector has no edge of its own, so it never recurs and enters no
 /// more than its sequence does. A text that is not a selector is rejected.
 pub fn lacks_an_edge(alloc: Global, selector: &SelectorWord<'_>) -> Result<bool, LineFault> {
-    let line = hex_line(alloc, selector)?;
+    let line = selector_hex(alloc, selector)?;
     let tree = tree_of(alloc, line.as_str().trim_end())?;
     Ok(seen_in(tree.root(), SelectorPart::Selector).lacks_edge)
 }
@@ -45,13 +45,13 @@ pub fn lacks_an_edge(alloc: Global, selector: &SelectorWord<'_>) -> Result<bool,
 fn tree_of(alloc: Global, text: &str) -> Result<Tree, LineFault> {
     let bytes = match hex::decode(alloc, text) {
         Ok(bytes) => bytes,
-        Err(FromHexError::OutOfMemory) => return Err(LineFault::Field(JobsKind::Memory)),
-        Err(_) => return Err(LineFault::Field(JobsKind::Hex)),
+        Err(FromHexError::OutOfMemory) => return Err(LineFault::Field(JobErrorKind::Memory)),
+        Err(_) => return Err(LineFault::Field(JobErrorKind::Hex)),
     };
     match decode(alloc, bytes.as_slice()) {
         Ok(tree) => Ok(tree),
-        Err(fault) if fault.kind == CborKind::Memory => Err(LineFault::Field(JobsKind::Memory)),
-        Err(_) => Err(LineFault::Field(JobsKind::Selector)),
+        Err(fault) if fault.kind == CborKind::Memory => Err(LineFault::Field(JobErrorKind::Memory)),
+        Err(_) => Err(LineFault::Field(JobErrorKind::Selector)),
     }
 }
 

@@ -2,9 +2,9 @@
 
 ghost use Rattle.std.specs.Prelude.{◌≡◌, ◌++◌, IfOk, OnOk};
 ghost use Rattle.ix_job_words.specs.Faults.{later, told, faults_after, AreFaultsOf};
-ghost use Rattle.ix_job_words.specs.Steps.{AnswersBehind};
+ghost use Rattle.ix_job_words.specs.Steps.{AnswersAfter};
 
-use ix_jobs::{JobsFault, JobsKind, read_jobs, split_line};
+use ix_jobs::{JobErrorKind, JobsFault, read_jobs, split_line};
 use std::alloc::{AllocError, Global};
 use std::collections::BTreeSet;
 
@@ -16,7 +16,7 @@ pub fn job_faults(alloc: Global, bytes: &[u8]) -> Result<Vec<JobsFault>, AllocEr
 {
     let mut faults = Vec::new(alloc);
     if let Err(first) = read_jobs(alloc, bytes) {
-        if let JobsKind::Memory = first.kind {
+        if let JobErrorKind::Memory = first.kind {
             return Err(AllocError);
         }
         faults.push(first)?;
@@ -40,26 +40,26 @@ fn push_later(
     while !rest.is_empty() {
         let (line, after) = split_line(rest);
         number += 1;
-        let kind = fault_behind(alloc, &mut names, line)?;
-        push_told(faults, first, number, kind)?;
+        let kind = fault_after(alloc, &mut names, line)?;
+        push_reported(faults, first, number, kind)?;
         rest = after;
     }
     Ok(())
 }
 
 // Why a line is faulty, by itself or for its name, after lines whose jobs have these names.
-fn fault_behind(
+fn fault_after(
     alloc: Global,
     names: &mut BTreeSet<String>,
     line: &[u8],
-) -> Result<Option<JobsKind>, AllocError>
-    ensures { AnswersBehind names.old line.now names.new result }
+) -> Result<Option<JobErrorKind>, AllocError>
+    ensures { AnswersAfter names.old line.now names.new result }
 {
     let jobs = match read_jobs(alloc, line) {
         Ok(jobs) => jobs,
         Err(fault) => {
             return match fault.kind {
-                JobsKind::Memory => Err(AllocError),
+                JobErrorKind::Memory => Err(AllocError),
                 kind => Ok(Some(kind)),
             };
         }
@@ -68,7 +68,7 @@ fn fault_behind(
         return Ok(None);
     };
     if names.contains(job.name()) {
-        return Ok(Some(JobsKind::Repeated));
+        return Ok(Some(JobErrorKind::Repeated));
     }
     let name = String::from_str(alloc, job.name())?;
     names.insert(name)?;
@@ -76,11 +76,11 @@ fn fault_behind(
 }
 
 // Appends what is reported of a line, if it is after the first faulty one.
-fn push_told(
+fn push_reported(
     faults: &mut Vec<JobsFault>,
     first: u64,
     line: u64,
-    kind: Option<JobsKind>,
+    kind: Option<JobErrorKind>,
 ) -> Result<(), AllocError>
     ensures { OnOk result (faults.new.items ≡ faults.old.items ++ later first (told line kind)) }
 {

@@ -4,10 +4,10 @@ ghost use Rattle.std.specs.Prelude.{◌≡◌, length, map, IfOk, IfErr};
 ghost use Rattle.ix_walk.specs.JobMeaning.{walked};
 ghost use Rattle.ix_job_words.specs.Words.{AreJobsOf, AreWordsRefused};
 
-use crate::line::{LineFault, OPTION_FIELDS, fault_words, line_by};
+use crate::line::{LineFault, OPTION_FIELDS, build_line, fault_words};
 use crate::selector::SelectorWord;
 use crate::words::selector_fault;
-use ix_jobs::JobsKind;
+use ix_jobs::JobErrorKind;
 use ix_walk::Job;
 use std::alloc::{AllocError, Global};
 
@@ -29,7 +29,7 @@ pub fn jobs_of_words(alloc: Global, words: &JobWords<'_>, once: bool) -> Result<
     ensures one { IfOk result (λ jobs. length jobs.items ≡ 1) }
     ensures refused { IfErr result (AreWordsRefused words.now) }
 {
-    let (_, jobs) = line_by(alloc, words.name, words.roots, words.limit, &words.selector)?;
+    let (_, jobs) = build_line(alloc, words.name, words.roots, words.limit, &words.selector)?;
     Ok(walked(alloc, jobs, once)?)
 }
 
@@ -38,7 +38,7 @@ fn walked(alloc: Global, jobs: Vec<Job>, once: bool) -> Result<Vec<Job>, AllocEr
     ensures { IfOk result (λ walked_jobs. walked_jobs.items ≡ walked once jobs.items) }
 {
     if once {
-        jobs.into_iter().map(|job| job.once()).collect(alloc)
+        jobs.into_iter().map(|job| job.links_once()).collect(alloc)
     } else {
         Ok(jobs)
     }
@@ -53,7 +53,7 @@ pub fn job_fault_words(
     words: &JobWords<'_>,
 ) -> Result<String, AllocError> {
     match (fault, words.selector) {
-        (LineFault::Field(JobsKind::Hex | JobsKind::Selector), SelectorWord::Hex(text)) => {
+        (LineFault::Field(JobErrorKind::Hex | JobErrorKind::Selector), SelectorWord::Hex(text)) => {
             let field = OPTION_FIELDS.selector;
             match selector_fault(alloc, text)? {
                 Some(words) => format!(in alloc; "{field}: {words}"),

@@ -5,10 +5,10 @@ ghost use Rattle.std.specs.List.{list_all};
 ghost use Rattle.ix_job_words.specs.Line.{is_visible, is_word, IsLineOf, IsLineRefused};
 ghost use Rattle.ix_job_words.specs.Words.{IsMadeOf, IsRefusedOf};
 
-use crate::selector::{SelectorWord, hex_line};
+use crate::selector::{SelectorWord, selector_hex};
 use crate::words::{limit_fault, name_fault, roots_fault};
-use ix_jobs::{JobsKind, read_jobs};
-use ix_notation::{NotationFault, fault_line};
+use ix_jobs::{JobErrorKind, read_jobs};
+use ix_selector_json::{NotationFault, fault_line};
 use ix_walk::{Job, is_name};
 use std::alloc::{AllocError, Global};
 
@@ -16,7 +16,7 @@ use std::alloc::{AllocError, Global};
 #[derive(Debug, Drop)]
 pub enum LineFault {
     /// The name, the roots or the limit, with the error of a job file; or `Memory`.
-    Field(JobsKind),
+    Field(JobErrorKind),
     /// The text that is not a selector, and the line that says so with the part that is rejected,
     /// unless memory ran out for it.
     Selector(NotationFault, Option<String>),
@@ -36,12 +36,12 @@ pub fn job_line(
     ensures line { IfOk result (λ line. IsLineOf name.now roots.now limit.now json.now (string_bytes line)) }
     ensures refused { IfErr result (IsLineRefused name.now roots.now limit.now json.now) }
 {
-    let (line, _) = line_by(alloc, name, roots, limit, &SelectorWord::Json(json))?;
+    let (line, _) = build_line(alloc, name, roots, limit, &SelectorWord::Json(json))?;
     Ok(line)
 }
 
 /// Returns the same line for a selector of any kind, and its job.
-pub(crate) fn line_by(
+pub(crate) fn build_line(
     alloc: Global,
     name: &str,
     roots: &str,
@@ -52,17 +52,17 @@ pub(crate) fn line_by(
     ensures refused { IfErr result (IsRefusedOf selector.now name.now roots.now limit.now) }
 {
     if !is_name(name) {
-        return Err(LineFault::Field(JobsKind::Name));
+        return Err(LineFault::Field(JobErrorKind::Name));
     }
     if !is_word(roots.as_bytes()) {
-        return Err(LineFault::Field(JobsKind::Root));
+        return Err(LineFault::Field(JobErrorKind::Root));
     }
     if !is_word(limit.as_bytes()) {
-        return Err(LineFault::Field(JobsKind::Limit));
+        return Err(LineFault::Field(JobErrorKind::Limit));
     }
-    let selector = hex_line(alloc, selector)?;
+    let selector = selector_hex(alloc, selector)?;
     if !is_word(without_end(selector.as_bytes())) {
-        return Err(LineFault::Field(JobsKind::Hex));
+        return Err(LineFault::Field(JobErrorKind::Hex));
     }
     let line = format!(in alloc; "{name} {roots} {limit} {selector}")?;
     match read_jobs(alloc, line.as_bytes()) {
@@ -138,19 +138,19 @@ pub(crate) fn fault_words(
 ) -> Result<String, AllocError> {
     let [name, roots, limit] = typed;
     match fault {
-        LineFault::Field(JobsKind::Name) => {
+        LineFault::Field(JobErrorKind::Name) => {
             let field = called.name;
             let words = name_fault(name).unwrap_or("no name");
             format!(in alloc; "{field}: {words}")
         }
-        LineFault::Field(JobsKind::Root) => {
+        LineFault::Field(JobErrorKind::Root) => {
             let field = called.roots;
             match roots_fault(alloc, roots)? {
                 Some(words) => format!(in alloc; "{field}: {words}"),
                 None => format!(in alloc; "{field}: no CID"),
             }
         }
-        LineFault::Field(JobsKind::Limit) => {
+        LineFault::Field(JobErrorKind::Limit) => {
             let field = called.limit;
             let words = limit_fault(limit).unwrap_or("no limit");
             format!(in alloc; "{field}: {words}")
@@ -163,12 +163,12 @@ pub(crate) fn fault_words(
 
 impl From<AllocError> for LineFault {
     ghost use Rattle.std.specs.Prelude.{◌≡◌};
-    ghost use Rattle.ix_jobs.specs.declared.fault.JobsKind.TheVariants.{Memory};
+    ghost use Rattle.ix_jobs.specs.declared.fault.JobErrorKind.TheVariants.{Memory};
     ghost use Rattle.ix_job_words.specs.declared.line.LineFault.TheVariants.{Field};
 
     ghost from_gives = { λ _ fault. fault ≡ Field Memory };
 
     fn from(_error: AllocError) -> LineFault {
-        LineFault::Field(JobsKind::Memory)
+        LineFault::Field(JobErrorKind::Memory)
     }
 }

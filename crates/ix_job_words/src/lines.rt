@@ -1,7 +1,7 @@
 //! Says what is wrong with the lines of a job file.
 
 use crate::words::{JSON_WORDS, limit_fault, name_fault, roots_fault, selector_fault};
-use ix_jobs::{JobsFault, JobsKind, split_line};
+use ix_jobs::{JobErrorKind, JobsFault, split_line};
 use std::alloc::{AllocError, Global};
 use std::collections::BTreeMap;
 use std::str;
@@ -85,24 +85,24 @@ fn push_fault(
     let number = fault.line;
     let line = without_return(line);
     match fault.kind {
-        JobsKind::Text => push_bytes_fault(text, number, line),
-        JobsKind::Fields => push_fields_fault(text, number, str::from_utf8(line).unwrap_or("")),
-        JobsKind::Repeated => match names.get(first_field(line)) {
+        JobErrorKind::Text => push_bytes_fault(text, number, line),
+        JobErrorKind::Fields => push_fields_fault(text, number, str::from_utf8(line).unwrap_or("")),
+        JobErrorKind::Repeated => match names.get(first_field(line)) {
             Some(first) => writeln!(text, "line {number}, NAME: also in line {first}"),
-            None => push_of_field(text, number, NAME, "also in an earlier line"),
+            None => push_field_error(text, number, NAME, "also in an earlier line"),
         },
-        JobsKind::TooMany => push_of_line(text, number, MANY_WORDS),
+        JobErrorKind::TooMany => push_line_error(text, number, MANY_WORDS),
         _ => push_each_fault(alloc, text, number, str::from_utf8(line).unwrap_or("")),
     }
 }
 
 // Appends what is wrong with a line, and with none of its fields.
-fn push_of_line(text: &mut String, number: u64, words: &str) -> Result<(), AllocError> {
+fn push_line_error(text: &mut String, number: u64, words: &str) -> Result<(), AllocError> {
     writeln!(text, "line {number}: {words}")
 }
 
 // Appends what is wrong with a field of a line.
-fn push_of_field(
+fn push_field_error(
     text: &mut String,
     number: u64,
     field: &str,
@@ -128,16 +128,16 @@ fn push_each_fault(
 ) -> Result<(), AllocError> {
     let mut fields = line.split(' ');
     if let Some(words) = name_fault(fields.next().unwrap_or("")) {
-        push_of_field(text, number, NAME, words)?;
+        push_field_error(text, number, NAME, words)?;
     }
     if let Some(words) = roots_fault(alloc, fields.next().unwrap_or(""))? {
-        push_of_field(text, number, ROOT, &words)?;
+        push_field_error(text, number, ROOT, &words)?;
     }
     if let Some(words) = limit_fault(fields.next().unwrap_or("")) {
-        push_of_field(text, number, LIMIT, words)?;
+        push_field_error(text, number, LIMIT, words)?;
     }
     if let Some(words) = selector_fault(alloc, fields.next().unwrap_or(""))? {
-        push_of_field(text, number, SELECTOR, &words)?;
+        push_field_error(text, number, SELECTOR, &words)?;
     }
     Ok(())
 }
@@ -149,7 +149,7 @@ fn push_bytes_fault(text: &mut String, number: u64, line: &[u8]) -> Result<(), A
     };
     let (before, behind) = line.split_at(place);
     if let Some(words) = bytes_words(before, behind) {
-        return push_of_line(text, number, words);
+        return push_line_error(text, number, words);
     }
     let field = FIELDS[spaces(before).min(3)];
     match behind {
@@ -181,15 +181,15 @@ fn spaces(line: &[u8]) -> usize {
 // Appends why a line of text doesn't have four fields with one space between.
 fn push_fields_fault(text: &mut String, number: u64, line: &str) -> Result<(), AllocError> {
     if field_at(line, 3).starts_with('{') {
-        return push_of_field(text, number, SELECTOR, JSON_WORDS);
+        return push_field_error(text, number, SELECTOR, JSON_WORDS);
     }
     if field_at(line, 1).ends_with(',') {
-        return push_of_field(text, number, ROOT, COMMA_WORDS);
+        return push_field_error(text, number, ROOT, COMMA_WORDS);
     }
     let count = line.split(' ').count();
     match line.split(' ').position(|field| field.is_empty()) {
-        Some(0) => push_of_line(text, number, "a space before NAME"),
-        Some(place) if place >= count - 1 => push_of_line(text, number, "trailing space"),
+        Some(0) => push_line_error(text, number, "a space before NAME"),
+        Some(place) if place >= count - 1 => push_line_error(text, number, "trailing space"),
         Some(place) => {
             let field = FIELDS[(place - 1).min(3)];
             writeln!(

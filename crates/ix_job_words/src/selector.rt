@@ -4,7 +4,7 @@ ghost use Rattle.std.specs.Prelude.{◌<◌, length, IfOk, IfErr, string_bytes};
 ghost use Rattle.ix_job_words.specs.Words.{IsSpelledBy, IsUnspelled};
 
 use crate::line::LineFault;
-use ix_notation::{hex_of_json, json_fault_line};
+use ix_selector_json::{hex_of_json, json_fault_line};
 use std::alloc::Global;
 
 // The selector of everything, `{"R":{"l":{"none":{}},":>":{"a":{">":{"@":{}}}}}}`, as DAG-CBOR in
@@ -23,7 +23,7 @@ pub enum SelectorWord<'a> {
 }
 
 /// Returns the hex of a selector and a line end. Hex is taken as it is, and isn't checked.
-pub(crate) fn hex_line(alloc: Global, selector: &SelectorWord<'_>) -> Result<String, LineFault>
+pub(crate) fn selector_hex(alloc: Global, selector: &SelectorWord<'_>) -> Result<String, LineFault>
     ensures spelled { IfOk result (λ line. IsSpelledBy selector.now (string_bytes line)) }
     ensures some { IfOk result (λ line. 0 < length (string_bytes line)) }
     ensures refused { IfErr result (IsUnspelled selector.now) }

@@ -1,7 +1,7 @@
 //! Says what is wrong with a field of a job's line, and what would be right.
 
 use ix_cid::{Cid, CidFault};
-use ix_notation::{NotationFault, hex_fault_line, json_of_hex};
+use ix_selector_json::{NotationFault, hex_fault_line, json_of_hex};
 use ix_walk::{GREATEST_LIMIT, MOST_ROOTS, is_name};
 use std::alloc::{AllocError, Global};
 

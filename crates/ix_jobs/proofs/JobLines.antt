@@ -9,8 +9,8 @@ use Rattle.std.proofs.lemmas.List.{take_all, drop_all}
 use Rattle.std.proofs.lemmas.List.Sums.{prefix_len-le-length}
 use Rattle.ix_walk.specs.JobMeaning.{JobMeaning}
 use Rattle.ix_cid.proofs.Results.{ok_same}
-use Rattle.ix_jobs.specs.declared.fault.JobsKind.{JobsKind}
-use Rattle.ix_jobs.specs.declared.fault.JobsKind.TheVariants.{Repeated, TooMany}
+use Rattle.ix_jobs.specs.declared.fault.JobErrorKind.{JobErrorKind}
+use Rattle.ix_jobs.specs.declared.fault.JobErrorKind.TheVariants.{Repeated, TooMany}
 use Rattle.ix_jobs.specs.Jobs.{◌>>=◌, is_ignored, line_job, joined, with_line, at_line, jobs_from, jobs_up_to, is_taken}
 use Rattle.ix_jobs.specs.Parts.{own_line, job_lines_from, job_lines}
 use Rattle.ix_jobs.proofs.Pieces.{slice_split_whole}
@@ -70,12 +70,12 @@ joined-more most before jobs job true full h = absurd cc
 joined-more most before jobs job false true h = absurd cc
 joined-more most before jobs job false false h = sym (ap length (ok_same (before ++ job ∷ []) jobs h)) ∙ length-append before (job ∷ [])
 
-line-more : (most n : ℕ) (before jobs : List JobMeaning) (ignored : Bool) (read : Result JobMeaning JobsKind) → cond ignored (Ok before) (read >>= joined most before) ≡ Ok jobs → length jobs ≡ length before + length (cond ignored [] (n ∷ []))
+line-more : (most n : ℕ) (before jobs : List JobMeaning) (ignored : Bool) (read : Result JobMeaning JobErrorKind) → cond ignored (Ok before) (read >>= joined most before) ≡ Ok jobs → length jobs ≡ length before + length (cond ignored [] (n ∷ []))
 line-more most n before jobs true read h = sym (ap length (ok_same before jobs h)) ∙ (let none : length before ≡ length before + 0 = omega arith in none)
 line-more most n before jobs false (Ok job) h = joined-more most before jobs job (is_taken before job.name) (leb most (length before)) h
 line-more most n before jobs false (Err kind) h = absurd cc
 
-behind-many : (most n : ℕ) (before jobs : List JobMeaning) (own : List ℕ) (ls : List (List ℕ)) (read : Result (List JobMeaning) JobsKind) → ((more : List JobMeaning) → jobs_from most (n + 1) more ls ≡ Ok jobs → length jobs ≡ length more + length (job_lines_from (n + 1) ls))
+behind-many : (most n : ℕ) (before jobs : List JobMeaning) (own : List ℕ) (ls : List (List ℕ)) (read : Result (List JobMeaning) JobErrorKind) → ((more : List JobMeaning) → jobs_from most (n + 1) more ls ≡ Ok jobs → length jobs ≡ length more + length (job_lines_from (n + 1) ls))
     → ((more : List JobMeaning) → read ≡ Ok more → length more ≡ length before + length own) → (at_line n read >>= (λ more. jobs_from most (n + 1) more ls)) ≡ Ok jobs → length jobs ≡ length before + length (own ++ job_lines_from (n + 1) ls)
 behind-many most n before jobs own ls (Ok more) rest first h = omega (arith, rest more h, first more refl, length-append own (job_lines_from (n + 1) ls))
 behind-many most n before jobs own ls (Err kind) rest first h = absurd cc

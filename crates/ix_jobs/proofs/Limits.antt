@@ -8,8 +8,8 @@ use Rattle.std.proofs.lemmas.Bool.{and_parts, and_from, false_from_ne_true}
 use Rattle.std.proofs.lemmas.Bool.Decides.{nat_tests}
 use Rattle.std.proofs.lemmas.Result.{OkIff-at_ok, OkIff-at_err}
 use Rattle.std.proofs.lemmas.Str.Parse.{IsNumeralModel, numerals_by_value, tells_all_ascii_digits, parse_plain}
-use Rattle.ix_jobs.specs.declared.fault.JobsKind.{JobsKind}
-use Rattle.ix_jobs.specs.declared.fault.JobsKind.TheVariants.{Limit}
+use Rattle.ix_jobs.specs.declared.fault.JobErrorKind.{JobErrorKind}
+use Rattle.ix_jobs.specs.declared.fault.JobErrorKind.TheVariants.{Limit}
 use Rattle.ix_jobs.specs.Jobs.{limit_in}
 
 own : IsNumeralModel (λ ds. all_ascii_digits ds ≡ true) (digits_value 10)
@@ -31,7 +31,7 @@ value_above d ds low high = omega (arith, value_after-above (0 * 10 + digit_valu
 abbrev fits : ℕ → List ℕ → Bool
 fits d ds = (all_ascii_digits (d ∷ ds) && not (d == 48)) && nat_le (digits_value 10 (d ∷ ds)) 1000000
 
-limit_if : ℕ → List ℕ → Bool → Result ℕ JobsKind
+limit_if : ℕ → List ℕ → Bool → Result ℕ JobErrorKind
 limit_if d ds b = if b then Ok (digits_value 10 (d ∷ ds)) else Err Limit
 
 -- a digit from 1 to 9 is not 0

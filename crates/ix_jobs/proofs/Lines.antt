@@ -7,7 +7,7 @@ use mathlib.Core.Logic.{◌⊎◌, inl, inr}
 use Rattle.ix_walk.specs.JobMeaning.{JobMeaning}
 use Rattle.ix_archive.specs.declared.archive.Skip.{Skip}
 use Rattle.ix_jobs.specs.Report.{is_done, skip_lines, job_line, all_lines, done_count, skip_count, total_line, status_of}
-use Rattle.ix_jobs.specs.declared.outcome.JobResult.{JobResult}
+use Rattle.ix_jobs.specs.declared.results.JobResult.{JobResult}
 
 -- lines in two groups are the same lines
 regrouped : (old line more rest : List ℕ) → old ++ line ++ more ++ rest ≡ old ++ (line ++ more ++ rest)

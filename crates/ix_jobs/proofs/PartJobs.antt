@@ -4,17 +4,17 @@ use Rattle.std.specs.Prelude.{slice_range, Result, Ok, Err}
 use Rattle.std.proofs.lemmas.Bool.{le-leb, lt-leb}
 use Rattle.std.proofs.lemmas.List.{length-take-le, get_or-take, get_or-drop}
 use Rattle.ix_walk.specs.JobMeaning.{JobMeaning}
-use Rattle.ix_jobs.specs.declared.fault.JobsKind.{JobsKind}
-use Rattle.ix_jobs.specs.declared.fault.JobsKind.TheVariants.{TooMany}
+use Rattle.ix_jobs.specs.declared.fault.JobErrorKind.{JobErrorKind}
+use Rattle.ix_jobs.specs.declared.fault.JobErrorKind.TheVariants.{TooMany}
 use Rattle.ix_jobs.specs.Jobs.{◌>>=◌, jobs_up_to}
 use Rattle.ix_jobs.specs.Parts.{cut, part_of, job_lines, few_of, part_jobs_of}
 use Rattle.ix_jobs.proofs.PartLaws.{cut-within}
 use Rattle.ix_jobs.proofs.JobLines.{job_lines-are}
 
-abbrev good : List JobMeaning → Result (List JobMeaning) (JobsKind × ℕ)
+abbrev good : List JobMeaning → Result (List JobMeaning) (JobErrorKind × ℕ)
 good jobs = Ok jobs
 
-abbrev fault : ℕ → Result (List JobMeaning) (JobsKind × ℕ)
+abbrev fault : ℕ → Result (List JobMeaning) (JobErrorKind × ℕ)
 fault line = Err (TooMany, line)
 
 module _ (k n : ℕ) (some : 0 < n) (there : k ≤ n) where
@@ -32,7 +32,7 @@ module _ (k n : ℕ) (some : 0 < n) (there : k ≤ n) where
     same = counted ∙ job_lines-are 1000000 b jobs read
 
     taken : part_jobs_of k n b ≡ few_of (part_of k n (job_lines b)) (part_of k n jobs)
-    taken = ap (λ (r : Result (List JobMeaning) (JobsKind × ℕ)). r >>= (λ jobs. few_of (part_of k n (job_lines b)) (part_of k n jobs))) read
+    taken = ap (λ (r : Result (List JobMeaning) (JobErrorKind × ℕ)). r >>= (λ jobs. few_of (part_of k n (job_lines b)) (part_of k n jobs))) read
 
     long : length (part_of k n jobs) ≡ cut k n count - cut (k - 1) n count
     long = length-part jobs ∙ ap (λ m. cut k n m - cut (k - 1) n m) (sym same)

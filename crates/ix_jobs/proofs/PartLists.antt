@@ -5,7 +5,7 @@ use mathlib.Core.Logic.{◌⊎◌}
 use Rattle.std.proofs.lemmas.Bool.{cases_lt, le-leb, lt-leb}
 use Rattle.std.proofs.lemmas.List.{take_all, drop_all, drop-append-le, take-append-le}
 use Rattle.ix_walk.specs.JobMeaning.{JobMeaning}
-use Rattle.ix_jobs.specs.declared.fault.JobsKind.TheVariants.{Repeated, TooMany}
+use Rattle.ix_jobs.specs.declared.fault.JobErrorKind.TheVariants.{Repeated, TooMany}
 use Rattle.ix_jobs.specs.Jobs.{joined, is_taken}
 
 module _ {A : Type 0} (xs : List A) (x : A) (start end : ℕ) where

@@ -6,8 +6,8 @@ use Rattle.std.proofs.lemmas.List.Splits.{slice_split-cons_no, slice_split_first
 use Rattle.std.proofs.lemmas.Bool.{cases_lt, cond-true, ltb-true, lt-ltb}
 use Rattle.std.proofs.lemmas.Option.{cond_some, none-some}
 use Rattle.std.proofs.lemmas.List.{take_all, drop_all}
-use Rattle.ix_jobs.specs.declared.fault.JobsKind.{JobsKind}
-use Rattle.ix_jobs.specs.declared.fault.JobsKind.TheVariants.{Fields}
+use Rattle.ix_jobs.specs.declared.fault.JobErrorKind.{JobErrorKind}
+use Rattle.ix_jobs.specs.declared.fault.JobErrorKind.TheVariants.{Fields}
 use Rattle.ix_jobs.specs.Jobs.{◌>>=◌, four_fields}
 use Rattle.ix_jobs.specs.LineParts.{first_field, last_field}
 
@@ -101,24 +101,24 @@ last_field_more p xs lt =
 abbrev Four : Type 0
 Four = List ℕ × List ℕ × List ℕ × List ℕ
 
-abbrev pub fourth : List ℕ → List ℕ → List ℕ → List (List ℕ) → Result (List ℕ × List ℕ × List ℕ × List ℕ) JobsKind
+abbrev pub fourth : List ℕ → List ℕ → List ℕ → List (List ℕ) → Result (List ℕ × List ℕ × List ℕ × List ℕ) JobErrorKind
 fourth a b c pieces = last_field pieces >>= (λ d. let four : List ℕ × List ℕ × List ℕ × List ℕ = (a, b, c, d) in Ok four)
 
-abbrev pub third : List ℕ → List ℕ → List (List ℕ) → Result (List ℕ × List ℕ × List ℕ × List ℕ) JobsKind
+abbrev pub third : List ℕ → List ℕ → List (List ℕ) → Result (List ℕ × List ℕ × List ℕ × List ℕ) JobErrorKind
 third a b pieces = first_field pieces >>= (λ c. fourth a b c.0 c.1)
 
-abbrev pub second : List ℕ → List (List ℕ) → Result (List ℕ × List ℕ × List ℕ × List ℕ) JobsKind
+abbrev pub second : List ℕ → List (List ℕ) → Result (List ℕ × List ℕ × List ℕ × List ℕ) JobErrorKind
 second a pieces = first_field pieces >>= (λ b. third a b.0 b.1)
 
 -- four fields, read one after another
-abbrev pub fields_in_turn : List (List ℕ) → Result (List ℕ × List ℕ × List ℕ × List ℕ) JobsKind
+abbrev pub fields_in_turn : List (List ℕ) → Result (List ℕ × List ℕ × List ℕ × List ℕ) JobErrorKind
 fields_in_turn pieces = first_field pieces >>= (λ a. second a.0 a.1)
 
-fails_on : {A B : Type 0} (t : Bool) (x : A) (g : A → Result B JobsKind) → g x ≡ Err Fields → Err Fields ≡ ((if t then Err Fields else Ok x) >>= g)
+fails_on : {A B : Type 0} (t : Bool) (x : A) (g : A → Result B JobErrorKind) → g x ≡ Err Fields → Err Fields ≡ ((if t then Err Fields else Ok x) >>= g)
 fails_on true x g h = refl
 fails_on false x g h = sym h
 
-passes_on : {A B : Type 0} (t more : Bool) (x : A) (g : A → Result B JobsKind) (y : Result B JobsKind) → (if more then Err Fields else y) ≡ g x → (if t || more then Err Fields else y) ≡ ((if t then Err Fields else Ok x) >>= g)
+passes_on : {A B : Type 0} (t more : Bool) (x : A) (g : A → Result B JobErrorKind) (y : Result B JobErrorKind) → (if more then Err Fields else y) ≡ g x → (if t || more then Err Fields else y) ≡ ((if t then Err Fields else Ok x) >>= g)
 passes_on true more x g y h = refl
 passes_on false more x g y h = h
 
@@ -136,7 +136,7 @@ four_fields_in_turn (a ∷ b ∷ c ∷ d ∷ []) =
     let at_b : List ℕ × List (List ℕ) = (b, c ∷ d ∷ []) in
     let at_c : List ℕ × List (List ℕ) = (c, d ∷ []) in
     let four : Four = (a, b, c, d) in
-    let last : List ℕ → Result Four JobsKind = λ d. let f : Four = (a, b, c, d) in Ok f in
+    let last : List ℕ → Result Four JobErrorKind = λ d. let f : Four = (a, b, c, d) in Ok f in
     passes_on (length a == 0) ((length b == 0) || ((length c == 0) || ((length d == 0) || false))) at_a (λ x. second x.0 x.1) (Ok four)
     (passes_on (length b == 0) ((length c == 0) || ((length d == 0) || false)) at_b (λ x. third a x.0 x.1) (Ok four)
     (passes_on (length c == 0) ((length d == 0) || false) at_c (λ x. fourth a b x.0 x.1) (Ok four) (passes_on (length d == 0) false d last (Ok four) refl)))

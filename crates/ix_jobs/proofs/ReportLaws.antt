@@ -6,7 +6,7 @@ use Rattle.std.proofs.lemmas.List.Concat.{length-flat_map}
 use Rattle.std.proofs.lemmas.List.Elements.{All-head, All-tail}
 use Rattle.std.proofs.lemmas.List.Sums.{sum_by-append, sum_by-cons}
 use Rattle.ix_walk.specs.JobMeaning.{JobMeaning}
-use Rattle.ix_jobs.specs.declared.outcome.JobResult.{JobResult}
+use Rattle.ix_jobs.specs.declared.results.JobResult.{JobResult}
 use Rattle.ix_jobs.specs.Report.{is_done, job_lines, all_lines, done_count, skip_count, total_line, report_of}
 use Rattle.ix_jobs.specs.Joined.{Told, IsWhole, jobs_of_all, results_of_all, merged}
 

@@ -4,16 +4,16 @@ use Rattle.std.specs.Prelude.{if◌then◌else◌}
 use Rattle.std.proofs.lemmas.List.Splits.{length-slice_split}
 use Rattle.std.proofs.lemmas.List.{take-append-drop}
 use Rattle.std.proofs.lemmas.Bool.{lt-ltb, le-ltb}
-use Rattle.ix_jobs.specs.declared.fault.JobsKind.{JobsKind}
-use Rattle.ix_jobs.specs.declared.fault.JobsKind.TheVariants.{Memory, Root}
+use Rattle.ix_jobs.specs.declared.fault.JobErrorKind.{JobErrorKind}
+use Rattle.ix_jobs.specs.declared.fault.JobErrorKind.TheVariants.{Memory, Root}
 use Rattle.ix_jobs.specs.Jobs.{◌>>=◌, root_in, cids_in, root_texts, roots_in}
 use Rattle.ix_jobs.specs.Gives.{FailsAs}
 
 abbrev One : Type 0
-One = Result (List ℕ) JobsKind
+One = Result (List ℕ) JobErrorKind
 
 abbrev Many : Type 0
-Many = Result (List (List ℕ)) JobsKind
+Many = Result (List (List ℕ)) JobErrorKind
 
 -- those of one, and after them those of another
 abbrev then_those : Many → Many → Many
@@ -47,7 +47,7 @@ cids_in-append (t ∷ ts) us = first_before (root_in t) (cids_in ts) (cids_in us
 pub one_more : (ts : List (List ℕ)) (t : List ℕ) (cs : List (List ℕ)) (c : List ℕ) → cids_in ts ≡ Ok cs → root_in t ≡ Ok c → cids_in (ts ++ t ∷ []) ≡ Ok (cs ++ c ∷ [])
 one_more ts t cs c h k = cids_in-append ts (t ∷ []) ∙ ap (λ (s : Many). then_those s (cids_in (t ∷ []))) h ∙ ap (λ (r : One). then_those (Ok cs) (r >>= (λ c. Ok (c ∷ [])))) k
 
-fails_at : (ts : List (List ℕ)) (t : List ℕ) (more cs : List (List ℕ)) (kind : JobsKind) → cids_in ts ≡ Ok cs → root_in t ≡ Err kind → cids_in (ts ++ t ∷ more) ≡ Err kind
+fails_at : (ts : List (List ℕ)) (t : List ℕ) (more cs : List (List ℕ)) (kind : JobErrorKind) → cids_in ts ≡ Ok cs → root_in t ≡ Err kind → cids_in (ts ++ t ∷ more) ≡ Err kind
 fails_at ts t more cs kind h k =
     cids_in-append ts (t ∷ more) ∙ ap (λ (s : Many). then_those s (cids_in (t ∷ more))) h ∙ ap (λ (r : One). then_those (Ok cs) (r >>= (λ c. before c (cids_in more)))) k
 
@@ -57,7 +57,7 @@ cut_at xs n x lt is =
     sym (take-append-drop n xs) ∙ ap (λ (l : List (List ℕ)). take n xs ++ l) (drop-cons xs n x lt) ∙ ap (λ (y : List ℕ). take n xs ++ y ∷ drop (suc n) xs) (sym is) ∙ ap (λ (m : ℕ). take n xs ++ x ∷ drop m xs) (sym (add-one n))
 
 -- a text is faulty after so many that were read
-pub one_faulty : (parts ts : List (List ℕ)) (n : ℕ) (t : List ℕ) (cs : List (List ℕ)) (kind : JobsKind) → ts ≡ take n parts → n < length parts → t ≡ get_or parts n t → cids_in ts ≡ Ok cs → FailsAs kind kind (root_in t)
+pub one_faulty : (parts ts : List (List ℕ)) (n : ℕ) (t : List ℕ) (cs : List (List ℕ)) (kind : JobErrorKind) → ts ≡ take n parts → n < length parts → t ≡ get_or parts n t → cids_in ts ≡ Ok cs → FailsAs kind kind (root_in t)
     → FailsAs kind kind (cids_in parts)
 one_faulty parts ts n t cs Memory so_far lt here h k = tt
 one_faulty parts ts n t cs kind so_far lt here h k =

@@ -4,7 +4,7 @@ use Rattle.hex.specs.Hex.{decode_pairs}
 use Rattle.ix_cbor.specs.Reading.{item_at}
 use Rattle.ix_selector.specs.Pattern.{matcher}
 use Rattle.ix_selector.specs.Reading.{selector_at}
-use Rattle.ix_jobs.specs.declared.fault.JobsKind.TheVariants.{Fields, Name, Root, Limit, Hex, Selector, Repeated}
+use Rattle.ix_jobs.specs.declared.fault.JobErrorKind.TheVariants.{Fields, Name, Root, Limit, Hex, Selector, Repeated}
 use Rattle.ix_jobs.specs.Jobs.{jobs_of}
 use Rattle.ix_jobs.specs.Report.{report_of, job_line, skip_line}
 use Rattle.ix_check.specs.declared.verdict.Verdict.TheVariants.{Missing}

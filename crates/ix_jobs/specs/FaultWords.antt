@@ -1,9 +1,9 @@
 -- The words for what is wrong with a line of a job file.
 use Rattle.std.specs.Prelude.{ℕ, List, codes}
-use Rattle.ix_jobs.specs.declared.fault.JobsKind.{JobsKind}
-use Rattle.ix_jobs.specs.declared.fault.JobsKind.TheVariants.{Fields, Name, Root, Limit, Hex, Selector, Repeated, TooMany, Text, Memory}
+use Rattle.ix_jobs.specs.declared.fault.JobErrorKind.{JobErrorKind}
+use Rattle.ix_jobs.specs.declared.fault.JobErrorKind.TheVariants.{Fields, Name, Root, Limit, Hex, Selector, Repeated, TooMany, Text, Memory}
 
-abbrev pub fault_words : JobsKind → List ℕ
+abbrev pub fault_words : JobErrorKind → List ℕ
 fault_words Fields = codes "fields"
 fault_words Name = codes "name"
 fault_words Root = codes "root"

@@ -1,19 +1,19 @@
 -- The results of calls that read a part of a job file.
 use Rattle.std.specs.Prelude.{◌≡◌, ℕ, Result, Ok, Err}
-use Rattle.ix_jobs.specs.declared.fault.JobsKind.{JobsKind}
-use Rattle.ix_jobs.specs.declared.fault.JobsKind.TheVariants.{Memory}
+use Rattle.ix_jobs.specs.declared.fault.JobErrorKind.{JobErrorKind}
+use Rattle.ix_jobs.specs.declared.fault.JobErrorKind.TheVariants.{Memory}
 use Rattle.ix_jobs.specs.declared.fault.JobsFault.{JobsFault}
 
 -- lack of memory, or the definition gives this fault
-abbrev pub FailsAs : {A E : Type 0} → JobsKind → E → Result A E → Type 0
+abbrev pub FailsAs : {A E : Type 0} → JobErrorKind → E → Result A E → Type 0
 FailsAs Memory fault meant = Unit {0}
 FailsAs kind fault meant = meant ≡ Err fault
 
 -- the fault of a file, with its line
-abbrev pub IsFaultOf : {A : Type 0} → JobsFault → Result A (JobsKind × ℕ) → Type 0
+abbrev pub IsFaultOf : {A : Type 0} → JobsFault → Result A (JobErrorKind × ℕ) → Type 0
 IsFaultOf fault meant = FailsAs fault.kind (fault.kind, fault.line) meant
 
 -- the same of a call that takes memory, unless it ran out
-abbrev pub Gives : {X A : Type 0} → (X → A) → Result X JobsKind → Result A JobsKind → Type 0
+abbrev pub Gives : {X A : Type 0} → (X → A) → Result X JobErrorKind → Result A JobErrorKind → Type 0
 Gives view (Ok x) meant = meant ≡ Ok (view x)
 Gives view (Err kind) meant = FailsAs kind kind meant

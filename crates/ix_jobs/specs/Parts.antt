@@ -4,8 +4,8 @@ use Rattle.std.specs.List.{slice_split, range_with_len}
 use Rattle.std.specs.Str.Lines.{strip_carriage_return}
 use Rattle.ix_walk.specs.JobMeaning.{JobMeaning}
 use Rattle.ix_jobs.specs.declared.part.Part.{Part}
-use Rattle.ix_jobs.specs.declared.fault.JobsKind.{JobsKind}
-use Rattle.ix_jobs.specs.declared.fault.JobsKind.TheVariants.{TooMany}
+use Rattle.ix_jobs.specs.declared.fault.JobErrorKind.{JobErrorKind}
+use Rattle.ix_jobs.specs.declared.fault.JobErrorKind.TheVariants.{TooMany}
 use Rattle.ix_jobs.specs.Jobs.{◌>>=◌, is_ignored, jobs_up_to}
 
 -- where the first k of n parts of a list of this length end
@@ -34,16 +34,16 @@ abbrev pub job_lines : List ℕ → List ℕ
 job_lines b = job_lines_from 1 (slice_split (λ b. b == 10) b)
 
 -- jobs with the numbers of their lines, of which there may be a thousand
-abbrev pub few_of : List ℕ → List JobMeaning → Result (List JobMeaning) (JobsKind × ℕ)
+abbrev pub few_of : List ℕ → List JobMeaning → Result (List JobMeaning) (JobErrorKind × ℕ)
 few_of lines jobs = if nat_le (length jobs) 1000 then Ok jobs else Err (TooMany, get_or lines 1000 0)
 
 -- The k-th of n parts of the jobs of a job file that may have a million, or its first faulty line; or, where no line is faulty, the line of the job
 -- that is too many for the part.
-abbrev pub part_jobs_of : ℕ → ℕ → List ℕ → Result (List JobMeaning) (JobsKind × ℕ)
+abbrev pub part_jobs_of : ℕ → ℕ → List ℕ → Result (List JobMeaning) (JobErrorKind × ℕ)
 part_jobs_of k n b = jobs_up_to 1000000 b >>= (λ jobs. few_of (part_of k n (job_lines b)) (part_of k n jobs))
 
 -- that of the part that the program names
-abbrev pub jobs_of_part : Part → List ℕ → Result (List JobMeaning) (JobsKind × ℕ)
+abbrev pub jobs_of_part : Part → List ℕ → Result (List JobMeaning) (JobErrorKind × ℕ)
 jobs_of_part part b = part_jobs_of part.number part.of b
 
 -- the jobs of a file that may have a million, from one on up to, and not including, another

@@ -6,7 +6,7 @@ use std::fmt;
 /// What is wrong with a line. The checks of a line are in the order of the kinds, so the first check
 /// that fails gives the kind. Memory may run out at any of them.
 #[derive(Debug, Drop, Clone, Copy, PartialEq, Eq)]
-pub enum JobsKind {
+pub enum JobErrorKind {
     /// The line has a byte outside `20` to `7e`.
     Text,
     /// The line isn't four fields, none empty, with one space between.
@@ -33,12 +33,12 @@ pub enum JobsKind {
 /// Why a job file is rejected: what is wrong with its first faulty line.
 #[derive(Debug, Drop, Clone, Copy, PartialEq, Eq)]
 pub struct JobsFault {
-    pub kind: JobsKind,
+    pub kind: JobErrorKind,
     /// The number of the line, from 1. Ignored lines are counted too.
     pub line: u64,
 }
 
-impl fmt::Display for JobsKind {
+impl fmt::Display for JobErrorKind {
     ghost use Rattle.std.specs.Prelude.{Some};
     ghost use Rattle.ix_jobs.specs.FaultWords.{fault_words};
 
@@ -46,38 +46,38 @@ impl fmt::Display for JobsKind {
 
     fn fmt<W: fmt::Write>(&self, f: &mut fmt::Formatter<W>) -> fmt::Result {
         match self {
-            JobsKind::Text => f.write_str("text"),
-            JobsKind::Fields => f.write_str("fields"),
-            JobsKind::Name => f.write_str("name"),
-            JobsKind::Root => f.write_str("root"),
-            JobsKind::Limit => f.write_str("limit"),
-            JobsKind::Hex => f.write_str("hex"),
-            JobsKind::Selector => f.write_str("selector"),
-            JobsKind::Repeated => f.write_str("repeated"),
-            JobsKind::TooMany => f.write_str("too many"),
-            JobsKind::Memory => f.write_str("memory"),
+            JobErrorKind::Text => f.write_str("text"),
+            JobErrorKind::Fields => f.write_str("fields"),
+            JobErrorKind::Name => f.write_str("name"),
+            JobErrorKind::Root => f.write_str("root"),
+            JobErrorKind::Limit => f.write_str("limit"),
+            JobErrorKind::Hex => f.write_str("hex"),
+            JobErrorKind::Selector => f.write_str("selector"),
+            JobErrorKind::Repeated => f.write_str("repeated"),
+            JobErrorKind::TooMany => f.write_str("too many"),
+            JobErrorKind::Memory => f.write_str("memory"),
         }
     }
 }
 
-impl From<AllocError> for JobsKind {
+impl From<AllocError> for JobErrorKind {
     ghost use Rattle.std.specs.Prelude.{◌≡◌};
-    ghost use Rattle.ix_jobs.specs.declared.fault.JobsKind.TheVariants.{Memory};
+    ghost use Rattle.ix_jobs.specs.declared.fault.JobErrorKind.TheVariants.{Memory};
 
     ghost from_gives = { λ _ kind. kind ≡ Memory };
 
-    fn from(_error: AllocError) -> JobsKind {
-        JobsKind::Memory
+    fn from(_error: AllocError) -> JobErrorKind {
+        JobErrorKind::Memory
     }
 }
 
-impl<T: Drop> From<AllocFailed<T>> for JobsKind {
+impl<T: Drop> From<AllocFailed<T>> for JobErrorKind {
     ghost use Rattle.std.specs.Prelude.{◌≡◌};
-    ghost use Rattle.ix_jobs.specs.declared.fault.JobsKind.TheVariants.{Memory};
+    ghost use Rattle.ix_jobs.specs.declared.fault.JobErrorKind.TheVariants.{Memory};
 
     ghost from_gives = { λ _ kind. kind ≡ Memory };
 
-    fn from(_error: AllocFailed<T>) -> JobsKind {
-        JobsKind::Memory
+    fn from(_error: AllocFailed<T>) -> JobErrorKind {
+        JobErrorKind::Memory
     }
 }

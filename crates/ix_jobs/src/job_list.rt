@@ -5,7 +5,7 @@ ghost use Rattle.ix_cid.specs.Results.{Reads};
 ghost use Rattle.ix_jobs.specs.Jobs.{is_taken, joined};
 ghost use Rattle.ix_jobs.specs.Gives.{Gives};
 
-use crate::fault::JobsKind;
+use crate::fault::JobErrorKind;
 use ix_walk::Job;
 use std::alloc::Global;
 use std::collections::BTreeSet;
@@ -49,7 +49,7 @@ impl JobList {
     }
 
     /// Adds a job, unless its name is taken or there are too many before it.
-    pub(crate) fn add(&mut self, alloc: Global, job: Job) -> Result<(), JobsKind>
+    pub(crate) fn add(&mut self, alloc: Global, job: Job) -> Result<(), JobErrorKind>
         ensures added { Gives (λ _. self.new) result (joined 1000 self.old job) }
         ensures err { OnErr result (self.new ≡ self.old) }
     {
@@ -63,14 +63,14 @@ impl JobList {
     }
 
     // Returns whether a job may be added, or why not.
-    fn may_join(&self, job: &Job) -> Result<(), JobsKind>
+    fn may_join(&self, job: &Job) -> Result<(), JobErrorKind>
         ensures { Reads (λ _. self.now ++ job.now ∷ []) result (joined 1000 self.now job.now) }
     {
         if self.is_taken(job.name()) {
-            return Err(JobsKind::Repeated);
+            return Err(JobErrorKind::Repeated);
         }
         if self.jobs.len() >= MOST_JOBS {
-            return Err(JobsKind::TooMany);
+            return Err(JobErrorKind::TooMany);
         }
         Ok(())
     }

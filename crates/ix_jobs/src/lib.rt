@@ -19,13 +19,13 @@ mod job_list;
 mod jobs;
 pub mod law;
 mod line;
-mod outcome;
 mod part;
 mod part_jobs;
 mod part_list;
+mod results;
 
-pub use fault::{JobsFault, JobsKind};
+pub use fault::{JobErrorKind, JobsFault};
 pub use jobs::{read_jobs, split_line};
-pub use outcome::{JobResult, report, status};
 pub use part::Part;
 pub use part_jobs::read_jobs_part;
+pub use results::{JobResult, report, status};

@@ -7,7 +7,7 @@ ghost use Rattle.ix_jobs.specs.Jobs.{is_ignored, is_text, text_in, fields_in, jo
 ghost use Rattle.ix_jobs.specs.LineParts.{pieces, first_field, last_field};
 ghost use Rattle.ix_jobs.specs.Gives.{Gives};
 
-use crate::fault::JobsKind;
+use crate::fault::JobErrorKind;
 use crate::field::{limit_in, roots_in, selector_in};
 use crate::job_list::JobList;
 use ix_walk::{Job, is_name};
@@ -15,7 +15,7 @@ use std::alloc::Global;
 use std::str;
 
 /// Adds the job of a line, unless the line is ignored.
-pub(crate) fn add_line(alloc: Global, jobs: &mut JobList, line: &[u8]) -> Result<(), JobsKind>
+pub(crate) fn add_line(alloc: Global, jobs: &mut JobList, line: &[u8]) -> Result<(), JobErrorKind>
     ensures { Gives (λ _. jobs.new) result (with_file_line 1000 jobs.old line.now) }
 {
     let line = without_return(line);
@@ -44,7 +44,7 @@ pub(crate) fn is_ignored(line: &[u8]) -> bool
 }
 
 /// Returns the job of a line that isn't ignored.
-pub(crate) fn line_job(alloc: Global, line: &[u8]) -> Result<Job, JobsKind>
+pub(crate) fn line_job(alloc: Global, line: &[u8]) -> Result<Job, JobErrorKind>
     ensures { Gives (λ job. job) result (line_job line.now) }
 {
     let text = text_in(line)?;
@@ -53,15 +53,15 @@ pub(crate) fn line_job(alloc: Global, line: &[u8]) -> Result<Job, JobsKind>
 }
 
 // Returns the text of a line if all its bytes are printable.
-fn text_in(line: &[u8]) -> Result<&str, JobsKind>
+fn text_in(line: &[u8]) -> Result<&str, JobErrorKind>
     ensures { Reads (λ text. text.now) result (text_in line.now) }
 {
     if !is_text(line) {
-        return Err(JobsKind::Text);
+        return Err(JobErrorKind::Text);
     }
     match str::from_utf8(line) {
         Ok(text) => Ok(text),
-        Err(_) => Err(JobsKind::Text),
+        Err(_) => Err(JobErrorKind::Text),
     }
 }
 
@@ -73,7 +73,7 @@ fn is_text(line: &[u8]) -> bool
 }
 
 // Splits a line into its four fields.
-fn fields_in(text: &str) -> Result<(&str, &str, &str, &str), JobsKind>
+fn fields_in(text: &str) -> Result<(&str, &str, &str, &str), JobErrorKind>
     ensures { Reads (λ f. (f.0.now, f.1.now, f.2.now, f.3.now)) result (fields_in text.now) }
 {
     let (name, rest) = first_field(text)?;
@@ -84,22 +84,22 @@ fn fields_in(text: &str) -> Result<(&str, &str, &str, &str), JobsKind>
 }
 
 // Splits a line at its first space.
-fn first_field(text: &str) -> Result<(&str, &str), JobsKind>
+fn first_field(text: &str) -> Result<(&str, &str), JobErrorKind>
     ensures { Reads (λ f. (f.0.now, pieces f.1.now)) result (first_field (pieces text.now)) }
 {
     match text.split_once(' ') {
         Some((field, rest)) if !field.is_empty() => Ok((field, rest)),
-        _ => Err(JobsKind::Fields),
+        _ => Err(JobErrorKind::Fields),
     }
 }
 
 // Returns a field that has no space after it.
-fn last_field(text: &str) -> Result<&str, JobsKind>
+fn last_field(text: &str) -> Result<&str, JobErrorKind>
     ensures { Reads (λ field. field.now) result (last_field (pieces text.now)) }
 {
     match text.split_once(' ') {
         None if !text.is_empty() => Ok(text),
-        _ => Err(JobsKind::Fields),
+        _ => Err(JobErrorKind::Fields),
     }
 }
 
@@ -110,11 +110,11 @@ fn job_of_fields(
     roots: &str,
     limit: &str,
     selector: &str,
-) -> Result<Job, JobsKind>
+) -> Result<Job, JobErrorKind>
     ensures { Gives (λ job. job) result (job_of_fields name.now roots.now limit.now selector.now) }
 {
     if !is_name(name) {
-        return Err(JobsKind::Name);
+        return Err(JobErrorKind::Name);
     }
     let roots = roots_in(alloc, roots)?;
     let limit = limit_in(limit)?;

@@ -8,7 +8,7 @@ ghost use Rattle.ix_jobs.specs.Jobs.{jobs_up_to};
 ghost use Rattle.ix_jobs.specs.Parts.{job_lines, jobs_of_part, AreJobsBetween};
 ghost use Rattle.ix_jobs.specs.Gives.{IsFaultOf};
 
-use crate::fault::{JobsFault, JobsKind};
+use crate::fault::{JobErrorKind, JobsFault};
 use crate::jobs::split_line;
 use crate::line::{is_ignored, without_return};
 use crate::part::Part;
@@ -34,7 +34,7 @@ pub fn read_jobs_part(alloc: Global, bytes: &[u8], part: Part) -> Result<Vec<Job
     if end - start > MOST_JOBS {
         let line = line_of_job(bytes, start + MOST_JOBS);
         return Err(JobsFault {
-            kind: JobsKind::TooMany,
+            kind: JobErrorKind::TooMany,
             line,
         });
     }

@@ -4,7 +4,7 @@ ghost use Rattle.std.specs.Prelude.{◌≡◌, []};
 ghost use Rattle.ix_jobs.specs.Jobs.{joined, with_file_line};
 ghost use Rattle.ix_jobs.specs.PartList.{Keeps, KeepsAdded};
 
-use crate::fault::JobsKind;
+use crate::fault::JobErrorKind;
 use crate::line::{is_ignored, line_job, without_return};
 use ix_walk::Job;
 use std::alloc::Global;
@@ -40,7 +40,7 @@ impl PartList {
     }
 
     /// Adds the job of a line, unless the line is ignored.
-    pub(crate) fn add_line(&mut self, alloc: Global, line: &[u8]) -> Result<(), JobsKind>
+    pub(crate) fn add_line(&mut self, alloc: Global, line: &[u8]) -> Result<(), JobErrorKind>
         ensures { KeepsAdded self.old self.new result (λ before. with_file_line 1000000 before line.now) }
     {
         let line = without_return(line);
@@ -52,14 +52,14 @@ impl PartList {
     }
 
     // Adds a job, unless its name is taken or there are too many before it.
-    fn add(&mut self, alloc: Global, job: Job) -> Result<(), JobsKind>
+    fn add(&mut self, alloc: Global, job: Job) -> Result<(), JobErrorKind>
         ensures { KeepsAdded self.old self.new result (λ before. joined 1000000 before job) }
     {
         if self.names.contains(job.name()) {
-            return Err(JobsKind::Repeated);
+            return Err(JobErrorKind::Repeated);
         }
         if self.count >= MOST_JOBS {
-            return Err(JobsKind::TooMany);
+            return Err(JobErrorKind::TooMany);
         }
         let name = String::from_str(alloc, job.name())?;
         self.names.insert(name)?;

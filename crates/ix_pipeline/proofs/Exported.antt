@@ -15,7 +15,7 @@ use Rattle.ix_archive.specs.Faithful.{IsFaithful}
 use Rattle.ix_archive.specs.Archived.{IsArchived}
 use Rattle.ix_collect.proofs.Members.{cases_cons, none_in, has_got}
 use Rattle.ix_collect.proofs.Kept.{kept_same}
-use Rattle.ix_flow.proofs.Closings.{kept_set}
+use Rattle.ix_threads.proofs.Closings.{kept_set}
 use Rattle.ix_pipeline.specs.Progress.{pairs_of, IsExported, Exports}
 use Rattle.ix_pipeline.specs.Headline.{EachDelivered, EachArchived, EachFresh, Fact, Keeps, EachKept, IsCheckedOnce, NoneIsStart, visit_count}
 use Rattle.ix_pipeline.proofs.Pairs.{pairs_over, in_pairs, has_pair, once_over, over_push}
@@ -165,32 +165,32 @@ rest_fresh {S = S} events failed i sinks s lt h =
     let all : EachFresh events failed (get_or sinks i s ∷ drop (i + 1) sinks) = subst (λ (l : List S). EachFresh events failed l) (drop_more sinks i s lt) h in all.1
 
 -- Of the jobs the first were exported into their sinks, the sinks after are fresh, and each still promises what it did.
-pub record IsThrough {S : Type 0} (events : S → List Event) (failed : S → List Delivery) (fact : Fact S) (store : Blocks) (jobs : List JobMeaning) (i : ℕ) (es : List End) (first sinks : List S) (pairs : List (ℕ × ℕ)) : Type 0 where
+pub record IsThrough {S : Type 0} (events : S → List Event) (failed : S → List Delivery) (guarantee : Fact S) (store : Blocks) (jobs : List JobMeaning) (i : ℕ) (es : List End) (first sinks : List S) (pairs : List (ℕ × ℕ)) : Type 0 where
   pub counts : List ℕ
   pub counted : length counts ≡ i
   pub lengths : length sinks ≡ length jobs
   pub exported : EachExported events failed store 0 (take i jobs) es (take i sinks) counts
   pub fresh : EachFresh events failed (drop i sinks)
-  pub kept : EachKept fact first sinks
+  pub kept : EachKept guarantee first sinks
   pub checked : pairs ≡ pairs_over 0 counts
 
-module _ {S : Type 0} (events : S → List Event) (failed : S → List Delivery) (fact : Fact S) (store : Blocks) (jobs : List JobMeaning) where
+module _ {S : Type 0} (events : S → List Event) (failed : S → List Delivery) (guarantee : Fact S) (store : Blocks) (jobs : List JobMeaning) where
   -- before the first job
-  pub through_none : (es : List End) (first : List S) (pairs : List (ℕ × ℕ)) → es ≡ [] → length first ≡ length jobs → EachFresh events failed first → pairs ≡ [] → IsThrough events failed fact store jobs 0 es first first pairs
+  pub through_none : (es : List End) (first : List S) (pairs : List (ℕ × ℕ)) → es ≡ [] → length first ≡ length jobs → EachFresh events failed first → pairs ≡ [] → IsThrough events failed guarantee store jobs 0 es first first pairs
   through_none es first pairs none lengths fresh unused = record {
     counts = [];
     counted = refl;
     lengths = lengths;
     exported = subst (λ (l : List End). EachExported events failed store 0 [] l [] []) (sym none) tt;
     fresh = fresh;
-    kept = kept_same fact first;
+    kept = kept_same guarantee first;
     checked = unused;
   }
 
   -- one job more
   pub through_more : (i : ℕ) (es more : List End) (first sinks : List S) (pairs after : List (ℕ × ℕ)) (j : JobMeaning) (e : End) (s new : S)
-      → IsThrough events failed fact store jobs i es first sinks pairs → i < length jobs → j ≡ get_or jobs i j → s ≡ get_or sinks i s → more ≡ es ++ e ∷ [] → Exports store i j e (events new) (failed new) pairs after
-      → Keeps fact s new → IsThrough events failed fact store jobs (i + 1) more first (set sinks i new) after
+      → IsThrough events failed guarantee store jobs i es first sinks pairs → i < length jobs → j ≡ get_or jobs i j → s ≡ get_or sinks i s → more ≡ es ++ e ∷ [] → Exports store i j e (events new) (failed new) pairs after
+      → Keeps guarantee s new → IsThrough events failed guarantee store jobs (i + 1) more first (set sinks i new) after
   through_more i es more first sinks pairs after j e s new t lt job sink ends x keeps =
       let counted : length t.counts ≡ i = t.counted in
       let lengths : length sinks ≡ length jobs = t.lengths in
@@ -208,26 +208,26 @@ module _ {S : Type 0} (events : S → List Event) (failed : S → List Delivery)
             (subst (λ (l : List End). EachExported events failed store 0 (take i jobs ++ j ∷ []) l (take i sinks ++ new ∷ []) (t.counts ++ x.0 ∷ [])) (sym ends)
             (exported_push events failed store 0 i (take i jobs) es (take i sinks) t.counts j e new x.0 place t.exported x.1)));
         fresh = subst (λ (l : List S). EachFresh events failed l) (sym (drop-set-lt (i + 1) sinks i new below)) (rest_fresh events failed i sinks s within t.fresh);
-        kept = kept_set fact first sinks i s new t.kept sink keeps;
+        kept = kept_set guarantee first sinks i s new t.kept sink keeps;
         checked = x.2 ∙ ap (λ (l : List (ℕ × ℕ)). l ++ pairs_of i x.0) t.checked ∙ sym (over_push 0 t.counts x.0 i place);
       }
 
   -- all jobs
-  pub through_all : (i : ℕ) (es : List End) (first sinks : List S) (pairs : List (ℕ × ℕ)) → length jobs ≤ i → IsThrough events failed fact store jobs i es first sinks pairs → (ks : List ℕ) × EachExported events failed store 0 jobs es sinks ks × (pairs ≡ pairs_over 0 ks)
+  pub through_all : (i : ℕ) (es : List End) (first sinks : List S) (pairs : List (ℕ × ℕ)) → length jobs ≤ i → IsThrough events failed guarantee store jobs i es first sinks pairs → (ks : List ℕ) × EachExported events failed store 0 jobs es sinks ks × (pairs ≡ pairs_over 0 ks)
   through_all i es first sinks pairs past t =
       let lengths : length sinks ≡ length jobs = t.lengths in
       let short : length sinks ≤ i = omega arith in
       (t.counts, subst (λ (l : List JobMeaning). EachExported events failed store 0 l es sinks t.counts) (take_all i jobs past) (subst (λ (l : List S). EachExported events failed store 0 (take i jobs) es l t.counts) (take_all i sinks short) t.exported), t.checked)
 
   -- when all jobs are exported, each sink was delivered to faithfully
-  pub all_delivered : (i : ℕ) (es : List End) (first sinks : List S) (pairs : List (ℕ × ℕ)) → length jobs ≤ i → IsThrough events failed fact store jobs i es first sinks pairs → EachDelivered events failed store 0 jobs es sinks
+  pub all_delivered : (i : ℕ) (es : List End) (first sinks : List S) (pairs : List (ℕ × ℕ)) → length jobs ≤ i → IsThrough events failed guarantee store jobs i es first sinks pairs → EachDelivered events failed store 0 jobs es sinks
   all_delivered i es first sinks pairs past t = let a = through_all i es first sinks pairs past t in delivers events failed store 0 jobs es sinks a.0 a.1
 
   -- when all jobs are exported, none ended with Start
-  pub all_started : (i : ℕ) (es : List End) (first sinks : List S) (pairs : List (ℕ × ℕ)) → length jobs ≤ i → IsThrough events failed fact store jobs i es first sinks pairs → NoneIsStart es
+  pub all_started : (i : ℕ) (es : List End) (first sinks : List S) (pairs : List (ℕ × ℕ)) → length jobs ≤ i → IsThrough events failed guarantee store jobs i es first sinks pairs → NoneIsStart es
   all_started i es first sinks pairs past t = let a = through_all i es first sinks pairs past t in none_is_start events failed store 0 jobs es sinks a.0 a.1
 
   -- when all jobs are exported, each visit was checked once
-  pub all_checked : (i : ℕ) (es : List End) (first sinks : List S) (pairs : List (ℕ × ℕ)) → length jobs ≤ i → IsThrough events failed fact store jobs i es first sinks pairs → IsCheckedOnce events store jobs es sinks pairs
+  pub all_checked : (i : ℕ) (es : List End) (first sinks : List S) (pairs : List (ℕ × ℕ)) → length jobs ≤ i → IsThrough events failed guarantee store jobs i es first sinks pairs → IsCheckedOnce events store jobs es sinks pairs
   all_checked i es first sinks pairs past t =
       let a = through_all i es first sinks pairs past t in subst (λ (l : List (ℕ × ℕ)). IsCheckedOnce events store jobs es sinks l) (sym a.2) (checked_once events failed store jobs es sinks a.0 a.1)

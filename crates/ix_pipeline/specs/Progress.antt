@@ -90,13 +90,13 @@ Delivers d Failed events failed (Ok Failed) told refused = (told ≡ events) × 
 Delivers d Taking events failed (Err e) told refused = (told ≡ events) × (refused ≡ failed)
 Delivers d Failed events failed (Err e) told refused = ⊥
 
-module _ {S : Type 0} (events : S → List Event) (failed : S → List Delivery) (fact : Fact S) where
+module _ {S : Type 0} (events : S → List Event) (failed : S → List Delivery) (guarantee : Fact S) where
   -- the same of a sink, which keeps what it promised before
   pub record DeliversTo (d : Delivery) (state : SinkState) (sink : S) (result : Result SinkState AllocError) (next : S) : Type 0 where
     pub delivered : Delivers d state (events sink) (failed sink) result (events next) (failed next)
-    pub kept : Keeps fact sink next
+    pub kept : Keeps guarantee sink next
 
   -- handing on a visit to a check and a sink, which keeps what it promised before
   pub record HandsOnTo {C : Type 0} (checked : C → List (ℕ × ℕ)) (store : Blocks) (v : Visit) (state : SinkState) (sink : S) (check : C) (result : Result SinkState AllocError) (next : S) (later : C) : Type 0 where
     pub handed : HandsOn store v state (told_by events failed checked sink check) result (told_by events failed checked next later)
-    pub kept : Keeps fact sink next
+    pub kept : Keeps guarantee sink next

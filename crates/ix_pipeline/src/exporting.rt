@@ -9,8 +9,8 @@ ghost use Rattle.ix_pipeline.specs.Planned.{IsPlan};
 
 use ix_archive::{Sink, law};
 use ix_check::Check;
-use ix_flow::{Gate, Outcome, Plan, Prepared, Task, flow};
 use ix_store::Store;
+use ix_threads::{Gate, Outcome, Plan, Prepared, Task, flow};
 use ix_walk::Job;
 use std::alloc::Global;
 use std::sync::{Arc, Wait};
@@ -56,7 +56,7 @@ where
     ensures archived { IfOk result (λ out. EachArchived S.events S.failed
         (arc_value store.now) 0 (arc_value jobs.now).items out.ends.items sinks.new) }
     ensures started { IfOk result (λ out. NoneOrAllStart out.ends.items) }
-    ensures facts { EachKept S.fact sinks.old sinks.new }
+    ensures facts { EachKept S.guarantee sinks.old sinks.new }
     ensures checked { IfOk result (λ out. IsCheckedOnce S.events (arc_value store.now)
         (arc_value jobs.now).items out.ends.items sinks.new (checked_by C.checked out.checks.items)) }
     ensures not_started { IfErr result (λ none.

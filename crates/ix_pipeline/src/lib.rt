@@ -19,5 +19,5 @@ mod plain;
 mod sink_state;
 
 pub use exporting::{NotStarted, export};
-pub use ix_flow::{Gate, Open, Outcome, Plan};
+pub use ix_threads::{Gate, Open, Outcome, Plan};
 pub use plain::export_plain;

@@ -33,7 +33,7 @@ pub fn export_plain<S: Sink, C: Check>(
     ensures archived { IfOk result (λ ends.
         EachArchived S.events S.failed store.now 0 jobs.now ends.items sinks.new) }
     ensures started { IfOk result (λ ends. NoneIsStart ends.items) }
-    ensures facts { EachKept S.fact sinks.old sinks.new }
+    ensures facts { EachKept S.guarantee sinks.old sinks.new }
     ensures checked { IfOk result (λ ends.
         IsCheckedOnce S.events store.now jobs.now ends.items sinks.new (C.checked check.new)) }
     ensures untouched { OnErr result ((sinks.new ≡ sinks.old) × (C.checked check.new ≡ [])) }
@@ -60,7 +60,7 @@ fn export_job<S: Sink, C: Check>(
     requires failed { S.failed sink.old ≡ [] }
     ensures exported { Exports store.now number job.now result
         (S.events sink.new) (S.failed sink.new) (C.checked check.old) (C.checked check.new) }
-    ensures kept { Keeps S.fact sink.old sink.new }
+    ensures kept { Keeps S.guarantee sink.old sink.new }
 {
     let end = walk_job(alloc, store, job, number, sink, check).unwrap_or(End::Memory);
     sink.close(end);
@@ -81,7 +81,7 @@ fn walk_job<S: Sink, C: Check>(
     requires failed { S.failed sink.old ≡ [] }
     ensures walked { IsWalked store.now number job.now (end_of result) (C.checked check.old)
         (told_by S.events S.failed C.checked sink.new check.new) }
-    ensures kept { Keeps S.fact sink.old sink.new }
+    ensures kept { Keeps S.guarantee sink.old sink.new }
 {
     let mut state = SinkState::Taking;
     for item in Walk::new(alloc, store, job, number)? {
@@ -106,7 +106,7 @@ fn hand_on<S: Sink, C: Check>(
 ) -> Result<SinkState, AllocError>
     requires visit { IsVisitOf store.now visit }
     requires can { CanHand state (S.events sink.old) (S.failed sink.old) }
-    ensures { HandsOnTo S.events S.failed S.fact C.checked store.now visit state
+    ensures { HandsOnTo S.events S.failed S.guarantee C.checked store.now visit state
         sink.old check.old result sink.new check.new }
 {
     let verdict = check.check(alloc, store, &visit)?;
@@ -123,7 +123,7 @@ fn deliver_one<S: Sink>(
     sink: &mut S,
 ) -> Result<SinkState, AllocError>
     requires can { CanHand state (S.events sink.old) (S.failed sink.old) }
-    ensures { DeliversTo S.events S.failed S.fact (record { visit = visit; verdict = verdict }) state
+    ensures { DeliversTo S.events S.failed S.guarantee (record { visit = visit; verdict = verdict }) state
         sink.old result sink.new }
 {
     if state == SinkState::Failed {

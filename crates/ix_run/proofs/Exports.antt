@@ -13,7 +13,7 @@ use Rattle.ix_archive.specs.Verified.{judged_visits}
 use Rattle.ix_archive.specs.Archive.{archive_with}
 use Rattle.ix_archive.specs.ArchiveMeaning.{HasWritten}
 use Rattle.ix_car.specs.Reading.{◌>>=◌, blocks_of}
-use Rattle.ix_jobs.specs.declared.outcome.JobResult.{JobResult}
+use Rattle.ix_jobs.specs.declared.results.JobResult.{JobResult}
 use Rattle.ix_run.specs.Root.{root_job, exported, exported_from, is_whole_end, is_whole}
 use Rattle.ix_run.specs.Run.{IsEndOf, IsRun, EachRun}
 use Rattle.ix_run.proofs.Told.{same_deliveries}

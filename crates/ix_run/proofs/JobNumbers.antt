@@ -6,9 +6,9 @@ use Rattle.std.specs.List.{slice_split}
 use Rattle.std.specs.Str.Lines.{strip_carriage_return}
 use Rattle.std.proofs.lemmas.Bool.{leb-false}
 use Rattle.ix_walk.specs.JobMeaning.{JobMeaning, going_in, walked}
-use Rattle.ix_jobs.specs.declared.fault.JobsKind.{JobsKind}
+use Rattle.ix_jobs.specs.declared.fault.JobErrorKind.{JobErrorKind}
 use Rattle.ix_jobs.specs.declared.fault.JobsFault.{JobsFault}
-use Rattle.ix_jobs.specs.declared.fault.JobsKind.TheVariants.{Repeated, TooMany}
+use Rattle.ix_jobs.specs.declared.fault.JobErrorKind.TheVariants.{Repeated, TooMany}
 use Rattle.std.proofs.lemmas.List.{length-map}
 use Rattle.ix_cid.proofs.Results.{ok_same}
 use Rattle.ix_jobs.specs.Jobs.{◌>>=◌, is_ignored, line_job, joined, with_line, at_line, jobs_from, jobs_of, is_taken}
@@ -27,16 +27,16 @@ module _ (before jobs : List JobMeaning) (few : length before ≤ 1000) where
   joined-few job false h = one_more job (leb 1000 (length before)) refl h
 
   -- the same for a job that is read first
-  read-few : (read : Result JobMeaning JobsKind) → (read >>= joined 1000 before) ≡ Ok jobs → length jobs ≤ 1000
+  read-few : (read : Result JobMeaning JobErrorKind) → (read >>= joined 1000 before) ≡ Ok jobs → length jobs ≤ 1000
   read-few (Ok job) h = joined-few job (is_taken before job.name) h
   read-few (Err kind) h = absurd cc
 
   -- the same for a line, which may be ignored
-  line-few : (ignored : Bool) (read : Result JobMeaning JobsKind) → cond ignored (Ok before) (read >>= joined 1000 before) ≡ Ok jobs → length jobs ≤ 1000
+  line-few : (ignored : Bool) (read : Result JobMeaning JobErrorKind) → cond ignored (Ok before) (read >>= joined 1000 before) ≡ Ok jobs → length jobs ≤ 1000
   line-few true read h = subst (λ l. length l ≤ 1000) (ok_same before jobs h) few
   line-few false read h = read-few read h
 
-behind-few : (line : ℕ) (jobs : List JobMeaning) (ls : List (List ℕ)) (read : Result (List JobMeaning) JobsKind) → ((more : List JobMeaning) → length more ≤ 1000 → jobs_from 1000 (line + 1) more ls ≡ Ok jobs → length jobs ≤ 1000)
+behind-few : (line : ℕ) (jobs : List JobMeaning) (ls : List (List ℕ)) (read : Result (List JobMeaning) JobErrorKind) → ((more : List JobMeaning) → length more ≤ 1000 → jobs_from 1000 (line + 1) more ls ≡ Ok jobs → length jobs ≤ 1000)
     → ((more : List JobMeaning) → read ≡ Ok more → length more ≤ 1000) → (at_line line read >>= (λ more. jobs_from 1000 (line + 1) more ls)) ≡ Ok jobs → length jobs ≤ 1000
 behind-few line jobs ls (Ok more) rest few h = rest more (few more refl) h
 behind-few line jobs ls (Err kind) rest few h = absurd cc

@@ -11,7 +11,7 @@ use Rattle.ix_archive.specs.Faithful.{IsFaithful}
 use Rattle.ix_archive.specs.ArchiveMeaning.{ArchiveMeaning, HasArchived, HasWritten, IsBegun, IsCountOf, events_of}
 use Rattle.ix_archive.specs.Archived.{IsArchived}
 use Rattle.ix_archive.specs.Report.{counts_of}
-use Rattle.ix_jobs.specs.declared.outcome.JobResult.{JobResult}
+use Rattle.ix_jobs.specs.declared.results.JobResult.{JobResult}
 use Rattle.ix_pipeline.specs.Headline.{EachDelivered, EachArchived, Keeps, EachKept, EachFresh}
 use Rattle.std.proofs.Math.Seq.{take-append_seam}
 use Rattle.std.proofs.lemmas.Option.{same_Some}
@@ -49,9 +49,9 @@ module _ {W : Type 0} (told : W → Option (List ℕ)) where
       let same : ds ≡ _ = same_deliveries ds last.closed _ end faithful.told in
       let shown : events_of last ≡ map delivery ds ++ close end ∷ [] = faithful.told ∙ ap (λ l. map delivery l ++ close end ∷ []) (sym same) in
       let of_events : deliveries_of (events_of last) ≡ ds = told-back ds last.closed in
-      let fact : HasArchived told last store job (told before) = kept store job (told before) fresh in
+      let guarantee : HasArchived told last store job (told before) = kept store job (told before) fresh in
       let wrote : (h : told before ≡ Some []) → HasWritten (told last.writer) store job.roots (deliveries_of (events_of last)) last.failed =
-      λ h. subst (λ l. HasWritten (told last.writer) store job.roots l last.failed) (sym of_events) (fact.written h) in
+      λ h. subst (λ l. HasWritten (told last.writer) store job.roots l last.failed) (sym of_events) (guarantee.written h) in
       record {
         end = end;
         delivered = ds;
@@ -60,17 +60,17 @@ module _ {W : Type 0} (told : W → Option (List ℕ)) where
         faithful = subst (λ l. IsFaithful store n job end l last.failed) shown faithful;
         ended = ended.ended;
         skips = ended.skips;
-        counts = ended.counts ∙ ap (λ s. counts_of s ds last.taken) fact.same_store;
+        counts = ended.counts ∙ ap (λ s. counts_of s ds last.taken) guarantee.same_store;
         counted = λ h.
-            let some = written-tells (told last.writer) store job.roots ds last.failed (fact.written h) in
-            count_kept (told last.writer) (told after) last.taken some.0 ended.flushed some.1 (fact.counted h);
+            let some = written-tells (told last.writer) store job.roots ds last.failed (guarantee.written h) in
+            count_kept (told last.writer) (told after) last.taken some.0 ended.flushed some.1 (guarantee.counted h);
         written = λ h.
-            let some = written-tells (told last.writer) store job.roots ds last.failed (fact.written h) in
+            let some = written-tells (told last.writer) store job.roots ds last.failed (guarantee.written h) in
             let same_told : told last.writer ≡ told after = some.1 ∙ sym (keeps_told (told last.writer) (told after) some.0 ended.flushed some.1) in
-            subst (λ o. HasWritten o store job.roots ds last.failed) same_told (fact.written h);
+            subst (λ o. HasWritten o store job.roots ds last.failed) same_told (guarantee.written h);
         whole = λ h done. keeps_told (told last.writer) (told after) _ ended.flushed (archived.whole (done_is_done end result.end ended.ended done) (told last.writer) (wrote h));
         beginning = λ h bytes shows.
-            let some = written-tells (told last.writer) store job.roots ds last.failed (fact.written h) in
+            let some = written-tells (told last.writer) store job.roots ds last.failed (guarantee.written h) in
             let same_bytes : some.0 ≡ bytes = same_Some some.0 bytes (sym (keeps_told (told last.writer) (told after) some.0 ended.flushed some.1) ∙ shows) in
             archived.beginning bytes (subst (λ o. HasWritten o store job.roots (deliveries_of (events_of last)) last.failed) (some.1 ∙ ap (λ l. Some l) same_bytes) (wrote h));
       }
@@ -104,14 +104,14 @@ module _ {W : Type 0} (told : W → Option (List ℕ)) where
   pub EachBegun-more : (store : Blocks) (jobs : List JobMeaning) (writers : List W) (archives : List (ArchiveMeaning W)) (job : JobMeaning) (writer : W) (archive : ArchiveMeaning W)
       → EachBegun told store jobs writers archives → IsBegun archive store job.roots → HasArchived told archive store job (told writer)
       → EachBegun told store (jobs ++ job ∷ []) (writers ++ writer ∷ []) (archives ++ archive ∷ [])
-  EachBegun-more store [] [] [] job writer archive so_far begun fact = ((begun, fact), tt)
-  EachBegun-more store [] [] (a ∷ xs) job writer archive so_far begun fact = absurd so_far
-  EachBegun-more store [] (w ∷ ws) [] job writer archive so_far begun fact = absurd so_far
-  EachBegun-more store [] (w ∷ ws) (a ∷ xs) job writer archive so_far begun fact = absurd so_far
-  EachBegun-more store (j ∷ js) [] [] job writer archive so_far begun fact = absurd so_far
-  EachBegun-more store (j ∷ js) [] (a ∷ xs) job writer archive so_far begun fact = absurd so_far
-  EachBegun-more store (j ∷ js) (w ∷ ws) [] job writer archive so_far begun fact = absurd so_far
-  EachBegun-more store (j ∷ js) (w ∷ ws) (a ∷ xs) job writer archive so_far begun fact = (so_far.0, EachBegun-more store js ws xs job writer archive so_far.1 begun fact)
+  EachBegun-more store [] [] [] job writer archive so_far begun guarantee = ((begun, guarantee), tt)
+  EachBegun-more store [] [] (a ∷ xs) job writer archive so_far begun guarantee = absurd so_far
+  EachBegun-more store [] (w ∷ ws) [] job writer archive so_far begun guarantee = absurd so_far
+  EachBegun-more store [] (w ∷ ws) (a ∷ xs) job writer archive so_far begun guarantee = absurd so_far
+  EachBegun-more store (j ∷ js) [] [] job writer archive so_far begun guarantee = absurd so_far
+  EachBegun-more store (j ∷ js) [] (a ∷ xs) job writer archive so_far begun guarantee = absurd so_far
+  EachBegun-more store (j ∷ js) (w ∷ ws) [] job writer archive so_far begun guarantee = absurd so_far
+  EachBegun-more store (j ∷ js) (w ∷ ws) (a ∷ xs) job writer archive so_far begun guarantee = (so_far.0, EachBegun-more store js ws xs job writer archive so_far.1 begun guarantee)
 
   -- a result more
   pub EachEnded-more : (archives : List (ArchiveMeaning W)) (es : List End) (results : List JobResult) (writers : List W) (archive : ArchiveMeaning W) (end : End) (result : JobResult) (writer : W)

@@ -2,7 +2,7 @@
 use Rattle.std.specs.Prelude.{ℕ, Bool, not, ◌&&◌, List, bytes_eq}
 use Rattle.std.specs.List.{list_any}
 use Rattle.ix_walk.specs.JobMeaning.{JobMeaning}
-use Rattle.ix_jobs.specs.declared.outcome.JobResult.{JobResult}
+use Rattle.ix_jobs.specs.declared.results.JobResult.{JobResult}
 use Rattle.ix_jobs.specs.Report.{is_done}
 
 -- whether a CID is that of a root

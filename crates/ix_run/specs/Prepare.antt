@@ -8,17 +8,17 @@ use Rattle.ix_walk.specs.JobMeaning.{JobMeaning, AreFew}
 use Rattle.ix_car.specs.Reading.{blocks_of}
 use Rattle.ix_car.specs.Gives as car
 use Rattle.ix_jobs.specs.Gives as jobs
-use Rattle.ix_jobs.specs.declared.fault.JobsKind.{JobsKind}
+use Rattle.ix_jobs.specs.declared.fault.JobErrorKind.{JobErrorKind}
 use Rattle.ix_run.specs.declared.fault.RunFault.{RunFault}
 use Rattle.ix_run.specs.declared.fault.RunFault.TheVariants.{Hex, Root, Car, Jobs, Write, Memory}
 
 -- the blocks of this file, and the jobs that are meant, of which there are at most 1,000
-abbrev pub IsLoaded : List ℕ → Result (List JobMeaning) (JobsKind × ℕ) → Arc Blocks Global × Arc (Vec JobMeaning) Global → Type 0
+abbrev pub IsLoaded : List ℕ → Result (List JobMeaning) (JobErrorKind × ℕ) → Arc Blocks Global × Arc (Vec JobMeaning) Global → Type 0
 IsLoaded file meant loaded =
     (blocks_of file ≡ Ok (arc_value loaded.0)) × (meant ≡ Ok (arc_value loaded.1).items) × AreFew (arc_value loaded.1).items
 
 -- The first fault of the CARv1 file; or, where that is good, that of the job file, of whose jobs this is meant; or memory ran out.
-abbrev pub IsFilesRefusal : List ℕ → Result (List JobMeaning) (JobsKind × ℕ) → RunFault → Type 0
+abbrev pub IsFilesRefusal : List ℕ → Result (List JobMeaning) (JobErrorKind × ℕ) → RunFault → Type 0
 IsFilesRefusal file meant (Car fault) = car.IsFaultOf file fault (blocks_of file)
 IsFilesRefusal file meant (Jobs fault) = ((store : Blocks) × (blocks_of file ≡ Ok store)) × jobs.IsFaultOf fault meant
 IsFilesRefusal file meant Memory = Unit {0}

@@ -11,7 +11,7 @@ use Rattle.ix_archive.specs.Verified.{judged_visits}
 use Rattle.ix_archive.specs.Archive.{archive_with}
 use Rattle.ix_car.specs.Reading.{Fault, ◌>>=◌, blocks_of}
 use Rattle.ix_car.specs.Gives.{IsFaultOf}
-use Rattle.ix_jobs.specs.declared.outcome.JobResult.{JobResult}
+use Rattle.ix_jobs.specs.declared.results.JobResult.{JobResult}
 use Rattle.ix_run.specs.Run.{EachRun}
 use Rattle.ix_run.specs.declared.fault.RunFault.{RunFault}
 use Rattle.ix_run.specs.declared.fault.RunFault.TheVariants as faults

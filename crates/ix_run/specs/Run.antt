@@ -15,7 +15,7 @@ use Rattle.ix_archive.specs.Archive.{archive_of}
 use Rattle.ix_archive.specs.ArchiveMeaning.{ArchiveMeaning, HasArchived, HasWritten, IsBegun, IsCountOf}
 use Rattle.ix_archive.specs.Archived.{IsBeginning}
 use Rattle.ix_archive.specs.Report.{skips_of, counts_of}
-use Rattle.ix_jobs.specs.declared.outcome.JobResult.{JobResult}
+use Rattle.ix_jobs.specs.declared.results.JobResult.{JobResult}
 use Rattle.ix_jobs.specs.Report.{report_of, status_of}
 use Rattle.ix_run.specs.declared.fault.RunFault.{RunFault}
 use Rattle.ix_run.specs.declared.fault.RunFault.TheVariants.{Hex, Root, Car, Jobs, Write, Memory}

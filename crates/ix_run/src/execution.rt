@@ -17,7 +17,7 @@ ghost use Rattle.ix_run.specs.Run.{
 };
 
 use crate::fault::RunFault;
-use crate::watch::{Unwatched, Watch, Watched};
+use crate::observer::{Observed, Observer, Unobserved};
 use ix_archive::{Archive, ArchiveNew, End};
 use ix_check::{Check, ShaCheck};
 use ix_jobs::{JobResult, report, status};
@@ -65,7 +65,7 @@ pub fn run<R: Threads + Wait + Sync, W: Write + Drop>(
         verifiers,
         plan,
     };
-    run_watched(rt, alloc, input, writers, &Unwatched)
+    run_observed(rt, alloc, input, writers, &Unobserved)
 }
 
 /// The inputs of a run besides its writers: the blocks, the jobs, and the number of threads.
@@ -78,14 +78,14 @@ pub struct RunInput<'a> {
     pub plan: Plan,
 }
 
-/// Runs the jobs as `run` does, and notifies a watch: first of the bytes of each header, then of each
+/// Runs the jobs as `run` does, and notifies an observer: first of the bytes of each header, then of each
 /// delivery and its bytes, and of each close.
-pub fn run_watched<R: Threads + Wait + Sync, W: Write + Drop, V: Watch>(
+pub fn run_observed<R: Threads + Wait + Sync, W: Write + Drop, V: Observer>(
     rt: &R,
     alloc: Global,
     input: RunInput<'_>,
     writers: Vec<W>,
-    watch: &V,
+    observer: &V,
 ) -> Result<RunOut<W>, RunFault>
     requires run { CanRun (arc_value input.jobs.now).items writers.items }
     requires plan { IsPlan input.plan input.verifiers }
@@ -100,18 +100,18 @@ pub fn run_watched<R: Threads + Wait + Sync, W: Write + Drop, V: Watch>(
         verifiers,
         plan,
     } = input;
-    let mut archives = begun(alloc, store, jobs.as_slice(), writers, watch)?;
+    let mut archives = start_archives(alloc, store, jobs.as_slice(), writers, observer)?;
     let checks = sha_checks(alloc, verifiers)?;
     let sinks = archives.as_mut_slice();
     let Ok(outcome) = export(rt, alloc, store, jobs, sinks, checks, &Open, plan) else {
         return Err(RunFault::Memory);
     };
-    let (results, writers) = ended(alloc, archives, outcome.ends.as_slice())?;
-    Ok(left_of(alloc, jobs.as_slice(), results, writers)?)
+    let (results, writers) = finish_archives(alloc, archives, outcome.ends.as_slice())?;
+    Ok(summarize(alloc, jobs.as_slice(), results, writers)?)
 }
 
 // Returns the result of a run from the jobs' results and their writers.
-fn left_of<W: Drop>(
+fn summarize<W: Drop>(
     alloc: Global,
     jobs: &[Job],
     results: Vec<JobResult>,
@@ -165,20 +165,20 @@ pub fn run_jobs<W: Write + Drop, C: Check>(
     ensures ran { IfOk result (λ out. HaveRun W.contents store.now jobs.now writers.items out) }
     ensures refused { IfErr result (λ fault. IsRunRefusal jobs.now fault) }
 {
-    let watch = Unwatched;
-    let mut archives = begun(alloc, store, jobs, writers, &watch)?;
+    let observer = Unobserved;
+    let mut archives = start_archives(alloc, store, jobs, writers, &observer)?;
     let ends = export_plain(alloc, store, jobs, archives.as_mut_slice(), check)?;
-    Ok(ended(alloc, archives, ends.as_slice())?)
+    Ok(finish_archives(alloc, archives, ends.as_slice())?)
 }
 
-// Makes an archive for each job, writes its header, and notifies the watch.
-fn begun<'a, W: Write + Drop, V: Watch>(
+// Makes an archive for each job, writes its header, and notifies the observer.
+fn start_archives<'a, W: Write + Drop, V: Observer>(
     alloc: Global,
     store: &'a Store,
     jobs: &[Job],
     writers: Vec<W>,
-    watch: &'a V,
-) -> Result<Vec<Watched<'a, W, V>>, RunFault>
+    observer: &'a V,
+) -> Result<Vec<Observed<'a, W, V>>, RunFault>
     requires { CanRun jobs.now writers.items }
     ensures begun { IfOk result (λ archives.
         EachBegun W.contents store.now jobs.now writers.items archives.items) }
@@ -187,7 +187,7 @@ fn begun<'a, W: Write + Drop, V: Watch>(
     let mut archives = Vec::with_capacity(alloc, jobs.len())?;
     for (job, writer) in jobs.iter().zip(writers) {
         match Archive::new(alloc, store, job, writer) {
-            Ok(archive) => archives.push(Watched::new(archive, watch))?,
+            Ok(archive) => archives.push(Observed::new(archive, observer))?,
             Err(ArchiveNew::Write(_)) => return Err(RunFault::Write(archives.len() as u32)),
             Err(ArchiveNew::Memory(_)) => return Err(RunFault::Memory),
         }
@@ -196,9 +196,9 @@ fn begun<'a, W: Write + Drop, V: Watch>(
 }
 
 // Returns the results of the archives with these ends, and their writers.
-fn ended<'a, W: Write + Drop, V: Watch>(
+fn finish_archives<'a, W: Write + Drop, V: Observer>(
     alloc: Global,
-    archives: Vec<Watched<'a, W, V>>,
+    archives: Vec<Observed<'a, W, V>>,
     ends: &[End],
 ) -> Result<(Vec<JobResult>, Vec<W>), AllocError>
     requires { length archives.items ≡ length ends.now }
@@ -209,7 +209,7 @@ fn ended<'a, W: Write + Drop, V: Watch>(
     let mut writers = Vec::with_capacity(alloc, ends.len())?;
     for (archive, end) in archives.into_iter().zip(ends) {
         let (mut writer, skips, counts) = archive.into_parts();
-        let end = flushed(&mut writer, *end);
+        let end = flush_writer(&mut writer, *end);
         results.push(JobResult { end, counts, skips })?;
         writers.push(writer)?;
     }
@@ -218,7 +218,7 @@ fn ended<'a, W: Write + Drop, V: Watch>(
 
 // Flushes the writer of a job and returns the job's end: a flush that fails is a failed write. If
 // memory ran out, that is reported first.
-fn flushed<W: Write>(writer: &mut W, end: End) -> End
+fn flush_writer<W: Write>(writer: &mut W, end: End) -> End
     ensures end { IsEndOf end result }
     ensures bytes { Keeps (W.contents writer.old) (W.contents writer.new) }
 {

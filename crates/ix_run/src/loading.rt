@@ -20,7 +20,7 @@ use std::thread::Threads;
 
 /// Which jobs of a job file are run, and how they are walked.
 #[derive(Debug, Drop, Clone, Copy)]
-pub struct Choice {
+pub struct JobChoice {
     /// The part of its jobs, or all.
     pub part: Option<Part>,
     /// Whether each job expands a CID once, and not at every link to it.
@@ -35,7 +35,7 @@ pub fn load_by<R: Threads + Sync>(
     alloc: Global,
     car: Vec<u8>,
     job_file: &[u8],
-    choice: Choice,
+    choice: JobChoice,
     threads: usize,
 ) -> Result<(Arc<Store>, Arc<Vec<Job>>), RunFault>
     ensures blocks { IfOk result (λ p. blocks_of car.items ≡ Ok (arc_value p.0)) }
@@ -66,7 +66,7 @@ fn walked(alloc: Global, jobs: Vec<Job>, once: bool) -> Result<Vec<Job>, AllocEr
     ensures { IfOk result (λ walked_jobs. walked_jobs.items ≡ walked once jobs.items) }
 {
     if once {
-        jobs.into_iter().map(|job| job.once()).collect(alloc)
+        jobs.into_iter().map(|job| job.links_once()).collect(alloc)
     } else {
         Ok(jobs)
     }

@@ -4,16 +4,16 @@ use Rattle.std.specs.Prelude.{Option, Some}
 use Rattle.std.specs.List.{All}
 use Rattle.std.proofs.lemmas.List.Elements.{All-head, All-tail, All-push}
 use Rattle.std.proofs.lemmas.List.{take_more}
-use Rattle.ix_selector.specs.declared.spot.Spot.{Spot}
-use Rattle.ix_selector.specs.declared.pair.Pair.{Pair}
+use Rattle.ix_selector.specs.declared.selector_node.SelectorNode.{SelectorNode}
+use Rattle.ix_selector.specs.declared.state.State.{State}
 use Rattle.ix_selector.specs.Pattern.{Pattern, matcher, all, fields, index, range, recursive, union, edge}
 use Rattle.ix_selector.specs.Enters.{Step, Path, Frame, Enters, below_all}
 use Rattle.ix_selector.specs.IsEntered.{entered_within}
-use Rattle.ix_selector.specs.Residual.{Place, IsAmong, here, there, ResidualEnters, residual_enters, EntersBehind, IsBehind}
-use Rattle.ix_selector.specs.Places.{places_of, AreSpots}
-use Rattle.ix_selector.specs.Pairs.{seen_pairs}
-use Rattle.ix_selector.specs.Behind.{leads_behind, leads_behind_from, all_lead_behind, residual_behind, IsLeftBehind, standing, again, entering}
-use Rattle.ix_selector.specs.Alike.{LooksAtNoStep, SpotLooksAtNoStep, LookAtNoStep, PairLooksAtNoStep, EachStepLeaves}
+use Rattle.ix_selector.specs.Residual.{Place, IsAmong, here, there, ResidualEnters, residual_enters, EntersAfter, IsAfter}
+use Rattle.ix_selector.specs.Places.{places_of, AreNodes}
+use Rattle.ix_selector.specs.States.{seen_states}
+use Rattle.ix_selector.specs.Behind.{leads_after, leads_after_from, all_lead_after, residual_after, IsLeftAfter, standing, again, entering}
+use Rattle.ix_selector.specs.Alike.{LooksAtNoStep, NodeLooksAtNoStep, LookAtNoStep, StateLooksAtNoStep, EachStepLeaves}
 use Rattle.ix_selector.proofs.Inside.{place-is}
 use Rattle.ix_selector.proofs.Leading.{matcher_nowhere, out_all}
 
@@ -45,7 +45,7 @@ tested_alike n (union ss) a e t u p = absurd a
 tested_alike n edge a e t u p = absurd a
 
 -- it leads to the same places
-lead_alike : (s : Pattern) → LooksAtNoStep s → (t u : Step) (n : ℕ) (e : List Frame) (q : Option ℕ) → leads_behind s t n e q ≡ leads_behind s u n e q
+lead_alike : (s : Pattern) → LooksAtNoStep s → (t u : Step) (n : ℕ) (e : List Frame) (q : Option ℕ) → leads_after s t n e q ≡ leads_after s u n e q
 lead_alike matcher a t u n e q = refl
 lead_alike (all s) a t u n e q = refl
 lead_alike (fields fs) a t u n e q = absurd a
@@ -74,20 +74,20 @@ residual_tested_alike (x ∷ xs) a t u p =
     λ i. first i || rest i
 
 -- place by place
-all_lead_alike : (xs : List Place) → LookAtNoStep xs → (t u : Step) → all_lead_behind xs t ≡ all_lead_behind xs u
+all_lead_alike : (xs : List Place) → LookAtNoStep xs → (t u : Step) → all_lead_after xs t ≡ all_lead_after xs u
 all_lead_alike [] a t u = refl
 all_lead_alike (x ∷ xs) a t u =
-    let first : leads_behind_from x t ≡ leads_behind_from x u = lead_alike x.selector a.0 t u _ x.around x.sequence in
+    let first : leads_after_from x t ≡ leads_after_from x u = lead_alike x.selector a.0 t u _ x.around x.sequence in
     let rest = all_lead_alike xs a.1 t u in
     λ i. first i ++ rest i
 
 -- so the residual is the same after any step
-left_alike : (xs : List Place) → LookAtNoStep xs → (t u : Step) → residual_behind xs t ≡ residual_behind xs u
-unfolding residual_behind
+left_alike : (xs : List Place) → LookAtNoStep xs → (t u : Step) → residual_after xs t ≡ residual_after xs u
+unfolding residual_after
 left_alike xs a t u = let found = all_lead_alike xs a t u in λ i. entering (standing (found i)) (again (found i))
 
 -- what one step leaves, each does
-pub each-leaves : (xs r : List Place) (t : Step) → LookAtNoStep xs → ResidualEnters r [] → EntersBehind xs t r → IsBehind xs t (Some r) → IsLeftBehind xs t r → EachStepLeaves xs r
+pub each-leaves : (xs r : List Place) (t : Step) → LookAtNoStep xs → ResidualEnters r [] → EntersAfter xs t r → IsAfter xs t (Some r) → IsLeftAfter xs t r → EachStepLeaves xs r
 each-leaves xs r t a entered below tested exact = record {
   entered = entered;
   below = λ u p. (λ h. residual_enters_alike xs a t u p ((below p).0 h), λ h. (below p).1 (residual_enters_alike xs a u t p h));
@@ -95,15 +95,15 @@ each-leaves xs r t a entered below tested exact = record {
   exact = λ u. exact ∙ left_alike xs a t u;
 }
 
--- pairs are seen as such places
-pub seen-alike_steps : (spots : List Spot) (xs : List Pair) → All (PairLooksAtNoStep spots) xs → LookAtNoStep (seen_pairs spots xs)
-seen-alike_steps spots [] h = tt
-seen-alike_steps spots (x ∷ xs) h = (All-head (PairLooksAtNoStep spots) x xs h, seen-alike_steps spots xs (All-tail (PairLooksAtNoStep spots) x xs h))
+-- states are seen as such places
+pub seen-alike_steps : (nodes : List SelectorNode) (xs : List State) → All (StateLooksAtNoStep nodes) xs → LookAtNoStep (seen_states nodes xs)
+seen-alike_steps nodes [] h = tt
+seen-alike_steps nodes (x ∷ xs) h = (All-head (StateLooksAtNoStep nodes) x xs h, seen-alike_steps nodes xs (All-tail (StateLooksAtNoStep nodes) x xs h))
 
--- one more pair looks at no step
-pub pair-more : (spots : List Spot) (xs : List Pair) (i : ℕ) (x : Pair) (y : Spot) → AreSpots 0 spots → i < length xs → x ≡ get_or xs i x → x.place < length spots → y ≡ get_or spots x.place y → SpotLooksAtNoStep y
-    → All (PairLooksAtNoStep spots) (take i xs) → All (PairLooksAtNoStep spots) (take (i + 1) xs)
-pair-more spots xs i x y table within is inside at_y looks so_far =
+-- one more state looks at no step
+pub state-more : (nodes : List SelectorNode) (xs : List State) (i : ℕ) (x : State) (y : SelectorNode) → AreNodes 0 nodes → i < length xs → x ≡ get_or xs i x → x.place < length nodes → y ≡ get_or nodes x.place y → NodeLooksAtNoStep y
+    → All (StateLooksAtNoStep nodes) (take i xs) → All (StateLooksAtNoStep nodes) (take (i + 1) xs)
+state-more nodes xs i x y table within is inside at_y looks so_far =
     let more : take (i + 1) xs ≡ take i xs ++ x ∷ [] = take_more xs i x within ∙ ap (λ z. take i xs ++ z ∷ []) (sym is) in
-    subst (All (PairLooksAtNoStep spots)) (sym more)
-    (All-push (PairLooksAtNoStep spots) (take i xs) x so_far (subst LooksAtNoStep (sym (place-is spots x.place y table inside at_y)) (looks (places_of spots))))
+    subst (All (StateLooksAtNoStep nodes)) (sym more)
+    (All-push (StateLooksAtNoStep nodes) (take i xs) x so_far (subst LooksAtNoStep (sym (place-is nodes x.place y table inside at_y)) (looks (places_of nodes))))

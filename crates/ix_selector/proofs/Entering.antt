@@ -4,7 +4,7 @@ use Rattle.std.specs.Prelude.{Option, Some, None, nat_le}
 use Rattle.std.proofs.lemmas.Bool.{leb-true, le-leb}
 use Rattle.ix_selector.specs.Pattern.{Pattern, matcher, all, fields, index, range, recursive, union, edge}
 use Rattle.ix_selector.specs.Enters.{Path, Frame, Enters, at_matcher, at_all, at_fields, at_index, at_range, below_all, below_fields, below_index, below_range, in_union, in_recursion, at_edge, at_edge_within}
-use Rattle.ix_selector.specs.Pairs.{deeper, Stands}
+use Rattle.ix_selector.specs.States.{deeper, Stands}
 
 -- a matcher or explorer enters its own place
 pub stands-enters : (s : Pattern) (e : List Frame) → Stands s → Enters s e []

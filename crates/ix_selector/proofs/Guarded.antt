@@ -7,7 +7,7 @@ use Rattle.ix_cbor.specs.Data.{Data, Items, Entries, text, list, map, no_items, 
 use Rattle.ix_selector.specs.declared.fault.SelFault.{SelFault}
 use Rattle.ix_selector.specs.declared.fault.SelFault.TheVariants.{NotMap, Keys, Unknown, Unsupported, Kind, Depth, EdgeOutside, EdgeUnguarded, Nesting}
 use Rattle.ix_selector.specs.declared.fault.Form.TheVariants.{MatcherField, StopAt, Conditional, InterpretAs}
-use Rattle.ix_selector.specs.Pattern.{Pattern, Fields, Members, matcher, all, fields, index, range, recursive, union, edge, no_fields, field, no_members, member, Around, outside, unguarded, guarded, behind_step, nesting_of, fields_nesting, members_nesting, IsLimit, IsGuarded, AreGuarded, EachGuarded, greatest_nesting, IsSelector}
+use Rattle.ix_selector.specs.Pattern.{Pattern, Fields, Members, matcher, all, fields, index, range, recursive, union, edge, no_fields, field, no_members, member, Around, outside, unguarded, guarded, after_step, nesting_of, fields_nesting, members_nesting, IsLimit, IsGuarded, AreGuarded, EachGuarded, greatest_nesting, IsSelector}
 use Rattle.ix_selector.specs.Reading.{Reader, ◌>>=◌, matcher_of, integer_of, entries_of_map, one_of, two_of, three_of, fields_read, members_read, has_key, no_limit_of, depth_of, limit_of, all_read, fields_form, index_form, range_form, recursive_form, edge_form, union_form, form_of, read_with, selector_at, selector_of, without_envelope}
 
 -- a selector that is allowed there and nests at most n deep
@@ -77,19 +77,19 @@ module _ (n : ℕ) (read : Reader) (good : (around : Around) (d : Data) (s : Pat
   -- each form is a selector where what is inside is one
   all_good : (around : Around) (es : Entries) (s : Pattern) → all_read read around es ≡ Ok s → MayBe (n + 1) around s
   all_good around es s h =
-      let one = bind_ok (one_of (codes ">") es) (λ d. read (behind_step around) d >>= (λ s. Ok (all s))) s h in
-      let inner = bind_ok (read (behind_step around) one.0) (λ s. Ok (all s)) s one.2 in
-      let below = good (behind_step around) one.0 inner.0 inner.1 in
+      let one = bind_ok (one_of (codes ">") es) (λ d. read (after_step around) d >>= (λ s. Ok (all s))) s h in
+      let inner = bind_ok (read (after_step around) one.0) (λ s. Ok (all s)) s one.2 in
+      let below = good (after_step around) one.0 inner.0 inner.1 in
       subst (λ s. MayBe (n + 1) around s) (ok_same (all inner.0) s inner.2) (record { edges = below.edges; nesting = omega (arith, below.nesting) })
 
   -- `index`
   index_good : (around : Around) (es : Entries) (s : Pattern) → index_form read around es ≡ Ok s → MayBe (n + 1) around s
   index_good around es s h =
-      let two = bind_ok (two_of (codes ">") (codes "i") es) (λ d. integer_of d.1 >>= (λ i. read (behind_step around) d.0 >>= (λ s. Ok (index i s)))) s h in
+      let two = bind_ok (two_of (codes ">") (codes "i") es) (λ d. integer_of d.1 >>= (λ i. read (after_step around) d.0 >>= (λ s. Ok (index i s)))) s h in
       let d = two.0 in
-      let at = bind_ok (integer_of d.1) (λ i. read (behind_step around) d.0 >>= (λ s. Ok (index i s))) s two.2 in
-      let inner = bind_ok (read (behind_step around) d.0) (λ s. Ok (index at.0 s)) s at.2 in
-      let below = good (behind_step around) d.0 inner.0 inner.1 in
+      let at = bind_ok (integer_of d.1) (λ i. read (after_step around) d.0 >>= (λ s. Ok (index i s))) s two.2 in
+      let inner = bind_ok (read (after_step around) d.0) (λ s. Ok (index at.0 s)) s at.2 in
+      let below = good (after_step around) d.0 inner.0 inner.1 in
       subst (λ s. MayBe (n + 1) around s) (ok_same (index at.0 inner.0) s inner.2) (record { edges = below.edges; nesting = omega (arith, below.nesting) })
 
   -- `range`
@@ -97,12 +97,12 @@ module _ (n : ℕ) (read : Reader) (good : (around : Around) (d : Data) (s : Pat
   range_good around es s h =
       let three =
       bind_ok (three_of (codes "$") (codes ">") (codes "^") es) (λ d. integer_of d.2 >>= (λ start. integer_of d.0 >>= (λ end.
-      read (behind_step around) d.1 >>= (λ s. Ok (range start end s))))) s h in
+      read (after_step around) d.1 >>= (λ s. Ok (range start end s))))) s h in
       let d = three.0 in
-      let first = bind_ok (integer_of d.2) (λ start. integer_of d.0 >>= (λ end. read (behind_step around) d.1 >>= (λ s. Ok (range start end s)))) s three.2 in
-      let last = bind_ok (integer_of d.0) (λ end. read (behind_step around) d.1 >>= (λ s. Ok (range first.0 end s))) s first.2 in
-      let inner = bind_ok (read (behind_step around) d.1) (λ s. Ok (range first.0 last.0 s)) s last.2 in
-      let below = good (behind_step around) d.1 inner.0 inner.1 in
+      let first = bind_ok (integer_of d.2) (λ start. integer_of d.0 >>= (λ end. read (after_step around) d.1 >>= (λ s. Ok (range start end s)))) s three.2 in
+      let last = bind_ok (integer_of d.0) (λ end. read (after_step around) d.1 >>= (λ s. Ok (range first.0 end s))) s first.2 in
+      let inner = bind_ok (read (after_step around) d.1) (λ s. Ok (range first.0 last.0 s)) s last.2 in
+      let below = good (after_step around) d.1 inner.0 inner.1 in
       subst (λ s. MayBe (n + 1) around s) {x = range first.0 last.0 inner.0} (ok_same (range first.0 last.0 inner.0) s inner.2) (record { edges = below.edges; nesting = omega (arith, below.nesting) })
 
   -- a recursion, whose limit fits
@@ -119,21 +119,21 @@ module _ (n : ℕ) (read : Reader) (good : (around : Around) (d : Data) (s : Pat
         rest d = limit_of d.0 >>= (λ limit. read unguarded d.1 >>= (λ s. Ok (recursive limit s)))
 
   -- the selectors of named keys
-  named_good : (around : Around) (es : Entries) (fs : Fields) → fields_read (read (behind_step around)) es ≡ Ok fs → AreGuarded around fs × (fields_nesting fs ≤ n)
+  named_good : (around : Around) (es : Entries) (fs : Fields) → fields_read (read (after_step around)) es ≡ Ok fs → AreGuarded around fs × (fields_nesting fs ≤ n)
   named_good around no_entries fs h = subst (λ fs. AreGuarded around fs × (fields_nesting fs ≤ n)) (ok_same no_fields fs h) (tt, omega arith)
   named_good around (entry k d es) fs h =
-      let inner = bind_ok (read (behind_step around) d) (λ s. fields_read (read (behind_step around)) es >>= (λ fs. Ok (field k s fs))) fs h in
-      let more = bind_ok (fields_read (read (behind_step around)) es) (λ fs. Ok (field k inner.0 fs)) fs inner.2 in
-      let below = good (behind_step around) d inner.0 inner.1 in
+      let inner = bind_ok (read (after_step around) d) (λ s. fields_read (read (after_step around)) es >>= (λ fs. Ok (field k s fs))) fs h in
+      let more = bind_ok (fields_read (read (after_step around)) es) (λ fs. Ok (field k inner.0 fs)) fs inner.2 in
+      let below = good (after_step around) d inner.0 inner.1 in
       let behind = named_good around es more.0 more.1 in
       subst (λ fs. AreGuarded around fs × (fields_nesting fs ≤ n)) (ok_same (field k inner.0 more.0) fs more.2) ((below.edges, behind.0), omega (arith, below.nesting, behind.1))
 
   -- `fields`
   fields_good : (around : Around) (es : Entries) (s : Pattern) → fields_form read around es ≡ Ok s → MayBe (n + 1) around s
   fields_good around es s h =
-      let one = bind_ok (one_of (codes "f>") es) (λ d. entries_of_map d >>= (λ names. fields_read (read (behind_step around)) names >>= (λ fs. Ok (fields fs)))) s h in
-      let names = bind_ok (entries_of_map one.0) (λ names. fields_read (read (behind_step around)) names >>= (λ fs. Ok (fields fs))) s one.2 in
-      let inner = bind_ok (fields_read (read (behind_step around)) names.0) (λ fs. Ok (fields fs)) s names.2 in
+      let one = bind_ok (one_of (codes "f>") es) (λ d. entries_of_map d >>= (λ names. fields_read (read (after_step around)) names >>= (λ fs. Ok (fields fs)))) s h in
+      let names = bind_ok (entries_of_map one.0) (λ names. fields_read (read (after_step around)) names >>= (λ fs. Ok (fields fs))) s one.2 in
+      let inner = bind_ok (fields_read (read (after_step around)) names.0) (λ fs. Ok (fields fs)) s names.2 in
       let below = named_good around names.0 inner.0 inner.1 in
       subst (λ s. MayBe (n + 1) around s) (ok_same (fields inner.0) s inner.2) (record { edges = below.0; nesting = omega (arith, below.1) })
 

@@ -6,17 +6,17 @@ use Rattle.std.specs.Global.{Vec}
 use Rattle.std.specs.Int.Signed.{le_z_yes, lt_z_yes}
 use Rattle.std.proofs.lemmas.Bool.Decides.{Decides-int_eq}
 use Rattle.std.proofs.lemmas.Bool.{and_parts, and_from}
-use Rattle.ix_selector.specs.declared.spot.Spot.{Spot}
-use Rattle.ix_selector.specs.declared.spot.Spot.TheVariants.{Matcher, All as AllSpot, Fields as FieldsSpot, Index as IndexSpot, Range as RangeSpot, Recursive, Union, Edge}
-use Rattle.ix_selector.specs.declared.pair.Pair.{Pair}
-use Rattle.ix_selector.specs.declared.pair.Recursion.{Recursion}
-use Rattle.ix_selector.specs.Pattern.{Pattern, matcher, all, index, range, behind_step, IsGuarded}
+use Rattle.ix_selector.specs.declared.selector_node.SelectorNode.{SelectorNode}
+use Rattle.ix_selector.specs.declared.selector_node.SelectorNode.TheVariants.{Matcher, All as AllNode, Fields as FieldsNode, Index as IndexNode, Range as RangeNode, Recursive, Union, Edge}
+use Rattle.ix_selector.specs.declared.state.State.{State}
+use Rattle.ix_selector.specs.declared.state.Recursion.{Recursion}
+use Rattle.ix_selector.specs.Pattern.{Pattern, matcher, all, index, range, after_step, IsGuarded}
 use Rattle.ix_selector.specs.Enters.{Step, key, nth, Path, Frame, Enters, below_all, below_index, below_range}
 use Rattle.ix_selector.specs.Steps.{is_at, is_within}
 use Rattle.ix_selector.specs.Places.{at, places_of, seen, AreNamedBelow, HasNumber}
 use Rattle.ix_selector.specs.Standing.{IsBeside, in_same}
 use Rattle.ix_selector.specs.Named.{IsNumbered, HasName}
-use Rattle.ix_selector.specs.Pairs.{frames, selector_at, EntersAt, around, IsPair, Stands, Same, LeadsTo, LeadsNowhere}
+use Rattle.ix_selector.specs.States.{frames, selector_at, EntersAt, around, IsState, Stands, Same, LeadsTo, LeadsNowhere}
 use Rattle.ix_selector.proofs.Decides.{true-holds, holds-true}
 
 -- `all` enters only what its inner selector enters after the step
@@ -67,25 +67,25 @@ range_nowhere i j s t is e p h = true≢false (sym (out_range h).0 ∙ is)
 pub matcher_nowhere : (t : Step) → LeadsNowhere matcher t
 matcher_nowhere t e p h = elim h [ ]
 
--- ---- the pair after a step
+-- ---- the state after a step
 
 -- one step more changes nothing inside a recursion that had one
-behind_around : (r : Option Recursion) → behind_step (around r) ≡ around r
-behind_around None = refl
-behind_around (Some r) = refl
+after_around : (r : Option Recursion) → after_step (around r) ≡ around r
+after_around None = refl
+after_around (Some r) = refl
 
--- the place after the step is a pair of the table, in the same recursion
-pub behind-pair : (spots : List Spot) (x : Pair) (t : Step) (k : ℕ) → IsPair spots x → k < length spots → IsBeside spots x.place k → LeadsTo (selector_at spots x) t (at (places_of spots) k) → IsPair spots (record { place = k; recursion = x.recursion })
-behind-pair spots x t k is within beside leads = record {
+-- the place after the step is a state of the table, in the same recursion
+pub behind-state : (nodes : List SelectorNode) (x : State) (t : Step) (k : ℕ) → IsState nodes x → k < length nodes → IsBeside nodes x.place k → LeadsTo (selector_at nodes x) t (at (places_of nodes) k) → IsState nodes (record { place = k; recursion = x.recursion })
+behind-state nodes x t k is within beside leads = record {
   within = within;
-  guarded = subst (λ a. IsGuarded a (at (places_of spots) k)) (behind_around x.recursion) (leads.guarded (around x.recursion) is.guarded);
+  guarded = subst (λ a. IsGuarded a (at (places_of nodes) k)) (after_around x.recursion) (leads.guarded (around x.recursion) is.guarded);
   sequence = is.sequence;
   stands = in_same beside is.stands;
 }
 
--- and enters what the pair before enters after the step
-pub behind-enters : (spots : List Spot) (x : Pair) (t : Step) (k : ℕ) → LeadsTo (selector_at spots x) t (at (places_of spots) k) → Same (EntersAt spots (record { place = k; recursion = x.recursion })) (λ p. EntersAt spots x (t ∷ p))
-behind-enters spots x t k leads p = let both = leads.enters (frames (places_of spots) x.recursion) p in (both.1, both.0)
+-- and enters what the state before enters after the step
+pub behind-enters : (nodes : List SelectorNode) (x : State) (t : Step) (k : ℕ) → LeadsTo (selector_at nodes x) t (at (places_of nodes) k) → Same (EntersAt nodes (record { place = k; recursion = x.recursion })) (λ p. EntersAt nodes x (t ∷ p))
+behind-enters nodes x t k leads p = let both = leads.enters (frames (places_of nodes) x.recursion) p in (both.1, both.0)
 
 -- ---- what a test chooses
 
@@ -109,13 +109,13 @@ if-none P Q None f h = f h
 if-none P Q (Some k) f h = tt
 
 -- what leads on is one of four forms, or no matcher and no explorer
-pub default-nowhere : (ps : List Pattern) (y : Spot) → ((k : ℕ) → y ≡ AllSpot k → ⊥) → ((names : _) → y ≡ FieldsSpot names → ⊥) → ((i : ℤ) (k : ℕ) → y ≡ IndexSpot i k → ⊥) → ((i j : ℤ) (k : ℕ) → y ≡ RangeSpot i j k → ⊥)
+pub default-nowhere : (ps : List Pattern) (y : SelectorNode) → ((k : ℕ) → y ≡ AllNode k → ⊥) → ((names : _) → y ≡ FieldsNode names → ⊥) → ((i : ℤ) (k : ℕ) → y ≡ IndexNode i k → ⊥) → ((i j : ℤ) (k : ℕ) → y ≡ RangeNode i j k → ⊥)
     → (t : Step) → Stands (seen ps y) → LeadsNowhere (seen ps y) t
 default-nowhere ps Matcher a f i r t stands = matcher_nowhere t
-default-nowhere ps (AllSpot k) a f i r t stands = absurd (a k refl)
-default-nowhere ps (FieldsSpot names) a f i r t stands = absurd (f names refl)
-default-nowhere ps (IndexSpot n k) a f i r t stands = absurd (i n k refl)
-default-nowhere ps (RangeSpot n m k) a f i r t stands = absurd (r n m k refl)
+default-nowhere ps (AllNode k) a f i r t stands = absurd (a k refl)
+default-nowhere ps (FieldsNode names) a f i r t stands = absurd (f names refl)
+default-nowhere ps (IndexNode n k) a f i r t stands = absurd (i n k refl)
+default-nowhere ps (RangeNode n m k) a f i r t stands = absurd (r n m k refl)
 default-nowhere ps (Recursive d k) a f i r t stands = absurd stands
 default-nowhere ps (Union ks) a f i r t stands = absurd stands
 default-nowhere ps Edge a f i r t stands = absurd stands

@@ -7,7 +7,7 @@ use Rattle.std.proofs.lemmas.List.{get_or_default, set-get_or}
 use Rattle.std.proofs.lemmas.List.Sorted.{Contains-permutation, IsPermutation-sym, IsPermutation-refl, IsPermutation-trans, IsPermutation-swap, IsPermutation-keeps}
 use Rattle.ix_selector.specs.Enters.{Frame}
 use Rattle.ix_selector.specs.Residual.{Place}
-use Rattle.ix_selector.specs.Pairs.{deeper}
+use Rattle.ix_selector.specs.States.{deeper}
 use Rattle.ix_selector.specs.Behind.{deeper_around, both, put, merged}
 
 -- ---- the greater depth

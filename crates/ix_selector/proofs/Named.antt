@@ -12,11 +12,11 @@ use Rattle.std.proofs.lemmas.Cmp.{tied_itself}
 use Rattle.std.proofs.lemmas.List.Sorted.{searchable_from_sorted}
 use Rattle.ix_cbor.specs.Spelling.{key_cmp}
 use Rattle.ix_cbor.proofs.Keys.{key_total, key_exact, less_not_equal}
-use Rattle.ix_selector.specs.Pattern.{Pattern, fields, fields_of, Around, behind_step, AreGuarded, IsGuarded}
+use Rattle.ix_selector.specs.Pattern.{Pattern, fields, fields_of, Around, after_step, AreGuarded, IsGuarded}
 use Rattle.ix_selector.specs.Enters.{Step, key, nth, Path, Frame, IsNamed, first, later, Enters, below_fields}
 use Rattle.ix_selector.specs.Places.{at, named_at, IsBefore, AreRising}
 use Rattle.ix_selector.specs.Named.{IsNumbered, IsUnnamed, HasName, HasNoName}
-use Rattle.ix_selector.specs.Pairs.{LeadsTo, LeadsNowhere}
+use Rattle.ix_selector.specs.States.{LeadsTo, LeadsNowhere}
 
 -- ---- keys that compare as equal are one key
 
@@ -132,11 +132,11 @@ unnamed_no_number (f ∷ fs) l k none n =
     ⊎_elim (λ (here : (f.0.items ≡ l) × (f.1 ≡ k)). none.0 here.0) (λ (there : IsNumbered fs l k). unnamed_no_number fs l k none.1 there) n
 
 -- the selector of a key is guarded after one more step
-named_guarded : (a : Around) (ps : List Pattern) (names : List (Vec ℕ × ℕ)) (l : List ℕ) (k : ℕ) → IsNumbered names l k → AreGuarded a (fields_of (map (named_at ps) names)) → IsGuarded (behind_step a) (at ps k)
+named_guarded : (a : Around) (ps : List Pattern) (names : List (Vec ℕ × ℕ)) (l : List ℕ) (k : ℕ) → IsNumbered names l k → AreGuarded a (fields_of (map (named_at ps) names)) → IsGuarded (after_step a) (at ps k)
 named_guarded a ps [] l k n g = absurd n
 named_guarded a ps (f ∷ fs) l k n g =
     ⊎_elim
-    (λ (here : (f.0.items ≡ l) × (f.1 ≡ k)). subst (λ j. IsGuarded (behind_step a) (at ps j)) here.1 g.0)
+    (λ (here : (f.0.items ≡ l) × (f.1 ≡ k)). subst (λ j. IsGuarded (after_step a) (at ps j)) here.1 g.0)
     (λ (there : IsNumbered fs l k). named_guarded a ps fs l k there g.1)
     n
 

@@ -9,8 +9,8 @@ use Rattle.ix_selector.specs.Pattern.{Pattern, matcher, all, fields, index, rang
 use Rattle.ix_selector.specs.Enters.{Step, Path, Enters, at_edge, at_edge_within}
 use Rattle.ix_selector.specs.IsEntered.{is_entered}
 use Rattle.ix_selector.specs.Residual.{Place, IsAmong, here, there, ResidualEnters, residual_enters}
-use Rattle.ix_selector.specs.Pairs.{deeper, Stands}
-use Rattle.ix_selector.specs.Behind.{leads, before, leads_from, all_lead, is_edge, standing, again, started, restarted, innermost, deeper_around, both, put, merged, leads_behind, leads_behind_from, all_lead_behind, residual_of, residual_behind, residual_along, residual_at, depths, same_place, same_residual}
+use Rattle.ix_selector.specs.States.{deeper, Stands}
+use Rattle.ix_selector.specs.Behind.{leads, before, leads_from, all_lead, is_edge, standing, again, started, restarted, innermost, deeper_around, both, put, merged, leads_after, leads_after_from, all_lead_after, residual_of, residual_after, residual_along, residual_at, depths, same_place, same_residual}
 use Rattle.ix_selector.proofs.Decides.{FramesGuarded, is_entered-decides}
 use Rattle.ix_selector.proofs.Entering.{stands-enters, edge-inside, edge-inside_within, edge-nowhere, deeper-left, deeper-right, deeper-either}
 use Rattle.ix_selector.proofs.Inside.{guarded-later}
@@ -220,9 +220,9 @@ module _ (whole : Pattern) where
       }
 
   record Stepping (xs : List Place) (t : Step) : Type 0 where
-    each : Each (IsIn whole) (all_lead_behind xs t)
-    lead : Each IsLead (all_lead_behind xs t)
-    enters : (p : Path) → (Enter (all_lead_behind xs t) p ↔ Enter xs (t ∷ p))
+    each : Each (IsIn whole) (all_lead_after xs t)
+    lead : Each IsLead (all_lead_after xs t)
+    enters : (p : Path) → (Enter (all_lead_after xs t) p ↔ Enter xs (t ∷ p))
 
   -- where places lead after a step are places of the whole, and enter what those enter after it
   step-on : (xs : List Place) (t : Step) → Each (IsIn whole) xs → Each (λ x. Stands x.selector) xs → Stepping xs t
@@ -231,14 +231,14 @@ module _ (whole : Pattern) where
       let rest = step-on xs t h.1 g.1 in
       let is = h.0 in record {
         each =
-            each-append (IsIn whole) (leads_behind_from x t) (all_lead_behind xs t)
-            (subst (λ m. Each (IsIn whole) (leads_behind x.selector t m x.around x.sequence)) (sym (before_is whole x is))
-            (subst (λ e. Each (IsIn whole) (leads_behind x.selector t is.first e x.sequence)) (sym is.around)
-            (subst (λ q. Each (IsIn whole) (leads_behind x.selector t is.first (frames_in is.inner is.depth) q)) (sym is.sequence)
+            each-append (IsIn whole) (leads_after_from x t) (all_lead_after xs t)
+            (subst (λ m. Each (IsIn whole) (leads_after x.selector t m x.around x.sequence)) (sym (before_is whole x is))
+            (subst (λ e. Each (IsIn whole) (leads_after x.selector t is.first e x.sequence)) (sym is.around)
+            (subst (λ q. Each (IsIn whole) (leads_after x.selector t is.first (frames_in is.inner is.depth) q)) (sym is.sequence)
             (behind-in whole x.selector t is.first is.inner is.depth is.up is.home is.guard)))) rest.each;
-        lead = each-append IsLead (leads_behind_from x t) (all_lead_behind xs t) (behind-lead x.selector t (before x) x.around x.sequence) rest.lead;
+        lead = each-append IsLead (leads_after_from x t) (all_lead_after xs t) (behind-lead x.selector t (before x) x.around x.sequence) rest.lead;
         enters = λ p.
-            iff_twice (enter-append (leads_behind_from x t) (all_lead_behind xs t) p) (either_iff (behind-enter x.selector g.0 t (before x) x.around x.sequence p) (rest.enters p));
+            iff_twice (enter-append (leads_after_from x t) (all_lead_after xs t) p) (either_iff (behind-enter x.selector g.0 t (before x) x.around x.sequence p) (rest.enters p));
       }
 
   -- ---- residuals
@@ -253,10 +253,10 @@ module _ (whole : Pattern) where
     pub enters : (p : Path) → (Enter ys p ↔ Enter xs (t ∷ p))
 
   -- so the residual after a step is as it should be
-  pub behind-rest : (xs : List Place) (t : Step) → IsRest xs → IsNext xs (residual_behind xs t) t
-  unfolding residual_behind
+  pub behind-rest : (xs : List Place) (t : Step) → IsRest xs → IsNext xs (residual_after xs t) t
+  unfolding residual_after
   behind-rest xs t r =
-      let found = all_lead_behind xs t in
+      let found = all_lead_after xs t in
       let steps = step-on xs t r.each r.stands in
       let anew = again-in found steps.each in
       let starts = merged-in (IsGuarded unguarded) (again found) (firsts (again found) anew) (seconds (again found) anew) in
@@ -305,7 +305,7 @@ module _ (whole : Pattern) where
   along-rest xs [] r = record { rest = r; enters = λ q. iff_same }
   along-rest xs (t ∷ p) r =
       let one = behind-rest xs t r in
-      let more = along-rest (residual_behind xs t) p one.rest in
+      let more = along-rest (residual_after xs t) p one.rest in
       record { rest = more.rest; enters = λ q. iff_twice (more.enters q) (one.enters (p ++ q)) }
 
   -- so the residual at a path enters what the selector enters from there

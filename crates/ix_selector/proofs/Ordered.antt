@@ -8,7 +8,7 @@ use Rattle.ix_cbor.proofs.Keys.{key_total}
 use Rattle.ix_selector.specs.declared.fault.SelFault.{SelFault}
 use Rattle.ix_selector.specs.declared.fault.SelFault.TheVariants.{NotMap, Keys, Unknown, Unsupported, Kind, EdgeOutside, EdgeUnguarded, Nesting}
 use Rattle.ix_selector.specs.declared.fault.Form.TheVariants.{StopAt, Conditional, InterpretAs}
-use Rattle.ix_selector.specs.Pattern.{Pattern, Fields, Members, all, fields, index, range, recursive, union, edge, no_fields, field, no_members, member, Around, outside, unguarded, guarded, behind_step, greatest_nesting}
+use Rattle.ix_selector.specs.Pattern.{Pattern, Fields, Members, all, fields, index, range, recursive, union, edge, no_fields, field, no_members, member, Around, outside, unguarded, guarded, after_step, greatest_nesting}
 use Rattle.ix_selector.specs.Ordered.{IsBeforeAll, IsOrdered, AreOrdered, EachOrdered}
 use Rattle.ix_selector.specs.Reading.{Reader, ◌>>=◌, matcher_of, integer_of, entries_of_map, one_of, two_of, three_of, fields_read, members_read, has_key, limit_of, all_read, fields_form, index_form, range_form, recursive_form, edge_form, union_form, form_of, read_with, selector_at, selector_of, without_envelope}
 use Rattle.ix_selector.proofs.Guarded.{err_no_ok, bind_ok, ok_same, by_test, matcher_only}
@@ -30,15 +30,15 @@ one-spellable key (entry k e (entry l f fs)) d h is = err_no_ok Keys h
 two-spellable : (first second : List ℕ) (es : Entries) (d : Data × Data) → two_of first second es ≡ Ok d → AreRising es → IsSpellable d.0 × IsSpellable d.1
 two-spellable first second no_entries d h is = err_no_ok Keys h
 two-spellable first second (entry k e more) d h is =
-    by_test (bytes_eq k first) (pair (one_of second more)) (Err Keys) d P (λ same. paired (one_of second more) refl same) (λ no. err_no_ok Keys no) h where
+    by_test (bytes_eq k first) (state (one_of second more)) (Err Keys) d P (λ same. paired (one_of second more) refl same) (λ no. err_no_ok Keys no) h where
       P : Type 0
       P = IsSpellable d.0 × IsSpellable d.1
 
-      pair : Result Data SelFault → Result (Data × Data) SelFault
-      pair (Ok f) = Ok (e, f)
-      pair (Err g) = Err g
+      state : Result Data SelFault → Result (Data × Data) SelFault
+      state (Ok f) = Ok (e, f)
+      state (Err g) = Err g
 
-      paired : (r : Result Data SelFault) → one_of second more ≡ r → pair r ≡ Ok d → P
+      paired : (r : Result Data SelFault) → one_of second more ≡ r → state r ≡ Ok d → P
       paired (Ok f) found same = let both = ok_same (e, f) d same in (subst (λ (x : Data × Data). IsSpellable x.0) both is.1, subst (λ (x : Data × Data). IsSpellable x.1) both (one-spellable second more f found is.3))
       paired (Err g) found same = err_no_ok g same
 
@@ -75,30 +75,30 @@ module _ (read : Reader) (good : (around : Around) (d : Data) (s : Pattern) → 
   -- `all`, if what is inside is ordered
   all_ordered : (around : Around) (es : Entries) (s : Pattern) → AreRising es → all_read read around es ≡ Ok s → IsOrdered s
   all_ordered around es s is h =
-      let one = bind_ok (one_of (codes ">") es) (λ d. read (behind_step around) d >>= (λ s. Ok (all s))) s h in
-      let inner = bind_ok (read (behind_step around) one.0) (λ s. Ok (all s)) s one.2 in
-      subst IsOrdered (ok_same (all inner.0) s inner.2) (good (behind_step around) one.0 inner.0 (one-spellable (codes ">") es one.0 one.1 is) inner.1)
+      let one = bind_ok (one_of (codes ">") es) (λ d. read (after_step around) d >>= (λ s. Ok (all s))) s h in
+      let inner = bind_ok (read (after_step around) one.0) (λ s. Ok (all s)) s one.2 in
+      subst IsOrdered (ok_same (all inner.0) s inner.2) (good (after_step around) one.0 inner.0 (one-spellable (codes ">") es one.0 one.1 is) inner.1)
 
   -- `index`
   index_ordered : (around : Around) (es : Entries) (s : Pattern) → AreRising es → index_form read around es ≡ Ok s → IsOrdered s
   index_ordered around es s is h =
-      let two = bind_ok (two_of (codes ">") (codes "i") es) (λ d. integer_of d.1 >>= (λ i. read (behind_step around) d.0 >>= (λ s. Ok (index i s)))) s h in
+      let two = bind_ok (two_of (codes ">") (codes "i") es) (λ d. integer_of d.1 >>= (λ i. read (after_step around) d.0 >>= (λ s. Ok (index i s)))) s h in
       let d = two.0 in
-      let at = bind_ok (integer_of d.1) (λ i. read (behind_step around) d.0 >>= (λ s. Ok (index i s))) s two.2 in
-      let inner = bind_ok (read (behind_step around) d.0) (λ s. Ok (index at.0 s)) s at.2 in
-      subst IsOrdered (ok_same (index at.0 inner.0) s inner.2) (good (behind_step around) d.0 inner.0 (two-spellable (codes ">") (codes "i") es d two.1 is).0 inner.1)
+      let at = bind_ok (integer_of d.1) (λ i. read (after_step around) d.0 >>= (λ s. Ok (index i s))) s two.2 in
+      let inner = bind_ok (read (after_step around) d.0) (λ s. Ok (index at.0 s)) s at.2 in
+      subst IsOrdered (ok_same (index at.0 inner.0) s inner.2) (good (after_step around) d.0 inner.0 (two-spellable (codes ">") (codes "i") es d two.1 is).0 inner.1)
 
   -- `range`
   range_ordered : (around : Around) (es : Entries) (s : Pattern) → AreRising es → range_form read around es ≡ Ok s → IsOrdered s
   range_ordered around es s is h =
       let three =
       bind_ok (three_of (codes "$") (codes ">") (codes "^") es) (λ d. integer_of d.2 >>= (λ start. integer_of d.0 >>= (λ end.
-      read (behind_step around) d.1 >>= (λ s. Ok (range start end s))))) s h in
+      read (after_step around) d.1 >>= (λ s. Ok (range start end s))))) s h in
       let d = three.0 in
-      let first = bind_ok (integer_of d.2) (λ start. integer_of d.0 >>= (λ end. read (behind_step around) d.1 >>= (λ s. Ok (range start end s)))) s three.2 in
-      let last = bind_ok (integer_of d.0) (λ end. read (behind_step around) d.1 >>= (λ s. Ok (range first.0 end s))) s first.2 in
-      let inner = bind_ok (read (behind_step around) d.1) (λ s. Ok (range first.0 last.0 s)) s last.2 in
-      subst IsOrdered {x = range first.0 last.0 inner.0} (ok_same (range first.0 last.0 inner.0) s inner.2) (good (behind_step around) d.1 inner.0 (three-spellable (codes "$") (codes ">") (codes "^") es d three.1 is) inner.1)
+      let first = bind_ok (integer_of d.2) (λ start. integer_of d.0 >>= (λ end. read (after_step around) d.1 >>= (λ s. Ok (range start end s)))) s three.2 in
+      let last = bind_ok (integer_of d.0) (λ end. read (after_step around) d.1 >>= (λ s. Ok (range first.0 end s))) s first.2 in
+      let inner = bind_ok (read (after_step around) d.1) (λ s. Ok (range first.0 last.0 s)) s last.2 in
+      subst IsOrdered {x = range first.0 last.0 inner.0} (ok_same (range first.0 last.0 inner.0) s inner.2) (good (after_step around) d.1 inner.0 (three-spellable (codes "$") (codes ">") (codes "^") es d three.1 is) inner.1)
 
   -- a recursion
   recursive_ordered : (es : Entries) (s : Pattern) → AreRising es → recursive_form read es ≡ Ok s → IsOrdered s
@@ -113,20 +113,20 @@ module _ (read : Reader) (good : (around : Around) (d : Data) (s : Pattern) → 
         rest d = limit_of d.0 >>= (λ limit. read unguarded d.1 >>= (λ s. Ok (recursive limit s)))
 
   -- the selectors of names
-  named_ordered : (around : Around) (es : Entries) (fs : Fields) → AreRising es → fields_read (read (behind_step around)) es ≡ Ok fs → AreOrdered fs
+  named_ordered : (around : Around) (es : Entries) (fs : Fields) → AreRising es → fields_read (read (after_step around)) es ≡ Ok fs → AreOrdered fs
   named_ordered around no_entries fs is h = subst AreOrdered (ok_same no_fields fs h) tt
   named_ordered around (entry k d es) fs is h =
-      let inner = bind_ok (read (behind_step around) d) (λ s. fields_read (read (behind_step around)) es >>= (λ fs. Ok (field k s fs))) fs h in
-      let more = bind_ok (fields_read (read (behind_step around)) es) (λ fs. Ok (field k inner.0 fs)) fs inner.2 in
+      let inner = bind_ok (read (after_step around) d) (λ s. fields_read (read (after_step around)) es >>= (λ fs. Ok (field k s fs))) fs h in
+      let more = bind_ok (fields_read (read (after_step around)) es) (λ fs. Ok (field k inner.0 fs)) fs inner.2 in
       subst AreOrdered (ok_same (field k inner.0 more.0) fs more.2)
-      (before-all (read (behind_step around)) k es more.0 more.1 is.2 is.3, good (behind_step around) d inner.0 is.1 inner.1, named_ordered around es more.0 is.3 more.1)
+      (before-all (read (after_step around)) k es more.0 more.1 is.2 is.3, good (after_step around) d inner.0 is.1 inner.1, named_ordered around es more.0 is.3 more.1)
 
   -- `fields`, whose names rise too
   fields_ordered : (around : Around) (es : Entries) (s : Pattern) → AreRising es → fields_form read around es ≡ Ok s → IsOrdered s
   fields_ordered around es s is h =
-      let one = bind_ok (one_of (codes "f>") es) (λ d. entries_of_map d >>= (λ names. fields_read (read (behind_step around)) names >>= (λ fs. Ok (fields fs)))) s h in
-      let names = bind_ok (entries_of_map one.0) (λ names. fields_read (read (behind_step around)) names >>= (λ fs. Ok (fields fs))) s one.2 in
-      let inner = bind_ok (fields_read (read (behind_step around)) names.0) (λ fs. Ok (fields fs)) s names.2 in
+      let one = bind_ok (one_of (codes "f>") es) (λ d. entries_of_map d >>= (λ names. fields_read (read (after_step around)) names >>= (λ fs. Ok (fields fs)))) s h in
+      let names = bind_ok (entries_of_map one.0) (λ names. fields_read (read (after_step around)) names >>= (λ fs. Ok (fields fs))) s one.2 in
+      let inner = bind_ok (fields_read (read (after_step around)) names.0) (λ fs. Ok (fields fs)) s names.2 in
       subst IsOrdered (ok_same (fields inner.0) s inner.2) (named_ordered around names.0 inner.0 (map-rising one.0 names.0 names.1 (one-spellable (codes "f>") es one.0 one.1 is)) inner.1)
 
   -- members

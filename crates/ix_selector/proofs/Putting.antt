@@ -5,20 +5,20 @@ use Rattle.std.specs.declared.cmp.Ordering.TheVariants.{Less}
 use Rattle.std.proofs.lemmas.List.{map_push, take_more, length-append, append-nil}
 use Rattle.ix_cbor.specs.Spelling.{key_cmp}
 use Rattle.ix_selector.specs.declared.sel.Sel.{Sel}
-use Rattle.ix_selector.specs.declared.spot.Spot.{Spot}
-use Rattle.ix_selector.specs.declared.spot.Spot.TheVariants.{Matcher, All, Fields, Index, Range, Recursive, Union, Edge}
+use Rattle.ix_selector.specs.declared.selector_node.SelectorNode.{SelectorNode}
+use Rattle.ix_selector.specs.declared.selector_node.SelectorNode.TheVariants.{Matcher, All, Fields, Index, Range, Recursive, Union, Edge}
 use Rattle.ix_selector.specs.Pattern.{Pattern, pattern_of, fields_of, members_of}
 use Rattle.ix_selector.specs.Views.{seen_field}
 use Rattle.ix_selector.specs.Ordered.{IsBeforeAll, IsOrdered, AreOrdered, EachOrdered}
-use Rattle.ix_selector.specs.Places.{at, named_at, places_of, IsBefore, AreRising, AreBelow, AreNamedBelow, Names, IsNumber, HasNumber, IsFreeFrom, IsSpotOf}
+use Rattle.ix_selector.specs.Places.{at, named_at, places_of, IsBefore, AreRising, AreBelow, AreNamedBelow, Names, IsNumber, HasNumber, IsFreeFrom, IsNodeOf}
 use Rattle.ix_selector.specs.Grown.{Grows, CanPut}
 use Rattle.ix_selector.specs.Behind.{inside_of}
-use Rattle.ix_selector.specs.Laid.{number_of, numbers_of, AreRow, AreLaidFrom, GrowsInOrder, GrowsBy, IsNumberBehind}
+use Rattle.ix_selector.specs.Laid.{number_of, numbers_of, AreRow, AreLaidFrom, GrowsInOrder, GrowsBy, IsNumberAfter}
 use Rattle.ix_selector.proofs.Laid.{row-one, row-push, row-kept, laid-twice, laid-last}
-use Rattle.ix_selector.proofs.Spots.{at-last, one-free, grows-one, grows-twice, length-grows, map-kept, named-kept, below-more, named_below-more, below-push, named_below-push, numbers-free, names-free}
+use Rattle.ix_selector.proofs.Nodes.{at-last, one-free, grows-one, grows-twice, length-grows, map-kept, named-kept, below-more, named_below-more, below-push, named_below-push, numbers-free, names-free}
 
 -- so many fields were put
-pub record FieldsPut (old new : List Spot) (names : List (Vec ℕ × ℕ)) (done : List (Vec ℕ × Sel)) : Type 0 where
+pub record FieldsPut (old new : List SelectorNode) (names : List (Vec ℕ × ℕ)) (done : List (Vec ℕ × Sel)) : Type 0 where
   pub grows : Grows old new
   pub below : AreNamedBelow (length new) names
   pub named : map (named_at (places_of new)) names ≡ map seen_field done
@@ -26,7 +26,7 @@ pub record FieldsPut (old new : List Spot) (names : List (Vec ℕ × ℕ)) (done
   pub row : AreRow (places_of new) (length old) (map number_of names) (length new)
   pub laid : AreLaidFrom (length old) new
 
-pub record MembersPut (old new : List Spot) (numbers : List ℕ) (done : List Sel) : Type 0 where
+pub record MembersPut (old new : List SelectorNode) (numbers : List ℕ) (done : List Sel) : Type 0 where
   pub grows : Grows old new
   pub below : AreBelow (length new) numbers
   pub members : map (at (places_of new)) numbers ≡ map pattern_of done
@@ -35,7 +35,7 @@ pub record MembersPut (old new : List Spot) (numbers : List ℕ) (done : List Se
   pub laid : AreLaidFrom (length old) new
 
 -- one more
-pub fields-more : (old mid new : List Spot) (names : List (Vec ℕ × ℕ)) (fs : List (Vec ℕ × Sel)) (i : ℕ) (f : Vec ℕ × Sel) (name : Vec ℕ) (n : ℕ)
+pub fields-more : (old mid new : List SelectorNode) (names : List (Vec ℕ × ℕ)) (fs : List (Vec ℕ × Sel)) (i : ℕ) (f : Vec ℕ × Sel) (name : Vec ℕ) (n : ℕ)
     → i < length fs → f ≡ get_or fs i f → name.items ≡ f.0.items → FieldsPut old mid names (take i fs) → Grows mid new → n < length new → length mid ≤ n → n + 1 ≡ length new → at (places_of new) n ≡ pattern_of f.1 → n ≡ length mid + inside_of (pattern_of f.1) → AreLaidFrom (length mid) new
     → FieldsPut old new (names ++ (name, n) ∷ []) (take (i + 1) fs)
 fields-more old mid new names fs i f name n within is same put grows below behind last there number laid = record {
@@ -54,7 +54,7 @@ fields-more old mid new names fs i f name n within is same put grows below behin
 }
 
 -- the loop's step: one more member was put
-pub members-more : (old mid new : List Spot) (numbers : List ℕ) (ss : List Sel) (i : ℕ) (s : Sel) (n : ℕ)
+pub members-more : (old mid new : List SelectorNode) (numbers : List ℕ) (ss : List Sel) (i : ℕ) (s : Sel) (n : ℕ)
     → i < length ss → s ≡ get_or ss i s → MembersPut old mid numbers (take i ss) → Grows mid new → n < length new → length mid ≤ n → n + 1 ≡ length new → at (places_of new) n ≡ pattern_of s → n ≡ length mid + inside_of (pattern_of s) → AreLaidFrom (length mid) new
     → MembersPut old new (numbers ++ n ∷ []) (take (i + 1) ss)
 members-more old mid new numbers ss i s n within is put grows below behind last there number laid = record {
@@ -114,8 +114,8 @@ numbers_names : (fs : List (Vec ℕ × ℕ)) (k : ℕ) → IsNumber (map number_
 numbers_names [] k h = h
 numbers_names (f ∷ fs) k h = ⊎_elim (λ (here : f.1 ≡ k). inl here) (λ (there : IsNumber (map number_of fs) k). inr (numbers_names fs k there)) h
 
--- what a spot names is in its row
-named_numbers : (x : Spot) (k : ℕ) → Names x k → IsNumber (numbers_of x) k
+-- what a node names is in its row
+named_numbers : (x : SelectorNode) (k : ℕ) → Names x k → IsNumber (numbers_of x) k
 named_numbers Matcher k h = h
 named_numbers (All j) k h = inl h
 named_numbers (Fields names) k h = names_numbers names.items k h
@@ -126,31 +126,31 @@ named_numbers (Union js) k h = h
 named_numbers Edge k h = h
 
 -- nothing was put
-pub none-grown : (spots : Vec Spot) (s : Pattern) → CanPut spots.items s → GrowsBy spots spots []
-none-grown spots s can = record {
-  grows = (record { more = []; grown = sym (append-nil spots.items); from = tt; spots = can.spots; once = can.once }, record { laid = λ n x above below is. absurd (omega arith) });
+pub none-grown : (nodes : Vec SelectorNode) (s : Pattern) → CanPut nodes.items s → GrowsBy nodes nodes []
+none-grown nodes s can = record {
+  grows = (record { more = []; grown = sym (append-nil nodes.items); from = tt; nodes = can.nodes; once = can.once }, record { laid = λ n x above below is. absurd (omega arith) });
   free = λ k h. absurd h;
   row = refl;
 }
 
 -- one selector was put, with what is inside it
-pub one-grown : (old new : Vec Spot) (s : Pattern) (n : ℕ) → GrowsInOrder old.items new.items → at (places_of new.items) n ≡ s → n + 1 ≡ length new.items → length old.items ≤ n → IsNumberBehind old.items s n → GrowsBy old new (n ∷ [])
+pub one-grown : (old new : Vec SelectorNode) (s : Pattern) (n : ℕ) → GrowsInOrder old.items new.items → at (places_of new.items) n ≡ s → n + 1 ≡ length new.items → length old.items ≤ n → IsNumberAfter old.items s n → GrowsBy old new (n ∷ [])
 one-grown old new s n grows there last behind number = record {
   grows = grows;
-  free = λ k h. ⊎_elim (λ (here : n ≡ k). one-free old.items new.items n behind last grows.0.spots k here) (λ (there : ⊥). absurd there) h;
+  free = λ k h. ⊎_elim (λ (here : n ≡ k). one-free old.items new.items n behind last grows.0.nodes k here) (λ (there : ⊥). absurd there) h;
   row = row-one (places_of new.items) (length old.items) n (length new.items) s there number last;
 }
 
 -- fields were put, and members
-pub fields-grown : (old new : Vec Spot) (names : List (Vec ℕ × ℕ)) (done : List (Vec ℕ × Sel)) → FieldsPut old.items new.items names done → GrowsBy old new (map number_of names)
+pub fields-grown : (old new : Vec SelectorNode) (names : List (Vec ℕ × ℕ)) (done : List (Vec ℕ × Sel)) → FieldsPut old.items new.items names done → GrowsBy old new (map number_of names)
 fields-grown old new names done put = record { grows = (put.grows, put.laid); free = λ k h. put.free k (numbers_names names k h); row = put.row }
 
 -- after the loop the table has grown by all members
-pub members-grown : (old new : Vec Spot) (numbers : List ℕ) (done : List Sel) → MembersPut old.items new.items numbers done → GrowsBy old new numbers
+pub members-grown : (old new : Vec SelectorNode) (numbers : List ℕ) (done : List Sel) → MembersPut old.items new.items numbers done → GrowsBy old new numbers
 members-grown old new numbers done put = record { grows = (put.grows, put.laid); free = put.free; row = put.row }
 
--- the selector's own spot is put last
-pub last-put : (old mid : Vec Spot) (x : Spot) (s : Pattern) → IsSpotOf mid.items s x → GrowsBy old mid (numbers_of x)
+-- the selector's own node is put last
+pub last-put : (old mid : Vec SelectorNode) (x : SelectorNode) (s : Pattern) → IsNodeOf mid.items s x → GrowsBy old mid (numbers_of x)
     → GrowsInOrder old.items (mid.items ++ x ∷ []) × (length mid.items < length (mid.items ++ x ∷ [])) × (at (places_of (mid.items ++ x ∷ [])) (length mid.items) ≡ s)
 last-put old mid x s is grown = ((grows, laid), below, at-last mid.items x ∙ is.1) where
   grows : Grows old.items (mid.items ++ x ∷ [])

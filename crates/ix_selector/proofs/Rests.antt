@@ -3,12 +3,12 @@ use Rattle.std.proofs.Common.{◌≡◌, ℕ, ◌+◌, ◌⊎◌, inl, inr, ⊎_
 use Rattle.std.specs.List.{AllByRecursion}
 use Rattle.std.specs.Prelude.{◌↔◌, Option, Some, None, if◌then◌else◌, bytes_eq}
 use Rattle.std.proofs.lemmas.Slice.Eq.{bytes_eq-Decides}
-use Rattle.ix_selector.specs.Pattern.{Pattern, Fields, Members, matcher, all, fields, index, range, recursive, union, edge, no_fields, field, no_members, member, Around, outside, unguarded, guarded, behind_step, MayStand, IsGuarded, AreGuarded, EachGuarded}
+use Rattle.ix_selector.specs.Pattern.{Pattern, Fields, Members, matcher, all, fields, index, range, recursive, union, edge, no_fields, field, no_members, member, Around, outside, unguarded, guarded, after_step, MayStand, IsGuarded, AreGuarded, EachGuarded}
 use Rattle.ix_selector.specs.Enters.{Step, key, nth, Path, Frame, IsNamed, first, later, IsMember, head, tail, Enters, below_all, below_fields, in_union, in_recursion}
 use Rattle.ix_selector.specs.Steps.{is_at, is_within}
 use Rattle.ix_selector.specs.Residual.{Place}
-use Rattle.ix_selector.specs.Pairs.{Stands}
-use Rattle.ix_selector.specs.Behind.{inside_of, leads, each_leads, before, is_edge, standing, named_lead, leads_behind}
+use Rattle.ix_selector.specs.States.{Stands}
+use Rattle.ix_selector.specs.Behind.{inside_of, leads, each_leads, before, is_edge, standing, named_lead, leads_after}
 use Rattle.ix_selector.proofs.Entering.{inner_only}
 use Rattle.ix_selector.proofs.Inside.{guarded-later, out_recursion, out_union}
 use Rattle.ix_selector.proofs.Leading.{index_leads, index_nowhere, range_leads, range_nowhere, matcher_nowhere, out_all}
@@ -204,7 +204,7 @@ no_position : {fs : Fields} {e : List Frame} {n : ℕ} {p : Path} → Enters (fi
 no_position h = elim h [ ]
 
 -- where a matcher or explorer leads after a step enters what it enters after the step
-pub behind-enter : (s : Pattern) → Stands s → (t : Step) (n : ℕ) (e : List Frame) (q : Option ℕ) (p : Path) → (Enter (leads_behind s t n e q) p ↔ Enters s e (t ∷ p))
+pub behind-enter : (s : Pattern) → Stands s → (t : Step) (n : ℕ) (e : List Frame) (q : Option ℕ) (p : Path) → (Enter (leads_after s t n e q) p ↔ Enters s e (t ∷ p))
 behind-enter matcher stands t n e q p = (λ h. absurd h, λ h. matcher_nowhere t e p h)
 behind-enter (all s) stands t n e q p = iff_twice (leads-enter s n e q p) (λ h. below_all h, λ h. out_all h)
 behind-enter (fields fs) stands (key k) n e q p = iff_twice (named-enter fs k n e q p) (λ h. below_fields h.1 h.2, λ h. out_fields h)
@@ -229,7 +229,7 @@ named-lead (field l s fs) k n e q =
     each-append IsLead (if bytes_eq l k then leads s n e q else []) (named_lead fs k (n + (inside_of s + 1)) e q) (if_each IsLead (bytes_eq l k) (leads s n e q) (leads-lead s n e q)) (named-lead fs k (n + (inside_of s + 1)) e q)
 
 -- and so it is after any step
-pub behind-lead : (s : Pattern) (t : Step) (n : ℕ) (e : List Frame) (q : Option ℕ) → Each IsLead (leads_behind s t n e q)
+pub behind-lead : (s : Pattern) (t : Step) (n : ℕ) (e : List Frame) (q : Option ℕ) → Each IsLead (leads_after s t n e q)
 behind-lead matcher t n e q = tt
 behind-lead (all s) t n e q = leads-lead s n e q
 behind-lead (fields fs) (key k) n e q = named-lead fs k n e q
@@ -306,13 +306,13 @@ module _ (whole : Pattern) where
         (each_leads-in ss (m + (inside_of s + 1)) r d (λ t l v h. up t l v (later_member h)) home g.1)
 
   -- a step changes nothing inside a recursion that had one
-  behind_guard : (r : Inner) → behind_step (around_in r) ≡ around_in r
-  behind_guard None = refl
-  behind_guard (Some c) = refl
+  after_guard : (r : Inner) → after_step (around_in r) ≡ around_in r
+  after_guard None = refl
+  after_guard (Some c) = refl
 
   -- so a child is guarded as its parent is
-  child : (r : Inner) (s : Pattern) → IsGuarded (behind_step (around_in r)) s → IsGuarded (around_in r) s
-  child r s g = subst (λ a. IsGuarded a s) (behind_guard r) g
+  child : (r : Inner) (s : Pattern) → IsGuarded (after_step (around_in r)) s → IsGuarded (around_in r) s
+  child r s g = subst (λ a. IsGuarded a s) (after_guard r) g
 
   -- where a key leads are places of the whole
   named-in : (fs : Fields) (k : List ℕ) (m : ℕ) (r : Inner) (d : Option ℕ) → ((t : Pattern) (l : ℕ) (v : Inner) → InFields fs m r t l v → In whole 0 None t l v) → Home whole r → AreGuarded (around_in r) fs
@@ -324,7 +324,7 @@ module _ (whole : Pattern) where
       (named-in fs k (m + (inside_of s + 1)) r d (λ t l v h. up t l v (later_field h)) home g.1)
 
   -- and so it is after any step
-  pub behind-in : (s : Pattern) (t : Step) (m : ℕ) (r : Inner) (d : Option ℕ) → Up whole s m r → Home whole r → IsGuarded (around_in r) s → Each (IsIn whole) (leads_behind s t m (frames_in r d) (number_in r))
+  pub behind-in : (s : Pattern) (t : Step) (m : ℕ) (r : Inner) (d : Option ℕ) → Up whole s m r → Home whole r → IsGuarded (around_in r) s → Each (IsIn whole) (leads_after s t m (frames_in r d) (number_in r))
   behind-in matcher t m r d up home g = tt
   behind-in (all s) t m r d up home g = leads-in s m r d (λ t l v h. up t l v (in_all h)) home (child r s g)
   behind-in (fields fs) (key k) m r d up home g = named-in fs k m r d (λ t l v h. up t l v (in_fields h)) home g

@@ -4,7 +4,7 @@ use Rattle.std.specs.Prelude.{◌↔◌, Option, Some, None, Ok, Err, codes, if�
 use Rattle.std.proofs.lemmas.Bool.{lt-ltb}
 use Rattle.ix_cbor.specs.Data.{Data, Items, Entries, integer, list, map, no_items, item, no_entries, entry}
 use Rattle.ix_selector.specs.declared.fault.SelFault.TheVariants.{Depth}
-use Rattle.ix_selector.specs.Pattern.{Pattern, Fields, Members, matcher, all, fields, index, range, recursive, union, edge, no_fields, field, no_members, member, Around, outside, unguarded, guarded, behind_step, nesting_of, fields_nesting, members_nesting, IsLimit, MayStand, IsGuarded, AreGuarded, EachGuarded, greatest_nesting, IsSelector}
+use Rattle.ix_selector.specs.Pattern.{Pattern, Fields, Members, matcher, all, fields, index, range, recursive, union, edge, no_fields, field, no_members, member, Around, outside, unguarded, guarded, after_step, nesting_of, fields_nesting, members_nesting, IsLimit, MayStand, IsGuarded, AreGuarded, EachGuarded, greatest_nesting, IsSelector}
 use Rattle.ix_selector.specs.Reading.{Reader, ◌>>=◌, matcher_of, fields_read, members_read, limit_of, edge_form, read_with, selector_at, selector_of, without_envelope}
 use Rattle.ix_selector.specs.Spelled.{one_key, two_keys, three_keys, AreLabels, no_label, label, SpellsLimit, as_no_limit, as_depth, SpellsPattern, as_matcher, as_all, as_fields, as_index, as_range, as_recursive, as_union, as_edge, SpellFields, as_no_fields, as_field, SpellMembers, as_no_members, as_member, SpellsSelector, alone, in_envelope}
 use Rattle.ix_selector.proofs.Guarded.{ok_same, reads_selector}
@@ -29,10 +29,10 @@ edge_again guarded may = refl
 -- one level, where the levels below read what is spelled
 module _ (n : ℕ) (read : Reader) (again : (around : Around) (d : Data) (s : Pattern) → SpellsPattern d s → IsGuarded around s → nesting_of s ≤ n → read around d ≡ Ok s) where
   -- the selectors of named keys
-  named_again : {es : Entries} {fs : Fields} (around : Around) → SpellFields es fs → AreGuarded around fs → fields_nesting fs ≤ n → fields_read (read (behind_step around)) es ≡ Ok fs
+  named_again : {es : Entries} {fs : Fields} (around : Around) → SpellFields es fs → AreGuarded around fs → fields_nesting fs ≤ n → fields_read (read (after_step around)) es ≡ Ok fs
   named_again around as_no_fields guarded_is nesting = refl
   named_again around (as_field {k = k} {d = d} {s = s} {es = es} {fs = fs} first more) guarded_is nesting =
-      ap (λ r. r >>= (λ s. fields_read (read (behind_step around)) es >>= (λ fs. Ok (field k s fs)))) (again (behind_step around) d s first guarded_is.0 (omega arith))
+      ap (λ r. r >>= (λ s. fields_read (read (after_step around)) es >>= (λ fs. Ok (field k s fs)))) (again (after_step around) d s first guarded_is.0 (omega arith))
       ∙ ap (λ r. r >>= (λ fs. Ok (field k s fs))) (named_again around more guarded_is.1 (omega arith))
 
   -- the members of a union
@@ -45,10 +45,10 @@ module _ (n : ℕ) (read : Reader) (again : (around : Around) (d : Data) (s : Pa
   -- each form
   with_again : {d : Data} {s : Pattern} (around : Around) → SpellsPattern d s → IsGuarded around s → nesting_of s ≤ n + 1 → read_with read around d ≡ Ok s
   with_again around (as_matcher labels) guarded_is nesting = labels_again labels
-  with_again around (as_all {next = d} {s = s} h) guarded_is nesting = ap (λ r. r >>= (λ s. Ok (all s))) (again (behind_step around) d s h guarded_is (omega arith))
+  with_again around (as_all {next = d} {s = s} h) guarded_is nesting = ap (λ r. r >>= (λ s. Ok (all s))) (again (after_step around) d s h guarded_is (omega arith))
   with_again around (as_fields names) guarded_is nesting = ap (λ r. r >>= (λ fs. Ok (fields fs))) (named_again around names guarded_is (omega arith))
-  with_again around (as_index {i = i} {next = d} {s = s} h) guarded_is nesting = ap (λ r. r >>= (λ s. Ok (index i s))) (again (behind_step around) d s h guarded_is (omega arith))
-  with_again around (as_range {start = start} {end = end} {next = d} {s = s} h) guarded_is nesting = ap (λ r. r >>= (λ s. Ok (range start end s))) (again (behind_step around) d s h guarded_is (omega arith))
+  with_again around (as_index {i = i} {next = d} {s = s} h) guarded_is nesting = ap (λ r. r >>= (λ s. Ok (index i s))) (again (after_step around) d s h guarded_is (omega arith))
+  with_again around (as_range {start = start} {end = end} {next = d} {s = s} h) guarded_is nesting = ap (λ r. r >>= (λ s. Ok (range start end s))) (again (after_step around) d s h guarded_is (omega arith))
   with_again around (as_recursive {within = l} {sequence = d} {limit = limit} {s = s} within h) guarded_is nesting =
       ap (λ r. r >>= (λ limit. read unguarded d >>= (λ s. Ok (recursive limit s)))) (limit_again within guarded_is.0)
       ∙ ap (λ r. r >>= (λ s. Ok (recursive limit s))) (again unguarded d s h guarded_is.1 (omega arith))

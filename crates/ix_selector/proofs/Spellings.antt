@@ -6,7 +6,7 @@ use Rattle.ix_cbor.specs.Data.{Data, Items, Entries, integer, text, list, map, n
 use Rattle.ix_selector.specs.declared.fault.SelFault.{SelFault}
 use Rattle.ix_selector.specs.declared.fault.SelFault.TheVariants.{NotMap, Keys, Unknown, Unsupported, Kind, Depth, EdgeOutside, EdgeUnguarded, Nesting}
 use Rattle.ix_selector.specs.declared.fault.Form.TheVariants.{MatcherField, StopAt, Conditional, InterpretAs}
-use Rattle.ix_selector.specs.Pattern.{Pattern, Fields, Members, matcher, all, fields, index, range, recursive, union, edge, no_fields, field, no_members, member, Around, outside, unguarded, guarded, behind_step}
+use Rattle.ix_selector.specs.Pattern.{Pattern, Fields, Members, matcher, all, fields, index, range, recursive, union, edge, no_fields, field, no_members, member, Around, outside, unguarded, guarded, after_step}
 use Rattle.ix_selector.specs.Reading.{Reader, ◌>>=◌, matcher_of, integer_of, entries_of_map, one_of, two_of, three_of, fields_read, members_read, has_key, no_limit_of, depth_of, limit_of, all_read, fields_form, index_form, range_form, recursive_form, edge_form, union_form, form_of, read_with, selector_at, without_envelope}
 use Rattle.ix_selector.specs.Spelled.{one_key, two_keys, three_keys, AreLabels, no_label, label, SpellsLimit, as_no_limit, as_depth, SpellsPattern, as_matcher, as_all, as_fields, as_index, as_range, as_recursive, as_union, as_edge, SpellFields, as_no_fields, as_field, SpellMembers, as_no_members, as_member, SpellsSelector, alone, in_envelope}
 use Rattle.ix_selector.proofs.Guarded.{err_no_ok, bind_ok, ok_same, by_test}
@@ -119,37 +119,37 @@ module _ (read : Reader) (spelled : (around : Around) (d : Data) (s : Pattern) �
   -- each form is spelled where what is inside it is
   all_spelled : (around : Around) (es : Entries) (s : Pattern) → all_read read around es ≡ Ok s → SpellsPattern (one_key (codes "a") (map es)) s
   all_spelled around es s h =
-      let one = bind_ok (one_of (codes ">") es) (λ d. read (behind_step around) d >>= (λ s. Ok (all s))) s h in
-      let inner = bind_ok (read (behind_step around) one.0) (λ s. Ok (all s)) s one.2 in
+      let one = bind_ok (one_of (codes ">") es) (λ d. read (after_step around) d >>= (λ s. Ok (all s))) s h in
+      let inner = bind_ok (read (after_step around) one.0) (λ s. Ok (all s)) s one.2 in
       SpellsPattern_same _ _ (all inner.0) s (ap (λ l. one_key (codes "a") (map l)) (is_one (codes ">") es one.0 one.1)) (ok_same (all inner.0) s inner.2)
-      (as_all (spelled (behind_step around) one.0 inner.0 inner.1))
+      (as_all (spelled (after_step around) one.0 inner.0 inner.1))
 
   -- `index`
   index_spelled : (around : Around) (es : Entries) (s : Pattern) → index_form read around es ≡ Ok s → SpellsPattern (one_key (codes "i") (map es)) s
   index_spelled around es s h =
-      let two = bind_ok (two_of (codes ">") (codes "i") es) (λ d. integer_of d.1 >>= (λ i. read (behind_step around) d.0 >>= (λ s. Ok (index i s)))) s h in
+      let two = bind_ok (two_of (codes ">") (codes "i") es) (λ d. integer_of d.1 >>= (λ i. read (after_step around) d.0 >>= (λ s. Ok (index i s)))) s h in
       let d = two.0 in
-      let at = bind_ok (integer_of d.1) (λ i. read (behind_step around) d.0 >>= (λ s. Ok (index i s))) s two.2 in
-      let inner = bind_ok (read (behind_step around) d.0) (λ s. Ok (index at.0 s)) s at.2 in
+      let at = bind_ok (integer_of d.1) (λ i. read (after_step around) d.0 >>= (λ s. Ok (index i s))) s two.2 in
+      let inner = bind_ok (read (after_step around) d.0) (λ s. Ok (index at.0 s)) s at.2 in
       SpellsPattern_same (one_key (codes "i") (two_keys (codes ">") d.0 (codes "i") (integer at.0))) _ (index at.0 inner.0) s
       (ap (λ l. one_key (codes "i") (map l)) (is_two (codes ">") (codes "i") es d two.1) ∙ ap (λ x. one_key (codes "i") (two_keys (codes ">") d.0 (codes "i") x)) (is_integer d.1 at.0 at.1))
-      (ok_same (index at.0 inner.0) s inner.2) (as_index (spelled (behind_step around) d.0 inner.0 inner.1))
+      (ok_same (index at.0 inner.0) s inner.2) (as_index (spelled (after_step around) d.0 inner.0 inner.1))
 
   -- `range`
   range_spelled : (around : Around) (es : Entries) (s : Pattern) → range_form read around es ≡ Ok s → SpellsPattern (one_key (codes "r") (map es)) s
   range_spelled around es s h =
       let three =
       bind_ok (three_of (codes "$") (codes ">") (codes "^") es) (λ d. integer_of d.2 >>= (λ start. integer_of d.0 >>= (λ end.
-      read (behind_step around) d.1 >>= (λ s. Ok (range start end s))))) s h in
+      read (after_step around) d.1 >>= (λ s. Ok (range start end s))))) s h in
       let d = three.0 in
-      let first = bind_ok (integer_of d.2) (λ start. integer_of d.0 >>= (λ end. read (behind_step around) d.1 >>= (λ s. Ok (range start end s)))) s three.2 in
-      let last = bind_ok (integer_of d.0) (λ end. read (behind_step around) d.1 >>= (λ s. Ok (range first.0 end s))) s first.2 in
-      let inner = bind_ok (read (behind_step around) d.1) (λ s. Ok (range first.0 last.0 s)) s last.2 in
+      let first = bind_ok (integer_of d.2) (λ start. integer_of d.0 >>= (λ end. read (after_step around) d.1 >>= (λ s. Ok (range start end s)))) s three.2 in
+      let last = bind_ok (integer_of d.0) (λ end. read (after_step around) d.1 >>= (λ s. Ok (range first.0 end s))) s first.2 in
+      let inner = bind_ok (read (after_step around) d.1) (λ s. Ok (range first.0 last.0 s)) s last.2 in
       let keys : Data → Data → Data = λ end start. one_key (codes "r") (three_keys (codes "$") end (codes ">") d.1 (codes "^") start) in
       SpellsPattern_same (keys (integer last.0) (integer first.0)) _ (range first.0 last.0 inner.0) s
       (ap (λ l. one_key (codes "r") (map l)) (is_three (codes "$") (codes ">") (codes "^") es d three.1)
       ∙ ap (λ x. keys x d.2) (is_integer d.0 last.0 last.1) ∙ ap (keys (integer last.0)) (is_integer d.2 first.0 first.1))
-      (ok_same (range first.0 last.0 inner.0) s inner.2) (as_range (spelled (behind_step around) d.1 inner.0 inner.1))
+      (ok_same (range first.0 last.0 inner.0) s inner.2) (as_range (spelled (after_step around) d.1 inner.0 inner.1))
 
   -- a recursion
   recursive_spelled : (es : Entries) (s : Pattern) → recursive_form read es ≡ Ok s → SpellsPattern (one_key (codes "R") (map es)) s
@@ -175,12 +175,12 @@ module _ (read : Reader) (spelled : (around : Around) (d : Data) (s : Pattern) �
   -- `fields`
   fields_spelled : (around : Around) (es : Entries) (s : Pattern) → fields_form read around es ≡ Ok s → SpellsPattern (one_key (codes "f") (map es)) s
   fields_spelled around es s h =
-      let one = bind_ok (one_of (codes "f>") es) (λ d. entries_of_map d >>= (λ names. fields_read (read (behind_step around)) names >>= (λ fs. Ok (fields fs)))) s h in
-      let names = bind_ok (entries_of_map one.0) (λ names. fields_read (read (behind_step around)) names >>= (λ fs. Ok (fields fs))) s one.2 in
-      let inner = bind_ok (fields_read (read (behind_step around)) names.0) (λ fs. Ok (fields fs)) s names.2 in
+      let one = bind_ok (one_of (codes "f>") es) (λ d. entries_of_map d >>= (λ names. fields_read (read (after_step around)) names >>= (λ fs. Ok (fields fs)))) s h in
+      let names = bind_ok (entries_of_map one.0) (λ names. fields_read (read (after_step around)) names >>= (λ fs. Ok (fields fs))) s one.2 in
+      let inner = bind_ok (fields_read (read (after_step around)) names.0) (λ fs. Ok (fields fs)) s names.2 in
       SpellsPattern_same (one_key (codes "f") (one_key (codes "f>") (map names.0))) _ (fields inner.0) s
       (ap (λ l. one_key (codes "f") (map l)) (is_one (codes "f>") es one.0 one.1) ∙ ap (λ x. one_key (codes "f") (one_key (codes "f>") x)) (is_map one.0 names.0 names.1))
-      (ok_same (fields inner.0) s inner.2) (as_fields (named_spelled (behind_step around) names.0 inner.0 inner.1))
+      (ok_same (fields inner.0) s inner.2) (as_fields (named_spelled (after_step around) names.0 inner.0 inner.1))
 
   -- the members of a union
   members_spelled : (around : Around) (ds : Items) (ss : Members) → members_read (read around) ds ≡ Ok ss → SpellMembers ds ss

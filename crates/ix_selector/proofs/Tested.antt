@@ -6,7 +6,7 @@ use Rattle.std.specs.Cmp.{both_ways}
 use Rattle.ix_selector.specs.Pattern.{Pattern, Around, outside, guarded, IsGuarded, IsSelector}
 use Rattle.ix_selector.specs.Enters.{Step, Path, Frame, Enters}
 use Rattle.ix_selector.specs.IsEntered.{entered_within, is_entered}
-use Rattle.ix_selector.specs.Residual.{Place, IsAmong, here, there, ResidualEnters, residual_enters, IsBehind}
+use Rattle.ix_selector.specs.Residual.{Place, IsAmong, here, there, ResidualEnters, residual_enters, IsAfter}
 use Rattle.ix_selector.proofs.Decides.{within_sound, within_is, entered-complete, edges, FramesGuarded, is_entered-decides}
 
 -- what surrounds a place
@@ -49,7 +49,7 @@ start_tested places s g is same p =
     both_ways _ _ (λ h. (is_entered-decides s p is).1 ((same p).0 (residual_sound places p h))) (λ h. residual_complete places p g ((same p).1 ((is_entered-decides s p is).0 h)))
 
 -- the clauses of a step give what the tests say
-pub step_tested_some : (places behind : List Place) (t : Step) → ArePlaces places → ArePlaces behind → ResidualEnters behind [] → ((p : Path) → (ResidualEnters behind p ↔ ResidualEnters places (t ∷ p))) → IsBehind places t (Some behind)
+pub step_tested_some : (places behind : List Place) (t : Step) → ArePlaces places → ArePlaces behind → ResidualEnters behind [] → ((p : Path) → (ResidualEnters behind p ↔ ResidualEnters places (t ∷ p))) → IsAfter places t (Some behind)
 step_tested_some places behind t g gs entered same = (
   residual_complete places (t ∷ []) g ((same []).0 entered),
   λ p.
@@ -57,5 +57,5 @@ step_tested_some places behind t g gs entered same = (
 )
 
 -- a child that isn't entered is rejected by the test
-pub step_tested_none : (places : List Place) (t : Step) → (ResidualEnters places (t ∷ []) → ⊥) → IsBehind places t None
+pub step_tested_none : (places : List Place) (t : Step) → (ResidualEnters places (t ∷ []) → ⊥) → IsAfter places t None
 step_tested_none places t h = false_from_ne_true (residual_enters places (t ∷ [])) (λ e. h (residual_sound places (t ∷ []) e))

@@ -8,7 +8,7 @@ use Rattle.ix_selector.specs.Pattern.{Pattern, Fields, Members, matcher, all, fi
 use Rattle.ix_selector.specs.Enters.{Step, key, Path, Frame}
 use Rattle.ix_selector.specs.Steps.{is_at, is_within}
 use Rattle.ix_selector.specs.Residual.{Place}
-use Rattle.ix_selector.specs.Pairs.{deeper}
+use Rattle.ix_selector.specs.States.{deeper}
 
 abbrev mutual
   -- how many places are inside a selector
@@ -117,21 +117,21 @@ named_lead no_fields k n e q = []
 named_lead (field l s fs) k n e q = (if bytes_eq l k then leads s n e q else []) ++ named_lead fs k (n + (inside_of s + 1)) e q
 
 -- where a selector leads after a step
-abbrev pub leads_behind : Pattern → Step → ℕ → List Frame → Option ℕ → List Place
-leads_behind (all s) t n e q = leads s n e q
-leads_behind (fields fs) (key k) n e q = named_lead fs k n e q
-leads_behind (index i s) t n e q = if is_at i t then leads s n e q else []
-leads_behind (range i j s) t n e q = if is_within i j t then leads s n e q else []
-leads_behind s t n e q = []
+abbrev pub leads_after : Pattern → Step → ℕ → List Frame → Option ℕ → List Place
+leads_after (all s) t n e q = leads s n e q
+leads_after (fields fs) (key k) n e q = named_lead fs k n e q
+leads_after (index i s) t n e q = if is_at i t then leads s n e q else []
+leads_after (range i j s) t n e q = if is_within i j t then leads s n e q else []
+leads_after s t n e q = []
 
 -- where a place leads after a step
-abbrev pub leads_behind_from : Place → Step → List Place
-leads_behind_from x t = leads_behind x.selector t (before x) x.around x.sequence
+abbrev pub leads_after_from : Place → Step → List Place
+leads_after_from x t = leads_after x.selector t (before x) x.around x.sequence
 
 -- where places lead after a step, one after another
-abbrev pub all_lead_behind : List Place → Step → List Place
-all_lead_behind [] t = []
-all_lead_behind (x ∷ xs) t = leads_behind_from x t ++ all_lead_behind xs t
+abbrev pub all_lead_after : List Place → Step → List Place
+all_lead_after [] t = []
+all_lead_after (x ∷ xs) t = leads_after_from x t ++ all_lead_after xs t
 
 -- the matchers and explorers, and those that the re-entered sequences lead to
 abbrev pub entering : List Place → List Place → List Place
@@ -144,21 +144,21 @@ unfoldable pub residual_of : Pattern → List Place
 residual_of s = merged (standing (leads s 0 [] None))
 
 -- the residual after a step: empty if the child isn't entered
-unfoldable pub residual_behind : List Place → Step → List Place
-residual_behind places t = let found = all_lead_behind places t in entering (standing found) (again found)
+unfoldable pub residual_after : List Place → Step → List Place
+residual_after places t = let found = all_lead_after places t in entering (standing found) (again found)
 
 -- r is the residual after a step
-abbrev pub IsLeftBehind : List Place → Step → List Place → Type 0
-IsLeftBehind places t r = r ≡ residual_behind places t
+abbrev pub IsLeftAfter : List Place → Step → List Place → Type 0
+IsLeftAfter places t r = r ≡ residual_after places t
 
 -- the residual after the step is empty
-abbrev pub NothingIsLeftBehind : List Place → Step → Type 0
-NothingIsLeftBehind places t = residual_behind places t ≡ []
+abbrev pub NothingIsLeftAfter : List Place → Step → Type 0
+NothingIsLeftAfter places t = residual_after places t ≡ []
 
 -- the residual after each step of a path in turn
 abbrev pub residual_along : List Place → Path → List Place
 residual_along places [] = places
-residual_along places (t ∷ p) = residual_along (residual_behind places t) p
+residual_along places (t ∷ p) = residual_along (residual_after places t) p
 
 -- the residual of a selector at a path
 unfoldable pub residual_at : Pattern → Path → List Place

@@ -19,7 +19,7 @@ pub mod Places
 pub mod Grown
 pub mod Standing
 pub mod Named
-pub mod Pairs
+pub mod States
 pub mod Reaching
 pub mod Behind
 pub mod Merging

@@ -10,7 +10,7 @@ use Rattle.ix_selector.specs.declared.read.Around.TheVariants.{Outside, Unguarde
 use Rattle.ix_selector.specs.declared.read.Shape.{Shape}
 use Rattle.ix_selector.specs.declared.read.Shape.TheVariants.{Matcher, All, Fields, Index, Range, Recursive, Union, Edge}
 use Rattle.ix_selector.specs.Pattern as patterns
-use Rattle.ix_selector.specs.Pattern.{Pattern, matcher, all, fields, index, range, recursive, union, edge, Around, outside, unguarded, guarded, behind_step}
+use Rattle.ix_selector.specs.Pattern.{Pattern, matcher, all, fields, index, range, recursive, union, edge, Around, outside, unguarded, guarded, after_step}
 use Rattle.ix_selector.specs.Reading.{Reader, ◌>>=◌, integer_of, entries_of_map, three_of, no_limit_of, depth_of, fields_read, members_read, form_of, read_with, selector_at}
 
 -- what surrounds a selector, as the program represents it
@@ -41,10 +41,10 @@ depth_limit d = integer_of d >>= depth_of
 -- a form, with what is inside read
 abbrev pub inside : Reader → Around → Shape → Result Pattern SelFault
 inside read around Matcher = Ok matcher
-inside read around (All d) = read (behind_step around) (data_of d.now) >>= (λ s. Ok (all s))
-inside read around (Fields names) = fields_read (read (behind_step around)) (entries_data names.now) >>= (λ fs. Ok (fields fs))
-inside read around (Index i d) = read (behind_step around) (data_of d.now) >>= (λ s. Ok (index i s))
-inside read around (Range i j d) = read (behind_step around) (data_of d.now) >>= (λ s. Ok (range i j s))
+inside read around (All d) = read (after_step around) (data_of d.now) >>= (λ s. Ok (all s))
+inside read around (Fields names) = fields_read (read (after_step around)) (entries_data names.now) >>= (λ fs. Ok (fields fs))
+inside read around (Index i d) = read (after_step around) (data_of d.now) >>= (λ s. Ok (index i s))
+inside read around (Range i j d) = read (after_step around) (data_of d.now) >>= (λ s. Ok (range i j s))
 inside read around (Recursive limit d) = read unguarded (data_of d.now) >>= (λ s. Ok (recursive limit s))
 inside read around (Union ds) = members_read (read around) (items_data ds.now) >>= (λ ss. Ok (union ss))
 inside read around Edge = Ok edge

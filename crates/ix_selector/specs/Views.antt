@@ -1,4 +1,4 @@
--- The pairs of a key and a selector of the program.
+-- The states of a key and a selector of the program.
 use Rattle.std.specs.Prelude.{ℕ, List, map}
 use Rattle.std.specs.Global.{Vec}
 use Rattle.ix_selector.specs.declared.sel.Sel.{Sel}

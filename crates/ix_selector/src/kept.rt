@@ -1,71 +1,71 @@
-//! The pairs of a residual, shared by residuals with the same pairs.
+//! The states of a residual, shared by residuals with the same states.
 
 ghost use Rattle.std.specs.Prelude.{◌≡◌, IfOk};
-ghost use Rattle.ix_selector.specs.Kept.{kept_pairs};
+ghost use Rattle.ix_selector.specs.Kept.{kept_states};
 
-use crate::pair::{Pair, Pairs};
+use crate::state::{State, States};
 use smallvec::SmallVec;
 use std::alloc::{AllocError, Global};
 use std::sync::Arc;
 
-// How many pairs take no allocation.
+// How many states take no allocation.
 const FEW: usize = 2;
 
-/// Pairs: a few in the value itself, and more in an allocation that can be shared.
+/// States: a few in the value itself, and more in an allocation that can be shared.
 ///
 /// Untrusted input decides how many places a selector has and how deep lists nest, and each list
 /// that is open keeps its residual.
 #[derive(Drop)]
 pub(crate) enum Kept {
-    Own(Pairs),
-    Shared(Arc<Pairs>),
+    Own(States),
+    Shared(Arc<States>),
 }
 
 impl Kept {
-    /// Stores these pairs.
-    pub(crate) fn new(alloc: Global, pairs: Pairs) -> Result<Kept, AllocError>
-        ensures { IfOk result (λ k. kept_pairs k ≡ pairs.items) }
+    /// Stores these states.
+    pub(crate) fn new(alloc: Global, states: States) -> Result<Kept, AllocError>
+        ensures { IfOk result (λ k. kept_states k ≡ states.items) }
     {
-        if pairs.len() <= FEW {
-            return Ok(Kept::Own(pairs));
+        if states.len() <= FEW {
+            return Ok(Kept::Own(states));
         }
-        Ok(Kept::Shared(Arc::new(alloc, pairs)?))
+        Ok(Kept::Shared(Arc::new(alloc, states)?))
     }
 
-    /// Stores the pairs after a step: shares the pairs before it, if they are the same.
-    pub(crate) fn or_shared(&self, alloc: Global, pairs: Pairs) -> Result<Kept, AllocError>
-        ensures { IfOk result (λ k. kept_pairs k ≡ pairs.items) }
+    /// Stores the states after a step: shares the states before it, if they are the same.
+    pub(crate) fn or_shared(&self, alloc: Global, states: States) -> Result<Kept, AllocError>
+        ensures { IfOk result (λ k. kept_states k ≡ states.items) }
     {
         if let Kept::Shared(shared) = self {
-            let is_same = shared.as_slice() == pairs.as_slice();
+            let is_same = shared.as_slice() == states.as_slice();
             if is_same {
                 return Ok(Kept::Shared(Arc::try_clone(shared)?));
             }
         }
-        Kept::new(alloc, pairs)
+        Kept::new(alloc, states)
     }
 
-    /// All pairs.
-    pub(crate) fn as_slice(&self) -> &[Pair]
-        ensures { result.now ≡ kept_pairs self.now }
+    /// All states.
+    pub(crate) fn as_slice(&self) -> &[State]
+        ensures { result.now ≡ kept_states self.now }
     {
         match self {
-            Kept::Own(pairs) => pairs.as_slice(),
-            Kept::Shared(pairs) => pairs.as_slice(),
+            Kept::Own(states) => states.as_slice(),
+            Kept::Shared(states) => states.as_slice(),
         }
     }
 
-    /// Clones the pairs; many are shared.
+    /// Clones the states; many are shared.
     pub(crate) fn try_clone(&self, alloc: Global) -> Result<Kept, AllocError>
-        ensures { IfOk result (λ k. kept_pairs k ≡ kept_pairs self.now) }
+        ensures { IfOk result (λ k. kept_states k ≡ kept_states self.now) }
     {
         match self {
-            Kept::Own(pairs) => Ok(Kept::Own(SmallVec::from_slice(alloc, pairs.as_slice())?)),
-            Kept::Shared(pairs) => Ok(Kept::Shared(Arc::try_clone(pairs)?)),
+            Kept::Own(states) => Ok(Kept::Own(SmallVec::from_slice(alloc, states.as_slice())?)),
+            Kept::Shared(states) => Ok(Kept::Shared(Arc::try_clone(states)?)),
         }
     }
 
-    /// Whether they are shared, as many pairs are.
+    /// Whether they are shared, as many states are.
     pub(crate) fn is_shared(&self) -> bool {
         matches!(self, Kept::Shared(_))
     }

@@ -15,18 +15,18 @@
 //! ```
 #![tactic(auto)]
 
-mod again;
 mod fault;
 mod kept;
 pub mod law;
 mod merge;
-mod pair;
 mod reached;
 mod read;
+mod reentry;
 mod residual;
 mod sel;
 mod selector;
-mod spot;
+mod selector_node;
+mod state;
 mod step;
 mod stepping;
 mod steps;

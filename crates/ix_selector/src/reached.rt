@@ -2,96 +2,100 @@
 
 ghost use Rattle.std.specs.Prelude.{◌≡◌, [], OnOk};
 ghost use Rattle.ix_selector.specs.Places.{AreBelow};
-ghost use Rattle.ix_selector.specs.Pairs.{IsPair};
-ghost use Rattle.ix_selector.specs.Reaching.{members_at, AreReached, EntersPair, EntersEach, AddsPair, AddsEach, PairKeeps, MembersKeep, EntersAgain};
+ghost use Rattle.ix_selector.specs.States.{IsState};
+ghost use Rattle.ix_selector.specs.Reaching.{members_at, AreReached, EntersState, EntersEach, AddsState, AddsEach, StateKeeps, MembersKeep, EntersAgain};
 ghost use Rattle.std.specs.List.{All};
 
-use crate::pair::{Pair, Pairs, Recursion};
-use crate::spot::Spot;
+use crate::selector_node::SelectorNode;
+use crate::state::{Recursion, State, States};
 use smallvec::SmallVec;
 use std::alloc::{AllocError, Global};
 
 /// The matchers and explorers that were reached, and the sequences that edges re-enter.
 #[derive(Drop)]
 pub(crate) struct Reached {
-    pub standing: Pairs,
-    pub again: Pairs,
+    pub explore: States,
+    pub reentries: States,
 }
 
 impl Reached {
     /// Nothing reached.
     pub(crate) fn new(alloc: Global) -> Reached
-        ensures { (result.standing.items ≡ []) × (result.again.items ≡ []) }
+        ensures { (result.explore.items ≡ []) × (result.reentries.items ≡ []) }
     {
         Reached {
-            standing: SmallVec::new(alloc),
-            again: SmallVec::new(alloc),
+            explore: SmallVec::new(alloc),
+            reentries: SmallVec::new(alloc),
         }
     }
 }
 
-/// Adds what a pair leads to: the matchers and explorers inside unions and recursions, and the
+/// Adds what a state leads to: the matchers and explorers inside unions and recursions, and the
 /// sequences that its edges re-enter.
-#[cycle(reach)]
-pub(crate) fn reach(spots: &[Spot], pair: Pair, reached: &mut Reached) -> Result<(), AllocError>
-    requires pair { IsPair spots.now pair }
-    requires reached { AreReached spots.now reached.old }
-    ensures reached { OnOk result (AreReached spots.now reached.new) }
-    ensures enters { OnOk result (EntersPair spots.now pair reached.old reached.new) }
-    ensures exact { OnOk result (AddsPair spots.now pair reached.old reached.new) }
-    ensures again { OnOk result (PairKeeps spots.now pair reached.old reached.new) }
+#[cycle(close_over)]
+pub(crate) fn close_over(
+    nodes: &[SelectorNode],
+    state: State,
+    reached: &mut Reached,
+) -> Result<(), AllocError>
+    requires state { IsState nodes.now state }
+    requires reached { AreReached nodes.now reached.old }
+    ensures reached { OnOk result (AreReached nodes.now reached.new) }
+    ensures enters { OnOk result (EntersState nodes.now state reached.old reached.new) }
+    ensures exact { OnOk result (AddsState nodes.now state reached.old reached.new) }
+    ensures reentries { OnOk result (StateKeeps nodes.now state reached.old reached.new) }
 {
-    match &spots[pair.place] {
-        Spot::Recursive(depth, sequence) => {
+    match &nodes[state.place] {
+        SelectorNode::Recursive(depth, sequence) => {
             let recursion = Some(Recursion {
                 sequence: *sequence,
                 depth: *depth,
             });
             let place = *sequence;
-            reach(spots, Pair { place, recursion }, reached)
+            close_over(nodes, State { place, recursion }, reached)
         }
-        Spot::Union(members) => reach_each(spots, members, pair, reached),
-        Spot::Edge => reach_again(pair, reached),
-        _ => Ok(reached.standing.push(pair)?),
+        SelectorNode::Union(members) => close_over_each(nodes, members, state, reached),
+        SelectorNode::Edge => reenter_edge(state, reached),
+        _ => Ok(reached.explore.push(state)?),
     }
 }
 
 // Adds what the members of a union lead to. Their places are before the union's.
-#[cycle(reach)]
-fn reach_each(
-    spots: &[Spot],
+#[cycle(close_over)]
+fn close_over_each(
+    nodes: &[SelectorNode],
     members: &[usize],
-    pair: Pair,
+    state: State,
     reached: &mut Reached,
 ) -> Result<(), AllocError>
-    requires members { AreBelow pair.place members.now }
-    requires pairs { All (IsPair spots.now) (members_at pair members.now) }
-    requires reached { AreReached spots.now reached.old }
-    ensures reached { OnOk result (AreReached spots.now reached.new) }
-    ensures enters { OnOk result (EntersEach spots.now pair members.now reached.old reached.new) }
-    ensures exact { OnOk result (AddsEach spots.now pair members.now reached.old reached.new) }
-    ensures again { OnOk result (MembersKeep spots.now pair members.now reached.old reached.new) }
+    requires members { AreBelow state.place members.now }
+    requires states { All (IsState nodes.now) (members_at state members.now) }
+    requires reached { AreReached nodes.now reached.old }
+    ensures reached { OnOk result (AreReached nodes.now reached.new) }
+    ensures enters { OnOk result (EntersEach nodes.now state members.now reached.old reached.new) }
+    ensures exact { OnOk result (AddsEach nodes.now state members.now reached.old reached.new) }
+    ensures reentries { OnOk result (MembersKeep nodes.now state members.now reached.old reached.new) }
 {
     for member in members {
         let place = *member;
-        let recursion = pair.recursion;
-        reach(spots, Pair { place, recursion }, reached)?;
+        let recursion = state.recursion;
+        close_over(nodes, State { place, recursion }, reached)?;
     }
     Ok(())
 }
 
 // Adds the sequence that an edge re-enters, if its recursion has depth left.
-fn reach_again(pair: Pair, reached: &mut Reached) -> Result<(), AllocError>
-    ensures standing { reached.new.standing ≡ reached.old.standing }
-    ensures again { OnOk result (EntersAgain pair.recursion reached.old reached.new) }
+fn reenter_edge(state: State, reached: &mut Reached) -> Result<(), AllocError>
+    ensures explore { reached.new.explore ≡ reached.old.explore }
+    ensures reentries { OnOk result (EntersAgain state.recursion reached.old reached.new) }
 {
-    let Some(recursion) = pair.recursion else {
+    let Some(recursion) = state.recursion else {
         return Ok(());
     };
-    let Some(lower) = recursion.lowered() else {
+    let Some(lower) = recursion.decremented() else {
         return Ok(());
     };
-    reached.again.push(Pair {
+    reached.reentries.push(State {
         place: lower.sequence,
         recursion: Some(lower),
     })?;

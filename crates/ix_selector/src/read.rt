@@ -3,7 +3,7 @@
 ghost use Rattle.std.specs.Prelude.{◌≡◌};
 ghost use Rattle.ix_cid.specs.Results.{Reads};
 ghost use Rattle.ix_cbor.specs.Data.{data_of};
-ghost use Rattle.ix_selector.specs.Pattern.{pattern_of, behind_step};
+ghost use Rattle.ix_selector.specs.Pattern.{pattern_of, after_step};
 ghost use Rattle.ix_selector.specs.Reading.{integer_of, entries_of_map, one_of, two_of, has_key, limit_of, matcher_of, all_read, fields_form, index_form, range_form, recursive_form, union_form, edge_form, read_with, selector_at, without_envelope, selector_of};
 ghost use Rattle.ix_selector.specs.Views.{seen_fields, seen_members};
 ghost use Rattle.ix_selector.specs.Gives.{Gives};
@@ -40,7 +40,7 @@ enum Shape<'t> {
 
 // Returns what surrounds a selector after one more step.
 fn around_step(around: Around) -> Around
-    ensures { around_of result ≡ behind_step (around_of around) }
+    ensures { around_of result ≡ after_step (around_of around) }
 {
     match around {
         Around::Outside => Around::Outside,

@@ -1,19 +1,19 @@
 //! What remains of a selector at a place.
 
 ghost use Rattle.std.specs.Prelude.{◌≡◌, [], IfOk, IfSome, IfNone};
-ghost use Rattle.ix_selector.specs.Residual.{ResidualEnters, EntersAs, IsTestedAs, EntersBehind, LeavesOut, step_of, IsBehind};
+ghost use Rattle.ix_selector.specs.Residual.{ResidualEnters, EntersAs, IsTestedAs, EntersAfter, LeavesOut, step_of, IsAfter};
 ghost use Rattle.std.specs.Bool.{OnTrue};
 ghost use Rattle.ix_selector.specs.Alike.{LookAtNoStep};
-ghost use Rattle.ix_selector.specs.Behind.{residual_of, IsLeftBehind, NothingIsLeftBehind, same_residual, residual_order};
+ghost use Rattle.ix_selector.specs.Behind.{residual_of, IsLeftAfter, NothingIsLeftAfter, same_residual, residual_order};
 
 use crate::kept::Kept;
 use crate::merge::merge;
-use crate::pair::Pair;
-use crate::reached::{Reached, reach};
+use crate::reached::{Reached, close_over};
 use crate::selector::Selector;
-use crate::spot::Spot;
+use crate::selector_node::SelectorNode;
+use crate::state::State;
 use crate::step::Step;
-use crate::stepping::{look_at_no_step, stepped};
+use crate::stepping::{derivative, look_at_no_step};
 use std::alloc::{AllocError, Global};
 use std::cmp::Ordering;
 use std::marker::Model;
@@ -23,32 +23,32 @@ use std::marker::Model;
 /// No two of them have one place of the selector, so there are at most as many as the selector has
 /// places. A step that leaves the same shares them.
 pub struct Residual<'s> {
-    spots: &'s [Spot],
-    pairs: Kept,
+    nodes: &'s [SelectorNode],
+    states: Kept,
 }
 
 // Written by hand: a derived drop is inlined in each function that drops one, at each of its exits.
 impl<'s> Drop for Residual<'s> {
     fn drop(self) {
-        let Residual { spots: _, pairs } = self;
-        drop(pairs);
+        let Residual { nodes: _, states } = self;
+        drop(states);
     }
 }
 
 impl<'s> Model for Residual<'s> {
     ghost use Rattle.std.specs.Prelude.{List, map};
-    ghost use Rattle.ix_selector.specs.Pairs.{place_of};
+    ghost use Rattle.ix_selector.specs.States.{place_of};
     ghost use Rattle.ix_selector.specs.Residual.{Place, coded_places};
     ghost use Rattle.ix_selector.specs.Reaching.{AreLeftIn};
-    ghost use Rattle.ix_selector.specs.Kept.{kept_pairs};
+    ghost use Rattle.ix_selector.specs.Kept.{kept_states};
 
     ghost Value = { List Place };
 
     ghost coded = { coded_places };
 
-    ghost view = { λ r. map (place_of r.spots.now) (kept_pairs r.pairs) };
+    ghost view = { λ r. map (place_of r.nodes.now) (kept_states r.states) };
 
-    ghost invariant = { λ r. AreLeftIn r.spots.now (kept_pairs r.pairs) };
+    ghost invariant = { λ r. AreLeftIn r.nodes.now (kept_states r.states) };
 }
 
 impl<'s> Residual<'s> {
@@ -58,58 +58,58 @@ impl<'s> Residual<'s> {
         ensures tested { IfOk result (IsTestedAs selector.now) }
         ensures exact { IfOk result (λ r. r ≡ residual_of selector.now) }
     {
-        let (spots, place) = selector.places();
+        let (nodes, place) = selector.places();
         let mut reached = Reached::new(alloc);
-        let root = Pair {
+        let root = State {
             place,
             recursion: None,
         };
-        reach(spots, root, &mut reached)?;
-        merge(alloc, &mut reached.standing)?;
-        let pairs = Kept::new(alloc, reached.standing)?;
-        Ok(Residual { spots, pairs })
+        close_over(nodes, root, &mut reached)?;
+        merge(alloc, &mut reached.explore)?;
+        let states = Kept::new(alloc, reached.explore)?;
+        Ok(Residual { nodes, states })
     }
 
     /// Returns the residual after a step, or `None` if the child isn't entered. Fails if memory
     /// runs out.
     pub fn step(&self, alloc: Global, step: &Step) -> Result<Option<Residual<'s>>, AllocError>
         ensures entered { IfOk result (λ o. IfSome o (λ r. ResidualEnters r [])) }
-        ensures below { IfOk result (λ o. IfSome o (EntersBehind self.now (step_of step.now))) }
+        ensures below { IfOk result (λ o. IfSome o (EntersAfter self.now (step_of step.now))) }
         ensures none { IfOk result (λ o. IfNone o (LeavesOut self.now (step_of step.now))) }
-        ensures tested { IfOk result (IsBehind self.now (step_of step.now)) }
-        ensures exact { IfOk result (λ o. IfSome o (IsLeftBehind self.now (step_of step.now))) }
-        ensures stays_out { IfOk result (λ o. IfNone o (NothingIsLeftBehind self.now (step_of step.now))) }
+        ensures tested { IfOk result (IsAfter self.now (step_of step.now)) }
+        ensures exact { IfOk result (λ o. IfSome o (IsLeftAfter self.now (step_of step.now))) }
+        ensures stays_out { IfOk result (λ o. IfNone o (NothingIsLeftAfter self.now (step_of step.now))) }
     {
-        let spots = self.spots;
-        let pairs = stepped(alloc, spots, self.pairs.as_slice(), step)?;
-        if pairs.is_empty() {
+        let nodes = self.nodes;
+        let states = derivative(alloc, nodes, self.states.as_slice(), step)?;
+        if states.is_empty() {
             return Ok(None);
         }
-        let pairs = self.pairs.or_shared(alloc, pairs)?;
-        Ok(Some(Residual { spots, pairs }))
+        let states = self.states.or_shared(alloc, states)?;
+        Ok(Some(Residual { nodes, states }))
     }
 
     /// Clones the residual. Fails if memory runs out.
     pub fn try_clone(&self, alloc: Global) -> Result<Residual<'s>, AllocError>
         ensures same { IfOk result (λ r. r ≡ self.now) }
     {
-        let pairs = self.pairs.try_clone(alloc)?;
+        let states = self.states.try_clone(alloc)?;
         Ok(Residual {
-            spots: self.spots,
-            pairs,
+            nodes: self.nodes,
+            states,
         })
     }
 
-    /// Whether its pairs can be shared.
+    /// Whether its states can be shared.
     pub(crate) fn is_shared(&self) -> bool {
-        self.pairs.is_shared()
+        self.states.is_shared()
     }
 
     /// Whether each step leaves the same, since no selector depends on the step.
     pub(crate) fn looks_at_no_step(&self) -> bool
         ensures { OnTrue result (LookAtNoStep self.now) }
     {
-        look_at_no_step(self.spots, self.pairs.as_slice())
+        look_at_no_step(self.nodes, self.states.as_slice())
     }
 
     /// Whether the residuals are equal: the same places of the selector, in the same recursions
@@ -117,7 +117,7 @@ impl<'s> Residual<'s> {
     pub fn is_same(&self, other: &Residual) -> bool
         ensures { result ≡ same_residual self.now other.now }
     {
-        self.pairs.as_slice() == other.pairs.as_slice()
+        self.states.as_slice() == other.states.as_slice()
     }
 
     /// Compares residuals: by places, then by their recursions and depths. Returns `Equal` exactly
@@ -125,7 +125,7 @@ impl<'s> Residual<'s> {
     pub fn compare(&self, other: &Residual) -> Ordering
         ensures { result ≡ residual_order self.now other.now }
     {
-        self.pairs.as_slice().cmp(other.pairs.as_slice())
+        self.states.as_slice().cmp(other.states.as_slice())
     }
 }
 

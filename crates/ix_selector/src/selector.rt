@@ -10,7 +10,7 @@ ghost use Rattle.ix_selector.specs.Gives.{Gives};
 use crate::fault::SelFault;
 use crate::read;
 use crate::sel::Sel;
-use crate::spot::{Spot, push_spots};
+use crate::selector_node::{SelectorNode, push_nodes};
 use ix_cbor::Tree;
 use std::alloc::{AllocError, Global};
 use std::marker::Model;
@@ -19,15 +19,15 @@ use std::marker::Model;
 /// 128 deep.
 #[derive(Debug)]
 pub struct Selector {
-    spots: Vec<Spot>,
+    nodes: Vec<SelectorNode>,
     root: usize,
 }
 
 // Written by hand: a derived drop is inlined in each function that drops one, at each of its exits.
 impl Drop for Selector {
     fn drop(self) {
-        let Selector { spots, root: _ } = self;
-        drop(spots);
+        let Selector { nodes, root: _ } = self;
+        drop(nodes);
     }
 }
 
@@ -41,9 +41,9 @@ impl Model for Selector {
 
     ghost coded = { coded_pattern };
 
-    ghost view = { λ s. at (places_of s.spots.items) s.root };
+    ghost view = { λ s. at (places_of s.nodes.items) s.root };
 
-    ghost invariant = { λ s. IsTableOf s.spots.items s.root };
+    ghost invariant = { λ s. IsTableOf s.nodes.items s.root };
 }
 
 // Reads the tree of a selector from data.
@@ -87,18 +87,18 @@ impl Selector {
         requires { IsSound (pattern_of sel.now) }
         ensures { IfOk result (λ s. s ≡ pattern_of sel.now) }
     {
-        let mut spots = Vec::new(alloc);
-        let root = push_spots(alloc, sel, &mut spots)?;
-        Ok(Selector { spots, root })
+        let mut nodes = Vec::new(alloc);
+        let root = push_nodes(alloc, sel, &mut nodes)?;
+        Ok(Selector { nodes, root })
     }
 
     /// Its places, and the number of its own.
-    pub(crate) fn places(&self) -> (&[Spot], usize)
+    pub(crate) fn places(&self) -> (&[SelectorNode], usize)
         ensures table { IsTable result.0.now }
         ensures whole { result.1 ≡ inside_of self.now }
         ensures root { IsRootOf result.0.now self.now result.1 }
         ensures selector { IsSelector self.now }
     {
-        (self.spots.as_slice(), self.root)
+        (self.nodes.as_slice(), self.root)
     }
 }

@@ -3,20 +3,20 @@
 ghost use Rattle.std.specs.Prelude.{◌<◌, ◌≤◌, length, IfOk, IfSome, IfNone};
 ghost use Rattle.std.specs.Bool.{OnTrue, OnFalse};
 ghost use Rattle.std.specs.List.{All};
-ghost use Rattle.ix_selector.specs.Alike.{SpotLooksAtNoStep, PairLooksAtNoStep};
+ghost use Rattle.ix_selector.specs.Alike.{NodeLooksAtNoStep, StateLooksAtNoStep};
 ghost use Rattle.ix_selector.specs.Places.{places_of, AreRising};
 ghost use Rattle.ix_selector.specs.Standing.{IsBeside};
 ghost use Rattle.ix_selector.specs.Named.{HasName, HasNoName};
-ghost use Rattle.ix_selector.specs.Pairs.{IsPair, AreStandingPairs};
-ghost use Rattle.ix_selector.specs.Reaching.{AreReached, AreLeftIn, EnterAsReached, EnterBehind, AreLeft, AreLeftBehind, LeadsBeside, StandsAtEnd, LeadsAs, LeadsToNone, EachStepLeavesPair};
+ghost use Rattle.ix_selector.specs.States.{IsState, AreStandingStates};
+ghost use Rattle.ix_selector.specs.Reaching.{AreReached, AreLeftIn, EnterAsReached, EnterAfter, AreLeft, AreLeftAfter, LeadsBeside, IsAtEnd, LeadsAs, LeadsToNone, EachStepLeavesState};
 ghost use Rattle.ix_selector.specs.Laid.{IsTable};
 ghost use Rattle.ix_selector.specs.Residual.{step_of};
 
-use crate::again::reenter;
 use crate::merge::merge;
-use crate::pair::{Pair, Pairs};
-use crate::reached::{Reached, reach};
-use crate::spot::Spot;
+use crate::reached::{Reached, close_over};
+use crate::reentry::reenter;
+use crate::selector_node::SelectorNode;
+use crate::state::{State, States};
 use crate::step::Step;
 use ix_cbor::compare_keys;
 use smallvec::SmallVec;
@@ -38,101 +38,105 @@ fn named(names: &[(Vec<u8>, usize)], step: &Step) -> Option<usize>
 }
 
 // Returns the place that a step from a place leads to, if any.
-fn behind(spots: &[Spot], place: usize, step: &Step) -> Option<usize>
-    requires table { IsTable spots.now }
-    requires place { place < length spots.now }
-    ensures within { IfSome result (λ k. k < length spots.now) }
-    ensures beside { IfSome result (IsBeside spots.now place) }
-    ensures some { IfSome result (LeadsBeside (places_of spots.now) place (step_of step.now)) }
-    ensures none { IfNone result (StandsAtEnd (places_of spots.now) place (step_of step.now)) }
-    ensures leads { IfSome result (LeadsAs (places_of spots.now) place (step_of step.now)) }
-    ensures nowhere { IfNone result (LeadsToNone (places_of spots.now) place (step_of step.now)) }
+fn child_of(nodes: &[SelectorNode], place: usize, step: &Step) -> Option<usize>
+    requires table { IsTable nodes.now }
+    requires place { place < length nodes.now }
+    ensures within { IfSome result (λ k. k < length nodes.now) }
+    ensures beside { IfSome result (IsBeside nodes.now place) }
+    ensures some { IfSome result (LeadsBeside (places_of nodes.now) place (step_of step.now)) }
+    ensures none { IfNone result (IsAtEnd (places_of nodes.now) place (step_of step.now)) }
+    ensures leads { IfSome result (LeadsAs (places_of nodes.now) place (step_of step.now)) }
+    ensures nowhere { IfNone result (LeadsToNone (places_of nodes.now) place (step_of step.now)) }
 {
-    match &spots[place] {
-        Spot::All(next) => Some(*next),
-        Spot::Fields(names) => named(names, step),
-        Spot::Index(position, next) => step.is_at(*position).then_some(*next),
-        Spot::Range(start, end, next) => step.is_within(*start, *end).then_some(*next),
+    match &nodes[place] {
+        SelectorNode::All(next) => Some(*next),
+        SelectorNode::Fields(names) => named(names, step),
+        SelectorNode::Index(position, next) => step.is_at(*position).then_some(*next),
+        SelectorNode::Range(start, end, next) => step.is_within(*start, *end).then_some(*next),
         _ => None,
     }
 }
 
 // Returns the matchers and explorers, after those inside the re-entered sequences are reached too.
-fn entered_again(alloc: Global, spots: &[Spot], mut reached: Reached) -> Result<Pairs, AllocError>
-    requires reached { AreReached spots.now reached }
-    ensures pairs { IfOk result (λ r. AreStandingPairs spots.now r.items) }
-    ensures few { IfOk result (λ r. length r.items ≤ length spots.now) }
-    ensures enters { IfOk result (λ r. EnterAsReached spots.now reached r.items) }
-    ensures exact { IfOk result (λ r. AreLeft spots.now reached r.items) }
+fn reenter_edges(
+    alloc: Global,
+    nodes: &[SelectorNode],
+    mut reached: Reached,
+) -> Result<States, AllocError>
+    requires reached { AreReached nodes.now reached }
+    ensures states { IfOk result (λ r. AreStandingStates nodes.now r.items) }
+    ensures few { IfOk result (λ r. length r.items ≤ length nodes.now) }
+    ensures enters { IfOk result (λ r. EnterAsReached nodes.now reached r.items) }
+    ensures exact { IfOk result (λ r. AreLeft nodes.now reached r.items) }
 {
-    merge(alloc, &mut reached.again)?;
-    while let Some(pair) = reached.again.pop() {
-        reenter(spots, pair, &mut reached)?;
+    merge(alloc, &mut reached.reentries)?;
+    while let Some(state) = reached.reentries.pop() {
+        reenter(nodes, state, &mut reached)?;
     }
-    merge(alloc, &mut reached.standing)?;
-    Ok(reached.standing)
+    merge(alloc, &mut reached.explore)?;
+    Ok(reached.explore)
 }
 
-// Returns the pair that each step leaves, if every child is an edge that re-enters the place
+// Returns the state that each step leaves, if every child is an edge that re-enters the place
 // itself.
-fn looped(spots: &[Spot], pair: Pair) -> Option<Pair>
-    requires { IsTable spots.now × IsPair spots.now pair }
-    ensures { IfSome result (EachStepLeavesPair spots.now pair) }
+fn self_loop(nodes: &[SelectorNode], state: State) -> Option<State>
+    requires { IsTable nodes.now × IsState nodes.now state }
+    ensures { IfSome result (EachStepLeavesState nodes.now state) }
 {
-    let Spot::All(next) = &spots[pair.place] else {
+    let SelectorNode::All(next) = &nodes[state.place] else {
         return None;
     };
-    let Spot::Edge = &spots[*next] else {
+    let SelectorNode::Edge = &nodes[*next] else {
         return None;
     };
-    let lower = pair.recursion?.lowered()?;
-    if lower.sequence != pair.place {
+    let lower = state.recursion?.decremented()?;
+    if lower.sequence != state.place {
         return None;
     }
-    Some(Pair {
+    Some(State {
         place: lower.sequence,
         recursion: Some(lower),
     })
 }
 
-/// Returns the pairs after a step.
-pub(crate) fn stepped(
+/// Returns the states after a step.
+pub(crate) fn derivative(
     alloc: Global,
-    spots: &[Spot],
-    pairs: &[Pair],
+    nodes: &[SelectorNode],
+    states: &[State],
     step: &Step,
-) -> Result<Pairs, AllocError>
-    requires table { IsTable spots.now }
-    requires pairs { AreStandingPairs spots.now pairs.now }
-    ensures pairs { IfOk result (λ r. AreStandingPairs spots.now r.items) }
-    ensures few { IfOk result (λ r. length r.items ≤ length spots.now) }
-    ensures enters { IfOk result (λ r. EnterBehind spots.now pairs.now step.now r.items) }
-    ensures exact { IfOk result (λ r. AreLeftBehind spots.now pairs.now step.now r.items) }
+) -> Result<States, AllocError>
+    requires table { IsTable nodes.now }
+    requires states { AreStandingStates nodes.now states.now }
+    ensures states { IfOk result (λ r. AreStandingStates nodes.now r.items) }
+    ensures few { IfOk result (λ r. length r.items ≤ length nodes.now) }
+    ensures enters { IfOk result (λ r. EnterAfter nodes.now states.now step.now r.items) }
+    ensures exact { IfOk result (λ r. AreLeftAfter nodes.now states.now step.now r.items) }
 {
-    if pairs.len() == 1 {
-        if let Some(same) = looped(spots, pairs[0]) {
+    if states.len() == 1 {
+        if let Some(same) = self_loop(nodes, states[0]) {
             let mut left = SmallVec::new(alloc);
             left.push(same)?;
             return Ok(left);
         }
     }
     let mut reached = Reached::new(alloc);
-    for pair in pairs {
-        if let Some(place) = behind(spots, pair.place, step) {
-            let recursion = pair.recursion;
-            reach(spots, Pair { place, recursion }, &mut reached)?;
+    for state in states {
+        if let Some(place) = child_of(nodes, state.place, step) {
+            let recursion = state.recursion;
+            close_over(nodes, State { place, recursion }, &mut reached)?;
         }
     }
-    entered_again(alloc, spots, reached)
+    reenter_edges(alloc, nodes, reached)
 }
 
-/// Whether none of the pairs depends on the step: each continues at all children alike, or at none.
-pub(crate) fn look_at_no_step(spots: &[Spot], pairs: &[Pair]) -> bool
-    requires { AreLeftIn spots.now pairs.now }
-    ensures { OnTrue result (All (PairLooksAtNoStep spots.now) pairs.now) }
+/// Whether none of the states depends on the step: each continues at all children alike, or at none.
+pub(crate) fn look_at_no_step(nodes: &[SelectorNode], states: &[State]) -> bool
+    requires { AreLeftIn nodes.now states.now }
+    ensures { OnTrue result (All (StateLooksAtNoStep nodes.now) states.now) }
 {
-    for pair in pairs {
-        let looks = looks_at_a_step(&spots[pair.place]);
+    for state in states {
+        let looks = looks_at_a_step(&nodes[state.place]);
         if looks {
             return false;
         }
@@ -142,11 +146,11 @@ pub(crate) fn look_at_no_step(spots: &[Spot], pairs: &[Pair]) -> bool
 
 // Whether the form at a place depends on the step. False only if it continues at all children
 // alike, or at none.
-fn looks_at_a_step(spot: &Spot) -> bool
-    ensures { OnFalse result (SpotLooksAtNoStep spot.now) }
+fn looks_at_a_step(node: &SelectorNode) -> bool
+    ensures { OnFalse result (NodeLooksAtNoStep node.now) }
 {
-    match spot {
-        Spot::All(_) | Spot::Matcher => false,
+    match node {
+        SelectorNode::All(_) | SelectorNode::Matcher => false,
         _ => true,
     }
 }

@@ -1,8 +1,8 @@
 //! Many steps from one place.
 
 ghost use Rattle.std.specs.Prelude.{◌≡◌, [], IfOk, IfSome, IfNone};
-ghost use Rattle.ix_selector.specs.Residual.{ResidualEnters, EntersBehind, LeavesOut, step_of, IsBehind};
-ghost use Rattle.ix_selector.specs.Behind.{IsLeftBehind, NothingIsLeftBehind};
+ghost use Rattle.ix_selector.specs.Residual.{ResidualEnters, EntersAfter, LeavesOut, step_of, IsAfter};
+ghost use Rattle.ix_selector.specs.Behind.{IsLeftAfter, NothingIsLeftAfter};
 
 use crate::residual::Residual;
 use crate::step::Step;
@@ -56,11 +56,11 @@ impl<'s> Steps<'s> {
     pub fn step(&mut self, alloc: Global, step: &Step) -> Result<Option<Residual<'s>>, AllocError>
         ensures same { self.new ≡ self.old }
         ensures entered { IfOk result (λ o. IfSome o (λ r. ResidualEnters r [])) }
-        ensures below { IfOk result (λ o. IfSome o (EntersBehind self.old (step_of step.now))) }
+        ensures below { IfOk result (λ o. IfSome o (EntersAfter self.old (step_of step.now))) }
         ensures none { IfOk result (λ o. IfNone o (LeavesOut self.old (step_of step.now))) }
-        ensures tested { IfOk result (IsBehind self.old (step_of step.now)) }
-        ensures exact { IfOk result (λ o. IfSome o (IsLeftBehind self.old (step_of step.now))) }
-        ensures stays_out { IfOk result (λ o. IfNone o (NothingIsLeftBehind self.old (step_of step.now))) }
+        ensures tested { IfOk result (IsAfter self.old (step_of step.now)) }
+        ensures exact { IfOk result (λ o. IfSome o (IsLeftAfter self.old (step_of step.now))) }
+        ensures stays_out { IfOk result (λ o. IfNone o (NothingIsLeftAfter self.old (step_of step.now))) }
     {
         if let Some(each) = &self.each {
             return Ok(Some(each.try_clone(alloc)?));

@@ -279,7 +279,7 @@ fn is_cut_at(rt: &impl Abort, got: &Outcome, room: usize, whole: &[u8]) {
 }
 
 #[test]
-fn tells_where_a_writer_fails(rt: HostRuntime) -> Result<(), Fail> {
+fn reports_where_a_writer_fails(rt: HostRuntime) -> Result<(), Fail> {
     let alloc = rt.alloc();
     let whole = archive_of(alloc, ONE_LINK, ONE_LINK_SECTIONS.as_slice())?;
     assert_eq!(rt; whole.len(), 178);

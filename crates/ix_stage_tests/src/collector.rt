@@ -2,11 +2,11 @@
 
 ghost use Rattle.std.specs.Prelude.{◌<◌, IfOk};
 ghost use Rattle.ix_archive.specs.Headline.{EachFresh};
-ghost use Rattle.ix_handover.specs.Lanes.{IsLane};
+ghost use Rattle.ix_channels.specs.Lanes.{IsLane};
 
 use ix_archive::{End, Sink};
 use ix_check::Verdict;
-use ix_collect::{Collector, Received, drain, finish, law, round};
+use ix_collect::{Collector, Received, drain_all, drain_lane, law, poll_lanes};
 use ix_fixtures::{ABC, Log, cid_of};
 use ix_stages::{LaneIn, LaneOut, Verdicted, lane};
 use ix_walk::Visit;
@@ -129,9 +129,9 @@ impl<const N: usize> Gathering<N> {
         let (_sender, receiver) = lane_of(alloc, 2, &[Sent::Checked(0, 1), Sent::Last])?;
         let mut lanes = [receiver];
         Ok([
-            round(alloc, &mut self.collector, &mut lanes, &mut self.logs),
-            round(alloc, &mut self.collector, &mut lanes, &mut self.logs),
-            round(alloc, &mut self.collector, &mut lanes, &mut self.logs),
+            poll_lanes(alloc, &mut self.collector, &mut lanes, &mut self.logs),
+            poll_lanes(alloc, &mut self.collector, &mut lanes, &mut self.logs),
+            poll_lanes(alloc, &mut self.collector, &mut lanes, &mut self.logs),
         ])
     }
 
@@ -139,7 +139,7 @@ impl<const N: usize> Gathering<N> {
     fn drain_one<R: Wait>(&mut self, rt: &R, alloc: Global) -> Result<(), Fail> {
         let (mut sender, mut receiver) = lane_of(alloc, 1, &[Sent::Checked(0, 0)])?;
         let Gathering { collector, logs } = self;
-        drain(rt, alloc, collector, &mut sender, &mut receiver, logs);
+        drain_lane(rt, alloc, collector, &mut sender, &mut receiver, logs);
         Ok(())
     }
 
@@ -154,7 +154,7 @@ impl<const N: usize> Gathering<N> {
         let mut senders = [first_in, second_in];
         let mut receivers = [first_out, second_out];
         let Gathering { collector, logs } = self;
-        finish(rt, alloc, collector, &mut senders, &mut receivers, logs);
+        drain_all(rt, alloc, collector, &mut senders, &mut receivers, logs);
         Ok(())
     }
 }
@@ -230,11 +230,11 @@ const STRAYS: [[Sent; 2]; 6] = [
     [Sent::Checked(0, 1), Sent::Checked(1, 0)],
 ];
 
-// Whether a stray was noted, and what the only log received so far: how many deliveries, and the close.
-fn noted_and_told(gathering: &Gathering<1>) -> (bool, (usize, Option<End>)) {
+// Whether an unexpected item was noted, and what the only log received so far: how many deliveries, and the close.
+fn accepted_and_reported(gathering: &Gathering<1>) -> (bool, (usize, Option<End>)) {
     let log = &gathering.logs[0];
     (
-        gathering.collector.has_stray(),
+        gathering.collector.has_unexpected(),
         (log.deliveries.len(), log.closed),
     )
 }
@@ -244,9 +244,9 @@ fn noted_and_told(gathering: &Gathering<1>) -> (bool, (usize, Option<End>)) {
 fn notes_the_second(rt: &impl Abort, alloc: Global, items: &[Sent; 2]) -> Result<(), Fail> {
     let mut gathering = Gathering::new(alloc, [Log::new(alloc, 9)?])?;
     gathering.receive(alloc, &items[0])?;
-    let before = noted_and_told(&gathering);
+    let before = accepted_and_reported(&gathering);
     gathering.receive(alloc, &items[1])?;
-    let after = noted_and_told(&gathering);
+    let after = accepted_and_reported(&gathering);
     assert_eq!(rt; (before.0, after), (false, (true, before.1)));
     Ok(())
 }
@@ -266,7 +266,10 @@ fn receive_lanes<R: Abort + Wait>(
     gathering: &mut Gathering<1>,
 ) -> Result<(), Fail> {
     let rounds = gathering.three_rounds(alloc)?;
-    assert!(rt; rounds.map(|round| (round.items, round.lasts)) == [(1, 0), (1, 1), (0, 0)]);
+    assert!(rt;
+        rounds.map(|poll_lanes| (poll_lanes.items, poll_lanes.ended_lanes))
+            == [(1, 0), (1, 1), (0, 0)]
+    );
     gathering.drain_one(rt, alloc)?;
     assert!(rt; !gathering.collector.is_done());
     gathering.finish_two(rt, alloc)?;

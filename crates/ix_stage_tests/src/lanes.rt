@@ -2,8 +2,8 @@
 //! runtime, or one that can't wait.
 
 ghost use Rattle.std.specs.Prelude.{All, IfOk};
-ghost use Rattle.ix_handover.specs.Claims.{IsOfClaims};
-ghost use Rattle.ix_handover.specs.Lanes.{IsLane, IsSameLane, SameIn};
+ghost use Rattle.ix_channels.specs.Claims.{IsOfClaims};
+ghost use Rattle.ix_channels.specs.Lanes.{IsLane, IsSameLane, SameIn};
 
 use ix_fixtures::{Awaited, TURNS};
 use ix_stages::{ClaimSeat, Claims, LaneIn, LaneOut, Verdicted, lane_rest};
@@ -181,7 +181,7 @@ fn claim_all(
 {
     let mut seat = seat;
     let mut found = Vec::new(alloc);
-    start.tell();
+    start.signal();
     start.wait(TURNS);
     for _ in 0..1001 {
         let Some(next) = claims.claim(&mut seat) else {

@@ -2,18 +2,18 @@
 //! through a queue with room for one.
 
 ghost use Rattle.std.specs.Prelude.{◌≡◌, ◌<◌, None, Some, false, All, IfOk, IfSome, length, slice_get};
-ghost use Rattle.ix_handover.specs.Course.{IsCourseOf, course_of};
-ghost use Rattle.ix_handover.specs.Making.{IsNewQueue};
-ghost use Rattle.ix_handover.specs.declared.item.Item.{Item};
-ghost use Rattle.ix_handover.specs.Queue.{table_of};
-ghost use Rattle.ix_handover.specs.Seats.{IsNext, closed_after, next_after};
+ghost use Rattle.ix_channels.specs.Course.{IsCourseOf, course_of};
+ghost use Rattle.ix_channels.specs.Making.{IsNewQueue};
+ghost use Rattle.ix_channels.specs.declared.item.Item.{Item};
+ghost use Rattle.ix_channels.specs.Queue.{table_of};
+ghost use Rattle.ix_channels.specs.Seats.{IsNext, closed_after, next_after};
 ghost use Rattle.ix_stage_tests.specs.Walkers.{CanWalk, CanAllWalk, CanGoOn, CanClose, HasLeft, IsLeft};
 ghost use Rattle.ix_stage_tests.specs.Walkers.{AreSmall, IsOneJob, IsSameTable, IsWalker, IsTaker, HasWalked};
 
 use ix_archive::End;
+use ix_channels::law;
 use ix_check::{ShaCheck, Verdict};
 use ix_fixtures::{INNER_BLOCK, ONE_LINK, OUTER, TURNS, chain_of, jobs_of, store_of};
-use ix_handover::law;
 use ix_stages::{
     Course, Item, JobSeat, LaneOut, QueueParts, StopSeat, TakeSeat, Verdicted, VisitQueue, lane,
     verify,
@@ -36,7 +36,7 @@ struct Walks<'a> {
 }
 
 impl Course for Walks<'_> {
-    ghost plan = { λ w. course_of w.store.now w.jobs.now };
+    ghost expected = { λ w. course_of w.store.now w.jobs.now };
 }
 
 // One job of everything below the chain, over its store.
@@ -233,7 +233,7 @@ struct QueueOut<'a> {
 }
 
 impl<'a> Model for QueueOut<'a> {
-    ghost use Rattle.ix_handover.specs.Seats.{SeatView};
+    ghost use Rattle.ix_channels.specs.Seats.{SeatView};
     ghost use Rattle.ix_stage_tests.specs.Walkers.{IsTaker};
 
     ghost Value = { SeatView };

@@ -3,7 +3,7 @@
 //!
 //! In every schedule a walker puts only items that its job's expected sequence (its course) allows.
 //! A verifier sends one answer for each item that it takes, and checks each visit once. The
-//! channels between these threads (queue, lanes, claims) are in `ix_handover` and are re-exported
+//! channels between these threads (queue, lanes, claims) are in `ix_channels` and are re-exported
 //! here. That a blocking call returns is not promised.
 //!
 //! ```rust
@@ -18,9 +18,9 @@ mod verifier;
 mod walker;
 
 pub use gate::{Gate, Open};
-pub use ix_handover::{
-    ClaimSeat, Claims, Course, Item, JobSeat, LaneIn, LaneOut, QueueParts, Rest, StopSeat,
-    TakeSeat, Verdicted, VisitQueue, Waiting, lane, lane_rest,
+pub use ix_channels::{
+    Backoff, ClaimSeat, Claims, Course, Item, JobSeat, LaneIn, LaneOut, QueueParts, Rest, StopSeat,
+    TakeSeat, Verdicted, VisitQueue, lane, lane_rest,
 };
 pub use shared::{Shared, Task};
 pub use verifier::verify;

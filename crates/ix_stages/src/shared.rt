@@ -1,6 +1,6 @@
 //! The inputs of an export, and what its threads share.
 
-use ix_handover::{Claims, JobSeat, VisitQueue};
+use ix_channels::{Claims, JobSeat, VisitQueue};
 use ix_store::Store;
 use ix_walk::Job;
 

@@ -1,21 +1,21 @@
 //! A verifier: takes visits, checks them and sends their verdicts.
 
 ghost use Rattle.std.specs.Prelude.{◌≡◌, [], ◌∷◌, ◌++◌, IsTrue, ◌↔◌};
-ghost use Rattle.ix_handover.specs.Course.{IsCourseOf};
-ghost use Rattle.ix_handover.specs.Lanes.{sent_by, SameIn};
-ghost use Rattle.ix_handover.specs.Queue.{IsOfQueue};
-ghost use Rattle.ix_handover.specs.Received.{pairs_of};
-ghost use Rattle.ix_handover.specs.Sent.{Answers};
+ghost use Rattle.ix_channels.specs.Course.{IsCourseOf};
+ghost use Rattle.ix_channels.specs.Lanes.{sent_by, SameIn};
+ghost use Rattle.ix_channels.specs.Queue.{IsOfQueue};
+ghost use Rattle.ix_channels.specs.Received.{pairs_of};
+ghost use Rattle.ix_channels.specs.Sent.{Answers};
 ghost use Rattle.ix_stages.specs.Verified.{IsItemOf, IsStop, HasVerified};
 
+use ix_channels::{Backoff, Item, LaneIn, TakeSeat, Verdicted, VisitQueue};
 use ix_check::Check;
-use ix_handover::{Item, LaneIn, TakeSeat, Verdicted, VisitQueue, Waiting};
 use ix_store::Store;
 use std::alloc::{AllocError, Global};
 use std::sync::Wait;
 
 // Returns the answer for the item. A visit is checked, once.
-fn judge<C: Check>(alloc: Global, store: &Store, check: &mut C, item: Item) -> Verdicted
+fn check_item<C: Check>(alloc: Global, store: &Store, check: &mut C, item: Item) -> Verdicted
     requires { IsItemOf store.now item }
     ensures answers { Answers store.now item result }
     ensures checked { C.checked check.new ≡ C.checked check.old ++ pairs_of (result ∷ []) }
@@ -39,13 +39,13 @@ fn send<R: Wait>(rt: &R, lane: &mut LaneIn, item: Verdicted)
     ensures sent { sent_by lane.new ≡ sent_by lane.old ++ item ∷ [] }
 {
     let mut item = item;
-    let mut waiting = Waiting::new();
+    let mut backoff = Backoff::new();
     for _ in rt.forever() {
         match lane.try_send(item) {
             Ok(()) => return,
             Err(back) => item = back,
         }
-        waiting.pause(rt);
+        backoff.snooze(rt);
     }
     unreachable!()
 }
@@ -77,7 +77,7 @@ pub fn verify<R: Wait, C: Check>(
     for _ in rt.forever() {
         let item = queue.take(rt, seat);
         let stop = is_stop(&item);
-        let verdict = judge(alloc, store, check, item);
+        let verdict = check_item(alloc, store, check, item);
         send(rt, lane, verdict);
         if stop {
             return;

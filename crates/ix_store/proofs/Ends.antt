@@ -12,13 +12,13 @@ use Rattle.ix_cbor.specs.declared.front.Front.TheVariants as fronts
 use Rattle.ix_cbor.specs.Data.{Data, link}
 use Rattle.ix_cbor.specs.Spelling.{head_of, key_spelling, spelling_of}
 use Rattle.ix_cbor.specs.Reading.{item_at, key_at, own_at, leaf}
-use Rattle.ix_cbor.specs.Fronts.{own_of_front, behind, behind_item}
+use Rattle.ix_cbor.specs.Fronts.{own_of_front, behind, after_item}
 use Rattle.ix_cbor.proofs.Bytes.{IsBytes}
 use Rattle.ix_cbor.proofs.Keys.{key_taken}
 use Rattle.ix_cbor.proofs.Owns.{own_spelling, own_taken}
 use Rattle.ix_cbor.proofs.Sound.{item_sound}
 use Rattle.ix_cbor.proofs.Steps.{bind_ok, ok_same}
-use Rattle.ix_store.specs.Ahead.{EndsAt, EndsWith, HasBefore, LinkBefore}
+use Rattle.ix_store.specs.Cursor.{EndsAt, EndsWith, HasBefore, LinkBefore}
 
 -- what is inside bytes that are in the whole
 stands_inside : (whole : List ℕ) (start : ℕ) (bytes front part rest : List ℕ) → StandsAt whole start bytes → bytes ≡ front ++ (part ++ rest) → StandsAt whole (start + length front) part
@@ -29,8 +29,8 @@ stands_inside whole start bytes front part rest stands is =
     ap (take (length part)) (sym (drop-drop (length front) start whole) ∙ ap (drop (length front)) all ∙ drop-append_seam front (part ++ (rest ++ more))) ∙ take-append_seam part (rest ++ more)
 
 -- the end of bytes has their end
-ends_behind : (whole : List ℕ) (end : ℕ) (bytes rest : List ℕ) → EndsAt whole end bytes → EndsWith bytes rest → EndsAt whole end rest
-ends_behind whole end bytes rest ends w =
+ends_after : (whole : List ℕ) (end : ℕ) (bytes rest : List ℕ) → EndsAt whole end bytes → EndsWith bytes rest → EndsAt whole end rest
+ends_after whole end bytes rest ends w =
     let size : length bytes ≡ length w.0 + length rest = ap length w.1 ∙ length-append w.0 rest in
     let h = ends.0 in
     let at : end - length bytes + length w.0 ≡ end - length rest = omega (arith, size, h) in (
@@ -41,7 +41,7 @@ ends_behind whole end bytes rest ends w =
 -- what remains of bytes ends where they do
 pub still_ends : {A : Type 0} (whole : A → List ℕ) (end : Option (A × ℕ)) (bytes rest : List ℕ) → EndsWith bytes rest → IfSome end (λ p. EndsAt (whole p.0) p.1 bytes) → IfSome end (λ p. EndsAt (whole p.0) p.1 rest)
 still_ends whole None bytes rest w ends = tt
-still_ends whole (Some p) bytes rest w ends = ends_behind (whole p.0) p.1 bytes rest ends w
+still_ends whole (Some p) bytes rest w ends = ends_after (whole p.0) p.1 bytes rest ends w
 
 -- where the CID of a link is
 pub link_stands : (whole : List ℕ) (end : ℕ) (bytes part rest : List ℕ) → EndsAt whole end bytes → HasBefore bytes part rest → StandsAt whole (end - length rest - length part) part
@@ -73,7 +73,7 @@ digest_end c bytes cid =
 
 -- so the digest ends where the CID does
 pub digest_ends : (whole : List ℕ) (start : ℕ) (c : List ℕ) → AreBytes c → IsCid c → StandsAt whole start c → EndsAt whole (start + length c) (digest_of c)
-digest_ends whole start c bytes cid stands = ends_behind whole (start + length c) c (digest_of c) (stands_end whole start c stands) (digest_end c bytes cid)
+digest_ends whole start c bytes cid stands = ends_after whole (start + length c) c (digest_of c) (stands_end whole start c stands) (digest_end c bytes cid)
 
 -- ---- after what is read
 
@@ -106,7 +106,7 @@ item_end : (at rest : List ℕ) (d : Data) → IsBytes at → item_at 512 at ≡
 item_end at rest d bytes e = (spelling_of d, (item_sound 512 at d rest bytes e).whole)
 
 -- after an item that is skipped
-pub skip_end : (at rest : List ℕ) → IsBytes at → behind_item 512 at ≡ Ok rest → EndsWith at rest
+pub skip_end : (at rest : List ℕ) → IsBytes at → after_item 512 at ≡ Ok rest → EndsWith at rest
 skip_end at rest bytes e =
     let x = bind_ok (item_at 512 at) behind rest e in subst (EndsWith at) (ok_same x.0.1 rest x.2) (item_end at x.0.1 x.0.0 bytes x.1)
 

@@ -13,7 +13,7 @@ use Rattle.std.proofs.Math.ListN.{set, drop_of_length-le}
 use Rattle.std.proofs.lemmas.Option.{none-some}
 use Rattle.std.proofs.lemmas.List.{drop-set-lt, drop-set-add, get_or-take, get_or-drop, drop_more, take_all}
 use Rattle.ix_store.specs.Store.{Blocks, has_cid, position_of}
-use Rattle.ix_store.specs.Index.{tail_of, mark_of, first_of, window_of, IsFree, IsTaken, Has, HasPlace, IsLarge, Leads, Comes, AreTaken, IsFirstFree, place_behind, AreLedTo, IsFreeSlot, GoesBehind, IsIndexed}
+use Rattle.ix_store.specs.Index.{key_hash, fingerprint, first_of, window_of, IsFree, IsTaken, Has, HasPlace, IsLarge, Leads, Comes, AreTaken, IsFirstFree, place_after, AreLedTo, IsFreeSlot, GoesAfter, IsIndexed}
 use Rattle.ix_store.specs.declared.index.Slot.{Slot}
 use Rattle.ix_store.specs.declared.index.Index.{Index}
 use Rattle.ix_store.proofs.Blocks.{place_within}
@@ -21,7 +21,7 @@ use Rattle.ix_store.proofs.Stores.{is_some-position, distinct-push, position-pus
 
 -- a free slot
 abbrev pub free : Slot
-free = record { mark = 0; end = 0 }
+free = record { tag = 0; end = 0 }
 
 -- a slot without a place is free, and one with a place is taken
 pub free-by : (x : Slot) (o : Option ℕ) → HasPlace x o → is_some o ≡ false → IsFree x
@@ -34,9 +34,9 @@ taken-by x None h some = absurd (false≢true some)
 taken-by x (Some p) h some = omega (arith, h)
 
 -- what a look-up through slots has passed: n of them, all taken, none of them what it looks for
-pub record Passed (slots : List Slot) (n : ℕ) (behind : Option ℕ) (mark : ℕ) (position : Option ℕ) : Type 0 where
+pub record Passed (slots : List Slot) (n : ℕ) (behind : Option ℕ) (tag : ℕ) (position : Option ℕ) : Type 0 where
   pub taken : AreTaken (take n slots)
-  pub on : (place : ℕ) → position ≡ Some place → (IsLarge place × (behind ≡ Some place)) ⊎ Leads (drop n slots) behind mark place
+  pub on : (place : ℕ) → position ≡ Some place → (IsLarge place × (behind ≡ Some place)) ⊎ Leads (drop n slots) behind tag place
 
 -- a front of slots with one written is the front with that one written
 take-set : (n : ℕ) (l : List Slot) (i : ℕ) (x : Slot) → take n (set l i x) ≡ set (take n l) i x
@@ -123,7 +123,7 @@ window-set l at x b u m p vacant h =
 
 -- so filling a free slot keeps every look-up
 comes-set : (l : List Slot) (at : ℕ) (x : Slot) (b : Option ℕ) (u p : ℕ) → IsFree (get_or l at free) → Comes l b u p → Comes (set l at x) b u p
-comes-set l at x b u p vacant h = ⊎_elim (λ large. inl large) (λ leads. inr (window-set l at x b u (mark_of u) p vacant leads)) h
+comes-set l at x b u p vacant h = ⊎_elim (λ large. inl large) (λ leads. inr (window-set l at x b u (fingerprint u) p vacant leads)) h
 
 -- the first free slot of a window
 pub record AtFirst (l : List Slot) (u at : ℕ) : Type 0 where
@@ -174,7 +174,7 @@ pub none-small : (o b : Option ℕ) (n : ℕ) → ((p : ℕ) → o ≡ Some p �
 none-small o b n within small h = none-from o (λ p is. omega (arith, within p is, small, (h p is).0))
 
 -- a slot of another CID is passed
-pub passed-more : (l : List Slot) (n : ℕ) (b : Option ℕ) (m : ℕ) (o : Option ℕ) (q : ℕ) → Passed l n b m o → n < length l → (get_or l n free).end ≡ q + 1 → ((get_or l n free).mark ≡ m → o ≡ Some q → ⊥) → Passed l (n + 1) b m o
+pub passed-more : (l : List Slot) (n : ℕ) (b : Option ℕ) (m : ℕ) (o : Option ℕ) (q : ℕ) → Passed l n b m o → n < length l → (get_or l n free).end ≡ q + 1 → ((get_or l n free).tag ≡ m → o ≡ Some q → ⊥) → Passed l (n + 1) b m o
 passed-more l n b m o q h within at other =
     let next : drop n l ≡ get_or l n free ∷ drop (n + 1) l = drop_more l n free within in
     let one : suc n ≡ n + 1 = omega arith in
@@ -225,53 +225,53 @@ leads-with (y ∷ l) b d m p on h = (h.0, ⊎_elim (λ here. inl here) (λ later
 
 -- a look-up comes to the same with a tree that has the same or more
 comes-with : (l : List Slot) (b d : Option ℕ) (u p : ℕ) → (b ≡ Some p → d ≡ Some p) → Comes l b u p → Comes l d u p
-comes-with l b d u p on h = ⊎_elim (λ large. inl (large.0, on large.1)) (λ leads. inr (leads-with (window_of l u) b d (mark_of u) p on leads)) h
+comes-with l b d u p on h = ⊎_elim (λ large. inl (large.0, on large.1)) (λ leads. inr (leads-with (window_of l u) b d (fingerprint u) p on leads)) h
 
 -- a place that goes to the tree is found in it
-comes-behind : (l : List Slot) (u p : ℕ) → GoesBehind l u p → Comes l (Some p) u p
-comes-behind l u p h = ⊎_elim (λ large. inl (large, refl)) (λ full. inr (leads-past (window_of l u) (mark_of u) p full)) h
+comes-behind : (l : List Slot) (u p : ℕ) → GoesAfter l u p → Comes l (Some p) u p
+comes-behind l u p h = ⊎_elim (λ large. inl (large, refl)) (λ full. inr (leads-past (window_of l u) (fingerprint u) p full)) h
 
 -- a table with the new place in a slot
-pub led-slot : (slots : List Slot) (index : Index) (es : Blocks) (k b : List ℕ) (at : ℕ) (x : Slot) → AreLedTo slots index es → position_of es k ≡ None → AtFirst slots (tail_of k) at → Has x (mark_of (tail_of k)) (length es) → AreLedTo (set slots at x) index (es ++ (k, b) ∷ [])
+pub led-slot : (slots : List Slot) (index : Index) (es : Blocks) (k b : List ℕ) (at : ℕ) (x : Slot) → AreLedTo slots index es → position_of es k ≡ None → AtFirst slots (key_hash k) at → Has x (fingerprint (key_hash k)) (length es) → AreLedTo (set slots at x) index (es ++ (k, b) ∷ [])
 led-slot slots index es k b at x h new first has c p is =
     let later = set slots at x in
     ⊎_elim
     (λ here.
-    subst (λ (d : List ℕ). Comes later (place_behind index d) (tail_of d) p) here.0
-    (subst (λ (q : ℕ). Comes later (place_behind index k) (tail_of k) q) (sym here.1) (inr (first.comes x (place_behind index k) (mark_of (tail_of k)) (length es) has))))
-    (λ other. comes-set slots at x (place_behind index c) (tail_of c) p first.vacant (h c p other.1))
+    subst (λ (d : List ℕ). Comes later (place_after index d) (key_hash d) p) here.0
+    (subst (λ (q : ℕ). Comes later (place_after index k) (key_hash k) q) (sym here.1) (inr (first.comes x (place_after index k) (fingerprint (key_hash k)) (length es) has))))
+    (λ other. comes-set slots at x (place_after index c) (key_hash c) p first.vacant (h c p other.1))
     (position-split es k b c p new is)
 
 -- a table with the new place in the tree
-pub led-behind : (slots : List Slot) (index : Index) (es : Blocks) (k b : List ℕ) → AreLedTo slots index es → position_of es k ≡ None → GoesBehind slots (tail_of k) (length es) → place_behind index k ≡ Some (length es) → AreLedTo slots index (es ++ (k, b) ∷ [])
+pub led-behind : (slots : List Slot) (index : Index) (es : Blocks) (k b : List ℕ) → AreLedTo slots index es → position_of es k ≡ None → GoesAfter slots (key_hash k) (length es) → place_after index k ≡ Some (length es) → AreLedTo slots index (es ++ (k, b) ∷ [])
 led-behind slots index es k b h new full there c p is =
     ⊎_elim
     (λ here.
-    subst (λ (d : List ℕ). Comes slots (place_behind index d) (tail_of d) p) here.0
-    (subst (λ (q : ℕ). Comes slots (place_behind index k) (tail_of k) q) (sym here.1)
-    (subst (λ (o : Option ℕ). Comes slots o (tail_of k) (length es)) (sym there) (comes-behind slots (tail_of k) (length es) full))))
+    subst (λ (d : List ℕ). Comes slots (place_after index d) (key_hash d) p) here.0
+    (subst (λ (q : ℕ). Comes slots (place_after index k) (key_hash k) q) (sym here.1)
+    (subst (λ (o : Option ℕ). Comes slots o (key_hash k) (length es)) (sym there) (comes-behind slots (key_hash k) (length es) full))))
     (λ other. h c p other.1)
     (position-split es k b c p new is)
 
 -- what the tree has for a CID once it has s for k
 abbrev pub Puts : Index → Index → List ℕ → ℕ → Type 0
-Puts index later k s = (c : List ℕ) → place_behind later c ≡ cond (bytes_eq k c) (Some s) (place_behind index c)
+Puts index later k s = (c : List ℕ) → place_after later c ≡ cond (bytes_eq k c) (Some s) (place_after index c)
 
 -- the tree then has what it had
-pub put-keeps : (index later : Index) (k c : List ℕ) (s p q : ℕ) → Puts index later k s → s ≡ unwrap_or (place_behind index k) p → place_behind index c ≡ Some q → place_behind later c ≡ Some q
-put-keeps index later k c s p q puts stood is =
+pub put-keeps : (index later : Index) (k c : List ℕ) (s p q : ℕ) → Puts index later k s → s ≡ unwrap_or (place_after index k) p → place_after index c ≡ Some q → place_after later c ≡ Some q
+put-keeps index later k c s p q puts existing is =
     ⊎_elim
     (λ same.
-    let at_k : place_behind index k ≡ Some q = ap (place_behind index) ((bytes_eq-Decides k c).0 same) ∙ is in
-    let sq : s ≡ q = stood ∙ ap (λ (o : Option ℕ). unwrap_or o p) at_k in
-    puts c ∙ ap (λ v. cond v (Some s) (place_behind index c)) same ∙ ap Some sq)
-    (λ other. puts c ∙ ap (λ v. cond v (Some s) (place_behind index c)) other ∙ is)
+    let at_k : place_after index k ≡ Some q = ap (place_after index) ((bytes_eq-Decides k c).0 same) ∙ is in
+    let sq : s ≡ q = existing ∙ ap (λ (o : Option ℕ). unwrap_or o p) at_k in
+    puts c ∙ ap (λ v. cond v (Some s) (place_after index c)) same ∙ ap Some sq)
+    (λ other. puts c ∙ ap (λ v. cond v (Some s) (place_after index c)) other ∙ is)
     (cases_Bool (bytes_eq k c))
 
 -- a table stays one
-pub led-put : (slots : List Slot) (index later : Index) (es : Blocks) (k : List ℕ) (s p : ℕ) → AreLedTo slots index es → Puts index later k s → s ≡ unwrap_or (place_behind index k) p → AreLedTo slots later es
-led-put slots index later es k s p h puts stood c q is =
-    comes-with slots (place_behind index c) (place_behind later c) (tail_of c) q (put-keeps index later k c s p q puts stood) (h c q is)
+pub led-put : (slots : List Slot) (index later : Index) (es : Blocks) (k : List ℕ) (s p : ℕ) → AreLedTo slots index es → Puts index later k s → s ≡ unwrap_or (place_after index k) p → AreLedTo slots later es
+led-put slots index later es k s p h puts existing c q is =
+    comes-with slots (place_after index c) (place_after later c) (key_hash c) q (put-keeps index later k c s p q puts existing) (h c q is)
 
 -- what is there if it is anything
 unwrap-true : (o : Option ℕ) (p : ℕ) → ((q : ℕ) → o ≡ Some q → q ≡ p) → unwrap_or o p ≡ p
@@ -279,55 +279,55 @@ unwrap-true None p h = refl
 unwrap-true (Some q) p h = h q refl
 
 -- a place that the tree has or is given for a CID is its place
-pub stood-true : (index : Index) (es : Blocks) (k : List ℕ) (s p : ℕ) → IsIndexed index es → position_of es k ≡ Some p → s ≡ unwrap_or (place_behind index k) p → s ≡ p
-stood-true index es k s p h at stood = stood ∙ unwrap-true (place_behind index k) p (λ q is. let e : Some p ≡ Some q = sym at ∙ h.true_behind k q is in let r : q ≡ p = cc in r)
+pub existing-true : (index : Index) (es : Blocks) (k : List ℕ) (s p : ℕ) → IsIndexed index es → position_of es k ≡ Some p → s ≡ unwrap_or (place_after index k) p → s ≡ p
+existing-true index es k s p h at existing = existing ∙ unwrap-true (place_after index k) p (λ q is. let e : Some p ≡ Some q = sym at ∙ h.true_after k q is in let r : q ≡ p = cc in r)
 
 -- an index whose tree was given a place that is true
-pub indexed-put : (index later : Index) (es : Blocks) (k : List ℕ) (s p : ℕ) → IsIndexed index es → position_of es k ≡ Some p → later.slots.items ≡ index.slots.items → Puts index later k s → s ≡ unwrap_or (place_behind index k) p → IsIndexed later es
-indexed-put index later es k s p h at slots puts stood =
-    let sp : s ≡ p = stood-true index es k s p h at stood in
+pub indexed-put : (index later : Index) (es : Blocks) (k : List ℕ) (s p : ℕ) → IsIndexed index es → position_of es k ≡ Some p → later.slots.items ≡ index.slots.items → Puts index later k s → s ≡ unwrap_or (place_after index k) p → IsIndexed later es
+indexed-put index later es k s p h at slots puts existing =
+    let sp : s ≡ p = existing-true index es k s p h at existing in
     record {
       distinct = h.distinct;
-      leads = subst (λ (l : List Slot). AreLedTo l later es) (sym slots) (led-put index.slots.items index later es k s p h.leads puts stood);
-      true_behind = λ c q is.
+      leads = subst (λ (l : List Slot). AreLedTo l later es) (sym slots) (led-put index.slots.items index later es k s p h.leads puts existing);
+      true_after = λ c q is.
           ⊎_elim
           (λ same.
-          let e : Some s ≡ Some q = sym (puts c ∙ ap (λ v. cond v (Some s) (place_behind index c)) same) ∙ is in
+          let e : Some s ≡ Some q = sym (puts c ∙ ap (λ v. cond v (Some s) (place_after index c)) same) ∙ is in
           let r : p ≡ q = cc in
           ap (position_of es) (sym ((bytes_eq-Decides k c).0 same)) ∙ at ∙ ap Some r)
-          (λ other. h.true_behind c q (sym (puts c ∙ ap (λ v. cond v (Some s) (place_behind index c)) other) ∙ is))
+          (λ other. h.true_after c q (sym (puts c ∙ ap (λ v. cond v (Some s) (place_after index c)) other) ∙ is))
           (cases_Bool (bytes_eq k c));
     }
 
 -- the index with the new place in a slot
-pub indexed-slot : (index later : Index) (es : Blocks) (k b : List ℕ) (at : ℕ) (x : Slot) → IsIndexed index es → position_of es k ≡ None → AtFirst index.slots.items (tail_of k) at → Has x (mark_of (tail_of k)) (length es) → later.slots.items ≡ set index.slots.items at x → later.behind ≡ index.behind → IsIndexed later (es ++ (k, b) ∷ [])
+pub indexed-slot : (index later : Index) (es : Blocks) (k b : List ℕ) (at : ℕ) (x : Slot) → IsIndexed index es → position_of es k ≡ None → AtFirst index.slots.items (key_hash k) at → Has x (fingerprint (key_hash k)) (length es) → later.slots.items ≡ set index.slots.items at x → later.overflow ≡ index.overflow → IsIndexed later (es ++ (k, b) ∷ [])
 indexed-slot index later es k b at x h new first has slots behind =
-    let same : (c : List ℕ) → place_behind later c ≡ place_behind index c = λ c. ap (λ (m : BTreeMap (List ℕ) ℕ). get (slice_cmp nat_cmp) m c) behind in
+    let same : (c : List ℕ) → place_after later c ≡ place_after index c = λ c. ap (λ (m : BTreeMap (List ℕ) ℕ). get (slice_cmp nat_cmp) m c) behind in
     record {
       distinct = distinct-push es k b h.distinct (absent es k new);
       leads = λ c p is.
-          subst (λ (l : List Slot). Comes l (place_behind later c) (tail_of c) p) (sym slots)
-          (subst (λ (o : Option ℕ). Comes (set index.slots.items at x) o (tail_of c) p) (sym (same c))
+          subst (λ (l : List Slot). Comes l (place_after later c) (key_hash c) p) (sym slots)
+          (subst (λ (o : Option ℕ). Comes (set index.slots.items at x) o (key_hash c) p) (sym (same c))
           (led-slot index.slots.items index es k b at x h.leads new first has c p is));
-      true_behind = λ c p is. position-stays es k b c p new (h.true_behind c p (sym (same c) ∙ is));
+      true_after = λ c p is. position-stays es k b c p new (h.true_after c p (sym (same c) ∙ is));
     }
 
 -- the index with the new place in the tree
-pub indexed-behind : (index later : Index) (es : Blocks) (k b : List ℕ) (s : ℕ) → IsIndexed index es → position_of es k ≡ None → GoesBehind index.slots.items (tail_of k) (length es) → later.slots.items ≡ index.slots.items → Puts index later k s → s ≡ unwrap_or (place_behind index k) (length es) → IsIndexed later (es ++ (k, b) ∷ [])
-indexed-behind index later es k b s h new full slots puts stood =
-    let sn : s ≡ length es = stood ∙ unwrap-true (place_behind index k) (length es) (λ q is. absurd (none-some q (sym new ∙ h.true_behind k q is))) in
-    let at_k : place_behind later k ≡ Some (length es) = puts k ∙ ap (λ v. cond v (Some s) (place_behind index k)) ((bytes_eq-Decides k k).1 refl) ∙ ap Some sn in
+pub indexed-behind : (index later : Index) (es : Blocks) (k b : List ℕ) (s : ℕ) → IsIndexed index es → position_of es k ≡ None → GoesAfter index.slots.items (key_hash k) (length es) → later.slots.items ≡ index.slots.items → Puts index later k s → s ≡ unwrap_or (place_after index k) (length es) → IsIndexed later (es ++ (k, b) ∷ [])
+indexed-behind index later es k b s h new full slots puts existing =
+    let sn : s ≡ length es = existing ∙ unwrap-true (place_after index k) (length es) (λ q is. absurd (none-some q (sym new ∙ h.true_after k q is))) in
+    let at_k : place_after later k ≡ Some (length es) = puts k ∙ ap (λ v. cond v (Some s) (place_after index k)) ((bytes_eq-Decides k k).1 refl) ∙ ap Some sn in
     record {
       distinct = distinct-push es k b h.distinct (absent es k new);
       leads = subst (λ (l : List Slot). AreLedTo l later (es ++ (k, b) ∷ [])) (sym slots)
-          (led-behind index.slots.items later es k b (led-put index.slots.items index later es k s (length es) h.leads puts stood) new full at_k);
-      true_behind = λ c p is.
+          (led-behind index.slots.items later es k b (led-put index.slots.items index later es k s (length es) h.leads puts existing) new full at_k);
+      true_after = λ c p is.
           ⊎_elim
           (λ same.
-          let e : Some s ≡ Some p = sym (puts c ∙ ap (λ v. cond v (Some s) (place_behind index c)) same) ∙ is in
+          let e : Some s ≡ Some p = sym (puts c ∙ ap (λ v. cond v (Some s) (place_after index c)) same) ∙ is in
           let r : length es ≡ p = cc in
           sym (position-new es k b c new) ∙ ap (λ v. cond v (Some (length es)) (position_of es c)) same ∙ ap Some r)
-          (λ other. position-stays es k b c p new (h.true_behind c p (sym (puts c ∙ ap (λ v. cond v (Some s) (place_behind index c)) other) ∙ is)))
+          (λ other. position-stays es k b c p new (h.true_after c p (sym (puts c ∙ ap (λ v. cond v (Some s) (place_after index c)) other) ∙ is)))
           (cases_Bool (bytes_eq k c));
     }
 
@@ -338,45 +338,45 @@ same-options None None on back = refl
 same-options None (Some p) on back = back p refl
 
 -- where the table hasn't a CID, the tree has its place
-pub found-behind : (index : Index) (es : Blocks) (k : List ℕ) → IsIndexed index es → ((p : ℕ) → position_of es k ≡ Some p → place_behind index k ≡ Some p) → place_behind index k ≡ position_of es k
-found-behind index es k h on = same-options (place_behind index k) (position_of es k) (λ p is. h.true_behind k p is) on
+pub found-behind : (index : Index) (es : Blocks) (k : List ℕ) → IsIndexed index es → ((p : ℕ) → position_of es k ≡ Some p → place_after index k ≡ Some p) → place_after index k ≡ position_of es k
+found-behind index es k h on = same-options (place_after index k) (position_of es k) (λ p is. h.true_after k p is) on
 
 -- a CID is there where it has a place
 pub has-by : (es : Blocks) (k : List ℕ) (o : Option ℕ) → position_of es k ≡ o → has_cid es k ≡ is_some o
 has-by es k o h = sym (is_some-position 0 es k) ∙ ap (λ (p : Option ℕ). is_some p) h
 
 -- the place after the pairs is the one of a new CID alone
-stood-by : (es : Blocks) (k : List ℕ) (s : ℕ) (o : Option ℕ) → position_of es k ≡ o → s ≡ unwrap_or o (length es) → eqb s (length es) ≡ not (has_cid es k)
-stood-by es k s None at stood = eq-eqb s (length es) stood ∙ ap not (sym (has-by es k None at))
-stood-by es k s (Some q) at stood =
+existing-by : (es : Blocks) (k : List ℕ) (s : ℕ) (o : Option ℕ) → position_of es k ≡ o → s ≡ unwrap_or o (length es) → eqb s (length es) ≡ not (has_cid es k)
+existing-by es k s None at existing = eq-eqb s (length es) existing ∙ ap not (sym (has-by es k None at))
+existing-by es k s (Some q) at existing =
     let within : q < length es = place_within q es k (sym at) in
-    ne_eqb s (length es) (λ same. omega (arith, within, stood, same)) ∙ ap not (sym (has-by es k (Some q) at))
+    ne_eqb s (length es) (λ same. omega (arith, within, existing, same)) ∙ ap not (sym (has-by es k (Some q) at))
 
 -- what the tree returns says whether the CID was there
-pub stood-answer : (index : Index) (es : Blocks) (k : List ℕ) (s : ℕ) → IsIndexed index es → ((p : ℕ) → position_of es k ≡ Some p → place_behind index k ≡ Some p) → s ≡ unwrap_or (place_behind index k) (length es) → eqb s (length es) ≡ not (has_cid es k)
-stood-answer index es k s h on stood =
-    stood-by es k s (position_of es k) refl (stood ∙ ap (λ (o : Option ℕ). unwrap_or o (length es)) (found-behind index es k h on))
+pub existing-answer : (index : Index) (es : Blocks) (k : List ℕ) (s : ℕ) → IsIndexed index es → ((p : ℕ) → position_of es k ≡ Some p → place_after index k ≡ Some p) → s ≡ unwrap_or (place_after index k) (length es) → eqb s (length es) ≡ not (has_cid es k)
+existing-answer index es k s h on existing =
+    existing-by es k s (position_of es k) refl (existing ∙ ap (λ (o : Option ℕ). unwrap_or o (length es)) (found-behind index es k h on))
 
 -- by the position of the CID: if the tree had it, the index stays one of the pairs
-put-same-at : (index later : Index) (es : Blocks) (k : List ℕ) (s : ℕ) (o : Option ℕ) → position_of es k ≡ o → IsIndexed index es → ((p : ℕ) → position_of es k ≡ Some p → place_behind index k ≡ Some p) → has_cid es k ≡ true → later.slots.items ≡ index.slots.items → Puts index later k s → s ≡ unwrap_or (place_behind index k) (length es) → IsIndexed later es
-put-same-at index later es k s None at h on held slots puts stood = absurd (false≢true (sym (has-by es k None at) ∙ held))
-put-same-at index later es k s (Some q) at h on held slots puts stood =
-    let behind : place_behind index k ≡ Some q = on q at in
-    indexed-put index later es k s q h at slots puts (stood ∙ ap (λ (o : Option ℕ). unwrap_or o (length es)) behind ∙ sym (ap (λ (o : Option ℕ). unwrap_or o q) behind))
+put-same-at : (index later : Index) (es : Blocks) (k : List ℕ) (s : ℕ) (o : Option ℕ) → position_of es k ≡ o → IsIndexed index es → ((p : ℕ) → position_of es k ≡ Some p → place_after index k ≡ Some p) → has_cid es k ≡ true → later.slots.items ≡ index.slots.items → Puts index later k s → s ≡ unwrap_or (place_after index k) (length es) → IsIndexed later es
+put-same-at index later es k s None at h on held slots puts existing = absurd (false≢true (sym (has-by es k None at) ∙ held))
+put-same-at index later es k s (Some q) at h on held slots puts existing =
+    let behind : place_after index k ≡ Some q = on q at in
+    indexed-put index later es k s q h at slots puts (existing ∙ ap (λ (o : Option ℕ). unwrap_or o (length es)) behind ∙ sym (ap (λ (o : Option ℕ). unwrap_or o q) behind))
 
 -- a tree that had the place of a CID keeps its places
-pub put-same : (index later : Index) (es : Blocks) (k : List ℕ) (s : ℕ) → IsIndexed index es → ((p : ℕ) → position_of es k ≡ Some p → place_behind index k ≡ Some p) → has_cid es k ≡ true → later.slots.items ≡ index.slots.items → Puts index later k s → s ≡ unwrap_or (place_behind index k) (length es) → IsIndexed later es
-put-same index later es k s h on held slots puts stood =
-    put-same-at index later es k s (position_of es k) refl h on held slots puts stood
+pub put-same : (index later : Index) (es : Blocks) (k : List ℕ) (s : ℕ) → IsIndexed index es → ((p : ℕ) → position_of es k ≡ Some p → place_after index k ≡ Some p) → has_cid es k ≡ true → later.slots.items ≡ index.slots.items → Puts index later k s → s ≡ unwrap_or (place_after index k) (length es) → IsIndexed later es
+put-same index later es k s h on held slots puts existing =
+    put-same-at index later es k s (position_of es k) refl h on held slots puts existing
 
 -- an index whose tree has the same places
-pub indexed-same : (index later : Index) (es : Blocks) → IsIndexed index es → later.slots.items ≡ index.slots.items → ((c : List ℕ) → place_behind later c ≡ place_behind index c) → IsIndexed later es
+pub indexed-same : (index later : Index) (es : Blocks) → IsIndexed index es → later.slots.items ≡ index.slots.items → ((c : List ℕ) → place_after later c ≡ place_after index c) → IsIndexed later es
 indexed-same index later es h slots same = record {
   distinct = h.distinct;
   leads = λ c p is.
-      subst (λ (l : List Slot). Comes l (place_behind later c) (tail_of c) p) (sym slots)
-      (subst (λ (o : Option ℕ). Comes index.slots.items o (tail_of c) p) (sym (same c)) (h.leads c p is));
-  true_behind = λ c p is. h.true_behind c p (sym (same c) ∙ is);
+      subst (λ (l : List Slot). Comes l (place_after later c) (key_hash c) p) (sym slots)
+      (subst (λ (o : Option ℕ). Comes index.slots.items o (key_hash c) p) (sym (same c)) (h.leads c p is));
+  true_after = λ c p is. h.true_after c p (sym (same c) ∙ is);
 }
 
 -- a slot to which a place goes is the first free one of its window
@@ -404,5 +404,5 @@ pub leads-end : (l : List Slot) (n : ℕ) (b : Option ℕ) (m p : ℕ) → lengt
 leads-end l n b m p past h = subst (λ (r : List Slot). Leads r b m p) (drop_of_length-le l past) h
 
 -- what the tree has for the CID that was put
-pub behind-put : (index later : Index) (es : Blocks) (k : List ℕ) (s p : ℕ) → IsIndexed index es → position_of es k ≡ Some p → Puts index later k s → s ≡ unwrap_or (place_behind index k) p → place_behind later k ≡ Some p
-behind-put index later es k s p h at puts stood = puts k ∙ ap (λ v. cond v (Some s) (place_behind index k)) ((bytes_eq-Decides k k).1 refl) ∙ ap Some (stood-true index es k s p h at stood)
+pub behind-put : (index later : Index) (es : Blocks) (k : List ℕ) (s p : ℕ) → IsIndexed index es → position_of es k ≡ Some p → Puts index later k s → s ≡ unwrap_or (place_after index k) p → place_after later k ≡ Some p
+behind-put index later es k s p h at puts existing = puts k ∙ ap (λ v. cond v (Some s) (place_after index k)) ((bytes_eq-Decides k k).1 refl) ∙ ap Some (existing-true index es k s p h at existing)

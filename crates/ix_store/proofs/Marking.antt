@@ -3,23 +3,23 @@ use Rattle.std.proofs.Common.{◌≡◌, ℕ, zero, suc, ◌<◌, Bool, true, fa
 use prog.Atomic.{either}
 use Rattle.atomic_table.specs.Table.{Me, Allows, keeps}
 use Rattle.ix_store.specs.Store.{Blocks}
-use Rattle.ix_store.specs.Mark.{Tells, IsTrueAt, AllTrue}
+use Rattle.ix_store.specs.Memo.{Tells, IsTrueAt, AllTrue}
 
 -- what is at a place after a write
-lands : (ws : List ℕ) (at mark place : ℕ) → ((place ≡ at) × (slice_index (slice_set ws at mark) place ≡ mark)) ⊎ (slice_index (slice_set ws at mark) place ≡ slice_index ws place)
-lands [] at mark place = inr refl
-lands (w ∷ ws) zero mark zero = inl (refl, refl)
-lands (w ∷ ws) zero mark (suc i) = inr refl
-lands (w ∷ ws) (suc k) mark zero = inr refl
-lands (w ∷ ws) (suc k) mark (suc i) = ⊎_elim (λ h. inl (ap suc h.0, h.1)) (λ h. inr h) (lands ws k mark i)
+lands : (ws : List ℕ) (at word place : ℕ) → ((place ≡ at) × (slice_index (slice_set ws at word) place ≡ word)) ⊎ (slice_index (slice_set ws at word) place ≡ slice_index ws place)
+lands [] at word place = inr refl
+lands (w ∷ ws) zero word zero = inl (refl, refl)
+lands (w ∷ ws) zero word (suc i) = inr refl
+lands (w ∷ ws) (suc k) word zero = inr refl
+lands (w ∷ ws) (suc k) word (suc i) = ⊎_elim (λ h. inl (ap suc h.0, h.1)) (λ h. inr h) (lands ws k word i)
 
 -- writing a true word keeps all words true
-true_set : (pairs : Blocks) (words : List ℕ) (at mark : ℕ) → IsTrueAt pairs at mark → AllTrue pairs words → AllTrue pairs (slice_set words at mark)
-true_set pairs words at mark new all place =
+true_set : (pairs : Blocks) (words : List ℕ) (at word : ℕ) → IsTrueAt pairs at word → AllTrue pairs words → AllTrue pairs (slice_set words at word)
+true_set pairs words at word new all place =
     ⊎_elim
-    (λ h. subst (λ n. IsTrueAt pairs place n) (sym h.1) (subst (λ k. IsTrueAt pairs k mark) (sym h.0) new))
+    (λ h. subst (λ n. IsTrueAt pairs place n) (sym h.1) (subst (λ k. IsTrueAt pairs k word) (sym h.0) new))
     (λ h. subst (λ n. IsTrueAt pairs place n) (sym h) (all place))
-    (lands words at mark place)
+    (lands words at word place)
 
 -- whichever of two true words is kept
 kept_or_new : (pairs : Blocks) (at new found : ℕ) (b : Bool) → IsTrueAt pairs at new → IsTrueAt pairs at found → IsTrueAt pairs at (either b new found)

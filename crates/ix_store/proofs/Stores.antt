@@ -10,9 +10,9 @@ use Rattle.std.proofs.lemmas.List.{length-map, map-append, take_more, drop_more,
 use Rattle.std.proofs.lemmas.Option.{none-some, get_or_from_slice_get, slice_get-map, slice_get-get_or, slice_get_read}
 use Rattle.std.proofs.Math.Bool.{or-true}
 use Rattle.ix_store.specs.Entry.{content, pair_of}
-use Rattle.ix_store.proofs.Blocks.{some_behind, place_within, block_at}
+use Rattle.ix_store.proofs.Blocks.{some_after, place_within, block_at}
 use Rattle.ix_store.specs.declared.entry.Entry.{Entry}
-use Rattle.ix_store.specs.Store.{Blocks, has_cid, with_block, HasDistinctCids, block_of, position_behind, position_of}
+use Rattle.ix_store.specs.Store.{Blocks, has_cid, with_block, HasDistinctCids, block_of, position_after, position_of}
 
 -- of two tests that fail together the first fails
 or-left : (x y : Bool) → (x || y) ≡ false → x ≡ false
@@ -35,10 +35,10 @@ bytes-apart-back a b apart =
     false_from_ne_true (bytes_eq b a) (λ h. false≢true (sym apart ∙ (bytes_eq-Decides a b).1 (sym ((bytes_eq-Decides b a).0 h))))
 
 -- a CID has a place where the pairs have it
-pub is_some-position : (n : ℕ) (es : Blocks) (c : List ℕ) → is_some (position_behind n es c) ≡ has_cid es c
+pub is_some-position : (n : ℕ) (es : Blocks) (c : List ℕ) → is_some (position_after n es c) ≡ has_cid es c
 is_some-position n [] c = refl
 is_some-position n (e ∷ es) c =
-    elim (bytes_eq e.0 c) as (λ b. is_some (cond b (Some n) (position_behind (n + 1) es c)) ≡ (b || has_cid es c)) [
+    elim (bytes_eq e.0 c) as (λ b. is_some (cond b (Some n) (position_after (n + 1) es c)) ≡ (b || has_cid es c)) [
       | true ↦ refl
       | false ↦ is_some-position (n + 1) es c
     ]
@@ -57,21 +57,21 @@ distinct-push (e ∷ es) k b h new =
     (has_cid-push es k b e.0 h.0 (bytes-apart-back e.0 k (or-left (bytes_eq e.0 k) (has_cid es k) new)), distinct-push es k b h.1 (or-right (bytes_eq e.0 k) (has_cid es k) new))
 
 -- where the pairs are once a new CID is at the end
-pub position-push : (n : ℕ) (es : Blocks) (k b c : List ℕ) → has_cid es k ≡ false → cond (bytes_eq k c) (Some (n + length es)) (position_behind n es c) ≡ position_behind n (es ++ (k, b) ∷ []) c
+pub position-push : (n : ℕ) (es : Blocks) (k b c : List ℕ) → has_cid es k ≡ false → cond (bytes_eq k c) (Some (n + length es)) (position_after n es c) ≡ position_after n (es ++ (k, b) ∷ []) c
 position-push n [] k b c new = ap (λ m. cond (bytes_eq k c) (Some m) None) (omega arith)
 position-push n (e ∷ es) k b c new =
     elim (cases_Bool (bytes_eq e.0 c)) [
       | inl same ↦
           let apart = bytes-apart e.0 k c (or-left (bytes_eq e.0 k) (has_cid es k) new) same in
-          ap (λ x. cond x (Some (n + length (e ∷ es))) (position_behind n (e ∷ es) c)) apart
-          ∙ ap (λ x. cond x (Some n) (position_behind (n + 1) es c)) same
-          ∙ sym (ap (λ x. cond x (Some n) (position_behind (n + 1) (es ++ (k, b) ∷ []) c)) same)
+          ap (λ x. cond x (Some (n + length (e ∷ es))) (position_after n (e ∷ es) c)) apart
+          ∙ ap (λ x. cond x (Some n) (position_after (n + 1) es c)) same
+          ∙ sym (ap (λ x. cond x (Some n) (position_after (n + 1) (es ++ (k, b) ∷ []) c)) same)
       | inr other ↦
           let later : n + length (e ∷ es) ≡ (n + 1) + length es = omega arith in
-          ap (λ m. cond (bytes_eq k c) (Some m) (position_behind n (e ∷ es) c)) later
-          ∙ ap (λ x. cond (bytes_eq k c) (Some ((n + 1) + length es)) (cond x (Some n) (position_behind (n + 1) es c))) other
+          ap (λ m. cond (bytes_eq k c) (Some m) (position_after n (e ∷ es) c)) later
+          ∙ ap (λ x. cond (bytes_eq k c) (Some ((n + 1) + length es)) (cond x (Some n) (position_after (n + 1) es c))) other
           ∙ position-push (n + 1) es k b c (or-right (bytes_eq e.0 k) (has_cid es k) new)
-          ∙ sym (ap (λ x. cond x (Some n) (position_behind (n + 1) (es ++ (k, b) ∷ []) c)) other)
+          ∙ sym (ap (λ x. cond x (Some n) (position_after (n + 1) (es ++ (k, b) ∷ []) c)) other)
     ]
 
 -- the pairs have the CID of each of them
@@ -81,14 +81,14 @@ has_cid-at zero (x ∷ es) e c at same = ap (λ y. y || has_cid es c) (ap (λ (p
 has_cid-at (suc i) (x ∷ es) e c at same = ap (λ y. bytes_eq x.0 c || y) (has_cid-at i es e c at same) ∙ or-true (bytes_eq x.0 c)
 
 -- of distinct CIDs a pair is at the position of its CID
-pub position-at : (n i : ℕ) (es : Blocks) (e : List ℕ × List ℕ) (c : List ℕ) → HasDistinctCids es → slice_get es i ≡ Some e → bytes_eq e.0 c ≡ true → position_behind n es c ≡ Some (n + i)
+pub position-at : (n i : ℕ) (es : Blocks) (e : List ℕ × List ℕ) (c : List ℕ) → HasDistinctCids es → slice_get es i ≡ Some e → bytes_eq e.0 c ≡ true → position_after n es c ≡ Some (n + i)
 position-at n i [] e c h at same = absurd (none-some e at)
 position-at n zero (x ∷ es) e c h at same =
     let first : bytes_eq x.0 c ≡ true = ap (λ (p : List ℕ × List ℕ). bytes_eq p.0 c) (get_or_from_slice_get (x ∷ es) 0 e e at) ∙ same in
-    ap (λ y. cond y (Some n) (position_behind (n + 1) es c)) first ∙ ap Some (omega arith)
+    ap (λ y. cond y (Some n) (position_after (n + 1) es c)) first ∙ ap Some (omega arith)
 position-at n (suc i) (x ∷ es) e c h at same =
     let apart : bytes_eq x.0 c ≡ false = false_from_ne_true (bytes_eq x.0 c) (λ first. false≢true (sym h.0 ∙ has_cid-at i es e x.0 at ((bytes_eq-Decides e.0 x.0).1 ((bytes_eq-Decides e.0 c).0 same ∙ sym ((bytes_eq-Decides x.0 c).0 first))))) in
-    ap (λ y. cond y (Some n) (position_behind (n + 1) es c)) apart ∙ position-at (n + 1) i es e c h.1 at same ∙ ap Some (omega arith)
+    ap (λ y. cond y (Some n) (position_after (n + 1) es c)) apart ∙ position-at (n + 1) i es e c h.1 at same ∙ ap Some (omega arith)
 
 -- the pairs of entries with one entry more
 pub pairs-push : (xs ys : List Entry) (e : Entry) → ys ≡ xs ++ e ∷ [] → map pair_of ys ≡ map pair_of xs ++ (e.cid, content e.block) ∷ []
@@ -131,20 +131,20 @@ position-there entries now place e c h is at same =
     ∙ ap Some (zero-add place)
 
 -- the pair at the place of a CID has this CID
-pub cid-at : (n i : ℕ) (es : Blocks) (e : List ℕ × List ℕ) (c : List ℕ) → slice_get es i ≡ Some e → position_behind n es c ≡ Some (n + i) → bytes_eq e.0 c ≡ true
+pub cid-at : (n i : ℕ) (es : Blocks) (e : List ℕ × List ℕ) (c : List ℕ) → slice_get es i ≡ Some e → position_after n es c ≡ Some (n + i) → bytes_eq e.0 c ≡ true
 cid-at n i [] e c at is = absurd (none-some e at)
 cid-at n zero (x ∷ es) e c at is =
     let there : bytes_eq x.0 c ≡ bytes_eq e.0 c = ap (λ (p : List ℕ × List ℕ). bytes_eq p.0 c) (get_or_from_slice_get (x ∷ es) 0 e e at) in
     ⊎_elim (λ same. sym there ∙ same) (λ other.
-    let later : Some (n + 0) ≡ position_behind (n + 1) es c = sym is ∙ ap (λ b. cond b (Some n) (position_behind (n + 1) es c)) other in
-    absurd (omega (arith, (some_behind (n + 1) (n + 0) es c later).0))) (cases_Bool (bytes_eq x.0 c))
+    let later : Some (n + 0) ≡ position_after (n + 1) es c = sym is ∙ ap (λ b. cond b (Some n) (position_after (n + 1) es c)) other in
+    absurd (omega (arith, (some_after (n + 1) (n + 0) es c later).0))) (cases_Bool (bytes_eq x.0 c))
 cid-at n (suc i) (x ∷ es) e c at is =
     ⊎_elim (λ same.
-    let first : Some n ≡ Some (n + suc i) = sym (ap (λ b. cond b (Some n) (position_behind (n + 1) es c)) same) ∙ is in
+    let first : Some n ≡ Some (n + suc i) = sym (ap (λ b. cond b (Some n) (position_after (n + 1) es c)) same) ∙ is in
     let here : n ≡ n + suc i = cc in
     absurd (omega arith)) (λ other.
     let on : n + suc i ≡ (n + 1) + i = omega arith in
-    cid-at (n + 1) i es e c at (sym (ap (λ b. cond b (Some n) (position_behind (n + 1) es c)) other) ∙ is ∙ ap Some on)) (cases_Bool (bytes_eq x.0 c))
+    cid-at (n + 1) i es e c at (sym (ap (λ b. cond b (Some n) (position_after (n + 1) es c)) other) ∙ is ∙ ap Some on)) (cases_Bool (bytes_eq x.0 c))
 
 -- the CID of the entry at the place of a CID
 pub same-there : (entries : List Entry) (place : ℕ) (e : Entry) (c : List ℕ) → slice_get entries place ≡ Some e → position_of (map pair_of entries) c ≡ Some place → bytes_eq e.cid c ≡ true
@@ -189,10 +189,10 @@ entries-before entries place e within at h =
     (subst (λ (l : Blocks). HasDistinctCids l) (ap (λ (l : List Entry). map pair_of l) parts ∙ map-append pair_of (take place entries) (e ∷ drop (place + 1) entries)) h)
 
 -- a CID that isn't there has no place
-pub position-none : (n : ℕ) (es : Blocks) (c : List ℕ) → has_cid es c ≡ false → position_behind n es c ≡ None
+pub position-none : (n : ℕ) (es : Blocks) (c : List ℕ) → has_cid es c ≡ false → position_after n es c ≡ None
 position-none n [] c h = refl
 position-none n (e ∷ es) c h =
-    ap (λ v. cond v (Some n) (position_behind (n + 1) es c)) (or-left (bytes_eq e.0 c) (has_cid es c) h) ∙ position-none (n + 1) es c (or-right (bytes_eq e.0 c) (has_cid es c) h)
+    ap (λ v. cond v (Some n) (position_after (n + 1) es c)) (or-left (bytes_eq e.0 c) (has_cid es c) h) ∙ position-none (n + 1) es c (or-right (bytes_eq e.0 c) (has_cid es c) h)
 
 -- where it isn't, the pair of one entry more is
 pub with-new : (entries kept later : List Entry) (now : Blocks) (e : Entry) → map pair_of entries ≡ now → kept ≡ entries → later ≡ kept ++ e ∷ [] → has_cid now e.cid ≡ false → map pair_of later ≡ with_block now (e.cid, content e.block)

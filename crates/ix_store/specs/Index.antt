@@ -9,27 +9,27 @@ use Rattle.std.specs.Int.{w64, from_le_bytes}
 use Rattle.std.specs.Int.Bits.{bit_and}
 use Rattle.ix_store.specs.Store.{Blocks, HasDistinctCids, position_of}
 use Rattle.ix_store.specs.declared.index.Slot.{Slot}
-use Rattle.ix_store.specs.declared.index.Seat.{Seat}
-use Rattle.ix_store.specs.declared.index.Seat.TheVariants.{Held, Open, Behind}
-use Rattle.ix_store.specs.declared.index.Sight.{Sight}
-use Rattle.ix_store.specs.declared.index.Sight.TheVariants.{At, Free, Full}
+use Rattle.ix_store.specs.declared.index.Lookup.{Lookup}
+use Rattle.ix_store.specs.declared.index.Lookup.TheVariants.{Present, Vacant, Overflow}
+use Rattle.ix_store.specs.declared.index.Probe.{Probe}
+use Rattle.ix_store.specs.declared.index.Probe.TheVariants.{At, Free, Full}
 use Rattle.ix_store.specs.declared.index.Index.{Index}
 
 -- the number of a CID: its last eight bytes, the first the lowest; 0 for a shorter one
-abbrev pub tail_of : List ℕ → ℕ
-tail_of c = if nat_lt (length c) 8 then 0 else from_le_bytes w64 (drop (length c - 8) c)
+abbrev pub key_hash : List ℕ → ℕ
+key_hash c = if nat_lt (length c) 8 then 0 else from_le_bytes w64 (drop (length c - 8) c)
 
 -- the fingerprint of a number: its upper half
-abbrev pub mark_of : ℕ → ℕ
-mark_of tail = tail / 2 ^ 32
+abbrev pub fingerprint : ℕ → ℕ
+fingerprint hash = hash / 2 ^ 32
 
 -- the slot at which the look-up of a number begins: its bits, masked by the last slot at which one may
 abbrev pub first_of : List Slot → ℕ → ℕ
-first_of slots tail = bit_and tail (length slots - 8)
+first_of slots hash = bit_and hash (length slots - 8)
 
 -- the slots that the look-up of a number visits
 abbrev pub window_of : List Slot → ℕ → List Slot
-window_of slots tail = if nat_lt (length slots) 8 then [] else take 8 (drop (first_of slots tail) slots)
+window_of slots hash = if nat_lt (length slots) 8 then [] else take 8 (drop (first_of slots hash) slots)
 
 abbrev pub IsFree : Slot → Type 0
 IsFree slot = slot.end ≡ 0
@@ -40,7 +40,7 @@ IsTaken slot = 0 < slot.end
 
 -- a slot has this fingerprint and this position
 abbrev pub Has : Slot → ℕ → ℕ → Type 0
-Has slot mark place = (slot.mark ≡ mark) × (slot.end ≡ place + 1)
+Has slot tag place = (slot.tag ≡ tag) × (slot.end ≡ place + 1)
 
 -- what a slot returns as its position
 abbrev pub HasPlace : Slot → Option ℕ → Type 0
@@ -53,12 +53,12 @@ IsLarge place = 2 ^ 32 - 1 ≤ place
 
 -- A look-up of a fingerprint in these slots, up to the first free one, and then in the tree, comes to this position.
 abbrev pub Leads : List Slot → Option ℕ → ℕ → ℕ → Type 0
-Leads [] behind mark place = behind ≡ Some place
-Leads (slot ∷ slots) behind mark place = IsTaken slot × (Has slot mark place ⊎ Leads slots behind mark place)
+Leads [] behind tag place = behind ≡ Some place
+Leads (slot ∷ slots) behind tag place = IsTaken slot × (Has slot tag place ⊎ Leads slots behind tag place)
 
 -- the look-up of a number comes to this position, or no slot can have it and the tree has
 abbrev pub Comes : List Slot → Option ℕ → ℕ → ℕ → Type 0
-Comes slots behind tail place = (IsLarge place × (behind ≡ Some place)) ⊎ Leads (window_of slots tail) behind (mark_of tail) place
+Comes slots behind hash place = (IsLarge place × (behind ≡ Some place)) ⊎ Leads (window_of slots hash) behind (fingerprint hash) place
 
 -- none of the slots is free
 abbrev pub AreTaken : List Slot → Type 0
@@ -72,30 +72,30 @@ IsFirstFree (slot ∷ slots) zero = IsFree slot
 IsFirstFree (slot ∷ slots) (suc n) = IsTaken slot × IsFirstFree slots n
 
 -- the position that the tree has for a CID
-abbrev pub place_behind : Index → List ℕ → Option ℕ
-place_behind index c = get (slice_cmp nat_cmp) index.behind c
+abbrev pub place_after : Index → List ℕ → Option ℕ
+place_after index c = get (slice_cmp nat_cmp) index.overflow c
 
 -- a look-up in these slots, and then in the tree of the index, comes to the position of each CID
 abbrev pub AreLedTo : List Slot → Index → Blocks → Type 0
-AreLedTo slots index blocks = (c : List ℕ) (place : ℕ) → position_of blocks c ≡ Some place → Comes slots (place_behind index c) (tail_of c) place
+AreLedTo slots index blocks = (c : List ℕ) (place : ℕ) → position_of blocks c ≡ Some place → Comes slots (place_after index c) (key_hash c) place
 
 -- only the tree leads the look-up of a number to this position
-abbrev pub ComesOnlyBehind : List Slot → ℕ → ℕ → Type 0
-ComesOnlyBehind slots tail place = (behind : Option ℕ) → Comes slots behind tail place → behind ≡ Some place
+abbrev pub ComesOnlyAfter : List Slot → ℕ → ℕ → Type 0
+ComesOnlyAfter slots hash place = (behind : Option ℕ) → Comes slots behind hash place → behind ≡ Some place
 
 -- the trees of two indexes have the same positions
-abbrev pub SameBehind : Index → Index → Type 0
-SameBehind old new = (c : List ℕ) → place_behind new c ≡ place_behind old c
+abbrev pub SameAfter : Index → Index → Type 0
+SameAfter old new = (c : List ℕ) → place_after new c ≡ place_after old c
 
 -- the tree has this position for a CID, and what it had for each other
-abbrev pub PutsBehind : Index → Index → List ℕ → ℕ → Type 0
-PutsBehind old new cid place = (c : List ℕ) → place_behind new c ≡ (if bytes_eq cid c then Some place else place_behind old c)
+abbrev pub PutsAfter : Index → Index → List ℕ → ℕ → Type 0
+PutsAfter old new cid place = (c : List ℕ) → place_after new c ≡ (if bytes_eq cid c then Some place else place_after old c)
 
 -- an index of pairs with distinct CIDs: the look-up of each comes to its position, and the tree has no wrong one
 pub record IsIndexed (index : Index) (blocks : Blocks) : Type 0 where
   pub distinct : HasDistinctCids blocks
   pub leads : AreLedTo index.slots.items index blocks
-  pub true_behind : (c : List ℕ) (place : ℕ) → place_behind index c ≡ Some place → position_of blocks c ≡ Some place
+  pub true_after : (c : List ℕ) (place : ℕ) → place_after index c ≡ Some place → position_of blocks c ≡ Some place
 
 -- the same of these pairs with one more, under this CID
 abbrev pub IsIndexedWith : Index → Blocks → List ℕ → Type 0
@@ -107,23 +107,23 @@ MayIndex blocks result = IfOk result (λ found. IfSome found (λ index. IsIndexe
 
 -- a slot is the first free one of the look-up of a number
 abbrev pub IsFreeSlot : List Slot → ℕ → ℕ → Type 0
-IsFreeSlot slots tail slot = (n : ℕ) × (slot ≡ first_of slots tail + n) × IsFirstFree (window_of slots tail) n
+IsFreeSlot slots hash slot = (n : ℕ) × (slot ≡ first_of slots hash + n) × IsFirstFree (window_of slots hash) n
 
 -- the position of a number goes to the tree
-abbrev pub GoesBehind : List Slot → ℕ → ℕ → Type 0
-GoesBehind slots tail place = IsLarge place ⊎ AreTaken (window_of slots tail)
+abbrev pub GoesAfter : List Slot → ℕ → ℕ → Type 0
+GoesAfter slots hash place = IsLarge place ⊎ AreTaken (window_of slots hash)
 
 -- what a search for a slot for it returns
 abbrev pub FindsFree : List Slot → ℕ → ℕ → Option ℕ → Type 0
-FindsFree slots tail place (Some slot) = (place < 2 ^ 32 - 1) × IsFreeSlot slots tail slot
-FindsFree slots tail place None = GoesBehind slots tail place
+FindsFree slots hash place (Some slot) = (place < 2 ^ 32 - 1) × IsFreeSlot slots hash slot
+FindsFree slots hash place None = GoesAfter slots hash place
 
 -- where the table has a CID, or where the position after the blocks goes; if that is the tree, the tree has the CID's position
 -- if there is one
-abbrev pub IsSeat : Index → Blocks → List ℕ → Seat → Type 0
-IsSeat index blocks c (Held place) = position_of blocks c ≡ Some place
-IsSeat index blocks c (Open slot) = (position_of blocks c ≡ None) × FindsFree index.slots.items (tail_of c) (length blocks) (Some slot)
-IsSeat index blocks c Behind = GoesBehind index.slots.items (tail_of c) (length blocks) × ((place : ℕ) → position_of blocks c ≡ Some place → place_behind index c ≡ Some place)
+abbrev pub IsLookup : Index → Blocks → List ℕ → Lookup → Type 0
+IsLookup index blocks c (Present place) = position_of blocks c ≡ Some place
+IsLookup index blocks c (Vacant slot) = (position_of blocks c ≡ None) × FindsFree index.slots.items (key_hash c) (length blocks) (Some slot)
+IsLookup index blocks c Overflow = GoesAfter index.slots.items (key_hash c) (length blocks) × ((place : ℕ) → position_of blocks c ≡ Some place → place_after index c ≡ Some place)
 
 -- a pair, if there is one, has this CID
 abbrev pub is_cid_of : Option (List ℕ × List ℕ) → List ℕ → Bool
@@ -136,39 +136,39 @@ is_cid_at blocks place c = is_cid_of (slice_get blocks place) c
 
 -- what a look-up of a CID and its fingerprint finds in these slots: the first position in them whose pair has the CID, if no
 -- free slot is before it
-abbrev pub sight_of : Blocks → List Slot → ℕ → List ℕ → Sight
-sight_of blocks [] mark c = Full
-sight_of blocks (slot ∷ slots) mark c =
-    if slot.end == 0 then Free else (if slot.mark == mark && is_cid_at blocks (slot.end - 1) c then At (slot.end - 1) else sight_of blocks slots mark c)
+abbrev pub probe_of : Blocks → List Slot → ℕ → List ℕ → Probe
+probe_of blocks [] tag c = Full
+probe_of blocks (slot ∷ slots) tag c =
+    if slot.end == 0 then Free else (if slot.tag == tag && is_cid_at blocks (slot.end - 1) c then At (slot.end - 1) else probe_of blocks slots tag c)
 
 -- what the look-up of a CID finds in the slots of a table
-abbrev pub sight_in : List Slot → Blocks → List ℕ → Sight
-sight_in slots blocks c = sight_of blocks (window_of slots (tail_of c)) (mark_of (tail_of c)) c
+abbrev pub probe_in : List Slot → Blocks → List ℕ → Probe
+probe_in slots blocks c = probe_of blocks (window_of slots (key_hash c)) (fingerprint (key_hash c)) c
 
 -- the look-up of each pair from one position up to another comes to its position, or finds no slot free, and these have its
 -- position
 abbrev pub AreSeen : List Slot → Blocks → ℕ → ℕ → List ℕ → Type 0
-AreSeen slots blocks from to places = (k : ℕ) (e : List ℕ × List ℕ) → from ≤ k → k < to → slice_get blocks k ≡ Some e → (sight_in slots blocks e.0 ≡ At k) ⊎ ((sight_in slots blocks e.0 ≡ Full) × Contains places k)
+AreSeen slots blocks from to places = (k : ℕ) (e : List ℕ × List ℕ) → from ≤ k → k < to → slice_get blocks k ≡ Some e → (probe_in slots blocks e.0 ≡ At k) ⊎ ((probe_in slots blocks e.0 ≡ Full) × Contains places k)
 
 -- what the tree has for a CID is the position of a pair with it
-abbrev pub IsTrueBehind : Index → Blocks → Type 0
-IsTrueBehind index blocks = (c : List ℕ) (p : ℕ) → place_behind index c ≡ Some p → is_cid_at blocks p c ≡ true
+abbrev pub IsTrueAfter : Index → Blocks → Type 0
+IsTrueAfter index blocks = (c : List ℕ) (p : ℕ) → place_after index c ≡ Some p → is_cid_at blocks p c ≡ true
 
 -- the tree of an index stays true
-abbrev pub StaysTrueBehind : Index → Index → Blocks → Type 0
-StaysTrueBehind old new blocks = IsTrueBehind old blocks → IsTrueBehind new blocks
+abbrev pub StaysTrueAfter : Index → Index → Blocks → Type 0
+StaysTrueAfter old new blocks = IsTrueAfter old blocks → IsTrueAfter new blocks
 
 -- the tree has the position of the pair there
-abbrev pub IsBehind : Index → Blocks → ℕ → Type 0
-IsBehind index blocks p = (e : List ℕ × List ℕ) → slice_get blocks p ≡ Some e → place_behind index e.0 ≡ Some p
+abbrev pub IsAfter : Index → Blocks → ℕ → Type 0
+IsAfter index blocks p = (e : List ℕ × List ℕ) → slice_get blocks p ≡ Some e → place_after index e.0 ≡ Some p
 
 -- the tree has these positions, each for the CID of the pair there
-abbrev pub AreBehind : Index → Blocks → List ℕ → Type 0
-AreBehind index blocks places = All (λ p. IsBehind index blocks p) places
+abbrev pub AreAfter : Index → Blocks → List ℕ → Type 0
+AreAfter index blocks places = All (λ p. IsAfter index blocks p) places
 
 -- the tree of an index has whatever that of another has
 abbrev pub HasAllOf : Index → Index → Type 0
-HasAllOf later index = (c : List ℕ) (p : ℕ) → place_behind index c ≡ Some p → place_behind later c ≡ Some p
+HasAllOf later index = (c : List ℕ) (p : ℕ) → place_after index c ≡ Some p → place_after later c ≡ Some p
 
 -- what was found in the share of the pairs with this number, where each share has so many
 abbrev pub ShareSeen : List Slot → Blocks → ℕ → ℕ → Result (Option (Vec ℕ)) AllocError → Type 0

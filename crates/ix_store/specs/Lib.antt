@@ -6,6 +6,6 @@ pub use Rattle.ix_cbor.specs.Reading
 pub mod Store
 pub mod Entry
 pub mod Index
-pub mod Mark
+pub mod Memo
 pub mod PlaceSet
-pub mod Ahead
+pub mod Cursor

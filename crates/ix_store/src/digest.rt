@@ -3,7 +3,7 @@
 ghost use Rattle.std.specs.Prelude.{◌≡◌, bytes_eq};
 ghost use Rattle.sha2.specs.Sha256.{sha256};
 ghost use Rattle.sha2.specs.Sha512.{sha512};
-ghost use Rattle.ix_store.specs.Mark.{has_digest_of};
+ghost use Rattle.ix_store.specs.Memo.{has_digest_of};
 
 use ix_cid::{HashFunction, Parts};
 use sha2::{Digest, Sha256, Sha512};

@@ -3,9 +3,9 @@
 ghost use Rattle.std.specs.Prelude.{◌≡◌, take, drop, is_none};
 ghost use Rattle.ix_cbor.specs.Reading.{data_at};
 ghost use Rattle.ix_store.specs.Entry.{content, pair_of};
-ghost use Rattle.ix_store.specs.Mark.{agrees, is_faulty};
+ghost use Rattle.ix_store.specs.Memo.{hash_matches, is_malformed};
 
-use crate::ahead::Ahead;
+use crate::cursor::Cursor;
 use crate::digest::agrees_with;
 use ix_cbor::check;
 use ix_cid::Cid;
@@ -30,15 +30,15 @@ pub(crate) enum Block {
 
 impl Entry {
     // Whether the CID's digest is that of the block, by the CID's hash function.
-    pub(crate) fn agrees(&self) -> bool
-        ensures { result ≡ agrees (pair_of self.now) }
+    pub(crate) fn hash_matches(&self) -> bool
+        ensures { result ≡ hash_matches (pair_of self.now) }
     {
         agrees_with(&self.cid.parts(), self.block.bytes())
     }
 
     // Whether the block is not valid DAG-CBOR.
-    pub(crate) fn is_faulty(&self) -> bool
-        ensures { result ≡ is_faulty (pair_of self.now) }
+    pub(crate) fn is_malformed(&self) -> bool
+        ensures { result ≡ is_malformed (pair_of self.now) }
     {
         has_fault(self.block.bytes())
     }
@@ -55,15 +55,15 @@ impl Block {
     }
 
     // Returns a cursor over the bytes, with their end in shared ones.
-    pub(crate) fn ahead(&self) -> Ahead<'_>
+    pub(crate) fn cursor(&self) -> Cursor<'_>
         ensures { result ≡ content self.now }
     {
         match self {
-            Block::Own(block) => Ahead::of(block.as_slice()),
+            Block::Own(block) => Cursor::of(block.as_slice()),
             Block::Within { bytes, start, size } => {
                 let block = part(bytes.as_slice(), *start, *size);
                 let end = bytes.len().min(*start) + block.len();
-                Ahead::within(block, bytes, end)
+                Cursor::within(block, bytes, end)
             }
         }
     }

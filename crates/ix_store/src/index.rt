@@ -11,11 +11,11 @@ ghost use Rattle.std.specs.Prelude.{◌≡◌, ◌↔◌, List, [], ◌-◌, ◌
 ghost use Rattle.std.specs.Option.{unwrap_or};
 ghost use Rattle.ix_store.specs.Entry.{pairs_of};
 ghost use Rattle.ix_store.specs.Store.{has_cid, position_of, HasDistinctCids};
-ghost use Rattle.ix_store.specs.Index.{tail_of, mark_of, first_of, window_of, Has, HasPlace, place_behind, ComesOnlyBehind, SameBehind, PutsBehind, AreLedTo, IsIndexed, IsIndexedWith, MayIndex, StaysTrueBehind, AllSeen, HasAllOf, AreBehind, FindsFree, IsSeat, is_cid_at, sight_in};
+ghost use Rattle.ix_store.specs.Index.{key_hash, fingerprint, first_of, window_of, Has, HasPlace, place_after, ComesOnlyAfter, SameAfter, PutsAfter, AreLedTo, IsIndexed, IsIndexedWith, MayIndex, StaysTrueAfter, AllSeen, HasAllOf, AreAfter, FindsFree, IsLookup, is_cid_at, probe_in};
 
 use crate::entry::Entry;
-use crate::filling::filled;
-use crate::seeing::{Seen, see_shares};
+use crate::fill::filled;
+use crate::verify::{Seen, check_shares};
 use ix_cid::Cid;
 use std::alloc::{AllocError, Global};
 use std::collections::BTreeMap;
@@ -35,21 +35,21 @@ pub(crate) const MOST_PLACES: usize = 0xffff_ffff;
 // entry.
 #[derive(Clone, Copy)]
 pub(crate) struct Slot {
-    mark: u32,
+    tag: u32,
     // The position of the entry plus 1, or 0 if the slot is free.
     end: u32,
 }
 
 impl Slot {
-    pub(crate) const FREE: Slot = Slot { mark: 0, end: 0 };
+    pub(crate) const FREE: Slot = Slot { tag: 0, end: 0 };
 
     // Returns the slot of a position under a number.
-    pub(crate) fn taken(tail: u64, place: usize) -> Slot
+    pub(crate) fn taken(hash: u64, place: usize) -> Slot
         requires { place < 2 ^ 32 - 1 }
-        ensures { Has result (mark_of tail) place }
+        ensures { Has result (fingerprint hash) place }
     {
         Slot {
-            mark: mark_of(tail),
+            tag: fingerprint(hash),
             end: place as u32 + 1,
         }
     }
@@ -68,16 +68,16 @@ impl Slot {
 // Where the table has the entry of a CID, or the free slot for its position, or that it goes to the
 // tree.
 #[derive(Clone, Copy)]
-pub(crate) enum Seat {
-    Held(usize),
-    Open(usize),
-    Behind,
+pub(crate) enum Lookup {
+    Present(usize),
+    Vacant(usize),
+    Overflow,
 }
 
 // The result of a look-up of a CID in its slots: the position of an entry with this CID, a free
 // slot before one, or neither.
 #[derive(Clone, Copy)]
-pub(crate) enum Sight {
+pub(crate) enum Probe {
     At(usize),
     Free,
     Full,
@@ -88,7 +88,7 @@ pub(crate) enum Sight {
 #[derive(Drop)]
 pub(crate) struct Index {
     slots: Vec<Slot>,
-    behind: BTreeMap<Cid, usize>,
+    overflow: BTreeMap<Cid, usize>,
 }
 
 impl Index {
@@ -98,7 +98,7 @@ impl Index {
     {
         Index {
             slots: Vec::new(alloc),
-            behind: BTreeMap::new(alloc),
+            overflow: BTreeMap::new(alloc),
         }
     }
 
@@ -117,23 +117,23 @@ impl Index {
         let slots = filled(rt, alloc, entries, threads)?;
         let index = Index {
             slots,
-            behind: BTreeMap::new(alloc),
+            overflow: BTreeMap::new(alloc),
         };
         let threads = threads.max(1);
         let share = entries.len().div_ceil(threads);
-        let shares = see_shares(rt, alloc, index.slots.as_slice(), entries, share, threads)?;
-        index.cover(alloc, entries, share, shares.as_slice())
+        let shares = check_shares(rt, alloc, index.slots.as_slice(), entries, share, threads)?;
+        index.accept_shares(alloc, entries, share, shares.as_slice())
     }
 
     // Returns the same index, after threads checked the shares of the entries.
-    fn cover(
+    fn accept_shares(
         mut self,
         alloc: Global,
         entries: &[Entry],
         share: usize,
         shares: &[Seen],
     ) -> Result<Option<Index>, AllocError>
-        requires empty { (c : List ℕ) → place_behind self c ≡ None }
+        requires empty { (c : List ℕ) → place_after self c ≡ None }
         requires seen { AllSeen self.slots.items (pairs_of entries.now) share shares.now }
         requires whole { length entries.now ≤ length shares.now * share }
         ensures { MayIndex (pairs_of entries.now) result }
@@ -143,7 +143,7 @@ impl Index {
                 Err(_) => return Err(AllocError),
                 Ok(None) => return Ok(None),
                 Ok(Some(places)) => {
-                    if !self.put_each_behind(alloc, entries, places.as_slice())? {
+                    if !self.insert_all_overflow(alloc, entries, places.as_slice())? {
                         return Ok(None);
                     }
                 }
@@ -154,7 +154,7 @@ impl Index {
 
     // Inserts these positions into the tree, each for the CID of its entry. Returns whether it has
     // each of them.
-    fn put_each_behind(
+    fn insert_all_overflow(
         &mut self,
         alloc: Global,
         entries: &[Entry],
@@ -162,16 +162,16 @@ impl Index {
     ) -> Result<bool, AllocError>
         ensures slots { self.new.slots ≡ self.old.slots }
         ensures kept { HasAllOf self.new self.old }
-        ensures behind { StaysTrueBehind self.old self.new (pairs_of entries.now) }
-        ensures put { IfOk result (λ all. IsTrue all → AreBehind self.new (pairs_of entries.now) places.now) }
+        ensures overflow { StaysTrueAfter self.old self.new (pairs_of entries.now) }
+        ensures put { IfOk result (λ all. IsTrue all → AreAfter self.new (pairs_of entries.now) places.now) }
     {
         for place in places.iter() {
             let place = *place;
             let Some(entry) = entries.get(place) else {
                 return Ok(false);
             };
-            let stood = self.put_behind(alloc, &entry.cid, place)?;
-            if stood != place {
+            let existing = self.insert_overflow(alloc, &entry.cid, place)?;
+            if existing != place {
                 return Ok(false);
             }
         }
@@ -191,11 +191,11 @@ impl Index {
         let starts = starts.saturating_mul(2).max(LEAST_STARTS);
         let mut slots = vec![in alloc; Slot::FREE; starts.saturating_add(PROBES - 1)]?;
         for (place, entry) in entries.iter().enumerate() {
-            let tail = tail_of(&entry.cid);
-            match free_slot(slots.as_slice(), tail, place) {
-                Some(slot) => slots[slot] = Slot::taken(tail, place),
-                None if self.has_place(tail, place) => {
-                    self.put_behind(alloc, &entry.cid, place)?;
+            let hash = key_hash(&entry.cid);
+            match free_slot(slots.as_slice(), hash, place) {
+                Some(slot) => slots[slot] = Slot::taken(hash, place),
+                None if self.has_place(hash, place) => {
+                    self.insert_overflow(alloc, &entry.cid, place)?;
                 }
                 None => {}
             }
@@ -206,10 +206,10 @@ impl Index {
 
     // Whether the look-up of a number visits a slot with this position. If it doesn't, only the
     // tree can lead to it.
-    fn has_place(&self, tail: u64, place: usize) -> bool
-        ensures { result ≡ false → ComesOnlyBehind self.now.slots.items tail place }
+    fn has_place(&self, hash: u64, place: usize) -> bool
+        ensures { result ≡ false → ComesOnlyAfter self.now.slots.items hash place }
     {
-        let (_, window) = window(self.slots.as_slice(), tail);
+        let (_, window) = window(self.slots.as_slice(), hash);
         for slot in window {
             if let Some(other) = slot.place() {
                 if other == place {
@@ -221,39 +221,44 @@ impl Index {
     }
 
     // Returns the position that the tree has for a CID. If it has none, it is given this one.
-    fn put_behind(&mut self, alloc: Global, cid: &Cid, place: usize) -> Result<usize, AllocError>
+    fn insert_overflow(
+        &mut self,
+        alloc: Global,
+        cid: &Cid,
+        place: usize,
+    ) -> Result<usize, AllocError>
         ensures slots { self.new.slots ≡ self.old.slots }
-        ensures stood { IfOk result (λ p. p ≡ unwrap_or (place_behind self.old cid.now) place) }
-        ensures put { IfOk result (λ stood. PutsBehind self.old self.new cid.now stood) }
-        ensures err { OnErr result (SameBehind self.old self.new) }
+        ensures existing { IfOk result (λ p. p ≡ unwrap_or (place_after self.old cid.now) place) }
+        ensures put { IfOk result (λ existing. PutsAfter self.old self.new cid.now existing) }
+        ensures err { OnErr result (SameAfter self.old self.new) }
     {
         let key = cid.try_clone(alloc)?;
-        match self.behind.entry(key) {
+        match self.overflow.entry(key) {
             Ok(entry) => Ok(*entry.or_insert(place)),
             Err(_) => Err(AllocError),
         }
     }
 
     // Returns where the table has the entry of a CID, or where its position goes.
-    fn seat(&self, entries: &[Entry], cid: &Cid) -> Seat
+    fn lookup(&self, entries: &[Entry], cid: &Cid) -> Lookup
         requires { IsIndexed self.now (pairs_of entries.now) }
-        ensures { IsSeat self.now (pairs_of entries.now) cid.now result }
+        ensures { IsLookup self.now (pairs_of entries.now) cid.now result }
     {
-        let tail = tail_of(cid);
-        let mark = mark_of(tail);
-        let (first, window) = window(self.slots.as_slice(), tail);
+        let hash = key_hash(cid);
+        let tag = fingerprint(hash);
+        let (first, window) = window(self.slots.as_slice(), hash);
         for (step, slot) in window.iter().enumerate() {
             let Some(place) = slot.place() else {
                 if entries.len() < MOST_PLACES {
-                    return Seat::Open(first + step);
+                    return Lookup::Vacant(first + step);
                 }
-                return Seat::Behind;
+                return Lookup::Overflow;
             };
-            if slot.mark == mark && holds(entries, place, cid) {
-                return Seat::Held(place);
+            if slot.tag == tag && holds(entries, place, cid) {
+                return Lookup::Present(place);
             }
         }
-        Seat::Behind
+        Lookup::Overflow
     }
 
     // Returns the position of the entry of a CID.
@@ -261,10 +266,10 @@ impl Index {
         requires { IsIndexed self.now (pairs_of entries.now) }
         ensures { result ≡ position_of (pairs_of entries.now) cid.now }
     {
-        match self.seat(entries, cid) {
-            Seat::Held(place) => Some(place),
-            Seat::Open(_) => None,
-            Seat::Behind => self.behind.get(cid).copied(),
+        match self.lookup(entries, cid) {
+            Lookup::Present(place) => Some(place),
+            Lookup::Vacant(_) => None,
+            Lookup::Overflow => self.overflow.get(cid).copied(),
         }
     }
 
@@ -283,41 +288,41 @@ impl Index {
         ensures err { OnErr result (IsIndexed self.new (pairs_of entries.now)) }
     {
         let place = entries.len();
-        match self.seat(entries, cid) {
-            Seat::Held(_) => Ok(false),
-            Seat::Open(slot) => {
-                self.slots[slot] = Slot::taken(tail_of(cid), place);
+        match self.lookup(entries, cid) {
+            Lookup::Present(_) => Ok(false),
+            Lookup::Vacant(slot) => {
+                self.slots[slot] = Slot::taken(key_hash(cid), place);
                 Ok(true)
             }
-            Seat::Behind => {
-                let stood = self.put_behind(alloc, cid, place)?;
-                Ok(stood == place)
+            Lookup::Overflow => {
+                let existing = self.insert_overflow(alloc, cid, place)?;
+                Ok(existing == place)
             }
         }
     }
 }
 
 // Returns the slot at which the look-up of a number begins, and the slots that it visits.
-fn window(slots: &[Slot], tail: u64) -> (usize, &[Slot])
-    ensures first { result.0 ≡ first_of slots.now tail }
-    ensures slots { result.1.now ≡ window_of slots.now tail }
+fn window(slots: &[Slot], hash: u64) -> (usize, &[Slot])
+    ensures first { result.0 ≡ first_of slots.now hash }
+    ensures slots { result.1.now ≡ window_of slots.now hash }
 {
     if slots.len() < PROBES {
         return (0, &[]);
     }
-    let first = tail as usize & (slots.len() - PROBES);
+    let first = hash as usize & (slots.len() - PROBES);
     (first, &slots[first..first + PROBES])
 }
 
 // Returns the slot for the position of a number: the first free one of its look-up. Returns `None`
 // if none of them is free, or if no slot can have the position, which then goes to the tree.
-fn free_slot(slots: &[Slot], tail: u64, place: usize) -> Option<usize>
-    ensures { FindsFree slots.now tail place result }
+fn free_slot(slots: &[Slot], hash: u64, place: usize) -> Option<usize>
+    ensures { FindsFree slots.now hash place result }
 {
     if place >= MOST_PLACES {
         return None;
     }
-    let (first, window) = window(slots, tail);
+    let (first, window) = window(slots, hash);
     for (step, slot) in window.iter().enumerate() {
         if slot.place().is_none() {
             return Some(first + step);
@@ -327,21 +332,21 @@ fn free_slot(slots: &[Slot], tail: u64, place: usize) -> Option<usize>
 }
 
 // Returns what the look-up of a CID finds in a table.
-pub(crate) fn look(slots: &[Slot], entries: &[Entry], cid: &Cid) -> Sight
-    ensures { result ≡ sight_in slots.now (pairs_of entries.now) cid.now }
+pub(crate) fn look(slots: &[Slot], entries: &[Entry], cid: &Cid) -> Probe
+    ensures { result ≡ probe_in slots.now (pairs_of entries.now) cid.now }
 {
-    let tail = tail_of(cid);
-    let mark = mark_of(tail);
-    let (_, window) = window(slots, tail);
+    let hash = key_hash(cid);
+    let tag = fingerprint(hash);
+    let (_, window) = window(slots, hash);
     for slot in window {
         let Some(place) = slot.place() else {
-            return Sight::Free;
+            return Probe::Free;
         };
-        if slot.mark == mark && is_cid_at(entries, place, cid) {
-            return Sight::At(place);
+        if slot.tag == tag && is_cid_at(entries, place, cid) {
+            return Probe::At(place);
         }
     }
-    Sight::Full
+    Probe::Full
 }
 
 // Whether the entry at a position has this CID.
@@ -367,18 +372,18 @@ pub(crate) fn starts_for(count: usize) -> usize
 }
 
 // Returns the fingerprint of a number: its upper half.
-fn mark_of(tail: u64) -> u32
-    ensures { result ≡ mark_of tail }
+fn fingerprint(hash: u64) -> u32
+    ensures { result ≡ fingerprint hash }
 {
-    (tail >> 32) as u32
+    (hash >> 32) as u32
 }
 
 // Returns the number of a CID.
-pub(crate) fn tail_of(cid: &Cid) -> u64
-    ensures { result ≡ tail_of cid.now }
+pub(crate) fn key_hash(cid: &Cid) -> u64
+    ensures { result ≡ key_hash cid.now }
 {
     match cid.as_bytes().split_last_chunk() {
-        Some((_, tail)) => u64::from_le_bytes(*tail),
+        Some((_, hash)) => u64::from_le_bytes(*hash),
         None => 0,
     }
 }

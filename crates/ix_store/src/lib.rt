@@ -8,27 +8,27 @@
 //! ```rust
 //! let mut store = Store::new(alloc);
 //! store.add(cid.try_clone(alloc)?, block)?;
-//! store.settle()?;
+//! store.enable_memo()?;
 //! if let Some(place) = store.find(&cid) {
-//!     println!(rt; "{} bytes, sound: {}", store.bytes(place).len(), store.agrees(place))?;
+//!     println!(rt; "{} bytes, sound: {}", store.bytes(place).len(), store.hash_matches(place))?;
 //! }
 //! ```
 #![tactic(auto)]
 
-mod ahead;
 mod builder;
+mod cursor;
 mod digest;
 mod entry;
-mod filling;
+mod fill;
 mod index;
-mod mark_rule;
-mod marks;
+mod memo;
+mod memo_rule;
 mod places;
-mod seeing;
 mod store;
+mod verify;
 
-pub use ahead::Ahead;
 pub use builder::StoreBuilder;
+pub use cursor::Cursor;
 pub use entry::has_fault;
 pub use places::PlaceSet;
 pub use store::Store;

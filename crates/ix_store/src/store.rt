@@ -5,13 +5,13 @@ ghost use Rattle.std.specs.Prelude.{get_or};
 ghost use Rattle.std.specs.Arc.{arc_value};
 ghost use Rattle.ix_store.specs.Entry.{content, part_of, pairs_of};
 ghost use Rattle.ix_store.specs.Index.{IsIndexed};
-ghost use Rattle.ix_store.specs.Mark.{agrees, is_faulty};
+ghost use Rattle.ix_store.specs.Memo.{hash_matches, is_malformed};
 ghost use Rattle.ix_store.specs.Store.{Adds, IsPlaceIn, position_of};
 
-use crate::ahead::Ahead;
+use crate::cursor::Cursor;
 use crate::entry::{Block, Entry};
 use crate::index::{Index, holds};
-use crate::marks::Marks;
+use crate::memo::Memo;
 use ix_cid::Cid;
 use std::alloc::{AllocError, Global};
 use std::marker::Model;
@@ -25,7 +25,7 @@ pub struct Store {
     // The position of the entry of each CID.
     index: Index,
     // The cached answers, once the store was settled and as long as no block is added.
-    marks: Option<Marks>,
+    memo: Option<Memo>,
 }
 
 // Written by hand: a derived drop is inlined in each function that drops one, at each of its exits.
@@ -35,11 +35,11 @@ impl Drop for Store {
             alloc: _,
             entries,
             index,
-            marks,
+            memo,
         } = self;
         drop(entries);
         drop(index);
-        drop(marks);
+        drop(memo);
     }
 }
 
@@ -52,7 +52,7 @@ impl Model for Store {
 
     ghost view = { λ s. pairs_of s.entries.items };
 
-    ghost invariant = { λ s. IsIndexed s.index (pairs_of s.entries.items) × IfSome s.marks (λ m. m ≡ pairs_of s.entries.items) };
+    ghost invariant = { λ s. IsIndexed s.index (pairs_of s.entries.items) × IfSome s.memo (λ m. m ≡ pairs_of s.entries.items) };
 }
 
 impl Store {
@@ -64,7 +64,7 @@ impl Store {
             alloc,
             entries: Vec::new(alloc),
             index: Index::new(alloc),
-            marks: None,
+            memo: None,
         }
     }
 
@@ -77,7 +77,7 @@ impl Store {
             alloc,
             entries,
             index,
-            marks: None,
+            memo: None,
         }
     }
 
@@ -113,7 +113,7 @@ impl Store {
         if !entered {
             return Ok(false);
         }
-        self.marks = None;
+        self.memo = None;
         self.entries.push_reserved(Entry { cid, block });
         Ok(true)
     }
@@ -131,11 +131,11 @@ impl Store {
 
     /// Allocates the cache of answers, eight bytes for each block, which is used until a block is
     /// added. The blocks are the same, also if memory runs out.
-    pub fn settle(&mut self) -> Result<(), AllocError>
+    pub fn enable_memo(&mut self) -> Result<(), AllocError>
         ensures { self.new ≡ self.old }
     {
-        let marks = Marks::new(self.alloc, &self.entries)?;
-        self.marks = Some(marks);
+        let memo = Memo::new(self.alloc, &self.entries)?;
+        self.memo = Some(memo);
         Ok(())
     }
 
@@ -166,39 +166,39 @@ impl Store {
     }
 
     /// Returns a cursor over the block at a position, with its end in shared bytes.
-    pub fn ahead(&self, place: usize) -> Ahead<'_>
+    pub fn cursor(&self, place: usize) -> Cursor<'_>
         requires { IsPlaceIn self.now place }
         ensures { slice_get (map (λ e. e.1) self.now) place ≡ Some result }
     {
-        self.entries[place].block.ahead()
+        self.entries[place].block.cursor()
     }
 
     /// Whether there is a block at this position whose hash matches its CID, by the CID's hash
     /// function: SHA-256 or SHA-512 (FIPS 180-4), or the block itself under identity, and never
     /// under another function. A settled store computes it once for all threads.
-    pub fn agrees(&self, place: usize) -> bool
-        ensures { result ≡ get_or (map agrees self.now) place false }
+    pub fn hash_matches(&self, place: usize) -> bool
+        ensures { result ≡ get_or (map hash_matches self.now) place false }
     {
         let Some(entry) = self.entries.get(place) else {
             return false;
         };
-        match &self.marks {
-            Some(marks) => marks.agrees(place, entry),
-            None => entry.agrees(),
+        match &self.memo {
+            Some(memo) => memo.hash_matches(place, entry),
+            None => entry.hash_matches(),
         }
     }
 
     /// Whether there is a block at this position that is not valid DAG-CBOR (RFC 8949). A settled
     /// store computes it once for all threads.
-    pub fn is_faulty(&self, place: usize) -> bool
-        ensures { result ≡ get_or (map is_faulty self.now) place false }
+    pub fn is_malformed(&self, place: usize) -> bool
+        ensures { result ≡ get_or (map is_malformed self.now) place false }
     {
         let Some(entry) = self.entries.get(place) else {
             return false;
         };
-        match &self.marks {
-            Some(marks) => marks.is_faulty(place, entry),
-            None => entry.is_faulty(),
+        match &self.memo {
+            Some(memo) => memo.is_malformed(place, entry),
+            None => entry.is_malformed(),
         }
     }
 

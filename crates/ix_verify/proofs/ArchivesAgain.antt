@@ -14,7 +14,7 @@ use Rattle.ix_archive.specs.declared.sink.Delivery.{Delivery}
 use Rattle.ix_car.specs.Writing.{with_length, header_data, header_of, section_with}
 use Rattle.ix_archive.specs.Archive.{is_sound, first_sound, section_of, archive_with}
 use Rattle.ix_car.specs.Reading.{Fault, ◌>>=◌}
-use Rattle.ix_car.specs.Sections.{SectionMeaning, placed, sections_behind, section_list, roots_of}
+use Rattle.ix_car.specs.Sections.{SectionMeaning, placed, sections_after, section_list, roots_of}
 use Rattle.ix_car.proofs.SectionLists.{with_next, ListGoesOn, ListGoesOn-first, ListGoesOn-more, ListGoesOn-last}
 use Rattle.ix_verify.specs.declared.found.Findings.{Findings}
 use Rattle.ix_verify.specs.declared.found.Unsound.{Unsound}
@@ -82,9 +82,9 @@ pub archive-sections : (store : Blocks) (roots : List (List ℕ)) (ds : List Del
 archive-sections store roots ds written =
     let rest = flat_map (section_of store) (first_sound ds) in
     let size = length (archive_with store roots ds) in
-    let behind : Result (List ℕ) Fault → Result (List SectionMeaning) Fault = λ r. r >>= (λ left. sections_behind size (length left) [] left) in
+    let behind : Result (List ℕ) Fault → Result (List SectionMeaning) Fault = λ r. r >>= (λ left. sections_after size (length left) [] left) in
     ap behind (header_again roots rest written.named (header_short roots rest written.size))
-    ∙ sections_again store size written.size written.stored (first_sound ds) [] (length (header_of roots)) (sections_behind size (length rest) [] rest)
+    ∙ sections_again store size written.size written.stored (first_sound ds) [] (length (header_of roots)) (sections_after size (length rest) [] rest)
     (sym (length-append (header_of roots) rest)) (ListGoesOn-first size rest)
 
 -- sections of sound deliveries are sound

@@ -10,8 +10,8 @@ use Rattle.ix_car.specs.declared.reader.sections.Section.{Section}
 use Rattle.ix_car.specs.Gives.{FailsAs}
 use Rattle.ix_car.specs.Reading.{Fault, ◌>>=◌, section_at, header_at}
 use Rattle.ix_car.specs.SectionView.{section_of, views_of}
-use Rattle.ix_car.specs.Sections.{SectionMeaning, placed, sections_behind, sections_in, section_list}
-use Rattle.ix_car.proofs.SectionLists.{sections_behind-enough, ListGoesOn, ListGoesOn-first, ListGoesOn-more, ListGoesOn-fails, ListGoesOn-last, FailsAs-of}
+use Rattle.ix_car.specs.Sections.{SectionMeaning, placed, sections_after, sections_in, section_list}
+use Rattle.ix_car.proofs.SectionLists.{sections_after-enough, ListGoesOn, ListGoesOn-first, ListGoesOn-more, ListGoesOn-fails, ListGoesOn-last, FailsAs-of}
 use Rattle.ix_archive.specs.Archive.{is_sound}
 use Rattle.ix_verify.specs.declared.noted.Noted.{Noted}
 use Rattle.ix_verify.specs.declared.found.Unsound.{Unsound}
@@ -24,17 +24,17 @@ use Rattle.ix_verify.specs.Counted.{IsBatchAt}
 module _ (size : ℕ) (b : List ℕ) where
   -- whatever sections stand before, these bytes give these sections, and then what the rest gives
   abbrev pub ReadsOn : List Section → List ℕ → Type 0
-  ReadsOn batch rest = (before : List SectionMeaning) → ListGoesOn size (before ++ map section_of batch) rest (sections_behind size (length b) before b)
+  ReadsOn batch rest = (before : List SectionMeaning) → ListGoesOn size (before ++ map section_of batch) rest (sections_after size (length b) before b)
 
   pub reads-first : ReadsOn [] b
   reads-first before n h =
-      subst (λ (l : List SectionMeaning). sections_behind size n l b ≡ sections_behind size (length b) before b) (sym (append-nil before))
-      (sections_behind-enough size n (length b) before b h (omega arith))
+      subst (λ (l : List SectionMeaning). sections_after size n l b ≡ sections_after size (length b) before b) (sym (append-nil before))
+      (sections_after-enough size n (length b) before b h (omega arith))
 
   pub reads-more : (batch : List Section) (s : Section) (rest after : List ℕ) → 0 < length rest → section_at rest ≡ Ok ((s.cid, s.block.now), after) → s.place ≡ size - length rest
       → ReadsOn batch rest → ReadsOn (batch ++ s ∷ []) after
   reads-more batch s rest after some read place reads_on before =
-      let whole = sections_behind size (length b) before b in
+      let whole = sections_after size (length b) before b in
       let same : (before ++ map section_of batch) ++ placed (size - length rest) (s.cid, s.block.now) ∷ [] ≡ before ++ map section_of (batch ++ s ∷ []) =
       ap (λ (n : ℕ). (before ++ map section_of batch) ++ placed n (s.cid, s.block.now) ∷ []) (sym place)
       ∙ append_assoc before (map section_of batch) (section_of s ∷ [])
@@ -43,9 +43,9 @@ module _ (size : ℕ) (b : List ℕ) where
       (ListGoesOn-more size (before ++ map section_of batch) rest whole ((s.cid, s.block.now), after) some read (reads_on before))
 
   pub reads-fault : (batch : List Section) (rest : List ℕ) (kind : CarKind) (left : ℕ) → 0 < length rest → section_at rest ≡ Err (record { kind = kind; left = left }) → ReadsOn batch rest
-      → (before : List SectionMeaning) → FailsAs kind left (sections_behind size (length b) before b)
+      → (before : List SectionMeaning) → FailsAs kind left (sections_after size (length b) before b)
   reads-fault batch rest kind left some read reads_on before =
-      let whole = sections_behind size (length b) before b in
+      let whole = sections_after size (length b) before b in
       FailsAs-of kind left whole (ListGoesOn-fails size (before ++ map section_of batch) rest whole some (reads_on before) (record { kind = kind; left = left }) read)
 
 -- ---- all of them
@@ -97,7 +97,7 @@ module _ (b : List ℕ) (most : ℕ) where
       let long : length done ≡ length so_far.done + length batch.items = length-append so_far.done (views_of batch) ∙ ap (λ n. length so_far.done + n) (length-map batch.items section_of) in
       record {
         done = done;
-        goes_on = λ n h. sections_behind-enough size n (length after.now) done after.now h (omega arith) ∙ sym (read.read so_far.done) ∙ so_far.goes_on (length rest) (omega arith);
+        goes_on = λ n h. sections_after-enough size n (length after.now) done after.now h (omega arith) ∙ sym (read.read so_far.done) ∙ so_far.goes_on (length rest) (omega arith);
         counted = omega (arith, long, so_far.counted);
         noted = subst (λ (l : List Unsound). IsNoted most l new) (sym (unsound-append so_far.done (views_of batch))) (more.noted (unsound_of so_far.done) so_far.noted);
         room = omega (arith, long, read.room, so_far.room);

@@ -8,7 +8,7 @@ use Rattle.ix_car.specs.Sections.{roots_of, with_sections}
 use Rattle.ix_verify.specs.declared.file.Judged.{Judged}
 use Rattle.ix_verify.specs.declared.reach.Reached.{Reached}
 use Rattle.ix_verify.specs.declared.found.Findings.{Findings}
-use Rattle.ix_verify.specs.declared.found.Reach.TheVariants.{Blocks as OfBlocks, Roots as OfRoots}
+use Rattle.ix_verify.specs.declared.found.Scope.TheVariants.{Sections as OfSections, Graph as OfGraph}
 use Rattle.ix_verify.specs.Counted.{IsJudgedOf, findings_of}
 use Rattle.ix_verify.specs.Found.{IsReached, IsFoundOf}
 use Rattle.ix_verify.specs.Walked.{IsReachedFrom, IsReachedFromNone}
@@ -16,9 +16,9 @@ use Rattle.ix_verify.proofs.FileFaults.{reached-in}
 
 module _ (b : List ℕ) (most : ℕ) (j : Judged) (f : Findings) (r : Reached) (judged : IsJudgedOf b most j) (is : f ≡ findings_of j r) where
   -- by the sections alone
-  pub found-blocks : IsReachedFromNone r → IsFoundOf b OfBlocks most f
+  pub found-blocks : IsReachedFromNone r → IsFoundOf b OfSections most f
   found-blocks none =
-      subst (λ (x : Findings). IsFoundOf b OfBlocks most x) (sym is) (record {
+      subst (λ (x : Findings). IsFoundOf b OfSections most x) (sym is) (record {
         sections = judged.sections;
         read = judged.read;
         count = judged.count;
@@ -27,9 +27,9 @@ module _ (b : List ℕ) (most : ℕ) (j : Judged) (f : Findings) (r : Reached) (
       })
 
   -- and from the roots on
-  pub found-roots : (store : Blocks) → blocks_of b ≡ Ok store → IsReachedFrom store j.roots.items most r → IsFoundOf b OfRoots most f
+  pub found-roots : (store : Blocks) → blocks_of b ≡ Ok store → IsReachedFrom store j.roots.items most r → IsFoundOf b OfGraph most f
   found-roots store stored reached =
-      subst (λ (x : Findings). IsFoundOf b OfRoots most x) (sym is) (record {
+      subst (λ (x : Findings). IsFoundOf b OfGraph most x) (sym is) (record {
         sections = judged.sections;
         read = judged.read;
         count = judged.count;

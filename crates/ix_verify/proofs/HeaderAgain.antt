@@ -10,7 +10,7 @@ use Rattle.ix_cbor.specs.Reading.{data_at}
 use Rattle.ix_cbor.proofs.Laws.{decoded-complete}
 use Rattle.ix_car.specs.Writing.{links_to, header_data, header_of}
 use Rattle.ix_car.specs.Reading.{Fault, ◌>>=◌, are_links, version_fault, header_fault, behind_header, header_at}
-use Rattle.ix_car.specs.Sections.{links_in, roots_in, roots_behind, roots_of}
+use Rattle.ix_car.specs.Sections.{links_in, roots_in, roots_after, roots_of}
 use Rattle.ix_verify.proofs.TextsAgain.{text_again}
 
 -- a link takes at least three bytes more than its CID
@@ -79,4 +79,4 @@ header_again roots rest are short =
 -- the header names its roots
 pub roots_again : (roots : List (List ℕ)) (rest : List ℕ) → All IsCid roots → length (spelling_of (header_data roots)) < 2 ^ 63 → roots_of (header_of roots ++ rest) ≡ roots
 roots_again roots rest are short =
-    ap roots_behind (text_again (spelling_of (header_data roots)) rest short) ∙ ap roots_in (header_read roots are short) ∙ links_in-links roots
+    ap roots_after (text_again (spelling_of (header_data roots)) rest short) ∙ ap roots_in (header_read roots are short) ∙ links_in-links roots

@@ -75,9 +75,9 @@ All-first_sound store (d ∷ ds) h = on_verdict (is_sound d.verdict) refl (All-f
       → All (IsSoundSection store) (if sound then d ∷ filter (λ e. not (bytes_eq e.visit.cid d.visit.cid)) (first_sound ds) else first_sound ds)
   on_verdict true is more =
       let others = λ (e : Delivery). not (bytes_eq e.visit.cid d.visit.cid) in
-      let agrees : d.verdict ≡ verdict_of store d.visit.cid = All-head (IsJudged store) d ds h in
+      let hash_matches : d.verdict ≡ verdict_of store d.visit.cid = All-head (IsJudged store) d ds h in
       All-cons (IsSoundSection store) d (filter others (first_sound ds))
-      (λ block there. sound-section store d.visit.cid block (sym agrees ∙ is_sound-Sound d.verdict is) there)
+      (λ block there. sound-section store d.visit.cid block (sym hash_matches ∙ is_sound-Sound d.verdict is) there)
       (All-filter others (IsSoundSection store) (first_sound ds) more)
   on_verdict false is more = more
 

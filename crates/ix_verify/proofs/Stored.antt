@@ -8,7 +8,7 @@ use Rattle.ix_cid.specs.Cid.{parts_of, codec_of, digest_of, hash_function_of}
 use Rattle.ix_cid.specs.declared.hash_function.HashFunction.{HashFunction}
 use Rattle.ix_cid.specs.declared.hash_function.HashFunction.TheVariants.{Identity, Sha2_256, Sha2_512}
 use Rattle.ix_cbor.specs.Reading.{data_at}
-use Rattle.ix_store.specs.Mark.{agrees, agrees_by}
+use Rattle.ix_store.specs.Memo.{hash_matches, hash_matches_by}
 use Rattle.ix_store.specs.Store.{Blocks, position_of}
 use Rattle.ix_store.proofs.Stores.{pair-there}
 use Rattle.ix_check.specs.Verdict.{has_codec, is_no_data}
@@ -27,14 +27,14 @@ pub asked-here : {X : Type 0} (f : List ℕ × List ℕ → X) (store : Blocks) 
 asked-here f store place p r d at asked = asked ∙ get_or_from_slice_get (map f store) place (f p) d (slice_get-map f store place ∙ ap (λ o. option_map f o) at)
 
 -- by the digest, and then by the data
-by-function : (f : Option HashFunction) (c block : List ℕ) → is_none f ≡ false → (if agrees_by f (digest_of c) block then (if is_no_data c block then Malformed else Sound) else Damaged) ≡ verdict_by_hash f c block
+by-function : (f : Option HashFunction) (c block : List ℕ) → is_none f ≡ false → (if hash_matches_by f (digest_of c) block then (if is_no_data c block then Malformed else Sound) else Damaged) ≡ verdict_by_hash f c block
 by-function None c block h = absurd cc
 by-function (Some Identity) c block h = refl
 by-function (Some Sha2_256) c block h = refl
 by-function (Some Sha2_512) c block h = refl
 
 -- a block with the digest of its CID, which names a known hash function, and with data where it is to have some
-pub found-sound : (c block : List ℕ) → has_codec c ≡ true → is_none (hash_function_of (parts_of c)) ≡ false → agrees (c, block) ≡ true → is_no_data c block ≡ false → Sound ≡ section_verdict c block
+pub found-sound : (c block : List ℕ) → has_codec c ≡ true → is_none (hash_function_of (parts_of c)) ≡ false → hash_matches (c, block) ≡ true → is_no_data c block ≡ false → Sound ≡ section_verdict c block
 found-sound c block codec some agreed spelled =
     ap (λ (t : Bool). if t then Malformed else Sound) (sym spelled)
     ∙ ap (λ (t : Bool). if t then (if is_no_data c block then Malformed else Sound) else Damaged) (sym agreed)

@@ -12,11 +12,11 @@ use Rattle.ix_cid.proofs.Results.{ok_same, bind_ok, bind_to}
 use Rattle.ix_cid.proofs.Cids.{parts_at-reads}
 use Rattle.ix_car.specs.declared.fault.CarKind.TheVariants.{Truncated}
 use Rattle.ix_car.specs.Writing.{with_length}
-use Rattle.ix_car.specs.Reading.{Fault, ◌>>=◌, fails, text_at, text_behind, pair_of, section_at}
+use Rattle.ix_car.specs.Reading.{Fault, ◌>>=◌, fails, text_at, text_after, pair_of, section_at}
 
 -- a text that is after its length
-behind_again : (v text rest : List ℕ) → text_behind ((v ++ text) ++ rest) (Ok (length text, length v)) ≡ Ok (text, rest)
-behind_again v text rest =
+after_again : (v text rest : List ℕ) → text_after ((v ++ text) ++ rest) (Ok (length text, length v)) ≡ Ok (text, rest)
+after_again v text rest =
     let b = (v ++ text) ++ rest in
     let size : length b ≡ length v + length text + length rest = length-append (v ++ text) rest ∙ ap (λ n. n + length rest) (length-append v text) in
     let room : ltb (length b) (length v + length text) ≡ false = le-ltb (length b) (length v + length text) (omega (arith, size)) in
@@ -35,13 +35,13 @@ text_again text rest short =
     let v = varint_of (length text) in
     let number : varint_at ((v ++ text) ++ rest) ≡ Ok (length text, length v) =
     ap varint_at (append_assoc v text rest) ∙ varint_at-append v (length text) (text ++ rest) (IsVarint-varint_of (length text) short) in
-    ap (text_behind ((v ++ text) ++ rest)) number ∙ behind_again v text rest
+    ap (text_after ((v ++ text) ++ rest)) number ∙ after_again v text rest
 
 -- a CID is read where it stands
 pub cid_again : (c rest : List ℕ) → IsCid c → cid_at (c ++ rest) ≡ Ok (c, length c)
 cid_again c rest is =
-    let cid_behind : List ℕ → Parts × List ℕ → Result (List ℕ × ℕ) CidFault = λ b p. Ok (take (length b - length p.1) b, length b - length p.1) in
-    let parts = bind_ok (parts_at c) (cid_behind c) (c, length c) is in
+    let cid_after : List ℕ → Parts × List ℕ → Result (List ℕ × ℕ) CidFault = λ b p. Ok (take (length b - length p.1) b, length b - length p.1) in
+    let parts = bind_ok (parts_at c) (cid_after c) (c, length c) is in
     let left = parts.0.1 in
     let size : length c - length left ≡ length c = ap (λ (r : List ℕ × ℕ). r.1) (ok_same (take (length c - length left) c, length c - length left) (c, length c) parts.2) in
     let front = parts_at-reads c parts.0.0 left parts.1 in
@@ -52,7 +52,7 @@ cid_again c rest is =
     let n : length b - length rest ≡ length c = omega (arith, length-append c rest) in
     let of_size : ℕ → Result (List ℕ × ℕ) CidFault = λ k. Ok (take k b, k) in
     let of_front : List ℕ → Result (List ℕ × ℕ) CidFault = λ l. Ok (l, length c) in
-    bind_to (parts_at b) (parts.0.0, rest) (cid_behind b) of_parts ∙ ap of_size n ∙ ap of_front (take-append_seam c rest)
+    bind_to (parts_at b) (parts.0.0, rest) (cid_after b) of_parts ∙ ap of_size n ∙ ap of_front (take-append_seam c rest)
 
 -- a section is read where it stands
 pub section_again : (c block rest : List ℕ) → IsCid c → length (c ++ block) < 2 ^ 63 → section_at (with_length (c ++ block) ++ rest) ≡ Ok ((c, block), rest)

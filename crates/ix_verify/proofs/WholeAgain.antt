@@ -21,7 +21,7 @@ use Rattle.ix_store.specs.Store.{Blocks, has_cid, with_block, block_of, bytes_by
 use Rattle.ix_walk.specs.JobMeaning.{JobMeaning}
 use Rattle.ix_walk.specs.Arrivals.{Arrival, Inside, when_some}
 use Rattle.ix_walk.specs.Visits.{arrivals_of, visit_of, visits_from, is_over_limit}
-use Rattle.ix_walk.specs.Once.{links_below, roots_from, was_gone_into, gone_into_at, gone_behind, once, is_sound_by, sound_value}
+use Rattle.ix_walk.specs.Once.{links_below, roots_from, was_expanded, expanded_at, expanded_after, once, is_sound_by, sound_value}
 use Rattle.ix_walk.proofs.Links.{all-weaker, all-both}
 use Rattle.ix_check.specs.Verdict.{has_codec, is_no_data, verdict_under, verdict_by, verdict_of, passes}
 use Rattle.ix_check.specs.declared.verdict.Verdict.{Verdict}
@@ -189,7 +189,7 @@ sound-if true h = absurd cc
 sound-if false h = refl
 
 -- the same if its hash may differ too
-sound-on : (agrees bad : Bool) → passes (if agrees then (if bad then Malformed else Sound) else Damaged) ≡ true → is_sound (if agrees then (if bad then Malformed else Sound) else Damaged) ≡ true
+sound-on : (hash_matches bad : Bool) → passes (if hash_matches then (if bad then Malformed else Sound) else Damaged) ≡ true → is_sound (if hash_matches then (if bad then Malformed else Sound) else Damaged) ≡ true
 sound-on true bad h = sound-if bad h
 sound-on false bad h = absurd cc
 
@@ -222,26 +222,26 @@ same-by (Some Sha2_512) c o p h there =
 
 module _ {R : Type 0} (enters : Path → Bool) (rest : Path → R) (same : R → R → Bool) where
   -- if the same is expanded at each visit, the visits are the same
-  once-inside : (inside other : Inside) (n : ℕ) (gone : List (List ℕ × R)) (waiting : List Arrival)
-      → AllByRecursion (λ a. other a.cid ≡ inside a.cid) (once enters rest same inside n gone waiting) → once enters rest same other n gone waiting ≡ once enters rest same inside n gone waiting
-  once-inside inside other zero gone waiting h = refl
-  once-inside inside other (suc n) gone [] h = refl
-  once-inside inside other (suc n) gone (a ∷ more) h =
-      let here : Option Data → Option Data = λ o. if was_gone_into enters rest same inside gone a then None else o in
-      let behind : Option Data → List Arrival = λ o. a ∷ once enters rest same other n (gone_behind enters rest same inside (here o) a gone) (when_some (here o) (λ d. links_below enters d a) ++ more) in
+  once-inside : (inside other : Inside) (n : ℕ) (expanded : List (List ℕ × R)) (waiting : List Arrival)
+      → AllByRecursion (λ a. other a.cid ≡ inside a.cid) (once enters rest same inside n expanded waiting) → once enters rest same other n expanded waiting ≡ once enters rest same inside n expanded waiting
+  once-inside inside other zero expanded waiting h = refl
+  once-inside inside other (suc n) expanded [] h = refl
+  once-inside inside other (suc n) expanded (a ∷ more) h =
+      let here : Option Data → Option Data = λ o. if was_expanded enters rest same inside expanded a then None else o in
+      let behind : Option Data → List Arrival = λ o. a ∷ once enters rest same other n (expanded_after enters rest same inside (here o) a expanded) (when_some (here o) (λ d. links_below enters d a) ++ more) in
       ap behind h.0
-      ∙ ap (λ (l : List Arrival). a ∷ l) (once-inside inside other n (gone_behind enters rest same inside (here (inside a.cid)) a gone) (when_some (here (inside a.cid)) (λ d. links_below enters d a) ++ more) h.1)
+      ∙ ap (λ (l : List Arrival). a ∷ l) (once-inside inside other n (expanded_after enters rest same inside (here (inside a.cid)) a expanded) (when_some (here (inside a.cid)) (λ d. links_below enters d a) ++ more) h.1)
 
   -- if all were visited, a greater bound adds nothing
-  once-enough : (inside : Inside) (n m : ℕ) (gone : List (List ℕ × R)) (waiting : List Arrival) → n ≤ m → length (once enters rest same inside n gone waiting) < n
-      → once enters rest same inside m gone waiting ≡ once enters rest same inside n gone waiting
-  once-enough inside zero m gone waiting le short = absurd (omega (arith, short))
-  once-enough inside (suc n) zero gone waiting le short = absurd (omega (arith, le))
-  once-enough inside (suc n) (suc m) gone [] le short = refl
-  once-enough inside (suc n) (suc m) gone (a ∷ more) le short =
-      let o = gone_into_at enters rest same inside gone a in
+  once-enough : (inside : Inside) (n m : ℕ) (expanded : List (List ℕ × R)) (waiting : List Arrival) → n ≤ m → length (once enters rest same inside n expanded waiting) < n
+      → once enters rest same inside m expanded waiting ≡ once enters rest same inside n expanded waiting
+  once-enough inside zero m expanded waiting le short = absurd (omega (arith, short))
+  once-enough inside (suc n) zero expanded waiting le short = absurd (omega (arith, le))
+  once-enough inside (suc n) (suc m) expanded [] le short = refl
+  once-enough inside (suc n) (suc m) expanded (a ∷ more) le short =
+      let o = expanded_at enters rest same inside expanded a in
       ap (λ (l : List Arrival). a ∷ l)
-      (once-enough inside n m (gone_behind enters rest same inside o a gone) (when_some o (λ d. links_below enters d a) ++ more) (omega (arith, le)) (omega (arith, short)))
+      (once-enough inside n m (expanded_after enters rest same inside o a expanded) (when_some o (λ d. links_below enters d a) ++ more) (omega (arith, le)) (omega (arith, short)))
 
 -- ---- skips
 

@@ -7,7 +7,7 @@ use Rattle.ix_car.specs.declared.reader.sections.Section.{Section}
 use Rattle.ix_archive.specs.Archive.{is_sound}
 use Rattle.ix_car.specs.declared.fault.CarFault.{CarFault}
 use Rattle.ix_car.specs.Gives.{FailsAs}
-use Rattle.ix_car.specs.Sections.{SectionMeaning, sections_behind, section_list, roots_of}
+use Rattle.ix_car.specs.Sections.{SectionMeaning, sections_after, section_list, roots_of}
 use Rattle.ix_car.specs.SectionView.{views_of}
 use Rattle.ix_verify.specs.Noting.{IsNoted}
 use Rattle.ix_verify.specs.Found.{unsound_of}
@@ -28,13 +28,13 @@ told_among (s ∷ ss) (v ∷ vs) = told_if s v ++ told_among ss vs
 
 -- Sections at the front of bytes that end a file of so many, and the bytes after them: whatever sections stand before, these are next.
 pub record IsBatchAt (size : ℕ) (b : List ℕ) (r : Vec Section × Bor (List ℕ)) : Type 0 where
-  pub read : (before : List SectionMeaning) → sections_behind size (length b) before b ≡ sections_behind size (length r.1.now) (before ++ views_of r.0) r.1.now
+  pub read : (before : List SectionMeaning) → sections_after size (length b) before b ≡ sections_after size (length r.1.now) (before ++ views_of r.0) r.1.now
   pub room : length r.0.items + length r.1.now ≤ length b
   pub shorter : length r.1.now < length b
 
 -- a fault of the bytes that end a file of so many, whatever sections stand before
 abbrev pub IsBatchFault : ℕ → List ℕ → CarFault → Type 0
-IsBatchFault size b e = (e.place ≤ size) × ((before : List SectionMeaning) → FailsAs e.kind (size - e.place) (sections_behind size (length b) before b))
+IsBatchFault size b e = (e.place ≤ size) × ((before : List SectionMeaning) → FailsAs e.kind (size - e.place) (sections_after size (length b) before b))
 
 -- what is found of the sections of a file, and its roots
 pub record IsJudgedOf (b : List ℕ) (most : ℕ) (j : Judged) : Type 0 where

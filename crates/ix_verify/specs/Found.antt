@@ -15,8 +15,8 @@ use Rattle.ix_verify.specs.Judged.{section_verdict}
 use Rattle.ix_verify.specs.Roots.{few_roots}
 use Rattle.ix_verify.specs.Noting.{IsNoted}
 use Rattle.ix_verify.specs.declared.noted.Noted.{Noted}
-use Rattle.ix_verify.specs.declared.found.Reach.{Reach}
-use Rattle.ix_verify.specs.declared.found.Reach.TheVariants.{Blocks as OfBlocks, Roots as OfRoots}
+use Rattle.ix_verify.specs.declared.found.Scope.{Scope}
+use Rattle.ix_verify.specs.declared.found.Scope.TheVariants.{Sections as OfSections, Graph as OfGraph}
 use Rattle.ix_verify.specs.declared.found.Unsound.{Unsound}
 use Rattle.ix_verify.specs.declared.found.Findings.{Findings}
 
@@ -45,9 +45,9 @@ abbrev pub skips_below : Blocks → JobMeaning → List Skip
 skips_below store job = map skip_of (filter (λ d. not (passes d.verdict)) (judged_visits store 0 job))
 
 -- the roots from which a walk goes: each of a file's, where it is named first
-abbrev pub roots_to_walk : Reach → List (List ℕ) → List (List ℕ)
-roots_to_walk OfBlocks roots = []
-roots_to_walk OfRoots roots = first_ones roots
+abbrev pub roots_to_walk : Scope → List (List ℕ) → List (List ℕ)
+roots_to_walk OfSections roots = []
+roots_to_walk OfGraph roots = first_ones roots
 
 -- what a walk of a job comes to: what is skipped, and whether it ends at its limit
 pub record IsWalkOf (store : Blocks) (job : JobMeaning) (most : ℕ) (skips : Noted Skip) (over : Bool) : Type 0 where
@@ -59,12 +59,12 @@ abbrev pub IsReached : Blocks → List (List ℕ) → ℕ → Noted Skip → Boo
 IsReached store roots most skips over = IsWalkOf store (roots_job roots) most skips over
 
 -- what is found of a file: of each section by its own bytes, and below its roots in the store of its first sections
-pub record IsFoundOf (b : List ℕ) (reach : Reach) (most : ℕ) (f : Findings) : Type 0 where
+pub record IsFoundOf (b : List ℕ) (scope : Scope) (most : ℕ) (f : Findings) : Type 0 where
   pub sections : List SectionMeaning
   pub read : section_list b ≡ Ok sections
   pub count : f.sections ≡ length sections
   pub unsound : IsNoted most (unsound_of sections) f.unsound
-  pub reached : IsReached (with_sections [] sections) (roots_to_walk reach (roots_of b)) most f.skips f.is_over_limit
+  pub reached : IsReached (with_sections [] sections) (roots_to_walk scope (roots_of b)) most f.skips f.is_over_limit
 
 -- no section is unsound, nothing is skipped, and no walk ends at its limit
 abbrev pub is_sound_file : Findings → Bool
@@ -72,8 +72,8 @@ is_sound_file f = (f.unsound.count == 0) && ((f.skips.count == 0) && not f.is_ov
 
 -- whatever is found of a file of which the sections alone are verified, it is sound
 abbrev pub HasSoundSections : List ℕ → Type 0
-HasSoundSections file = (most : ℕ) (found : Findings) → IsFoundOf file OfBlocks most found → is_sound_file found ≡ true
+HasSoundSections file = (most : ℕ) (found : Findings) → IsFoundOf file OfSections most found → is_sound_file found ≡ true
 
 -- whatever is found of a file, with what its roots call for, it is sound
 abbrev pub IsSoundFile : List ℕ → Type 0
-IsSoundFile file = (most : ℕ) (found : Findings) → IsFoundOf file OfRoots most found → is_sound_file found ≡ true
+IsSoundFile file = (most : ℕ) (found : Findings) → IsFoundOf file OfGraph most found → is_sound_file found ≡ true

@@ -28,7 +28,7 @@ pub(crate) fn roots_job(alloc: Global, roots: Vec<Cid>) -> Result<Job, AllocErro
     let few = few_roots(alloc, roots)?;
     // The name, the number of roots and the limit are valid.
     match Job::new(name, few, selector, GREATEST_LIMIT) {
-        Ok(job) => Ok(job.once()),
+        Ok(job) => Ok(job.links_once()),
         Err(_) => Err(AllocError),
     }
 }

@@ -7,15 +7,15 @@ ghost use Rattle.ix_car.specs.Gives.{IsFaultOf};
 ghost use Rattle.ix_car.specs.SectionView.{section_of};
 ghost use Rattle.ix_car.specs.Sections.{section_list};
 ghost use Rattle.ix_archive.specs.Archive.{is_sound};
-ghost use Rattle.ix_verify.specs.declared.found.Reach.TheVariants.{Blocks as OfBlocks, Roots as OfRoots};
+ghost use Rattle.ix_verify.specs.declared.found.Scope.TheVariants.{Sections as OfSections, Graph as OfGraph};
 ghost use Rattle.ix_verify.specs.Noting.{NotesMore};
 ghost use Rattle.ix_verify.specs.Found.{unsound_of, IsFoundOf};
 ghost use Rattle.ix_verify.specs.Counted.{told_if, told_among, findings_of, IsJudgedOf, IsBatchAt, IsBatchFault};
 
-use crate::found::{Findings, Reach, Unsound};
+use crate::found::{Findings, Scope, Unsound};
 use crate::noted::Noted;
 use crate::reach::{Reached, walk_roots};
-use crate::section::judge_beside;
+use crate::section::verdicts_with_store;
 use ix_car::{CarFault, CarKind, Section, load_shared_by, read_header, read_section};
 use ix_check::Verdict;
 use ix_cid::Cid;
@@ -40,15 +40,15 @@ pub fn verify<R: Threads + Sync>(
     alloc: Global,
     car: Vec<u8>,
     threads: NonZeroUsize,
-    reach: Reach,
+    scope: Scope,
     most: usize,
 ) -> Result<Findings, CarFault>
-    ensures found { IfOk result (IsFoundOf car.items reach most) }
+    ensures found { IfOk result (IsFoundOf car.items scope most) }
     ensures refused { IfErr result (λ fault. IsFaultOf car.items fault (section_list car.items)) }
 {
-    match reach {
-        Reach::Blocks => verify_blocks(rt, alloc, car.as_slice(), threads, most),
-        Reach::Roots => match Arc::new(alloc, car) {
+    match scope {
+        Scope::Sections => verify_blocks(rt, alloc, car.as_slice(), threads, most),
+        Scope::Graph => match Arc::new(alloc, car) {
             Ok(file) => verify_all(rt, alloc, &file, threads, most),
             Err(_) => Err(no_memory(0)),
         },
@@ -63,7 +63,7 @@ fn verify_blocks<R: Threads + Sync>(
     threads: NonZeroUsize,
     most: usize,
 ) -> Result<Findings, CarFault>
-    ensures found { IfOk result (IsFoundOf car.now OfBlocks most) }
+    ensures found { IfOk result (IsFoundOf car.now OfSections most) }
     ensures refused { IfErr result (λ fault. IsFaultOf car.now fault (section_list car.now)) }
 {
     let judged = judge_file(rt, alloc, None, car, threads, most)?;
@@ -79,7 +79,7 @@ fn verify_all<R: Threads + Sync>(
     threads: NonZeroUsize,
     most: usize,
 ) -> Result<Findings, CarFault>
-    ensures found { IfOk result (IsFoundOf (arc_value file.now).items OfRoots most) }
+    ensures found { IfOk result (IsFoundOf (arc_value file.now).items OfGraph most) }
     ensures refused { IfErr result (λ fault. IsFaultOf (arc_value file.now).items fault
         (section_list (arc_value file.now).items)) }
 {
@@ -195,7 +195,7 @@ fn judge_sections<R: Threads + Sync>(
     ensures { OnOk result (NotesMore most (unsound_of (map section_of sections.now)) unsound.old unsound.new) }
 {
     let (store, first, threads) = beside;
-    let verdicts = judge_beside(rt, alloc, (store, first), sections, threads)?;
+    let verdicts = verdicts_with_store(rt, alloc, (store, first), sections, threads)?;
     note_sections(alloc, sections, verdicts.as_slice(), most, unsound)
 }
 

@@ -10,11 +10,11 @@ use ix_cid::Cid;
 
 /// How far a file is verified.
 #[derive(Debug, Drop, Clone, Copy, PartialEq, Eq)]
-pub enum Reach {
+pub enum Scope {
     /// Each section, by its own bytes.
-    Blocks,
+    Sections,
     /// The same, and everything below the roots.
-    Roots,
+    Graph,
 }
 
 /// A section that isn't sound.

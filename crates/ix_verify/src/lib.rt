@@ -5,7 +5,7 @@
 //! threads hash. All findings are counted, and as many of the first are kept as the caller asks for.
 //!
 //! ```rust
-//! let found = verify(rt, alloc, car, threads, Reach::Roots, 20)?;
+//! let found = verify(rt, alloc, car, threads, Scope::Graph, 20)?;
 //! for section in &found.unsound.first {
 //!     println!(rt; "{} {}", section.place, section.verdict)?;
 //! }
@@ -22,6 +22,6 @@ mod reach;
 mod section;
 
 pub use file::verify;
-pub use found::{Findings, Reach, Unsound};
+pub use found::{Findings, Scope, Unsound};
 pub use noted::Noted;
 pub use section::{judge, judge_all};

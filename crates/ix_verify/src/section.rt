@@ -35,7 +35,7 @@ pub fn judge(section: &Section<'_>) -> Verdict
     if !has_digest(function, section.block, parts.digest) {
         return Verdict::Damaged;
     }
-    if codec == DAG_CBOR && is_faulty(section.block) {
+    if codec == DAG_CBOR && is_malformed(section.block) {
         Verdict::Malformed
     } else {
         Verdict::Sound
@@ -51,13 +51,13 @@ pub fn judge_all<R: Threads + Sync>(
 ) -> Result<Vec<Verdict>, AllocError>
     ensures { IfOk result (λ verdicts. verdicts.items ≡ map verdict_in sections.now) }
 {
-    judge_beside(rt, alloc, (None, 0), sections, threads)
+    verdicts_with_store(rt, alloc, (None, 0), sections, threads)
 }
 
 // Returns the same with a store, if there is one, which may have the first section at this position.
 // If it has the very block of a section under the section's CID, its verdict counts: a block is hashed
 // once, and a settled store caches it.
-pub(crate) fn judge_beside<R: Threads + Sync>(
+pub(crate) fn verdicts_with_store<R: Threads + Sync>(
     rt: &R,
     alloc: Global,
     beside: (Option<&Store>, usize),
@@ -67,7 +67,7 @@ pub(crate) fn judge_beside<R: Threads + Sync>(
     ensures { IfOk result (λ verdicts. verdicts.items ≡ map verdict_in sections.now) }
 {
     let mut verdicts = vec![in alloc; Verdict::Sound; sections.len()]?;
-    judge_each(
+    write_verdicts(
         rt,
         alloc,
         beside,
@@ -79,7 +79,7 @@ pub(crate) fn judge_beside<R: Threads + Sync>(
 }
 
 // Writes the verdict on each section to its place.
-fn judge_each<R: Threads + Sync>(
+fn write_verdicts<R: Threads + Sync>(
     rt: &R,
     alloc: Global,
     beside: (Option<&Store>, usize),
@@ -96,13 +96,13 @@ fn judge_each<R: Threads + Sync>(
         rt,
         verdicts,
         threads.get(),
-        &|place, verdict| *verdict = judge_at(alloc, beside, sections, place),
+        &|place, verdict| *verdict = verdict_at(alloc, beside, sections, place),
     );
 }
 
 // Returns the verdict on the section at a place. If there is a store, the section may be as far after
 // the first one there.
-fn judge_at(
+fn verdict_at(
     alloc: Global,
     beside: (Option<&Store>, usize),
     sections: &[Section<'_>],
@@ -116,7 +116,7 @@ fn judge_at(
         return judge(section);
     };
     match place_in(alloc, store, first.saturating_add(place), section) {
-        Some(stored) => judge_stored(store, stored, section),
+        Some(stored) => verdict_stored(store, stored, section),
         None => judge(section),
     }
 }
@@ -136,7 +136,7 @@ fn place_in(alloc: Global, store: &Store, guess: usize, section: &Section<'_>) -
 }
 
 // Returns the verdict on a section that is at a place of a store, by what the store finds.
-fn judge_stored(store: &Store, place: usize, section: &Section<'_>) -> Verdict
+fn verdict_stored(store: &Store, place: usize, section: &Section<'_>) -> Verdict
     requires { slice_get store.now place ≡ Some (section_pair section.now) }
     ensures { result ≡ verdict_in section.now }
 {
@@ -147,10 +147,10 @@ fn judge_stored(store: &Store, place: usize, section: &Section<'_>) -> Verdict
     if parts.hash_function().is_none() {
         return Verdict::Hash;
     }
-    if !store.agrees(place) {
+    if !store.hash_matches(place) {
         return Verdict::Damaged;
     }
-    if parts.codec == DAG_CBOR && store.is_faulty(place) {
+    if parts.codec == DAG_CBOR && store.is_malformed(place) {
         Verdict::Malformed
     } else {
         Verdict::Sound
@@ -165,7 +165,7 @@ fn is_codec(codec: u64) -> bool
 }
 
 // Returns whether a block doesn't decode.
-fn is_faulty(block: &[u8]) -> bool
+fn is_malformed(block: &[u8]) -> bool
     ensures { result ≡ is_none (data_at block.now) }
 {
     check(block).is_err()

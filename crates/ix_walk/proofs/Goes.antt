@@ -13,14 +13,14 @@ use Rattle.ix_cid.specs.declared.hash_function.HashFunction.TheVariants.{Sha2_25
 use Rattle.ix_cbor.specs.Data.{Data}
 use Rattle.ix_selector.specs.Residual.{Place}
 use Rattle.ix_selector.specs.Behind.{same_residual}
-use Rattle.ix_walk.specs.declared.gone.Gone.{Gone}
-use Rattle.ix_store.specs.Store.{Blocks, block_of, position_behind, position_of, value_of}
-use Rattle.ix_store.specs.Mark.{agrees, agrees_by}
+use Rattle.ix_walk.specs.declared.visited_set.VisitedSet.{VisitedSet}
+use Rattle.ix_store.specs.Store.{Blocks, block_of, position_after, position_of, value_of}
+use Rattle.ix_store.specs.Memo.{hash_matches, hash_matches_by}
 use Rattle.ix_walk.specs.Once.{is_sound_by, sound_value}
-use Rattle.ix_walk.specs.Walking.{Going, nothing_gone, gone_also, data_inside, gone_behind, waiting}
-use Rattle.ix_walk.specs.Gone.{has_gone, is_same_going, IsNoted, gone_of}
+use Rattle.ix_walk.specs.Walking.{Going, nothing_expanded, expanded_also, data_inside, expanded_after, waiting}
+use Rattle.ix_walk.specs.VisitedSet.{has_expanded, is_same_going, IsNoted, expanded_of}
 use Rattle.ix_walk.specs.Arriving.{IsValue, Goes}
-use Rattle.ix_store.proofs.Blocks.{none_behind, some_behind, block_at, place_within}
+use Rattle.ix_store.proofs.Blocks.{none_behind, some_after, block_at, place_within}
 
 -- bytes that compare as equal are equal
 bytes_same : (xs ys : List ℕ) → bytes_eq xs ys ≡ true → xs ≡ ys
@@ -33,47 +33,47 @@ bytes_are xs = (bytes_eq-Decides xs xs).1 refl
 -- ---- the block at a place
 
 -- CIDs with one place are one
-pub one_behind : (n place : ℕ) (store : Blocks) (c d : List ℕ) → position_behind n store c ≡ Some place → position_behind n store d ≡ Some place → c ≡ d
-one_behind n place [] c d e f = absurd cc
-one_behind n place (x ∷ xs) c d e f = by (bytes_eq x.0 c) (bytes_eq x.0 d) refl refl e f (one_behind (n + 1) place xs c d) where
-  by : (a b : Bool) → bytes_eq x.0 c ≡ a → bytes_eq x.0 d ≡ b → (if a then Some n else position_behind (n + 1) xs c) ≡ Some place → (if b then Some n else position_behind (n + 1) xs d) ≡ Some place
-      → (position_behind (n + 1) xs c ≡ Some place → position_behind (n + 1) xs d ≡ Some place → c ≡ d) → c ≡ d
+pub one_after : (n place : ℕ) (store : Blocks) (c d : List ℕ) → position_after n store c ≡ Some place → position_after n store d ≡ Some place → c ≡ d
+one_after n place [] c d e f = absurd cc
+one_after n place (x ∷ xs) c d e f = by (bytes_eq x.0 c) (bytes_eq x.0 d) refl refl e f (one_after (n + 1) place xs c d) where
+  by : (a b : Bool) → bytes_eq x.0 c ≡ a → bytes_eq x.0 d ≡ b → (if a then Some n else position_after (n + 1) xs c) ≡ Some place → (if b then Some n else position_after (n + 1) xs d) ≡ Some place
+      → (position_after (n + 1) xs c ≡ Some place → position_after (n + 1) xs d ≡ Some place → c ≡ d) → c ≡ d
   by true true a b e f more = sym (bytes_same x.0 c a) ∙ bytes_same x.0 d b
-  by true false a b e f more = let p : n ≡ place = same_Some n place e in let h = (some_behind (n + 1) place xs d (sym f)).0 in absurd (omega (arith, p, h))
-  by false true a b e f more = let p : n ≡ place = same_Some n place f in let h = (some_behind (n + 1) place xs c (sym e)).0 in absurd (omega (arith, p, h))
+  by true false a b e f more = let p : n ≡ place = same_Some n place e in let h = (some_after (n + 1) place xs d (sym f)).0 in absurd (omega (arith, p, h))
+  by false true a b e f more = let p : n ≡ place = same_Some n place f in let h = (some_after (n + 1) place xs c (sym e)).0 in absurd (omega (arith, p, h))
   by false false a b e f more = more e f
 
 -- the pair at a place has the CID
-cid_behind : (n place : ℕ) (store : Blocks) (c : List ℕ) (p : List ℕ × List ℕ) → Some place ≡ position_behind n store c → slice_get store (place - n) ≡ Some p → p.0 ≡ c
-cid_behind n place [] c p e at = absurd cc
-cid_behind n place (x ∷ xs) c p e at = by (bytes_eq x.0 c) refl e (cid_behind (n + 1) place xs c p) where
-  by : (b : Bool) → bytes_eq x.0 c ≡ b → Some place ≡ (if b then Some n else position_behind (n + 1) xs c) → (Some place ≡ position_behind (n + 1) xs c → slice_get xs (place - (n + 1)) ≡ Some p → p.0 ≡ c) → p.0 ≡ c
+cid_after : (n place : ℕ) (store : Blocks) (c : List ℕ) (p : List ℕ × List ℕ) → Some place ≡ position_after n store c → slice_get store (place - n) ≡ Some p → p.0 ≡ c
+cid_after n place [] c p e at = absurd cc
+cid_after n place (x ∷ xs) c p e at = by (bytes_eq x.0 c) refl e (cid_after (n + 1) place xs c p) where
+  by : (b : Bool) → bytes_eq x.0 c ≡ b → Some place ≡ (if b then Some n else position_after (n + 1) xs c) → (Some place ≡ position_after (n + 1) xs c → slice_get xs (place - (n + 1)) ≡ Some p → p.0 ≡ c) → p.0 ≡ c
   by true same e more =
       let h : place ≡ n = same_Some place n e in
       let z : place - n ≡ 0 = omega arith in
       let is : x ≡ p = same_Some x p (ap (λ (k : ℕ). slice_get (x ∷ xs) k) (sym z) ∙ at) in
       ap (λ (q : List ℕ × List ℕ). q.0) (sym is) ∙ bytes_same x.0 c same
   by false apart e more =
-      let h = (some_behind (n + 1) place xs c e).0 in
+      let h = (some_after (n + 1) place xs c e).0 in
       let s : place - n ≡ suc (place - (n + 1)) = omega arith in more e (ap (λ (k : ℕ). slice_get (x ∷ xs) k) (sym s) ∙ at)
 
 -- whether the block at a place is sound
-pub sound_stored : (store : Blocks) (c : List ℕ) (h : HashFunction) (place : ℕ) (r : Bool) → (h ≡ Sha2_256) ⊎ (h ≡ Sha2_512) → Some h ≡ hash_function_of (parts_of c) → Some place ≡ position_of store c → r ≡ get_or (map agrees store) place false
+pub sound_stored : (store : Blocks) (c : List ℕ) (h : HashFunction) (place : ℕ) (r : Bool) → (h ≡ Sha2_256) ⊎ (h ≡ Sha2_512) → Some h ≡ hash_function_of (parts_of c) → Some place ≡ position_of store c → r ≡ get_or (map hash_matches store) place false
     → r ≡ is_sound_by (hash_function_of (parts_of c)) (digest_of c) (block_of store c)
 sound_stored store c h place r stored e there asked =
     let p : List ℕ × List ℕ = get_or store place ([], []) in
     let at : slice_get store place ≡ Some p = slice_get-get_or store place ([], []) (place_within place store c there) in
     let z : place - 0 ≡ place = omega arith in
-    let named : p.0 ≡ c = cid_behind 0 place store c p there (ap (slice_get store) z ∙ at) in
+    let named : p.0 ≡ c = cid_after 0 place store c p there (ap (slice_get store) z ∙ at) in
     let block : block_of store c ≡ Some p.1 = block_at place store c p.1 there (slice_get-map (λ (q : List ℕ × List ℕ). q.1) store place ∙ ap (option_map (λ (q : List ℕ × List ℕ). q.1)) at) in
     asked
-    ∙ get_or_from_slice_get (map agrees store) place (agrees p) false (slice_get-map agrees store place ∙ ap (option_map agrees) at)
-    ∙ ap (λ (d : List ℕ). agrees_by (hash_function_of (parts_of d)) (digest_of d) p.1) named
+    ∙ get_or_from_slice_get (map hash_matches store) place (hash_matches p) false (slice_get-map hash_matches store place ∙ ap (option_map hash_matches) at)
+    ∙ ap (λ (d : List ℕ). hash_matches_by (hash_function_of (parts_of d)) (digest_of d) p.1) named
     ∙ sound_by stored (hash_function_of (parts_of c)) e (digest_of c) p.1
     ∙ ap (is_sound_by (hash_function_of (parts_of c)) (digest_of c)) (sym block) where
-      sound_by : (h ≡ Sha2_256) ⊎ (h ≡ Sha2_512) → (o : Option HashFunction) → Some h ≡ o → (digest b : List ℕ) → agrees_by o digest b ≡ is_sound_by o digest (Some b)
-      sound_by (inl is) o e digest b = subst (λ f. agrees_by f digest b ≡ is_sound_by f digest (Some b)) (ap (λ (g : HashFunction). Some g) (sym is) ∙ e) refl
-      sound_by (inr is) o e digest b = subst (λ f. agrees_by f digest b ≡ is_sound_by f digest (Some b)) (ap (λ (g : HashFunction). Some g) (sym is) ∙ e) refl
+      sound_by : (h ≡ Sha2_256) ⊎ (h ≡ Sha2_512) → (o : Option HashFunction) → Some h ≡ o → (digest b : List ℕ) → hash_matches_by o digest b ≡ is_sound_by o digest (Some b)
+      sound_by (inl is) o e digest b = subst (λ f. hash_matches_by f digest b ≡ is_sound_by f digest (Some b)) (ap (λ (g : HashFunction). Some g) (sym is) ∙ e) refl
+      sound_by (inr is) o e digest b = subst (λ f. hash_matches_by f digest b ≡ is_sound_by f digest (Some b)) (ap (λ (g : HashFunction). Some g) (sym is) ∙ e) refl
 
 -- a block that isn't there
 pub sound_absent : (store : Blocks) (c : List ℕ) (h : HashFunction) → (h ≡ Sha2_256) ⊎ (h ≡ Sha2_512) → Some h ≡ hash_function_of (parts_of c) → None ≡ position_of store c
@@ -103,23 +103,23 @@ going_at store c d places others (Some m) None p q = ap (λ (x : Bool). x && sam
 going_at store c d places others (Some m) (Some n) p q =
     ap (λ (x : Bool). x && same_residual places others)
     (both_ways (nat_eq m n) (bytes_eq c d)
-    (λ e. subst (λ x. bytes_eq c x ≡ true) (one_behind 0 m store c d p (q ∙ ap (λ (k : ℕ). Some k) (sym (eqb-true m n e)))) (bytes_are c))
+    (λ e. subst (λ x. bytes_eq c x ≡ true) (one_after 0 m store c d p (q ∙ ap (λ (k : ℕ). Some k) (sym (eqb-true m n e)))) (bytes_are c))
     (λ e. subst (λ k. nat_eq m k ≡ true) (same_Some m n (sym p ∙ ap (position_of store) (bytes_same c d e) ∙ q)) (number_same m)))
 
 -- noted for the first time
-pub noted_first : (store : Blocks) (old new : Gone) (c : List ℕ) (places : List Place) → IsNoted old new (position_of store c) c places true → gone_of store new ≡ gone_also c places (gone_of store old)
+pub noted_first : (store : Blocks) (old new : VisitedSet) (c : List ℕ) (places : List Place) → IsNoted old new (position_of store c) c places true → expanded_of store new ≡ expanded_also c places (expanded_of store old)
 noted_first store old new c places is = fun_ext (λ d. fun_ext (λ others.
     is.1 (position_of store d) d others
-    ∙ ap (λ (b : Bool). b || gone_of store old d others)
+    ∙ ap (λ (b : Bool). b || expanded_of store old d others)
     (going_at store c d places others (position_of store c) (position_of store d) refl refl)))
 
 -- what was expanded before is the same
-pub noted_again : (store : Blocks) (old new : Gone) (c : List ℕ) (places : List Place) → IsNoted old new (position_of store c) c places false → gone_of store new ≡ gone_of store old
+pub noted_again : (store : Blocks) (old new : VisitedSet) (c : List ℕ) (places : List Place) → IsNoted old new (position_of store c) c places false → expanded_of store new ≡ expanded_of store old
 noted_again store old new c places is = fun_ext (λ d. fun_ext (λ others. is.1 (position_of store d) d others))
 
 -- nothing at first
-pub none_gone : (store : Blocks) (g : Gone) → ((b : Option ℕ) (c : List ℕ) (places : List Place) → has_gone g b c places ≡ false) → gone_of store g ≡ nothing_gone
-none_gone store g none = fun_ext (λ c. fun_ext (λ places. none (position_of store c) c places))
+pub none_expanded : (store : Blocks) (g : VisitedSet) → ((b : Option ℕ) (c : List ℕ) (places : List Place) → has_expanded g b c places ≡ false) → expanded_of store g ≡ nothing_expanded
+none_expanded store g none = fun_ext (λ c. fun_ext (λ places. none (position_of store c) c places))
 
 -- ---- going in
 
@@ -127,21 +127,21 @@ none_gone store g none = fun_ext (λ c. fun_ext (λ places. none (position_of st
 stays : (store : Blocks) (c : List ℕ) (places : List Place) (depth : ℕ) (had has : Going) → data_inside store (Some had) (waiting places depth c) ≡ None → has ≡ had
     → Goes store (waiting places depth c) (Some had) None (Some has)
 stays store c places depth had has none same =
-    record { inside = none; gone = ap (λ (g : Going). Some g) same ∙ sym (ap (λ (o : Option Data). gone_behind o (waiting places depth c) (Some had)) none) }
+    record { inside = none; expanded = ap (λ (g : Going). Some g) same ∙ sym (ap (λ (o : Option Data). expanded_after o (waiting places depth c) (Some had)) none) }
 
 -- so at a repeated visit nothing is expanded
-pub goes_again : (store : Blocks) (c : List ℕ) (places : List Place) (depth : ℕ) (old new : Gone) → IsNoted old new (position_of store c) c places false
-    → Goes store (waiting places depth c) (Some (gone_of store old)) None (Some (gone_of store new))
+pub goes_again : (store : Blocks) (c : List ℕ) (places : List Place) (depth : ℕ) (old new : VisitedSet) → IsNoted old new (position_of store c) c places false
+    → Goes store (waiting places depth c) (Some (expanded_of store old)) None (Some (expanded_of store new))
 goes_again store c places depth old new is =
-    stays store c places depth (gone_of store old) (gone_of store new) (ap (λ (b : Bool). if b then None else sound_value store c) is.0) (noted_again store old new c places is)
+    stays store c places depth (expanded_of store old) (expanded_of store new) (ap (λ (b : Bool). if b then None else sound_value store c) is.0) (noted_again store old new c places is)
 
 -- and at a first visit of a sound block its data are
-pub goes_first : (store : Blocks) (c : List ℕ) (places : List Place) (depth : ℕ) (old new : Gone) (b : List ℕ) → is_sound_by (hash_function_of (parts_of c)) (digest_of c) (block_of store c) ≡ true
-    → IsNoted old new (position_of store c) c places true → IsValue (value_of store c) (Some b) → Goes store (waiting places depth c) (Some (gone_of store old)) (Some b) (Some (gone_of store new))
+pub goes_first : (store : Blocks) (c : List ℕ) (places : List Place) (depth : ℕ) (old new : VisitedSet) (b : List ℕ) → is_sound_by (hash_function_of (parts_of c)) (digest_of c) (block_of store c) ≡ true
+    → IsNoted old new (position_of store c) c places true → IsValue (value_of store c) (Some b) → Goes store (waiting places depth c) (Some (expanded_of store old)) (Some b) (Some (expanded_of store new))
 goes_first store c places depth old new b sound is value =
-    let inside : data_inside store (Some (gone_of store old)) (waiting places depth c) ≡ Some value.0 =
+    let inside : data_inside store (Some (expanded_of store old)) (waiting places depth c) ≡ Some value.0 =
     ap (λ (x : Bool). if x then None else sound_value store c) is.0 ∙ ap (λ (x : Bool). if x then value_of store c else None) sound ∙ value.1 in
     record {
       inside = (value.0, inside, value.2);
-      gone = ap (λ (g : Going). Some g) (noted_first store old new c places is) ∙ sym (ap (λ (o : Option Data). gone_behind o (waiting places depth c) (Some (gone_of store old))) inside);
+      expanded = ap (λ (g : Going). Some g) (noted_first store old new c places is) ∙ sym (ap (λ (o : Option Data). expanded_after o (waiting places depth c) (Some (expanded_of store old))) inside);
     }

@@ -9,7 +9,7 @@ use Rattle.std.proofs.lemmas.Slice.Eq.{bytes_eq-Decides}
 use Rattle.ix_cbor.specs.Data.{Data}
 use Rattle.ix_selector.specs.Enters.{Path}
 use Rattle.ix_walk.specs.Arrivals.{Arrival, Inside, when_some, arrivals_from}
-use Rattle.ix_walk.specs.Once.{roots_from, links_below, was_gone_into, gone_into_at, gone_behind, once, once_from, TellsRests, first_ones}
+use Rattle.ix_walk.specs.Once.{roots_from, links_below, was_expanded, expanded_at, expanded_after, once, once_from, TellsRests, first_ones}
 use Rattle.ix_walk.proofs.Firsts.{In, in-append, unseen, and_this, this_seen, still_seen, unseen-behind, unseen-seen, unseen-none}
 use Rattle.ix_walk.proofs.Links.{all-append, all-weaker, cid_of, links_at, tree_cids, tree-alike, Ends, ends-links, cids-opened, links-shorter, from-cids, roots-by_depth}
 
@@ -29,27 +29,27 @@ module _ {R : Type 0} (enters : Path → Bool) (rest : Path → R) (same : R →
   -- with a bound of n visits link-visit-once takes no more than the full traversal
   abbrev IsFewer : ℕ → Type 0
   IsFewer n =
-      (gone : List (List ℕ × R)) (waiting : List Arrival) → AllByRecursion (Ends enters inside bound) waiting
-      → length (once enters rest same inside n gone waiting) ≤ length (flat_map (tree_cids enters inside bound) waiting)
+      (expanded : List (List ℕ × R)) (waiting : List Arrival) → AllByRecursion (Ends enters inside bound) waiting
+      → length (once enters rest same inside n expanded waiting) ≤ length (flat_map (tree_cids enters inside bound) waiting)
 
   -- whether or not the first is expanded
-  fewer_behind : (n : ℕ) → IsFewer n → (gone : List (List ℕ × R)) (a : Arrival) (more : List Arrival) → AllByRecursion (Ends enters inside bound) (a ∷ more) → (was : Bool)
-      → length (once enters rest same inside n (gone_behind enters rest same inside (if was then None else inside a.cid) a gone) (when_some (if was then None else inside a.cid) (λ d. links_below enters d a) ++ more))
+  fewer_after : (n : ℕ) → IsFewer n → (expanded : List (List ℕ × R)) (a : Arrival) (more : List Arrival) → AllByRecursion (Ends enters inside bound) (a ∷ more) → (was : Bool)
+      → length (once enters rest same inside n (expanded_after enters rest same inside (if was then None else inside a.cid) a expanded) (when_some (if was then None else inside a.cid) (λ d. links_below enters d a) ++ more))
       ≤ length (flat_map (tree_cids enters inside bound) (links_at enters inside a)) + length (flat_map (tree_cids enters inside bound) more)
-  fewer_behind n fewer gone a more fit true = let least = fewer gone more fit.1 in omega (arith, least)
-  fewer_behind n fewer gone a more fit false =
+  fewer_after n fewer expanded a more fit true = let least = fewer expanded more fit.1 in omega (arith, least)
+  fewer_after n fewer expanded a more fit false =
       let below = links_at enters inside a in
-      let all = fewer (gone_behind enters rest same inside (inside a.cid) a gone) (below ++ more) (all-append (Ends enters inside bound) below more (ends-links enters inside bound a fit.0) fit.1) in
+      let all = fewer (expanded_after enters rest same inside (inside a.cid) a expanded) (below ++ more) (all-append (Ends enters inside bound) below more (ends-links enters inside bound a fit.0) fit.1) in
       let joined : length (flat_map (tree_cids enters inside bound) (below ++ more)) ≡ length (flat_map (tree_cids enters inside bound) below) + length (flat_map (tree_cids enters inside bound) more) =
       ap length (flat_map-append (tree_cids enters inside bound) below more) ∙ length-append (flat_map (tree_cids enters inside bound) below) (flat_map (tree_cids enters inside bound) more) in
       omega (arith, all, joined)
 
   -- by the bound
   once-fewer : (n : ℕ) → IsFewer n
-  once-fewer zero gone waiting fit = omega arith
-  once-fewer (suc n) gone [] fit = omega arith
-  once-fewer (suc n) gone (a ∷ more) fit =
-      let behind = fewer_behind n (once-fewer n) gone a more fit (was_gone_into enters rest same inside gone a) in
+  once-fewer zero expanded waiting fit = omega arith
+  once-fewer (suc n) expanded [] fit = omega arith
+  once-fewer (suc n) expanded (a ∷ more) fit =
+      let behind = fewer_after n (once-fewer n) expanded a more fit (was_expanded enters rest same inside expanded a) in
       let size : length (tree_cids enters inside bound a ++ flat_map (tree_cids enters inside bound) more) ≡ suc (length (flat_map (tree_cids enters inside bound) (links_at enters inside a))) + length (flat_map (tree_cids enters inside bound) more) =
       length-append (tree_cids enters inside bound a) (flat_map (tree_cids enters inside bound) more) ∙ ap (λ l. length l + length (flat_map (tree_cids enters inside bound) more)) (cids-opened enters inside bound a fit.0) in
       omega (arith, behind, size)
@@ -66,14 +66,14 @@ module _ {R : Type 0} (enters : Path → Bool) (rest : Path → R) (same : R →
 
 module _ {R : Type 0} (enters : Path → Bool) (rest : Path → R) (same : R → R → Bool) (inside : Inside) where
   -- a greater bound only appends visits
-  pub once-goes_on : (n m : ℕ) → n ≤ m → (gone : List (List ℕ × R)) (waiting : List Arrival)
-      → (more : List Arrival) × (once enters rest same inside n gone waiting ++ more ≡ once enters rest same inside m gone waiting)
-  once-goes_on zero m h gone waiting = (once enters rest same inside m gone waiting, refl)
-  once-goes_on (suc n) zero h gone waiting = absurd (omega (arith, h))
-  once-goes_on (suc n) (suc m) h gone [] = ([], refl)
-  once-goes_on (suc n) (suc m) h gone (a ∷ more) =
-      let o : Option Data = gone_into_at enters rest same inside gone a in
-      let r = once-goes_on n m (omega (arith, h)) (gone_behind enters rest same inside o a gone) (when_some o (λ d. links_below enters d a) ++ more) in
+  pub once-goes_on : (n m : ℕ) → n ≤ m → (expanded : List (List ℕ × R)) (waiting : List Arrival)
+      → (more : List Arrival) × (once enters rest same inside n expanded waiting ++ more ≡ once enters rest same inside m expanded waiting)
+  once-goes_on zero m h expanded waiting = (once enters rest same inside m expanded waiting, refl)
+  once-goes_on (suc n) zero h expanded waiting = absurd (omega (arith, h))
+  once-goes_on (suc n) (suc m) h expanded [] = ([], refl)
+  once-goes_on (suc n) (suc m) h expanded (a ∷ more) =
+      let o : Option Data = expanded_at enters rest same inside expanded a in
+      let r = once-goes_on n m (omega (arith, h)) (expanded_after enters rest same inside o a expanded) (when_some o (λ d. links_below enters d a) ++ more) in
       (r.0, ap (λ l. a ∷ l) r.1)
 
 -- ---- it meets the same
@@ -162,16 +162,16 @@ module _ {R : Type 0} (enters : Path → Bool) (rest : Path → R) (same : R →
       on c (inl h) = inl h
       on c (inr i) = inr (soon-front (length (whole a)) c (links a) more (links-smaller a fits) i)
 
-    all_older : (gone : List (List ℕ × R)) → AllEntered seen (a ∷ more) gone → AllEntered now (links a ++ more) gone
-    all_older gone h = all-weaker (Entered seen (a ∷ more)) (Entered now (links a ++ more)) older gone h
+    all_older : (expanded : List (List ℕ × R)) → AllEntered seen (a ∷ more) expanded → AllEntered now (links a ++ more) expanded
+    all_older expanded h = all-weaker (Entered seen (a ∷ more)) (Entered now (links a ++ more)) older expanded h
 
-    entered_behind : (o : Option Data) (gone : List (List ℕ × R)) → AllEntered seen (a ∷ more) gone → AllEntered now (links a ++ more) (gone_behind enters rest same inside o a gone)
-    entered_behind None gone h = all_older gone h
-    entered_behind (Some d) gone h = (newest, all_older gone h)
+    entered_after : (o : Option Data) (expanded : List (List ℕ × R)) → AllEntered seen (a ∷ more) expanded → AllEntered now (links a ++ more) (expanded_after enters rest same inside o a expanded)
+    entered_after None expanded h = all_older expanded h
+    entered_after (Some d) expanded h = (newest, all_older expanded h)
 
     -- all below a visit was seen if its CID was expanded with an equal residual
-    gone-seen : (g : List ℕ × R) → Entered seen (a ∷ more) g → (bytes_eq g.0 a.cid && same g.1 (rest a.path)) ≡ true → (c : List ℕ) → In c (whole a) → seen c ≡ true
-    gone-seen g e is c i =
+    expanded-seen : (g : List ℕ × R) → Entered seen (a ∷ more) g → (bytes_eq g.0 a.cid && same g.1 (rest a.path)) ≡ true → (c : List ℕ) → In c (whole a) → seen c ≡ true
+    expanded-seen g e is c i =
         let both = and_parts (bytes_eq g.0 a.cid) (same g.1 (rest a.path)) is in
         let cid : e.at.cid ≡ a.cid = e.of_cid ∙ (bytes_eq-Decides g.0 a.cid).0 both.0 in
         let rests : same (rest e.at.path) (rest a.path) ≡ true = ap (λ r. same r (rest a.path)) e.of_rest ∙ both.1 in
@@ -195,36 +195,36 @@ module _ {R : Type 0} (enters : Path → Bool) (rest : Path → R) (same : R →
   -- what n arrivals of the traversal meet anew is what is met anew at every arrival
   abbrev Meets : ℕ → Type 0
   Meets n =
-      (gone : List (List ℕ × R)) (waiting : List Arrival) (seen : List ℕ → Bool) → AllByRecursion Fits waiting → AllEntered seen waiting gone
-      → length (once enters rest same inside n gone waiting) < n → unseen seen (map cid_of (once enters rest same inside n gone waiting)) ≡ unseen seen (flat_map whole waiting)
+      (expanded : List (List ℕ × R)) (waiting : List Arrival) (seen : List ℕ → Bool) → AllByRecursion Fits waiting → AllEntered seen waiting expanded
+      → length (once enters rest same inside n expanded waiting) < n → unseen seen (map cid_of (once enters rest same inside n expanded waiting)) ≡ unseen seen (flat_map whole waiting)
 
-  module _ (n : ℕ) (meets : Meets n) (gone : List (List ℕ × R)) (a : Arrival) (more : List Arrival) (seen : List ℕ → Bool) (fits : Fits a) (all_fit : AllByRecursion Fits more) (entered : AllEntered seen (a ∷ more) gone) where
+  module _ (n : ℕ) (meets : Meets n) (expanded : List (List ℕ × R)) (a : Arrival) (more : List Arrival) (seen : List ℕ → Bool) (fits : Fits a) (all_fit : AllByRecursion Fits more) (entered : AllEntered seen (a ∷ more) expanded) where
     abbrev data_at : Bool → Option Data
     data_at was = if was then None else inside a.cid
 
     abbrev left : Bool → List Arrival
-    left was = once enters rest same inside n (gone_behind enters rest same inside (data_at was) a gone) (when_some (data_at was) (λ d. links_below enters d a) ++ more)
+    left was = once enters rest same inside n (expanded_after enters rest same inside (data_at was) a expanded) (when_some (data_at was) (λ d. links_below enters d a) ++ more)
 
-    meets_behind : (was : Bool) → was_gone_into enters rest same inside gone a ≡ was → length (left was) < n
+    meets_after : (was : Bool) → was_expanded enters rest same inside expanded a ≡ was → length (left was) < n
         → unseen (and_this a.cid seen) (map cid_of (left was)) ≡ unseen (and_this a.cid seen) (flat_map whole (links a) ++ flat_map whole more)
-    meets_behind false is short =
-        meets (gone_behind enters rest same inside (inside a.cid) a gone) (links a ++ more) (and_this a.cid seen) (all-append Fits (links a) more (ends-links enters inside bound a fits) all_fit) (entered_behind seen a more fits (inside a.cid) gone entered) short
+    meets_after false is short =
+        meets (expanded_after enters rest same inside (inside a.cid) a expanded) (links a ++ more) (and_this a.cid seen) (all-append Fits (links a) more (ends-links enters inside bound a fits) all_fit) (entered_after seen a more fits (inside a.cid) expanded entered) short
         ∙ ap (unseen (and_this a.cid seen)) (flat_map-append whole (links a) more)
-    meets_behind true is short =
-        let was = list_any-found (λ g. bytes_eq g.0 a.cid && same g.1 (rest a.path)) (Entered seen (a ∷ more)) gone is entered in
-        let all : (c : List ℕ) → In c (whole a) → seen c ≡ true = gone-seen seen a more fits was.0 was.1 was.2 in
-        meets gone more (and_this a.cid seen) all_fit (all-weaker (Entered seen (a ∷ more)) (Entered (and_this a.cid seen) more) (passed seen a more fits all) gone entered) short
+    meets_after true is short =
+        let was = list_any-found (λ g. bytes_eq g.0 a.cid && same g.1 (rest a.path)) (Entered seen (a ∷ more)) expanded is entered in
+        let all : (c : List ℕ) → In c (whole a) → seen c ≡ true = expanded-seen seen a more fits was.0 was.1 was.2 in
+        meets expanded more (and_this a.cid seen) all_fit (all-weaker (Entered seen (a ∷ more)) (Entered (and_this a.cid seen) more) (passed seen a more fits all) expanded entered) short
         ∙ sym (unseen-seen (and_this a.cid seen) (flat_map whole (links a)) (flat_map whole more)
         (λ c i. still_seen a.cid seen c (all c (subst (In c) (sym (cids-opened enters inside bound a fits)) (inr i)))))
 
   -- by the bound
   once-meets : (n : ℕ) → Meets n
-  once-meets zero gone waiting seen fit entered short = absurd (omega (arith, short))
-  once-meets (suc n) gone [] seen fit entered short = refl
-  once-meets (suc n) gone (a ∷ more) seen fit entered short =
-      let was = was_gone_into enters rest same inside gone a in
-      unseen-behind seen a.cid (map cid_of (left n (once-meets n) gone a more seen fit.0 fit.1 entered was)) (flat_map whole (links a) ++ flat_map whole more)
-      (meets_behind n (once-meets n) gone a more seen fit.0 fit.1 entered was refl (omega (arith, short)))
+  once-meets zero expanded waiting seen fit entered short = absurd (omega (arith, short))
+  once-meets (suc n) expanded [] seen fit entered short = refl
+  once-meets (suc n) expanded (a ∷ more) seen fit entered short =
+      let was = was_expanded enters rest same inside expanded a in
+      unseen-behind seen a.cid (map cid_of (left n (once-meets n) expanded a more seen fit.0 fit.1 entered was)) (flat_map whole (links a) ++ flat_map whole more)
+      (meets_after n (once-meets n) expanded a more seen fit.0 fit.1 entered was refl (omega (arith, short)))
       ∙ ap (λ l. unseen seen (l ++ flat_map whole more)) (sym (cids-opened enters inside bound a fit.0))
 
   -- from roots

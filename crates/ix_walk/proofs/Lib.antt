@@ -3,7 +3,7 @@ pub mod Reached
 pub mod Stands
 pub mod Parts
 pub mod Openings
-pub mod Trails
+pub mod Frontiers
 pub mod Roots
 pub mod Nexts
 pub mod Takes

@@ -8,12 +8,12 @@ use Rattle.std.specs.Result.{result_ok}
 use Rattle.ix_cbor.specs.Data.{Data, Items, Entries, item, entry, no_items, no_entries}
 use Rattle.ix_cbor.specs.Reading.{Fault, ◌>>=◌, item_at, items_at, entries_at, key_at}
 use Rattle.ix_cbor.proofs.Deeper.{entries_first}
-use Rattle.ix_cbor.proofs.Steps.{bind_ok, ok_same, with_item, items_behind, with_entry, entries_behind, value_behind}
+use Rattle.ix_cbor.proofs.Steps.{bind_ok, ok_same, with_item, items_after, with_entry, entries_after, value_behind}
 use Rattle.ix_selector.specs.Enters.{Step, key, nth}
 use Rattle.ix_selector.specs.Residual.{Place}
 use Rattle.ix_walk.specs.declared.subtree.Children.{Children}
 use Rattle.ix_walk.specs.declared.subtree.Children.TheVariants.{Members, Values}
-use Rattle.ix_walk.specs.declared.subtree.Entered.{Entered}
+use Rattle.ix_walk.specs.declared.subtree.Child.{Child}
 use Rattle.ix_walk.specs.Walking.{is_spent, links_in_items, Part, part_links, members, values, weight_of, part_weight, part_at}
 use Rattle.ix_walk.specs.Descent.{IsItem, IsKey, IsPart, child_links, IsChild, IsNext}
 use Rattle.ix_walk.proofs.Parts.{members_here, values_here}
@@ -56,7 +56,7 @@ pub record IsFirst (left : ℕ) (b : List ℕ) (ds : Items) (rest : List ℕ) : 
 -- the first element, and those after it
 pub first_member : (left : ℕ) (b : List ℕ) (ds : Items) (rest : List ℕ) → items_at (item_at 512) (suc left) b ≡ Ok (ds, rest) → IsFirst left b ds rest
 first_member left b ds rest e =
-    let a = bind_ok (item_at 512 b) (items_behind (item_at 512) left) (ds, rest) e in
+    let a = bind_ok (item_at 512 b) (items_after (item_at 512) left) (ds, rest) e in
     let m = bind_ok (items_at (item_at 512) left a.0.1) (with_item a.0.0) (ds, rest) a.2 in
     let same = ok_same (item a.0.0 m.0.0, m.0.1) (ds, rest) m.2 in
     record {
@@ -84,7 +84,7 @@ pub record IsFirstEntry (left : ℕ) (b : List ℕ) (es : Entries) (rest : List 
 pub first_entry : (left : ℕ) (b : List ℕ) (es : Entries) (rest : List ℕ) → entries_at (item_at 512) None (suc left) b ≡ Ok (es, rest) → IsFirstEntry left b es rest
 first_entry left b es rest e =
     let k = bind_ok (key_at None b) (value_behind (item_at 512) left) (es, rest) e in
-    let a = bind_ok (item_at 512 k.0.1) (entries_behind (item_at 512) left k.0.0) (es, rest) k.2 in
+    let a = bind_ok (item_at 512 k.0.1) (entries_after (item_at 512) left k.0.0) (es, rest) k.2 in
     let m = bind_ok (entries_at (item_at 512) (Some k.0.0) left a.0.1) (with_entry k.0.0 a.0.0) (es, rest) a.2 in
     let same = ok_same (entry k.0.0 a.0.0 m.0.0, m.0.1) (es, rest) m.2 in
     record {
@@ -201,7 +201,7 @@ passes_child places depth old mid new at now value rest t passes splits child = 
 }
 
 -- a child is entered after those passed
-pub gives_child : (places : List Place) (depth : ℕ) (old mid new : Children) (at now value rest : List ℕ) (t : Step) (e : Entered) → Passes places depth old at mid now → Splits mid now new t value → IsChild places t value depth (Some e) rest
+pub gives_child : (places : List Place) (depth : ℕ) (old mid new : Children) (at now value rest : List ℕ) (t : Step) (e : Child) → Passes places depth old at mid now → Splits mid now new t value → IsChild places t value depth (Some e) rest
     → IsNext places depth old at (Some e) new rest
 gives_child places depth old mid new at now value rest t e passes splits child = λ x h.
     let p = passes.of x h in
@@ -273,13 +273,13 @@ pub members_within : (count left : ℕ) (b : List ℕ) → IsPart (Members count
 members_within count left b is = (members_read count left b is.0 is.1).3
 
 -- what came of a child, and what didn't
-pub gives_some : (places : List Place) (depth : ℕ) (old mid new : Children) (at now value rest : List ℕ) (t : Step) (o : Option Entered) → is_some o ≡ true → Passes places depth old at mid now → Splits mid now new t value
+pub gives_some : (places : List Place) (depth : ℕ) (old mid new : Children) (at now value rest : List ℕ) (t : Step) (o : Option Child) → is_some o ≡ true → Passes places depth old at mid now → Splits mid now new t value
     → IsChild places t value depth o rest → IsNext places depth old at o new rest
 gives_some places depth old mid new at now value rest t None some passes splits child = absurd cc
 gives_some places depth old mid new at now value rest t (Some e) some passes splits child = gives_child places depth old mid new at now value rest t e passes splits child
 
 -- a child that isn't entered is passed
-pub passes_on : (places : List Place) (depth : ℕ) (old mid new : Children) (at now value rest : List ℕ) (t : Step) (o : Option Entered) → is_some o ≡ false → Passes places depth old at mid now → Splits mid now new t value
+pub passes_on : (places : List Place) (depth : ℕ) (old mid new : Children) (at now value rest : List ℕ) (t : Step) (o : Option Child) → is_some o ≡ false → Passes places depth old at mid now → Splits mid now new t value
     → IsChild places t value depth o rest → Passes places depth old at new rest
 passes_on places depth old mid new at now value rest t None none passes splits child = passes_child places depth old mid new at now value rest t passes splits child
 passes_on places depth old mid new at now value rest t (Some e) none passes splits child = absurd cc

@@ -15,9 +15,9 @@ use Rattle.ix_cbor.proofs.Steps.{bind_ok, ok_same, ok_data, as_list, as_map}
 use Rattle.ix_selector.specs.Enters.{Step}
 use Rattle.ix_selector.specs.Residual.{Place, ResidualEnters}
 use Rattle.ix_walk.specs.declared.subtree.Children.TheVariants.{Members, Values}
-use Rattle.ix_walk.specs.declared.subtree.Entered.TheVariants.{Link, Open}
-use Rattle.ix_walk.specs.declared.subtree.Found.{Found}
-use Rattle.ix_selector.specs.Behind.{residual_behind}
+use Rattle.ix_walk.specs.declared.subtree.Child.TheVariants.{Link, Open}
+use Rattle.ix_walk.specs.declared.subtree.PendingLink.{PendingLink}
+use Rattle.ix_selector.specs.Behind.{residual_after}
 use Rattle.ix_walk.specs.Walking.{when_entered, links_below, members, values, weight_of, part_at}
 use Rattle.ix_walk.specs.Descent.{may_hold_links, entered_by, Enters, child_links, IsNode, IsChild}
 
@@ -46,24 +46,24 @@ ok_data-kept x d behind rest P e p = subst (λ (y : Data × List ℕ). P y.0 y.1
 
 -- a list whose members are read
 list_enters : (places : List Place) (depth n : ℕ) (behind rest : List ℕ) (d : Data) → (items_at (item_at 511) n behind >>= as_list) ≡ Ok (d, rest)
-    → Enters (links_below places depth d) (weight_of d) rest (Some (Open (record { residual = places; children = Members n n; depth = depth; back = None }))) behind
+    → Enters (links_below places depth d) (weight_of d) rest (Some (Open (record { residual = places; children = Members n n; depth = depth; resume_at = None }))) behind
 list_enters places depth n behind rest d e =
     let m = bind_ok (items_at (item_at 511) n behind) as_list (d, rest) e in
     let z : n - n ≡ 0 = omega arith in
     let here = members_here n n behind m.0.1 m.0.0 (omega arith) (items_also (item_at 511) (item_at 512) (item_deeper 511) n behind m.0 m.1) in
     let first : part_at (Members n n) behind ≡ Some (members 0 m.0.0, m.0.1) = here ∙ ap (λ k. Some (members k m.0.0, m.0.1)) z in
     ok_data-kept (nodes.list m.0.0) d m.0.1 rest
-    (λ x l. Enters (links_below places depth x) (weight_of x) l (Some (Open (record { residual = places; children = Members n n; depth = depth; back = None }))) behind) m.2
+    (λ x l. Enters (links_below places depth x) (weight_of x) l (Some (Open (record { residual = places; children = Members n n; depth = depth; resume_at = None }))) behind) m.2
     (refl, members 0 m.0.0, first, record { reaches = refl; light = omega arith })
 
 -- a map whose keys and values are read
 map_enters : (places : List Place) (depth n : ℕ) (behind rest : List ℕ) (d : Data) → (entries_at (item_at 511) None n behind >>= as_map) ≡ Ok (d, rest)
-    → Enters (links_below places depth d) (weight_of d) rest (Some (Open (record { residual = places; children = Values n; depth = depth; back = None }))) behind
+    → Enters (links_below places depth d) (weight_of d) rest (Some (Open (record { residual = places; children = Values n; depth = depth; resume_at = None }))) behind
 map_enters places depth n behind rest d e =
     let m = bind_ok (entries_at (item_at 511) None n behind) as_map (d, rest) e in
     let here = values_here n behind m.0.1 m.0.0 (entries_also (item_at 511) (item_at 512) (item_deeper 511) None n behind m.0 m.1) in
     ok_data-kept (nodes.map m.0.0) d m.0.1 rest
-    (λ x l. Enters (links_below places depth x) (weight_of x) l (Some (Open (record { residual = places; children = Values n; depth = depth; back = None }))) behind) m.2
+    (λ x l. Enters (links_below places depth x) (weight_of x) l (Some (Open (record { residual = places; children = Values n; depth = depth; resume_at = None }))) behind) m.2
     (refl, values m.0.0, here, record { reaches = refl; light = omega arith })
 
 -- an item without links
@@ -99,23 +99,23 @@ some_entered [] enters none = elim enters.among [ ]
 some_entered (x ∷ r) enters none = absurd cc
 
 -- a child that is entered has what is below it
-entered_is : (places more : List Place) (links : List Place → List Found) (t : Step) → (more ≡ [] → ⊥) → more ≡ residual_behind places t → links more ≡ when_entered (residual_behind places t) (links (residual_behind places t))
+entered_is : (places more : List Place) (links : List Place → List PendingLink) (t : Step) → (more ≡ [] → ⊥) → more ≡ residual_after places t → links more ≡ when_entered (residual_after places t) (links (residual_after places t))
 entered_is places [] links t some is = absurd (some refl)
 entered_is places (x ∷ xs) links t some is = ap (λ r. when_entered r (links r)) is
 
 -- a child that the selector enters, with its residual
-pub child_entered : (f : Front) (places more : List Place) (t : Step) (depth : ℕ) (at behind : List ℕ) → own_at at ≡ Ok (own_of_front f, behind) → (more ≡ [] → ⊥) → more ≡ residual_behind places t
+pub child_entered : (f : Front) (places more : List Place) (t : Step) (depth : ℕ) (at behind : List ℕ) → own_at at ≡ Ok (own_of_front f, behind) → (more ≡ [] → ⊥) → more ≡ residual_after places t
     → IsChild places t at depth (entered_by more f depth) behind
 child_entered f places more t depth at behind own some is = λ d rest e.
     subst (λ z. Enters z (weight_of d) rest (entered_by more f depth) behind) (entered_is places more (λ r. links_below r depth d) t some is) (node_enters f more depth at behind own d rest e)
 
 -- a child that isn't has nothing
-pub child_apart : (places : List Place) (t : Step) (depth : ℕ) (at end : List ℕ) → ((d : Data) (rest : List ℕ) → item_at 512 at ≡ Ok (d, rest) → end ≡ rest) → residual_behind places t ≡ []
+pub child_apart : (places : List Place) (t : Step) (depth : ℕ) (at end : List ℕ) → ((d : Data) (rest : List ℕ) → item_at 512 at ≡ Ok (d, rest) → end ≡ rest) → residual_after places t ≡ []
     → IsChild places t at depth None end
 child_apart places t depth at end ends is = λ d rest e. (ends d rest e, ap (λ r. when_entered r (links_below r depth d)) is)
 
 -- an item in which no link can be has nothing, whether it is entered or not
-when_flat : (r : List Place) (links : List Found) → links ≡ [] → when_entered r links ≡ []
+when_flat : (r : List Place) (links : List PendingLink) → links ≡ [] → when_entered r links ≡ []
 when_flat [] links e = refl
 when_flat (x ∷ xs) links e = e
 
@@ -124,7 +124,7 @@ flat_child : (places : List Place) (t : Step) (depth : ℕ) (x d : Data) (behind
     → Enters (child_links places t depth d) (weight_of d) rest None behind
 flat_child places t depth x d behind rest nothing e =
     ok_data-kept x d behind rest (λ y l. Enters (child_links places t depth y) (weight_of y) l None behind) e
-    (refl, when_flat (residual_behind places t) (links_below (residual_behind places t) depth x) (nothing (residual_behind places t)))
+    (refl, when_flat (residual_after places t) (links_below (residual_after places t) depth x) (nothing (residual_after places t)))
 
 -- an item whose front excludes links has none
 flat_front : (f : Front) (places : List Place) (t : Step) (depth : ℕ) (at behind rest : List ℕ) (d : Data) → may_hold_links f ≡ false → with_members (Some (item_at 511)) at (own_of_front f, behind) ≡ Ok (d, rest)

@@ -8,14 +8,14 @@ use Rattle.ix_cbor.specs.Data as nodes
 use Rattle.ix_cbor.specs.Data.{Data, Items, Entries, null, boolean, integer, float, bytes, text, list, link, no_items, item, no_entries, entry}
 use Rattle.ix_selector.specs.Enters.{Step, key, nth, Path}
 use Rattle.ix_selector.specs.Residual.{Place}
-use Rattle.ix_walk.specs.declared.subtree.Found.{Found}
+use Rattle.ix_walk.specs.declared.subtree.PendingLink.{PendingLink}
 use Rattle.ix_walk.specs.Arrivals.{Arrival, Crossing, behind, arrivals_below, arrivals_in_items, arrivals_in_entries, Inside, when_some, arrivals_at, arrivals_from}
 use Rattle.ix_store.specs.Store.{Blocks, value_of}
-use Rattle.ix_walk.specs.Once.{roots_from, gone_into_at, sound_value, once, once_from}
+use Rattle.ix_walk.specs.Once.{roots_from, expanded_at, sound_value, once, once_from}
 use Rattle.ix_walk.specs.Once as going
 use Rattle.ix_walk.specs.Visits.{visits_from, visit_of}
-use Rattle.ix_selector.specs.Behind.{residual_behind, same_residual}
-use Rattle.ix_walk.specs.Walking.{arrival, waiting, when_entered, links_below, links_in_items, links_in_entries, links_inside, Going, nothing_gone, gone_behind, first_arrivals, HaveDepths}
+use Rattle.ix_selector.specs.Behind.{residual_after, same_residual}
+use Rattle.ix_walk.specs.Walking.{arrival, waiting, when_entered, links_below, links_in_items, links_in_entries, links_inside, Going, nothing_expanded, expanded_after, first_arrivals, HaveDepths}
 
 -- an arrival without its root and its path
 abbrev pub forget : Arrival → Arrival
@@ -33,13 +33,13 @@ is_left (x ∷ xs) = true
 -- ---- how deep the links below a node are
 
 -- what holds of the depths of both lists holds of all
-pub all_append : (P : ℕ → Type 0) (xs ys : List Found) → HaveDepths P xs → HaveDepths P ys → HaveDepths P (xs ++ ys)
+pub all_append : (P : ℕ → Type 0) (xs ys : List PendingLink) → HaveDepths P xs → HaveDepths P ys → HaveDepths P (xs ++ ys)
 all_append P [] ys h k = k
 all_append P (x ∷ xs) ys h k = (h.0, all_append P xs ys h.1 k)
 
 module _ (P : ℕ → Type 0) (depth : ℕ) (holds : P depth) where
   -- and of links that are entered
-  all_entered : (r : List Place) (links : List Found) → HaveDepths P links → HaveDepths P (when_entered r links)
+  all_entered : (r : List Place) (links : List PendingLink) → HaveDepths P links → HaveDepths P (when_entered r links)
   all_entered [] links h = tt
   all_entered (x ∷ xs) links h = h
 
@@ -58,15 +58,15 @@ module _ (P : ℕ → Type 0) (depth : ℕ) (holds : P depth) where
     all_in_items : (r : List Place) (n : ℕ) (ds : Items) → HaveDepths P (links_in_items r depth n ds)
     all_in_items r n no_items = tt
     all_in_items r n (item d ds) =
-        all_append P (when_entered (residual_behind r (nth n)) (links_below (residual_behind r (nth n)) depth d)) (links_in_items r depth (n + 1) ds)
-        (all_entered (residual_behind r (nth n)) (links_below (residual_behind r (nth n)) depth d) (all_below (residual_behind r (nth n)) d))
+        all_append P (when_entered (residual_after r (nth n)) (links_below (residual_after r (nth n)) depth d)) (links_in_items r depth (n + 1) ds)
+        (all_entered (residual_after r (nth n)) (links_below (residual_after r (nth n)) depth d) (all_below (residual_after r (nth n)) d))
         (all_in_items r (n + 1) ds)
 
     all_in_entries : (r : List Place) (es : Entries) → HaveDepths P (links_in_entries r depth es)
     all_in_entries r no_entries = tt
     all_in_entries r (entry k d es) =
-        all_append P (when_entered (residual_behind r (key k)) (links_below (residual_behind r (key k)) depth d)) (links_in_entries r depth es)
-        (all_entered (residual_behind r (key k)) (links_below (residual_behind r (key k)) depth d) (all_below (residual_behind r (key k)) d))
+        all_append P (when_entered (residual_after r (key k)) (links_below (residual_after r (key k)) depth d)) (links_in_entries r depth es)
+        (all_entered (residual_after r (key k)) (links_below (residual_after r (key k)) depth d) (all_below (residual_after r (key k)) d))
         (all_in_entries r es)
 
   -- and of those in the data of a CID
@@ -118,25 +118,25 @@ module _ (enters : Path → Bool) (root depth : ℕ) (each : Arrival → List Ar
 -- ---- arrivals as links that wait
 
 -- what is left of the selector at each path, and how that goes on
-module _ (enters : Path → Bool) (left : Path → List Place) (stays : (p : Path) (t : Step) → enters (behind p t) ≡ is_left (left (behind p t))) (goes : (p : Path) (t : Step) → left (behind p t) ≡ residual_behind (left p) t) where
+module _ (enters : Path → Bool) (left : Path → List Place) (stays : (p : Path) (t : Step) → enters (behind p t) ≡ is_left (left (behind p t))) (goes : (p : Path) (t : Step) → left (behind p t) ≡ residual_after (left p) t) where
   -- the link that a visit is, for a walk
-  abbrev pub link_of : Arrival → Found
+  abbrev pub link_of : Arrival → PendingLink
   link_of a = waiting (left a.path) a.depth a.cid
 
   -- visits that are entered are links that wait
-  links_entered : (b : Bool) (r : List Place) (xs : List Arrival) (links : List Found) → b ≡ is_left r → map link_of xs ≡ links → map link_of (if b then xs else []) ≡ when_entered r links
+  links_entered : (b : Bool) (r : List Place) (xs : List Arrival) (links : List PendingLink) → b ≡ is_left r → map link_of xs ≡ links → map link_of (if b then xs else []) ≡ when_entered r links
   links_entered true [] xs links same e = absurd cc
   links_entered true (x ∷ r) xs links same e = e
   links_entered false [] xs links same e = refl
   links_entered false (x ∷ r) xs links same e = absurd cc
 
   -- those of a child
-  links_child : (p : Path) (t : Step) (xs : List Arrival) (links : List Place → List Found) → map link_of xs ≡ links (left (behind p t))
-      → map link_of (if enters (behind p t) then xs else []) ≡ when_entered (residual_behind (left p) t) (links (residual_behind (left p) t))
+  links_child : (p : Path) (t : Step) (xs : List Arrival) (links : List Place → List PendingLink) → map link_of xs ≡ links (left (behind p t))
+      → map link_of (if enters (behind p t) then xs else []) ≡ when_entered (residual_after (left p) t) (links (residual_after (left p) t))
   links_child p t xs links e = links_entered (enters (behind p t)) (left (behind p t)) xs (links (left (behind p t))) (stays p t) e ∙ ap (λ r. when_entered r (links r)) (goes p t)
 
   -- and of children one after another
-  links_joined : (xs ys : List Arrival) (us vs : List Found) → map link_of xs ≡ us → map link_of ys ≡ vs → map link_of (xs ++ ys) ≡ us ++ vs
+  links_joined : (xs ys : List Arrival) (us vs : List PendingLink) → map link_of xs ≡ us → map link_of ys ≡ vs → map link_of (xs ++ ys) ≡ us ++ vs
   links_joined xs ys us vs e f = map-append link_of xs ys ∙ ap (λ z. z ++ map link_of ys) e ∙ ap (λ z. us ++ z) f
 
   module _ (root depth : ℕ) where
@@ -213,7 +213,7 @@ module _ (enters : Path → Bool) (left : Path → List Place) (stays : (p : Pat
         ∙ ap (λ z. forget a ∷ z) (first_are (suc n) (below ++ more) low)
         ∙ ap (λ z. forget a ∷ map forget (take (suc n) z)) (flat_map-append each below more)
         ∙ ap (λ z. map forget (take (suc (suc n)) (z ++ flat_map each more))) (sym all) where
-          lower : (n : ℕ) (links : List Found) → HaveDepths (λ k. k + suc (suc n) ≤ limit + 1) links → HaveDepths (λ k. k + suc n ≤ limit + 1) links
+          lower : (n : ℕ) (links : List PendingLink) → HaveDepths (λ k. k + suc (suc n) ≤ limit + 1) links → HaveDepths (λ k. k + suc n ≤ limit + 1) links
           lower n [] h = tt
           lower n (f ∷ links) h = (let k = h.0 in omega (arith, k), lower n links h.1)
 
@@ -238,29 +238,29 @@ module _ (enters : Path → Bool) (left : Path → List Place) (stays : (p : Pat
 
   -- what was expanded, as a test
   abbrev test_of : List (List ℕ × List Place) → Going
-  test_of gone c places = list_any (λ g. bytes_eq g.0 c && same_residual g.1 places) gone
+  test_of expanded c places = list_any (λ g. bytes_eq g.0 c && same_residual g.1 places) expanded
 
   module _ (store : Blocks) where
-    gone_same : (value : Option Data) (a : Arrival) (gone : List (List ℕ × List Place)) → gone_behind value (link_of a) (Some (test_of gone)) ≡ Some (test_of (going.gone_behind enters left same_residual (sound_value store) value a gone))
-    gone_same None a gone = refl
-    gone_same (Some d) a gone = refl
+    expanded_same : (value : Option Data) (a : Arrival) (expanded : List (List ℕ × List Place)) → expanded_after value (link_of a) (Some (test_of expanded)) ≡ Some (test_of (going.expanded_after enters left same_residual (sound_value store) value a expanded))
+    expanded_same None a expanded = refl
+    expanded_same (Some d) a expanded = refl
 
-    once_are : (n : ℕ) (gone : List (List ℕ × List Place)) (waits : List Arrival)
-        → first_arrivals store (Some (test_of gone)) n (map link_of waits) ≡ map forget (once enters left same_residual (sound_value store) n gone waits)
-    once_are zero gone waits = refl
-    once_are (suc n) gone [] = refl
-    once_are (suc n) gone (a ∷ more) =
-        let value = gone_into_at enters left same_residual (sound_value store) gone a in
+    once_are : (n : ℕ) (expanded : List (List ℕ × List Place)) (waits : List Arrival)
+        → first_arrivals store (Some (test_of expanded)) n (map link_of waits) ≡ map forget (once enters left same_residual (sound_value store) n expanded waits)
+    once_are zero expanded waits = refl
+    once_are (suc n) expanded [] = refl
+    once_are (suc n) expanded (a ∷ more) =
+        let value = expanded_at enters left same_residual (sound_value store) expanded a in
         let below = when_some value (λ d. going.links_below enters d a) in
         let wait : map link_of (below ++ more) ≡ links_inside (left a.path) (a.depth + 1) value ++ map link_of more =
         map-append link_of below more ∙ ap (λ z. z ++ map link_of more) (links_of a.root (a.depth + 1) value a.path) in
-        ap (λ z. forget a ∷ first_arrivals store (gone_behind value (link_of a) (Some (test_of gone))) n z) (sym wait)
-        ∙ ap (λ g. forget a ∷ first_arrivals store g n (map link_of (below ++ more))) (gone_same value a gone)
-        ∙ ap (λ z. forget a ∷ z) (once_are n (going.gone_behind enters left same_residual (sound_value store) value a gone) (below ++ more))
+        ap (λ z. forget a ∷ first_arrivals store (expanded_after value (link_of a) (Some (test_of expanded))) n z) (sym wait)
+        ∙ ap (λ g. forget a ∷ first_arrivals store g n (map link_of (below ++ more))) (expanded_same value a expanded)
+        ∙ ap (λ z. forget a ∷ z) (once_are n (going.expanded_after enters left same_residual (sound_value store) value a expanded) (below ++ more))
 
     -- the first visits if the roots wait and nothing was expanded
-    pub once_first : (n : ℕ) (cs : List (List ℕ)) → first_arrivals store (Some nothing_gone) n (map (waiting (left []) 0) cs) ≡ map forget (once_from enters left same_residual (sound_value store) n cs)
-    once_first n cs = ap (first_arrivals store (Some nothing_gone) n) (sym (wait_from 0 cs)) ∙ once_are n [] (roots_from 0 cs)
+    pub once_first : (n : ℕ) (cs : List (List ℕ)) → first_arrivals store (Some nothing_expanded) n (map (waiting (left []) 0) cs) ≡ map forget (once_from enters left same_residual (sound_value store) n cs)
+    once_first n cs = ap (first_arrivals store (Some nothing_expanded) n) (sym (wait_from 0 cs)) ∙ once_are n [] (roots_from 0 cs)
 
 -- visits show neither a root nor a path
 pub visits_forget : (store : Blocks) (number seq : ℕ) (xs : List Arrival) → visits_from store number seq (map forget xs) ≡ visits_from store number seq xs

@@ -8,7 +8,7 @@ use Rattle.std.proofs.lemmas.Slice.Eq.{bytes_eq-Decides}
 use Rattle.ix_cbor.specs.Data.{Data}
 use Rattle.ix_selector.specs.Enters.{Path}
 use Rattle.ix_walk.specs.Arrivals.{Arrival, Inside, when_some, arrivals_from}
-use Rattle.ix_walk.specs.Once.{roots_from, links_below, was_gone_into, gone_behind, once, once_from, TellsRests}
+use Rattle.ix_walk.specs.Once.{roots_from, links_below, was_expanded, expanded_after, once, once_from, TellsRests}
 use Rattle.ix_walk.proofs.Firsts.{In, in-append}
 use Rattle.ix_walk.proofs.Links.{all-append, all-left, all-right, all-weaker, all-both, flat_map-same, cid_of, Alike, links_at, tree_cids, tree-alike, cids-links, Ends, ends-links, cids-opened, links-shorter, from-cids}
 use Rattle.ix_walk.proofs.GoingOnce.{list_any-found}
@@ -89,35 +89,35 @@ module _ {R : Type 0} (enters : Path → Bool) (rest : Path → R) (same : R →
   run = once enters rest same inside
 
   -- the same, by whether the CID of the first visit was expanded
-  abbrev run_behind : ℕ → List (List ℕ × R) → Arrival → List Arrival → Bool → List Arrival
-  run_behind n gone a more was =
-      run n (gone_behind enters rest same inside (if was then None else inside a.cid) a gone) (when_some (if was then None else inside a.cid) (λ d. links_below enters d a) ++ more)
+  abbrev run_after : ℕ → List (List ℕ × R) → Arrival → List Arrival → Bool → List Arrival
+  run_after n expanded a more was =
+      run n (expanded_after enters rest same inside (if was then None else inside a.cid) a expanded) (when_some (if was then None else inside a.cid) (λ d. links_below enters d a) ++ more)
 
   -- ---- what is arrived at can be reached
 
   module _ (P : Arrival → Type 0) (below : (a : Arrival) → P a → AllByRecursion P (links a)) where
-    run-keeps : (n : ℕ) (gone : List (List ℕ × R)) (waiting : List Arrival) → AllByRecursion P waiting → AllByRecursion P (run n gone waiting)
-    run-keeps zero gone waiting h = tt
-    run-keeps (suc n) gone [] h = tt
-    run-keeps (suc n) gone (a ∷ more) h = (
+    run-keeps : (n : ℕ) (expanded : List (List ℕ × R)) (waiting : List Arrival) → AllByRecursion P waiting → AllByRecursion P (run n expanded waiting)
+    run-keeps zero expanded waiting h = tt
+    run-keeps (suc n) expanded [] h = tt
+    run-keeps (suc n) expanded (a ∷ more) h = (
       h.0,
-      elim (was_gone_into enters rest same inside gone a) as (λ b. AllByRecursion P (run_behind n gone a more b)) [
-        | true ↦ run-keeps n gone more h.1
-        | false ↦ run-keeps n (gone_behind enters rest same inside (inside a.cid) a gone) (links a ++ more) (all-append P (links a) more (below a h.0) h.1)
+      elim (was_expanded enters rest same inside expanded a) as (λ b. AllByRecursion P (run_after n expanded a more b)) [
+        | true ↦ run-keeps n expanded more h.1
+        | false ↦ run-keeps n (expanded_after enters rest same inside (inside a.cid) a expanded) (links a ++ more) (all-append P (links a) more (below a h.0) h.1)
       ],
     )
 
   -- ---- what waits is arrived at, where the traversal ends
 
   module _ (P : Arrival → Type 0) where
-    run-waiting : (n : ℕ) (gone : List (List ℕ × R)) (waiting : List Arrival) → length (run n gone waiting) < n → AllByRecursion P (run n gone waiting) → AllByRecursion P waiting
-    run-waiting zero gone waiting short h = absurd (omega (arith, short))
-    run-waiting (suc n) gone [] short h = tt
-    run-waiting (suc n) gone (a ∷ more) short h = (
+    run-waiting : (n : ℕ) (expanded : List (List ℕ × R)) (waiting : List Arrival) → length (run n expanded waiting) < n → AllByRecursion P (run n expanded waiting) → AllByRecursion P waiting
+    run-waiting zero expanded waiting short h = absurd (omega (arith, short))
+    run-waiting (suc n) expanded [] short h = tt
+    run-waiting (suc n) expanded (a ∷ more) short h = (
       h.0,
-      (elim (was_gone_into enters rest same inside gone a) as (λ b. length (run_behind n gone a more b) < n → AllByRecursion P (run_behind n gone a more b) → AllByRecursion P more) [
-        | true ↦ λ less all. run-waiting n gone more less all
-        | false ↦ λ less all. all-right P (links a) more (run-waiting n (gone_behind enters rest same inside (inside a.cid) a gone) (links a ++ more) less all)
+      (elim (was_expanded enters rest same inside expanded a) as (λ b. length (run_after n expanded a more b) < n → AllByRecursion P (run_after n expanded a more b) → AllByRecursion P more) [
+        | true ↦ λ less all. run-waiting n expanded more less all
+        | false ↦ λ less all. all-right P (links a) more (run-waiting n (expanded_after enters rest same inside (inside a.cid) a expanded) (links a ++ more) less all)
       ]) (omega (arith, short)) h.1,
     )
 
@@ -149,22 +149,22 @@ module _ {R : Type 0} (enters : Path → Bool) (rest : Path → R) (same : R →
           below = e.below;
         }
 
-    entered_too : (o : Option Data) (a : Arrival) (gone : List (List ℕ × R)) → P a → AllByRecursion P (links a) → AllByRecursion WasEntered gone → AllByRecursion WasEntered (gone_behind enters rest same inside o a gone)
-    entered_too None a gone here below h = h
-    entered_too (Some d) a gone here below h = (record { at = a; of_cid = refl; of_rest = refl; here = here; below = below }, h)
+    entered_too : (o : Option Data) (a : Arrival) (expanded : List (List ℕ × R)) → P a → AllByRecursion P (links a) → AllByRecursion WasEntered expanded → AllByRecursion WasEntered (expanded_after enters rest same inside o a expanded)
+    entered_too None a expanded here below h = h
+    entered_too (Some d) a expanded here below h = (record { at = a; of_cid = refl; of_rest = refl; here = here; below = below }, h)
 
-    run-closed : TellsRests enters rest same → (n : ℕ) (gone : List (List ℕ × R)) (waiting : List Arrival) → length (run n gone waiting) < n → AllByRecursion P (run n gone waiting) → AllByRecursion WasEntered gone → AllByRecursion IsClosed (run n gone waiting)
-    run-closed tells zero gone waiting short h entered = tt
-    run-closed tells (suc n) gone [] short h entered = tt
-    run-closed tells (suc n) gone (a ∷ more) short h entered =
-        (elim (was_gone_into enters rest same inside gone a) as (λ b. was_gone_into enters rest same inside gone a ≡ b → length (run_behind n gone a more b) < n → AllByRecursion P (run_behind n gone a more b) → IsClosed a × AllByRecursion IsClosed (run_behind n gone a more b)) [
+    run-closed : TellsRests enters rest same → (n : ℕ) (expanded : List (List ℕ × R)) (waiting : List Arrival) → length (run n expanded waiting) < n → AllByRecursion P (run n expanded waiting) → AllByRecursion WasEntered expanded → AllByRecursion IsClosed (run n expanded waiting)
+    run-closed tells zero expanded waiting short h entered = tt
+    run-closed tells (suc n) expanded [] short h entered = tt
+    run-closed tells (suc n) expanded (a ∷ more) short h entered =
+        (elim (was_expanded enters rest same inside expanded a) as (λ b. was_expanded enters rest same inside expanded a ≡ b → length (run_after n expanded a more b) < n → AllByRecursion P (run_after n expanded a more b) → IsClosed a × AllByRecursion IsClosed (run_after n expanded a more b)) [
           | true ↦ λ is less all.
-              let was = list_any-found (λ g. bytes_eq g.0 a.cid && same g.1 (rest a.path)) WasEntered gone is entered in
-              (closed_by tells was.0 a was.1 was.2, run-closed tells n gone more less all entered)
+              let was = list_any-found (λ g. bytes_eq g.0 a.cid && same g.1 (rest a.path)) WasEntered expanded is entered in
+              (closed_by tells was.0 a was.1 was.2, run-closed tells n expanded more less all entered)
           | false ↦ λ isnt less all.
-              let now = gone_behind enters rest same inside (inside a.cid) a gone in
+              let now = expanded_after enters rest same inside (inside a.cid) a expanded in
               let below : AllByRecursion P (links a) = all-left P (links a) more (run-waiting P n now (links a ++ more) less all) in
-              (record { at = a; of_cid = refl; alike = λ r. refl; here = h.0; below = below }, run-closed tells n now (links a ++ more) less all (entered_too (inside a.cid) a gone h.0 below entered))
+              (record { at = a; of_cid = refl; alike = λ r. refl; here = h.0; below = below }, run-closed tells n now (links a ++ more) less all (entered_too (inside a.cid) a expanded h.0 below entered))
         ]) refl (omega (arith, short)) h.1
 
   -- ---- all that is reached is among the arrivals of a traversal that ended

@@ -9,10 +9,10 @@ pub use Rattle.ix_selector.specs.Enters
 pub use Rattle.ix_selector.specs.IsEntered
 pub use Rattle.ix_selector.specs.Residual
 pub use Rattle.ix_selector.specs.Behind
-pub use Rattle.ix_store.specs.Ahead
+pub use Rattle.ix_store.specs.Cursor
 pub use Rattle.ix_store.specs.Entry
 pub use Rattle.ix_store.specs.Index
-pub use Rattle.ix_store.specs.Mark
+pub use Rattle.ix_store.specs.Memo
 pub use Rattle.ix_store.specs.PlaceSet
 pub use Rattle.ix_store.specs.Store
 pub mod JobMeaning
@@ -23,7 +23,7 @@ pub mod Laws
 pub mod Visits
 pub mod WalkLeft
 pub mod Walking
-pub mod Gone
+pub mod VisitedSet
 pub mod Descent
 pub mod Arriving
 pub mod Examples

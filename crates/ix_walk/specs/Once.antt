@@ -9,7 +9,7 @@ use Rattle.ix_selector.specs.Enters.{Path}
 use Rattle.ix_selector.specs.IsEntered.{is_entered}
 use Rattle.ix_walk.specs.JobMeaning.{JobMeaning}
 use Rattle.ix_store.specs.Store.{Blocks, block_of, value_of}
-use Rattle.ix_store.specs.Mark.{agrees_by}
+use Rattle.ix_store.specs.Memo.{hash_matches_by}
 use Rattle.ix_walk.specs.Arrivals.{Arrival, Inside, when_some, arrivals_below, arrivals_from}
 
 -- one visit of each root, the first of which has this number
@@ -24,24 +24,24 @@ links_below enters d a = arrivals_below enters (λ c p. record { root = a.root; 
 -- A rest is the residual of the selector after a path, and a test compares two of them.
 module _ {R : Type 0} (enters : Path → Bool) (rest : Path → R) (same : R → R → Bool) (inside : Inside) where
   -- the CID was expanded with this residual
-  abbrev pub was_gone_into : List (List ℕ × R) → Arrival → Bool
-  was_gone_into gone a = list_any (λ g. bytes_eq g.0 a.cid && same g.1 (rest a.path)) gone
+  abbrev pub was_expanded : List (List ℕ × R) → Arrival → Bool
+  was_expanded expanded a = list_any (λ g. bytes_eq g.0 a.cid && same g.1 (rest a.path)) expanded
 
   -- the data that are expanded at a visit, if any
-  abbrev pub gone_into_at : List (List ℕ × R) → Arrival → Option Data
-  gone_into_at gone a = if was_gone_into gone a then None else inside a.cid
+  abbrev pub expanded_at : List (List ℕ × R) → Arrival → Option Data
+  expanded_at expanded a = if was_expanded expanded a then None else inside a.cid
 
   -- what was expanded after a visit
-  abbrev pub gone_behind : Option Data → Arrival → List (List ℕ × R) → List (List ℕ × R)
-  gone_behind None a gone = gone
-  gone_behind (Some d) a gone = (a.cid, rest a.path) ∷ gone
+  abbrev pub expanded_after : Option Data → Arrival → List (List ℕ × R) → List (List ℕ × R)
+  expanded_after None a expanded = expanded
+  expanded_after (Some d) a expanded = (a.cid, rest a.path) ∷ expanded
 
   -- the first n visits, where these wait, the first one first
   abbrev pub once : ℕ → List (List ℕ × R) → List Arrival → List Arrival
-  once zero gone waiting = []
-  once (suc n) gone [] = []
-  once (suc n) gone (a ∷ more) =
-      a ∷ once n (gone_behind (gone_into_at gone a) a gone) (when_some (gone_into_at gone a) (λ d. links_below enters d a) ++ more)
+  once zero expanded waiting = []
+  once (suc n) expanded [] = []
+  once (suc n) expanded (a ∷ more) =
+      a ∷ once n (expanded_after (expanded_at expanded a) a expanded) (when_some (expanded_at expanded a) (λ d. links_below enters d a) ++ more)
 
   -- the first n visits from these roots
   abbrev pub once_from : ℕ → List (List ℕ) → List Arrival
@@ -69,9 +69,9 @@ abbrev pub is_sound_by : Option HashFunction → List ℕ → Option (List ℕ) 
 is_sound_by None digest block = false
 is_sound_by (Some Identity) digest block = true
 is_sound_by (Some Sha2_256) digest None = false
-is_sound_by (Some Sha2_256) digest (Some block) = agrees_by (Some Sha2_256) digest block
+is_sound_by (Some Sha2_256) digest (Some block) = hash_matches_by (Some Sha2_256) digest block
 is_sound_by (Some Sha2_512) digest None = false
-is_sound_by (Some Sha2_512) digest (Some block) = agrees_by (Some Sha2_512) digest block
+is_sound_by (Some Sha2_512) digest (Some block) = hash_matches_by (Some Sha2_512) digest block
 
 -- in a store, the bytes that a CID names match it
 abbrev pub is_sound : Blocks → List ℕ → Bool

@@ -6,13 +6,13 @@ ghost use Rattle.ix_cbor.specs.Fronts.{HasCid};
 ghost use Rattle.ix_selector.specs.Residual.{step_of};
 ghost use Rattle.ix_walk.specs.declared.subtree.Children.TheVariants as children;
 ghost use Rattle.ix_walk.specs.Walking.{with_children, IsStanding};
-ghost use Rattle.ix_walk.specs.Descent.{IsItem, HasFront, IsBehindItem, IsKey, IsPart, may_hold_links, entered_by, IsNode, IsChild, IsNextMember, IsNextValue, IsNextChild, Finds, Leaves};
-ghost use Rattle.ix_store.specs.Ahead.{EndsWith, LinkBefore};
+ghost use Rattle.ix_walk.specs.Descent.{IsItem, HasFront, IsAfterItem, IsKey, IsPart, may_hold_links, entered_by, IsNode, IsChild, IsNextMember, IsNextValue, IsNextChild, Finds, Leaves};
+ghost use Rattle.ix_store.specs.Cursor.{EndsWith, LinkBefore};
 
-use crate::subtree::{Children, Entered, Found, Opened, Trail};
+use crate::subtree::{Child, Children, Frontier, OpenNode, PendingLink};
 use ix_cbor::{Front, read_front, read_key, skip_item};
 use ix_selector::{Residual, Step, Steps};
-use ix_store::Ahead;
+use ix_store::Cursor;
 use std::alloc::{AllocError, Global};
 
 // Returns the front of the item at this position, and the bytes after it.
@@ -29,7 +29,7 @@ fn front_at(at: &[u8]) -> (Front<'_>, &[u8])
 // Returns the bytes after the item at this position.
 fn skipped(at: &[u8]) -> &[u8]
     requires { IsItem at.now }
-    ensures exact { IsBehindItem at.now result.now }
+    ensures exact { IsAfterItem at.now result.now }
     ensures end { EndsWith at.now result.now }
 {
     match skip_item(at) {
@@ -41,7 +41,7 @@ fn skipped(at: &[u8]) -> &[u8]
 // Returns where the item at this position ends, given its front and the bytes after that.
 fn end_of<'a>(at: &'a [u8], front: Front<'_>, behind: &'a [u8]) -> &'a [u8]
     requires { HasFront at.now front behind.now }
-    ensures exact { IsBehindItem at.now result.now }
+    ensures exact { IsAfterItem at.now result.now }
     ensures end { EndsWith at.now result.now }
 {
     match front {
@@ -52,19 +52,19 @@ fn end_of<'a>(at: &'a [u8], front: Front<'_>, behind: &'a [u8]) -> &'a [u8]
 
 // Returns what an item with this front is for the walk, which enters it, if it may contain a link.
 fn entered_by<'a>(
-    at: &Ahead<'a>,
+    at: &Cursor<'a>,
     front: Front<'a>,
     behind: &'a [u8],
     residual: Residual<'a>,
     depth: u32,
-) -> Option<Entered<'a>>
+) -> Option<Child<'a>>
     requires cid { HasCid front }
     requires link { LinkBefore at.now front behind.now }
     ensures { result ≡ entered_by residual.entry front.entry depth }
 {
     let children = match front {
         Front::Link(cid) => {
-            return Some(Entered::Link(Found {
+            return Some(Child::Link(PendingLink {
                 residual,
                 cid: at.cid_before(cid, behind),
                 depth,
@@ -79,11 +79,11 @@ fn entered_by<'a>(
         | Front::Bytes(_)
         | Front::Text(_) => return None,
     };
-    Some(Entered::Open(Opened {
+    Some(Child::Open(OpenNode {
         residual: Steps::of(residual),
         children,
         depth,
-        back: None,
+        resume_at: None,
     }))
 }
 
@@ -97,15 +97,15 @@ fn may_hold_links(front: Front<'_>) -> bool
 // Returns what the item at this position is, which is entered; the walk is then after its front.
 pub(crate) fn node_at<'a>(
     residual: Residual<'a>,
-    at: &mut Ahead<'a>,
+    at: &mut Cursor<'a>,
     depth: u32,
-) -> Option<Entered<'a>>
+) -> Option<Child<'a>>
     requires { IsItem at.old }
     ensures { IsNode residual.entry at.old depth result at.new }
 {
     let (front, behind) = front_at(at.bytes());
     let entered = entered_by(at, front, behind, residual, depth);
-    at.go_to(behind);
+    at.seek(behind);
     entered
 }
 
@@ -117,10 +117,10 @@ fn step_into<'a>(
     alloc: Global,
     residual: &mut Steps<'a>,
     step: &Step,
-    at: &mut Ahead<'a>,
+    at: &mut Cursor<'a>,
     read: (Front<'a>, &'a [u8]),
     depth: u32,
-) -> Result<Option<Entered<'a>>, AllocError>
+) -> Result<Option<Child<'a>>, AllocError>
     requires { HasFront at.old read.0 read.1.now }
     ensures { IfOk result (λ o. IsChild residual.old (step_of step.now) at.old depth o at.new
         × (residual.new ≡ residual.old)) }
@@ -129,12 +129,12 @@ fn step_into<'a>(
     match residual.step(alloc, step)? {
         Some(residual) => {
             let entered = entered_by(at, front, behind, residual, depth);
-            at.go_to(behind);
+            at.seek(behind);
             Ok(entered)
         }
         None => {
             let end = end_of(at.bytes(), front, behind);
-            at.go_to(end);
+            at.seek(end);
             Ok(None)
         }
     }
@@ -146,9 +146,9 @@ fn child_at<'a>(
     alloc: Global,
     residual: &mut Steps<'a>,
     step: &Step,
-    at: &mut Ahead<'a>,
+    at: &mut Cursor<'a>,
     depth: u32,
-) -> Result<Option<Entered<'a>>, AllocError>
+) -> Result<Option<Child<'a>>, AllocError>
     requires { IsItem at.old }
     ensures { IfOk result (λ o. IsChild residual.old (step_of step.now) at.old depth o at.new
         × (residual.new ≡ residual.old)) }
@@ -157,7 +157,7 @@ fn child_at<'a>(
     if may_hold_links(read.0) {
         return step_into(alloc, residual, step, at, read, depth);
     }
-    at.go_to(read.1);
+    at.seek(read.1);
     Ok(None)
 }
 
@@ -169,8 +169,8 @@ fn next_member<'a>(
     depth: u32,
     count: u64,
     left: &mut u64,
-    at: &mut Ahead<'a>,
-) -> Result<Option<Entered<'a>>, AllocError>
+    at: &mut Cursor<'a>,
+) -> Result<Option<Child<'a>>, AllocError>
     requires { IsPart (children.Members count left.old) at.old }
     ensures { IfOk result (λ o. IsNextMember residual.old depth count left.old at.old o left.new at.new
         × (residual.new ≡ residual.old)) }
@@ -205,15 +205,15 @@ fn next_value<'a>(
     residual: &mut Steps<'a>,
     depth: u32,
     left: &mut u64,
-    at: &mut Ahead<'a>,
-) -> Result<Option<Entered<'a>>, AllocError>
+    at: &mut Cursor<'a>,
+) -> Result<Option<Child<'a>>, AllocError>
     requires { IsPart (children.Values left.old) at.old }
     ensures { IfOk result (λ o. IsNextValue residual.old depth left.old at.old o left.new at.new
         × (residual.new ≡ residual.old)) }
 {
     while *left > 0 {
         let (key, value) = key_at(at.bytes());
-        at.go_to(value);
+        at.seek(value);
         let child = child_at(alloc, residual, &Step::Key(key), at, depth)?;
         *left -= 1;
         if child.is_some() {
@@ -226,14 +226,14 @@ fn next_value<'a>(
 // Returns the next child of a list or map that is entered and may contain a link.
 fn next_child<'a>(
     alloc: Global,
-    opened: &mut Opened<'a>,
-    at: &mut Ahead<'a>,
-) -> Result<Option<Entered<'a>>, AllocError>
+    opened: &mut OpenNode<'a>,
+    at: &mut Cursor<'a>,
+) -> Result<Option<Child<'a>>, AllocError>
     requires { IsPart opened.old.children at.old }
     ensures next { IfOk result (λ o. IsNextChild opened.old at.old o opened.new at.new) }
     ensures same { IfOk result (λ _. opened.new ≡ with_children opened.old opened.new.children) }
 {
-    let Opened {
+    let OpenNode {
         residual,
         children,
         depth,
@@ -249,17 +249,17 @@ fn next_child<'a>(
 
 // Pops what has no child left, so that a chain of links each of which is last in its block takes no
 // more of the stack the longer it is.
-fn leave_spent(trail: &mut Trail<'_>)
-    requires { trail.old.next ≡ None }
-    ensures next { trail.new.next ≡ None }
-    ensures left { Leaves trail.old trail.new }
+fn leave_spent(frontier: &mut Frontier<'_>)
+    requires { frontier.old.next ≡ None }
+    ensures next { frontier.new.next ≡ None }
+    ensures left { Leaves frontier.old frontier.new }
 {
-    while let Some(opened) = trail.stack.last() {
+    while let Some(opened) = frontier.stack.last() {
         if !opened.children.is_spent() {
             return;
         }
-        trail.at.go_on(&opened.back);
-        trail.stack.pop();
+        frontier.at.resume(&opened.resume_at);
+        frontier.stack.pop();
     }
 }
 
@@ -267,27 +267,27 @@ fn leave_spent(trail: &mut Trail<'_>)
 // and maps that are open.
 pub(crate) fn next_found<'a>(
     alloc: Global,
-    trail: &mut Trail<'a>,
-) -> Result<Option<Found<'a>>, AllocError>
-    requires { IsStanding trail.old }
-    ensures next { IfOk result (λ _. trail.new.next ≡ None) }
-    ensures found { IfOk result (λ o. Finds trail.old o trail.new) }
+    frontier: &mut Frontier<'a>,
+) -> Result<Option<PendingLink<'a>>, AllocError>
+    requires { IsStanding frontier.old }
+    ensures next { IfOk result (λ _. frontier.new.next ≡ None) }
+    ensures found { IfOk result (λ o. Finds frontier.old o frontier.new) }
 {
-    if let Some(found) = trail.next.take() {
+    if let Some(found) = frontier.next.take() {
         return Ok(Some(found));
     }
-    while let Some(opened) = trail.stack.last_mut() {
-        match next_child(alloc, opened, &mut trail.at)? {
-            Some(Entered::Link(found)) => {
-                leave_spent(trail);
+    while let Some(opened) = frontier.stack.last_mut() {
+        match next_child(alloc, opened, &mut frontier.at)? {
+            Some(Child::Link(found)) => {
+                leave_spent(frontier);
                 return Ok(Some(found));
             }
-            Some(Entered::Open(inner)) => {
-                trail.stack.push(inner)?;
+            Some(Child::Open(inner)) => {
+                frontier.stack.push(inner)?;
             }
             None => {
-                if let Some(ended) = trail.stack.pop() {
-                    trail.at.go_on(&ended.back);
+                if let Some(ended) = frontier.stack.pop() {
+                    frontier.at.resume(&ended.resume_at);
                 }
             }
         }

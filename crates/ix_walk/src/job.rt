@@ -95,7 +95,7 @@ impl Job {
     /// Returns the same job with link-visit-once: its walk expands a CID at its first visit with
     /// each residual of the selector, and only if its block is sound. A later one is a visit like
     /// any other, with nothing below it.
-    pub fn once(self) -> Job
+    pub fn links_once(self) -> Job
         ensures { result ≡ going_in true self }
     {
         let mut job = self;
@@ -125,7 +125,7 @@ impl Job {
     }
 
     /// Whether its walk expands a CID once (link-visit-once), and not at every link to it.
-    pub fn goes_once(&self) -> bool
+    pub fn visits_links_once(&self) -> bool
         ensures { result ≡ self.now.once }
     {
         self.once

@@ -17,15 +17,15 @@
 //! ```
 #![tactic(auto)]
 
-mod arriving;
 mod descent;
 mod fault;
-mod gone;
 mod job;
 pub mod law;
 mod state;
 mod subtree;
 mod visit;
+mod visited_set;
+mod visiting;
 mod walk;
 
 pub use fault::{JobFault, WalkStop};

@@ -5,7 +5,7 @@ ghost use Rattle.ix_walk.specs.Walking.{is_spent};
 
 use ix_cid::CidRef;
 use ix_selector::{Residual, Steps};
-use ix_store::Ahead;
+use ix_store::Cursor;
 use std::alloc::Global;
 
 // The children that are left of a list or map.
@@ -19,18 +19,18 @@ pub(crate) enum Children {
 
 // A list or map that is being traversed.
 #[derive(Drop)]
-pub(crate) struct Opened<'a> {
+pub(crate) struct OpenNode<'a> {
     pub residual: Steps<'a>,
     pub children: Children,
     pub depth: u32,
     // Where the walk continues after it, if that isn't after its last child: in the block that the
     // walk came from.
-    pub back: Option<Ahead<'a>>,
+    pub resume_at: Option<Cursor<'a>>,
 }
 
 // A link to visit.
 #[derive(Drop)]
-pub(crate) struct Found<'a> {
+pub(crate) struct PendingLink<'a> {
     pub residual: Residual<'a>,
     pub cid: CidRef<'a>,
     pub depth: u32,
@@ -38,18 +38,18 @@ pub(crate) struct Found<'a> {
 
 // What the selector enters and may contain a link.
 #[derive(Drop)]
-pub(crate) enum Entered<'a> {
-    Link(Found<'a>),
-    Open(Opened<'a>),
+pub(crate) enum Child<'a> {
+    Link(PendingLink<'a>),
+    Open(OpenNode<'a>),
 }
 
 // The position of a walk in the bytes of a block, and what is left to do: to visit a link, and then
 // to continue with the lists and maps that are open, the last one first.
 #[derive(Drop)]
-pub(crate) struct Trail<'a> {
-    pub at: Ahead<'a>,
-    pub next: Option<Found<'a>>,
-    pub stack: Vec<Opened<'a>>,
+pub(crate) struct Frontier<'a> {
+    pub at: Cursor<'a>,
+    pub next: Option<PendingLink<'a>>,
+    pub stack: Vec<OpenNode<'a>>,
 }
 
 impl Children {
@@ -63,14 +63,14 @@ impl Children {
     }
 }
 
-impl<'a> Trail<'a> {
-    // A trail with nothing left to do.
-    pub(crate) fn new(alloc: Global) -> Trail<'a>
+impl<'a> Frontier<'a> {
+    // A frontier with nothing left to do.
+    pub(crate) fn new(alloc: Global) -> Frontier<'a>
         ensures next { result.next ≡ None }
         ensures stack { result.stack.items ≡ [] }
     {
-        Trail {
-            at: Ahead::of(&[]),
+        Frontier {
+            at: Cursor::of(&[]),
             next: None,
             stack: Vec::new(alloc),
         }

@@ -3,13 +3,13 @@
 ghost use Rattle.std.specs.Prelude.{◌≡◌, false, IfOk};
 ghost use Rattle.ix_walk.specs.Visits.{whole_walk};
 
-use crate::arriving::take_next;
 use crate::fault::WalkStop;
-use crate::gone::Gone;
 use crate::job::Job;
 use crate::state::WalkState;
-use crate::subtree::Trail;
+use crate::subtree::Frontier;
 use crate::visit::Visit;
+use crate::visited_set::VisitedSet;
+use crate::visiting::next_visit;
 use ix_selector::law;
 use ix_store::Store;
 use std::alloc::{AllocError, Global};
@@ -52,7 +52,7 @@ impl<'a> Model for Walk<'a> {
 
     ghost view = { λ w. left_of_walk w.store.now w.number w.job.now w.given w.state w.ended };
 
-    ghost invariant = { λ w. IsWalk w.job.now.limit w.given w.state.trail };
+    ghost invariant = { λ w. IsWalk w.job.now.limit w.given w.state.frontier };
 }
 
 impl<'a> Walk<'a> {
@@ -67,8 +67,8 @@ impl<'a> Walk<'a> {
     ) -> Result<Walk<'a>, AllocError>
         ensures { IfOk result (λ w. w ≡ whole_walk store.now number job.now) }
     {
-        let gone = if job.goes_once() {
-            Some(Gone::new(alloc, job.selector())?)
+        let expanded = if job.visits_links_once() {
+            Some(VisitedSet::new(alloc, job.selector())?)
         } else {
             None
         };
@@ -81,8 +81,8 @@ impl<'a> Walk<'a> {
             number,
             given: 0,
             state: WalkState {
-                gone,
-                trail: Trail::new(alloc),
+                expanded,
+                frontier: Frontier::new(alloc),
                 roots: job.roots(),
             },
             ended: false,
@@ -104,7 +104,7 @@ impl<'a> Iterator for Walk<'a> {
         if self.ended {
             return None;
         }
-        match take_next(
+        match next_visit(
             self.alloc,
             self.store,
             self.job,
@@ -117,12 +117,12 @@ impl<'a> Iterator for Walk<'a> {
                 Some(Ok(visit))
             }
             Ok(None) => {
-                self.state.trail.clear();
+                self.state.frontier.clear();
                 self.ended = true;
                 None
             }
             Err(stop) => {
-                self.state.trail.clear();
+                self.state.frontier.clear();
                 self.ended = true;
                 Some(Err(stop))
             }

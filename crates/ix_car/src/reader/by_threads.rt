@@ -68,7 +68,7 @@ fn store_by_threads<R: Threads + Sync>(
             left: 0,
         });
     };
-    if store.settle().is_err() {
+    if store.enable_memo().is_err() {
         return Err(FaultAt {
             kind: CarKind::Memory,
             left: 0,

@@ -12,7 +12,7 @@ ghost use Rattle.ix_car.specs.declared.fault.CarKind.TheVariants.{Memory};
 ghost use Rattle.ix_car.specs.Reading.{value_at, are_links, has_roots, version_fault, header_fault, header_at};
 ghost use Rattle.ix_car.specs.Reads.{ReadsFrom, IsEnd};
 ghost use Rattle.ix_car.specs.Sections.{links_in, links_of, roots_in, roots_of};
-ghost use Rattle.ix_car.specs.Standing.{StandsAt, EntriesStandAt, MembersStandAt, ValueStandsAt, IsMapAt, IsListAt, integer_in, own_integer, own_map, own_list, own_is_link, own_links};
+ghost use Rattle.ix_car.specs.Standing.{StandsAt, EntriesAreAt, MembersAreAt, ValueIsAt, IsMapAt, IsListAt, integer_in, own_integer, own_map, own_list, own_is_link, own_links};
 
 use crate::fault::CarKind;
 use crate::reader::section::{FaultAt, text_at};
@@ -95,8 +95,8 @@ fn map_count(front: Front<'_>) -> Option<u64>
 
 // Returns where the value of a key begins, among `count` entries of a map.
 fn value_at<'a>(key: &[u8], count: u64, entries: &'a [u8]) -> Option<&'a [u8]>
-    ensures { (es : Entries) → EntriesStandAt count entries.now es
-        → ValueStandsAt result (value_at key.now es) }
+    ensures { (es : Entries) → EntriesAreAt count entries.now es
+        → ValueIsAt result (value_at key.now es) }
 {
     let mut rest = entries;
     let mut before = None;
@@ -118,7 +118,7 @@ fn value_at<'a>(key: &[u8], count: u64, entries: &'a [u8]) -> Option<&'a [u8]>
 
 // Returns the integer that a value is.
 fn integer_at(value: Option<&[u8]>) -> Option<i128>
-    ensures { (d : Option Data) → ValueStandsAt value.entry d → result ≡ integer_in d }
+    ensures { (d : Option Data) → ValueIsAt value.entry d → result ≡ integer_in d }
 {
     let Ok((front, _)) = read_front(value?) else {
         return None;
@@ -137,7 +137,7 @@ fn integer_of(front: Front<'_>) -> Option<i128>
 
 // Whether a value is a list of links.
 fn has_roots(value: Option<&[u8]>) -> bool
-    ensures { (d : Option Data) → ValueStandsAt value.entry d → result ≡ has_roots d }
+    ensures { (d : Option Data) → ValueIsAt value.entry d → result ≡ has_roots d }
 {
     let Some(value) = value else {
         return false;
@@ -172,7 +172,7 @@ fn list_count(front: Front<'_>) -> Option<u64>
 
 // Whether each of `count` elements of a list is a link.
 fn are_links(count: u64, members: &[u8]) -> bool
-    ensures { (ds : Items) → MembersStandAt count members.now ds → result ≡ are_links ds }
+    ensures { (ds : Items) → MembersAreAt count members.now ds → result ≡ are_links ds }
 {
     let mut rest = members;
     for _ in 0..count {
@@ -231,7 +231,7 @@ fn roots_of_block(alloc: Global, block: &[u8]) -> Result<Vec<Cid>, AllocError>
 // Returns the CIDs of the links in a value that is a list.
 fn links_of(alloc: Global, value: Option<&[u8]>) -> Result<Vec<Cid>, AllocError>
     ensures { IfOk result
-        (λ links. (d : Option Data) → ValueStandsAt value.entry d → links.items ≡ links_of d) }
+        (λ links. (d : Option Data) → ValueIsAt value.entry d → links.items ≡ links_of d) }
 {
     let Some(value) = value else {
         return Ok(Vec::new(alloc));
@@ -245,7 +245,7 @@ fn links_of(alloc: Global, value: Option<&[u8]>) -> Result<Vec<Cid>, AllocError>
 // Returns the CIDs of the links among `count` elements of a list.
 fn links_in(alloc: Global, count: u64, members: &[u8]) -> Result<Vec<Cid>, AllocError>
     ensures { IfOk result
-        (λ links. (ds : Items) → MembersStandAt count members.now ds → links.items ≡ links_in ds) }
+        (λ links. (ds : Items) → MembersAreAt count members.now ds → links.items ≡ links_in ds) }
 {
     let mut links = Vec::new(alloc);
     let mut rest = members;

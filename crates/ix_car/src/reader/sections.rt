@@ -54,7 +54,7 @@ fn sections_of(alloc: Global, bytes: &[u8]) -> Result<CarFile<'_>, FaultAt>
     ensures roots { IfOk result (λ s. s.roots.items ≡ roots_of bytes.now) }
 {
     let (roots, rest) = roots_and_rest(alloc, bytes)?;
-    let sections = sections_behind(alloc, bytes.len(), rest)?;
+    let sections = sections_after(alloc, bytes.len(), rest)?;
     Ok(CarFile { roots, sections })
 }
 
@@ -94,7 +94,7 @@ pub fn read_section(size: usize, bytes: &[u8]) -> Result<(Section<'_>, &[u8]), C
     ensures refused { IfErr result (IsSectionFault size bytes.now) }
 {
     let place = size - bytes.len();
-    match standing_at(bytes) {
+    match parts_at(bytes) {
         Ok((cid, block, rest)) => Ok((Section { place, cid, block }, rest)),
         Err(fault) => Err(CarFault {
             kind: fault.kind,
@@ -104,7 +104,7 @@ pub fn read_section(size: usize, bytes: &[u8]) -> Result<(Section<'_>, &[u8]), C
 }
 
 // Returns the sections at the end of a file of `size` bytes.
-fn sections_behind<'a>(
+fn sections_after<'a>(
     alloc: Global,
     size: usize,
     bytes: &'a [u8],
@@ -115,7 +115,7 @@ fn sections_behind<'a>(
     let mut rest = bytes;
     let mut sections = Vec::new(alloc);
     while !rest.is_empty() {
-        let (cid, block, after) = standing_at(rest)?;
+        let (cid, block, after) = parts_at(rest)?;
         let place = size - rest.len();
         let Ok(()) = sections.push(Section { place, cid, block }) else {
             return Err(FaultAt::at(CarKind::Memory, rest));
@@ -126,7 +126,7 @@ fn sections_behind<'a>(
 }
 
 // Returns the CID and the block of the section at the front, in place, and the bytes after it.
-fn standing_at(bytes: &[u8]) -> Result<(CidRef<'_>, &[u8], &[u8]), FaultAt>
+fn parts_at(bytes: &[u8]) -> Result<(CidRef<'_>, &[u8], &[u8]), FaultAt>
     ensures reads { Reads (λ r. ((r.0, r.1.now), r.2.now)) result (section_at bytes.now) }
     ensures shorter { IfOk result (λ r. length r.2.now < length bytes.now) }
     ensures within { StandsWithin result bytes.now }

@@ -2,7 +2,7 @@ use Rattle.ix_archive.proofs.Archives.{archive-whole, archive-begun}
 use Rattle.ix_archive.proofs.law.archive_is_of_its_job.Goals as goal
 
 pub returns-clause-whole : goal.returns-clause-whole
-returns-clause-whole g c a store number job fact faithful = archive-whole g.W.Write.contents a store number job fact faithful
+returns-clause-whole g c a store number job guarantee faithful = archive-whole g.W.Write.contents a store number job guarantee faithful
 
 pub returns-clause-beginning : goal.returns-clause-beginning
-returns-clause-beginning g c a store number job end fact faithful = archive-begun g.W.Write.contents a store number job fact end faithful
+returns-clause-beginning g c a store number job end guarantee faithful = archive-begun g.W.Write.contents a store number job guarantee end faithful

@@ -2,7 +2,7 @@ use Rattle.std.proofs.Common.{◌≡◌, ◌+◌, ◌<◌, List, [], length, ap,
 use Rattle.ix_walk.specs.JobMeaning.{JobMeaning}
 use Rattle.ix_jobs.proofs.LinesInTurn.{rest-shorter}
 use Rattle.ix_jobs.specs.Jobs.{jobs_of}
-use Rattle.ix_job_words.specs.Faults.{jobs_behind}
+use Rattle.ix_job_words.specs.Faults.{jobs_after}
 use Rattle.ix_job_words.proofs.Turns.{a_line_more, all_told}
 use Rattle.ix_job_words.proofs.faults.push_later.Goals as goal
 
@@ -18,10 +18,10 @@ loop-rest-preserved c =
     record {
       within = omega (arith, c.loop-rest.invariant.within, rest-shorter c.loop-rest.rest.now some, ap length c.split_line.ensures.rest);
       goes_on = (
-        jobs_behind before (jobs_of c.split_line.result.0.now),
+        jobs_after before (jobs_of c.split_line.result.0.now),
         behind.named,
-        a_line_more c.args.first (c.loop-rest.number + 1) before c.loop-rest.faults.items c.push_told.new.faults.items _ c.loop-rest.rest.now c.split_line.result.0.now c.split_line.result.1.now c.in_ok-kind.kind some c.split_line.ensures.line
-            c.split_line.ensures.rest behind.is c.in_ok-push_told.ensures so_far.2,
+        a_line_more c.args.first (c.loop-rest.number + 1) before c.loop-rest.faults.items c.push_reported.new.faults.items _ c.loop-rest.rest.now c.split_line.result.0.now c.split_line.result.1.now c.in_ok-kind.kind some c.split_line.ensures.line
+            c.split_line.ensures.rest behind.is c.in_ok-push_reported.ensures so_far.2,
       );
     }
 

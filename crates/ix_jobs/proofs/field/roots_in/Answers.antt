@@ -4,7 +4,7 @@ use Rattle.std.proofs.lemmas.List.{map-append, length-append}
 use Rattle.std.proofs.lemmas.Result.{err_from_is_err_and}
 use Rattle.std.proofs.lemmas.Iterator.Consumers.{YieldsList-at, YieldsList-so_far, YieldsList-turn, YieldsList-end, count_from_yields_List}
 use Rattle.std.proofs.lemmas.Iterator.Splits.{YieldsList-from_str_split}
-use Rattle.ix_jobs.specs.declared.fault.JobsKind.{JobsKind}
+use Rattle.ix_jobs.specs.declared.fault.JobErrorKind.{JobErrorKind}
 use Rattle.ix_jobs.specs.Jobs.{root_texts, cids_in}
 use Rattle.ix_jobs.specs.Gives.{FailsAs}
 use Rattle.ix_jobs.proofs.Roots.{one_more, one_faulty, too_many, not_too_many, some_text}
@@ -23,12 +23,12 @@ returns-in_err-root_in-clause-exact c =
     let road = YieldsList-at c.into_iter-part-iterator.ensures.into_iter_gives split in
     let so_far = YieldsList-so_far road c.loop-part.yielded _ c.loop-part.yielded_by in
     let turn = YieldsList-turn road c.loop-part.yielded _ c.loop-part.yielded_by _ _ _ c.in-Some.is c.next.ensures.steps in
-    let kind : JobsKind = c.in_err-root_in.field-0.0 in
+    let kind : JobErrorKind = c.in_err-root_in.field-0.0 in
     let failed = err_from_is_err_and c.from_residual.result c.from_residual.ensures.1 in
     let faulty : FailsAs kind kind (cids_in (root_texts c.args.text.now)) =
     one_faulty (root_texts c.args.text.now) (map now c.loop-part.yielded) (length c.loop-part.yielded) c.in-Some.part.now c.loop-part.roots.items kind so_far turn.0 turn.1 c.loop-part.invariant.read c.in_err-root_in.ensures in
     rw (failed.1, failed.2)
-    (subst (λ (r : Result (List (List ℕ)) JobsKind). FailsAs kind kind r) (sym (not_too_many c.args.text.now c.count.result (count_from_yields_List c.split.result c.count.result c.count.ensures.ran counted) c.if-count-gt-MOST_ROOTS.false)) faulty)
+    (subst (λ (r : Result (List (List ℕ)) JobErrorKind). FailsAs kind kind r) (sym (not_too_many c.args.text.now c.count.result (count_from_yields_List c.split.result c.count.result c.count.ensures.ran counted) c.if-count-gt-MOST_ROOTS.false)) faulty)
 
 pub loop-part-preserved : goal.loop-part-preserved
 loop-part-preserved c =

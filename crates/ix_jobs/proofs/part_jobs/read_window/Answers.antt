@@ -2,7 +2,7 @@ use Rattle.std.proofs.Common.{◌≡◌, ◌+◌, ◌<◌, ◌==◌, ℕ, List, 
 use Rattle.std.specs.List.{slice_split, before_first}
 use Rattle.std.specs.Str.Lines.{strip_carriage_return}
 use Rattle.ix_walk.specs.JobMeaning.{JobMeaning}
-use Rattle.ix_jobs.specs.declared.fault.JobsKind.{JobsKind}
+use Rattle.ix_jobs.specs.declared.fault.JobErrorKind.{JobErrorKind}
 use Rattle.ix_jobs.specs.Jobs.{with_line, jobs_from}
 use Rattle.ix_jobs.specs.Gives.{FailsAs}
 use Rattle.ix_jobs.proofs.LinesInTurn.{jobs_from-ok, jobs_from-err, rest-shorter}
@@ -12,12 +12,12 @@ pub returns-in-Err-clause-fault : goal.returns-in-Err-clause-fault
 returns-in-Err-clause-fault c =
     let some : 0 < length c.loop-rest.rest.now = search rules in
     let number : ℕ = c.loop-rest.number + 1 in
-    let kind : JobsKind = c.in-Err.kind in
+    let kind : JobErrorKind = c.in-Err.kind in
     let read = c.loop-rest.invariant.read in
     let before : List JobMeaning = read.0 in
     let failed : FailsAs kind kind (with_line 1000000 before (strip_carriage_return (before_first (λ b. b == 10) c.loop-rest.rest.now))) =
     subst (λ (l : List ℕ). FailsAs kind kind (with_line 1000000 before (strip_carriage_return l))) c.split_line.ensures.line (c.in-Err.ensures c.args.start c.args.end before read.1) in
-    subst (λ (r : Result (List JobMeaning) (JobsKind × ℕ)). FailsAs kind (kind, number) r) read.2 (jobs_from-err kind 1000000 number before c.loop-rest.rest.now some failed)
+    subst (λ (r : Result (List JobMeaning) (JobErrorKind × ℕ)). FailsAs kind (kind, number) r) read.2 (jobs_from-err kind 1000000 number before c.loop-rest.rest.now some failed)
 
 pub loop-rest-preserved : goal.loop-rest-preserved
 loop-rest-preserved c =

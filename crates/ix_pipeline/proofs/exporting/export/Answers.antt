@@ -10,7 +10,7 @@ use Rattle.ix_pipeline.proofs.Exported.{archived_of_delivered}
 use Rattle.ix_pipeline.proofs.exporting.export.Goals as goal
 
 pub returns-in_default-clause-facts : goal.returns-in_default-clause-facts
-returns-in_default-clause-facts g c = kept_same g.S.Sink.fact c.args.sinks.now
+returns-in_default-clause-facts g c = kept_same g.S.Sink.guarantee c.args.sinks.now
 
 pub returns-clause-archived : goal.returns-clause-archived
 returns-clause-archived g c =

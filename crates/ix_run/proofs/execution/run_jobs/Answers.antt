@@ -13,8 +13,8 @@ export_plain-requires-clause-fresh g c =
     subst (EachFresh events_of (λ a. a.failed)) (sym c.as_mut_slice.ensures.value)
     (begun-fresh g.W.Write.contents c.args.store.now c.args.jobs.now c.args.writers.items c.in_ok-archives.archives.items c.in_ok-archives.ensures.begun)
 
-pub ended-requires : goal.ended-requires
-ended-requires g c =
+pub finish_archives-requires : goal.finish_archives-requires
+finish_archives-requires g c =
     let sinks = c.export_plain.new.sinks in
     let archives = c.in_ok-archives.archives in
     let size = kept-length g.W.Write.contents c.as_mut_slice.result.now sinks c.in_ok-ends.ensures.facts ∙ c.as_mut_slice.ensures.len in
@@ -25,6 +25,6 @@ pub returns-clause-ran : goal.returns-clause-ran
 returns-clause-ran g c =
     let exported = c.in_ok-ends.ensures in
     let archives = c.in_ok-archives.archives in
-    let told = c.in_ok-ended.field-0 in
+    let told = c.in_ok-finish_archives.field-0 in
     ended_sinks g.W.Write.contents c.args.store.now c.args.store.now c.args.jobs.now c.args.jobs.now c.args.writers.items told.1.items archives.items c.as_mut_slice.result.now c.export_plain.new.sinks archives.len c.in_ok-ends.ends.items c.as_slice.result.now
-    told.0.items refl refl c.in_ok-archives.ensures.begun c.as_mut_slice.ensures.value c.as_mut_slice.ensures.len exported.facts exported.delivered exported.archived c.as_slice.ensures.value c.in_ok-ended.ensures
+    told.0.items refl refl c.in_ok-archives.ensures.begun c.as_mut_slice.ensures.value c.as_mut_slice.ensures.len exported.facts exported.delivered exported.archived c.as_slice.ensures.value c.in_ok-finish_archives.ensures

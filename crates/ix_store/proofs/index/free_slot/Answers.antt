@@ -6,7 +6,7 @@ use Rattle.ix_store.proofs.index.free_slot.Goals as goal
 
 pub returns-then-is_none : goal.returns-then-is_none
 returns-then-is_none c =
-    let l = window_of c.args.slots.now c.args.tail in
+    let l = window_of c.args.slots.now c.args.hash in
     let n = c.loop-step.step in
     let e : c.window-first.result.1.now ≡ l = c.window-first.ensures.slots in
     let vacant : IsFree (get_or l n free) = subst (λ (r : List Slot). IsFree (get_or r n free)) e (free-by (get_or c.window-first.result.1.now n free) c.place.result c.place.ensures c.if-is_none.ensures) in (
@@ -16,7 +16,7 @@ returns-then-is_none c =
 
 pub loop-step-preserved : goal.loop-step-preserved
 loop-step-preserved c =
-    let l = window_of c.args.slots.now c.args.tail in
+    let l = window_of c.args.slots.now c.args.hash in
     let n = c.loop-step.step in
     let e : c.window-first.result.1.now ≡ l = c.window-first.ensures.slots in
     let one : suc n ≡ n + 1 = omega arith in
@@ -25,6 +25,6 @@ loop-step-preserved c =
 
 pub returns : goal.returns
 returns c =
-    let l = window_of c.args.slots.now c.args.tail in
+    let l = window_of c.args.slots.now c.args.hash in
     let n = c.loop-step.step in
     inr (taken-all l n c.loop-step.invariant (subst (λ (r : List Slot). length r ≤ n) c.window-first.ensures.slots c.loop-step-test.false))

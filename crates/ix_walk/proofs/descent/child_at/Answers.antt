@@ -13,7 +13,7 @@ returns c =
     let front = c.front_at-read.result.0 in
     let behind = c.front_at-read.result.1.now in
     let own : own_at at ≡ Ok (own_of_front front, behind) = subst (λ (l : List ℕ). own_at l ≡ Ok (own_of_front front, behind)) c.bytes.ensures c.front_at-read.ensures.exact in (
-      subst (λ (l : List ℕ). IsChild c.args.residual.now (step_of c.args.step.now) at c.args.depth None l) (sym c.go_to.ensures)
+      subst (λ (l : List ℕ). IsChild c.args.residual.now (step_of c.args.step.now) at c.args.depth None l) (sym c.seek.ensures)
           (child_flat front c.args.residual.now (step_of c.args.step.now) c.args.depth at behind own (sym c.may_hold_links.ensures ∙ c.if-may_hold_links.false)),
       refl,
     )

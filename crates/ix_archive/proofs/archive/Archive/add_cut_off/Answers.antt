@@ -9,6 +9,6 @@ pub invariant_of-self : goal.invariant_of-self
 invariant_of-self g c =
     let a = c.self.inside in
     let d = c.args.delivery.now in
-    tally-cut_off a.store.now a.deliveries c.note.new.self (option_to_list a.failed) (option_to_list a.closed) d a.cut a.counts c.one_more-self-inside.result a.written a.skips.items c.self.invariant
+    tally-cut_off a.store.now a.deliveries c.push.new.self (option_to_list a.failed) (option_to_list a.closed) d a.pruned_below a.counts c.saturating_inc-self-inside.result a.written a.skips.items c.self.invariant
     (subst (λ v. is_below (cut_behind v.deliveries) d.visit.depth ≡ true) (sym c.self.view_is) c.requires.cut_off)
-    c.note.ensures c.one_more-self-inside.ensures
+    c.push.ensures c.saturating_inc-self-inside.ensures

@@ -13,15 +13,15 @@ invariant_of-self-2 g c =
     let d = c.args.delivery in
     let skip : Skip = record { seq = d.visit.seq; cid = d.visit.cid; verdict = d.verdict } in
     let skipped : c.push_reserved.new.self.items ≡ a.skips.items ++ skip ∷ [] = ◌∙◌ {A = List Skip} c.push_reserved.ensures.items (ap (λ (l : List Skip). l ++ skip ∷ []) c.reserve.ensures.items) in
-    tally-skip a.store.now a.deliveries c.note.new.self (option_to_list a.failed) (option_to_list a.closed) d a.cut a.counts c.one_more-self-inside.result c.one_more-self-inside-2.result a.written a.skips.items c.push_reserved.new.self.items c.self.invariant
+    tally-skip a.store.now a.deliveries c.push.new.self (option_to_list a.failed) (option_to_list a.closed) d a.pruned_below a.counts c.saturating_inc-self-inside.result c.saturating_inc-self-inside-2.result a.written a.skips.items c.push_reserved.new.self.items c.self.invariant
     (subst (λ v. is_below (cut_behind v.deliveries) d.visit.depth ≡ false) (sym c.self.view_is) c.requires.kept.1)
     c.requires.refused
-    c.note.ensures skipped c.one_more-self-inside.ensures c.one_more-self-inside-2.ensures
+    c.push.ensures skipped c.saturating_inc-self-inside.ensures c.saturating_inc-self-inside-2.ensures
 
 pub returns : goal.returns
 returns g c =
     let a = c.self.inside in
     let d = c.args.delivery in
     let within : a.counts.bytes ≤ 2 ^ 64 - 1 = omega arith in
-    rw (← c.self.view_is) (adds-nothing g.W.Write.contents d a.store.now a.job.value.roots a.deliveries c.note.new.self (option_to_list a.failed) (option_to_list a.closed) a.counts.bytes a.writer
-    (subst (λ v. v.failed ≡ []) (sym c.self.view_is) c.requires.kept.0) within c.note.ensures)
+    rw (← c.self.view_is) (adds-nothing g.W.Write.contents d a.store.now a.job.value.roots a.deliveries c.push.new.self (option_to_list a.failed) (option_to_list a.closed) a.counts.bytes a.writer
+    (subst (λ v. v.failed ≡ []) (sym c.self.view_is) c.requires.kept.0) within c.push.ensures)

@@ -11,8 +11,8 @@ returns-then-taken-len-clause-refused g c =
     let short : c.write_text-taken.result < length header = omega (arith, c.if-taken-len.true, c.len.ensures, c.as_slice.ensures.len) in
     begins-in_part g.W.Write.contents c.args.writer c.write_text-taken.new.writer roots header c.write_text-taken.result is short c.write_text-taken.ensures.grown
 
-pub returns-clause-fact : goal.returns-clause-fact
-returns-clause-fact g c =
+pub returns-clause-guarantee : goal.returns-clause-guarantee
+returns-clause-guarantee g c =
     let header = c.as_slice.result.now in
     let same = ap (λ j. j.roots) c.of.ensures in
     let is : header ≡ header_of c.args.job.now.roots = c.as_slice.ensures.value ∙ c.in-Ok.ensures ∙ ap header_of c.roots.ensures in

@@ -2,7 +2,7 @@ use Rattle.std.proofs.Common.{rules, ◌≡◌, false, sym, subst, ◌∙◌}
 use Rattle.std.specs.Prelude.{None}
 use Rattle.ix_check.specs.Verdict.{passes}
 use Rattle.ix_archive.specs.Kept.{is_below, kept}
-use Rattle.ix_archive.specs.Archiving.{IsAdded, IsDelivered, cut_behind, place_due}
+use Rattle.ix_archive.specs.Archiving.{IsAdded, IsDelivered, cut_behind, unwritten_block}
 use Rattle.ix_archive.proofs.FirstSound.{due-refused, due-repeat}
 use Rattle.ix_archive.proofs.archive.Archive.take.Goals as goal
 
@@ -11,7 +11,7 @@ returns-in-None g c =
     let a = c.args.self.now in
     let d = c.args.delivery in
     let uncut : is_below (cut_behind a.deliveries) d.visit.depth ≡ false = sym c.is_cut_off.ensures ∙ c.if-is_cut_off.false in
-    let none : place_due a.store (kept a.deliveries) d ≡ None = sym c.place_due.ensures ∙ c.in-None.is in
+    let none : unwritten_block a.store (kept a.deliveries) d ≡ None = sym c.unwritten_block.ensures ∙ c.in-None.is in
     subst (λ t. IsAdded g.W.Write.contents d t a c.add_without_section.new.self) (sym (due-repeat a.store a.deliveries d uncut none)) c.add_without_section.ensures
 
 pub returns-then-is_cut_off : goal.returns-then-is_cut_off

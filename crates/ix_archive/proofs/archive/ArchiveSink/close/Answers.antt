@@ -9,7 +9,7 @@ use Rattle.ix_archive.proofs.archive.ArchiveSink.close.Goals as goal
 pub invariant_of-self : goal.invariant_of-self
 invariant_of-self g c =
     let a = c.self.inside in
-    tally-closed a.store.now a.deliveries (option_to_list a.failed) (option_to_list a.closed) c.args.end a.cut a.counts a.written c.clear.new.self a.skips.items c.self.invariant
+    tally-closed a.store.now a.deliveries (option_to_list a.failed) (option_to_list a.closed) c.args.end a.pruned_below a.counts a.written c.clear.new.self a.skips.items c.self.invariant
 
 pub returns-clause-closed : goal.returns-clause-closed
 returns-clause-closed g c =

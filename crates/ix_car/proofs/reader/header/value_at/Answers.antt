@@ -1,7 +1,7 @@
 use Rattle.std.proofs.Common.{rules, ◌≡◌, true, false, refl, sym, ap, ◌∙◌, subst, arith, bytes_eq}
 use Rattle.std.specs.Prelude.{Some, None, option_map}
 use Rattle.ix_cbor.specs.Reading.{item_at, entries_at}
-use Rattle.ix_car.specs.Standing.{ValueStandsAt}
+use Rattle.ix_car.specs.Standing.{ValueIsAt}
 use Rattle.ix_car.proofs.HeaderParts.{key_is_read, value_is_read, value_found, value_passed, no_value}
 use Rattle.ix_car.proofs.reader.header.value_at.Goals as goal
 
@@ -17,7 +17,7 @@ pub returns-then-eq : goal.returns-then-eq
 returns-then-eq c = λ es h.
     let so_far = c.loop.invariant es h in
     let same : bytes_eq c.in-Ok.name.now c.args.key.now ≡ true = search rules in
-    subst (ValueStandsAt (Some c.in-Ok.value)) (sym so_far.3)
+    subst (ValueIsAt (Some c.in-Ok.value)) (sym so_far.3)
     (value_found (option_map (λ k. k.now) c.loop.before) c.args.count c.loop.counter c.loop.rest.now so_far.0 so_far.1 c.args.key.now (c.in-Ok.name.now, c.in-Ok.value.now) c.loop-test.true so_far.2 c.in-Ok.ensures c.in-Ok.value refl same)
 
 pub returns-in_default-skip_item : goal.returns-in_default-skip_item
@@ -37,4 +37,4 @@ loop-preserved c = λ es h.
 pub returns : goal.returns
 returns c = λ es h.
     let so_far = c.loop.invariant es h in
-    subst (ValueStandsAt None) (sym (so_far.3 ∙ no_value (option_map (λ k. k.now) c.loop.before) c.args.count c.loop.counter c.loop.rest.now so_far.0 so_far.1 c.args.key.now c.loop-test.false so_far.2)) tt
+    subst (ValueIsAt None) (sym (so_far.3 ∙ no_value (option_map (λ k. k.now) c.loop.before) c.args.count c.loop.counter c.loop.rest.now so_far.0 so_far.1 c.args.key.now c.loop-test.false so_far.2)) tt

@@ -4,15 +4,15 @@ use Rattle.ix_collect.specs.Collected.{IsStray}
 use Rattle.std.proofs.Common.{inl, inr, ℕ, arith, subst, set, rules, ◌≡◌, ◌<◌, ◌≤◌, refl, sym, ◌∙◌, Some, length, get_or, ap, length-set}
 use Rattle.std.proofs.lemmas.Bool.{or_left}
 use Rattle.ix_collect.proofs.Kept.{kept_set, kept_same}
-use Rattle.ix_handover.specs.Received.{job_of}
+use Rattle.ix_channels.specs.Received.{job_of}
 use Rattle.ix_collect.proofs.Collecting.{safe_at, safe_set, collected_none, collected_unknown, collected_one, ended_set, closed_at, misplaced_at, is_noted_then, not_fine}
 use Rattle.ix_collect.proofs.collector.Collector.receive.Goals as goal
 
 pub returns-in_default-clause-kept : goal.returns-in_default-clause-kept
-returns-in_default-clause-kept g c = kept_same g.S.Sink.fact c.args.sinks.now
+returns-in_default-clause-kept g c = kept_same g.S.Sink.guarantee c.args.sinks.now
 
 pub returns-then-job-len-clause-kept : goal.returns-then-job-len-clause-kept
-returns-then-job-len-clause-kept g c = kept_same g.S.Sink.fact c.args.sinks.now
+returns-then-job-len-clause-kept g c = kept_same g.S.Sink.guarantee c.args.sinks.now
 
 pub receive-fine-requires : goal.receive-fine-requires
 receive-fine-requires g c =
@@ -30,7 +30,7 @@ returns-clause-may g c = safe_set g.S.Sink.events g.S.Sink.failed c.args.self.no
 pub returns-clause-kept : goal.returns-clause-kept
 returns-clause-kept g c =
     let sink = get_or c.args.sinks.now c.in-Some.job c.index-sinks-job.result in
-    kept_set g.S.Sink.fact c.args.sinks.now c.in-Some.job sink c.receive-fine.new.sink (ap (λ (s : g.row.S.Denot). get_or c.args.sinks.now c.in-Some.job s) c.index-sinks-job.is) c.receive-fine.ensures.kept.1
+    kept_set g.S.Sink.guarantee c.args.sinks.now c.in-Some.job sink c.receive-fine.new.sink (ap (λ (s : g.row.S.Denot). get_or c.args.sinks.now c.in-Some.job s) c.index-sinks-job.is) c.receive-fine.ensures.kept.1
 
 pub returns-clause-done : goal.returns-clause-done
 returns-clause-done g c =
@@ -43,7 +43,7 @@ returns-clause-collected g c =
     let sink = get_or c.args.sinks.now c.in-Some.job c.index-sinks-job.result in
     let of : job_of c.args.item ≡ Some c.in-Some.job = sym c.job_of.ensures ∙ c.in-Some.is in
     λ store jobs got more i h good len.
-    collected_one g.S.Sink.events g.S.Sink.failed store jobs c.args.item got more c.in-Some.job c.args.self.now.stray c.receive-fine.result c.args.self.now.jobs.items _ c.args.sinks.now _
+    collected_one g.S.Sink.events g.S.Sink.failed store jobs c.args.item got more c.in-Some.job c.args.self.now.unexpected c.receive-fine.result c.args.self.now.jobs.items _ c.args.sinks.now _
     c.index_mut.result.now c.receive-fine.new.self sink c.receive-fine.new.sink i of c.index_mut.ensures.value (ap (λ (s : g.row.S.Denot). get_or c.args.sinks.now c.in-Some.job s) c.index-sinks-job.is) lt refl refl c.receive-fine.ensures.received h good
     (sym (length-set c.args.self.now.jobs.items c.in-Some.job c.receive-fine.new.self) ∙ len)
 
@@ -56,21 +56,21 @@ returns-then-job-len-clause-collected g c =
     λ store jobs got more i h good len. absurd (collected_unknown store jobs c.args.item got more c.in-Some.job (length c.args.self.now.jobs.items) i (sym c.job_of.ensures ∙ c.in-Some.is) past len good)
 
 pub returns-clause-stays : goal.returns-clause-stays
-returns-clause-stays g c = λ e. or_left c.args.self.now.stray _ e
+returns-clause-stays g c = λ e. or_left c.args.self.now.unexpected _ e
 
 pub returns-clause-guarded : goal.returns-clause-guarded
 returns-clause-guarded g c =
     let sink = get_or c.args.sinks.now c.in-Some.job c.index-sinks-job.result in
     λ was now.
-    let bad : c.receive-fine.result ≡ false = not_fine c.args.self.now.stray c.receive-fine.result was now in
+    let bad : c.receive-fine.result ≡ false = not_fine c.args.self.now.unexpected c.receive-fine.result was now in
     ap (λ (s : g.row.S.Denot). set c.args.sinks.now c.in-Some.job s) (c.receive-fine.ensures.refused bad) ∙ set-get_or c.args.sinks.now c.in-Some.job c.index-sinks-job.result
 
-pub returns-clause-stray : goal.returns-clause-stray
-returns-clause-stray g c = λ job of stray.
+pub returns-clause-unexpected : goal.returns-clause-unexpected
+returns-clause-unexpected g c = λ job of unexpected.
     let lt : c.in-Some.job < length c.args.self.now.jobs.items = search rules in
     let known : Some c.in-Some.job ≡ Some job = sym c.in-Some.is ∙ c.job_of.ensures ∙ of in
     let same : c.in-Some.job ≡ job = cc in
-    let here : IsStray c.args.self.now c.args.item c.in-Some.job = subst (λ (n : ℕ). IsStray c.args.self.now c.args.item n) (sym same) stray in
+    let here : IsStray c.args.self.now c.args.item c.in-Some.job = subst (λ (n : ℕ). IsStray c.args.self.now c.args.item n) (sym same) unexpected in
     let bad : c.receive-fine.result ≡ false =
     elim here [
       | inl past ↦ absurd (omega arith)
@@ -81,6 +81,6 @@ returns-clause-stray g c = λ job of stray.
           ]
     ]
     in (
-      is_noted_then c.args.self.now.stray c.receive-fine.result bad,
+      is_noted_then c.args.self.now.unexpected c.receive-fine.result bad,
       ap (λ (s : g.row.S.Denot). set c.args.sinks.now c.in-Some.job s) (c.receive-fine.ensures.refused bad) ∙ set-get_or c.args.sinks.now c.in-Some.job c.index-sinks-job.result,
     )

@@ -2,7 +2,7 @@ use Rattle.std.proofs.Common.{◌≡◌, ◌-◌, None, List}
 use Rattle.std.specs.Prelude.{Bool}
 use Rattle.ix_archive.specs.Headline.{Keeps}
 use Rattle.ix_archive.specs.declared.sink.Delivery.{Delivery}
-use Rattle.ix_handover.specs.Received.{Tally}
+use Rattle.ix_channels.specs.Received.{Tally}
 use Rattle.ix_collect.specs.JobProgress.{IsUnderWay, IsSafe}
 use Rattle.ix_collect.proofs.job_progress.JobProgress.deliver.Given as goal
 
@@ -10,7 +10,7 @@ abbrev pub invariant-loop-alloc : goal.invariant-loop-alloc
 invariant-loop-alloc g l = record {
   end : l.self.end ≡ None;
   safe : IsSafe l.self (g.S.Sink.events l.sink) (g.S.Sink.failed l.sink);
-  kept : Keeps g.S.Sink.fact l.initial.sink l.sink;
+  kept : Keeps g.S.Sink.guarantee l.initial.sink l.sink;
   under : (all : List Delivery) (over : Bool) (t : Tally) → IsUnderWay all over t l.fn.self (g.S.Sink.events l.initial.sink) (g.S.Sink.failed l.initial.sink) → IsUnderWay all over t l.self (g.S.Sink.events l.sink) (g.S.Sink.failed l.sink);
 }
 

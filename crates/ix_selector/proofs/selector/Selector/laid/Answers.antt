@@ -5,14 +5,14 @@ use Rattle.ix_selector.specs.Laid.{AreLaidFrom}
 use Rattle.ix_selector.specs.Behind.{inside_of}
 use Rattle.ix_selector.proofs.selector.Selector.laid.Goals as goal
 
-pub push_spots-requires : goal.push_spots-requires
-push_spots-requires c = record {
+pub push_nodes-requires : goal.push_nodes-requires
+push_nodes-requires c = record {
   ordered = c.requires.ordered;
-  spots = search rules;
+  nodes = search rules;
   once = search rules;
 }
 
 pub invariant_of-result : goal.invariant_of-result
 invariant_of-result c =
-    let none : length c.new-spots.result.items ≡ 0 = search rules in
-    (subst IsSelector (sym c.in_ok-root.ensures.place.1) c.requires.selector, record { placed = c.in_ok-root.ensures.grows.0.spots; once = c.in_ok-root.ensures.grows.0.once; laid = subst (λ m. AreLaidFrom m c.push_spots.new.spots.items) none c.in_ok-root.ensures.grows.1 }, c.in_ok-root.ensures.last, c.in_ok-root.ensures.number ∙ (λ i. none i + inside_of (sym c.in_ok-root.ensures.place.1 i)) ∙ (let whole : 0 + inside_of (at (places_of c.push_spots.new.spots.items) c.in_ok-root.root) ≡ inside_of (at (places_of c.push_spots.new.spots.items) c.in_ok-root.root) = omega arith in whole))
+    let none : length c.new-nodes.result.items ≡ 0 = search rules in
+    (subst IsSelector (sym c.in_ok-root.ensures.place.1) c.requires.selector, record { placed = c.in_ok-root.ensures.grows.0.nodes; once = c.in_ok-root.ensures.grows.0.once; laid = subst (λ m. AreLaidFrom m c.push_nodes.new.nodes.items) none c.in_ok-root.ensures.grows.1 }, c.in_ok-root.ensures.last, c.in_ok-root.ensures.number ∙ (λ i. none i + inside_of (sym c.in_ok-root.ensures.place.1 i)) ∙ (let whole : 0 + inside_of (at (places_of c.push_nodes.new.nodes.items) c.in_ok-root.root) ≡ inside_of (at (places_of c.push_nodes.new.nodes.items) c.in_ok-root.root) = omega arith in whole))

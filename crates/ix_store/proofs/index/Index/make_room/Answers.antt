@@ -4,32 +4,32 @@ use Rattle.std.proofs.lemmas.Option.{slice_get_read}
 use Rattle.std.proofs.lemmas.Slice.Eq.{bytes_eq-Decides}
 use Rattle.std.proofs.Math.ListN.{set}
 use Rattle.ix_store.specs.Entry.{content, pair_of}
-use Rattle.ix_store.specs.Index.{tail_of, mark_of, place_behind, Has, Comes, IsFreeSlot, GoesBehind, AreLedTo, IsIndexed}
+use Rattle.ix_store.specs.Index.{key_hash, fingerprint, place_after, Has, Comes, IsFreeSlot, GoesAfter, AreLedTo, IsIndexed}
 use Rattle.ix_store.specs.Store.{Blocks, position_of}
 use Rattle.ix_store.specs.declared.entry.Entry.{Entry}
 use Rattle.ix_store.specs.declared.index.Index.{Index}
 use Rattle.ix_store.specs.declared.index.Slot.{Slot}
 use Rattle.ix_store.proofs.Stores.{entries-more, entries-before, position-none, position-there}
 use Rattle.ix_store.proofs.Indexes.{free-at, indexed-same, indexed-put, led-slot, led-behind, led-put, behind-put}
-use Rattle.ix_store.proofs.index.Index.make_room.Goals.{in-Some, in-None+in_ok-put_behind-in-None, in-None+else-has_place}
+use Rattle.ix_store.proofs.index.Index.make_room.Goals.{in-Some, in-None+in_ok-insert_overflow-in-None, in-None+else-has_place}
 use Rattle.ix_store.proofs.index.Index.make_room.Goals as goal
 
 pub index_mut-requires : goal.index_mut-requires
 index_mut-requires c =
     let items = c.loop-place.slots.items in
-    let first = free-at items c.tail_of-tail.result c.in-Some.slot (subst (λ (r : List Slot). IsFreeSlot r c.tail_of-tail.result c.in-Some.slot) c.as_slice.ensures.value c.in-Some.ensures.1) in
+    let first = free-at items c.key_hash-hash.result c.in-Some.slot (subst (λ (r : List Slot). IsFreeSlot r c.key_hash-hash.result c.in-Some.slot) c.as_slice.ensures.value c.in-Some.ensures.1) in
     omega (arith, first.within, c.loop-place.slots.ok.0)
 
-pub returns-in_err-put_behind-in-None : goal.returns-in_err-put_behind-in-None
-returns-in_err-put_behind-in-None c =
-    indexed-same c.loop-place.self c.put_behind.new.self _ c.loop-place.invariant.0 (ap (λ s. s.items) c.in_err-put_behind-in-None.ensures.slots) c.in_err-put_behind-in-None.ensures.err
+pub returns-in_err-insert_overflow-in-None : goal.returns-in_err-insert_overflow-in-None
+returns-in_err-insert_overflow-in-None c =
+    indexed-same c.loop-place.self c.insert_overflow.new.self _ c.loop-place.invariant.0 (ap (λ s. s.items) c.in_err-insert_overflow-in-None.ensures.slots) c.in_err-insert_overflow-in-None.ensures.err
 
 pub loop-place-preserved : goal.loop-place-preserved
 loop-place-preserved c =
     let entries = c.args.entries.now in
     let place = c.loop-place.place in
     let e = c.index-entries-place.result in
-    let t = c.tail_of-tail.result in
+    let t = c.key_hash-hash.result in
     let index = c.loop-place.self in
     let slots = c.loop-place.slots.items in
     let before = map pair_of (take place entries) in
@@ -41,32 +41,32 @@ loop-place-preserved c =
     let there : position_of (map pair_of entries) e.cid ≡ Some place = position-there entries (map pair_of entries) place e e.cid indexed.distinct refl (slice_get_read entries (length entries) place e refl c.loop-place-test.true c.index-entries-place.is) ((bytes_eq-Decides e.cid e.cid).1 refl) in
     elim c.match-free_slot.branch [
       | in-Some w ↦
-          let free : IsFreeSlot slots (tail_of e.cid) w.in-Some.slot = subst (λ (n : ℕ). IsFreeSlot slots n w.in-Some.slot) c.tail_of-tail.ensures (subst (λ (r : List Slot). IsFreeSlot r t w.in-Some.slot) c.as_slice.ensures.value w.in-Some.ensures.1) in
+          let free : IsFreeSlot slots (key_hash e.cid) w.in-Some.slot = subst (λ (n : ℕ). IsFreeSlot slots n w.in-Some.slot) c.key_hash-hash.ensures (subst (λ (r : List Slot). IsFreeSlot r t w.in-Some.slot) c.as_slice.ensures.value w.in-Some.ensures.1) in
           let x = w.taken.result in
-          let has : Has x (mark_of (tail_of e.cid)) (length before) = subst (λ (n : ℕ). Has x (mark_of n) (length before)) c.tail_of-tail.ensures (subst (λ (n : ℕ). Has x (mark_of t) n) few w.taken.ensures) in
-          let here : AreLedTo (set slots w.in-Some.slot x) index (before ++ (e.cid, content e.block) ∷ []) = led-slot slots index before e.cid (content e.block) w.in-Some.slot x led new (free-at slots (tail_of e.cid) w.in-Some.slot free) has in (
+          let has : Has x (fingerprint (key_hash e.cid)) (length before) = subst (λ (n : ℕ). Has x (fingerprint n) (length before)) c.key_hash-hash.ensures (subst (λ (n : ℕ). Has x (fingerprint t) n) few w.taken.ensures) in
+          let here : AreLedTo (set slots w.in-Some.slot x) index (before ++ (e.cid, content e.block) ∷ []) = led-slot slots index before e.cid (content e.block) w.in-Some.slot x led new (free-at slots (key_hash e.cid) w.in-Some.slot free) has in (
             subst (λ (i : Index). IsIndexed i (map pair_of entries)) (sym w.self-is) indexed,
             subst (λ (i : Index). AreLedTo c.match-free_slot.slots.items i (map pair_of (take (place + 1) entries))) (sym w.self-is)
                 (subst (λ (l : List Slot). AreLedTo l index (map pair_of (take (place + 1) entries))) (sym (ap (λ v. v.items) w.slots-is))
                 (subst (λ (es : Blocks). AreLedTo (set slots w.in-Some.slot x) index es) (sym more) here)),
           )
-      | in-None+in_ok-put_behind-in-None w ↦
-          let full : GoesBehind slots (tail_of e.cid) (length before) = subst (λ (n : ℕ). GoesBehind slots n (length before)) c.tail_of-tail.ensures (subst (λ (n : ℕ). GoesBehind slots t n) few (subst (λ (r : List Slot). GoesBehind r t place) c.as_slice.ensures.value w.in-None.ensures)) in
-          let later = w.put_behind.new.self in
-          let s = w.in_ok-put_behind-in-None.ensures in
-          let led-later = led-put slots index later before e.cid _ place led s.put s.stood in
-          let at_e = behind-put index later (map pair_of entries) e.cid _ place indexed there s.put s.stood in
+      | in-None+in_ok-insert_overflow-in-None w ↦
+          let full : GoesAfter slots (key_hash e.cid) (length before) = subst (λ (n : ℕ). GoesAfter slots n (length before)) c.key_hash-hash.ensures (subst (λ (n : ℕ). GoesAfter slots t n) few (subst (λ (r : List Slot). GoesAfter r t place) c.as_slice.ensures.value w.in-None.ensures)) in
+          let later = w.insert_overflow.new.self in
+          let s = w.in_ok-insert_overflow-in-None.ensures in
+          let led-later = led-put slots index later before e.cid _ place led s.put s.existing in
+          let at_e = behind-put index later (map pair_of entries) e.cid _ place indexed there s.put s.existing in
           let here : AreLedTo slots later (before ++ (e.cid, content e.block) ∷ []) = led-behind slots later before e.cid (content e.block) led-later new full (at_e ∙ ap Some few) in (
-            subst (λ (i : Index). IsIndexed i (map pair_of entries)) (sym w.self-is) (indexed-put index later (map pair_of entries) e.cid _ place indexed there (ap (λ v. v.items) s.slots) s.put s.stood),
+            subst (λ (i : Index). IsIndexed i (map pair_of entries)) (sym w.self-is) (indexed-put index later (map pair_of entries) e.cid _ place indexed there (ap (λ v. v.items) s.slots) s.put s.existing),
             subst (λ (i : Index). AreLedTo c.match-free_slot.slots.items i (map pair_of (take (place + 1) entries))) (sym w.self-is)
                 (subst (λ (l : List Slot). AreLedTo l later (map pair_of (take (place + 1) entries))) (sym (ap (λ v. v.items) w.slots-is))
                 (subst (λ (es : Blocks). AreLedTo slots later es) (sym more) here)),
           )
       | in-None+else-has_place w ↦
-          let full : GoesBehind slots (tail_of e.cid) (length before) = subst (λ (n : ℕ). GoesBehind slots n (length before)) c.tail_of-tail.ensures (subst (λ (n : ℕ). GoesBehind slots t n) few (subst (λ (r : List Slot). GoesBehind r t place) c.as_slice.ensures.value w.in-None.ensures)) in
-          let old : Comes index.slots.items (place_behind index e.cid) (tail_of e.cid) place = indexed.leads e.cid place there in
-          let at_e : place_behind index e.cid ≡ Some place = w.has_place.ensures w.if-has_place.false (place_behind index e.cid)
-          (subst (λ (n : ℕ). Comes index.slots.items (place_behind index e.cid) n place) (sym c.tail_of-tail.ensures) old) in
+          let full : GoesAfter slots (key_hash e.cid) (length before) = subst (λ (n : ℕ). GoesAfter slots n (length before)) c.key_hash-hash.ensures (subst (λ (n : ℕ). GoesAfter slots t n) few (subst (λ (r : List Slot). GoesAfter r t place) c.as_slice.ensures.value w.in-None.ensures)) in
+          let old : Comes index.slots.items (place_after index e.cid) (key_hash e.cid) place = indexed.leads e.cid place there in
+          let at_e : place_after index e.cid ≡ Some place = w.has_place.ensures w.if-has_place.false (place_after index e.cid)
+          (subst (λ (n : ℕ). Comes index.slots.items (place_after index e.cid) n place) (sym c.key_hash-hash.ensures) old) in
           let here : AreLedTo slots index (before ++ (e.cid, content e.block) ∷ []) = led-behind slots index before e.cid (content e.block) led new full (at_e ∙ ap Some few) in (
             subst (λ (i : Index). IsIndexed i (map pair_of entries)) (sym w.self-is) indexed,
             subst (λ (i : Index). AreLedTo c.match-free_slot.slots.items i (map pair_of (take (place + 1) entries))) (sym w.self-is)
@@ -81,5 +81,5 @@ returns c =
     record {
       distinct = h.0.distinct;
       leads = subst (λ (l : List Entry). AreLedTo c.loop-place.slots.items c.loop-place.self (map pair_of l)) (take_all c.loop-place.place c.args.entries.now c.loop-place-test.false) h.1;
-      true_behind = h.0.true_behind;
+      true_after = h.0.true_after;
     }

@@ -1,0 +1,221 @@
+-- What the calls of the C library answer, and what is in their handles after.
+use Rattle.std.specs.Prelude.{◌≡◌, ◌≢◌, ℕ, true, List, [], ◌∷◌, ◌++◌, Option, Some, None, Result, Ok, Err}
+use Rattle.std.specs.Global.{Vec, Global}
+use Rattle.std_alloc.specs.declared.arc.Arc.{Arc}
+use Rattle.std.specs.Arc.{arc_value}
+use Rattle.std.specs.declared.alloc.AllocError.{AllocError}
+use Rattle.ix_store.specs.Store.{Blocks}
+use Rattle.ix_walk.specs.JobMeaning.{JobMeaning, going_in}
+use Rattle.ix_car.specs.Reading.{blocks_of}
+use Rattle.ix_jobs.specs.Jobs.{jobs_of}
+use Rattle.ix_selector_json.specs.Notation.{IsSelectorHex}
+use Rattle.ix_api.specs.declared.failure.Failure.{Failure}
+use Rattle.ix_api.specs.declared.failure.Failure.TheVariants as failures
+use Rattle.ix_api.specs.declared.object.Object.{Object}
+use Rattle.ix_api.specs.declared.object.Object.TheVariants as held
+use Rattle.ix_api.specs.declared.input.Added.{Added}
+use Rattle.ix_api.specs.declared.input.Added.TheVariants as added
+use Rattle.ix_api.specs.declared.exported.Exported.{Exported}
+use Rattle.ix_api.specs.Adding.{HasAdded}
+use Rattle.ix_api.specs.Exporting.{HasExported}
+use Rattle.ix_api.specs.JobParts.{job_of_parts}
+use Rattle.ix_capi.specs.declared.status.Status.{Status}
+use Rattle.ix_capi.specs.declared.status.Status.TheVariants.{Done, Memory, Refused, Handle, Known, NoCid, Range}
+
+-- the number that C has for an answer
+abbrev pub code_of : Status → ℕ
+code_of Done = 0
+code_of Memory = 1
+code_of Refused = 2
+code_of Handle = 3
+code_of Known = 4
+code_of NoCid = 5
+code_of Range = 6
+
+-- the number is that of an answer of which this holds
+abbrev pub ByStatus : (Status → Type 0) → ℕ → Type 0
+ByStatus says number = (status : Status) × (number ≡ code_of status) × says status
+
+-- What a handle holds before and after a call that makes something out of its input: it holds one of those that are
+-- meant; or nothing is changed, for lack of memory; or it holds the line of an error.
+abbrev pub IsMade : (Object → Type 0) → (Failure → Type 0) → Option Object → Option Object → Status → Type 0
+IsMade meant fails before after Done = (content : Object) × (after ≡ Some content) × meant content
+IsMade meant fails before after Memory = after ≡ before
+IsMade meant fails before after Refused =
+    (line : Vec ℕ) × (after ≡ Some (held.Refusal line)) × fails (failures.Refused line)
+IsMade meant fails before after Handle = ⊥
+IsMade meant fails before after Known = ⊥
+IsMade meant fails before after NoCid = ⊥
+IsMade meant fails before after Range = ⊥
+
+-- a handle holds this after a call that fills it, or nothing is changed, for lack of memory
+abbrev pub IsFilled : Object → Option Object → Option Object → Status → Type 0
+IsFilled content before after Done = after ≡ Some content
+IsFilled content before after Memory = after ≡ before
+IsFilled content before after other = ⊥
+
+-- the same of the line of an error
+abbrev pub IsRefused : Failure → Option Object → Option Object → Status → Type 0
+IsRefused (failures.Refused line) before after Refused = after ≡ Some (held.Refusal line)
+IsRefused failure before after Memory = after ≡ before
+IsRefused failure before after other = ⊥
+
+-- an open store of these blocks
+abbrev pub IsOpen : Blocks → Object → Type 0
+IsOpen blocks (held.Open store) = store ≡ blocks
+IsOpen blocks (held.Frozen store) = ⊥
+IsOpen blocks (held.Job job) = ⊥
+IsOpen blocks (held.Exported out) = ⊥
+IsOpen blocks (held.Text text) = ⊥
+IsOpen blocks (held.Refusal line) = ⊥
+
+-- a frozen one
+abbrev pub IsFrozen : Blocks → Object → Type 0
+IsFrozen blocks (held.Frozen store) = arc_value store ≡ blocks
+IsFrozen blocks (held.Open store) = ⊥
+IsFrozen blocks (held.Job job) = ⊥
+IsFrozen blocks (held.Exported out) = ⊥
+IsFrozen blocks (held.Text text) = ⊥
+IsFrozen blocks (held.Refusal line) = ⊥
+
+-- the blocks of a CARv1 file
+abbrev pub IsStoreOf : List ℕ → Object → Type 0
+IsStoreOf file content = (blocks : Blocks) × (blocks_of file ≡ Ok blocks) × IsOpen blocks content
+
+-- the one job of a job file
+abbrev pub IsJobOf : List ℕ → Object → Type 0
+IsJobOf file (held.Job job) = jobs_of file ≡ Ok (job ∷ [])
+IsJobOf file (held.Open store) = ⊥
+IsJobOf file (held.Frozen store) = ⊥
+IsJobOf file (held.Exported out) = ⊥
+IsJobOf file (held.Text text) = ⊥
+IsJobOf file (held.Refusal line) = ⊥
+
+-- the job of these parts
+abbrev pub IsJobOfParts : List ℕ → List ℕ → ℕ → Object → Type 0
+IsJobOfParts roots selector limit (held.Job job) = job_of_parts roots selector limit ≡ Ok job
+IsJobOfParts roots selector limit (held.Open store) = ⊥
+IsJobOfParts roots selector limit (held.Frozen store) = ⊥
+IsJobOfParts roots selector limit (held.Exported out) = ⊥
+IsJobOfParts roots selector limit (held.Text text) = ⊥
+IsJobOfParts roots selector limit (held.Refusal line) = ⊥
+
+-- the hex of the selector of a JSON text
+abbrev pub IsSelectorTextOf : List ℕ → Object → Type 0
+IsSelectorTextOf json (held.Text hex) = IsSelectorHex json (hex.items ++ 10 ∷ [])
+IsSelectorTextOf json (held.Open store) = ⊥
+IsSelectorTextOf json (held.Frozen store) = ⊥
+IsSelectorTextOf json (held.Job job) = ⊥
+IsSelectorTextOf json (held.Exported out) = ⊥
+IsSelectorTextOf json (held.Refusal line) = ⊥
+
+-- what an export of this job over these blocks leaves
+abbrev pub IsExportOf : Blocks → JobMeaning → Object → Type 0
+IsExportOf blocks job (held.Exported out) = HasExported blocks job out
+IsExportOf blocks job (held.Open store) = ⊥
+IsExportOf blocks job (held.Frozen store) = ⊥
+IsExportOf blocks job (held.Job other) = ⊥
+IsExportOf blocks job (held.Text text) = ⊥
+IsExportOf blocks job (held.Refusal line) = ⊥
+
+-- no failure
+abbrev pub IsNoFailure : Failure → Type 0
+IsNoFailure failure = ⊥
+
+-- an open store that has been handed a block, of which this was reported
+abbrev pub HasAddedAs : Added → List ℕ → List ℕ → Option Object → Option Object → Type 0
+HasAddedAs told cid block before after =
+    (old : Blocks) × (new : Blocks) × (before ≡ Some (held.Open old)) × (after ≡ Some (held.Open new))
+    × HasAdded old cid block new told
+
+-- the handle holds no open store
+abbrev pub IsNoOpen : Option Object → Type 0
+IsNoOpen content = (store : Blocks) → content ≢ Some (held.Open store)
+
+-- what a call returns that adds a block to an open store
+abbrev pub HasAddedTo : List ℕ → List ℕ → Option Object → Option Object → Status → Type 0
+HasAddedTo cid block before after Done = HasAddedAs added.New cid block before after
+HasAddedTo cid block before after Known = HasAddedAs added.Known cid block before after
+HasAddedTo cid block before after NoCid = HasAddedAs added.NoCid cid block before after
+HasAddedTo cid block before after Memory = after ≡ before
+HasAddedTo cid block before after Handle = (after ≡ before) × IsNoOpen before
+HasAddedTo cid block before after Refused = ⊥
+HasAddedTo cid block before after Range = ⊥
+
+-- what a call returns that freezes an open store
+abbrev pub HasFrozen : Option Object → Option Object → Status → Type 0
+HasFrozen before after Done =
+    (store : Blocks) × (frozen : Object) × (before ≡ Some (held.Open store)) × (after ≡ Some frozen)
+    × IsFrozen store frozen
+HasFrozen before after Memory = after ≡ before
+HasFrozen before after Handle = (after ≡ before) × IsNoOpen before
+HasFrozen before after Refused = ⊥
+HasFrozen before after Known = ⊥
+HasFrozen before after NoCid = ⊥
+HasFrozen before after Range = ⊥
+
+-- the handle holds no job
+abbrev pub IsNoJob : Option Object → Type 0
+IsNoJob content = (job : JobMeaning) → content ≢ Some (held.Job job)
+
+-- what a call returns that makes a job expand each CID once
+abbrev pub HasOnce : Option Object → Option Object → Status → Type 0
+HasOnce before after Done =
+    (job : JobMeaning) × (before ≡ Some (held.Job job)) × (after ≡ Some (held.Job (going_in true job)))
+HasOnce before after Handle = (after ≡ before) × IsNoJob before
+HasOnce before after Memory = ⊥
+HasOnce before after Refused = ⊥
+HasOnce before after Known = ⊥
+HasOnce before after NoCid = ⊥
+HasOnce before after Range = ⊥
+
+-- a handle holds a frozen store of these blocks
+abbrev pub HoldsFrozen : Blocks → Option Object → Type 0
+HoldsFrozen store None = ⊥
+HoldsFrozen store (Some content) = IsFrozen store content
+
+-- a handle holds what an export of this job over these blocks leaves
+abbrev pub HoldsExport : Blocks → JobMeaning → Option Object → Type 0
+HoldsExport store job None = ⊥
+HoldsExport store job (Some content) = IsExportOf store job content
+
+-- what a call returns that makes one more handle of a frozen store
+abbrev pub HasShared : Option Object → Option Object → Option Object → Status → Type 0
+HasShared store before after Done = (blocks : Blocks) × HoldsFrozen blocks store × HoldsFrozen blocks after
+HasShared store before after Memory = after ≡ before
+HasShared store before after Handle = (after ≡ before) × ((blocks : Blocks) → HoldsFrozen blocks store → ⊥)
+HasShared store before after Refused = ⊥
+HasShared store before after Known = ⊥
+HasShared store before after NoCid = ⊥
+HasShared store before after Range = ⊥
+
+-- these are no frozen store and a job
+abbrev pub AreNoneToExport : Option Object → Option Object → Type 0
+AreNoneToExport store job =
+    (blocks : Blocks) (wanted : JobMeaning) → HoldsFrozen blocks store → job ≢ Some (held.Job wanted)
+
+-- what a call returns that exports a job over a frozen store
+abbrev pub IsExported : Option Object → Option Object → Option Object → Option Object → Status → Type 0
+IsExported store job before after Done =
+    (blocks : Blocks) × (wanted : JobMeaning) × HoldsFrozen blocks store × (job ≡ Some (held.Job wanted))
+    × HoldsExport blocks wanted after
+IsExported store job before after Memory = after ≡ before
+IsExported store job before after Handle = (after ≡ before) × AreNoneToExport store job
+IsExported store job before after Refused = ⊥
+IsExported store job before after Known = ⊥
+IsExported store job before after NoCid = ⊥
+IsExported store job before after Range = ⊥
+
+-- what is answered for these two, before a handle is filled with it: none where they are no frozen store and a job
+abbrev pub IsExportedOf : Object → Object → Option (Result Exported AllocError) → Type 0
+IsExportedOf store job (Some (Ok out)) =
+    (blocks : Blocks) × (wanted : JobMeaning) × IsFrozen blocks store × (job ≡ held.Job wanted)
+    × HasExported blocks wanted out
+IsExportedOf store job (Some (Err e)) = Unit {0}
+IsExportedOf store job None = (blocks : Blocks) (wanted : JobMeaning) → IsFrozen blocks store → job ≢ held.Job wanted
+
+-- one more owner of the store that this is, before a handle is filled with it: none where it is no frozen store
+abbrev pub IsOwnerOf : Object → Option (Result (Arc Blocks Global) AllocError) → Type 0
+IsOwnerOf content (Some (Ok owner)) = IsFrozen (arc_value owner) content
+IsOwnerOf content (Some (Err e)) = Unit {0}
+IsOwnerOf content None = (blocks : Blocks) → IsFrozen blocks content → ⊥

@@ -1,5 +1,0 @@
-use Rattle.std.proofs.Common.{refl, inr}
-use Rattle.ix_files.proofs.fault.Failure.too_large.Goals as goal
-
-pub returns-in-Ok : goal.returns-in-Ok
-returns-in-Ok c = inr (record { name = c.in-Ok.path; named = c.in-Ok.ensures.ok; told_is = refl })

@@ -1,5 +1,0 @@
-use Rattle.std.proofs.Common.{rules, append_assoc}
-use Rattle.ix_jobs.proofs.outcome.push_job_line.Goals as goal
-
-pub returns : goal.returns
-returns c = simp append_assoc (search rules)

@@ -1,0 +1,104 @@
+//! The cached answers for each block of a list, in words that threads share.
+
+ghost use Rattle.std.specs.Prelude.{◌≡◌, ◌<◌, IfOk, length, map, slice_get, Some, IfSome, IfNone, ◌==◌, cond};
+ghost use Rattle.ix_store.specs.Entry.{pair_of};
+ghost use Rattle.ix_store.specs.Memo.{hash_matches, is_malformed, IsTrueAt};
+
+use crate::entry::Entry;
+use crate::memo_rule::{Look, MemoSeat, Note, Row};
+use atomic_table::Table;
+use std::alloc::{AllocError, Global};
+use std::marker::Model;
+
+/// The cached answers for each block of a list. Contracts see that list.
+#[derive(Drop)]
+pub(crate) struct Memo {
+    row: Row,
+}
+
+impl Model for Memo {
+    ghost use Rattle.std.specs.Prelude.{◌≡◌, length, map};
+    ghost use Rattle.ix_store.specs.Entry.{pair_of};
+    ghost use Rattle.ix_store.specs.Store.{Blocks};
+
+    ghost Value = { Blocks };
+
+    ghost view = { λ m. map pair_of m.row.shared.key.items };
+
+    ghost invariant = { λ m. m.row.shared.table_id.words ≡ length m.row.shared.key.items };
+}
+
+impl Memo {
+    /// Creates words for these entries, with no answer known.
+    pub(crate) fn new(alloc: Global, entries: &Vec<Entry>) -> Result<Memo, AllocError>
+        ensures { IfOk result (λ m. m ≡ map pair_of entries.now.items) }
+    {
+        let blank = Vec::from_elem(alloc, 0u64, entries.len())?;
+        let (row, _) = Table::of_words(alloc, blank.as_slice(), entries)?;
+        Ok(Memo { row })
+    }
+
+    /// Whether the digest of the CID at a position is that of the block there. Computes it unless a
+    /// thread has stored the answer.
+    pub(crate) fn hash_matches(&self, place: usize, entry: &Entry) -> bool
+        requires { slice_get self.now place ≡ Some (pair_of entry.now) }
+        ensures { result ≡ hash_matches (pair_of entry.now) }
+    {
+        let (word, mut seat) = look(&self.row, place);
+        if let Some(answer) = decode(word % 4) {
+            return answer;
+        }
+        let answer = entry.hash_matches();
+        note(&self.row, &mut seat, place, word, word + encode(answer));
+        answer
+    }
+
+    /// Whether the block at a position is not valid DAG-CBOR. Computes it unless a thread has
+    /// stored the answer.
+    pub(crate) fn is_malformed(&self, place: usize, entry: &Entry) -> bool
+        requires { slice_get self.now place ≡ Some (pair_of entry.now) }
+        ensures { result ≡ is_malformed (pair_of entry.now) }
+    {
+        let (word, mut seat) = look(&self.row, place);
+        if let Some(answer) = decode(word / 4) {
+            return answer;
+        }
+        let answer = entry.is_malformed();
+        note(&self.row, &mut seat, place, word, word + 4 * encode(answer));
+        answer
+    }
+}
+
+// Decodes a digit of a word to an answer, if it has one.
+fn decode(digit: u64) -> Option<bool>
+    ensures none { IfNone result (digit ≡ 0) }
+    ensures some { IfSome result (λ b. (0 < digit) × (b ≡ (digit == 1))) }
+{
+    if digit == 0 { None } else { Some(digit == 1) }
+}
+
+// Encodes an answer as a digit of a word.
+fn encode(answer: bool) -> u64
+    ensures { result ≡ cond answer 1 2 }
+{
+    if answer { 1 } else { 2 }
+}
+
+// Reads the word at a position: it is true of the block there.
+fn look(row: &Row, place: usize) -> (u64, MemoSeat)
+    requires { place < row.now.shared.table_id.words }
+    ensures table { result.1.table_id ≡ row.now.shared.table_id }
+    ensures told { IsTrueAt (map pair_of row.now.shared.key.items) place result.0 }
+{
+    row.shared.load_new_seat::<Look>(place)
+}
+
+// Writes a word over the one that was read, unless another thread has changed it since.
+fn note(row: &Row, seat: &mut MemoSeat, place: usize, found: u64, word: u64)
+    requires seat { seat.old.table_id ≡ row.now.shared.table_id }
+    requires place { place < row.now.shared.table_id.words }
+    requires word { IsTrueAt (map pair_of row.now.shared.key.items) place word }
+{
+    row.shared
+        .compare_exchange::<Note>(seat, place, found, word);
+}
