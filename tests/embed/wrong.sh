@@ -1,7 +1,7 @@
 #!/usr/bin/env bash
-# Shows that the tests of the library for C see what is wrong: each file of tests/embed/wrong/ has calls in place of the
-# library's own, which it may still call (`true_ix_export` for `ix_export`), and each part of tests/embed.sh that it names has
-# to fail with the library that is made so. A part that it says passes has to, and so have all with a library that changes
+# Tries the mutants of the library for C: each file of tests/embed/wrong/ has calls in place of the library's own, which it may
+# still call (`true_ix_export` for `ix_export`). Each part of tests/embed.sh that its line `rejected by: test` names has to fail
+# with the library that is made so. A part of its line `not by` has to pass, and so have all with a library that changes
 # nothing. It takes two minutes.
 #
 # usage: tests/embed/wrong.sh LIBRARY.a [NAME..]      all files, where none is named
@@ -54,10 +54,10 @@ for part in calls threads memory cases c python rust installed; do
 done
 for name; do
   make "$work/$name" "$name.c"
-  for part in $(sed -n 's|^/\* Fails: \(.*\) \*/$|\1|p' "$name.c"); do
+  for part in $(sed -n 's|^/\* rejected by: test \(.*\) \*/$|\1|p' "$name.c"); do
     expect 1 "$name" "$part"
   done
-  for part in $(sed -n 's|^/\* Passes: \(.*\) \*/$|\1|p' "$name.c"); do
+  for part in $(sed -n 's|^/\* not by: \(.*\) \*/$|\1|p' "$name.c"); do
     expect 0 "$name" "$part"
   done
 done

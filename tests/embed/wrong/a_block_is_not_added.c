@@ -1,5 +1,5 @@
+/* rejected by: test calls threads cases */
 /* A block of more than three bytes is reported as added and isn't. */
-/* Fails: calls threads cases */
 #include <ix_export.h>
 
 uint32_t true_ix_store_add(ix_handle *store, const uint8_t *cid, size_t cid_length, const uint8_t *block, size_t block_length);

@@ -1,5 +1,5 @@
+/* rejected by: test calls */
 /* Where there is no such part, the count says that nothing was copied. */
-/* Fails: calls */
 #include <ix_export.h>
 
 uint32_t true_ix_copy(ix_handle *handle, uint32_t part, size_t from, uint8_t *buffer, size_t buffer_length, size_t *count);

@@ -1,5 +1,5 @@
+/* rejected by: test calls memory cases c python rust installed */
 /* The last section of a file of blocks is cut off by a byte, and the file taken without it. */
-/* Fails: calls memory cases c python rust installed */
 #include <ix_export.h>
 
 uint32_t true_ix_store_read_car(ix_handle *store, const uint8_t *car, size_t length);

@@ -1,5 +1,5 @@
+/* rejected by: test calls threads memory cases c python rust */
 /* An export takes the archive of the export before it, whoever made that. */
-/* Fails: calls threads memory cases c python rust */
 #include <ix_export.h>
 #include <pthread.h>
 

@@ -1,5 +1,5 @@
+/* rejected by: test threads memory */
 /* Each share of a store takes one more that no handle has, so the store is never freed. */
-/* Fails: threads memory */
 #include <ix_export.h>
 
 uint32_t true_ix_store_share(ix_handle *store, ix_handle *other);

@@ -1,5 +1,5 @@
+/* rejected by: test threads memory c rust */
 /* A second handle of a store is a copy of the first, and nobody counts it. */
-/* Fails: threads memory c rust */
 #include <ix_export.h>
 
 uint32_t ix_store_share(ix_handle *store, ix_handle *other) {

@@ -1,5 +1,5 @@
+/* rejected by: test calls threads cases */
 /* Why a visit was skipped is reported by the number after the right one. */
-/* Fails: calls threads cases */
 #include <ix_export.h>
 
 uint32_t true_ix_result_skip(ix_handle *result, size_t number, ix_skip *skip, const uint8_t **cid, size_t *length);

@@ -1,5 +1,5 @@
+/* rejected by: test calls */
 /* Where there is no such skip, its CID is reported as nowhere. */
-/* Fails: calls */
 #include <ix_export.h>
 
 uint32_t true_ix_result_skip(ix_handle *result, size_t number, ix_skip *skip, const uint8_t **cid, size_t *length);

@@ -1,5 +1,5 @@
+/* rejected by: test calls threads cases c python rust */
 /* Every line is taken for the first one, and the roots of every job for those of the first. */
-/* Fails: calls threads cases c python rust */
 #include <ix_export.h>
 #include <pthread.h>
 #include <string.h>

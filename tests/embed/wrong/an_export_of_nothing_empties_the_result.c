@@ -1,5 +1,5 @@
+/* rejected by: test calls */
 /* A handle that was to be filled is emptied where there is no store or no job. */
-/* Fails: calls */
 #include <ix_export.h>
 
 uint32_t true_ix_export(ix_handle *store, ix_handle *job, ix_handle *result);

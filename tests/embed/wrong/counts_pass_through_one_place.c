@@ -1,6 +1,6 @@
+/* rejected by: test threads */
+/* not by: calls cases python */
 /* The report on a job is for a while where every thread writes. One thread alone sees nothing of it. */
-/* Fails: threads */
-/* Passes: calls cases python */
 #include <ix_export.h>
 #include <sched.h>
 

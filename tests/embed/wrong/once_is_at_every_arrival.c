@@ -1,5 +1,5 @@
+/* rejected by: test calls */
 /* A job that is to go into each CID once goes in at every arrival. */
-/* Fails: calls */
 #include <ix_export.h>
 
 uint32_t true_ix_job_once(ix_handle *job);

@@ -1,5 +1,5 @@
+/* rejected by: test calls threads memory cases c python rust installed */
 /* A result hands out its report for its archive. */
-/* Fails: calls threads memory cases c python rust installed */
 #include <ix_export.h>
 
 uint32_t true_ix_bytes(ix_handle *handle, uint32_t part, const uint8_t **start, size_t *length);

@@ -1,5 +1,5 @@
+/* rejected by: test memory */
 /* A store that can't be frozen for lack of memory is reported as frozen. */
-/* Fails: memory */
 #include <ix_export.h>
 
 uint32_t true_ix_store_freeze(ix_handle *store);
