@@ -42,7 +42,7 @@ install:
 	[ ! -e "$(LIBRARY)" ] || $(MAKE) --no-print-directory install-lib
 
 lib:
-	@.ci/library
+	@tools/library
 
 install-lib:
 	@[ -e "$(LIBRARY)" ] || { echo 'make install-lib: there is no $(LIBRARY): make lib builds it' >&2; exit 1; }; \

@@ -1,7 +1,7 @@
 #!/usr/bin/env bash
-# Tests ./ix_export, .ci/build, .ci/dist, .ci/compare and .ci/passed in a small tree with a toolchain that only pretends: which
-# program is taken, when one is built, what is rejected, that no failure costs the program that is there, and what the gate notes.
-# It proves nothing, and takes some seconds. Ends with status 1 at the first that is wrong.
+# Tests ./ix_export, tools/build, tools/dist, .ci/compare and .ci/passed in a small tree with a toolchain that only pretends:
+# which program is taken, when one is built, what is rejected, that no failure costs the program that is there, and what CI
+# notes. It proves nothing, and takes some seconds. Ends with status 1 at the first that is wrong.
 set -Eeuo pipefail
 export LC_ALL=C
 
@@ -64,7 +64,7 @@ program() {
 pack_dist() {
   mkdir -p dist
   program "dist/$name" "$1"
-  .ci/sources >dist/sources
+  tools/sources >dist/sources
   echo "$kit" >dist/KIT
   (cd dist && sha256sum "$name" sources KIT >SHA256SUMS)
 }
@@ -75,7 +75,7 @@ tree() {
   rm -rf "$scratch/tree" "$state"
   mkdir -p "$scratch/tree" "$state"
   cd "$scratch/tree"
-  cp -r "$top/ix_export" "$top/.ci" .
+  cp -r "$top/ix_export" "$top/.ci" "$top/tools" .
   printf '%s\n' 'ix_low: hex' 'ix_side: ix_low hex' 'ix_high: ix_low' 'ix_export: ix_high ix_side' 'ix_other: ix_high' >crates.txt
   echo 'Handles allowed: none.' >HANDLES
   for crate in low side high other; do
@@ -375,7 +375,7 @@ called "${all_of[@]}"
 tree 'a build that is ended leaves nothing behind'
 jobs=4
 echo 'echo $$ >>"$state/begun"; exec sleep 600' >"$state/during"
-RT_JOBS=$jobs PATH=$path .ci/build 2>/dev/null &
+RT_JOBS=$jobs PATH=$path tools/build 2>/dev/null &
 building=$!
 until [ -e "$state/begun" ]; do sleep 0.05; done
 kill "$building"
@@ -419,9 +419,9 @@ compared 0 'no program to compare'
 # dist_refused: the gate hasn't built what is to go into dist/, and one line says what to do.
 dist_refused() {
   status=0
-  here .ci/dist >"$scratch/stdout" 2>"$scratch/stderr" || status=$?
+  here tools/dist >"$scratch/stdout" 2>"$scratch/stderr" || status=$?
   answers 1 ''
-  expect_lines 'standard error' ".ci/dist: build/ hasn't the program that the gate built of these sources: run .ci/run first" \
+  expect_lines 'standard error' "tools/dist: build/ hasn't the program that the gate built of these sources: run .ci/run first" \
     "$scratch/stderr"
 }
 
@@ -431,7 +431,7 @@ dist_refused
 run --prove
 dist_refused
 cp build/SHA256SUMS build/gate
-here .ci/dist >"$scratch/stdout" 2>"$scratch/stderr"
+here tools/dist >"$scratch/stdout" 2>"$scratch/stderr"
 expect_folder dist KIT SHA256SUMS "$name" sources
 compared 0 'make the same program'
 rm -r build

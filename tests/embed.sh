@@ -5,7 +5,7 @@
 # docs/EMBEDDING.md over an installed library. Ends with status 1 at the first that is wrong.
 #
 # usage: tests/embed.sh [--only PART] [LIBRARY.a | --of-gate]
-#   a library that is built, or else .ci/library makes it, in the gate's way or its own
+#   a library that is built, or else tools/library makes it, in the gate's way or its own
 #   PART is calls, threads, memory, cases, c, python, rust or installed, or stack, which prints how much stack the calls take
 #   whose input may nest; with a PART the status is 2 where it couldn't be run
 set -Eeuo pipefail
@@ -46,7 +46,7 @@ fi
 case ${1-} in
   *.a) library=$(cd "$OLDPWD" && readlink -f "$1") ;;
   *)
-    "$top/.ci/library" "$@"
+    "$top/tools/library" "$@"
     library=$top/build/lib/libix_export.a
     ;;
 esac
