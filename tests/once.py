@@ -15,7 +15,8 @@ import subprocess
 import sys
 import tempfile
 
-sys.path.insert(0, str(pathlib.Path(__file__).resolve().parent))
+TESTS = pathlib.Path(__file__).resolve().parent
+sys.path[:0] = [str(TESTS), str(TESTS.parent / "crates/ix_cases/data")]
 sys.dont_write_bytecode = True
 import random_steps
 from hostile import ALL, DAG_CBOR, DIGESTS, IDENTITY, NO_ROOTS, PROGRAM, RAW, SECONDS_A_RUN, SHA2_256, SHA2_512, TOP
@@ -106,7 +107,7 @@ def parts(key):
 
 
 class Selector:
-    """A selector of tests/random_steps.py with a number for each place."""
+    """A selector of random_steps.py with a number for each place."""
 
     def __init__(self, root):
         self.places = []

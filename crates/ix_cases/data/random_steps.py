@@ -1,7 +1,7 @@
 #!/usr/bin/env python3
-"""Writes crates/ix_cases/data/random_steps.cases: random selectors, each stepped along a random path.
+"""Prints random_steps.cases: random selectors, each stepped along a random path.
 
-    tests/random_steps.py > crates/ix_cases/data/random_steps.cases
+    ./random_steps.py > random_steps.cases
 
 What is wanted is decided by the relation of the specification alone: a selector stands inside its recursions,
 all of them with their depths, and a path is entered where one of the rules leads along it. The same seed gives
@@ -155,7 +155,7 @@ def main():
     parser.add_argument("--seed", type=int, default=1)
     words = parser.parse_args()
     chance = random.Random(words.seed)
-    print("# Made by tests/random_steps.py: random selectors along random paths, by the rules of the specification.")
+    print("# Made by random_steps.py: random selectors along random paths, by the rules of the specification.")
     print("example random selectors")
     cases = []
     while len(cases) < words.count:

@@ -1,5 +1,5 @@
 #!/usr/bin/env python3
-"""Prints crates/ix_cases/data/writers.cases: one job over a list of one link, with a writer that takes so many bytes
+"""Prints writers.cases: one job over a list of one link, with a writer that takes so many bytes
 and then fails, for each number of bytes up to the whole archive. What is wanted is made from the formats alone.
 """
 
@@ -29,7 +29,7 @@ header = with_length(
 sections = [with_length(root + one), with_length(cid(0x55, abc) + abc)]
 archive = header + b"".join(sections)
 
-print("# One job over a list of one link, with a writer that takes so many bytes and then fails: made by tests/writers.py.")
+print("# One job over a list of one link, with a writer that takes so many bytes and then fails: made by writers.py.")
 for room in range(len(archive) + 1):
     print(f"\nexample writer of {room} bytes")
     for part in sections:
