@@ -1,4 +1,0 @@
-pub mod Faults
-pub mod Steps
-pub mod Line
-pub mod Words
