@@ -12,7 +12,7 @@ use ix_check::Check;
 use ix_store::Store;
 use ix_threads::{Gate, Outcome, Plan, Prepared, Task, flow};
 use ix_walk::Job;
-use std::alloc::Global;
+use std::alloc::{AllocFailed, Global};
 use std::sync::{Arc, Wait};
 use std::thread::Threads;
 
@@ -62,15 +62,16 @@ where
     ensures not_started { IfErr result (λ none.
         (sinks.new ≡ sinks.old) × (none.checks.items ≡ checks.items)) }
 {
-    let Ok(prepared) = Prepared::new(alloc, store, jobs, plan, checks.len()) else {
-        return Err(NotStarted { checks });
+    let prepared = match Prepared::new(alloc, store, jobs, plan, checks) {
+        Ok(prepared) => prepared,
+        Err(AllocFailed { value: checks }) => return Err(NotStarted { checks }),
     };
     let task = Task {
         store,
         jobs: jobs.as_slice(),
         gate,
     };
-    let outcome = flow(rt, alloc, &task, sinks, checks, prepared);
+    let outcome = flow(rt, alloc, &task, sinks, prepared);
     law::faithful_is_archived();
     Ok(outcome)
 }

@@ -1,5 +1,5 @@
 pub mod Ends
-pub mod Gathering
+pub mod Callers
 pub mod Lists
 pub mod Starts
 pub mod Joins

@@ -11,6 +11,10 @@ use Rattle.ix_channels.specs.Seats.{JobView, SeatView, new_job, new_taker}
 use Rattle.ix_stages.specs.Walking.{IsReady}
 use Rattle.ix_threads.proofs.Lists.{all_count}
 
+-- a seat of the queue, whose course has visits of this store, that has taken nothing
+abbrev pub IsIdle : Blocks → TableId → SeatView → Type 0
+IsIdle store t s = (s.table ≡ t) × IsCourseOf store s.pass.course × (s.pass.taken ≡ [])
+
 module _ (store : Blocks) (jobs : List JobMeaning) (t : TableId) (course : List JobVisits) (all : ℕ) (same : course ≡ course_of store jobs) where
   -- the new seats of so many jobs are ready, as each is new
   pub seats_ready : (n : ℕ) (seats : List JobView) → n ≡ length jobs → seats ≡ map (new_job t course all) (count_up 0 n) → All (IsReady store jobs t) seats
@@ -27,8 +31,7 @@ module _ (store : Blocks) (jobs : List JobMeaning) (t : TableId) (course : List 
   pub seats_each : (n : ℕ) (seats : List JobView) → n ≡ length jobs → seats ≡ map (new_job t course all) (count_up 0 n) → map (λ s. s.job) seats ≡ count_up 0 (length jobs)
   seats_each n seats many is = ap (λ (l : List JobView). map (λ s. s.job) l) is ∙ (jobs_counted 0 n ∙ ap (count_up 0) many)
 
-  -- new takers are ready, as each has taken nothing
-  pub takers_ready : (n : ℕ) (takers : List SeatView) → IsCourseOf store (course_of store jobs) → takers ≡ replicate n (new_taker t course all) → All (λ s. (s.table ≡ t) × IsCourseOf store s.pass.course × (s.pass.taken ≡ [])) takers
-  takers_ready n takers of is =
-      let P : SeatView → Type 0 = λ s. (s.table ≡ t) × IsCourseOf store s.pass.course × (s.pass.taken ≡ []) in
-      subst (All P) (sym is) (All-replicate P n (new_taker t course all) (refl, subst (λ (k : List JobVisits). IsCourseOf store k) (sym same) of, refl))
+  -- new takers have taken nothing
+  pub takers_idle : (n : ℕ) (takers : List SeatView) → IsCourseOf store (course_of store jobs) → takers ≡ replicate n (new_taker t course all) → All (IsIdle store t) takers
+  takers_idle n takers of is =
+      subst (All (IsIdle store t)) (sym is) (All-replicate (IsIdle store t) n (new_taker t course all) (refl, subst (λ (k : List JobVisits). IsCourseOf store k) (sym same) of, refl))

@@ -1,9 +1,6 @@
-pub mod Idle
 pub mod Working
 pub mod Verifiers
-pub mod Joined
-pub mod Stopping
-pub mod Gathered
+pub mod Caller
 pub mod Closed
 pub mod Sinks
 pub mod Flowing

@@ -1,5 +1,5 @@
 -- What the caller knows of verifiers.
-use Rattle.std.specs.Prelude.{◌≡◌, ℕ, ◌≤◌, List, [], ◌∷◌, vec_capacity}
+use Rattle.std.specs.Prelude.{◌≡◌, ℕ, List, [], ◌∷◌}
 use Rattle.std.specs.declared.thread.PromisedHandle.{PromisedHandle}
 use Rattle.atomic_table.specs.Seated.{TableId}
 use Rattle.ix_store.specs.Store.{Blocks}
@@ -9,20 +9,17 @@ use Rattle.ix_channels.specs.Course.{IsCourseOf}
 use Rattle.ix_channels.specs.Lanes.{sent_by, received_by, IsLane, SameIn}
 use Rattle.ix_threads.specs.declared.verifying.Verifier.{Verifier}
 use Rattle.ix_threads.specs.declared.verifying.StartFacts.{StartFacts}
-use Rattle.ix_threads.specs.declared.verifying.UnstartedVerifier.{UnstartedVerifier}
-use Rattle.ix_threads.specs.declared.verifying.RunningVerifiers.{RunningVerifiers}
-use Rattle.ix_threads.specs.declared.joining.Joined.{Joined}
 
 module _ {C : Type 0} (checked : C → List (ℕ × ℕ)) (store : Blocks) (t : TableId) where
-  -- a verifier that wasn't started yet, and has done nothing
-  pub record IsUnstarted (p : UnstartedVerifier C) : Type 0 where
-    pub table : p.verifier.seat.table ≡ t
-    pub course : IsCourseOf store p.verifier.seat.pass.course
-    pub taken : p.verifier.seat.pass.taken ≡ []
-    pub sent : sent_by p.verifier.lane ≡ []
-    pub lane : IsLane p.verifier.lane p.receiver
-    pub received : received_by p.receiver ≡ []
-    pub unused : checked p.verifier.check ≡ []
+  -- a verifier that wasn't started yet, and has done nothing, with the receiver of its lane
+  pub record IsUnstarted (p : Verifier C × LaneOut) : Type 0 where
+    pub table : p.0.seat.table ≡ t
+    pub course : IsCourseOf store p.0.seat.pass.course
+    pub taken : p.0.seat.pass.taken ≡ []
+    pub sent : sent_by p.0.lane ≡ []
+    pub lane : IsLane p.0.lane p.1
+    pub received : received_by p.1 ≡ []
+    pub unused : checked p.0.check ≡ []
 
   -- one that was started with this store, when it had done nothing
   pub record IsBegan (h : PromisedHandle (Verifier C) (StartFacts C)) : Type 0 where
@@ -48,16 +45,3 @@ module _ {C : Type 0} where
   EachBack [] [] = Unit {0}
   EachBack (h ∷ hs) (i ∷ is) = SameIn h.promise.verifier.value.lane i × EachBack hs is
   EachBack hs is = ⊥
-
-  -- room for so many verifiers that run
-  pub record HasRunningRoom (count : ℕ) (s : RunningVerifiers C) : Type 0 where
-    pub empty : (s.handles.items ≡ []) × (s.receivers.items ≡ [])
-    pub handles : count ≤ vec_capacity s.handles
-    pub receivers : count ≤ vec_capacity s.receivers
-
-  -- room for what so many verifiers give back
-  pub record HasJoinRoom (count : ℕ) (j : Joined C) : Type 0 where
-    pub empty : (j.takers.items ≡ []) × (j.senders.items ≡ []) × (j.checks.items ≡ [])
-    pub takers : count ≤ vec_capacity j.takers
-    pub senders : count ≤ vec_capacity j.senders
-    pub checks : count ≤ vec_capacity j.checks

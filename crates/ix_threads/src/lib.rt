@@ -3,20 +3,22 @@
 //!
 //! In every schedule, and whichever threads can't be started: each sink receives what its job calls
 //! for, and each visit is checked as often as it is to be. `Prepared::new` allocates all memory whose
-//! size is known beforehand. `flow` returns no error: a job for which memory runs out ends with Memory.
+//! size is known beforehand, or returns the checks. `flow` returns no error: a job for which memory
+//! runs out ends with Memory.
 //!
 //! ```rust
 //! let plan = Plan { walkers: 4, queue: 1024, lane: 256 };
-//! let prepared = Prepared::new(alloc, &store, &jobs, plan, checks.len())?;
+//! let prepared = match Prepared::new(alloc, &store, &jobs, plan, checks) {
+//!     Ok(prepared) => prepared,
+//!     Err(AllocFailed { value: checks }) => return Err(checks),
+//! };
 //! let task = Task { store: &store, jobs: jobs.as_slice(), gate: &Open };
-//! let outcome = flow(rt, alloc, &task, &mut sinks, checks, prepared);
+//! let outcome = flow(rt, alloc, &task, &mut sinks, prepared);
 //! ```
 #![tactic(auto)]
 
-mod closing;
-mod collecting;
+mod caller;
 mod flowing;
-mod joining;
 mod law;
 mod plan;
 mod preparing;

@@ -9,8 +9,8 @@ use Rattle.ix_pipeline.specs.Headline.{EachDelivered}
 use Rattle.ix_pipeline.proofs.Exported.{archived_of_delivered}
 use Rattle.ix_pipeline.proofs.exporting.export.Goals as goal
 
-pub returns-in_default-clause-facts : goal.returns-in_default-clause-facts
-returns-in_default-clause-facts g c = kept_same g.S.Sink.guarantee c.args.sinks.now
+pub returns-in-Err-clause-facts : goal.returns-in-Err-clause-facts
+returns-in-Err-clause-facts g c = kept_same g.S.Sink.guarantee c.args.sinks.now
 
 pub returns-clause-archived : goal.returns-clause-archived
 returns-clause-archived g c =
