@@ -1,7 +1,7 @@
 #!/usr/bin/env bash
-# Compares the options of the help of each command with those of the man page and of the completions, both ways, and installs
-# them into an empty folder. Ends with status 1 where one has an option that another lacks, where a line of a help has more
-# than 80 columns, or a file isn't installed.
+# Compares the options of the help of each command, long and short, with those of the man page and of the completions, both
+# ways, and installs them into an empty folder. Ends with status 1 where one has an option that another lacks, where a line of
+# a help has more than 80 columns, or a file isn't installed.
 set -Eeuo pipefail
 export LC_ALL=C
 cd "$(dirname "${BASH_SOURCE[0]}")/.."
@@ -14,9 +14,9 @@ same() {
   printf 'tests/options.sh: FAILED: %s of `%s`: the help has %s, and it has %s\n' "$1" "$2" "$3" "${4:-none}" >&2
 }
 
-# The long options in a text, in order.
+# The options in a text, long and short, in order.
 sorted() {
-  { grep -oE -e '--[a-z][a-z-]*' || true; } | sort -u | tr '\n' ' '
+  { grep -oE -e '(^|[^A-Za-z-])-(-[a-z][a-z-]*|[A-Za-z])' | grep -oE -e '-.*' || true; } | sort -u | tr '\n' ' '
 }
 
 of_help() {
@@ -37,7 +37,7 @@ of_man() {
 of_bash() {
   bash -c '
     source install/ix_export.bash
-    COMP_WORDS=(ix_export $1 --) COMP_CWORD=$((${#COMP_WORDS[@]} - 1))
+    COMP_WORDS=(ix_export $1 -) COMP_CWORD=$((${#COMP_WORDS[@]} - 1))
     _ix_export
     printf "%s\n" "${COMPREPLY[@]}"' bash "$1" | sorted
 }
@@ -46,14 +46,15 @@ of_bash() {
 of_zsh() {
   awk -v wanted="$1" '
     /^ *[a-z-]+\)$/ { section = $1 }
-    section == (wanted == "" ? "" : wanted ")") { print }' install/_ix_export | sed "s/{-[a-zA-Z],\(--[a-z]*\)}/\1/; s/\[.*//" | sorted
+    section == (wanted == "" ? "" : wanted ")") && /^ *\x27/' install/_ix_export | sed 's/([^)]*)//; s/[{,}]/ /g; s/\[.*//' | sorted
 }
 
 # Of fish: the lines under the command's condition.
 of_fish() {
   local condition=__fish_use_subcommand
   [ -z "$1" ] || condition="'__fish_seen_subcommand_from $1'"
-  grep -F -e " -n $condition " install/ix_export.fish | sed -n 's/.* -l \([a-z-]*\) .*/--\1/p' | sorted
+  grep -F -e " -n $condition " install/ix_export.fish |
+    sed -nE 's/.* -s ([A-Za-z]) -l ([a-z-]+) .*/-\1 --\2/p; t; s/.* -l ([a-z-]+) .*/--\1/p' | sorted
 }
 
 commands=$(./ix_export --help | sed -n '/^Commands:/,/^$/s/^  *\([a-z-]*\) .*/\1/p' | grep -v '^help$' | sort)
@@ -97,6 +98,8 @@ bash_completes library.car ix_export get --blocks li
 bash_completes library.car ix_export get --blocks = li
 bash_completes library.car ix_export get --blocks =
 bash_completes library.car ix_export get --out = li
+bash_completes library.car ix_export get -o li
+bash_completes '' ix_export jobs -o li
 bash_completes --blocks ix_export get --blo
 rm -r "$files"
 

@@ -1,3 +1,3 @@
 mod Failures
 mod Inputs
-mod Namings
+mod Paths

@@ -1,5 +1,5 @@
 -- The failures of the program, for errors of the library, of files and of the arguments.
-use Rattle.std.specs.Prelude.{◌≡◌, ◌≢◌, ℕ, ◌≤◌, List, ◌++◌, length, String, ◌⊎◌, string_bytes, codes, Contains}
+use Rattle.std.specs.Prelude.{◌≡◌, ◌≢◌, ℕ, ◌≤◌, List, ◌++◌, length, map, String, ◌⊎◌, string_bytes, codes, Contains}
 use Rattle.std.specs.Prelude.{Option, IfSome, Result, Ok, Err, IfOk, IfErr}
 use Rattle.std.specs.Global.{Global, Vec}
 use Rattle.std.specs.IoError.{error_kind}
@@ -73,11 +73,15 @@ pub record IsReadFrom (known : Option (List ℕ)) (path : List ℕ) (result : Re
 abbrev pub output_path : List ℕ → List ℕ → List ℕ
 output_path folder name = folder ++ (codes "/" ++ (name ++ codes ".car"))
 
--- the failure names the output of one of the jobs, or memory ran out
-pub record NamesOutput (folder : List ℕ) (jobs : List JobMeaning) (failure : Failure) : Type 0 where
-  pub job : JobMeaning
-  pub among : Contains jobs job
-  pub names : Names CannotWrite (output_path folder job.name) failure
+-- the paths of the outputs of jobs
+abbrev pub paths_of : List ℕ → List JobMeaning → List (List ℕ)
+paths_of folder jobs = map (λ job. output_path folder job.name) jobs
+
+-- the failure names an output of one of these paths, or memory ran out
+pub record NamesOutput (paths : List (List ℕ)) (failure : Failure) : Type 0 where
+  pub path : List ℕ
+  pub among : Contains paths path
+  pub names : Names CannotWrite path failure
 
 -- an output of this path can't be created, or memory ran out
 abbrev pub IsPathFailure : List ℕ → Failure → Type 0
@@ -87,9 +91,9 @@ IsPathFailure path failure = Names CannotWrite path failure
 abbrev pub IsFailureOf : List ℕ → JobMeaning → Failure → Type 0
 IsFailureOf folder job failure = IsPathFailure (output_path folder job.name) failure
 
--- an output can't be created, or memory ran out
-abbrev pub IsOutputFailure : List ℕ → List JobMeaning → Failure → Type 0
-IsOutputFailure folder jobs failure = (failure ≡ Fault Memory) ⊎ NamesOutput folder jobs failure
+-- the same for an output of one of these paths
+abbrev pub IsOutputFailure : List (List ℕ) → Failure → Type 0
+IsOutputFailure paths failure = (failure ≡ Fault Memory) ⊎ NamesOutput paths failure
 
 -- the output of this path is rejected
 abbrev pub RefusesPath : {A : Type 0} → List ℕ → Result A Failure → Type 0
@@ -99,14 +103,9 @@ RefusesPath path result = IfErr result (IsPathFailure path)
 abbrev pub RefusesOutputOf : {A : Type 0} → List ℕ → JobMeaning → Result A Failure → Type 0
 RefusesOutputOf folder job result = IfErr result (IsFailureOf folder job)
 
--- the output of one of these jobs
-abbrev pub RefusesOutputs : {A : Type 0} → List ℕ → List JobMeaning → Result A Failure → Type 0
-RefusesOutputs folder jobs result = IfErr result (IsOutputFailure folder jobs)
-
--- an output is created for each of these jobs, or that of one of them is rejected
-pub record MakesOutputs {A : Type 0} (folder : List ℕ) (jobs : List JobMeaning) (result : Result (Vec A) Failure) : Type 0 where
-  pub each : IfOk result (λ outputs. length outputs.items ≡ length jobs)
-  pub refused : RefusesOutputs folder jobs result
+-- the output of one of these paths
+abbrev pub RefusesOutputs : {A : Type 0} → List (List ℕ) → Result A Failure → Type 0
+RefusesOutputs paths result = IfErr result (IsOutputFailure paths)
 
 -- the line that is printed for a failure; a usage error has clap's text instead
 abbrev pub IsLineOf : Failure → List ℕ → Type 0

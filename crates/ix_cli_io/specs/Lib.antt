@@ -1,3 +1,4 @@
 pub mod Failure
 pub mod Naming
+pub mod Output
 pub mod Progress

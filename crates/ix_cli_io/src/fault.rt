@@ -10,8 +10,8 @@ use ix_selector_json::NotationFault;
 use std::alloc::{AllocError, AllocFailed, Global};
 use std::io::{self, ErrorKind};
 
-// The status of a usage error, of an input that is rejected, and of an output that can't be created.
-const REFUSED: u8 = 2;
+/// The status of a usage error, of an input that is rejected, and of an output that can't be created.
+pub const REFUSED: u8 = 2;
 
 // The error numbers of the system if the process, or the whole system, has too many open files.
 const FILES_OF_PROCESS: i32 = 24;

@@ -1,22 +1,15 @@
-//! Renames the archives of a run to their final names.
+//! Which archives of a run get their final names, and the notes on those that don't.
 
-ghost use Rattle.std.specs.Prelude.{◌≡◌, IfOk, is_none};
-ghost use Rattle.ix_run.specs.Complete.{is_complete};
-ghost use Rattle.ix_cli_io.specs.Naming.{Joins, met_roots_alone};
-ghost use Rattle.ix_cli_io.specs.Failure.{RefusesOutputs, RefusesPath};
+ghost use Rattle.std.specs.Prelude.{◌≡◌};
+ghost use Rattle.ix_cli_io.specs.Naming.{met_roots_alone};
 
-use crate::fault::Failure;
-use crate::output::{Output, WriteErrors};
-use crate::outputs::{at_output, path_of};
-use crate::part::publish;
+use crate::outputs::job_path;
+use crate::write_errors::WriteErrors;
 use ix_archive::End;
 use ix_jobs::JobResult;
 use ix_run::{is_complete, is_root};
 use ix_walk::Job;
 use std::alloc::{AllocError, Global};
-use std::fs::File;
-use std::io;
-use std::rt::Files;
 
 /// Which archives of a run are renamed.
 #[derive(Debug, Drop, Clone, Copy, PartialEq, Eq)]
@@ -25,90 +18,6 @@ pub enum Naming {
     Ended,
     /// Those whose jobs are done with no root skipped.
     Complete,
-}
-
-/// Renames each archive that is to get its final name, in the order of the jobs. It isn't renamed if
-/// its file is no longer where it was created. Returns the first failure, and renames those after it
-/// nevertheless. Otherwise it returns notes for the user, one line each: which archive stays as `.part`
-/// and why, and which replaced a file though it isn't complete.
-pub fn name_outputs<'a, R: AllocGlobal + Files<File = File>>(
-    rt: &R,
-    folder: &str,
-    jobs: &[Job],
-    results: &[JobResult],
-    outputs: &[Output<'a, File>],
-    naming: Naming,
-) -> Result<String, Failure>
-    ensures refused { RefusesOutputs folder.now jobs.now result }
-{
-    let alloc = rt.alloc();
-    let mut notes = Ok(String::new(alloc));
-    for ((job, outcome), output) in jobs.iter().zip(results).zip(outputs) {
-        let note = at_output(alloc, folder, job, |path| {
-            name_or_leave(rt, path, job, outcome, output, naming)
-        });
-        notes = joined(notes, note);
-    }
-    notes
-}
-
-// Adds a note to the notes, or returns the first failure.
-fn joined(
-    notes: Result<String, Failure>,
-    note: Result<Option<String>, Failure>,
-) -> Result<String, Failure>
-    ensures { Joins notes note result }
-{
-    match (notes, note) {
-        (Ok(mut notes), Ok(Some(note))) => match notes.push_str(note.as_str()) {
-            Ok(()) => Ok(notes),
-            Err(error) => Err(Failure::from(error)),
-        },
-        (Ok(_), Err(failure)) => Err(failure),
-        (notes, _) => notes,
-    }
-}
-
-/// Renames the one archive of a path if its job is done with no root skipped. Otherwise it stays as
-/// `.part`, and the reason is returned.
-pub fn name_complete_output<'a, R: AllocGlobal + Files<File = File>>(
-    rt: &R,
-    path: &str,
-    job: &Job,
-    outcome: &JobResult,
-    output: &Output<'a, File>,
-) -> Result<Option<String>, Failure>
-    ensures named { IfOk result (λ left. is_none left ≡ is_complete job.now outcome.now) }
-    ensures refused { RefusesPath path.now result }
-{
-    match name_or_leave(rt, path, job, outcome, output, Naming::Complete) {
-        Ok(left) => Ok(left),
-        Err(error) => Err(Failure::cannot_write(rt.alloc(), path, &error)),
-    }
-}
-
-// Renames an archive if it is to be renamed, and returns what the user should know.
-fn name_or_leave<'a, R: AllocGlobal + Files<File = File>>(
-    rt: &R,
-    path: &str,
-    job: &Job,
-    outcome: &JobResult,
-    output: &Output<'a, File>,
-    naming: Naming,
-) -> io::Result<Option<String>>
-    ensures { naming ≡ Naming.Complete → IfOk result (λ left. is_none left ≡ is_complete job.now outcome.now) }
-{
-    if is_complete(job, outcome) {
-        publish(rt, path, output)?;
-        return Ok(None);
-    }
-    if naming == Naming::Complete {
-        return Ok(Some(left_line(rt.alloc(), path, job, outcome)?));
-    }
-    if !matches!(outcome.end, End::Done | End::Limit) || !publish(rt, path, output)? {
-        return Ok(None);
-    }
-    Ok(Some(replaced_line(rt.alloc(), path, job, outcome)?))
 }
 
 /// Returns the note on jobs whose archives could not be written, if there are any: the first of them,
@@ -127,7 +36,7 @@ pub fn failed_writes(
     let Some((first, _)) = failed.next() else {
         return Ok(String::new(alloc));
     };
-    let path = path_of(alloc, folder, first)?;
+    let path = job_path(alloc, folder, first)?;
     let cause = errors.cause(alloc)?;
     match failed.count() {
         0 => format!(in alloc; "cannot write {path}: {cause}\n"),
@@ -161,8 +70,8 @@ pub fn met_roots_alone(job: &Job, told: &JobResult) -> bool
     is_complete(job, told) && told.counts.visits as usize == job.roots().len()
 }
 
-// Returns the note on an archive that stays as `.part`.
-fn left_line(
+/// Returns the note on an archive that stays as `.part`.
+pub(crate) fn left_line(
     alloc: Global,
     path: &str,
     job: &Job,
@@ -172,8 +81,8 @@ fn left_line(
     format!(in alloc; "left {path}.part: {why}\n")
 }
 
-// Returns the note on an archive that isn't complete and replaced a file.
-fn replaced_line(
+/// Returns the note on an archive that isn't complete and replaced a file.
+pub(crate) fn replaced_line(
     alloc: Global,
     path: &str,
     job: &Job,

@@ -1,74 +1,57 @@
-//! The outputs of a run: files that are renamed once their archives are whole.
+//! The outputs of a run: one for each job.
 //!
 //! The archive of a job is written to `DIR/NAME.car.part`. It is renamed to `DIR/NAME.car` when the run
-//! has ended and the job is reported as done or limit, before the report is printed. An output of one
-//! path is written to `PATH.part` and renamed to `PATH` in the same way.
+//! has ended and the job is reported as done or limit, before the report is printed.
 
-ghost use Rattle.std.specs.Prelude.{◌≡◌, IfOk, string_bytes};
-ghost use Rattle.ix_cli_io.specs.Failure.{output_path, MakesOutputs, RefusesOutputOf, RefusesPath};
+ghost use Rattle.std.specs.Prelude.{◌≡◌, length, map, IfOk, string_bytes};
+ghost use Rattle.ix_cli_io.specs.Failure.{output_path, RefusesOutputOf, RefusesOutputs};
+ghost use Rattle.ix_cli_io.specs.Output.{path_of, MakesOutputs};
+ghost use Rattle.ix_cli_io.specs.Naming.{Joins};
 
+use crate::check::check_output;
 use crate::fault::Failure;
-use crate::input_file::{InputFile, check_no_input, identify};
-use crate::output::{Output, Writing};
-use crate::part::{check_part, make_part, part_path, remove_stale};
+use crate::input_file::{InputFile, identify};
+use crate::naming::Naming;
+use crate::output::{Output, OutputWriter};
+use crate::write_errors::WriteErrors;
+use ix_jobs::JobResult;
 use ix_walk::Job;
 use std::alloc::{AllocError, Global};
-use std::fs::{self, File};
-use std::io::{self, ErrorKind};
+use std::fs::File;
 use std::rt::Files;
 
 /// Returns the path of a job's archive.
-pub(crate) fn path_of(alloc: Global, folder: &str, job: &Job) -> Result<String, AllocError>
+pub(crate) fn job_path(alloc: Global, folder: &str, job: &Job) -> Result<String, AllocError>
     ensures { IfOk result (λ path. string_bytes path ≡ output_path folder.now job.now.name) }
 {
     let name = job.name();
     format!(in alloc; "{folder}/{name}.car")
 }
 
-/// Calls a function with the path of a job's archive, which a failure names.
-pub(crate) fn at_output<T: Drop, F: FnOnce(&str) -> io::Result<T>>(
-    alloc: Global,
-    folder: &str,
-    job: &Job,
-    does: F,
-) -> Result<T, Failure>
-    requires { F.IsAlwaysCallable does }
-    ensures { RefusesOutputOf folder.now job.now result }
-{
-    let path = path_of(alloc, folder, job)?;
-    match does(path.as_str()) {
-        Ok(done) => Ok(done),
-        Err(error) => Err(Failure::cannot_write(alloc, path.as_str(), &error)),
-    }
-}
-
-/// Creates the files of the archives, one for each job, in a directory that exists. Each is locked
-/// until it is closed. An output is rejected before any file is created if it is a directory, an input
-/// under any name (`-` is standard input), or a file that another run writes. If a file can't be
-/// created, those created before it are removed.
-pub fn make_outputs<'a, R: Files<File = File> + AllocGlobal>(
+/// Creates the outputs of the jobs in a directory that exists. One is rejected before any is created if it
+/// is a directory, an input under any name (`-` is standard input), or a file that another run writes. If
+/// one can't be created, those created before it are discarded.
+pub fn make_outputs<R: Files<File = File> + AllocGlobal>(
     rt: &R,
     folder: &str,
     jobs: &[Job],
     inputs: [&str; 2],
-    writing: Writing<'a>,
-) -> Result<Vec<Output<'a, File>>, Failure>
+    is_synced: bool,
+) -> Result<Vec<Output>, Failure>
     ensures { MakesOutputs folder.now jobs.now result }
 {
     let alloc = rt.alloc();
     let inputs = [identify(rt, inputs[0]), identify(rt, inputs[1])];
     for job in jobs {
-        at_output(alloc, folder, job, |path| check_output(rt, path, inputs))?;
+        check_job(rt, folder, job, inputs)?;
     }
+    // The room is allocated before the first file is created, so none of them is lost.
     let mut outputs = Vec::with_capacity(alloc, jobs.len())?;
     for job in jobs {
-        match at_output(alloc, folder, job, |path| make_part(rt, path, writing)) {
+        match output_of(rt, folder, job, is_synced) {
             Ok(output) => outputs.push(output)?,
             Err(failure) => {
-                let made = outputs.len();
-                // Closed, they are no longer locked.
-                drop(outputs);
-                remove_outputs(rt, folder, jobs, made);
+                discard_outputs(rt, outputs);
                 return Err(failure);
             }
         }
@@ -76,85 +59,91 @@ pub fn make_outputs<'a, R: Files<File = File> + AllocGlobal>(
     Ok(outputs)
 }
 
-/// Creates the file of one output, which is locked until it is closed. It is rejected if the path is a
-/// directory, a device or the like, if it is the file of the path `input` under any name (`-` is
-/// standard input), or if another run writes it.
-pub fn make_output<'a, R: Files<File = File> + AllocGlobal>(
-    rt: &R,
-    path: &str,
-    input: &str,
-    writing: Writing<'a>,
-) -> Result<Output<'a, File>, Failure>
-    ensures refused { RefusesPath path.now result }
-{
-    match checked_output(rt, path, input, writing) {
-        Ok(output) => Ok(output),
-        Err(error) => Err(Failure::cannot_write(rt.alloc(), path, &error)),
-    }
-}
-
-fn checked_output<'a, R: Files<File = File> + AllocGlobal>(
-    rt: &R,
-    path: &str,
-    input: &str,
-    writing: Writing<'a>,
-) -> io::Result<Output<'a, File>> {
-    check_file(rt, path, input)?;
-    make_part(rt, path, writing)
-}
-
-// Rejects one output if something other than a file is at its path, or if `check_output` rejects it.
-fn check_file<R: Files<File = File> + AllocGlobal>(
-    rt: &R,
-    path: &str,
-    input: &str,
-) -> io::Result<()> {
-    match fs::metadata(rt, path) {
-        Ok(metadata) if !metadata.is_file() && !metadata.is_dir() => {
-            return Err(io::Error::new(ErrorKind::AlreadyExists, "not a regular file"));
-        }
-        _ => {}
-    }
-    let input = identify(rt, input);
-    check_output(rt, path, [input, input])
-}
-
-// Rejects an output that is a directory or an input, or that another run writes.
-fn check_output<R: Files<File = File> + AllocGlobal>(
-    rt: &R,
-    path: &str,
-    inputs: [InputFile; 2],
-) -> io::Result<()> {
-    let part = part_path(rt.alloc(), path)?;
-    match fs::metadata(rt, path) {
-        Ok(metadata) if metadata.is_dir() => {
-            return Err(io::Error::new(ErrorKind::AlreadyExists, "is a directory"));
-        }
-        _ => {}
-    }
-    check_no_input(rt, path, inputs)?;
-    check_no_input(rt, part.as_str(), inputs)?;
-    check_part(rt, part.as_str())
-}
-
-/// Removes the `.part` files of the first jobs, so many. What can't be removed stays, and so does what
-/// another run has created there since.
-pub fn remove_outputs<R: Files<File = File> + AllocGlobal>(
+// Rejects the output of a job if `check_output` does.
+fn check_job<R: Files<File = File> + AllocGlobal>(
     rt: &R,
     folder: &str,
-    jobs: &[Job],
-    count: usize,
-) {
-    for job in jobs.iter().take(count) {
-        if let Ok(path) = path_of(rt.alloc(), folder, job) {
-            remove_output(rt, path.as_str());
-        }
+    job: &Job,
+    inputs: [InputFile; 2],
+) -> Result<(), Failure>
+    ensures { RefusesOutputOf folder.now job.now result }
+{
+    let path = job_path(rt.alloc(), folder, job)?;
+    match check_output(rt, path.as_str(), inputs) {
+        Ok(()) => Ok(()),
+        Err(error) => Err(Failure::cannot_write(rt.alloc(), path.as_str(), &error)),
     }
 }
 
-/// Removes the `.part` file of one path, in the same way.
-pub fn remove_output<R: Files<File = File> + AllocGlobal>(rt: &R, path: &str) {
-    if let Ok(part) = part_path(rt.alloc(), path) {
-        let _ = remove_stale(rt, part.as_str());
+// Creates the output of a job.
+fn output_of<R: Files<File = File> + AllocGlobal>(
+    rt: &R,
+    folder: &str,
+    job: &Job,
+    is_synced: bool,
+) -> Result<Output, Failure>
+    ensures made { IfOk result (λ output. path_of output ≡ output_path folder.now job.now.name) }
+    ensures refused { RefusesOutputOf folder.now job.now result }
+{
+    let path = job_path(rt.alloc(), folder, job)?;
+    Output::begin(rt, path, is_synced)
+}
+
+/// Makes a writer to each output. The first error of their writes is recorded.
+pub fn writers_to<'a>(
+    alloc: Global,
+    outputs: &'a [Output],
+    errors: &'a WriteErrors,
+) -> Result<Vec<OutputWriter<'a>>, AllocError>
+    ensures { IfOk result (λ writers. length writers.items ≡ length outputs.now) }
+{
+    let mut writers = Vec::with_capacity(alloc, outputs.len())?;
+    for output in outputs {
+        writers.push(output.writer(alloc, errors)?)?;
+    }
+    Ok(writers)
+}
+
+/// Publishes each output, in the order of the jobs, whose results these are. Returns the first failure,
+/// and publishes those after it nevertheless. Otherwise it returns notes for the user, one line each:
+/// which archive stays as `.part` and why, and which replaced a file though it isn't complete.
+pub fn publish_outputs<R: AllocGlobal + Files<File = File>>(
+    rt: &R,
+    outputs: Vec<Output>,
+    jobs: &[Job],
+    results: &[JobResult],
+    naming: Naming,
+) -> Result<String, Failure>
+    ensures refused { RefusesOutputs (map path_of outputs.items) result }
+{
+    let mut notes = Ok(String::new(rt.alloc()));
+    for (output, (job, outcome)) in outputs.into_iter().zip(jobs.iter().zip(results)) {
+        let note = output.publish(rt, job, outcome, naming);
+        notes = joined(notes, note);
+    }
+    notes
+}
+
+// Adds a note to the notes, or returns the first failure.
+fn joined(
+    notes: Result<String, Failure>,
+    note: Result<Option<String>, Failure>,
+) -> Result<String, Failure>
+    ensures { Joins notes note result }
+{
+    match (notes, note) {
+        (Ok(mut notes), Ok(Some(note))) => match notes.push_str(note.as_str()) {
+            Ok(()) => Ok(notes),
+            Err(error) => Err(Failure::from(error)),
+        },
+        (Ok(_), Err(failure)) => Err(failure),
+        (notes, _) => notes,
+    }
+}
+
+/// Discards outputs, in their order.
+pub fn discard_outputs<R: Files<File = File>>(rt: &R, outputs: Vec<Output>) {
+    for output in outputs {
+        output.discard(rt);
     }
 }

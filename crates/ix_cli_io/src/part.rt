@@ -4,7 +4,6 @@
 //! advisory lock of the process, so no other run takes it for a stale one. Where a file system has no
 //! locks, runs go on without.
 
-use crate::output::{Output, Writing, file_of, output_to};
 use std::alloc::{AllocError, Global};
 use std::fs::{self, File, Metadata, OpenFile, OpenOptions, Permissions, TryLockError};
 use std::io::{self, ErrorKind};
@@ -119,9 +118,9 @@ fn other_than_file() -> io::Error {
     )
 }
 
-/// Removes the stale part of an output, unless another run writes it. It is locked until it is removed,
-/// so nothing else is removed. What can't be removed stays.
-pub(crate) fn remove_stale<R: Files<File = File>>(rt: &R, part: &str) -> io::Result<()> {
+// Removes the stale part of an output, unless another run writes it. It is locked until it is removed,
+// so nothing else is removed.
+fn remove_stale<R: Files<File = File>>(rt: &R, part: &str) -> io::Result<()> {
     match left_at(rt, part)? {
         Left::Nothing => Ok(()),
         Left::Stale => {
@@ -134,23 +133,16 @@ pub(crate) fn remove_stale<R: Files<File = File>>(rt: &R, part: &str) -> io::Res
     }
 }
 
-/// Creates the part of an output, in place of a stale one, and locks it. If anything fails after that,
-/// the file is removed.
-pub(crate) fn make_part<'a, R: Files<File = File> + AllocGlobal>(
-    rt: &R,
-    path: &str,
-    writing: Writing<'a>,
-) -> io::Result<Output<'a, File>> {
-    let alloc = rt.alloc();
-    let part = part_path(alloc, path)?;
-    let part = part.as_str();
+/// Creates the part at a path, in place of a stale one, and locks it. If anything fails after that, the
+/// file is removed.
+pub(crate) fn create_part<R: Files<File = File>>(rt: &R, part: &str) -> io::Result<File> {
     remove_stale(rt, part)?;
     let file = match File::create_new(rt, part) {
         Err(error) if error.kind() == ErrorKind::AlreadyExists => return Err(in_use()),
         made => made?,
     };
     lock_made(rt, &file, part)?;
-    output_to(alloc, file, writing).inspect_err(|_| remove_made(rt, part))
+    Ok(file)
 }
 
 // Locks a file that was just created at a path, or removes it. A run that starts at the same time may
@@ -180,21 +172,15 @@ fn lock_again(file: &File) -> io::Result<()> {
     lock(file)
 }
 
-// Removes a file that was created and is closed.
-fn remove_made<R: Files<File = File>>(rt: &R, part: &str) {
-    let _ = remove_stale(rt, part);
-}
-
-/// Renames the part to its path, with the permission bits of the file that it replaces, and returns
+/// Renames an open part to its path, with the permission bits of the file that it replaces, and returns
 /// whether something was there. It isn't renamed if the file is no longer where it was created.
-pub(crate) fn publish<'a, R: Files<File = File> + AllocGlobal>(
+pub(crate) fn rename_part<R: Files<File = File>>(
     rt: &R,
+    file: &File,
+    part: &str,
     path: &str,
-    output: &Output<'a, File>,
 ) -> io::Result<bool> {
-    let part = part_path(rt.alloc(), path)?;
-    let file = file_of(output);
-    if !is_at(rt, file, part.as_str()) {
+    if !is_at(rt, file, part) {
         return Err(io::Error::new(
             ErrorKind::NotFound,
             "its .part is no longer the file that was written",
@@ -204,8 +190,15 @@ pub(crate) fn publish<'a, R: Files<File = File> + AllocGlobal>(
     if let Ok(replaced) = &replaced {
         keep_permissions(file, replaced)?;
     }
-    fs::rename(rt, part.as_str(), path)?;
+    fs::rename(rt, part, path)?;
     Ok(replaced.is_ok())
+}
+
+/// Removes an open part, unless the file is no longer where it was created. What can't be removed stays.
+pub(crate) fn remove_part<R: Files<File = File>>(rt: &R, file: &File, part: &str) {
+    if is_at(rt, file, part) {
+        let _ = fs::remove_file(rt, part);
+    }
 }
 
 // Copies the permission bits of the file that is replaced, if they differ.

@@ -1,42 +1,71 @@
-//! The command `get`: the archive of one job without a job file.
+//! The command `get`: one archive, without a job file.
 
-ghost use Rattle.std.specs.Prelude.{◌≡◌, length, IfOk, if◌then◌else◌};
+ghost use Rattle.std.specs.Prelude.{◌≡◌, length, if◌then◌else◌};
 ghost use Rattle.std.specs.Arc.{arc_value};
 ghost use Rattle.ix_run.specs.Complete.{is_complete};
 
-use crate::get_words::{job_words, output_of, refused_output, refused_terminal};
-use crate::{
-    Terminals, explained, forget_store, loaders, print_notes, progress_mode, run_by_words,
-};
+use crate::Terminals;
+use crate::commands::CommandSpec;
+use crate::export::{explained, forget_store, progress_mode};
+use crate::host::Host;
+use crate::options::{ArgKind, ArgSpec, BLOCKS, PROGRESS, VERIFIERS, WALKERS};
+use crate::print::{print_notes, print_refusal};
+use crate::threads::{RunReport, ThreadCounts};
 use clap::ArgMatches;
+use clap::error::ErrorKind as UsageKind;
 use ix_car::load_car_by;
 use ix_cli_io::{
-    Failure, Noted, Output, Progress, STANDARD_INPUT, WriteErrors, Writing, failed_write,
-    load_input, make_output, met_roots_alone, name_complete_output, occupy_std_fds, print_report,
-    remove_output,
+    Failure, Naming, Noted, Output, Progress, ProgressMode, STANDARD_INPUT, WriteErrors,
+    failed_write, load_input, met_roots_alone, occupy_std_fds, print_report,
 };
 use ix_inspect::kind_of;
-use ix_job_words::{
-    JobWords, LineFault, SelectorWord, job_fault_words, jobs_of_words, lacks_an_edge,
-};
+use ix_job_errors::{job_fault_words, lacks_an_edge};
+use ix_job_line::{JobWords, SelectorWord, jobs_of_words};
 use ix_jobs::JobResult;
-use ix_run::{RunFault, RunOut, is_complete};
+use ix_run::{RunFault, is_complete};
 use ix_store::Store;
 use ix_walk::Job;
+use std::alloc::{AllocError, Global};
 use std::fs::File;
-use std::io::{self, BufWriter, ErrorKind};
+use std::io::{self, ErrorKind, Write};
 use std::rt::{Clock, Files};
 use std::sync::{Arc, Wait};
 use std::thread::Threads;
 
-// The status of arguments that aren't those of a job.
-const REFUSED: u8 = 2;
+const ABOUT: &str = "Export one archive, without a job file";
+
+const HELP: &str = "Everything reachable from the root, over all links:\n\
+\n\
+\x20 ix_export get --blocks library.car --out album.car \\\n\
+\x20   --root bafyreif4cx2fmzgnlynimiv5s5pmkhdcciunwtqscgjd2tvhr5yqjh7u4i\n\
+\n\
+A selector says which links to follow, as JSON with the keys of the IPLD\n\
+Selectors specification (docs/SELECTORS.md), or as DAG-CBOR in hex, which the\n\
+command `selector` makes of that. With several roots one archive has what is\n\
+reachable from all of them. A block with several links to it is expanded once,\n\
+or at every link with --every-arrival, which changes how many links count, and\n\
+not the archive of a job within its limit.\n\
+\n\
+The archive is written to FILE.part, which is renamed to FILE if the job is done\n\
+and no root was skipped. It replaces a file with that name. Otherwise it stays\n\
+as FILE.part, FILE stays as it was, and a line on standard error says why. It is\n\
+on the disk before it is renamed, unless --no-sync is given. Without --out, or\n\
+with --out -, the archive goes to standard output, which must not be a terminal.\n\
+\n\
+The report is that of the command `jobs` for one job, `get`, and goes to\n\
+standard error. A note follows if nothing was found below the roots, or if a\n\
+recursion of the selector has no edge {\"@\":{}}.\n\
+\n\
+Status: 0 if the job is done and nothing was skipped, 3 if it is done and\n\
+something was skipped below the roots, 4 if it ended otherwise or a root was\n\
+skipped, 2 if the arguments or a file are rejected, with a line on standard\n\
+error that has the cause.";
+
+// The name of the one job in the report.
+const NAME: &str = "get";
 
 // The status of a job that isn't done, or of which a root was skipped.
 const INCOMPLETE: u8 = 4;
-
-// The size of the buffer for standard output, in bytes.
-const BUFFER: usize = 16 * 1024;
 
 // Notes after the report: the job found nothing below its roots; its selector can't recur.
 const NOTHING_BELOW: &str = "note: the selector matched nothing below the root";
@@ -44,197 +73,289 @@ const NOTHING_BELOW: &str = "note: the selector matched nothing below the root";
 const NO_EDGE: &str =
     "note: a recursion of the selector has no edge {\"@\":{}}, so it never recurs";
 
-/// Runs the command `get` and returns the status. It reports the first error, checked in this order:
-/// arguments, blocks, output.
-pub(crate) fn get<
-    'a,
-    R: AllocGlobal + Clock + Eprint + Files<File = File> + Input + Print + Threads + Wait + Sync,
->(rt: &R, words: &ArgMatches<'a>, terminals: Terminals) -> Result<u8, Failure> {
-    match output_of(words) {
-        Some("") => return Err(Failure::from(refused_output(rt.alloc())?)),
-        None if terminals.output => return Err(Failure::from(refused_terminal(rt.alloc())?)),
-        _ => {}
-    }
-    let job = job_words(words);
-    match jobs_of_words(rt.alloc(), &job, !words.get_flag("every-arrival")) {
-        Ok(jobs) => get_reported(rt, words, jobs, terminals.errors),
-        Err(fault) => refuse(rt, &job, &fault),
-    }
-}
+const ROOT: ArgSpec = ArgSpec {
+    name: "root",
+    given: ArgKind::Required("CID[,CID..]"),
+    help: "1 to 64 comma-separated CIDv1s in base32",
+};
 
-// Loads the blocks and exports the one job, with its progress.
-fn get_reported<
-    'a,
-    R: AllocGlobal + Clock + Eprint + Files<File = File> + Input + Print + Threads + Wait + Sync,
->(rt: &R, words: &ArgMatches<'a>, jobs: Vec<Job>, is_terminal: bool) -> Result<u8, Failure>
-    requires { length jobs.items ≡ 1 }
-{
-    let progress = Progress::new(rt, progress_mode(words, is_terminal));
-    let status = match load_blocks(rt, words, &progress) {
-        Ok(store) => get_below(rt, words, store, jobs, &progress),
+const SELECTOR: ArgSpec = ArgSpec {
+    name: "selector",
+    given: ArgKind::ConflictsWith("JSON", "selector-hex"),
+    help: "IPLD selector as JSON [default: everything]",
+};
+
+const SELECTOR_HEX: ArgSpec = ArgSpec {
+    name: "selector-hex",
+    given: ArgKind::Optional("HEX"),
+    help: "IPLD selector as DAG-CBOR in hex",
+};
+
+const LIMIT: ArgSpec = ArgSpec {
+    name: "limit",
+    given: ArgKind::Default("N", "1000000"),
+    help: "Link budget, 1 to 1000000",
+};
+
+const EVERY_ARRIVAL: ArgSpec = ArgSpec {
+    name: "every-arrival",
+    given: ArgKind::Flag,
+    help: "Expand a block at every link to it, not once",
+};
+
+const OUT: ArgSpec = ArgSpec {
+    name: "out",
+    given: ArgKind::Optional("FILE"),
+    help: "Archive to write [default: standard output]",
+};
+
+const SYNC: ArgSpec = ArgSpec {
+    name: "sync",
+    given: ArgKind::FlagWithout("no-sync"),
+    help: "Sync FILE to disk before it is renamed [default]",
+};
+
+const NO_SYNC: ArgSpec = ArgSpec {
+    name: "no-sync",
+    given: ArgKind::Flag,
+    help: "Rename FILE without waiting for the disk",
+};
+
+const QUIET: ArgSpec = ArgSpec {
+    name: "quiet",
+    given: ArgKind::Flag,
+    help: "No progress, and no report if the status is 0",
+};
+
+/// The command: the job, how it is exported, and where to.
+pub(crate) static SPEC: CommandSpec = CommandSpec {
+    name: "get",
+    about: ABOUT,
+    help: HELP,
+    words: &[
+        BLOCKS,
+        ROOT,
+        SELECTOR,
+        SELECTOR_HEX,
+        LIMIT,
+        EVERY_ARRIVAL,
+        OUT,
+        WALKERS,
+        VERIFIERS,
+        SYNC,
+        NO_SYNC,
+        PROGRESS,
+        QUIET,
+    ],
+};
+
+/// Runs the command and returns the status. Its first error is reported, checked in this order:
+/// arguments, blocks, output.
+pub(crate) fn run<'a, R: Host>(
+    rt: &R,
+    words: &ArgMatches<'a>,
+    terminals: Terminals,
+) -> Result<u8, Failure> {
+    let command = GetCommand::read(rt.alloc(), words, terminals)?;
+    let jobs = match jobs_of_words(rt.alloc(), &command.job, command.once) {
+        Ok(jobs) => Arc::new(rt.alloc(), jobs)?,
+        Err(fault) => {
+            return print_refusal(rt, job_fault_words(rt.alloc(), &fault, &command.job));
+        }
+    };
+    let progress = Progress::new(rt, command.progress);
+    let status = match command.load(rt, &progress) {
+        Ok(store) => {
+            let status = command.export(rt, &store, &jobs, &progress);
+            forget_store(store);
+            status
+        }
         Err(failure) => Err(failure),
     };
     progress.end();
     status
 }
 
-// Prints why the arguments aren't those of a job.
-fn refuse<R: AllocGlobal + Eprint>(
-    rt: &R,
-    job: &JobWords<'_>,
-    fault: &LineFault,
-) -> Result<u8, Failure> {
-    let told = job_fault_words(rt.alloc(), fault, job)?;
-    // If standard error can't be written, there is no one to report to.
-    let _ = rt.eprintln(told.as_str());
-    Ok(REFUSED)
+// What the arguments choose.
+#[derive(Drop)]
+struct GetCommand<'a> {
+    job: JobWords<'a>,
+    // Whether a block is expanded once, and not at every link to it.
+    once: bool,
+    blocks: &'a str,
+    // The path of the archive, or None for standard output.
+    path: Option<&'a str>,
+    threads: ThreadCounts,
+    is_synced: bool,
+    is_quiet: bool,
+    progress: ProgressMode,
 }
 
-// Loads the blocks from the file that the arguments name.
-fn load_blocks<'a, R: AllocGlobal + Clock + Eprint + Files + Input + Threads + Sync>(
-    rt: &R,
-    words: &ArgMatches<'a>,
-    progress: &Progress<R>,
-) -> Result<Arc<Store>, Failure> {
-    let input = words.get_str("blocks").unwrap_or(STANDARD_INPUT);
-    let car = load_input(rt, input, progress)?;
-    let kind = kind_of(car.as_slice());
-    match load_car_by(rt, rt.alloc(), car, loaders(rt, words)) {
-        Ok(blocks) => Arc::new(rt.alloc(), blocks).map_err(Failure::from),
-        Err(fault) => Err(explained(rt, RunFault::from(fault), kind)),
+impl<'a> GetCommand<'a> {
+    // Reads the arguments. An empty path is rejected, and so is an archive that would go to a terminal.
+    fn read(
+        alloc: Global,
+        words: &ArgMatches<'a>,
+        terminals: Terminals,
+    ) -> Result<GetCommand<'a>, Failure> {
+        let path = match OUT.optional_text(words) {
+            Some("") => {
+                return Err(Failure::from(SPEC.refused_value(alloc, "--out <FILE>")?));
+            }
+            Some(path) if path != STANDARD_INPUT => Some(path),
+            _ if terminals.output => return Err(Failure::from(refused_terminal(alloc)?)),
+            _ => None,
+        };
+        Ok(GetCommand {
+            job: job_words(words),
+            once: !EVERY_ARRIVAL.is_given(words),
+            blocks: BLOCKS.text(words),
+            path,
+            threads: ThreadCounts::given(words),
+            is_synced: !NO_SYNC.is_given(words),
+            is_quiet: QUIET.is_given(words),
+            progress: progress_mode(words, &QUIET, terminals.errors),
+        })
     }
-}
 
-// Exports the one job from these blocks. Closed streams are occupied only after the input was read, so
-// a closed standard input is an error and not an empty input.
-fn get_below<
-    'a,
-    R: AllocGlobal + Clock + Eprint + Files<File = File> + Print + Threads + Wait + Sync,
->(
-    rt: &R,
-    words: &ArgMatches<'a>,
-    store: Arc<Store>,
-    jobs: Vec<Job>,
-    progress: &Progress<R>,
-) -> Result<u8, Failure>
-    requires { length jobs.items ≡ 1 }
-{
-    let jobs = Arc::new(rt.alloc(), jobs)?;
-    let status = match (occupy_std_fds(rt), output_of(words)) {
-        (Err(failure), _) => Err(failure),
-        (Ok(_streams), Some(path)) => get_file(rt, words, path, &store, &jobs, progress),
-        (Ok(_streams), None) => get_stream(rt, words, &store, &jobs, progress),
-    };
-    forget_store(store);
-    status
-}
-
-// Exports to a file, which is renamed if nothing that was asked for is missing.
-fn get_file<
-    'a,
-    R: AllocGlobal + Clock + Eprint + Files<File = File> + Print + Threads + Wait + Sync,
->(
-    rt: &R,
-    words: &ArgMatches<'a>,
-    path: &str,
-    store: &Arc<Store>,
-    jobs: &Arc<Vec<Job>>,
-    progress: &Progress<R>,
-) -> Result<u8, Failure>
-    requires { length (arc_value jobs.now).items ≡ 1 }
-{
-    let errors = WriteErrors::new();
-    let writers = file_writers(rt, words, path, &errors)?;
-    let ran = run_by_words(rt, words, store, jobs, writers, progress);
-    progress.end();
-    match ran {
-        Ok(out) => name_and_report(rt, words, path, jobs.as_slice(), &out, &errors),
-        Err(fault) => {
-            remove_output(rt, path);
-            Err(refusal(rt, path, fault, &errors))
+    // Loads the blocks.
+    fn load<R: AllocGlobal + Clock + Eprint + Files + Input + Threads + Sync>(
+        &self,
+        rt: &R,
+        progress: &Progress<R>,
+    ) -> Result<Arc<Store>, Failure> {
+        let loaders = self.threads.loaders(rt);
+        let car = load_input(rt, self.blocks, progress)?;
+        let kind = kind_of(car.as_slice());
+        match load_car_by(rt, rt.alloc(), car, loaders) {
+            Ok(blocks) => Arc::new(rt.alloc(), blocks).map_err(Failure::from),
+            Err(fault) => Err(explained(rt, RunFault::from(fault), kind)),
         }
     }
-}
 
-// Makes the one writer and its file. Room is allocated first, so that a file that is made is written.
-fn file_writers<'a, 'o, R: AllocGlobal + Files<File = File>>(
-    rt: &R,
-    words: &ArgMatches<'a>,
-    path: &str,
-    errors: &'o WriteErrors,
-) -> Result<Vec<Output<'o, File>>, Failure>
-    ensures { IfOk result (λ writers. length writers.items ≡ 1) }
-{
-    let writing = Writing {
-        is_synced: !words.get_flag("no-sync"),
-        errors,
-    };
-    let input = words.get_str("blocks").unwrap_or(STANDARD_INPUT);
-    let mut writers = Vec::with_capacity(rt.alloc(), 1)?;
-    writers.push(make_output(rt, path, input, writing)?)?;
-    Ok(writers)
-}
+    // Exports the one job: to standard output, or to a file, which is discarded if the run is rejected.
+    // Closed streams are occupied only after the input was read, so a closed standard input is an error
+    // and not an empty input.
+    fn export<R: Host>(
+        &self,
+        rt: &R,
+        store: &Arc<Store>,
+        jobs: &Arc<Vec<Job>>,
+        progress: &Progress<R>,
+    ) -> Result<u8, Failure>
+        requires { length (arc_value jobs.now).items ≡ 1 }
+    {
+        let _streams = occupy_std_fds(rt)?;
+        let errors = WriteErrors::new();
+        let Some(path) = self.path else {
+            let writer = Noted::new(io::writer(rt), &errors).buffered(rt.alloc());
+            return match self.write(rt, store, jobs, writer, progress) {
+                Ok(ran) => Ok(self.print_outcome(rt, "-", jobs.as_slice(), &ran, &errors)),
+                Err(fault) => Err(refusal(rt, "-", fault, &errors)),
+            };
+        };
+        let output = Output::create(rt, path, self.blocks, self.is_synced)?;
+        let writer = output.writer(rt.alloc(), &errors);
+        match self.write(rt, store, jobs, writer, progress) {
+            Ok(ran) => self.publish(rt, path, jobs.as_slice(), output, &ran, &errors),
+            Err(fault) => {
+                output.discard(rt);
+                Err(refusal(rt, path, fault, &errors))
+            }
+        }
+    }
 
-// Renames the file and then reports, whether it was renamed or not.
-fn name_and_report<'a, 'o, R: AllocGlobal + Eprint + Files<File = File>>(
-    rt: &R,
-    words: &ArgMatches<'a>,
-    path: &str,
-    jobs: &[Job],
-    out: &RunOut<Output<'o, File>>,
-    errors: &WriteErrors,
-) -> Result<u8, Failure> {
-    let named = match name_file(rt, path, jobs, out) {
-        Ok(left) => Ok(print_left(rt, left)),
-        Err(failure) => Err(failure),
-    };
-    let status = print_outcome(rt, words, path, jobs, out, errors);
-    named.map(|()| status)
-}
+    // Runs the one job, which is written to this writer.
+    fn write<R: AllocGlobal + Clock + Eprint + Threads + Wait + Sync, W: Write + Drop>(
+        &self,
+        rt: &R,
+        store: &Arc<Store>,
+        jobs: &Arc<Vec<Job>>,
+        writer: Result<W, AllocError>,
+        progress: &Progress<R>,
+    ) -> Result<RunReport, RunFault>
+        requires { length (arc_value jobs.now).items ≡ 1 }
+    {
+        let mut writers = Vec::with_capacity(rt.alloc(), 1)?;
+        writers.push(writer?)?;
+        self.threads.run(rt, store, jobs, writers, progress)
+    }
 
-// Prints why the file wasn't renamed, if it wasn't.
-fn print_left<R: Eprint>(rt: &R, left: Option<String>) {
-    if let Some(line) = left {
-        let _ = rt.eprint(line.as_str());
+    // Publishes the file if nothing that was asked for is missing, and then reports, whether it did or
+    // not.
+    fn publish<R: AllocGlobal + Eprint + Files<File = File>>(
+        &self,
+        rt: &R,
+        path: &str,
+        jobs: &[Job],
+        output: Output,
+        ran: &RunReport,
+        errors: &WriteErrors,
+    ) -> Result<u8, Failure> {
+        let published = match (jobs.first(), ran.results.first()) {
+            (Some(job), Some(told)) => output.publish(rt, job, told, Naming::Complete),
+            _ => Ok(None),
+        };
+        if let Ok(Some(left)) = &published {
+            let _ = rt.eprint(left.as_str());
+        }
+        let status = self.print_outcome(rt, path, jobs, ran, errors);
+        published.map(|_| status)
+    }
+
+    // Prints the report and its notes to standard error, and returns the status. If standard error can't
+    // be written, or memory runs out, there is no one to report to.
+    fn print_outcome<R: AllocGlobal + Eprint>(
+        &self,
+        rt: &R,
+        path: &str,
+        jobs: &[Job],
+        ran: &RunReport,
+        errors: &WriteErrors,
+    ) -> u8 {
+        let (Some(job), Some(told)) = (jobs.first(), ran.results.first()) else {
+            return INCOMPLETE;
+        };
+        let status = status_of(job, told, ran.status);
+        print_notes(rt, failed_write(rt.alloc(), path, told, errors));
+        if status != 0 || !self.is_quiet {
+            print_report(rt, ran.report.as_slice());
+        }
+        if met_roots_alone(job, told) {
+            let _ = rt.eprintln(NOTHING_BELOW);
+        }
+        if let Ok(true) = lacks_an_edge(rt.alloc(), &self.job.selector) {
+            let _ = rt.eprintln(NO_EDGE);
+        }
+        status
     }
 }
 
-// Renames the file, or returns why it doesn't.
-fn name_file<'o, R: AllocGlobal + Files<File = File>>(
-    rt: &R,
-    path: &str,
-    jobs: &[Job],
-    out: &RunOut<Output<'o, File>>,
-) -> Result<Option<String>, Failure> {
-    match (jobs.first(), out.results.first(), out.writers.first()) {
-        (Some(job), Some(told), Some(output)) => name_complete_output(rt, path, job, told, output),
-        _ => Ok(None),
+// Returns the fields of the job.
+fn job_words<'a>(words: &ArgMatches<'a>) -> JobWords<'a> {
+    let selector = match (
+        SELECTOR.optional_text(words),
+        SELECTOR_HEX.optional_text(words),
+    ) {
+        (Some(text), _) => SelectorWord::Json(text.as_bytes()),
+        (None, Some(text)) => SelectorWord::Hex(text),
+        (None, None) => SelectorWord::Everything,
+    };
+    JobWords {
+        name: NAME,
+        roots: ROOT.text(words),
+        limit: LIMIT.text(words),
+        selector,
     }
 }
 
-// Exports to standard output.
-fn get_stream<'a, R: AllocGlobal + Clock + Eprint + Print + Threads + Wait + Sync>(
-    rt: &R,
-    words: &ArgMatches<'a>,
-    store: &Arc<Store>,
-    jobs: &Arc<Vec<Job>>,
-    progress: &Progress<R>,
-) -> Result<u8, Failure>
-    requires { length (arc_value jobs.now).items ≡ 1 }
-{
-    let alloc = rt.alloc();
-    let errors = WriteErrors::new();
-    let Ok(output) = BufWriter::with_capacity(alloc, BUFFER, Noted::new(io::writer(rt), &errors))
-    else {
-        return Err(Failure::Fault(RunFault::Memory));
-    };
-    let writers = vec![in alloc; output]?;
-    let ran = run_by_words(rt, words, store, jobs, writers, progress);
-    progress.end();
-    match ran {
-        Ok(out) => Ok(print_outcome(rt, words, "-", jobs.as_slice(), &out, &errors)),
-        Err(fault) => Err(refusal(rt, "-", fault, &errors)),
-    }
+// Makes the error for an archive that would go to a terminal.
+fn refused_terminal(alloc: Global) -> Result<clap::Error, AllocError> {
+    SPEC.refusal(
+        alloc,
+        UsageKind::MissingRequiredArgument,
+        "the archive would go to a terminal: give '--out <FILE>', or redirect standard output",
+    )
 }
 
 // Maps an error of the run: an archive that can't be started is an output that can't be written.
@@ -247,33 +368,6 @@ fn refusal<R: AllocGlobal>(rt: &R, path: &str, fault: RunFault, errors: &WriteEr
         }
         fault => Failure::from(fault),
     }
-}
-
-// Prints the report and its notes to standard error, and returns the status. If standard error can't be
-// written, or memory runs out, there is no one to report to.
-fn print_outcome<'a, R: AllocGlobal + Eprint, W>(
-    rt: &R,
-    words: &ArgMatches<'a>,
-    path: &str,
-    jobs: &[Job],
-    out: &RunOut<W>,
-    errors: &WriteErrors,
-) -> u8 {
-    let (Some(job), Some(told)) = (jobs.first(), out.results.first()) else {
-        return INCOMPLETE;
-    };
-    let status = status_of(job, told, out.status);
-    print_notes(rt, failed_write(rt.alloc(), path, told, errors));
-    if status != 0 || !words.get_flag("quiet") {
-        print_report(rt, out.report.as_slice());
-    }
-    if met_roots_alone(job, told) {
-        let _ = rt.eprintln(NOTHING_BELOW);
-    }
-    if let Ok(true) = lacks_an_edge(rt.alloc(), &job_words(words).selector) {
-        let _ = rt.eprintln(NO_EDGE);
-    }
-    status
 }
 
 // Returns the status: `INCOMPLETE` if the job isn't done or a root was skipped, else that of the

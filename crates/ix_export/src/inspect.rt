@@ -1,10 +1,11 @@
 //! The command `inspect`: describes a CARv1 file, or says what another file is.
 
-use crate::at_most_processors;
-use crate::commands::{ArgKind, ArgSpec, CommandSpec};
+use crate::commands::CommandSpec;
+use crate::options::{ArgKind, ArgSpec};
+use crate::threads::at_most_processors;
 use clap::ArgMatches;
 use ix_car::{CarFault, CarFile, CarKind, Section, read_sections};
-use ix_cli_io::{Failure, STANDARD_INPUT, read_input};
+use ix_cli_io::{Failure, REFUSED, STANDARD_INPUT, read_input};
 use ix_inspect::{Kind, Summary, codec_name, hash_name, kind_of, summary_of};
 use ix_run::RunFault;
 use std::alloc::{AllocError, Global};
@@ -34,33 +35,34 @@ early, the line says how to keep its whole sections.\n\
 \n\
 Status: 0, or 2 if the arguments or the file are rejected.";
 
+const FILE: ArgSpec = ArgSpec {
+    name: "file",
+    given: ArgKind::Positional("FILE"),
+    help: "CARv1 file, or - for standard input",
+};
+
+const LIST: ArgSpec = ArgSpec {
+    name: "list",
+    given: ArgKind::Flag,
+    help: "Print a line for each section: PLACE SIZE CID",
+};
+
 /// The command.
-pub(crate) static INSPECT: CommandSpec = CommandSpec {
+pub(crate) static SPEC: CommandSpec = CommandSpec {
     name: "inspect",
     about: ABOUT,
     help: HELP,
-    words: &[
-        ArgSpec {
-            name: "file",
-            given: ArgKind::Positional("FILE"),
-            help: "CARv1 file, or - for standard input",
-        },
-        ArgSpec {
-            name: "list",
-            given: ArgKind::Flag,
-            help: "Print a line for each section: PLACE SIZE CID",
-        },
-    ],
+    words: &[FILE, LIST],
 };
 
-/// Runs the command `inspect` and returns the status.
-pub fn inspect<'a, R: AllocGlobal + Eprint + Files + Input + Print + Threads + Sync>(
+/// Runs the command and returns the status.
+pub(crate) fn run<'a, R: AllocGlobal + Eprint + Files + Input + Print + Threads + Sync>(
     rt: &R,
     words: &ArgMatches<'a>,
 ) -> Result<u8, Failure> {
-    let path = words.get_str("file").unwrap_or(STANDARD_INPUT);
+    let path = FILE.text(words);
     let car = read_input(rt, path)?;
-    inspect_car(rt, path, car.as_slice(), words.get_flag("list"))
+    inspect_car(rt, path, car.as_slice(), LIST.is_given(words))
 }
 
 // Describes a file, given its bytes.
@@ -234,7 +236,7 @@ fn refuse<R: AllocGlobal + Eprint>(
     } else {
         print_kept(rt, path, fault, "the sections before are");
     }
-    Ok(2)
+    Ok(REFUSED)
 }
 
 // Prints what a file is. If standard error can't be written, there is no one to report to.

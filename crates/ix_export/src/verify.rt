@@ -1,10 +1,10 @@
 //! The command `verify`: whether CARv1 files are sound.
 
-use crate::commands::{ArgKind, ArgSpec, CommandSpec, VERIFIERS};
-use crate::threads;
+use crate::commands::CommandSpec;
+use crate::options::{ArgKind, ArgSpec, VERIFIERS};
 use clap::ArgMatches;
 use ix_car::{CarFault, CarKind};
-use ix_cli_io::{Causes, Failure, STANDARD_INPUT, read_input};
+use ix_cli_io::{Causes, Failure, REFUSED, STANDARD_INPUT, read_input};
 use ix_run::RunFault;
 use ix_verify::{Findings, Scope, Unsound, verify};
 use std::alloc::{AllocError, Global};
@@ -13,10 +13,8 @@ use std::num::NonZeroUsize;
 use std::rt::Files;
 use std::thread::Threads;
 
-// The status if something isn't sound, and the status if a file is rejected.
+// The status if something isn't sound.
 const BROKEN: u8 = 3;
-
-const REFUSED: u8 = 2;
 
 // How many findings of a file are printed without `--all`.
 const FIRST: usize = 20;
@@ -53,40 +51,50 @@ has nothing to follow.\n\
 Status: 0 if all is sound, 3 if something isn't, 2 if the arguments or a file\n\
 are rejected.";
 
+const FILES: ArgSpec = ArgSpec {
+    name: "file",
+    given: ArgKind::Many("FILE"),
+    help: "CARv1 files, or - for standard input",
+};
+
+const BLOCKS_ONLY: ArgSpec = ArgSpec {
+    name: "blocks-only",
+    given: ArgKind::Flag,
+    help: "Check the sections alone, without links",
+};
+
+const ALL: ArgSpec = ArgSpec {
+    name: "all",
+    given: ArgKind::Flag,
+    help: "Print every finding, the line of the file last",
+};
+
 /// The command.
-pub(crate) static VERIFY: CommandSpec = CommandSpec {
+pub(crate) static SPEC: CommandSpec = CommandSpec {
     name: "verify",
     about: ABOUT,
     help: HELP,
-    words: &[
-        ArgSpec {
-            name: "file",
-            given: ArgKind::Many("FILE"),
-            help: "CARv1 files, or - for standard input",
-        },
-        ArgSpec {
-            name: "blocks-only",
-            given: ArgKind::Flag,
-            help: "Check the sections alone, without links",
-        },
-        ArgSpec {
-            name: "all",
-            given: ArgKind::Flag,
-            help: "Print every finding, the line of the file last",
-        },
-        VERIFIERS,
-    ],
+    words: &[FILES, BLOCKS_ONLY, ALL, VERIFIERS],
 };
 
-/// Runs the command `verify` and returns the status. After a file that is rejected it goes on with the
-/// next.
-pub fn verify_files<'a, R: AllocGlobal + Eprint + Files + Input + Print + Threads + Sync>(
+// What the arguments choose besides the files.
+#[derive(Clone, Copy)]
+struct VerifyCommand {
+    threads: NonZeroUsize,
+    scope: Scope,
+    // Whether all findings are printed, with the line of the file after them.
+    prints_all: bool,
+}
+
+/// Runs the command and returns the status. After a file that is rejected it goes on with the next.
+pub(crate) fn run<'a, R: AllocGlobal + Eprint + Files + Input + Print + Threads + Sync>(
     rt: &R,
     words: &ArgMatches<'a>,
 ) -> Result<u8, Failure> {
+    let command = VerifyCommand::read(words);
     let mut status = 0;
-    for path in words.get_strs("file").unwrap_or(&[]) {
-        let told = match verify_file(rt, words, path) {
+    for path in words.get_strs(FILES.name).unwrap_or(&[]) {
+        let told = match command.verify_file(rt, path) {
             Ok(told) => told,
             Err(failure) => failure.report(rt, Causes::Beside),
         };
@@ -103,36 +111,44 @@ fn worse(status: u8, other: u8) -> u8 {
     }
 }
 
-fn verify_file<'a, R: AllocGlobal + Eprint + Files + Input + Print + Threads + Sync>(
-    rt: &R,
-    words: &ArgMatches<'a>,
-    path: &str,
-) -> Result<u8, Failure> {
-    let alloc = rt.alloc();
-    let car = read_input(rt, path)?;
-    let bytes = car.len();
-    let scope = if words.get_flag("blocks-only") {
-        Scope::Sections
-    } else {
-        Scope::Graph
-    };
-    let threads = NonZeroUsize::new(threads(words, "verifiers") as usize).unwrap_or(
-        NonZeroUsize::MIN,
-    );
-    let prints_all = words.get_flag("all");
-    let most = if prints_all { usize::MAX } else { FIRST };
-    match verify(rt, alloc, car, threads, scope, most) {
-        Ok(found) => print_report(
-            rt,
-            &Report {
-                path,
-                bytes,
-                found: &found,
-                most,
-                prints_all,
+impl VerifyCommand {
+    // Reads the arguments.
+    fn read<'a>(words: &ArgMatches<'a>) -> VerifyCommand {
+        let threads = VERIFIERS.threads(words) as usize;
+        VerifyCommand {
+            threads: NonZeroUsize::new(threads).unwrap_or(NonZeroUsize::MIN),
+            scope: if BLOCKS_ONLY.is_given(words) {
+                Scope::Sections
+            } else {
+                Scope::Graph
             },
-        ),
-        Err(fault) => refuse(rt, path, fault),
+            prints_all: ALL.is_given(words),
+        }
+    }
+
+    // Verifies a file, prints what was found, and returns its status.
+    fn verify_file<R: AllocGlobal + Eprint + Files + Input + Print + Threads + Sync>(
+        &self,
+        rt: &R,
+        path: &str,
+    ) -> Result<u8, Failure> {
+        let alloc = rt.alloc();
+        let car = read_input(rt, path)?;
+        let bytes = car.len();
+        let most = if self.prints_all { usize::MAX } else { FIRST };
+        match verify(rt, alloc, car, self.threads, self.scope, most) {
+            Ok(found) => print_report(
+                rt,
+                &Report {
+                    path,
+                    bytes,
+                    found: &found,
+                    most,
+                    prints_all: self.prints_all,
+                },
+            ),
+            Err(fault) => refuse(rt, path, fault),
+        }
     }
 }
 

@@ -1,0 +1,75 @@
+//! The command `check-jobs`: what is wrong with each line of a job file.
+
+use crate::commands::CommandSpec;
+use crate::options::{ArgKind, ArgSpec};
+use crate::print::print_all;
+use clap::ArgMatches;
+use ix_cli_io::{Failure, REFUSED, read_input};
+use ix_job_errors::{fault_lines, job_faults};
+use ix_jobs::JobsFault;
+use ix_run::{RunFault, fault_line};
+use std::alloc::AllocError;
+use std::rt::Files;
+
+const ABOUT: &str = "Report what is wrong with each line of a job file";
+
+const HELP: &str =
+    "Prints nothing if the command `jobs` accepts the file. Otherwise the first line\n\
+printed is the error of `jobs`, and each other line says which line of the file\n\
+is faulty, in which field, what is wrong there and what would be right.\n\
+\n\
+Status: 0 if the command `jobs` accepts the file, 2 otherwise.";
+
+const FILE: ArgSpec = ArgSpec {
+    name: "file",
+    given: ArgKind::Positional("FILE"),
+    help: "Job file, or - for standard input",
+};
+
+/// The command.
+pub(crate) static SPEC: CommandSpec = CommandSpec {
+    name: "check-jobs",
+    about: ABOUT,
+    help: HELP,
+    words: &[FILE],
+};
+
+/// Runs the command and returns the status: prints nothing if the command `jobs` accepts the file.
+/// Otherwise it prints the error of `jobs`, and then what is wrong with each faulty line.
+pub(crate) fn run<'a, R: AllocGlobal + Files + Input + Print>(
+    rt: &R,
+    words: &ArgMatches<'a>,
+) -> Result<u8, Failure> {
+    let file = read_input(rt, FILE.text(words))?;
+    let faults = job_faults(rt.alloc(), file.as_slice())?;
+    print_faults(rt, file.as_slice(), faults.as_slice())
+}
+
+// Prints what is wrong with a job file that has these faults.
+fn print_faults<R: AllocGlobal + Print>(
+    rt: &R,
+    file: &[u8],
+    faults: &[JobsFault],
+) -> Result<u8, Failure> {
+    let Some(first) = faults.first() else {
+        return Ok(0);
+    };
+    print_text(rt, refusal(rt, first))?;
+    print_text(rt, fault_lines(rt.alloc(), file, faults))?;
+    Ok(REFUSED)
+}
+
+// Prints a text, unless memory ran out for it.
+fn print_text<R: AllocGlobal + Print>(
+    rt: &R,
+    text: Result<String, AllocError>,
+) -> Result<(), Failure> {
+    print_all(rt, text?.as_bytes())
+}
+
+// Returns the line that the command `jobs` prints for this fault.
+fn refusal<R: AllocGlobal>(rt: &R, first: &JobsFault) -> Result<String, AllocError> {
+    let mut line = fault_line(rt.alloc(), &RunFault::Jobs(*first))?;
+    line.push('\n')?;
+    Ok(line)
+}

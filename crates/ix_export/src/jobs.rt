@@ -1,0 +1,316 @@
+//! The command `jobs`: an archive for each job of a job file, and a report.
+
+ghost use Rattle.std.specs.Prelude.{IfOk};
+ghost use Rattle.std.specs.Arc.{arc_value};
+ghost use Rattle.ix_walk.specs.JobMeaning.{AreFew};
+
+use crate::commands::CommandSpec;
+use crate::export::{explained, forget_store, progress_mode};
+use crate::host::Host;
+use crate::options::{ArgKind, ArgSpec, BLOCKS, PROGRESS, VERBOSE, VERIFIERS, WALKERS};
+use crate::print::{print_all, print_notes};
+use crate::threads::{RunReport, ThreadCounts};
+use clap::ArgMatches;
+use clap::error::ErrorKind;
+use ix_cli_io::{
+    Failure, Naming, Output, Progress, ProgressMode, STANDARD_INPUT, WriteErrors, discard_outputs,
+    failed_writes, load_input, make_outputs, occupy_std_fds, publish_outputs, read_input,
+    writers_to,
+};
+use ix_inspect::kind_of;
+use ix_jobs::Part;
+use ix_run::{JobChoice, RunFault, load};
+use ix_store::Store;
+use ix_walk::Job;
+use std::alloc::{AllocError, Global};
+use std::fs::File;
+use std::rt::{Clock, Files};
+use std::sync::Arc;
+use std::thread::Threads;
+
+const ABOUT: &str = "Export an archive for each job of a job file, and print a report";
+
+const HELP: &str = "Each line of the job file is a job, NAME ROOTS LIMIT SELECTOR with one space\n\
+between:\n\
+\n\
+\x20 photos bafkreif2pall7dybz7vecqka3zo24irdwabwdi4wc55jznaq75q7eaavvu 9 a1612ea0\n\
+\n\
+NAME      1 to 64 characters of [a-z0-9_-], unique in the file\n\
+ROOTS     1 to 64 comma-separated CIDv1s in base32\n\
+LIMIT     the link budget from all roots together, 1 to 1000000\n\
+SELECTOR  an IPLD selector as DAG-CBOR in hex: see the command `selector`\n\
+\n\
+A block with two links to it is visited twice: it counts twice, and is hashed\n\
+once. Empty lines and lines that begin with # are ignored. There are at most\n\
+1000 jobs.\n\
+\n\
+With --part K/N the K-th of N parts of the jobs is run: of J jobs, numbered from\n\
+0, those from (K-1)*J/N up to, and not including, K*J/N, both rounded down. So\n\
+the parts 1 to N are all jobs. The whole file is read and checked, whatever the\n\
+part; it may have 1000000 jobs, and a part 1000.\n\
+\n\
+A job has one archive, whose header names its roots in their order, and which\n\
+has each block once.\n\
+\n\
+The archive of a job is written to DIR/NAME.car.part. When the run has ended it\n\
+is renamed to DIR/NAME.car if its job ended with done or limit, and replaces a\n\
+file with that name; otherwise DIR/NAME.car stays as it was. DIR must exist. As\n\
+many files are open at once as there are jobs. The report on standard output has\n\
+a line for each job, how it ended (done, limit, memory, write, start) and its\n\
+counts, then a line for each link that was skipped (codec, hash, missing,\n\
+damaged, malformed), and at last the totals. Links of other codecs than raw and\n\
+DAG-CBOR and of other hashes than SHA-256, SHA-512 and identity are skipped;\n\
+UnixFS isn't read. The digest of an identity CID is the block itself: links\n\
+inside it are followed, and it has no block in the archive.\n\
+\n\
+With --once a job expands a block at its first visit with the same residual\n\
+selector, and only if the block is sound. Later visits count, with nothing below\n\
+them. So a graph has about as many visits as links. The archive is the same\n\
+unless a run hits its limit.\n\
+\n\
+With --complete only the archives of jobs that are done, with no root skipped,\n\
+are renamed; the others stay as .part, and a line on standard error says why.\n\
+Without it a file may be replaced by an archive that lacks something; a line on\n\
+standard error warns of that.\n\
+\n\
+With --sync each archive is on the disk before its job counts as done: a disk\n\
+that is full or fails only then ends the job with write.\n\
+\n\
+With --progress standard error gets the number of jobs that are closed, of\n\
+visits and of bytes written. On a terminal it rewrites one line (the default for\n\
+runs over two seconds); otherwise it prints at most one line per second.\n\
+\n\
+Status: 0 if every job is done and nothing was skipped, 3 if every job is done\n\
+and something was skipped, 4 if a job ended otherwise, 2 if the arguments or a\n\
+file are rejected, with a line on standard error, and with --verbose the cause\n\
+on another. A file has at most 1073741824 bytes.";
+
+const JOBS: ArgSpec = ArgSpec {
+    name: "jobs",
+    given: ArgKind::Required("FILE"),
+    help: "Job file, or - for standard input",
+};
+
+const OUT: ArgSpec = ArgSpec {
+    name: "out",
+    given: ArgKind::Required("DIR"),
+    help: "Directory for the archives; it must exist",
+};
+
+const PART: ArgSpec = ArgSpec {
+    name: "part",
+    given: ArgKind::Optional("K/N"),
+    help: "Run the K-th of N parts of the jobs, N up to 1000000",
+};
+
+const ONCE: ArgSpec = ArgSpec {
+    name: "once",
+    given: ArgKind::Flag,
+    help: "Expand a block once, not at every link to it",
+};
+
+const SYNC: ArgSpec = ArgSpec {
+    name: "sync",
+    given: ArgKind::Flag,
+    help: "Sync each archive to disk before its job is done",
+};
+
+const COMPLETE: ArgSpec = ArgSpec {
+    name: "complete",
+    given: ArgKind::Flag,
+    help: "Rename only archives of done jobs, no root skipped",
+};
+
+const QUIET: ArgSpec = ArgSpec {
+    name: "quiet",
+    given: ArgKind::Flag,
+    help: "No progress",
+};
+
+/// The command.
+pub(crate) static SPEC: CommandSpec = CommandSpec {
+    name: "jobs",
+    about: ABOUT,
+    help: HELP,
+    words: &[
+        BLOCKS, JOBS, OUT, PART, WALKERS, VERIFIERS, ONCE, SYNC, COMPLETE, PROGRESS, QUIET, VERBOSE,
+    ],
+};
+
+/// Runs the command and returns the status. Its first error is reported, checked in this order:
+/// arguments, blocks, job file, their contents, outputs. A run that is rejected leaves no output.
+pub(crate) fn run<'a, R: Host>(
+    rt: &R,
+    words: &ArgMatches<'a>,
+    is_terminal: bool,
+) -> Result<u8, Failure> {
+    let command = JobsCommand::read(rt.alloc(), words, is_terminal)?;
+    let progress = Progress::new(rt, command.progress);
+    let status = match command.load(rt, &progress) {
+        Ok((store, jobs)) => {
+            let status = command.export(rt, &store, &jobs, &progress);
+            forget_store(store);
+            status
+        }
+        Err(failure) => Err(failure),
+    };
+    progress.end();
+    status
+}
+
+// What the arguments choose.
+#[derive(Drop)]
+struct JobsCommand<'a> {
+    // The block file and the job file.
+    inputs: [&'a str; 2],
+    folder: &'a str,
+    choice: JobChoice,
+    threads: ThreadCounts,
+    is_synced: bool,
+    naming: Naming,
+    progress: ProgressMode,
+}
+
+impl<'a> JobsCommand<'a> {
+    // Reads the arguments. The first that is rejected is reported, in this order: the part, standard
+    // input for both files, and an empty directory, which would be the root directory.
+    fn read(
+        alloc: Global,
+        words: &ArgMatches<'a>,
+        is_terminal: bool,
+    ) -> Result<JobsCommand<'a>, Failure> {
+        let part = part_of(alloc, words)?;
+        let inputs = [BLOCKS.text(words), JOBS.text(words)];
+        if inputs[0] == STANDARD_INPUT && inputs[1] == STANDARD_INPUT {
+            return Err(Failure::from(refused_inputs(alloc)?));
+        }
+        let folder = OUT.text(words);
+        if folder.is_empty() {
+            return Err(Failure::from(SPEC.refused_value(alloc, "--out <DIR>")?));
+        }
+        let naming = if COMPLETE.is_given(words) {
+            Naming::Complete
+        } else {
+            Naming::Ended
+        };
+        Ok(JobsCommand {
+            inputs,
+            folder,
+            choice: JobChoice {
+                part,
+                once: ONCE.is_given(words),
+            },
+            threads: ThreadCounts::given(words),
+            is_synced: SYNC.is_given(words),
+            naming,
+            progress: progress_mode(words, &QUIET, is_terminal),
+        })
+    }
+
+    // Loads the block file and the chosen jobs of the job file.
+    fn load<R: AllocGlobal + Clock + Eprint + Files + Input + Threads + Sync>(
+        &self,
+        rt: &R,
+        progress: &Progress<R>,
+    ) -> Result<(Arc<Store>, Arc<Vec<Job>>), Failure>
+        ensures { IfOk result (λ loaded. AreFew (arc_value loaded.1).items) }
+    {
+        let loaders = self.threads.loaders(rt);
+        let car = load_input(rt, self.inputs[0], progress)?;
+        let kind = kind_of(car.as_slice());
+        let file = read_input(rt, self.inputs[1])?;
+        match load(rt, rt.alloc(), car, file.as_slice(), self.choice, loaders) {
+            Ok(loaded) => Ok(loaded),
+            Err(fault) => Err(explained(rt, fault, kind)),
+        }
+    }
+
+    // Exports the jobs and prints their report. Closed streams are occupied only after the inputs were
+    // read, so a closed standard input is an error and not an empty input. If the run is rejected, the
+    // outputs are discarded.
+    fn export<R: Host>(
+        &self,
+        rt: &R,
+        store: &Arc<Store>,
+        jobs: &Arc<Vec<Job>>,
+        progress: &Progress<R>,
+    ) -> Result<u8, Failure>
+        requires { AreFew (arc_value jobs.now).items }
+    {
+        let _streams = occupy_std_fds(rt)?;
+        let errors = WriteErrors::new();
+        let outputs = make_outputs(
+            rt,
+            self.folder,
+            jobs.as_slice(),
+            self.inputs,
+            self.is_synced,
+        )?;
+        let ran = match writers_to(rt.alloc(), outputs.as_slice(), &errors) {
+            Ok(writers) => self.threads.run(rt, store, jobs, writers, progress),
+            Err(error) => Err(RunFault::from(error)),
+        };
+        match ran {
+            Ok(ran) => self.publish(rt, jobs.as_slice(), outputs, &ran, &errors),
+            Err(fault) => {
+                discard_outputs(rt, outputs);
+                Err(Failure::from(fault))
+            }
+        }
+    }
+
+    // Publishes the outputs of a run, prints its report, and then the notes.
+    fn publish<R: AllocGlobal + Eprint + Files<File = File> + Print>(
+        &self,
+        rt: &R,
+        jobs: &[Job],
+        outputs: Vec<Output>,
+        ran: &RunReport,
+        errors: &WriteErrors,
+    ) -> Result<u8, Failure> {
+        let results = ran.results.as_slice();
+        let published = publish_outputs(rt, outputs, jobs, results, self.naming);
+        print_all(rt, ran.report.as_slice())?;
+        let notes = published?;
+        print_notes(rt, Ok(notes));
+        print_notes(
+            rt,
+            failed_writes(rt.alloc(), self.folder, jobs, results, errors),
+        );
+        Ok(ran.status)
+    }
+}
+
+// Makes the error for standard input as both inputs.
+fn refused_inputs(alloc: Global) -> Result<clap::Error, AllocError> {
+    SPEC.refusal(
+        alloc,
+        ErrorKind::ArgumentConflict,
+        "standard input is given for '--blocks <FILE>' and for '--jobs <FILE>'",
+    )
+}
+
+// Returns the part of the job file that is asked for, or None for the whole file.
+fn part_of<'a>(alloc: Global, words: &ArgMatches<'a>) -> Result<Option<Part>, clap::Error> {
+    let Some(text) = PART.optional_text(words) else {
+        return Ok(None);
+    };
+    match part_in(text) {
+        Some(part) => Ok(Some(part)),
+        None => Err(refused_part(alloc, text)?),
+    }
+}
+
+// Parses a part, K/N.
+fn part_in(text: &str) -> Option<Part> {
+    let (number, of) = text.split_once('/')?;
+    Part::new(number.parse().ok()?, of.parse().ok()?)
+}
+
+// Makes the error for a text that isn't a part.
+fn refused_part(alloc: Global, text: &str) -> Result<clap::Error, AllocError> {
+    let message = format!(in alloc;
+        "invalid value '{text}' for '--part <K/N>': K is from 1 to N, and N from 1 to 1000000"
+    )?;
+    SPEC.refusal(alloc, ErrorKind::ValueValidation, message.as_str())
+}

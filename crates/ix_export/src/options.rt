@@ -1,0 +1,198 @@
+//! The options and positional arguments of the commands, as rows of a table, and the clap arguments made
+//! of them. The help is printed from this table, and the tests compare the man page and the completions
+//! with the help.
+
+ghost use Rattle.std.specs.Prelude.{◌≤◌};
+
+use clap::{Arg, ArgAction, ArgMatches, value_parser};
+use std::alloc::{AllocError, Global};
+
+/// An argument of a command: its name, how it is given, and its line in the help.
+#[derive(Clone, Copy)]
+pub(crate) struct ArgSpec {
+    pub name: &'static str,
+    pub given: ArgKind,
+    pub help: &'static str,
+}
+
+/// How an argument is given. The first text is the name of its value in the help.
+#[derive(Clone, Copy)]
+pub(crate) enum ArgKind {
+    /// A required option.
+    Required(&'static str),
+    /// An optional option.
+    Optional(&'static str),
+    /// An option with a default: the second text.
+    Default(&'static str, &'static str),
+    /// An option that conflicts with the argument of the second name.
+    ConflictsWith(&'static str, &'static str),
+    /// An option with a number from 1 to 64. The default is 4.
+    Number,
+    /// A flag.
+    Flag,
+    /// A flag that conflicts with the argument of this name.
+    FlagWithout(&'static str),
+    /// A required positional argument.
+    Positional(&'static str),
+    /// An optional positional argument.
+    OptionalPositional(&'static str),
+    /// One or more positional arguments.
+    Many(&'static str),
+}
+
+/// The block file of the commands `jobs` and `get`.
+pub(crate) const BLOCKS: ArgSpec = ArgSpec {
+    name: "blocks",
+    given: ArgKind::Required("FILE"),
+    help: "CARv1 file with the blocks, or - for standard input",
+};
+
+/// The number of walkers.
+pub(crate) const WALKERS: ArgSpec = ArgSpec {
+    name: "walkers",
+    given: ArgKind::Number,
+    help: "Threads that traverse, 1 to 64",
+};
+
+/// The number of verifiers.
+pub(crate) const VERIFIERS: ArgSpec = ArgSpec {
+    name: "verifiers",
+    given: ArgKind::Number,
+    help: "Threads that hash, 1 to 64",
+};
+
+/// Whether progress is shown.
+pub(crate) const PROGRESS: ArgSpec = ArgSpec {
+    name: "progress",
+    given: ArgKind::Flag,
+    help: "Show progress on standard error",
+};
+
+/// Whether the cause of an error is printed where an error has one line.
+pub(crate) const VERBOSE: ArgSpec = ArgSpec {
+    name: "verbose",
+    given: ArgKind::Flag,
+    help: "Print the cause of an error on a second line",
+};
+
+// The short form of an option, which is the same at each command.
+fn short_of(name: &str) -> Option<char> {
+    match name {
+        "out" => Some('o'),
+        "quiet" => Some('q'),
+        "verbose" => Some('v'),
+        _ => None,
+    }
+}
+
+impl ArgSpec {
+    /// Returns the text that was given for it, or its default, or an empty text.
+    pub(crate) fn text<'a>(&self, words: &ArgMatches<'a>) -> &'a str {
+        self.optional_text(words).unwrap_or("")
+    }
+
+    /// Returns the text that was given for it, or its default, if there is one.
+    pub(crate) fn optional_text<'a>(&self, words: &ArgMatches<'a>) -> Option<&'a str> {
+        words.get_str(self.name)
+    }
+
+    /// Returns whether the flag was given.
+    pub(crate) fn is_given<'a>(&self, words: &ArgMatches<'a>) -> bool {
+        words.get_flag(self.name)
+    }
+
+    /// Returns the number of threads that was given. The command line accepts only 1 to 64.
+    pub(crate) fn threads<'a>(&self, words: &ArgMatches<'a>) -> u32
+        ensures { (1 ≤ result) × (result ≤ 64) }
+    {
+        words.get_one(self.name).unwrap_or(4).clamp(1, 64)
+    }
+}
+
+/// Makes the clap arguments of these rows, in their order. An error means that memory ran out.
+pub(crate) fn arguments_of<'a>(
+    alloc: Global,
+    rows: &'static [ArgSpec],
+) -> Result<Vec<Arg<'a>>, AllocError> {
+    let mut arguments = Vec::new(alloc);
+    push_arguments(alloc, &mut arguments, rows)?;
+    Ok(arguments)
+}
+
+// Adds the arguments. It owns none of them, so an early return has none to drop.
+fn push_arguments<'a>(
+    alloc: Global,
+    arguments: &mut Vec<Arg<'a>>,
+    rows: &'static [ArgSpec],
+) -> Result<(), AllocError> {
+    for row in rows {
+        push_argument(arguments, argument_of(alloc, row))?;
+    }
+    Ok(())
+}
+
+// Adds an argument, unless memory ran out for it.
+fn push_argument<'a>(
+    arguments: &mut Vec<Arg<'a>>,
+    argument: Result<Arg<'a>, AllocError>,
+) -> Result<(), AllocError> {
+    match argument {
+        Ok(argument) => arguments.push(argument).map_err(AllocError::from),
+        Err(error) => Err(error),
+    }
+}
+
+fn argument_of<'a>(alloc: Global, row: &'static ArgSpec) -> Result<Arg<'a>, AllocError> {
+    match row.given {
+        ArgKind::Required(value) => Ok(option(alloc, row, value).required(true)),
+        ArgKind::Optional(value) => Ok(option(alloc, row, value)),
+        ArgKind::Default(value, other) => Ok(option(alloc, row, value).default_value(other)),
+        ArgKind::ConflictsWith(value, other) => option(alloc, row, value).conflicts_with(other),
+        ArgKind::Number => Ok(number(alloc, row)),
+        ArgKind::Flag => Ok(flag(alloc, row)),
+        ArgKind::FlagWithout(other) => flag(alloc, row).conflicts_with(other),
+        ArgKind::Positional(value) => Ok(positional(alloc, row, value).required(true)),
+        ArgKind::OptionalPositional(value) => Ok(positional(alloc, row, value)),
+        ArgKind::Many(value) => Ok(positionals(alloc, row, value)),
+    }
+}
+
+// A positional argument.
+fn positional<'a>(alloc: Global, row: &'static ArgSpec, value: &'static str) -> Arg<'a> {
+    Arg::new(alloc, row.name).value_name(value).help(row.help)
+}
+
+// Positional arguments, at least one.
+fn positionals<'a>(alloc: Global, row: &'static ArgSpec, value: &'static str) -> Arg<'a> {
+    positional(alloc, row, value)
+        .required(true)
+        .num_args(1..)
+        .action(ArgAction::Append)
+}
+
+// An option with a text as its value.
+fn option<'a>(alloc: Global, row: &'static ArgSpec, value: &'static str) -> Arg<'a> {
+    named(row, positional(alloc, row, value))
+}
+
+// An option with a number.
+fn number<'a>(alloc: Global, row: &'static ArgSpec) -> Arg<'a> {
+    option(alloc, row, "N")
+        .value_parser(value_parser!(u32).range(1..65))
+        .default_value("4")
+}
+
+// A flag.
+fn flag<'a>(alloc: Global, row: &'static ArgSpec) -> Arg<'a> {
+    let flag = Arg::new(alloc, row.name).help(row.help);
+    named(row, flag).action(ArgAction::SetTrue)
+}
+
+// Gives an argument its long form, and its short form if it has one.
+fn named<'a>(row: &'static ArgSpec, argument: Arg<'a>) -> Arg<'a> {
+    let argument = argument.long(row.name);
+    match short_of(row.name) {
+        Some(short) => argument.short(short),
+        None => argument,
+    }
+}
