@@ -22,7 +22,7 @@ _ix_export() {
       compopt -o filenames 2>/dev/null
       return
       ;;
-    --out)
+    --out | -o)
       it=-d
       [ "$command" != get ] || it=-f
       mapfile -t COMPREPLY < <(compgen "$it" -- "$word")
@@ -36,15 +36,15 @@ _ix_export() {
     --root | --selector | --selector-hex | --limit | --cid | --hex | --part) return ;;
   esac
   case $command in
-    get) it='--blocks --root --selector --selector-hex --limit --every-arrival --out --walkers --verifiers --sync --no-sync --progress --quiet --help' ;;
-    jobs) it='--blocks --jobs --out --part --walkers --verifiers --once --sync --complete --progress --quiet --verbose --help' ;;
-    job) it='--help' ;;
-    check-jobs) it='--help' ;;
-    selector) it='--hex --help' ;;
-    root) it='--cid --verbose --help' ;;
-    inspect) it='--list --help' ;;
-    verify) it='--blocks-only --all --verifiers --help' ;;
-    *) it='get jobs job check-jobs selector root inspect verify --help --version' ;;
+    get) it='--blocks --root --selector --selector-hex --limit --every-arrival --out -o --walkers --verifiers --sync --no-sync --progress --quiet -q --help -h' ;;
+    jobs) it='--blocks --jobs --out -o --part --walkers --verifiers --once --sync --complete --progress --quiet -q --verbose -v --help -h' ;;
+    job) it='--help -h' ;;
+    check-jobs) it='--help -h' ;;
+    selector) it='--hex --help -h' ;;
+    root) it='--cid --verbose -v --help -h' ;;
+    inspect) it='--list --help -h' ;;
+    verify) it='--blocks-only --all --verifiers --help -h' ;;
+    *) it='get jobs job check-jobs selector root inspect verify --help -h --version -V' ;;
   esac
   case $command in
     check-jobs | inspect | verify)

@@ -1,3 +1,2 @@
 pub mod JobRoots
 pub mod OneCid
-pub mod Runs

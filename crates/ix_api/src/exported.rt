@@ -1,11 +1,10 @@
 //! Exports one job on the caller's thread.
 
 ghost use Rattle.std.specs.Prelude.{IfOk};
-ghost use Rattle.ix_api.specs.Exporting.{HasExported, IsWholeAtDone, IsBegun, IsRunOfOne};
+ghost use Rattle.ix_api.specs.Exporting.{HasExported, IsWholeAtDone, IsBegun};
 
-use ix_check::ShaCheck;
 use ix_jobs::{JobResult, report};
-use ix_run::run_jobs;
+use ix_run::run_one;
 use ix_store::Store;
 use ix_walk::Job;
 use std::alloc::{AllocError, Global};
@@ -29,33 +28,14 @@ pub fn export(alloc: Global, store: &Store, job: &Job) -> Result<Exported, Alloc
     ensures whole { IfOk result (IsWholeAtDone store.now job.now) }
     ensures beginning { IfOk result (IsBegun store.now job.now) }
 {
-    let (result, archive) = run_one(alloc, store, job)?;
+    // A vector accepts every write while there is memory.
+    let Ok((result, archive)) = run_one(alloc, store, job, Vec::new(alloc)) else {
+        return Err(AllocError);
+    };
     let report = report(alloc, slice::from_ref(job), slice::from_ref(&result))?;
     Ok(Exported {
         result,
         archive,
         report,
     })
-}
-
-// The result of a job that runs alone, and its archive.
-fn run_one(alloc: Global, store: &Store, job: &Job) -> Result<(JobResult, Vec<u8>), AllocError>
-    ensures { IfOk result (λ r. IsRunOfOne store.now job.now r.0 r.1) }
-{
-    let writers = vec![in alloc; Vec::new(alloc)]?;
-    let mut check = ShaCheck::new(alloc);
-    // A vector accepts every write while there is memory.
-    let Ok((mut results, mut archives)) = run_jobs(
-        alloc,
-        store,
-        slice::from_ref(job),
-        writers,
-        &mut check,
-    ) else {
-        return Err(AllocError);
-    };
-    match (results.pop(), archives.pop()) {
-        (Some(result), Some(archive)) => Ok((result, archive)),
-        _ => Err(AllocError),
-    }
 }

@@ -11,8 +11,8 @@ use std::alloc::Global;
 use std::collections::BTreeSet;
 use std::marker::Model;
 
-// The most jobs that a file may have.
-const MOST_JOBS: usize = 1_000;
+/// The most jobs that a file may have, and a part of a larger one.
+pub(crate) const MOST_JOBS: usize = 1_000;
 
 /// Jobs and the set of their names, seen as the list of the jobs in the order of adding.
 #[derive(Drop)]

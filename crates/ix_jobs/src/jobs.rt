@@ -7,6 +7,7 @@
 
 ghost use Rattle.std.specs.Prelude.{◌≡◌, ◌==◌, Ok, IfOk, IfErr};
 ghost use Rattle.std.specs.List.{before_first, after_first};
+ghost use Rattle.ix_walk.specs.JobMeaning.{walked};
 ghost use Rattle.ix_jobs.specs.Jobs.{jobs_of};
 ghost use Rattle.ix_jobs.specs.Gives.{IsFaultOf};
 
@@ -14,7 +15,7 @@ use crate::fault::JobsFault;
 use crate::job_list::JobList;
 use crate::line::add_line;
 use ix_walk::Job;
-use std::alloc::Global;
+use std::alloc::{AllocError, Global};
 
 /// Returns the jobs of a job file, in order, or its first error.
 pub fn read_jobs(alloc: Global, bytes: &[u8]) -> Result<Vec<Job>, JobsFault>
@@ -33,6 +34,18 @@ pub fn read_jobs(alloc: Global, bytes: &[u8]) -> Result<Vec<Job>, JobsFault>
         rest = after;
     }
     Ok(jobs.into_jobs())
+}
+
+/// Returns the same jobs, each of which expands a CID once if that is asked for, and else at every link
+/// to it.
+pub fn with_links_once(alloc: Global, jobs: Vec<Job>, once: bool) -> Result<Vec<Job>, AllocError>
+    ensures { IfOk result (λ some. some.items ≡ walked once jobs.items) }
+{
+    if once {
+        jobs.into_iter().map(|job| job.links_once()).collect(alloc)
+    } else {
+        Ok(jobs)
+    }
 }
 
 /// Splits off the first line, without its `0a`. Nothing follows if there is no `0a`.

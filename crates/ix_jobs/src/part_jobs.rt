@@ -9,15 +9,13 @@ ghost use Rattle.ix_jobs.specs.Parts.{job_lines, jobs_of_part, AreJobsBetween};
 ghost use Rattle.ix_jobs.specs.Gives.{IsFaultOf};
 
 use crate::fault::{JobErrorKind, JobsFault};
+use crate::job_list::MOST_JOBS;
 use crate::jobs::split_line;
 use crate::line::{is_ignored, without_return};
 use crate::part::Part;
 use crate::part_list::PartList;
 use ix_walk::Job;
 use std::alloc::Global;
-
-// The most jobs that a part may have.
-const MOST_JOBS: usize = 1_000;
 
 /// Returns the jobs of a part of a job file that may have 1,000,000, in order. Returns the first error
 /// of the file, or, if it has none, that the part has too many jobs, with the line of the first of them

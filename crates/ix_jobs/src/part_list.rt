@@ -11,7 +11,7 @@ use std::alloc::Global;
 use std::collections::BTreeSet;
 
 // The most jobs of a file that is cut into parts.
-const MOST_JOBS: usize = 1_000_000;
+const MOST_JOBS_IN_PARTS: usize = 1_000_000;
 
 /// The jobs from one number up to another, and the names of all.
 #[derive(Drop)]
@@ -58,7 +58,7 @@ impl PartList {
         if self.names.contains(job.name()) {
             return Err(JobErrorKind::Repeated);
         }
-        if self.count >= MOST_JOBS {
+        if self.count >= MOST_JOBS_IN_PARTS {
             return Err(JobErrorKind::TooMany);
         }
         let name = String::from_str(alloc, job.name())?;

@@ -1,6 +1,5 @@
 pub mod Told
 pub mod Runs
-pub mod Matcher
-pub mod Exports
+pub mod Alone
 pub mod Turns
 pub mod JobNumbers

@@ -1,7 +1,4 @@
-pub mod Root
 pub mod FaultLine
-pub mod Input
-pub mod Command
 pub mod Prepare
 pub mod Choosing
 pub mod Run

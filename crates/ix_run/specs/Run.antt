@@ -25,7 +25,7 @@ use Rattle.ix_run.specs.declared.execution.RunOut.{RunOut}
 abbrev pub CanRun : {W : Type 0} → List JobMeaning → List W → Type 0
 CanRun jobs writers = (length writers ≡ length jobs) × AreFew jobs
 
--- The end in the report of a job: that of its close, or a failed write if the last bytes of a whole archive couldn't be flushed.
+-- The end in the report of a job, beside that of its close: the same, or a failed write if the last bytes of a whole archive couldn't be flushed.
 abbrev pub IsEndOf : End → End → Type 0
 IsEndOf ends.Done told = (told ≡ ends.Done) ⊎ (told ≡ ends.Write)
 IsEndOf ends.Limit told = (told ≡ ends.Limit) ⊎ (told ≡ ends.Write)
@@ -84,9 +84,7 @@ module _ {W : Type 0} (told : W → Option (List ℕ)) where
 pub record IsLeftOf {W : Type 0} (jobs : List JobMeaning) (results : List JobResult) (out : RunOut W) : Type 0 where
   pub report : out.report.items ≡ report_of jobs results
   pub status : out.status ≡ status_of results
-  -- the ends are those in the report
-  pub ends : out.ends.items ≡ map (λ r. r.end) results
-  -- and so is what is handed out of each
+  -- what is returned of each is what the report says
   pub told_of : out.results.items ≡ results
 
 -- each job was run, and the report and the status are those of the results

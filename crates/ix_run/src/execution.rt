@@ -1,6 +1,6 @@
 //! Runs: every job's archive, the report and the status.
 
-ghost use Rattle.std.specs.Prelude.{◌≡◌, length, map, vec_len, IfOk, IfErr};
+ghost use Rattle.std.specs.Prelude.{◌≡◌, [], ◌∷◌, length, vec_len, IfOk, IfErr};
 ghost use Rattle.std.specs.Arc.{arc_value};
 ghost use Rattle.std.specs.Io.KnownBytes.{Keeps};
 ghost use Rattle.ix_archive.specs.Headline.{EachUnused, IsUnusedCheck};
@@ -10,6 +10,7 @@ ghost use Rattle.ix_run.specs.Run.{
   HaveRun,
   RunsTo,
   IsLeftOf,
+  IsRun,
   IsRunRefusal,
   EachBegun,
   EachEnded,
@@ -26,16 +27,18 @@ use ix_store::Store;
 use ix_walk::Job;
 use std::alloc::{AllocError, Global};
 use std::io::Write;
+use std::slice;
 use std::sync::{Arc, Wait};
 use std::thread::Threads;
 
-/// The result of a run: the report, the exit status, and, in the order of the jobs, the ends and the
-/// results in the report, and the writers.
+/// The result of a run: the report, the exit status, and, in the order of the jobs, the results in the
+/// report and the writers.
 #[derive(Drop)]
 pub struct RunOut<W> {
     pub report: Vec<u8>,
     pub status: u8,
-    pub ends: Vec<End>,
+    /// The end of each is that in the report: the end of the job's close, or a failed write if its
+    /// writer could not be flushed.
     pub results: Vec<JobResult>,
     pub writers: Vec<W>,
 }
@@ -123,21 +126,12 @@ fn summarize<W: Drop>(
 {
     let report = report(alloc, jobs, results.as_slice())?;
     let status = status(results.as_slice());
-    let ends = ends_of(alloc, results.as_slice())?;
     Ok(RunOut {
         report,
         status,
-        ends,
         results,
         writers,
     })
-}
-
-// Returns how each job ended.
-fn ends_of(alloc: Global, results: &[JobResult]) -> Result<Vec<End>, AllocError>
-    ensures { IfOk result (λ ends. ends.items ≡ map (λ r. r.end) results.now) }
-{
-    results.iter().map(|told| told.end).collect(alloc)
 }
 
 // Makes so many checks that have checked nothing so far.
@@ -171,6 +165,32 @@ pub fn run_jobs<W: Write + Drop, C: Check>(
     Ok(finish_archives(alloc, archives, ends.as_slice())?)
 }
 
+/// Runs one job over the store on one thread. Returns its result and its writer.
+pub fn run_one<W: Write + Drop>(
+    alloc: Global,
+    store: &Store,
+    job: &Job,
+    writer: W,
+) -> Result<(JobResult, W), RunFault>
+    ensures ran { IfOk result (λ out. IsRun W.contents store.now 0 job.now writer out.0 out.1) }
+    ensures refused { IfErr result (λ fault. IsRunRefusal (job.now ∷ []) fault) }
+{
+    let mut given = Vec::with_capacity(alloc, 1)?;
+    given.push(writer)?;
+    let mut check = ShaCheck::new(alloc);
+    let (mut results, mut writers) = run_jobs(
+        alloc,
+        store,
+        slice::from_ref(job),
+        given,
+        &mut check,
+    )?;
+    match (results.pop(), writers.pop()) {
+        (Some(result), Some(writer)) => Ok((result, writer)),
+        _ => Err(RunFault::Memory),
+    }
+}
+
 // Makes an archive for each job, writes its header, and notifies the observer.
 fn start_archives<'a, W: Write + Drop, V: Observer>(
     alloc: Global,
@@ -195,7 +215,7 @@ fn start_archives<'a, W: Write + Drop, V: Observer>(
     Ok(archives)
 }
 
-// Returns the results of the archives with these ends, and their writers.
+// Returns the results of the archives whose jobs were closed with these ends, and their writers.
 fn finish_archives<'a, W: Write + Drop, V: Observer>(
     alloc: Global,
     archives: Vec<Observed<'a, W, V>>,
@@ -216,8 +236,8 @@ fn finish_archives<'a, W: Write + Drop, V: Observer>(
     Ok((results, writers))
 }
 
-// Flushes the writer of a job and returns the job's end: a flush that fails is a failed write. If
-// memory ran out, that is reported first.
+// Flushes the writer of a job that was closed with this end, and returns the end in the report: a flush
+// that fails is a failed write. If memory ran out, that is reported first.
 fn flush_writer<W: Write>(writer: &mut W, end: End) -> End
     ensures end { IsEndOf end result }
     ensures bytes { Keeps (W.contents writer.old) (W.contents writer.new) }

@@ -13,19 +13,19 @@ use thiserror::Error;
 #[derive(Debug, Drop, Error)]
 pub enum RunFault {
     /// Standard input is not hex.
-    #[error("the input is not hexadecimal")]
+    #[error("the input isn't hex")]
     Hex,
     /// The text of the root is not a CIDv1.
-    #[error("the root is no CID: {0}")]
+    #[error("the root isn't a CID: {0}")]
     Root(CidFault),
     /// The input is not a CARv1 file.
-    #[error("the input is no CARv1 file: {0:?}")]
+    #[error("the input isn't a CARv1 file: {0:?}")]
     Car(CarFault),
     /// The job file is rejected.
-    #[error("the job file is refused: {0:?}")]
+    #[error("the job file is rejected: {0:?}")]
     Jobs(JobsFault),
     /// The header of the archive of the job with this number, from 0, could not be written.
-    #[error("the archive of job {0} could not be begun")]
+    #[error("the header of the archive of job {0} can't be written")]
     Write(u32),
     /// Memory ran out.
     #[error("out of memory")]

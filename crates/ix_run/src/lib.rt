@@ -1,7 +1,8 @@
-//! Runs over a block file and a job file, the archive of one root, and the lines of errors.
+//! Runs over a block file and a job file, and the lines of errors.
 //!
-//! `prepare` reads both files, or returns the first error; `load_part` takes a part of the jobs. `run`
-//! walks each job and writes its archive. In every schedule: the report and the status are those of the
+//! `prepare` reads both files, or returns the first error; `load` takes the CARv1 file's bytes, and the jobs
+//! that are chosen. `run` walks each job and writes its archive; `run_one` does so with one job on one
+//! thread. In every schedule: the report and the status are those of the
 //! jobs' results. Each archive, over a writer that had no bytes, is that of its job if it ends with Done,
 //! and else a prefix of it.
 //!
@@ -17,21 +18,16 @@
 //! ```
 #![tactic(auto)]
 
-mod command;
 mod complete;
 mod execution;
 mod fault;
-mod input;
 mod loading;
 mod observer;
 mod preparation;
-mod root;
 
-pub use command::{printed_root, root_of_text};
 pub use complete::{is_complete, is_root};
-pub use execution::{RunInput, RunOut, run, run_jobs, run_observed};
+pub use execution::{RunInput, RunOut, run, run_jobs, run_observed, run_one};
 pub use fault::{RunFault, fault_line};
-pub use loading::{JobChoice, load_by};
+pub use loading::{JobChoice, load};
 pub use observer::{Observed, Observer};
-pub use preparation::{load, load_part, prepare};
-pub use root::export_root;
+pub use preparation::prepare;

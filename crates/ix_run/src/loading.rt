@@ -2,7 +2,7 @@
 
 ghost use Rattle.std.specs.Prelude.{◌≡◌, IfOk, IfErr, Ok};
 ghost use Rattle.std.specs.Arc.{arc_value};
-ghost use Rattle.ix_walk.specs.JobMeaning.{walked, AreFew};
+ghost use Rattle.ix_walk.specs.JobMeaning.{AreFew};
 ghost use Rattle.ix_car.specs.Reading.{blocks_of};
 ghost use Rattle.ix_jobs.specs.Gives.{IsFaultOf};
 ghost use Rattle.ix_run.specs.Choosing.{jobs_in, AreChosen};
@@ -11,10 +11,10 @@ ghost use Rattle.ix_run.specs.Prepare.{IsFilesRefusal};
 use crate::fault::RunFault;
 use crate::preparation::shared;
 use ix_car::load_car_by;
-use ix_jobs::{JobsFault, Part, read_jobs, read_jobs_part};
+use ix_jobs::{JobsFault, Part, read_jobs, read_jobs_part, with_links_once};
 use ix_store::Store;
 use ix_walk::Job;
-use std::alloc::{AllocError, Global};
+use std::alloc::Global;
 use std::sync::Arc;
 use std::thread::Threads;
 
@@ -30,7 +30,7 @@ pub struct JobChoice {
 /// Loads the blocks of a CARv1 file, whose bytes the store owns from then on, and the chosen jobs of a
 /// job file, which is checked as a whole. So many threads index the blocks if they are many. If both
 /// files are rejected, the error is that of the CARv1 file.
-pub fn load_by<R: Threads + Sync>(
+pub fn load<R: Threads + Sync>(
     rt: &R,
     alloc: Global,
     car: Vec<u8>,
@@ -45,7 +45,7 @@ pub fn load_by<R: Threads + Sync>(
 {
     let store = load_car_by(rt, alloc, car, threads)?;
     let jobs = read_chosen(alloc, job_file, choice.part)?;
-    let jobs = walked(alloc, jobs, choice.once)?;
+    let jobs = with_links_once(alloc, jobs, choice.once)?;
     Ok(shared(alloc, store, jobs)?)
 }
 
@@ -58,16 +58,5 @@ fn read_chosen(alloc: Global, job_file: &[u8], part: Option<Part>) -> Result<Vec
     match part {
         Some(part) => read_jobs_part(alloc, job_file, part),
         None => read_jobs(alloc, job_file),
-    }
-}
-
-// Returns the same jobs, which expand each CID once if that is asked for.
-fn walked(alloc: Global, jobs: Vec<Job>, once: bool) -> Result<Vec<Job>, AllocError>
-    ensures { IfOk result (λ walked_jobs. walked_jobs.items ≡ walked once jobs.items) }
-{
-    if once {
-        jobs.into_iter().map(|job| job.links_once()).collect(alloc)
-    } else {
-        Ok(jobs)
     }
 }

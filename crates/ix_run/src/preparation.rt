@@ -1,14 +1,13 @@
 //! Loads what a run needs: the block store and the list of jobs.
 
-ghost use Rattle.std.specs.Prelude.{◌≡◌, Some, IfOk, IfErr};
+ghost use Rattle.std.specs.Prelude.{◌≡◌, IfOk, IfErr};
 ghost use Rattle.std.specs.Arc.{arc_value};
 ghost use Rattle.ix_jobs.specs.Jobs.{jobs_of};
-ghost use Rattle.ix_run.specs.Choosing.{jobs_in};
 ghost use Rattle.ix_run.specs.Prepare.{IsFilesRefusal, IsLoaded};
 
 use crate::fault::RunFault;
-use ix_car::{load_car, read_car};
-use ix_jobs::{Part, read_jobs, read_jobs_part};
+use ix_car::read_car;
+use ix_jobs::read_jobs;
 use ix_store::Store;
 use ix_walk::Job;
 use std::alloc::{AllocError, Global};
@@ -27,35 +26,6 @@ pub fn prepare(
     let store = read_car(alloc, car)?;
     let jobs = read_jobs(alloc, jobs)?;
     Ok(shared(alloc, store, jobs)?)
-}
-
-/// Loads the same from a CARv1 file whose bytes the store owns from then on, so no block is copied.
-pub fn load(
-    alloc: Global,
-    car: Vec<u8>,
-    job_file: &[u8],
-) -> Result<(Arc<Store>, Arc<Vec<Job>>), RunFault>
-    ensures loaded { IfOk result (IsLoaded car.items (jobs_of job_file.now)) }
-    ensures refused { IfErr result (IsFilesRefusal car.items (jobs_of job_file.now)) }
-{
-    let store = load_car(alloc, car)?;
-    let jobs = read_jobs(alloc, job_file)?;
-    Ok(shared(alloc, store, jobs)?)
-}
-
-/// Loads the same, with a part of the jobs. The job file is checked as a whole, whatever the part.
-pub fn load_part(
-    alloc: Global,
-    car: Vec<u8>,
-    job_file: &[u8],
-    part: Part,
-) -> Result<(Arc<Store>, Arc<Vec<Job>>), RunFault>
-    ensures loaded { IfOk result (IsLoaded car.items (jobs_in (Some part) job_file.now)) }
-    ensures refused { IfErr result (IsFilesRefusal car.items (jobs_in (Some part) job_file.now)) }
-{
-    let blocks = load_car(alloc, car)?;
-    let jobs = read_jobs_part(alloc, job_file, part)?;
-    Ok(shared(alloc, blocks, jobs)?)
 }
 
 /// Shares the blocks and the jobs between the threads of a run.

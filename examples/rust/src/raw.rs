@@ -32,7 +32,7 @@ pub(crate) struct Counts {
 
 #[repr(C)]
 #[derive(Default)]
-pub(crate) struct SkipTold {
+pub(crate) struct SkipRecord {
     pub(crate) visit: u32,
     pub(crate) why: u32,
 }
@@ -57,7 +57,7 @@ extern "C" {
     fn ix_selector_from_json(text: &mut Handle, json: *const u8, json_length: usize) -> u32;
     fn ix_export(store: &mut Handle, job: &mut Handle, out: &mut Handle) -> u32;
     fn ix_result_counts(handle: &mut Handle, counts: &mut Counts) -> u32;
-    fn ix_result_skip(handle: &mut Handle, number: usize, skip: &mut SkipTold, cid: &mut *const u8, length: &mut usize) -> u32;
+    fn ix_result_skip(handle: &mut Handle, number: usize, skip: &mut SkipRecord, cid: &mut *const u8, length: &mut usize) -> u32;
     fn ix_bytes(handle: &mut Handle, part: u32, start: &mut *const u8, length: &mut usize) -> u32;
 }
 
@@ -145,8 +145,8 @@ impl Handle {
     }
 
     /// A skip by its number and its CID, if there is such a one.
-    pub(crate) fn skip(&mut self, number: usize) -> Option<(SkipTold, Vec<u8>)> {
-        let (mut told, mut cid, mut length) = (SkipTold::default(), std::ptr::null(), 0);
+    pub(crate) fn skip(&mut self, number: usize) -> Option<(SkipRecord, Vec<u8>)> {
+        let (mut told, mut cid, mut length) = (SkipRecord::default(), std::ptr::null(), 0);
         // SAFETY: as above; the CID is copied at once.
         unsafe {
             match ix_result_skip(self, number, &mut told, &mut cid, &mut length) {

@@ -13,12 +13,12 @@ returns-then-contains c = λ start end before k.
     ap (is_taken before) (sym name) ∙ sym (taken-by_name c.args.self.now.names before before c.name.result.now c.contains.result k.named refl c.contains.ensures) ∙ c.if-contains.true in
     joined-taken 1000000 before c.args.job taken
 
-pub returns-then-self-ge-MOST_JOBS : goal.returns-then-self-ge-MOST_JOBS
-returns-then-self-ge-MOST_JOBS c = λ start end before k.
+pub returns-then-self-ge-MOST_JOBS_IN_PARTS : goal.returns-then-self-ge-MOST_JOBS_IN_PARTS
+returns-then-self-ge-MOST_JOBS_IN_PARTS c = λ start end before k.
     let name : c.name.result.now ≡ c.args.job.name = c.name.ensures in
     let free : is_taken before c.args.job.name ≡ false =
     ap (is_taken before) (sym name) ∙ sym (taken-by_name c.args.self.now.names before before c.name.result.now c.contains.result k.named refl c.contains.ensures) ∙ c.if-contains.false in
-    joined-full 1000000 before c.args.job free (omega (arith, c.if-self-ge-MOST_JOBS.true, k.counted))
+    joined-full 1000000 before c.args.job free (omega (arith, c.if-self-ge-MOST_JOBS_IN_PARTS.true, k.counted))
 
 pub returns-then-number-self : goal.returns-then-number-self
 returns-then-number-self c = λ start end before k.
@@ -32,7 +32,7 @@ returns-then-number-self c = λ start end before k.
       | then-number-self-via-else-number-self+then-self-number w ↦ inr (omega (arith, w.if-self-number.true, counted, k.ends))
     ] in (
       before ++ c.args.job ∷ [],
-      joined-free 1000000 before c.args.job free (omega (arith, c.if-self-ge-MOST_JOBS.false, counted)),
+      joined-free 1000000 before c.args.job free (omega (arith, c.if-self-ge-MOST_JOBS_IN_PARTS.false, counted)),
       record {
         named = names-push c.args.self.now.names c.insert.new.self before (before ++ c.args.job ∷ []) c.args.job c.in_ok-name.name k.named (c.in_ok-name.ensures.ok ∙ c.name-2.ensures) c.in_ok-insert.ensures.updates refl;
         counted = omega (arith, counted, length-append before (c.args.job ∷ []));
@@ -49,7 +49,7 @@ returns c = λ start end before k.
     ap (is_taken before) (sym name) ∙ sym (taken-by_name c.args.self.now.names before before c.name.result.now c.contains.result k.named refl c.contains.ensures) ∙ c.if-contains.false in
     let counted : c.args.self.now.count ≡ length before = k.counted in (
       before ++ c.args.job ∷ [],
-      joined-free 1000000 before c.args.job free (omega (arith, c.if-self-ge-MOST_JOBS.false, counted)),
+      joined-free 1000000 before c.args.job free (omega (arith, c.if-self-ge-MOST_JOBS_IN_PARTS.false, counted)),
       record {
         named = names-push c.args.self.now.names c.insert.new.self before (before ++ c.args.job ∷ []) c.args.job c.in_ok-name.name k.named (c.in_ok-name.ensures.ok ∙ c.name-2.ensures) c.in_ok-insert.ensures.updates refl;
         counted = omega (arith, counted, length-append before (c.args.job ∷ []));

@@ -1,0 +1,43 @@
+-- The faults of a job file, of each faulty line its first.
+use Rattle.std.specs.Prelude.{◌≡◌, ℕ, ◌+◌, ◌==◌, List, [], ◌∷◌, ◌++◌, filter, nat_lt, if◌then◌else◌, Option, Some, None, Result, Ok, Err}
+use Rattle.std.specs.List.{slice_split}
+use Rattle.ix_walk.specs.JobMeaning.{JobMeaning}
+use Rattle.ix_jobs.specs.declared.fault.JobErrorKind.{JobErrorKind}
+use Rattle.ix_jobs.specs.declared.fault.JobErrorKind.TheVariants.{Repeated}
+use Rattle.ix_jobs.specs.declared.fault.JobsFault.{JobsFault}
+use Rattle.ix_jobs.specs.Jobs.{jobs_of, is_taken}
+
+-- why a line is faulty after lines with these jobs: for what a file of this line alone has, or for its name
+abbrev pub fault_after : List JobMeaning → Result (List JobMeaning) (JobErrorKind × ℕ) → Option JobErrorKind
+fault_after before (Err fault) = Some fault.0
+fault_after before (Ok []) = None
+fault_after before (Ok (job ∷ more)) = if is_taken before job.name then Some Repeated else None
+
+-- the jobs with that of the line, if its name isn't taken
+abbrev pub jobs_after : List JobMeaning → Result (List JobMeaning) (JobErrorKind × ℕ) → List JobMeaning
+jobs_after before (Err fault) = before
+jobs_after before (Ok []) = before
+jobs_after before (Ok (job ∷ more)) = if is_taken before job.name then before else before ++ job ∷ []
+
+-- what is reported of the line with this number
+abbrev pub told : ℕ → Option JobErrorKind → List JobsFault
+told line None = []
+told line (Some kind) = record { kind = kind; line = line } ∷ []
+
+-- the faults of the lines from a number on, after those with these jobs
+abbrev pub faults_from : ℕ → List JobMeaning → List (List ℕ) → List JobsFault
+faults_from line before [] = []
+faults_from line before (l ∷ ls) = told line (fault_after before (jobs_of l)) ++ faults_from (line + 1) (jobs_after before (jobs_of l)) ls
+
+-- those of the lines after one
+abbrev pub later : ℕ → List JobsFault → List JobsFault
+later first faults = filter (λ f. nat_lt first f.line) faults
+
+-- the faults of the lines after one
+abbrev pub faults_after : ℕ → List ℕ → List JobsFault
+faults_after first b = later first (faults_from 1 [] (slice_split (λ b. b == 10) b))
+
+-- none where the file has jobs; else the one for which it is rejected, and those of the lines after
+abbrev pub AreFaultsOf : List ℕ → List JobsFault → Type 0
+AreFaultsOf b [] = (jobs : List JobMeaning) × (jobs_of b ≡ Ok jobs)
+AreFaultsOf b (f ∷ fs) = (jobs_of b ≡ Err (f.kind, f.line)) × (fs ≡ faults_after f.line b)

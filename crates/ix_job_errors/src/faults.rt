@@ -1,0 +1,94 @@
+//! All faulty lines of a job file.
+
+ghost use Rattle.std.specs.Prelude.{◌≡◌, ◌++◌, IfOk, OnOk};
+ghost use Rattle.ix_job_errors.specs.Faults.{later, told, faults_after, AreFaultsOf};
+ghost use Rattle.ix_job_errors.specs.Steps.{AnswersAfter};
+
+use ix_jobs::{JobErrorKind, JobsFault, read_jobs, split_line};
+use std::alloc::{AllocError, Global};
+use std::collections::BTreeSet;
+
+/// The faults of a job file, in the order of its lines: none where `read_jobs` takes it, else at
+/// first the one that it reports, and after that the fault of each later line that is faulty by
+/// itself, or whose name an earlier line has.
+pub fn job_faults(alloc: Global, bytes: &[u8]) -> Result<Vec<JobsFault>, AllocError>
+    ensures { IfOk result (λ faults. AreFaultsOf bytes.now faults.items) }
+{
+    let mut faults = Vec::new(alloc);
+    if let Err(first) = read_jobs(alloc, bytes) {
+        if let JobErrorKind::Memory = first.kind {
+            return Err(AllocError);
+        }
+        faults.push(first)?;
+        push_later(alloc, &mut faults, bytes, first.line)?;
+    }
+    Ok(faults)
+}
+
+// Appends the faults of the lines after the first faulty one.
+fn push_later(
+    alloc: Global,
+    faults: &mut Vec<JobsFault>,
+    bytes: &[u8],
+    first: u64,
+) -> Result<(), AllocError>
+    ensures { OnOk result (faults.new.items ≡ faults.old.items ++ faults_after first bytes.now) }
+{
+    let mut names = BTreeSet::new(alloc);
+    let mut rest = bytes;
+    let mut number = 0;
+    while !rest.is_empty() {
+        let (line, after) = split_line(rest);
+        number += 1;
+        let kind = fault_after(alloc, &mut names, line)?;
+        push_reported(faults, first, number, kind)?;
+        rest = after;
+    }
+    Ok(())
+}
+
+// Why a line is faulty, by itself or for its name, after lines whose jobs have these names.
+fn fault_after(
+    alloc: Global,
+    names: &mut BTreeSet<String>,
+    line: &[u8],
+) -> Result<Option<JobErrorKind>, AllocError>
+    ensures { AnswersAfter names.old line.now names.new result }
+{
+    let jobs = match read_jobs(alloc, line) {
+        Ok(jobs) => jobs,
+        Err(fault) => {
+            return match fault.kind {
+                JobErrorKind::Memory => Err(AllocError),
+                kind => Ok(Some(kind)),
+            };
+        }
+    };
+    let Some(job) = jobs.first() else {
+        return Ok(None);
+    };
+    if names.contains(job.name()) {
+        return Ok(Some(JobErrorKind::Repeated));
+    }
+    let name = String::from_str(alloc, job.name())?;
+    names.insert(name)?;
+    Ok(None)
+}
+
+// Appends what is reported of a line, if it is after the first faulty one.
+fn push_reported(
+    faults: &mut Vec<JobsFault>,
+    first: u64,
+    line: u64,
+    kind: Option<JobErrorKind>,
+) -> Result<(), AllocError>
+    ensures { OnOk result (faults.new.items ≡ faults.old.items ++ later first (told line kind)) }
+{
+    match kind {
+        Some(kind) if first < line => {
+            faults.push(JobsFault { kind, line })?;
+            Ok(())
+        }
+        _ => Ok(()),
+    }
+}

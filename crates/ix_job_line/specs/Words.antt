@@ -1,0 +1,53 @@
+-- The job of words, with a selector of any kind.
+use Rattle.std.specs.Prelude.{◌≡◌, ℕ, Bool, List, [], ◌∷◌, ◌++◌, codes, String, string_bytes}
+use Rattle.std.specs.Global.{Vec}
+use Rattle.ix_walk.specs.JobMeaning.{JobMeaning, walked}
+use Rattle.ix_selector_json.specs.declared.fault.NotationFault.{NotationFault}
+use Rattle.ix_selector_json.specs.Notation.{IsSelectorHex, IsJsonRefused}
+use Rattle.ix_jobs.specs.declared.fault.JobErrorKind.TheVariants as kinds
+use Rattle.ix_job_line.specs.declared.line.LineFault.{LineFault}
+use Rattle.ix_job_line.specs.declared.line.LineFault.TheVariants as faults
+use Rattle.ix_job_line.specs.declared.selector.SelectorWord.{SelectorWord}
+use Rattle.ix_job_line.specs.declared.selector.SelectorWord.TheVariants.{Everything, Json, Hex}
+use Rattle.ix_job_line.specs.declared.job.JobWords.{JobWords}
+use Rattle.ix_job_line.specs.Line.{IsLineBy, IsReadBy, IsRefusedBy}
+
+-- the selector that enters every child, as long as there are any, in hex
+abbrev pub everything_hex : List ℕ
+everything_hex = codes "a16152a2616ca1646e6f6e65a0623a3ea16161a1613ea16140a0"
+
+-- the hex of a selector, and a line end
+abbrev pub IsSpelledBy : SelectorWord → List ℕ → Type 0
+IsSpelledBy Everything line = line ≡ everything_hex ++ 10 ∷ []
+IsSpelledBy (Json text) line = IsSelectorHex text.now line
+IsSpelledBy (Hex text) line = line ≡ text.now ++ 10 ∷ []
+
+-- why a selector has none: its JSON is not that of a selector
+abbrev pub IsNoSelector : SelectorWord → NotationFault → Type 0
+IsNoSelector Everything fault = ⊥
+IsNoSelector (Json text) fault = IsJsonRefused text.now fault
+IsNoSelector (Hex text) fault = ⊥
+
+-- the same, or memory ran out
+abbrev pub IsUnspelled : SelectorWord → LineFault → Type 0
+IsUnspelled selector (faults.Selector fault told) = IsNoSelector selector fault
+IsUnspelled selector (faults.Field kinds.Memory) = Unit {0}
+IsUnspelled selector (faults.Field kind) = ⊥
+
+-- the job of a line that is made of the words, alone
+pub record AreJobsOf (words : JobWords) (once : Bool) (jobs : List JobMeaning) : Type 0 where
+  pub line : List ℕ
+  pub is : IsLineBy (IsSpelledBy words.selector) words.name.now words.roots.now words.limit.now line
+  pub are : jobs ≡ walked once (is.job ∷ [])
+
+-- the line of a selector of any kind, beside the only job of it
+abbrev pub IsMadeOf : {Y : Type 0} → SelectorWord → List ℕ → List ℕ → List ℕ → String Y × Vec JobMeaning → Type 0
+IsMadeOf selector name roots limit made = IsReadBy (IsSpelledBy selector) name roots limit (string_bytes made.0) made.1.items
+
+-- why there is none, or memory ran out
+abbrev pub IsRefusedOf : SelectorWord → List ℕ → List ℕ → List ℕ → LineFault → Type 0
+IsRefusedOf selector name roots limit fault = IsRefusedBy (IsSpelledBy selector) (IsNoSelector selector) name roots limit fault
+
+-- why the words are those of no job, or memory ran out
+abbrev pub AreWordsRefused : JobWords → LineFault → Type 0
+AreWordsRefused words fault = IsRefusedOf words.selector words.name.now words.roots.now words.limit.now fault
