@@ -22,7 +22,7 @@ PARTS = {
     "queue: take, lane: send": r"scope::entry|pop_as|try_send",
     "lane: receive": r"run_by|try_recv|ix_collect|ix_reorder",
     "write": r"ix_archive|ix_car",
-    "check": r"ix_check|sha2|compress",
+    "check": r"ix_check|ix_verdict|sha2|compress",
     "walk": r"ix_walk|ix_store|ix_cbor|ix_selector|ix_cid",
     "wait": r"yield|park|futex|sched|task_switch|syscall|backoff",
 }

@@ -21,7 +21,7 @@ use Rattle.ix_walk.proofs.Links.{cid_of, Ends, roots-by_depth, roots-by_length}
 use Rattle.ix_walk.proofs.GoingOnce.{once-same, once-fewer_from, once-goes_on}
 use Rattle.ix_walk.proofs.Reaches.{contains-in, in-contains, limit-cids, once-reaches}
 use Rattle.ix_check.specs.Verdict.{is_no_data, verdict_by, has_codec, verdict_with, verdict_of}
-use Rattle.ix_check.specs.declared.verdict.Verdict.TheVariants.{Codec, Malformed, Inline}
+use Rattle.ix_verdict.specs.declared.verdict.Verdict.TheVariants.{Codec, Malformed, Inline}
 use Rattle.ix_archive.specs.declared.sink.Delivery.{Delivery}
 use Rattle.ix_archive.specs.Kept.{is_below, cut_at, kept_after}
 use Rattle.ix_archive.specs.Verified.{is_good, verified_arrivals, number_among, judged, verified}

@@ -11,8 +11,8 @@ use Rattle.ix_cbor.specs.Reading.{data_at}
 use Rattle.ix_store.specs.Store.{Blocks, block_of, bytes_by, is_dag_cbor, value_of}
 use Rattle.ix_walk.specs.Once.{is_sound_by, sound_value}
 use Rattle.ix_check.specs.Verdict.{is_no_data, verdict_by, has_codec, passes}
-use Rattle.ix_check.specs.declared.verdict.Verdict.{Verdict}
-use Rattle.ix_check.specs.declared.verdict.Verdict.TheVariants.{Codec, Hash, Missing, Damaged, Malformed, Sound, Inline}
+use Rattle.ix_verdict.specs.declared.verdict.Verdict.{Verdict}
+use Rattle.ix_verdict.specs.declared.verdict.Verdict.TheVariants.{Codec, Hash, Missing, Damaged, Malformed, Sound, Inline}
 use Rattle.ix_archive.specs.Verified.{only_passing, is_good}
 
 -- no data

@@ -3,8 +3,8 @@ use Rattle.std.specs.Prelude.{ℕ, Bool, true, false, not, List, [], ◌∷◌, 
 use Rattle.ix_store.specs.Store.{Blocks, block_of}
 use Rattle.ix_walk.specs.JobMeaning.{JobMeaning}
 use Rattle.ix_car.specs.Writing.{header_of, section_with}
-use Rattle.ix_check.specs.declared.verdict.Verdict.{Verdict}
-use Rattle.ix_check.specs.declared.verdict.Verdict.TheVariants.{Codec, Hash, Missing, Damaged, Malformed, Sound, Inline}
+use Rattle.ix_verdict.specs.declared.verdict.Verdict.{Verdict}
+use Rattle.ix_verdict.specs.declared.verdict.Verdict.TheVariants.{Codec, Hash, Missing, Damaged, Malformed, Sound, Inline}
 use Rattle.ix_archive.specs.declared.sink.Delivery.{Delivery}
 use Rattle.ix_archive.specs.Verified.{verified}
 

@@ -1,7 +1,7 @@
 -- Examples, computed.
 use Rattle.std.specs.Prelude.{◌≡◌, ℕ, false, List, [], ◌∷◌, refl, None, map}
-use Rattle.ix_check.specs.declared.verdict.Verdict.{Verdict}
-use Rattle.ix_check.specs.declared.verdict.Verdict.TheVariants.{Damaged, Sound, Inline}
+use Rattle.ix_verdict.specs.declared.verdict.Verdict.{Verdict}
+use Rattle.ix_verdict.specs.declared.verdict.Verdict.TheVariants.{Damaged, Sound, Inline}
 use Rattle.ix_archive.specs.declared.sink.Delivery.{Delivery}
 use Rattle.ix_archive.specs.Kept.{kept}
 use Rattle.ix_archive.specs.Archive.{first_sound}

@@ -6,7 +6,8 @@ use ix_walk::Visit;
 use std::alloc::Global;
 use std::fmt;
 
-/// How a job ended.
+/// How a job ended. A sink is closed with it before its bytes are flushed: in a run's report, an end
+/// whose flush fails is `Write`.
 #[derive(Debug, Drop, Clone, Copy, PartialEq, Eq)]
 pub enum End {
     /// Every visit was delivered.

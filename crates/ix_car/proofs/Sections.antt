@@ -1,16 +1,16 @@
 -- The sections of a file, read one by one into a store.
-use Rattle.std.proofs.Common.{◌≡◌, ℕ, zero, suc, ◌+◌, ◌-◌, ◌++◌, ◌<◌, ◌≤◌, cond, ltb, leb, eqb, ◌&&◌, List, [], ◌∷◌, length, drop, take, get_or, refl, sym, ◌∙◌, ap, subst, inl, inr, arith, length-drop}
+use Rattle.std.proofs.Common.{◌≡◌, ℕ, zero, suc, ◌+◌, ◌-◌, ◌++◌, ◌<◌, ◌≤◌, cond, ltb, leb, eqb, ◌&&◌, List, [], ◌∷◌, length, drop, take, get_or, refl, sym, ◌∙◌, ap, arith, length-drop}
 use Rattle.std.specs.Prelude.{Result, Ok, Err}
-use Rattle.std.proofs.lemmas.Bool.{cases_Bool, ltb-true, ltb-false}
-use Rattle.std.proofs.lemmas.List.{length-append, drop-drop, drop-append-le}
-use Rattle.std.proofs.Math.ListN.{drop_of_length-le}
-use Rattle.std.proofs.Math.Seq.{drop-append_seam, take-append_seam}
+use Rattle.std.proofs.lemmas.Bool.{ltb-false}
+use Rattle.std.proofs.lemmas.List.{length-append, drop-drop}
+use Rattle.std.proofs.Math.Seq.{drop-append_seam, take-append_seam, get_or-append_seam}
 use Rattle.ix_cid.specs.declared.fault.VarintFault.{VarintFault}
 use Rattle.ix_cid.specs.declared.fault.VarintFault.TheVariants as varints
 use Rattle.ix_cid.specs.Varint.{continued, number_of_groups, varint_at}
 use Rattle.ix_cid.specs.Cid.{cid_at}
 use Rattle.ix_cid.proofs.Results.{past_test, bind_ok, ok_same}
 use Rattle.ix_store.specs.Store.{Blocks, with_block}
+use Rattle.ix_store.specs.Table.{part_of, file_at, section_in}
 use Rattle.ix_car.specs.declared.fault.CarKind.{CarKind}
 use Rattle.ix_car.specs.declared.fault.CarKind.TheVariants.{Memory}
 use Rattle.ix_car.specs.Gives.{FailsAs}
@@ -116,15 +116,45 @@ part-of-end (a ∷ x) y b h =
     let at : length b - length y - length (a ∷ x) ≡ h.0 = omega (arith, size) in
     ap (λ (n : ℕ). take (length (a ∷ x)) (drop n b)) at ∙ ap (λ (l : List ℕ). take (length (a ∷ x)) l) (sym h.1) ∙ take-append_seam (a ∷ x) y
 
--- an end without a front of it is an end
-pub end-cut : (k : ℕ) (x y b : List ℕ) → IsEnd (x ++ y) b → IsEnd (drop k x ++ y) b
-end-cut k x y b h = elim (cases_Bool (ltb (length x) k)) [
-  | inl past ↦ subst (λ (l : List ℕ). IsEnd (l ++ y) b) (sym (drop_of_length-le x (omega (arith, ltb-true (length x) k past)))) (end-behind x y b h)
-  | inr within ↦ subst (λ (l : List ℕ). IsEnd l b) (drop-append-le k x y (ltb-false (length x) k within)) (end-of-end (drop k (x ++ y)) (x ++ y) b (k, refl) h)
-]
-
 -- an end is no longer than what it ends
 pub end-within : (x y b : List ℕ) → IsEnd (x ++ y) b → length x + length y ≤ length b
 end-within x y b h =
     let size : length x + length y ≡ length b - h.0 = sym (length-append x y) ∙ ap length h.1 ∙ length-drop h.0 b in
     omega (arith, size)
+
+-- a CID and the block after it are at a place of the whole
+pub record PartsStand (cid block whole : List ℕ) (place : ℕ) : Type 0 where
+  pub within : place + length cid + length block ≤ length whole
+  pub cid_is : part_of whole place (length cid) ≡ cid
+  pub block_is : part_of whole (place + length cid) (length block) ≡ block
+
+-- where a section's are
+pub parts-stand : (cid block after whole : List ℕ) (place : ℕ) → place ≡ length whole - length after - length block - length cid → IsEnd (cid ++ (block ++ after)) whole → PartsStand cid block whole place
+parts-stand cid block after whole place is lies =
+    let size = length-append block after in
+    let total = end-within cid (block ++ after) whole lies in
+    let front : place ≡ length whole - length (block ++ after) - length cid = omega (arith, is, size) in
+    let rear : place + length cid ≡ length whole - length after - length block = omega (arith, is, size, total) in
+    record {
+      within = omega (arith, is, size, total);
+      cid_is = ap (λ (n : ℕ). take (length cid) (drop n whole)) front ∙ part-of-end cid (block ++ after) whole lies;
+      block_is = ap (λ (n : ℕ). take (length block) (drop n whole)) rear ∙ part-of-end block after whole (end-behind cid (block ++ after) whole lies);
+    }
+
+-- a builder has a file under a number
+abbrev pub HasFile : List (List ℕ) → ℕ → List ℕ → Type 0
+HasFile files number file = (number < length files) × (file_at files number ≡ file)
+
+-- once it was taken
+pub file-taken : (old new : List (List ℕ)) (number : ℕ) (file : List ℕ) → new ≡ old ++ file ∷ [] ∷ [] → number ≡ length old → HasFile new number file
+file-taken old new number file taken is = (
+  omega (arith, is, ap length taken, length-append old (file ∷ [] ∷ [])),
+  ap (λ (l : List (List ℕ)). file_at l number) taken ∙ ap (λ (n : ℕ). file_at (old ++ file ∷ [] ∷ []) n) is ∙ get_or-append_seam old file ([] ∷ []) [],
+)
+
+-- the pair of a section in it
+pub section-of : (files : List (List ℕ)) (number place : ℕ) (cid block file : List ℕ) → HasFile files number file → PartsStand cid block file place → section_in files number place (length cid) (length block) ≡ (cid, block)
+section-of files number place cid block file has stands =
+    ap (λ (f : List ℕ). (part_of f place (length cid), part_of f (place + length cid) (length block))) has.1
+    ∙ ap (λ (c : List ℕ). (c, part_of file (place + length cid) (length block))) stands.cid_is
+    ∙ ap (λ (b : List ℕ). (cid, b)) stands.block_is

@@ -1,19 +1,18 @@
 //! Reading CARv1 files.
 
-ghost use Rattle.std.specs.Prelude.{length};
-ghost use Rattle.std.specs.Arc.{arc_value};
-ghost use Rattle.ix_car.specs.Reading.{blocks_in, blocks_of};
+ghost use Rattle.ix_car.specs.Reading.{blocks_of};
 ghost use Rattle.ix_car.specs.Gives.{Gives};
-ghost use Rattle.ix_car.specs.Reads.{ReadsFrom, IsEnd};
 
 mod by_threads;
 mod header;
+mod indexing;
 mod section;
 mod sections;
+mod store;
 
 use crate::fault::{CarFault, CarKind};
-use crate::reader::header::header_at;
-use crate::reader::section::{FaultAt, section_at};
+use crate::reader::indexing::InTurn;
+use crate::reader::store::load_shared;
 pub use by_threads::{load_car_by, load_shared_by};
 use ix_store::Store;
 pub use sections::{CarFile, Section, read_header, read_section, read_sections};
@@ -54,51 +53,11 @@ pub fn read_car(alloc: Global, bytes: &[u8]) -> Result<Store, CarFault>
 pub fn load_car(alloc: Global, bytes: Vec<u8>) -> Result<Store, CarFault>
     ensures { Gives (λ store. store) bytes.items result (blocks_of bytes.items) }
 {
-    let length = bytes.len();
-    let Ok(file) = Arc::new(alloc, bytes) else {
-        return Err(CarFault {
+    match Arc::new(alloc, bytes) {
+        Ok(file) => load_shared(alloc, &file, &InTurn),
+        Err(_) => Err(CarFault {
             kind: CarKind::Memory,
             place: 0,
-        });
-    };
-    match store_of_file(alloc, &file) {
-        Ok(store) => Ok(store),
-        Err(fault) => Err(CarFault {
-            kind: fault.kind,
-            place: length - fault.left,
         }),
     }
-}
-
-// Reads the blocks of a file into a settled store.
-fn store_of_file(alloc: Global, file: &Arc<Vec<u8>>) -> Result<Store, FaultAt>
-    ensures { ReadsFrom (λ store. store) blocks_of (arc_value file.now).items result }
-{
-    let sections = header_at(file.as_slice())?;
-    let mut store = store_of_sections(alloc, file, sections)?;
-    if store.enable_memo().is_err() {
-        return Err(FaultAt {
-            kind: CarKind::Memory,
-            left: 0,
-        });
-    }
-    Ok(store)
-}
-
-// Reads the blocks of the sections at the end of a file.
-fn store_of_sections(alloc: Global, file: &Arc<Vec<u8>>, sections: &[u8]) -> Result<Store, FaultAt>
-    requires { IsEnd sections.now (arc_value file.now).items }
-    ensures { ReadsFrom (λ store. store) blocks_in sections.now result }
-{
-    let mut rest = sections;
-    let mut store = Store::new(alloc);
-    while !rest.is_empty() {
-        let (cid, block, after) = section_at(alloc, file, rest)?;
-        let start = file.len() - after.len() - block.len();
-        if store.add_within(cid, file, start, block.len()).is_err() {
-            return Err(FaultAt::at(CarKind::Memory, rest));
-        }
-        rest = after;
-    }
-    Ok(store)
 }

@@ -8,4 +8,3 @@ pub use Rattle.ix_walk.specs.Arrivals
 pub mod Verdict
 pub mod Visits
 pub mod VerdictWords
-pub mod Examples

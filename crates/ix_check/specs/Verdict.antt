@@ -1,57 +1,9 @@
--- The verdict on a CID and its bytes, the first that holds.
-use Rattle.std.specs.Prelude.{ℕ, Bool, true, false, ◌&&◌, ◌||◌, List, ◌==◌, if◌then◌else◌, bytes_eq, Option, Some, None, is_none}
-use Rattle.sha2.specs.Sha256.{sha256}
-use Rattle.sha2.specs.Sha512.{sha512}
-use Rattle.ix_cid.specs.Cid.{parts_of, codec_of, digest_of, hash_function_of}
-use Rattle.ix_cid.specs.declared.hash_function.HashFunction.{HashFunction}
-use Rattle.ix_cid.specs.declared.hash_function.HashFunction.TheVariants.{Identity, Sha2_256, Sha2_512}
-use Rattle.ix_cbor.specs.Reading.{data_at}
+-- The verdict on a CID in a store.
+use Rattle.std.specs.Prelude.{ℕ, List}
 use Rattle.ix_store.specs.Store.{Blocks, block_of}
-use Rattle.ix_check.specs.declared.verdict.Verdict.{Verdict}
-use Rattle.ix_check.specs.declared.verdict.Verdict.TheVariants.{Codec, Hash, Missing, Damaged, Malformed, Sound, Inline}
-
--- DAG-CBOR by the CID's codec, and not valid
-abbrev pub is_no_data : List ℕ → List ℕ → Bool
-is_no_data c bytes = (codec_of c == 0x71) && is_none (data_at bytes)
-
--- the verdict on a block that is there, by the hash function that its CID names
-abbrev pub verdict_on : (List ℕ → List ℕ) → List ℕ → List ℕ → Verdict
-verdict_on hash c block = if bytes_eq (hash block) (digest_of c) then (if is_no_data c block then Malformed else Sound) else Damaged
-
--- the same, with a block or none
-abbrev pub verdict_under : (List ℕ → List ℕ) → List ℕ → Option (List ℕ) → Verdict
-verdict_under hash c None = Missing
-verdict_under hash c (Some block) = verdict_on hash c block
-
--- the verdict on a CID by its hash function, with its block or none
-abbrev pub verdict_by : Option HashFunction → List ℕ → Option (List ℕ) → Verdict
-verdict_by None c block = Hash
-verdict_by (Some Identity) c block = if is_no_data c (digest_of c) then Malformed else Inline
-verdict_by (Some Sha2_256) c block = verdict_under sha256 c block
-verdict_by (Some Sha2_512) c block = verdict_under sha512 c block
-
--- raw or DAG-CBOR
-abbrev pub is_codec : ℕ → Bool
-is_codec codec = (codec == 0x55) || (codec == 0x71)
-
--- the CID's codec is raw or DAG-CBOR
-abbrev pub has_codec : List ℕ → Bool
-has_codec c = is_codec (codec_of c)
-
--- the verdict on a CID, with its block or none
-abbrev pub verdict_with : List ℕ → Option (List ℕ) → Verdict
-verdict_with c block = if has_codec c then verdict_by (hash_function_of (parts_of c)) c block else Codec
+use Rattle.ix_verdict.specs.declared.verdict.Verdict.{Verdict}
+pub use Rattle.ix_verdict.specs.Verdict.{is_no_data, verdict_on, verdict_under, verdict_by, is_codec, has_codec, verdict_with, passes}
 
 -- the verdict on a CID in a store
 abbrev pub verdict_of : Blocks → List ℕ → Verdict
 verdict_of store c = verdict_with c (block_of store c)
-
--- whether a traversal continues below a CID with this verdict
-abbrev pub passes : Verdict → Bool
-passes Codec = false
-passes Hash = false
-passes Missing = false
-passes Damaged = false
-passes Malformed = false
-passes Sound = true
-passes Inline = true

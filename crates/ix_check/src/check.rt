@@ -1,14 +1,11 @@
 //! Checks of visits.
 
-ghost use Rattle.std.specs.Prelude.{◌≡◌, [], if◌then◌else◌};
-ghost use Rattle.ix_check.specs.declared.verdict.Verdict.TheVariants.{Damaged, Malformed, Sound, Inline};
-ghost use Rattle.ix_check.specs.Verdict.{is_codec, verdict_of};
+ghost use Rattle.std.specs.Prelude.{◌≡◌, []};
+ghost use Rattle.ix_check.specs.Verdict.{verdict_of};
 ghost use Rattle.ix_check.specs.Visits.{IsVisitOf};
 
-use crate::verdict::Verdict;
-use ix_cid::HashFunction;
-use ix_cid::code::{DAG_CBOR, RAW};
 use ix_store::Store;
+use ix_verdict::{Needed, Verdict, bytes_needed};
 use ix_walk::Visit;
 use std::alloc::{AllocError, Global};
 use std::marker::Model;
@@ -86,49 +83,12 @@ fn verdict_of(store: &Store, visit: &Visit) -> Verdict
     requires { IsVisitOf store.now visit.now }
     ensures { result ≡ verdict_of store.now visit.now.cid }
 {
-    let parts = visit.cid.parts();
-    if !is_codec(parts.codec) {
-        return Verdict::Codec;
-    }
-    let Some(function) = parts.hash_function() else {
-        return Verdict::Hash;
-    };
-    match function {
-        HashFunction::Identity => inline_verdict(visit.malformed),
-        HashFunction::Sha2_256 | HashFunction::Sha2_512 => match visit.block {
+    match bytes_needed(&visit.cid.parts()) {
+        Needed::Nothing(verdict) => verdict,
+        Needed::Digest => Verdict::of_inline(visit.malformed),
+        Needed::Block(_) => match visit.block {
             None => Verdict::Missing,
-            Some(place) => block_verdict(store.hash_matches(place), visit.malformed),
+            Some(place) => Verdict::of_block(store.hash_matches(place), visit.malformed),
         },
-    }
-}
-
-// Whether the codec is raw or DAG-CBOR.
-fn is_codec(codec: u64) -> bool
-    ensures { result ≡ is_codec codec }
-{
-    matches!(codec, RAW | DAG_CBOR)
-}
-
-// Returns the verdict on an identity CID, whose bytes are inline.
-fn inline_verdict(malformed: bool) -> Verdict
-    ensures { result ≡ (if malformed then Malformed else Inline) }
-{
-    if malformed {
-        Verdict::Malformed
-    } else {
-        Verdict::Inline
-    }
-}
-
-// Returns the verdict on a block that is there, by whether its hash matches its CID.
-fn block_verdict(hash_matches: bool, malformed: bool) -> Verdict
-    ensures { result ≡ (if hash_matches then (if malformed then Malformed else Sound) else Damaged) }
-{
-    if !hash_matches {
-        Verdict::Damaged
-    } else if malformed {
-        Verdict::Malformed
-    } else {
-        Verdict::Sound
     }
 }

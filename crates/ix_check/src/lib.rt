@@ -1,4 +1,4 @@
-//! Verdicts on blocks, and checks of visits.
+//! Checks of visits.
 //!
 //! A check returns the verdict on a visit's CID over a store: whether the codec and the hash
 //! function are known, and whether the block is there and its hash matches, or the CID is an
@@ -16,7 +16,6 @@
 #![tactic(auto)]
 
 mod check;
-mod verdict;
 
 pub use check::{Check, ShaCheck};
-pub use verdict::Verdict;
+pub use ix_verdict::Verdict;

@@ -8,7 +8,7 @@ ghost use Rattle.std.specs.Ordering.{nat_cmp};
 use crate::cid_ref::CidRef;
 use crate::fault::CidFault;
 use crate::held::{Held, behind};
-use crate::parts::{Parts, numbered_length, split_cid, whole_parts};
+use crate::parts::{Parts, numbered_length, parts_at, split_cid};
 use crate::{base32, hexadecimal};
 use std::alloc::{AllocError, Global};
 use std::cmp::Ordering;
@@ -115,7 +115,7 @@ impl Cid {
     pub fn parts(&self) -> Parts<'_>
         ensures { parts_view result ≡ parts_of self.now }
     {
-        whole_parts(self.as_bytes())
+        parts_at(self.as_bytes())
     }
 
     /// The version, 0 or 1.

@@ -8,7 +8,7 @@ ghost use Rattle.ix_cid.specs.Parts.{parts_view};
 
 use crate::cid::Cid;
 use crate::held::Held;
-use crate::parts::{Parts, whole_parts};
+use crate::parts::{Parts, parts_at};
 use std::alloc::{AllocError, Global};
 use std::fmt;
 use std::marker::Model;
@@ -79,7 +79,7 @@ impl<'a> CidRef<'a> {
     pub fn parts(&self) -> Parts<'a>
         ensures { parts_view result ≡ parts_of self.now }
     {
-        whole_parts(self.bytes)
+        parts_at(self.bytes)
     }
 
     /// Returns the CID with bytes of its own, or with a share of those that contain a long one. The

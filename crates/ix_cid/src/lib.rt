@@ -30,5 +30,5 @@ pub use cid::Cid;
 pub use cid_ref::CidRef;
 pub use fault::{CidFault, VarintFault};
 pub use hash_function::HashFunction;
-pub use parts::Parts;
+pub use parts::{Parts, parts_at};
 pub use varint::{push_varint, read_varint};

@@ -165,14 +165,18 @@ pub fn split_cid(bytes: &[u8]) -> Result<&[u8], CidFault>
     Ok(&bytes[..bytes.len() - rest.len()])
 }
 
-/// Returns the parts of a CID.
-pub fn whole_parts(cid: &[u8]) -> Parts<'_>
-    requires cid { IsCid cid.now }
-    ensures { parts_view result ≡ parts_of cid.now }
+/// Returns the parts of the CID at the front, or empty ones if there is none.
+pub fn parts_at(bytes: &[u8]) -> Parts<'_>
+    ensures { parts_view result ≡ parts_of bytes.now }
 {
-    match split_parts(cid) {
+    match split_parts(bytes) {
         Ok((parts, _)) => parts,
-        Err(_) => unreachable!(),
+        Err(_) => Parts {
+            version: 0,
+            codec: 0,
+            hash_code: 0,
+            digest: &[],
+        },
     }
 }
 

@@ -102,8 +102,8 @@ impl Collector {
         true
     }
 
-    /// Returns how each job ended, once every sink was closed. `ends` is empty, and has room for as
-    /// many as there are jobs.
+    /// Returns how each job ended, once every sink was closed: the ends with which they were. `ends`
+    /// is empty, and has room for as many as there are jobs.
     pub fn ends(&self, ends: Vec<End>) -> Vec<End>
         requires room { (ends.items ≡ []) × (job_count self.now ≤ vec_capacity ends) }
         requires done { IsDone self.now }

@@ -141,7 +141,7 @@ impl JobProgress {
         }
     }
 
-    // Closes the sink, if all has arrived.
+    // Closes the sink, if all has arrived, and frees the ring's memory.
     fn finish<S: Sink>(&mut self, sink: &mut S)
         requires open { IsOpenFor S.events S.failed self.old sink.old }
         ensures kept { KeepsSafe S.events S.failed S.guarantee self.new sink.old sink.new }
@@ -156,6 +156,7 @@ impl JobProgress {
         let end = self.end_at(close.end);
         sink.close(end);
         self.end = Some(end);
+        self.ring.shrink_to_fit();
     }
 
     // Returns how a job ends whose walk ended with `end`.

@@ -2,14 +2,11 @@
 
 use ix_cid::{Cid, CidFault};
 use ix_selector_json::{NotationFault, hex_fault_line, json_of_hex};
-use ix_walk::{GREATEST_LIMIT, MOST_ROOTS, is_name};
+use ix_walk::{GREATEST_LIMIT, LONGEST_NAME, MOST_ROOTS, is_name};
 use std::alloc::{AllocError, Global};
 
 // The digits of base32 (RFC 4648, section 6) in lower case.
 const BASE32: [u8; 32] = *b"abcdefghijklmnopqrstuvwxyz234567";
-
-// The most bytes of a name.
-const LONGEST_NAME: usize = 64;
 
 /// Returns what is wrong with a name, if anything.
 pub(crate) fn name_fault(name: &str) -> Option<&'static str> {

@@ -7,7 +7,7 @@ use crate::line::LineFault;
 use ix_selector_json::{hex_of_json, json_fault_line};
 use std::alloc::Global;
 
-// The selector of everything, `{"R":{"l":{"none":{}},":>":{"a":{">":{"@":{}}}}}}`, as DAG-CBOR in
+// `Selector::everything`, which is `{"R":{"l":{"none":{}},":>":{"a":{">":{"@":{}}}}}}`, as DAG-CBOR in
 // hex.
 const EVERYTHING: &str = "a16152a2616ca1646e6f6e65a0623a3ea16161a1613ea16140a0";
 

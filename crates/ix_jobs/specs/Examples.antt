@@ -7,7 +7,7 @@ use Rattle.ix_selector.specs.Reading.{selector_at}
 use Rattle.ix_jobs.specs.declared.fault.JobErrorKind.TheVariants.{Fields, Name, Root, Limit, Hex, Selector, Repeated}
 use Rattle.ix_jobs.specs.Jobs.{jobs_of}
 use Rattle.ix_jobs.specs.Report.{report_of, job_line, skip_line}
-use Rattle.ix_check.specs.declared.verdict.Verdict.TheVariants.{Missing}
+use Rattle.ix_verdict.specs.declared.verdict.Verdict.TheVariants.{Missing}
 use Rattle.ix_archive.specs.declared.sink.End.TheVariants.{Done}
 use Rattle.std.specs.Fmt.{digits}
 

@@ -9,8 +9,9 @@ ghost use Rattle.ix_pipeline.specs.Planned.{IsPlan};
 
 use ix_archive::{Sink, law};
 use ix_check::Check;
+use ix_stages::{Gate, Task};
 use ix_store::Store;
-use ix_threads::{Gate, Outcome, Plan, Prepared, Task, flow};
+use ix_threads::{Outcome, Plan, Prepared, flow};
 use ix_walk::Job;
 use std::alloc::{AllocFailed, Global};
 use std::sync::{Arc, Wait};

@@ -19,5 +19,6 @@ mod plain;
 mod sink_state;
 
 pub use exporting::{NotStarted, export};
-pub use ix_threads::{Gate, Open, Outcome, Plan};
+pub use ix_stages::{Gate, Open};
+pub use ix_threads::{Outcome, Plan};
 pub use plain::export_plain;

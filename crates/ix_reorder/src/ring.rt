@@ -18,8 +18,8 @@ const REACH: u64 = 1_048_576;
 /// which nothing is popped any more.
 ///
 /// The ring has a slot for each number from the next one to the highest that was placed, filled or
-/// not. So its memory grows with the widest gap that occurred, and is freed only when the ring is
-/// dropped.
+/// not. So its memory grows with the widest gap that occurred, and is freed by `shrink_to_fit` or
+/// when the ring is dropped.
 #[derive(Drop)]
 pub struct Ring<T: Drop> {
     // The slot of the number `next`, empty or filled, and the slots after it.
@@ -136,5 +136,14 @@ impl<T: Drop> Ring<T> {
             Some(item) => item,
             None => None,
         }
+    }
+
+    /// Frees the memory of slots after the last item. If there is no memory to move the items to, the
+    /// ring keeps what it has.
+    pub fn shrink_to_fit(&mut self)
+        ensures { self.new ≡ self.old }
+    {
+        let slots = self.window.len();
+        let _ = self.window.resize(slots);
     }
 }

@@ -1,2 +1,1 @@
-pub mod Matcher
 pub mod Exports

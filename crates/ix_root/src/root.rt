@@ -1,20 +1,15 @@
 //! The archive of one root.
 
 ghost use Rattle.std.specs.Prelude.{◌≡◌, IfOk, IfErr, Ok};
-ghost use Rattle.ix_selector.specs.Pattern.{matcher};
 ghost use Rattle.ix_root.specs.Root.{root_job, exported_from, is_whole_end, IsRefusalOf};
 
 use ix_archive::End;
 use ix_car::read_car;
-use ix_cbor::decode;
 use ix_cid::Cid;
 use ix_run::{RunFault, run_one};
 use ix_selector::Selector;
 use ix_walk::Job;
 use std::alloc::{AllocError, Global};
-
-// The matcher selector in DAG-CBOR: a map with the key `.` and an empty map.
-const MATCHER: &[u8; 4] = b"\xa1\x61\x2e\xa0";
 
 /// Returns the CARv1 archive of one root: what is kept of the visits of the job with that root, the
 /// matcher selector and a limit of one visit, over the blocks of a CARv1 file.
@@ -44,24 +39,10 @@ fn root_job(alloc: Global, root: Cid) -> Result<Job, AllocError>
 {
     let name = String::from_str(alloc, "root")?;
     let roots = vec![in alloc; root]?;
-    let selector = matcher(alloc)?;
+    let selector = Selector::matcher(alloc)?;
     // The name, the one root and the limit are valid.
     match Job::new(name, roots, selector, 1) {
         Ok(job) => Ok(job),
-        Err(_) => Err(AllocError),
-    }
-}
-
-// Returns the selector that matches the root alone.
-fn matcher(alloc: Global) -> Result<Selector, AllocError>
-    ensures { IfOk result (λ selector. selector ≡ matcher) }
-{
-    // The bytes are a selector, so the only error is out of memory.
-    let Ok(tree) = decode(alloc, MATCHER) else {
-        return Err(AllocError);
-    };
-    match Selector::read(alloc, &tree) {
-        Ok(selector) => Ok(selector),
         Err(_) => Err(AllocError),
     }
 }

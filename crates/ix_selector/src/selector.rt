@@ -1,7 +1,7 @@
 //! Selectors that obey the rules on edges.
 
 ghost use Rattle.std.specs.Prelude.{◌≡◌, IfOk};
-ghost use Rattle.ix_selector.specs.Pattern.{pattern_of, IsSelector};
+ghost use Rattle.ix_selector.specs.Pattern.{pattern_of, matcher, everything, IsSelector};
 ghost use Rattle.ix_selector.specs.Reading.{selector_of};
 ghost use Rattle.ix_selector.specs.Laid.{IsTable, IsRootOf, IsSound};
 ghost use Rattle.ix_selector.specs.Behind.{inside_of};
@@ -80,6 +80,26 @@ impl Selector {
     {
         let sel = sel_of_owned(alloc, tree)?;
         Ok(Selector::laid(alloc, &sel)?)
+    }
+
+    /// Makes the matcher: it selects the root alone, and continues nowhere. As JSON it is `{".":{}}`, and as
+    /// DAG-CBOR in hex `a1612ea0`. The only error is out of memory.
+    pub fn matcher(alloc: Global) -> Result<Selector, AllocError>
+        ensures { IfOk result (λ s. s ≡ matcher) }
+    {
+        Selector::laid(alloc, &Sel::Matcher)
+    }
+
+    /// Makes the selector of everything: a recursion with no limit, which continues at every child and so
+    /// follows every link at any depth. As JSON it is `{"R":{"l":{"none":{}},":>":{"a":{">":{"@":{}}}}}}`, and
+    /// as DAG-CBOR in hex `a16152a2616ca1646e6f6e65a0623a3ea16161a1613ea16140a0`. The only error is out of
+    /// memory.
+    pub fn everything(alloc: Global) -> Result<Selector, AllocError>
+        ensures { IfOk result (λ s. s ≡ everything) }
+    {
+        let sequence = Sel::All(Box::new(alloc, Sel::Edge)?);
+        let sel = Sel::Recursive(None, Box::new(alloc, sequence)?);
+        Selector::laid(alloc, &sel)
     }
 
     // Builds the table of a selector.

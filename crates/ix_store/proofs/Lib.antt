@@ -3,6 +3,7 @@ pub mod Indexes
 pub mod Found
 pub mod Seen
 pub mod Gathered
+pub mod Tables
 pub mod Ends
 pub mod Blocks
 pub mod Marking

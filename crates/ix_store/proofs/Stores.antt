@@ -3,15 +3,13 @@ use Rattle.std.proofs.Common.{◌≡◌, ◌⊎◌, ℕ, zero, suc, ◌+◌, Boo
 use Rattle.std.specs.Prelude.{Result, Ok, Err, OnOk}
 use Rattle.std.specs.Result.{is_err}
 use Rattle.std.specs.Option.{is_some}
-use Rattle.std.proofs.lemmas.Bool.{false≢true, cases_Bool, false_from_ne_true, ltb-true}
-use lib.Dec.{ltb}
+use Rattle.std.proofs.lemmas.Bool.{false≢true, cases_Bool, false_from_ne_true}
 use Rattle.std.proofs.lemmas.Slice.Eq.{bytes_eq-Decides}
-use Rattle.std.proofs.lemmas.List.{length-map, map-append, take_more, drop_more, take-append-drop}
-use Rattle.std.proofs.lemmas.Option.{none-some, get_or_from_slice_get, slice_get-map, slice_get-get_or, slice_get_read}
+use Rattle.std.proofs.lemmas.List.{take_more, drop_more, take-append-drop}
+use Rattle.std.proofs.lemmas.Option.{none-some, get_or_from_slice_get, slice_get-map, slice_get-get_or}
 use Rattle.std.proofs.Math.Bool.{or-true}
-use Rattle.ix_store.specs.Entry.{content, pair_of}
+use Rattle.std.proofs.Math.Seq.{take-append_seam}
 use Rattle.ix_store.proofs.Blocks.{some_after, place_within, block_at}
-use Rattle.ix_store.specs.declared.entry.Entry.{Entry}
 use Rattle.ix_store.specs.Store.{Blocks, has_cid, with_block, HasDistinctCids, block_of, position_after, position_of}
 
 -- of two tests that fail together the first fails
@@ -90,45 +88,27 @@ position-at n (suc i) (x ∷ es) e c h at same =
     let apart : bytes_eq x.0 c ≡ false = false_from_ne_true (bytes_eq x.0 c) (λ first. false≢true (sym h.0 ∙ has_cid-at i es e x.0 at ((bytes_eq-Decides e.0 x.0).1 ((bytes_eq-Decides e.0 c).0 same ∙ sym ((bytes_eq-Decides x.0 c).0 first))))) in
     ap (λ y. cond y (Some n) (position_after (n + 1) es c)) apart ∙ position-at (n + 1) i es e c h.1 at same ∙ ap Some (omega arith)
 
--- the pairs of entries with one entry more
-pub pairs-push : (xs ys : List Entry) (e : Entry) → ys ≡ xs ++ e ∷ [] → map pair_of ys ≡ map pair_of xs ++ (e.cid, content e.block) ∷ []
-pairs-push xs ys e is = ap (λ (l : List Entry). map pair_of l) is ∙ map-append pair_of xs (e ∷ [])
-
 -- the block of a pair
 abbrev pub block : List ℕ × List ℕ → List ℕ
 block p = p.1
 
--- the pair of the entry at a place
-pub pair-at : (entries : List Entry) (now : Blocks) (place : ℕ) (e : Entry) → map pair_of entries ≡ now → place < length now → e ≡ get_or entries place e → slice_get now place ≡ Some (e.cid, content e.block)
-pair-at entries now place e is within at =
-    let lt : place < length entries = omega (arith, ap length is, length-map entries pair_of) in
-    ap (λ (l : Blocks). slice_get l place) (sym is)
-    ∙ slice_get-map pair_of entries place
-    ∙ ap (λ o. option_map pair_of o) (slice_get_read entries (length entries) place e refl lt at)
+-- what is asked of the pair at a place
+pub asked-of : {X : Type 0} (f : List ℕ × List ℕ → X) (pairs : Blocks) (place : ℕ) (e : List ℕ × List ℕ) (r d : X) → slice_get pairs place ≡ Some e → r ≡ f e → r ≡ get_or (map f pairs) place d
+asked-of f pairs place e r d at same = same ∙ sym (get_or_from_slice_get (map f pairs) place (f e) d (slice_get-map f pairs place ∙ ap (λ o. option_map f o) at))
 
--- and what is asked of it, where it was looked for
-pub asked-of : {X : Type 0} (f : List ℕ × List ℕ → X) (entries : List Entry) (now : Blocks) (place : ℕ) (e : Entry) (r d : X) → map pair_of entries ≡ now → true ≡ ltb place (length entries) → e ≡ get_or entries place e → r ≡ f (e.cid, content e.block) → r ≡ get_or (map f now) place d
-asked-of f entries now place e r d is found at same =
-    let lt : place < length entries = ltb-true place (length entries) (sym found) in
-    let within : place < length now = omega (arith, lt, ap length is, length-map entries pair_of) in
-    same ∙ sym (get_or_from_slice_get (map f now) place (f (pair_of e)) d (slice_get-map f now place ∙ ap (λ o. option_map f o) (pair-at entries now place e is within at)))
+-- what is asked where there is no pair
+pub asked-none : {X : Type 0} (f : List ℕ × List ℕ → X) (pairs : Blocks) (place : ℕ) (d : X) → slice_get pairs place ≡ None → d ≡ get_or (map f pairs) place d
+asked-none f [] place d none = refl
+asked-none f (e ∷ es) zero d none = absurd cc
+asked-none f (e ∷ es) (suc n) d none = asked-none f es n d none
 
--- the block of the entry at a place
-pub block-at : (entries : List Entry) (now : Blocks) (place : ℕ) (e : Entry) (r : List ℕ) → map pair_of entries ≡ now → place < length now → e ≡ get_or entries place e → r ≡ content e.block → slice_get (map block now) place ≡ Some r
-block-at entries now place e r is within at same =
-    let lt : place < length entries = omega (arith, ap length is, length-map entries pair_of) in
-    let found : slice_get (map pair_of entries) place ≡ Some (pair_of e) = slice_get-map pair_of entries place ∙ ap (λ o. option_map pair_of o) (slice_get_read entries (length entries) place e refl lt at) in
-    ap (λ (l : Blocks). slice_get (map block l) place) (sym is)
-    ∙ slice_get-map block (map pair_of entries) place
-    ∙ ap (λ o. option_map block o) found
-    ∙ ap Some (sym same)
+-- the block of the pair at a place
+pub block-at : (pairs : Blocks) (place : ℕ) (e : List ℕ × List ℕ) → slice_get pairs place ≡ Some e → slice_get (map block pairs) place ≡ Some e.1
+block-at pairs place e at = slice_get-map block pairs place ∙ ap (λ o. option_map block o) at
 
--- the place of the CID of the entry there
-pub position-there : (entries : List Entry) (now : Blocks) (place : ℕ) (e : Entry) (c : List ℕ) → HasDistinctCids (map pair_of entries) → map pair_of entries ≡ now → slice_get entries place ≡ Some e → bytes_eq e.cid c ≡ true → position_of now c ≡ Some place
-position-there entries now place e c h is at same =
-    ap (λ (l : Blocks). position_of l c) (sym is)
-    ∙ position-at 0 place (map pair_of entries) (pair_of e) c h (slice_get-map pair_of entries place ∙ ap (λ o. option_map pair_of o) at) same
-    ∙ ap Some (zero-add place)
+-- the place of the CID of the pair there
+pub position-there : (pairs : Blocks) (place : ℕ) (e : List ℕ × List ℕ) (c : List ℕ) → HasDistinctCids pairs → slice_get pairs place ≡ Some e → bytes_eq e.0 c ≡ true → position_of pairs c ≡ Some place
+position-there pairs place e c h at same = position-at 0 place pairs e c h at same ∙ ap Some (zero-add place)
 
 -- the pair at the place of a CID has this CID
 pub cid-at : (n i : ℕ) (es : Blocks) (e : List ℕ × List ℕ) (c : List ℕ) → slice_get es i ≡ Some e → position_after n es c ≡ Some (n + i) → bytes_eq e.0 c ≡ true
@@ -146,9 +126,9 @@ cid-at n (suc i) (x ∷ es) e c at is =
     let on : n + suc i ≡ (n + 1) + i = omega arith in
     cid-at (n + 1) i es e c at (sym (ap (λ b. cond b (Some n) (position_after (n + 1) es c)) other) ∙ is ∙ ap Some on)) (cases_Bool (bytes_eq x.0 c))
 
--- the CID of the entry at the place of a CID
-pub same-there : (entries : List Entry) (place : ℕ) (e : Entry) (c : List ℕ) → slice_get entries place ≡ Some e → position_of (map pair_of entries) c ≡ Some place → bytes_eq e.cid c ≡ true
-same-there entries place e c at is = cid-at 0 place (map pair_of entries) (pair_of e) c (slice_get-map pair_of entries place ∙ ap (λ o. option_map pair_of o) at) (is ∙ ap Some (sym (zero-add place)))
+-- the CID of the pair at the place of a CID
+pub same-there : (pairs : Blocks) (place : ℕ) (e : List ℕ × List ℕ) (c : List ℕ) → slice_get pairs place ≡ Some e → position_of pairs c ≡ Some place → bytes_eq e.0 c ≡ true
+same-there pairs place e c at is = cid-at 0 place pairs e c at (is ∙ ap Some (sym (zero-add place)))
 
 -- the pair at the place of a CID: this CID, and its block
 pub pair-there : (store : Blocks) (place : ℕ) (c : List ℕ) → Some place ≡ position_of store c → (b : List ℕ) × (slice_get store place ≡ Some (c, b)) × (block_of store c ≡ Some b)
@@ -157,6 +137,12 @@ pair-there store place c e =
     let at : slice_get store place ≡ Some p = slice_get-get_or store place ([], []) (place_within place store c e) in
     let same : p.0 ≡ c = (bytes_eq-Decides p.0 c).0 (cid-at 0 place store p c at (sym e ∙ ap Some (sym (zero-add place)))) in
     (p.1, at ∙ ap (λ (k : List ℕ). Some (k, p.1)) same, block_at place store c p.1 e (slice_get-map block store place ∙ ap (λ o. option_map block o) at))
+
+-- where there is no pair there is no CID
+pub none-there : (pairs : Blocks) (place : ℕ) (c : List ℕ) → slice_get pairs place ≡ None → position_of pairs c ≡ Some place → ⊥
+none-there pairs place c none is =
+    let there = pair-there pairs place c (sym is) in
+    none-some (c, there.0) (sym none ∙ there.1)
 
 -- what is asked of it
 pub asked-there : {X : Type 0} (f : List ℕ × List ℕ → X) (store : Blocks) (place : ℕ) (c : List ℕ) (r d : X) → Some place ≡ position_of store c → r ≡ get_or (map f store) place d
@@ -176,17 +162,20 @@ has_cid-before [] ys k b h = refl
 has_cid-before (x ∷ xs) ys k b h =
     ap (λ v. v || has_cid xs k) (bytes-apart-back k x.0 (has_cid-midst xs ys k b x.0 h.0)) ∙ has_cid-before xs ys k b h.1
 
--- entries up to one, and this one
-pub entries-more : (entries : List Entry) (place : ℕ) (e : Entry) → place < length entries → e ≡ get_or entries place e → map pair_of (take (place + 1) entries) ≡ map pair_of (take place entries) ++ (e.cid, content e.block) ∷ []
-entries-more entries place e within at = ap (λ (l : List Entry). map pair_of l) (take_more entries place e within ∙ ap (λ (x : Entry). take place entries ++ x ∷ []) (sym at)) ∙ map-append pair_of (take place entries) (e ∷ [])
+-- the pair that is read at a place
+pub read-at : (pairs : Blocks) (place : ℕ) (e : List ℕ × List ℕ) → slice_get pairs place ≡ Some e → e ≡ get_or pairs place e
+read-at pairs place e at = sym (get_or_from_slice_get pairs place e e at)
 
--- entries with distinct CIDs don't have that of one before it
-pub entries-before : (entries : List Entry) (place : ℕ) (e : Entry) → place < length entries → e ≡ get_or entries place e → HasDistinctCids (map pair_of entries) → has_cid (map pair_of (take place entries)) e.cid ≡ false
-entries-before entries place e within at h =
-    let parts : entries ≡ take place entries ++ e ∷ drop (place + 1) entries =
-    sym (take-append-drop place entries) ∙ ap (λ (l : List Entry). take place entries ++ l) (drop_more entries place e within ∙ ap (λ (x : Entry). x ∷ drop (place + 1) entries) (sym at)) in
-    has_cid-before (map pair_of (take place entries)) (map pair_of (drop (place + 1) entries)) e.cid (content e.block)
-    (subst (λ (l : Blocks). HasDistinctCids l) (ap (λ (l : List Entry). map pair_of l) parts ∙ map-append pair_of (take place entries) (e ∷ drop (place + 1) entries)) h)
+-- pairs up to one, and this one
+pub entries-more : (pairs : Blocks) (place : ℕ) (e : List ℕ × List ℕ) → place < length pairs → e ≡ get_or pairs place e → take (place + 1) pairs ≡ take place pairs ++ e ∷ []
+entries-more pairs place e within at = take_more pairs place e within ∙ ap (λ (x : List ℕ × List ℕ). take place pairs ++ x ∷ []) (sym at)
+
+-- pairs with distinct CIDs don't have that of one before it
+pub entries-before : (pairs : Blocks) (place : ℕ) (e : List ℕ × List ℕ) → place < length pairs → e ≡ get_or pairs place e → HasDistinctCids pairs → has_cid (take place pairs) e.0 ≡ false
+entries-before pairs place e within at h =
+    let parts : pairs ≡ take place pairs ++ e ∷ drop (place + 1) pairs =
+    sym (take-append-drop place pairs) ∙ ap (λ (l : Blocks). take place pairs ++ l) (drop_more pairs place e within ∙ ap (λ (x : List ℕ × List ℕ). x ∷ drop (place + 1) pairs) (sym at)) in
+    has_cid-before (take place pairs) (drop (place + 1) pairs) e.0 e.1 (subst (λ (l : Blocks). HasDistinctCids l) parts h)
 
 -- a CID that isn't there has no place
 pub position-none : (n : ℕ) (es : Blocks) (c : List ℕ) → has_cid es c ≡ false → position_after n es c ≡ None
@@ -194,12 +183,9 @@ position-none n [] c h = refl
 position-none n (e ∷ es) c h =
     ap (λ v. cond v (Some n) (position_after (n + 1) es c)) (or-left (bytes_eq e.0 c) (has_cid es c) h) ∙ position-none (n + 1) es c (or-right (bytes_eq e.0 c) (has_cid es c) h)
 
--- where it isn't, the pair of one entry more is
-pub with-new : (entries kept later : List Entry) (now : Blocks) (e : Entry) → map pair_of entries ≡ now → kept ≡ entries → later ≡ kept ++ e ∷ [] → has_cid now e.cid ≡ false → map pair_of later ≡ with_block now (e.cid, content e.block)
-with-new entries kept later now e is same longer h =
-    pairs-push entries later e (longer ∙ ap (λ (l : List Entry). l ++ e ∷ []) same)
-    ∙ ap (λ (l : Blocks). l ++ (e.cid, content e.block) ∷ []) is
-    ∙ ap (λ v. cond v now (now ++ (e.cid, content e.block) ∷ [])) (sym h)
+-- one pair more is added where its CID is new
+pub with-new : (now later : Blocks) (e : List ℕ × List ℕ) → later ≡ now ++ e ∷ [] → has_cid now e.0 ≡ false → later ≡ with_block now e
+with-new now later e longer h = longer ∙ ap (λ v. cond v now (now ++ e ∷ [])) (sym h)
 
 -- what holds on Ok holds where there is no Err
 pub holds-at_ok : {T E P : Type 0} (r : Result T E) → OnOk r P → is_err r ≡ false → P
@@ -209,3 +195,7 @@ holds-at_ok (Err e) h fine = absurd (false≢true (sym fine))
 -- a place before the next one is before this one, or this one
 pub less-or-same : (k n : ℕ) → k < n + 1 → (k < n) ⊎ (k ≡ n)
 less-or-same k n h = grind arith
+
+-- the pairs before one that was appended
+pub back : (pairs later : Blocks) (count : ℕ) (x : List ℕ × List ℕ) → count ≡ length pairs → later ≡ pairs ++ x ∷ [] → take count later ≡ pairs
+back pairs later count x many pushed = ap (λ (n : ℕ). take n later) many ∙ ap (λ (l : Blocks). take (length pairs) l) pushed ∙ take-append_seam pairs (x ∷ [])

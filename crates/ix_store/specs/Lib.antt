@@ -4,7 +4,7 @@ pub use Rattle.ix_cbor.specs.DataCode
 pub use Rattle.ix_cbor.specs.Spelling
 pub use Rattle.ix_cbor.specs.Reading
 pub mod Store
-pub mod Entry
+pub mod Table
 pub mod Index
 pub mod Memo
 pub mod PlaceSet

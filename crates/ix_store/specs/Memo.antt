@@ -1,21 +1,17 @@
 -- What is asked of a pair of a CID and a block, and what a cached word says of it.
 use Rattle.std.specs.Prelude.{◌≡◌, ◌⊎◌, ℕ, ◌/◌, ◌%◌, Bool, false, cond, List, Option, Some, None, slice_get, slice_index, bytes_eq, is_none}
-use Rattle.sha2.specs.Sha256.{sha256}
-use Rattle.sha2.specs.Sha512.{sha512}
 use Rattle.ix_cid.specs.Cid.{parts_of, digest_of, hash_function_of}
 use Rattle.ix_cid.specs.Parts.{parts_view}
 use Rattle.ix_cid.specs.declared.parts.Parts.{Parts}
 use Rattle.ix_cid.specs.declared.hash_function.HashFunction.{HashFunction}
-use Rattle.ix_cid.specs.declared.hash_function.HashFunction.TheVariants.{Identity, Sha2_256, Sha2_512}
 use Rattle.ix_cbor.specs.Reading.{data_at}
+use Rattle.ix_verdict.specs.Verdict.{digest_by}
 use Rattle.ix_store.specs.Store.{Blocks}
 
 -- a digest is that of a block by this hash function, if it is known
 abbrev pub hash_matches_by : Option HashFunction → List ℕ → List ℕ → Bool
 hash_matches_by None digest block = false
-hash_matches_by (Some Identity) digest block = bytes_eq block digest
-hash_matches_by (Some Sha2_256) digest block = bytes_eq (sha256 block) digest
-hash_matches_by (Some Sha2_512) digest block = bytes_eq (sha512 block) digest
+hash_matches_by (Some function) digest block = bytes_eq (digest_by function block) digest
 
 -- the digest in the parts of a CID is that of a block
 abbrev pub has_digest_of : Parts → List ℕ → Bool

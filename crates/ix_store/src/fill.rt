@@ -6,10 +6,10 @@
 //! have ended. Nothing is promised here of what a slot has: `Index` has each entry looked up before
 //! anything depends on it (`verify.rt`).
 
-use crate::entry::Entry;
 use crate::index::{MOST_PLACES, PROBES, Slot, key_hash, starts_for};
+use crate::table::Entries;
 use std::alloc::{AllocError, Global};
-use std::thread::{Threads, for_each_chunk_mut, map_chunks};
+use std::thread::{Threads, for_each_chunk_mut, map_indices};
 
 // The numbers of a share of the entries.
 type Share = Result<Vec<u64>, AllocError>;
@@ -18,12 +18,17 @@ type Share = Result<Vec<u64>, AllocError>;
 pub(crate) fn filled<R: Threads + Sync>(
     rt: &R,
     alloc: Global,
-    entries: &[Entry],
+    entries: &Entries<'_>,
     threads: usize,
 ) -> Result<Vec<Slot>, AllocError> {
     let threads = threads.max(1);
     let share = entries.len().div_ceil(threads).max(1);
-    let hashes = map_chunks(rt, alloc, entries, share, &|_, part| hashes_of(alloc, part))?;
+    let hashes = map_indices(
+        rt,
+        alloc,
+        threads,
+        &|number| hashes_of(alloc, entries, share, number),
+    )?;
     let hashes = hashes.as_slice();
     let starts = starts_for(entries.len());
     let last = starts - 1;
@@ -46,11 +51,16 @@ pub(crate) fn filled<R: Threads + Sync>(
     Ok(slots)
 }
 
-fn hashes_of(alloc: Global, entries: &[Entry]) -> Share {
-    entries
-        .iter()
-        .map(|entry| key_hash(&entry.cid))
-        .collect(alloc)
+// Returns the numbers of the share with this number, of `share` entries.
+fn hashes_of(alloc: Global, entries: &Entries<'_>, share: usize, number: usize) -> Share {
+    let from = number.saturating_mul(share).min(entries.len());
+    let to = from.saturating_add(share).min(entries.len());
+    let mut hashes = Vec::with_capacity(alloc, to - from)?;
+    for place in from..to {
+        let (cid, _) = entries.at(place);
+        hashes.push(key_hash(cid))?;
+    }
+    Ok(hashes)
 }
 
 // Fills the part of a table that begins at a slot. Of the numbers, those count whose look-up is in

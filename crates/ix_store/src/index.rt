@@ -9,12 +9,11 @@
 
 ghost use Rattle.std.specs.Prelude.{◌≡◌, ◌↔◌, List, [], ◌-◌, ◌*◌, ◌^◌, ◌<◌, Option, length, Some, None, true, false, not, IsTrue, IfOk, OnErr, ℕ, ◌≤◌};
 ghost use Rattle.std.specs.Option.{unwrap_or};
-ghost use Rattle.ix_store.specs.Entry.{pairs_of};
 ghost use Rattle.ix_store.specs.Store.{has_cid, position_of, HasDistinctCids};
 ghost use Rattle.ix_store.specs.Index.{key_hash, fingerprint, first_of, window_of, Has, HasPlace, place_after, ComesOnlyAfter, SameAfter, PutsAfter, AreLedTo, IsIndexed, IsIndexedWith, MayIndex, StaysTrueAfter, AllSeen, HasAllOf, AreAfter, FindsFree, IsLookup, is_cid_at, probe_in};
 
-use crate::entry::Entry;
 use crate::fill::filled;
+use crate::table::Entries;
 use crate::verify::{Seen, check_shares};
 use ix_cid::Cid;
 use std::alloc::{AllocError, Global};
@@ -109,10 +108,10 @@ impl Index {
     pub(crate) fn by_threads<R: Threads + Sync>(
         rt: &R,
         alloc: Global,
-        entries: &[Entry],
+        entries: &Entries<'_>,
         threads: usize,
     ) -> Result<Option<Index>, AllocError>
-        ensures { MayIndex (pairs_of entries.now) result }
+        ensures { MayIndex entries.now result }
     {
         let slots = filled(rt, alloc, entries, threads)?;
         let index = Index {
@@ -129,14 +128,14 @@ impl Index {
     fn accept_shares(
         mut self,
         alloc: Global,
-        entries: &[Entry],
+        entries: &Entries<'_>,
         share: usize,
         shares: &[Seen],
     ) -> Result<Option<Index>, AllocError>
         requires empty { (c : List ℕ) → place_after self c ≡ None }
-        requires seen { AllSeen self.slots.items (pairs_of entries.now) share shares.now }
+        requires seen { AllSeen self.slots.items entries.now share shares.now }
         requires whole { length entries.now ≤ length shares.now * share }
-        ensures { MayIndex (pairs_of entries.now) result }
+        ensures { MayIndex entries.now result }
     {
         for places in shares.iter() {
             match places {
@@ -157,20 +156,20 @@ impl Index {
     fn insert_all_overflow(
         &mut self,
         alloc: Global,
-        entries: &[Entry],
+        entries: &Entries<'_>,
         places: &[usize],
     ) -> Result<bool, AllocError>
         ensures slots { self.new.slots ≡ self.old.slots }
         ensures kept { HasAllOf self.new self.old }
-        ensures overflow { StaysTrueAfter self.old self.new (pairs_of entries.now) }
-        ensures put { IfOk result (λ all. IsTrue all → AreAfter self.new (pairs_of entries.now) places.now) }
+        ensures overflow { StaysTrueAfter self.old self.new entries.now }
+        ensures put { IfOk result (λ all. IsTrue all → AreAfter self.new entries.now places.now) }
     {
         for place in places.iter() {
             let place = *place;
-            let Some(entry) = entries.get(place) else {
+            let Some((cid, _)) = entries.get(place) else {
                 return Ok(false);
             };
-            let existing = self.insert_overflow(alloc, &entry.cid, place)?;
+            let existing = self.insert_overflow(alloc, cid, place)?;
             if existing != place {
                 return Ok(false);
             }
@@ -180,9 +179,13 @@ impl Index {
 
     // Makes room for one entry more: the table is doubled if half of its slots may be taken. The
     // entries that find no free slot there go to the tree, unless they are in it.
-    pub(crate) fn make_room(&mut self, alloc: Global, entries: &[Entry]) -> Result<(), AllocError>
-        requires { IsIndexed self.old (pairs_of entries.now) }
-        ensures { IsIndexed self.new (pairs_of entries.now) }
+    pub(crate) fn make_room(
+        &mut self,
+        alloc: Global,
+        entries: &Entries<'_>,
+    ) -> Result<(), AllocError>
+        requires { IsIndexed self.old entries.now }
+        ensures { IsIndexed self.new entries.now }
     {
         let starts = self.slots.len().saturating_sub(PROBES - 1);
         if entries.len() < starts / 2 {
@@ -190,12 +193,13 @@ impl Index {
         }
         let starts = starts.saturating_mul(2).max(LEAST_STARTS);
         let mut slots = vec![in alloc; Slot::FREE; starts.saturating_add(PROBES - 1)]?;
-        for (place, entry) in entries.iter().enumerate() {
-            let hash = key_hash(&entry.cid);
+        for place in 0..entries.len() {
+            let (cid, _) = entries.at(place);
+            let hash = key_hash(cid);
             match free_slot(slots.as_slice(), hash, place) {
                 Some(slot) => slots[slot] = Slot::taken(hash, place),
                 None if self.has_place(hash, place) => {
-                    self.insert_overflow(alloc, &entry.cid, place)?;
+                    self.insert_overflow(alloc, cid, place)?;
                 }
                 None => {}
             }
@@ -224,7 +228,7 @@ impl Index {
     fn insert_overflow(
         &mut self,
         alloc: Global,
-        cid: &Cid,
+        cid: &[u8],
         place: usize,
     ) -> Result<usize, AllocError>
         ensures slots { self.new.slots ≡ self.old.slots }
@@ -232,7 +236,7 @@ impl Index {
         ensures put { IfOk result (λ existing. PutsAfter self.old self.new cid.now existing) }
         ensures err { OnErr result (SameAfter self.old self.new) }
     {
-        let key = cid.try_clone(alloc)?;
+        let key = key_of(alloc, cid)?;
         match self.overflow.entry(key) {
             Ok(entry) => Ok(*entry.or_insert(place)),
             Err(_) => Err(AllocError),
@@ -240,9 +244,9 @@ impl Index {
     }
 
     // Returns where the table has the entry of a CID, or where its position goes.
-    fn lookup(&self, entries: &[Entry], cid: &Cid) -> Lookup
-        requires { IsIndexed self.now (pairs_of entries.now) }
-        ensures { IsLookup self.now (pairs_of entries.now) cid.now result }
+    fn lookup(&self, entries: &Entries<'_>, cid: &[u8]) -> Lookup
+        requires { IsIndexed self.now entries.now }
+        ensures { IsLookup self.now entries.now cid.now result }
     {
         let hash = key_hash(cid);
         let tag = fingerprint(hash);
@@ -262,11 +266,11 @@ impl Index {
     }
 
     // Returns the position of the entry of a CID.
-    pub(crate) fn find(&self, entries: &[Entry], cid: &Cid) -> Option<usize>
-        requires { IsIndexed self.now (pairs_of entries.now) }
-        ensures { result ≡ position_of (pairs_of entries.now) cid.now }
+    pub(crate) fn find(&self, entries: &Entries<'_>, cid: &Cid) -> Option<usize>
+        requires { IsIndexed self.now entries.now }
+        ensures { result ≡ position_of entries.now cid.now }
     {
-        match self.lookup(entries, cid) {
+        match self.lookup(entries, cid.as_bytes()) {
             Lookup::Present(place) => Some(place),
             Lookup::Vacant(_) => None,
             Lookup::Overflow => self.overflow.get(cid).copied(),
@@ -278,14 +282,14 @@ impl Index {
     pub(crate) fn enter(
         &mut self,
         alloc: Global,
-        entries: &[Entry],
-        cid: &Cid,
+        entries: &Entries<'_>,
+        cid: &[u8],
     ) -> Result<bool, AllocError>
-        requires { IsIndexed self.old (pairs_of entries.now) }
-        ensures answer { IfOk result (λ b. b ≡ not (has_cid (pairs_of entries.now) cid.now)) }
-        ensures entered { IfOk result (λ b. IsTrue b → IsIndexedWith self.new (pairs_of entries.now) cid.now) }
-        ensures held { IfOk result (λ b. b ≡ false → IsIndexed self.new (pairs_of entries.now)) }
-        ensures err { OnErr result (IsIndexed self.new (pairs_of entries.now)) }
+        requires { IsIndexed self.old entries.now }
+        ensures answer { IfOk result (λ b. b ≡ not (has_cid entries.now cid.now)) }
+        ensures entered { IfOk result (λ b. IsTrue b → IsIndexedWith self.new entries.now cid.now) }
+        ensures held { IfOk result (λ b. b ≡ false → IsIndexed self.new entries.now) }
+        ensures err { OnErr result (IsIndexed self.new entries.now) }
     {
         let place = entries.len();
         match self.lookup(entries, cid) {
@@ -299,6 +303,16 @@ impl Index {
                 Ok(existing == place)
             }
         }
+    }
+}
+
+// Returns the CID with these bytes. Fails if memory runs out, or if they aren't a CID's.
+fn key_of(alloc: Global, cid: &[u8]) -> Result<Cid, AllocError>
+    ensures { IfOk result (λ key. key ≡ cid.now) }
+{
+    match Cid::read(alloc, cid) {
+        Ok((key, _)) if key.as_bytes() == cid => Ok(key),
+        _ => Err(AllocError),
     }
 }
 
@@ -332,8 +346,8 @@ fn free_slot(slots: &[Slot], hash: u64, place: usize) -> Option<usize>
 }
 
 // Returns what the look-up of a CID finds in a table.
-pub(crate) fn look(slots: &[Slot], entries: &[Entry], cid: &Cid) -> Probe
-    ensures { result ≡ probe_in slots.now (pairs_of entries.now) cid.now }
+pub(crate) fn look(slots: &[Slot], entries: &Entries<'_>, cid: &[u8]) -> Probe
+    ensures { result ≡ probe_in slots.now entries.now cid.now }
 {
     let hash = key_hash(cid);
     let tag = fingerprint(hash);
@@ -350,11 +364,11 @@ pub(crate) fn look(slots: &[Slot], entries: &[Entry], cid: &Cid) -> Probe
 }
 
 // Whether the entry at a position has this CID.
-fn is_cid_at(entries: &[Entry], place: usize, cid: &Cid) -> bool
-    ensures { result ≡ is_cid_at (pairs_of entries.now) place cid.now }
+fn is_cid_at(entries: &Entries<'_>, place: usize, cid: &[u8]) -> bool
+    ensures { result ≡ is_cid_at entries.now place cid.now }
 {
     match entries.get(place) {
-        Some(Entry { cid: other, .. }) => *other == *cid,
+        Some((other, _)) => other == cid,
         None => false,
     }
 }
@@ -379,22 +393,22 @@ fn fingerprint(hash: u64) -> u32
 }
 
 // Returns the number of a CID.
-pub(crate) fn key_hash(cid: &Cid) -> u64
+pub(crate) fn key_hash(cid: &[u8]) -> u64
     ensures { result ≡ key_hash cid.now }
 {
-    match cid.as_bytes().split_last_chunk() {
+    match cid.split_last_chunk() {
         Some((_, hash)) => u64::from_le_bytes(*hash),
         None => 0,
     }
 }
 
 // Whether the entry of a CID is at a position.
-pub(crate) fn holds(entries: &[Entry], place: usize, cid: &Cid) -> bool
-    requires { HasDistinctCids (pairs_of entries.now) }
-    ensures { IsTrue result ↔ (position_of (pairs_of entries.now) cid.now ≡ Some place) }
+pub(crate) fn holds(entries: &Entries<'_>, place: usize, cid: &[u8]) -> bool
+    requires { HasDistinctCids entries.now }
+    ensures { IsTrue result ↔ (position_of entries.now cid.now ≡ Some place) }
 {
     match entries.get(place) {
-        Some(entry) => entry.cid == *cid,
+        Some((held, _)) => held == cid,
         None => false,
     }
 }

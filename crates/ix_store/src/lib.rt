@@ -18,17 +18,17 @@
 mod builder;
 mod cursor;
 mod digest;
-mod entry;
 mod fill;
 mod index;
 mod memo;
 mod memo_rule;
 mod places;
 mod store;
+mod table;
 mod verify;
 
 pub use builder::StoreBuilder;
 pub use cursor::Cursor;
-pub use entry::has_fault;
 pub use places::PlaceSet;
 pub use store::Store;
+pub use table::has_fault;

@@ -1,11 +1,11 @@
 //! The cached answers for each block of a list, in words that threads share.
 
-ghost use Rattle.std.specs.Prelude.{◌≡◌, ◌<◌, IfOk, length, map, slice_get, Some, IfSome, IfNone, ◌==◌, cond};
-ghost use Rattle.ix_store.specs.Entry.{pair_of};
+ghost use Rattle.std.specs.Prelude.{◌≡◌, ◌<◌, IfOk, length, slice_get, Some, IfSome, IfNone, ◌==◌, cond};
 ghost use Rattle.ix_store.specs.Memo.{hash_matches, is_malformed, IsTrueAt};
 
-use crate::entry::Entry;
+use crate::digest::hash_matches;
 use crate::memo_rule::{Look, MemoSeat, Note, Row};
+use crate::table::{BlockTable, has_fault};
 use atomic_table::Table;
 use std::alloc::{AllocError, Global};
 use std::marker::Model;
@@ -17,53 +17,52 @@ pub(crate) struct Memo {
 }
 
 impl Model for Memo {
-    ghost use Rattle.std.specs.Prelude.{◌≡◌, length, map};
-    ghost use Rattle.ix_store.specs.Entry.{pair_of};
+    ghost use Rattle.std.specs.Prelude.{◌≡◌, length};
     ghost use Rattle.ix_store.specs.Store.{Blocks};
 
     ghost Value = { Blocks };
 
-    ghost view = { λ m. map pair_of m.row.shared.key.items };
+    ghost view = { λ m. m.row.shared.key.pairs };
 
-    ghost invariant = { λ m. m.row.shared.table_id.words ≡ length m.row.shared.key.items };
+    ghost invariant = { λ m. m.row.shared.table_id.words ≡ length m.row.shared.key.pairs };
 }
 
 impl Memo {
-    /// Creates words for these entries, with no answer known.
-    pub(crate) fn new(alloc: Global, entries: &Vec<Entry>) -> Result<Memo, AllocError>
-        ensures { IfOk result (λ m. m ≡ map pair_of entries.now.items) }
+    /// Creates words for these blocks, with no answer known.
+    pub(crate) fn new(alloc: Global, blocks: &BlockTable) -> Result<Memo, AllocError>
+        ensures { IfOk result (λ m. m ≡ blocks.now.pairs) }
     {
-        let blank = Vec::from_elem(alloc, 0u64, entries.len())?;
-        let (row, _) = Table::of_words(alloc, blank.as_slice(), entries)?;
+        let blank = Vec::from_elem(alloc, 0u64, blocks.len())?;
+        let (row, _) = Table::of_words(alloc, blank.as_slice(), blocks)?;
         Ok(Memo { row })
     }
 
     /// Whether the digest of the CID at a position is that of the block there. Computes it unless a
     /// thread has stored the answer.
-    pub(crate) fn hash_matches(&self, place: usize, entry: &Entry) -> bool
-        requires { slice_get self.now place ≡ Some (pair_of entry.now) }
-        ensures { result ≡ hash_matches (pair_of entry.now) }
+    pub(crate) fn hash_matches(&self, place: usize, cid: &[u8], block: &[u8]) -> bool
+        requires { slice_get self.now place ≡ Some (cid.now, block.now) }
+        ensures { result ≡ hash_matches (cid.now, block.now) }
     {
         let (word, mut seat) = look(&self.row, place);
         if let Some(answer) = decode(word % 4) {
             return answer;
         }
-        let answer = entry.hash_matches();
+        let answer = hash_matches(cid, block);
         note(&self.row, &mut seat, place, word, word + encode(answer));
         answer
     }
 
     /// Whether the block at a position is not valid DAG-CBOR. Computes it unless a thread has
     /// stored the answer.
-    pub(crate) fn is_malformed(&self, place: usize, entry: &Entry) -> bool
-        requires { slice_get self.now place ≡ Some (pair_of entry.now) }
-        ensures { result ≡ is_malformed (pair_of entry.now) }
+    pub(crate) fn is_malformed(&self, place: usize, cid: &[u8], block: &[u8]) -> bool
+        requires { slice_get self.now place ≡ Some (cid.now, block.now) }
+        ensures { result ≡ is_malformed (cid.now, block.now) }
     {
         let (word, mut seat) = look(&self.row, place);
         if let Some(answer) = decode(word / 4) {
             return answer;
         }
-        let answer = entry.is_malformed();
+        let answer = has_fault(block);
         note(&self.row, &mut seat, place, word, word + 4 * encode(answer));
         answer
     }
@@ -88,7 +87,7 @@ fn encode(answer: bool) -> u64
 fn look(row: &Row, place: usize) -> (u64, MemoSeat)
     requires { place < row.now.shared.table_id.words }
     ensures table { result.1.table_id ≡ row.now.shared.table_id }
-    ensures told { IsTrueAt (map pair_of row.now.shared.key.items) place result.0 }
+    ensures told { IsTrueAt row.now.shared.key.pairs place result.0 }
 {
     row.shared.load_new_seat::<Look>(place)
 }
@@ -97,7 +96,7 @@ fn look(row: &Row, place: usize) -> (u64, MemoSeat)
 fn note(row: &Row, seat: &mut MemoSeat, place: usize, found: u64, word: u64)
     requires seat { seat.old.table_id ≡ row.now.shared.table_id }
     requires place { place < row.now.shared.table_id.words }
-    requires word { IsTrueAt (map pair_of row.now.shared.key.items) place word }
+    requires word { IsTrueAt row.now.shared.key.pairs place word }
 {
     row.shared
         .compare_exchange::<Note>(seat, place, found, word);

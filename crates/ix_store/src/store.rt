@@ -3,15 +3,16 @@
 ghost use Rattle.std.specs.Prelude.{◌≡◌, [], false, length, map, slice_get, Some, ◌==◌};
 ghost use Rattle.std.specs.Prelude.{get_or};
 ghost use Rattle.std.specs.Arc.{arc_value};
-ghost use Rattle.ix_store.specs.Entry.{content, part_of, pairs_of};
+ghost use Rattle.ix_store.specs.Table.{part_of};
 ghost use Rattle.ix_store.specs.Index.{IsIndexed};
 ghost use Rattle.ix_store.specs.Memo.{hash_matches, is_malformed};
 ghost use Rattle.ix_store.specs.Store.{Adds, IsPlaceIn, position_of};
 
 use crate::cursor::Cursor;
-use crate::entry::{Block, Entry};
+use crate::digest::hash_matches;
 use crate::index::{Index, holds};
 use crate::memo::Memo;
+use crate::table::{BlockTable, has_fault, part};
 use ix_cid::Cid;
 use std::alloc::{AllocError, Global};
 use std::marker::Model;
@@ -21,8 +22,8 @@ use std::sync::Arc;
 /// adding.
 pub struct Store {
     alloc: Global,
-    entries: Vec<Entry>,
-    // The position of the entry of each CID.
+    blocks: BlockTable,
+    // The position of the block of each CID.
     index: Index,
     // The cached answers, once the store was settled and as long as no block is added.
     memo: Option<Memo>,
@@ -33,11 +34,11 @@ impl Drop for Store {
     fn drop(self) {
         let Store {
             alloc: _,
-            entries,
+            blocks,
             index,
             memo,
         } = self;
-        drop(entries);
+        drop(blocks);
         drop(index);
         drop(memo);
     }
@@ -45,14 +46,13 @@ impl Drop for Store {
 
 impl Model for Store {
     ghost use Rattle.std.specs.Prelude.{◌≡◌, List, ℕ, IfSome};
-    ghost use Rattle.ix_store.specs.Entry.{pairs_of};
     ghost use Rattle.ix_store.specs.Index.{IsIndexed};
 
     ghost Value = { List (List ℕ × List ℕ) };
 
-    ghost view = { λ s. pairs_of s.entries.items };
+    ghost view = { λ s. s.blocks.pairs };
 
-    ghost invariant = { λ s. IsIndexed s.index (pairs_of s.entries.items) × IfSome s.memo (λ m. m ≡ pairs_of s.entries.items) };
+    ghost invariant = { λ s. IsIndexed s.index s.blocks.pairs × IfSome s.memo (λ m. m ≡ s.blocks.pairs) };
 }
 
 impl Store {
@@ -62,34 +62,35 @@ impl Store {
     {
         Store {
             alloc,
-            entries: Vec::new(alloc),
+            blocks: BlockTable::new(alloc),
             index: Index::new(alloc),
             memo: None,
         }
     }
 
-    // Creates the store of these entries, of which this is the index.
-    pub(crate) fn of_entries(alloc: Global, entries: Vec<Entry>, index: Index) -> Store
-        requires { IsIndexed index (pairs_of entries.items) }
-        ensures { result ≡ pairs_of entries.items }
+    // Creates the store of these blocks, of which this is the index. It takes no more memory than it needs.
+    pub(crate) fn of_blocks(alloc: Global, mut blocks: BlockTable, index: Index) -> Store
+        requires { IsIndexed index blocks.pairs }
+        ensures { result ≡ blocks.pairs }
     {
+        blocks.shrink_to_fit();
         Store {
             alloc,
-            entries,
+            blocks,
             index,
             memo: None,
         }
     }
 
-    /// Adds a block, unless its CID is there. Returns whether it was added.
+    /// Adds a copy of a block, unless its CID is there. Returns whether it was added.
     pub fn add(&mut self, cid: Cid, bytes: Vec<u8>) -> Result<bool, AllocError>
         ensures { Adds self.old self.new cid bytes.items result }
     {
-        self.add_block(cid, Block::Own(bytes))
+        self.add_copy(cid, bytes.as_slice())
     }
 
-    /// Adds a block of `size` bytes that is in shared bytes from `start` on, unless its CID is
-    /// there. Nothing is copied: the store keeps a share of the bytes.
+    /// Adds a copy of a block of `size` bytes that is in shared bytes from `start` on, unless its CID
+    /// is there. Blocks of a file aren't copied by a `StoreBuilder`.
     pub fn add_within(
         &mut self,
         cid: Cid,
@@ -97,25 +98,9 @@ impl Store {
         start: usize,
         size: usize,
     ) -> Result<bool, AllocError>
-        ensures { Adds self.old self.new cid (part_of (arc_value bytes.now) start size) result }
+        ensures { Adds self.old self.new cid (part_of (arc_value bytes.now).items start size) result }
     {
-        let bytes = Arc::try_clone(bytes)?;
-        self.add_block(cid, Block::Within { bytes, start, size })
-    }
-
-    // Adds a block, wherever its bytes are, unless its CID is there.
-    fn add_block(&mut self, cid: Cid, block: Block) -> Result<bool, AllocError>
-        ensures { Adds self.old self.new cid (content block) result }
-    {
-        self.index.make_room(self.alloc, self.entries.as_slice())?;
-        self.entries.reserve(1)?;
-        let entered = self.index.enter(self.alloc, self.entries.as_slice(), &cid)?;
-        if !entered {
-            return Ok(false);
-        }
-        self.memo = None;
-        self.entries.push_reserved(Entry { cid, block });
-        Ok(true)
+        self.add_copy(cid, part(bytes.as_slice(), start, size))
     }
 
     /// Adds a copy of a block, unless its CID is there: then nothing is copied.
@@ -125,8 +110,21 @@ impl Store {
         if self.find(&cid).is_some() {
             return Ok(false);
         }
-        let copy = Vec::from_slice(self.alloc, block)?;
-        self.add(cid, copy)
+        self.index.make_room(self.alloc, &self.blocks.entries())?;
+        let count = self.blocks.len();
+        let bytes = cid.as_bytes();
+        self.blocks.push_copy(bytes, block)?;
+        let before = self.blocks.entries().first(count);
+        match self.index.enter(self.alloc, &before, bytes) {
+            Ok(added) => {
+                self.memo = None;
+                Ok(added)
+            }
+            Err(error) => {
+                self.blocks.truncate(count);
+                Err(error)
+            }
+        }
     }
 
     /// Allocates the cache of answers, eight bytes for each block, which is used until a block is
@@ -134,7 +132,7 @@ impl Store {
     pub fn enable_memo(&mut self) -> Result<(), AllocError>
         ensures { self.new ≡ self.old }
     {
-        let memo = Memo::new(self.alloc, &self.entries)?;
+        let memo = Memo::new(self.alloc, &self.blocks)?;
         self.memo = Some(memo);
         Ok(())
     }
@@ -143,7 +141,7 @@ impl Store {
     pub fn find(&self, cid: &Cid) -> Option<usize>
         ensures { result ≡ position_of self.now cid.now }
     {
-        self.index.find(self.entries.as_slice(), cid)
+        self.index.find(&self.blocks.entries(), cid)
     }
 
     /// Returns the position of the block of a CID. Looks at the guessed position first, so that a
@@ -152,7 +150,7 @@ impl Store {
         ensures { result ≡ position_of self.now cid.now }
     {
         match guess {
-            Some(place) if holds(self.entries.as_slice(), place, cid) => Some(place),
+            Some(place) if holds(&self.blocks.entries(), place, cid.as_bytes()) => Some(place),
             _ => self.find(cid),
         }
     }
@@ -162,7 +160,8 @@ impl Store {
         requires { IsPlaceIn self.now place }
         ensures { slice_get (map (λ e. e.1) self.now) place ≡ Some result.now }
     {
-        self.entries[place].block.bytes()
+        let (_, block) = self.blocks.entries().at(place);
+        block
     }
 
     /// Returns a cursor over the block at a position, with its end in shared bytes.
@@ -170,7 +169,10 @@ impl Store {
         requires { IsPlaceIn self.now place }
         ensures { slice_get (map (λ e. e.1) self.now) place ≡ Some result }
     {
-        self.entries[place].block.cursor()
+        match self.blocks.entries().cursor(place) {
+            Some(cursor) => cursor,
+            None => Cursor::of(&[]),
+        }
     }
 
     /// Whether there is a block at this position whose hash matches its CID, by the CID's hash
@@ -179,12 +181,12 @@ impl Store {
     pub fn hash_matches(&self, place: usize) -> bool
         ensures { result ≡ get_or (map hash_matches self.now) place false }
     {
-        let Some(entry) = self.entries.get(place) else {
+        let Some((cid, block)) = self.blocks.entries().get(place) else {
             return false;
         };
         match &self.memo {
-            Some(memo) => memo.hash_matches(place, entry),
-            None => entry.hash_matches(),
+            Some(memo) => memo.hash_matches(place, cid, block),
+            None => hash_matches(cid, block),
         }
     }
 
@@ -193,12 +195,12 @@ impl Store {
     pub fn is_malformed(&self, place: usize) -> bool
         ensures { result ≡ get_or (map is_malformed self.now) place false }
     {
-        let Some(entry) = self.entries.get(place) else {
+        let Some((cid, block)) = self.blocks.entries().get(place) else {
             return false;
         };
         match &self.memo {
-            Some(memo) => memo.is_malformed(place, entry),
-            None => entry.is_malformed(),
+            Some(memo) => memo.is_malformed(place, cid, block),
+            None => has_fault(block),
         }
     }
 
@@ -206,13 +208,13 @@ impl Store {
     pub fn len(&self) -> usize
         ensures { result ≡ length self.now }
     {
-        self.entries.len()
+        self.blocks.len()
     }
 
     /// Whether there is no block.
     pub fn is_empty(&self) -> bool
         ensures { result ≡ (length self.now == 0) }
     {
-        self.entries.is_empty()
+        self.len() == 0
     }
 }

@@ -1,11 +1,10 @@
 //! Checks that each entry is found in a table, which several threads do, each for its share.
 
 ghost use Rattle.std.specs.Prelude.{◌≡◌, IfOk, vec_len};
-ghost use Rattle.ix_store.specs.Entry.{pairs_of};
 ghost use Rattle.ix_store.specs.Index.{AllSeen, ShareSeen};
 
-use crate::entry::Entry;
 use crate::index::{Probe, Slot, look};
+use crate::table::Entries;
 use std::alloc::{AllocError, Global};
 use std::thread::{Threads, map_indices};
 
@@ -22,12 +21,12 @@ pub(crate) fn check_shares<R: Threads + Sync>(
     rt: &R,
     alloc: Global,
     slots: &[Slot],
-    entries: &[Entry],
+    entries: &Entries<'_>,
     share: usize,
     threads: usize,
 ) -> Result<Vec<Seen>, AllocError>
     ensures len { IfOk result (λ shares. vec_len shares ≡ threads) }
-    ensures seen { IfOk result (λ shares. AllSeen slots.now (pairs_of entries.now) share shares.items) }
+    ensures seen { IfOk result (λ shares. AllSeen slots.now entries.now share shares.items) }
 {
     map_indices(
         rt,
@@ -43,18 +42,19 @@ pub(crate) fn check_shares<R: Threads + Sync>(
 fn check_share(
     alloc: Global,
     slots: &[Slot],
-    entries: &[Entry],
+    entries: &Entries<'_>,
     share: usize,
     number: usize,
 ) -> Seen
-    ensures { ShareSeen slots.now (pairs_of entries.now) share number result }
+    ensures { ShareSeen slots.now entries.now share number result }
 {
     let from = number.saturating_mul(share).min(entries.len());
     let to = from.saturating_add(share).min(entries.len());
     let most = share / FEW_BEHIND;
     let mut places = Vec::new(alloc);
     for place in from..to {
-        match look(slots, entries, &entries[place].cid) {
+        let (cid, _) = entries.at(place);
+        match look(slots, entries, cid) {
             Probe::At(other) if other == place => {}
             Probe::Full if places.len() < most => places.push(place)?,
             _ => return Ok(None),

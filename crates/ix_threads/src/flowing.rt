@@ -20,7 +20,7 @@ use std::thread::{Scope, Threads};
 pub struct Outcome<C> {
     /// The checks of the verifiers that were started, in the order in which they were given.
     pub checks: Vec<C>,
-    /// How each job ended, in the order of the jobs.
+    /// How each job ended, in the order of the jobs: the ends with which their sinks were closed.
     pub ends: Vec<End>,
 }
 

@@ -26,6 +26,5 @@ mod verifying;
 mod walking;
 
 pub use flowing::{Outcome, flow};
-pub use ix_stages::{Gate, Open, Task};
 pub use plan::Plan;
 pub use preparing::Prepared;

@@ -9,7 +9,7 @@ use Rattle.ix_cid.proofs.VarintLaws.{IsVarint-varint_of}
 use Rattle.ix_cid.proofs.GroupLaws.{some_group}
 use Rattle.ix_cbor.specs.Spelling.{spelling_of}
 use Rattle.ix_store.specs.Store.{Blocks, block_of}
-use Rattle.ix_check.specs.declared.verdict.Verdict.{Verdict}
+use Rattle.ix_verdict.specs.declared.verdict.Verdict.{Verdict}
 use Rattle.ix_archive.specs.declared.sink.Delivery.{Delivery}
 use Rattle.ix_car.specs.Writing.{with_length, header_data, header_of, section_with}
 use Rattle.ix_archive.specs.Archive.{is_sound, first_sound, section_of, archive_with}

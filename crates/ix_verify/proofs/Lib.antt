@@ -1,4 +1,3 @@
-pub mod SelectorOfAll
 pub mod Notes
 pub mod Walking
 pub mod SoundSections

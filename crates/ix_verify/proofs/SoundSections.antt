@@ -11,8 +11,8 @@ use Rattle.ix_walk.specs.declared.visit.Visit.{Visit}
 use Rattle.ix_walk.specs.Visits.{believed, arrivals_of, visit_of, visits_from}
 use Rattle.ix_walk.specs.Arrivals.{Arrival}
 use Rattle.ix_check.specs.Verdict.{has_codec, verdict_by, verdict_with, verdict_of}
-use Rattle.ix_check.specs.declared.verdict.Verdict.{Verdict}
-use Rattle.ix_check.specs.declared.verdict.Verdict.TheVariants.{Codec, Hash, Missing, Damaged, Malformed, Sound, Inline}
+use Rattle.ix_verdict.specs.declared.verdict.Verdict.{Verdict}
+use Rattle.ix_verdict.specs.declared.verdict.Verdict.TheVariants.{Codec, Hash, Missing, Damaged, Malformed, Sound, Inline}
 use Rattle.ix_archive.specs.declared.sink.Delivery.{Delivery}
 use Rattle.ix_archive.specs.Archive.{is_sound, first_sound, sections_of}
 use Rattle.ix_archive.specs.Verified.{judged, all_judged, number_among, verified, verified_arrivals}
@@ -23,6 +23,17 @@ use Rattle.ix_verify.specs.Written.{IsJudged}
 not_inline : (bad : Bool) → (if bad then Malformed else Inline) ≡ Sound → ⊥
 not_inline true h = cc
 not_inline false h = cc
+
+-- outside identity CIDs a section is judged as a block is
+pub section_verdict-with : (c block : List ℕ) → ¬ (hash_function_of (parts_of c) ≡ Some Identity) → section_verdict c block ≡ verdict_with c (Some block)
+section_verdict-with c block other = on (has_codec c) (hash_function_of (parts_of c)) other where
+  on : (codec : Bool) (function : Option HashFunction) → ¬ (function ≡ Some Identity)
+      → (if codec then verdict_by_hash function c block else Codec) ≡ (if codec then verdict_by function c (Some block) else Codec)
+  on false function other = refl
+  on true None other = refl
+  on true (Some Identity) other = absurd (other refl)
+  on true (Some Sha2_256) other = refl
+  on true (Some Sha2_512) other = refl
 
 -- by the codec and the hash function
 sound_by : (codec : Bool) (function : Option HashFunction) (c block : List ℕ) → (if codec then verdict_by function c (Some block) else Codec) ≡ Sound → (if codec then verdict_by_hash function c block else Codec) ≡ Sound

@@ -1,18 +1,22 @@
 -- What a store finds of a section whose block it has.
-use Rattle.std.proofs.Common.{◌≡◌, ℕ, Bool, true, false, ◌&&◌, List, get_or, refl, sym, ◌∙◌, ap}
-use Rattle.std.specs.Prelude.{Option, Some, None, map, slice_get, option_map, bytes_eq, is_none, ◌==◌, if◌then◌else◌}
+use Rattle.std.proofs.Common.{◌≡◌, ◌⊎◌, inl, inr, ℕ, Bool, true, false, ◌&&◌, List, get_or, sym, ◌∙◌, ap}
+use Rattle.std.specs.Prelude.{Some, map, slice_get, option_map, bytes_eq, is_none, ◌==◌, if◌then◌else◌}
 use Rattle.std.proofs.lemmas.Option.{same_Some, get_or_from_slice_get, slice_get-map}
 use Rattle.std.proofs.lemmas.Slice.Eq.{bytes_eq-Decides}
-use Rattle.std.proofs.Math.Bool.{and-false}
 use Rattle.ix_cid.specs.Cid.{parts_of, codec_of, digest_of, hash_function_of}
 use Rattle.ix_cid.specs.declared.hash_function.HashFunction.{HashFunction}
-use Rattle.ix_cid.specs.declared.hash_function.HashFunction.TheVariants.{Identity, Sha2_256, Sha2_512}
+use Rattle.ix_cid.specs.declared.hash_function.HashFunction.TheVariants.{Identity}
+use Rattle.ix_verdict.specs.declared.verdict.Verdict.TheVariants.{Codec, Damaged, Malformed, Sound}
 use Rattle.ix_cbor.specs.Reading.{data_at}
-use Rattle.ix_store.specs.Memo.{hash_matches, hash_matches_by}
+use Rattle.ix_verdict.specs.declared.needed.Needed.{Needed}
+use Rattle.ix_verdict.specs.declared.needed.Needed.TheVariants.{Digest, Block}
+use Rattle.ix_verdict.specs.Verdict.{digest_by, is_no_data, has_codec}
+use Rattle.ix_verdict.specs.Needed.{needed_of}
+use Rattle.ix_verdict.proofs.Needs.{known-codec-Digest, known-Digest, known-codec-Block, known-Block}
+use Rattle.ix_store.specs.Memo.{hash_matches_by, hash_matches}
 use Rattle.ix_store.specs.Store.{Blocks, position_of}
 use Rattle.ix_store.proofs.Stores.{pair-there}
-use Rattle.ix_check.specs.Verdict.{has_codec, is_no_data}
-use Rattle.ix_check.specs.declared.verdict.Verdict.TheVariants.{Codec, Damaged, Malformed, Sound}
+use Rattle.ix_walk.proofs.Readings.{dag_cbor_is}
 use Rattle.ix_verify.specs.Judged.{verdict_by_hash, section_verdict}
 
 -- the pair at the place of a CID, whose bytes are a block
@@ -26,24 +30,28 @@ pair-here store place k c b block there named at same =
 pub asked-here : {X : Type 0} (f : List ℕ × List ℕ → X) (store : Blocks) (place : ℕ) (p : List ℕ × List ℕ) (r d : X) → slice_get store place ≡ Some p → r ≡ get_or (map f store) place d → r ≡ f p
 asked-here f store place p r d at asked = asked ∙ get_or_from_slice_get (map f store) place (f p) d (slice_get-map f store place ∙ ap (λ o. option_map f o) at)
 
--- by the digest, and then by the data
-by-function : (f : Option HashFunction) (c block : List ℕ) → is_none f ≡ false → (if hash_matches_by f (digest_of c) block then (if is_no_data c block then Malformed else Sound) else Damaged) ≡ verdict_by_hash f c block
-by-function None c block h = absurd cc
-by-function (Some Identity) c block h = refl
-by-function (Some Sha2_256) c block h = refl
-by-function (Some Sha2_512) c block h = refl
-
--- a block with the digest of its CID, which names a known hash function, and with data where it is to have some
-pub found-sound : (c block : List ℕ) → has_codec c ≡ true → is_none (hash_function_of (parts_of c)) ≡ false → hash_matches (c, block) ≡ true → is_no_data c block ≡ false → Sound ≡ section_verdict c block
-found-sound c block codec some agreed spelled =
-    ap (λ (t : Bool). if t then Malformed else Sound) (sym spelled)
-    ∙ ap (λ (t : Bool). if t then (if is_no_data c block then Malformed else Sound) else Damaged) (sym agreed)
-    ∙ by-function (hash_function_of (parts_of c)) c block some
+-- under a known codec and hash function, the verdict on a section is by the digest and the data
+section-judged : (f : HashFunction) (c block : List ℕ) (matches malformed : Bool) → has_codec c ≡ true → hash_function_of (parts_of c) ≡ Some f
+    → matches ≡ bytes_eq (digest_by f block) (digest_of c) → malformed ≡ is_no_data c block → (if matches then (if malformed then Malformed else Sound) else Damaged) ≡ section_verdict c block
+section-judged f c block matches malformed codec known hashes fails =
+    ap (λ (t : Bool). if t then (if malformed then Malformed else Sound) else Damaged) hashes
+    ∙ ap (λ (t : Bool). if bytes_eq (digest_by f block) (digest_of c) then (if t then Malformed else Sound) else Damaged) fails
+    ∙ ap (λ g. verdict_by_hash g c block) (sym known)
     ∙ ap (λ (t : Bool). if t then verdict_by_hash (hash_function_of (parts_of c)) c block else Codec) (sym codec)
 
--- no fault in a block that isn't to spell data, and none in one that does
-pub no-data-by : (c block : List ℕ) → (codec_of c == 0x71) ≡ false → is_no_data c block ≡ false
-no-data-by c block other = ap (λ (t : Bool). t && is_none (data_at block)) other
+-- so it is where bytes are needed
+pub section-stored : (c block : List ℕ) (n : Needed) (matches malformed : Bool) → (n ≡ Digest) ⊎ ((f : HashFunction) × (n ≡ Block f)) → n ≡ needed_of (parts_of c)
+    → matches ≡ hash_matches (c, block) → malformed ≡ is_no_data c block → (if matches then (if malformed then Malformed else Sound) else Damaged) ≡ section_verdict c block
+section-stored c block n matches malformed (inl is) needed hashes fails =
+    let known = known-Digest (parts_of c) (sym is ∙ needed) in
+    section-judged Identity c block matches malformed (known-codec-Digest (parts_of c) (sym is ∙ needed)) known (hashes ∙ ap (λ g. hash_matches_by g (digest_of c) block) known) fails
+section-stored c block n matches malformed (inr is) needed hashes fails =
+    let known = known-Block (parts_of c) is.0 (sym is.1 ∙ needed) in
+    section-judged is.0 c block matches malformed (known-codec-Block (parts_of c) is.0 (sym is.1 ∙ needed)) known (hashes ∙ ap (λ g. hash_matches_by g (digest_of c) block) known) fails
 
-pub spelled-by : (c block : List ℕ) → is_none (data_at block) ≡ false → is_no_data c block ≡ false
-spelled-by c block some = ap (λ (t : Bool). (codec_of c == 0x71) && t) some ∙ and-false (codec_of c == 0x71)
+-- a block that is to spell data, and one that isn't
+pub no-data-yes : (c block : List ℕ) (codec : ℕ) → codec ≡ codec_of c → codec ≡ 0x71 → is_none (data_at block) ≡ is_no_data c block
+no-data-yes c block codec is dag_cbor = ap (λ (t : Bool). t && is_none (data_at block)) (sym (dag_cbor_is c codec is dag_cbor))
+
+pub no-data-no : (c block : List ℕ) (codec : ℕ) → codec ≡ codec_of c → (codec == 0x71) ≡ false → false ≡ is_no_data c block
+no-data-no c block codec is other = ap (λ (t : Bool). t && is_none (data_at block)) (sym (ap (λ (n : ℕ). n == 0x71) (sym is) ∙ other))

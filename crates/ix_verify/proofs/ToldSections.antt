@@ -1,6 +1,6 @@
 -- The sections that aren't sound, one by one.
 use Rattle.std.proofs.Common.{◌≡◌, ◌⊎◌, inl, inr, ℕ, ◌+◌, ◌<◌, ◌≤◌, ◌^◌, Bool, true, false, List, [], ◌∷◌, ◌++◌, length, refl, ◌∙◌, ap, subst, arith, length-append}
-use Rattle.ix_check.specs.declared.verdict.Verdict.{Verdict}
+use Rattle.ix_verdict.specs.declared.verdict.Verdict.{Verdict}
 use Rattle.std.specs.Prelude.{map, not, if◌then◌else◌}
 use Rattle.ix_car.specs.declared.reader.sections.Section.{Section}
 use Rattle.ix_car.specs.SectionView.{section_of}

@@ -24,8 +24,8 @@ use Rattle.ix_walk.specs.Visits.{arrivals_of, visit_of, visits_from, is_over_lim
 use Rattle.ix_walk.specs.Once.{links_below, roots_from, was_expanded, expanded_at, expanded_after, once, is_sound_by, sound_value}
 use Rattle.ix_walk.proofs.Links.{all-weaker, all-both}
 use Rattle.ix_check.specs.Verdict.{has_codec, is_no_data, verdict_under, verdict_by, verdict_of, passes}
-use Rattle.ix_check.specs.declared.verdict.Verdict.{Verdict}
-use Rattle.ix_check.specs.declared.verdict.Verdict.TheVariants.{Codec, Hash, Damaged, Malformed, Sound}
+use Rattle.ix_verdict.specs.declared.verdict.Verdict.{Verdict}
+use Rattle.ix_verdict.specs.declared.verdict.Verdict.TheVariants.{Codec, Hash, Damaged, Malformed, Sound}
 use Rattle.ix_archive.specs.declared.archive.Skip.{Skip}
 use Rattle.ix_archive.specs.declared.sink.Delivery.{Delivery}
 use Rattle.ix_car.specs.Writing.{header_of}

@@ -1,22 +1,13 @@
 -- What is found of a section by its own bytes.
 use Rattle.std.specs.Prelude.{◌≡◌, ℕ, List, Option, Some, None, if◌then◌else◌}
-use Rattle.sha2.specs.Sha256.{sha256}
-use Rattle.sha2.specs.Sha512.{sha512}
 use Rattle.ix_cid.specs.Cid.{parts_of, hash_function_of}
 use Rattle.ix_cid.specs.declared.hash_function.HashFunction.{HashFunction}
-use Rattle.ix_cid.specs.declared.hash_function.HashFunction.TheVariants.{Identity, Sha2_256, Sha2_512}
-use Rattle.ix_check.specs.Verdict.{has_codec, verdict_on}
-use Rattle.ix_check.specs.declared.verdict.Verdict.{Verdict}
-use Rattle.ix_check.specs.declared.verdict.Verdict.TheVariants.{Codec, Hash, Sound}
+use Rattle.ix_verdict.specs.Verdict.{digest_by, has_codec, verdict_on}
+use Rattle.ix_verdict.specs.declared.verdict.Verdict.{Verdict}
+use Rattle.ix_verdict.specs.declared.verdict.Verdict.TheVariants.{Codec, Hash, Sound}
 use Rattle.ix_store.specs.Store.{Blocks, block_of}
 use Rattle.ix_archive.specs.declared.sink.Delivery.{Delivery}
 use Rattle.ix_car.specs.declared.reader.sections.Section.{Section}
-
--- the digest of a block by a hash function
-abbrev pub digest_by : HashFunction → List ℕ → List ℕ
-digest_by Identity block = block
-digest_by Sha2_256 block = sha256 block
-digest_by Sha2_512 block = sha512 block
 
 -- the verdict on a block that stands with its CID, by the hash function that the CID names
 abbrev pub verdict_by_hash : Option HashFunction → List ℕ → List ℕ → Verdict

@@ -1,11 +1,13 @@
 -- The laws of what is verified.
 use Rattle.std.specs.Prelude.{◌≡◌, ℕ, ◌≤◌, false, List, [], length, Some, Ok, All}
+use Rattle.ix_cid.specs.Cid.{parts_of, hash_function_of}
+use Rattle.ix_cid.specs.declared.hash_function.HashFunction.TheVariants.{Identity}
 use Rattle.ix_walk.specs.JobMeaning.{JobMeaning}
 use Rattle.ix_store.specs.Store.{Blocks, block_of}
 use Rattle.ix_walk.specs.Visits.{is_over_limit}
 use Rattle.ix_walk.specs.Once.{first_ones}
-use Rattle.ix_check.specs.Verdict.{verdict_of}
-use Rattle.ix_check.specs.declared.verdict.Verdict.TheVariants.{Sound}
+use Rattle.ix_check.specs.Verdict.{verdict_with, verdict_of}
+use Rattle.ix_verdict.specs.declared.verdict.Verdict.TheVariants.{Sound}
 use Rattle.ix_archive.specs.declared.sink.Delivery.{Delivery}
 use Rattle.ix_archive.specs.Archive.{sections_of, archive_with, archive_of}
 use Rattle.ix_archive.specs.Report.{skips_of}
@@ -19,6 +21,11 @@ use Rattle.ix_verify.specs.Written.{written_sections, IsArchivable, IsJudged, Is
 abbrev pub SoundBlocksAreSoundSections : Type 0
 SoundBlocksAreSoundSections =
     (store : Blocks) (c block : List ℕ) → verdict_of store c ≡ Sound → block_of store c ≡ Some block → section_verdict c block ≡ Sound
+
+-- outside identity CIDs, the verdict on a section is that on its CID with its block
+abbrev pub SectionVerdictsAreVerdicts : Type 0
+SectionVerdictsAreVerdicts =
+    (c block : List ℕ) → ¬ (hash_function_of (parts_of c) ≡ Some Identity) → section_verdict c block ≡ verdict_with c (Some block)
 
 -- every section of which the archive of a job is made is sound
 abbrev pub ArchivesHaveSoundSections : Type 0

@@ -3,7 +3,7 @@ use Rattle.std.specs.Prelude.{◌≡◌, ℕ, ◌+◌, ◌^◌, ◌<◌, List, [
 use Rattle.ix_cid.specs.Cid.{IsCid}
 use Rattle.ix_store.specs.Store.{Blocks, block_of}
 use Rattle.ix_check.specs.Verdict.{verdict_of}
-use Rattle.ix_check.specs.declared.verdict.Verdict.TheVariants.{Sound}
+use Rattle.ix_verdict.specs.declared.verdict.Verdict.TheVariants.{Sound}
 use Rattle.ix_archive.specs.declared.sink.Delivery.{Delivery}
 use Rattle.ix_car.specs.Writing.{header_of}
 use Rattle.ix_archive.specs.Archive.{first_sound, section_of, archive_with}

@@ -1,20 +1,14 @@
 //! The job of everything below roots.
 
 ghost use Rattle.std.specs.Prelude.{◌≡◌, IfOk};
-ghost use Rattle.ix_selector.specs.Pattern.{everything};
 ghost use Rattle.ix_verify.specs.Roots.{holder_of, few_roots};
 ghost use Rattle.ix_verify.specs.Found.{roots_job};
 
 use ix_car::header_of;
-use ix_cbor::decode;
 use ix_cid::Cid;
 use ix_selector::Selector;
 use ix_walk::{GREATEST_LIMIT, Job, MOST_ROOTS};
 use std::alloc::{AllocError, Global};
-
-// The selector of everything, `{"R":{"l":{"none":{}},":>":{"a":{">":{"@":{}}}}}}`, in DAG-CBOR.
-const EVERYTHING: &[u8; 26] =
-    b"\xa1\x61R\xa2\x61l\xa1\x64none\xa0\x62:>\xa1\x61a\xa1\x61>\xa1\x61@\xa0";
 
 // The front of an identity CIDv1 of DAG-CBOR, up to the block's length.
 const HOLDER: &[u8; 3] = b"\x01\x71\x00";
@@ -24,7 +18,7 @@ pub(crate) fn roots_job(alloc: Global, roots: Vec<Cid>) -> Result<Job, AllocErro
     ensures { IfOk result (λ job. job ≡ roots_job roots.items) }
 {
     let name = String::from_str(alloc, "verify")?;
-    let selector = everything(alloc)?;
+    let selector = Selector::everything(alloc)?;
     let few = few_roots(alloc, roots)?;
     // The name, the number of roots and the limit are valid.
     match Job::new(name, few, selector, GREATEST_LIMIT) {
@@ -55,19 +49,5 @@ fn holder_of(alloc: Global, roots: &[Cid]) -> Result<Cid, AllocError>
     match Cid::read(alloc, bytes.as_slice()) {
         Ok((cid, _)) if cid.as_bytes() == bytes.as_slice() => Ok(cid),
         _ => Err(AllocError),
-    }
-}
-
-// Returns the selector of everything.
-fn everything(alloc: Global) -> Result<Selector, AllocError>
-    ensures { IfOk result (λ selector. selector ≡ everything) }
-{
-    // The bytes are a selector, so the only error is out of memory.
-    let Ok(tree) = decode(alloc, EVERYTHING) else {
-        return Err(AllocError);
-    };
-    match Selector::read(alloc, &tree) {
-        Ok(selector) => Ok(selector),
-        Err(_) => Err(AllocError),
     }
 }

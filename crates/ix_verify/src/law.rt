@@ -1,8 +1,14 @@
 //! The laws of what is verified.
 
-ghost use Rattle.ix_verify.specs.Laws.{SoundBlocksAreSoundSections, ArchivesHaveSoundSections};
+ghost use Rattle.ix_verify.specs.Laws.{SectionVerdictsAreVerdicts, SoundBlocksAreSoundSections, ArchivesHaveSoundSections};
 ghost use Rattle.ix_verify.specs.Laws.{RootsAreReadBack, SectionsAreReadBack, WrittenIsSoundByItself, VerifiedIsJudged};
 ghost use Rattle.ix_verify.specs.Laws.{DeliveriesHaveSoundSections, JobsHaveSoundSections, WholeArchivesAreSound};
+
+/// Says that a section is judged as a block is, except under an identity CID, where `verify` looks at the
+/// section's bytes: otherwise its verdict is that on its CID in a store that has its block.
+pub fn section_verdicts_are_verdicts()
+    ensures { SectionVerdictsAreVerdicts }
+{}
 
 /// Says that a block that is sound in a store is sound as a section: if the verdict on a CID is
 /// `Sound`, so is that on the CID and the store's block.

@@ -1,19 +1,15 @@
 //! Checks sections by their own bytes.
 
-ghost use Rattle.std.specs.Prelude.{◌≡◌, ℕ, ◌<◌, length, slice_index_or, bytes_eq, is_none, map, slice_get, Some, IfOk, IfSome};
-ghost use Rattle.sha2.specs.Sha256.{sha256};
-ghost use Rattle.sha2.specs.Sha512.{sha512};
+ghost use Rattle.std.specs.Prelude.{◌≡◌, ℕ, ◌<◌, length, slice_index_or, is_none, map, slice_get, Some, IfOk, IfSome};
 ghost use Rattle.ix_cbor.specs.Reading.{data_at};
-ghost use Rattle.ix_check.specs.Verdict.{is_codec};
-ghost use Rattle.ix_verify.specs.Judged.{digest_by, verdict_in, section_pair};
+ghost use Rattle.ix_verify.specs.Judged.{verdict_in, section_pair};
 
 use ix_car::Section;
 use ix_cbor::check;
-use ix_check::Verdict;
 use ix_cid::HashFunction;
-use ix_cid::code::{DAG_CBOR, RAW};
+use ix_cid::code::DAG_CBOR;
 use ix_store::Store;
-use sha2::{Digest, Sha256, Sha512};
+use ix_verdict::{Needed, Verdict, bytes_needed, has_digest};
 use std::alloc::{AllocError, Global};
 use std::num::NonZeroUsize;
 use std::thread;
@@ -25,21 +21,15 @@ pub fn judge(section: &Section<'_>) -> Verdict
     ensures { result ≡ verdict_in section.now }
 {
     let parts = section.cid.parts();
-    let codec = parts.codec;
-    if !is_codec(codec) {
-        return Verdict::Codec;
-    }
-    let Some(function) = parts.hash_function() else {
-        return Verdict::Hash;
+    let function = match bytes_needed(&parts) {
+        Needed::Nothing(verdict) => return verdict,
+        Needed::Digest => HashFunction::Identity,
+        Needed::Block(function) => function,
     };
-    if !has_digest(function, section.block, parts.digest) {
-        return Verdict::Damaged;
-    }
-    if codec == DAG_CBOR && is_malformed(section.block) {
-        Verdict::Malformed
-    } else {
-        Verdict::Sound
-    }
+    Verdict::of_block(
+        has_digest(function, parts.digest, section.block),
+        parts.codec == DAG_CBOR && is_malformed(section.block),
+    )
 }
 
 /// Returns the verdicts on sections, in order, with at most so many threads.
@@ -141,27 +131,13 @@ fn verdict_stored(store: &Store, place: usize, section: &Section<'_>) -> Verdict
     ensures { result ≡ verdict_in section.now }
 {
     let parts = section.cid.parts();
-    if !is_codec(parts.codec) {
-        return Verdict::Codec;
+    match bytes_needed(&parts) {
+        Needed::Nothing(verdict) => verdict,
+        Needed::Digest | Needed::Block(_) => Verdict::of_block(
+            store.hash_matches(place),
+            parts.codec == DAG_CBOR && store.is_malformed(place),
+        ),
     }
-    if parts.hash_function().is_none() {
-        return Verdict::Hash;
-    }
-    if !store.hash_matches(place) {
-        return Verdict::Damaged;
-    }
-    if parts.codec == DAG_CBOR && store.is_malformed(place) {
-        Verdict::Malformed
-    } else {
-        Verdict::Sound
-    }
-}
-
-// Returns whether the codec is raw or DAG-CBOR.
-fn is_codec(codec: u64) -> bool
-    ensures { result ≡ is_codec codec }
-{
-    matches!(codec, RAW | DAG_CBOR)
 }
 
 // Returns whether a block doesn't decode.
@@ -169,30 +145,4 @@ fn is_malformed(block: &[u8]) -> bool
     ensures { result ≡ is_none (data_at block.now) }
 {
     check(block).is_err()
-}
-
-// Returns whether a digest is that of a block by this hash function.
-fn has_digest(function: HashFunction, block: &[u8], digest: &[u8]) -> bool
-    ensures { result ≡ bytes_eq (digest_by function block.now) digest.now }
-{
-    match function {
-        HashFunction::Identity => block == digest,
-        HashFunction::Sha2_256 => is_sha2_256(block, digest),
-        HashFunction::Sha2_512 => is_sha2_512(block, digest),
-    }
-}
-
-// The hashers are in functions of their own, so that a block only needs stack for the one it uses.
-#[inline(never)]
-fn is_sha2_256(block: &[u8], digest: &[u8]) -> bool
-    ensures { result ≡ bytes_eq (sha256 block.now) digest.now }
-{
-    Sha256::digest(block).as_slice() == digest
-}
-
-#[inline(never)]
-fn is_sha2_512(block: &[u8], digest: &[u8]) -> bool
-    ensures { result ≡ bytes_eq (sha512 block.now) digest.now }
-{
-    Sha512::digest(block).as_slice() == digest
 }

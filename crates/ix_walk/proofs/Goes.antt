@@ -1,6 +1,6 @@
 -- Whether a walk with link-visit-once expands a CID.
 use Rattle.std.proofs.Common.{◌≡◌, ◌⊎◌, inl, inr, ℕ, suc, ◌+◌, ◌-◌, Bool, true, false, List, [], ◌∷◌, map, get_or, refl, sym, ◌∙◌, ap, subst, arith}
-use Rattle.std.specs.Prelude.{Option, Some, None, option_map, nat_eq, ◌&&◌, ◌||◌, if◌then◌else◌, bytes_eq, slice_get}
+use Rattle.std.specs.Prelude.{Option, Some, None, option_map, option_and_then, nat_eq, ◌&&◌, ◌||◌, if◌then◌else◌, bytes_eq, slice_get}
 use Rattle.std.proofs.Math.Path.{fun_ext}
 use Rattle.std.proofs.lemmas.Bool.Decides.{nat_tests}
 use Rattle.std.proofs.lemmas.Option.{same_Some, get_or_from_slice_get, slice_get-map, slice_get-get_or}
@@ -11,16 +11,22 @@ use Rattle.ix_cid.specs.Cid.{parts_of, digest_of, hash_function_of}
 use Rattle.ix_cid.specs.declared.hash_function.HashFunction.{HashFunction}
 use Rattle.ix_cid.specs.declared.hash_function.HashFunction.TheVariants.{Sha2_256, Sha2_512}
 use Rattle.ix_cbor.specs.Data.{Data}
+use Rattle.ix_cbor.specs.Reading.{data_at}
 use Rattle.ix_selector.specs.Residual.{Place}
 use Rattle.ix_selector.specs.Behind.{same_residual}
 use Rattle.ix_walk.specs.declared.visited_set.VisitedSet.{VisitedSet}
-use Rattle.ix_store.specs.Store.{Blocks, block_of, position_after, position_of, value_of}
+use Rattle.ix_verdict.specs.declared.needed.Needed.TheVariants.{Block}
+use Rattle.ix_verdict.specs.Verdict.{has_codec}
+use Rattle.ix_verdict.specs.Needed.{needed_of}
+use Rattle.ix_verdict.proofs.Needs.{known-codec-Block, known-Block, hashed-Block}
+use Rattle.ix_store.specs.Store.{Blocks, block_of, position_after, position_of, bytes_of, is_dag_cbor, value_of}
 use Rattle.ix_store.specs.Memo.{hash_matches, hash_matches_by}
-use Rattle.ix_walk.specs.Once.{is_sound_by, sound_value}
+use Rattle.ix_walk.specs.Once.{is_sound_by, is_sound, sound_value}
 use Rattle.ix_walk.specs.Walking.{Going, nothing_expanded, expanded_also, data_inside, expanded_after, waiting}
 use Rattle.ix_walk.specs.VisitedSet.{has_expanded, is_same_going, IsNoted, expanded_of}
 use Rattle.ix_walk.specs.Arriving.{IsValue, Goes}
 use Rattle.ix_store.proofs.Blocks.{none_behind, some_after, block_at, place_within}
+use Rattle.ix_walk.proofs.Readings.{codec_known}
 
 -- bytes that compare as equal are equal
 bytes_same : (xs ys : List ℕ) → bytes_eq xs ys ≡ true → xs ≡ ys
@@ -58,9 +64,9 @@ cid_after n place (x ∷ xs) c p e at = by (bytes_eq x.0 c) refl e (cid_after (n
       let s : place - n ≡ suc (place - (n + 1)) = omega arith in more e (ap (λ (k : ℕ). slice_get (x ∷ xs) k) (sym s) ∙ at)
 
 -- whether the block at a place is sound
-pub sound_stored : (store : Blocks) (c : List ℕ) (h : HashFunction) (place : ℕ) (r : Bool) → (h ≡ Sha2_256) ⊎ (h ≡ Sha2_512) → Some h ≡ hash_function_of (parts_of c) → Some place ≡ position_of store c → r ≡ get_or (map hash_matches store) place false
+stored_sound : (store : Blocks) (c : List ℕ) (h : HashFunction) (place : ℕ) (r : Bool) → (h ≡ Sha2_256) ⊎ (h ≡ Sha2_512) → Some h ≡ hash_function_of (parts_of c) → Some place ≡ position_of store c → r ≡ get_or (map hash_matches store) place false
     → r ≡ is_sound_by (hash_function_of (parts_of c)) (digest_of c) (block_of store c)
-sound_stored store c h place r stored e there asked =
+stored_sound store c h place r stored e there asked =
     let p : List ℕ × List ℕ = get_or store place ([], []) in
     let at : slice_get store place ≡ Some p = slice_get-get_or store place ([], []) (place_within place store c there) in
     let z : place - 0 ≡ place = omega arith in
@@ -76,12 +82,28 @@ sound_stored store c h place r stored e there asked =
       sound_by (inr is) o e digest b = subst (λ f. hash_matches_by f digest b ≡ is_sound_by f digest (Some b)) (ap (λ (g : HashFunction). Some g) (sym is) ∙ e) refl
 
 -- a block that isn't there
-pub sound_absent : (store : Blocks) (c : List ℕ) (h : HashFunction) → (h ≡ Sha2_256) ⊎ (h ≡ Sha2_512) → Some h ≡ hash_function_of (parts_of c) → None ≡ position_of store c
+absent_sound : (store : Blocks) (c : List ℕ) (h : HashFunction) → (h ≡ Sha2_256) ⊎ (h ≡ Sha2_512) → Some h ≡ hash_function_of (parts_of c) → None ≡ position_of store c
     → false ≡ is_sound_by (hash_function_of (parts_of c)) (digest_of c) (block_of store c)
-sound_absent store c h stored e absent = by stored (hash_function_of (parts_of c)) e (digest_of c) ∙ ap (is_sound_by (hash_function_of (parts_of c)) (digest_of c)) (sym (none_behind 0 store c absent)) where
+absent_sound store c h stored e absent = by stored (hash_function_of (parts_of c)) e (digest_of c) ∙ ap (is_sound_by (hash_function_of (parts_of c)) (digest_of c)) (sym (none_behind 0 store c absent)) where
   by : (h ≡ Sha2_256) ⊎ (h ≡ Sha2_512) → (o : Option HashFunction) → Some h ≡ o → (digest : List ℕ) → false ≡ is_sound_by o digest None
   by (inl is) o e digest = subst (λ f. false ≡ is_sound_by f digest None) (ap (λ (g : HashFunction). Some g) (sym is) ∙ e) refl
   by (inr is) o e digest = subst (λ f. false ≡ is_sound_by f digest None) (ap (λ (g : HashFunction). Some g) (sym is) ∙ e) refl
+
+-- of a known codec
+known_sound : (store : Blocks) (c : List ℕ) (r : Bool) → has_codec c ≡ true → r ≡ is_sound store c → r ≡ (has_codec c && is_sound store c)
+known_sound store c r codec is = is ∙ ap (λ (t : Bool). t && is_sound store c) (sym codec)
+
+module _ (store : Blocks) (c : List ℕ) (h : HashFunction) (needed : Block h ≡ needed_of (parts_of c)) where
+  -- the block at a place
+  pub sound_stored : (place : ℕ) (r : Bool) → Some place ≡ position_of store c → r ≡ get_or (map hash_matches store) place false → r ≡ (has_codec c && is_sound store c)
+  sound_stored place r there asked =
+      known_sound store c r (known-codec-Block (parts_of c) h needed)
+      (stored_sound store c h place r (hashed-Block (parts_of c) h needed) (sym (known-Block (parts_of c) h needed)) there asked)
+
+  -- no block
+  pub sound_absent : None ≡ position_of store c → false ≡ (has_codec c && is_sound store c)
+  sound_absent absent =
+      known_sound store c false (known-codec-Block (parts_of c) h needed) (absent_sound store c h (hashed-Block (parts_of c) h needed) (sym (known-Block (parts_of c) h needed)) absent)
 
 -- ---- what was expanded
 
@@ -122,6 +144,17 @@ pub none_expanded : (store : Blocks) (g : VisitedSet) → ((b : Option ℕ) (c :
 none_expanded store g none = fun_ext (λ c. fun_ext (λ places. none (position_of store c) c places))
 
 -- ---- going in
+
+-- a CID with data is of a known codec
+codec_valued : (store : Blocks) (c b : List ℕ) → IsValue (value_of store c) (Some b) → has_codec c ≡ true
+codec_valued store c b value = on (is_dag_cbor c) refl value.1 where
+  on : (dag : Bool) → is_dag_cbor c ≡ dag → (if dag then option_and_then data_at (bytes_of store c) else None) ≡ Some value.0 → has_codec c ≡ true
+  on true is e = codec_known c is
+  on false is e = absurd cc
+
+-- so whether it is sound is up to the hash
+pub sound_valued : (store : Blocks) (c b : List ℕ) (r : Bool) → IsValue (value_of store c) (Some b) → r ≡ (has_codec c && is_sound store c) → r ≡ is_sound store c
+sound_valued store c b r value is = is ∙ ap (λ (t : Bool). t && is_sound store c) (codec_valued store c b value)
 
 -- not into this one
 stays : (store : Blocks) (c : List ℕ) (places : List Place) (depth : ℕ) (had has : Going) → data_inside store (Some had) (waiting places depth c) ≡ None → has ≡ had

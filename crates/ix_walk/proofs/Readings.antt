@@ -1,17 +1,21 @@
 -- What the bytes that a CID names spell.
-use Rattle.std.proofs.Common.{◌≡◌, ◌⊎◌, inl, inr, ⊎_elim, ℕ, true, false, List, [], ◌∷◌, map, refl, sym, ◌∙◌, ap}
-use Rattle.std.specs.Prelude.{Option, Some, None, Result, Ok, Err, ◌==◌, slice_get, is_none}
-use Rattle.std.proofs.lemmas.Bool.{false≢true}
+use Rattle.std.proofs.Common.{◌≡◌, ◌⊎◌, inl, inr, ⊎_elim, ℕ, Bool, true, false, List, [], ◌∷◌, map, refl, sym, ◌∙◌, ap}
+use Rattle.std.specs.Prelude.{Option, Some, None, Result, Ok, Err, ◌==◌, if◌then◌else◌, slice_get, is_none}
+use Rattle.std.proofs.lemmas.Bool.{false≢true, or_right}
 use Rattle.ix_cid.specs.Cid.{parts_of, codec_of, digest_of, hash_function_of}
 use Rattle.ix_cid.specs.declared.hash_function.HashFunction.{HashFunction}
 use Rattle.ix_cid.specs.declared.hash_function.HashFunction.TheVariants.{Sha2_256, Sha2_512}
 use Rattle.ix_cbor.specs.Data.{Data}
 use Rattle.ix_cbor.specs.Reading.{item_at, nothing_after, decoded, data_at}
 use Rattle.ix_cbor.proofs.Steps.{bind_ok, ok_same, ok_data}
+use Rattle.ix_verdict.specs.declared.needed.Needed.TheVariants.{Block}
+use Rattle.ix_verdict.specs.Verdict.{has_codec}
+use Rattle.ix_verdict.specs.Needed.{needed_of}
+use Rattle.ix_verdict.proofs.Needs.{known-codec-Block, known-Block, hashed-Block}
 use Rattle.ix_store.specs.Store.{Blocks, block_of, position_of, bytes_by, bytes_of, is_dag_cbor, value_of}
 use Rattle.ix_walk.specs.Visits.{is_malformed}
 use Rattle.ix_walk.specs.Descent.{IsItem}
-use Rattle.ix_walk.specs.Arriving.{IsReading}
+use Rattle.ix_walk.specs.Arriving.{known_bytes, IsReading}
 use Rattle.ix_store.proofs.Blocks.{none_behind, block_at, faulty_yes}
 
 -- the bytes of a CID, by its hash function
@@ -19,22 +23,37 @@ bytes_under : (store : Blocks) (c : List ℕ) (h : Option HashFunction) → h �
 bytes_under store c h e = ap (λ f. bytes_by f (digest_of c) (block_of store c)) e
 
 -- those of a block
-bytes_stored : (store : Blocks) (c : List ℕ) (h : HashFunction) → (h ≡ Sha2_256) ⊎ (h ≡ Sha2_512) → Some h ≡ hash_function_of (parts_of c) → block_of store c ≡ bytes_of store c
+pub bytes_stored : (store : Blocks) (c : List ℕ) (h : HashFunction) → (h ≡ Sha2_256) ⊎ (h ≡ Sha2_512) → Some h ≡ hash_function_of (parts_of c) → block_of store c ≡ bytes_of store c
 bytes_stored store c h (inl is) e = bytes_under store c (Some Sha2_256) (ap (λ g. Some g) (sym is) ∙ e)
 bytes_stored store c h (inr is) e = bytes_under store c (Some Sha2_512) (ap (λ g. Some g) (sym is) ∙ e)
 
--- no block
-pub bytes_absent : (store : Blocks) (c : List ℕ) (h : HashFunction) → (h ≡ Sha2_256) ⊎ (h ≡ Sha2_512) → Some h ≡ hash_function_of (parts_of c) → None ≡ position_of store c → None ≡ bytes_of store c
-bytes_absent store c h stored e absent = sym (none_behind 0 store c absent) ∙ bytes_stored store c h stored e
+-- those of a CID of a known codec
+known : (store : Blocks) (c : List ℕ) (o : Option (List ℕ)) → has_codec c ≡ true → o ≡ bytes_of store c → o ≡ known_bytes store c
+known store c o codec is = is ∙ ap (λ (t : Bool). if t then bytes_of store c else None) (sym codec)
 
--- a block
-pub bytes_at : (store : Blocks) (c : List ℕ) (h : HashFunction) (place : ℕ) (b : List ℕ) → (h ≡ Sha2_256) ⊎ (h ≡ Sha2_512) → Some h ≡ hash_function_of (parts_of c) → Some place ≡ position_of store c
-    → slice_get (map (λ e. e.1) store) place ≡ Some b → Some b ≡ bytes_of store c
-bytes_at store c h place b stored e there g = sym (block_at place store c b there g) ∙ bytes_stored store c h stored e
+module _ (store : Blocks) (c : List ℕ) (h : HashFunction) (needed : Block h ≡ needed_of (parts_of c)) where
+  known_stored : (o : Option (List ℕ)) → o ≡ block_of store c → o ≡ known_bytes store c
+  known_stored o is = known store c o (known-codec-Block (parts_of c) h needed) (is ∙ bytes_stored store c h (hashed-Block (parts_of c) h needed) (sym (known-Block (parts_of c) h needed)))
+
+  -- no block
+  pub bytes_absent : None ≡ position_of store c → None ≡ known_bytes store c
+  bytes_absent absent = known_stored None (sym (none_behind 0 store c absent))
+
+  -- a block
+  pub bytes_at : (place : ℕ) (b : List ℕ) → Some place ≡ position_of store c → slice_get (map (λ e. e.1) store) place ≡ Some b → Some b ≡ known_bytes store c
+  bytes_at place b there g = known_stored (Some b) (sym (block_at place store c b there g))
 
 -- the codec
 pub dag_cbor_is : (c : List ℕ) (codec : ℕ) → codec ≡ codec_of c → codec ≡ 0x71 → is_dag_cbor c ≡ true
 dag_cbor_is c codec is e = ap (λ (n : ℕ). n == 0x71) (sym is ∙ e)
+
+-- DAG-CBOR is known
+pub codec_known : (c : List ℕ) → is_dag_cbor c ≡ true → has_codec c ≡ true
+codec_known c is = or_right (codec_of c == 0x55) (is_dag_cbor c) is
+
+-- so the bytes of a DAG-CBOR CID are known
+pub known_dag_cbor : (store : Blocks) (c : List ℕ) → is_dag_cbor c ≡ true → bytes_of store c ≡ known_bytes store c
+known_dag_cbor store c is = known store c (bytes_of store c) (codec_known c is) refl
 
 -- a result is a value or an error
 either_way : {X Y : Type 0} (r : Result X Y) → ((x : X) × (r ≡ Ok x)) ⊎ ((y : Y) × (r ≡ Err y))

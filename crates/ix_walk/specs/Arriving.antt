@@ -1,5 +1,5 @@
 -- What visiting a link does.
-use Rattle.std.specs.Prelude.{◌≡◌, ℕ, ◌+◌, Bool, false, List, [], ◌++◌, Option, Some, None, IfNone, Result, Ok, Err}
+use Rattle.std.specs.Prelude.{◌≡◌, ℕ, ◌+◌, Bool, false, List, [], ◌++◌, if◌then◌else◌, Option, Some, None, IfNone, Result, Ok, Err}
 use Rattle.ix_cbor.specs.Data.{Data}
 use Rattle.ix_cbor.specs.Reading.{decoded}
 use Rattle.ix_selector.specs.Pattern.{Pattern}
@@ -10,12 +10,17 @@ use Rattle.ix_walk.specs.declared.subtree.PendingLink.{PendingLink}
 use Rattle.ix_walk.specs.declared.subtree.Frontier.{Frontier}
 use Rattle.ix_walk.specs.declared.visit.Visit.{Visit}
 use Rattle.ix_walk.specs.declared.fault.WalkStop.{WalkStop}
-use Rattle.ix_store.specs.Store.{Blocks, position_of, value_of}
+use Rattle.ix_verdict.specs.Verdict.{has_codec}
+use Rattle.ix_store.specs.Store.{Blocks, position_of, bytes_of, value_of}
 use Rattle.ix_walk.specs.JobMeaning.{JobMeaning}
 use Rattle.ix_walk.specs.Visits.{is_malformed, visit_of}
 use Rattle.ix_walk.specs.VisitedSet.{going_of}
 use Rattle.ix_walk.specs.Walking.{arrival, waiting, Going, data_inside, expanded_after, links_inside, Subtree, all_links, found_links, frontier_stands, subtrees, links_left, walk_left, NoDeeper, IsWalk}
 use Rattle.ix_walk.specs.WalkLeft.{WalkLeft, GivesNext, nothing_left}
+
+-- the bytes that a CID names if its codec is known
+abbrev pub known_bytes : Blocks → List ℕ → Option (List ℕ)
+known_bytes store c = if has_codec c then bytes_of store c else None
 
 -- this is the position of the block of a CID, if it is there
 abbrev pub IsPositionOf : Blocks → List ℕ → Option ℕ → Type 0

@@ -9,8 +9,8 @@ use ix_cid::Cid;
 use ix_selector::Selector;
 use std::marker::Model;
 
-// How many bytes a name may have.
-const LONGEST_NAME: usize = 64;
+/// How many bytes a name may have.
+pub const LONGEST_NAME: usize = 64;
 
 /// The greatest limit: how many visits a job may ask for.
 pub const GREATEST_LIMIT: u32 = 1_000_000;

@@ -29,6 +29,6 @@ mod visiting;
 mod walk;
 
 pub use fault::{JobFault, WalkStop};
-pub use job::{GREATEST_LIMIT, Job, MOST_ROOTS, is_name};
+pub use job::{GREATEST_LIMIT, Job, LONGEST_NAME, MOST_ROOTS, is_name};
 pub use visit::Visit;
 pub use walk::Walk;

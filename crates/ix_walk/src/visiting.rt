@@ -1,11 +1,12 @@
 //! Visiting a link.
 
-ghost use Rattle.std.specs.Prelude.{◌≡◌, ◌+◌, ◌<◌, ◌^◌, IfOk, IfSome, OnOk, None, option_map, is_none};
+ghost use Rattle.std.specs.Prelude.{◌≡◌, ◌&&◌, ◌+◌, ◌<◌, ◌^◌, IfOk, IfSome, OnOk, None, option_map, is_none};
 ghost use Rattle.ix_cbor.specs.Reading.{data_at};
-ghost use Rattle.ix_store.specs.Store.{bytes_of, value_of};
+ghost use Rattle.ix_verdict.specs.Verdict.{has_codec};
+ghost use Rattle.ix_store.specs.Store.{value_of};
 ghost use Rattle.ix_walk.specs.Once.{is_sound};
 ghost use Rattle.ix_walk.specs.Descent.{IsItem};
-ghost use Rattle.ix_walk.specs.Arriving.{IsPositionOf, IsValue, IsReading, GoesInto, Roots, Arrives, FindsNext, TakesNext};
+ghost use Rattle.ix_walk.specs.Arriving.{known_bytes, IsPositionOf, IsValue, IsReading, GoesInto, Roots, Arrives, FindsNext, TakesNext};
 ghost use Rattle.ix_walk.specs.Walking.{IsStanding, IsWalk};
 
 use crate::descent::{next_found, node_at};
@@ -16,29 +17,31 @@ use crate::subtree::{Child, Frontier, PendingLink};
 use crate::visit::Visit;
 use crate::visited_set::VisitedSet;
 use ix_cid::code::DAG_CBOR;
-use ix_cid::{Cid, CidRef, HashFunction};
+use ix_cid::{Cid, CidRef};
 use ix_selector::Residual;
 use ix_store::{Cursor, Store, has_fault};
+use ix_verdict::{Needed, bytes_needed};
 use std::alloc::{AllocError, Global};
 
-// Returns the bytes that a CID names, if they are there, and whether they are not valid DAG-CBOR
-// though the CID says so.
+// Returns the bytes that a CID of a known codec names, if they are there, and whether they are not
+// valid DAG-CBOR.
 fn bytes_of<'a>(
     store: &'a Store,
     cid: &CidRef<'a>,
     block: Option<usize>,
 ) -> Option<(Cursor<'a>, bool)>
     requires { IsPositionOf store.now cid.now block }
-    ensures bytes { option_map (λ b. b.0) result ≡ bytes_of store.now cid.now }
+    ensures bytes { option_map (λ b. b.0) result ≡ known_bytes store.now cid.now }
     ensures fault { IfSome result (λ b. b.1 ≡ is_none (data_at b.0)) }
 {
     let parts = cid.parts();
-    match parts.hash_function()? {
-        HashFunction::Identity => {
+    match bytes_needed(&parts) {
+        Needed::Nothing(_) => None,
+        Needed::Digest => {
             let digest = Cursor::of_digest(cid.as_bytes(), cid.shared(), parts.digest);
             Some((digest, has_fault(parts.digest)))
         }
-        HashFunction::Sha2_256 | HashFunction::Sha2_512 => {
+        Needed::Block(_) => {
             let place = block?;
             Some((store.cursor(place), store.is_malformed(place)))
         }
@@ -66,19 +69,16 @@ fn read_block<'a>(
     }
 }
 
-// Whether the bytes that the CID of a visit names match it: those inline in it (an identity CID),
-// and those of a block whose hash matches.
+// Whether the CID of a visit is of a known codec and the bytes that it names match it: those inline
+// in it (an identity CID), and those of a block whose hash matches.
 fn is_sound(store: &Store, visit: &Visit) -> bool
     requires { IsPositionOf store.now visit.now.cid visit.now.block }
-    ensures { result ≡ is_sound store.now visit.now.cid }
+    ensures { result ≡ (has_codec visit.now.cid && is_sound store.now visit.now.cid) }
 {
-    let parts = visit.cid.parts();
-    let Some(function) = parts.hash_function() else {
-        return false;
-    };
-    match function {
-        HashFunction::Identity => true,
-        HashFunction::Sha2_256 | HashFunction::Sha2_512 => match visit.block {
+    match bytes_needed(&visit.cid.parts()) {
+        Needed::Nothing(_) => false,
+        Needed::Digest => true,
+        Needed::Block(_) => match visit.block {
             None => false,
             Some(place) => store.hash_matches(place),
         },

@@ -1,15 +1,15 @@
 //! The sections of a CARv1 file, in place.
 
 ghost use Rattle.std.specs.Prelude.{◌≡◌, ◌<◌, ◌≤◌, length, IfOk, IfErr};
-ghost use Rattle.ix_car.specs.Reading.{header_at, section_at};
+ghost use Rattle.ix_car.specs.Reading.{header_at};
 ghost use Rattle.ix_car.specs.Gives.{Gives};
-ghost use Rattle.ix_car.specs.Reads.{Reads, ReadsFrom, StandsWithin};
+ghost use Rattle.ix_car.specs.Reads.{ReadsFrom};
 ghost use Rattle.ix_car.specs.Sections.{section_list, sections_in, roots_of};
 ghost use Rattle.ix_car.specs.SectionView.{views_of, IsSectionAt, IsSectionFault};
 
 use crate::fault::{CarFault, CarKind};
 use crate::reader::header::{header_at, roots_at};
-use crate::reader::section::{FaultAt, text_at};
+use crate::reader::section::{FaultAt, section_at};
 use ix_cid::{Cid, CidRef};
 use std::alloc::Global;
 
@@ -94,7 +94,7 @@ pub fn read_section(size: usize, bytes: &[u8]) -> Result<(Section<'_>, &[u8]), C
     ensures refused { IfErr result (IsSectionFault size bytes.now) }
 {
     let place = size - bytes.len();
-    match parts_at(bytes) {
+    match section_at(bytes) {
         Ok((cid, block, rest)) => Ok((Section { place, cid, block }, rest)),
         Err(fault) => Err(CarFault {
             kind: fault.kind,
@@ -115,7 +115,7 @@ fn sections_after<'a>(
     let mut rest = bytes;
     let mut sections = Vec::new(alloc);
     while !rest.is_empty() {
-        let (cid, block, after) = parts_at(rest)?;
+        let (cid, block, after) = section_at(rest)?;
         let place = size - rest.len();
         let Ok(()) = sections.push(Section { place, cid, block }) else {
             return Err(FaultAt::at(CarKind::Memory, rest));
@@ -123,18 +123,4 @@ fn sections_after<'a>(
         rest = after;
     }
     Ok(sections)
-}
-
-// Returns the CID and the block of the section at the front, in place, and the bytes after it.
-fn parts_at(bytes: &[u8]) -> Result<(CidRef<'_>, &[u8], &[u8]), FaultAt>
-    ensures reads { Reads (λ r. ((r.0, r.1.now), r.2.now)) result (section_at bytes.now) }
-    ensures shorter { IfOk result (λ r. length r.2.now < length bytes.now) }
-    ensures within { StandsWithin result bytes.now }
-{
-    let (section, rest) = text_at(bytes)?;
-    let Ok(length) = Cid::length_at(section) else {
-        return Err(FaultAt::at(CarKind::SectionCid, bytes));
-    };
-    let (cid, block) = section.split_at(length);
-    Ok((CidRef::of(cid), block, rest))
 }

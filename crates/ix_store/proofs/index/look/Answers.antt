@@ -1,7 +1,6 @@
-use Rattle.std.proofs.Common.{◌≡◌, ◌∙◌, ◌<◌, ◌≤◌, ◌+◌, List, length, map, get_or, sym, ap, subst, inl, inr}
+use Rattle.std.proofs.Common.{◌≡◌, ◌∙◌, ◌<◌, ◌≤◌, ◌+◌, List, length, get_or, sym, ap, subst, inl, inr}
 use Rattle.ix_store.specs.Index.{window_of, key_hash, fingerprint, IsFree}
 use Rattle.ix_store.specs.declared.index.Slot.{Slot}
-use Rattle.ix_store.specs.Entry.{pair_of}
 use Rattle.ix_store.proofs.Indexes.{free}
 use Rattle.ix_store.proofs.Found.{probe-free, probe-here, probe-on, probe-end}
 use Rattle.ix_store.proofs.index.look.Goals.{else-slot-tag-via-then-slot-tag+else-is_cid_at, else-slot-tag-via-else-slot-tag}
@@ -13,7 +12,7 @@ returns-in_default c =
     let n = c.loop-slot.slot-index in
     let e : c.window.result.1.now ≡ l = c.window.ensures.slots ∙ ap (window_of c.args.slots.now) c.key_hash-hash.ensures in
     let within : n < length l = subst (λ (r : List Slot). n < length r) e c.loop-slot-test.true in
-    sym (probe-free (map pair_of c.args.entries.now) l n _ c.args.cid.now within (subst (λ (r : List Slot). IsFree (get_or r n free)) e c.in_default.ensures)) ∙ c.loop-slot.invariant
+    sym (probe-free c.args.entries.now l n _ c.args.cid.now within (subst (λ (r : List Slot). IsFree (get_or r n free)) e c.in_default.ensures)) ∙ c.loop-slot.invariant
 
 pub returns-then-is_cid_at : goal.returns-then-is_cid_at
 returns-then-is_cid_at c =
@@ -24,7 +23,7 @@ returns-then-is_cid_at c =
     let within : n < length l = subst (λ (r : List Slot). n < length r) e c.loop-slot-test.true in
     let tag : (get_or l n free).tag ≡ fingerprint (key_hash c.args.cid.now) = subst (λ (r : List Slot). (get_or r n free).tag ≡ c.fingerprint-tag.result) e c.if-slot-tag.true ∙ c.fingerprint-tag.ensures ∙ ap fingerprint c.key_hash-hash.ensures in
     let end : (get_or l n free).end ≡ p + 1 = subst (λ (r : List Slot). (get_or r n free).end ≡ p + 1) e c.in-Some.ensures in
-    sym (probe-here (map pair_of c.args.entries.now) l n (fingerprint (key_hash c.args.cid.now)) p c.args.cid.now within (tag, end) (sym c.is_cid_at.ensures ∙ c.if-is_cid_at.true)) ∙ c.loop-slot.invariant
+    sym (probe-here c.args.entries.now l n (fingerprint (key_hash c.args.cid.now)) p c.args.cid.now within (tag, end) (sym c.is_cid_at.ensures ∙ c.if-is_cid_at.true)) ∙ c.loop-slot.invariant
 
 pub loop-slot-preserved : goal.loop-slot-preserved
 loop-slot-preserved c =
@@ -35,7 +34,7 @@ loop-slot-preserved c =
     let within : n < length l = subst (λ (r : List Slot). n < length r) e c.loop-slot-test.true in
     let tag = c.fingerprint-tag.ensures ∙ ap fingerprint c.key_hash-hash.ensures in
     let end : (get_or l n free).end ≡ p + 1 = subst (λ (r : List Slot). (get_or r n free).end ≡ p + 1) e c.in-Some.ensures in
-    probe-on (map pair_of c.args.entries.now) l n (fingerprint (key_hash c.args.cid.now)) p c.args.cid.now within end
+    probe-on c.args.entries.now l n (fingerprint (key_hash c.args.cid.now)) p c.args.cid.now within end
     (elim c.else-slot-tag.branch [
       | else-slot-tag-via-then-slot-tag+else-is_cid_at w ↦ inr (sym w.is_cid_at.ensures ∙ w.if-is_cid_at.false)
       | else-slot-tag-via-else-slot-tag w ↦ inl (λ same. w.if-slot-tag.false (ap (λ (r : List Slot). (get_or r n free).tag) e ∙ same ∙ sym tag))
@@ -47,4 +46,4 @@ returns c =
     let l = window_of c.args.slots.now (key_hash c.args.cid.now) in
     let n = c.loop-slot.slot-index in
     let e : c.window.result.1.now ≡ l = c.window.ensures.slots ∙ ap (window_of c.args.slots.now) c.key_hash-hash.ensures in
-    sym (probe-end (map pair_of c.args.entries.now) l n _ c.args.cid.now (subst (λ (r : List Slot). length r ≤ n) e c.loop-slot-test.false)) ∙ c.loop-slot.invariant
+    sym (probe-end c.args.entries.now l n _ c.args.cid.now (subst (λ (r : List Slot). length r ≤ n) e c.loop-slot-test.false)) ∙ c.loop-slot.invariant

@@ -1,6 +1,5 @@
-use Rattle.ix_store.specs.Entry.{pairs_of}
 use Rattle.ix_store.specs.Index.{AreSeen}
 use Rattle.ix_store.proofs.verify.check_share.Given as goal
 
 abbrev pub invariant-loop-place : goal.invariant-loop-place
-invariant-loop-place l = AreSeen l.slots (pairs_of l.entries) l.from l.place l.places.items
+invariant-loop-place l = AreSeen l.slots l.entries l.from l.place l.places.items

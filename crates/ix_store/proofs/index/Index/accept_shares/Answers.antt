@@ -1,15 +1,13 @@
-use Rattle.std.proofs.Common.{◌∙◌, ◌+◌, ◌*◌, ◌≤◌, ℕ, List, length, map, All, sym, ap, subst, arith, rules}
-use Rattle.std.proofs.lemmas.List.{length-map}
+use Rattle.std.proofs.Common.{◌∙◌, ◌+◌, ◌*◌, ◌≤◌, ℕ, List, length, All, sym, ap, subst, arith, rules}
 use Rattle.ix_store.specs.Index.{AreSeen, AllSeen, IsAfter}
 use Rattle.ix_store.specs.declared.index.Slot.{Slot}
-use Rattle.ix_store.specs.Entry.{pair_of}
 use Rattle.ix_store.proofs.Found.{AreFound, indexed-found}
 use Rattle.ix_store.proofs.Seen.{found-share, seen-here, shares-end}
 use Rattle.ix_store.proofs.index.Index.accept_shares.Goals as goal
 
 pub loop-places-preserved : goal.loop-places-preserved
 loop-places-preserved c =
-    let es = map pair_of c.args.entries.now in
+    let es = c.args.entries.now in
     let index = c.loop-places.self in
     let later = c.insert_all_overflow.new.self in
     let said = c.in_ok-insert_all_overflow-in-Ok-Some.ensures in
@@ -27,6 +25,6 @@ loop-places-preserved c =
 
 pub returns : goal.returns
 returns c =
-    let es = map pair_of c.args.entries.now in
-    let past : length es ≤ c.loop-places.places-index * c.args.share = shares-end (length es) c.loop-places.places-index (length c.args.shares.now) c.args.share (subst (λ (m : ℕ). m ≤ length c.args.shares.now * c.args.share) (sym (length-map c.args.entries.now pair_of)) c.requires.whole) c.loop-places-test.false in
+    let es = c.args.entries.now in
+    let past : length es ≤ c.loop-places.places-index * c.args.share = shares-end (length es) c.loop-places.places-index (length c.args.shares.now) c.args.share c.requires.whole c.loop-places-test.false in
     indexed-found c.loop-places.self es (λ k e less at. c.loop-places.invariant.1 k e (omega (arith, past, less)) at) c.loop-places.invariant.2

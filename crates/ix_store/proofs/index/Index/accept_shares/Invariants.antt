@@ -1,5 +1,4 @@
 use Rattle.std.proofs.Common.{◌≡◌, ◌*◌}
-use Rattle.ix_store.specs.Entry.{pairs_of}
 use Rattle.ix_store.specs.Index.{IsTrueAfter}
 use Rattle.ix_store.proofs.Found.{AreFound}
 use Rattle.ix_store.proofs.index.Index.accept_shares.Given as goal
@@ -7,5 +6,5 @@ use Rattle.ix_store.proofs.index.Index.accept_shares.Given as goal
 abbrev pub invariant-loop-places : goal.invariant-loop-places
 invariant-loop-places l =
     (l.self.slots ≡ l.fn.self.slots)
-    × AreFound l.self (pairs_of l.entries) (l.places-index * l.share)
-    × IsTrueAfter l.self (pairs_of l.entries)
+    × AreFound l.self l.entries (l.places-index * l.share)
+    × IsTrueAfter l.self l.entries

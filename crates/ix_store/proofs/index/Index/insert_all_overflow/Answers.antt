@@ -1,27 +1,21 @@
-use Rattle.std.proofs.Common.{◌≡◌, ◌∙◌, ℕ, List, length, map, take, slice_get, get_or, Some, All, refl, sym, ap, subst}
-use Rattle.std.proofs.lemmas.Option.{slice_get-map, slice_get_read}
-use Rattle.std.proofs.lemmas.Bool.{ltb-true}
+use Rattle.std.proofs.Common.{◌≡◌, ◌∙◌, ℕ, List, take, slice_get, get_or, Some, All, refl, sym, ap, subst}
 use Rattle.std.proofs.lemmas.List.{take_all}
-use Rattle.std.specs.Option.{option_map}
 use Rattle.std.proofs.lemmas.List.Elements.{All-more}
 use Rattle.ix_store.specs.Index.{IsAfter, HasAllOf}
-use Rattle.ix_store.specs.Entry.{pair_of}
 use Rattle.ix_store.proofs.Found.{true-put}
 use Rattle.ix_store.proofs.Seen.{all-put, all-of-both, all-behind, put-behind}
 use Rattle.ix_store.proofs.index.Index.insert_all_overflow.Goals as goal
 
 pub loop-place-preserved : goal.loop-place-preserved
 loop-place-preserved c =
-    let entries = c.args.entries.now in
-    let es = map pair_of entries in
+    let es = c.args.entries.now in
     let index = c.loop-place.self in
     let later = c.insert_overflow.new.self in
     let said = c.in_ok-existing.ensures in
     let n = c.loop-place.place-index in
     let place = get_or c.args.places.now n 0 in
-    let x = pair_of c.in-Some.entry.now in
-    let held : slice_get entries place ≡ Some c.in-Some.entry.now = slice_get_read entries (length entries) place c.in-Some.entry.now refl (ltb-true place (length entries) (sym c.in-Some.ensures.lookup.0)) c.in-Some.ensures.lookup.1 in
-    let at : slice_get es place ≡ Some x = slice_get-map pair_of entries place ∙ ap (λ o. option_map pair_of o) held in
+    let x : List ℕ × List ℕ = (c.in-Some.cid.now, c.in-Some.field-0-1.now) in
+    let at : slice_get es place ≡ Some x = sym c.in-Some.ensures in
     let same : c.in_ok-existing.existing ≡ place = c.if-existing-place.false in
     let has : HasAllOf later index = all-put index later x.0 c.in_ok-existing.existing place said.put said.existing in (
       said.slots ∙ c.loop-place.invariant.0,
@@ -33,4 +27,4 @@ loop-place-preserved c =
 pub returns-clause-put : goal.returns-clause-put
 returns-clause-put c _ =
     let places = c.args.places.now in
-    subst (λ (l : List ℕ). All (λ p. IsAfter c.loop-place.self (map pair_of c.args.entries.now) p) l) (take_all c.loop-place.place-index places c.loop-place-test.false) c.loop-place.invariant.3
+    subst (λ (l : List ℕ). All (λ p. IsAfter c.loop-place.self c.args.entries.now p) l) (take_all c.loop-place.place-index places c.loop-place-test.false) c.loop-place.invariant.3

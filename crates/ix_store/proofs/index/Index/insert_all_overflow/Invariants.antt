@@ -1,5 +1,4 @@
 use Rattle.std.proofs.Common.{◌≡◌, take, All}
-use Rattle.ix_store.specs.Entry.{pairs_of}
 use Rattle.ix_store.specs.Index.{HasAllOf, IsTrueAfter, IsAfter}
 use Rattle.ix_store.proofs.index.Index.insert_all_overflow.Given as goal
 
@@ -7,5 +6,5 @@ abbrev pub invariant-loop-place : goal.invariant-loop-place
 invariant-loop-place l =
     (l.self.slots ≡ l.fn.self.slots)
     × HasAllOf l.self l.fn.self
-    × (IsTrueAfter l.fn.self (pairs_of l.entries) → IsTrueAfter l.self (pairs_of l.entries))
-    × All (λ p. IsAfter l.self (pairs_of l.entries) p) (take l.place-index l.places)
+    × (IsTrueAfter l.fn.self l.entries → IsTrueAfter l.self l.entries)
+    × All (λ p. IsAfter l.self l.entries p) (take l.place-index l.places)

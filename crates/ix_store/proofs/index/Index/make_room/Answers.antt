@@ -1,15 +1,12 @@
-use Rattle.std.proofs.Common.{◌≡◌, ◌∙◌, ◌+◌, refl, sym, ap, subst, arith, length, take, map, List, [], ◌∷◌, ◌++◌, ℕ, Some, None}
-use Rattle.std.proofs.lemmas.List.{length-map, length-take, take_all}
-use Rattle.std.proofs.lemmas.Option.{slice_get_read}
+use Rattle.std.proofs.Common.{◌≡◌, ◌∙◌, ◌+◌, ◌<◌, refl, sym, ap, subst, arith, length, take, get_or, slice_get, List, [], ◌∷◌, ◌++◌, ℕ, Some, None}
+use Rattle.std.proofs.lemmas.List.{length-take, take_all}
 use Rattle.std.proofs.lemmas.Slice.Eq.{bytes_eq-Decides}
 use Rattle.std.proofs.Math.ListN.{set}
-use Rattle.ix_store.specs.Entry.{content, pair_of}
 use Rattle.ix_store.specs.Index.{key_hash, fingerprint, place_after, Has, Comes, IsFreeSlot, GoesAfter, AreLedTo, IsIndexed}
 use Rattle.ix_store.specs.Store.{Blocks, position_of}
-use Rattle.ix_store.specs.declared.entry.Entry.{Entry}
 use Rattle.ix_store.specs.declared.index.Index.{Index}
 use Rattle.ix_store.specs.declared.index.Slot.{Slot}
-use Rattle.ix_store.proofs.Stores.{entries-more, entries-before, position-none, position-there}
+use Rattle.ix_store.proofs.Stores.{read-at, entries-more, entries-before, position-none, position-there}
 use Rattle.ix_store.proofs.Indexes.{free-at, indexed-same, indexed-put, led-slot, led-behind, led-put, behind-put}
 use Rattle.ix_store.proofs.index.Index.make_room.Goals.{in-Some, in-None+in_ok-insert_overflow-in-None, in-None+else-has_place}
 use Rattle.ix_store.proofs.index.Index.make_room.Goals as goal
@@ -28,49 +25,52 @@ pub loop-place-preserved : goal.loop-place-preserved
 loop-place-preserved c =
     let entries = c.args.entries.now in
     let place = c.loop-place.place in
-    let e = c.index-entries-place.result in
+    let e : List ℕ × List ℕ = (c.at.result.0.now, c.at.result.1.now) in
+    let here_is : slice_get entries place ≡ Some e = c.at.ensures in
+    let read : e ≡ get_or entries place e = read-at entries place e here_is in
     let t = c.key_hash-hash.result in
     let index = c.loop-place.self in
     let slots = c.loop-place.slots.items in
-    let before = map pair_of (take place entries) in
-    let indexed : IsIndexed index (map pair_of entries) = c.loop-place.invariant.0 in
+    let before = take place entries in
+    let indexed : IsIndexed index entries = c.loop-place.invariant.0 in
     let led : AreLedTo slots index before = c.loop-place.invariant.1 in
-    let new : position_of before e.cid ≡ None = position-none 0 before e.cid (entries-before entries place e c.loop-place-test.true c.index-entries-place.is indexed.distinct) in
-    let few : place ≡ length before = omega (arith, c.loop-place-test.true, length-map (take place entries) pair_of, length-take place entries) in
-    let more : map pair_of (take (place + 1) entries) ≡ before ++ (e.cid, content e.block) ∷ [] = entries-more entries place e c.loop-place-test.true c.index-entries-place.is in
-    let there : position_of (map pair_of entries) e.cid ≡ Some place = position-there entries (map pair_of entries) place e e.cid indexed.distinct refl (slice_get_read entries (length entries) place e refl c.loop-place-test.true c.index-entries-place.is) ((bytes_eq-Decides e.cid e.cid).1 refl) in
+    let within : place < length entries = omega (arith, c.loop-place-test.true, c.len-place-end.ensures) in
+    let new : position_of before e.0 ≡ None = position-none 0 before e.0 (entries-before entries place e within read indexed.distinct) in
+    let few : place ≡ length before = omega (arith, within, length-take place entries) in
+    let more : take (place + 1) entries ≡ before ++ e ∷ [] = entries-more entries place e within read in
+    let there : position_of entries e.0 ≡ Some place = position-there entries place e e.0 indexed.distinct here_is ((bytes_eq-Decides e.0 e.0).1 refl) in
     elim c.match-free_slot.branch [
       | in-Some w ↦
-          let free : IsFreeSlot slots (key_hash e.cid) w.in-Some.slot = subst (λ (n : ℕ). IsFreeSlot slots n w.in-Some.slot) c.key_hash-hash.ensures (subst (λ (r : List Slot). IsFreeSlot r t w.in-Some.slot) c.as_slice.ensures.value w.in-Some.ensures.1) in
+          let free : IsFreeSlot slots (key_hash e.0) w.in-Some.slot = subst (λ (n : ℕ). IsFreeSlot slots n w.in-Some.slot) c.key_hash-hash.ensures (subst (λ (r : List Slot). IsFreeSlot r t w.in-Some.slot) c.as_slice.ensures.value w.in-Some.ensures.1) in
           let x = w.taken.result in
-          let has : Has x (fingerprint (key_hash e.cid)) (length before) = subst (λ (n : ℕ). Has x (fingerprint n) (length before)) c.key_hash-hash.ensures (subst (λ (n : ℕ). Has x (fingerprint t) n) few w.taken.ensures) in
-          let here : AreLedTo (set slots w.in-Some.slot x) index (before ++ (e.cid, content e.block) ∷ []) = led-slot slots index before e.cid (content e.block) w.in-Some.slot x led new (free-at slots (key_hash e.cid) w.in-Some.slot free) has in (
-            subst (λ (i : Index). IsIndexed i (map pair_of entries)) (sym w.self-is) indexed,
-            subst (λ (i : Index). AreLedTo c.match-free_slot.slots.items i (map pair_of (take (place + 1) entries))) (sym w.self-is)
-                (subst (λ (l : List Slot). AreLedTo l index (map pair_of (take (place + 1) entries))) (sym (ap (λ v. v.items) w.slots-is))
+          let has : Has x (fingerprint (key_hash e.0)) (length before) = subst (λ (n : ℕ). Has x (fingerprint n) (length before)) c.key_hash-hash.ensures (subst (λ (n : ℕ). Has x (fingerprint t) n) few w.taken.ensures) in
+          let here : AreLedTo (set slots w.in-Some.slot x) index (before ++ e ∷ []) = led-slot slots index before e.0 e.1 w.in-Some.slot x led new (free-at slots (key_hash e.0) w.in-Some.slot free) has in (
+            subst (λ (i : Index). IsIndexed i entries) (sym w.self-is) indexed,
+            subst (λ (i : Index). AreLedTo c.match-free_slot.slots.items i (take (place + 1) entries)) (sym w.self-is)
+                (subst (λ (l : List Slot). AreLedTo l index (take (place + 1) entries)) (sym (ap (λ v. v.items) w.slots-is))
                 (subst (λ (es : Blocks). AreLedTo (set slots w.in-Some.slot x) index es) (sym more) here)),
           )
       | in-None+in_ok-insert_overflow-in-None w ↦
-          let full : GoesAfter slots (key_hash e.cid) (length before) = subst (λ (n : ℕ). GoesAfter slots n (length before)) c.key_hash-hash.ensures (subst (λ (n : ℕ). GoesAfter slots t n) few (subst (λ (r : List Slot). GoesAfter r t place) c.as_slice.ensures.value w.in-None.ensures)) in
+          let full : GoesAfter slots (key_hash e.0) (length before) = subst (λ (n : ℕ). GoesAfter slots n (length before)) c.key_hash-hash.ensures (subst (λ (n : ℕ). GoesAfter slots t n) few (subst (λ (r : List Slot). GoesAfter r t place) c.as_slice.ensures.value w.in-None.ensures)) in
           let later = w.insert_overflow.new.self in
           let s = w.in_ok-insert_overflow-in-None.ensures in
-          let led-later = led-put slots index later before e.cid _ place led s.put s.existing in
-          let at_e = behind-put index later (map pair_of entries) e.cid _ place indexed there s.put s.existing in
-          let here : AreLedTo slots later (before ++ (e.cid, content e.block) ∷ []) = led-behind slots later before e.cid (content e.block) led-later new full (at_e ∙ ap Some few) in (
-            subst (λ (i : Index). IsIndexed i (map pair_of entries)) (sym w.self-is) (indexed-put index later (map pair_of entries) e.cid _ place indexed there (ap (λ v. v.items) s.slots) s.put s.existing),
-            subst (λ (i : Index). AreLedTo c.match-free_slot.slots.items i (map pair_of (take (place + 1) entries))) (sym w.self-is)
-                (subst (λ (l : List Slot). AreLedTo l later (map pair_of (take (place + 1) entries))) (sym (ap (λ v. v.items) w.slots-is))
+          let led-later = led-put slots index later before e.0 _ place led s.put s.existing in
+          let at_e = behind-put index later entries e.0 _ place indexed there s.put s.existing in
+          let here : AreLedTo slots later (before ++ e ∷ []) = led-behind slots later before e.0 e.1 led-later new full (at_e ∙ ap Some few) in (
+            subst (λ (i : Index). IsIndexed i entries) (sym w.self-is) (indexed-put index later entries e.0 _ place indexed there (ap (λ v. v.items) s.slots) s.put s.existing),
+            subst (λ (i : Index). AreLedTo c.match-free_slot.slots.items i (take (place + 1) entries)) (sym w.self-is)
+                (subst (λ (l : List Slot). AreLedTo l later (take (place + 1) entries)) (sym (ap (λ v. v.items) w.slots-is))
                 (subst (λ (es : Blocks). AreLedTo slots later es) (sym more) here)),
           )
       | in-None+else-has_place w ↦
-          let full : GoesAfter slots (key_hash e.cid) (length before) = subst (λ (n : ℕ). GoesAfter slots n (length before)) c.key_hash-hash.ensures (subst (λ (n : ℕ). GoesAfter slots t n) few (subst (λ (r : List Slot). GoesAfter r t place) c.as_slice.ensures.value w.in-None.ensures)) in
-          let old : Comes index.slots.items (place_after index e.cid) (key_hash e.cid) place = indexed.leads e.cid place there in
-          let at_e : place_after index e.cid ≡ Some place = w.has_place.ensures w.if-has_place.false (place_after index e.cid)
-          (subst (λ (n : ℕ). Comes index.slots.items (place_after index e.cid) n place) (sym c.key_hash-hash.ensures) old) in
-          let here : AreLedTo slots index (before ++ (e.cid, content e.block) ∷ []) = led-behind slots index before e.cid (content e.block) led new full (at_e ∙ ap Some few) in (
-            subst (λ (i : Index). IsIndexed i (map pair_of entries)) (sym w.self-is) indexed,
-            subst (λ (i : Index). AreLedTo c.match-free_slot.slots.items i (map pair_of (take (place + 1) entries))) (sym w.self-is)
-                (subst (λ (l : List Slot). AreLedTo l index (map pair_of (take (place + 1) entries))) (sym (ap (λ v. v.items) w.slots-is))
+          let full : GoesAfter slots (key_hash e.0) (length before) = subst (λ (n : ℕ). GoesAfter slots n (length before)) c.key_hash-hash.ensures (subst (λ (n : ℕ). GoesAfter slots t n) few (subst (λ (r : List Slot). GoesAfter r t place) c.as_slice.ensures.value w.in-None.ensures)) in
+          let old : Comes index.slots.items (place_after index e.0) (key_hash e.0) place = indexed.leads e.0 place there in
+          let at_e : place_after index e.0 ≡ Some place = w.has_place.ensures w.if-has_place.false (place_after index e.0)
+          (subst (λ (n : ℕ). Comes index.slots.items (place_after index e.0) n place) (sym c.key_hash-hash.ensures) old) in
+          let here : AreLedTo slots index (before ++ e ∷ []) = led-behind slots index before e.0 e.1 led new full (at_e ∙ ap Some few) in (
+            subst (λ (i : Index). IsIndexed i entries) (sym w.self-is) indexed,
+            subst (λ (i : Index). AreLedTo c.match-free_slot.slots.items i (take (place + 1) entries)) (sym w.self-is)
+                (subst (λ (l : List Slot). AreLedTo l index (take (place + 1) entries)) (sym (ap (λ v. v.items) w.slots-is))
                 (subst (λ (es : Blocks). AreLedTo slots index es) (sym more) here)),
           )
     ]
@@ -80,6 +80,6 @@ returns c =
     let h = c.loop-place.invariant in
     record {
       distinct = h.0.distinct;
-      leads = subst (λ (l : List Entry). AreLedTo c.loop-place.slots.items c.loop-place.self (map pair_of l)) (take_all c.loop-place.place c.args.entries.now c.loop-place-test.false) h.1;
+      leads = subst (λ (l : Blocks). AreLedTo c.loop-place.slots.items c.loop-place.self l) (take_all c.loop-place.place c.args.entries.now (omega (arith, c.loop-place-test.false, c.len-place-end.ensures))) h.1;
       true_after = h.0.true_after;
     }

@@ -1,7 +1,6 @@
 use Rattle.std.proofs.Common.{take}
-use Rattle.ix_store.specs.Entry.{pairs_of}
 use Rattle.ix_store.specs.Index.{AreLedTo, IsIndexed}
 use Rattle.ix_store.proofs.index.Index.make_room.Given as goal
 
 abbrev pub invariant-loop-place : goal.invariant-loop-place
-invariant-loop-place l = IsIndexed l.self (pairs_of l.entries) × AreLedTo l.slots.items l.self (pairs_of (take l.place l.entries))
+invariant-loop-place l = IsIndexed l.self l.entries × AreLedTo l.slots.items l.self (take l.place l.entries)

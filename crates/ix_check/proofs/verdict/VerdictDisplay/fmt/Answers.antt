@@ -1,5 +1,0 @@
-use Rattle.std.proofs.Common.{rules}
-use Rattle.ix_check.proofs.verdict.VerdictDisplay.fmt.Goals as goal
-
-pub returns-in-Missing-clause-writes : goal.returns-in-Missing-clause-writes
-returns-in-Missing-clause-writes g c = search rules
