@@ -10,10 +10,9 @@ ghost use Rattle.ix_archive.specs.Report.{at_most, skips_of};
 ghost use Rattle.ix_archive.specs.ArchiveNew.{IsNoArchive};
 
 use crate::fault::{ArchiveNew, SinkFault};
-use crate::history::History;
 use crate::sink::{Delivery, End, Sink};
 use ix_car::{header_of, set_section_head, write_section, write_text};
-use ix_check::Verdict;
+use ix_check::{History, Verdict};
 use ix_cid::Cid;
 use ix_store::{PlaceSet, Store};
 use ix_walk::{Job, Visit};

@@ -19,7 +19,6 @@
 
 mod archive;
 mod fault;
-mod history;
 pub mod law;
 mod sink;
 

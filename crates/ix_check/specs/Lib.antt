@@ -8,3 +8,4 @@ pub use Rattle.ix_walk.specs.Arrivals
 pub mod Verdict
 pub mod Visits
 pub mod VerdictWords
+pub mod History

@@ -2,8 +2,9 @@
 
 ghost use Rattle.std.specs.Prelude.{◌≡◌, []};
 ghost use Rattle.ix_check.specs.Verdict.{verdict_of};
-ghost use Rattle.ix_check.specs.Visits.{IsVisitOf};
+ghost use Rattle.ix_check.specs.Visits.{IsUnused, IsVisitOf};
 
+use crate::history::History;
 use ix_store::Store;
 use ix_verdict::{Needed, Verdict, bytes_needed};
 use ix_walk::Visit;
@@ -73,6 +74,45 @@ impl Check for ShaCheck {
         let verdict = verdict_of(store, visit);
         self.receipts.push_reserved((visit.job, visit.seq));
         Ok(verdict)
+    }
+}
+
+/// A check as `ShaCheck`, which keeps nothing: what it checked is seen by contracts alone.
+#[derive(Drop)]
+pub struct PlainCheck {
+    receipts: History<(u32, u32)>,
+}
+
+impl Model for PlainCheck {
+    ghost use Rattle.std.specs.Prelude.{List, ℕ};
+
+    ghost Value = { List (ℕ × ℕ) };
+
+    ghost view = { λ c. c.receipts };
+}
+
+impl PlainCheck {
+    /// Creates a check that has checked nothing.
+    pub fn new() -> PlainCheck
+        ensures { IsUnused result }
+    {
+        PlainCheck {
+            receipts: History::new(),
+        }
+    }
+}
+
+impl Check for PlainCheck {
+    ghost checked = { λ c. c };
+
+    fn check(
+        &mut self,
+        _alloc: Global,
+        store: &Store,
+        visit: &Visit,
+    ) -> Result<Verdict, AllocError> {
+        self.receipts.push(&(visit.job, visit.seq));
+        Ok(verdict_of(store, visit))
     }
 }
 

@@ -20,7 +20,7 @@ ghost use Rattle.ix_run.specs.Run.{
 use crate::fault::RunFault;
 use crate::observer::{Observed, Observer, Unobserved};
 use ix_archive::{Archive, ArchiveNew, End};
-use ix_check::{Check, ShaCheck};
+use ix_check::{Check, PlainCheck};
 use ix_jobs::{JobResult, report, status};
 use ix_pipeline::{Open, Plan, export, export_plain};
 use ix_store::Store;
@@ -104,7 +104,7 @@ pub fn run_observed<R: Threads + Wait + Sync, W: Write + Drop, V: Observer>(
         plan,
     } = input;
     let mut archives = start_archives(alloc, store, jobs.as_slice(), writers, observer)?;
-    let checks = sha_checks(alloc, verifiers)?;
+    let checks = plain_checks(alloc, verifiers)?;
     let sinks = archives.as_mut_slice();
     let Ok(outcome) = export(rt, alloc, store, jobs, sinks, checks, &Open, plan) else {
         return Err(RunFault::Memory);
@@ -135,13 +135,13 @@ fn summarize<W: Drop>(
 }
 
 // Makes so many checks that have checked nothing so far.
-fn sha_checks(alloc: Global, count: u32) -> Result<Vec<ShaCheck>, AllocError>
+fn plain_checks(alloc: Global, count: u32) -> Result<Vec<PlainCheck>, AllocError>
     ensures unused { IfOk result (λ checks. EachUnused (λ c. c) checks.items) }
     ensures count { IfOk result (λ checks. vec_len checks ≡ count) }
 {
     let mut checks = Vec::with_capacity(alloc, count as usize)?;
     for _ in 0..count {
-        checks.push_reserved(ShaCheck::new(alloc));
+        checks.push_reserved(PlainCheck::new());
     }
     Ok(checks)
 }
@@ -177,7 +177,7 @@ pub fn run_one<W: Write + Drop>(
 {
     let mut given = Vec::with_capacity(alloc, 1)?;
     given.push(writer)?;
-    let mut check = ShaCheck::new(alloc);
+    let mut check = PlainCheck::new();
     let (mut results, mut writers) = run_jobs(
         alloc,
         store,

@@ -10,7 +10,7 @@ ghost use Rattle.ix_verify.specs.Walked.{skip_at, IsReachedBy, IsReachedFrom, Is
 use crate::everything::roots_job;
 use crate::noted::Noted;
 use ix_archive::Skip;
-use ix_check::{Check, ShaCheck, Verdict};
+use ix_check::{Check, PlainCheck, Verdict};
 use ix_cid::Cid;
 use ix_store::Store;
 use ix_walk::{Job, Visit, Walk, WalkStop};
@@ -119,7 +119,7 @@ fn verdict_of(alloc: Global, store: &Store, visit: &Visit) -> Result<Verdict, Al
     requires { IsVisitOf store.now visit.now }
     ensures { IfOk result (λ verdict. verdict ≡ verdict_of store.now visit.now.cid) }
 {
-    // The check records each visit, so it is kept for one visit only.
-    let mut check = ShaCheck::new(alloc);
+    // A check costs nothing, so there is one for each visit.
+    let mut check = PlainCheck::new();
     check.check(alloc, store, &visit)
 }

@@ -10,11 +10,11 @@ pub use Rattle.ix_selector.specs.IsEntered
 pub use Rattle.ix_selector.specs.Residual
 pub use Rattle.ix_selector.specs.Behind
 pub use Rattle.ix_store.specs.Cursor
-pub use Rattle.ix_store.specs.Entry
 pub use Rattle.ix_store.specs.Index
 pub use Rattle.ix_store.specs.Memo
 pub use Rattle.ix_store.specs.PlaceSet
 pub use Rattle.ix_store.specs.Store
+pub use Rattle.ix_store.specs.Table
 pub mod JobMeaning
 pub mod Job
 pub mod Arrivals

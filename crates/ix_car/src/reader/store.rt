@@ -1,6 +1,5 @@
 //! Reading the blocks of a CARv1 file into a store.
 
-ghost use Rattle.std.specs.Prelude.{◌×◌};
 ghost use Rattle.std.specs.Arc.{arc_value};
 ghost use Rattle.ix_car.specs.Reading.{blocks_in, blocks_of};
 ghost use Rattle.ix_car.specs.Gives.{Gives};

@@ -1,5 +1,4 @@
 use Rattle.std.proofs.Common.{length, sym, arith, rules}
-use Rattle.ix_store.specs.Table.{pairs_counted}
 use Rattle.ix_store.specs.Index.{IsIndexed}
 use Rattle.ix_store.proofs.Gathered.{made-all}
 use Rattle.ix_store.proofs.builder.index_all.Goals as goal

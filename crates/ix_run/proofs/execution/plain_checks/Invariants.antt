@@ -1,6 +1,6 @@
 use Rattle.std.proofs.Common.{◌≡◌, vec_len, vec_capacity}
 use Rattle.ix_pipeline.specs.Headline.{EachUnused}
-use Rattle.ix_run.proofs.execution.sha_checks.Given as goal
+use Rattle.ix_run.proofs.execution.plain_checks.Given as goal
 
 abbrev pub invariant-loop : goal.invariant-loop
 invariant-loop l = record {

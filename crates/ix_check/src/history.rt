@@ -22,7 +22,7 @@ pub struct History<T> {
 
 impl<T> Model for History<T> {
     ghost use Rattle.std.specs.Prelude.{List};
-    ghost use Rattle.ix_archive.specs.History.{listed};
+    ghost use Rattle.ix_check.specs.History.{listed};
 
     ghost Value = { List T };
 

@@ -1,9 +1,9 @@
 -- The items of a history.
 use Rattle.std.specs.Prelude.{List, [], ◌∷◌, ◌++◌}
-use Rattle.ix_archive.specs.declared.history.GhostList.{GhostList}
-use Rattle.ix_archive.specs.declared.history.GhostList.TheOpen.{GhostList-F}
-use Rattle.ix_archive.specs.declared.history.GhostList.TheOpen as layer
-use Rattle.ix_archive.specs.declared.history.GhostList.TheFolds.{fold-GhostList}
+use Rattle.ix_check.specs.declared.history.GhostList.{GhostList}
+use Rattle.ix_check.specs.declared.history.GhostList.TheOpen.{GhostList-F}
+use Rattle.ix_check.specs.declared.history.GhostList.TheOpen as layer
+use Rattle.ix_check.specs.declared.history.GhostList.TheFolds.{fold-GhostList}
 
 -- one layer, given the items before it
 abbrev pub listed_layer : {T : Type 0} → GhostList-F T (List T) → List T
