@@ -33,17 +33,17 @@ _ix_export() {
       mapfile -t COMPREPLY < <(compgen -W '1 2 4 8 16 32 64' -- "$word")
       return
       ;;
-    --root | --selector | --selector-hex | --limit | --cid | --hex | --part) return ;;
+    --root | --selector | --selector-hex | --limit | --max-limit | --cid | --hex | --part | --max-input) return ;;
   esac
   case $command in
-    get) it='--blocks --root --selector --selector-hex --limit --every-arrival --out -o --walkers --verifiers --sync --no-sync --progress --quiet -q --help -h' ;;
-    jobs) it='--blocks --jobs --out -o --part --walkers --verifiers --once --sync --complete --progress --quiet -q --verbose -v --help -h' ;;
-    job) it='--help -h' ;;
-    check-jobs) it='--help -h' ;;
+    get) it='--blocks --root --selector --selector-hex --limit --every-arrival --out -o --walkers --verifiers --max-input --carv2 --sync --no-sync --progress --quiet -q --help -h' ;;
+    jobs) it='--blocks --jobs --out -o --part --max-limit --walkers --verifiers --max-input --carv2 --once --sync --complete --progress --quiet -q --verbose -v --help -h' ;;
+    job) it='--max-limit --help -h' ;;
+    check-jobs) it='--max-limit --max-input --help -h' ;;
     selector) it='--hex --help -h' ;;
-    root) it='--cid --verbose -v --help -h' ;;
-    inspect) it='--list --help -h' ;;
-    verify) it='--blocks-only --all --verifiers --help -h' ;;
+    root) it='--cid --max-input --verbose -v --help -h' ;;
+    inspect) it='--list --max-input --carv2 --help -h' ;;
+    verify) it='--blocks-only --all --verifiers --max-input --carv2 --help -h' ;;
     *) it='get jobs job check-jobs selector root inspect verify --help -h --version -V' ;;
   esac
   case $command in

@@ -146,6 +146,17 @@ answers 0 'dist: jobs --out x'
 silent
 never_called
 
+tree 'it takes memory in huge pages, unless the user says otherwise'
+printf '#!/bin/sh\necho "$GLIBC_TUNABLES"\n' >"dist/$name"
+(cd dist && sha256sum "$name" sources KIT >SHA256SUMS)
+GLIBC_TUNABLES= run jobs
+answers 0 'glibc.malloc.hugetlb=1'
+GLIBC_TUNABLES=glibc.malloc.arena_max=2 run jobs
+answers 0 'glibc.malloc.arena_max=2:glibc.malloc.hugetlb=1'
+GLIBC_TUNABLES=glibc.malloc.hugetlb=0 run jobs
+answers 0 'glibc.malloc.hugetlb=0'
+silent
+
 tree 'it is taken without a toolchain, and by a link from elsewhere'
 without_rt
 mkdir elsewhere

@@ -3,12 +3,15 @@
 
 Each call on an output fails once in turn, by `get` and by `jobs`, and each is once the last before the program is killed. A
 file under a final name then has its old bytes or those of the whole archive, and a run that is rejected leaves no part that it
-made. Ten runs at once write the same outputs, each call late by chance. Then: errors of fsync, file systems without locks, and
+made. Ten runs at once write the same outputs, each call late by chance. Then: a large file that several threads read and that
+can't be read, or becomes shorter; errors of fsync, file systems without locks, and
 those where only a file that is open for writing can be locked. The library that does this is made by the toolchain's own
 compiler; without one this says so and ends well. Ends with status 1 at the first run that is wrong.
 """
 
 import argparse
+import base64
+import hashlib
 import os
 import pathlib
 import shutil
@@ -87,6 +90,44 @@ class Runner:
 
     def parts(self):
         return sorted(file.name for file in self.out.iterdir() if file.name.endswith(".part"))
+
+
+def large_files(runner):
+    """A file that several threads read: a read that fails once is made again; if it fails again, or the file has become
+    shorter, the line says so; and what it has beyond its size at first isn't read."""
+    abc = b"abc"
+    cid = bytes.fromhex("01551220") + hashlib.sha256(abc).digest()
+    root = "b" + base64.b32encode(cid).decode().lower().rstrip("=")
+    header = bytes.fromhex("11a265726f6f7473806776657273696f6e01")
+    # A raw block of 70 MiB, which takes no room on the disk, and one of three bytes.
+    size, large = 70 << 20, bytes.fromhex("01551220") + bytes(32)
+    length, varint = size + len(large), b""
+    while length >= 128:
+        length, varint = length >> 7, varint + bytes([length & 127 | 128])
+    blocks = runner.room / "large.car"
+    with open(blocks, "wb") as file:
+        file.write(header + varint + bytes([length]) + large)
+        file.seek(size, os.SEEK_CUR)
+        file.write(bytes([len(cid) + len(abc)]) + cid + abc)
+    wanted = None
+    read_again = {f"pread:{number}:{IO}": None for number in range(1, 9)}
+    for fail, why in {
+        "": None,
+        **read_again,
+        f"pread:0:{IO}": "Input/output error (os error 5)",
+        "pread:0:0": "it became shorter while it was read",
+    }.items():
+        runner.runs += 1
+        words = [runner.program, "get", "--blocks", blocks, "--root", root]
+        environment = {"LD_PRELOAD": str(runner.library), "FAIL": fail}
+        done = subprocess.run(words, env=environment, capture_output=True, timeout=60)
+        errors = done.stderr.decode()
+        if why is None:
+            wanted = wanted or done.stdout
+            if done.returncode != 0 or done.stdout != wanted or not wanted.endswith(cid + abc):
+                raise Wrong(f"a large file, {fail or 'no failure'}: status {done.returncode}: {errors}")
+        elif done.returncode != 2 or done.stdout or errors != f"cannot read {blocks}: {why}\n":
+            raise Wrong(f"a large file, {fail}: status {done.returncode}: {errors}")
 
 
 def failing_calls(runner):
@@ -216,7 +257,7 @@ def main():
             print("tests/files.py: no compiler makes the library that fails: no run")
             return 0
         runner = Runner(room, library, program, words.rounds)
-        for part in (syncs, locks, failing_calls, killed, ten_at_once):
+        for part in (syncs, locks, large_files, failing_calls, killed, ten_at_once):
             if words.part not in (None, part.__name__):
                 continue
             try:

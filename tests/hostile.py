@@ -20,6 +20,7 @@ import os
 import pathlib
 import random
 import re
+import resource
 import shutil
 import subprocess
 import sys
@@ -153,13 +154,13 @@ class Runner:
         for name in ("archives", "inputs"):
             (room / name).mkdir()
 
-    def begin(self, threads):
+    def begin(self, threads, verifiers=None):
         """Begins a run with an empty output folder; answers its command."""
         self.runs += 1
         shutil.rmtree(self.room / "out", ignore_errors=True)
         (self.room / "out").mkdir()
         words = [PROGRAM, "jobs", "--blocks", "blocks.car", "--jobs", "jobs.txt", "--out", "out"]
-        return words + ["--walkers", str(threads), "--verifiers", str(threads)]
+        return words + ["--walkers", str(threads), "--verifiers", str(verifiers or threads)]
 
     def put(self, car, jobs):
         """Writes the two files of the runs that follow."""
@@ -186,11 +187,11 @@ class Runner:
             self.judge(report, self.room / "out")
         return done.returncode, report, error
 
-    def measure(self, threads=1, kib=KIB_A_RUN):
+    def measure(self, threads=1, kib=KIB_A_RUN, verifiers=None):
         """Runs the jobs that were put last, in so much address space; answers how it ended, what it took and its line of
         refusal. Its report is in the file `report`."""
         words = [sys.executable, TOP / "tests/hostile/measure.py", "measured", str(kib), str(SECONDS_A_RUN)]
-        words += self.begin(threads)
+        words += self.begin(threads, verifiers)
         with open(self.room / "report", "wb") as report, open(self.room / "error", "wb") as error:
             subprocess.run(words, cwd=self.room, stdout=report, stderr=error, check=True)
         told = json.loads((self.room / "measured").read_text())
@@ -516,6 +517,30 @@ def long_inline(runner):
     in_few_kib(runner, (2, 4), 4)
 
 
+def many_visits(runner):
+    """A thousand jobs of 20,000 visits over less than 3 KB, with four verifiers and with one: no visit leaves anything in
+    memory, so little is taken but the buffers of the archives, 16 KiB each."""
+    block, sections = b"\x80", []
+    for _ in range(6):
+        key = cid(DAG_CBOR, block)
+        sections.append(section(key, block))
+        block = list_of([link(key)] * 10)
+    root = cid(DAG_CBOR, block)
+    sections.append(section(root, block))
+    jobs = "".join(f"j{number} {text(root)} 20000 {ALL}\n" for number in range(1000))
+    # Each archive is an open file.
+    hard = resource.getrlimit(resource.RLIMIT_NOFILE)[1]
+    resource.setrlimit(resource.RLIMIT_NOFILE, (min(hard, 2000), hard))
+    runner.put(NO_ROOTS + b"".join(sections), jobs.encode())
+    for verifiers in (4, 1):
+        told = runner.measure(4, verifiers=verifiers)
+        ended = (runner.room / "report").read_bytes().count(b" limit visits=20000 kept=20000 sections=7 ")
+        if told["status"] != 4 or ended != 1000:
+            raise Wrong(f"1,000 jobs were to end at their limit: status {told['status']}, {ended} did")
+        if told["peak"] > 64 * MIB:
+            raise Wrong(f"{verifiers} verifiers: 1,000 jobs of 20,000 visits took {told['peak']} of memory")
+
+
 def recursion(members):
     """A recursion without a limit over a union."""
     return bytes.fromhex("a16152a2616ca1646e6f6e65a0623a3ea1617c") + list_of(members)
@@ -759,6 +784,7 @@ PARTS = (
     inline_links,
     long_skips,
     long_inline,
+    many_visits,
     cut_blocks,
     changed_blocks,
     cut_selectors,

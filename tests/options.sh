@@ -16,7 +16,7 @@ same() {
 
 # The options in a text, long and short, in order.
 sorted() {
-  { grep -oE -e '(^|[^A-Za-z-])-(-[a-z][a-z-]*|[A-Za-z])' | grep -oE -e '-.*' || true; } | sort -u | tr '\n' ' '
+  { grep -oE -e '(^|[^A-Za-z-])-(-[a-z][a-z0-9-]*|[A-Za-z])' | grep -oE -e '-.*' || true; } | sort -u | tr '\n' ' '
 }
 
 of_help() {
@@ -54,7 +54,7 @@ of_fish() {
   local condition=__fish_use_subcommand
   [ -z "$1" ] || condition="'__fish_seen_subcommand_from $1'"
   grep -F -e " -n $condition " install/ix_export.fish |
-    sed -nE 's/.* -s ([A-Za-z]) -l ([a-z-]+) .*/-\1 --\2/p; t; s/.* -l ([a-z-]+) .*/--\1/p' | sorted
+    sed -nE 's/.* -s ([A-Za-z]) -l ([a-z0-9-]+) .*/-\1 --\2/p; t; s/.* -l ([a-z0-9-]+) .*/--\1/p' | sorted
 }
 
 commands=$(./ix_export --help | sed -n '/^Commands:/,/^$/s/^  *\([a-z-]*\) .*/\1/p' | grep -v '^help$' | sort)

@@ -1,6 +1,7 @@
 /* Loaded before the C library, this makes calls on files fail, come late, or be the last ones of a program.
  *
- *   FAIL=NAME:N:CODE    the Nth call of this name fails with this error number, from 1 on; each one where N is 0
+ *   FAIL=NAME:N:CODE    the Nth call of this name fails with this error number, from 1 on; each one where N is 0. Where CODE is
+ *                       0, `pread` finds the end of the file
  *   KILL=N              the program is killed before its Nth call, of whatever name
  *   LATE=SEED           each call comes up to two milliseconds late, by chance
  *   NFS=1               only a file that is open for writing can be locked so that nobody else may
@@ -26,10 +27,10 @@ extern int usleep(unsigned);
 
 #define NEXT ((void *)-1L)
 
-enum { OPEN, WRITE, FLOCK, FSYNC, FCHMOD, RENAME, UNLINK, CALLS };
+enum { OPEN, WRITE, FLOCK, FSYNC, FCHMOD, RENAME, UNLINK, PREAD, CALLS };
 enum { ACCESS = 3, READ_ONLY = 0, GET_FLAGS = 3, WRITE_NEW = 01 | 0100 | 01000, NOT_OPEN = 9, FILES = 4096 };
 
-static const char *const names[CALLS] = {"open", "write", "flock", "fsync", "fchmod", "rename", "unlink"};
+static const char *const names[CALLS] = {"open", "write", "flock", "fsync", "fchmod", "rename", "unlink", "pread"};
 static unsigned long calls[CALLS], all, killed;
 static int failing = -1, code, is_late, is_nfs;
 static unsigned long failing_at, chance;
@@ -80,6 +81,11 @@ int open(const char *path, int flags, int mode) {
 ssize_t write(int file, const void *bytes, size_t count) {
   ssize_t (*next)(int, const void *, size_t) = dlsym(NEXT, "write");
   return is_noted(file) && fails(WRITE) ? -1 : next(file, bytes, count);
+}
+
+ssize_t pread(int file, void *bytes, size_t count, long offset) {
+  ssize_t (*next)(int, void *, size_t, long) = dlsym(NEXT, "pread");
+  return fails(PREAD) ? (code ? -1 : 0) : next(file, bytes, count, offset);
 }
 
 int flock(int file, int how) {

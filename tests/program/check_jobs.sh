@@ -43,6 +43,18 @@ checked jobs.txt 'jobs: root at line 2' \
   'line 16, SELECTOR: 0x, expected hex digits alone' \
   'line 17, LIMIT: not a number in decimal digits, expected 1 to 1000000'
 
+begin 'check-jobs: limits up to the N of --max-limit'
+write_blocks
+write_jobs "a $abc_text 1000001 $matcher" "b $abc_text 2000001 $matcher"
+checked jobs.txt 'jobs: limit at line 1' \
+  'line 1, LIMIT: greater than 1000000, expected 1 to 1000000' \
+  'line 2, LIMIT: greater than 1000000, expected 1 to 1000000'
+run check-jobs jobs.txt --max-limit 2000000
+expect 2 'jobs: limit at line 2
+line 2, LIMIT: greater than 2000000, expected 1 to 2000000' ''
+run check-jobs jobs.txt --max-limit 2000001
+expect 0 '' ''
+
 # Texts of the raw block `abc` in the bases of the multibase table, and a CIDv0 and addresses.
 begin 'check-jobs: roots in other forms'
 write_blocks
@@ -105,6 +117,12 @@ expect 0 '' ''
 run_jobs
 expect_text 'exit status' 0 "$status"
 expect_folder out -_.car a.car
+
+title='job: a limit up to the N of --max-limit'
+run job --max-limit 2000000 a "$(text "$one_cid")" 2000000 "$json"
+expect 0 "a $(text "$one_cid") 2000000 $json_hex" ''
+run job --max-limit 10 a "$(text "$one_cid")" 11 "$json"
+refused 'LIMIT: greater than 10, expected 1 to 10'
 
 # job_refused LINE WORD..
 job_refused() {

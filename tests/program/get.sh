@@ -76,6 +76,15 @@ run "${get_one[@]}" --limit 1
 got 4 'get limit visits=1 kept=1 sections=1 bytes=138
 total jobs=1 done=0 skips=0' "$(header "$one_cid")" "$(section "$one_cid" "$one")"
 
+begin 'get: limits above a million'
+write_blocks "$one_blocks"
+for limit in 1000001 4294967295; do
+  run "${get_one[@]}" --limit "$limit"
+  got 0 "$get_report" "$one_archive"
+  run "${get_one[@]}" --every-arrival --limit "$limit"
+  got 0 "$get_report" "$one_archive"
+done
+
 begin 'get: what is left is replaced, and the archive too, once it is whole'
 bytes ff >out/a.car
 bytes "$(repeated 1000 ff)" >out/a.car.part
@@ -170,8 +179,9 @@ ipfs://$abc_text an ipfs:// address, expected the CID alone
 /ipfs/$abc_text a path of /ipfs/, expected the CID alone
 $abc_text,f01 f01 is hex$other
 END
-get_refused '--limit: 0, expected 1 to 1000000' "${get_one[@]}" --limit 0
-get_refused '--limit: greater than 1000000, expected 1 to 1000000' "${get_one[@]}" --limit 1000001
+get_refused '--limit: 0, expected 1 to 4294967295' "${get_one[@]}" --limit 0
+get_refused '--limit: greater than 4294967295, expected 1 to 4294967295' "${get_one[@]}" --limit 4294967296
+get_refused '--limit: not a number in decimal digits, expected 1 to 4294967295' "${get_one[@]}" --limit x
 get_refused 'selector: unknown key "x" at /f/f>/album' "${get_one[@]}" --selector '{"f":{"f>":{"album":{"x":{}}}}}'
 get_refused 'selector: no JSON at 0' "${get_one[@]}" --selector ''
 get_refused '--selector-hex: no selector: unknown key "x"' "${get_one[@]}" --selector-hex a16178a0

@@ -71,8 +71,7 @@ is_told() {
   run inspect file
   refused "file: $2"
 }
-is_told 0aa16776657273696f6e02 \
-  'version 2 at 0: a CARv2 file; its data can be taken out by car extract, or by the offset in its header'
+is_told 0aa16776657273696f6e02 'truncated at 11: the payload that the header of a CARv2 file names is not whole in it'
 is_told 1f8b0800 'truncated at 0: compressed by gzip'
 is_told 28b52ffd 'truncated at 0: compressed by zstd'
 is_told 425a6839 'truncated at 0: compressed by bzip2'

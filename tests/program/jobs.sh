@@ -123,6 +123,25 @@ expect 0 "$name $one_line
 total jobs=1 done=1 skips=0" ''
 expect_bytes "out/$name.car" "$one_archive"
 
+begin 'limits up to the N of --max-limit, in a part too'
+write_blocks "$one_blocks"
+write_jobs "a $(text "$one_cid") 1000001 $all"
+run_jobs
+refused 'jobs: limit at line 1'
+for word in '' '--part=1/1'; do
+  run jobs --blocks blocks.car --jobs jobs.txt --out out --max-limit 2000000 $word
+  expect 0 "a $one_line
+total jobs=1 done=1 skips=0" ''
+  run jobs --blocks blocks.car --jobs jobs.txt --out out --max-limit 1000000 $word
+  refused 'jobs: limit at line 1'
+done
+write_jobs "a $(text "$one_cid") 4294967295 $all"
+run jobs --blocks blocks.car --jobs jobs.txt --out out --max-limit 4294967295
+expect 0 "a $one_line
+total jobs=1 done=1 skips=0" ''
+run jobs --blocks blocks.car --jobs jobs.txt --out out --max-limit 4294967294
+refused 'jobs: limit at line 1'
+
 begin 'a thousand jobs'
 write_blocks "$one_blocks"
 seq -f "j%g $one_job" 1000 >jobs.txt

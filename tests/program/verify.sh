@@ -133,7 +133,7 @@ run verify blocks.car
 expect 0 "blocks.car sound sections=22 bytes=$(wc -c <blocks.car)" ''
 
 # A list of 2^20 links, which is put together in files.
-begin 'verify: more than a walk arrives at'
+begin 'verify and get: more links than a million'
 bytes "$(link "$(raw_inline '')")" >links
 for _ in $(seq 20); do
   cat links links >twice
@@ -144,10 +144,18 @@ cid=01711220$(sha256sum block | cut -c 1-64)
 length=$(varint $((${#cid} / 2 + $(wc -c <block))))
 cat <(bytes "$(header "$cid")" "$length" "$cid") block >blocks.car
 run verify blocks.car
-expect 3 "blocks.car broken sections=1 bytes=$(wc -c <blocks.car) unsound=0 skips=0
-  limit" ''
+expect 0 "blocks.car sound sections=1 bytes=$(wc -c <blocks.car)" ''
 run verify --blocks-only blocks.car
 expect 0 "blocks.car sound sections=1 bytes=$(wc -c <blocks.car)" ''
+# Without a limit get takes each link where it expands once, and 1,000,000 where it expands at every link.
+run get --blocks blocks.car --root "$(text "$cid")" --out out/a.car
+expect 0 '' "get done visits=1048577 kept=1048577 sections=1 bytes=$(wc -c <blocks.car)
+total jobs=1 done=1 skips=0"
+expect_same out/a.car blocks.car out/a.car
+run get --blocks blocks.car --root "$(text "$cid")" --every-arrival --out out/b.car
+expect 4 '' "left out/b.car.part: its job ended with limit
+get limit visits=1000000 kept=1000000 sections=1 bytes=$(wc -c <blocks.car)
+total jobs=1 done=0 skips=0"
 
 begin 'verify: every archive of the examples, and what jobs writes'
 run verify "$top"/examples/expected/*.car

@@ -43,6 +43,11 @@ for option in --walkers --verifiers; do
     words_refused jobs "${inputs[@]}" --out out "$option" "$number"
   done
 done
+for number in 0 4294967296 x -1 ''; do
+  words_refused jobs "${inputs[@]}" --out out --max-limit "$number"
+  words_refused job a "$abc_text" 1 '{".":{}}' --max-limit "$number"
+  words_refused check-jobs jobs.txt --max-limit "$number"
+done
 # The words are read before any file.
 words_refused jobs --blocks none --jobs none --out none --walkers 0
 
@@ -66,10 +71,10 @@ helps() {
 helps --help -- get root jobs selector CARv1 SHA-256 SHA-512 identity UnixFS --version 'Usage: ix_export <COMMAND>'
 helps -h -- get root jobs selector
 helps root --help -- '--cid <TEXT>' hex 'Standard input' 'Status: 0'
-helps get --help -- --no-sync '--blocks <FILE>' '--root <CID[,CID..]>' '--selector <JSON>' '--selector-hex <HEX>' 'default: 1000000' \
-  FILE.part 'standard output' 'Status: 0' docs/SELECTORS.md
+helps get --help -- --no-sync '--blocks <FILE>' '--root <CID[,CID..]>' '--selector <JSON>' '--selector-hex <HEX>' \
+  '1 to 4294967295' 'with --every-arrival up to 1000000' FILE.part 'standard output' 'Status: 0' docs/SELECTORS.md
 helps jobs --help -- 'NAME ROOTS LIMIT SELECTOR' '--blocks <FILE>' '--jobs <FILE>' '--out <DIR>' '--walkers <N>' \
-  '--verifiers <N>' '1 to 64' 'default: 4' "$abc_text 9 $matcher" 1000000 DIR/NAME.car damaged 'Status: 0' 1073741824 \
+  '--verifiers <N>' '1 to 64' 'default: 4' "$abc_text 9 $matcher" 1000000 DIR/NAME.car damaged 'Status: 0' --max-input 'default: 1G' \
   DIR/NAME.car.part --sync --progress 'counts twice' SHA-256 SHA-512 identity 'the command `selector`'
 helps selector --help -- '--hex <TEXT>' '[JSON]' '{"R":{"l":{"none":{}},":>":{"a":{">":{"@":{}}}}}}' docs/SELECTORS.md
 
@@ -77,16 +82,17 @@ begin 'the help of a command, whole: its example is indented'
 run job --help
 expect 0 "Print the line of a job for a job file
 
-Usage: ix_export job <NAME> <ROOT[,ROOT..]> <LIMIT> <JSON>
+Usage: ix_export job [OPTIONS] <NAME> <ROOT[,ROOT..]> <LIMIT> <JSON>
 
 Arguments:
   <NAME>           1 to 64 characters of [a-z0-9_-]
   <ROOT[,ROOT..]>  1 to 64 comma-separated CIDv1s in base32
-  <LIMIT>          Link budget, 1 to 1000000
+  <LIMIT>          Link budget, 1 to the N of --max-limit
   <JSON>           IPLD selector as JSON, or - for standard input
 
 Options:
-  -h, --help  Print help
+      --max-limit <N>  Greatest LIMIT, up to 4294967295 [default: 1000000]
+  -h, --help           Print help
 
 Append the lines of jobs to a job file:
 

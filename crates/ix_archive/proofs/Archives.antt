@@ -12,12 +12,12 @@ use Rattle.ix_check.specs.Verdict.{passes}
 use Rattle.ix_archive.specs.declared.sink.Delivery.{Delivery}
 use Rattle.ix_archive.specs.declared.sink.End.{End}
 use Rattle.ix_archive.specs.declared.sink.End.TheVariants.{Done, Limit, Memory, Write, Start}
-use Rattle.ix_archive.specs.Events.{Event, delivery, close, deliveries_of}
+use Rattle.ix_archive.specs.Events.{Calls, delivery, close, deliveries_of}
 use Rattle.ix_archive.specs.Kept.{kept}
 use Rattle.ix_archive.specs.Verified.{judged_visits, verified}
 use Rattle.ix_car.specs.Writing.{header_of}
-use Rattle.ix_archive.specs.Archive.{is_sound, first_sound, section_of, archive_with, archive_of}
-use Rattle.ix_archive.specs.ArchiveMeaning.{ArchiveMeaning, events_of, HasWritten, HasArchived}
+use Rattle.ix_archive.specs.Archive.{is_sound, first_sound, section_of, none_known, archive_with, archive_of}
+use Rattle.ix_archive.specs.ArchiveMeaning.{ArchiveMeaning, events_of, calls_of, HasWritten, HasArchived}
 use Rattle.ix_archive.specs.Archived.{IsBeginning, TellsBeginning, IsArchived}
 use Rattle.ix_archive.specs.Faithful.{EndFits, IsFaithful}
 use Rattle.ix_archive.proofs.Pruning.{kept-take}
@@ -105,15 +105,15 @@ written-whole store number job m [] fits told written =
 written-whole store number job m (d ∷ more) fits told written = let none = fits.2 in absurd cc
 
 -- the law `FaithfulIsArchived`
-pub faithful-archived : (store : Blocks) (number : ℕ) (job : JobMeaning) (end : End) (events : List Event) (failed : List Delivery) → IsFaithful store number job end events failed → IsArchived store number job end events failed
-faithful-archived store number job end events failed f =
+pub faithful-archived : (store : Blocks) (number : ℕ) (job : JobMeaning) (end : End) (calls : Calls) → IsFaithful store number job end calls → IsArchived store number job end calls
+faithful-archived store number job end calls f =
     let visits = judged_visits store number job in
-    let deliveries : deliveries_of events ≡ take f.count visits = ap deliveries_of f.told ∙ told-deliveries (take f.count visits) end in
+    let deliveries : deliveries_of calls.events ≡ take f.count visits = ap deliveries_of f.told ∙ told-deliveries (take f.count visits) end in
     record {
       whole = λ done told written.
-          written-whole store number job f.count failed (subst (λ e. EndFits e f.count visits (is_over_limit store job) failed) done f.fits) told (subst (λ l. HasWritten told store job.roots l failed) deliveries written);
+          written-whole store number job f.count calls.failed (subst (λ e. EndFits e f.count visits (is_over_limit store job) calls.failed) done f.fits) told (subst (λ l. HasWritten told store job.roots l calls.failed) deliveries written);
       beginning = λ bytes written.
-          written-beginning store number job f.count failed (failed-next end f.count visits (is_over_limit store job) failed f.fits) bytes (subst (λ l. HasWritten (Some bytes) store job.roots l failed) deliveries written);
+          written-beginning store number job f.count calls.failed (failed-next end f.count visits (is_over_limit store job) calls.failed f.fits) bytes (subst (λ l. HasWritten (Some bytes) store job.roots l calls.failed) deliveries written);
     }
 
 -- ---- an archive
@@ -133,17 +133,17 @@ pub written-tells : (told : Option (List ℕ)) (store : Blocks) (roots : List (L
 written-tells told store roots ds [] written = (archive_with store roots (kept ds), written)
 written-tells told store roots ds (d ∷ more) written = (written.0, written.1)
 
-module _ {W : Type 0} (told : W → Option (List ℕ)) (a : ArchiveMeaning W) (store : Blocks) (number : ℕ) (job : JobMeaning) (guarantee : HasArchived told a store job (Some [])) where
+module _ {W : Type 0} (told : W → Option (List ℕ)) (a : ArchiveMeaning W) (store : Blocks) (number : ℕ) (job : JobMeaning) (guarantee : HasArchived told a none_known store job (Some [])) where
   -- and it has written what its events call for
   written-back : HasWritten (told a.writer) store job.roots (deliveries_of (events_of a)) a.failed
   written-back = subst (λ l. HasWritten (told a.writer) store job.roots l a.failed) (sym (told-back a.deliveries a.closed)) (guarantee.written refl)
 
   -- the law `HasWholeArchive`
-  pub archive-whole : IsFaithful store number job Done (events_of a) a.failed → told a.writer ≡ Some (archive_of store number job)
-  archive-whole faithful = (faithful-archived store number job Done (events_of a) a.failed faithful).whole refl (told a.writer) written-back
+  pub archive-whole : IsFaithful store number job Done (calls_of a) → told a.writer ≡ Some (archive_of store number job)
+  archive-whole faithful = (faithful-archived store number job Done (calls_of a) faithful).whole refl (told a.writer) written-back
 
   -- the law `HasBegunArchive`
-  pub archive-begun : (end : End) → IsFaithful store number job end (events_of a) a.failed → TellsBeginning (told a.writer) (archive_of store number job)
+  pub archive-begun : (end : End) → IsFaithful store number job end (calls_of a) → TellsBeginning (told a.writer) (archive_of store number job)
   archive-begun end faithful =
       let tells = written-tells (told a.writer) store job.roots (deliveries_of (events_of a)) a.failed written-back in
-      (tells.0, tells.1, (faithful-archived store number job end (events_of a) a.failed faithful).beginning tells.0 (subst (λ o. HasWritten o store job.roots (deliveries_of (events_of a)) a.failed) tells.1 written-back))
+      (tells.0, tells.1, (faithful-archived store number job end (calls_of a) faithful).beginning tells.0 (subst (λ o. HasWritten o store job.roots (deliveries_of (events_of a)) a.failed) tells.1 written-back))

@@ -1,5 +1,5 @@
 -- What a delivery does to an archive, and what a sink says of it.
-use Rattle.std.proofs.Common.{◌≡◌, ℕ, ◌≤◌, ◌<◌, ◌+◌, ◌-◌, ◌^◌, false, take, List, [], ◌∷◌, ◌++◌, length, map, refl, sym, ap, ◌∙◌, subst, arith}
+use Rattle.std.proofs.Common.{◌≡◌, ℕ, ◌≤◌, ◌<◌, ◌+◌, ◌-◌, ◌^◌, Bool, false, take, List, [], ◌∷◌, ◌++◌, length, map, refl, sym, ap, ◌∙◌, subst, arith}
 use Rattle.std.specs.Prelude.{Option, Some, Result, Ok, Err, OnOk, OnErr, IfErr, min, slice_get}
 use Rattle.std.specs.Io.KnownBytes.{Appends}
 use Rattle.std.proofs.lemmas.List.{append-nil, append_assoc, length-append, length-take-le, take_all}
@@ -16,9 +16,9 @@ use Rattle.ix_archive.specs.declared.fault.SinkFault.TheVariants.{Write, Memory}
 use Rattle.ix_archive.specs.Events.{Event, delivery, close, IsOpen, IsRefusal}
 use Rattle.ix_archive.specs.Kept.{is_below, kept}
 use Rattle.ix_car.specs.Writing.{header_of}
-use Rattle.ix_archive.specs.Archive.{archive_with}
+use Rattle.ix_archive.specs.Archive.{none_known, archive_without}
 use Rattle.ix_archive.specs.Report.{at_most}
-use Rattle.ix_archive.specs.ArchiveMeaning.{ArchiveMeaning, events_of, HasWritten, IsCountOf, HasArchived, IsProperPrefix, TookPartOfHeader}
+use Rattle.ix_archive.specs.ArchiveMeaning.{ArchiveMeaning, known_in, events_of, HasWrittenWithout, IsCountOf, HasArchived, IsProperPrefix, TookPartOfHeader}
 use Rattle.ix_archive.specs.Archiving.{cut_behind, unwritten_block, text_due, HasTaken, IsAdded, IsFailed, IsDelivered}
 use Rattle.ix_car.proofs.Growth.{appended}
 use Rattle.ix_archive.proofs.Prefixes.{proper-behind, proper-take}
@@ -61,70 +61,73 @@ module _ {W : Type 0} (told : W → Option (List ℕ)) (d : Delivery) (before : 
   delivers-refused text (Err Memory) after h none = ap (λ a. a.failed) h ∙ none
 
   -- the bytes before, where the archive has written what it should
-  bytes-before : (store : Blocks) (job : JobMeaning) → HasWritten (told before.writer) store job.roots before.deliveries before.failed → before.failed ≡ [] → told before.writer ≡ Some (archive_with store job.roots (kept before.deliveries))
-  bytes-before store job h none = subst (λ f. HasWritten (told before.writer) store job.roots before.deliveries f) none h
+  bytes-before : (known : List ℕ → Bool) (store : Blocks) (job : JobMeaning) → HasWrittenWithout known (told before.writer) store job.roots before.deliveries before.failed → before.failed ≡ [] → told before.writer ≡ Some (archive_without known store job.roots (kept before.deliveries))
+  bytes-before known store job h none = subst (λ f. HasWrittenWithout known (told before.writer) store job.roots before.deliveries f) none h
 
   -- the bytes after
-  bytes-after : (text : List ℕ) (after : ArchiveMeaning W) (store : Blocks) (job : JobMeaning) → HasWritten (told before.writer) store job.roots before.deliveries before.failed → before.failed ≡ [] → HasTaken told before after text → told after.writer ≡ Some (archive_with store job.roots (kept before.deliveries) ++ text)
-  bytes-after text after store job h none took =
-      appended (archive_with store job.roots (kept before.deliveries)) text (told after.writer) (subst (λ o. Appends o (told after.writer) text) (bytes-before store job h none) took.grown)
+  bytes-after : (text : List ℕ) (after : ArchiveMeaning W) (known : List ℕ → Bool) (store : Blocks) (job : JobMeaning) → HasWrittenWithout known (told before.writer) store job.roots before.deliveries before.failed → before.failed ≡ [] → HasTaken told before after text → told after.writer ≡ Some (archive_without known store job.roots (kept before.deliveries) ++ text)
+  bytes-after text after known store job h none took =
+      appended (archive_without known store job.roots (kept before.deliveries)) text (told after.writer) (subst (λ o. Appends o (told after.writer) text) (bytes-before known store job h none) took.grown)
 
   -- their number
-  counted-after : (text : List ℕ) (after : ArchiveMeaning W) (store : Blocks) (job : JobMeaning) → HasWritten (told before.writer) store job.roots before.deliveries before.failed → IsCountOf before.taken (told before.writer) → before.failed ≡ [] → HasTaken told before after text → IsCountOf after.taken (told after.writer)
-  counted-after text after store job h count none took bytes is =
-      let whole = archive_with store job.roots (kept before.deliveries) in
-      let same : bytes ≡ whole ++ text = same_Some bytes (whole ++ text) (sym is ∙ bytes-after text after store job h none took) in
+  counted-after : (text : List ℕ) (after : ArchiveMeaning W) (known : List ℕ → Bool) (store : Blocks) (job : JobMeaning) → HasWrittenWithout known (told before.writer) store job.roots before.deliveries before.failed → IsCountOf before.taken (told before.writer) → before.failed ≡ [] → HasTaken told before after text → IsCountOf after.taken (told after.writer)
+  counted-after text after known store job h count none took bytes is =
+      let whole = archive_without known store job.roots (kept before.deliveries) in
+      let same : bytes ≡ whole ++ text = same_Some bytes (whole ++ text) (sym is ∙ bytes-after text after known store job h none took) in
       took.counted
-      ∙ count-add (2 ^ 64 - 1) (length whole) (length text) before.taken (count whole (bytes-before store job h none))
+      ∙ count-add (2 ^ 64 - 1) (length whole) (length text) before.taken (count whole (bytes-before known store job h none))
       ∙ ap (at_most 64) (sym (length-append whole text))
       ∙ ap (λ l. at_most 64 (length l)) (sym same)
 
-  -- what is due is the same over a store that is the archive's
-  due-there : (store : Blocks) (job : JobMeaning) → before.store ≡ store → archive_with store job.roots (kept (before.deliveries ++ d ∷ [])) ≡ archive_with store job.roots (kept before.deliveries) ++ text_due before.store before.deliveries d
-  due-there store job same =
-      archive-due store job.roots before.deliveries d ∙ ap (λ s. archive_with store job.roots (kept before.deliveries) ++ text_due s before.deliveries d) (sym same)
+  -- what is due is the same over known CIDs and a store that are the archive's
+  due-there : (known : List ℕ → Bool) (store : Blocks) (job : JobMeaning) → known_in before ≡ known → before.store ≡ store → archive_without known store job.roots (kept (before.deliveries ++ d ∷ [])) ≡ archive_without known store job.roots (kept before.deliveries) ++ text_due (known_in before) before.store before.deliveries d
+  due-there known store job listed same =
+      archive-due known store job.roots before.deliveries d ∙ ap (λ s. archive_without known store job.roots (kept before.deliveries) ++ text_due known s before.deliveries d) (sym same)
+      ∙ ap (λ k. archive_without known store job.roots (kept before.deliveries) ++ text_due k before.store before.deliveries d) (sym listed)
 
   -- after an accepted delivery the writer has the longer archive
-  added-written : (after : ArchiveMeaning W) (store : Blocks) (job : JobMeaning) → IsAdded told d (text_due before.store before.deliveries d) before after → before.failed ≡ [] → before.store ≡ store
-      → HasWritten (told before.writer) store job.roots before.deliveries before.failed → HasWritten (told after.writer) store job.roots after.deliveries after.failed
-  added-written after store job added none same h =
-      let is : told after.writer ≡ Some (archive_with store job.roots (kept (before.deliveries ++ d ∷ []))) = bytes-after (text_due before.store before.deliveries d) after store job h none added.wrote ∙ ap Some (sym (due-there store job same)) in
-      let by_none : HasWritten (told after.writer) store job.roots after.deliveries [] = is ∙ ap (λ l. Some (archive_with store job.roots (kept l))) (sym added.deliveries) in
-      subst (λ f. HasWritten (told after.writer) store job.roots after.deliveries f) (sym added.failed) by_none
+  added-written : (after : ArchiveMeaning W) (known : List ℕ → Bool) (store : Blocks) (job : JobMeaning) → IsAdded told d (text_due (known_in before) before.store before.deliveries d) before after → before.failed ≡ [] → known_in before ≡ known → before.store ≡ store
+      → HasWrittenWithout known (told before.writer) store job.roots before.deliveries before.failed → HasWrittenWithout known (told after.writer) store job.roots after.deliveries after.failed
+  added-written after known store job added none listed same h =
+      let is : told after.writer ≡ Some (archive_without known store job.roots (kept (before.deliveries ++ d ∷ []))) = bytes-after (text_due (known_in before) before.store before.deliveries d) after known store job h none added.wrote ∙ ap Some (sym (due-there known store job listed same)) in
+      let by_none : HasWrittenWithout known (told after.writer) store job.roots after.deliveries [] = is ∙ ap (λ l. Some (archive_without known store job.roots (kept l))) (sym added.deliveries) in
+      subst (λ f. HasWrittenWithout known (told after.writer) store job.roots after.deliveries f) (sym added.failed) by_none
 
   -- so the fact is kept
-  added-archived : (after : ArchiveMeaning W) (store : Blocks) (job : JobMeaning) (first : Option (List ℕ)) → IsAdded told d (text_due before.store before.deliveries d) before after → before.failed ≡ [] → HasArchived told before store job first → HasArchived told after store job first
-  added-archived after store job first added none h = record {
+  added-archived : (after : ArchiveMeaning W) (known : List ℕ → Bool) (store : Blocks) (job : JobMeaning) (first : Option (List ℕ)) → IsAdded told d (text_due (known_in before) before.store before.deliveries d) before after → before.failed ≡ [] → HasArchived told before known store job first → HasArchived told after known store job first
+  added-archived after known store job first added none h = record {
+    same_known = added.wrote.same_known ∙ h.same_known;
     same_store = added.wrote.same_store ∙ h.same_store;
     same_roots = added.wrote.same_roots ∙ h.same_roots;
-    written = λ fresh. added-written after store job added none h.same_store (h.written fresh);
-    counted = λ fresh. counted-after (text_due before.store before.deliveries d) after store job (h.written fresh) (h.counted fresh) none added.wrote;
+    written = λ fresh. added-written after known store job added none h.same_known h.same_store (h.written fresh);
+    counted = λ fresh. counted-after (text_due (known_in before) before.store before.deliveries d) after known store job (h.written fresh) (h.counted fresh) none added.wrote;
   }
 
   -- after a failed one it has a proper part of that
-  failed-written : (after : ArchiveMeaning W) (store : Blocks) (job : JobMeaning) → IsFailed told d (text_due before.store before.deliveries d) before after → before.failed ≡ [] → before.store ≡ store
-      → HasWritten (told before.writer) store job.roots before.deliveries before.failed → HasWritten (told after.writer) store job.roots after.deliveries after.failed
-  failed-written after store job refused none same h =
-      let whole = archive_with store job.roots (kept before.deliveries) in
-      let proper : IsProperPrefix (whole ++ refused.part) (archive_with store job.roots (kept (before.deliveries ++ d ∷ []))) = subst (λ l. IsProperPrefix (whole ++ refused.part) l) (sym (due-there store job same)) (proper-behind whole refused.part (text_due before.store before.deliveries d) refused.proper) in
-      let by_one : HasWritten (told after.writer) store job.roots before.deliveries (d ∷ []) = (whole ++ refused.part, bytes-after refused.part after store job h none refused.wrote, proper) in
-      let by_deliveries : HasWritten (told after.writer) store job.roots after.deliveries (d ∷ []) = subst (λ l. HasWritten (told after.writer) store job.roots l (d ∷ [])) (sym refused.deliveries) by_one in
-      subst (λ f. HasWritten (told after.writer) store job.roots after.deliveries f) (sym refused.failed) by_deliveries
+  failed-written : (after : ArchiveMeaning W) (known : List ℕ → Bool) (store : Blocks) (job : JobMeaning) → IsFailed told d (text_due (known_in before) before.store before.deliveries d) before after → before.failed ≡ [] → known_in before ≡ known → before.store ≡ store
+      → HasWrittenWithout known (told before.writer) store job.roots before.deliveries before.failed → HasWrittenWithout known (told after.writer) store job.roots after.deliveries after.failed
+  failed-written after known store job refused none listed same h =
+      let whole = archive_without known store job.roots (kept before.deliveries) in
+      let proper : IsProperPrefix (whole ++ refused.part) (archive_without known store job.roots (kept (before.deliveries ++ d ∷ []))) = subst (λ l. IsProperPrefix (whole ++ refused.part) l) (sym (due-there known store job listed same)) (proper-behind whole refused.part (text_due (known_in before) before.store before.deliveries d) refused.proper) in
+      let by_one : HasWrittenWithout known (told after.writer) store job.roots before.deliveries (d ∷ []) = (whole ++ refused.part, bytes-after refused.part after known store job h none refused.wrote, proper) in
+      let by_deliveries : HasWrittenWithout known (told after.writer) store job.roots after.deliveries (d ∷ []) = subst (λ l. HasWrittenWithout known (told after.writer) store job.roots l (d ∷ [])) (sym refused.deliveries) by_one in
+      subst (λ f. HasWrittenWithout known (told after.writer) store job.roots after.deliveries f) (sym refused.failed) by_deliveries
 
   -- so the fact is kept too
-  failed-archived : (after : ArchiveMeaning W) (store : Blocks) (job : JobMeaning) (first : Option (List ℕ)) → IsFailed told d (text_due before.store before.deliveries d) before after → before.failed ≡ [] → HasArchived told before store job first → HasArchived told after store job first
-  failed-archived after store job first refused none h = record {
+  failed-archived : (after : ArchiveMeaning W) (known : List ℕ → Bool) (store : Blocks) (job : JobMeaning) (first : Option (List ℕ)) → IsFailed told d (text_due (known_in before) before.store before.deliveries d) before after → before.failed ≡ [] → HasArchived told before known store job first → HasArchived told after known store job first
+  failed-archived after known store job first refused none h = record {
+    same_known = refused.wrote.same_known ∙ h.same_known;
     same_store = refused.wrote.same_store ∙ h.same_store;
     same_roots = refused.wrote.same_roots ∙ h.same_roots;
-    written = λ fresh. failed-written after store job refused none h.same_store (h.written fresh);
-    counted = λ fresh. counted-after refused.part after store job (h.written fresh) (h.counted fresh) none refused.wrote;
+    written = λ fresh. failed-written after known store job refused none h.same_known h.same_store (h.written fresh);
+    counted = λ fresh. counted-after refused.part after known store job (h.written fresh) (h.counted fresh) none refused.wrote;
   }
 
   -- an archive goes on having written what it should
-  pub delivers-archived : {T : Type 0} (r : Result T SinkFault) (after : ArchiveMeaning W) → IsDelivered told d (text_due before.store before.deliveries d) before r after → before.failed ≡ [] → (store : Blocks) (job : JobMeaning) (first : Option (List ℕ)) → HasArchived told before store job first → HasArchived told after store job first
-  delivers-archived (Ok u) after h none store job first was = added-archived after store job first h none was
-  delivers-archived (Err Write) after h none store job first was = failed-archived after store job first h none was
-  delivers-archived (Err Memory) after h none store job first was = subst (λ a. HasArchived told a store job first) (sym h) was
+  pub delivers-archived : {T : Type 0} (r : Result T SinkFault) (after : ArchiveMeaning W) → IsDelivered told d (text_due (known_in before) before.store before.deliveries d) before r after → before.failed ≡ [] → (known : List ℕ → Bool) (store : Blocks) (job : JobMeaning) (first : Option (List ℕ)) → HasArchived told before known store job first → HasArchived told after known store job first
+  delivers-archived (Ok u) after h none known store job first was = added-archived after known store job first h none was
+  delivers-archived (Err Write) after h none known store job first was = failed-archived after known store job first h none was
+  delivers-archived (Err Memory) after h none known store job first was = subst (λ a. HasArchived told a known store job first) (sym h) was
 
   -- if memory runs out the archive is unchanged
   pub delivers-memory : {T : Type 0} (text : List ℕ) (r : Result T SinkFault) (after : ArchiveMeaning W) → IsDelivered told d text before r after → r ≡ Err Memory → after ≡ before
@@ -137,14 +140,14 @@ pub adds-nothing : {W : Type 0} (told : W → Option (List ℕ)) (d : Delivery) 
     → IsAdded told d [] (record { store = store; roots = roots; deliveries = ds; failed = failed; closed = closed; taken = taken; writer = writer }) (record { store = store; roots = roots; deliveries = es; failed = failed; closed = closed; taken = taken; writer = writer })
 adds-nothing told d store roots ds es failed closed taken writer none within longer =
     let stays : taken ≡ min (taken + 0) (2 ^ 64 - 1) = omega arith in record {
-      wrote = record { same_store = refl; same_roots = refl; same_close = refl; grown = Appends-nil (told writer); counted = stays };
+      wrote = record { same_known = refl; same_store = refl; same_roots = refl; same_close = refl; grown = Appends-nil (told writer); counted = stays };
       deliveries = longer;
       failed = none;
     }
 
 -- a section is what is due
 pub section-text : (store : Blocks) (ds : List Delivery) (d : Delivery) (place : ℕ) (head block : List ℕ) → is_below (cut_behind ds) d.visit.depth ≡ false → unwritten_block store (kept ds) d ≡ Some place → slice_get (map (λ e. e.1) store) place ≡ Some block
-    → head ≡ varint_of (length (d.visit.cid ++ block)) ++ d.visit.cid → head ++ block ≡ text_due store ds d
+    → head ≡ varint_of (length (d.visit.cid ++ block)) ++ d.visit.cid → head ++ block ≡ text_due none_known store ds d
 section-text store ds d place head block uncut due at is =
     let found : position_of store d.visit.cid ≡ Some place = (due-told store (kept ds) d place due).2 in
     ap (λ l. l ++ block) is ∙ append_assoc (varint_of (length (d.visit.cid ++ block))) d.visit.cid block
@@ -161,6 +164,7 @@ pub adds-section : {W : Type 0} (told : W → Option (List ℕ)) (d : Delivery) 
 adds-section told d store roots ds es failed closed taken more n writer later text due none longer is within whole grown counted =
     let many : n ≡ length due = let same : n ≡ length text = omega arith in same ∙ ap length is in record {
       wrote = record {
+        same_known = refl;
         same_store = refl;
         same_roots = refl;
         same_close = refl;
@@ -180,6 +184,7 @@ fails-section told d store roots ds es failed closed taken more n writer later t
       part = take n text;
       proper = subst (λ l. IsProperPrefix (take n text) l) is (proper-take n text short);
       wrote = record {
+        same_known = refl;
         same_store = refl;
         same_roots = refl;
         same_close = refl;
@@ -201,12 +206,13 @@ begins-in_part told writer later roots header n is short grown fresh = (
 -- an archive whose header was written
 pub begins-archived : {W : Type 0} (told : W → Option (List ℕ)) (writer later : W) (store : Blocks) (job : JobMeaning) (roots : List (List ℕ)) (header : List ℕ) (ds : List Delivery) (n : ℕ) → roots ≡ job.roots → header ≡ header_of job.roots → ds ≡ [] → n ≤ length header → length header ≤ n → n ≤ 2 ^ 64 - 1
     → Appends (told writer) (told later) (take n header)
-    → HasArchived told (record { store = store; roots = roots; deliveries = ds; failed = []; closed = []; taken = n; writer = later }) store job (told writer)
+    → HasArchived told (record { store = store; roots = roots; deliveries = ds; failed = []; closed = []; taken = n; writer = later }) none_known store job (told writer)
 begins-archived told writer later store job roots header ds n same is none within whole fits grown =
     let took : told writer ≡ Some [] → told later ≡ Some header = λ fresh. appended [] (take n header) (told later) (subst (λ o. Appends o (told later) (take n header)) fresh grown) ∙ ap Some (take_all n header whole) in record {
+      same_known = refl;
       same_store = refl;
       same_roots = same;
-      written = λ fresh. took fresh ∙ ap Some (is ∙ sym (append-nil (header_of job.roots))) ∙ ap (λ l. Some (archive_with store job.roots (kept l))) (sym none);
+      written = λ fresh. took fresh ∙ ap Some (is ∙ sym (append-nil (header_of job.roots))) ∙ ap (λ l. Some (archive_without none_known store job.roots (kept l))) (sym none);
       counted = λ fresh bytes tells. let one : bytes ≡ header = same_Some bytes header (sym tells ∙ took fresh) in
           let many : n ≡ min (length header) (2 ^ 64 - 1) = omega arith in many ∙ ap (λ l. at_most 64 (length l)) (sym one);
     }

@@ -16,7 +16,7 @@ use Rattle.ix_archive.specs.declared.archive.Skip.{Skip}
 use Rattle.ix_archive.specs.declared.sink.Delivery.{Delivery}
 use Rattle.ix_archive.specs.Kept.{is_below, kept}
 use Rattle.ix_car.specs.Writing.{header_of, section_with, with_length}
-use Rattle.ix_archive.specs.Archive.{is_sound, first_sound, section_of, sections_of, archive_with}
+use Rattle.ix_archive.specs.Archive.{is_sound, first_sound, section_of, new_section, none_known, sections_of, archive_without}
 use Rattle.ix_archive.specs.Archiving.{cut_behind, is_told, unwritten_block, text_after, text_due}
 use Rattle.ix_archive.proofs.Pruning.{kept-append, cut_after-append}
 
@@ -82,13 +82,13 @@ first-text f true true d = refl
 first-text f true false d = append-nil (f d)
 
 -- one more kept delivery writes its text at the end of the archive
-pub archive-push : (store : Blocks) (roots : List (List ℕ)) (ks : List Delivery) (d : Delivery) → archive_with store roots (ks ++ d ∷ []) ≡ archive_with store roots ks ++ text_after store ks d
-archive-push store roots ks d =
-    ap (λ l. header_of roots ++ flat_map (section_of store) l) (first_sound-push ks d)
+pub archive-push : (known : List ℕ → Bool) (store : Blocks) (roots : List (List ℕ)) (ks : List Delivery) (d : Delivery) → archive_without known store roots (ks ++ d ∷ []) ≡ archive_without known store roots ks ++ text_after known store ks d
+archive-push known store roots ks d =
+    ap (λ l. header_of roots ++ flat_map (new_section known store) l) (first_sound-push ks d)
     ∙ ap (λ l. header_of roots ++ l)
-    (flat_map-append (section_of store) (first_sound ks) (first_of ks d)
-    ∙ ap (λ l. flat_map (section_of store) (first_sound ks) ++ l) (first-text (section_of store) (is_sound d.verdict) (is_told ks d.visit.cid) d))
-    ∙ sym (append_assoc (header_of roots) (flat_map (section_of store) (first_sound ks)) (text_after store ks d))
+    (flat_map-append (new_section known store) (first_sound ks) (first_of ks d)
+    ∙ ap (λ l. flat_map (new_section known store) (first_sound ks) ++ l) (first-text (new_section known store) (is_sound d.verdict) (is_told ks d.visit.cid) d))
+    ∙ sym (append_assoc (header_of roots) (flat_map (new_section known store) (first_sound ks)) (text_after known store ks d))
 
 -- what is kept with one more delivery
 pub kept-push : (ds : List Delivery) (d : Delivery) → kept (ds ++ d ∷ []) ≡ (if is_below (cut_behind ds) d.visit.depth then kept ds else kept ds ++ d ∷ [])
@@ -101,11 +101,11 @@ pub cut-push : (ds : List Delivery) (d : Delivery) → cut_behind (ds ++ d ∷ [
 cut-push ds d = cut_after-append (λ e. e.visit.depth) (λ e. passes e.verdict) None ds (d ∷ [])
 
 -- one more delivery writes what is due at the end of the archive
-pub archive-due : (store : Blocks) (roots : List (List ℕ)) (ds : List Delivery) (d : Delivery) → archive_with store roots (kept (ds ++ d ∷ [])) ≡ archive_with store roots (kept ds) ++ text_due store ds d
-archive-due store roots ds d =
-    ap (λ ks. archive_with store roots ks) (kept-push ds d)
-    ∙ elim (is_below (cut_behind ds) d.visit.depth) as (λ b. archive_with store roots (if b then kept ds else kept ds ++ d ∷ []) ≡ archive_with store roots (kept ds) ++ (if b then [] else text_after store (kept ds) d))
-    [ true ↦ sym (append-nil (archive_with store roots (kept ds))) | false ↦ archive-push store roots (kept ds) d ]
+pub archive-due : (known : List ℕ → Bool) (store : Blocks) (roots : List (List ℕ)) (ds : List Delivery) (d : Delivery) → archive_without known store roots (kept (ds ++ d ∷ [])) ≡ archive_without known store roots (kept ds) ++ text_due known store ds d
+archive-due known store roots ds d =
+    ap (λ ks. archive_without known store roots ks) (kept-push ds d)
+    ∙ elim (is_below (cut_behind ds) d.visit.depth) as (λ b. archive_without known store roots (if b then kept ds else kept ds ++ d ∷ []) ≡ archive_without known store roots (kept ds) ++ (if b then [] else text_after known store (kept ds) d))
+    [ true ↦ sym (append-nil (archive_without known store roots (kept ds))) | false ↦ archive-push known store roots (kept ds) d ]
 
 -- the skips of kept deliveries
 abbrev pub skips_in : List Delivery → List Skip
@@ -186,13 +186,13 @@ sections-due store ks d place due =
     ∙ length-append (sections_of store ks) (d ∷ [])
 
 -- a delivery that isn't cut off writes what it writes after the kept ones
-due-kept : (store : Blocks) (ds : List Delivery) (d : Delivery) → is_below (cut_behind ds) d.visit.depth ≡ false → text_due store ds d ≡ text_after store (kept ds) d
-due-kept store ds d uncut = ap (λ b. if b then [] else text_after store (kept ds) d) uncut
+due-kept : (known : List ℕ → Bool) (store : Blocks) (ds : List Delivery) (d : Delivery) → is_below (cut_behind ds) d.visit.depth ≡ false → text_due known store ds d ≡ text_after known store (kept ds) d
+due-kept known store ds d uncut = ap (λ b. if b then [] else text_after known store (kept ds) d) uncut
 
 -- what doesn't pass writes nothing
-pub due-refused : (store : Blocks) (ds : List Delivery) (d : Delivery) → is_below (cut_behind ds) d.visit.depth ≡ false → passes d.verdict ≡ false → text_due store ds d ≡ []
-due-refused store ds d uncut refused =
-    due-kept store ds d uncut ∙ ap (λ b. if b then (if is_told (kept ds) d.visit.cid then [] else section_of store d) else []) (refused_unsound d.verdict refused)
+pub due-refused : (known : List ℕ → Bool) (store : Blocks) (ds : List Delivery) (d : Delivery) → is_below (cut_behind ds) d.visit.depth ≡ false → passes d.verdict ≡ false → text_due known store ds d ≡ []
+due-refused known store ds d uncut refused =
+    due-kept known store ds d uncut ∙ ap (λ b. if b then (if is_told (kept ds) d.visit.cid then [] else new_section known store d) else []) (refused_unsound d.verdict refused)
 
 -- nor does what has no place that is due
 no-text : (sound told : Bool) (place : Option ℕ) (text : List ℕ) → (place ≡ None → text ≡ []) → (if sound then (if told then None else place) else None) ≡ None → (if sound then (if told then [] else text) else []) ≡ []
@@ -200,17 +200,22 @@ no-text false told place text h none = refl
 no-text true true place text h none = refl
 no-text true false place text h none = h none
 
+-- nor does a CID without a block, known or not
+no-section : (known : Bool) (store : Blocks) (c : List ℕ) → position_of store c ≡ None → (if known then [] else section_with c (block_of store c)) ≡ []
+no-section true store c h = refl
+no-section false store c h = ap (λ o. section_with c o) (block-none 0 store c h)
+
 -- nothing, if its CID has a section
-pub due-repeat : (store : Blocks) (ds : List Delivery) (d : Delivery) → is_below (cut_behind ds) d.visit.depth ≡ false → unwritten_block store (kept ds) d ≡ None → text_due store ds d ≡ []
-due-repeat store ds d uncut none =
-    due-kept store ds d uncut
-    ∙ no-text (is_sound d.verdict) (is_told (kept ds) d.visit.cid) (position_of store d.visit.cid) (section_of store d) (λ h. ap (λ o. section_with d.visit.cid o) (block-none 0 store d.visit.cid h)) none
+pub due-repeat : (known : List ℕ → Bool) (store : Blocks) (ds : List Delivery) (d : Delivery) → is_below (cut_behind ds) d.visit.depth ≡ false → unwritten_block store (kept ds) d ≡ None → text_due known store ds d ≡ []
+due-repeat known store ds d uncut none =
+    due-kept known store ds d uncut
+    ∙ no-text (is_sound d.verdict) (is_told (kept ds) d.visit.cid) (position_of store d.visit.cid) (new_section known store d) (no-section (known d.visit.cid) store d.visit.cid) none
 
 -- and else its section
 pub due-section : (store : Blocks) (ds : List Delivery) (d : Delivery) (place : ℕ) (block : List ℕ) → is_below (cut_behind ds) d.visit.depth ≡ false → unwritten_block store (kept ds) d ≡ Some place → block_of store d.visit.cid ≡ Some block
-    → text_due store ds d ≡ with_length (d.visit.cid ++ block)
+    → text_due none_known store ds d ≡ with_length (d.visit.cid ++ block)
 due-section store ds d place block uncut due at =
     let found = due-told store (kept ds) d place due in
-    due-kept store ds d uncut ∙ ap (λ b. if b then (if is_told (kept ds) d.visit.cid then [] else section_of store d) else []) found.0
+    due-kept none_known store ds d uncut ∙ ap (λ b. if b then (if is_told (kept ds) d.visit.cid then [] else section_of store d) else []) found.0
     ∙ ap (λ b. if b then [] else section_of store d) found.1
     ∙ ap (λ o. section_with d.visit.cid o) at

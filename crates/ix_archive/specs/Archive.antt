@@ -27,13 +27,25 @@ first_sound (d ∷ ds) = if is_sound d.verdict then d ∷ filter (λ e. not (byt
 abbrev pub section_of : Blocks → Delivery → List ℕ
 section_of store d = section_with d.visit.cid (block_of store d.visit.cid)
 
+-- nothing for a delivery of a known CID, and else its section
+abbrev pub new_section : (List ℕ → Bool) → Blocks → Delivery → List ℕ
+new_section known store d = if known d.visit.cid then [] else section_of store d
+
+-- no CID is known
+abbrev pub none_known : List ℕ → Bool
+none_known c = false
+
 -- the deliveries that have a section
 abbrev pub sections_of : Blocks → List Delivery → List Delivery
 sections_of store ds = filter (λ d. is_some (block_of store d.visit.cid)) (first_sound ds)
 
+-- the archive of roots and deliveries without the sections of known CIDs
+abbrev pub archive_without : (List ℕ → Bool) → Blocks → List (List ℕ) → List Delivery → List ℕ
+archive_without known store roots ds = header_of roots ++ flat_map (new_section known store) (first_sound ds)
+
 -- the archive of roots and deliveries
 abbrev pub archive_with : Blocks → List (List ℕ) → List Delivery → List ℕ
-archive_with store roots ds = header_of roots ++ flat_map (section_of store) (first_sound ds)
+archive_with = archive_without none_known
 
 -- the archive of the job with this number
 abbrev pub archive_of : Blocks → ℕ → JobMeaning → List ℕ

@@ -1,13 +1,13 @@
 -- An archive as contracts see it.
-use Rattle.std.specs.Prelude.{◌≡◌, ◌≢◌, ℕ, List, [], ◌∷◌, ◌++◌, length, Option, Some, map}
+use Rattle.std.specs.Prelude.{◌≡◌, ◌≢◌, ℕ, Bool, List, [], ◌∷◌, ◌++◌, length, Option, Some, map}
 use Rattle.ix_store.specs.Store.{Blocks}
 use Rattle.ix_walk.specs.JobMeaning.{JobMeaning}
 use Rattle.ix_archive.specs.declared.sink.Delivery.{Delivery}
 use Rattle.ix_archive.specs.declared.sink.End.{End}
-use Rattle.ix_archive.specs.Events.{Event, delivery, close}
+use Rattle.ix_archive.specs.Events.{Event, Calls, delivery, close}
 use Rattle.ix_archive.specs.Kept.{kept}
 use Rattle.ix_car.specs.Writing.{header_of}
-use Rattle.ix_archive.specs.Archive.{archive_with}
+use Rattle.ix_archive.specs.Archive.{archive_without, none_known}
 use Rattle.ix_archive.specs.Report.{at_most}
 
 -- an archive: its store and roots, what was delivered, the delivery that failed, the close, and its writer
@@ -21,28 +21,43 @@ pub record ArchiveMeaning (W : Type 0) : Type 0 where
   pub taken : ℕ
   pub writer : W
 
+-- the CIDs whose sections an archive leaves out: none
+abbrev pub known_in : {W : Type 0} → ArchiveMeaning W → List ℕ → Bool
+known_in a = none_known
+
 -- the events of an archive, as a sink
 abbrev pub events_of : {W : Type 0} → ArchiveMeaning W → List Event
 events_of a = map delivery a.deliveries ++ map close a.closed
+
+-- what an archive was called with, as a sink
+abbrev pub calls_of : {W : Type 0} → ArchiveMeaning W → Calls
+calls_of a = record { events = events_of a; failed = a.failed }
 
 -- a part of the bytes from their start, and not all
 abbrev pub IsProperPrefix : List ℕ → List ℕ → Type 0
 IsProperPrefix a b = (more : List ℕ) × (a ++ more ≡ b) × (more ≢ [])
 
--- A writer with known bytes has those of the archive so far, and after a failed delivery a proper part of those with it.
+-- A writer with known bytes has those of the archive so far without the sections of known CIDs, and after a failed delivery a
+-- proper part of those with it.
+abbrev pub HasWrittenWithout : (List ℕ → Bool) → Option (List ℕ) → Blocks → List (List ℕ) → List Delivery → List Delivery → Type 0
+HasWrittenWithout known told store roots ds [] = told ≡ Some (archive_without known store roots (kept ds))
+HasWrittenWithout known told store roots ds (d ∷ more) = (bytes : List ℕ) × (told ≡ Some bytes) × IsProperPrefix bytes (archive_without known store roots (kept (ds ++ d ∷ [])))
+
+-- the same of the archive with all sections
 abbrev pub HasWritten : Option (List ℕ) → Blocks → List (List ℕ) → List Delivery → List Delivery → Type 0
-HasWritten told store roots ds [] = told ≡ Some (archive_with store roots (kept ds))
-HasWritten told store roots ds (d ∷ more) = (bytes : List ℕ) × (told ≡ Some bytes) × IsProperPrefix bytes (archive_with store roots (kept (ds ++ d ∷ [])))
+HasWritten = HasWrittenWithout none_known
 
 -- the number of the bytes that a writer has, if they are known
 abbrev pub IsCountOf : ℕ → Option (List ℕ) → Type 0
 IsCountOf taken told = (bytes : List ℕ) → told ≡ Some bytes → taken ≡ at_most 64 (length bytes)
 
--- An archive over this store and job has written what it should, and counted it, if its writer had no bytes at first.
-pub record HasArchived {W : Type 0} (told : W → Option (List ℕ)) (a : ArchiveMeaning W) (store : Blocks) (job : JobMeaning) (first : Option (List ℕ)) : Type 0 where
+-- An archive over this store and job, without the sections of these known CIDs, has written what it should, and counted it, if its
+-- writer had no bytes at first.
+pub record HasArchived {W : Type 0} (told : W → Option (List ℕ)) (a : ArchiveMeaning W) (known : List ℕ → Bool) (store : Blocks) (job : JobMeaning) (first : Option (List ℕ)) : Type 0 where
+  pub same_known : known_in a ≡ known
   pub same_store : a.store ≡ store
   pub same_roots : a.roots ≡ job.roots
-  pub written : first ≡ Some [] → HasWritten (told a.writer) store job.roots a.deliveries a.failed
+  pub written : first ≡ Some [] → HasWrittenWithout known (told a.writer) store job.roots a.deliveries a.failed
   pub counted : first ≡ Some [] → IsCountOf a.taken (told a.writer)
 
 -- an archive with no delivery so far

@@ -2,10 +2,9 @@
 use Rattle.std.specs.Prelude.{◌≡◌, List, ◌++◌, Option, Some, ℕ}
 use Rattle.ix_store.specs.Store.{Blocks}
 use Rattle.ix_walk.specs.JobMeaning.{JobMeaning}
-use Rattle.ix_archive.specs.declared.sink.Delivery.{Delivery}
 use Rattle.ix_archive.specs.declared.sink.End.{End}
 use Rattle.ix_archive.specs.declared.sink.End.TheVariants.{Done}
-use Rattle.ix_archive.specs.Events.{Event, deliveries_of}
+use Rattle.ix_archive.specs.Events.{Calls, deliveries_of}
 use Rattle.ix_archive.specs.Archive.{archive_of}
 use Rattle.ix_archive.specs.ArchiveMeaning.{HasWritten}
 
@@ -19,6 +18,6 @@ TellsBeginning told whole = (bytes : List ℕ) × (told ≡ Some bytes) × IsBeg
 
 -- What an archive over the store and the job has written, if its writer's bytes are known: the whole archive at Done, and else
 -- its beginning.
-pub record IsArchived (store : Blocks) (number : ℕ) (job : JobMeaning) (end : End) (events : List Event) (failed : List Delivery) : Type 0 where
-  pub whole : end ≡ Done → (told : Option (List ℕ)) → HasWritten told store job.roots (deliveries_of events) failed → told ≡ Some (archive_of store number job)
-  pub beginning : (bytes : List ℕ) → HasWritten (Some bytes) store job.roots (deliveries_of events) failed → IsBeginning bytes (archive_of store number job)
+pub record IsArchived (store : Blocks) (number : ℕ) (job : JobMeaning) (end : End) (calls : Calls) : Type 0 where
+  pub whole : end ≡ Done → (told : Option (List ℕ)) → HasWritten told store job.roots (deliveries_of calls.events) calls.failed → told ≡ Some (archive_of store number job)
+  pub beginning : (bytes : List ℕ) → HasWritten (Some bytes) store job.roots (deliveries_of calls.events) calls.failed → IsBeginning bytes (archive_of store number job)

@@ -13,8 +13,8 @@ use Rattle.ix_archive.specs.declared.fault.SinkFault.TheVariants.{Write, Memory}
 use Rattle.ix_archive.specs.declared.archive.Skip.{Skip}
 use Rattle.ix_archive.specs.declared.archive.Counts.{Counts}
 use Rattle.ix_archive.specs.Kept.{is_below, cut_after, kept}
-use Rattle.ix_archive.specs.Archive.{is_sound, section_of}
-use Rattle.ix_archive.specs.ArchiveMeaning.{ArchiveMeaning, IsProperPrefix}
+use Rattle.ix_archive.specs.Archive.{is_sound, new_section}
+use Rattle.ix_archive.specs.ArchiveMeaning.{ArchiveMeaning, known_in, IsProperPrefix}
 use Rattle.ix_archive.specs.Report.{skips_of, at_most, counts_of}
 
 -- where deliveries are cut after all of these
@@ -33,13 +33,13 @@ is_told ds c = list_any (λ d. is_sound d.verdict && bytes_eq d.visit.cid c) ds
 abbrev pub unwritten_block : Blocks → List Delivery → Delivery → Option ℕ
 unwritten_block store ks d = if is_sound d.verdict then (if is_told ks d.visit.cid then None else position_of store d.visit.cid) else None
 
--- what a kept delivery writes after these kept ones
-abbrev pub text_after : Blocks → List Delivery → Delivery → List ℕ
-text_after store ks d = if is_sound d.verdict then (if is_told ks d.visit.cid then [] else section_of store d) else []
+-- what a kept delivery writes after these kept ones, without the sections of known CIDs
+abbrev pub text_after : (List ℕ → Bool) → Blocks → List Delivery → Delivery → List ℕ
+text_after known store ks d = if is_sound d.verdict then (if is_told ks d.visit.cid then [] else new_section known store d) else []
 
--- what a delivery writes after these
-abbrev pub text_due : Blocks → List Delivery → Delivery → List ℕ
-text_due store ds d = if is_cut_off ds d.visit.depth then [] else text_after store (kept ds) d
+-- what a delivery writes after these, without the sections of known CIDs
+abbrev pub text_due : (List ℕ → Bool) → Blocks → List Delivery → Delivery → List ℕ
+text_due known store ds d = if is_cut_off ds d.visit.depth then [] else text_after known store (kept ds) d
 
 -- what an archive keeps, besides these deliveries, those at which a write failed, and the close
 pub record IsTally (store : Blocks) (ds failed : List Delivery) (closed : List End) (cut : Option ℕ) (counts : Counts) (written : PlaceSet) (skips : List Skip) : Type 0 where
@@ -49,8 +49,9 @@ pub record IsTally (store : Blocks) (ds failed : List Delivery) (closed : List E
   -- while nothing failed and nothing was closed, the place of a CID is in the set where a kept sound delivery has that CID
   pub written_is : failed ≡ [] → closed ≡ [] → (c : List ℕ) (place : ℕ) → position_of store c ≡ Some place → contains_place written place ≡ is_told (kept ds) c
 
--- the writer took this text, its bytes were counted, and store, roots and close are as they were
+-- the writer took this text, its bytes were counted, and known CIDs, store, roots and close are as they were
 pub record HasTaken {W : Type 0} (told : W → Option (List ℕ)) (before after : ArchiveMeaning W) (text : List ℕ) : Type 0 where
+  pub same_known : known_in after ≡ known_in before
   pub same_store : after.store ≡ before.store
   pub same_roots : after.roots ≡ before.roots
   pub same_close : after.closed ≡ before.closed
@@ -83,7 +84,7 @@ IsDelivered told d text before (Err fault) after = IsRefused told d text before 
 
 -- what a delivery with the text that is due does to it
 abbrev pub IsDeliveredDue : {W T : Type 0} → (W → Option (List ℕ)) → Delivery → ArchiveMeaning W → Result T SinkFault → ArchiveMeaning W → Type 0
-IsDeliveredDue told d before result after = IsDelivered told d (text_due before.store before.deliveries d) before result after
+IsDeliveredDue told d before result after = IsDelivered told d (text_due (known_in before) before.store before.deliveries d) before result after
 
 -- an archive at which nothing failed keeps a delivery at this depth: it isn't cut off
 abbrev pub KeepsAt : {W : Type 0} → ArchiveMeaning W → ℕ → Type 0

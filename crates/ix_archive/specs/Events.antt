@@ -26,6 +26,12 @@ IsOpen [] = Unit {0}
 IsOpen (delivery d ∷ events) = IsOpen events
 IsOpen (close end ∷ events) = ⊥
 
+-- what a sink was called with: the deliveries that were accepted and the close, in order, and the deliveries at which a write
+-- failed
+pub record Calls : Type 0 where
+  pub events : List Event
+  pub failed : List Delivery
+
 -- the deliveries of events
 abbrev pub deliveries_of : List Event → List Delivery
 deliveries_of [] = []

@@ -1,10 +1,12 @@
 -- Examples, computed.
-use Rattle.std.specs.Prelude.{◌≡◌, ℕ, false, List, [], ◌∷◌, refl, None, map}
+use Rattle.std.specs.Prelude.{◌≡◌, ℕ, true, false, List, [], ◌∷◌, ◌++◌, refl, None, map, flat_map}
+use Rattle.ix_store.specs.Store.{Blocks}
+use Rattle.ix_car.specs.Writing.{header_of}
 use Rattle.ix_verdict.specs.declared.verdict.Verdict.{Verdict}
 use Rattle.ix_verdict.specs.declared.verdict.Verdict.TheVariants.{Damaged, Sound, Inline}
 use Rattle.ix_archive.specs.declared.sink.Delivery.{Delivery}
 use Rattle.ix_archive.specs.Kept.{kept}
-use Rattle.ix_archive.specs.Archive.{first_sound}
+use Rattle.ix_archive.specs.Archive.{first_sound, section_of, archive_with, archive_without}
 
 abbrev pub at : ℕ → ℕ → ℕ → Verdict → Delivery
 at seq depth cid verdict = record { visit = record { job = 0; seq = seq; depth = depth; cid = cid ∷ []; block = None; malformed = false }; verdict = verdict }
@@ -40,3 +42,11 @@ inline_below_damaged = refl
 
 pub inline_beside_damaged : kept (at 0 1 88 Damaged ∷ at 1 1 70 Inline ∷ at 2 2 97 Sound ∷ []) ≡ at 0 1 88 Damaged ∷ at 1 1 70 Inline ∷ at 2 2 97 Sound ∷ []
 inline_beside_damaged = refl
+
+-- an archive has the section of each, if no CID is known
+pub each_has_a_section : (store : Blocks) (roots : List (List ℕ)) (ds : List Delivery) → archive_with store roots ds ≡ header_of roots ++ flat_map (section_of store) (first_sound ds)
+each_has_a_section store roots ds = refl
+
+-- a known CID has none
+pub known_has_no_section : (store : Blocks) → archive_without (λ c. true) store [] (at 0 0 70 Sound ∷ []) ≡ header_of []
+known_has_no_section store = refl

@@ -1,4 +1,4 @@
--- What an export leaves: each sink's events, archives and checks.
+-- What an export leaves: each sink's calls, archives and checks.
 use Rattle.std.specs.Prelude.{◌≡◌, ◌⊎◌, ℕ, ◌+◌, ◌<◌, List, [], ◌∷◌, ◌++◌, length, Option, Some, None, slice_get, Contains, All}
 use Rattle.std.specs.List.{AllByRecursion}
 use Rattle.ix_store.specs.Store.{Blocks}
@@ -7,7 +7,7 @@ use Rattle.ix_walk.specs.Visits.{visits_of}
 use Rattle.ix_archive.specs.declared.sink.Delivery.{Delivery}
 use Rattle.ix_archive.specs.declared.sink.End.{End}
 use Rattle.ix_archive.specs.declared.sink.End.TheVariants.{Memory, Start}
-use Rattle.ix_archive.specs.Events.{Event, delivery}
+use Rattle.ix_archive.specs.Events.{Calls, delivery}
 use Rattle.ix_archive.specs.Faithful.{IsFaithful}
 use Rattle.ix_archive.specs.Archived.{IsArchived}
 
@@ -16,33 +16,34 @@ abbrev pub IsEachOnce : List (ℕ × ℕ) → Type 0
 IsEachOnce [] = Unit {0}
 IsEachOnce (p ∷ ps) = (Contains ps p → ⊥) × IsEachOnce ps
 
-module _ {S : Type 0} (events : S → List Event) (failed : S → List Delivery) where
-  -- job by job, from a number on: the sink's events are faithful to the job, and close with its end
+module _ {S : Type 0} (calls : S → Calls) where
+  -- job by job, from a number on: the sink's calls are faithful to the job, and close with its end
   abbrev pub EachDelivered : Blocks → ℕ → List JobMeaning → List End → List S → Type 0
   EachDelivered store n [] [] [] = Unit {0}
-  EachDelivered store n (j ∷ js) (e ∷ es) (s ∷ ss) = IsFaithful store n j e (events s) (failed s) × EachDelivered store (n + 1) js es ss
+  EachDelivered store n (j ∷ js) (e ∷ es) (s ∷ ss) = IsFaithful store n j e (calls s) × EachDelivered store (n + 1) js es ss
   EachDelivered store n js es ss = ⊥
 
   -- job by job: the archive is that of the job, or a beginning of it
   abbrev pub EachArchived : Blocks → ℕ → List JobMeaning → List End → List S → Type 0
   EachArchived store n [] [] [] = Unit {0}
-  EachArchived store n (j ∷ js) (e ∷ es) (s ∷ ss) = IsArchived store n j e (events s) (failed s) × EachArchived store (n + 1) js es ss
+  EachArchived store n (j ∷ js) (e ∷ es) (s ∷ ss) = IsArchived store n j e (calls s) × EachArchived store (n + 1) js es ss
   EachArchived store n js es ss = ⊥
 
   -- nothing was delivered or failed so far
   abbrev pub EachFresh : List S → Type 0
-  EachFresh sinks = AllByRecursion (λ s. (events s ≡ []) × (failed s ≡ [])) sinks
+  EachFresh sinks = AllByRecursion (λ s. ((calls s).events ≡ []) × ((calls s).failed ≡ [])) sinks
 
--- what a sink may guarantee of itself for good: over a store, a job and the bytes that its writer had at first
-abbrev pub Fact : Type 0 → Type 1
-Fact S = S → Blocks → JobMeaning → Option (List ℕ) → Type 0
+-- what a sink may guarantee of itself for good: over what it was made with, a store, a job and the bytes that its writer had at
+-- first
+abbrev pub Fact : Type 0 → Type 0 → Type 1
+Fact S About = S → About → Blocks → JobMeaning → Option (List ℕ) → Type 0
 
 -- what a sink guaranteed before, it guarantees now
-abbrev pub Keeps : {S : Type 0} → Fact S → S → S → Type 0
-Keeps guarantee s t = (store : Blocks) (job : JobMeaning) (first : Option (List ℕ)) → guarantee s store job first → guarantee t store job first
+abbrev pub Keeps : {S About : Type 0} → Fact S About → S → S → Type 0
+Keeps {S} {About} guarantee s t = (about : About) (store : Blocks) (job : JobMeaning) (first : Option (List ℕ)) → guarantee s about store job first → guarantee t about store job first
 
 -- sink by sink
-abbrev pub EachKept : {S : Type 0} → Fact S → List S → List S → Type 0
+abbrev pub EachKept : {S About : Type 0} → Fact S About → List S → List S → Type 0
 EachKept guarantee [] [] = Unit {0}
 EachKept guarantee (s ∷ ss) (t ∷ ts) = Keeps guarantee s t × EachKept guarantee ss ts
 EachKept guarantee ss ts = ⊥
@@ -77,10 +78,10 @@ IsWalkedAt ends job = (slice_get ends job ≡ Some Memory → ⊥) × (slice_get
 
 -- The pairs that were checked: none twice, each that of a visit, among them those of all deliveries, all of each job that was
 -- walked, and so all if every job was.
-pub record IsCheckedOnce {S : Type 0} (events : S → List Event) (store : Blocks) (jobs : List JobMeaning) (ends : List End) (sinks : List S) (pairs : List (ℕ × ℕ)) : Type 0 where
+pub record IsCheckedOnce {S : Type 0} (calls : S → Calls) (store : Blocks) (jobs : List JobMeaning) (ends : List End) (sinks : List S) (pairs : List (ℕ × ℕ)) : Type 0 where
   pub once : IsEachOnce pairs
   pub within : (job seq : ℕ) → Contains pairs (job, seq) → seq < visit_count store jobs job
-  pub delivered : (s : S) (d : Delivery) → Contains sinks s → Contains (events s) (delivery d) → Contains pairs (d.visit.job, d.visit.seq)
+  pub delivered : (s : S) (d : Delivery) → Contains sinks s → Contains (calls s).events (delivery d) → Contains pairs (d.visit.job, d.visit.seq)
   pub every : (job seq : ℕ) → IsWalkedAt ends job → seq < visit_count store jobs job → Contains pairs (job, seq)
   pub all : AllWalked ends → (job seq : ℕ) → seq < visit_count store jobs job → Contains pairs (job, seq)
 

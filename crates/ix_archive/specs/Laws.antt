@@ -12,12 +12,12 @@ use Rattle.ix_check.specs.Verdict.{passes, verdict_of}
 use Rattle.ix_archive.specs.declared.sink.Delivery.{Delivery}
 use Rattle.ix_archive.specs.declared.sink.End.{End}
 use Rattle.ix_archive.specs.declared.sink.End.TheVariants.{Done}
-use Rattle.ix_archive.specs.Events.{Event}
+use Rattle.ix_archive.specs.Events.{Calls}
 use Rattle.ix_archive.specs.Kept.{kept, without_deeper_than}
 use Rattle.ix_archive.specs.Verified.{only_passing, is_good, judged, verified, judged_visits}
 use Rattle.ix_archive.specs.Faithful.{IsFaithful}
-use Rattle.ix_archive.specs.Archive.{is_sound, sections_of, archive_with, archive_of}
-use Rattle.ix_archive.specs.ArchiveMeaning.{ArchiveMeaning, HasArchived, events_of}
+use Rattle.ix_archive.specs.Archive.{is_sound, none_known, sections_of, archive_with, archive_of}
+use Rattle.ix_archive.specs.ArchiveMeaning.{ArchiveMeaning, HasArchived, calls_of}
 use Rattle.ix_archive.specs.Archived.{IsArchived, IsBeginning, TellsBeginning}
 
 -- what is kept of the visits of a job within its limit is the verified traversal
@@ -102,17 +102,17 @@ OnceArchivesTheReached =
 -- the archive of a sink that was faithful to its job is that of the job if it was done, and else begins it
 abbrev pub FaithfulIsArchived : Type 0
 FaithfulIsArchived =
-    (store : Blocks) (number : ℕ) (job : JobMeaning) (end : End) (events : List Event) (failed : List Delivery)
-    → IsFaithful store number job end events failed → IsArchived store number job end events failed
+    (store : Blocks) (number : ℕ) (job : JobMeaning) (end : End) (calls : Calls)
+    → IsFaithful store number job end calls → IsArchived store number job end calls
 
--- the writer of an archive whose fact held, and that was faithful to its job, has the archive of the job at Done
+-- the writer of an archive of all sections whose guarantee held, and that was faithful to its job, has the archive of the job at Done
 abbrev pub HasWholeArchive : {W : Type 0} → (W → Option (List ℕ)) → Type 0
 HasWholeArchive {W} told =
-    (a : ArchiveMeaning W) (store : Blocks) (number : ℕ) (job : JobMeaning) → HasArchived told a store job (Some [])
-    → IsFaithful store number job Done (events_of a) a.failed → told a.writer ≡ Some (archive_of store number job)
+    (a : ArchiveMeaning W) (store : Blocks) (number : ℕ) (job : JobMeaning) → HasArchived told a none_known store job (Some [])
+    → IsFaithful store number job Done (calls_of a) → told a.writer ≡ Some (archive_of store number job)
 
 -- it has a beginning of that whatever the end
 abbrev pub HasBegunArchive : {W : Type 0} → (W → Option (List ℕ)) → Type 0
 HasBegunArchive {W} told =
-    (a : ArchiveMeaning W) (store : Blocks) (number : ℕ) (job : JobMeaning) (end : End) → HasArchived told a store job (Some [])
-    → IsFaithful store number job end (events_of a) a.failed → TellsBeginning (told a.writer) (archive_of store number job)
+    (a : ArchiveMeaning W) (store : Blocks) (number : ℕ) (job : JobMeaning) (end : End) → HasArchived told a none_known store job (Some [])
+    → IsFaithful store number job end (calls_of a) → TellsBeginning (told a.writer) (archive_of store number job)

@@ -3,7 +3,7 @@
 
 ghost use Rattle.std.specs.Prelude.{◌≡◌, ◌+◌, true, false, None, Some, [], IfOk, IfErr};
 ghost use Rattle.ix_check.specs.Verdict.{passes};
-ghost use Rattle.ix_archive.specs.Archive.{is_sound};
+ghost use Rattle.ix_archive.specs.Archive.{is_sound, none_known};
 ghost use Rattle.ix_archive.specs.ArchiveMeaning.{HasArchived, IsBegun};
 ghost use Rattle.ix_archive.specs.Archiving.{is_cut_off, section_due, counts_in, IsAdded, IsDelivered, IsDeliveredDue, KeepsAt};
 ghost use Rattle.ix_archive.specs.Report.{at_most, skips_of};
@@ -97,7 +97,8 @@ impl<'a, W: Write> Archive<'a, W> {
         mut writer: W,
     ) -> Result<Archive<'a, W>, ArchiveNew<W>>
         ensures begun { IfOk result (λ a. IsBegun a store.now job.now.roots) }
-        ensures guarantee { IfOk result (λ a. HasArchived W.contents a store.now job.now (W.contents writer)) }
+        ensures guarantee { IfOk result (λ a.
+            HasArchived W.contents a none_known store.now job.now (W.contents writer)) }
         ensures refused { IfErr result (λ e. IsNoArchive W.contents writer job.now.roots e) }
     {
         let Ok(header) = header_of(alloc, job.roots()) else {
@@ -275,11 +276,13 @@ impl<'a, W: Write> Archive<'a, W> {
 }
 
 impl<'a, W: Write> Sink for Archive<'a, W> {
-    ghost use Rattle.ix_archive.specs.ArchiveMeaning.{events_of, HasArchived};
+    ghost use Rattle.std.specs.Prelude.{ℕ, Bool, List};
+    ghost use Rattle.ix_archive.specs.ArchiveMeaning.{calls_of, HasArchived};
 
-    ghost events = { events_of };
+    ghost calls = { calls_of };
 
-    ghost failed = { λ a. a.failed };
+    // The CIDs whose sections are left out.
+    ghost About = { List ℕ → Bool };
 
     ghost guarantee = { HasArchived W.contents };
 

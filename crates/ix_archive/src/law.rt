@@ -50,9 +50,9 @@ pub fn faithful_is_archived()
     ensures { FaithfulIsArchived }
 {}
 
-/// States what an archive's writer has in the end, if it had no bytes at first: an archive whose
-/// fact held for a store and a job, and whose events are faithful to the job, has written the
-/// archive of the job if it was done, and a beginning of it whatever the end.
+/// States what an archive's writer has in the end, if it had no bytes at first: an archive that
+/// leaves out no section, whose guarantee held for a store and a job, and whose calls are faithful to
+/// the job, has written the archive of the job if it was done, and a beginning of it whatever the end.
 pub fn archive_is_of_its_job<W: Write>()
     ensures whole { HasWholeArchive W.contents }
     ensures beginning { HasBegunArchive W.contents }

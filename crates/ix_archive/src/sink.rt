@@ -49,48 +49,48 @@ pub struct Delivery {
 
 /// A sink: accepts the deliveries of one job in order, and then one close.
 ///
-/// Contracts see the calls of a sink as a list of events. A delivery that is rejected is none of
-/// them. If its write failed it is recorded as the one that failed, and from then on only a close
-/// may come. The fact of a sink is what it guarantees of itself for good, such as that an archive
-/// has written what it should: it is about a store, a job and the bytes that its writer had at
-/// first, and no call breaks it.
+/// Contracts see what a sink was called with: a list of events, and the delivery that failed. A
+/// delivery that is rejected is no event. If its write failed it is recorded as the one that failed,
+/// and from then on only a close may come. The guarantee of a sink is what it guarantees of itself
+/// for good, such as that an archive has written what it should: it is about what the sink was made
+/// with, a store, a job and the bytes that its writer had at first, and no call breaks it.
 pub trait Sink {
     ghost use Rattle.std.specs.Prelude.{◌≡◌, ◌++◌, ◌∷◌, [], OnOk, OnErr, IfErr, List, ℕ, Option, Err};
     ghost use Rattle.ix_store.specs.Store.{Blocks};
     ghost use Rattle.ix_walk.specs.JobMeaning.{JobMeaning};
-    ghost use Rattle.ix_archive.specs.declared.sink.Delivery.{Delivery};
     ghost use Rattle.ix_archive.specs.declared.fault.SinkFault.TheVariants.{Memory};
-    ghost use Rattle.ix_archive.specs.Events.{Event, delivered, with_verdict, close as closing, IsOpen, IsRefusal};
+    ghost use Rattle.ix_archive.specs.Events.{Calls, delivered, with_verdict, close as closing, IsOpen, IsRefusal};
     ghost use Rattle.ix_archive.specs.Headline.{Keeps};
 
-    /// The deliveries that were accepted, and the close, in order.
-    ghost events: { Self → List Event };
+    /// What a sink was called with: the deliveries that were accepted and the close, in order, and
+    /// the deliveries at which a write failed.
+    ghost calls: { Self → Calls };
 
-    /// The deliveries at which a write failed.
-    ghost failed: { Self → List Delivery };
+    /// What a sink is made with, besides its store, its job and its writer.
+    ghost About: { Type 0 };
 
-    /// What a sink guarantees of itself for good, over a store, a job and the bytes that its writer
-    /// had at first, if they are known.
-    ghost guarantee: { Self → Blocks → JobMeaning → Option (List ℕ) → Type 0 };
+    /// What a sink guarantees of itself for good, over what it was made with, a store, a job and the
+    /// bytes that its writer had at first, if they are known.
+    ghost guarantee: { Self → About → Blocks → JobMeaning → Option (List ℕ) → Type 0 };
 
     /// Accepts a visit with its verdict, which is then the last event. It may be called until the
     /// close and until a write fails. After an error the events are unchanged, and if memory ran
     /// out so is the whole sink.
     fn deliver(&mut self, alloc: Global, visit: Visit, verdict: Verdict) -> Result<(), SinkFault>
-        requires open { IsOpen (events self.old) }
-        requires unfailed { failed self.old ≡ [] }
-        ensures ok { OnOk result (events self.new ≡ events self.old ++ delivered visit verdict ∷ []) }
-        ensures ok_failed { OnOk result (failed self.new ≡ []) }
-        ensures err { OnErr result (events self.new ≡ events self.old) }
-        ensures refused { IfErr result (λ e. IsRefusal e (with_verdict visit verdict) (failed self.new)) }
+        requires open { IsOpen (calls self.old).events }
+        requires unfailed { (calls self.old).failed ≡ [] }
+        ensures ok { OnOk result ((calls self.new).events ≡ (calls self.old).events ++ delivered visit verdict ∷ []) }
+        ensures ok_failed { OnOk result ((calls self.new).failed ≡ []) }
+        ensures err { OnErr result ((calls self.new).events ≡ (calls self.old).events) }
+        ensures refused { IfErr result (λ e. IsRefusal e (with_verdict visit verdict) (calls self.new).failed) }
         ensures memory { result ≡ Err Memory → self.new ≡ self.old }
         ensures kept { Keeps guarantee self.old self.new };
 
     /// Closes the sink with the job's end, which is the last event. It may be called once, also
     /// after a failed write.
     fn close(&mut self, end: End)
-        requires { IsOpen (events self.old) }
-        ensures closed { events self.new ≡ events self.old ++ closing end ∷ [] }
-        ensures failed { failed self.new ≡ failed self.old }
+        requires { IsOpen (calls self.old).events }
+        ensures closed { (calls self.new).events ≡ (calls self.old).events ++ closing end ∷ [] }
+        ensures failed { (calls self.new).failed ≡ (calls self.old).failed }
         ensures kept { Keeps guarantee self.old self.new };
 }

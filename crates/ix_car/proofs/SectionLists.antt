@@ -5,8 +5,8 @@ use Rattle.ix_store.specs.Store.{Blocks, with_block}
 use Rattle.ix_car.specs.declared.fault.CarKind.{CarKind}
 use Rattle.ix_car.specs.declared.fault.CarKind.TheVariants.{Memory}
 use Rattle.ix_car.specs.Gives.{FailsAs}
-use Rattle.ix_car.specs.Reading.{Fault, ◌>>=◌, section_at, sections_at, header_at, blocks_of}
-use Rattle.ix_car.specs.Sections.{SectionMeaning, placed, sections_after, section_list, with_sections, first_of_each}
+use Rattle.ix_car.specs.Reading.{Fault, ◌>>=◌, section_at, sections_at, header_at, blocks_after, blocks_of}
+use Rattle.ix_car.specs.Sections.{SectionMeaning, placed, sections_after, section_list, with_sections, first_of_each, with_first_of_each}
 use Rattle.ix_car.proofs.Sections.{section_at-shorter}
 
 -- the list with the section at the front of the rest
@@ -64,25 +64,29 @@ with_sections-append store [] s = refl
 with_sections-append store (t ∷ ss) s = with_sections-append (with_block store (t.cid, t.block)) ss s
 
 -- the blocks from a place on are those of the sections from there on
-blocks-behind : (size n : ℕ) (so_far : List SectionMeaning) (b : List ℕ) → sections_at n (with_sections [] so_far) b ≡ first_of_each (sections_after size n so_far b)
+blocks-behind : (store : Blocks) (size n : ℕ) (so_far : List SectionMeaning) (b : List ℕ) → sections_at n (with_sections store so_far) b ≡ with_first_of_each store (sections_after size n so_far b)
 unfolding sections_at sections_after
-blocks-behind size n so_far [] = refl
-blocks-behind size zero so_far (x ∷ b) = refl
-blocks-behind size (suc n) so_far (x ∷ b) = on_read (section_at (x ∷ b)) (blocks-behind size n) where
+blocks-behind store size n so_far [] = refl
+blocks-behind store size zero so_far (x ∷ b) = refl
+blocks-behind store size (suc n) so_far (x ∷ b) = on_read (section_at (x ∷ b)) (blocks-behind store size n) where
   on_read : (read : Result ((List ℕ × List ℕ) × List ℕ) Fault)
-      → ((more : List SectionMeaning) (rest : List ℕ) → sections_at n (with_sections [] more) rest ≡ first_of_each (sections_after size n more rest))
-      → (read >>= (λ s. sections_at n (with_block (with_sections [] so_far) s.0) s.1))
-      ≡ first_of_each (read >>= (λ s. sections_after size n (with_next size so_far (x ∷ b) s.0) s.1))
-  on_read (Ok s) rest = ap (λ (store : Blocks). sections_at n store s.1) (sym (with_sections-append [] so_far (placed (size - length (x ∷ b)) s.0))) ∙ rest (with_next size so_far (x ∷ b) s.0) s.1
+      → ((more : List SectionMeaning) (rest : List ℕ) → sections_at n (with_sections store more) rest ≡ with_first_of_each store (sections_after size n more rest))
+      → (read >>= (λ s. sections_at n (with_block (with_sections store so_far) s.0) s.1))
+      ≡ with_first_of_each store (read >>= (λ s. sections_after size n (with_next size so_far (x ∷ b) s.0) s.1))
+  on_read (Ok s) rest = ap (λ (blocks : Blocks). sections_at n blocks s.1) (sym (with_sections-append store so_far (placed (size - length (x ∷ b)) s.0))) ∙ rest (with_next size so_far (x ∷ b) s.0) s.1
   on_read (Err f) rest = refl
+
+-- the blocks of a file added to a store are the first section of each CID
+pub blocks-after_sections : (store : Blocks) (b : List ℕ) → blocks_after store b ≡ with_first_of_each store (section_list b)
+blocks-after_sections store b = on_header (header_at b) where
+  on_header : (read : Result (List ℕ) Fault)
+      → (read >>= (λ rest. sections_at (length rest) store rest)) ≡ with_first_of_each store (read >>= (λ rest. sections_after (length b) (length rest) [] rest))
+  on_header (Ok rest) = blocks-behind store (length b) (length rest) [] rest
+  on_header (Err f) = refl
 
 -- the blocks of a file are the first section of each CID
 pub blocks-of_sections : (b : List ℕ) → blocks_of b ≡ first_of_each (section_list b)
-blocks-of_sections b = on_header (header_at b) where
-  on_header : (read : Result (List ℕ) Fault)
-      → (read >>= (λ rest. sections_at (length rest) [] rest)) ≡ first_of_each (read >>= (λ rest. sections_after (length b) (length rest) [] rest))
-  on_header (Ok rest) = blocks-behind (length b) (length rest) [] rest
-  on_header (Err f) = refl
+blocks-of_sections b = blocks-after_sections [] b
 
 -- a definition's fault is what a call fails as
 pub FailsAs-of : {A : Type 0} (kind : CarKind) (left : ℕ) (meant : Result A Fault) → meant ≡ Err (record { kind = kind; left = left }) → FailsAs kind left meant

@@ -69,9 +69,9 @@ sections_at-enough (suc n) (suc m) store (x ∷ b) h k = on_read (section_at (x 
 abbrev pub GoesOn : Blocks → List ℕ → Result Blocks Fault → Type 0
 GoesOn store rest whole = (n : ℕ) → length rest ≤ n → sections_at n store rest ≡ whole
 
--- before the first section the store is empty
-pub GoesOn-first : (b : List ℕ) → GoesOn [] b (sections_at (length b) [] b)
-GoesOn-first b n h = sections_at-enough n (length b) [] b h (omega arith)
+-- before the first section the store is what it was
+pub GoesOn-first : (store : Blocks) (b : List ℕ) → GoesOn store b (sections_at (length b) store b)
+GoesOn-first store b n h = sections_at-enough n (length b) store b h (omega arith)
 
 -- the loop's step: one more section
 pub GoesOn-more : (store : Blocks) (rest : List ℕ) (whole : Result Blocks Fault) (s : (List ℕ × List ℕ) × List ℕ) → 0 < length rest → section_at rest ≡ Ok s → GoesOn store rest whole → GoesOn (with_block store s.0) s.1 whole

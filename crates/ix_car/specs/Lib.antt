@@ -1,4 +1,5 @@
 pub mod Reading
+pub mod Payload
 pub mod Gives
 pub mod Reads
 pub mod Sections

@@ -62,7 +62,11 @@ abbrev pub with_sections : Blocks → List SectionMeaning → Blocks
 with_sections store [] = store
 with_sections store (s ∷ ss) = with_sections (with_block store (s.cid, s.block)) ss
 
+-- a store with the blocks of a file's sections too, the first of each CID, or the file's error
+abbrev pub with_first_of_each : Blocks → Result (List SectionMeaning) Fault → Result Blocks Fault
+with_first_of_each store (Ok sections) = Ok (with_sections store sections)
+with_first_of_each store (Err e) = Err e
+
 -- the blocks of a file's sections, or its error
 abbrev pub first_of_each : Result (List SectionMeaning) Fault → Result Blocks Fault
-first_of_each (Ok sections) = Ok (with_sections [] sections)
-first_of_each (Err e) = Err e
+first_of_each sections = with_first_of_each [] sections

@@ -1,11 +1,18 @@
-//! The law of a file's blocks.
+//! The laws of files' blocks.
 
 ghost use Rattle.std.specs.Prelude.{◌≡◌, ℕ, List};
-ghost use Rattle.ix_car.specs.Reading.{blocks_of};
-ghost use Rattle.ix_car.specs.Sections.{section_list, first_of_each};
+ghost use Rattle.ix_store.specs.Store.{Blocks};
+ghost use Rattle.ix_car.specs.Reading.{blocks_after, blocks_of};
+ghost use Rattle.ix_car.specs.Sections.{section_list, first_of_each, with_first_of_each};
 
 /// States that the blocks of a file are those of its sections, the first of each CID, and that both
 /// have the same errors.
 pub fn blocks_are_the_first_of_each_cid()
     ensures { (b : List ℕ) → blocks_of b ≡ first_of_each (section_list b) }
+{}
+
+/// States that reading one file more adds the blocks of its sections, the first of each CID, in their
+/// order: the blocks of several files are those of their sections put end to end.
+pub fn blocks_of_files_are_end_to_end()
+    ensures { (store : Blocks) (b : List ℕ) → blocks_after store b ≡ with_first_of_each store (section_list b) }
 {}

@@ -11,12 +11,14 @@
 
 mod fault;
 pub mod law;
+mod payload;
 mod reader;
 mod writer;
 
 pub use fault::{CarFault, CarKind};
+pub use payload::{Payload, has_index, is_carv2, payload_of};
 pub use reader::{
-    CarFile, Section, load_car, load_car_by, load_shared_by, read_car, read_header, read_section,
-    read_sections,
+    BlockLoader, CarFile, Section, load_car, load_car_by, load_shared_by, read_car, read_header,
+    read_section, read_sections,
 };
 pub use writer::{header_of, set_section_head, write_section, write_text};

@@ -13,7 +13,7 @@ mod store;
 use crate::fault::{CarFault, CarKind};
 use crate::reader::indexing::InTurn;
 use crate::reader::store::load_shared;
-pub use by_threads::{load_car_by, load_shared_by};
+pub use by_threads::{BlockLoader, load_car_by, load_shared_by};
 use ix_store::Store;
 pub use sections::{CarFile, Section, read_header, read_section, read_sections};
 use std::alloc::Global;

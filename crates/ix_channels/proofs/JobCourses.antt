@@ -51,17 +51,17 @@ visits_small : (store : Blocks) (number : ℕ) (job : JobMeaning) → length (vi
 visits_small store number job =
     let size : length (visits_of store number job) ≡ length (take job.limit (arrivals_of store job)) = from_length store number 0 (take job.limit (arrivals_of store job)) in omega (arith, length-take job.limit (arrivals_of store job))
 
--- so jobs with limits of at most a million have a small course
-course_small : (store : Blocks) (n : ℕ) (jobs : List JobMeaning) → All (λ job. job.limit ≤ 1000000) jobs → IsCourse (course_from store n jobs)
-course_small store n [] h = All-nil (λ p. length p.visits ≤ 1000000)
+-- so jobs with limits below 2^32 have a small course
+course_small : (store : Blocks) (n : ℕ) (jobs : List JobMeaning) → All (λ job. job.limit ≤ 4294967295) jobs → IsCourse (course_from store n jobs)
+course_small store n [] h = All-nil (λ p. length p.visits ≤ 4294967295)
 course_small store n (job ∷ jobs) h =
-    let most : job.limit ≤ 1000000 = All-head (λ job. job.limit ≤ 1000000) job jobs h in
+    let most : job.limit ≤ 4294967295 = All-head (λ job. job.limit ≤ 4294967295) job jobs h in
     let few : length (visits_of store n job) ≤ job.limit = visits_small store n job in
-    All-cons (λ p. length p.visits ≤ 1000000) (record { visits = visits_of store n job; is_truncated = is_over_limit store job }) (course_from store (n + 1) jobs) (omega (arith, most, few))
-    (course_small store (n + 1) jobs (All-tail (λ job. job.limit ≤ 1000000) job jobs h))
+    All-cons (λ p. length p.visits ≤ 4294967295) (record { visits = visits_of store n job; is_truncated = is_over_limit store job }) (course_from store (n + 1) jobs) (omega (arith, most, few))
+    (course_small store (n + 1) jobs (All-tail (λ job. job.limit ≤ 4294967295) job jobs h))
 
 -- the law for `IsSmall`
-pub small : (store : Blocks) (jobs : List JobMeaning) → All (λ job. job.limit ≤ 1000000) jobs → IsCourse (course_of store jobs)
+pub small : (store : Blocks) (jobs : List JobMeaning) → All (λ job. job.limit ≤ 4294967295) jobs → IsCourse (course_of store jobs)
 small store jobs h = course_small store 0 jobs h
 
 -- ---- job by job
@@ -177,12 +177,12 @@ module _ (store : Blocks) (jobs : List JobMeaning) where
   one_good item.Stop a = tt
 
   -- the law for `GivesGood`, item by item
-  pub good : (items : List Item) → All (λ job. job.limit ≤ 1000000) jobs → IsWellTaken (course_of store jobs) items → IsGoodTaken store jobs items
+  pub good : (items : List Item) → All (λ job. job.limit ≤ 4294967295) jobs → IsWellTaken (course_of store jobs) items → IsGoodTaken store jobs items
   good items limits h = record {
     allowed = All-weaker (Allowed (course_of store jobs)) (IsOfCourse store jobs) one_good items h.allowed;
     once = h.once;
     last = h.last;
-    small = λ j. subst (λ (n : ℕ). n ≤ 1000000) (length_same j) (IsCourse-at (course_of store jobs) j (small store jobs limits));
+    small = λ j. subst (λ (n : ℕ). n ≤ 4294967295) (length_same j) (IsCourse-at (course_of store jobs) j (small store jobs limits));
   }
 
 -- ---- what a walk puts is allowed

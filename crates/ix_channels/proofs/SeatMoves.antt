@@ -104,11 +104,11 @@ next_one j n (item.Visit v) is stays = refl
 next_one j n (item.Close k m e) is stays = absurd (true≢false stays)
 next_one j n item.Stop is stays = absurd (true≢false (sym is))
 
--- a small course has at most a million visits of each job
-pub IsCourse-at : (c : List JobVisits) (j : ℕ) → IsCourse c → length (course_visits c j) ≤ 1000000
+-- a small course has fewer than 2^32 visits of each job
+pub IsCourse-at : (c : List JobVisits) (j : ℕ) → IsCourse c → length (course_visits c j) ≤ 4294967295
 IsCourse-at [] j h = omega arith
-IsCourse-at (p ∷ ps) zero h = All-head (λ p. length p.visits ≤ 1000000) p ps h
-IsCourse-at (p ∷ ps) (suc j) h = IsCourse-at ps j (All-tail (λ p. length p.visits ≤ 1000000) p ps h)
+IsCourse-at (p ∷ ps) zero h = All-head (λ p. length p.visits ≤ 4294967295) p ps h
+IsCourse-at (p ∷ ps) (suc j) h = IsCourse-at ps j (All-tail (λ p. length p.visits ≤ 4294967295) p ps h)
 
 -- one seat more at the end of those made so far
 pub map-count_up : {A : Type 0} (f : ℕ → A) (k : ℕ) → map f (count_up 0 (k + 1)) ≡ map f (count_up 0 k) ++ f k ∷ []

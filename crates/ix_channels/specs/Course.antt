@@ -13,9 +13,9 @@ use Rattle.ix_channels.specs.Good.{IsCloseOf}
 use Rattle.ix_channels.specs.Sent.{is_item, is_end}
 use Rattle.ix_channels.specs.Totals.{total}
 
--- each job has at most a million visits
+-- each job has fewer than 2^32 visits
 abbrev pub IsCourse : List JobVisits → Type 0
-IsCourse course = All (λ p. length p.visits ≤ 1000000) course
+IsCourse course = All (λ p. length p.visits ≤ 4294967295) course
 
 -- the visits of a job, or none if there is no such job
 abbrev pub course_visits : List JobVisits → ℕ → List Visit

@@ -31,9 +31,9 @@ AllowsVisits = (store : Blocks) (jobs : List JobMeaning) (n k : ℕ) (job : JobM
 abbrev pub AllowsCloses : Type 0
 AllowsCloses = (store : Blocks) (jobs : List JobMeaning) (n k : ℕ) (job : JobMeaning) (end : End) → slice_get jobs n ≡ Some job → IsCloseOf end k (visits_of store n job) (is_over_limit store job) → Allowed (course_of store jobs) (item.Close n k end)
 
--- if each job's limit is at most a million, each has at most a million visits
+-- if each job's limit is below 2^32, each has fewer than 2^32 visits
 abbrev pub IsSmall : Type 0
-IsSmall = (store : Blocks) (jobs : List JobMeaning) → All (λ job. job.limit ≤ 1000000) jobs → IsCourse (course_of store jobs)
+IsSmall = (store : Blocks) (jobs : List JobMeaning) → All (λ job. job.limit ≤ 4294967295) jobs → IsCourse (course_of store jobs)
 
 -- its visits are visits of the store
 abbrev pub IsOfStore : Type 0
@@ -41,4 +41,4 @@ IsOfStore = (store : Blocks) (jobs : List JobMeaning) → IsCourseOf store (cour
 
 -- what is well taken by it is good
 abbrev pub GivesGood : Type 0
-GivesGood = (store : Blocks) (jobs : List JobMeaning) (items : List Item) → All (λ job. job.limit ≤ 1000000) jobs → IsWellTaken (course_of store jobs) items → IsGoodTaken store jobs items
+GivesGood = (store : Blocks) (jobs : List JobMeaning) (items : List Item) → All (λ job. job.limit ≤ 4294967295) jobs → IsWellTaken (course_of store jobs) items → IsGoodTaken store jobs items

@@ -48,4 +48,4 @@ pub record IsGood (store : Blocks) (jobs : List JobMeaning) (got : List Verdicte
   pub allowed : All (IsAllowed store jobs) got
   pub once : (j n : ℕ) → seen (tally j got) n ≤ 1
   pub last : (j k n : ℕ) → 0 < (tally j got).closes k → k < n → seen (tally j got) n ≡ 0
-  pub small : (j : ℕ) → length (judged_at store jobs j) ≤ 1000000
+  pub small : (j : ℕ) → length (judged_at store jobs j) ≤ 4294967295

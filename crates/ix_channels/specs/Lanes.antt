@@ -42,9 +42,17 @@ IsNewLane room i o = IsLane i o × (sent_by i ≡ []) × (received_by o ≡ []) 
 abbrev pub HasSent : LaneIn → Verdicted → LaneIn → Type 0
 HasSent old x new = sent_by new ≡ sent_by old ++ x ∷ []
 
+-- the receiver looked into the lane, and received nothing
+abbrev pub HasLooked : LaneOut → LaneOut → Type 0
+HasLooked old new = SameOut old new × (received_by new ≡ received_by old)
+
 -- the item was received, after what was received before
 abbrev pub HasReceived : LaneOut → Verdicted → LaneOut → Type 0
 HasReceived old x new = received_by new ≡ received_by old ++ x ∷ []
+
+-- the item is the next that the receiver gets
+abbrev pub IsFront : LaneOut → Verdicted → Type 0
+IsFront l x = IsPrefix (x ∷ []) (seen_in l)
 
 -- the item is the next of those that the receiver had seen
 abbrev pub IsSeen : LaneOut → Verdicted → LaneOut → Type 0

@@ -35,7 +35,7 @@ pub record IsJobPass (v : PassView) (j n : ℕ) (closed : Bool) : Type 0 where
   pub maker : v.maker ≡ false
   pub job : v.job ≡ Some j
   pub taken : v.taken ≡ []
-  pub small : (n ≤ length (course_visits v.course j)) × (length (course_visits v.course j) ≤ 1000000)
+  pub small : (n ≤ length (course_visits v.course j)) × (length (course_visits v.course j) ≤ 4294967295)
   pub while_open : closed ≡ false → v.put ≡ opened v.course j n
   pub once_closed : closed ≡ true → (e : End) × (v.put ≡ opened v.course j n ++ item.Close j n e ∷ []) × MayClose v.course j n e
 

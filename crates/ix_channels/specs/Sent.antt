@@ -65,4 +65,4 @@ pub record IsGoodTaken (store : Blocks) (jobs : List JobMeaning) (items : List I
   pub allowed : All (IsOfCourse store jobs) items
   pub once : (j n : ℕ) → total (is_item j n) items ≤ 1
   pub last : (j k n : ℕ) → 0 < total (is_end j k) items → k < n → total (is_item j n) items ≡ 0
-  pub small : (j : ℕ) → length (judged_at store jobs j) ≤ 1000000
+  pub small : (j : ℕ) → length (judged_at store jobs j) ≤ 4294967295

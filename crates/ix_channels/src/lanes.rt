@@ -1,10 +1,10 @@
 //! A lane: a bounded single-producer, single-consumer channel from one verifier to the collector.
 
-ghost use Rattle.std.specs.Prelude.{◌≡◌, ◌≤◌, ◌+◌, [], IfOk, IfErr, IfSome, IfNone, OnOk, OnErr};
+ghost use Rattle.std.specs.Prelude.{◌≡◌, ◌≤◌, ◌<◌, ◌+◌, ◌↔◌, [], ◌∷◌, length, IsTrue, IfOk, IfErr, IfSome, IfNone, OnOk, OnErr};
 ghost use mathlib.Core.List.{IsPrefix};
 ghost use Rattle.ix_channels.specs.Lanes.{sent_by, received_by, room_in, seen_in};
 ghost use Rattle.ix_channels.specs.Lanes.{IsLane, IsNewLane, IsSameLane, SameIn, SameOut};
-ghost use Rattle.ix_channels.specs.Lanes.{HasSent, HasReceived, IsSeen, IsEmptied};
+ghost use Rattle.ix_channels.specs.Lanes.{HasSent, HasLooked, HasReceived, IsFront, IsSeen, IsEmptied};
 
 use crate::verdicted::Verdicted;
 use rtrb::{Consumer, PopError, Producer, PushError, RingBuffer};
@@ -59,6 +59,32 @@ impl LaneOut {
             Ok(item) => Some(item),
             Err(PopError::Empty) => None,
         }
+    }
+
+    /// Whether the lane is empty. The sender may send more at any time.
+    pub fn is_empty(&mut self) -> bool
+        ensures looked { HasLooked self.old self.new }
+        ensures value { IsTrue result ↔ (length (seen_in self.new) ≡ 0) }
+    {
+        self.consumer.is_empty()
+    }
+
+    /// Returns the next item of a lane that isn't empty, and leaves it in the lane.
+    pub fn front(&self) -> &Verdicted
+        requires { 0 < length (seen_in self.now) }
+        ensures { IsFront self.now result.now }
+    {
+        self.consumer.peek_known()
+    }
+
+    /// Receives the next item of a lane that isn't empty.
+    pub fn take_front(&mut self) -> Verdicted
+        requires { 0 < length (seen_in self.old) }
+        ensures same { SameOut self.old self.new }
+        ensures received { HasReceived self.old result self.new }
+        ensures front { seen_in self.old ≡ result ∷ seen_in self.new }
+    {
+        self.consumer.pop_known()
     }
 }
 

@@ -47,7 +47,7 @@ fn name_course<N: Naming, K: Course>(
 fn job_seat(ruled: &RuledQueue, pass: &mut Pass<Item, PassView>, job: u32) -> JobSeat
     requires pass { IsMaker ruled.now pass.old job }
     requires parts { job + 1 < (view pass.old).all }
-    requires course { length (course_visits (view pass.old).course job) ≤ 1000000 }
+    requires course { length (course_visits (view pass.old).course job) ≤ 4294967295 }
     ensures made { HasMade pass.old pass.new (job + 1) }
     ensures seat { result ≡ job_made ruled.now pass.old job }
 {

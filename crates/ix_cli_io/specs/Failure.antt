@@ -12,7 +12,7 @@ use Rattle.ix_walk.specs.JobMeaning.{JobMeaning}
 use Rattle.ix_run.specs.FaultLine as run_lines
 use Rattle.ix_selector_json.specs.FaultWords as selector_lines
 use Rattle.ix_cli_io.specs.declared.fault.Failure.{Failure}
-use Rattle.ix_cli_io.specs.declared.fault.Failure.TheVariants.{Usage, Words, Fault, Explained, Selector, CannotRead, TooLarge, CannotWrite}
+use Rattle.ix_cli_io.specs.declared.fault.Failure.TheVariants.{Usage, Words, Fault, Explained, InFile, Selector, CannotRead, TooLarge, CannotWrite}
 use Rattle.ix_run.specs.declared.fault.RunFault.TheVariants.{Memory}
 
 -- an error on a file that says that memory ran out
@@ -49,8 +49,9 @@ pub record NamesFile (told : String Global → io.Error → Failure) (path : Lis
 -- the failure names this path as that of an input that is too large, or memory ran out
 pub record NamesLarge (path : List ℕ) (failure : Failure) : Type 0 where
   pub name : String Global
+  pub cause : String Global
   pub named : string_bytes name ≡ path
-  pub told_is : failure ≡ TooLarge name
+  pub told_is : failure ≡ TooLarge name cause
 
 abbrev pub IsTooLarge : List ℕ → Failure → Type 0
 IsTooLarge path failure = (failure ≡ Fault Memory) ⊎ NamesLarge path failure
@@ -59,15 +60,15 @@ IsTooLarge path failure = (failure ≡ Fault Memory) ⊎ NamesLarge path failure
 abbrev pub IsInputFailure : List ℕ → Failure → Type 0
 IsInputFailure path failure = Names CannotRead path failure ⊎ IsTooLarge path failure
 
--- what is read from this path is no larger than the greatest input, or else it is rejected
-abbrev pub IsRead : List ℕ → Result (Vec ℕ) Failure → Type 0
-IsRead path (Ok input) = length input.items ≤ 1073741824
-IsRead path (Err failure) = IsInputFailure path failure
+-- what is read from this path has at most so many bytes, or else it is rejected
+abbrev pub IsRead : ℕ → List ℕ → Result (Vec ℕ) Failure → Type 0
+IsRead most path (Ok input) = length input.items ≤ most
+IsRead most path (Err failure) = IsInputFailure path failure
 
 -- the same for what a reader gives: all that it has, if that is known
-pub record IsReadFrom (known : Option (List ℕ)) (path : List ℕ) (result : Result (Vec ℕ) Failure) : Type 0 where
+pub record IsReadFrom (known : Option (List ℕ)) (most : ℕ) (path : List ℕ) (result : Result (Vec ℕ) Failure) : Type 0 where
   pub whole : IfOk result (λ input. IfSome known (λ bytes. input.items ≡ bytes))
-  pub read : IsRead path result
+  pub read : IsRead most path result
 
 -- the path of the output of a job of this name
 abbrev pub output_path : List ℕ → List ℕ → List ℕ
@@ -113,9 +114,10 @@ IsLineOf (Usage error) line = Unit {0}
 IsLineOf (Words argument) line = line ≡ codes "error: an argument is not UTF-8: " ++ string_bytes argument
 IsLineOf (Fault fault) line = line ≡ run_lines.line_of fault
 IsLineOf (Explained fault cause) line = line ≡ run_lines.line_of fault
+IsLineOf (InFile fault name cause) line = line ≡ run_lines.line_of fault ++ (codes " in " ++ string_bytes name)
 IsLineOf (Selector fault) line = line ≡ selector_lines.line_of fault
 IsLineOf (CannotRead name cause) line = line ≡ codes "cannot read " ++ string_bytes name
-IsLineOf (TooLarge name) line = line ≡ codes "too large " ++ string_bytes name
+IsLineOf (TooLarge name cause) line = line ≡ codes "too large " ++ string_bytes name
 IsLineOf (CannotWrite name cause) line = line ≡ codes "cannot write " ++ string_bytes name
 
 -- this text is neither a help nor a version: it is an error

@@ -1,6 +1,6 @@
 //! Which outputs are rejected before anything is created.
 
-use crate::input_file::{InputFile, check_no_input, identify};
+use crate::input_file::{InputFile, check_no_input, identify_all};
 use crate::part::{check_part, part_path};
 use std::fs::{self, File};
 use std::io::{self, ErrorKind};
@@ -10,7 +10,7 @@ use std::rt::Files;
 pub(crate) fn check_file<R: Files<File = File> + AllocGlobal>(
     rt: &R,
     path: &str,
-    input: &str,
+    inputs: &[&str],
 ) -> io::Result<()> {
     match fs::metadata(rt, path) {
         Ok(metadata) if !metadata.is_file() && !metadata.is_dir() => {
@@ -18,15 +18,15 @@ pub(crate) fn check_file<R: Files<File = File> + AllocGlobal>(
         }
         _ => {}
     }
-    let input = identify(rt, input);
-    check_output(rt, path, [input, input])
+    let inputs = identify_all(rt, inputs)?;
+    check_output(rt, path, inputs.as_slice())
 }
 
 /// Rejects an output that is a directory or an input, or that another run writes.
 pub(crate) fn check_output<R: Files<File = File> + AllocGlobal>(
     rt: &R,
     path: &str,
-    inputs: [InputFile; 2],
+    inputs: &[InputFile],
 ) -> io::Result<()> {
     let part = part_path(rt.alloc(), path)?;
     match fs::metadata(rt, path) {

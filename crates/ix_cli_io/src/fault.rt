@@ -32,12 +32,14 @@ pub enum Failure {
     Fault(RunFault),
     /// An error of the library, and what is known of its cause.
     Explained(RunFault, String),
+    /// An error in one of several block files: the error, the file's path, and what is known of the cause.
+    InFile(RunFault, String, String),
     /// A text that is not a selector.
     Selector(NotationFault),
     /// An input can't be read: its path, `-` for standard input, and the cause.
     CannotRead(String, io::Error),
-    /// An input has more than 1 GiB: its path.
-    TooLarge(String),
+    /// An input is too large: its path, and how large it may be.
+    TooLarge(String, String),
     /// An output can't be created or written: its path, `-` for standard output, and the cause.
     CannotWrite(String, io::Error),
 }
@@ -84,12 +86,12 @@ impl Failure {
         }
     }
 
-    /// Returns the failure for an input that is too large.
-    pub fn too_large(alloc: Global, path: &str) -> Failure
+    /// Returns the failure for an input that is too large, for this cause.
+    pub fn too_large(alloc: Global, path: &str, cause: String) -> Failure
         ensures { IsTooLarge path.now result }
     {
         match String::from_str(alloc, path) {
-            Ok(path) => Failure::TooLarge(path),
+            Ok(path) => Failure::TooLarge(path, cause),
             Err(_) => Failure::Fault(RunFault::Memory),
         }
     }
@@ -133,9 +135,13 @@ impl Failure {
                 format!(in alloc; "error: an argument is not UTF-8: {argument}")
             }
             Failure::Fault(fault) | Failure::Explained(fault, _) => fault_line(alloc, fault),
+            Failure::InFile(fault, path, _) => {
+                let line = fault_line(alloc, fault)?;
+                format!(in alloc; "{line} in {path}")
+            }
             Failure::Selector(fault) => ix_selector_json::fault_line(alloc, fault),
             Failure::CannotRead(path, _) => format!(in alloc; "cannot read {path}"),
-            Failure::TooLarge(path) => format!(in alloc; "too large {path}"),
+            Failure::TooLarge(path, _) => format!(in alloc; "too large {path}"),
             Failure::CannotWrite(path, _) => format!(in alloc; "cannot write {path}"),
         }
     }
@@ -147,10 +153,9 @@ impl Failure {
             Failure::CannotWrite(_, error) => {
                 Ok(Some(cause_of(alloc, error, "; its directory must exist")?))
             }
-            Failure::TooLarge(_) => {
-                Ok(Some(String::from_str(alloc, "an input has at most 1073741824 bytes")?))
-            }
-            Failure::Explained(_, cause) => Ok(Some(cause.clone()?)),
+            Failure::TooLarge(_, cause)
+            | Failure::Explained(_, cause)
+            | Failure::InFile(_, _, cause) => Ok(Some(cause.clone()?)),
             Failure::Fault(fault) => cause_of_fault(alloc, fault),
             Failure::Usage(_) | Failure::Words(_) | Failure::Selector(_) => Ok(None),
         }

@@ -2,6 +2,7 @@
 
 use crate::files::STANDARD_INPUT;
 use crate::part::FileId;
+use std::alloc::AllocError;
 use std::fs;
 use std::io::{self, ErrorKind};
 use std::rt::Files;
@@ -20,8 +21,20 @@ pub(crate) enum InputFile {
     Unknown,
 }
 
-/// Returns which file the input at a path is; `-` is standard input.
-pub(crate) fn identify<R: Files>(rt: &R, path: &str) -> InputFile {
+/// Returns which files the inputs at these paths are; `-` is standard input.
+pub(crate) fn identify_all<R: Files + AllocGlobal>(
+    rt: &R,
+    paths: &[&str],
+) -> Result<Vec<InputFile>, AllocError> {
+    let mut inputs = Vec::with_capacity(rt.alloc(), paths.len())?;
+    for path in paths {
+        inputs.push(identify(rt, path))?;
+    }
+    Ok(inputs)
+}
+
+// Returns which file the input at a path is; `-` is standard input.
+fn identify<R: Files>(rt: &R, path: &str) -> InputFile {
     if path != STANDARD_INPUT {
         return file_id(rt, path).map_or(InputFile::Gone, InputFile::Known);
     }
@@ -34,16 +47,12 @@ pub(crate) fn identify<R: Files>(rt: &R, path: &str) -> InputFile {
 }
 
 /// Rejects an output if its path, or its part, is one of the inputs under any name, or may be one.
-pub(crate) fn check_no_input<R: Files>(
-    rt: &R,
-    path: &str,
-    inputs: [InputFile; 2],
-) -> io::Result<()> {
+pub(crate) fn check_no_input<R: Files>(rt: &R, path: &str, inputs: &[InputFile]) -> io::Result<()> {
     let Some(id) = file_id(rt, path) else {
         return Ok(());
     };
     for input in inputs {
-        match input {
+        match *input {
             InputFile::Known(input) if input == id => {
                 return Err(io::Error::new(
                     ErrorKind::AlreadyExists,

@@ -1,17 +1,16 @@
 //! The files and messages of the program: inputs, outputs, progress, and errors.
 //!
-//! An input has at most 1 GiB, and is all that its reader has, if that is known. Each job has an output,
+//! An input has no more bytes than are asked for, and is all that its reader has, if that is known. Each job has an output,
 //! which is `.part` until `publish_outputs` renames it, or `discard_outputs` removes it. A failure names
 //! its path, or says that memory ran out, and its status is 2. The help and the version are not failures.
 //! No contract says what is in files.
 //!
 //! ```rust
-//! let car = read_input(rt, "library.car")?;
-//! let file = read_input(rt, "library.jobs")?;
-//! let (store, jobs) = load(rt, alloc, car, file.as_slice(), choice, 8)?;
+//! let blocks = load_input(rt, "library.car", ANY_SIZE, 8, &progress)?;
+//! let file = read_input(rt, "library.jobs", LARGEST_INPUT)?;
 //! let errors = WriteErrors::new();
 //! let inputs = ["library.car", "library.jobs"];
-//! let outputs = make_outputs(rt, "out", jobs.as_slice(), inputs, false)?;
+//! let outputs = make_outputs(rt, "out", jobs.as_slice(), &inputs, false)?;
 //! let writers = writers_to(alloc, outputs.as_slice(), &errors)?;
 //! let out = run(rt, alloc, &store, &jobs, writers, 4, plan)?;
 //! let results = out.results.as_slice();
@@ -24,6 +23,7 @@ mod fault;
 mod files;
 mod help;
 mod input_file;
+mod memory;
 mod naming;
 mod output;
 mod outputs;
@@ -34,7 +34,9 @@ mod streams;
 mod write_errors;
 
 pub use fault::{Causes, Failure, REFUSED};
-pub use files::{STANDARD_INPUT, load_input, read_all, read_input};
+pub use files::{
+    ANY_SIZE, LARGEST_INPUT, STANDARD_INPUT, load_input, read_all, read_input, size_of_all,
+};
 pub use help::Help;
 pub use naming::{Naming, failed_write, failed_writes, met_roots_alone};
 pub use output::{Output, OutputWriter};

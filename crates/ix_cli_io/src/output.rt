@@ -36,19 +36,18 @@ impl Output {
     ghost use Rattle.ix_cli_io.specs.Output.{path_of};
 
     /// Creates the output of a path. It is rejected if the path is a directory, a device or the like, if
-    /// it is the file of the path `input` under any name (`-` is standard input), or if another run writes
-    /// it. If it is to be synced, a flush returns the errors that the system would otherwise report at the
+    /// it is one of the input files under any name (`-` is standard input), or if another run writes it. If it is to be synced, a flush returns the errors that the system would otherwise report at the
     /// close, where nobody sees them.
     pub fn create<R: Files<File = File> + AllocGlobal>(
         rt: &R,
         path: &str,
-        input: &str,
+        inputs: &[&str],
         is_synced: bool,
     ) -> Result<Output, Failure>
         ensures made { IfOk result (λ output. path_of output ≡ path.now) }
         ensures refused { RefusesPath path.now result }
     {
-        match check_file(rt, path, input) {
+        match check_file(rt, path, inputs) {
             Ok(()) => Output::begin(rt, String::from_str(rt.alloc(), path)?, is_synced),
             Err(error) => Err(Failure::cannot_write(rt.alloc(), path, &error)),
         }

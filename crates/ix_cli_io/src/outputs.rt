@@ -10,7 +10,7 @@ ghost use Rattle.ix_cli_io.specs.Naming.{Joins};
 
 use crate::check::check_output;
 use crate::fault::Failure;
-use crate::input_file::{InputFile, identify};
+use crate::input_file::{InputFile, identify_all};
 use crate::naming::Naming;
 use crate::output::{Output, OutputWriter};
 use crate::write_errors::WriteErrors;
@@ -35,15 +35,15 @@ pub fn make_outputs<R: Files<File = File> + AllocGlobal>(
     rt: &R,
     folder: &str,
     jobs: &[Job],
-    inputs: [&str; 2],
+    inputs: &[&str],
     is_synced: bool,
 ) -> Result<Vec<Output>, Failure>
     ensures { MakesOutputs folder.now jobs.now result }
 {
     let alloc = rt.alloc();
-    let inputs = [identify(rt, inputs[0]), identify(rt, inputs[1])];
+    let inputs = identify_all(rt, inputs)?;
     for job in jobs {
-        check_job(rt, folder, job, inputs)?;
+        check_job(rt, folder, job, inputs.as_slice())?;
     }
     // The room is allocated before the first file is created, so none of them is lost.
     let mut outputs = Vec::with_capacity(alloc, jobs.len())?;
@@ -64,7 +64,7 @@ fn check_job<R: Files<File = File> + AllocGlobal>(
     rt: &R,
     folder: &str,
     job: &Job,
-    inputs: [InputFile; 2],
+    inputs: &[InputFile],
 ) -> Result<(), Failure>
     ensures { RefusesOutputOf folder.now job.now result }
 {

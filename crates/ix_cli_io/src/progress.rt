@@ -89,12 +89,12 @@ impl<'a, R: AllocGlobal + Clock + Eprint> Progress<'a, R> {
     }
 
     /// Sets how many bytes of blocks there are to be read.
-    pub(crate) fn expect(&self, size: u64) {
+    pub fn expect(&self, size: u64) {
         self.size.set(size);
     }
 
-    // Counts so many more bytes of blocks that were read.
-    fn add_loaded(&self, bytes: u64) {
+    /// Counts so many more bytes of blocks that were read.
+    pub(crate) fn add_loaded(&self, bytes: u64) {
         self.loaded.set(self.loaded.get().saturating_add(bytes));
         if self.is_due(false) {
             let (loaded, size) = (mebibytes(self.loaded.get()), mebibytes(self.size.get()));

@@ -1,8 +1,7 @@
 -- A visit of a job comes.
-use Rattle.std.proofs.Common.{◌≡◌, ℕ, ◌+◌, ◌<◌, ◌≤◌, Bool, true, false, List, length, Option, Some, None, refl, sym, ◌∙◌, subst, inl, inr, arith}
+use Rattle.std.proofs.Common.{◌≡◌, ℕ, ◌+◌, ◌<◌, ◌≤◌, Bool, true, false, List, Option, Some, None, refl, sym, ◌∙◌, subst, inl, inr, arith}
 use Rattle.std.specs.Prelude.{is_some, not, min, ◌||◌}
 use Rattle.std.proofs.lemmas.Bool.{cases_lt, cases_Bool}
-use Rattle.std.proofs.lemmas.Option.{slice_get_within}
 use Rattle.ix_archive.specs.declared.sink.Delivery.{Delivery}
 use Rattle.ix_archive.specs.Events.{Event}
 use Rattle.ix_reorder.specs.declared.fault.RingFault.{RingFault}
@@ -13,7 +12,7 @@ use Rattle.ix_collect.specs.declared.job_progress.Stage.TheVariants.{Delivering,
 use Rattle.ix_collect.specs.declared.job_progress.WalkEnd.{WalkEnd}
 use Rattle.ix_reorder.specs.Numbered.{Numbered, found, IsPlaced, IsRefused, IsMemory}
 use Rattle.ix_channels.specs.Received.{Tally, seen, point}
-use Rattle.ix_collect.specs.JobProgress.{IsFine, Adds, none_of, IsArrival, IsHeld, IsWaiting, IsOn, IsCloseKnown, IsUnderWay}
+use Rattle.ix_collect.specs.JobProgress.{IsFine, Adds, none_of, IsArrival, IsHeld, IsNear, IsWaiting, IsOn, IsCloseKnown, IsUnderWay}
 use Rattle.ix_collect.proofs.Counting.{point_here, point_else, few_items}
 
 -- once memory ran out, this stays noted
@@ -92,19 +91,14 @@ module _ (all : List Delivery) (over : Bool) where
   seen_held t out_of_memory k None h = let l : 0 < t.unchecked k = h.1 in omega arith
 
   -- the count of items is within its bound, so it can't saturate
-  few_before : (t u : Tally) (seq : ℕ) (o : Option Delivery) → IsFine all u → IsArrival all seq o t u → t.count < 1000001
-  few_before t u seq (Some d) fine a = let e : u.count ≡ 1 + t.count = (let r = a.1 in r.count_is) in let l : u.count ≤ 1000001 = few_items all u fine in omega arith
-  few_before t u seq None fine a = let e : u.count ≡ 1 + t.count = (let r = a.1 in r.count_is) in let l : u.count ≤ 1000001 = few_items all u fine in omega arith
+  few_before : (t u : Tally) (seq : ℕ) (o : Option Delivery) → IsFine all u → IsArrival all seq o t u → t.count < 4294967296
+  few_before t u seq (Some d) fine a = let e : u.count ≡ 1 + t.count = (let r = a.1 in r.count_is) in let l : u.count ≤ 4294967296 = few_items all u fine in omega arith
+  few_before t u seq None fine a = let e : u.count ≡ 1 + t.count = (let r = a.1 in r.count_is) in let l : u.count ≤ 4294967296 = few_items all u fine in omega arith
 
   -- an arrival counts as one item
   arrival_count : (t u : Tally) (seq : ℕ) (o : Option Delivery) → IsArrival all seq o t u → u.count ≡ 1 + t.count
   arrival_count t u seq (Some d) a = let r = a.1 in r.count_is
   arrival_count t u seq None a = let r = a.1 in r.count_is
-
-  -- the number of an arrival is one of the job's visits
-  arrival_below : (t u : Tally) (seq : ℕ) (o : Option Delivery) → IsArrival all seq o t u → seq < length all
-  arrival_below t u seq (Some d) a = slice_get_within all seq d a.0
-  arrival_below t u seq None a = a.0
 
   -- an arrival doesn't change what is known of the close
   arrival_close : (t u : Tally) (seq : ℕ) (o : Option Delivery) (out_of_memory more : Bool) (w : Option WalkEnd) → IsArrival all seq o t u → Stays out_of_memory more → IsCloseKnown all over t out_of_memory w → IsCloseKnown all over u more w
@@ -144,10 +138,10 @@ module _ (all : List Delivery) (over : Bool) where
 
   -- a visit came, and where it went is known
   arrives : (t u : Tally) (seq : ℕ) (o : Option Delivery) (p q : JobProgress) (events : List Event) (failed : List Delivery)
-      → IsFine all u → IsArrival all seq o t u → (w : IsUnderWay all over t p events failed) → (p.arrived < 1000001 → q.arrived ≡ 1 + p.arrived) → q.close ≡ p.close → Stays p.out_of_memory q.out_of_memory → IsShortBy o q.out_of_memory
+      → IsFine all u → IsArrival all seq o t u → (w : IsUnderWay all over t p events failed) → (p.arrived < 4294967296 → q.arrived ≡ 1 + p.arrived) → q.close ≡ p.close → Stays p.out_of_memory q.out_of_memory → IsShortBy o q.out_of_memory
       → IsOn all u w.count q.out_of_memory q.ring failed q.stage → IsUnderWay all over u q events failed
   arrives t u seq o p q events failed fine a w counts closes stays out_of_memory on =
-      let few : t.count < 1000001 = few_before t u seq o fine a in
+      let few : t.count < 4294967296 = few_before t u seq o fine a in
       let was : p.arrived ≡ t.count = w.arrived in
       let is : q.arrived ≡ 1 + p.arrived = counts (omega arith) in
       let more : u.count ≡ 1 + t.count = arrival_count t u seq o a in
@@ -175,7 +169,7 @@ module _ (all : List Delivery) (over : Bool) where
 
   -- a visit came after deliveries had ended
   pub arrives_late : (t u : Tally) (seq : ℕ) (o : Option Delivery) (p q : JobProgress) (events : List Event) (failed : List Delivery)
-      → IsFine all u → IsArrival all seq o t u → IsUnderWay all over t p events failed → (p.arrived < 1000001 → q.arrived ≡ 1 + p.arrived) → q.close ≡ p.close → Stays p.out_of_memory q.out_of_memory → IsShortBy o q.out_of_memory
+      → IsFine all u → IsArrival all seq o t u → IsUnderWay all over t p events failed → (p.arrived < 4294967296 → q.arrived ≡ 1 + p.arrived) → q.close ≡ p.close → Stays p.out_of_memory q.out_of_memory → IsShortBy o q.out_of_memory
       → (p.stage ≡ Delivering → ⊥) → q.stage ≡ p.stage → IsUnderWay all over u q events failed
   arrives_late t u seq o p q events failed fine a w counts closes stays out_of_memory ne stage =
       arrives t u seq o p q events failed fine a w counts closes stays out_of_memory
@@ -183,7 +177,7 @@ module _ (all : List Delivery) (over : Bool) where
 
   -- a visit was placed
   pub arrives_placed : (t u : Tally) (seq : ℕ) (o : Option Delivery) (p q : JobProgress) (events : List Event) (failed : List Delivery)
-      → IsFine all u → IsArrival all seq o t u → IsUnderWay all over t p events failed → (p.arrived < 1000001 → q.arrived ≡ 1 + p.arrived) → q.close ≡ p.close → Stays p.out_of_memory q.out_of_memory → IsShortBy o q.out_of_memory
+      → IsFine all u → IsArrival all seq o t u → IsUnderWay all over t p events failed → (p.arrived < 4294967296 → q.arrived ≡ 1 + p.arrived) → q.close ≡ p.close → Stays p.out_of_memory q.out_of_memory → IsShortBy o q.out_of_memory
       → p.stage ≡ Delivering → q.stage ≡ p.stage → IsPlaced p.ring seq o q.ring → IsUnderWay all over u q events failed
   arrives_placed t u seq o p q events failed fine a w counts closes stays out_of_memory at stage placed =
       let on = on_delivering t w.count p.out_of_memory p.ring failed p.stage at w.on in
@@ -192,7 +186,7 @@ module _ (all : List Delivery) (over : Bool) where
 
   -- memory ran out as a visit was placed
   pub arrives_short : (t u : Tally) (seq : ℕ) (o : Option Delivery) (p q : JobProgress) (events : List Event) (failed : List Delivery)
-      → IsFine all u → IsArrival all seq o t u → IsUnderWay all over t p events failed → (p.arrived < 1000001 → q.arrived ≡ 1 + p.arrived) → q.close ≡ p.close → q.out_of_memory ≡ true
+      → IsFine all u → IsArrival all seq o t u → IsUnderWay all over t p events failed → (p.arrived < 4294967296 → q.arrived ≡ 1 + p.arrived) → q.close ≡ p.close → q.out_of_memory ≡ true
       → p.stage ≡ Delivering → q.stage ≡ Stopped → IsUnderWay all over u q events failed
   arrives_short t u seq o p q events failed fine a w counts closes out_of_memory at stage =
       let on = on_delivering t w.count p.out_of_memory p.ring failed p.stage at w.on in
@@ -202,23 +196,23 @@ module _ (all : List Delivery) (over : Bool) where
       short_by (Some d) more e = tt
       short_by None more e = e
 
-  -- the ring rejects an arrival that fits for lack of memory alone
+  -- the ring rejects an arrival that fits and is near for lack of memory alone
   pub refused_for_memory : (t u : Tally) (seq : ℕ) (o : Option Delivery) (p : JobProgress) (events : List Event) (failed : List Delivery) (fault : RingFault (Option Delivery))
-      → IsFine all u → IsArrival all seq o t u → IsUnderWay all over t p events failed → p.stage ≡ Delivering → IsRefused p.ring seq o fault → IsMemory fault
-  refused_for_memory t u seq o p events failed (faults.Passed x) fine a w at r =
+      → IsFine all u → IsArrival all seq o t u → IsUnderWay all over t p events failed → p.stage ≡ Delivering → IsNear p seq → IsRefused p.ring seq o fault → IsMemory fault
+  refused_for_memory t u seq o p events failed (faults.Passed x) fine a w at near r =
       let on = on_delivering t w.count p.out_of_memory p.ring failed p.stage at w.on in
       let next : w.count ≡ p.ring.next = on.0 in
       let lt : seq < p.ring.next = r.1 in
       let some : 0 < t.checked seq = w.checked seq (omega arith) in
       twice t u seq o fine a (omega arith)
-  refused_for_memory t u seq o p events failed (faults.Far x) fine a w at r =
-      let far : p.ring.next + 1048576 ≤ seq = r.1 in let lt : seq < length all = arrival_below t u seq o a in let small : length all ≤ 1000000 = fine.small in absurd (omega arith)
-  refused_for_memory t u seq o p events failed (faults.Taken x) fine a w at r =
+  refused_for_memory t u seq o p events failed (faults.Far x) fine a w at near r =
+      let far : p.ring.next + 1048576 ≤ seq = r.1 in let less : seq < p.ring.next + 16384 = near at in absurd (omega arith)
+  refused_for_memory t u seq o p events failed (faults.Taken x) fine a w at near r =
       let on = on_delivering t w.count p.out_of_memory p.ring failed p.stage at w.on in
       let there = r.3 in
       let waiting = on.2 in
       twice t u seq o fine a (seen_held t p.out_of_memory seq there.0 (waiting.held seq there.0 there.1))
-  refused_for_memory t u seq o p events failed (faults.Memory x) fine a w at r = tt
+  refused_for_memory t u seq o p events failed (faults.Memory x) fine a w at near r = tt
 
 -- a flag that is joined by `or` stays set
 pub stays_or : (a b : Bool) → Stays a (a || b)
@@ -233,5 +227,5 @@ shorts_or None false true e = refl
 shorts_or None false false e = cc
 
 -- the saturating count rises by one, since it is far from its bound
-pub counts_up : (a r : ℕ) → r ≡ min (a + 1) 18446744073709551615 → a < 1000001 → r ≡ 1 + a
+pub counts_up : (a r : ℕ) → r ≡ min (a + 1) 18446744073709551615 → a < 4294967296 → r ≡ 1 + a
 counts_up a r e lt = omega arith

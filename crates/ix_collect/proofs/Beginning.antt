@@ -4,7 +4,7 @@ use Rattle.ix_store.specs.Store.{Blocks}
 use Rattle.ix_walk.specs.JobMeaning.{JobMeaning}
 use Rattle.ix_archive.specs.declared.sink.Delivery.{Delivery}
 use Rattle.ix_archive.specs.declared.sink.End.{End}
-use Rattle.ix_archive.specs.Events.{Event, IsOpen}
+use Rattle.ix_archive.specs.Events.{Event, Calls, IsOpen}
 use Rattle.ix_archive.specs.Headline.{EachFresh}
 use Rattle.ix_collect.specs.declared.job_progress.JobProgress.{JobProgress}
 use Rattle.ix_collect.specs.declared.job_progress.Stage.{Stage}
@@ -15,15 +15,15 @@ use Rattle.ix_channels.specs.Good.{judged_at, over_at}
 use Rattle.ix_collect.specs.JobProgress.{IsNew, IsSafe, IsSafeAt, IsUnderWay, IsCalm, IsCome, IsComeTo, IsOn, IsCloseKnown}
 use Rattle.ix_collect.specs.Collected.{AllNew, EachSafe, EachCome}
 
-module _ {S : Type 0} (events : S → List Event) (failed : S → List Delivery) where
+module _ {S : Type 0} (calls : S → Calls) where
   -- a sink that wasn't called is open, and no write of it has failed
-  safe_none : (p : JobProgress) (s : S) → IsNew p → (events s ≡ []) × (failed s ≡ []) → IsSafe p (events s) (failed s)
+  safe_none : (p : JobProgress) (s : S) → IsNew p → ((calls s).events ≡ []) × ((calls s).failed ≡ []) → IsSafe p (calls s).events (calls s).failed
   safe_none p s new fresh =
-      subst (λ (e : Option End). IsSafeAt e p.stage (events s) (failed s)) (sym new.end)
-      (subst (λ (x : Stage). IsSafeAt None x (events s) (failed s)) (sym new.stage) (subst (λ (l : List Event). IsOpen l) (sym fresh.0) tt, fresh.1))
+      subst (λ (e : Option End). IsSafeAt e p.stage (calls s).events (calls s).failed) (sym new.end)
+      (subst (λ (x : Stage). IsSafeAt None x (calls s).events (calls s).failed) (sym new.stage) (subst (λ (l : List Event). IsOpen l) (sym fresh.0) tt, fresh.1))
 
   -- sink by sink
-  pub safe_new : (ps : List JobProgress) (ss : List S) → length ss ≡ length ps → AllNew ps → EachFresh events failed ss → EachSafe events failed ps ss
+  pub safe_new : (ps : List JobProgress) (ss : List S) → length ss ≡ length ps → AllNew ps → EachFresh calls ss → EachSafe calls ps ss
   safe_new [] [] e new fresh = tt
   safe_new [] (s ∷ ss) e new fresh = absurd (omega arith)
   safe_new (p ∷ ps) [] e new fresh = absurd (omega arith)
@@ -35,9 +35,9 @@ module _ {S : Type 0} (events : S → List Event) (failed : S → List Delivery)
     nothing_found ring k e = ap (λ (r : Numbered (Option Delivery)). found r k) e
 
     -- a new job is under way with no items: its counts are 0
-    come_none : (n : ℕ) (p : JobProgress) (s : S) → IsNew p → (events s ≡ []) × (failed s ≡ []) → IsCome (judged_at store jobs n) (over_at store jobs n) (tally n []) p (events s) (failed s)
+    come_none : (n : ℕ) (p : JobProgress) (s : S) → IsNew p → ((calls s).events ≡ []) × ((calls s).failed ≡ []) → IsCome (judged_at store jobs n) (over_at store jobs n) (tally n []) p (calls s).events (calls s).failed
     come_none n p s new fresh =
-        let under : IsUnderWay (judged_at store jobs n) (over_at store jobs n) (tally n []) p (events s) (failed s) = record {
+        let under : IsUnderWay (judged_at store jobs n) (over_at store jobs n) (tally n []) p (calls s).events (calls s).failed = record {
           arrived = new.arrived;
           closing = subst (λ (w : Option WalkEnd). IsCloseKnown (judged_at store jobs n) (over_at store jobs n) (tally n []) p.out_of_memory w) (sym new.close) (λ k. refl);
           unchecked = λ e k. refl;
@@ -45,7 +45,7 @@ module _ {S : Type 0} (events : S → List Event) (failed : S → List Delivery)
           within = omega arith;
           told = fresh.0;
           checked = λ k lt. absurd (omega arith);
-          on = subst (λ (x : Stage). IsOn (judged_at store jobs n) (tally n []) 0 p.out_of_memory p.ring (failed s) x) (sym new.stage) (
+          on = subst (λ (x : Stage). IsOn (judged_at store jobs n) (tally n []) 0 p.out_of_memory p.ring (calls s).failed x) (sym new.stage) (
             sym (ap (λ (r : Numbered (Option Delivery)). r.next) new.ring),
             fresh.1,
             record {
@@ -55,10 +55,10 @@ module _ {S : Type 0} (events : S → List Event) (failed : S → List Delivery)
           );
         } in
         let calm : IsCalm p = λ at. nothing_found p.ring p.ring.next new.ring in
-        subst (λ (e : Option End). IsComeTo (judged_at store jobs n) (over_at store jobs n) (tally n []) p (events s) (failed s) e) (sym new.end) (under, calm)
+        subst (λ (e : Option End). IsComeTo (judged_at store jobs n) (over_at store jobs n) (tally n []) p (calls s).events (calls s).failed e) (sym new.end) (under, calm)
 
     -- job by job
-    pub come_new : (n : ℕ) (ps : List JobProgress) (ss : List S) → length ss ≡ length ps → AllNew ps → EachFresh events failed ss → EachCome events failed store jobs [] n ps ss
+    pub come_new : (n : ℕ) (ps : List JobProgress) (ss : List S) → length ss ≡ length ps → AllNew ps → EachFresh calls ss → EachCome calls store jobs [] n ps ss
     come_new n [] [] e new fresh = tt
     come_new n [] (s ∷ ss) e new fresh = absurd (omega arith)
     come_new n (p ∷ ps) [] e new fresh = absurd (omega arith)

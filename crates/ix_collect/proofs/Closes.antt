@@ -45,12 +45,12 @@ module _ (all : List Delivery) (over : Bool) where
 
   -- the close came
   pub close_arrives : (t u : Tally) (seq : ℕ) (end : End) (p : JobProgress) (arrived : ℕ) (out_of_memory : Bool) (events : List Event) (failed : List Delivery)
-      → IsFine all u → IsCloseArrival all over seq end t u → IsUnderWay all over t p events failed → (p.arrived < 1000001 → arrived ≡ 1 + p.arrived) → Stays p.out_of_memory out_of_memory → (end ≡ Memory → out_of_memory ≡ true)
+      → IsFine all u → IsCloseArrival all over seq end t u → IsUnderWay all over t p events failed → (p.arrived < 4294967296 → arrived ≡ 1 + p.arrived) → Stays p.out_of_memory out_of_memory → (end ≡ Memory → out_of_memory ≡ true)
       → IsUnderWay all over u (record p { arrived = arrived; close = Some (record { seq = seq; end = end }); out_of_memory = out_of_memory }) events failed
   close_arrives t u seq end p arrived out_of_memory events failed fine a w counts stays memory =
       let adds = a.1 in
       let more : u.count ≡ 1 + t.count = adds.count_is in
-      let few : u.count ≤ 1000001 = few_items all u fine in
+      let few : u.count ≤ 4294967296 = few_items all u fine in
       let was : p.arrived ≡ t.count = w.arrived in
       let is : arrived ≡ 1 + p.arrived = counts (omega arith) in
       let one : point seq seq ≡ 1 = point_here seq in

@@ -3,7 +3,7 @@ use Rattle.std.proofs.Common.{◌≡◌, ℕ, zero, suc, ◌+◌, ◌<◌, ◌�
 use Rattle.ix_store.specs.Store.{Blocks}
 use Rattle.ix_walk.specs.JobMeaning.{JobMeaning}
 use Rattle.ix_archive.specs.declared.sink.Delivery.{Delivery}
-use Rattle.ix_archive.specs.Events.{Event}
+use Rattle.ix_archive.specs.Events.{Calls}
 use Rattle.ix_channels.specs.declared.verdicted.Verdicted.{Verdicted}
 use Rattle.ix_channels.specs.declared.verdicted.Verdicted.TheVariants.{Checked, Unchecked, Close, Last}
 use Rattle.ix_collect.specs.declared.job_progress.JobProgress.{JobProgress}
@@ -69,16 +69,16 @@ ended_set [] i p q at lt keeps h = tt
 ended_set (x ∷ ps) zero p q at lt keeps h = (keeps (subst IsEnded (sym at) h.0), h.1)
 ended_set (x ∷ ps) (suc i) p q at lt keeps h = (h.0, ended_set ps i p q at (omega arith) keeps h.1)
 
-module _ {S : Type 0} (events : S → List Event) (failed : S → List Delivery) where
+module _ {S : Type 0} (calls : S → Calls) where
   -- the sink at the position may be called
-  pub safe_at : (ps : List JobProgress) (ss : List S) (i : ℕ) (p : JobProgress) (s : S) → p ≡ get_or ps i p → s ≡ get_or ss i s → i < length ps → EachSafe events failed ps ss → IsSafe p (events s) (failed s)
+  pub safe_at : (ps : List JobProgress) (ss : List S) (i : ℕ) (p : JobProgress) (s : S) → p ≡ get_or ps i p → s ≡ get_or ss i s → i < length ps → EachSafe calls ps ss → IsSafe p (calls s).events (calls s).failed
   safe_at [] ss i p s pe se lt h = absurd (omega arith)
   safe_at (x ∷ ps) [] i p s pe se lt h = absurd h
-  safe_at (x ∷ ps) (y ∷ ss) zero p s pe se lt h = subst (λ (z : S). IsSafe p (events z) (failed z)) (sym se) (subst (λ (z : JobProgress). IsSafe z (events y) (failed y)) (sym pe) h.0)
+  safe_at (x ∷ ps) (y ∷ ss) zero p s pe se lt h = subst (λ (z : S). IsSafe p (calls z).events (calls z).failed) (sym se) (subst (λ (z : JobProgress). IsSafe z (calls y).events (calls y).failed) (sym pe) h.0)
   safe_at (x ∷ ps) (y ∷ ss) (suc i) p s pe se lt h = safe_at ps ss i p s pe se (omega arith) h.1
 
   -- replacing one job and its sink keeps all others safe
-  pub safe_set : (ps : List JobProgress) (ss : List S) (i : ℕ) (p : JobProgress) (s : S) → IsSafe p (events s) (failed s) → EachSafe events failed ps ss → EachSafe events failed (set ps i p) (set ss i s)
+  pub safe_set : (ps : List JobProgress) (ss : List S) (i : ℕ) (p : JobProgress) (s : S) → IsSafe p (calls s).events (calls s).failed → EachSafe calls ps ss → EachSafe calls (set ps i p) (set ss i s)
   safe_set [] [] i p s new h = tt
   safe_set [] (y ∷ ss) i p s new h = absurd h
   safe_set (x ∷ ps) [] i p s new h = absurd h
@@ -88,63 +88,63 @@ module _ {S : Type 0} (events : S → List Event) (failed : S → List Delivery)
   module _ (store : Blocks) (jobs : List JobMeaning) where
     -- nothing changes for the jobs that the item isn't of
     come_same : (x : Verdicted) (got more : List Verdicted) (n : ℕ) (ps : List JobProgress) (ss : List S)
-        → Inserts x got more → ((j : ℕ) → n ≤ j → job_of x ≡ Some j → ⊥) → EachCome events failed store jobs got n ps ss → EachCome events failed store jobs more n ps ss
+        → Inserts x got more → ((j : ℕ) → n ≤ j → job_of x ≡ Some j → ⊥) → EachCome calls store jobs got n ps ss → EachCome calls store jobs more n ps ss
     come_same x got more n [] [] i ne h = tt
     come_same x got more n [] (s ∷ ss) i ne h = absurd h
     come_same x got more n (p ∷ ps) [] i ne h = absurd h
     come_same x got more n (p ∷ ps) (s ∷ ss) i ne h = (
-      subst (λ (t : Tally). IsCome (judged_at store jobs n) (over_at store jobs n) t p (events s) (failed s)) (tally_same store jobs n x got more i (λ e. ne n (omega arith) e)) h.0,
+      subst (λ (t : Tally). IsCome (judged_at store jobs n) (over_at store jobs n) t p (calls s).events (calls s).failed) (tally_same store jobs n x got more i (λ e. ne n (omega arith) e)) h.0,
       come_same x got more (n + 1) ps ss i (λ j le e. ne j (omega arith) e) h.1,
     )
 
     -- how far the job at the position has come
     pub come_at : (got : List Verdicted) (n j : ℕ) (ps : List JobProgress) (ss : List S) (i : ℕ) (p : JobProgress) (s : S)
-        → j ≡ n + i → p ≡ get_or ps i p → s ≡ get_or ss i s → i < length ps → EachCome events failed store jobs got n ps ss → IsCome (judged_at store jobs j) (over_at store jobs j) (tally j got) p (events s) (failed s)
+        → j ≡ n + i → p ≡ get_or ps i p → s ≡ get_or ss i s → i < length ps → EachCome calls store jobs got n ps ss → IsCome (judged_at store jobs j) (over_at store jobs j) (tally j got) p (calls s).events (calls s).failed
     come_at got n j [] ss i p s je pe se lt h = absurd (omega arith)
     come_at got n j (x ∷ ps) [] i p s je pe se lt h = absurd h
     come_at got n j (x ∷ ps) (y ∷ ss) zero p s je pe se lt h =
         let same : n ≡ j = omega arith in
-        subst (λ (k : ℕ). IsCome (judged_at store jobs k) (over_at store jobs k) (tally k got) p (events s) (failed s)) same
-        (subst (λ (z : S). IsCome (judged_at store jobs n) (over_at store jobs n) (tally n got) p (events z) (failed z)) (sym se)
-        (subst (λ (z : JobProgress). IsCome (judged_at store jobs n) (over_at store jobs n) (tally n got) z (events y) (failed y)) (sym pe) h.0))
+        subst (λ (k : ℕ). IsCome (judged_at store jobs k) (over_at store jobs k) (tally k got) p (calls s).events (calls s).failed) same
+        (subst (λ (z : S). IsCome (judged_at store jobs n) (over_at store jobs n) (tally n got) p (calls z).events (calls z).failed) (sym se)
+        (subst (λ (z : JobProgress). IsCome (judged_at store jobs n) (over_at store jobs n) (tally n got) z (calls y).events (calls y).failed) (sym pe) h.0))
     come_at got n j (x ∷ ps) (y ∷ ss) (suc i) p s je pe se lt h = come_at got (n + 1) j ps ss i p s (omega arith) pe se (omega arith) h.1
 
     -- one job comes one item further, and the others stay
     come_set : (x : Verdicted) (got more : List Verdicted) (n j : ℕ) (ps : List JobProgress) (ss : List S) (i : ℕ) (p : JobProgress) (s : S)
-        → Inserts x got more → job_of x ≡ Some j → j ≡ n + i → IsCome (judged_at store jobs j) (over_at store jobs j) (tally j more) p (events s) (failed s)
-        → EachCome events failed store jobs got n ps ss → EachCome events failed store jobs more n (set ps i p) (set ss i s)
+        → Inserts x got more → job_of x ≡ Some j → j ≡ n + i → IsCome (judged_at store jobs j) (over_at store jobs j) (tally j more) p (calls s).events (calls s).failed
+        → EachCome calls store jobs got n ps ss → EachCome calls store jobs more n (set ps i p) (set ss i s)
     come_set x got more n j [] [] i p s ins of je new h = tt
     come_set x got more n j [] (y ∷ ss) i p s ins of je new h = absurd h
     come_set x got more n j (q ∷ ps) [] i p s ins of je new h = absurd h
     come_set x got more n j (q ∷ ps) (y ∷ ss) zero p s ins of je new h =
         let same : j ≡ n = omega arith in (
-          subst (λ (k : ℕ). IsCome (judged_at store jobs k) (over_at store jobs k) (tally k more) p (events s) (failed s)) same new,
+          subst (λ (k : ℕ). IsCome (judged_at store jobs k) (over_at store jobs k) (tally k more) p (calls s).events (calls s).failed) same new,
           come_same x got more (n + 1) ps ss ins (λ k le e. let both : Some j ≡ Some k = sym of ∙ e in let is : j ≡ k = cc in absurd (omega arith)) h.1,
         )
     come_set x got more n j (q ∷ ps) (y ∷ ss) (suc i) p s ins of je new h = (
-      subst (λ (t : Tally). IsCome (judged_at store jobs n) (over_at store jobs n) t q (events y) (failed y)) (tally_same store jobs n x got more ins (λ e. let both : Some j ≡ Some n = sym of ∙ e in let is : j ≡ n = cc in absurd (omega arith))) h.0,
+      subst (λ (t : Tally). IsCome (judged_at store jobs n) (over_at store jobs n) t q (calls y).events (calls y).failed) (tally_same store jobs n x got more ins (λ e. let both : Some j ≡ Some n = sym of ∙ e in let is : j ≡ n = cc in absurd (omega arith))) h.0,
       come_set x got more (n + 1) j ps ss i p s ins of (omega arith) new h.1,
     )
 
     -- an item of no job
-    pub collected_none : (x : Verdicted) (got more : List Verdicted) (c : Collector) (ss : List S) → Inserts x got more → job_of x ≡ None → IsCollected events failed store jobs got c ss → IsCollected events failed store jobs more c ss
+    pub collected_none : (x : Verdicted) (got more : List Verdicted) (c : Collector) (ss : List S) → Inserts x got more → job_of x ≡ None → IsCollected calls store jobs got c ss → IsCollected calls store jobs more c ss
     collected_none x got more c ss i none h = λ good len.
         let before = h ((good_before store jobs x got more i good).0) len in (before.0, come_same x got more 0 c.jobs.items ss i (λ j le e. let both : None ≡ Some j = sym none ∙ e in cc) before.1)
 
     -- an item of a job
     pub collected_one : (x : Verdicted) (got more : List Verdicted) (j : ℕ) (noted fine : Bool) (ps qs : List JobProgress) (ss ts : List S) (p q : JobProgress) (s t : S)
         → Inserts x got more → job_of x ≡ Some j → p ≡ get_or ps j p → s ≡ get_or ss j s → j < length ps → qs ≡ set ps j q → ts ≡ set ss j t
-        → ((all : List Delivery) (over : Bool) (a b : Tally) → IsFine all b → IsItem all over x a b → IsCome all over a p (events s) (failed s) → (fine ≡ true) × IsCome all over b q (events t) (failed t))
-        → (IsGood store jobs got → length ps ≡ length jobs → (noted ≡ false) × EachCome events failed store jobs got 0 ps ss) → IsGood store jobs more → length ps ≡ length jobs
-        → ((noted || not fine) ≡ false) × EachCome events failed store jobs more 0 qs ts
+        → ((all : List Delivery) (over : Bool) (a b : Tally) → IsFine all b → IsItem all over x a b → IsCome all over a p (calls s).events (calls s).failed → (fine ≡ true) × IsCome all over b q (calls t).events (calls t).failed)
+        → (IsGood store jobs got → length ps ≡ length jobs → (noted ≡ false) × EachCome calls store jobs got 0 ps ss) → IsGood store jobs more → length ps ≡ length jobs
+        → ((noted || not fine) ≡ false) × EachCome calls store jobs more 0 qs ts
     collected_one x got more j noted fine ps qs ss ts p q s t ins of pe se lt qe te step h good len =
         let parts = good_before store jobs x got more ins good in
         let before = h parts.0 len in
         let was = come_at got 0 j ps ss j p s (omega arith) pe se lt before.1 in
         let now = step (judged_at store jobs j) (over_at store jobs j) (tally j got) (tally j more) (fine_of store jobs j more good) (item_of store jobs j x got more ins parts.1 of) was in (
           none_noted noted fine before.0 now.0,
-          subst (λ (l : List JobProgress). EachCome events failed store jobs more 0 l ts) (sym qe)
-              (subst (λ (l : List S). EachCome events failed store jobs more 0 (set ps j q) l) (sym te) (come_set x got more 0 j ps ss j q t ins of (omega arith) now.1 before.1)),
+          subst (λ (l : List JobProgress). EachCome calls store jobs more 0 l ts) (sym qe)
+              (subst (λ (l : List S). EachCome calls store jobs more 0 (set ps j q) l) (sym te) (come_set x got more 0 j ps ss j q t ins of (omega arith) now.1 before.1)),
         )
       where
         none_noted : (a b : Bool) → a ≡ false → b ≡ true → (a || not b) ≡ false

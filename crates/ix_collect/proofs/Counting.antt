@@ -63,10 +63,10 @@ module _ (all : List Delivery) (t : Tally) (fine : IsFine all t) where
   pub no_more : (k : ℕ) → 0 < t.closes k → t.count ≤ suc k
   no_more k closed = let few : below (seen t) (suc k) ≤ suc k = below_few (seen t) (suc k) fine.once in let e : t.count ≡ below (seen t) (suc k) = past k closed in omega arith
 
-  -- a job has at most a million visits and one close
-  pub few_items : t.count ≤ 1000001
+  -- a job has at most 4,294,967,295 visits and one close
+  pub few_items : t.count ≤ 4294967296
   few_items =
       let few : below (seen t) (suc (length all)) ≤ suc (length all) = below_few (seen t) (suc (length all)) fine.once in
       let e : t.count ≡ below (seen t) (suc (length all)) = fine.counted in
-      let s : length all ≤ 1000000 = fine.small in
+      let s : length all ≤ 4294967295 = fine.small in
       omega arith

@@ -13,7 +13,7 @@ use Rattle.ix_walk.specs.Visits.{arrivals_of, visit_of, visits_from, visits_of, 
 use Rattle.ix_archive.specs.declared.sink.Delivery.{Delivery}
 use Rattle.ix_archive.specs.declared.sink.End.{End}
 use Rattle.ix_archive.specs.declared.sink.End.TheVariants.{Memory, Start}
-use Rattle.ix_archive.specs.Events.{Event, delivery, close}
+use Rattle.ix_archive.specs.Events.{Event, Calls, delivery, close}
 use Rattle.ix_archive.specs.Verified.{judged, judged_visits}
 use Rattle.ix_archive.specs.Faithful.{IsFaithful, EndFits}
 use Rattle.ix_archive.specs.Headline.{EachDelivered, IsCheckedOnce, IsEachOnce, NoneIsStart, visit_count}
@@ -133,7 +133,7 @@ module _ (store : Blocks) (jobs : List JobMeaning) where
 
   -- a job that is over got its first visits and one close, as it calls for
   faithful_of : (n : ℕ) (j : JobMeaning) (t : Tally) (end : End) (told : List Event) (refused : List Delivery)
-      → slice_get jobs n ≡ Some j → IsOver (judged_at store jobs n) (over_at store jobs n) t end told refused → IsFaithful store n j end told refused
+      → slice_get jobs n ≡ Some j → IsOver (judged_at store jobs n) (over_at store jobs n) t end told refused → IsFaithful store n j end (record { events = told; failed = refused })
   faithful_of n j t end told refused e w =
       let all = judged_some n j e in
       record {
@@ -177,11 +177,11 @@ module _ (store : Blocks) (jobs : List JobMeaning) where
         | inr same ↦ cc
       ]
 
-module _ {S : Type 0} (events : S → List Event) (failed : S → List Delivery) (store : Blocks) (jobs : List JobMeaning) (got : List Verdicted) where
+module _ {S : Type 0} (calls : S → Calls) (store : Blocks) (jobs : List JobMeaning) (got : List Verdicted) where
   -- a job whose sink was closed
   over_of : (n : ℕ) (p : JobProgress) (s : S) (e : End)
-      → p.end ≡ Some e → IsCome (judged_at store jobs n) (over_at store jobs n) (tally n got) p (events s) (failed s) → IsOver (judged_at store jobs n) (over_at store jobs n) (tally n got) e (events s) (failed s)
-  over_of n p s e at w = subst (λ (o : Option End). IsComeTo (judged_at store jobs n) (over_at store jobs n) (tally n got) p (events s) (failed s) o) at w
+      → p.end ≡ Some e → IsCome (judged_at store jobs n) (over_at store jobs n) (tally n got) p (calls s).events (calls s).failed → IsOver (judged_at store jobs n) (over_at store jobs n) (tally n got) e (calls s).events (calls s).failed
+  over_of n p s e at w = subst (λ (o : Option End). IsComeTo (judged_at store jobs n) (over_at store jobs n) (tally n got) p (calls s).events (calls s).failed o) at w
 
   -- the jobs from a number on
   abbrev pub AreFrom : ℕ → List JobMeaning → Type 0
@@ -201,7 +201,7 @@ module _ {S : Type 0} (events : S → List Event) (failed : S → List Delivery)
 
   -- job by job, each sink got what its job calls for
   pub delivered_from : (n : ℕ) (rest : List JobMeaning) (ps : List JobProgress) (ss : List S) (es : List End)
-      → AreFrom n rest → length ps ≡ length rest → EachCome events failed store jobs got n ps ss → EachEnded ps es → EachDelivered events failed store n rest es ss
+      → AreFrom n rest → length ps ≡ length rest → EachCome calls store jobs got n ps ss → EachEnded ps es → EachDelivered calls store n rest es ss
   delivered_from n [] [] [] [] from len come ended = tt
   delivered_from n [] [] [] (e ∷ es) from len come ended = absurd ended
   delivered_from n [] [] (s ∷ ss) es from len come ended = absurd come
@@ -210,12 +210,12 @@ module _ {S : Type 0} (events : S → List Event) (failed : S → List Delivery)
   delivered_from n (j ∷ rest) (p ∷ ps) [] es from len come ended = absurd come
   delivered_from n (j ∷ rest) (p ∷ ps) (s ∷ ss) [] from len come ended = absurd ended
   delivered_from n (j ∷ rest) (p ∷ ps) (s ∷ ss) (e ∷ es) from len come ended = (
-    faithful_of store jobs n j (tally n got) e (events s) (failed s) (from_here n j rest from) (over_of n p s e ended.0 come.0),
+    faithful_of store jobs n j (tally n got) e (calls s).events (calls s).failed (from_here n j rest from) (over_of n p s e ended.0 come.0),
     delivered_from (n + 1) rest ps ss es (from_next n j rest from) (omega arith) come.1 ended.1,
   )
 
   -- no job ended with `Start`
-  pub started_from : (n : ℕ) (ps : List JobProgress) (ss : List S) (es : List End) → EachCome events failed store jobs got n ps ss → EachEnded ps es → NoneIsStart es
+  pub started_from : (n : ℕ) (ps : List JobProgress) (ss : List S) (es : List End) → EachCome calls store jobs got n ps ss → EachEnded ps es → NoneIsStart es
   started_from n [] ss [] come ended = λ (c : Contains [] Start). none_in Start c
   started_from n [] ss (e ∷ es) come ended = absurd ended
   started_from n (p ∷ ps) [] es come ended = absurd come
@@ -225,7 +225,7 @@ module _ {S : Type 0} (events : S → List Event) (failed : S → List Delivery)
 
   -- what any sink was delivered was checked
   told_from : (n : ℕ) (rest : List JobMeaning) (ps : List JobProgress) (ss : List S) (es : List End) (s : S) (d : Delivery)
-      → AreFrom n rest → length ps ≡ length rest → EachCome events failed store jobs got n ps ss → EachEnded ps es → Contains ss s → Contains (events s) (delivery d) → Contains (pairs_of got) (d.visit.job, d.visit.seq)
+      → AreFrom n rest → length ps ≡ length rest → EachCome calls store jobs got n ps ss → EachEnded ps es → Contains ss s → Contains (calls s).events (delivery d) → Contains (pairs_of got) (d.visit.job, d.visit.seq)
   told_from n rest [] [] es s d from len come ended among c = absurd (none_in s among)
   told_from n rest [] (x ∷ ss) es s d from len come ended among c = absurd come
   told_from n rest (p ∷ ps) [] es s d from len come ended among c = absurd come
@@ -234,14 +234,14 @@ module _ {S : Type 0} (events : S → List Event) (failed : S → List Delivery)
   told_from n (j ∷ rest) (p ∷ ps) (x ∷ ss) (e ∷ es) s d from len come ended among c =
       elim (cases_cons x ss s among) [
         | inl same ↦
-            told_here store jobs got n j e (events x) (failed x) d (from_here n j rest from) (over_of n p x e ended.0 come.0)
-            (subst (λ (z : S). Contains (events z) (delivery d)) (sym same) c)
+            told_here store jobs got n j e (calls x).events (calls x).failed d (from_here n j rest from) (over_of n p x e ended.0 come.0)
+            (subst (λ (z : S). Contains (calls z).events (delivery d)) (sym same) c)
         | inr r ↦ told_from (n + 1) rest ps ss es s d (from_next n j rest from) (omega arith) come.1 ended.1 r c
       ]
 
   -- each visit of a job that was walked was checked
   every_from : (n i job seq : ℕ) (ps : List JobProgress) (ss : List S) (es : List End)
-      → job ≡ n + i → i < length ps → EachCome events failed store jobs got n ps ss → EachEnded ps es → (slice_get es i ≡ Some Memory → ⊥) → seq < length (judged_at store jobs job) → Contains (pairs_of got) (job, seq)
+      → job ≡ n + i → i < length ps → EachCome calls store jobs got n ps ss → EachEnded ps es → (slice_get es i ≡ Some Memory → ⊥) → seq < length (judged_at store jobs job) → Contains (pairs_of got) (job, seq)
   every_from n i job seq [] ss es at lt come ended walked within = absurd (omega arith)
   every_from n i job seq (p ∷ ps) [] es at lt come ended walked within = absurd come
   every_from n i job seq (p ∷ ps) (s ∷ ss) [] at lt come ended walked within = absurd ended
@@ -268,7 +268,7 @@ module _ {S : Type 0} (events : S → List Event) (failed : S → List Delivery)
 
   -- the same by the end of the job alone
   every_at : (job seq : ℕ) (ps : List JobProgress) (ss : List S) (es : List End)
-      → length ps ≡ length jobs → EachCome events failed store jobs got 0 ps ss → EachEnded ps es → (slice_get es job ≡ Some Memory → ⊥) → seq < visit_count store jobs job → Contains (pairs_of got) (job, seq)
+      → length ps ≡ length jobs → EachCome calls store jobs got 0 ps ss → EachEnded ps es → (slice_get es job ≡ Some Memory → ⊥) → seq < visit_count store jobs job → Contains (pairs_of got) (job, seq)
   every_at job seq ps ss es len come ended walked lt =
       let within : seq < length (judged_at store jobs job) = subst (λ (k : ℕ). seq < k) (count_is store jobs job) lt in
       let there : job < length jobs = job_below job seq within in
@@ -276,7 +276,7 @@ module _ {S : Type 0} (events : S → List Event) (failed : S → List Delivery)
 
   -- each visit was checked as often as it is to be: those delivered, and in a job that didn't run out of memory all
   pub checked_from : (ps : List JobProgress) (ss : List S) (es : List End)
-      → IsGood store jobs got → length ps ≡ length jobs → EachCome events failed store jobs got 0 ps ss → EachEnded ps es → IsCheckedOnce events store jobs es ss (pairs_of got)
+      → IsGood store jobs got → length ps ≡ length jobs → EachCome calls store jobs got 0 ps ss → EachEnded ps es → IsCheckedOnce calls store jobs es ss (pairs_of got)
   checked_from ps ss es good len come ended = record {
     once = pairs_once got
         (λ j n. let most : total (is_checked j n) got + total (is_unchecked j n) got + total (is_close j n) got ≤ 1 = good.once j n in omega arith);

@@ -7,8 +7,7 @@ use Rattle.ix_channels.specs.declared.verdicted.Verdicted.{Verdicted}
 use Rattle.ix_channels.specs.declared.lanes.LaneOut.{LaneOut}
 use Rattle.ix_channels.specs.Received.{Inserts}
 use Rattle.ix_channels.specs.declared.lanes.LaneIn.{LaneIn}
-use Rattle.ix_archive.specs.declared.sink.Delivery.{Delivery}
-use Rattle.ix_archive.specs.Events.{Event}
+use Rattle.ix_archive.specs.Events.{Calls}
 use Rattle.ix_archive.specs.Headline.{Fact}
 use Rattle.ix_collect.specs.declared.collector.Collector.{Collector}
 use Rattle.ix_collect.specs.Collected.{is_last, last_count}
@@ -17,13 +16,13 @@ use Rattle.ix_collect.proofs.Kept.{kept_same, kept_trans}
 use Rattle.ix_channels.specs.Lanes.{received_by, sent_by, all_sent, EachLane, IsLane, SameIn, SameOut, EachSameOut, all_received}
 use Rattle.ix_channels.proofs.Totals.{total_append}
 
-module _ {S : Type 0} (events : S → List Event) (failed : S → List Delivery) (guarantee : Fact S) where
+module _ {S About : Type 0} (calls : S → Calls) (guarantee : Fact S About) where
   -- the collector goes on by no step
-  pub on_same : (c : Collector) (sinks : List S) → CanCollect events failed c sinks → GoesOn events failed guarantee c c sinks sinks
+  pub on_same : (c : Collector) (sinks : List S) → CanCollect calls c sinks → GoesOn calls guarantee c c sinks sinks
   on_same c sinks can = record { sinks = can.sinks; jobs = refl; may = can.may; kept = kept_same guarantee sinks; done = λ d. d }
 
   -- and by one step more
-  pub on_trans : (a b c : Collector) (first next last : List S) → GoesOn events failed guarantee a b first next → GoesOn events failed guarantee b c next last → GoesOn events failed guarantee a c first last
+  pub on_trans : (a b c : Collector) (first next last : List S) → GoesOn calls guarantee a b first next → GoesOn calls guarantee b c next last → GoesOn calls guarantee a c first last
   on_trans a b c first next last h k = record { sinks = k.sinks; jobs = k.jobs ∙ h.jobs; may = k.may; kept = kept_trans guarantee first next last h.kept k.kept; done = λ d. k.done (h.done d) }
 
 -- one item more at the end of a list in the middle

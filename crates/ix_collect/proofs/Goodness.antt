@@ -188,7 +188,7 @@ module _ (store : Blocks) (jobs : List JobMeaning) (j : ℕ) where
 
   -- good items are fine for each job
   pub fine_of : (got : List Verdicted) → IsGood store jobs got → IsFine (judged_at store jobs j) (tally j got)
-  fine_of got g = record { small = g.small j; once = g.once j; last = g.last j; within = λ n. all_beyond got n g.allowed; counted = all_below got g.allowed }
+  fine_of got g = record { small = (let s = g.small j in omega (arith, s)); once = g.once j; last = g.last j; within = λ n. all_beyond got n g.allowed; counted = all_below got g.allowed }
 
   -- an item of the job counts at its number
   hit_here : (i n m : ℕ) → i ≡ j → cond (i == j) (point n m) 0 ≡ point n m

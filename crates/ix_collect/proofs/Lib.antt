@@ -10,5 +10,6 @@ pub mod Collecting
 pub mod Beginning
 pub mod Finished
 pub mod Gathering
+pub mod Room
 pub mod Rounds
 pub mod Sending

@@ -1,7 +1,6 @@
 -- One round over the lanes, each of which gives an item or none.
 use Rattle.std.proofs.Common.{◌≡◌, ℕ, ◌+◌, ◌<◌, List, [], ◌∷◌, ◌++◌, length, length-append, get_or, set, ap, sym, ◌∙◌, subst, arith}
-use Rattle.ix_archive.specs.declared.sink.Delivery.{Delivery}
-use Rattle.ix_archive.specs.Events.{Event}
+use Rattle.ix_archive.specs.Events.{Calls}
 use Rattle.ix_archive.specs.Headline.{Fact}
 use Rattle.ix_channels.specs.declared.lanes.LaneOut.{LaneOut}
 use Rattle.ix_channels.specs.declared.verdicted.Verdicted.{Verdicted}
@@ -12,29 +11,29 @@ use Rattle.ix_collect.specs.Collected.{IsCollected, is_last, last_count}
 use Rattle.ix_collect.specs.Collecting.{CanCollect, CollectsAmong, CollectsAfter, CollectsItem, GoesOn}
 use Rattle.ix_collect.proofs.Gathering.{among, front_mid, inserts_mid, lasts_set, length_set, on_same, on_trans, same_self, same_set}
 
-module _ {S : Type 0} (events : S → List Event) (failed : S → List Delivery) (guarantee : Fact S) where
+module _ {S About : Type 0} (calls : S → Calls) (guarantee : Fact S About) where
   -- a lane gave so many items, of which so many are a verifier's last, and they were collected
   pub record Gives (old new : LaneOut) (k n : ℕ) (c d : Collector) (first last : List S) : Type 0 where
     pub lane : SameOut old new
     pub items : length (received_by new) ≡ k + length (received_by old)
     pub ended_lanes : last_count (received_by new) ≡ n + last_count (received_by old)
-    pub collected : CollectsAmong events failed guarantee (received_by old) (received_by new) c d first last
+    pub collected : CollectsAmong calls guarantee (received_by old) (received_by new) c d first last
 
   -- a lane that is empty leaves all as it is
-  pub gives_none : (old new : LaneOut) (c : Collector) (sinks : List S) → CanCollect events failed c sinks → SameOut old new → received_by new ≡ received_by old → Gives old new 0 0 c c sinks sinks
+  pub gives_none : (old new : LaneOut) (c : Collector) (sinks : List S) → CanCollect calls c sinks → SameOut old new → received_by new ≡ received_by old → Gives old new 0 0 c c sinks sinks
   gives_none old new c sinks can lane same = record {
     lane = lane;
     items = (let e = ap (λ (l : List Verdicted). length l) same in omega (arith, e));
     ended_lanes = (let e = ap last_count same in omega (arith, e));
     collected = record {
-      on = on_same events failed guarantee c sinks can;
-      collected = λ store jobs before after h. subst (λ (l : List Verdicted). IsCollected events failed store jobs (before ++ l ++ after) c sinks) (sym same) h;
+      on = on_same calls guarantee c sinks can;
+      collected = λ store jobs before after h. subst (λ (l : List Verdicted). IsCollected calls store jobs (before ++ l ++ after) c sinks) (sym same) h;
     };
   }
 
   -- a lane gives one item, which is collected
   pub gives_one : (old new : LaneOut) (x : Verdicted) (ended_lanes : ℕ) (c d : Collector) (first last : List S)
-      → SameOut old new → received_by new ≡ received_by old ++ x ∷ [] → ended_lanes ≡ is_last x → GoesOn events failed guarantee c d first last → CollectsItem events failed x c d first last → Gives old new 1 ended_lanes c d first last
+      → SameOut old new → received_by new ≡ received_by old ++ x ∷ [] → ended_lanes ≡ is_last x → GoesOn calls guarantee c d first last → CollectsItem calls x c d first last → Gives old new 1 ended_lanes c d first last
   gives_one old new x ended_lanes c d first last lane gives is on collects =
       let long : length (received_by old ++ x ∷ []) ≡ length (received_by old) + 1 = length-append (received_by old) (x ∷ []) in
       let longer = ap (λ (l : List Verdicted). length l) gives in
@@ -55,11 +54,11 @@ module _ {S : Type 0} (events : S → List Event) (failed : S → List Delivery)
     pub same : EachSameOut xs ys
     pub items : length (all_received ys) ≡ k + length (all_received xs)
     pub ended_lanes : last_count (all_received ys) ≡ n + last_count (all_received xs)
-    pub collected : CollectsAfter events failed guarantee (all_received xs) (all_received ys) c d first last
+    pub collected : CollectsAfter calls guarantee (all_received xs) (all_received ys) c d first last
 
   -- before the first lane nothing was given
-  pub given_none : (xs : List LaneOut) (c : Collector) (sinks : List S) → CanCollect events failed c sinks → HaveGiven xs xs 0 0 c c sinks sinks
-  given_none xs c sinks can = record { same = same_self xs; items = omega arith; ended_lanes = omega arith; collected = record { on = on_same events failed guarantee c sinks can; collected = λ store jobs before h. h } }
+  pub given_none : (xs : List LaneOut) (c : Collector) (sinks : List S) → CanCollect calls c sinks → HaveGiven xs xs 0 0 c c sinks sinks
+  given_none xs c sinks can = record { same = same_self xs; items = omega arith; ended_lanes = omega arith; collected = record { on = on_same calls guarantee c sinks can; collected = λ store jobs before h. h } }
 
   -- the loop's step: one lane more
   pub given_more : (xs ys : List LaneOut) (i : ℕ) (l m : LaneOut) (items ended_lanes k n : ℕ) (a b c : Collector) (first next last : List S)
@@ -79,12 +78,12 @@ module _ {S : Type 0} (events : S → List Event) (failed : S → List Delivery)
             let set_is = lasts_set there.before (received_by l) (received_by m) there.after n g.ended_lanes in
             omega (arith, was, old, new, set_is));
         collected = record {
-          on = on_trans events failed guarantee a b c first next last h.collected.on g.collected.on;
+          on = on_trans calls guarantee a b c first next last h.collected.on g.collected.on;
           collected = λ store jobs front begun.
               let old : front ++ all_received ys ≡ (front ++ there.before) ++ received_by l ++ there.after = ap (λ (l : List Verdicted). front ++ l) there.old_is ∙ front_mid front there.before (received_by l) there.after in
               let new : front ++ all_received (set ys i m) ≡ (front ++ there.before) ++ received_by m ++ there.after = ap (λ (l : List Verdicted). front ++ l) there.new_is ∙ front_mid front there.before (received_by m) there.after in
-              subst (λ (l : List Verdicted). IsCollected events failed store jobs l c last) (sym new)
-              (g.collected.collected store jobs (front ++ there.before) there.after (subst (λ (l : List Verdicted). IsCollected events failed store jobs l b next) old (h.collected.collected store jobs front begun)));
+              subst (λ (l : List Verdicted). IsCollected calls store jobs l c last) (sym new)
+              (g.collected.collected store jobs (front ++ there.before) there.after (subst (λ (l : List Verdicted). IsCollected calls store jobs l b next) old (h.collected.collected store jobs front begun)));
         };
       }
 

@@ -1,19 +1,18 @@
 -- What a collector has made of what it received.
-use Rattle.std.specs.Prelude.{◌≡◌, ◌≤◌, ◌⊎◌, ℕ, zero, suc, ◌+◌, Bool, false, List, [], ◌∷◌, length, Some}
+use Rattle.std.specs.Prelude.{◌≡◌, ◌≤◌, ◌⊎◌, ℕ, zero, suc, ◌+◌, Bool, false, List, [], ◌∷◌, length, Some, slice_get}
 use Rattle.std.specs.List.{AllByRecursion}
 use Rattle.ix_store.specs.Store.{Blocks}
 use Rattle.ix_walk.specs.JobMeaning.{JobMeaning}
-use Rattle.ix_archive.specs.declared.sink.Delivery.{Delivery}
 use Rattle.ix_archive.specs.declared.sink.End.{End}
-use Rattle.ix_archive.specs.Events.{Event}
+use Rattle.ix_archive.specs.Events.{Calls}
 use Rattle.ix_channels.specs.declared.verdicted.Verdicted.{Verdicted}
 use Rattle.ix_collect.specs.declared.job_progress.JobProgress.{JobProgress}
 use Rattle.ix_collect.specs.declared.collector.Collector.{Collector}
 use Rattle.ix_channels.specs.declared.verdicted.Verdicted.TheVariants.{Checked, Unchecked, Close, Last}
-use Rattle.ix_channels.specs.Received.{tally}
+use Rattle.ix_channels.specs.Received.{job_of, tally}
 use Rattle.ix_channels.specs.Good.{IsGood, judged_at, over_at}
 use Rattle.ix_channels.specs.Totals.{total}
-use Rattle.ix_collect.specs.JobProgress.{IsNew, IsSafe, IsCome, IsEnded, IsMisplaced}
+use Rattle.ix_collect.specs.JobProgress.{IsNew, IsSafe, IsCome, IsEnded, IsMisplaced, HasRoomFor}
 
 -- of no job was anything received
 abbrev pub AllNew : List JobProgress → Type 0
@@ -73,15 +72,19 @@ IsDone c = AllEnded c.jobs.items
 abbrev pub IsStray : Collector → Verdicted → ℕ → Type 0
 IsStray c item job = (job_count c ≤ job) ⊎ (IsClosedAt c.jobs.items job ⊎ IsMisplacedAt c.jobs.items item job)
 
+-- the item may be received now: its job, if there is one, has room for it
+abbrev pub HasRoom : Collector → Verdicted → Type 0
+HasRoom c x = (job : ℕ) (p : JobProgress) → job_of x ≡ Some job → slice_get c.jobs.items job ≡ Some p → HasRoomFor p x
+
 -- every sink was closed, with these ends
 abbrev pub HasEnds : Collector → List End → Type 0
 HasEnds c ends = EachEnded c.jobs.items ends
 
-module _ {S : Type 0} (events : S → List Event) (failed : S → List Delivery) where
+module _ {S : Type 0} (calls : S → Calls) where
   -- each sink may be called with what comes next
   abbrev pub EachSafe : List JobProgress → List S → Type 0
   EachSafe [] [] = Unit {0}
-  EachSafe (p ∷ ps) (s ∷ ss) = IsSafe p (events s) (failed s) × EachSafe ps ss
+  EachSafe (p ∷ ps) (s ∷ ss) = IsSafe p (calls s).events (calls s).failed × EachSafe ps ss
   EachSafe ps ss = ⊥
 
   -- there are as many sinks as jobs, and each may be called with what comes next
@@ -91,7 +94,7 @@ module _ {S : Type 0} (events : S → List Event) (failed : S → List Delivery)
   -- job by job, from a number on: how far it has come
   abbrev pub EachCome : Blocks → List JobMeaning → List Verdicted → ℕ → List JobProgress → List S → Type 0
   EachCome store jobs got n [] [] = Unit {0}
-  EachCome store jobs got n (p ∷ ps) (s ∷ ss) = IsCome (judged_at store jobs n) (over_at store jobs n) (tally n got) p (events s) (failed s) × EachCome store jobs got (n + 1) ps ss
+  EachCome store jobs got n (p ∷ ps) (s ∷ ss) = IsCome (judged_at store jobs n) (over_at store jobs n) (tally n got) p (calls s).events (calls s).failed × EachCome store jobs got (n + 1) ps ss
   EachCome store jobs got n ps ss = ⊥
 
   -- If these items are good, none was unexpected, and each sink got what they say. The order of the items makes no difference.

@@ -22,7 +22,7 @@ below f (suc n) = f n + below f n
 
 -- what was received of a job fits its visits, as far as counts say
 pub record IsFine (all : List Delivery) (t : Tally) : Type 0 where
-  pub small : length all ≤ 1000000
+  pub small : length all ≤ 4294967295
   pub once : (n : ℕ) → seen t n ≤ 1
   pub last : (k n : ℕ) → 0 < t.closes k → k < n → seen t n ≡ 0
   pub within : (n : ℕ) → length all < n → seen t n ≡ 0
@@ -134,6 +134,21 @@ IsMisplaced p (Checked v d) = (p.stage ≡ Delivering) × (IsFree p.ring v.seq �
 IsMisplaced p (Unchecked j n) = (p.stage ≡ Delivering) × (IsFree p.ring n → ⊥)
 IsMisplaced p (Close j n end) = (w : WalkEnd) × (p.close ≡ Some w)
 IsMisplaced p Last = Unit {0}
+
+-- while visits are delivered, the number is less than 16,384 above the next
+abbrev pub IsNear : JobProgress → ℕ → Type 0
+IsNear p n = p.stage ≡ Delivering → n < p.ring.next + 16384
+
+-- the number of the item is near, if it is that of a visit
+abbrev pub IsItemNear : JobProgress → Verdicted → Type 0
+IsItemNear p (Checked v d) = IsNear p v.seq
+IsItemNear p (Unchecked j n) = IsNear p n
+IsItemNear p (Close j n end) = Unit {0}
+IsItemNear p Last = Unit {0}
+
+-- the job has room for the item: its sink was closed, or the item is near
+abbrev pub HasRoomFor : JobProgress → Verdicted → Type 0
+HasRoomFor p x = p.end ≡ None → IsItemNear p x
 
 -- while visits are delivered no write has failed
 abbrev pub MayDeliver : Stage → List Delivery → Type 0

@@ -2,9 +2,8 @@
 use Rattle.std.specs.Prelude.{◌≡◌, ◌<◌, ℕ, List, [], length, Contains}
 use Rattle.ix_store.specs.Store.{Blocks}
 use Rattle.ix_walk.specs.JobMeaning.{JobMeaning}
-use Rattle.ix_archive.specs.declared.sink.Delivery.{Delivery}
 use Rattle.ix_archive.specs.declared.sink.End.{End}
-use Rattle.ix_archive.specs.Events.{Event}
+use Rattle.ix_archive.specs.Events.{Calls}
 use Rattle.ix_archive.specs.Headline.{EachFresh, IsEachOnce, visit_count}
 use Rattle.ix_channels.specs.declared.item.Item.{Item}
 use Rattle.ix_channels.specs.declared.verdicted.Verdicted.{Verdicted}
@@ -27,15 +26,15 @@ IsOnceEach = (store : Blocks) (jobs : List JobMeaning) (got : List Verdicted) �
 abbrev pub IsWithinVisits : Type 0
 IsWithinVisits = (store : Blocks) (jobs : List JobMeaning) (got : List Verdicted) (job seq : ℕ) → IsGood store jobs got → Contains (pairs_of got) (job, seq) → seq < visit_count store jobs job
 
-module _ {S : Type 0} (events : S → List Event) (failed : S → List Delivery) where
+module _ {S : Type 0} (calls : S → Calls) where
   -- before the first item each sink may be called with what comes next
   abbrev pub BeginsSafe : Type 0
-  BeginsSafe = (c : Collector) (sinks : List S) → length sinks ≡ job_count c → IsUnused c → EachFresh events failed sinks → MayTell events failed c sinks
+  BeginsSafe = (c : Collector) (sinks : List S) → length sinks ≡ job_count c → IsUnused c → EachFresh calls sinks → MayTell calls c sinks
 
   -- and no item was collected
   abbrev pub BeginsCollected : Type 0
-  BeginsCollected = (c : Collector) (sinks : List S) → length sinks ≡ job_count c → IsUnused c → EachFresh events failed sinks → HasCollected events failed [] c sinks
+  BeginsCollected = (c : Collector) (sinks : List S) → length sinks ≡ job_count c → IsUnused c → EachFresh calls sinks → HasCollected calls [] c sinks
 
   -- if every sink was closed with these ends, what was collected is exported
   abbrev pub GivesExported : Type 0
-  GivesExported = (c : Collector) (sinks : List S) (ends : List End) → HasEnds c ends → IfCollected events failed c sinks ends
+  GivesExported = (c : Collector) (sinks : List S) (ends : List End) → HasEnds c ends → IfCollected calls c sinks ends

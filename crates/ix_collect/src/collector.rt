@@ -3,7 +3,7 @@
 ghost use Rattle.std.specs.Prelude.{◌≡◌, ◌≤◌, [], length, IfOk, IsTrue, ◌↔◌, vec_capacity, true, false};
 ghost use Rattle.ix_archive.specs.Headline.{EachKept};
 ghost use Rattle.ix_channels.specs.Received.{job_of};
-ghost use Rattle.ix_collect.specs.Collected.{job_count, has_unexpected, IsUnused, IsDone, MayTell, HasEnds};
+ghost use Rattle.ix_collect.specs.Collected.{job_count, has_unexpected, IsUnused, IsDone, MayTell, HasEnds, HasRoom};
 ghost use Rattle.ix_collect.specs.Collecting.{CollectsItem, IfStray};
 
 use crate::job_progress::JobProgress;
@@ -51,25 +51,40 @@ impl Collector {
         })
     }
 
-    /// Receives an item: delivers what is next of its job, and closes the job's sink once all has
-    /// arrived.
+    /// Whether the item may be received now. A visit can be too far ahead: while its job's visits are
+    /// delivered, there is no room for a number that is 16,384 or more above the job's next.
+    pub fn has_room(&self, item: &Verdicted) -> bool
+        ensures { IsTrue result ↔ HasRoom self.now item.now }
+    {
+        let Some(job) = job_of(item) else {
+            return true;
+        };
+        match self.jobs.get(job as usize) {
+            Some(progress) => progress.has_room(item),
+            None => true,
+        }
+    }
+
+    /// Receives an item for which there is room: delivers what is next of its job, and closes the
+    /// job's sink once all has arrived.
     ///
     /// An unexpected item is noted and reaches no sink: one of an unknown job or of a job whose
     /// sink was closed, a second close, and, while the job's visits are delivered, a visit whose
-    /// number was passed, is too far above the next or has come before.
+    /// number was passed or has come before.
     pub fn receive<S: Sink>(&mut self, alloc: Global, item: Verdicted, sinks: &mut [S])
         requires sinks { length sinks.old ≡ job_count self.old }
-        requires may { MayTell S.events S.failed self.old sinks.old }
+        requires may { MayTell S.calls self.old sinks.old }
+        requires room { HasRoom self.old item }
         ensures sinks { length sinks.new ≡ length sinks.old }
         ensures jobs { job_count self.new ≡ job_count self.old }
-        ensures may { MayTell S.events S.failed self.new sinks.new }
+        ensures may { MayTell S.calls self.new sinks.new }
         ensures kept { EachKept S.guarantee sinks.old sinks.new }
         ensures done { IsDone self.old → IsDone self.new }
         ensures last { job_of item ≡ None → (self.new ≡ self.old) × (sinks.new ≡ sinks.old) }
         ensures unexpected { IfStray self.old item ((has_unexpected self.new ≡ true) × (sinks.new ≡ sinks.old)) }
         ensures stays { has_unexpected self.old ≡ true → has_unexpected self.new ≡ true }
         ensures guarded { has_unexpected self.old ≡ false → has_unexpected self.new ≡ true → sinks.new ≡ sinks.old }
-        ensures collected { CollectsItem S.events S.failed item self.old self.new sinks.old sinks.new }
+        ensures collected { CollectsItem S.calls item self.old self.new sinks.old sinks.new }
     {
         let Some(job) = job_of(&item) else {
             return;

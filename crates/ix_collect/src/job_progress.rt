@@ -6,6 +6,7 @@ ghost use Rattle.ix_collect.specs.declared.job_progress.Stage.TheVariants.{Deliv
 ghost use Rattle.ix_collect.specs.declared.job_progress.WalkEnd.{WalkEnd};
 ghost use Rattle.ix_reorder.specs.Numbered.{IsFree};
 ghost use Rattle.ix_collect.specs.JobProgress.{IsArrival, IsCloseArrival, IsItem, IsNew, IsEnded, IsMisplaced, end_of};
+ghost use Rattle.ix_collect.specs.JobProgress.{IsNear, IsItemNear, HasRoomFor};
 ghost use Rattle.ix_collect.specs.Steps.{HasCome, HasDelivered, HasFinished, IsHandedOn, IsNoted};
 ghost use Rattle.ix_collect.specs.Steps.{IsDeliveringTo, IsOpenFor, IsSafeFor, KeepsOpen, KeepsSafe};
 
@@ -13,6 +14,10 @@ use ix_archive::{Delivery, End, Sink, SinkFault};
 use ix_channels::Verdicted;
 use ix_reorder::Ring;
 use std::alloc::{AllocError, Global};
+
+// How many numbers from the next one on a job has room for. It bounds the memory of the job's ring,
+// which could place far more.
+const WINDOW: u32 = 16_384;
 
 /// What happens to the visits of a job that are next.
 #[derive(Drop, Clone, Copy, PartialEq, Eq)]
@@ -70,9 +75,27 @@ impl JobProgress {
         })
     }
 
+    // Whether the job has room for an item. A visit that is too far ahead has none, as long as visits
+    // are delivered. A job that delivers nothing more leaves its ring where it is, while its items go
+    // on arriving: they are only counted, so there is room for each.
+    pub(crate) fn has_room(&self, item: &Verdicted) -> bool
+        ensures { IsTrue result ↔ HasRoomFor self.now item.now }
+    {
+        if self.end.is_some() || self.stage != Stage::Delivering {
+            return true;
+        }
+        let seq = match item {
+            Verdicted::Checked { visit, .. } => visit.seq,
+            Verdicted::Unchecked { seq, .. } => *seq,
+            Verdicted::Close { .. } | Verdicted::Last => return true,
+        };
+        u64::from(seq) < self.ring.next() + u64::from(WINDOW)
+    }
+
     // Accepts a visit: with its verdict, or without if its check ran out of memory. Returns false
     // if its number is unexpected.
     fn accept_visit(&mut self, seq: u32, delivery: Option<Delivery>) -> bool
+        requires near { IsNear self.old seq }
         ensures misplaced { self.old.stage ≡ Delivering → (IsFree self.old.ring seq → ⊥) → result ≡ false }
         ensures taken { IsNoted (λ all over. IsArrival all seq delivery) self.old result self.new }
     {
@@ -108,10 +131,10 @@ impl JobProgress {
 
     // Delivers the visit that came out of the ring, or stops at one without a verdict.
     fn deliver_one<S: Sink>(&mut self, alloc: Global, delivery: Option<Delivery>, sink: &mut S)
-        requires { IsDeliveringTo S.events S.failed self.old sink.old }
+        requires { IsDeliveringTo S.calls self.old sink.old }
         ensures ring { self.new.ring ≡ self.old.ring }
-        ensures kept { KeepsOpen S.events S.failed S.guarantee self.new sink.old sink.new }
-        ensures handed { IsHandedOn S.events S.failed delivery self.old sink.old self.new sink.new }
+        ensures kept { KeepsOpen S.calls S.guarantee self.new sink.old sink.new }
+        ensures handed { IsHandedOn S.calls delivery self.old sink.old self.new sink.new }
     {
         let Some(Delivery { visit, verdict }) = delivery else {
             self.stage = Stage::Stopped;
@@ -129,9 +152,9 @@ impl JobProgress {
 
     // Delivers what is next, as long as there is something.
     fn deliver<S: Sink>(&mut self, alloc: Global, sink: &mut S)
-        requires open { IsOpenFor S.events S.failed self.old sink.old }
-        ensures kept { KeepsOpen S.events S.failed S.guarantee self.new sink.old sink.new }
-        ensures delivered { HasDelivered S.events S.failed self.old sink.old self.new sink.new }
+        requires open { IsOpenFor S.calls self.old sink.old }
+        ensures kept { KeepsOpen S.calls S.guarantee self.new sink.old sink.new }
+        ensures delivered { HasDelivered S.calls self.old sink.old self.new sink.new }
     {
         while self.stage == Stage::Delivering {
             let Some(delivery) = self.ring.pop() else {
@@ -143,9 +166,9 @@ impl JobProgress {
 
     // Closes the sink, if all has arrived, and frees the ring's memory.
     fn finish<S: Sink>(&mut self, sink: &mut S)
-        requires open { IsOpenFor S.events S.failed self.old sink.old }
-        ensures kept { KeepsSafe S.events S.failed S.guarantee self.new sink.old sink.new }
-        ensures finished { HasFinished S.events S.failed self.old sink.old self.new sink.new }
+        requires open { IsOpenFor S.calls self.old sink.old }
+        ensures kept { KeepsSafe S.calls S.guarantee self.new sink.old sink.new }
+        ensures finished { HasFinished S.calls self.old sink.old self.new sink.new }
     {
         let Some(close) = self.close else {
             return;
@@ -186,15 +209,16 @@ impl JobProgress {
         self.end.unwrap_or(End::Memory)
     }
 
-    // Receives an item of the job. Returns false if it is unexpected.
+    // Receives an item of the job, for which there is room. Returns false if it is unexpected.
     pub(crate) fn receive<S: Sink>(&mut self, alloc: Global, item: Verdicted, sink: &mut S) -> bool
-        requires safe { IsSafeFor S.events S.failed self.old sink.old }
-        ensures kept { KeepsSafe S.events S.failed S.guarantee self.new sink.old sink.new }
+        requires safe { IsSafeFor S.calls self.old sink.old }
+        requires room { HasRoomFor self.old item }
+        ensures kept { KeepsSafe S.calls S.guarantee self.new sink.old sink.new }
         ensures ended { IsEnded self.old → IsEnded self.new }
         ensures late { IsEnded self.old → result ≡ false }
         ensures misplaced { IsMisplaced self.old item → result ≡ false }
         ensures refused { result ≡ false → sink.new ≡ sink.old }
-        ensures received { HasCome S.events S.failed item self.old sink.old result self.new sink.new }
+        ensures received { HasCome S.calls item self.old sink.old result self.new sink.new }
     {
         if self.end.is_some() {
             return false;
@@ -209,6 +233,7 @@ impl JobProgress {
 
     // Accepts an item, whether or not it is next. Returns false if it is unexpected.
     fn accept(&mut self, item: Verdicted) -> bool
+        requires near { IsItemNear self.old item }
         ensures misplaced { IsMisplaced self.old item → result ≡ false }
         ensures noted { IsNoted (λ all over. IsItem all over item) self.old result self.new }
     {

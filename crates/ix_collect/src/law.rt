@@ -19,13 +19,13 @@ pub fn good_is_checked_once()
 /// States that a collector that has received nothing may call sinks that were not called yet, and
 /// has collected no item.
 pub fn unused_has_collected_nothing<S: Sink>()
-    ensures may { BeginsSafe S.events S.failed }
-    ensures collected { BeginsCollected S.events S.failed }
+    ensures may { BeginsSafe S.calls }
+    ensures collected { BeginsCollected S.calls }
 {}
 
 /// States what follows if every sink was closed and the items that were received are good: none was
 /// unexpected, each sink got what its job calls for, and each visit was checked as often as it is
 /// to be.
 pub fn collected_is_exported<S: Sink>()
-    ensures { GivesExported S.events S.failed }
+    ensures { GivesExported S.calls }
 {}

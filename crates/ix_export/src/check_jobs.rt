@@ -1,11 +1,12 @@
 //! The command `check-jobs`: what is wrong with each line of a job file.
 
 use crate::commands::CommandSpec;
-use crate::options::{ArgKind, ArgSpec};
+use crate::options::{ArgKind, ArgSpec, MAX_INPUT, MAX_LIMIT};
 use crate::print::print_all;
+use crate::size::most_input;
 use clap::ArgMatches;
-use ix_cli_io::{Failure, REFUSED, read_input};
-use ix_job_errors::{fault_lines, job_faults};
+use ix_cli_io::{ANY_SIZE, Failure, REFUSED, read_input};
+use ix_job_errors::{fault_lines, job_faults_up_to};
 use ix_jobs::JobsFault;
 use ix_run::{RunFault, fault_line};
 use std::alloc::AllocError;
@@ -13,10 +14,10 @@ use std::rt::Files;
 
 const ABOUT: &str = "Report what is wrong with each line of a job file";
 
-const HELP: &str =
-    "Prints nothing if the command `jobs` accepts the file. Otherwise the first line\n\
-printed is the error of `jobs`, and each other line says which line of the file\n\
-is faulty, in which field, what is wrong there and what would be right.\n\
+const HELP: &str = "Prints nothing if the command `jobs` accepts the file, with the same N of\n\
+--max-limit. Otherwise the first line printed is the error of `jobs`, and each\n\
+other line says which line of the file is faulty, in which field, what is wrong\n\
+there and what would be right.\n\
 \n\
 Status: 0 if the command `jobs` accepts the file, 2 otherwise.";
 
@@ -31,7 +32,7 @@ pub(crate) static SPEC: CommandSpec = CommandSpec {
     name: "check-jobs",
     about: ABOUT,
     help: HELP,
-    words: &[FILE],
+    words: &[FILE, MAX_LIMIT, MAX_INPUT],
 };
 
 /// Runs the command and returns the status: prints nothing if the command `jobs` accepts the file.
@@ -40,9 +41,11 @@ pub(crate) fn run<'a, R: AllocGlobal + Files + Input + Print>(
     rt: &R,
     words: &ArgMatches<'a>,
 ) -> Result<u8, Failure> {
-    let file = read_input(rt, FILE.text(words))?;
-    let faults = job_faults(rt.alloc(), file.as_slice())?;
-    print_faults(rt, file.as_slice(), faults.as_slice())
+    let most = most_input(rt.alloc(), &SPEC, words, ANY_SIZE)?;
+    let file = read_input(rt, FILE.text(words), most)?;
+    let greatest = MAX_LIMIT.limit(words);
+    let faults = job_faults_up_to(rt.alloc(), file.as_slice(), greatest)?;
+    print_faults(rt, file.as_slice(), faults.as_slice(), greatest)
 }
 
 // Prints what is wrong with a job file that has these faults.
@@ -50,12 +53,13 @@ fn print_faults<R: AllocGlobal + Print>(
     rt: &R,
     file: &[u8],
     faults: &[JobsFault],
+    greatest: u32,
 ) -> Result<u8, Failure> {
     let Some(first) = faults.first() else {
         return Ok(0);
     };
     print_text(rt, refusal(rt, first))?;
-    print_text(rt, fault_lines(rt.alloc(), file, faults))?;
+    print_text(rt, fault_lines(rt.alloc(), file, faults, greatest))?;
     Ok(REFUSED)
 }
 

@@ -1,12 +1,8 @@
 //! What the commands that export have in common.
 
-use crate::inspect;
 use crate::options::{ArgSpec, PROGRESS};
 use clap::ArgMatches;
-use ix_car::CarKind;
-use ix_cli_io::{Failure, ProgressMode};
-use ix_inspect::Kind;
-use ix_run::RunFault;
+use ix_cli_io::ProgressMode;
 use ix_store::Store;
 use std::mem::ManuallyDrop;
 use std::sync::Arc;
@@ -29,20 +25,6 @@ pub(crate) fn progress_mode<'a>(
         ProgressMode::Lines
     } else {
         ProgressMode::Off
-    }
-}
-
-/// Adds what is known of the cause to an error of the inputs. The kind is that of the block file.
-pub(crate) fn explained<R: AllocGlobal>(rt: &R, fault: RunFault, kind: Kind) -> Failure {
-    let why = match &fault {
-        RunFault::Car(found) if found.kind == CarKind::Memory => return Failure::from(fault),
-        RunFault::Car(found) if found.place == 0 => inspect::words_of(kind),
-        RunFault::Car(_) => "ix_export inspect says how to keep the sections before it",
-        _ => return Failure::from(fault),
-    };
-    match String::from_str(rt.alloc(), why) {
-        Ok(why) => Failure::Explained(fault, why),
-        Err(_) => Failure::from(fault),
     }
 }
 

@@ -5,20 +5,20 @@ ghost use Rattle.std.specs.Arc.{arc_value};
 ghost use Rattle.ix_run.specs.Complete.{is_complete};
 
 use crate::Terminals;
+use crate::blocks::BlockFiles;
 use crate::commands::CommandSpec;
-use crate::export::{explained, forget_store, progress_mode};
+use crate::export::{forget_store, progress_mode};
 use crate::host::Host;
-use crate::options::{ArgKind, ArgSpec, BLOCKS, PROGRESS, VERIFIERS, WALKERS};
+use crate::options::{ArgKind, ArgSpec, BLOCKS, CARV2, MAX_INPUT, PROGRESS, VERIFIERS, WALKERS};
 use crate::print::{print_notes, print_refusal};
+use crate::size::most_input;
 use crate::threads::{RunReport, ThreadCounts};
 use clap::ArgMatches;
 use clap::error::ErrorKind as UsageKind;
-use ix_car::load_car_by;
 use ix_cli_io::{
-    Failure, Naming, Noted, Output, Progress, ProgressMode, STANDARD_INPUT, WriteErrors,
-    failed_write, load_input, met_roots_alone, occupy_std_fds, print_report,
+    ANY_SIZE, Failure, Naming, Noted, Output, Progress, ProgressMode, STANDARD_INPUT, WriteErrors,
+    failed_write, met_roots_alone, occupy_std_fds, print_report,
 };
-use ix_inspect::kind_of;
 use ix_job_errors::{job_fault_words, lacks_an_edge};
 use ix_job_line::{JobWords, SelectorWord, jobs_of_words};
 use ix_jobs::JobResult;
@@ -44,7 +44,8 @@ Selectors specification (docs/SELECTORS.md), or as DAG-CBOR in hex, which the\n\
 command `selector` makes of that. With several roots one archive has what is\n\
 reachable from all of them. A block with several links to it is expanded once,\n\
 or at every link with --every-arrival, which changes how many links count, and\n\
-not the archive of a job within its limit.\n\
+not the archive of a job within its limit. Without --limit up to 4294967295\n\
+links are followed, counting the roots, and with --every-arrival up to 1000000.\n\
 \n\
 The archive is written to FILE.part, which is renamed to FILE if the job is done\n\
 and no root was skipped. It replaces a file with that name. Otherwise it stays\n\
@@ -73,6 +74,11 @@ const NOTHING_BELOW: &str = "note: the selector matched nothing below the root";
 const NO_EDGE: &str =
     "note: a recursion of the selector has no edge {\"@\":{}}, so it never recurs";
 
+// The limit where none is given: for a job that expands a block once, and at every link to it.
+const ONCE_LIMIT: &str = "4294967295";
+
+const EVERY_LIMIT: &str = "1000000";
+
 const ROOT: ArgSpec = ArgSpec {
     name: "root",
     given: ArgKind::Required("CID[,CID..]"),
@@ -93,8 +99,8 @@ const SELECTOR_HEX: ArgSpec = ArgSpec {
 
 const LIMIT: ArgSpec = ArgSpec {
     name: "limit",
-    given: ArgKind::Default("N", "1000000"),
-    help: "Link budget, 1 to 1000000",
+    given: ArgKind::Optional("N"),
+    help: "Link budget, 1 to 4294967295",
 };
 
 const EVERY_ARRIVAL: ArgSpec = ArgSpec {
@@ -142,6 +148,8 @@ pub(crate) static SPEC: CommandSpec = CommandSpec {
         OUT,
         WALKERS,
         VERIFIERS,
+        MAX_INPUT,
+        CARV2,
         SYNC,
         NO_SYNC,
         PROGRESS,
@@ -182,7 +190,7 @@ struct GetCommand<'a> {
     job: JobWords<'a>,
     // Whether a block is expanded once, and not at every link to it.
     once: bool,
-    blocks: &'a str,
+    blocks: BlockFiles<'a>,
     // The path of the archive, or None for standard output.
     path: Option<&'a str>,
     threads: ThreadCounts,
@@ -206,10 +214,12 @@ impl<'a> GetCommand<'a> {
             _ if terminals.output => return Err(Failure::from(refused_terminal(alloc)?)),
             _ => None,
         };
+        let most = most_input(alloc, &SPEC, words, ANY_SIZE)?;
+        let blocks = BlockFiles::given(alloc, &SPEC, words, most, true)?;
         Ok(GetCommand {
             job: job_words(words),
             once: !EVERY_ARRIVAL.is_given(words),
-            blocks: BLOCKS.text(words),
+            blocks,
             path,
             threads: ThreadCounts::given(words),
             is_synced: !NO_SYNC.is_given(words),
@@ -219,18 +229,10 @@ impl<'a> GetCommand<'a> {
     }
 
     // Loads the blocks.
-    fn load<R: AllocGlobal + Clock + Eprint + Files + Input + Threads + Sync>(
-        &self,
-        rt: &R,
-        progress: &Progress<R>,
-    ) -> Result<Arc<Store>, Failure> {
+    fn load<R: Host>(&self, rt: &R, progress: &Progress<R>) -> Result<Arc<Store>, Failure> {
         let loaders = self.threads.loaders(rt);
-        let car = load_input(rt, self.blocks, progress)?;
-        let kind = kind_of(car.as_slice());
-        match load_car_by(rt, rt.alloc(), car, loaders) {
-            Ok(blocks) => Arc::new(rt.alloc(), blocks).map_err(Failure::from),
-            Err(fault) => Err(explained(rt, RunFault::from(fault), kind)),
-        }
+        let files = self.blocks.read(rt, loaders, progress)?;
+        self.blocks.store_of(rt, files, loaders)
     }
 
     // Exports the one job: to standard output, or to a file, which is discarded if the run is rejected.
@@ -254,7 +256,7 @@ impl<'a> GetCommand<'a> {
                 Err(fault) => Err(refusal(rt, "-", fault, &errors)),
             };
         };
-        let output = Output::create(rt, path, self.blocks, self.is_synced)?;
+        let output = Output::create(rt, path, self.blocks.paths(), self.is_synced)?;
         let writer = output.writer(rt.alloc(), &errors);
         match self.write(rt, store, jobs, writer, progress) {
             Ok(ran) => self.publish(rt, path, jobs.as_slice(), output, &ran, &errors),
@@ -341,10 +343,16 @@ fn job_words<'a>(words: &ArgMatches<'a>) -> JobWords<'a> {
         (None, Some(text)) => SelectorWord::Hex(text),
         (None, None) => SelectorWord::Everything,
     };
+    let most = if EVERY_ARRIVAL.is_given(words) {
+        EVERY_LIMIT
+    } else {
+        ONCE_LIMIT
+    };
     JobWords {
         name: NAME,
         roots: ROOT.text(words),
-        limit: LIMIT.text(words),
+        limit: LIMIT.optional_text(words).unwrap_or(most),
+        greatest_limit: u32::MAX,
         selector,
     }
 }

@@ -1,11 +1,14 @@
 //! The command `inspect`: describes a CARv1 file, or says what another file is.
 
 use crate::commands::CommandSpec;
-use crate::options::{ArgKind, ArgSpec};
+use crate::options::{ArgKind, ArgSpec, CARV2, MAX_INPUT};
+use crate::size::most_input;
 use crate::threads::at_most_processors;
 use clap::ArgMatches;
-use ix_car::{CarFault, CarFile, CarKind, Section, read_sections};
-use ix_cli_io::{Failure, REFUSED, STANDARD_INPUT, read_input};
+use ix_car::{
+    CarFault, CarFile, CarKind, Payload, Section, has_index, is_carv2, payload_of, read_sections,
+};
+use ix_cli_io::{ANY_SIZE, Failure, REFUSED, STANDARD_INPUT, read_input};
 use ix_inspect::{Kind, Summary, codec_name, hash_name, kind_of, summary_of};
 use ix_run::RunFault;
 use std::alloc::{AllocError, Global};
@@ -17,6 +20,10 @@ use std::thread::Threads;
 // The most threads that look up CIDs: as many as load blocks by default. There are no more than
 // processors.
 const LOADERS: usize = 8;
+
+/// What is wrong with a CARv2 file whose payload can't be read.
+pub(crate) const CARV2_HEADER: &str =
+    "the payload that the header of a CARv2 file names is not whole in it";
 
 const ABOUT: &str = "Describe a CARv1 file, without hashing";
 
@@ -52,7 +59,7 @@ pub(crate) static SPEC: CommandSpec = CommandSpec {
     name: "inspect",
     about: ABOUT,
     help: HELP,
-    words: &[FILE, LIST],
+    words: &[FILE, LIST, MAX_INPUT, CARV2],
 };
 
 /// Runs the command and returns the status.
@@ -61,7 +68,8 @@ pub(crate) fn run<'a, R: AllocGlobal + Eprint + Files + Input + Print + Threads 
     words: &ArgMatches<'a>,
 ) -> Result<u8, Failure> {
     let path = FILE.text(words);
-    let car = read_input(rt, path)?;
+    let most = most_input(rt.alloc(), &SPEC, words, ANY_SIZE)?;
+    let car = read_input(rt, path, most)?;
     inspect_car(rt, path, car.as_slice(), LIST.is_given(words))
 }
 
@@ -72,17 +80,28 @@ fn inspect_car<R: AllocGlobal + Eprint + Print + Threads + Sync>(
     car: &[u8],
     is_listed: bool,
 ) -> Result<u8, Failure> {
-    match read_sections(rt.alloc(), car) {
-        Ok(file) if is_listed => list(rt, file.sections.as_slice()),
-        Ok(file) => summarize(rt, file, car.len()),
-        Err(fault) => refuse(rt, path, car, fault),
+    let Payload { start, end } = match payload_of(car) {
+        Ok(payload) => payload,
+        Err(fault) => return refuse(rt, path, car, 0, fault),
+    };
+    match read_sections(rt.alloc(), &car[start..end]) {
+        Ok(file) if is_listed => list(rt, file.sections.as_slice(), start),
+        Ok(file) => summarize(rt, file, car),
+        Err(fault) => {
+            let place = start.saturating_add(fault.place);
+            refuse(rt, path, car, start, CarFault { place, ..fault })
+        }
     }
 }
 
-// A line for each section.
-fn list<R: AllocGlobal + Print>(rt: &R, sections: &[Section<'_>]) -> Result<u8, Failure> {
+// A line for each section of a CARv1 file that begins at an offset of its file.
+fn list<R: AllocGlobal + Print>(
+    rt: &R,
+    sections: &[Section<'_>],
+    start: usize,
+) -> Result<u8, Failure> {
     match BufWriter::new(rt.alloc(), io::writer(rt)) {
-        Ok(mut output) => list_to(rt, &mut output, sections),
+        Ok(mut output) => list_to(rt, &mut output, sections, start),
         Err(_) => Err(Failure::Fault(RunFault::Memory)),
     }
 }
@@ -91,9 +110,10 @@ fn list_to<R: AllocGlobal, W: Write>(
     rt: &R,
     output: &mut W,
     sections: &[Section<'_>],
+    start: usize,
 ) -> Result<u8, Failure> {
     for section in sections {
-        let line = line_of(rt.alloc(), section)?;
+        let line = line_of(rt.alloc(), section, start)?;
         if let Err(error) = output.write_all(line.as_bytes()) {
             return answer_of(rt, &error);
         }
@@ -104,8 +124,8 @@ fn list_to<R: AllocGlobal, W: Write>(
     }
 }
 
-fn line_of(alloc: Global, section: &Section<'_>) -> Result<String, AllocError> {
-    let place = section.place;
+fn line_of(alloc: Global, section: &Section<'_>, start: usize) -> Result<String, AllocError> {
+    let place = start.saturating_add(section.place);
     let size = section.block.len();
     let cid = cid_of(alloc, section)?;
     format!(in alloc; "{place} {size} {cid}\n")
@@ -125,13 +145,13 @@ fn answer_of<R: AllocGlobal>(rt: &R, error: &io::Error) -> Result<u8, Failure> {
     Err(Failure::cannot_write(rt.alloc(), STANDARD_INPUT, error))
 }
 
-// Prints the summary of a file of so many bytes.
+// Prints the summary of a file with these bytes.
 fn summarize<R: AllocGlobal + Print + Threads + Sync>(
     rt: &R,
     file: CarFile<'_>,
-    bytes: usize,
+    car: &[u8],
 ) -> Result<u8, Failure> {
-    let text = text_of(rt, file, bytes)?;
+    let text = text_of(rt, file, car)?;
     match io::writer(rt).write_all(text.as_bytes()) {
         Ok(()) => Ok(0),
         Err(error) => answer_of(rt, &error),
@@ -142,20 +162,31 @@ fn summarize<R: AllocGlobal + Print + Threads + Sync>(
 fn text_of<R: AllocGlobal + Threads + Sync>(
     rt: &R,
     file: CarFile<'_>,
-    bytes: usize,
+    car: &[u8],
 ) -> Result<String, AllocError> {
     let alloc = rt.alloc();
-    let mut text = String::new(alloc);
+    let mut text = String::from_str(alloc, version_of(car))?;
     push_roots(alloc, &mut text, &file)?;
     let CarFile { roots: _, sections } = file;
     let threads = at_most_processors(rt, LOADERS);
     let summary = summary_of(rt, alloc, sections, threads)?;
-    push_summary(&mut text, &summary, bytes)?;
+    push_summary(&mut text, &summary, car.len())?;
     Ok(text)
 }
 
+// Returns the lines about the version of a file that was read.
+fn version_of(car: &[u8]) -> &'static str {
+    if !is_carv2(car) {
+        "version 1\n"
+    } else if car.len() >= 51 && has_index(car) {
+        "version 2\nindex yes\n"
+    } else {
+        "version 2\nindex no\n"
+    }
+}
+
 fn push_roots(alloc: Global, text: &mut String, file: &CarFile<'_>) -> Result<(), AllocError> {
-    writeln!(text, "version 1\nroots {}", file.roots.len())?;
+    writeln!(text, "roots {}", file.roots.len())?;
     for root in &file.roots {
         push_root(text, root.text(alloc))?;
     }
@@ -218,47 +249,63 @@ fn push_sizes(text: &mut String, summary: &Summary) -> Result<(), AllocError> {
     Ok(())
 }
 
-// Prints why a file is rejected, and what it is.
+// Prints why a file is rejected, whose CARv1 file begins at an offset, and what it is.
 fn refuse<R: AllocGlobal + Eprint>(
     rt: &R,
     path: &str,
     car: &[u8],
+    start: usize,
     fault: CarFault,
 ) -> Result<u8, Failure> {
-    let CarFault { kind, place } = fault;
-    if kind == CarKind::Memory {
+    if fault.kind == CarKind::Memory {
         return Err(Failure::Fault(RunFault::Memory));
     }
-    if place == 0 {
-        print_kind(rt, path, fault, words_of(kind_of(car)));
-    } else if kind == CarKind::Truncated {
-        print_kept(rt, path, fault, "its whole sections are");
+    let kind = kind_of(car);
+    if fault.place == 0 {
+        print_kind(rt, path, fault, words_of(kind));
+    } else if is_of_carv2(kind, &fault) {
+        print_kind(rt, path, fault, CARV2_HEADER);
     } else {
-        print_kept(rt, path, fault, "the sections before are");
+        print_kept(rt, path, start, fault);
     }
     Ok(REFUSED)
 }
 
 // Prints what a file is. If standard error can't be written, there is no one to report to.
 fn print_kind<R: Eprint>(rt: &R, path: &str, fault: CarFault, words: &str) {
-    let kind = fault.kind;
-    let _ = eprintln!(rt; "{path}: {kind} at 0: {words}");
+    let CarFault { kind, place } = fault;
+    let _ = eprintln!(rt; "{path}: {kind} at {place}: {words}");
 }
 
-// Prints how to keep the bytes before an error.
-fn print_kept<R: Eprint>(rt: &R, path: &str, fault: CarFault, words: &str) {
+// Prints how to keep the bytes before an error in a CARv1 file that begins at an offset.
+fn print_kept<R: Eprint>(rt: &R, path: &str, start: usize, fault: CarFault) {
     let CarFault { kind, place } = fault;
-    let _ = eprintln!(rt;
-        "{path}: {kind} at {place}: {words} its first {place} bytes (head -c {place})"
-    );
+    let words = if kind == CarKind::Truncated {
+        "its whole sections are"
+    } else {
+        "the sections before are"
+    };
+    let _ = if start == 0 {
+        eprintln!(rt;
+            "{path}: {kind} at {place}: {words} its first {place} bytes (head -c {place})"
+        )
+    } else {
+        let (from, size) = (start.saturating_add(1), place.saturating_sub(start));
+        eprintln!(rt;
+            "{path}: {kind} at {place}: {words} its bytes {start} to {place} (tail -c +{from} | head -c {size})"
+        )
+    };
+}
+
+// Whether an error is that of the header of a CARv2 file.
+pub(crate) fn is_of_carv2(kind: Kind, fault: &CarFault) -> bool {
+    kind == Kind::Car2 && fault.place == 11
 }
 
 // Returns what a file that is not a CARv1 is.
 pub(crate) fn words_of(kind: Kind) -> &'static str {
     match kind {
-        Kind::Car2 => {
-            "a CARv2 file; its data can be taken out by car extract, or by the offset in its header"
-        }
+        Kind::Car2 => "a CARv2 file; --carv2 reads the CARv1 in it",
         Kind::Gzip => "compressed by gzip",
         Kind::Zstd => "compressed by zstd",
         Kind::Bzip2 => "compressed by bzip2",

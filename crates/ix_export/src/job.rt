@@ -1,12 +1,12 @@
 //! The command `job`: the line of a job for a job file.
 
 use crate::commands::CommandSpec;
-use crate::options::{ArgKind, ArgSpec};
+use crate::options::{ArgKind, ArgSpec, MAX_LIMIT};
 use crate::print::{print_answer, print_refusal};
 use clap::ArgMatches;
-use ix_cli_io::{Failure, STANDARD_INPUT, read_all};
+use ix_cli_io::{Failure, LARGEST_INPUT, STANDARD_INPUT, read_all};
 use ix_job_errors::line_fault_words;
-use ix_job_line::job_line;
+use ix_job_line::job_line_up_to;
 
 const ABOUT: &str = "Print the line of a job for a job file";
 
@@ -34,7 +34,7 @@ const ROOTS: ArgSpec = ArgSpec {
 const LIMIT: ArgSpec = ArgSpec {
     name: "limit",
     given: ArgKind::Positional("LIMIT"),
-    help: "Link budget, 1 to 1000000",
+    help: "Link budget, 1 to the N of --max-limit",
 };
 
 const JSON: ArgSpec = ArgSpec {
@@ -48,7 +48,7 @@ pub(crate) static SPEC: CommandSpec = CommandSpec {
     name: "job",
     about: ABOUT,
     help: HELP,
-    words: &[NAME, ROOTS, LIMIT, JSON],
+    words: &[NAME, ROOTS, LIMIT, JSON, MAX_LIMIT],
 };
 
 /// Runs the command and returns the status: prints the line of the job, or why there is none.
@@ -60,7 +60,7 @@ pub(crate) fn run<'a, R: AllocGlobal + Eprint + Input + Print>(
     if json != STANDARD_INPUT {
         return print_line(rt, words, json.as_bytes());
     }
-    let input = read_all(rt.alloc(), rt.reader(), 0, STANDARD_INPUT)?;
+    let input = read_all(rt.alloc(), rt.reader(), 0, LARGEST_INPUT, STANDARD_INPUT)?;
     print_line(rt, words, input.as_slice())
 }
 
@@ -72,8 +72,12 @@ fn print_line<'a, R: AllocGlobal + Eprint + Print>(
 ) -> Result<u8, Failure> {
     let alloc = rt.alloc();
     let (name, roots, limit) = (NAME.text(words), ROOTS.text(words), LIMIT.text(words));
-    match job_line(alloc, name, roots, limit, json) {
+    let greatest = MAX_LIMIT.limit(words);
+    match job_line_up_to(alloc, name, roots, limit, greatest, json) {
         Ok(line) => print_answer(rt, Ok(line)),
-        Err(fault) => print_refusal(rt, line_fault_words(alloc, &fault, name, roots, limit)),
+        Err(fault) => {
+            let words = line_fault_words(alloc, &fault, name, roots, limit, greatest);
+            print_refusal(rt, words)
+        }
     }
 }

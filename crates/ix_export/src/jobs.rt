@@ -4,22 +4,25 @@ ghost use Rattle.std.specs.Prelude.{IfOk};
 ghost use Rattle.std.specs.Arc.{arc_value};
 ghost use Rattle.ix_walk.specs.JobMeaning.{AreFew};
 
+use crate::blocks::BlockFiles;
 use crate::commands::CommandSpec;
-use crate::export::{explained, forget_store, progress_mode};
+use crate::export::{forget_store, progress_mode};
 use crate::host::Host;
-use crate::options::{ArgKind, ArgSpec, BLOCKS, PROGRESS, VERBOSE, VERIFIERS, WALKERS};
+use crate::options::{
+    ArgKind, ArgSpec, BLOCKS, CARV2, MAX_INPUT_1G, MAX_LIMIT, PROGRESS, VERBOSE, VERIFIERS, WALKERS,
+};
 use crate::print::{print_all, print_notes};
+use crate::size::most_input;
 use crate::threads::{RunReport, ThreadCounts};
 use clap::ArgMatches;
 use clap::error::ErrorKind;
 use ix_cli_io::{
-    Failure, Naming, Output, Progress, ProgressMode, STANDARD_INPUT, WriteErrors, discard_outputs,
-    failed_writes, load_input, make_outputs, occupy_std_fds, publish_outputs, read_input,
+    Failure, LARGEST_INPUT, Naming, Output, Progress, ProgressMode, STANDARD_INPUT, WriteErrors,
+    discard_outputs, failed_writes, make_outputs, occupy_std_fds, publish_outputs, read_input,
     writers_to,
 };
-use ix_inspect::kind_of;
 use ix_jobs::Part;
-use ix_run::{JobChoice, RunFault, load};
+use ix_run::{JobChoice, RunFault, load_jobs};
 use ix_store::Store;
 use ix_walk::Job;
 use std::alloc::{AllocError, Global};
@@ -37,7 +40,8 @@ between:\n\
 \n\
 NAME      1 to 64 characters of [a-z0-9_-], unique in the file\n\
 ROOTS     1 to 64 comma-separated CIDv1s in base32\n\
-LIMIT     the link budget from all roots together, 1 to 1000000\n\
+LIMIT     the link budget from all roots together, 1 to 1000000, or 1 to N with\n\
+\x20         --max-limit N\n\
 SELECTOR  an IPLD selector as DAG-CBOR in hex: see the command `selector`\n\
 \n\
 A block with two links to it is visited twice: it counts twice, and is hashed\n\
@@ -83,7 +87,7 @@ runs over two seconds); otherwise it prints at most one line per second.\n\
 Status: 0 if every job is done and nothing was skipped, 3 if every job is done\n\
 and something was skipped, 4 if a job ended otherwise, 2 if the arguments or a\n\
 file are rejected, with a line on standard error, and with --verbose the cause\n\
-on another. A file has at most 1073741824 bytes.";
+on another.";
 
 const JOBS: ArgSpec = ArgSpec {
     name: "jobs",
@@ -133,7 +137,21 @@ pub(crate) static SPEC: CommandSpec = CommandSpec {
     about: ABOUT,
     help: HELP,
     words: &[
-        BLOCKS, JOBS, OUT, PART, WALKERS, VERIFIERS, ONCE, SYNC, COMPLETE, PROGRESS, QUIET, VERBOSE,
+        BLOCKS,
+        JOBS,
+        OUT,
+        PART,
+        MAX_LIMIT,
+        WALKERS,
+        VERIFIERS,
+        MAX_INPUT_1G,
+        CARV2,
+        ONCE,
+        SYNC,
+        COMPLETE,
+        PROGRESS,
+        QUIET,
+        VERBOSE,
     ],
 };
 
@@ -161,8 +179,10 @@ pub(crate) fn run<'a, R: Host>(
 // What the arguments choose.
 #[derive(Drop)]
 struct JobsCommand<'a> {
-    // The block file and the job file.
-    inputs: [&'a str; 2],
+    blocks: BlockFiles<'a>,
+    // The path of the job file, and how many bytes it may have.
+    job_file: &'a str,
+    most: u64,
     folder: &'a str,
     choice: JobChoice,
     threads: ThreadCounts,
@@ -180,8 +200,10 @@ impl<'a> JobsCommand<'a> {
         is_terminal: bool,
     ) -> Result<JobsCommand<'a>, Failure> {
         let part = part_of(alloc, words)?;
-        let inputs = [BLOCKS.text(words), JOBS.text(words)];
-        if inputs[0] == STANDARD_INPUT && inputs[1] == STANDARD_INPUT {
+        let most = most_input(alloc, &SPEC, words, LARGEST_INPUT)?;
+        let blocks = BlockFiles::given(alloc, &SPEC, words, most, CARV2.is_given(words))?;
+        let job_file = JOBS.text(words);
+        if job_file == STANDARD_INPUT && blocks.has_standard_input() {
             return Err(Failure::from(refused_inputs(alloc)?));
         }
         let folder = OUT.text(words);
@@ -194,10 +216,13 @@ impl<'a> JobsCommand<'a> {
             Naming::Ended
         };
         Ok(JobsCommand {
-            inputs,
+            blocks,
+            job_file,
+            most,
             folder,
             choice: JobChoice {
                 part,
+                greatest_limit: MAX_LIMIT.limit(words),
                 once: ONCE.is_given(words),
             },
             threads: ThreadCounts::given(words),
@@ -207,8 +232,9 @@ impl<'a> JobsCommand<'a> {
         })
     }
 
-    // Loads the block file and the chosen jobs of the job file.
-    fn load<R: AllocGlobal + Clock + Eprint + Files + Input + Threads + Sync>(
+    // Loads the block files and the chosen jobs of the job file. All files are read before the first is
+    // looked at.
+    fn load<R: Host>(
         &self,
         rt: &R,
         progress: &Progress<R>,
@@ -216,13 +242,18 @@ impl<'a> JobsCommand<'a> {
         ensures { IfOk result (λ loaded. AreFew (arc_value loaded.1).items) }
     {
         let loaders = self.threads.loaders(rt);
-        let car = load_input(rt, self.inputs[0], progress)?;
-        let kind = kind_of(car.as_slice());
-        let file = read_input(rt, self.inputs[1])?;
-        match load(rt, rt.alloc(), car, file.as_slice(), self.choice, loaders) {
-            Ok(loaded) => Ok(loaded),
-            Err(fault) => Err(explained(rt, fault, kind)),
-        }
+        let files = self.blocks.read(rt, loaders, progress)?;
+        let job_file = read_input(rt, self.job_file, self.most)?;
+        let store = self.blocks.store_of(rt, files, loaders)?;
+        let jobs = load_jobs(rt.alloc(), job_file.as_slice(), self.choice)?;
+        Ok((store, Arc::new(rt.alloc(), jobs)?))
+    }
+
+    // Returns the paths of all inputs.
+    fn inputs(&self, alloc: Global) -> Result<Vec<&'a str>, AllocError> {
+        let mut inputs = Vec::from_slice(alloc, self.blocks.paths())?;
+        inputs.push(self.job_file)?;
+        Ok(inputs)
     }
 
     // Exports the jobs and prints their report. Closed streams are occupied only after the inputs were
@@ -239,11 +270,12 @@ impl<'a> JobsCommand<'a> {
     {
         let _streams = occupy_std_fds(rt)?;
         let errors = WriteErrors::new();
+        let inputs = self.inputs(rt.alloc())?;
         let outputs = make_outputs(
             rt,
             self.folder,
             jobs.as_slice(),
-            self.inputs,
+            inputs.as_slice(),
             self.is_synced,
         )?;
         let ran = match writers_to(rt.alloc(), outputs.as_slice(), &errors) {

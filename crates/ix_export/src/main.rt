@@ -12,6 +12,7 @@
 #![tactic(auto)]
 
 mod arguments;
+mod blocks;
 mod check_jobs;
 mod commands;
 mod export;
@@ -24,6 +25,7 @@ mod options;
 mod print;
 mod root;
 mod selector;
+mod size;
 mod threads;
 mod verify;
 

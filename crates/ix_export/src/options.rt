@@ -5,6 +5,7 @@
 ghost use Rattle.std.specs.Prelude.{◌≤◌};
 
 use clap::{Arg, ArgAction, ArgMatches, value_parser};
+use ix_walk::GREATEST_LIMIT;
 use std::alloc::{AllocError, Global};
 
 /// An argument of a command: its name, how it is given, and its line in the help.
@@ -20,14 +21,16 @@ pub(crate) struct ArgSpec {
 pub(crate) enum ArgKind {
     /// A required option.
     Required(&'static str),
+    /// A required option that may be given several times.
+    RequiredMany(&'static str),
     /// An optional option.
     Optional(&'static str),
-    /// An option with a default: the second text.
-    Default(&'static str, &'static str),
     /// An option that conflicts with the argument of the second name.
     ConflictsWith(&'static str, &'static str),
     /// An option with a number from 1 to 64. The default is 4.
     Number,
+    /// An option with a number from 1 to 4294967295. The default is 1000000.
+    Limit,
     /// A flag.
     Flag,
     /// A flag that conflicts with the argument of this name.
@@ -40,11 +43,32 @@ pub(crate) enum ArgKind {
     Many(&'static str),
 }
 
-/// The block file of the commands `jobs` and `get`.
+/// The block files of the commands `jobs` and `get`.
 pub(crate) const BLOCKS: ArgSpec = ArgSpec {
     name: "blocks",
-    given: ArgKind::Required("FILE"),
-    help: "CARv1 file with the blocks, or - for standard input",
+    given: ArgKind::RequiredMany("FILE"),
+    help: "CARv1 file of blocks, or - for stdin; several add up",
+};
+
+/// The greatest size of an input, where there is none by default.
+pub(crate) const MAX_INPUT: ArgSpec = ArgSpec {
+    name: "max-input",
+    given: ArgKind::Optional("SIZE"),
+    help: "Greatest size of an input, such as 4G",
+};
+
+/// The same where there is one by default.
+pub(crate) const MAX_INPUT_1G: ArgSpec = ArgSpec {
+    name: "max-input",
+    given: ArgKind::Optional("SIZE"),
+    help: "Greatest size of an input [default: 1G]",
+};
+
+/// Whether CARv2 files are read. All commands but `jobs` read them without it too.
+pub(crate) const CARV2: ArgSpec = ArgSpec {
+    name: "carv2",
+    given: ArgKind::Flag,
+    help: "Read CARv2 files too, as the CARv1 in them",
 };
 
 /// The number of walkers.
@@ -59,6 +83,13 @@ pub(crate) const VERIFIERS: ArgSpec = ArgSpec {
     name: "verifiers",
     given: ArgKind::Number,
     help: "Threads that hash, 1 to 64",
+};
+
+/// The greatest limit of a job, at the commands that read or write lines of a job file.
+pub(crate) const MAX_LIMIT: ArgSpec = ArgSpec {
+    name: "max-limit",
+    given: ArgKind::Limit,
+    help: "Greatest LIMIT, up to 4294967295",
 };
 
 /// Whether progress is shown.
@@ -107,6 +138,11 @@ impl ArgSpec {
     {
         words.get_one(self.name).unwrap_or(4).clamp(1, 64)
     }
+
+    /// Returns the greatest limit that was given, or its default.
+    pub(crate) fn limit<'a>(&self, words: &ArgMatches<'a>) -> u32 {
+        words.get_one(self.name).unwrap_or(GREATEST_LIMIT)
+    }
 }
 
 /// Makes the clap arguments of these rows, in their order. An error means that memory ran out.
@@ -145,10 +181,11 @@ fn push_argument<'a>(
 fn argument_of<'a>(alloc: Global, row: &'static ArgSpec) -> Result<Arg<'a>, AllocError> {
     match row.given {
         ArgKind::Required(value) => Ok(option(alloc, row, value).required(true)),
+        ArgKind::RequiredMany(value) => Ok(options(alloc, row, value)),
         ArgKind::Optional(value) => Ok(option(alloc, row, value)),
-        ArgKind::Default(value, other) => Ok(option(alloc, row, value).default_value(other)),
         ArgKind::ConflictsWith(value, other) => option(alloc, row, value).conflicts_with(other),
         ArgKind::Number => Ok(number(alloc, row)),
+        ArgKind::Limit => Ok(limit(alloc, row)),
         ArgKind::Flag => Ok(flag(alloc, row)),
         ArgKind::FlagWithout(other) => flag(alloc, row).conflicts_with(other),
         ArgKind::Positional(value) => Ok(positional(alloc, row, value).required(true)),
@@ -175,11 +212,25 @@ fn option<'a>(alloc: Global, row: &'static ArgSpec, value: &'static str) -> Arg<
     named(row, positional(alloc, row, value))
 }
 
+// An option with a text as its value, which is given at least once.
+fn options<'a>(alloc: Global, row: &'static ArgSpec, value: &'static str) -> Arg<'a> {
+    option(alloc, row, value)
+        .required(true)
+        .action(ArgAction::Append)
+}
+
 // An option with a number.
 fn number<'a>(alloc: Global, row: &'static ArgSpec) -> Arg<'a> {
     option(alloc, row, "N")
         .value_parser(value_parser!(u32).range(1..65))
         .default_value("4")
+}
+
+// An option with a limit.
+fn limit<'a>(alloc: Global, row: &'static ArgSpec) -> Arg<'a> {
+    option(alloc, row, "N")
+        .value_parser(value_parser!(u32).range(1..))
+        .default_value("1000000")
 }
 
 // A flag.

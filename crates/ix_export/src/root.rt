@@ -1,10 +1,11 @@
 //! The command `root`: the archive of one block, from hex to hex.
 
 use crate::commands::CommandSpec;
-use crate::options::{ArgKind, ArgSpec, VERBOSE};
+use crate::options::{ArgKind, ArgSpec, MAX_INPUT_1G, VERBOSE};
 use crate::print::print_answer;
+use crate::size::most_input;
 use clap::ArgMatches;
-use ix_cli_io::{Failure, STANDARD_INPUT, read_all};
+use ix_cli_io::{Failure, LARGEST_INPUT, STANDARD_INPUT, read_all};
 use ix_root::{printed_root, root_of_text};
 
 const ABOUT: &str = "Export the archive of one block, from hex to hex";
@@ -27,7 +28,7 @@ pub(crate) static SPEC: CommandSpec = CommandSpec {
     name: "root",
     about: ABOUT,
     help: HELP,
-    words: &[CID, VERBOSE],
+    words: &[CID, MAX_INPUT_1G, VERBOSE],
 };
 
 /// Runs the command and returns the status. Its first error is reported, checked in this order: CID,
@@ -36,12 +37,13 @@ pub(crate) fn run<'a, R: AllocGlobal + Input + Print>(
     rt: &R,
     words: &ArgMatches<'a>,
 ) -> Result<u8, Failure> {
-    print_answer(rt, archive_of(rt, CID.text(words)))
+    let most = most_input(rt.alloc(), &SPEC, words, LARGEST_INPUT)?;
+    print_answer(rt, archive_of(rt, CID.text(words), most))
 }
 
 // Returns what the command prints for the text of a CID.
-fn archive_of<R: AllocGlobal + Input>(rt: &R, text: &str) -> Result<String, Failure> {
+fn archive_of<R: AllocGlobal + Input>(rt: &R, text: &str, most: u64) -> Result<String, Failure> {
     let root = root_of_text(rt.alloc(), text)?;
-    let input = read_all(rt.alloc(), rt.reader(), 0, STANDARD_INPUT)?;
+    let input = read_all(rt.alloc(), rt.reader(), 0, most, STANDARD_INPUT)?;
     printed_root(rt.alloc(), root, input.as_slice()).map_err(Failure::from)
 }

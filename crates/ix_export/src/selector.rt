@@ -4,7 +4,7 @@ use crate::commands::CommandSpec;
 use crate::options::{ArgKind, ArgSpec};
 use crate::print::{print_answer, print_refusal};
 use clap::ArgMatches;
-use ix_cli_io::{Failure, STANDARD_INPUT, read_all};
+use ix_cli_io::{Failure, LARGEST_INPUT, STANDARD_INPUT, read_all};
 use ix_selector_json::{hex_fault_line, hex_of_json, json_fault_line, json_of_hex};
 
 const ABOUT: &str = "Convert a selector from JSON to hex, or back";
@@ -50,7 +50,7 @@ pub(crate) fn run<'a, R: AllocGlobal + Eprint + Input + Print>(
         },
         (None, Some(text)) if text != STANDARD_INPUT => print_hex(rt, text.as_bytes()),
         _ => {
-            let input = read_all(rt.alloc(), rt.reader(), 0, STANDARD_INPUT)?;
+            let input = read_all(rt.alloc(), rt.reader(), 0, LARGEST_INPUT, STANDARD_INPUT)?;
             print_hex(rt, input.as_slice())
         }
     }

@@ -1,10 +1,11 @@
 //! The command `verify`: whether CARv1 files are sound.
 
 use crate::commands::CommandSpec;
-use crate::options::{ArgKind, ArgSpec, VERIFIERS};
+use crate::options::{ArgKind, ArgSpec, CARV2, MAX_INPUT, VERIFIERS};
+use crate::size::most_input;
 use clap::ArgMatches;
-use ix_car::{CarFault, CarKind};
-use ix_cli_io::{Causes, Failure, REFUSED, STANDARD_INPUT, read_input};
+use ix_car::{CarFault, CarKind, Payload, payload_of};
+use ix_cli_io::{ANY_SIZE, Causes, Failure, REFUSED, STANDARD_INPUT, read_input};
 use ix_run::RunFault;
 use ix_verify::{Findings, Scope, Unsound, verify};
 use std::alloc::{AllocError, Global};
@@ -41,9 +42,7 @@ missing, damaged and malformed. U and S count all of them; the first 20 lines\n\
 are printed, and how many more there are. With --all each is printed, and the\n\
 line of the file after them.\n\
 \n\
-The walk follows at most 1000000 links, counting the roots. If there are more,\n\
-the file isn't called sound, and a line `limit` says so. A header without roots\n\
-has nothing to follow.\n\
+A header without roots has nothing to follow.\n\
 \n\
 \x20 ix_export verify out/*.car\n\
 \x20 ix_export verify --all library.car | grep ' link missing '\n\
@@ -74,7 +73,7 @@ pub(crate) static SPEC: CommandSpec = CommandSpec {
     name: "verify",
     about: ABOUT,
     help: HELP,
-    words: &[FILES, BLOCKS_ONLY, ALL, VERIFIERS],
+    words: &[FILES, BLOCKS_ONLY, ALL, VERIFIERS, MAX_INPUT, CARV2],
 };
 
 // What the arguments choose besides the files.
@@ -84,6 +83,8 @@ struct VerifyCommand {
     scope: Scope,
     // Whether all findings are printed, with the line of the file after them.
     prints_all: bool,
+    // The greatest size of a file.
+    most_input: u64,
 }
 
 /// Runs the command and returns the status. After a file that is rejected it goes on with the next.
@@ -91,7 +92,7 @@ pub(crate) fn run<'a, R: AllocGlobal + Eprint + Files + Input + Print + Threads 
     rt: &R,
     words: &ArgMatches<'a>,
 ) -> Result<u8, Failure> {
-    let command = VerifyCommand::read(words);
+    let command = VerifyCommand::read(rt.alloc(), words)?;
     let mut status = 0;
     for path in words.get_strs(FILES.name).unwrap_or(&[]) {
         let told = match command.verify_file(rt, path) {
@@ -113,9 +114,9 @@ fn worse(status: u8, other: u8) -> u8 {
 
 impl VerifyCommand {
     // Reads the arguments.
-    fn read<'a>(words: &ArgMatches<'a>) -> VerifyCommand {
+    fn read<'a>(alloc: Global, words: &ArgMatches<'a>) -> Result<VerifyCommand, Failure> {
         let threads = VERIFIERS.threads(words) as usize;
-        VerifyCommand {
+        Ok(VerifyCommand {
             threads: NonZeroUsize::new(threads).unwrap_or(NonZeroUsize::MIN),
             scope: if BLOCKS_ONLY.is_given(words) {
                 Scope::Sections
@@ -123,7 +124,8 @@ impl VerifyCommand {
                 Scope::Graph
             },
             prints_all: ALL.is_given(words),
-        }
+            most_input: most_input(alloc, &SPEC, words, ANY_SIZE)?,
+        })
     }
 
     // Verifies a file, prints what was found, and returns its status.
@@ -133,8 +135,18 @@ impl VerifyCommand {
         path: &str,
     ) -> Result<u8, Failure> {
         let alloc = rt.alloc();
-        let car = read_input(rt, path)?;
+        let car = read_input(rt, path, self.most_input)?;
         let bytes = car.len();
+        let Payload { start, end } = match payload_of(car.as_slice()) {
+            Ok(payload) => payload,
+            Err(fault) => return refuse(rt, path, 0, fault),
+        };
+        // The payload of a CARv2 file is copied.
+        let car = if start == 0 {
+            car
+        } else {
+            Vec::from_slice(alloc, &car[start..end])?
+        };
         let most = if self.prints_all { usize::MAX } else { FIRST };
         match verify(rt, alloc, car, self.threads, self.scope, most) {
             Ok(found) => print_report(
@@ -142,19 +154,21 @@ impl VerifyCommand {
                 &Report {
                     path,
                     bytes,
+                    start,
                     found: &found,
                     most,
                     prints_all: self.prints_all,
                 },
             ),
-            Err(fault) => refuse(rt, path, fault),
+            Err(fault) => refuse(rt, path, start, fault),
         }
     }
 }
 
-// Prints why a file is rejected.
-fn refuse<R: Eprint>(rt: &R, path: &str, fault: CarFault) -> Result<u8, Failure> {
+// Prints why a file is rejected, whose CARv1 file begins at an offset.
+fn refuse<R: Eprint>(rt: &R, path: &str, start: usize, fault: CarFault) -> Result<u8, Failure> {
     let CarFault { kind, place } = fault;
+    let place = start.saturating_add(place);
     if kind == CarKind::Memory {
         return Err(Failure::Fault(RunFault::Memory));
     }
@@ -168,6 +182,8 @@ fn refuse<R: Eprint>(rt: &R, path: &str, fault: CarFault) -> Result<u8, Failure>
 struct Report<'a> {
     path: &'a str,
     bytes: usize,
+    // The offset in the file of the CARv1 file that was verified.
+    start: usize,
     found: &'a Findings,
     // How many findings are printed at most, and whether these are all, with the line of the file after them.
     most: usize,
@@ -251,7 +267,7 @@ fn write_findings<W: Write>(
 ) -> Result<(), Stop> {
     let found = report.found;
     for section in &found.unsound.first {
-        write_section(output, section, section.cid.text(alloc))?;
+        write_section(output, report.start, section, section.cid.text(alloc))?;
     }
     // The sections that were kept are no more than may be printed.
     let sections = found.unsound.first.len();
@@ -276,13 +292,15 @@ fn write_findings<W: Write>(
     Ok(())
 }
 
-// Writes the line for a section with this CID.
+// Writes the line for a section with this CID, in a CARv1 file that begins at an offset.
 fn write_section<W: Write>(
     output: &mut W,
+    start: usize,
     section: &Unsound,
     cid: Result<String, AllocError>,
 ) -> Result<(), Stop> {
-    let (place, verdict, cid) = (section.place, section.verdict, cid?);
+    let (verdict, cid) = (section.verdict, cid?);
+    let place = start.saturating_add(section.place);
     writeln!(output, "  section {place} {verdict} {cid}")?;
     Ok(())
 }

@@ -4,7 +4,7 @@
 ghost use Rattle.std.specs.Prelude.{◌≡◌, [], length, vec_len, IfOk};
 ghost use Rattle.std.specs.Arc.{arc_value};
 ghost use Rattle.ix_walk.specs.JobMeaning.{AreFew};
-ghost use Rattle.ix_archive.specs.ArchiveMeaning.{events_of};
+ghost use Rattle.ix_archive.specs.ArchiveMeaning.{calls_of, events_of};
 ghost use Rattle.ix_archive.specs.Headline.{EachFresh, EachUnused, IsUnusedCheck};
 ghost use Rattle.ix_pipeline.specs.Planned.{IsPlan};
 
@@ -107,7 +107,7 @@ fn archives_of<'a>(
     jobs: &[Job],
 ) -> Result<Vec<Archive<'a, Vec<u8>>>, Fail>
     ensures count { IfOk result (λ r. length r.items ≡ length jobs.now) }
-    ensures fresh { IfOk result (λ r. EachFresh events_of (λ a. a.failed) r.items) }
+    ensures fresh { IfOk result (λ r. EachFresh calls_of r.items) }
 {
     let mut archives = Vec::new(alloc);
     for job in jobs {

@@ -42,11 +42,14 @@ impl Sink for ProgressMode<'_> {
     ghost use Rattle.std.specs.Prelude.{◌++◌, map, option_to_list};
     ghost use Rattle.ix_archive.specs.Events.{delivery, close as closing};
 
-    ghost events = { λ s. map delivery s.log.deliveries.items ++ map closing (option_to_list s.log.closed) };
+    ghost calls = { λ s. record {
+      events = map delivery s.log.deliveries.items ++ map closing (option_to_list s.log.closed);
+      failed = option_to_list s.log.failed;
+    } };
 
-    ghost failed = { λ s. option_to_list s.log.failed };
+    ghost About = { Unit {0} };
 
-    ghost guarantee = { λ _ _ _ _. Unit {0} };
+    ghost guarantee = { λ _ _ _ _ _. Unit {0} };
 
     fn deliver(&mut self, alloc: Global, visit: Visit, verdict: Verdict) -> Result<(), SinkFault> {
         self.begun.signal();

@@ -38,8 +38,7 @@ pub fn job_of(alloc: Global, root: &str, selector: &str, limit: u32) -> Result<J
 
 /// So many jobs of everything below a root in hex.
 pub fn jobs_of(alloc: Global, root: &str, count: u32, limit: u32) -> Result<Vec<Job>, Fail>
-    requires { limit ≤ 1000000 }
-    ensures small { IfOk result (λ jobs. All (λ job. job.limit ≤ 1000000) jobs.items) }
+    ensures small { IfOk result (λ jobs. All (λ job. job.limit ≤ 4294967295) jobs.items) }
     ensures each { IfOk result (λ jobs. length jobs.items ≡ count) }
 {
     let mut jobs = Vec::new(alloc);

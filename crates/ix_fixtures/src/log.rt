@@ -41,11 +41,14 @@ impl Sink for Log {
     ghost use Rattle.std.specs.Prelude.{◌++◌, map, option_to_list};
     ghost use Rattle.ix_archive.specs.Events.{delivery, close as closing};
 
-    ghost events = { λ s. map delivery s.deliveries.items ++ map closing (option_to_list s.closed) };
+    ghost calls = { λ s. record {
+      events = map delivery s.deliveries.items ++ map closing (option_to_list s.closed);
+      failed = option_to_list s.failed;
+    } };
 
-    ghost failed = { λ s. option_to_list s.failed };
+    ghost About = { Unit {0} };
 
-    ghost guarantee = { λ _ _ _ _. Unit {0} };
+    ghost guarantee = { λ _ _ _ _ _. Unit {0} };
 
     fn deliver(&mut self, _alloc: Global, visit: Visit, verdict: Verdict) -> Result<(), SinkFault> {
         let delivery = Delivery { visit, verdict };

@@ -5,7 +5,7 @@ use Rattle.ix_walk.specs.JobMeaning.{JobMeaning}
 use Rattle.ix_jobs.specs.declared.fault.JobErrorKind.{JobErrorKind}
 use Rattle.ix_jobs.specs.declared.fault.JobErrorKind.TheVariants.{Repeated}
 use Rattle.ix_jobs.specs.declared.fault.JobsFault.{JobsFault}
-use Rattle.ix_jobs.specs.Jobs.{jobs_of, is_taken}
+use Rattle.ix_jobs.specs.Jobs.{jobs_up_to, is_taken}
 
 -- why a line is faulty after lines with these jobs: for what a file of this line alone has, or for its name
 abbrev pub fault_after : List JobMeaning → Result (List JobMeaning) (JobErrorKind × ℕ) → Option JobErrorKind
@@ -24,20 +24,25 @@ abbrev pub told : ℕ → Option JobErrorKind → List JobsFault
 told line None = []
 told line (Some kind) = record { kind = kind; line = line } ∷ []
 
--- the faults of the lines from a number on, after those with these jobs
-abbrev pub faults_from : ℕ → List JobMeaning → List (List ℕ) → List JobsFault
-faults_from line before [] = []
-faults_from line before (l ∷ ls) = told line (fault_after before (jobs_of l)) ++ faults_from (line + 1) (jobs_after before (jobs_of l)) ls
+-- the faults of the lines from a number on, after those with these jobs, with limits up to the greatest
+abbrev pub faults_from : ℕ → ℕ → List JobMeaning → List (List ℕ) → List JobsFault
+faults_from greatest line before [] = []
+faults_from greatest line before (l ∷ ls) =
+    told line (fault_after before (jobs_up_to greatest 1000 l)) ++ faults_from greatest (line + 1) (jobs_after before (jobs_up_to greatest 1000 l)) ls
 
 -- those of the lines after one
 abbrev pub later : ℕ → List JobsFault → List JobsFault
 later first faults = filter (λ f. nat_lt first f.line) faults
 
 -- the faults of the lines after one
-abbrev pub faults_after : ℕ → List ℕ → List JobsFault
-faults_after first b = later first (faults_from 1 [] (slice_split (λ b. b == 10) b))
+abbrev pub faults_after : ℕ → ℕ → List ℕ → List JobsFault
+faults_after greatest first b = later first (faults_from greatest 1 [] (slice_split (λ b. b == 10) b))
 
 -- none where the file has jobs; else the one for which it is rejected, and those of the lines after
+abbrev pub AreFaultsUpTo : ℕ → List ℕ → List JobsFault → Type 0
+AreFaultsUpTo greatest b [] = (jobs : List JobMeaning) × (jobs_up_to greatest 1000 b ≡ Ok jobs)
+AreFaultsUpTo greatest b (f ∷ fs) = (jobs_up_to greatest 1000 b ≡ Err (f.kind, f.line)) × (fs ≡ faults_after greatest f.line b)
+
+-- the same with limits up to 1000000
 abbrev pub AreFaultsOf : List ℕ → List JobsFault → Type 0
-AreFaultsOf b [] = (jobs : List JobMeaning) × (jobs_of b ≡ Ok jobs)
-AreFaultsOf b (f ∷ fs) = (jobs_of b ≡ Err (f.kind, f.line)) × (fs ≡ faults_after f.line b)
+AreFaultsOf = AreFaultsUpTo 1000000

@@ -1,10 +1,11 @@
 //! All faulty lines of a job file.
 
 ghost use Rattle.std.specs.Prelude.{◌≡◌, ◌++◌, IfOk, OnOk};
-ghost use Rattle.ix_job_errors.specs.Faults.{later, told, faults_after, AreFaultsOf};
+ghost use Rattle.ix_job_errors.specs.Faults.{later, told, faults_after, AreFaultsOf, AreFaultsUpTo};
 ghost use Rattle.ix_job_errors.specs.Steps.{AnswersAfter};
 
-use ix_jobs::{JobErrorKind, JobsFault, read_jobs, split_line};
+use ix_jobs::{JobErrorKind, JobsFault, read_jobs_up_to, split_line};
+use ix_walk::GREATEST_LIMIT;
 use std::alloc::{AllocError, Global};
 use std::collections::BTreeSet;
 
@@ -14,13 +15,24 @@ use std::collections::BTreeSet;
 pub fn job_faults(alloc: Global, bytes: &[u8]) -> Result<Vec<JobsFault>, AllocError>
     ensures { IfOk result (λ faults. AreFaultsOf bytes.now faults.items) }
 {
+    job_faults_up_to(alloc, bytes, GREATEST_LIMIT)
+}
+
+/// The same, with limits up to the greatest in place of 1,000,000.
+pub fn job_faults_up_to(
+    alloc: Global,
+    bytes: &[u8],
+    greatest: u32,
+) -> Result<Vec<JobsFault>, AllocError>
+    ensures { IfOk result (λ faults. AreFaultsUpTo greatest bytes.now faults.items) }
+{
     let mut faults = Vec::new(alloc);
-    if let Err(first) = read_jobs(alloc, bytes) {
+    if let Err(first) = read_jobs_up_to(alloc, bytes, greatest) {
         if let JobErrorKind::Memory = first.kind {
             return Err(AllocError);
         }
         faults.push(first)?;
-        push_later(alloc, &mut faults, bytes, first.line)?;
+        push_later(alloc, &mut faults, bytes, first.line, greatest)?;
     }
     Ok(faults)
 }
@@ -31,8 +43,9 @@ fn push_later(
     faults: &mut Vec<JobsFault>,
     bytes: &[u8],
     first: u64,
+    greatest: u32,
 ) -> Result<(), AllocError>
-    ensures { OnOk result (faults.new.items ≡ faults.old.items ++ faults_after first bytes.now) }
+    ensures { OnOk result (faults.new.items ≡ faults.old.items ++ faults_after greatest first bytes.now) }
 {
     let mut names = BTreeSet::new(alloc);
     let mut rest = bytes;
@@ -40,7 +53,7 @@ fn push_later(
     while !rest.is_empty() {
         let (line, after) = split_line(rest);
         number += 1;
-        let kind = fault_after(alloc, &mut names, line)?;
+        let kind = fault_after(alloc, &mut names, line, greatest)?;
         push_reported(faults, first, number, kind)?;
         rest = after;
     }
@@ -52,10 +65,11 @@ fn fault_after(
     alloc: Global,
     names: &mut BTreeSet<String>,
     line: &[u8],
+    greatest: u32,
 ) -> Result<Option<JobErrorKind>, AllocError>
-    ensures { AnswersAfter names.old line.now names.new result }
+    ensures { AnswersAfter greatest names.old line.now names.new result }
 {
-    let jobs = match read_jobs(alloc, line) {
+    let jobs = match read_jobs_up_to(alloc, line, greatest) {
         Ok(jobs) => jobs,
         Err(fault) => {
             return match fault.kind {

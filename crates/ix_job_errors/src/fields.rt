@@ -24,21 +24,23 @@ pub fn job_fault_words(
         }
         _ => {
             let typed = [words.name, words.roots, words.limit];
-            fault_words(alloc, fault, &OPTION_FIELDS, typed)
+            fault_words(alloc, fault, &OPTION_FIELDS, typed, words.greatest_limit)
         }
     }
 }
 
-/// Returns why fields aren't those of a job: `NAME: what is wrong, and what would be right`. For a
-/// selector it is the line of the command `selector`, with the part that is rejected.
+/// Returns why fields aren't those of a job with a limit up to the greatest: `NAME: what is wrong, and
+/// what would be right`. For a selector it is the line of the command `selector`, with the part that is
+/// rejected.
 pub fn line_fault_words(
     alloc: Global,
     fault: &LineFault,
     name: &str,
     roots: &str,
     limit: &str,
+    greatest: u32,
 ) -> Result<String, AllocError> {
-    fault_words(alloc, fault, &LINE_FIELDS, [name, roots, limit])
+    fault_words(alloc, fault, &LINE_FIELDS, [name, roots, limit], greatest)
 }
 
 // The names of a job's fields, as they are typed.
@@ -71,6 +73,7 @@ fn fault_words(
     fault: &LineFault,
     called: &FieldNames,
     typed: [&str; 3],
+    greatest: u32,
 ) -> Result<String, AllocError> {
     let [name, roots, limit] = typed;
     match fault {
@@ -88,8 +91,10 @@ fn fault_words(
         }
         LineFault::Field(JobErrorKind::Limit) => {
             let field = called.limit;
-            let words = limit_fault(limit).unwrap_or("no limit");
-            format!(in alloc; "{field}: {words}")
+            match limit_fault(alloc, limit, greatest)? {
+                Some(words) => format!(in alloc; "{field}: {words}"),
+                None => format!(in alloc; "{field}: no limit"),
+            }
         }
         LineFault::Field(kind) => format!(in alloc; "{kind}"),
         LineFault::Selector(_, Some(line)) => String::from_str(alloc, line.as_str()),

@@ -25,12 +25,13 @@ const MANY_WORDS: &str =
 const COMMA_WORDS: &str = "a space after a comma, expected none";
 
 /// Returns the errors of a job file as text, a line each: `line N, FIELD: what is wrong`, or `line N:
-/// what is wrong`, and what would be right. They are in the order of their lines, one per line at most;
+/// what is wrong`, and what would be right, where limits may be up to the greatest. They are in the order of their lines, one per line at most;
 /// if one is that of a field, each other faulty field of its line is reported too.
 pub fn fault_lines(
     alloc: Global,
     bytes: &[u8],
     faults: &[JobsFault],
+    greatest: u32,
 ) -> Result<String, AllocError> {
     let mut text = String::new(alloc);
     let mut names = BTreeMap::new(alloc);
@@ -43,7 +44,7 @@ pub fn fault_lines(
         let (line, after) = split_line(rest);
         number = number.saturating_add(1);
         if number == fault.line {
-            push_fault(alloc, &mut text, fault, line, &names)?;
+            push_fault(alloc, &mut text, fault, line, &names, greatest)?;
             faults = later;
         }
         note_name(alloc, &mut names, line, number)?;
@@ -81,6 +82,7 @@ fn push_fault(
     fault: &JobsFault,
     line: &[u8],
     names: &BTreeMap<String, u64>,
+    greatest: u32,
 ) -> Result<(), AllocError> {
     let number = fault.line;
     let line = without_return(line);
@@ -92,7 +94,13 @@ fn push_fault(
             None => push_field_error(text, number, NAME, "also in an earlier line"),
         },
         JobErrorKind::TooMany => push_line_error(text, number, MANY_WORDS),
-        _ => push_each_fault(alloc, text, number, str::from_utf8(line).unwrap_or("")),
+        _ => push_each_fault(
+            alloc,
+            text,
+            number,
+            str::from_utf8(line).unwrap_or(""),
+            greatest,
+        ),
     }
 }
 
@@ -125,6 +133,7 @@ fn push_each_fault(
     text: &mut String,
     number: u64,
     line: &str,
+    greatest: u32,
 ) -> Result<(), AllocError> {
     let mut fields = line.split(' ');
     if let Some(words) = name_fault(fields.next().unwrap_or("")) {
@@ -133,8 +142,8 @@ fn push_each_fault(
     if let Some(words) = roots_fault(alloc, fields.next().unwrap_or(""))? {
         push_field_error(text, number, ROOT, &words)?;
     }
-    if let Some(words) = limit_fault(fields.next().unwrap_or("")) {
-        push_field_error(text, number, LIMIT, words)?;
+    if let Some(words) = limit_fault(alloc, fields.next().unwrap_or(""), greatest)? {
+        push_field_error(text, number, LIMIT, &words)?;
     }
     if let Some(words) = selector_fault(alloc, fields.next().unwrap_or(""))? {
         push_field_error(text, number, SELECTOR, &words)?;

@@ -2,7 +2,7 @@
 
 use ix_cid::{Cid, CidFault};
 use ix_selector_json::{NotationFault, hex_fault_line, json_of_hex};
-use ix_walk::{GREATEST_LIMIT, LONGEST_NAME, MOST_ROOTS, is_name};
+use ix_walk::{LONGEST_NAME, MOST_ROOTS, is_name};
 use std::alloc::{AllocError, Global};
 
 // The digits of base32 (RFC 4648, section 6) in lower case.
@@ -164,22 +164,26 @@ fn whole_bytes(alloc: Global, root: &str) -> Result<Option<String>, AllocError> 
     Ok(Some(text))
 }
 
-/// Returns what is wrong with a limit, if anything.
-pub(crate) fn limit_fault(limit: &str) -> Option<&'static str> {
+/// Returns what is wrong with a limit, if anything, where it may be up to the greatest.
+pub(crate) fn limit_fault(
+    alloc: Global,
+    limit: &str,
+    greatest: u32,
+) -> Result<Option<String>, AllocError> {
     let digits = limit.as_bytes();
-    if digits.is_empty() || !digits.iter().all(|digit| digit.is_ascii_digit()) {
-        return Some("not a number in decimal digits, expected 1 to 1000000");
-    }
-    if limit == "0" {
-        return Some("0, expected 1 to 1000000");
-    }
-    if let Some(b'0') = digits.first() {
-        return Some("a leading zero, expected 1 to 1000000 without one");
-    }
-    match limit.parse::<u32>() {
-        Ok(number) if number <= GREATEST_LIMIT => None,
-        _ => Some("greater than 1000000, expected 1 to 1000000"),
-    }
+    let words = if digits.is_empty() || !digits.iter().all(|digit| digit.is_ascii_digit()) {
+        format!(in alloc; "not a number in decimal digits, expected 1 to {greatest}")?
+    } else if limit == "0" {
+        format!(in alloc; "0, expected 1 to {greatest}")?
+    } else if let Some(b'0') = digits.first() {
+        format!(in alloc; "a leading zero, expected 1 to {greatest} without one")?
+    } else {
+        match limit.parse::<u32>() {
+            Ok(number) if number <= greatest => return Ok(None),
+            _ => format!(in alloc; "greater than {greatest}, expected 1 to {greatest}")?,
+        }
+    };
+    Ok(Some(words))
 }
 
 /// Returns what is wrong with a selector in hex, if anything.

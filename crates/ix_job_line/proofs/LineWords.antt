@@ -15,7 +15,7 @@ use Rattle.ix_selector_json.specs.declared.fault.NotationFault.{NotationFault}
 use Rattle.ix_jobs.specs.declared.fault.JobErrorKind.{JobErrorKind}
 use Rattle.ix_jobs.specs.declared.fault.JobErrorKind.TheVariants.{Text, Memory}
 use Rattle.ix_jobs.specs.Gives.{FailsAs}
-use Rattle.ix_jobs.specs.Jobs.{◌>>=◌, is_ignored, is_text, line_job, fields_in, four_fields, job_of_fields, joined, with_line, at_line, jobs_from, jobs_of}
+use Rattle.ix_jobs.specs.Jobs.{◌>>=◌, is_ignored, is_text, line_job, fields_in, four_fields, job_of_fields, joined, with_line, at_line, jobs_from, jobs_up_to}
 use Rattle.ix_job_line.specs.declared.line.LineFault.TheVariants.{Field}
 use Rattle.ix_job_line.specs.Line.{is_visible, is_word, line_of, IsRefusedBy}
 
@@ -94,11 +94,11 @@ not_ignored (b ∷ bs) rest h =
     (of_name b (and_parts (is_name_byte b) (list_all is_name_byte bs) parts.1).0).1
 
 -- a job alone
-jobs_from-one : (r : Result JobMeaning JobErrorKind) → (at_line 1 (r >>= joined 1000 []) >>= (λ jobs. jobs_from 1000 (1 + 1) jobs ([] ∷ []))) ≡ (at_line 1 r >>= (λ j. Ok (j ∷ [])))
-jobs_from-one (Ok j) = refl
-jobs_from-one (Err kind) = refl
+jobs_from-one : (greatest : ℕ) (r : Result JobMeaning JobErrorKind) → (at_line 1 (r >>= joined 1000 []) >>= (λ jobs. jobs_from greatest 1000 (1 + 1) jobs ([] ∷ []))) ≡ (at_line 1 r >>= (λ j. Ok (j ∷ [])))
+jobs_from-one greatest (Ok j) = refl
+jobs_from-one greatest (Err kind) = refl
 
-module _ (name roots limit selector : List ℕ) where
+module _ (greatest : ℕ) (name roots limit selector : List ℕ) where
   abbrev body : List ℕ
   body = name ++ (32 ∷ (roots ++ (32 ∷ (limit ++ (32 ∷ selector)))))
 
@@ -125,10 +125,10 @@ module _ (name roots limit selector : List ℕ) where
         ap four_fields pieces
         ∙ (let named_word = name_word name named in rw (named_word.some, is_roots.some, is_limit.some, is_selector.some) refl)
 
-    job : line_job body ≡ job_of_fields name roots limit selector
+    job : line_job greatest body ≡ job_of_fields greatest name roots limit selector
     job =
-        ap (λ (t : Bool). (if t then Ok body else Err Text) >>= (λ text. fields_in text >>= (λ f. job_of_fields f.0 f.1 f.2 f.3))) text_of_body
-        ∙ ap (λ (r : Result (List ℕ × List ℕ × List ℕ × List ℕ) JobErrorKind). r >>= (λ f. job_of_fields f.0 f.1 f.2 f.3)) fields
+        ap (λ (t : Bool). (if t then Ok body else Err Text) >>= (λ text. fields_in text >>= (λ f. job_of_fields greatest f.0 f.1 f.2 f.3))) text_of_body
+        ∙ ap (λ (r : Result (List ℕ × List ℕ × List ℕ × List ℕ) JobErrorKind). r >>= (λ f. job_of_fields greatest f.0 f.1 f.2 f.3)) fields
 
     some_byte : 0 < length body
     some_byte = omega (arith, length-append name (32 ∷ (roots ++ (32 ∷ (limit ++ (32 ∷ selector))))))
@@ -142,17 +142,17 @@ module _ (name roots limit selector : List ℕ) where
     lines : slice_split (λ b. b == 10) (line_of name roots limit selector) ≡ body ∷ [] ∷ []
     lines = ap (slice_split (λ b. b == 10)) with_end ∙ slice_split_at (λ b. b == 10) body 10 [] (all_of_body (λ b. (b == 10) ≡ false) no_end refl) refl
 
-    joins : with_line 1000 [] (strip_carriage_return body) ≡ (job_of_fields name roots limit selector >>= joined 1000 [])
+    joins : with_line greatest 1000 [] (strip_carriage_return body) ≡ (job_of_fields greatest name roots limit selector >>= joined 1000 [])
     joins =
-        ap (with_line 1000 []) kept
-        ∙ ap (λ (t : Bool). if t then Ok [] else line_job body >>= joined 1000 []) (not_ignored name (32 ∷ (roots ++ (32 ∷ (limit ++ (32 ∷ selector))))) named)
+        ap (with_line greatest 1000 []) kept
+        ∙ ap (λ (t : Bool). if t then Ok [] else line_job greatest body >>= joined 1000 []) (not_ignored name (32 ∷ (roots ++ (32 ∷ (limit ++ (32 ∷ selector))))) named)
         ∙ ap (λ (r : Result JobMeaning JobErrorKind). r >>= joined 1000 []) job
 
     -- a file of the line has the job of the four words, or is rejected as they are
-    pub read_alone : jobs_of (line_of name roots limit selector) ≡ (at_line 1 (job_of_fields name roots limit selector) >>= (λ j. Ok (j ∷ [])))
+    pub read_alone : jobs_up_to greatest 1000 (line_of name roots limit selector) ≡ (at_line 1 (job_of_fields greatest name roots limit selector) >>= (λ j. Ok (j ∷ [])))
     read_alone =
-        let with_first : Result (List JobMeaning) JobErrorKind → Result (List JobMeaning) (JobErrorKind × ℕ) = λ r. at_line 1 r >>= (λ jobs. jobs_from 1000 (1 + 1) jobs ([] ∷ [])) in
-        ap (jobs_from 1000 1 []) lines ∙ ap with_first joins ∙ jobs_from-one (job_of_fields name roots limit selector)
+        let with_first : Result (List JobMeaning) JobErrorKind → Result (List JobMeaning) (JobErrorKind × ℕ) = λ r. at_line 1 r >>= (λ jobs. jobs_from greatest 1000 (1 + 1) jobs ([] ∷ [])) in
+        ap (jobs_from greatest 1000 1 []) lines ∙ ap with_first joins ∙ jobs_from-one greatest (job_of_fields greatest name roots limit selector)
 
 -- what was read
 pub was_read : (r : Result JobMeaning JobErrorKind) (jobs : List JobMeaning) → (at_line 1 r >>= (λ j. Ok (j ∷ []))) ≡ Ok jobs → (job : JobMeaning) × (r ≡ Ok job) × (jobs ≡ job ∷ [])
@@ -168,10 +168,10 @@ was_refused (Ok j) kind line h = absurd cc
 was_refused (Err other) kind line h = ap (λ (k : JobErrorKind). Err k) (ap (kind_in other) h)
 
 -- the fault of the line is that of the words
-pub IsRefusedBy-line : (IsSpelled : List ℕ → Type 0) (IsUnspelled : NotationFault → Type 0) (name roots limit hex line : List ℕ) (kind : JobErrorKind) (n : ℕ) → IsSpelled (hex ++ 10 ∷ []) → jobs_of line ≡ (at_line 1 (job_of_fields name roots limit hex) >>= (λ j. Ok (j ∷ []))) → FailsAs kind (kind, n) (jobs_of line)
-    → IsRefusedBy IsSpelled IsUnspelled name roots limit (Field kind)
-IsRefusedBy-line IsSpelled IsUnspelled name roots limit hex line Memory n made alone h = tt
-IsRefusedBy-line IsSpelled IsUnspelled name roots limit hex line kind n made alone h = inr (record { selector = hex; spelled = made; refused = was_refused (job_of_fields name roots limit hex) kind n (sym alone ∙ h) })
+pub IsRefusedBy-line : (IsSpelled : List ℕ → Type 0) (IsUnspelled : NotationFault → Type 0) (greatest : ℕ) (name roots limit hex line : List ℕ) (kind : JobErrorKind) (n : ℕ) → IsSpelled (hex ++ 10 ∷ []) → jobs_up_to greatest 1000 line ≡ (at_line 1 (job_of_fields greatest name roots limit hex) >>= (λ j. Ok (j ∷ []))) → FailsAs kind (kind, n) (jobs_up_to greatest 1000 line)
+    → IsRefusedBy IsSpelled IsUnspelled greatest name roots limit (Field kind)
+IsRefusedBy-line IsSpelled IsUnspelled greatest name roots limit hex line Memory n made alone h = tt
+IsRefusedBy-line IsSpelled IsUnspelled greatest name roots limit hex line kind n made alone h = inr (record { selector = hex; spelled = made; refused = was_refused (job_of_fields greatest name roots limit hex) kind n (sym alone ∙ h) })
 
 -- the hex of a selector, and its line end
 pub without_end : (line hex : List ℕ) → line ≡ hex ++ 10 ∷ [] → take (length line - 1) line ++ 10 ∷ [] ≡ line

@@ -6,7 +6,7 @@ use Rattle.ix_selector_json.specs.declared.fault.NotationFault.{NotationFault}
 use Rattle.ix_selector_json.specs.Notation.{IsSelectorHex, IsJsonRefused}
 use Rattle.ix_jobs.specs.declared.fault.JobErrorKind.{JobErrorKind}
 use Rattle.ix_jobs.specs.declared.fault.JobErrorKind.TheVariants as kinds
-use Rattle.ix_jobs.specs.Jobs.{job_of_fields, jobs_of}
+use Rattle.ix_jobs.specs.Jobs.{job_of_fields, jobs_up_to}
 use Rattle.ix_job_line.specs.declared.line.LineFault.{LineFault}
 use Rattle.ix_job_line.specs.declared.line.LineFault.TheVariants.{Field, Selector}
 
@@ -22,26 +22,27 @@ is_word text = not (length text == 0) && list_all is_visible text
 abbrev pub line_of : List ℕ → List ℕ → List ℕ → List ℕ → List ℕ
 line_of name roots limit selector = name ++ (32 ∷ (roots ++ (32 ∷ (limit ++ (32 ∷ (selector ++ 10 ∷ []))))))
 
--- The line of the job of a name, roots, a limit and a selector, of whose hex with a line end this is known: a job file of it has this job alone.
-pub record IsLineBy (IsSpelled : List ℕ → Type 0) (name roots limit line : List ℕ) : Type 0 where
+-- The line of the job of a name, roots, a limit up to the greatest and a selector, of whose hex with a line end this is known:
+-- a job file of it has this job alone.
+pub record IsLineBy (IsSpelled : List ℕ → Type 0) (greatest : ℕ) (name roots limit line : List ℕ) : Type 0 where
   -- the hex of the selector
   pub selector : List ℕ
   pub job : JobMeaning
   pub spelled : IsSpelled (selector ++ 10 ∷ [])
-  pub meant : job_of_fields name roots limit selector ≡ Ok job
+  pub meant : job_of_fields greatest name roots limit selector ≡ Ok job
   pub printed : line ≡ line_of name roots limit selector
-  pub read : jobs_of line ≡ Ok (job ∷ [])
+  pub read : jobs_up_to greatest 1000 line ≡ Ok (job ∷ [])
 
 -- the line, and that its job is the only one of these
-pub record IsReadBy (IsSpelled : List ℕ → Type 0) (name roots limit line : List ℕ) (jobs : List JobMeaning) : Type 0 where
-  pub is : IsLineBy IsSpelled name roots limit line
+pub record IsReadBy (IsSpelled : List ℕ → Type 0) (greatest : ℕ) (name roots limit line : List ℕ) (jobs : List JobMeaning) : Type 0 where
+  pub is : IsLineBy IsSpelled greatest name roots limit line
   pub alone : jobs ≡ is.job ∷ []
 
 -- the words are those of no job, for this reason
-pub record IsNoJob (IsSpelled : List ℕ → Type 0) (name roots limit : List ℕ) (kind : JobErrorKind) : Type 0 where
+pub record IsNoJob (IsSpelled : List ℕ → Type 0) (greatest : ℕ) (name roots limit : List ℕ) (kind : JobErrorKind) : Type 0 where
   pub selector : List ℕ
   pub spelled : IsSpelled (selector ++ 10 ∷ [])
-  pub refused : job_of_fields name roots limit selector ≡ Err kind
+  pub refused : job_of_fields greatest name roots limit selector ≡ Err kind
 
 -- the hex of the selector is no single word
 pub record IsNoHex (IsSpelled : List ℕ → Type 0) : Type 0 where
@@ -63,14 +64,21 @@ IsNoWord IsSpelled name roots limit kinds.TooMany = ⊥
 IsNoWord IsSpelled name roots limit kinds.Memory = ⊥
 
 -- why the words are those of no job, where this is known of a selector that has not hex, or memory ran out
-abbrev pub IsRefusedBy : (List ℕ → Type 0) → (NotationFault → Type 0) → List ℕ → List ℕ → List ℕ → LineFault → Type 0
-IsRefusedBy IsSpelled IsUnspelled name roots limit (Selector fault told) = IsUnspelled fault
-IsRefusedBy IsSpelled IsUnspelled name roots limit (Field kinds.Memory) = Unit {0}
-IsRefusedBy IsSpelled IsUnspelled name roots limit (Field kind) = IsNoWord IsSpelled name roots limit kind ⊎ IsNoJob IsSpelled name roots limit kind
+abbrev pub IsRefusedBy : (List ℕ → Type 0) → (NotationFault → Type 0) → ℕ → List ℕ → List ℕ → List ℕ → LineFault → Type 0
+IsRefusedBy IsSpelled IsUnspelled greatest name roots limit (Selector fault told) = IsUnspelled fault
+IsRefusedBy IsSpelled IsUnspelled greatest name roots limit (Field kinds.Memory) = Unit {0}
+IsRefusedBy IsSpelled IsUnspelled greatest name roots limit (Field kind) = IsNoWord IsSpelled name roots limit kind ⊎ IsNoJob IsSpelled greatest name roots limit kind
 
--- the line of a job with a selector in JSON, and why there is none
+-- the line of a job with a selector in JSON and a limit up to the greatest, and why there is none
+abbrev pub IsLineUpTo : ℕ → List ℕ → List ℕ → List ℕ → List ℕ → List ℕ → Type 0
+IsLineUpTo greatest name roots limit json line = IsLineBy (IsSelectorHex json) greatest name roots limit line
+
+abbrev pub IsNoLineUpTo : ℕ → List ℕ → List ℕ → List ℕ → List ℕ → LineFault → Type 0
+IsNoLineUpTo greatest name roots limit json fault = IsRefusedBy (IsSelectorHex json) (IsJsonRefused json) greatest name roots limit fault
+
+-- the same with limits up to 1000000
 abbrev pub IsLineOf : List ℕ → List ℕ → List ℕ → List ℕ → List ℕ → Type 0
-IsLineOf name roots limit json line = IsLineBy (IsSelectorHex json) name roots limit line
+IsLineOf = IsLineUpTo 1000000
 
 abbrev pub IsLineRefused : List ℕ → List ℕ → List ℕ → List ℕ → LineFault → Type 0
-IsLineRefused name roots limit json fault = IsRefusedBy (IsSelectorHex json) (IsJsonRefused json) name roots limit fault
+IsLineRefused = IsNoLineUpTo 1000000

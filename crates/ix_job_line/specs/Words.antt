@@ -37,17 +37,17 @@ IsUnspelled selector (faults.Field kind) = ⊥
 -- the job of a line that is made of the words, alone
 pub record AreJobsOf (words : JobWords) (once : Bool) (jobs : List JobMeaning) : Type 0 where
   pub line : List ℕ
-  pub is : IsLineBy (IsSpelledBy words.selector) words.name.now words.roots.now words.limit.now line
+  pub is : IsLineBy (IsSpelledBy words.selector) words.greatest_limit words.name.now words.roots.now words.limit.now line
   pub are : jobs ≡ walked once (is.job ∷ [])
 
 -- the line of a selector of any kind, beside the only job of it
-abbrev pub IsMadeOf : {Y : Type 0} → SelectorWord → List ℕ → List ℕ → List ℕ → String Y × Vec JobMeaning → Type 0
-IsMadeOf selector name roots limit made = IsReadBy (IsSpelledBy selector) name roots limit (string_bytes made.0) made.1.items
+abbrev pub IsMadeOf : {Y : Type 0} → SelectorWord → ℕ → List ℕ → List ℕ → List ℕ → String Y × Vec JobMeaning → Type 0
+IsMadeOf selector greatest name roots limit made = IsReadBy (IsSpelledBy selector) greatest name roots limit (string_bytes made.0) made.1.items
 
 -- why there is none, or memory ran out
-abbrev pub IsRefusedOf : SelectorWord → List ℕ → List ℕ → List ℕ → LineFault → Type 0
-IsRefusedOf selector name roots limit fault = IsRefusedBy (IsSpelledBy selector) (IsNoSelector selector) name roots limit fault
+abbrev pub IsRefusedOf : SelectorWord → ℕ → List ℕ → List ℕ → List ℕ → LineFault → Type 0
+IsRefusedOf selector greatest name roots limit fault = IsRefusedBy (IsSpelledBy selector) (IsNoSelector selector) greatest name roots limit fault
 
 -- why the words are those of no job, or memory ran out
 abbrev pub AreWordsRefused : JobWords → LineFault → Type 0
-AreWordsRefused words fault = IsRefusedOf words.selector words.name.now words.roots.now words.limit.now fault
+AreWordsRefused words fault = IsRefusedOf words.selector words.greatest_limit words.name.now words.roots.now words.limit.now fault

@@ -9,13 +9,14 @@ use ix_jobs::with_links_once;
 use ix_walk::Job;
 use std::alloc::Global;
 
-/// The fields of one job: its name, its comma-separated roots, its limit in decimal digits, and its
-/// selector.
+/// The fields of one job: its name, its comma-separated roots, its limit in decimal digits, the greatest
+/// limit that it may have, and its selector.
 #[derive(Debug, Drop, Clone, Copy)]
 pub struct JobWords<'a> {
     pub name: &'a str,
     pub roots: &'a str,
     pub limit: &'a str,
+    pub greatest_limit: u32,
     pub selector: SelectorWord<'a>,
 }
 
@@ -27,6 +28,13 @@ pub fn jobs_of_words(alloc: Global, words: &JobWords<'_>, once: bool) -> Result<
     ensures one { IfOk result (λ jobs. length jobs.items ≡ 1) }
     ensures refused { IfErr result (AreWordsRefused words.now) }
 {
-    let (_, jobs) = build_line(alloc, words.name, words.roots, words.limit, &words.selector)?;
+    let (_, jobs) = build_line(
+        alloc,
+        words.name,
+        words.roots,
+        words.limit,
+        words.greatest_limit,
+        &words.selector,
+    )?;
     Ok(with_links_once(alloc, jobs, once)?)
 }

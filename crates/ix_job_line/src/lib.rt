@@ -14,5 +14,5 @@ mod line;
 mod selector;
 
 pub use job::{JobWords, jobs_of_words};
-pub use line::{LineFault, job_line};
+pub use line::{LineFault, job_line, job_line_up_to};
 pub use selector::{SelectorWord, selector_hex};

@@ -2,13 +2,13 @@
 
 ghost use Rattle.std.specs.Prelude.{◌≡◌, ◌<◌, ◌-◌, length, take, IfOk, IfErr, string_bytes};
 ghost use Rattle.std.specs.List.{list_all};
-ghost use Rattle.ix_job_line.specs.Line.{is_visible, is_word, IsLineOf, IsLineRefused};
+ghost use Rattle.ix_job_line.specs.Line.{is_visible, is_word, IsLineOf, IsLineRefused, IsLineUpTo, IsNoLineUpTo};
 ghost use Rattle.ix_job_line.specs.Words.{IsMadeOf, IsRefusedOf};
 
 use crate::selector::{SelectorWord, selector_hex};
-use ix_jobs::{JobErrorKind, read_jobs};
+use ix_jobs::{JobErrorKind, read_jobs_up_to};
 use ix_selector_json::NotationFault;
-use ix_walk::{Job, is_name};
+use ix_walk::{GREATEST_LIMIT, Job, is_name};
 use std::alloc::{AllocError, Global};
 
 /// Why fields aren't those of a job.
@@ -35,7 +35,23 @@ pub fn job_line(
     ensures line { IfOk result (λ line. IsLineOf name.now roots.now limit.now json.now (string_bytes line)) }
     ensures refused { IfErr result (IsLineRefused name.now roots.now limit.now json.now) }
 {
-    let (line, _) = build_line(alloc, name, roots, limit, &SelectorWord::Json(json))?;
+    job_line_up_to(alloc, name, roots, limit, GREATEST_LIMIT, json)
+}
+
+/// Returns the same, with limits up to the greatest in place of 1,000,000.
+pub fn job_line_up_to(
+    alloc: Global,
+    name: &str,
+    roots: &str,
+    limit: &str,
+    greatest: u32,
+    json: &[u8],
+) -> Result<String, LineFault>
+    ensures line { IfOk result (λ l. IsLineUpTo greatest name.now roots.now limit.now json.now (string_bytes l)) }
+    ensures refused { IfErr result (IsNoLineUpTo greatest name.now roots.now limit.now json.now) }
+{
+    let selector = SelectorWord::Json(json);
+    let (line, _) = build_line(alloc, name, roots, limit, greatest, &selector)?;
     Ok(line)
 }
 
@@ -45,10 +61,11 @@ pub(crate) fn build_line(
     name: &str,
     roots: &str,
     limit: &str,
+    greatest: u32,
     selector: &SelectorWord<'_>,
 ) -> Result<(String, Vec<Job>), LineFault>
-    ensures read { IfOk result (IsMadeOf selector.now name.now roots.now limit.now) }
-    ensures refused { IfErr result (IsRefusedOf selector.now name.now roots.now limit.now) }
+    ensures read { IfOk result (IsMadeOf selector.now greatest name.now roots.now limit.now) }
+    ensures refused { IfErr result (IsRefusedOf selector.now greatest name.now roots.now limit.now) }
 {
     if !is_name(name) {
         return Err(LineFault::Field(JobErrorKind::Name));
@@ -64,7 +81,7 @@ pub(crate) fn build_line(
         return Err(LineFault::Field(JobErrorKind::Hex));
     }
     let line = format!(in alloc; "{name} {roots} {limit} {selector}")?;
-    match read_jobs(alloc, line.as_bytes()) {
+    match read_jobs_up_to(alloc, line.as_bytes(), greatest) {
         Ok(jobs) => Ok((line, jobs)),
         Err(fault) => Err(LineFault::Field(fault.kind)),
     }

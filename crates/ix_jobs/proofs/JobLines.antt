@@ -75,17 +75,17 @@ line-more most n before jobs true read h = sym (ap length (ok_same before jobs h
 line-more most n before jobs false (Ok job) h = joined-more most before jobs job (is_taken before job.name) (leb most (length before)) h
 line-more most n before jobs false (Err kind) h = absurd cc
 
-behind-many : (most n : ℕ) (before jobs : List JobMeaning) (own : List ℕ) (ls : List (List ℕ)) (read : Result (List JobMeaning) JobErrorKind) → ((more : List JobMeaning) → jobs_from most (n + 1) more ls ≡ Ok jobs → length jobs ≡ length more + length (job_lines_from (n + 1) ls))
-    → ((more : List JobMeaning) → read ≡ Ok more → length more ≡ length before + length own) → (at_line n read >>= (λ more. jobs_from most (n + 1) more ls)) ≡ Ok jobs → length jobs ≡ length before + length (own ++ job_lines_from (n + 1) ls)
-behind-many most n before jobs own ls (Ok more) rest first h = omega (arith, rest more h, first more refl, length-append own (job_lines_from (n + 1) ls))
-behind-many most n before jobs own ls (Err kind) rest first h = absurd cc
+behind-many : (greatest most n : ℕ) (before jobs : List JobMeaning) (own : List ℕ) (ls : List (List ℕ)) (read : Result (List JobMeaning) JobErrorKind) → ((more : List JobMeaning) → jobs_from greatest most (n + 1) more ls ≡ Ok jobs → length jobs ≡ length more + length (job_lines_from (n + 1) ls))
+    → ((more : List JobMeaning) → read ≡ Ok more → length more ≡ length before + length own) → (at_line n read >>= (λ more. jobs_from greatest most (n + 1) more ls)) ≡ Ok jobs → length jobs ≡ length before + length (own ++ job_lines_from (n + 1) ls)
+behind-many greatest most n before jobs own ls (Ok more) rest first h = omega (arith, rest more h, first more refl, length-append own (job_lines_from (n + 1) ls))
+behind-many greatest most n before jobs own ls (Err kind) rest first h = absurd cc
 
-from-many : (most n : ℕ) (before jobs : List JobMeaning) (lines : List (List ℕ)) → jobs_from most n before lines ≡ Ok jobs → length jobs ≡ length before + length (job_lines_from n lines)
-from-many most n before jobs [] h = sym (ap length (ok_same before jobs h)) ∙ (let none : length before ≡ length before + 0 = omega arith in none)
-from-many most n before jobs (l ∷ ls) h =
-    behind-many most n before jobs (own_line n l) ls (with_line most before (strip_carriage_return l)) (λ more e. from-many most (n + 1) more jobs ls e)
-    (λ more e. line-more most n before more (is_ignored (strip_carriage_return l)) (line_job (strip_carriage_return l)) e) h
+from-many : (greatest most n : ℕ) (before jobs : List JobMeaning) (lines : List (List ℕ)) → jobs_from greatest most n before lines ≡ Ok jobs → length jobs ≡ length before + length (job_lines_from n lines)
+from-many greatest most n before jobs [] h = sym (ap length (ok_same before jobs h)) ∙ (let none : length before ≡ length before + 0 = omega arith in none)
+from-many greatest most n before jobs (l ∷ ls) h =
+    behind-many greatest most n before jobs (own_line n l) ls (with_line greatest most before (strip_carriage_return l)) (λ more e. from-many greatest most (n + 1) more jobs ls e)
+    (λ more e. line-more most n before more (is_ignored (strip_carriage_return l)) (line_job greatest (strip_carriage_return l)) e) h
 
 -- an accepted job file has a line for each job
-pub job_lines-are : (most : ℕ) (b : List ℕ) (jobs : List JobMeaning) → jobs_up_to most b ≡ Ok jobs → length (job_lines b) ≡ length jobs
-job_lines-are most b jobs h = let same : length jobs ≡ 0 + length (job_lines b) = from-many most 1 [] jobs (slice_split is_end b) h in omega (arith, same)
+pub job_lines-are : (greatest most : ℕ) (b : List ℕ) (jobs : List JobMeaning) → jobs_up_to greatest most b ≡ Ok jobs → length (job_lines b) ≡ length jobs
+job_lines-are greatest most b jobs h = let same : length jobs ≡ 0 + length (job_lines b) = from-many greatest most 1 [] jobs (slice_split is_end b) h in omega (arith, same)

@@ -28,8 +28,8 @@ digit_above d low high = grind (arith, nat_tests)
 value_above : (d : ℕ) (ds : List ℕ) → 49 ≤ d → d ≤ 57 → 1 ≤ digits_value 10 (d ∷ ds)
 value_above d ds low high = omega (arith, value_after-above (0 * 10 + digit_value d) ds, digit_above d low high)
 
-abbrev fits : ℕ → List ℕ → Bool
-fits d ds = (all_ascii_digits (d ∷ ds) && not (d == 48)) && nat_le (digits_value 10 (d ∷ ds)) 1000000
+abbrev fits : ℕ → ℕ → List ℕ → Bool
+fits greatest d ds = (all_ascii_digits (d ∷ ds) && not (d == 48)) && nat_le (digits_value 10 (d ∷ ds)) greatest
 
 limit_if : ℕ → List ℕ → Bool → Result ℕ JobErrorKind
 limit_if d ds b = if b then Ok (digits_value 10 (d ∷ ds)) else Err Limit
@@ -42,33 +42,33 @@ first_fits d low = grind (arith, nat_tests)
 no_plus : (d : ℕ) → 49 ≤ d → d ≢ 43
 no_plus d low e = omega (arith, e)
 
--- a limit of at most 1,000,000 passes the test
-limit-passes : (v : ℕ) → v ≤ 1000000 → nat_le v 1000000 ≡ true
-limit-passes v h = grind (arith, nat_tests)
+-- a limit of at most the greatest passes the test
+limit-passes : (greatest v : ℕ) → v ≤ greatest → nat_le v greatest ≡ true
+limit-passes greatest v h = grind (arith, nat_tests)
 
--- a limit that passes the test is at most 1,000,000
-limit-small : (v : ℕ) → nat_le v 1000000 ≡ true → v ≤ 1000000
-limit-small v h = grind (arith, nat_tests)
+-- a limit that passes the test is at most the greatest
+limit-small : (greatest v : ℕ) → nat_le v greatest ≡ true → v ≤ greatest
+limit-small greatest v h = grind (arith, nat_tests)
 
 -- a number that is parsed and within the bound
-pub limit_in-ok : {E : Type 0} (bs : List ℕ) (r : Result ℕ E) (n : ℕ) → 49 ≤ get_or bs 0 0 → get_or bs 0 0 ≤ 57 → ParsesUnsigned 32 10 bs r → r ≡ Ok n → n ≤ 1000000 → (limit_in bs ≡ Ok n) × (1 ≤ n)
+pub limit_in-ok : {E : Type 0} (greatest : ℕ) (bs : List ℕ) (r : Result ℕ E) (n : ℕ) → 49 ≤ get_or bs 0 0 → get_or bs 0 0 ≤ 57 → ParsesUnsigned 32 10 bs r → r ≡ Ok n → n ≤ greatest → (limit_in greatest bs ≡ Ok n) × (1 ≤ n)
 unfolding limit_if
-limit_in-ok [] r n low high parses is few = absurd (omega (arith, low))
-limit_in-ok (d ∷ ds) r n low high parses is few =
+limit_in-ok greatest [] r n low high parses is few = absurd (omega (arith, low))
+limit_in-ok greatest (d ∷ ds) r n low high parses is few =
     let found = OkIff-at_ok r _ (digits_value 10 (d ∷ ds)) n (parse_plain own 32 (d ∷ ds) r parses (no_plus d low)) is in
     let same : digits_value 10 (d ∷ ds) ≡ n = sym found.1 in
-    let passes : fits d ds ≡ true = and_from _ _ (and_from _ _ found.0.0 (first_fits d low)) (limit-passes (digits_value 10 (d ∷ ds)) (omega (arith, same, few))) in
+    let passes : fits greatest d ds ≡ true = and_from _ _ (and_from _ _ found.0.0 (first_fits d low)) (limit-passes greatest (digits_value 10 (d ∷ ds)) (omega (arith, same, few))) in
     (ap (limit_if d ds) passes ∙ ap Ok same, omega (arith, same, value_above d ds low high))
 
 -- no number, or one that is greater still
-pub limit_in-err : {E : Type 0} (bs : List ℕ) (r : Result ℕ E) (e : E) → 49 ≤ get_or bs 0 0 → ParsesUnsigned 32 10 bs r → r ≡ Err e → limit_in bs ≡ Err Limit
+pub limit_in-err : {E : Type 0} (greatest : ℕ) → greatest ≤ 4294967295 → (bs : List ℕ) (r : Result ℕ E) (e : E) → 49 ≤ get_or bs 0 0 → ParsesUnsigned 32 10 bs r → r ≡ Err e → limit_in greatest bs ≡ Err Limit
 unfolding limit_if
-limit_in-err [] r e low parses is = refl
-limit_in-err (d ∷ ds) r e low parses is =
+limit_in-err greatest below [] r e low parses is = refl
+limit_in-err greatest below (d ∷ ds) r e low parses is =
     let plain = parse_plain own 32 (d ∷ ds) r parses (no_plus d low) in
-    let fails : fits d ds ≡ false =
-    false_from_ne_true (fits d ds) (λ passes.
-    let halves = and_parts (all_ascii_digits (d ∷ ds) && not (d == 48)) (nat_le (digits_value 10 (d ∷ ds)) 1000000) passes in
-    let few = limit-small (digits_value 10 (d ∷ ds)) halves.1 in
-    OkIff-at_err r _ (digits_value 10 (d ∷ ds)) e plain is ((and_parts (all_ascii_digits (d ∷ ds)) (not (d == 48)) halves.0).0, omega arith, omega (arith, few))) in
+    let fails : fits greatest d ds ≡ false =
+    false_from_ne_true (fits greatest d ds) (λ passes.
+    let halves = and_parts (all_ascii_digits (d ∷ ds) && not (d == 48)) (nat_le (digits_value 10 (d ∷ ds)) greatest) passes in
+    let few = limit-small greatest (digits_value 10 (d ∷ ds)) halves.1 in
+    OkIff-at_err r _ (digits_value 10 (d ∷ ds)) e plain is ((and_parts (all_ascii_digits (d ∷ ds)) (not (d == 48)) halves.0).0, omega arith, omega (arith, few, below))) in
     ap (limit_if d ds) fails

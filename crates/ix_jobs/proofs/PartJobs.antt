@@ -7,7 +7,7 @@ use Rattle.ix_walk.specs.JobMeaning.{JobMeaning}
 use Rattle.ix_jobs.specs.declared.fault.JobErrorKind.{JobErrorKind}
 use Rattle.ix_jobs.specs.declared.fault.JobErrorKind.TheVariants.{TooMany}
 use Rattle.ix_jobs.specs.Jobs.{◌>>=◌, jobs_up_to}
-use Rattle.ix_jobs.specs.Parts.{cut, part_of, job_lines, few_of, part_jobs_of}
+use Rattle.ix_jobs.specs.Parts.{cut, part_of, job_lines, few_of, part_jobs_up_to}
 use Rattle.ix_jobs.proofs.PartLaws.{cut-within}
 use Rattle.ix_jobs.proofs.JobLines.{job_lines-are}
 
@@ -27,25 +27,25 @@ module _ (k n : ℕ) (some : 0 < n) (there : k ≤ n) where
       let behind : length (drop start xs) ≡ length xs - start = length-drop start xs in
       length-take-le (end - start) (drop start xs) (omega (arith, within, behind))
 
-  module _ (b : List ℕ) (jobs : List JobMeaning) (read : jobs_up_to 1000000 b ≡ Ok jobs) (count : ℕ) (counted : count ≡ length (job_lines b)) where
+  module _ (greatest : ℕ) (b : List ℕ) (jobs : List JobMeaning) (read : jobs_up_to greatest 1000000 b ≡ Ok jobs) (count : ℕ) (counted : count ≡ length (job_lines b)) where
     same : count ≡ length jobs
-    same = counted ∙ job_lines-are 1000000 b jobs read
+    same = counted ∙ job_lines-are greatest 1000000 b jobs read
 
-    taken : part_jobs_of k n b ≡ few_of (part_of k n (job_lines b)) (part_of k n jobs)
+    taken : part_jobs_up_to greatest k n b ≡ few_of (part_of k n (job_lines b)) (part_of k n jobs)
     taken = ap (λ (r : Result (List JobMeaning) (JobErrorKind × ℕ)). r >>= (λ jobs. few_of (part_of k n (job_lines b)) (part_of k n jobs))) read
 
     long : length (part_of k n jobs) ≡ cut k n count - cut (k - 1) n count
     long = length-part jobs ∙ ap (λ m. cut k n m - cut (k - 1) n m) (sym same)
 
     -- a part that isn't too long
-    pub part-read : (kept : List JobMeaning) (last : ℕ) → kept ≡ slice_range jobs (cut (k - 1) n count) last → last ≡ cut k n count → cut k n count - cut (k - 1) n count ≤ 1000 → part_jobs_of k n b ≡ Ok kept
+    pub part-read : (kept : List JobMeaning) (last : ℕ) → kept ≡ slice_range jobs (cut (k - 1) n count) last → last ≡ cut k n count → cut k n count - cut (k - 1) n count ≤ 1000 → part_jobs_up_to greatest k n b ≡ Ok kept
     part-read kept last is ends few =
         let short : length (part_of k n jobs) ≤ 1000 = omega (arith, few, long) in
         let whole : kept ≡ part_of k n jobs = is ∙ ap (slice_range jobs (cut (k - 1) n count)) ends ∙ ap (λ m. slice_range jobs (cut (k - 1) n m) (cut k n m)) same in
         taken ∙ rw (le-leb (length (part_of k n jobs)) 1000 short) (ap good (sym whole))
 
     -- a part that is
-    pub part-too_long : (line : ℕ) → line ≡ get_or (job_lines b) (cut (k - 1) n count + 1000) 0 → 1000 < cut k n count - cut (k - 1) n count → part_jobs_of k n b ≡ Err (TooMany, line)
+    pub part-too_long : (line : ℕ) → line ≡ get_or (job_lines b) (cut (k - 1) n count + 1000) 0 → 1000 < cut k n count - cut (k - 1) n count → part_jobs_up_to greatest k n b ≡ Err (TooMany, line)
     part-too_long line is many =
         let more : 1000 < length (part_of k n jobs) = omega (arith, many, long) in
         let lines : List ℕ = job_lines b in

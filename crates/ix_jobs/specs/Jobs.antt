@@ -34,11 +34,11 @@ text_in line = if is_text line then Ok line else Err Text
 abbrev pub name_in : List ℕ → Result (List ℕ) JobErrorKind
 name_in name = if is_name name then Ok name else Err Name
 
--- decimal digits without a leading zero, from 1 to 1000000
-abbrev pub limit_in : List ℕ → Result ℕ JobErrorKind
-limit_in [] = Err Limit
-limit_in (d ∷ ds) =
-    if (all_ascii_digits (d ∷ ds) && not (d == 48)) && nat_le (digits_value 10 (d ∷ ds)) 1000000 then Ok (digits_value 10 (d ∷ ds)) else Err Limit
+-- decimal digits without a leading zero, from 1 to the greatest limit
+abbrev pub limit_in : ℕ → List ℕ → Result ℕ JobErrorKind
+limit_in greatest [] = Err Limit
+limit_in greatest (d ∷ ds) =
+    if (all_ascii_digits (d ∷ ds) && not (d == 48)) && nat_le (digits_value 10 (d ∷ ds)) greatest then Ok (digits_value 10 (d ∷ ds)) else Err Limit
 
 abbrev pub root_in : List ℕ → Result (List ℕ) JobErrorKind
 root_in text = or_fault Root (cid_of_text text)
@@ -67,10 +67,10 @@ data_in bytes = or_fault Selector (decoded bytes)
 abbrev pub selector_in : List ℕ → Result Pattern JobErrorKind
 selector_in digits = bytes_in digits >>= (λ bytes. data_in bytes >>= (λ d. or_fault Selector (selector_of d)))
 
--- the job of four fields
-abbrev pub job_of_fields : List ℕ → List ℕ → List ℕ → List ℕ → Result JobMeaning JobErrorKind
-job_of_fields name roots limit selector =
-    name_in name >>= (λ n. roots_in roots >>= (λ r. limit_in limit >>= (λ l. selector_in selector >>= (λ s.
+-- the job of four fields, with a limit up to the greatest
+abbrev pub job_of_fields : ℕ → List ℕ → List ℕ → List ℕ → List ℕ → Result JobMeaning JobErrorKind
+job_of_fields greatest name roots limit selector =
+    name_in name >>= (λ n. roots_in roots >>= (λ r. limit_in greatest limit >>= (λ l. selector_in selector >>= (λ s.
     Ok (record { name = n; roots = r; selector = s; limit = l; once = false })))))
 
 abbrev pub is_empty : List ℕ → Bool
@@ -85,8 +85,8 @@ four_fields other = Err Fields
 abbrev pub fields_in : List ℕ → Result (List ℕ × List ℕ × List ℕ × List ℕ) JobErrorKind
 fields_in text = four_fields (slice_split (λ b. b == 32) text)
 
-abbrev pub line_job : List ℕ → Result JobMeaning JobErrorKind
-line_job line = text_in line >>= (λ text. fields_in text >>= (λ f. job_of_fields f.0 f.1 f.2 f.3))
+abbrev pub line_job : ℕ → List ℕ → Result JobMeaning JobErrorKind
+line_job greatest line = text_in line >>= (λ text. fields_in text >>= (λ f. job_of_fields greatest f.0 f.1 f.2 f.3))
 
 -- whether one of the jobs has the name
 abbrev pub is_taken : List JobMeaning → List ℕ → Bool
@@ -98,12 +98,12 @@ joined most before job =
     if is_taken before job.name then Err Repeated else (if nat_le most (length before) then Err TooMany else Ok (before ++ job ∷ []))
 
 -- the jobs with that of a line, if it isn't ignored
-abbrev pub with_line : ℕ → List JobMeaning → List ℕ → Result (List JobMeaning) JobErrorKind
-with_line most before line = if is_ignored line then Ok before else line_job line >>= joined most before
+abbrev pub with_line : ℕ → ℕ → List JobMeaning → List ℕ → Result (List JobMeaning) JobErrorKind
+with_line greatest most before line = if is_ignored line then Ok before else line_job greatest line >>= joined most before
 
 -- the same of a line as it is in a file, with or without a carriage return at its end
-abbrev pub with_file_line : ℕ → List JobMeaning → List ℕ → Result (List JobMeaning) JobErrorKind
-with_file_line most before line = with_line most before (strip_carriage_return line)
+abbrev pub with_file_line : ℕ → ℕ → List JobMeaning → List ℕ → Result (List JobMeaning) JobErrorKind
+with_file_line greatest most before line = with_line greatest most before (strip_carriage_return line)
 
 -- a fault and its line
 abbrev pub at_line : {A : Type 0} → ℕ → Result A JobErrorKind → Result A (JobErrorKind × ℕ)
@@ -111,14 +111,14 @@ at_line line (Ok x) = Ok x
 at_line line (Err kind) = Err (kind, line)
 
 -- the jobs of the lines from a number on, after those before
-abbrev pub jobs_from : ℕ → ℕ → List JobMeaning → List (List ℕ) → Result (List JobMeaning) (JobErrorKind × ℕ)
-jobs_from most line before [] = Ok before
-jobs_from most line before (l ∷ ls) = at_line line (with_file_line most before l) >>= (λ jobs. jobs_from most (line + 1) jobs ls)
+abbrev pub jobs_from : ℕ → ℕ → ℕ → List JobMeaning → List (List ℕ) → Result (List JobMeaning) (JobErrorKind × ℕ)
+jobs_from greatest most line before [] = Ok before
+jobs_from greatest most line before (l ∷ ls) = at_line line (with_file_line greatest most before l) >>= (λ jobs. jobs_from greatest most (line + 1) jobs ls)
 
--- the jobs of a file that may have so many, or the first faulty line
-abbrev pub jobs_up_to : ℕ → List ℕ → Result (List JobMeaning) (JobErrorKind × ℕ)
-jobs_up_to most b = jobs_from most 1 [] (slice_split (λ b. b == 10) b)
+-- the jobs of a file that may have so many, with limits up to the greatest, or the first faulty line
+abbrev pub jobs_up_to : ℕ → ℕ → List ℕ → Result (List JobMeaning) (JobErrorKind × ℕ)
+jobs_up_to greatest most b = jobs_from greatest most 1 [] (slice_split (λ b. b == 10) b)
 
 -- the jobs of a job file, or the first faulty line
 abbrev pub jobs_of : List ℕ → Result (List JobMeaning) (JobErrorKind × ℕ)
-jobs_of b = jobs_up_to 1000 b
+jobs_of b = jobs_up_to 1000000 1000 b

@@ -37,15 +37,19 @@ job_lines b = job_lines_from 1 (slice_split (λ b. b == 10) b)
 abbrev pub few_of : List ℕ → List JobMeaning → Result (List JobMeaning) (JobErrorKind × ℕ)
 few_of lines jobs = if nat_le (length jobs) 1000 then Ok jobs else Err (TooMany, get_or lines 1000 0)
 
--- The k-th of n parts of the jobs of a job file that may have a million, or its first faulty line; or, where no line is faulty, the line of the job
--- that is too many for the part.
+-- The k-th of n parts of the jobs of a job file that may have a million, with limits up to the greatest, or its first faulty
+-- line; or, where no line is faulty, the line of the job that is too many for the part.
+abbrev pub part_jobs_up_to : ℕ → ℕ → ℕ → List ℕ → Result (List JobMeaning) (JobErrorKind × ℕ)
+part_jobs_up_to greatest k n b = jobs_up_to greatest 1000000 b >>= (λ jobs. few_of (part_of k n (job_lines b)) (part_of k n jobs))
+
+-- the same with limits up to 1000000
 abbrev pub part_jobs_of : ℕ → ℕ → List ℕ → Result (List JobMeaning) (JobErrorKind × ℕ)
-part_jobs_of k n b = jobs_up_to 1000000 b >>= (λ jobs. few_of (part_of k n (job_lines b)) (part_of k n jobs))
+part_jobs_of = part_jobs_up_to 1000000
 
 -- that of the part that the program names
 abbrev pub jobs_of_part : Part → List ℕ → Result (List JobMeaning) (JobErrorKind × ℕ)
 jobs_of_part part b = part_jobs_of part.number part.of b
 
 -- the jobs of a file that may have a million, from one on up to, and not including, another
-abbrev pub AreJobsBetween : ℕ → ℕ → List ℕ → List JobMeaning → Type 0
-AreJobsBetween start end b kept = (jobs : List JobMeaning) × (jobs_up_to 1000000 b ≡ Ok jobs) × (kept ≡ slice_range jobs start end)
+abbrev pub AreJobsBetween : ℕ → ℕ → ℕ → List ℕ → List JobMeaning → Type 0
+AreJobsBetween greatest start end b kept = (jobs : List JobMeaning) × (jobs_up_to greatest 1000000 b ≡ Ok jobs) × (kept ≡ slice_range jobs start end)

@@ -10,7 +10,7 @@ use hex::FromHexError;
 use ix_cbor::{CborKind, Tree, decode};
 use ix_cid::{Cid, CidFault};
 use ix_selector::{SelFault, Selector};
-use ix_walk::{GREATEST_LIMIT, MOST_ROOTS};
+use ix_walk::MOST_ROOTS;
 use std::alloc::Global;
 
 /// Parses one to 64 comma-separated CIDv1s.
@@ -39,16 +39,16 @@ fn root_in(alloc: Global, text: &str) -> Result<Cid, JobErrorKind>
     }
 }
 
-/// Parses decimal digits without a leading zero as a number from 1 to 1,000,000.
-pub(crate) fn limit_in(text: &str) -> Result<u32, JobErrorKind>
-    ensures exact { Reads (λ limit. limit) result (limit_in text.now) }
-    ensures within { IfOk result (λ limit. (1 ≤ limit) × (limit ≤ 1000000)) }
+/// Parses decimal digits without a leading zero as a number from 1 to the greatest limit.
+pub(crate) fn limit_in(text: &str, greatest: u32) -> Result<u32, JobErrorKind>
+    ensures exact { Reads (λ limit. limit) result (limit_in greatest text.now) }
+    ensures within { IfOk result (λ limit. (1 ≤ limit) × (limit ≤ greatest)) }
 {
     let Some(b'1'..=b'9') = text.as_bytes().first() else {
         return Err(JobErrorKind::Limit);
     };
     match text.parse::<u32>() {
-        Ok(limit) if limit <= GREATEST_LIMIT => Ok(limit),
+        Ok(limit) if limit <= greatest => Ok(limit),
         _ => Err(JobErrorKind::Limit),
     }
 }

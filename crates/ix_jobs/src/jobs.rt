@@ -8,13 +8,13 @@
 ghost use Rattle.std.specs.Prelude.{◌≡◌, ◌==◌, Ok, IfOk, IfErr};
 ghost use Rattle.std.specs.List.{before_first, after_first};
 ghost use Rattle.ix_walk.specs.JobMeaning.{walked};
-ghost use Rattle.ix_jobs.specs.Jobs.{jobs_of};
+ghost use Rattle.ix_jobs.specs.Jobs.{jobs_of, jobs_up_to};
 ghost use Rattle.ix_jobs.specs.Gives.{IsFaultOf};
 
 use crate::fault::JobsFault;
 use crate::job_list::JobList;
 use crate::line::add_line;
-use ix_walk::Job;
+use ix_walk::{GREATEST_LIMIT, Job};
 use std::alloc::{AllocError, Global};
 
 /// Returns the jobs of a job file, in order, or its first error.
@@ -22,13 +22,21 @@ pub fn read_jobs(alloc: Global, bytes: &[u8]) -> Result<Vec<Job>, JobsFault>
     ensures jobs { IfOk result (λ jobs. jobs_of bytes.now ≡ Ok jobs.items) }
     ensures fault { IfErr result (λ fault. IsFaultOf fault (jobs_of bytes.now)) }
 {
+    read_jobs_up_to(alloc, bytes, GREATEST_LIMIT)
+}
+
+/// Returns the same, with limits up to the greatest in place of 1,000,000.
+pub fn read_jobs_up_to(alloc: Global, bytes: &[u8], greatest: u32) -> Result<Vec<Job>, JobsFault>
+    ensures jobs { IfOk result (λ jobs. jobs_up_to greatest 1000 bytes.now ≡ Ok jobs.items) }
+    ensures fault { IfErr result (λ fault. IsFaultOf fault (jobs_up_to greatest 1000 bytes.now)) }
+{
     let mut jobs = JobList::new(alloc);
     let mut rest = bytes;
     let mut number = 0;
     while !rest.is_empty() {
         let (line, after) = split_line(rest);
         number += 1;
-        if let Err(kind) = add_line(alloc, &mut jobs, line) {
+        if let Err(kind) = add_line(alloc, &mut jobs, line, greatest) {
             return Err(JobsFault { kind, line: number });
         }
         rest = after;

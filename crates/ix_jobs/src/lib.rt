@@ -25,7 +25,7 @@ mod part_list;
 mod results;
 
 pub use fault::{JobErrorKind, JobsFault};
-pub use jobs::{read_jobs, split_line, with_links_once};
+pub use jobs::{read_jobs, read_jobs_up_to, split_line, with_links_once};
 pub use part::Part;
-pub use part_jobs::read_jobs_part;
+pub use part_jobs::{read_jobs_part, read_jobs_part_up_to};
 pub use results::{JobResult, report, status};

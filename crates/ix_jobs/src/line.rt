@@ -15,14 +15,19 @@ use std::alloc::Global;
 use std::str;
 
 /// Adds the job of a line, unless the line is ignored.
-pub(crate) fn add_line(alloc: Global, jobs: &mut JobList, line: &[u8]) -> Result<(), JobErrorKind>
-    ensures { Gives (λ _. jobs.new) result (with_file_line 1000 jobs.old line.now) }
+pub(crate) fn add_line(
+    alloc: Global,
+    jobs: &mut JobList,
+    line: &[u8],
+    greatest: u32,
+) -> Result<(), JobErrorKind>
+    ensures { Gives (λ _. jobs.new) result (with_file_line greatest 1000 jobs.old line.now) }
 {
     let line = without_return(line);
     if is_ignored(line) {
         return Ok(());
     }
-    let job = line_job(alloc, line)?;
+    let job = line_job(alloc, line, greatest)?;
     jobs.add(alloc, job)
 }
 
@@ -43,13 +48,13 @@ pub(crate) fn is_ignored(line: &[u8]) -> bool
     matches!(line.first(), None | Some(b'#'))
 }
 
-/// Returns the job of a line that isn't ignored.
-pub(crate) fn line_job(alloc: Global, line: &[u8]) -> Result<Job, JobErrorKind>
-    ensures { Gives (λ job. job) result (line_job line.now) }
+/// Returns the job of a line that isn't ignored, with a limit up to the greatest.
+pub(crate) fn line_job(alloc: Global, line: &[u8], greatest: u32) -> Result<Job, JobErrorKind>
+    ensures { Gives (λ job. job) result (line_job greatest line.now) }
 {
     let text = text_in(line)?;
     let (name, roots, limit, selector) = fields_in(text)?;
-    job_of_fields(alloc, name, roots, limit, selector)
+    job_of_fields(alloc, name, roots, limit, selector, greatest)
 }
 
 // Returns the text of a line if all its bytes are printable.
@@ -103,22 +108,23 @@ fn last_field(text: &str) -> Result<&str, JobErrorKind>
     }
 }
 
-// Returns the job of four fields. Whatever `Job::new` rejects was rejected before.
+// Returns the job of four fields. Whatever the constructor of jobs rejects was rejected before.
 fn job_of_fields(
     alloc: Global,
     name: &str,
     roots: &str,
     limit: &str,
     selector: &str,
+    greatest: u32,
 ) -> Result<Job, JobErrorKind>
-    ensures { Gives (λ job. job) result (job_of_fields name.now roots.now limit.now selector.now) }
+    ensures { Gives (λ job. job) result (job_of_fields greatest name.now roots.now limit.now selector.now) }
 {
     if !is_name(name) {
         return Err(JobErrorKind::Name);
     }
     let roots = roots_in(alloc, roots)?;
-    let limit = limit_in(limit)?;
+    let limit = limit_in(limit, greatest)?;
     let selector = selector_in(alloc, selector)?;
     let name = String::from_str(alloc, name)?;
-    Ok(Job::new(name, roots, selector, limit).unwrap())
+    Ok(Job::with_limit_up_to(greatest, name, roots, selector, limit).unwrap())
 }

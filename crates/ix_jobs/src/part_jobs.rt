@@ -5,7 +5,7 @@
 ghost use Rattle.std.specs.Prelude.{◌≡◌, ◌≤◌, length, get_or, Ok, IfOk, IfErr};
 ghost use Rattle.ix_walk.specs.JobMeaning.{AreFew};
 ghost use Rattle.ix_jobs.specs.Jobs.{jobs_up_to};
-ghost use Rattle.ix_jobs.specs.Parts.{job_lines, jobs_of_part, AreJobsBetween};
+ghost use Rattle.ix_jobs.specs.Parts.{job_lines, jobs_of_part, part_jobs_up_to, AreJobsBetween};
 ghost use Rattle.ix_jobs.specs.Gives.{IsFaultOf};
 
 use crate::fault::{JobErrorKind, JobsFault};
@@ -14,7 +14,7 @@ use crate::jobs::split_line;
 use crate::line::{is_ignored, without_return};
 use crate::part::Part;
 use crate::part_list::PartList;
-use ix_walk::Job;
+use ix_walk::{GREATEST_LIMIT, Job};
 use std::alloc::Global;
 
 /// Returns the jobs of a part of a job file that may have 1,000,000, in order. Returns the first error
@@ -25,10 +25,24 @@ pub fn read_jobs_part(alloc: Global, bytes: &[u8], part: Part) -> Result<Vec<Job
     ensures few { IfOk result (λ jobs. AreFew jobs.items) }
     ensures fault { IfErr result (λ fault. IsFaultOf fault (jobs_of_part part bytes.now)) }
 {
+    read_jobs_part_up_to(alloc, bytes, part, GREATEST_LIMIT)
+}
+
+/// Returns the same, with limits up to the greatest in place of 1,000,000.
+pub fn read_jobs_part_up_to(
+    alloc: Global,
+    bytes: &[u8],
+    part: Part,
+    greatest: u32,
+) -> Result<Vec<Job>, JobsFault>
+    ensures jobs { IfOk result (λ jobs. part_jobs_up_to greatest part.number part.of bytes.now ≡ Ok jobs.items) }
+    ensures few { IfOk result (λ jobs. AreFew jobs.items) }
+    ensures fault { IfErr result (λ fault. IsFaultOf fault (part_jobs_up_to greatest part.number part.of bytes.now)) }
+{
     let count = job_count(bytes);
     let start = part.start(count);
     let end = part.end(count);
-    let jobs = read_window(alloc, bytes, start, end.min(start + MOST_JOBS))?;
+    let jobs = read_window(alloc, bytes, start, end.min(start + MOST_JOBS), greatest)?;
     if end - start > MOST_JOBS {
         let line = line_of_job(bytes, start + MOST_JOBS);
         return Err(JobsFault {
@@ -41,9 +55,15 @@ pub fn read_jobs_part(alloc: Global, bytes: &[u8], part: Part) -> Result<Vec<Job
 
 // Returns the jobs that are numbered from `start` up to, and not including, `end`, or the first error
 // of the file.
-fn read_window(alloc: Global, bytes: &[u8], start: usize, end: usize) -> Result<Vec<Job>, JobsFault>
-    ensures jobs { IfOk result (λ kept. AreJobsBetween start end bytes.now kept.items) }
-    ensures fault { IfErr result (λ fault. IsFaultOf fault (jobs_up_to 1000000 bytes.now)) }
+fn read_window(
+    alloc: Global,
+    bytes: &[u8],
+    start: usize,
+    end: usize,
+    greatest: u32,
+) -> Result<Vec<Job>, JobsFault>
+    ensures jobs { IfOk result (λ kept. AreJobsBetween greatest start end bytes.now kept.items) }
+    ensures fault { IfErr result (λ fault. IsFaultOf fault (jobs_up_to greatest 1000000 bytes.now)) }
 {
     let mut jobs = PartList::new(alloc, start, end);
     let mut rest = bytes;
@@ -51,7 +71,7 @@ fn read_window(alloc: Global, bytes: &[u8], start: usize, end: usize) -> Result<
     while !rest.is_empty() {
         let (line, after) = split_line(rest);
         number += 1;
-        if let Err(kind) = jobs.add_line(alloc, line) {
+        if let Err(kind) = jobs.add_line(alloc, line, greatest) {
             return Err(JobsFault { kind, line: number });
         }
         rest = after;

@@ -40,14 +40,19 @@ impl PartList {
     }
 
     /// Adds the job of a line, unless the line is ignored.
-    pub(crate) fn add_line(&mut self, alloc: Global, line: &[u8]) -> Result<(), JobErrorKind>
-        ensures { KeepsAdded self.old self.new result (λ before. with_file_line 1000000 before line.now) }
+    pub(crate) fn add_line(
+        &mut self,
+        alloc: Global,
+        line: &[u8],
+        greatest: u32,
+    ) -> Result<(), JobErrorKind>
+        ensures { KeepsAdded self.old self.new result (λ before. with_file_line greatest 1000000 before line.now) }
     {
         let line = without_return(line);
         if is_ignored(line) {
             return Ok(());
         }
-        let job = line_job(alloc, line)?;
+        let job = line_job(alloc, line, greatest)?;
         self.add(alloc, job)
     }
 

@@ -9,7 +9,7 @@ use Rattle.ix_walk.specs.Visits.{arrivals_of, visit_of, visits_from, visits_of}
 use Rattle.ix_archive.specs.declared.sink.Delivery.{Delivery}
 use Rattle.ix_archive.specs.declared.sink.End.{End}
 use Rattle.ix_archive.specs.declared.sink.End.TheVariants.{Memory, Start}
-use Rattle.ix_archive.specs.Events.{Event, delivery, close}
+use Rattle.ix_archive.specs.Events.{Event, Calls, delivery, close}
 use Rattle.ix_archive.specs.Verified.{judged, judged_visits}
 use Rattle.ix_archive.specs.Faithful.{IsFaithful}
 use Rattle.ix_archive.specs.Archived.{IsArchived}
@@ -42,31 +42,31 @@ count_some store jobs n j e = rw e refl
 pub count_none : (store : Blocks) (jobs : List JobMeaning) (n : ℕ) → slice_get jobs n ≡ None → visit_count store jobs n ≡ 0
 count_none store jobs n e = rw e refl
 
-module _ {S : Type 0} (events : S → List Event) (failed : S → List Delivery) where
+module _ {S : Type 0} (calls : S → Calls) where
   -- job by job, from a number on: each was exported, and so many of its visits checked
   abbrev pub EachExported : Blocks → ℕ → List JobMeaning → List End → List S → List ℕ → Type 0
   EachExported store n [] [] [] [] = Unit {0}
-  EachExported store n (j ∷ js) (e ∷ es) (s ∷ ss) (k ∷ ks) = IsExported store n j e (events s) (failed s) k × EachExported store (n + 1) js es ss ks
+  EachExported store n (j ∷ js) (e ∷ es) (s ∷ ss) (k ∷ ks) = IsExported store n j e (calls s) k × EachExported store (n + 1) js es ss ks
   EachExported store n js es ss ks = ⊥
 
   -- each exported sink was delivered to faithfully, by induction over the jobs
-  pub delivers : (store : Blocks) (n : ℕ) (js : List JobMeaning) (es : List End) (ss : List S) (ks : List ℕ) → EachExported store n js es ss ks → EachDelivered events failed store n js es ss
+  pub delivers : (store : Blocks) (n : ℕ) (js : List JobMeaning) (es : List End) (ss : List S) (ks : List ℕ) → EachExported store n js es ss ks → EachDelivered calls store n js es ss
   delivers store n [] [] [] [] h = tt
   delivers store n (j ∷ js) (e ∷ es) (s ∷ ss) (k ∷ ks) h = let x = h.0 in (x.faithful, delivers store (n + 1) js es ss ks h.1)
   delivers store n js es ss ks h = absurd h
 
   -- where each is delivered, each is archived, by the law of archives
-  pub archived_of_delivered : ((store : Blocks) (number : ℕ) (job : JobMeaning) (end : End) (told : List Event) (refused : List Delivery) → IsFaithful store number job end told refused → IsArchived store number job end told refused)
-      → (store : Blocks) (n : ℕ) (js : List JobMeaning) (es : List End) (ss : List S) → EachDelivered events failed store n js es ss → EachArchived events failed store n js es ss
+  pub archived_of_delivered : ((store : Blocks) (number : ℕ) (job : JobMeaning) (end : End) (got : Calls) → IsFaithful store number job end got → IsArchived store number job end got)
+      → (store : Blocks) (n : ℕ) (js : List JobMeaning) (es : List End) (ss : List S) → EachDelivered calls store n js es ss → EachArchived calls store n js es ss
   archived_of_delivered law store n [] [] [] h = tt
-  archived_of_delivered law store n (j ∷ js) (e ∷ es) (s ∷ ss) h = (law store n j e (events s) (failed s) h.0, archived_of_delivered law store (n + 1) js es ss h.1)
+  archived_of_delivered law store n (j ∷ js) (e ∷ es) (s ∷ ss) h = (law store n j e (calls s) h.0, archived_of_delivered law store (n + 1) js es ss h.1)
   archived_of_delivered law store n js es ss h = absurd h
 
   -- one job more
   pub exported_push : (store : Blocks) (n m : ℕ) (js : List JobMeaning) (es : List End) (ss : List S) (ks : List ℕ) (j : JobMeaning) (e : End) (s : S) (k : ℕ)
-      → m ≡ n + length ks → EachExported store n js es ss ks → IsExported store m j e (events s) (failed s) k → EachExported store n (js ++ j ∷ []) (es ++ e ∷ []) (ss ++ s ∷ []) (ks ++ k ∷ [])
+      → m ≡ n + length ks → EachExported store n js es ss ks → IsExported store m j e (calls s) k → EachExported store n (js ++ j ∷ []) (es ++ e ∷ []) (ss ++ s ∷ []) (ks ++ k ∷ [])
   exported_push store n m [] [] [] [] j e s k at h x =
-      let same : m ≡ n = omega arith in (subst (λ (i : ℕ). IsExported store i j e (events s) (failed s) k) same x, tt)
+      let same : m ≡ n = omega arith in (subst (λ (i : ℕ). IsExported store i j e (calls s) k) same x, tt)
   exported_push store n m (j' ∷ js) (e' ∷ es) (s' ∷ ss) (k' ∷ ks) j e s k at h x = (h.0, exported_push store (n + 1) m js es ss ks j e s k (omega arith) h.1 x)
   exported_push store n m js es ss ks j e s k at h x = absurd h
 
@@ -114,8 +114,8 @@ module _ {S : Type 0} (events : S → List Event) (failed : S → List Delivery)
   all_at store n js es ss ks i j job seq h walked at found lt = absurd h
 
   -- what was delivered of a job is checked
-  told_here : (store : Blocks) (n : ℕ) (j : JobMeaning) (e : End) (told : List Event) (refused : List Delivery) (k : ℕ) (d : Delivery) → IsExported store n j e told refused k → Contains told (delivery d) → Contains (pairs_of n k) (d.visit.job, d.visit.seq)
-  told_here store n j e told refused k d x c =
+  told_here : (store : Blocks) (n : ℕ) (j : JobMeaning) (e : End) (got : Calls) (k : ℕ) (d : Delivery) → IsExported store n j e got k → Contains got.events (delivery d) → Contains (pairs_of n k) (d.visit.job, d.visit.seq)
+  told_here store n j e got k d x c =
       let f = x.faithful in
       let first : List Event = map delivery (take f.count (judged_visits store n j)) in
       let there : Contains (first ++ close e ∷ []) (delivery d) = subst (λ (l : List Event). Contains l (delivery d)) f.told c in
@@ -129,13 +129,13 @@ module _ {S : Type 0} (events : S → List Event) (failed : S → List Delivery)
       ]
 
   told_at : (store : Blocks) (n : ℕ) (js : List JobMeaning) (es : List End) (ss : List S) (ks : List ℕ) (s : S) (d : Delivery)
-      → EachExported store n js es ss ks → Contains ss s → Contains (events s) (delivery d) → Contains (pairs_over n ks) (d.visit.job, d.visit.seq)
+      → EachExported store n js es ss ks → Contains ss s → Contains (calls s).events (delivery d) → Contains (pairs_over n ks) (d.visit.job, d.visit.seq)
   told_at store n [] [] [] [] s d h among c = absurd (none_in s among)
   told_at store n (j ∷ js) (e ∷ es) (s' ∷ ss) (k ∷ ks) s d h among c =
       elim (cases_cons s' ss s among) [
         | inl same ↦
             Contains-append_left (pairs_of n k) (pairs_over (n + 1) ks) (d.visit.job, d.visit.seq)
-            (told_here store n j e (events s') (failed s') k d h.0 (subst (λ (x : S). Contains (events x) (delivery d)) (sym same) c))
+            (told_here store n j e (calls s') k d h.0 (subst (λ (x : S). Contains (calls x).events (delivery d)) (sym same) c))
         | inr rest ↦ Contains-append_right (pairs_of n k) (pairs_over (n + 1) ks) (d.visit.job, d.visit.seq) (told_at store (n + 1) js es ss ks s d h.1 rest c)
       ]
   told_at store n js es ss ks s d h among c = absurd h
@@ -146,7 +146,7 @@ module _ {S : Type 0} (events : S → List Event) (failed : S → List Delivery)
   all_of store jobs es ss ks job seq (Some j) h walked found lt =
       all_at store 0 jobs es ss ks job j job seq h walked (omega arith) found (subst (λ (n : ℕ). seq < n) (count_some store jobs job j found) lt)
 
-  checked_once : (store : Blocks) (jobs : List JobMeaning) (es : List End) (ss : List S) (ks : List ℕ) → EachExported store 0 jobs es ss ks → IsCheckedOnce events store jobs es ss (pairs_over 0 ks)
+  checked_once : (store : Blocks) (jobs : List JobMeaning) (es : List End) (ss : List S) (ks : List ℕ) → EachExported store 0 jobs es ss ks → IsCheckedOnce calls store jobs es ss (pairs_over 0 ks)
   checked_once store jobs es ss ks h = record {
     once = once_over 0 ks;
     within = λ job seq c.
@@ -160,28 +160,28 @@ module _ {S : Type 0} (events : S → List Event) (failed : S → List Delivery)
   }
 
 -- the sinks after the next one are fresh if those from it on are
-rest_fresh : {S : Type 0} (events : S → List Event) (failed : S → List Delivery) (i : ℕ) (sinks : List S) (s : S) → i < length sinks → EachFresh events failed (drop i sinks) → EachFresh events failed (drop (i + 1) sinks)
-rest_fresh {S = S} events failed i sinks s lt h =
-    let all : EachFresh events failed (get_or sinks i s ∷ drop (i + 1) sinks) = subst (λ (l : List S). EachFresh events failed l) (drop_more sinks i s lt) h in all.1
+rest_fresh : {S : Type 0} (calls : S → Calls) (i : ℕ) (sinks : List S) (s : S) → i < length sinks → EachFresh calls (drop i sinks) → EachFresh calls (drop (i + 1) sinks)
+rest_fresh {S = S} calls i sinks s lt h =
+    let all : EachFresh calls (get_or sinks i s ∷ drop (i + 1) sinks) = subst (λ (l : List S). EachFresh calls l) (drop_more sinks i s lt) h in all.1
 
 -- Of the jobs the first were exported into their sinks, the sinks after are fresh, and each still promises what it did.
-pub record IsThrough {S : Type 0} (events : S → List Event) (failed : S → List Delivery) (guarantee : Fact S) (store : Blocks) (jobs : List JobMeaning) (i : ℕ) (es : List End) (first sinks : List S) (pairs : List (ℕ × ℕ)) : Type 0 where
+pub record IsThrough {S About : Type 0} (calls : S → Calls) (guarantee : Fact S About) (store : Blocks) (jobs : List JobMeaning) (i : ℕ) (es : List End) (first sinks : List S) (pairs : List (ℕ × ℕ)) : Type 0 where
   pub counts : List ℕ
   pub counted : length counts ≡ i
   pub lengths : length sinks ≡ length jobs
-  pub exported : EachExported events failed store 0 (take i jobs) es (take i sinks) counts
-  pub fresh : EachFresh events failed (drop i sinks)
+  pub exported : EachExported calls store 0 (take i jobs) es (take i sinks) counts
+  pub fresh : EachFresh calls (drop i sinks)
   pub kept : EachKept guarantee first sinks
   pub checked : pairs ≡ pairs_over 0 counts
 
-module _ {S : Type 0} (events : S → List Event) (failed : S → List Delivery) (guarantee : Fact S) (store : Blocks) (jobs : List JobMeaning) where
+module _ {S About : Type 0} (calls : S → Calls) (guarantee : Fact S About) (store : Blocks) (jobs : List JobMeaning) where
   -- before the first job
-  pub through_none : (es : List End) (first : List S) (pairs : List (ℕ × ℕ)) → es ≡ [] → length first ≡ length jobs → EachFresh events failed first → pairs ≡ [] → IsThrough events failed guarantee store jobs 0 es first first pairs
+  pub through_none : (es : List End) (first : List S) (pairs : List (ℕ × ℕ)) → es ≡ [] → length first ≡ length jobs → EachFresh calls first → pairs ≡ [] → IsThrough calls guarantee store jobs 0 es first first pairs
   through_none es first pairs none lengths fresh unused = record {
     counts = [];
     counted = refl;
     lengths = lengths;
-    exported = subst (λ (l : List End). EachExported events failed store 0 [] l [] []) (sym none) tt;
+    exported = subst (λ (l : List End). EachExported calls store 0 [] l [] []) (sym none) tt;
     fresh = fresh;
     kept = kept_same guarantee first;
     checked = unused;
@@ -189,8 +189,8 @@ module _ {S : Type 0} (events : S → List Event) (failed : S → List Delivery)
 
   -- one job more
   pub through_more : (i : ℕ) (es more : List End) (first sinks : List S) (pairs after : List (ℕ × ℕ)) (j : JobMeaning) (e : End) (s new : S)
-      → IsThrough events failed guarantee store jobs i es first sinks pairs → i < length jobs → j ≡ get_or jobs i j → s ≡ get_or sinks i s → more ≡ es ++ e ∷ [] → Exports store i j e (events new) (failed new) pairs after
-      → Keeps guarantee s new → IsThrough events failed guarantee store jobs (i + 1) more first (set sinks i new) after
+      → IsThrough calls guarantee store jobs i es first sinks pairs → i < length jobs → j ≡ get_or jobs i j → s ≡ get_or sinks i s → more ≡ es ++ e ∷ [] → Exports store i j e (calls new) pairs after
+      → Keeps guarantee s new → IsThrough calls guarantee store jobs (i + 1) more first (set sinks i new) after
   through_more i es more first sinks pairs after j e s new t lt job sink ends x keeps =
       let counted : length t.counts ≡ i = t.counted in
       let lengths : length sinks ≡ length jobs = t.lengths in
@@ -203,31 +203,31 @@ module _ {S : Type 0} (events : S → List Event) (failed : S → List Delivery)
         counts = t.counts ++ x.0 ∷ [];
         counted = omega (arith, length-append t.counts (x.0 ∷ []));
         lengths = length-set sinks i new ∙ t.lengths;
-        exported = subst (λ (l : List JobMeaning). EachExported events failed store 0 l more (take (i + 1) (set sinks i new)) (t.counts ++ x.0 ∷ [])) (sym jobs_are)
-            (subst (λ (l : List S). EachExported events failed store 0 (take i jobs ++ j ∷ []) more l (t.counts ++ x.0 ∷ [])) (sym sinks_are)
-            (subst (λ (l : List End). EachExported events failed store 0 (take i jobs ++ j ∷ []) l (take i sinks ++ new ∷ []) (t.counts ++ x.0 ∷ [])) (sym ends)
-            (exported_push events failed store 0 i (take i jobs) es (take i sinks) t.counts j e new x.0 place t.exported x.1)));
-        fresh = subst (λ (l : List S). EachFresh events failed l) (sym (drop-set-lt (i + 1) sinks i new below)) (rest_fresh events failed i sinks s within t.fresh);
+        exported = subst (λ (l : List JobMeaning). EachExported calls store 0 l more (take (i + 1) (set sinks i new)) (t.counts ++ x.0 ∷ [])) (sym jobs_are)
+            (subst (λ (l : List S). EachExported calls store 0 (take i jobs ++ j ∷ []) more l (t.counts ++ x.0 ∷ [])) (sym sinks_are)
+            (subst (λ (l : List End). EachExported calls store 0 (take i jobs ++ j ∷ []) l (take i sinks ++ new ∷ []) (t.counts ++ x.0 ∷ [])) (sym ends)
+            (exported_push calls store 0 i (take i jobs) es (take i sinks) t.counts j e new x.0 place t.exported x.1)));
+        fresh = subst (λ (l : List S). EachFresh calls l) (sym (drop-set-lt (i + 1) sinks i new below)) (rest_fresh calls i sinks s within t.fresh);
         kept = kept_set guarantee first sinks i s new t.kept sink keeps;
         checked = x.2 ∙ ap (λ (l : List (ℕ × ℕ)). l ++ pairs_of i x.0) t.checked ∙ sym (over_push 0 t.counts x.0 i place);
       }
 
   -- all jobs
-  pub through_all : (i : ℕ) (es : List End) (first sinks : List S) (pairs : List (ℕ × ℕ)) → length jobs ≤ i → IsThrough events failed guarantee store jobs i es first sinks pairs → (ks : List ℕ) × EachExported events failed store 0 jobs es sinks ks × (pairs ≡ pairs_over 0 ks)
+  pub through_all : (i : ℕ) (es : List End) (first sinks : List S) (pairs : List (ℕ × ℕ)) → length jobs ≤ i → IsThrough calls guarantee store jobs i es first sinks pairs → (ks : List ℕ) × EachExported calls store 0 jobs es sinks ks × (pairs ≡ pairs_over 0 ks)
   through_all i es first sinks pairs past t =
       let lengths : length sinks ≡ length jobs = t.lengths in
       let short : length sinks ≤ i = omega arith in
-      (t.counts, subst (λ (l : List JobMeaning). EachExported events failed store 0 l es sinks t.counts) (take_all i jobs past) (subst (λ (l : List S). EachExported events failed store 0 (take i jobs) es l t.counts) (take_all i sinks short) t.exported), t.checked)
+      (t.counts, subst (λ (l : List JobMeaning). EachExported calls store 0 l es sinks t.counts) (take_all i jobs past) (subst (λ (l : List S). EachExported calls store 0 (take i jobs) es l t.counts) (take_all i sinks short) t.exported), t.checked)
 
   -- when all jobs are exported, each sink was delivered to faithfully
-  pub all_delivered : (i : ℕ) (es : List End) (first sinks : List S) (pairs : List (ℕ × ℕ)) → length jobs ≤ i → IsThrough events failed guarantee store jobs i es first sinks pairs → EachDelivered events failed store 0 jobs es sinks
-  all_delivered i es first sinks pairs past t = let a = through_all i es first sinks pairs past t in delivers events failed store 0 jobs es sinks a.0 a.1
+  pub all_delivered : (i : ℕ) (es : List End) (first sinks : List S) (pairs : List (ℕ × ℕ)) → length jobs ≤ i → IsThrough calls guarantee store jobs i es first sinks pairs → EachDelivered calls store 0 jobs es sinks
+  all_delivered i es first sinks pairs past t = let a = through_all i es first sinks pairs past t in delivers calls store 0 jobs es sinks a.0 a.1
 
   -- when all jobs are exported, none ended with Start
-  pub all_started : (i : ℕ) (es : List End) (first sinks : List S) (pairs : List (ℕ × ℕ)) → length jobs ≤ i → IsThrough events failed guarantee store jobs i es first sinks pairs → NoneIsStart es
-  all_started i es first sinks pairs past t = let a = through_all i es first sinks pairs past t in none_is_start events failed store 0 jobs es sinks a.0 a.1
+  pub all_started : (i : ℕ) (es : List End) (first sinks : List S) (pairs : List (ℕ × ℕ)) → length jobs ≤ i → IsThrough calls guarantee store jobs i es first sinks pairs → NoneIsStart es
+  all_started i es first sinks pairs past t = let a = through_all i es first sinks pairs past t in none_is_start calls store 0 jobs es sinks a.0 a.1
 
   -- when all jobs are exported, each visit was checked once
-  pub all_checked : (i : ℕ) (es : List End) (first sinks : List S) (pairs : List (ℕ × ℕ)) → length jobs ≤ i → IsThrough events failed guarantee store jobs i es first sinks pairs → IsCheckedOnce events store jobs es sinks pairs
+  pub all_checked : (i : ℕ) (es : List End) (first sinks : List S) (pairs : List (ℕ × ℕ)) → length jobs ≤ i → IsThrough calls guarantee store jobs i es first sinks pairs → IsCheckedOnce calls store jobs es sinks pairs
   all_checked i es first sinks pairs past t =
-      let a = through_all i es first sinks pairs past t in subst (λ (l : List (ℕ × ℕ)). IsCheckedOnce events store jobs es sinks l) (sym a.2) (checked_once events failed store jobs es sinks a.0 a.1)
+      let a = through_all i es first sinks pairs past t in subst (λ (l : List (ℕ × ℕ)). IsCheckedOnce calls store jobs es sinks l) (sym a.2) (checked_once calls store jobs es sinks a.0 a.1)

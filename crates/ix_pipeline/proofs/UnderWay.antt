@@ -13,7 +13,7 @@ use Rattle.ix_check.proofs.VisitsOf.{visit_next}
 use Rattle.ix_archive.specs.declared.sink.Delivery.{Delivery}
 use Rattle.ix_archive.specs.declared.sink.End.{End}
 use Rattle.ix_archive.specs.declared.sink.End.TheVariants.{Done, Limit, Memory, Write, Start}
-use Rattle.ix_archive.specs.Events.{Event, delivery, close, IsOpen}
+use Rattle.ix_archive.specs.Events.{Event, Calls, delivery, close, IsOpen}
 use Rattle.ix_archive.specs.Verified.{judged, judged_visits}
 use Rattle.ix_archive.specs.Faithful.{EndFits}
 use Rattle.ix_pipeline.specs.declared.sink_state.SinkState.{SinkState}
@@ -30,7 +30,7 @@ pub record IsUnderWay (store : Blocks) (number : ℕ) (job : JobMeaning) (walk :
   pub within : given ≤ length (visits_of store number job)
   pub visits : walk.visits ≡ drop given (visits_of store number job)
   pub limited : walk.limited ≡ is_over_limit store job
-  pub on : IsOn state given (judged_visits store number job) told.events told.failed
+  pub on : IsOn state given (judged_visits store number job) told.calls.events told.calls.failed
   pub pairs : told.pairs ≡ before ++ pairs_of number given
 
 -- the list goes on with an element
@@ -68,7 +68,7 @@ open_deliveries (d ∷ ds) = open_deliveries ds
 
 -- before its first visit
 pub starts : (store : Blocks) (number : ℕ) (job : JobMeaning) (walk : WalkLeft) (before : List (ℕ × ℕ)) (told : Told)
-    → walk ≡ record { visits = visits_of store number job; limited = is_over_limit store job; ended = false } → told.events ≡ [] → told.failed ≡ [] → told.pairs ≡ before → IsUnderWay store number job walk Taking before told
+    → walk ≡ record { visits = visits_of store number job; limited = is_over_limit store job; ended = false } → told.calls.events ≡ [] → told.calls.failed ≡ [] → told.pairs ≡ before → IsUnderWay store number job walk Taking before told
 starts store number job walk before told e events failed pairs = record {
   given = 0;
   within = omega arith;
@@ -79,7 +79,7 @@ starts store number job walk before told e events failed pairs = record {
 }
 
 -- the sink may take a delivery
-pub can_hand : (store : Blocks) (number : ℕ) (job : JobMeaning) (walk : WalkLeft) (state : SinkState) (before : List (ℕ × ℕ)) (told : Told) → IsUnderWay store number job walk state before told → CanHand state told.events told.failed
+pub can_hand : (store : Blocks) (number : ℕ) (job : JobMeaning) (walk : WalkLeft) (state : SinkState) (before : List (ℕ × ℕ)) (told : Told) → IsUnderWay store number job walk state before told → CanHand state told.calls
 can_hand store number job walk Taking before told u =
     (subst (λ (l : List Event). IsOpen l) (sym u.on.0) (open_deliveries (take u.given (judged_visits store number job))), u.on.1)
 can_hand store number job walk Failed before told u = tt
@@ -124,9 +124,9 @@ failed_here store given vs v more failed at is =
 
 -- handling the next visit keeps the state of a job that is under way
 pub on_next : (store : Blocks) (given : ℕ) (vs : List Visit) (v : Visit) (more : List Visit) (state after : SinkState) (told new : Told)
-    → drop given vs ≡ v ∷ more → IsOn state given (map (judged store) vs) told.events told.failed → HandsOn store v state told (Ok after) new → IsOn after (suc given) (map (judged store) vs) new.events new.failed
-on_next store given vs v more Taking Taking told new at on h = (events_more store given vs v more told.events new.events at on.0 h.0, h.1)
-on_next store given vs v more Taking Failed told new at on h = (given, omega arith, h.0 ∙ on.0, failed_here store given vs v more new.failed at h.1)
+    → drop given vs ≡ v ∷ more → IsOn state given (map (judged store) vs) told.calls.events told.calls.failed → HandsOn store v state told (Ok after) new → IsOn after (suc given) (map (judged store) vs) new.calls.events new.calls.failed
+on_next store given vs v more Taking Taking told new at on h = (events_more store given vs v more told.calls.events new.calls.events at on.0 h.0, h.1)
+on_next store given vs v more Taking Failed told new at on h = (given, omega arith, h.0 ∙ on.0, failed_here store given vs v more new.calls.failed at h.1)
 on_next store given vs v more Failed Taking told new at on h = absurd h
 on_next store given vs v more Failed Failed told new at on h = (on.0, (let lt : on.0 < given = on.1 in omega arith), h.0 ∙ on.2, h.1 ∙ on.3)
 
@@ -153,7 +153,7 @@ hands store number job walk left state after before told new v u g h =
 
 -- lack of memory ends a job that is under way
 pub on_memory : (store : Blocks) (number : ℕ) (job : JobMeaning) (state : SinkState) (given checks : ℕ) (before : List (ℕ × ℕ)) (new : Told)
-    → IsOn state given (judged_visits store number job) new.events new.failed → given ≤ checks → checks ≤ length (visits_of store number job) → new.pairs ≡ before ++ pairs_of number checks → IsWalked store number job Memory before new
+    → IsOn state given (judged_visits store number job) new.calls.events new.calls.failed → given ≤ checks → checks ≤ length (visits_of store number job) → new.pairs ≡ before ++ pairs_of number checks → IsWalked store number job Memory before new
 on_memory store number job Taking given checks before new on more within pairs = record {
   count = given;
   checks = checks;
@@ -182,12 +182,12 @@ pub stops : (store : Blocks) (number : ℕ) (job : JobMeaning) (walk : WalkLeft)
 stops store number job walk state before told u = on_memory store number job state u.given u.given before told u.on (omega arith) u.within u.pairs
 
 -- a visit that can't be handled for lack of memory changes nothing that was delivered
-none_of : (store : Blocks) (v : Visit) (state : SinkState) (told new : Told) (e : AllocError) → HandsOn store v state told (Err e) new → (new.events ≡ told.events) × (new.failed ≡ told.failed) × ((new.pairs ≡ told.pairs) ⊎ Checks v told new)
+none_of : (store : Blocks) (v : Visit) (state : SinkState) (told new : Told) (e : AllocError) → HandsOn store v state told (Err e) new → (new.calls.events ≡ told.calls.events) × (new.calls.failed ≡ told.calls.failed) × ((new.pairs ≡ told.pairs) ⊎ Checks v told new)
 none_of store v Taking told new e h = h
 none_of store v Failed told new e h = h
 
 -- the state depends only on the events and the failed deliveries
-pub on_same : (state : SinkState) (given : ℕ) (all : List Delivery) (told new : Told) → new.events ≡ told.events → new.failed ≡ told.failed → IsOn state given all told.events told.failed → IsOn state given all new.events new.failed
+pub on_same : (state : SinkState) (given : ℕ) (all : List Delivery) (told new : Told) → new.calls.events ≡ told.calls.events → new.calls.failed ≡ told.calls.failed → IsOn state given all told.calls.events told.calls.failed → IsOn state given all new.calls.events new.calls.failed
 on_same Taking given all told new events failed on = (events ∙ on.0, failed ∙ on.1)
 on_same Failed given all told new events failed on = (on.0, on.1, events ∙ on.2, failed ∙ on.3)
 
@@ -209,8 +209,8 @@ hands_none store number job walk left state before told new v e u g h =
 
 -- the walk has given all
 pub on_end : (store : Blocks) (number : ℕ) (job : JobMeaning) (state : SinkState) (end : End) (given : ℕ) (before : List (ℕ × ℕ)) (told : Told)
-    → IsOn state given (judged_visits store number job) told.events told.failed → given ≡ length (visits_of store number job) → told.pairs ≡ before ++ pairs_of number given
-    → ((m : ℕ) → m ≡ length (judged_visits store number job) → told.failed ≡ [] → EndFits end m (judged_visits store number job) (is_over_limit store job) told.failed)
+    → IsOn state given (judged_visits store number job) told.calls.events told.calls.failed → given ≡ length (visits_of store number job) → told.pairs ≡ before ++ pairs_of number given
+    → ((m : ℕ) → m ≡ length (judged_visits store number job) → told.calls.failed ≡ [] → EndFits end m (judged_visits store number job) (is_over_limit store job) told.calls.failed)
     → (end ≡ Start → ⊥) → IsWalked store number job (end_on state end) before told
 on_end store number job Taking end given before told on at pairs fits started = record {
   count = given;
@@ -254,13 +254,13 @@ limits store number job walk left state before told u g =
     (λ (m : ℕ) all failed. (all, sym u.limited ∙ g.2, failed)) (λ (e : Limit ≡ Start). cc)
 
 -- the sink of a walked job may be closed
-pub open_walked : (store : Blocks) (number : ℕ) (job : JobMeaning) (end : End) (before : List (ℕ × ℕ)) (told : Told) → IsWalked store number job end before told → IsOpen told.events
+pub open_walked : (store : Blocks) (number : ℕ) (job : JobMeaning) (end : End) (before : List (ℕ × ℕ)) (told : Told) → IsWalked store number job end before told → IsOpen told.calls.events
 open_walked store number job end before told w = subst (λ (l : List Event). IsOpen l) (sym w.events) (open_deliveries (take w.count (judged_visits store number job)))
 
 -- a walked job is exported once its sink is closed
-pub closes : (store : Blocks) (number : ℕ) (job : JobMeaning) (end : End) (before : List (ℕ × ℕ)) (told : Told) (events : List Event) (failed : List Delivery) (pairs : List (ℕ × ℕ))
-    → IsWalked store number job end before told → events ≡ told.events ++ close end ∷ [] → failed ≡ told.failed → pairs ≡ told.pairs → Exports store number job end events failed before pairs
-closes store number job end before told events failed pairs w closed same checked = (
+pub closes : (store : Blocks) (number : ℕ) (job : JobMeaning) (end : End) (before : List (ℕ × ℕ)) (told : Told) (got : Calls) (pairs : List (ℕ × ℕ))
+    → IsWalked store number job end before told → got.events ≡ told.calls.events ++ close end ∷ [] → got.failed ≡ told.calls.failed → pairs ≡ told.pairs → Exports store number job end got before pairs
+closes store number job end before told got pairs w closed same checked = (
   w.checks,
   record {
     faithful = record {

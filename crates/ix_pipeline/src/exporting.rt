@@ -48,17 +48,17 @@ where
     G: Gate + Sync,
     R: Threads + Wait + Sync,
     requires sinks { length sinks.old ≡ length (arc_value jobs.now).items }
-    requires fresh { EachFresh S.events S.failed sinks.old }
+    requires fresh { EachFresh S.calls sinks.old }
     requires unused { EachUnused C.checked checks.items }
     requires jobs { AreFew (arc_value jobs.now).items }
     requires plan { IsPlan plan (vec_len checks) }
-    ensures delivered { IfOk result (λ out. EachDelivered S.events S.failed
+    ensures delivered { IfOk result (λ out. EachDelivered S.calls
         (arc_value store.now) 0 (arc_value jobs.now).items out.ends.items sinks.new) }
-    ensures archived { IfOk result (λ out. EachArchived S.events S.failed
+    ensures archived { IfOk result (λ out. EachArchived S.calls
         (arc_value store.now) 0 (arc_value jobs.now).items out.ends.items sinks.new) }
     ensures started { IfOk result (λ out. NoneOrAllStart out.ends.items) }
     ensures facts { EachKept S.guarantee sinks.old sinks.new }
-    ensures checked { IfOk result (λ out. IsCheckedOnce S.events (arc_value store.now)
+    ensures checked { IfOk result (λ out. IsCheckedOnce S.calls (arc_value store.now)
         (arc_value jobs.now).items out.ends.items sinks.new (checked_by C.checked out.checks.items)) }
     ensures not_started { IfErr result (λ none.
         (sinks.new ≡ sinks.old) × (none.checks.items ≡ checks.items)) }

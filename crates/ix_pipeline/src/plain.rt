@@ -25,17 +25,17 @@ pub fn export_plain<S: Sink, C: Check>(
     check: &mut C,
 ) -> Result<Vec<End>, AllocError>
     requires sinks { length sinks.old ≡ length jobs.now }
-    requires fresh { EachFresh S.events S.failed sinks.old }
+    requires fresh { EachFresh S.calls sinks.old }
     requires unused { C.checked check.old ≡ [] }
     requires jobs { AreFew jobs.now }
     ensures delivered { IfOk result (λ ends.
-        EachDelivered S.events S.failed store.now 0 jobs.now ends.items sinks.new) }
+        EachDelivered S.calls store.now 0 jobs.now ends.items sinks.new) }
     ensures archived { IfOk result (λ ends.
-        EachArchived S.events S.failed store.now 0 jobs.now ends.items sinks.new) }
+        EachArchived S.calls store.now 0 jobs.now ends.items sinks.new) }
     ensures started { IfOk result (λ ends. NoneIsStart ends.items) }
     ensures facts { EachKept S.guarantee sinks.old sinks.new }
     ensures checked { IfOk result (λ ends.
-        IsCheckedOnce S.events store.now jobs.now ends.items sinks.new (C.checked check.new)) }
+        IsCheckedOnce S.calls store.now jobs.now ends.items sinks.new (C.checked check.new)) }
     ensures untouched { OnErr result ((sinks.new ≡ sinks.old) × (C.checked check.new ≡ [])) }
 {
     let mut ends = Vec::with_capacity(alloc, jobs.len())?;
@@ -56,10 +56,10 @@ fn export_job<S: Sink, C: Check>(
     sink: &mut S,
     check: &mut C,
 ) -> End
-    requires events { S.events sink.old ≡ [] }
-    requires failed { S.failed sink.old ≡ [] }
+    requires events { (S.calls sink.old).events ≡ [] }
+    requires failed { (S.calls sink.old).failed ≡ [] }
     ensures exported { Exports store.now number job.now result
-        (S.events sink.new) (S.failed sink.new) (C.checked check.old) (C.checked check.new) }
+        (S.calls sink.new) (C.checked check.old) (C.checked check.new) }
     ensures kept { Keeps S.guarantee sink.old sink.new }
 {
     let end = walk_job(alloc, store, job, number, sink, check).unwrap_or(End::Memory);
@@ -77,10 +77,10 @@ fn walk_job<S: Sink, C: Check>(
     sink: &mut S,
     check: &mut C,
 ) -> Result<End, AllocError>
-    requires events { S.events sink.old ≡ [] }
-    requires failed { S.failed sink.old ≡ [] }
+    requires events { (S.calls sink.old).events ≡ [] }
+    requires failed { (S.calls sink.old).failed ≡ [] }
     ensures walked { IsWalked store.now number job.now (end_of result) (C.checked check.old)
-        (told_by S.events S.failed C.checked sink.new check.new) }
+        (told_by S.calls C.checked sink.new check.new) }
     ensures kept { Keeps S.guarantee sink.old sink.new }
 {
     let mut state = SinkState::Taking;
@@ -105,8 +105,8 @@ fn hand_on<S: Sink, C: Check>(
     check: &mut C,
 ) -> Result<SinkState, AllocError>
     requires visit { IsVisitOf store.now visit }
-    requires can { CanHand state (S.events sink.old) (S.failed sink.old) }
-    ensures { HandsOnTo S.events S.failed S.guarantee C.checked store.now visit state
+    requires can { CanHand state (S.calls sink.old) }
+    ensures { HandsOnTo S.calls S.guarantee C.checked store.now visit state
         sink.old check.old result sink.new check.new }
 {
     let verdict = check.check(alloc, store, &visit)?;
@@ -122,8 +122,8 @@ fn deliver_one<S: Sink>(
     state: SinkState,
     sink: &mut S,
 ) -> Result<SinkState, AllocError>
-    requires can { CanHand state (S.events sink.old) (S.failed sink.old) }
-    ensures { DeliversTo S.events S.failed S.guarantee (record { visit = visit; verdict = verdict }) state
+    requires can { CanHand state (S.calls sink.old) }
+    ensures { DeliversTo S.calls S.guarantee (record { visit = visit; verdict = verdict }) state
         sink.old result sink.new }
 {
     if state == SinkState::Failed {

@@ -11,7 +11,7 @@ use Rattle.ix_jobs.specs.declared.fault.JobsFault.{JobsFault}
 use Rattle.ix_jobs.specs.declared.fault.JobErrorKind.TheVariants.{Repeated, TooMany}
 use Rattle.std.proofs.lemmas.List.{length-map}
 use Rattle.ix_cid.proofs.Results.{ok_same}
-use Rattle.ix_jobs.specs.Jobs.{◌>>=◌, is_ignored, line_job, joined, with_line, at_line, jobs_from, jobs_of, is_taken}
+use Rattle.ix_jobs.specs.Jobs.{◌>>=◌, is_ignored, line_job, joined, with_line, at_line, jobs_from, jobs_up_to, is_taken}
 
 module _ (before jobs : List JobMeaning) (few : length before ≤ 1000) where
   -- a list with room for one more job has at most 1,000 with it
@@ -36,26 +36,26 @@ module _ (before jobs : List JobMeaning) (few : length before ≤ 1000) where
   line-few true read h = subst (λ l. length l ≤ 1000) (ok_same before jobs h) few
   line-few false read h = read-few read h
 
-behind-few : (line : ℕ) (jobs : List JobMeaning) (ls : List (List ℕ)) (read : Result (List JobMeaning) JobErrorKind) → ((more : List JobMeaning) → length more ≤ 1000 → jobs_from 1000 (line + 1) more ls ≡ Ok jobs → length jobs ≤ 1000)
-    → ((more : List JobMeaning) → read ≡ Ok more → length more ≤ 1000) → (at_line line read >>= (λ more. jobs_from 1000 (line + 1) more ls)) ≡ Ok jobs → length jobs ≤ 1000
-behind-few line jobs ls (Ok more) rest few h = rest more (few more refl) h
-behind-few line jobs ls (Err kind) rest few h = absurd cc
+behind-few : (greatest line : ℕ) (jobs : List JobMeaning) (ls : List (List ℕ)) (read : Result (List JobMeaning) JobErrorKind) → ((more : List JobMeaning) → length more ≤ 1000 → jobs_from greatest 1000 (line + 1) more ls ≡ Ok jobs → length jobs ≤ 1000)
+    → ((more : List JobMeaning) → read ≡ Ok more → length more ≤ 1000) → (at_line line read >>= (λ more. jobs_from greatest 1000 (line + 1) more ls)) ≡ Ok jobs → length jobs ≤ 1000
+behind-few greatest line jobs ls (Ok more) rest few h = rest more (few more refl) h
+behind-few greatest line jobs ls (Err kind) rest few h = absurd cc
 
 -- by induction over the lines: at most 1,000 jobs are read
-from-few : (line : ℕ) (before jobs : List JobMeaning) (lines : List (List ℕ)) → length before ≤ 1000 → jobs_from 1000 line before lines ≡ Ok jobs → length jobs ≤ 1000
-from-few line before jobs [] few h = subst (λ l. length l ≤ 1000) (ok_same before jobs h) few
-from-few line before jobs (l ∷ ls) few h =
-    behind-few line jobs ls (with_line 1000 before (strip_carriage_return l)) (λ more f e. from-few (line + 1) more jobs ls f e)
-    (λ more e. line-few before more few (is_ignored (strip_carriage_return l)) (line_job (strip_carriage_return l)) e) h
+from-few : (greatest line : ℕ) (before jobs : List JobMeaning) (lines : List (List ℕ)) → length before ≤ 1000 → jobs_from greatest 1000 line before lines ≡ Ok jobs → length jobs ≤ 1000
+from-few greatest line before jobs [] few h = subst (λ l. length l ≤ 1000) (ok_same before jobs h) few
+from-few greatest line before jobs (l ∷ ls) few h =
+    behind-few greatest line jobs ls (with_line greatest 1000 before (strip_carriage_return l)) (λ more f e. from-few greatest (line + 1) more jobs ls f e)
+    (λ more e. line-few before more few (is_ignored (strip_carriage_return l)) (line_job greatest (strip_carriage_return l)) e) h
 
 -- a job file that is accepted has at most 1,000 jobs
-pub few_jobs : (b : List ℕ) (jobs : List JobMeaning) → jobs_of b ≡ Ok jobs → length jobs ≤ 1000
-few_jobs b jobs h = from-few 1 [] jobs (slice_split (λ x. eqb x 10) b) (omega arith) h
+pub few_jobs : (greatest : ℕ) (b : List ℕ) (jobs : List JobMeaning) → jobs_up_to greatest 1000 b ≡ Ok jobs → length jobs ≤ 1000
+few_jobs greatest b jobs h = from-few greatest 1 [] jobs (slice_split (λ x. eqb x 10) b) (omega arith) h
 
 -- the same of what was read
-pub few_read : (b : List ℕ) (r : Result (Vec JobMeaning) JobsFault) → IfOk r (λ jobs. jobs_of b ≡ Ok jobs.items) → IfOk r (λ jobs. length jobs.items ≤ 1000)
-few_read b (Ok jobs) h = few_jobs b jobs.items h
-few_read b (Err e) h = tt
+pub few_read : (greatest : ℕ) (b : List ℕ) (r : Result (Vec JobMeaning) JobsFault) → IfOk r (λ jobs. jobs_up_to greatest 1000 b ≡ Ok jobs.items) → IfOk r (λ jobs. length jobs.items ≤ 1000)
+few_read greatest b (Ok jobs) h = few_jobs greatest b jobs.items h
+few_read greatest b (Err e) h = tt
 
 -- there are as many jobs, however they are walked
 pub walked-few : (once : Bool) (jobs more : List JobMeaning) → more ≡ walked once jobs → length jobs ≤ 1000 → length more ≤ 1000

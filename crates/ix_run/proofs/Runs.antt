@@ -8,7 +8,8 @@ use Rattle.ix_archive.specs.declared.sink.End.{End}
 use Rattle.ix_archive.specs.declared.sink.End.TheVariants as ends
 use Rattle.ix_archive.specs.Events.{delivery, close, deliveries_of}
 use Rattle.ix_archive.specs.Faithful.{IsFaithful}
-use Rattle.ix_archive.specs.ArchiveMeaning.{ArchiveMeaning, HasArchived, HasWritten, IsBegun, IsCountOf, events_of}
+use Rattle.ix_archive.specs.Archive.{none_known}
+use Rattle.ix_archive.specs.ArchiveMeaning.{ArchiveMeaning, HasArchived, HasWritten, IsBegun, IsCountOf, events_of, calls_of}
 use Rattle.ix_archive.specs.Archived.{IsArchived}
 use Rattle.ix_archive.specs.Report.{counts_of}
 use Rattle.ix_jobs.specs.declared.results.JobResult.{JobResult}
@@ -42,14 +43,14 @@ count_kept old new taken bytes keeps e counts more h =
 
 module _ {W : Type 0} (told : W → Option (List ℕ)) where
   pub one_run : (store : Blocks) (n : ℕ) (job : JobMeaning) (before after : W) (first last : ArchiveMeaning W) (end : End) (result : JobResult)
-      → HasArchived told first store job (told before) → IsFaithful store n job end (events_of last) last.failed → IsArchived store n job end (events_of last) last.failed
+      → HasArchived told first none_known store job (told before) → IsFaithful store n job end (calls_of last) → IsArchived store n job end (calls_of last)
       → Keeps (HasArchived told) first last → IsEnded told last end result after → IsRun told store n job before result after
   one_run store n job before after first last end result fresh faithful archived kept ended =
       let ds = last.deliveries in
       let same : ds ≡ _ = same_deliveries ds last.closed _ end faithful.told in
       let shown : events_of last ≡ map delivery ds ++ close end ∷ [] = faithful.told ∙ ap (λ l. map delivery l ++ close end ∷ []) (sym same) in
       let of_events : deliveries_of (events_of last) ≡ ds = told-back ds last.closed in
-      let guarantee : HasArchived told last store job (told before) = kept store job (told before) fresh in
+      let guarantee : HasArchived told last none_known store job (told before) = kept none_known store job (told before) fresh in
       let wrote : (h : told before ≡ Some []) → HasWritten (told last.writer) store job.roots (deliveries_of (events_of last)) last.failed =
       λ h. subst (λ l. HasWritten (told last.writer) store job.roots l last.failed) (sym of_events) (guarantee.written h) in
       record {
@@ -57,7 +58,7 @@ module _ {W : Type 0} (told : W → Option (List ℕ)) where
         delivered = ds;
         failed = last.failed;
         taken = last.taken;
-        faithful = subst (λ l. IsFaithful store n job end l last.failed) shown faithful;
+        faithful = subst (λ l. IsFaithful store n job end (record { events = l; failed = last.failed })) shown faithful;
         ended = ended.ended;
         skips = ended.skips;
         counts = ended.counts ∙ ap (λ s. counts_of s ds last.taken) guarantee.same_store;
@@ -76,7 +77,7 @@ module _ {W : Type 0} (told : W → Option (List ℕ)) where
       }
 
   pub runs : (store : Blocks) (n : ℕ) (jobs : List JobMeaning) (before after : List W) (first last : List (ArchiveMeaning W)) (es : List End) (results : List JobResult)
-      → EachBegun told store jobs before first → EachDelivered events_of (λ a. a.failed) store n jobs es last → EachArchived events_of (λ a. a.failed) store n jobs es last
+      → EachBegun told store jobs before first → EachDelivered calls_of store n jobs es last → EachArchived calls_of store n jobs es last
       → EachKept (HasArchived told) first last → EachEnded told last es results after → EachRun told store n jobs before results after
   runs store n [] [] [] [] [] [] [] begun delivered archived kept ended = tt
   runs store n [] [] [] [] [] [] (r ∷ rs) begun delivered archived kept ended = absurd ended
@@ -102,7 +103,7 @@ module _ {W : Type 0} (told : W → Option (List ℕ)) where
 
   -- an archive more
   pub EachBegun-more : (store : Blocks) (jobs : List JobMeaning) (writers : List W) (archives : List (ArchiveMeaning W)) (job : JobMeaning) (writer : W) (archive : ArchiveMeaning W)
-      → EachBegun told store jobs writers archives → IsBegun archive store job.roots → HasArchived told archive store job (told writer)
+      → EachBegun told store jobs writers archives → IsBegun archive store job.roots → HasArchived told archive none_known store job (told writer)
       → EachBegun told store (jobs ++ job ∷ []) (writers ++ writer ∷ []) (archives ++ archive ∷ [])
   EachBegun-more store [] [] [] job writer archive so_far begun guarantee = ((begun, guarantee), tt)
   EachBegun-more store [] [] (a ∷ xs) job writer archive so_far begun guarantee = absurd so_far
@@ -151,7 +152,7 @@ module _ {W : Type 0} (told : W → Option (List ℕ)) where
   no_events store roots a h = ap (λ ds. map delivery ds ++ map close a.closed) h.no_deliveries ∙ ap (λ l. map close l) h.not_closed
 
   -- archives that were just started are fresh sinks
-  pub begun-fresh : (store : Blocks) (jobs : List JobMeaning) (writers : List W) (archives : List (ArchiveMeaning W)) → EachBegun told store jobs writers archives → EachFresh events_of (λ a. a.failed) archives
+  pub begun-fresh : (store : Blocks) (jobs : List JobMeaning) (writers : List W) (archives : List (ArchiveMeaning W)) → EachBegun told store jobs writers archives → EachFresh calls_of archives
   begun-fresh store [] [] [] h = tt
   begun-fresh store [] [] (a ∷ xs) h = absurd h
   begun-fresh store [] (w ∷ ws) [] h = absurd h
@@ -162,7 +163,7 @@ module _ {W : Type 0} (told : W → Option (List ℕ)) where
   begun-fresh store (j ∷ js) (w ∷ ws) (a ∷ xs) h = ((no_events store j.roots a h.0.0, h.0.0.no_failure), begun-fresh store js ws xs h.1)
 
   -- as many ends as sinks
-  pub delivered-length : (store : Blocks) (n : ℕ) (jobs : List JobMeaning) (es : List End) (sinks : List (ArchiveMeaning W)) → EachDelivered events_of (λ a. a.failed) store n jobs es sinks → length sinks ≡ length es
+  pub delivered-length : (store : Blocks) (n : ℕ) (jobs : List JobMeaning) (es : List End) (sinks : List (ArchiveMeaning W)) → EachDelivered calls_of store n jobs es sinks → length sinks ≡ length es
   delivered-length store n [] [] [] h = refl
   delivered-length store n [] [] (s ∷ ss) h = absurd h
   delivered-length store n [] (e ∷ es) [] h = absurd h
@@ -205,7 +206,7 @@ whole_again n new old h = ap (λ m. take m (new ++ drop (length new) old)) (sym 
 -- the results of archives that were used as sinks, and then ended
 pub ended_sinks : {W : Type 0} (told : W → Option (List ℕ)) (at store : Blocks) (listed jobs : List JobMeaning) (before after : List W) (archives first sinks : List (ArchiveMeaning W)) (n : ℕ) (es given : List End) (results : List JobResult)
     → at ≡ store → listed ≡ jobs → EachBegun told at listed before archives → first ≡ archives → length first ≡ n → EachKept (HasArchived told) first sinks
-    → EachDelivered events_of (λ a. a.failed) store 0 jobs es sinks → EachArchived events_of (λ a. a.failed) store 0 jobs es sinks → given ≡ es
+    → EachDelivered calls_of store 0 jobs es sinks → EachArchived calls_of store 0 jobs es sinks → given ≡ es
     → EachEnded told (take n (sinks ++ drop (length sinks) archives)) given results after → EachRun told store 0 jobs before results after
 ended_sinks told at store listed jobs before after archives first sinks n es given results same_store same_jobs begun same sized kept delivered archived ends_are ended =
     let again = whole_again n sinks archives (kept-length told first sinks kept ∙ sized) in

@@ -25,3 +25,12 @@ IsFilesRefusal file meant Memory = Unit {0}
 IsFilesRefusal file meant Hex = ⊥
 IsFilesRefusal file meant (Root fault) = ⊥
 IsFilesRefusal file meant (Write number) = ⊥
+
+-- the first fault of a job file, of whose jobs this is meant; or memory ran out
+abbrev pub IsJobsRefusal : Result (List JobMeaning) (JobErrorKind × ℕ) → RunFault → Type 0
+IsJobsRefusal meant (Jobs fault) = jobs.IsFaultOf fault meant
+IsJobsRefusal meant Memory = Unit {0}
+IsJobsRefusal meant (Car fault) = ⊥
+IsJobsRefusal meant Hex = ⊥
+IsJobsRefusal meant (Root fault) = ⊥
+IsJobsRefusal meant (Write number) = ⊥

@@ -11,7 +11,7 @@ use Rattle.ix_archive.specs.declared.sink.End.{End}
 use Rattle.ix_archive.specs.declared.sink.End.TheVariants as ends
 use Rattle.ix_archive.specs.Events.{delivery, close}
 use Rattle.ix_archive.specs.Faithful.{IsFaithful}
-use Rattle.ix_archive.specs.Archive.{archive_of}
+use Rattle.ix_archive.specs.Archive.{archive_of, none_known}
 use Rattle.ix_archive.specs.ArchiveMeaning.{ArchiveMeaning, HasArchived, HasWritten, IsBegun, IsCountOf}
 use Rattle.ix_archive.specs.Archived.{IsBeginning}
 use Rattle.ix_archive.specs.Report.{skips_of, counts_of}
@@ -40,7 +40,7 @@ pub record IsRun {W : Type 0} (told : W → Option (List ℕ)) (store : Blocks) 
   pub delivered : List Delivery
   pub failed : List Delivery
   pub taken : ℕ
-  pub faithful : IsFaithful store number job end (map delivery delivered ++ close end ∷ []) failed
+  pub faithful : IsFaithful store number job end (record { events = map delivery delivered ++ close end ∷ []; failed = failed })
   pub ended : IsEndOf end result.end
   pub skips : result.skips.items ≡ skips_of delivered
   pub counts : result.counts ≡ counts_of store delivered taken
@@ -65,7 +65,7 @@ module _ {W : Type 0} (told : W → Option (List ℕ)) where
   -- an archive for each job and its writer, which has received nothing so far
   abbrev pub EachBegun : Blocks → List JobMeaning → List W → List (ArchiveMeaning W) → Type 0
   EachBegun store [] [] [] = Unit {0}
-  EachBegun store (j ∷ js) (w ∷ ws) (a ∷ xs) = (IsBegun a store j.roots × HasArchived told a store j (told w)) × EachBegun store js ws xs
+  EachBegun store (j ∷ js) (w ∷ ws) (a ∷ xs) = (IsBegun a store j.roots × HasArchived told a none_known store j (told w)) × EachBegun store js ws xs
   EachBegun store js ws xs = ⊥
 
   -- the result of an archive, and its writer, which was flushed

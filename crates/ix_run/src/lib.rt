@@ -1,7 +1,6 @@
 //! Runs over a block file and a job file, and the lines of errors.
 //!
-//! `prepare` reads both files, or returns the first error; `load` takes the CARv1 file's bytes, and the jobs
-//! that are chosen. `run` walks each job and writes its archive; `run_one` does so with one job on one
+//! `prepare` reads both files, or returns the first error; `load_jobs` reads the jobs that are chosen. `run` walks each job and writes its archive; `run_one` does so with one job on one
 //! thread. In every schedule: the report and the status are those of the
 //! jobs' results. Each archive, over a writer that had no bytes, is that of its job if it ends with Done,
 //! and else a prefix of it.
@@ -28,6 +27,6 @@ mod preparation;
 pub use complete::{is_complete, is_root};
 pub use execution::{RunInput, RunOut, run, run_jobs, run_observed, run_one};
 pub use fault::{RunFault, fault_line};
-pub use loading::{JobChoice, load};
+pub use loading::{JobChoice, load_jobs};
 pub use observer::{Observed, Observer};
 pub use preparation::prepare;

@@ -35,7 +35,7 @@ impl Observer for Unobserved {
 }
 
 /// An archive that notifies an observer. It forwards every call, and contracts see it as the archive
-/// inside: its events, its failed deliveries and its guarantee are those.
+/// inside: its calls and its guarantee are those.
 #[derive(Drop)]
 pub struct Observed<'a, W: Write, V: Observer> {
     archive: Archive<'a, W>,
@@ -70,11 +70,12 @@ impl<'a, W: Write, V: Observer> Observed<'a, W, V> {
 }
 
 impl<'a, W: Write, V: Observer> Sink for Observed<'a, W, V> {
-    ghost use Rattle.ix_archive.specs.ArchiveMeaning.{events_of, HasArchived};
+    ghost use Rattle.std.specs.Prelude.{ℕ, Bool, List};
+    ghost use Rattle.ix_archive.specs.ArchiveMeaning.{calls_of, HasArchived};
 
-    ghost events = { events_of };
+    ghost calls = { calls_of };
 
-    ghost failed = { λ a. a.failed };
+    ghost About = { List ℕ → Bool };
 
     ghost guarantee = { HasArchived W.contents };
 

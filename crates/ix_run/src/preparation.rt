@@ -28,8 +28,8 @@ pub fn prepare(
     Ok(shared(alloc, store, jobs)?)
 }
 
-/// Shares the blocks and the jobs between the threads of a run.
-pub(crate) fn shared(
+// Shares the blocks and the jobs between the threads of a run.
+fn shared(
     alloc: Global,
     store: Store,
     jobs: Vec<Job>,

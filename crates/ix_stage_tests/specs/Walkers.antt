@@ -14,9 +14,9 @@ use Rattle.ix_channels.specs.Course.{course_visits, course_over}
 use Rattle.ix_channels.specs.Queue.{table_of}
 use Rattle.ix_channels.specs.Seats.{JobView, SeatView, IsNext}
 
--- each job's limit is at most a million
+-- each job's limit is below 2^32
 abbrev pub AreSmall : List JobMeaning → Type 0
-AreSmall jobs = All (λ job. job.limit ≤ 1000000) jobs
+AreSmall jobs = All (λ job. job.limit ≤ 4294967295) jobs
 
 -- there is one job, with such a limit
 abbrev pub IsOneJob : List JobMeaning → Type 0

@@ -6,7 +6,7 @@ ghost use Rattle.ix_channels.specs.Lanes.{IsLane};
 
 use ix_archive::{End, Sink};
 use ix_check::Verdict;
-use ix_collect::{Collector, Received, drain_all, drain_lane, law, poll_lanes};
+use ix_collect::{Collector, drain_all, drain_lane, law, poll_lanes};
 use ix_fixtures::{ABC, Log, cid_of};
 use ix_stages::{LaneIn, LaneOut, Verdicted, lane};
 use ix_walk::Visit;
@@ -24,6 +24,12 @@ enum Sent {
     Closed(u32, u32, End),
     Last,
 }
+
+// How many numbers from the next one on a job has room for.
+const WINDOW: u32 = 16_384;
+
+// A number that is too far above that of any other visit here.
+const FAR: u32 = 4_000_000_000;
 
 // Job 0 is done, job 1 has a sink that fails at its second delivery, job 2 a visit that found no
 // memory, and job 3 a walk that did.
@@ -97,22 +103,32 @@ impl<const N: usize> Model for Gathering<N> {
 
     ghost view = { λ g. job_count g.collector };
 
-    ghost invariant = { λ g. CanCollect ⟦<Log as Sink>⟧.events ⟦<Log as Sink>⟧.failed g.collector g.logs };
+    ghost invariant = { λ g. CanCollect ⟦<Log as Sink>⟧.calls g.collector g.logs };
 }
 
 impl<const N: usize> Gathering<N> {
     // Nothing was received so far.
     fn new(alloc: Global, logs: [Log; N]) -> Result<Gathering<N>, AllocError>
         requires count { N < 1000 }
-        requires fresh { EachFresh ⟦<Log as Sink>⟧.events ⟦<Log as Sink>⟧.failed logs }
+        requires fresh { EachFresh ⟦<Log as Sink>⟧.calls logs }
     {
         let collector = Collector::new(alloc, N as u32)?;
         law::unused_has_collected_nothing::<Log>();
         Ok(Gathering { collector, logs })
     }
 
+    // Whether there is room for the item.
+    fn has_room(&self, alloc: Global, sent: &Sent) -> Result<bool, Fail> {
+        let item = item_of(alloc, sent)?;
+        Ok(self.collector.has_room(&item))
+    }
+
+    // Receives an item, for which there has to be room.
     fn receive(&mut self, alloc: Global, sent: &Sent) -> Result<(), Fail> {
         let item = item_of(alloc, sent)?;
+        if !self.collector.has_room(&item) {
+            return Err("there was no room".into());
+        }
         self.collector.receive(alloc, item, &mut self.logs);
         Ok(())
     }
@@ -124,36 +140,66 @@ impl<const N: usize> Gathering<N> {
         Ok(())
     }
 
-    // What three rounds over a lane give.
-    fn three_rounds(&mut self, alloc: Global) -> Result<[Received; 3], Fail> {
-        let (_sender, receiver) = lane_of(alloc, 2, &[Sent::Checked(0, 1), Sent::Last])?;
-        let mut lanes = [receiver];
+    // How many items a round over the lanes gives, and how many of them are a verifier's last.
+    fn round(&mut self, alloc: Global, lanes: &mut [LaneOut]) -> (usize, usize) {
+        let received = poll_lanes(alloc, &mut self.collector, lanes, &mut self.logs);
+        (received.items, received.ended_lanes)
+    }
+
+    // What three rounds over two lanes give, which have all items of a job between them.
+    fn three_rounds(&mut self, alloc: Global) -> Result<[(usize, usize); 3], Fail> {
+        let first = [Sent::Checked(0, 1), Sent::Last];
+        let second = [
+            Sent::Closed(0, 2, End::Done),
+            Sent::Checked(0, 0),
+            Sent::Last,
+        ];
+        let (_first_in, first_out) = lane_of(alloc, 2, &first)?;
+        let (_second_in, second_out) = lane_of(alloc, 3, &second)?;
+        let mut lanes = [first_out, second_out];
         Ok([
-            poll_lanes(alloc, &mut self.collector, &mut lanes, &mut self.logs),
-            poll_lanes(alloc, &mut self.collector, &mut lanes, &mut self.logs),
-            poll_lanes(alloc, &mut self.collector, &mut lanes, &mut self.logs),
+            self.round(alloc, &mut lanes),
+            self.round(alloc, &mut lanes),
+            self.round(alloc, &mut lanes),
         ])
     }
 
-    // Drains a lane.
+    // What four rounds over a lane give whose next item is too far ahead. Between the second and the
+    // third, the job's first visit comes.
+    fn rounds_with_one_too_far(&mut self, alloc: Global) -> Result<[(usize, usize); 4], Fail> {
+        let (_sender, receiver) = lane_of(alloc, 2, &[Sent::Checked(0, WINDOW), Sent::Last])?;
+        let mut lanes = [receiver];
+        let before = [self.round(alloc, &mut lanes), self.round(alloc, &mut lanes)];
+        self.receive(alloc, &Sent::Checked(0, 0))?;
+        Ok([
+            before[0],
+            before[1],
+            self.round(alloc, &mut lanes),
+            self.round(alloc, &mut lanes),
+        ])
+    }
+
+    // Drains a lane, after every sink was closed.
     fn drain_one<R: Wait>(&mut self, rt: &R, alloc: Global) -> Result<(), Fail> {
-        let (mut sender, mut receiver) = lane_of(alloc, 1, &[Sent::Checked(0, 0)])?;
+        let (mut sender, mut receiver) = lane_of(alloc, 1, &[Sent::Last])?;
         let Gathering { collector, logs } = self;
+        if !collector.is_done() {
+            return Err("a sink is open".into());
+        }
         drain_lane(rt, alloc, collector, &mut sender, &mut receiver, logs);
         Ok(())
     }
 
-    // Finishes two lanes.
-    fn finish_two<R: Wait>(&mut self, rt: &R, alloc: Global) -> Result<(), Fail> {
-        let (first_in, first_out) = lane_of(
-            alloc,
-            2,
-            &[Sent::Closed(0, 3, End::Done), Sent::Last],
-        )?;
-        let (second_in, second_out) = lane_of(alloc, 3, &[Sent::Checked(0, 2), Sent::Last])?;
+    // Drains two lanes, after every sink was closed.
+    fn drain_two<R: Wait>(&mut self, rt: &R, alloc: Global) -> Result<(), Fail> {
+        let (first_in, first_out) = lane_of(alloc, 1, &[Sent::Last])?;
+        let (second_in, second_out) = lane_of(alloc, 2, &[Sent::Checked(0, FAR), Sent::Last])?;
         let mut senders = [first_in, second_in];
         let mut receivers = [first_out, second_out];
         let Gathering { collector, logs } = self;
+        if !collector.is_done() {
+            return Err("a sink is open".into());
+        }
         drain_all(rt, alloc, collector, &mut senders, &mut receivers, logs);
         Ok(())
     }
@@ -219,15 +265,14 @@ fn ends_of_four_jobs(rt: HostRuntime) -> Result<(), Fail> {
     Ok(())
 }
 
-// Items of which the last can't come: a number that was passed, one that is taken, one too far above
-// the next, a second close, an item after the close of the sink, and one of a job that isn't there.
-const STRAYS: [[Sent; 2]; 6] = [
+// Items of which the last can't come: a number that was passed, one that is taken, a second close, an
+// item after the close of the sink, and one of a job that isn't there.
+const STRAYS: [[Sent; 2]; 5] = [
     [Sent::Checked(0, 0), Sent::Checked(0, 0)],
     [Sent::Checked(0, 1), Sent::Unchecked(0, 1)],
-    [Sent::Checked(0, 1), Sent::Checked(0, 1_048_576)],
     [Sent::Closed(0, 1, End::Done), Sent::Closed(0, 1, End::Done)],
-    [Sent::Closed(0, 0, End::Done), Sent::Checked(0, 0)],
-    [Sent::Checked(0, 1), Sent::Checked(1, 0)],
+    [Sent::Closed(0, 0, End::Done), Sent::Checked(0, FAR)],
+    [Sent::Checked(0, 1), Sent::Checked(1, FAR)],
 ];
 
 // Whether an unexpected item was noted, and what the only log received so far: how many deliveries, and the close.
@@ -259,20 +304,94 @@ fn strays_are_noted(rt: HostRuntime) -> Result<(), Fail> {
     Ok(())
 }
 
-// One lane is read in rounds, one is drained, and two are finished.
+// Items that come before any other, and whether there is room for each.
+const ROOM_AT_FIRST: [(Sent, bool); 8] = [
+    (Sent::Checked(0, 0), true),
+    (Sent::Checked(0, WINDOW - 1), true),
+    (Sent::Unchecked(0, WINDOW - 1), true),
+    (Sent::Checked(0, WINDOW), false),
+    (Sent::Unchecked(0, WINDOW), false),
+    (Sent::Checked(0, FAR), false),
+    (Sent::Closed(0, FAR, End::Done), true),
+    (Sent::Last, true),
+];
+
+// Items after the first visit of job 0, and whether there is room for each.
+const ROOM_AFTER_ONE: [(Sent, bool); 4] = [
+    (Sent::Checked(0, 0), true),
+    (Sent::Checked(0, WINDOW), true),
+    (Sent::Checked(0, WINDOW + 1), false),
+    (Sent::Checked(1, FAR), true),
+];
+
+// There is room for each of these items where it is said.
+fn has_room_where(
+    rt: &impl Abort,
+    alloc: Global,
+    gathering: &Gathering<1>,
+    items: &[(Sent, bool)],
+) -> Result<(), Fail> {
+    for (sent, wanted) in items {
+        assert_eq!(rt; gathering.has_room(alloc, sent)?, *wanted);
+    }
+    Ok(())
+}
+
+#[test]
+fn room_up_to_the_window(rt: HostRuntime) -> Result<(), Fail> {
+    let alloc = rt.alloc();
+    let mut gathering = Gathering::new(alloc, [Log::new(alloc, 9)?])?;
+    has_room_where(&rt, alloc, &gathering, &ROOM_AT_FIRST)?;
+    gathering.receive(alloc, &Sent::Checked(0, WINDOW - 1))?;
+    has_room_where(&rt, alloc, &gathering, &ROOM_AT_FIRST)?;
+    gathering.receive(alloc, &Sent::Checked(0, 0))?;
+    has_room_where(&rt, alloc, &gathering, &ROOM_AFTER_ONE)
+}
+
+// After this item, which ends the deliveries to a log with so much room, there is room for every item.
+fn has_room_after(rt: &impl Abort, alloc: Global, room: usize, last: &Sent) -> Result<(), Fail> {
+    let mut gathering = Gathering::new(alloc, [Log::new(alloc, room)?])?;
+    gathering.receive(alloc, last)?;
+    for sent in &[
+        Sent::Checked(0, WINDOW),
+        Sent::Unchecked(0, FAR),
+        Sent::Checked(0, FAR),
+    ] {
+        assert!(rt; gathering.has_room(alloc, sent)?);
+    }
+    Ok(())
+}
+
+#[test]
+fn room_once_deliveries_have_ended(rt: HostRuntime) -> Result<(), Fail> {
+    let alloc = rt.alloc();
+    has_room_after(&rt, alloc, 0, &Sent::Checked(0, 0))?;
+    has_room_after(&rt, alloc, 9, &Sent::Unchecked(0, 0))?;
+    has_room_after(&rt, alloc, 9, &Sent::Closed(0, 0, End::Done))
+}
+
+#[test]
+fn an_item_too_far_ahead_waits_in_its_lane(rt: HostRuntime) -> Result<(), Fail> {
+    let alloc = rt.alloc();
+    let mut gathering = Gathering::new(alloc, [Log::new(alloc, 9)?])?;
+    let rounds = gathering.rounds_with_one_too_far(alloc)?;
+    assert!(rt; rounds == [(0, 0), (0, 0), (1, 0), (1, 1)]);
+    assert_eq!(rt; accepted_and_reported(&gathering), (false, (1, None)));
+    Ok(())
+}
+
+// Two lanes are read in rounds until the sink is closed, then one is drained, and then two.
 fn receive_lanes<R: Abort + Wait>(
     rt: &R,
     alloc: Global,
     gathering: &mut Gathering<1>,
 ) -> Result<(), Fail> {
     let rounds = gathering.three_rounds(alloc)?;
-    assert!(rt;
-        rounds.map(|poll_lanes| (poll_lanes.items, poll_lanes.ended_lanes))
-            == [(1, 0), (1, 1), (0, 0)]
-    );
+    assert!(rt; rounds == [(2, 0), (2, 1), (1, 1)]);
     gathering.drain_one(rt, alloc)?;
-    assert!(rt; !gathering.collector.is_done());
-    gathering.finish_two(rt, alloc)?;
+    assert!(rt; !gathering.collector.has_unexpected());
+    gathering.drain_two(rt, alloc)?;
+    assert!(rt; gathering.collector.has_unexpected());
     has_ended(rt, alloc, gathering, &[End::Done])
 }
 
@@ -281,6 +400,6 @@ fn lanes_into_one_sink(rt: HostRuntime) -> Result<(), Fail> {
     let alloc = rt.alloc();
     let mut gathering = Gathering::new(alloc, [Log::new(alloc, 9)?])?;
     receive_lanes(&rt, alloc, &mut gathering)?;
-    has_in_order(&rt, &gathering.logs[0], 3);
+    has_in_order(&rt, &gathering.logs[0], 2);
     Ok(())
 }

@@ -1,8 +1,7 @@
 -- What the caller has after several of its steps.
 use Rattle.std.proofs.Common.{◌≡◌, ℕ, ◌≤◌, List, [], ◌++◌, All, length, take, drop, take_all, refl, sym, ◌∙◌, ap, subst, arith}
 use Rattle.std.proofs.lemmas.List.{take-append-le}
-use Rattle.ix_archive.specs.declared.sink.Delivery.{Delivery}
-use Rattle.ix_archive.specs.Events.{Event}
+use Rattle.ix_archive.specs.Events.{Calls}
 use Rattle.ix_archive.specs.Headline.{EachKept, Fact}
 use Rattle.ix_channels.specs.declared.lanes.LaneOut.{LaneOut}
 use Rattle.ix_channels.specs.Lanes.{EachLane, EachSameOut, all_received}
@@ -41,36 +40,36 @@ module _ {C : Type 0} where
   pub room_same : {n k : ℕ} {a b : Caller C} → HasRoom n k a → b ≡ record a { unstarted = b.unstarted } → HasRoom n k b
   room_same {n = n} {k = k} h e = subst (λ (d : Caller C). HasRoom n k d) (sym e) (record { collector = h.collector; verifiers = h.verifiers; lanes = h.lanes; join = h.join; ends = h.ends })
 
-module _ {S C : Type 0} {events : S → List Event} {failed : S → List Delivery} {guarantee : Fact S} where
+module _ {S C About : Type 0} {calls : S → Calls} {guarantee : Fact S About} where
   -- one after the other
-  pub gathers_trans : {a b d : Caller C} {first then sinks : List S} → Gathers events failed guarantee a b first then → Gathers events failed guarantee b d then sinks → Gathers events failed guarantee a d first sinks
+  pub gathers_trans : {a b d : Caller C} {first then sinks : List S} → Gathers calls guarantee a b first then → Gathers calls guarantee b d then sinks → Gathers calls guarantee a d first sinks
   gathers_trans {a = a} {b = b} {d = d} {first = first} {then = then} {sinks = sinks} h k = record {
-    on = on_trans events failed guarantee a.collector b.collector d.collector first then sinks h.on k.on;
+    on = on_trans calls guarantee a.collector b.collector d.collector first then sinks h.on k.on;
     collected = k.collected;
     lanes = each_same_trans a.lanes.items b.lanes.items d.lanes.items h.lanes k.lanes;
     stops = stops_trans h.stops k.stops;
   }
 
   -- Stops put after it received
-  pub gathers_stop : {a b : Caller C} {s : SeatView} {first sinks : List S} → Gathers events failed guarantee a b first sinks → IsSeatOf b.stop s → Gathers events failed guarantee a (record b { stop = s }) first sinks
+  pub gathers_stop : {a b : Caller C} {s : SeatView} {first sinks : List S} → Gathers calls guarantee a b first sinks → IsSeatOf b.stop s → Gathers calls guarantee a (record b { stop = s }) first sinks
   gathers_stop h i = record { on = h.on; collected = h.collected; lanes = h.lanes; stops = stops_more h.stops i }
 
   -- it may go on receiving
-  pub told_after : {a b : Caller C} {first sinks : List S} → Gathers events failed guarantee a b first sinks → IsTold events failed b sinks
+  pub told_after : {a b : Caller C} {first sinks : List S} → Gathers calls guarantee a b first sinks → IsTold calls b sinks
   told_after h = (record { sinks = h.on.sinks; may = h.on.may }, h.collected)
 
-module _ {S C : Type 0} (events : S → List Event) (failed : S → List Delivery) (guarantee : Fact S) where
+module _ {S C About : Type 0} (calls : S → Calls) (guarantee : Fact S About) where
   -- before the first round
-  pub gathers_none : (a : Caller C) (sinks : List S) → IsTold events failed a sinks → Gathers events failed guarantee a a sinks sinks
-  gathers_none a sinks told = record { on = on_same events failed guarantee a.collector sinks told.0; collected = told.1; lanes = same_self a.lanes.items; stops = stops_none a }
+  pub gathers_none : (a : Caller C) (sinks : List S) → IsTold calls a sinks → Gathers calls guarantee a a sinks sinks
+  gathers_none a sinks told = record { on = on_same calls guarantee a.collector sinks told.0; collected = told.1; lanes = same_self a.lanes.items; stops = stops_none a }
 
   -- one round more, in which the collector changed and the lanes, lent as a slice, went from ls to ms
-  pub gathers_more : (a b d : Caller C) (ls ms : List LaneOut) (first then sinks : List S) → Gathers events failed guarantee a b first then → d ≡ record b { lanes = d.lanes; collector = d.collector } → ls ≡ b.lanes.items → length ms ≡ b.lanes.len
-      → d.lanes.items ≡ take b.lanes.len (ms ++ drop (length ms) b.lanes.items) → EachSameOut ls ms → CollectsAfter events failed guarantee (all_received ls) (all_received ms) b.collector d.collector then sinks → Gathers events failed guarantee a d first sinks
+  pub gathers_more : (a b d : Caller C) (ls ms : List LaneOut) (first then sinks : List S) → Gathers calls guarantee a b first then → d ≡ record b { lanes = d.lanes; collector = d.collector } → ls ≡ b.lanes.items → length ms ≡ b.lanes.len
+      → d.lanes.items ≡ take b.lanes.len (ms ++ drop (length ms) b.lanes.items) → EachSameOut ls ms → CollectsAfter calls guarantee (all_received ls) (all_received ms) b.collector d.collector then sinks → Gathers calls guarantee a d first sinks
   gathers_more a b d ls ms first then sinks h rest old len back lanes more =
       let within : b.lanes.len ≤ length ms = omega arith in
       let new : d.lanes.items ≡ ms = back ∙ (rw take-append-le (take_all b.lanes.len ms (omega arith))) in
-      let P : List LaneOut → List LaneOut → Type 0 = λ os ps. EachSameOut os ps × CollectsAfter events failed guarantee (all_received os) (all_received ps) b.collector d.collector then sinks in
+      let P : List LaneOut → List LaneOut → Type 0 = λ os ps. EachSameOut os ps × CollectsAfter calls guarantee (all_received os) (all_received ps) b.collector d.collector then sinks in
       let both : P b.lanes.items d.lanes.items = subst (P b.lanes.items) (sym new) (subst (λ os. P os ms) old (lanes, more)) in
       gathers_trans h (record {
         on = both.1.on;
@@ -95,19 +94,19 @@ module _ {C G : Type 0} {checked : C → List (ℕ × ℕ)} {x : Shared G} {c d 
       }
 
   -- what is left in the lanes of joined verifiers may be received
-  pub drain_after : {S : Type 0} {events : S → List Event} {failed : S → List Delivery} {guarantee : Fact S} {first sinks : List S}
-      → Gathers events failed guarantee c d first sinks → IsDone d.collector → CanDrain events failed (length (jobs_of x)) e sinks
-  drain_after {events = events} {failed = failed} {sinks = sinks} gathers done =
+  pub drain_after : {S About : Type 0} {calls : S → Calls} {guarantee : Fact S About} {first sinks : List S}
+      → Gathers calls guarantee c d first sinks → IsDone d.collector → CanDrain calls (length (jobs_of x)) e sinks
+  drain_after {calls = calls} {sinks = sinks} gathers done =
       let back = subst (λ (v : Caller C). EachBack v.verifiers.items e.senders.items) gathers.stops.rest joins.lanes in
       let lanes = lanes_back c.verifiers.items e.senders.items c.lanes.items d.lanes.items started.lanes back gathers.lanes in
       record {
         lanes = subst (λ (v : Caller C). EachLane e.senders.items v.lanes.items) (sym joins.rest) lanes;
-        told = subst (λ (v : Caller C). IsTold events failed v sinks) (sym joins.rest) (told_after gathers);
+        told = subst (λ (v : Caller C). IsTold calls v sinks) (sym joins.rest) (told_after gathers);
         jobs = ap (λ (v : Caller C). job_count v.collector) joins.rest ∙ gathers.on.jobs ∙ started.collector.1;
         done = subst (λ (v : Caller C). IsDone v.collector) (sym joins.rest) done;
       }
 
 -- what a flow leaves, of sinks that keep what earlier ones promised
-pub flown_after : {S C G : Type 0} {events : S → List Event} {failed : S → List Delivery} {guarantee : Fact S} {checked : C → List (ℕ × ℕ)} {task : Task G} {first then sinks : List S} {outcome : Outcome C}
-    → EachKept guarantee first then → IsFlown events failed guarantee checked task then sinks outcome → IsFlown events failed guarantee checked task first sinks outcome
+pub flown_after : {S C G About : Type 0} {calls : S → Calls} {guarantee : Fact S About} {checked : C → List (ℕ × ℕ)} {task : Task G} {first then sinks : List S} {outcome : Outcome C}
+    → EachKept guarantee first then → IsFlown calls guarantee checked task then sinks outcome → IsFlown calls guarantee checked task first sinks outcome
 flown_after {guarantee = guarantee} {first = first} {then = then} {sinks = sinks} kept h = record { delivered = h.delivered; kept = kept_trans guarantee first then sinks kept h.kept; checks = h.checks; started = h.started }

@@ -5,8 +5,7 @@ use Rattle.std.specs.declared.thread.PromisedHandle.{PromisedHandle}
 use Rattle.atomic_table.specs.Seated.{TableId}
 use Rattle.ix_store.specs.Store.{Blocks}
 use Rattle.ix_walk.specs.JobMeaning.{JobMeaning}
-use Rattle.ix_archive.specs.declared.sink.Delivery.{Delivery}
-use Rattle.ix_archive.specs.Events.{Event}
+use Rattle.ix_archive.specs.Events.{Calls}
 use Rattle.ix_archive.specs.Headline.{Fact, checked_by}
 use Rattle.ix_channels.specs.declared.item.Item.{Item}
 use Rattle.ix_channels.specs.declared.verdicted.Verdicted.{Verdicted}
@@ -57,15 +56,15 @@ module _ {C : Type 0} where
     pub seat : IsSeatOf a.stop b.stop
     pub rest : b ≡ record a { lanes = b.lanes; collector = b.collector; stop = b.stop }
 
-module _ {S C : Type 0} (events : S → List Event) (failed : S → List Delivery) where
+module _ {S C : Type 0} (calls : S → Calls) where
   -- each sink received what the items say that the lanes gave, if they are good, and may receive what comes next
   abbrev pub IsTold : Caller C → List S → Type 0
-  IsTold d sinks = CanCollect events failed d.collector sinks × HasCollected events failed (all_received d.lanes.items) d.collector sinks
+  IsTold d sinks = CanCollect calls d.collector sinks × HasCollected calls (all_received d.lanes.items) d.collector sinks
 
   -- it went on receiving, and its collector has received what the lanes gave by now
-  pub record Gathers (guarantee : Fact S) (a b : Caller C) (first sinks : List S) : Type 0 where
-    pub on : GoesOn events failed guarantee a.collector b.collector first sinks
-    pub collected : HasCollected events failed (all_received b.lanes.items) b.collector sinks
+  pub record Gathers {About : Type 0} (guarantee : Fact S About) (a b : Caller C) (first sinks : List S) : Type 0 where
+    pub on : GoesOn calls guarantee a.collector b.collector first sinks
+    pub collected : HasCollected calls (all_received b.lanes.items) b.collector sinks
     pub lanes : EachSameOut a.lanes.items b.lanes.items
     pub stops : Stops a b
 
@@ -81,7 +80,7 @@ module _ {C : Type 0} (checked : C → List (ℕ × ℕ)) where
   pub record IsCaller (store : Blocks) (jobs : List JobMeaning) (t : TableId) (claims : ClaimsMeaning JobView) (d : Caller C) : Type 0 where
     pub unstarted : All (IsUnstarted checked store t) d.unstarted.items
     pub claimers : All (IsOfClaims claims) d.claimers.items
-    pub limits : All (λ job. job.limit ≤ 1000000) jobs
+    pub limits : All (λ job. job.limit ≤ 4294967295) jobs
     pub stop : (d.stop.table ≡ t) × (d.stop.pass.course ≡ course_of store jobs)
     pub room : HasRoom (length jobs) (vec_len d.unstarted) d
 
@@ -112,14 +111,14 @@ module _ {C G : Type 0} (checked : C → List (ℕ × ℕ)) (x : Shared G) where
     pub lanes : EachOut d.verifiers.items d.lanes.items
     pub none : all_received d.lanes.items ≡ []
     pub collector : IsUnused d.collector × (job_count d.collector ≡ length (jobs_of x))
-    pub limits : All (λ job. job.limit ≤ 1000000) (jobs_of x)
+    pub limits : All (λ job. job.limit ≤ 4294967295) (jobs_of x)
     pub stop : (d.stop.table ≡ queue_of x) × (d.stop.pass.course ≡ course_of (store_of x) (jobs_of x))
     pub join : HasJoinRoom (vec_len d.verifiers) d
     pub ends : IsRoomFor (length (jobs_of x)) d.ends
 
   -- all verifiers were joined: the seats may be settled, and there is room for the ends
   pub record HasJoined (d : Caller C) : Type 0 where
-    pub limits : All (λ job. job.limit ≤ 1000000) (jobs_of x)
+    pub limits : All (λ job. job.limit ≤ 4294967295) (jobs_of x)
     pub stop : (d.stop.table ≡ queue_of x) × (d.stop.pass.course ≡ course_of (store_of x) (jobs_of x))
     pub joined : IsJoined checked (store_of x) (queue_of x) d
     pub ends : IsRoomFor (length (jobs_of x)) d.ends

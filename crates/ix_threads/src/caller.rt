@@ -85,7 +85,7 @@ fn send_stops<R: Wait>(
 
 // Joins the seats of the queue. What was sent for the items they took is then known to be good.
 fn settle<G>(alloc: Global, shared: &Shared<'_, G>, stop: StopSeat, takers: Vec<TakeSeat>)
-    requires limits { All (λ job. job.limit ≤ 1000000) (jobs_of shared.now) }
+    requires limits { All (λ job. job.limit ≤ 4294967295) (jobs_of shared.now) }
     requires stop { stop.table ≡ queue_of shared.now }
     requires course { stop.pass.course ≡ course_of (store_of shared.now) (jobs_of shared.now) }
     requires takers { All (λ s. s.table ≡ queue_of shared.now) takers.items }
@@ -98,8 +98,8 @@ fn settle<G>(alloc: Global, shared: &Shared<'_, G>, stop: StopSeat, takers: Vec<
 
 // Closes every sink with one end.
 fn close_all<S: Sink>(sinks: &mut [S], end: End, ends: Vec<End>) -> Vec<End>
-    requires { CanCloseAll S.events S.failed sinks.old ends }
-    ensures closed { EachClosed S.events S.failed end result.items sinks.new }
+    requires { CanCloseAll S.calls sinks.old ends }
+    ensures closed { EachClosed S.calls end result.items sinks.new }
     ensures facts { EachKept S.guarantee sinks.old sinks.new }
 {
     let mut ends = ends;
@@ -190,9 +190,9 @@ impl<C: Check + Drop> Caller<C> {
     /// Receives, from the first item on, until every sink is closed. It checks for that only when
     /// nothing came.
     pub(crate) fn collect<R: Wait, S: Sink>(&mut self, rt: &R, alloc: Global, sinks: &mut [S])
-        requires sinks { AreFreshSinks S.events S.failed (job_count self.old.collector) sinks.old }
+        requires sinks { AreFreshSinks S.calls (job_count self.old.collector) sinks.old }
         requires unused { IsUnused self.old.collector × (all_received self.old.lanes.items ≡ []) }
-        ensures on { Gathers S.events S.failed S.guarantee self.old self.new sinks.old sinks.new }
+        ensures on { Gathers S.calls S.guarantee self.old self.new sinks.old sinks.new }
         ensures done { IsDone self.new.collector }
     {
         law::unused_has_collected_nothing::<S>();
@@ -210,7 +210,8 @@ impl<C: Check + Drop> Caller<C> {
     }
 
     /// Puts a Stop for each verifier, and goes on receiving until each has sent its last item, so that
-    /// nobody waits for ever at a full queue or lane.
+    /// nobody waits for ever at a full queue or lane. Every sink was closed by `collect`, so no item is
+    /// too far ahead.
     pub(crate) fn stop<R: Wait, S: Sink>(
         &mut self,
         rt: &R,
@@ -219,8 +220,8 @@ impl<C: Check + Drop> Caller<C> {
         sinks: &mut [S],
     )
         requires stop { IsOfQueue queue.now self.old.stop.table }
-        requires told { IsTold S.events S.failed self.old sinks.old }
-        ensures { Gathers S.events S.failed S.guarantee self.old self.new sinks.old sinks.new }
+        requires told { IsTold S.calls self.old sinks.old }
+        ensures { Gathers S.calls S.guarantee self.old self.new sinks.old sinks.new }
     {
         let verifiers = self.verifiers.len();
         let mut backoff = Backoff::new();
@@ -279,8 +280,8 @@ impl<C: Check + Drop> Caller<C> {
         sinks: &mut [S],
     ) -> Outcome<C>
         requires joined { HasJoined C.checked shared.now self }
-        requires can { CanDrain S.events S.failed (length (jobs_of shared.now)) self sinks.old }
-        ensures { IsFlown S.events S.failed S.guarantee C.checked shared.now.task.now
+        requires can { CanDrain S.calls (length (jobs_of shared.now)) self sinks.old }
+        ensures { IsFlown S.calls S.guarantee C.checked shared.now.task.now
             sinks.old sinks.new result }
     {
         let Caller {
@@ -309,8 +310,8 @@ impl<C: Check + Drop> Caller<C> {
         sinks: &mut [S],
     ) -> Outcome<C>
         requires joined { HasJoined C.checked shared.now self }
-        requires sinks { AreFreshSinks S.events S.failed (length (jobs_of shared.now)) sinks.old }
-        ensures closed { EachClosed S.events S.failed Start result.ends.items sinks.new }
+        requires sinks { AreFreshSinks S.calls (length (jobs_of shared.now)) sinks.old }
+        ensures closed { EachClosed S.calls Start result.ends.items sinks.new }
         ensures checks { AreVisitsOnce C.checked shared.now.task.now result.checks.items }
         ensures facts { EachKept S.guarantee sinks.old sinks.new }
     {

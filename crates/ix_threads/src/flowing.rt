@@ -38,8 +38,8 @@ where
     C: Check + Send + Drop + 'e,
     G: Gate + Sync + 'e,
     R: Threads + Wait + Sync + 'e,
-    requires { CanFlow S.events S.failed C.checked shared.now sinks.old caller }
-    ensures { IsFlown S.events S.failed S.guarantee C.checked shared.now.task.now
+    requires { CanFlow S.calls C.checked shared.now sinks.old caller }
+    ensures { IsFlown S.calls S.guarantee C.checked shared.now.task.now
         sinks.old sinks.new result }
 {
     let mut caller = caller;
@@ -71,20 +71,20 @@ where
     C: Check + Send + Drop,
     G: Gate + Sync,
     R: Threads + Wait + Sync,
-    requires { CanFlow S.events S.failed C.checked shared.now sinks.old caller }
+    requires { CanFlow S.calls C.checked shared.now sinks.old caller }
     ensures sinks { result.0.ghost_name ≡ sinks.entry.ghost_name }
     ensures outcome { result.1.ghost_name ≡ outcome.entry.ghost_name }
-    ensures flown { IsSomeAnd result.1.now (IsFlown S.events S.failed S.guarantee C.checked
+    ensures flown { IsSomeAnd result.1.now (IsFlown S.calls S.guarantee C.checked
         shared.now.task.now sinks.old result.0.now) }
 {
     thread::scope(
         thread::scope_env(),
         rt,
         move |scope| -> (&mut [S], &mut Option<Outcome<C>>)
-            requires { CanFlow S.events S.failed C.checked shared.now sinks.now caller }
+            requires { CanFlow S.calls C.checked shared.now sinks.now caller }
             ensures sinks { result.0.ghost_name ≡ sinks.entry.ghost_name }
             ensures outcome { result.1.ghost_name ≡ outcome.entry.ghost_name }
-            ensures flown { IsSomeAnd result.1.now (IsFlown S.events S.failed S.guarantee C.checked
+            ensures flown { IsSomeAnd result.1.now (IsFlown S.calls S.guarantee C.checked
                 shared.entry.now.task.now sinks.entry.now result.0.now) }
         {
             *outcome = Some(flow_in(scope, rt, alloc, shared, sinks, caller));
@@ -108,8 +108,8 @@ where
     G: Gate + Sync,
     R: Threads + Wait + Sync,
     requires prepared { IsPrepared C.checked task.now.store.now task.now.jobs.now prepared }
-    requires sinks { AreFreshSinks S.events S.failed (length task.now.jobs.now) sinks.old }
-    ensures { IsFlown S.events S.failed S.guarantee C.checked task.now sinks.old sinks.new result }
+    requires sinks { AreFreshSinks S.calls (length task.now.jobs.now) sinks.old }
+    ensures { IsFlown S.calls S.guarantee C.checked task.now sinks.old sinks.new result }
 {
     let Prepared {
         queue,

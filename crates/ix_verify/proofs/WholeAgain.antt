@@ -266,7 +266,7 @@ none-skipped store number n (x ∷ xs) h =
 
 -- ---- the archive of everything below roots
 
-module _ (store : Blocks) (number : ℕ) (name : List ℕ) (limit : ℕ) (roots : List (List ℕ)) (short : length roots ≤ 64) (few : limit ≤ 1000000)
+module _ (store : Blocks) (number : ℕ) (name : List ℕ) (limit : ℕ) (roots : List (List ℕ)) (short : length roots ≤ 64) (few : limit ≤ 4294967295)
     (within : is_over_limit store (job_below name limit roots) ≡ false) (none : skips_of (judged_visits store number (job_below name limit roots)) ≡ []) where
   abbrev told : List Delivery
   told = verified store number (job_below name limit roots)
@@ -297,7 +297,7 @@ module _ (store : Blocks) (number : ℕ) (name : List ℕ) (limit : ℕ) (roots 
 
   -- the job that verifies, with the roots as they are
   abbrev again : JobMeaning
-  again = job_below (codes "verify") 1000000 roots
+  again = job_below (codes "verify") 4294967295 roots
 
   met-again : arrivals_of kept_store again ≡ met
   met-again =
@@ -307,22 +307,22 @@ module _ (store : Blocks) (number : ℕ) (name : List ℕ) (limit : ℕ) (roots 
       let same : once enters rest same_residual (sound_value kept_store) (suc limit) [] starts ≡ met =
       once-inside enters rest same_residual (sound_value store) (sound_value kept_store) (suc limit) [] starts
       (all-weaker (λ a. (verdict_of kept_store a.cid ≡ verdict_of store a.cid) × (sound_value kept_store a.cid ≡ sound_value store a.cid)) (λ a. sound_value kept_store a.cid ≡ sound_value store a.cid) (λ a h. h.1) met each-same) in
-      once-enough enters rest same_residual (sound_value kept_store) (suc limit) (suc 1000000) [] starts (omega (arith, few)) (omega (arith, met-few, ap length same)) ∙ same
+      once-enough enters rest same_residual (sound_value kept_store) (suc limit) (suc 4294967295) [] starts (omega (arith, few)) (omega (arith, met-few, ap length same)) ∙ same
 
   -- no more roots than a job may have are taken as they are
   as-they-are : roots_job roots ≡ again
-  as-they-are = ap (λ (t : Bool). job_below (codes "verify") 1000000 (if t then roots else holder_of roots ∷ [])) (le-leb (length roots) 64 short)
+  as-they-are = ap (λ (t : Bool). job_below (codes "verify") 4294967295 (if t then roots else holder_of roots ∷ [])) (le-leb (length roots) 64 short)
 
   pub finished : is_over_limit kept_store (roots_job roots) ≡ false
   finished =
       ap (is_over_limit kept_store) as-they-are
-      ∙ subst (λ (xs : List Arrival). ltb 1000000 (length xs) ≡ false) (sym met-again) (le-ltb 1000000 (length met) (le_trans met-few few))
+      ∙ subst (λ (xs : List Arrival). ltb 4294967295 (length xs) ≡ false) (sym met-again) (le-ltb 4294967295 (length met) (le_trans met-few few))
 
   pub nothing-skipped : skips_below kept_store (roots_job roots) ≡ []
   nothing-skipped =
       ap (skips_below kept_store) as-they-are
-      ∙ ap (λ (xs : List Arrival). skips_among kept_store 0 0 (take 1000000 xs)) met-again
-      ∙ ap (λ (xs : List Arrival). skips_among kept_store 0 0 xs) (take_all 1000000 met (le_trans met-few few))
+      ∙ ap (λ (xs : List Arrival). skips_among kept_store 0 0 (take 4294967295 xs)) met-again
+      ∙ ap (λ (xs : List Arrival). skips_among kept_store 0 0 xs) (take_all 4294967295 met (le_trans met-few few))
       ∙ none-skipped kept_store 0 0 met
       (all-weaker (λ a. ((verdict_of kept_store a.cid ≡ verdict_of store a.cid) × (sound_value kept_store a.cid ≡ sound_value store a.cid)) × (passes (verdict_of store a.cid) ≡ true)) (λ a. passes (verdict_of kept_store a.cid) ≡ true)
       (λ a h. ap passes h.0.0 ∙ h.1) met (all-both (λ a. (verdict_of kept_store a.cid ≡ verdict_of store a.cid) × (sound_value kept_store a.cid ≡ sound_value store a.cid)) (λ a. passes (verdict_of store a.cid) ≡ true) met each-same pass-each))

@@ -17,7 +17,7 @@ use Rattle.ix_verify.proofs.ArchivesAgain.{archive-roots, archive-found, found-s
 use Rattle.ix_verify.proofs.WholeAgain.{finished, nothing-skipped}
 
 pub archive-whole : (store : Blocks) (number : ℕ) (name : List ℕ) (limit : ℕ) (roots : List (List ℕ)) → IsArchivable store roots (verified store number (job_below name limit roots))
-    → first_ones roots ≡ roots → length roots ≤ 64 → limit ≤ 1000000 → is_over_limit store (job_below name limit roots) ≡ false → skips_of (judged_visits store number (job_below name limit roots)) ≡ []
+    → first_ones roots ≡ roots → length roots ≤ 64 → limit ≤ 4294967295 → is_over_limit store (job_below name limit roots) ≡ false → skips_of (judged_visits store number (job_below name limit roots)) ≡ []
     → IsSoundFile (archive_of store number (job_below name limit roots))
 archive-whole store number name limit roots written distinct short few within none most f found =
     let job = job_below name limit roots in

@@ -32,9 +32,9 @@ unsound_of sections = filter (λ u. not (is_sound u.verdict)) (map told_of secti
 abbrev pub job_below : List ℕ → ℕ → List (List ℕ) → JobMeaning
 job_below name limit roots = record { name = name; roots = roots; selector = everything; limit = limit; once = true }
 
--- the job of roots that are verified, however many: no more than 1000000 visits
+-- the job of roots that are verified, however many, with the greatest limit
 abbrev pub roots_job : List (List ℕ) → JobMeaning
-roots_job roots = job_below (codes "verify") 1000000 (few_roots roots)
+roots_job roots = job_below (codes "verify") 4294967295 (few_roots roots)
 
 -- the report on a visit whose verdict isn't good
 abbrev pub skip_of : Delivery → Skip

@@ -72,6 +72,6 @@ WholeArchivesAreSound =
     (store : Blocks) (number : ℕ) (name : List ℕ) (limit : ℕ) (roots : List (List ℕ))
     → IsArchivable store roots (verified store number (job_below name limit roots))
     → first_ones roots ≡ roots → length roots ≤ 64
-    → limit ≤ 1000000 → is_over_limit store (job_below name limit roots) ≡ false
+    → limit ≤ 4294967295 → is_over_limit store (job_below name limit roots) ≡ false
     → skips_of (judged_visits store number (job_below name limit roots)) ≡ []
     → IsSoundFile (archive_of store number (job_below name limit roots))

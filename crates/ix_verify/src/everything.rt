@@ -7,7 +7,7 @@ ghost use Rattle.ix_verify.specs.Found.{roots_job};
 use ix_car::header_of;
 use ix_cid::Cid;
 use ix_selector::Selector;
-use ix_walk::{GREATEST_LIMIT, Job, MOST_ROOTS};
+use ix_walk::{Job, MOST_ROOTS};
 use std::alloc::{AllocError, Global};
 
 // The front of an identity CIDv1 of DAG-CBOR, up to the block's length.
@@ -21,7 +21,7 @@ pub(crate) fn roots_job(alloc: Global, roots: Vec<Cid>) -> Result<Job, AllocErro
     let selector = Selector::everything(alloc)?;
     let few = few_roots(alloc, roots)?;
     // The name, the number of roots and the limit are valid.
-    match Job::new(name, few, selector, GREATEST_LIMIT) {
+    match Job::with_limit_up_to(u32::MAX, name, few, selector, u32::MAX) {
         Ok(job) => Ok(job.links_once()),
         Err(_) => Err(AllocError),
     }

@@ -1,7 +1,7 @@
 //! Jobs.
 
 ghost use Rattle.std.specs.Prelude.{◌≡◌, ◌≤◌, true, false, Some, None, IfOk, IfErr, OnOk, string_bytes};
-ghost use Rattle.ix_walk.specs.Job.{JobMeaning, job_fault};
+ghost use Rattle.ix_walk.specs.Job.{JobMeaning, job_fault, job_fault_up_to};
 ghost use Rattle.ix_walk.specs.JobMeaning.{job_of, going_in, is_name, is_name_byte};
 
 use crate::fault::JobFault;
@@ -12,7 +12,7 @@ use std::marker::Model;
 /// How many bytes a name may have.
 pub const LONGEST_NAME: usize = 64;
 
-/// The greatest limit: how many visits a job may ask for.
+/// The greatest limit of `Job::new`: how many visits a job may ask for there.
 pub const GREATEST_LIMIT: u32 = 1_000_000;
 
 /// How many roots a job may have.
@@ -68,13 +68,29 @@ impl Job {
         ensures fits { OnOk result (job_fault (string_bytes name) roots.items limit ≡ None) }
         ensures fault { IfErr result (λ e. job_fault (string_bytes name) roots.items limit ≡ Some e) }
     {
+        Job::with_limit_up_to(GREATEST_LIMIT, name, roots, selector, limit)
+    }
+
+    /// Returns the job, or its first error as `new` does, with limits up to `most` in place of
+    /// 1,000,000.
+    pub fn with_limit_up_to(
+        most: u32,
+        name: String,
+        roots: Vec<Cid>,
+        selector: Selector,
+        limit: u32,
+    ) -> Result<Job, JobFault>
+        ensures ok { IfOk result (λ j. j ≡ job_of (string_bytes name) roots.items selector limit) }
+        ensures fits { OnOk result (job_fault_up_to most (string_bytes name) roots.items limit ≡ None) }
+        ensures fault { IfErr result (λ e. job_fault_up_to most (string_bytes name) roots.items limit ≡ Some e) }
+    {
         if !is_name(name.as_str()) {
             return Err(JobFault::Name);
         }
         if limit == 0 {
             return Err(JobFault::LimitZero);
         }
-        if limit > GREATEST_LIMIT {
+        if limit > most {
             return Err(JobFault::LimitTooLarge);
         }
         if roots.is_empty() {
@@ -133,8 +149,7 @@ impl Job {
 
     /// The link budget: how many visits a walk returns at most.
     pub fn limit(&self) -> u32
-        ensures is { result ≡ self.now.limit }
-        ensures within { result ≤ 1000000 }
+        ensures { result ≡ self.now.limit }
     {
         self.limit
     }

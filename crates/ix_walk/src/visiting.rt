@@ -216,7 +216,7 @@ pub(crate) fn next_visit<'a>(
 ) -> Result<Option<Visit>, WalkStop>
     requires { IsWalk job.now.limit given state.old.frontier }
     ensures takes { TakesNext store.now job.now number given state.old result state.new }
-    ensures within { IfOk result (λ o. IfSome o (λ _. given < 1000000)) }
+    ensures within { IfOk result (λ o. IfSome o (λ _. given < 4294967295)) }
 {
     let Some(found) = next_link(alloc, job, &mut state.frontier, &mut state.roots)? else {
         return Ok(None);

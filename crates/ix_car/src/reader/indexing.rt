@@ -1,5 +1,7 @@
 //! How the blocks of a file are indexed: on one thread, or by several.
 
+ghost use Rattle.std.specs.Prelude.{◌≡◌, IfOk};
+
 use ix_store::{Store, StoreBuilder};
 use std::alloc::AllocError;
 use std::thread::Threads;
@@ -16,7 +18,7 @@ pub(super) trait Indexing {
         requires { ready self.now }
         ensures { OnOk result (builder.new ≡ builder.old) };
 
-    // Builds the store of all blocks.
+    // Builds the settled store of all blocks.
     fn build(&self, builder: StoreBuilder) -> Result<Store, AllocError>
         requires { ready self.now }
         ensures { IfOk result (λ store. store ≡ builder.pairs) };
@@ -34,7 +36,7 @@ impl Indexing for InTurn {
     }
 
     fn build(&self, builder: StoreBuilder) -> Result<Store, AllocError> {
-        builder.build_in_turn()
+        settled(builder.build_in_turn()?)
     }
 }
 
@@ -55,6 +57,15 @@ impl<'a, R: Threads + Sync> Indexing for ByThreads<'a, R> {
     }
 
     fn build(&self, builder: StoreBuilder) -> Result<Store, AllocError> {
-        builder.build(self.rt, self.threads)
+        settled(builder.build(self.rt, self.threads)?)
     }
+}
+
+// Settles a store: it caches from now on what is found of a block.
+fn settled(store: Store) -> Result<Store, AllocError>
+    ensures { IfOk result (λ settled. settled ≡ store) }
+{
+    let mut store = store;
+    store.enable_memo()?;
+    Ok(store)
 }

@@ -1,7 +1,8 @@
 //! Reading the blocks of a CARv1 file into a store.
 
+ghost use Rattle.std.specs.Prelude.{◌≡◌, ◌≤◌, ◌-◌, length, drop};
 ghost use Rattle.std.specs.Arc.{arc_value};
-ghost use Rattle.ix_car.specs.Reading.{blocks_in, blocks_of};
+ghost use Rattle.ix_car.specs.Reading.{blocks_after, blocks_of, sections_at};
 ghost use Rattle.ix_car.specs.Gives.{Gives};
 ghost use Rattle.ix_car.specs.Reads.{ReadsFrom, IsEnd};
 
@@ -22,52 +23,60 @@ pub(super) fn load_shared<I: Indexing>(
     requires { I.ready indexing.now }
     ensures { Gives (λ store. store) (arc_value file.now).items result (blocks_of (arc_value file.now).items) }
 {
-    match store_of_file(alloc, file, indexing) {
-        Ok(store) => Ok(store),
-        Err(fault) => Err(CarFault {
-            kind: fault.kind,
-            place: file.len() - fault.left,
+    match with_file(StoreBuilder::new(alloc), file, 0, indexing) {
+        Ok(builder) => indexing.build(builder).map_err(|_| CarFault {
+            kind: CarKind::Memory,
+            place: file.len(),
         }),
+        Err(fault) => Err(fault),
     }
 }
 
-// Does the same, with the offset of an error counted from the end.
-fn store_of_file<I: Indexing>(
-    alloc: Global,
+// Adds the blocks of a CARv1 file to those of a builder, which keeps a share of its bytes. It begins at
+// an offset of these.
+pub(super) fn with_file<I: Indexing>(
+    builder: StoreBuilder,
     file: &Arc<Vec<u8>>,
+    start: usize,
     indexing: &I,
-) -> Result<Store, FaultAt>
-    requires { I.ready indexing.now }
-    ensures { ReadsFrom (λ store. store) blocks_of (arc_value file.now).items result }
+) -> Result<StoreBuilder, CarFault>
+    requires { (start ≤ length (arc_value file.now).items) × I.ready indexing.now }
+    ensures { Gives (λ builder. builder.pairs) (arc_value file.now).items result
+        (blocks_after builder.pairs (drop start (arc_value file.now).items)) }
 {
-    let sections = header_at(file.as_slice())?;
-    let builder = blocks_of_sections(alloc, file, sections, indexing)?;
-    let Ok(mut store) = indexing.build(builder) else {
-        return Err(FaultAt {
-            kind: CarKind::Memory,
-            left: 0,
-        });
+    let sections = match header_at(&file.as_slice()[start..]) {
+        Ok(sections) => sections,
+        Err(fault) => return Err(fault_in(file.as_slice(), fault)),
     };
-    if store.enable_memo().is_err() {
-        return Err(FaultAt {
-            kind: CarKind::Memory,
-            left: 0,
-        });
+    match with_blocks_of(builder, file, sections, indexing) {
+        Ok(builder) => Ok(builder),
+        Err(fault) => Err(fault_in(file.as_slice(), fault)),
     }
-    Ok(store)
 }
 
-// Reads the blocks of the sections at the end of a file. Those that are due are indexed.
-fn blocks_of_sections<I: Indexing>(
-    alloc: Global,
+// Returns an error with its offset counted from the start of the file.
+fn fault_in(file: &[u8], fault: FaultAt) -> CarFault
+    requires { fault.left ≤ length file.now }
+    ensures { result ≡ record { kind = fault.kind; place = length file.now - fault.left } }
+{
+    CarFault {
+        kind: fault.kind,
+        place: file.len() - fault.left,
+    }
+}
+
+// Adds the blocks of the sections at the end of a file. Those that are due are indexed.
+fn with_blocks_of<I: Indexing>(
+    builder: StoreBuilder,
     file: &Arc<Vec<u8>>,
     sections: &[u8],
     indexing: &I,
 ) -> Result<StoreBuilder, FaultAt>
     requires { IsEnd sections.now (arc_value file.now).items × I.ready indexing.now }
-    ensures { ReadsFrom (λ builder. builder.pairs) blocks_in sections.now result }
+    ensures { ReadsFrom (λ builder. builder.pairs) (λ rest. sections_at (length rest) builder.pairs rest)
+        sections.now result }
 {
-    let mut builder = StoreBuilder::new(alloc);
+    let mut builder = builder;
     let Ok(number) = builder.take_file(file) else {
         return Err(FaultAt::at(CarKind::Memory, sections));
     };

@@ -10,7 +10,7 @@ use Rattle.ix_channels.proofs.parts.job_seats.Goals as goal
 pub job_seat-requires-clause-course : goal.job_seat-requires-clause-course
 job_seat-requires-clause-course c =
     let e : (view c.loop-job.pass).course ≡ (view c.args.pass.now).course = ap (λ (v : PassView). v.course) c.loop-job.invariant.1 in
-    subst (λ (k : List JobVisits). length (course_visits k c.loop-job.job) ≤ 1000000) (sym e) (IsCourse-at (view c.args.pass.now).course c.loop-job.job c.requires.course)
+    subst (λ (k : List JobVisits). length (course_visits k c.loop-job.job) ≤ 4294967295) (sym e) (IsCourse-at (view c.args.pass.now).course c.loop-job.job c.requires.course)
 
 pub loop-job-preserved : goal.loop-job-preserved
 loop-job-preserved c =

@@ -1,9 +1,7 @@
-use Rattle.std.proofs.Common.{◌≡◌, ◌∙◌, ap, length, map, take, sym, subst, arith}
-use Rattle.std.proofs.lemmas.List.{take_all, take_more, map_push, length-map}
+use Rattle.std.proofs.Common.{sym}
 use Rattle.std.proofs.lemmas.Result.{err_from_is_err_and}
 use Rattle.ix_walk.specs.JobMeaning.{JobMeaning}
 use Rattle.ix_cli_io.specs.Failure.{output_path, paths_of}
-use Rattle.ix_cli_io.specs.Output.{path_of}
 use Rattle.ix_cli_io.proofs.Paths.{Contains-map, failure_of_one}
 use Rattle.ix_cli_io.proofs.outputs.make_outputs.Goals as goal
 
@@ -13,7 +11,7 @@ returns-in_err-check_job g c =
     let jobs = c.args.jobs.now in
     let job = c.job-item.result in
     let path = λ (j : JobMeaning). output_path folder j.name in
-    let p = err_from_is_err_and c.from_residual.result c.from_residual.ensures.1 in
+    let p = err_from_is_err_and c.from_residual-in_err-check_job.result c.from_residual-in_err-check_job.ensures.1 in
     let among = Contains-map path jobs job (c.loop-job.job-index, c.loop-job-test.true, sym c.job-item.is) in
     rw (p.1, p.2) (record { each = tt; paths = tt; refused = failure_of_one (paths_of folder jobs) (path job) c.in_err-check_job.field-0.0 among c.in_err-check_job.ensures })
 

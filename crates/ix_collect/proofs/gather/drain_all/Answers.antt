@@ -13,7 +13,7 @@ loop-i-init g c = record {
   other = lanes_long c.args.senders.now c.args.receivers.now c.requires.lanes;
   lanes = c.requires.lanes;
   sent = refl;
-  collected = record { on = on_same g.S.Sink.events g.S.Sink.failed g.S.Sink.guarantee c.args.collector.now c.args.sinks.now c.requires.can; collected = λ store jobs before h. h };
+  collected = record { on = on_same g.S.Sink.calls g.S.Sink.guarantee c.args.collector.now c.args.sinks.now c.requires.can; collected = λ store jobs before h. h };
 }
 
 pub loop-i-preserved : goal.loop-i-preserved
@@ -36,7 +36,7 @@ loop-i-preserved g c =
           (subst (λ (l : List LaneOut). EachLane (drop (k + 1) c.loop-i.senders) l) (sym (drop-set-lt (k + 1) c.loop-i.receivers k c.drain_lane.new.receiver past)) behind.1);
       sent = sent_set c.loop-i.senders k sender c.drain_lane.new.sender at same.2 ∙ h.sent;
       collected = record {
-        on = on_trans g.S.Sink.events g.S.Sink.failed g.S.Sink.guarantee c.args.collector.now c.loop-i.collector c.drain_lane.new.collector c.args.sinks.now c.loop-i.sinks c.drain_lane.new.sinks h.collected.on c.drain_lane.ensures.collected.on;
+        on = on_trans g.S.Sink.calls g.S.Sink.guarantee c.args.collector.now c.loop-i.collector c.drain_lane.new.collector c.args.sinks.now c.loop-i.sinks c.drain_lane.new.sinks h.collected.on c.drain_lane.ensures.collected.on;
         collected = λ store jobs front begun.
             let sent = all_sent (take k c.loop-i.senders) in
             let rest = all_received (drop (k + 1) c.loop-i.receivers) in
@@ -47,9 +47,9 @@ loop-i-preserved g c =
             let new : front ++ (all_sent (take (k + 1) (set c.loop-i.senders k c.drain_lane.new.sender)) ++ all_received (drop (k + 1) (set c.loop-i.receivers k c.drain_lane.new.receiver))) ≡ (front ++ sent) ++ sent_by sender ++ rest =
             ap (λ (l : List Verdicted). front ++ l) (after_drain c.loop-i.senders c.loop-i.receivers k sender c.drain_lane.new.sender c.drain_lane.new.receiver at lt same.2) ∙ front_mid front sent (sent_by sender) rest
             in
-            subst (λ (l : List Verdicted). IsCollected g.S.Sink.events g.S.Sink.failed store jobs l c.drain_lane.new.collector c.drain_lane.new.sinks) (sym new)
+            subst (λ (l : List Verdicted). IsCollected g.S.Sink.calls store jobs l c.drain_lane.new.collector c.drain_lane.new.sinks) (sym new)
             (c.drain_lane.ensures.collected.collected store jobs (front ++ sent) rest
-            (subst (λ (l : List Verdicted). IsCollected g.S.Sink.events g.S.Sink.failed store jobs l c.loop-i.collector c.loop-i.sinks) old (h.collected.collected store jobs front begun)));
+            (subst (λ (l : List Verdicted). IsCollected g.S.Sink.calls store jobs l c.loop-i.collector c.loop-i.sinks) old (h.collected.collected store jobs front begun)));
       };
     }
 
@@ -63,5 +63,5 @@ returns-clause-collected g c =
     record {
       on = h.collected.on;
       collected = λ store jobs front begun.
-          subst (λ (l : List Verdicted). IsCollected g.S.Sink.events g.S.Sink.failed store jobs (front ++ l) c.loop-i.collector c.loop-i.sinks) (all_drained c.loop-i.senders c.loop-i.receivers c.loop-i.i past over) (h.collected.collected store jobs front begun);
+          subst (λ (l : List Verdicted). IsCollected g.S.Sink.calls store jobs (front ++ l) c.loop-i.collector c.loop-i.sinks) (all_drained c.loop-i.senders c.loop-i.receivers c.loop-i.i past over) (h.collected.collected store jobs front begun);
     }

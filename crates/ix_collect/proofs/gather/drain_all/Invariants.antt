@@ -9,5 +9,5 @@ invariant-loop-i g l = record {
   other : length l.receivers ≡ length l.initial.senders;
   lanes : EachLane (drop l.i l.senders) (drop l.i l.receivers);
   sent : all_sent l.senders ≡ all_sent l.initial.senders;
-  collected : CollectsAfter g.S.Sink.events g.S.Sink.failed g.S.Sink.guarantee (all_received l.initial.receivers) (all_sent (take l.i l.senders) ++ all_received (drop l.i l.receivers)) l.fn.collector l.collector l.initial.sinks l.sinks;
+  collected : CollectsAfter g.S.Sink.calls g.S.Sink.guarantee (all_received l.initial.receivers) (all_sent (take l.i l.senders) ++ all_received (drop l.i l.receivers)) l.fn.collector l.collector l.initial.sinks l.sinks;
 }

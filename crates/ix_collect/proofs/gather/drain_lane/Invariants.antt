@@ -6,5 +6,5 @@ abbrev pub invariant-loop : goal.invariant-loop
 invariant-loop g l = record {
   lane : IsLane l.sender l.receiver;
   same : IsSameLane l.fn.sender l.sender l.fn.receiver l.receiver;
-  collected : CollectsAmong g.S.Sink.events g.S.Sink.failed g.S.Sink.guarantee (received_by l.fn.receiver) (received_by l.receiver) l.fn.collector l.collector l.initial.sinks l.sinks;
+  collected : CollectsAmong g.S.Sink.calls g.S.Sink.guarantee (received_by l.fn.receiver) (received_by l.receiver) l.fn.collector l.collector l.initial.sinks l.sinks;
 }

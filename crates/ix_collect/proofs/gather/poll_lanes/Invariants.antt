@@ -6,5 +6,5 @@ abbrev pub invariant-loop-i : goal.invariant-loop-i
 invariant-loop-i g l = record {
   size : length l.lanes ≡ length l.initial.lanes;
   few : (l.items ≤ l.i) × (l.ended_lanes ≤ l.i);
-  given : HaveGiven g.S.Sink.events g.S.Sink.failed g.S.Sink.guarantee l.initial.lanes l.lanes l.items l.ended_lanes l.fn.collector l.collector l.initial.sinks l.sinks;
+  given : HaveGiven g.S.Sink.calls g.S.Sink.guarantee l.initial.lanes l.lanes l.items l.ended_lanes l.fn.collector l.collector l.initial.sinks l.sinks;
 }

@@ -10,7 +10,7 @@ abbrev pub invariant-loop-rest : goal.invariant-loop-rest
 invariant-loop-rest l = record {
   within : l.number + length l.rest ≤ length l.bytes;
   goes_on : (before : List JobMeaning) × HasNames l.names before
-      × (l.faults.items ++ filter (λ f. nat_lt l.first f.line) (faults_from (l.number + 1) before (slice_split (λ b. b == 10) l.rest)) ≡ l.initial.faults.items ++ faults_after l.first l.bytes);
+      × (l.faults.items ++ filter (λ f. nat_lt l.first f.line) (faults_from l.greatest (l.number + 1) before (slice_split (λ b. b == 10) l.rest)) ≡ l.initial.faults.items ++ faults_after l.greatest l.first l.bytes);
 }
 
 abbrev pub decreases-loop-rest : goal.decreases-loop-rest

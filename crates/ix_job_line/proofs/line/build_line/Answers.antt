@@ -1,7 +1,7 @@
 use Rattle.std.proofs.Common.{◌≡◌, ◌∙◌, sym, ap, subst, ℕ, ◌-◌, true, List, [], ◌∷◌, ◌++◌, length, take, Ok, rules}
 use Rattle.std.specs.Prelude.{string_bytes}
 use Rattle.ix_walk.specs.JobMeaning.{JobMeaning, is_name}
-use Rattle.ix_jobs.specs.Jobs.{jobs_of, job_of_fields}
+use Rattle.ix_jobs.specs.Jobs.{jobs_up_to, job_of_fields}
 use Rattle.ix_job_line.specs.Line.{is_word, line_of}
 use Rattle.ix_job_line.specs.Words.{IsSpelledBy, IsNoSelector}
 use Rattle.ix_job_line.proofs.Ended.{IsSpelledBy-ended}
@@ -22,9 +22,9 @@ returns-in-Ok-clause-read c =
     let is_roots : is_word roots ≡ true = search rules in
     let is_limit : is_word limit ≡ true = search rules in
     let is_hex : is_word hex ≡ true = search rules in
-    let alone = read_alone name roots limit hex named (IsWord-word roots is_roots) (IsWord-word limit is_limit) (IsWord-word hex is_hex) in
-    let read : jobs_of (string_bytes c.in_ok-line.line) ≡ Ok c.in-Ok.jobs.items = ap jobs_of (sym c.as_bytes-4.ensures.value) ∙ c.in-Ok.ensures.jobs in
-    let was = was_read (job_of_fields name roots limit hex) c.in-Ok.jobs.items (sym alone ∙ ap jobs_of (sym line) ∙ read) in
+    let alone = read_alone c.args.greatest name roots limit hex named (IsWord-word roots is_roots) (IsWord-word limit is_limit) (IsWord-word hex is_hex) in
+    let read : jobs_up_to c.args.greatest 1000 (string_bytes c.in_ok-line.line) ≡ Ok c.in-Ok.jobs.items = ap (jobs_up_to c.args.greatest 1000) (sym c.as_bytes-4.ensures.value) ∙ c.in-Ok.ensures.jobs in
+    let was = was_read (job_of_fields c.args.greatest name roots limit hex) c.in-Ok.jobs.items (sym alone ∙ ap (jobs_up_to c.args.greatest 1000) (sym line) ∙ read) in
     record {
       is = record {
         selector = hex;
@@ -51,6 +51,6 @@ returns-clause-refused c =
     let is_roots : is_word roots ≡ true = search rules in
     let is_limit : is_word limit ≡ true = search rules in
     let is_hex : is_word hex ≡ true = search rules in
-    let alone = read_alone name roots limit hex named (IsWord-word roots is_roots) (IsWord-word limit is_limit) (IsWord-word hex is_hex) in
-    IsRefusedBy-line (IsSpelledBy c.args.selector.now) (IsNoSelector c.args.selector.now) name roots limit hex c.as_bytes-4.result.now c.in-Err.fault.kind c.in-Err.fault.line (subst (IsSpelledBy c.args.selector.now) (sym whole) made)
-    (ap jobs_of (c.as_bytes-4.ensures.value ∙ line) ∙ alone) c.in-Err.ensures.fault
+    let alone = read_alone c.args.greatest name roots limit hex named (IsWord-word roots is_roots) (IsWord-word limit is_limit) (IsWord-word hex is_hex) in
+    IsRefusedBy-line (IsSpelledBy c.args.selector.now) (IsNoSelector c.args.selector.now) c.args.greatest name roots limit hex c.as_bytes-4.result.now c.in-Err.fault.kind c.in-Err.fault.line (subst (IsSpelledBy c.args.selector.now) (sym whole) made)
+    (ap (jobs_up_to c.args.greatest 1000) (c.as_bytes-4.ensures.value ∙ line) ∙ alone) c.in-Err.ensures.fault

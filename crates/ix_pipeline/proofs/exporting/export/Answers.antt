@@ -16,10 +16,10 @@ pub returns-clause-archived : goal.returns-clause-archived
 returns-clause-archived g c =
     let ends = c.flow-outcome.result.ends.items in
     let sinks = c.flow-outcome.new.sinks in
-    archived_of_delivered g.S.Sink.events g.S.Sink.failed c.faithful_is_archived.ensures (arc_value c.args.store.now) 0 (arc_value c.args.jobs.now).items ends sinks
-    (subst (λ (v : Vec Job). EachDelivered g.S.Sink.events g.S.Sink.failed (arc_value c.args.store.now) 0 v.items ends sinks) c.deref-4.ensures
-    (subst (λ (s : Blocks). EachDelivered g.S.Sink.events g.S.Sink.failed s 0 c.deref-4.result.now.items ends sinks) c.deref-3.ensures
-    (subst (λ (js : List JobMeaning). EachDelivered g.S.Sink.events g.S.Sink.failed c.deref-3.result.now 0 js ends sinks) c.as_slice.ensures.value c.flow-outcome.ensures.delivered)))
+    archived_of_delivered g.S.Sink.calls c.faithful_is_archived.ensures (arc_value c.args.store.now) 0 (arc_value c.args.jobs.now).items ends sinks
+    (subst (λ (v : Vec Job). EachDelivered g.S.Sink.calls (arc_value c.args.store.now) 0 v.items ends sinks) c.deref-4.ensures
+    (subst (λ (s : Blocks). EachDelivered g.S.Sink.calls s 0 c.deref-4.result.now.items ends sinks) c.deref-3.ensures
+    (subst (λ (js : List JobMeaning). EachDelivered g.S.Sink.calls c.deref-3.result.now 0 js ends sinks) c.as_slice.ensures.value c.flow-outcome.ensures.delivered)))
 
 pub returns-clause-checked : goal.returns-clause-checked
 returns-clause-checked g c = search rules

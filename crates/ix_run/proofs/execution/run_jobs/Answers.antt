@@ -1,5 +1,5 @@
 use Rattle.std.proofs.Common.{refl, sym, ◌∙◌, ap, subst, length}
-use Rattle.ix_archive.specs.ArchiveMeaning.{events_of}
+use Rattle.ix_archive.specs.ArchiveMeaning.{calls_of}
 use Rattle.ix_pipeline.specs.Headline.{EachFresh}
 use Rattle.ix_run.proofs.Runs.{begun-length, begun-fresh, delivered-length, kept-length, whole_again, ended_sinks}
 use Rattle.ix_run.proofs.execution.run_jobs.Goals as goal
@@ -10,7 +10,7 @@ export_plain-requires-clause-sinks g c =
 
 pub export_plain-requires-clause-fresh : goal.export_plain-requires-clause-fresh
 export_plain-requires-clause-fresh g c =
-    subst (EachFresh events_of (λ a. a.failed)) (sym c.as_mut_slice.ensures.value)
+    subst (EachFresh calls_of) (sym c.as_mut_slice.ensures.value)
     (begun-fresh g.W.Write.contents c.args.store.now c.args.jobs.now c.args.writers.items c.in_ok-archives.archives.items c.in_ok-archives.ensures.begun)
 
 pub finish_archives-requires : goal.finish_archives-requires

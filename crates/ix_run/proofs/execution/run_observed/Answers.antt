@@ -1,7 +1,7 @@
 use Rattle.std.proofs.Common.{◌≡◌, List, sym, ◌∙◌, ap, subst, length}
 use Rattle.std.specs.Arc.{arc_value}
 use Rattle.ix_walk.specs.JobMeaning.{JobMeaning}
-use Rattle.ix_archive.specs.ArchiveMeaning.{events_of}
+use Rattle.ix_archive.specs.ArchiveMeaning.{calls_of}
 use Rattle.ix_pipeline.specs.Headline.{EachFresh}
 use Rattle.ix_run.specs.Run.{EachRun, IsLeftOf}
 use Rattle.ix_run.proofs.Runs.{begun-length, begun-fresh, delivered-length, kept-length, whole_again, ended_sinks, run-length}
@@ -15,7 +15,7 @@ export-requires-clause-sinks g c κs within =
 
 pub export-requires-clause-fresh : goal.export-requires-clause-fresh
 export-requires-clause-fresh g c κs within =
-    subst (EachFresh events_of (λ a. a.failed)) (sym c.as_mut_slice-sinks.ensures.value)
+    subst (EachFresh calls_of) (sym c.as_mut_slice-sinks.ensures.value)
     (begun-fresh g.W.Write.contents c.deref.result.now c.as_slice.result.now c.args.writers.items c.in_ok-archives.archives.items c.in_ok-archives.ensures.begun)
 
 pub finish_archives-requires : goal.finish_archives-requires

@@ -6,7 +6,7 @@ pub returns-clause-loaded : goal.returns-clause-loaded
 returns-clause-loaded c = (
   search rules,
   search rules,
-  subst (λ v. length v.items ≤ 1000) (sym c.in_ok-shared.ensures.1) (few_jobs c.args.jobs.now c.in_ok-jobs.jobs.items c.in_ok-jobs.ensures.jobs),
+  subst (λ v. length v.items ≤ 1000) (sym c.in_ok-shared.ensures.1) (few_jobs 1000000 c.args.jobs.now c.in_ok-jobs.jobs.items c.in_ok-jobs.ensures.jobs),
 )
 
 pub returns-in_err-jobs-clause-refused : goal.returns-in_err-jobs-clause-refused

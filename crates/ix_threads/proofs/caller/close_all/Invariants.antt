@@ -4,7 +4,7 @@ use Rattle.ix_threads.proofs.caller.close_all.Given as goal
 
 abbrev pub invariant-loop-sink : goal.invariant-loop-sink
 invariant-loop-sink g l = record {
-  closed : IsClosedTo g.S.Sink.events g.S.Sink.failed g.S.Sink.guarantee l.end l.sink-index l.ends.items l.initial.sinks l.sinks;
+  closed : IsClosedTo g.S.Sink.calls g.S.Sink.guarantee l.end l.sink-index l.ends.items l.initial.sinks l.sinks;
   room : vec_capacity l.ends ≡ vec_capacity l.fn.ends;
   counted : vec_len l.ends ≡ l.sink-index;
 }

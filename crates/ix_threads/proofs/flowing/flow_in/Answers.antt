@@ -8,7 +8,7 @@ close_unstarted-requires-clause-joined g c = joined_after c.start_walkers.ensure
 pub returns-then-not-start_walkers : goal.returns-then-not-start_walkers
 returns-then-not-start_walkers g c =
     let e = c.close_unstarted.ensures in
-    flown_of_closed g.S.Sink.events g.S.Sink.failed g.S.Sink.guarantee g.C.Check.checked c.args.shared.now.task.now c.args.sinks.now c.close_unstarted.new.sinks c.close_unstarted.result c.requires.fresh.sized e.closed e.facts e.checks
+    flown_of_closed g.S.Sink.calls g.S.Sink.guarantee g.C.Check.checked c.args.shared.now.task.now c.args.sinks.now c.close_unstarted.new.sinks c.close_unstarted.result c.requires.fresh.sized e.closed e.facts e.checks
 
 pub drain-requires : goal.drain-requires
 drain-requires g c =

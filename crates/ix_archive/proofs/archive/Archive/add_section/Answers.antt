@@ -2,6 +2,7 @@ use Rattle.std.proofs.Common.{◌≡◌, ◌≤◌, ◌<◌, ◌-◌, ◌^◌, [
 use Rattle.std.specs.Prelude.{option_to_list, Some}
 use Rattle.std.proofs.lemmas.List.{length-append}
 use Rattle.ix_archive.specs.Kept.{is_below, kept}
+use Rattle.ix_archive.specs.Archive.{none_known}
 use Rattle.ix_archive.specs.Archiving.{cut_behind, unwritten_block, text_due}
 use Rattle.ix_archive.proofs.Steps.{at-ok, at-err}
 use Rattle.ix_archive.proofs.Tally.{tally-same, tally-failed, tally-section}
@@ -33,11 +34,11 @@ returns-then-taken-length g c =
     let d = c.args.delivery in
     let head = c.as_slice-head.result.now in
     let block = c.bytes-block.result.now in
-    let text : head ++ block ≡ text_due a.store.now a.deliveries d = section-text a.store.now a.deliveries d c.args.place head block (subst (λ v. is_below (cut_behind v.deliveries) d.visit.depth ≡ false) (sym c.self.view_is) c.requires.kept.1)
+    let text : head ++ block ≡ text_due none_known a.store.now a.deliveries d = section-text a.store.now a.deliveries d c.args.place head block (subst (λ v. is_below (cut_behind v.deliveries) d.visit.depth ≡ false) (sym c.self.view_is) c.requires.kept.1)
     (subst (λ v. unwritten_block v.store (kept v.deliveries) d ≡ Some c.args.place) (sym c.self.view_is) c.requires.due) c.bytes-block.ensures
     (c.as_slice-head.ensures.value ∙ at-ok c.set_section_head.result c.is_err.result c.set_section_head.ensures c.is_err.ensures.value c.if-is_err.false) in
     let short : c.write_section-taken.result < length (head ++ block) = omega (arith, length-append head block, c.if-taken-length.true) in
-    rw (← c.self.view_is) (fails-section g.W.Write.contents d a.store.now a.job.value.roots a.deliveries a.deliveries (option_to_list a.failed) (option_to_list a.closed) a.counts.bytes c.saturating_add-self-inside.result c.write_section-taken.result a.writer c.write_section-taken.new.writer (head ++ block) (text_due a.store.now a.deliveries d) refl text short c.write_section-taken.ensures.grown c.saturating_add-self-inside.ensures)
+    rw (← c.self.view_is) (fails-section g.W.Write.contents d a.store.now a.job.value.roots a.deliveries a.deliveries (option_to_list a.failed) (option_to_list a.closed) a.counts.bytes c.saturating_add-self-inside.result c.write_section-taken.result a.writer c.write_section-taken.new.writer (head ++ block) (text_due none_known a.store.now a.deliveries d) refl text short c.write_section-taken.ensures.grown c.saturating_add-self-inside.ensures)
 
 pub invariant_of-self-2 : goal.invariant_of-self-2
 invariant_of-self-2 g c =
@@ -56,10 +57,10 @@ returns g c =
     let d = c.args.delivery in
     let head = c.as_slice-head.result.now in
     let block = c.bytes-block.result.now in
-    let text : head ++ block ≡ text_due a.store.now a.deliveries d = section-text a.store.now a.deliveries d c.args.place head block (subst (λ v. is_below (cut_behind v.deliveries) d.visit.depth ≡ false) (sym c.self.view_is) c.requires.kept.1)
+    let text : head ++ block ≡ text_due none_known a.store.now a.deliveries d = section-text a.store.now a.deliveries d c.args.place head block (subst (λ v. is_below (cut_behind v.deliveries) d.visit.depth ≡ false) (sym c.self.view_is) c.requires.kept.1)
     (subst (λ v. unwritten_block v.store (kept v.deliveries) d ≡ Some c.args.place) (sym c.self.view_is) c.requires.due) c.bytes-block.ensures
     (c.as_slice-head.ensures.value ∙ at-ok c.set_section_head.result c.is_err.result c.set_section_head.ensures c.is_err.ensures.value c.if-is_err.false) in
     let within : c.write_section-taken.result ≤ length (head ++ block) = omega (arith, length-append head block, c.write_section-taken.ensures.within) in
     let whole : length (head ++ block) ≤ c.write_section-taken.result = omega (arith, length-append head block, c.if-taken-length.false) in
-    rw (← c.self.view_is) (adds-section g.W.Write.contents d a.store.now a.job.value.roots a.deliveries c.push.new.self (option_to_list a.failed) (option_to_list a.closed) a.counts.bytes c.saturating_add-self-inside.result c.write_section-taken.result a.writer c.write_section-taken.new.writer (head ++ block) (text_due a.store.now a.deliveries d)
+    rw (← c.self.view_is) (adds-section g.W.Write.contents d a.store.now a.job.value.roots a.deliveries c.push.new.self (option_to_list a.failed) (option_to_list a.closed) a.counts.bytes c.saturating_add-self-inside.result c.write_section-taken.result a.writer c.write_section-taken.new.writer (head ++ block) (text_due none_known a.store.now a.deliveries d)
     (subst (λ v. v.failed ≡ []) (sym c.self.view_is) c.requires.kept.0) c.push.ensures text within whole c.write_section-taken.ensures.grown c.saturating_add-self-inside.ensures)

@@ -2,6 +2,7 @@ use Rattle.std.proofs.Common.{rules, ◌≡◌, false, sym, subst, ◌∙◌}
 use Rattle.std.specs.Prelude.{None}
 use Rattle.ix_check.specs.Verdict.{passes}
 use Rattle.ix_archive.specs.Kept.{is_below, kept}
+use Rattle.ix_archive.specs.ArchiveMeaning.{known_in}
 use Rattle.ix_archive.specs.Archiving.{IsAdded, IsDelivered, cut_behind, unwritten_block}
 use Rattle.ix_archive.proofs.FirstSound.{due-refused, due-repeat}
 use Rattle.ix_archive.proofs.archive.Archive.take.Goals as goal
@@ -12,7 +13,7 @@ returns-in-None g c =
     let d = c.args.delivery in
     let uncut : is_below (cut_behind a.deliveries) d.visit.depth ≡ false = sym c.is_cut_off.ensures ∙ c.if-is_cut_off.false in
     let none : unwritten_block a.store (kept a.deliveries) d ≡ None = sym c.unwritten_block.ensures ∙ c.in-None.is in
-    subst (λ t. IsAdded g.W.Write.contents d t a c.add_without_section.new.self) (sym (due-repeat a.store a.deliveries d uncut none)) c.add_without_section.ensures
+    subst (λ t. IsAdded g.W.Write.contents d t a c.add_without_section.new.self) (sym (due-repeat (known_in a) a.store a.deliveries d uncut none)) c.add_without_section.ensures
 
 pub returns-then-is_cut_off : goal.returns-then-is_cut_off
 returns-then-is_cut_off g c = search rules
@@ -23,4 +24,4 @@ returns-then-not-passes g c =
     let d = c.args.delivery in
     let uncut : is_below (cut_behind a.deliveries) d.visit.depth ≡ false = sym c.is_cut_off.ensures ∙ c.if-is_cut_off.false in
     let refused : passes d.verdict ≡ false = sym c.passes.ensures ∙ c.if-not-passes.true in
-    subst (λ t. IsDelivered g.W.Write.contents d t a c.add_skip.result c.add_skip.new.self) (sym (due-refused a.store a.deliveries d uncut refused)) c.add_skip.ensures
+    subst (λ t. IsDelivered g.W.Write.contents d t a c.add_skip.result c.add_skip.new.self) (sym (due-refused (known_in a) a.store a.deliveries d uncut refused)) c.add_skip.ensures

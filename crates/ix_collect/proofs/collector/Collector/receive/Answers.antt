@@ -3,6 +3,7 @@ use Rattle.std.proofs.lemmas.List.{set-get_or}
 use Rattle.ix_collect.specs.Collected.{IsStray}
 use Rattle.std.proofs.Common.{inl, inr, ℕ, arith, subst, set, rules, ◌≡◌, ◌<◌, ◌≤◌, refl, sym, ◌∙◌, Some, length, get_or, ap, length-set}
 use Rattle.std.proofs.lemmas.Bool.{or_left}
+use Rattle.std.proofs.lemmas.Option.{slice_get_read}
 use Rattle.ix_collect.proofs.Kept.{kept_set, kept_same}
 use Rattle.ix_channels.specs.Received.{job_of}
 use Rattle.ix_collect.proofs.Collecting.{safe_at, safe_set, collected_none, collected_unknown, collected_one, ended_set, closed_at, misplaced_at, is_noted_then, not_fine}
@@ -20,12 +21,15 @@ receive-fine-requires g c =
     let sink = get_or c.args.sinks.now c.in-Some.job c.index-sinks-job.result in
     record {
       safe =
-          safe_at g.S.Sink.events g.S.Sink.failed c.args.self.now.jobs.items c.args.sinks.now c.in-Some.job c.index_mut.result.now sink c.index_mut.ensures.value
+          safe_at g.S.Sink.calls c.args.self.now.jobs.items c.args.sinks.now c.in-Some.job c.index_mut.result.now sink c.index_mut.ensures.value
           (ap (λ (s : g.row.S.Denot). get_or c.args.sinks.now c.in-Some.job s) c.index-sinks-job.is) lt c.requires.may;
+      room =
+          c.requires.room c.in-Some.job c.index_mut.result.now (sym c.job_of.ensures ∙ c.in-Some.is)
+          (slice_get_read c.args.self.now.jobs.items (length c.args.self.now.jobs.items) c.in-Some.job c.index_mut.result.now refl lt c.index_mut.ensures.value);
     }
 
 pub returns-clause-may : goal.returns-clause-may
-returns-clause-may g c = safe_set g.S.Sink.events g.S.Sink.failed c.args.self.now.jobs.items c.args.sinks.now c.in-Some.job c.receive-fine.new.self c.receive-fine.new.sink c.receive-fine.ensures.kept.0 c.requires.may
+returns-clause-may g c = safe_set g.S.Sink.calls c.args.self.now.jobs.items c.args.sinks.now c.in-Some.job c.receive-fine.new.self c.receive-fine.new.sink c.receive-fine.ensures.kept.0 c.requires.may
 
 pub returns-clause-kept : goal.returns-clause-kept
 returns-clause-kept g c =
@@ -43,12 +47,12 @@ returns-clause-collected g c =
     let sink = get_or c.args.sinks.now c.in-Some.job c.index-sinks-job.result in
     let of : job_of c.args.item ≡ Some c.in-Some.job = sym c.job_of.ensures ∙ c.in-Some.is in
     λ store jobs got more i h good len.
-    collected_one g.S.Sink.events g.S.Sink.failed store jobs c.args.item got more c.in-Some.job c.args.self.now.unexpected c.receive-fine.result c.args.self.now.jobs.items _ c.args.sinks.now _
+    collected_one g.S.Sink.calls store jobs c.args.item got more c.in-Some.job c.args.self.now.unexpected c.receive-fine.result c.args.self.now.jobs.items _ c.args.sinks.now _
     c.index_mut.result.now c.receive-fine.new.self sink c.receive-fine.new.sink i of c.index_mut.ensures.value (ap (λ (s : g.row.S.Denot). get_or c.args.sinks.now c.in-Some.job s) c.index-sinks-job.is) lt refl refl c.receive-fine.ensures.received h good
     (sym (length-set c.args.self.now.jobs.items c.in-Some.job c.receive-fine.new.self) ∙ len)
 
 pub returns-in_default-clause-collected : goal.returns-in_default-clause-collected
-returns-in_default-clause-collected g c = λ store jobs got more i h. collected_none g.S.Sink.events g.S.Sink.failed store jobs c.args.item got more c.args.self.now c.args.sinks.now i (sym c.job_of.ensures ∙ c.in_default.is) h
+returns-in_default-clause-collected g c = λ store jobs got more i h. collected_none g.S.Sink.calls store jobs c.args.item got more c.args.self.now c.args.sinks.now i (sym c.job_of.ensures ∙ c.in_default.is) h
 
 pub returns-then-job-len-clause-collected : goal.returns-then-job-len-clause-collected
 returns-then-job-len-clause-collected g c =

@@ -31,7 +31,7 @@ returns-then-not-is_memory-clause-taken c = record {
   sink = search rules;
   under_way = λ all over t u events failed fine a w.
       let at : c.args.self.now.stage ≡ Delivering = search rules in
-      let memory : IsMemory c.in-Err.fault = refused_for_memory all over t u c.args.seq c.args.delivery c.args.self.now events failed c.in-Err.fault fine a w at c.in-Err.ensures.refused.1 in
+      let memory : IsMemory c.in-Err.fault = refused_for_memory all over t u c.args.seq c.args.delivery c.args.self.now events failed c.in-Err.fault fine a w at c.requires.near c.in-Err.ensures.refused.1 in
       absurd (search rules);
 }
 

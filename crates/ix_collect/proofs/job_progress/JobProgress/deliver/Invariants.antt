@@ -9,9 +9,9 @@ use Rattle.ix_collect.proofs.job_progress.JobProgress.deliver.Given as goal
 abbrev pub invariant-loop-alloc : goal.invariant-loop-alloc
 invariant-loop-alloc g l = record {
   end : l.self.end ≡ None;
-  safe : IsSafe l.self (g.S.Sink.events l.sink) (g.S.Sink.failed l.sink);
+  safe : IsSafe l.self (g.S.Sink.calls l.sink).events (g.S.Sink.calls l.sink).failed;
   kept : Keeps g.S.Sink.guarantee l.initial.sink l.sink;
-  under : (all : List Delivery) (over : Bool) (t : Tally) → IsUnderWay all over t l.fn.self (g.S.Sink.events l.initial.sink) (g.S.Sink.failed l.initial.sink) → IsUnderWay all over t l.self (g.S.Sink.events l.sink) (g.S.Sink.failed l.sink);
+  under : (all : List Delivery) (over : Bool) (t : Tally) → IsUnderWay all over t l.fn.self (g.S.Sink.calls l.initial.sink).events (g.S.Sink.calls l.initial.sink).failed → IsUnderWay all over t l.self (g.S.Sink.calls l.sink).events (g.S.Sink.calls l.sink).failed;
 }
 
 abbrev pub decreases-loop-alloc : goal.decreases-loop-alloc

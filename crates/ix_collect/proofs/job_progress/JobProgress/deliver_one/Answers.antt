@@ -8,7 +8,7 @@ pub returns-in-Ok-clause-kept : goal.returns-in-Ok-clause-kept
 returns-in-Ok-clause-kept g c = (
   (
     c.requires.sink.0,
-    safe_on c.args.self.now (g.S.Sink.events c.args.sink.now) (g.S.Sink.events c.deliver.new.self) (g.S.Sink.failed c.args.sink.now) (g.S.Sink.failed c.deliver.new.self) c.in-Some.field-0 c.requires.sink.0 c.requires.sink.1 c.in-Ok.ensures.ok
+    safe_on c.args.self.now (g.S.Sink.calls c.args.sink.now).events (g.S.Sink.calls c.deliver.new.self).events (g.S.Sink.calls c.args.sink.now).failed (g.S.Sink.calls c.deliver.new.self).failed c.in-Some.field-0 c.requires.sink.0 c.requires.sink.1 c.in-Ok.ensures.ok
         c.in-Ok.ensures.ok_failed,
   ),
   c.deliver.ensures.kept,
@@ -16,10 +16,10 @@ returns-in-Ok-clause-kept g c = (
 
 pub returns-in-Ok-clause-handed : goal.returns-in-Ok-clause-handed
 returns-in-Ok-clause-handed g c = λ all over t w.
-    handed_on all over t c.args.self.now c.in-Some.field-0 (g.S.Sink.events c.args.sink.now) (g.S.Sink.events c.deliver.new.self) (g.S.Sink.failed c.args.sink.now) (g.S.Sink.failed c.deliver.new.self)
-    (subst (λ (o : Option Delivery). IsPoppedUnderWay all over t o c.args.self.now (g.S.Sink.events c.args.sink.now) (g.S.Sink.failed c.args.sink.now)) c.in-Some.is w) c.requires.stage c.in-Ok.ensures.ok c.in-Ok.ensures.ok_failed
+    handed_on all over t c.args.self.now c.in-Some.field-0 (g.S.Sink.calls c.args.sink.now).events (g.S.Sink.calls c.deliver.new.self).events (g.S.Sink.calls c.args.sink.now).failed (g.S.Sink.calls c.deliver.new.self).failed
+    (subst (λ (o : Option Delivery). IsPoppedUnderWay all over t o c.args.self.now (g.S.Sink.calls c.args.sink.now).events (g.S.Sink.calls c.args.sink.now).failed) c.in-Some.is w) c.requires.stage c.in-Ok.ensures.ok c.in-Ok.ensures.ok_failed
 
 pub returns-in-Err-Write-clause-handed : goal.returns-in-Err-Write-clause-handed
 returns-in-Err-Write-clause-handed g c = λ all over t w.
-    handed_failed all over t c.args.self.now c.in-Some.field-0 (g.S.Sink.events c.args.sink.now) (g.S.Sink.events c.deliver.new.self) (g.S.Sink.failed c.args.sink.now) (g.S.Sink.failed c.deliver.new.self)
-    (subst (λ (o : Option Delivery). IsPoppedUnderWay all over t o c.args.self.now (g.S.Sink.events c.args.sink.now) (g.S.Sink.failed c.args.sink.now)) c.in-Some.is w) c.in-Err-Write.ensures.err (search rules)
+    handed_failed all over t c.args.self.now c.in-Some.field-0 (g.S.Sink.calls c.args.sink.now).events (g.S.Sink.calls c.deliver.new.self).events (g.S.Sink.calls c.args.sink.now).failed (g.S.Sink.calls c.deliver.new.self).failed
+    (subst (λ (o : Option Delivery). IsPoppedUnderWay all over t o c.args.self.now (g.S.Sink.calls c.args.sink.now).events (g.S.Sink.calls c.args.sink.now).failed) c.in-Some.is w) c.in-Err-Write.ensures.err (search rules)

@@ -3,4 +3,4 @@ use Rattle.ix_archive.specs.ArchiveMeaning.{HasArchived}
 use Rattle.ix_run.proofs.observer.ObservedSink.close.Goals as goal
 
 pub returns-clause-kept : goal.returns-clause-kept
-returns-clause-kept g c = λ store job first h. c.close.ensures.kept store job first (subst (λ a. HasArchived g.W.Write.contents a store job first) (sym c.self.view_is) h)
+returns-clause-kept g c = λ about store job first h. c.close.ensures.kept about store job first (subst (λ a. HasArchived g.W.Write.contents a about store job first) (sym c.self.view_is) h)

@@ -9,4 +9,4 @@ pub returns-clause-refused : goal.returns-clause-refused
 returns-clause-refused g c = search rules
 
 pub returns-clause-kept : goal.returns-clause-kept
-returns-clause-kept g c = λ store job first h. c.deliver-taken.ensures.kept store job first (subst (λ a. HasArchived g.W.Write.contents a store job first) (sym c.self.view_is) h)
+returns-clause-kept g c = λ about store job first h. c.deliver-taken.ensures.kept about store job first (subst (λ a. HasArchived g.W.Write.contents a about store job first) (sym c.self.view_is) h)

@@ -11,13 +11,13 @@ loop-init g c =
     let sinks = c.args.sinks.now in
     let fresh = c.requires.sinks in
     let unused = c.requires.unused in
-    gathers_none g.S.Sink.events g.S.Sink.failed g.S.Sink.guarantee c.args.self.now sinks (
+    gathers_none g.S.Sink.calls g.S.Sink.guarantee c.args.self.now sinks (
       record { sinks = fresh.sized; may = law.may collector sinks fresh.sized unused.0 fresh.fresh },
-      subst (λ (got : List Verdicted). HasCollected g.S.Sink.events g.S.Sink.failed got collector sinks) (sym unused.1) (law.collected collector sinks fresh.sized unused.0 fresh.fresh),
+      subst (λ (got : List Verdicted). HasCollected g.S.Sink.calls got collector sinks) (sym unused.1) (law.collected collector sinks fresh.sized unused.0 fresh.fresh),
     )
 
 pub loop-preserved : goal.loop-preserved
 loop-preserved g c =
     let e = c.poll_lanes-received.ensures in
-    gathers_more g.S.Sink.events g.S.Sink.failed g.S.Sink.guarantee c.args.self.now c.loop.self _ c.as_mut_slice.result.now c.poll_lanes-received.new.lanes c.args.sinks.now c.loop.sinks c.poll_lanes-received.new.sinks
+    gathers_more g.S.Sink.calls g.S.Sink.guarantee c.args.self.now c.loop.self _ c.as_mut_slice.result.now c.poll_lanes-received.new.lanes c.args.sinks.now c.loop.sinks c.poll_lanes-received.new.sinks
     c.loop.invariant (search rules) c.as_mut_slice.ensures.value (c.poll_lanes-received.auto.lanes ∙ c.as_mut_slice.ensures.len) refl e.lanes e.collected

@@ -109,7 +109,7 @@ returns-clause-prepared g c =
       caller = record {
         unstarted = h.unstarted;
         claimers = subst (λ (l : List (SeatMeaning JobView)). All (IsOfClaims claims) l) (sym claimers) (All-replicate (IsOfClaims claims) c.args.plan.walkers _ refl);
-        limits = All-weaker IsJob (λ job. job.limit ≤ 1000000) (λ job is. is.bounded) jobs (subst (All IsJob) c.deref.ensures.value c.each_is_job.ensures);
+        limits = All-weaker IsJob (λ job. job.limit ≤ 4294967295) (λ job is. is.bounded) jobs (subst (All IsJob) c.deref.ensures.value c.each_is_job.ensures);
         stop = (let made = c.in_ok-parts.ensures.stop in rw stop (search rules));
         room = subst (λ (n : ℕ). HasRoom n (vec_len caller.unstarted) caller) many (subst (λ (k : ℕ). HasRoom c.len-count.result k caller) full (room_same c.in_ok-caller.ensures.room h.rest));
       };

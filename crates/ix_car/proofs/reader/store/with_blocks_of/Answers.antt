@@ -1,4 +1,4 @@
-use Rattle.std.proofs.Common.{◌≡◌, ◌<◌, ◌≤◌, ◌+◌, ◌-◌, ◌++◌, ◌∙◌, List, [], ℕ, length, arith, rules, sym, ap, subst}
+use Rattle.std.proofs.Common.{◌≡◌, ◌<◌, ◌≤◌, ◌+◌, ◌-◌, ◌++◌, ◌∙◌, List, ℕ, length, arith, rules, sym, ap, subst}
 use Rattle.std.specs.Arc.{arc_value}
 use Rattle.std.proofs.lemmas.List.{length-append}
 use Rattle.std.proofs.lemmas.Result.{err_from_is_err_and}
@@ -8,20 +8,20 @@ use Rattle.ix_car.specs.Reads.{IsEnd}
 use Rattle.ix_car.specs.Reading.{sections_at}
 use Rattle.ix_car.proofs.Sections.{GoesOn-first, GoesOn-more, GoesOn-fails, GoesOn-last, end-of-end, end-behind, end-within, PartsStand, parts-stand, HasFile, file-taken, section-of}
 use Rattle.ix_car.proofs.SectionLists.{FailsAs-of}
-use Rattle.ix_car.proofs.reader.store.blocks_of_sections.Goals as goal
+use Rattle.ix_car.proofs.reader.store.with_blocks_of.Goals as goal
 
 pub loop-rest-init : goal.loop-rest-init
 loop-rest-init g c = record {
   within = omega arith;
   end = c.requires.0;
-  file = file-taken c.new-builder.result.files c.take_file.new.self.files c.in-Ok.number (arc_value c.args.file.now).items (ap (λ t. t.files) c.in-Ok.ensures.taken) c.in-Ok.ensures.number;
-  goes_on = rw (ap (λ t. t.pairs) c.in-Ok.ensures.taken ∙ c.new-builder.ensures) (GoesOn-first c.args.sections.now);
+  file = file-taken c.args.builder.files c.take_file.new.self.files c.in-Ok.number (arc_value c.args.file.now).items (ap (λ t. t.files) c.in-Ok.ensures.taken) c.in-Ok.ensures.number;
+  goes_on = rw (ap (λ t. t.pairs) c.in-Ok.ensures.taken) (GoesOn-first c.args.builder.pairs c.args.sections.now);
 }
 
 pub returns-in_err-cid : goal.returns-in_err-cid
 returns-in_err-cid g c =
     let p = err_from_is_err_and c.from_residual.result c.from_residual.ensures.1 in
-    let whole = sections_at (length c.args.sections.now) [] c.args.sections.now in
+    let whole = sections_at (length c.args.sections.now) c.args.builder.pairs c.args.sections.now in
     let some : 0 < length c.loop-rest.rest.now = search rules in
     rw (p.1, p.2) (
       FailsAs-of c.in_err-cid.field-0.0.kind c.in_err-cid.field-0.0.left whole
@@ -65,7 +65,7 @@ add_section-requires g c =
 
 pub loop-rest-preserved : goal.loop-rest-preserved
 loop-rest-preserved g c =
-    let whole = sections_at (length c.args.sections.now) [] c.args.sections.now in
+    let whole = sections_at (length c.args.sections.now) c.args.builder.pairs c.args.sections.now in
     let some : 0 < length c.loop-rest.rest.now = search rules in
     let file = (arc_value c.args.file.now).items in
     let cid = c.in_ok-cid.cid in
@@ -92,6 +92,6 @@ loop-rest-preserved g c =
 
 pub returns : goal.returns
 returns g c =
-    let whole = sections_at (length c.args.sections.now) [] c.args.sections.now in
+    let whole = sections_at (length c.args.sections.now) c.args.builder.pairs c.args.sections.now in
     let none : length c.loop-rest.rest.now ≡ 0 = search rules in
     (GoesOn-last c.loop-rest.builder.pairs c.loop-rest.rest.now whole none c.loop-rest.invariant.goes_on, tt)
