@@ -1,8 +1,9 @@
 /* ix_export.h: the exporter of content graphs, for C. See docs/EMBEDDING.md for its use.
  *
  * GUARANTEES. A call that returns uint32_t returns a status (below). It starts no thread, never waits and
- * never ends the process. If memory runs out, the status is IX_MEMORY and each handle keeps its contents. If
- * the status isn't IX_DONE, what the other pointers lead to is unchanged.
+ * never ends the process. If memory runs out, the status is IX_MEMORY and each handle keeps its contents; an
+ * open store into which a file is read may have more blocks then (ix_store_read_car). If the status isn't
+ * IX_DONE, what the other pointers lead to is unchanged.
  *
  * PRECONDITIONS, which the calls can't check:
  *  - A handle is initialized to IX_EMPTY, and only the calls below write it. It isn't copied: using a copy
@@ -44,7 +45,7 @@ typedef struct ix_handle {
 /* Statuses. */
 enum {
   IX_DONE = 0,    /* success */
-  IX_MEMORY = 1,  /* memory ran out; nothing is changed */
+  IX_MEMORY = 1,  /* memory ran out; nothing is changed (but see ix_store_read_car) */
   IX_REFUSED = 2, /* the input is rejected; the handle to be filled has the line that says why (IX_TEXT) */
   IX_HANDLE = 3,  /* a handle is empty or has other contents than the call needs; nothing is changed */
   IX_KNOWN = 4,   /* there is already a block under the CID, which stays */
@@ -81,7 +82,9 @@ typedef struct ix_skip {
   uint32_t why;
 } ix_skip;
 
-/* Returns the version of this interface, which grows with each added call: 2. */
+/* Returns the version of this interface, which grows with each added call and each change of one: 4. From 4 on
+ * there are ix_job_without and ix_result_known; from 3 on ix_store_read_car adds to an open store, which it replaced
+ * before. */
 uint32_t ix_version(void);
 
 /* Frees the contents of a handle, which is then empty. The other three are the same call, named by the contents. */
@@ -93,7 +96,11 @@ void ix_result_free(ix_handle *result);
 /* Fills a handle with an open store without blocks, and frees what it had before. IX_DONE, IX_MEMORY. */
 uint32_t ix_store_new(ix_handle *store);
 
-/* Fills a handle with an open store of the blocks of a CARv1 file, which is copied. IX_DONE, IX_MEMORY, IX_REFUSED. */
+/* Adds copies of the blocks of a CARv1 file to an open store. A handle with other contents, a frozen store too, is
+ * filled with an open store of the file's blocks. So a store is filled from several files: it has the blocks of all their
+ * sections put end to end, after those that were added before, and of blocks with one CID the first, whatever its bytes.
+ * IX_REFUSED: the handle has the line that says why, and the store is freed. IX_MEMORY: an open store has its blocks, and
+ * maybe those of the file's first sections; the rest follow if the file is read again. IX_DONE, IX_MEMORY, IX_REFUSED. */
 uint32_t ix_store_read_car(ix_handle *store, const uint8_t *car, size_t car_length);
 
 /* Adds a copy of a block to an open store under its CID, unless there is one. Whether its hash matches the
@@ -119,6 +126,13 @@ uint32_t ix_job_new(ix_handle *job, const uint8_t *roots, size_t roots_length, c
  * archive is the same if both are within the limit, and there are fewer visits. IX_DONE, IX_HANDLE. */
 uint32_t ix_job_once(ix_handle *job);
 
+/* Makes a job leave out what its receiver has: a block that is sound in the base, a frozen store, has no section in the
+ * archive. Visits and skips are as without a base, and ix_result_known says how many blocks are left out. The job shares the
+ * base, whose handle may be freed; a second call replaces the base. Each export looks up every block of its store in the base,
+ * and hashes those that it finds there, each at most once for a base. A receiver that reads the archive into a store and then
+ * the file of the base has what restores the whole archive. IX_DONE, IX_MEMORY, IX_HANDLE. */
+uint32_t ix_job_without(ix_handle *job, ix_handle *base);
+
 /* Fills a handle with a text: the hex of the selector of a JSON text, which is the last field of a job's line.
  * ix_bytes reads it (IX_TEXT). IX_DONE, IX_MEMORY, IX_REFUSED. */
 uint32_t ix_selector_from_json(ix_handle *text, const uint8_t *json, size_t json_length);
@@ -132,6 +146,10 @@ uint32_t ix_result_end(ix_handle *result, uint32_t *end);
 
 /* Gets how the job of a result ended, and its counts. IX_DONE, IX_HANDLE. */
 uint32_t ix_result_counts(ix_handle *result, ix_counts *counts);
+
+/* Gets how many sound blocks a result's archive leaves out since the base has them, each counted once: 0 for a job without a
+ * base. IX_DONE, IX_HANDLE. */
+uint32_t ix_result_known(ix_handle *result, uint32_t *known);
 
 /* Gets the address and length of a result's archive. It may be read, and stays there until the handle is filled or
  * freed. IX_DONE, IX_HANDLE. */

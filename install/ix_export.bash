@@ -17,7 +17,7 @@ _ix_export() {
     esac
   done
   case $before in
-    --blocks | --jobs)
+    --blocks | --jobs | --with | --without | --without-list)
       mapfile -t COMPREPLY < <(compgen -f -- "$word")
       compopt -o filenames 2>/dev/null
       return
@@ -36,14 +36,14 @@ _ix_export() {
     --root | --selector | --selector-hex | --limit | --max-limit | --cid | --hex | --part | --max-input) return ;;
   esac
   case $command in
-    get) it='--blocks --root --selector --selector-hex --limit --every-arrival --out -o --walkers --verifiers --max-input --carv2 --sync --no-sync --progress --quiet -q --help -h' ;;
-    jobs) it='--blocks --jobs --out -o --part --max-limit --walkers --verifiers --max-input --carv2 --once --sync --complete --progress --quiet -q --verbose -v --help -h' ;;
+    get) it='--blocks --root --selector --selector-hex --limit --every-arrival --without --without-list --out -o --walkers --verifiers --max-input --carv2 --prefer-sound --sync --no-sync --progress --quiet -q --help -h' ;;
+    jobs) it='--blocks --jobs --out -o --part --without --without-list --max-limit --walkers --verifiers --max-input --carv2 --prefer-sound --once --sync --complete --progress --quiet -q --verbose -v --help -h' ;;
     job) it='--max-limit --help -h' ;;
     check-jobs) it='--max-limit --max-input --help -h' ;;
     selector) it='--hex --help -h' ;;
     root) it='--cid --max-input --verbose -v --help -h' ;;
-    inspect) it='--list --max-input --carv2 --help -h' ;;
-    verify) it='--blocks-only --all --verifiers --max-input --carv2 --help -h' ;;
+    inspect) it='--list --cids --max-input --carv2 --help -h' ;;
+    verify) it='--with --prefer-sound --blocks-only --all --verifiers --max-input --carv2 --help -h' ;;
     *) it='get jobs job check-jobs selector root inspect verify --help -h --version -V' ;;
   esac
   case $command in

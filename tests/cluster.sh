@@ -2,7 +2,7 @@
 # Runs the scripts of examples/cluster over Slurm, by hand: four nodes on this host, over loopback alone, are started and
 # stopped here. 2,500 jobs by eight tasks, of which one is started again by Slurm while it runs and one is cancelled and then
 # submitted again, must give the archives and the report of single runs over pieces of a thousand jobs, and so must 3 and 7
-# parts without an engine. It takes one to five minutes. Ends with status 1 at the first that is wrong, and with 0 and a line
+# parts without an engine. A thousand jobs by root, over the files that they need, must give those of a run over all files. It takes one to five minutes. Ends with status 1 at the first that is wrong, and with 0 and a line
 # that says so where Slurm isn't installed.
 #
 #   apt-get install --no-install-recommends slurmctld slurmd slurm-client munge
@@ -179,6 +179,29 @@ took=$SECONDS
 [ -e out/report ] || fail "no report: $(cat out/parts/log.*)"
 is_wanted out "$(cat out/status)"
 
+# By root: each task loads only the files that name a root of its jobs.
+mkdir files wanted-by-root
+given=()
+for root in $(sed -n 's/^[a-z-]* \([^ ]*\) .*/\1/p' "$top/examples/library.jobs" | tr , '\n' | sort -u); do
+  "$program" get --blocks "$blocks" --root "$root" --out "files/$root.car" 2>/dev/null || [ $? -eq 3 ]
+  given+=(--blocks "files/$root.car")
+done
+head -n 1000 jobs >some-jobs
+count=$(IX_EXPORT=$program "$cluster/by-root" some-jobs groups files/*.car)
+[ "$count" -gt 1 ] || fail "$count groups"
+status=0
+"$program" jobs "${given[@]}" --jobs groups/jobs --out wanted-by-root >wanted-by-root.report || status=$?
+[ "$status" -eq 4 ] || fail "a single run over several files ended with $status"
+read -r _ array _ merge <<<"$(IX_EXPORT=$program "$cluster/submit" groups groups/jobs out-by-root "$count")"
+ended "$array"
+ended "$merge"
+[ -e out-by-root/report ] || fail "no report: $(cat out-by-root/parts/log.*)"
+cmp wanted-by-root.report out-by-root/report || fail 'by root: another report'
+[ "$(cat out-by-root/status)" = 4 ] || fail "by root: status $(cat out-by-root/status)"
+mkdir out-by-root/archives
+mv out-by-root/*.car out-by-root/archives/
+diff -rq wanted-by-root out-by-root/archives || fail 'by root: other archives'
+
 # A faulty job file is rejected before anything is queued.
 { cat jobs && head -n 1 jobs; } >twice
 status=0
@@ -187,4 +210,4 @@ IX_EXPORT=$program "$cluster/submit" "$blocks" twice out-2 8 2>told || status=$?
 status=0
 IX_EXPORT=$program "$cluster/submit" "$blocks" jobs out-3 2 2>told || status=$?
 [ "$status" -eq 2 ] && grep -Fxq 'submit: a part has at most 1000 jobs, so 2500 want 3 tasks' told || fail "submit told $(cat told)"
-echo "tests/cluster.sh: 2,500 jobs by 3 and 7 parts, and by 8 tasks of Slurm on four nodes in $took s, one requeued and one cancelled: as by single runs"
+echo "tests/cluster.sh: 2,500 jobs by 3 and 7 parts, and by 8 tasks of Slurm on four nodes in $took s, one requeued and one cancelled, and a thousand by root: as by single runs"

@@ -99,6 +99,11 @@ run_c() {
   clean ./export "$top/examples/library.car" "$top/examples/library.jobs" out >report || fail 'the example in C'
   cmp report report.wanted || fail 'the report of the example in C'
   has_archives out
+  mkdir of-two
+  clean ./export "$top/examples/expected/front.car" "$top/examples/library.car" "$top/examples/library.jobs" of-two >report ||
+    fail 'the example in C, over two files'
+  cmp report report.wanted || fail 'the report of the example in C, over two files'
+  has_archives of-two
   ran="$ran, the example in C"
 }
 
@@ -123,7 +128,20 @@ run_python() {
   run_python_on total.jobs total.wanted
   run_python_on "$top/examples/library.jobs" report.wanted
   sha256sum "$top"/examples/expected/*.car | cut -d' ' -f1 | sort | cmp - sums || fail 'the archives of the example in Python'
+  run_differences
   ran="$ran, in Python"
+}
+
+# The example in Python with a base: each archive is the whole without the sections of the base's file, and the whole is restored.
+run_differences() {
+  local base=$top/examples/expected/front.car file
+  python3 "$top/examples/python/export.py" ./libix_export.so "$top/examples/library.car" "$top/examples/library.jobs" "$base" >told ||
+    fail 'the differences of the example in Python'
+  sed -n 's/^  restored //p' told | sort | cmp - sums || fail 'what the example in Python restores'
+  for file in "$top"/examples/expected/*.car; do
+    parts_of "$file" without "$base" | sha256sum | cut -d' ' -f1
+  done | sort >wanted
+  sed -n 's/^  archive //p' told | sort | cmp - wanted || fail 'the differences of the example in Python'
 }
 
 run_rust() {
@@ -146,26 +164,34 @@ run_installed() {
     $(PKG_CONFIG_PATH=$prefix/lib/pkgconfig pkg-config --cflags --libs ix_export) -o front || exit 2
   root=$(sed -n 's/^whole \([^ ]*\) .*/\1/p' "$top/examples/library.jobs")
   clean ./front "$root" <"$top/examples/library.car" >front.car || fail 'the program of docs/EMBEDDING.md'
-  front_of "$top/examples/expected/whole.car" | cmp - front.car || fail 'the archive of docs/EMBEDDING.md'
+  parts_of "$top/examples/expected/whole.car" front | cmp - front.car || fail 'the archive of docs/EMBEDDING.md'
   ran="$ran, the program of docs/EMBEDDING.md"
 }
 
-# The front of an archive: its header and its first section, each after its length.
-front_of() {
-  python3 - "$1" <<'PY'
+# parts_of ARCHIVE front: its header and its first section, each after its length.
+# parts_of ARCHIVE without BASE: its header, and its sections that the base doesn't have.
+parts_of() {
+  python3 - "$@" <<'PY'
 import sys
 
-data, at = open(sys.argv[1], "rb").read(), 0
-for _ in range(2):
-    length = shift = 0
-    while True:
-        byte = data[at]
-        length |= (byte & 127) << shift
-        at, shift = at + 1, shift + 7
-        if byte < 128:
-            break
-    at += length
-sys.stdout.buffer.write(data[:at])
+
+def parts(path):
+    data, at = open(path, "rb").read(), 0
+    while at < len(data):
+        start, length, shift = at, 0, 0
+        while True:
+            byte = data[at]
+            length |= (byte & 127) << shift
+            at, shift = at + 1, shift + 7
+            if byte < 128:
+                break
+        at += length
+        yield data[start:at]
+
+
+header, *sections = parts(sys.argv[1])
+had = set(parts(sys.argv[3])) if sys.argv[2] == "without" else sections[1:]
+sys.stdout.buffer.write(header + b"".join(it for it in sections if it not in had))
 PY
 }
 

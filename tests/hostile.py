@@ -679,6 +679,16 @@ def small_sections(runner):
     if max(peaks.values()) > 1.1 * peaks["jobs"]:
         raise Wrong(f"{len(car)} bytes of small sections took {peaks}")
 
+def told_memory(runner):
+    """`jobs` takes what `inspect` says of a file at most, and no less than two thirds of it."""
+    car = NO_ROOTS + b"".join(section(cid(RAW, b"%d" % number), b"%d" % number) for number in range(500_000))
+    (runner.room / "told.car").write_bytes(car)
+    done = subprocess.run([PROGRAM, "inspect", "told.car"], cwd=runner.room, capture_output=True, text=True, check=True)
+    most = int(done.stdout.split("\nmemory ")[1])
+    told = measured_words(runner, ["jobs", "--blocks", "told.car", "--jobs", "no-jobs.txt", "--out", "no-archives"])
+    if told["status"] != 0 or not most * 2 / 3 <= told["peak"] <= most:
+        raise Wrong(f"inspect says that 500,000 sections take {most} of memory at most, and they took {told['peak']}")
+
 
 def verified(runner, car, status, line):
     """The command `verify` ends with this status, the first of at most 22 lines says this of the file, and it takes no more
@@ -797,6 +807,7 @@ PARTS = (
     long_selector,
     long_line,
     small_sections,
+    told_memory,
     root_named_often,
     roots_with_one_graph,
 )

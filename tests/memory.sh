@@ -174,7 +174,21 @@ for ((set = 0; set < 4; set++)); do
   [ "$status" = "$([ "$set" = 0 ] && echo 3 || echo 4)" ] || fail 'another status'
 done
 each_request judge_get "${words[@]}" --out out/a.car
+each_request judge_get "${words[@]}" --prefer-sound --out out/a.car
 each_request judge_stream "${words[@]}"
+
+# The same without the album, which the receiver has, and without that and a listed block: the root's is in both.
+mkdir without
+head -c 59 "$wanted" >without/album.car
+tail -c +596 "$wanted" >>without/album.car
+head -c 59 "$wanted" | cat - <(tail -c +729 "$wanted") >without/both.car
+echo bafyreiba4bgu3t2znasd3gpb5ud3fojceen4lylgpjp644afvp2bi4qd7u >list.txt
+words+=(--without "$top/examples/expected/album.car")
+wanted=without/album.car
+each_request judge_get "${words[@]}" --out out/a.car
+each_request judge_stream "${words[@]}"
+wanted=without/both.car
+each_request judge_get "${words[@]}" --without-list list.txt --out out/a.car
 
 # A list of two links, of which the first is to a damaged block: one job over it, and three.
 write_blocks "$(section "$fork_cid" "$fork")" "$(section "$with_zero_cid" "$with_one")" "$one_blocks"

@@ -1,4 +1,4 @@
-/* Four threads export jobs over one store: usage: export FILE.car FILE.jobs FOLDER
+/* Four threads export jobs over one store: usage: export FILE.car.. FILE.jobs FOLDER
  *
  * Each archive is written to FOLDER/NAME.car, and the reports are printed in the order of the jobs. */
 #include <ix_export.h>
@@ -82,19 +82,22 @@ static void write_archive(job *it, const char *folder) {
 }
 
 int main(int count, char **words) {
-  if (count != 4) fail("usage: export FILE.car FILE.jobs FOLDER");
+  if (count < 4) fail("usage: export FILE.car.. FILE.jobs FOLDER");
   static job jobs[MOST_JOBS];
   static worker workers[THREADS];
   size_t car_length, list_length, job_count = 0;
-  char *car = whole_file(words[1], &car_length), *list = whole_file(words[2], &list_length);
+  char *list = whole_file(words[count - 2], &list_length);
   list[list_length] = 0;
 
   ix_handle store = IX_EMPTY;
-  if (ix_store_read_car(&store, (const uint8_t *)car, car_length) != IX_DONE) {
-    print_bytes(ix_fault_line, &store, stderr, NULL);
-    fail(" no store");
+  for (int i = 1; i < count - 2; i++) {
+    char *car = whole_file(words[i], &car_length);
+    if (ix_store_read_car(&store, (const uint8_t *)car, car_length) != IX_DONE) {
+      print_bytes(ix_fault_line, &store, stderr, NULL);
+      fail(" no store");
+    }
+    free(car);
   }
-  free(car);
   if (ix_store_freeze(&store) != IX_DONE) fail("memory");
 
   for (char *line = strtok(list, "\n"); line; line = strtok(NULL, "\n"))
@@ -111,7 +114,7 @@ int main(int count, char **words) {
   for (size_t i = 0; i < job_count; i++) {
     if (jobs[i].status == IX_DONE) {
       print_bytes(ix_result_report, &jobs[i].result, stdout, "total ");
-      write_archive(&jobs[i], words[3]);
+      write_archive(&jobs[i], words[count - 1]);
     } else {
       print_bytes(ix_fault_line, &jobs[i].result, stdout, NULL);
       printf(" status %u\n", jobs[i].status);

@@ -1,7 +1,10 @@
 #!/usr/bin/env python3
 """Exports the jobs of a job file over a CARv1 file, and prints the reports and the SHA-256 of each archive.
 
-usage: export.py LIBRARY.so FILE.car FILE.jobs"""
+Given a base, a file of what the receiver has, each archive is a difference: it leaves out what is sound in the base. From it
+and the base the whole archive is restored, as the receiver does, and its SHA-256 is printed too.
+
+usage: export.py LIBRARY.so FILE.car FILE.jobs [BASE.car]"""
 import ctypes
 import hashlib
 import pathlib
@@ -37,14 +40,26 @@ class Library:
     def of_bytes(self, call, given):
         return self.filled(call, ctypes.c_char_p(given), ctypes.c_size_t(len(given)))
 
-    def store(self, car):
-        store = self.of_bytes(self.calls.ix_store_read_car, car)
-        if self.calls.ix_store_freeze(ctypes.byref(store)) != DONE:
-            raise MemoryError
-        return store
+    def store(self, first, *others):
+        """A store of the blocks of CARv1 files, of which the first of each CID counts."""
+        store = self.of_bytes(self.calls.ix_store_read_car, first)
+        for car in others:
+            self.changed(self.calls.ix_store_read_car, store, ctypes.c_char_p(car), ctypes.c_size_t(len(car)))
+        return self.changed(self.calls.ix_store_freeze, store)
+
+    def changed(self, call, handle, *words):
+        """The handle after a call that changes what it has."""
+        if call(ctypes.byref(handle), *words) != DONE:
+            line = self.bytes(self.calls.ix_fault_line, handle).decode()
+            raise Refused(line or "no memory")
+        return handle
 
     def job(self, line):
         return self.of_bytes(self.calls.ix_job_from_line, line)
+
+    def leave_out(self, job, base):
+        """Makes a job leave out what is sound in a base."""
+        self.changed(self.calls.ix_job_without, job, ctypes.byref(base))
 
     def export(self, store, job):
         return self.filled(self.calls.ix_export, ctypes.byref(store), ctypes.byref(job))
@@ -67,19 +82,35 @@ class Library:
             self.calls.ix_free(ctypes.byref(handle))
 
 
-def main(path, car, jobs):
+def restored(library, line, difference, base):
+    """The whole archive, as a receiver makes it of the difference and of what it has."""
+    store, job = library.store(difference, base), library.job(line)
+    out = library.export(store, job)
+    archive = library.archive(out)
+    library.free(store, job, out)
+    return archive
+
+
+def main(path, car, jobs, base=None):
     library = Library(path)
     store = library.store(pathlib.Path(car).read_bytes())
+    had = base and pathlib.Path(base).read_bytes()
+    receiver = library.store(had) if base else Handle()
     for line in pathlib.Path(jobs).read_bytes().splitlines():
         if not line or line.startswith(b"#"):
             continue
         job = library.job(line)
+        if base:
+            library.leave_out(job, receiver)
         out = library.export(store, job)
+        archive = library.archive(out)
         # The last line has the sums; a job may be called "total" too.
         print(*library.report(out).decode().splitlines()[:-1], sep="\n")
-        print("  archive", hashlib.sha256(library.archive(out)).hexdigest())
+        print("  archive", hashlib.sha256(archive).hexdigest())
+        if base:
+            print("  restored", hashlib.sha256(restored(library, line, archive, had)).hexdigest())
         library.free(job, out)
-    library.free(store)
+    library.free(store, receiver)
 
 
 if __name__ == "__main__":

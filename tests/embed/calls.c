@@ -42,11 +42,19 @@ _Static_assert(sizeof(ix_handle) == 16 && sizeof(ix_counts) == 32 && sizeof(ix_s
 #define INNER_CID \
   "\x01\x71\x12\x20\x21\xe2\x88\xdd\x95\xd2\x0c\x03\x22\x7d\xc4\xc4\x49\xb3\xa8\x88\x5f\xcb\x42\x0f\x61\x41\x35\x14" \
   "\x24\x35\xf3\xb3\x3b\x42\x88\x32"
+#define INNER_ARCHIVE HEADER_OF(INNER_CID) "\x4e" INNER_CID INNER "\x27" ABC_CID "abc"
 #define OUTER "\x82" LINK_TO(INNER_CID) LINK_TO(INNER_CID)
 #define OUTER_CID \
   "\x01\x71\x12\x20\xcd\xa8\xfb\xc6\x6c\xb5\x95\xcf\x39\xe0\xd0\x82\xac\x70\x25\x97\xd7\x54\xbb\x15\x66\x1e\xde\x9c" \
   "\xd7\x04\x55\xee\x41\x96\x72\xa7"
 #define OUTER_ARCHIVE HEADER_OF(OUTER_CID) "\x77" OUTER_CID OUTER "\x4e" INNER_CID INNER "\x27" ABC_CID "abc"
+
+/* The archives of the outer list that leave out the inner one and abc, and the inner one alone. */
+#define OUTER_ALONE HEADER_OF(OUTER_CID) "\x77" OUTER_CID OUTER
+#define OUTER_AND_ABC OUTER_ALONE "\x27" ABC_CID "abc"
+
+/* A file with other bytes under the CID of abc, and with the list of a link to it. */
+#define OTHER_FILE HEADER "\x27" ABC_CID "abd" "\x4e" INNER_CID INNER
 
 void *__real_malloc(size_t size);
 void *__real_realloc(void *old, size_t size);
@@ -192,6 +200,89 @@ static void goes_in_once(void) {
   ix_store_free(&store), ix_job_free(&job), ix_result_free(&out);
 }
 
+/* A store of one or two files, frozen. */
+static ix_handle store_of(const char *first, size_t first_length, const char *second, size_t second_length) {
+  ix_handle store = IX_EMPTY;
+  EXPECT(ix_store_read_car(&store, bytes(first), first_length) == IX_DONE);
+  if (second_length) EXPECT(ix_store_read_car(&store, bytes(second), second_length) == IX_DONE);
+  EXPECT(ix_store_freeze(&store) == IX_DONE);
+  return store;
+}
+
+#define STORE_OF(first, second) store_of(first, sizeof(first) - 1, second, sizeof(second) - 1)
+
+/* Exports the job over the store without the blocks of a base, whose own handle is freed before; the receiver, which reads the
+ * difference and then the base's file, has the whole archive. */
+static void expect_difference(ix_handle *store, ix_handle *job, ix_handle *whole_job, const char *base_file, size_t base_length,
+                              const char *wanted, size_t length, const ix_counts *counts, uint32_t known) {
+  ix_handle base = store_of(base_file, base_length, "", 0), out = IX_EMPTY, restored;
+  ix_counts had;
+  uint32_t count = 9;
+  EXPECT(ix_job_without(job, &base) == IX_DONE && base.is_held);
+  ix_store_free(&base);
+  EXPECT(ix_export(store, job, &out) == IX_DONE);
+  expect_named(ix_result_archive, &out, wanted, length);
+  EXPECT(ix_result_counts(&out, &had) == IX_DONE && !memcmp(&had, counts, sizeof had));
+  EXPECT(ix_result_known(&out, &count) == IX_DONE && count == known);
+  restored = store_of(wanted, length, base_file, base_length);
+  EXPECT(ix_export(&restored, whole_job, &out) == IX_DONE);
+  EXPECT_NAMED(ix_result_archive, &out, OUTER_ARCHIVE);
+  EXPECT(ix_result_known(&out, &count) == IX_DONE && count == 0);
+  ix_store_free(&restored), ix_result_free(&out);
+}
+
+#define EXPECT_DIFFERENCE(job, file, wanted, counts, known) \
+  expect_difference(&store, job, &whole_job, BASE(file), wanted, sizeof(wanted) - 1, counts, known)
+#define BASE(file) file, sizeof(file) - 1
+
+/* The base has the inner list and abc, sound; or abc damaged, which is then sent again; or nothing of the job. */
+static void leaves_out_what_is_known(void) {
+  ix_handle store = STORE_OF(OUTER_ARCHIVE, ""), job = IX_EMPTY, whole_job = IX_EMPTY, out = IX_EMPTY, empty = IX_EMPTY;
+  ix_handle open = store_of_abc();
+  ix_counts counts = {IX_END_DONE, 5, 5, 1, sizeof OUTER_ALONE - 1, 0};
+  EXPECT(ix_job_new(&job, BYTES(OUTER_CID), BYTES(ALL), 100) == IX_DONE);
+  EXPECT(ix_job_new(&whole_job, BYTES(OUTER_CID), BYTES(ALL), 100) == IX_DONE);
+  EXPECT_DIFFERENCE(&job, INNER_ARCHIVE, OUTER_ALONE, &counts, 2);
+  EXPECT(ix_export(&store, &job, &out) == IX_DONE);
+  EXPECT_PART(&out, IX_REPORT, "job done visits=5 kept=5 sections=1 bytes=179 known=2\ntotal jobs=1 done=1 skips=0\n");
+  EXPECT(ix_job_without(&job, &open) == IX_HANDLE && ix_job_without(&job, &empty) == IX_HANDLE && !empty.is_held);
+  EXPECT(ix_job_without(&job, &whole_job) == IX_HANDLE && ix_job_without(&empty, &store) == IX_HANDLE && !empty.is_held);
+  EXPECT(ix_job_without(&open, &store) == IX_HANDLE && ix_job_without(&out, &store) == IX_HANDLE);
+  EXPECT(ix_job_once(&job) == IX_DONE && ix_export(&store, &job, &out) == IX_DONE);
+  EXPECT_NAMED(ix_result_archive, &out, OUTER_ALONE);
+  EXPECT(ix_result_counts(&out, &counts) == IX_DONE && counts.visits == 4 && counts.kept == 4 && counts.sections == 1);
+  EXPECT(ix_job_new(&job, BYTES(OUTER_CID), BYTES(ALL), 100) == IX_DONE);
+  counts = (ix_counts){IX_END_DONE, 5, 5, 2, sizeof OUTER_AND_ABC - 1, 0};
+  EXPECT_DIFFERENCE(&job, OTHER_FILE, OUTER_AND_ABC, &counts, 1);
+  counts = (ix_counts){IX_END_DONE, 5, 5, 3, sizeof OUTER_ARCHIVE - 1, 0};
+  EXPECT_DIFFERENCE(&job, HEADER, OUTER_ARCHIVE, &counts, 0);
+  ix_store_free(&store), ix_store_free(&open), ix_job_free(&job), ix_job_free(&whole_job), ix_result_free(&out);
+}
+
+/* A store of two files has the blocks of both, and of the CID that both have the copy of the first. So the list's link leads to
+ * abc, or to a damaged block where the files come in the other order. */
+static void fills_a_store_from_files(void) {
+  ix_handle store = IX_EMPTY, job = IX_EMPTY, out = IX_EMPTY;
+  ix_counts counts;
+  EXPECT(ix_job_new(&job, BYTES(INNER_CID), BYTES(ALL), 9) == IX_DONE);
+  EXPECT(ix_store_read_car(&store, BYTES(ARCHIVE)) == IX_DONE && ix_store_read_car(&store, BYTES(OTHER_FILE)) == IX_DONE);
+  EXPECT(ix_store_freeze(&store) == IX_DONE && ix_export(&store, &job, &out) == IX_DONE);
+  EXPECT_NAMED(ix_result_archive, &out, INNER_ARCHIVE);
+  EXPECT(ix_store_read_car(&store, BYTES(OTHER_FILE)) == IX_DONE && ix_store_read_car(&store, BYTES(ARCHIVE)) == IX_DONE);
+  EXPECT(ix_store_add(&store, BYTES(ABC_CID), BYTES("abc")) == IX_KNOWN);
+  EXPECT(ix_store_freeze(&store) == IX_DONE && ix_export(&store, &job, &out) == IX_DONE);
+  EXPECT(ix_result_counts(&out, &counts) == IX_DONE && counts.sections == 1 && counts.skips == 1);
+  ix_free(&store), store = store_of_abc();
+  EXPECT(ix_store_read_car(&store, BYTES(OTHER_FILE)) == IX_DONE && ix_store_freeze(&store) == IX_DONE);
+  EXPECT(ix_export(&store, &job, &out) == IX_DONE);
+  EXPECT_NAMED(ix_result_archive, &out, INNER_ARCHIVE);
+  EXPECT(ix_store_read_car(&store, BYTES(ARCHIVE)) == IX_DONE && ix_export(&store, &job, &out) == IX_HANDLE);
+  EXPECT(ix_store_read_car(&store, BYTES(OTHER_FILE "\x27")) == IX_REFUSED);
+  EXPECT_NAMED(ix_fault_line, &store, "blocks: truncated at 178");
+  EXPECT(ix_store_add(&store, BYTES(ABC_CID), BYTES("abc")) == IX_HANDLE);
+  ix_free(&store), ix_free(&job), ix_free(&out);
+}
+
 static void tells_a_skip(void) {
   ix_handle store = IX_EMPTY, job = IX_EMPTY, out = IX_EMPTY;
   EXPECT(ix_store_new(&store) == IX_DONE && ix_store_freeze(&store) == IX_DONE);
@@ -224,7 +315,7 @@ static void tells_refusals(void) {
   EXPECT(ix_store_share(&handle, &other) == IX_HANDLE && !other.is_held);
   EXPECT(ix_selector_from_json(&handle, bytes("{\".\":{}}"), 8) == IX_DONE);
   EXPECT_PART(&handle, IX_TEXT, "a1612ea0");
-  EXPECT(ix_store_read_car(&handle, bytes(ARCHIVE), sizeof ARCHIVE - 1) == IX_DONE && ix_version() == 2);
+  EXPECT(ix_store_read_car(&handle, bytes(ARCHIVE), sizeof ARCHIVE - 1) == IX_DONE && ix_version() == 4);
   ix_free(&handle);
 }
 
@@ -253,6 +344,7 @@ static void expect_no_part(ix_handle *handle, uint32_t part, uint32_t wanted) {
 static void expect_no_result(ix_handle *handle) {
   EXPECT_LEFT(IX_HANDLE, ix_result_end(handle, &it.end));
   EXPECT_LEFT(IX_HANDLE, ix_result_counts(handle, &it.counts));
+  EXPECT_LEFT(IX_HANDLE, ix_result_known(handle, &it.end));
   EXPECT_LEFT(IX_HANDLE, ix_result_archive(handle, &it.start, &it.length));
   EXPECT_LEFT(IX_HANDLE, ix_result_report(handle, &it.start, &it.length));
   EXPECT_LEFT(IX_HANDLE, ix_result_skip(handle, 0, &it.skip, &it.start, &it.length));
@@ -594,6 +686,7 @@ static void shares_a_store(void) {
 /* Each call that takes memory once, of which any may find none: it answers IX_MEMORY then, and its handles are as they were. */
 static bool any_without_memory(void) {
   ix_handle store = IX_EMPTY, other = IX_EMPTY, job = IX_EMPTY, line = IX_EMPTY, out = IX_EMPTY, text = IX_EMPTY, no = IX_EMPTY;
+  ix_handle less = IX_EMPTY;
   bool without = false;
 #define STEP_TO(wanted, call, handle) \
   do { \
@@ -607,6 +700,7 @@ static bool any_without_memory(void) {
   } while (0)
 #define STEP(call, handle) STEP_TO(IX_DONE, call, handle)
   STEP(ix_store_read_car(&store, bytes(ARCHIVE), sizeof ARCHIVE - 1), store);
+  STEP(ix_store_read_car(&store, BYTES(OTHER_FILE)), store);
   STEP(ix_store_new(&store), store);
   STEP(ix_store_add(&store, bytes(ABC_CID), 36, bytes("abc"), 3), store);
   STEP(ix_store_freeze(&store), store);
@@ -616,11 +710,22 @@ static bool any_without_memory(void) {
   STEP(ix_job_new(&job, BYTES(ABC_CID INNER_CID), BYTES(ALL), 9), job);
   STEP(ix_job_new(&job, BYTES(ABC_CID), BYTES(MATCHER), 1), job);
   STEP(ix_job_once(&job), job);
+  STEP(ix_job_new(&less, BYTES(ABC_CID), BYTES(MATCHER), 1), less);
+  STEP(ix_job_without(&less, &other), less);
   STEP_TO(IX_REFUSED, ix_store_read_car(&no, bytes(""), 0), no);
   STEP_TO(IX_REFUSED, ix_job_from_line(&no, BYTES("a")), no);
   STEP_TO(IX_REFUSED, ix_job_new(&no, BYTES(ABC_CID), bytes(MATCHER), 3, 1), no);
   STEP_TO(IX_REFUSED, ix_job_new(&no, BYTES(ABC_CID), BYTES(MATCHER), 0), no);
   STEP_TO(IX_REFUSED, ix_selector_from_json(&no, BYTES("{}")), no);
+  STEP(ix_export(&other, &less, &out), out);
+  uint32_t end, known;
+  EXPECT(ix_result_end(&out, &end) == IX_DONE && ix_result_known(&out, &known) == IX_DONE);
+  if (end == IX_END_DONE) {
+    EXPECT_PART(&out, IX_ARCHIVE, HEADER);
+    EXPECT(known == 1);
+  } else {
+    without = true;
+  }
   STEP(ix_export(&other, &line, &out), out);
   STEP(ix_export(&other, &job, &out), out);
   unsigned long made = requests;
@@ -638,13 +743,12 @@ static bool any_without_memory(void) {
   ix_skip skip;
   const uint8_t *cid;
   size_t length;
-  uint32_t end;
   EXPECT(ix_result_end(&out, &end) == IX_DONE && end == counts.end);
   EXPECT(ix_result_skip(&out, counts.skips, &skip, &cid, &length) == IX_RANGE && requests == made);
 end:
   made = requests;
   ix_store_free(&store), ix_store_free(&other), ix_job_free(&job), ix_job_free(&line), ix_result_free(&out);
-  ix_free(&text), ix_free(&no);
+  ix_free(&text), ix_free(&no), ix_job_free(&less);
   EXPECT(requests == made);
   return without;
 }
@@ -672,6 +776,8 @@ int main(int count, char **words) {
     exports_a_job_of_parts();
     refuses_parts();
     goes_in_once();
+    leaves_out_what_is_known();
+    fills_a_store_from_files();
     tells_a_skip();
     tells_refusals();
     leaves_what_it_does_not_fill();

@@ -1,5 +1,10 @@
 # The command `inspect`: what is in a file, the list of its sections, and what a file is that is not a CARv1.
 
+# memory_for BYTES SECTIONS: the last line of a summary.
+memory_for() {
+  echo "memory $(($1 + 80 * $2 + 16 * 1024 * 1024))"
+}
+
 # Three sections: `abc`, the list of one link, and `abc` once more. The header has 59 bytes, and the sections are at
 # 59, 99 and 178.
 listed=$(header "$one_cid")$(section "$abc_cid" "$abc")$(section "$one_cid" "$one")$(section "$abc_cid" "$abc")
@@ -8,7 +13,8 @@ begin 'inspect: what is counted'
 bytes "$listed" >blocks.car
 run inspect blocks.car
 expect 0 "$(printf '%s\n' 'version 1' 'roots 1' "root $(text "$one_cid")" "bytes $((${#listed} / 2))" 'sections 3' 'repeated 1' \
-  'codec raw 2' 'codec dag-cbor 1' 'hash sha2-256 3' 'smallest 3' 'median 3' "greatest $((${#one} / 2))")" ''
+  'codec raw 2' 'codec dag-cbor 1' 'hash sha2-256 3' 'smallest 3' 'median 3' "greatest $((${#one} / 2))" \
+  "$(memory_for $((${#listed} / 2)) 3)")" ''
 
 begin 'inspect --list: a line for each section, from standard input'
 run inspect --list - < <(bytes "$listed")
@@ -26,7 +32,7 @@ done
 begin 'inspect: no sections and no roots'
 write_blocks
 run inspect blocks.car
-expect 0 "$(printf '%s\n' 'version 1' 'roots 0' 'bytes 18' 'sections 0' 'repeated 0')" ''
+expect 0 "$(printf '%s\n' 'version 1' 'roots 0' 'bytes 18' 'sections 0' 'repeated 0' "$(memory_for 18 0)")" ''
 run inspect --list blocks.car
 expect 0 '' ''
 
@@ -37,7 +43,8 @@ cid_other=0181029a0101ff
 write_blocks "$(section "$cid_0" "$abc")" "$(section "$cid_other" '')"
 run inspect blocks.car
 expect 0 "$(printf '%s\n' 'version 1' 'roots 0' "bytes $(wc -c <blocks.car)" 'sections 2' 'repeated 0' \
-  'codec dag-pb 1' 'codec 0x101 1' 'hash sha2-256 1' 'hash 0x9a 1' 'smallest 0' 'median 0' 'greatest 3')" ''
+  'codec dag-pb 1' 'codec 0x101 1' 'hash sha2-256 1' 'hash 0x9a 1' 'smallest 0' 'median 0' 'greatest 3' \
+  "$(memory_for "$(wc -c <blocks.car)" 2)")" ''
 run inspect --list blocks.car
 expect 0 "18 3 v0-$cid_0
 $((18 + 1 + 34 + 3)) 0 $(text "$cid_other")" ''
@@ -62,7 +69,7 @@ done
 write_blocks "$sections"
 run inspect blocks.car
 expect 0 "$(printf '%s\n' 'version 1' 'roots 0' "bytes $(wc -c <blocks.car)" 'sections 26' 'repeated 0' "${wanted[@]}" \
-  'smallest 0' 'median 0' 'greatest 0')" ''
+  'smallest 0' 'median 0' 'greatest 0' "$(memory_for "$(wc -c <blocks.car)" 26)")" ''
 
 # is_told HEX LINE: what a file is.
 is_told() {

@@ -205,4 +205,78 @@ part 1 of 2 on $(uname -n): status 2"
 expect_folder out parts
 expect_folder out/parts
 
+# by_root FILE..: the groups of the case's jobs over these files.
+by_root() {
+  status=0
+  "$cluster/by-root" jobs.txt groups "$@" >"$scratch/stdout" 2>"$scratch/stderr" || status=$?
+}
+
+# run_group K N: a group of the case, by `part`.
+run_group() {
+  status=0
+  "$cluster/part" "$1" "$2" groups groups/jobs out >"$scratch/stdout" 2>"$scratch/stderr" || status=$?
+}
+
+# rooted_files: the list of one link in one file, and what it links to in another that names the list too; and `abc` alone.
+rooted_files() {
+  bytes "$(header "$one_cid")" "$(section "$one_cid" "$one")" >one.car
+  bytes "$(header "$one_cid")" "$(section "$abc_cid" "$abc")" >rest.car
+  bytes "$(header "$abc_cid")" "$(section "$abc_cid" "$abc")" >abc.car
+}
+
+begin 'groups by root: the archives and the report are those of one run over all files'
+rooted_files
+write_jobs '# jobs' "a $one_job" "b $abc_text 100 $all" '' "c $one_job" "both $abc_text,$(text "$one_cid") 100 $all" \
+  "none $(text "$with_zero_cid") 100 $all"
+by_root one.car rest.car abc.car
+expect 0 3 ''
+expect_folder groups 1.files 1.jobs 2.files 2.jobs 3.files 3.jobs count jobs
+expect_text 'the files of group 1' "$PWD/one.car
+$PWD/rest.car" "$(cat groups/1.files)"
+expect_text 'the files of group 2' "$PWD/abc.car" "$(cat groups/2.files)"
+expect_text 'the files of group 3' "$PWD/one.car
+$PWD/rest.car
+$PWD/abc.car" "$(cat groups/3.files)"
+expect_text 'the jobs' 'a c b both none' "$(cut -d ' ' -f 1 groups/jobs | xargs)"
+mkdir whole
+run jobs --blocks one.car --blocks rest.car --blocks abc.car --jobs groups/jobs --out whole
+whole_status=$status
+whole_report=$(cat "$scratch/stdout")
+for group in 1 3; do
+  run_group "$group" 3
+  expect 0 '' ''
+done
+rm one.car rest.car
+run_group 2 3
+expect 0 '' ''
+status=0
+"$cluster/merge" groups/jobs out 3 >"$scratch/stdout" 2>"$scratch/stderr" || status=$?
+expect "$whole_status" "$whole_report" ''
+for name in a b c both none; do
+  expect_same "out/$name.car" "whole/$name.car" "out/$name.car"
+done
+
+begin 'groups by root: at most a thousand jobs in one'
+rooted_files
+seq -f "j%g $one_job" 2500 >jobs.txt
+by_root abc.car one.car rest.car
+expect 0 3 ''
+expect_text 'the jobs of each' '1000 1000 500' "$(grep -c '' groups/{1,2,3}.jobs | cut -d : -f 2 | xargs)"
+expect_same 'the jobs' jobs.txt groups/jobs
+
+begin 'groups by root: what is rejected'
+rooted_files
+write_jobs "a $one_job" "a $one_job"
+by_root one.car
+expect 2 '' 'jobs: repeated at line 2'
+write_jobs "a $one_job"
+by_root
+expect 2 '' 'by-root: no file of blocks'
+by_root one.car
+expect 0 1 ''
+run_group 1 2
+expect 2 '' 'part: groups has other groups than 2'
+by_root one.car
+expect_text 'exit status' 1 "$status"
+
 unset IX_EXPORT

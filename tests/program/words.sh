@@ -72,10 +72,11 @@ helps --help -- get root jobs selector CARv1 SHA-256 SHA-512 identity UnixFS --v
 helps -h -- get root jobs selector
 helps root --help -- '--cid <TEXT>' hex 'Standard input' 'Status: 0'
 helps get --help -- --no-sync '--blocks <FILE>' '--root <CID[,CID..]>' '--selector <JSON>' '--selector-hex <HEX>' \
-  '1 to 4294967295' 'with --every-arrival up to 1000000' FILE.part 'standard output' 'Status: 0' docs/SELECTORS.md
+  '--without <FILE>' '--without-list <FILE>' '1 to 4294967295' 'with --every-arrival up to 1000000' FILE.part 'standard output' 'Status: 0' docs/SELECTORS.md
 helps jobs --help -- 'NAME ROOTS LIMIT SELECTOR' '--blocks <FILE>' '--jobs <FILE>' '--out <DIR>' '--walkers <N>' \
   '--verifiers <N>' '1 to 64' 'default: 4' "$abc_text 9 $matcher" 1000000 DIR/NAME.car damaged 'Status: 0' --max-input 'default: 1G' \
-  DIR/NAME.car.part --sync --progress 'counts twice' SHA-256 SHA-512 identity 'the command `selector`'
+  '--without-list <FILE>' DIR/NAME.car.part --sync --progress 'counts twice' SHA-256 SHA-512 identity 'the command `selector`'
+helps inspect --help -- --list --cids --without-list
 helps selector --help -- '--hex <TEXT>' '[JSON]' '{"R":{"l":{"none":{}},":>":{"a":{">":{"@":{}}}}}}' docs/SELECTORS.md
 
 begin 'the help of a command, whole: its example is indented'

@@ -1,2 +1,4 @@
+pub mod FileBlocks
 pub mod JobRoots
+pub mod OfBase
 pub mod OneCid

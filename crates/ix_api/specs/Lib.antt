@@ -3,3 +3,4 @@ pub mod Exporting
 pub mod Failures
 pub mod JobParts
 pub mod Parts
+pub mod Requests

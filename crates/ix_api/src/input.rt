@@ -1,21 +1,24 @@
 //! Reads blocks, jobs and selectors.
 
-ghost use Rattle.std.specs.Prelude.{◌≡◌, ℕ, List, IfErr, ◌++◌, ◌∷◌, [], Ok, IfOk};
-ghost use Rattle.ix_car.specs.Reading.{blocks_of};
+ghost use Rattle.std.specs.Prelude.{◌≡◌, ℕ, List, IfErr, OnErr, OnOk, ◌++◌, ◌∷◌, [], map, take, Ok, IfOk};
+ghost use Rattle.ix_car.specs.Reading.{blocks_after, blocks_of};
+ghost use Rattle.ix_car.specs.Sections.{with_sections};
+ghost use Rattle.ix_car.specs.SectionView.{section_of};
+ghost use Rattle.ix_car.specs.Gives.{IsFaultOf};
 ghost use Rattle.ix_jobs.specs.Jobs.{jobs_of};
 ghost use Rattle.ix_selector_json.specs.Notation.{IsSelectorHex};
 ghost use Rattle.ix_api.specs.Failures.{IsStoreFailure, IsJobFailure, IsNotOneFailure, IsSelectorFailure};
-ghost use Rattle.ix_api.specs.Adding.{HasAdded};
+ghost use Rattle.ix_api.specs.Adding.{HasAdded, IsLeftBy};
 
 use crate::failure::Failure;
-use ix_car::{CarKind, read_car};
+use ix_car::{CarFault, CarKind, Section, read_car, read_sections};
 use ix_cid::{Cid, CidFault};
 use ix_jobs::{JobErrorKind, read_jobs};
 use ix_run::RunFault;
 use ix_selector_json::{NotationFault, hex_of_json};
 use ix_store::Store;
 use ix_walk::Job;
-use std::alloc::Global;
+use std::alloc::{AllocError, Global};
 
 /// The outcome of adding a block.
 #[derive(Debug, Drop, Clone, Copy, PartialEq, Eq)]
@@ -53,9 +56,55 @@ pub fn read_store(alloc: Global, car: &[u8]) -> Result<Store, Failure>
 {
     match read_car(alloc, car) {
         Ok(store) => Ok(store),
-        Err(fault) if fault.kind == CarKind::Memory => Err(Failure::Memory),
-        Err(fault) => Err(Failure::of_run(alloc, &RunFault::Car(fault))),
+        Err(fault) => Err(car_failure(alloc, fault)),
     }
+}
+
+/// Adds copies of the blocks of a CARv1 file to a store: those of its sections, after the blocks that the
+/// store has, of which the first of each CID counts.
+///
+/// A file that is rejected adds nothing. If memory runs out, the blocks of the first sections may have
+/// been added: the rest follow when the file is added again.
+pub fn add_car(alloc: Global, store: &mut Store, car: &[u8]) -> Result<(), Failure>
+    ensures added { OnOk result (blocks_after store.old car.now ≡ Ok store.new) }
+    ensures failed { IfErr result (IsStoreFailure car.now) }
+    ensures left { IfErr result (λ failure. IsLeftBy failure store.old car.now store.new) }
+{
+    let file = match read_sections(alloc, car) {
+        Ok(file) => file,
+        Err(fault) => return Err(car_failure(alloc, fault)),
+    };
+    match add_sections(alloc, store, file.sections.as_slice()) {
+        Ok(()) => Ok(()),
+        Err(_) => Err(Failure::Memory),
+    }
+}
+
+// Adds copies of the blocks of sections, of which the first of each CID counts. If memory runs out, those
+// of the first sections may have been added.
+fn add_sections(
+    alloc: Global,
+    store: &mut Store,
+    sections: &[Section<'_>],
+) -> Result<(), AllocError>
+    ensures added { OnOk result (store.new ≡ with_sections store.old (map section_of sections.now)) }
+    ensures begun { OnErr result
+        ((count : ℕ) × (store.new ≡ with_sections store.old (take count (map section_of sections.now)))) }
+{
+    for section in sections {
+        store.add_copy(section.cid.to_cid(alloc)?, section.block)?;
+    }
+    Ok(())
+}
+
+// Makes the failure for an error of a CARv1 file.
+fn car_failure(alloc: Global, fault: CarFault) -> Failure
+    ensures { (car : List ℕ) → IsFaultOf car fault (blocks_of car) → IsStoreFailure car result }
+{
+    if fault.kind == CarKind::Memory {
+        return Failure::Memory;
+    }
+    Failure::of_run(alloc, &RunFault::Car(fault))
 }
 
 /// Reads the job of a line of a job file. The line may have its end, and ignored lines before and after

@@ -1,11 +1,12 @@
 //! The single-threaded in-memory API: block stores, jobs, one export, error messages.
 //!
-//! Blocks are added one by one or read from a CARv1 file; a job is read from a line of a job file or made
-//! from its parts. An export returns the archive, the counts, the skips and the report. No call starts a
-//! thread or waits. Errors are lines of text, those of the program if it rejects the same.
+//! Blocks are added one by one or read from CARv1 files; a job is read from a line of a job file or made
+//! from its parts. An export returns the archive, the counts, the skips and the report; `export_without`
+//! leaves out the blocks that a receiver has. No call starts a thread or waits. Errors are lines of text, those of the program if it rejects the same.
 //!
 //! ```rust
-//! let store = read_store(alloc, car)?;
+//! let mut store = read_store(alloc, car)?;
+//! add_car(alloc, &mut store, second)?;
 //! let job = job_of_line(alloc, b"a bafkreif2pall7dybz7vecqka3zo24irdwabwdi4wc55jznaq75q7eaavvu 1 a1612ea0")?;
 //! let out = export(alloc, &store, &job)?;
 //! assert!(rt; out.result.end == End::Done);
@@ -17,9 +18,11 @@ mod failure;
 mod input;
 mod job_parts;
 mod object;
+mod request;
 
-pub use exported::{Exported, export};
+pub use exported::{Exported, export, export_request, export_without};
 pub use failure::Failure;
-pub use input::{Added, add_block, job_of_line, read_store, selector_of_json};
+pub use input::{Added, add_block, add_car, job_of_line, read_store, selector_of_json};
 pub use job_parts::{PartsFault, job_of_parts};
 pub use object::{Object, Piece, freeze, share};
+pub use request::Request;

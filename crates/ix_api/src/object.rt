@@ -5,8 +5,8 @@ ghost use Rattle.std.specs.Arc.{arc_value};
 ghost use Rattle.ix_api.specs.Parts.{Has, HasNo};
 
 use crate::exported::Exported;
+use crate::request::Request;
 use ix_store::Store;
-use ix_walk::Job;
 use std::alloc::{AllocError, Global};
 use std::sync::Arc;
 
@@ -17,8 +17,8 @@ pub enum Object {
     Open(Store),
     /// A frozen store: shared, and it doesn't change.
     Frozen(Arc<Store>),
-    /// A job.
-    Job(Job),
+    /// A job, and what its receiver has.
+    Job(Request),
     /// The result of an export.
     Exported(Exported),
     /// A text: the selector of a JSON text.

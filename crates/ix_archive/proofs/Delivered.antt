@@ -7,6 +7,7 @@ use Rattle.std.proofs.lemmas.Option.{same_Some}
 use Rattle.std.proofs.KnownBytes.{Appends-nil}
 use Rattle.ix_cid.specs.Varint.{varint_of}
 use Rattle.ix_store.specs.Store.{Blocks, position_of}
+use Rattle.ix_store.specs.declared.places.PlaceSet.{PlaceSet}
 use Rattle.ix_walk.specs.JobMeaning.{JobMeaning}
 use Rattle.ix_store.proofs.Blocks.{block_at, place_within}
 use Rattle.ix_archive.specs.declared.sink.Delivery.{Delivery}
@@ -16,7 +17,7 @@ use Rattle.ix_archive.specs.declared.fault.SinkFault.TheVariants.{Write, Memory}
 use Rattle.ix_archive.specs.Events.{Event, delivery, close, IsOpen, IsRefusal}
 use Rattle.ix_archive.specs.Kept.{is_below, kept}
 use Rattle.ix_car.specs.Writing.{header_of}
-use Rattle.ix_archive.specs.Archive.{none_known, archive_without}
+use Rattle.ix_archive.specs.Archive.{Known, known_at, is_known, archive_without}
 use Rattle.ix_archive.specs.Report.{at_most}
 use Rattle.ix_archive.specs.ArchiveMeaning.{ArchiveMeaning, known_in, events_of, HasWrittenWithout, IsCountOf, HasArchived, IsProperPrefix, TookPartOfHeader}
 use Rattle.ix_archive.specs.Archiving.{cut_behind, unwritten_block, text_due, HasTaken, IsAdded, IsFailed, IsDelivered}
@@ -61,16 +62,16 @@ module _ {W : Type 0} (told : W → Option (List ℕ)) (d : Delivery) (before : 
   delivers-refused text (Err Memory) after h none = ap (λ a. a.failed) h ∙ none
 
   -- the bytes before, where the archive has written what it should
-  bytes-before : (known : List ℕ → Bool) (store : Blocks) (job : JobMeaning) → HasWrittenWithout known (told before.writer) store job.roots before.deliveries before.failed → before.failed ≡ [] → told before.writer ≡ Some (archive_without known store job.roots (kept before.deliveries))
+  bytes-before : (known : Known) (store : Blocks) (job : JobMeaning) → HasWrittenWithout known (told before.writer) store job.roots before.deliveries before.failed → before.failed ≡ [] → told before.writer ≡ Some (archive_without known store job.roots (kept before.deliveries))
   bytes-before known store job h none = subst (λ f. HasWrittenWithout known (told before.writer) store job.roots before.deliveries f) none h
 
   -- the bytes after
-  bytes-after : (text : List ℕ) (after : ArchiveMeaning W) (known : List ℕ → Bool) (store : Blocks) (job : JobMeaning) → HasWrittenWithout known (told before.writer) store job.roots before.deliveries before.failed → before.failed ≡ [] → HasTaken told before after text → told after.writer ≡ Some (archive_without known store job.roots (kept before.deliveries) ++ text)
+  bytes-after : (text : List ℕ) (after : ArchiveMeaning W) (known : Known) (store : Blocks) (job : JobMeaning) → HasWrittenWithout known (told before.writer) store job.roots before.deliveries before.failed → before.failed ≡ [] → HasTaken told before after text → told after.writer ≡ Some (archive_without known store job.roots (kept before.deliveries) ++ text)
   bytes-after text after known store job h none took =
       appended (archive_without known store job.roots (kept before.deliveries)) text (told after.writer) (subst (λ o. Appends o (told after.writer) text) (bytes-before known store job h none) took.grown)
 
   -- their number
-  counted-after : (text : List ℕ) (after : ArchiveMeaning W) (known : List ℕ → Bool) (store : Blocks) (job : JobMeaning) → HasWrittenWithout known (told before.writer) store job.roots before.deliveries before.failed → IsCountOf before.taken (told before.writer) → before.failed ≡ [] → HasTaken told before after text → IsCountOf after.taken (told after.writer)
+  counted-after : (text : List ℕ) (after : ArchiveMeaning W) (known : Known) (store : Blocks) (job : JobMeaning) → HasWrittenWithout known (told before.writer) store job.roots before.deliveries before.failed → IsCountOf before.taken (told before.writer) → before.failed ≡ [] → HasTaken told before after text → IsCountOf after.taken (told after.writer)
   counted-after text after known store job h count none took bytes is =
       let whole = archive_without known store job.roots (kept before.deliveries) in
       let same : bytes ≡ whole ++ text = same_Some bytes (whole ++ text) (sym is ∙ bytes-after text after known store job h none took) in
@@ -80,13 +81,13 @@ module _ {W : Type 0} (told : W → Option (List ℕ)) (d : Delivery) (before : 
       ∙ ap (λ l. at_most 64 (length l)) (sym same)
 
   -- what is due is the same over known CIDs and a store that are the archive's
-  due-there : (known : List ℕ → Bool) (store : Blocks) (job : JobMeaning) → known_in before ≡ known → before.store ≡ store → archive_without known store job.roots (kept (before.deliveries ++ d ∷ [])) ≡ archive_without known store job.roots (kept before.deliveries) ++ text_due (known_in before) before.store before.deliveries d
+  due-there : (known : Known) (store : Blocks) (job : JobMeaning) → known_in before ≡ known → before.store ≡ store → archive_without known store job.roots (kept (before.deliveries ++ d ∷ [])) ≡ archive_without known store job.roots (kept before.deliveries) ++ text_due (known_in before) before.store before.deliveries d
   due-there known store job listed same =
       archive-due known store job.roots before.deliveries d ∙ ap (λ s. archive_without known store job.roots (kept before.deliveries) ++ text_due known s before.deliveries d) (sym same)
       ∙ ap (λ k. archive_without known store job.roots (kept before.deliveries) ++ text_due k before.store before.deliveries d) (sym listed)
 
   -- after an accepted delivery the writer has the longer archive
-  added-written : (after : ArchiveMeaning W) (known : List ℕ → Bool) (store : Blocks) (job : JobMeaning) → IsAdded told d (text_due (known_in before) before.store before.deliveries d) before after → before.failed ≡ [] → known_in before ≡ known → before.store ≡ store
+  added-written : (after : ArchiveMeaning W) (known : Known) (store : Blocks) (job : JobMeaning) → IsAdded told d (text_due (known_in before) before.store before.deliveries d) before after → before.failed ≡ [] → known_in before ≡ known → before.store ≡ store
       → HasWrittenWithout known (told before.writer) store job.roots before.deliveries before.failed → HasWrittenWithout known (told after.writer) store job.roots after.deliveries after.failed
   added-written after known store job added none listed same h =
       let is : told after.writer ≡ Some (archive_without known store job.roots (kept (before.deliveries ++ d ∷ []))) = bytes-after (text_due (known_in before) before.store before.deliveries d) after known store job h none added.wrote ∙ ap Some (sym (due-there known store job listed same)) in
@@ -94,7 +95,7 @@ module _ {W : Type 0} (told : W → Option (List ℕ)) (d : Delivery) (before : 
       subst (λ f. HasWrittenWithout known (told after.writer) store job.roots after.deliveries f) (sym added.failed) by_none
 
   -- so the fact is kept
-  added-archived : (after : ArchiveMeaning W) (known : List ℕ → Bool) (store : Blocks) (job : JobMeaning) (first : Option (List ℕ)) → IsAdded told d (text_due (known_in before) before.store before.deliveries d) before after → before.failed ≡ [] → HasArchived told before known store job first → HasArchived told after known store job first
+  added-archived : (after : ArchiveMeaning W) (known : Known) (store : Blocks) (job : JobMeaning) (first : Option (List ℕ)) → IsAdded told d (text_due (known_in before) before.store before.deliveries d) before after → before.failed ≡ [] → HasArchived told before known store job first → HasArchived told after known store job first
   added-archived after known store job first added none h = record {
     same_known = added.wrote.same_known ∙ h.same_known;
     same_store = added.wrote.same_store ∙ h.same_store;
@@ -104,7 +105,7 @@ module _ {W : Type 0} (told : W → Option (List ℕ)) (d : Delivery) (before : 
   }
 
   -- after a failed one it has a proper part of that
-  failed-written : (after : ArchiveMeaning W) (known : List ℕ → Bool) (store : Blocks) (job : JobMeaning) → IsFailed told d (text_due (known_in before) before.store before.deliveries d) before after → before.failed ≡ [] → known_in before ≡ known → before.store ≡ store
+  failed-written : (after : ArchiveMeaning W) (known : Known) (store : Blocks) (job : JobMeaning) → IsFailed told d (text_due (known_in before) before.store before.deliveries d) before after → before.failed ≡ [] → known_in before ≡ known → before.store ≡ store
       → HasWrittenWithout known (told before.writer) store job.roots before.deliveries before.failed → HasWrittenWithout known (told after.writer) store job.roots after.deliveries after.failed
   failed-written after known store job refused none listed same h =
       let whole = archive_without known store job.roots (kept before.deliveries) in
@@ -114,7 +115,7 @@ module _ {W : Type 0} (told : W → Option (List ℕ)) (d : Delivery) (before : 
       subst (λ f. HasWrittenWithout known (told after.writer) store job.roots after.deliveries f) (sym refused.failed) by_deliveries
 
   -- so the fact is kept too
-  failed-archived : (after : ArchiveMeaning W) (known : List ℕ → Bool) (store : Blocks) (job : JobMeaning) (first : Option (List ℕ)) → IsFailed told d (text_due (known_in before) before.store before.deliveries d) before after → before.failed ≡ [] → HasArchived told before known store job first → HasArchived told after known store job first
+  failed-archived : (after : ArchiveMeaning W) (known : Known) (store : Blocks) (job : JobMeaning) (first : Option (List ℕ)) → IsFailed told d (text_due (known_in before) before.store before.deliveries d) before after → before.failed ≡ [] → HasArchived told before known store job first → HasArchived told after known store job first
   failed-archived after known store job first refused none h = record {
     same_known = refused.wrote.same_known ∙ h.same_known;
     same_store = refused.wrote.same_store ∙ h.same_store;
@@ -124,7 +125,7 @@ module _ {W : Type 0} (told : W → Option (List ℕ)) (d : Delivery) (before : 
   }
 
   -- an archive goes on having written what it should
-  pub delivers-archived : {T : Type 0} (r : Result T SinkFault) (after : ArchiveMeaning W) → IsDelivered told d (text_due (known_in before) before.store before.deliveries d) before r after → before.failed ≡ [] → (known : List ℕ → Bool) (store : Blocks) (job : JobMeaning) (first : Option (List ℕ)) → HasArchived told before known store job first → HasArchived told after known store job first
+  pub delivers-archived : {T : Type 0} (r : Result T SinkFault) (after : ArchiveMeaning W) → IsDelivered told d (text_due (known_in before) before.store before.deliveries d) before r after → before.failed ≡ [] → (known : Known) (store : Blocks) (job : JobMeaning) (first : Option (List ℕ)) → HasArchived told before known store job first → HasArchived told after known store job first
   delivers-archived (Ok u) after h none known store job first was = added-archived after known store job first h none was
   delivers-archived (Err Write) after h none known store job first was = failed-archived after known store job first h none was
   delivers-archived (Err Memory) after h none known store job first was = subst (λ a. HasArchived told a known store job first) (sym h) was
@@ -136,9 +137,9 @@ module _ {W : Type 0} (told : W → Option (List ℕ)) (d : Delivery) (before : 
   delivers-memory text (Err Memory) after h e = h
 
 -- a delivery that writes nothing
-pub adds-nothing : {W : Type 0} (told : W → Option (List ℕ)) (d : Delivery) (store : Blocks) (roots : List (List ℕ)) (ds es failed : List Delivery) (closed : List End) (taken : ℕ) (writer : W) → failed ≡ [] → taken ≤ 2 ^ 64 - 1 → es ≡ ds ++ d ∷ []
-    → IsAdded told d [] (record { store = store; roots = roots; deliveries = ds; failed = failed; closed = closed; taken = taken; writer = writer }) (record { store = store; roots = roots; deliveries = es; failed = failed; closed = closed; taken = taken; writer = writer })
-adds-nothing told d store roots ds es failed closed taken writer none within longer =
+pub adds-nothing : {W : Type 0} (told : W → Option (List ℕ)) (d : Delivery) (store : Blocks) (roots : List (List ℕ)) (known : Option PlaceSet) (ds es failed : List Delivery) (closed : List End) (taken : ℕ) (writer : W) → failed ≡ [] → taken ≤ 2 ^ 64 - 1 → es ≡ ds ++ d ∷ []
+    → IsAdded told d [] (record { store = store; roots = roots; known = known; deliveries = ds; failed = failed; closed = closed; taken = taken; writer = writer }) (record { store = store; roots = roots; known = known; deliveries = es; failed = failed; closed = closed; taken = taken; writer = writer })
+adds-nothing told d store roots known ds es failed closed taken writer none within longer =
     let stays : taken ≡ min (taken + 0) (2 ^ 64 - 1) = omega arith in record {
       wrote = record { same_known = refl; same_store = refl; same_roots = refl; same_close = refl; grown = Appends-nil (told writer); counted = stays };
       deliveries = longer;
@@ -146,22 +147,22 @@ adds-nothing told d store roots ds es failed closed taken writer none within lon
     }
 
 -- a section is what is due
-pub section-text : (store : Blocks) (ds : List Delivery) (d : Delivery) (place : ℕ) (head block : List ℕ) → is_below (cut_behind ds) d.visit.depth ≡ false → unwritten_block store (kept ds) d ≡ Some place → slice_get (map (λ e. e.1) store) place ≡ Some block
-    → head ≡ varint_of (length (d.visit.cid ++ block)) ++ d.visit.cid → head ++ block ≡ text_due none_known store ds d
-section-text store ds d place head block uncut due at is =
+pub section-text : (known : Known) (store : Blocks) (ds : List Delivery) (d : Delivery) (place : ℕ) (head block : List ℕ) → is_below (cut_behind ds) d.visit.depth ≡ false → unwritten_block store (kept ds) d ≡ Some place → is_known known d.visit.cid ≡ false → slice_get (map (λ e. e.1) store) place ≡ Some block
+    → head ≡ varint_of (length (d.visit.cid ++ block)) ++ d.visit.cid → head ++ block ≡ text_due known store ds d
+section-text known store ds d place head block uncut due new at is =
     let found : position_of store d.visit.cid ≡ Some place = (due-told store (kept ds) d place due).2 in
     ap (λ l. l ++ block) is ∙ append_assoc (varint_of (length (d.visit.cid ++ block))) d.visit.cid block
-    ∙ sym (due-section store ds d place block uncut due (block_at place store d.visit.cid block (sym found) at))
+    ∙ sym (due-section known store ds d place block uncut due new (block_at place store d.visit.cid block (sym found) at))
 
 -- the position of the block of a section that is due
 pub due-within : (store : Blocks) (ks : List Delivery) (d : Delivery) (place : ℕ) → unwritten_block store ks d ≡ Some place → place < length store
 due-within store ks d place due = place_within place store d.visit.cid (sym (due-told store ks d place due).2)
 
 -- a delivery whose section was written whole
-pub adds-section : {W : Type 0} (told : W → Option (List ℕ)) (d : Delivery) (store : Blocks) (roots : List (List ℕ)) (ds es failed : List Delivery) (closed : List End) (taken more n : ℕ) (writer later : W) (text due : List ℕ) → failed ≡ [] → es ≡ ds ++ d ∷ [] → text ≡ due → n ≤ length text → length text ≤ n
+pub adds-section : {W : Type 0} (told : W → Option (List ℕ)) (d : Delivery) (store : Blocks) (roots : List (List ℕ)) (known : Option PlaceSet) (ds es failed : List Delivery) (closed : List End) (taken more n : ℕ) (writer later : W) (text due : List ℕ) → failed ≡ [] → es ≡ ds ++ d ∷ [] → text ≡ due → n ≤ length text → length text ≤ n
     → Appends (told writer) (told later) (take n text) → more ≡ at_most 64 (taken + n)
-    → IsAdded told d due (record { store = store; roots = roots; deliveries = ds; failed = failed; closed = closed; taken = taken; writer = writer }) (record { store = store; roots = roots; deliveries = es; failed = failed; closed = closed; taken = more; writer = later })
-adds-section told d store roots ds es failed closed taken more n writer later text due none longer is within whole grown counted =
+    → IsAdded told d due (record { store = store; roots = roots; known = known; deliveries = ds; failed = failed; closed = closed; taken = taken; writer = writer }) (record { store = store; roots = roots; known = known; deliveries = es; failed = failed; closed = closed; taken = more; writer = later })
+adds-section told d store roots known ds es failed closed taken more n writer later text due none longer is within whole grown counted =
     let many : n ≡ length due = let same : n ≡ length text = omega arith in same ∙ ap length is in record {
       wrote = record {
         same_known = refl;
@@ -176,10 +177,10 @@ adds-section told d store roots ds es failed closed taken more n writer later te
     }
 
 -- a delivery whose section was written in part
-pub fails-section : {W : Type 0} (told : W → Option (List ℕ)) (d : Delivery) (store : Blocks) (roots : List (List ℕ)) (ds es failed : List Delivery) (closed : List End) (taken more n : ℕ) (writer later : W) (text due : List ℕ) → es ≡ ds → text ≡ due → n < length text
+pub fails-section : {W : Type 0} (told : W → Option (List ℕ)) (d : Delivery) (store : Blocks) (roots : List (List ℕ)) (known : Option PlaceSet) (ds es failed : List Delivery) (closed : List End) (taken more n : ℕ) (writer later : W) (text due : List ℕ) → es ≡ ds → text ≡ due → n < length text
     → Appends (told writer) (told later) (take n text) → more ≡ at_most 64 (taken + n)
-    → IsFailed told d due (record { store = store; roots = roots; deliveries = ds; failed = failed; closed = closed; taken = taken; writer = writer }) (record { store = store; roots = roots; deliveries = es; failed = d ∷ []; closed = closed; taken = more; writer = later })
-fails-section told d store roots ds es failed closed taken more n writer later text due same is short grown counted =
+    → IsFailed told d due (record { store = store; roots = roots; known = known; deliveries = ds; failed = failed; closed = closed; taken = taken; writer = writer }) (record { store = store; roots = roots; known = known; deliveries = es; failed = d ∷ []; closed = closed; taken = more; writer = later })
+fails-section told d store roots known ds es failed closed taken more n writer later text due same is short grown counted =
     let within : n ≤ length text = omega arith in record {
       part = take n text;
       proper = subst (λ l. IsProperPrefix (take n text) l) is (proper-take n text short);
@@ -204,15 +205,15 @@ begins-in_part told writer later roots header n is short grown fresh = (
 )
 
 -- an archive whose header was written
-pub begins-archived : {W : Type 0} (told : W → Option (List ℕ)) (writer later : W) (store : Blocks) (job : JobMeaning) (roots : List (List ℕ)) (header : List ℕ) (ds : List Delivery) (n : ℕ) → roots ≡ job.roots → header ≡ header_of job.roots → ds ≡ [] → n ≤ length header → length header ≤ n → n ≤ 2 ^ 64 - 1
+pub begins-archived : {W : Type 0} (told : W → Option (List ℕ)) (writer later : W) (store : Blocks) (job : JobMeaning) (roots : List (List ℕ)) (known : Option PlaceSet) (header : List ℕ) (ds : List Delivery) (n : ℕ) → roots ≡ job.roots → header ≡ header_of job.roots → ds ≡ [] → n ≤ length header → length header ≤ n → n ≤ 2 ^ 64 - 1
     → Appends (told writer) (told later) (take n header)
-    → HasArchived told (record { store = store; roots = roots; deliveries = ds; failed = []; closed = []; taken = n; writer = later }) none_known store job (told writer)
-begins-archived told writer later store job roots header ds n same is none within whole fits grown =
+    → HasArchived told (record { store = store; roots = roots; known = known; deliveries = ds; failed = []; closed = []; taken = n; writer = later }) (known_at store known) store job (told writer)
+begins-archived told writer later store job roots known header ds n same is none within whole fits grown =
     let took : told writer ≡ Some [] → told later ≡ Some header = λ fresh. appended [] (take n header) (told later) (subst (λ o. Appends o (told later) (take n header)) fresh grown) ∙ ap Some (take_all n header whole) in record {
       same_known = refl;
       same_store = refl;
       same_roots = same;
-      written = λ fresh. took fresh ∙ ap Some (is ∙ sym (append-nil (header_of job.roots))) ∙ ap (λ l. Some (archive_without none_known store job.roots (kept l))) (sym none);
+      written = λ fresh. took fresh ∙ ap Some (is ∙ sym (append-nil (header_of job.roots))) ∙ ap (λ l. Some (archive_without (known_at store known) store job.roots (kept l))) (sym none);
       counted = λ fresh bytes tells. let one : bytes ≡ header = same_Some bytes header (sym tells ∙ took fresh) in
           let many : n ≡ min (length header) (2 ^ 64 - 1) = omega arith in many ∙ ap (λ l. at_most 64 (length l)) (sym one);
     }

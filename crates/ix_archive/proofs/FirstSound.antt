@@ -12,11 +12,12 @@ use Rattle.ix_check.specs.Verdict.{passes}
 use Rattle.ix_verdict.specs.declared.verdict.Verdict.{Verdict}
 use Rattle.ix_verdict.specs.declared.verdict.Verdict.TheVariants.{Codec, Hash, Missing, Damaged, Malformed, Sound, Inline}
 use Rattle.ix_store.specs.Store.{Blocks, block_of, position_after, position_of}
+use Rattle.ix_store.specs.declared.places.PlaceSet.{PlaceSet}
 use Rattle.ix_archive.specs.declared.archive.Skip.{Skip}
 use Rattle.ix_archive.specs.declared.sink.Delivery.{Delivery}
 use Rattle.ix_archive.specs.Kept.{is_below, kept}
 use Rattle.ix_car.specs.Writing.{header_of, section_with, with_length}
-use Rattle.ix_archive.specs.Archive.{is_sound, first_sound, section_of, new_section, none_known, sections_of, archive_without}
+use Rattle.ix_archive.specs.Archive.{is_sound, first_sound, section_of, new_section, Known, is_known, is_known_place, known_at, sections_of, archive_without}
 use Rattle.ix_archive.specs.Archiving.{cut_behind, is_told, unwritten_block, text_after, text_due}
 use Rattle.ix_archive.proofs.Pruning.{kept-append, cut_after-append}
 
@@ -82,7 +83,7 @@ first-text f true true d = refl
 first-text f true false d = append-nil (f d)
 
 -- one more kept delivery writes its text at the end of the archive
-pub archive-push : (known : List ℕ → Bool) (store : Blocks) (roots : List (List ℕ)) (ks : List Delivery) (d : Delivery) → archive_without known store roots (ks ++ d ∷ []) ≡ archive_without known store roots ks ++ text_after known store ks d
+pub archive-push : (known : Known) (store : Blocks) (roots : List (List ℕ)) (ks : List Delivery) (d : Delivery) → archive_without known store roots (ks ++ d ∷ []) ≡ archive_without known store roots ks ++ text_after known store ks d
 archive-push known store roots ks d =
     ap (λ l. header_of roots ++ flat_map (new_section known store) l) (first_sound-push ks d)
     ∙ ap (λ l. header_of roots ++ l)
@@ -101,7 +102,7 @@ pub cut-push : (ds : List Delivery) (d : Delivery) → cut_behind (ds ++ d ∷ [
 cut-push ds d = cut_after-append (λ e. e.visit.depth) (λ e. passes e.verdict) None ds (d ∷ [])
 
 -- one more delivery writes what is due at the end of the archive
-pub archive-due : (known : List ℕ → Bool) (store : Blocks) (roots : List (List ℕ)) (ds : List Delivery) (d : Delivery) → archive_without known store roots (kept (ds ++ d ∷ [])) ≡ archive_without known store roots (kept ds) ++ text_due known store ds d
+pub archive-due : (known : Known) (store : Blocks) (roots : List (List ℕ)) (ds : List Delivery) (d : Delivery) → archive_without known store roots (kept (ds ++ d ∷ [])) ≡ archive_without known store roots (kept ds) ++ text_due known store ds d
 archive-due known store roots ds d =
     ap (λ ks. archive_without known store roots ks) (kept-push ds d)
     ∙ elim (is_below (cut_behind ds) d.visit.depth) as (λ b. archive_without known store roots (if b then kept ds else kept ds ++ d ∷ []) ≡ archive_without known store roots (kept ds) ++ (if b then [] else text_after known store (kept ds) d))
@@ -173,24 +174,22 @@ due-told store ks d place due =
       | false ↦ (λ h. cc)
     ] due
 
--- and one that does adds one
-pub sections-due : (store : Blocks) (ks : List Delivery) (d : Delivery) (place : ℕ) → unwritten_block store ks d ≡ Some place → length (sections_of store (ks ++ d ∷ [])) ≡ length (sections_of store ks) + 1
-sections-due store ks d place due =
+-- and one that does adds itself
+pub sections-more : (store : Blocks) (ks : List Delivery) (d : Delivery) (place : ℕ) → unwritten_block store ks d ≡ Some place → sections_of store (ks ++ d ∷ []) ≡ sections_of store ks ++ d ∷ []
+sections-more store ks d place due =
     let found = due-told store ks d place due in
     let has : is_some (block_of store d.visit.cid) ≡ true = block-some 0 place store d.visit.cid found.2 in
-    ap length
-    (sections-push store ks d
+    sections-push store ks d
     ∙ ap (λ b. sections_of store ks ++ filter (λ e. is_some (block_of store e.visit.cid)) (if b then (if is_told ks d.visit.cid then [] else d ∷ []) else [])) found.0
     ∙ ap (λ b. sections_of store ks ++ filter (λ e. is_some (block_of store e.visit.cid)) (if b then [] else d ∷ [])) found.1
-    ∙ ap (λ b. sections_of store ks ++ (if b then d ∷ [] else [])) has)
-    ∙ length-append (sections_of store ks) (d ∷ [])
+    ∙ ap (λ b. sections_of store ks ++ (if b then d ∷ [] else [])) has
 
 -- a delivery that isn't cut off writes what it writes after the kept ones
-due-kept : (known : List ℕ → Bool) (store : Blocks) (ds : List Delivery) (d : Delivery) → is_below (cut_behind ds) d.visit.depth ≡ false → text_due known store ds d ≡ text_after known store (kept ds) d
+due-kept : (known : Known) (store : Blocks) (ds : List Delivery) (d : Delivery) → is_below (cut_behind ds) d.visit.depth ≡ false → text_due known store ds d ≡ text_after known store (kept ds) d
 due-kept known store ds d uncut = ap (λ b. if b then [] else text_after known store (kept ds) d) uncut
 
 -- what doesn't pass writes nothing
-pub due-refused : (known : List ℕ → Bool) (store : Blocks) (ds : List Delivery) (d : Delivery) → is_below (cut_behind ds) d.visit.depth ≡ false → passes d.verdict ≡ false → text_due known store ds d ≡ []
+pub due-refused : (known : Known) (store : Blocks) (ds : List Delivery) (d : Delivery) → is_below (cut_behind ds) d.visit.depth ≡ false → passes d.verdict ≡ false → text_due known store ds d ≡ []
 due-refused known store ds d uncut refused =
     due-kept known store ds d uncut ∙ ap (λ b. if b then (if is_told (kept ds) d.visit.cid then [] else new_section known store d) else []) (refused_unsound d.verdict refused)
 
@@ -206,16 +205,35 @@ no-section true store c h = refl
 no-section false store c h = ap (λ o. section_with c o) (block-none 0 store c h)
 
 -- nothing, if its CID has a section
-pub due-repeat : (known : List ℕ → Bool) (store : Blocks) (ds : List Delivery) (d : Delivery) → is_below (cut_behind ds) d.visit.depth ≡ false → unwritten_block store (kept ds) d ≡ None → text_due known store ds d ≡ []
+pub due-repeat : (known : Known) (store : Blocks) (ds : List Delivery) (d : Delivery) → is_below (cut_behind ds) d.visit.depth ≡ false → unwritten_block store (kept ds) d ≡ None → text_due known store ds d ≡ []
 due-repeat known store ds d uncut none =
     due-kept known store ds d uncut
-    ∙ no-text (is_sound d.verdict) (is_told (kept ds) d.visit.cid) (position_of store d.visit.cid) (new_section known store d) (no-section (known d.visit.cid) store d.visit.cid) none
+    ∙ no-text (is_sound d.verdict) (is_told (kept ds) d.visit.cid) (position_of store d.visit.cid) (new_section known store d) (no-section (is_known known d.visit.cid) store d.visit.cid) none
 
--- and else its section
-pub due-section : (store : Blocks) (ds : List Delivery) (d : Delivery) (place : ℕ) (block : List ℕ) → is_below (cut_behind ds) d.visit.depth ≡ false → unwritten_block store (kept ds) d ≡ Some place → block_of store d.visit.cid ≡ Some block
-    → text_due none_known store ds d ≡ with_length (d.visit.cid ++ block)
-due-section store ds d place block uncut due at =
+-- no text, by the same tests
+no-more : (sound told : Bool) → ◌≡◌ {A = List ℕ} (if sound then (if told then [] else []) else []) []
+no-more false told = refl
+no-more true true = refl
+no-more true false = refl
+
+-- a known CID writes nothing
+pub due-known : (known : Known) (store : Blocks) (ds : List Delivery) (d : Delivery) → is_below (cut_behind ds) d.visit.depth ≡ false → is_known known d.visit.cid ≡ true → text_due known store ds d ≡ []
+due-known known store ds d uncut has =
+    due-kept known store ds d uncut
+    ∙ ap (λ b. if is_sound d.verdict then (if is_told (kept ds) d.visit.cid then [] else (if b then [] else section_of store d)) else []) has
+    ∙ no-more (is_sound d.verdict) (is_told (kept ds) d.visit.cid)
+
+-- and another its section
+pub due-section : (known : Known) (store : Blocks) (ds : List Delivery) (d : Delivery) (place : ℕ) (block : List ℕ) → is_below (cut_behind ds) d.visit.depth ≡ false → unwritten_block store (kept ds) d ≡ Some place → is_known known d.visit.cid ≡ false → block_of store d.visit.cid ≡ Some block
+    → text_due known store ds d ≡ with_length (d.visit.cid ++ block)
+due-section known store ds d place block uncut due new at =
     let found = due-told store (kept ds) d place due in
-    due-kept none_known store ds d uncut ∙ ap (λ b. if b then (if is_told (kept ds) d.visit.cid then [] else section_of store d) else []) found.0
-    ∙ ap (λ b. if b then [] else section_of store d) found.1
+    due-kept known store ds d uncut ∙ ap (λ b. if b then (if is_told (kept ds) d.visit.cid then [] else new_section known store d) else []) found.0
+    ∙ ap (λ b. if b then [] else new_section known store d) found.1
+    ∙ ap (λ b. if b then [] else section_of store d) new
     ∙ ap (λ o. section_with d.visit.cid o) at
+
+-- whether the CID of a block that is due is known, by its position
+pub known-place : (places : Option PlaceSet) (store : Blocks) (ks : List Delivery) (d : Delivery) (place : ℕ) → unwritten_block store ks d ≡ Some place → is_known (known_at store places) d.visit.cid ≡ is_known_place places (Some place)
+known-place None store ks d place due = refl
+known-place (Some places) store ks d place due = ap (λ o. is_known_place (Some places) o) (due-told store ks d place due).2

@@ -26,6 +26,7 @@ use Rattle.ix_archive.specs.declared.sink.Delivery.{Delivery}
 use Rattle.ix_archive.specs.Kept.{is_below, cut_at, kept_after}
 use Rattle.ix_archive.specs.Verified.{is_good, verified_arrivals, number_among, judged, verified}
 use Rattle.ix_car.specs.Writing.{section_with, header_of}
+use Rattle.ix_archive.specs.KnownPlaces.{knows}
 use Rattle.ix_archive.specs.Archive.{is_sound, first_sound, sections_of, archive_with, archive_of}
 use Rattle.ix_archive.specs.Archived.{IsBeginning}
 use Rattle.ix_archive.proofs.Archives.{archive-beginning}
@@ -36,19 +37,15 @@ use Rattle.ix_archive.proofs.KeptOnce.{judged_once}
 -- ---- an archive is of the CIDs of its deliveries
 
 -- the CID of a delivery
-abbrev cid_told : Delivery → List ℕ
+abbrev pub cid_told : Delivery → List ℕ
 cid_told d = d.visit.cid
 
--- whether a CID is sound in the store
-abbrev sound_in : Blocks → List ℕ → Bool
-sound_in store c = is_sound (verdict_of store c)
-
 -- each has the verdict that the store gives
-abbrev AreJudged : Blocks → List Delivery → Type 0
+abbrev pub AreJudged : Blocks → List Delivery → Type 0
 AreJudged store = AllByRecursion (λ d. d.verdict ≡ verdict_of store d.visit.cid)
 
 -- filtering by CID before or after mapping to CIDs
-map-filter : (q : List ℕ → Bool) (ds : List Delivery) → map cid_told (filter (λ d. q d.visit.cid) ds) ≡ filter q (map cid_told ds)
+pub map-filter : (q : List ℕ → Bool) (ds : List Delivery) → map cid_told (filter (λ d. q d.visit.cid) ds) ≡ filter q (map cid_told ds)
 map-filter q [] = refl
 map-filter q (d ∷ ds) =
     elim (q d.visit.cid) as (λ b. map cid_told (if b then d ∷ filter (λ e. q e.visit.cid) ds else filter (λ e. q e.visit.cid) ds) ≡ (if b then d.visit.cid ∷ filter q (map cid_told ds) else filter q (map cid_told ds)))
@@ -72,21 +69,21 @@ other-sound true sound h = sym (h refl)
 other-sound false sound h = refl
 
 -- the sections' CIDs are the sound ones of the first occurrences
-first_sound-cids : (store : Blocks) (ds : List Delivery) → AreJudged store ds → map cid_told (first_sound ds) ≡ filter (sound_in store) (first_ones (map cid_told ds))
+pub first_sound-cids : (store : Blocks) (ds : List Delivery) → AreJudged store ds → map cid_told (first_sound ds) ≡ filter (knows store) (first_ones (map cid_told ds))
 first_sound-cids store [] h = refl
 first_sound-cids store (d ∷ ds) h =
     let c : List ℕ = d.visit.cid in
-    let behind : map cid_told (first_sound ds) ≡ filter (sound_in store) (first_ones (map cid_told ds)) = first_sound-cids store ds h.1 in
+    let behind : map cid_told (first_sound ds) ≡ filter (knows store) (first_ones (map cid_told ds)) = first_sound-cids store ds h.1 in
     ap (λ v. map cid_told (if is_sound v then d ∷ filter (λ e. not (bytes_eq e.visit.cid c)) (first_sound ds) else first_sound ds)) h.0
-    ∙ (elim (sound_in store c) as (λ b. sound_in store c ≡ b → map cid_told (if b then d ∷ filter (λ e. not (bytes_eq e.visit.cid c)) (first_sound ds) else first_sound ds)
-    ≡ (if b then c ∷ filter (sound_in store) (filter (λ e. not (bytes_eq e c)) (first_ones (map cid_told ds))) else filter (sound_in store) (filter (λ e. not (bytes_eq e c)) (first_ones (map cid_told ds))))) [
-      | true ↦ λ _. ap (λ l. c ∷ l) (map-filter (λ e. not (bytes_eq e c)) (first_sound ds) ∙ ap (filter (λ e. not (bytes_eq e c))) behind ∙ filters-flip (λ e. not (bytes_eq e c)) (sound_in store) (first_ones (map cid_told ds)))
-      | false ↦ λ isnt. behind ∙ sym (filter-both (sound_in store) (λ e. not (bytes_eq e c)) (sound_in store) (λ e. other-sound (bytes_eq e c) (sound_in store e) (λ is. ap (sound_in store) ((bytes_eq-Decides e c).0 is) ∙ isnt)) (first_ones (map cid_told ds)))
+    ∙ (elim (knows store c) as (λ b. knows store c ≡ b → map cid_told (if b then d ∷ filter (λ e. not (bytes_eq e.visit.cid c)) (first_sound ds) else first_sound ds)
+    ≡ (if b then c ∷ filter (knows store) (filter (λ e. not (bytes_eq e c)) (first_ones (map cid_told ds))) else filter (knows store) (filter (λ e. not (bytes_eq e c)) (first_ones (map cid_told ds))))) [
+      | true ↦ λ _. ap (λ l. c ∷ l) (map-filter (λ e. not (bytes_eq e c)) (first_sound ds) ∙ ap (filter (λ e. not (bytes_eq e c))) behind ∙ filters-flip (λ e. not (bytes_eq e c)) (knows store) (first_ones (map cid_told ds)))
+      | false ↦ λ isnt. behind ∙ sym (filter-both (knows store) (λ e. not (bytes_eq e c)) (knows store) (λ e. other-sound (bytes_eq e c) (knows store e) (λ is. ap (knows store) ((bytes_eq-Decides e c).0 is) ∙ isnt)) (first_ones (map cid_told ds)))
     ]) refl
 
 -- the archive of CIDs, each where it comes first
-abbrev archive_by : Blocks → List (List ℕ) → List (List ℕ) → List ℕ
-archive_by store roots cs = header_of roots ++ flat_map (λ c. section_with c (block_of store c)) (filter (sound_in store) cs)
+abbrev pub archive_by : Blocks → List (List ℕ) → List (List ℕ) → List ℕ
+archive_by store roots cs = header_of roots ++ flat_map (λ c. section_with c (block_of store c)) (filter (knows store) cs)
 
 -- so an archive depends on the first occurrences alone
 archive-cids : (store : Blocks) (roots : List (List ℕ)) (ds : List Delivery) → AreJudged store ds → archive_with store roots ds ≡ archive_by store roots (first_ones (map cid_told ds))
@@ -103,19 +100,19 @@ unsound-without c true (Some Sha2_256) = refl
 unsound-without c true (Some Sha2_512) = refl
 
 -- a sound verdict means that there is a block
-sound-block : (c : List ℕ) (block : Option (List ℕ)) → is_sound (verdict_with c block) ≡ true → is_some block ≡ true
+pub sound-block : (c : List ℕ) (block : Option (List ℕ)) → is_sound (verdict_with c block) ≡ true → is_some block ≡ true
 sound-block c None sound = absurd (cc (sound, unsound-without c (has_codec c) (hash_function_of (parts_of c))))
 sound-block c (Some b) sound = refl
 
 -- ---- the deliveries of arrivals
 
 -- visits have their CIDs
-visits-cids : (store : Blocks) (number n : ℕ) (xs : List Arrival) → map cid_told (map (judged store) (visits_from store number n xs)) ≡ map cid_of xs
+pub visits-cids : (store : Blocks) (number n : ℕ) (xs : List Arrival) → map cid_told (map (judged store) (visits_from store number n xs)) ≡ map cid_of xs
 visits-cids store number n [] = refl
 visits-cids store number n (x ∷ xs) = ap (λ l. x.cid ∷ l) (visits-cids store number (n + 1) xs)
 
 -- and the store's verdicts
-visits-judged : (store : Blocks) (number n : ℕ) (xs : List Arrival) → AreJudged store (map (judged store) (visits_from store number n xs))
+pub visits-judged : (store : Blocks) (number n : ℕ) (xs : List Arrival) → AreJudged store (map (judged store) (visits_from store number n xs))
 visits-judged store number n [] = tt
 visits-judged store number n (x ∷ xs) = (refl, visits-judged store number (n + 1) xs)
 
@@ -146,7 +143,7 @@ visits-begin store number m k xs ys =
     )
 
 -- the archive of visits, and that of a job
-archive-visits : (store : Blocks) (roots : List (List ℕ)) (number : ℕ) (xs : List Arrival) → archive_with store roots (map (judged store) (visits_from store number 0 xs)) ≡ archive_by store roots (first_ones (map cid_of xs))
+pub archive-visits : (store : Blocks) (roots : List (List ℕ)) (number : ℕ) (xs : List Arrival) → archive_with store roots (map (judged store) (visits_from store number 0 xs)) ≡ archive_by store roots (first_ones (map cid_of xs))
 archive-visits store roots number xs =
     archive-cids store roots (map (judged store) (visits_from store number 0 xs)) (visits-judged store number 0 xs) ∙ ap (λ l. archive_by store roots (first_ones l)) (visits-cids store number 0 xs)
 
@@ -222,7 +219,7 @@ module _ {R : Type 0} (rest : Path → R) (same : R → R → Bool) (store : Blo
       ∙ ap (archive_by store job.roots) (once-same (is_entered job.selector) rest same (sound_value store) tells n many job.roots fit (omega (arith, fewer)))
       ∙ sym (archive-visits store job.roots number (sound_arrivals n)) in
       subst (IsBeginning (archive_with store job.roots (take m (judged_once store number job rest same)))) whole
-      (archive-beginning store job.roots (take m (judged_once store number job rest same)) first.0 (map (judged store) (visits_from store number 0 all)) (first.1 ∙ ap (λ l. map (judged store) (visits_from store number 0 l)) on.1))
+      (archive-beginning None store job.roots (take m (judged_once store number job rest same)) first.0 (map (judged store) (visits_from store number 0 all)) (first.1 ∙ ap (λ l. map (judged store) (visits_from store number 0 l)) on.1))
 
   -- a job within its limit at every link is within it with link-visit-once
   once-short : is_over_limit store (going_in false job) ≡ false → length (once_arrivals store job rest same) ≤ job.limit
@@ -255,25 +252,25 @@ module _ {R : Type 0} (rest : Path → R) (same : R → R → Bool) (store : Blo
   has_block c = is_some (block_of store c)
 
   -- the sections' CIDs are the sound ones with a block among the first occurrences
-  section-cids : length (once_arrivals store job rest same) ≤ job.limit → sections ≡ filter has_block (filter (sound_in store) (first_ones once_cids))
+  section-cids : length (once_arrivals store job rest same) ≤ job.limit → sections ≡ filter has_block (filter (knows store) (first_ones once_cids))
   section-cids short =
       ap (λ l. map cid_told (sections_of store l)) (told-all short)
       ∙ map-filter has_block (first_sound (map (judged store) (visits_from store number 0 (once_arrivals store job rest same))))
       ∙ ap (filter has_block) (first_sound-cids store (map (judged store) (visits_from store number 0 (once_arrivals store job rest same))) (visits-judged store number 0 (once_arrivals store job rest same))
-      ∙ ap (λ l. filter (sound_in store) (first_ones l)) (visits-cids store number 0 (once_arrivals store job rest same)))
+      ∙ ap (λ l. filter (knows store) (first_ones l)) (visits-cids store number 0 (once_arrivals store job rest same)))
 
   -- a section's CID is sound and visited
   section-in : length (once_arrivals store job rest same) ≤ job.limit → (c : List ℕ) → In c sections → (is_sound (verdict_of store c) ≡ true) × In c once_cids
   section-in short c i =
-      let with_block = in-filter has_block c (filter (sound_in store) (first_ones once_cids)) (subst (In c) (section-cids short) i) in
-      let sound = in-filter (sound_in store) c (first_ones once_cids) with_block.0 in
+      let with_block = in-filter has_block c (filter (knows store) (first_ones once_cids)) (subst (In c) (section-cids short) i) in
+      let sound = in-filter (knows store) c (first_ones once_cids) with_block.0 in
       (sound.1, first_ones-in c once_cids sound.0)
 
   -- a sound CID that is visited has a section
   in-section : length (once_arrivals store job rest same) ≤ job.limit → (c : List ℕ) → is_sound (verdict_of store c) ≡ true → In c once_cids → In c sections
   in-section short c sound i =
       subst (In c) (sym (section-cids short))
-      (filter-in has_block c (filter (sound_in store) (first_ones once_cids)) (filter-in (sound_in store) c (first_ones once_cids) (in-first_ones c once_cids i) sound) (sound-block c (block_of store c) sound))
+      (filter-in has_block c (filter (knows store) (first_ones once_cids)) (filter-in (knows store) c (first_ones once_cids) (in-first_ones c once_cids i) sound) (sound-block c (block_of store c) sound))
 
   -- the law `OnceArchivesTheReached`
   pub once-sections : TellsRests (is_entered job.selector) rest same → is_over_limit_once store job rest same ≡ false

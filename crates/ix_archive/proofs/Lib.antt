@@ -1,6 +1,9 @@
 pub mod Open
 pub mod Pruning
 pub mod FirstSound
+pub mod KnownCounts
+pub mod KnownBlocks
+pub mod KnownIn
 pub mod Tally
 pub mod Delivered
 pub mod Steps
@@ -13,3 +16,5 @@ pub mod Archives
 pub mod GoingOnce
 pub mod Prefixes
 pub mod Each
+pub mod Visited
+pub mod Restored

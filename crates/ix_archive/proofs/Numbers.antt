@@ -78,7 +78,7 @@ judged_visits-take store number job =
     ∙ sym (take-map (judged store) job.limit (visits_from store number 0 (arrivals_of store job)))
 
 -- and all of them, if the limit isn't exceeded
-judged_visits-all : (store : Blocks) (number : ℕ) (job : JobMeaning) → is_over_limit store job ≡ false → judged_visits store number job ≡ all_judged store number job
+pub judged_visits-all : (store : Blocks) (number : ℕ) (job : JobMeaning) → is_over_limit store job ≡ false → judged_visits store number job ≡ all_judged store number job
 judged_visits-all store number job within =
     ap (λ l. map (judged store) (visits_from store number 0 l)) (take_all job.limit (arrivals_of store job) (ltb-false job.limit (length (arrivals_of store job)) within))
 
@@ -105,7 +105,7 @@ kept-numbered store number number_of cut (a ∷ xs) =
     [ true ↦ kept-numbered store number number_of cut xs | false ↦ ap (λ l. judged_at store number (number_of a) a ∷ l) (kept-numbered store number number_of next xs) ]
 
 -- the arrivals of a job that goes in at every one, and of one that goes in once
-arrivals-by : (store : Blocks) (job : JobMeaning) (once : Bool) → job.once ≡ once → arrivals_of store job ≡ (if once then once_arrivals store job (residual_at job.selector) same_residual else believed store job)
+pub arrivals-by : (store : Blocks) (job : JobMeaning) (once : Bool) → job.once ≡ once → arrivals_of store job ≡ (if once then once_arrivals store job (residual_at job.selector) same_residual else believed store job)
 arrivals-by store job once e = ap (λ (b : Bool). if b then once_arrivals store job (residual_at job.selector) same_residual else believed store job) e
 
 -- at every arrival
@@ -117,7 +117,7 @@ kept-every store number job =
     ∙ ap (numbered store number number_of) (kept-believed store job)
 
 -- what is kept of all is the verified traversal
-kept-all : (store : Blocks) (number : ℕ) (job : JobMeaning) → kept (all_judged store number job) ≡ verified store number job
+pub kept-all : (store : Blocks) (number : ℕ) (job : JobMeaning) → kept (all_judged store number job) ≡ verified store number job
 kept-all store number job =
     let each : List Delivery = numbered store number (number_among 0 (believed store job)) (verified_arrivals store job) in
     (elim job.once as (λ b. job.once ≡ b → kept (all_judged store number job) ≡ (if b then all_judged store number job else each)) [

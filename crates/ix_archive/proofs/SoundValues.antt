@@ -39,7 +39,7 @@ good true true (Some d) v h = ap (λ b. if b then Some d else None) h
 good false true (Some d) v h = ap (λ b. if b then Some d else None) h
 
 -- the data of a CID by its hash function
-abbrev value_by : List ℕ → Option HashFunction → Option (List ℕ) → Option Data
+abbrev pub value_by : List ℕ → Option HashFunction → Option (List ℕ) → Option Data
 value_by c f block = if is_dag_cbor c then option_and_then data_at (bytes_by f (digest_of c) block) else None
 
 -- by whether the hash matches

@@ -1,19 +1,23 @@
 -- An archive as contracts see it.
-use Rattle.std.specs.Prelude.{◌≡◌, ◌≢◌, ℕ, Bool, List, [], ◌∷◌, ◌++◌, length, Option, Some, map}
+use Rattle.std.specs.Prelude.{◌≡◌, ◌≢◌, ℕ, List, [], ◌∷◌, ◌++◌, length, Option, None, Some, map}
+use Rattle.std.specs.Borrow.{Bor}
 use Rattle.ix_store.specs.Store.{Blocks}
+use Rattle.ix_store.specs.declared.places.PlaceSet.{PlaceSet}
 use Rattle.ix_walk.specs.JobMeaning.{JobMeaning}
 use Rattle.ix_archive.specs.declared.sink.Delivery.{Delivery}
 use Rattle.ix_archive.specs.declared.sink.End.{End}
 use Rattle.ix_archive.specs.Events.{Event, Calls, delivery, close}
 use Rattle.ix_archive.specs.Kept.{kept}
 use Rattle.ix_car.specs.Writing.{header_of}
-use Rattle.ix_archive.specs.Archive.{archive_without, none_known}
+use Rattle.ix_archive.specs.Archive.{Known, known_at, archive_without}
 use Rattle.ix_archive.specs.Report.{at_most}
 
--- an archive: its store and roots, what was delivered, the delivery that failed, the close, and its writer
+-- an archive: its store and roots, the positions of known blocks, if they are given, what was delivered, the delivery that failed,
+-- the close, and its writer
 pub record ArchiveMeaning (W : Type 0) : Type 0 where
   pub store : Blocks
   pub roots : List (List ℕ)
+  pub known : Option PlaceSet
   pub deliveries : List Delivery
   pub failed : List Delivery
   pub closed : List End
@@ -21,9 +25,14 @@ pub record ArchiveMeaning (W : Type 0) : Type 0 where
   pub taken : ℕ
   pub writer : W
 
--- the CIDs whose sections an archive leaves out: none
-abbrev pub known_in : {W : Type 0} → ArchiveMeaning W → List ℕ → Bool
-known_in a = none_known
+-- the set that is borrowed, if any
+abbrev pub borrowed : Option (Bor PlaceSet) → Option PlaceSet
+borrowed None = None
+borrowed (Some places) = Some places.now
+
+-- the CIDs whose sections an archive leaves out
+abbrev pub known_in : {W : Type 0} → ArchiveMeaning W → Known
+known_in a = known_at a.store a.known
 
 -- the events of an archive, as a sink
 abbrev pub events_of : {W : Type 0} → ArchiveMeaning W → List Event
@@ -39,13 +48,13 @@ IsProperPrefix a b = (more : List ℕ) × (a ++ more ≡ b) × (more ≢ [])
 
 -- A writer with known bytes has those of the archive so far without the sections of known CIDs, and after a failed delivery a
 -- proper part of those with it.
-abbrev pub HasWrittenWithout : (List ℕ → Bool) → Option (List ℕ) → Blocks → List (List ℕ) → List Delivery → List Delivery → Type 0
+abbrev pub HasWrittenWithout : Known → Option (List ℕ) → Blocks → List (List ℕ) → List Delivery → List Delivery → Type 0
 HasWrittenWithout known told store roots ds [] = told ≡ Some (archive_without known store roots (kept ds))
 HasWrittenWithout known told store roots ds (d ∷ more) = (bytes : List ℕ) × (told ≡ Some bytes) × IsProperPrefix bytes (archive_without known store roots (kept (ds ++ d ∷ [])))
 
 -- the same of the archive with all sections
 abbrev pub HasWritten : Option (List ℕ) → Blocks → List (List ℕ) → List Delivery → List Delivery → Type 0
-HasWritten = HasWrittenWithout none_known
+HasWritten = HasWrittenWithout None
 
 -- the number of the bytes that a writer has, if they are known
 abbrev pub IsCountOf : ℕ → Option (List ℕ) → Type 0
@@ -53,7 +62,7 @@ IsCountOf taken told = (bytes : List ℕ) → told ≡ Some bytes → taken ≡ 
 
 -- An archive over this store and job, without the sections of these known CIDs, has written what it should, and counted it, if its
 -- writer had no bytes at first.
-pub record HasArchived {W : Type 0} (told : W → Option (List ℕ)) (a : ArchiveMeaning W) (known : List ℕ → Bool) (store : Blocks) (job : JobMeaning) (first : Option (List ℕ)) : Type 0 where
+pub record HasArchived {W : Type 0} (told : W → Option (List ℕ)) (a : ArchiveMeaning W) (known : Known) (store : Blocks) (job : JobMeaning) (first : Option (List ℕ)) : Type 0 where
   pub same_known : known_in a ≡ known
   pub same_store : a.store ≡ store
   pub same_roots : a.roots ≡ job.roots

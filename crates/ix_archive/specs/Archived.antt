@@ -5,8 +5,8 @@ use Rattle.ix_walk.specs.JobMeaning.{JobMeaning}
 use Rattle.ix_archive.specs.declared.sink.End.{End}
 use Rattle.ix_archive.specs.declared.sink.End.TheVariants.{Done}
 use Rattle.ix_archive.specs.Events.{Calls, deliveries_of}
-use Rattle.ix_archive.specs.Archive.{archive_of}
-use Rattle.ix_archive.specs.ArchiveMeaning.{HasWritten}
+use Rattle.ix_archive.specs.Archive.{Known, difference_of}
+use Rattle.ix_archive.specs.ArchiveMeaning.{HasWrittenWithout}
 
 -- the list begins with this
 abbrev pub IsBeginning : List ℕ → List ℕ → Type 0
@@ -16,8 +16,8 @@ IsBeginning a b = (more : List ℕ) × (a ++ more ≡ b)
 abbrev pub TellsBeginning : Option (List ℕ) → List ℕ → Type 0
 TellsBeginning told whole = (bytes : List ℕ) × (told ≡ Some bytes) × IsBeginning bytes whole
 
--- What an archive over the store and the job has written, if its writer's bytes are known: the whole archive at Done, and else
--- its beginning.
+-- What an archive over the store and the job has written, whichever CIDs are known, if its writer's bytes are told: without the
+-- sections of known CIDs, the whole archive at Done, and else its beginning.
 pub record IsArchived (store : Blocks) (number : ℕ) (job : JobMeaning) (end : End) (calls : Calls) : Type 0 where
-  pub whole : end ≡ Done → (told : Option (List ℕ)) → HasWritten told store job.roots (deliveries_of calls.events) calls.failed → told ≡ Some (archive_of store number job)
-  pub beginning : (bytes : List ℕ) → HasWritten (Some bytes) store job.roots (deliveries_of calls.events) calls.failed → IsBeginning bytes (archive_of store number job)
+  pub whole : end ≡ Done → (known : Known) (told : Option (List ℕ)) → HasWrittenWithout known told store job.roots (deliveries_of calls.events) calls.failed → told ≡ Some (difference_of known store number job)
+  pub beginning : (known : Known) (bytes : List ℕ) → HasWrittenWithout known (Some bytes) store job.roots (deliveries_of calls.events) calls.failed → IsBeginning bytes (difference_of known store number job)

@@ -13,7 +13,7 @@ use Rattle.ix_archive.specs.declared.fault.SinkFault.TheVariants.{Write, Memory}
 use Rattle.ix_archive.specs.declared.archive.Skip.{Skip}
 use Rattle.ix_archive.specs.declared.archive.Counts.{Counts}
 use Rattle.ix_archive.specs.Kept.{is_below, cut_after, kept}
-use Rattle.ix_archive.specs.Archive.{is_sound, new_section}
+use Rattle.ix_archive.specs.Archive.{Known, is_sound, new_section}
 use Rattle.ix_archive.specs.ArchiveMeaning.{ArchiveMeaning, known_in, IsProperPrefix}
 use Rattle.ix_archive.specs.Report.{skips_of, at_most, counts_of}
 
@@ -34,17 +34,17 @@ abbrev pub unwritten_block : Blocks → List Delivery → Delivery → Option �
 unwritten_block store ks d = if is_sound d.verdict then (if is_told ks d.visit.cid then None else position_of store d.visit.cid) else None
 
 -- what a kept delivery writes after these kept ones, without the sections of known CIDs
-abbrev pub text_after : (List ℕ → Bool) → Blocks → List Delivery → Delivery → List ℕ
+abbrev pub text_after : Known → Blocks → List Delivery → Delivery → List ℕ
 text_after known store ks d = if is_sound d.verdict then (if is_told ks d.visit.cid then [] else new_section known store d) else []
 
 -- what a delivery writes after these, without the sections of known CIDs
-abbrev pub text_due : (List ℕ → Bool) → Blocks → List Delivery → Delivery → List ℕ
+abbrev pub text_due : Known → Blocks → List Delivery → Delivery → List ℕ
 text_due known store ds d = if is_cut_off ds d.visit.depth then [] else text_after known store (kept ds) d
 
 -- what an archive keeps, besides these deliveries, those at which a write failed, and the close
-pub record IsTally (store : Blocks) (ds failed : List Delivery) (closed : List End) (cut : Option ℕ) (counts : Counts) (written : PlaceSet) (skips : List Skip) : Type 0 where
+pub record IsTally (known : Known) (store : Blocks) (ds failed : List Delivery) (closed : List End) (cut : Option ℕ) (counts : Counts) (written : PlaceSet) (skips : List Skip) : Type 0 where
   pub cut_is : cut ≡ cut_behind ds
-  pub counts_are : counts ≡ counts_of store ds counts.bytes
+  pub counts_are : counts ≡ counts_of known store ds counts.bytes
   pub skips_is : skips ≡ skips_of ds
   -- while nothing failed and nothing was closed, the place of a CID is in the set where a kept sound delivery has that CID
   pub written_is : failed ≡ [] → closed ≡ [] → (c : List ℕ) (place : ℕ) → position_of store c ≡ Some place → contains_place written place ≡ is_told (kept ds) c
@@ -96,4 +96,4 @@ section_due a d = unwritten_block a.store (kept a.deliveries) d
 
 -- what an archive has counted
 abbrev pub counts_in : {W : Type 0} → ArchiveMeaning W → Counts
-counts_in a = counts_of a.store a.deliveries a.taken
+counts_in a = counts_of (known_in a) a.store a.deliveries a.taken

@@ -1,5 +1,5 @@
 -- Examples, computed.
-use Rattle.std.specs.Prelude.{◌≡◌, ℕ, true, false, List, [], ◌∷◌, ◌++◌, refl, None, map, flat_map}
+use Rattle.std.specs.Prelude.{◌≡◌, ℕ, true, false, List, [], ◌∷◌, ◌++◌, refl, None, Some, map, flat_map}
 use Rattle.ix_store.specs.Store.{Blocks}
 use Rattle.ix_car.specs.Writing.{header_of}
 use Rattle.ix_verdict.specs.declared.verdict.Verdict.{Verdict}
@@ -48,5 +48,5 @@ pub each_has_a_section : (store : Blocks) (roots : List (List ℕ)) (ds : List D
 each_has_a_section store roots ds = refl
 
 -- a known CID has none
-pub known_has_no_section : (store : Blocks) → archive_without (λ c. true) store [] (at 0 0 70 Sound ∷ []) ≡ header_of []
+pub known_has_no_section : (store : Blocks) → archive_without (Some (λ c. true)) store [] (at 0 0 70 Sound ∷ []) ≡ header_of []
 known_has_no_section store = refl

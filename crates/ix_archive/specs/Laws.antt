@@ -1,9 +1,11 @@
 -- The laws of cutting and of archives.
-use Rattle.std.specs.Prelude.{◌≡◌, ◌↔◌, ℕ, true, false, List, [], ◌∷◌, ◌++◌, take, map, Option, Some, if◌then◌else◌}
+use Rattle.std.specs.Prelude.{◌≡◌, ◌↔◌, ℕ, true, false, List, [], ◌∷◌, ◌++◌, take, map, filter, flat_map, not, Option, Some, if◌then◌else◌}
 use Rattle.std.specs.List.{Contains}
 use Rattle.ix_selector.specs.IsEntered.{is_entered}
 use Rattle.ix_selector.specs.Pattern.{IsSelector}
 use Rattle.ix_store.specs.Store.{Blocks, value_of}
+use Rattle.ix_store.specs.Sound.{AreSound, first_copies}
+use Rattle.ix_store.specs.declared.places.PlaceSet.{PlaceSet}
 use Rattle.ix_walk.specs.JobMeaning.{JobMeaning, going_in}
 use Rattle.ix_walk.specs.Arrivals.{Arrival, arrivals_from}
 use Rattle.ix_walk.specs.Visits.{is_over_limit, visits_from}
@@ -14,9 +16,13 @@ use Rattle.ix_archive.specs.declared.sink.End.{End}
 use Rattle.ix_archive.specs.declared.sink.End.TheVariants.{Done}
 use Rattle.ix_archive.specs.Events.{Calls}
 use Rattle.ix_archive.specs.Kept.{kept, without_deeper_than}
+use Rattle.ix_car.specs.Writing.{header_of, section_with}
 use Rattle.ix_archive.specs.Verified.{only_passing, is_good, judged, verified, judged_visits}
 use Rattle.ix_archive.specs.Faithful.{IsFaithful}
-use Rattle.ix_archive.specs.Archive.{is_sound, none_known, sections_of, archive_with, archive_of}
+use Rattle.ix_archive.specs.Archive.{Known, is_known, known_at, is_sound, first_sound, section_of, sections_of, archive_without, archive_with, difference_of, archive_of}
+use Rattle.ix_archive.specs.KnownPlaces.{known_by, IsKnownIn}
+use Rattle.ix_archive.specs.Report.{counts_of}
+use Rattle.ix_archive.specs.Restoring.{difference_pairs, AgreesWith, IsWithoutSkips, IsRestoredBy}
 use Rattle.ix_archive.specs.ArchiveMeaning.{ArchiveMeaning, HasArchived, calls_of}
 use Rattle.ix_archive.specs.Archived.{IsArchived, IsBeginning, TellsBeginning}
 
@@ -105,14 +111,46 @@ FaithfulIsArchived =
     (store : Blocks) (number : ℕ) (job : JobMeaning) (end : End) (calls : Calls)
     → IsFaithful store number job end calls → IsArchived store number job end calls
 
--- the writer of an archive of all sections whose guarantee held, and that was faithful to its job, has the archive of the job at Done
+-- the writer of an archive whose guarantee held, and that was faithful to its job, has the archive of the job at Done, without the
+-- sections of known CIDs
 abbrev pub HasWholeArchive : {W : Type 0} → (W → Option (List ℕ)) → Type 0
 HasWholeArchive {W} told =
-    (a : ArchiveMeaning W) (store : Blocks) (number : ℕ) (job : JobMeaning) → HasArchived told a none_known store job (Some [])
-    → IsFaithful store number job Done (calls_of a) → told a.writer ≡ Some (archive_of store number job)
+    (a : ArchiveMeaning W) (known : Known) (store : Blocks) (number : ℕ) (job : JobMeaning) → HasArchived told a known store job (Some [])
+    → IsFaithful store number job Done (calls_of a) → told a.writer ≡ Some (difference_of known store number job)
 
 -- it has a beginning of that whatever the end
 abbrev pub HasBegunArchive : {W : Type 0} → (W → Option (List ℕ)) → Type 0
 HasBegunArchive {W} told =
-    (a : ArchiveMeaning W) (store : Blocks) (number : ℕ) (job : JobMeaning) (end : End) → HasArchived told a none_known store job (Some [])
-    → IsFaithful store number job end (calls_of a) → TellsBeginning (told a.writer) (archive_of store number job)
+    (a : ArchiveMeaning W) (known : Known) (store : Blocks) (number : ℕ) (job : JobMeaning) (end : End) → HasArchived told a known store job (Some [])
+    → IsFaithful store number job end (calls_of a) → TellsBeginning (told a.writer) (difference_of known store number job)
+
+-- the sections without those of known CIDs are the others, in their order
+abbrev pub DifferenceIsTheRest : Type 0
+DifferenceIsTheRest =
+    (known : Known) (store : Blocks) (roots : List (List ℕ)) (ds : List Delivery)
+    → archive_without known store roots ds ≡ header_of roots ++ flat_map (section_of store) (filter (λ d. not (is_known known d.visit.cid)) (first_sound ds))
+
+-- positions that are those of a base's sound blocks leave out, and count, what the base knows
+abbrev pub PlacesAreOfTheBase : Type 0
+PlacesAreOfTheBase =
+    (store base : Blocks) (places : PlaceSet) → IsKnownIn store base places → (roots : List (List ℕ)) (ds : List Delivery)
+    → (archive_without (known_at store (Some places)) store roots ds ≡ archive_without (known_by base) store roots ds)
+    × ((taken : ℕ) → counts_of (known_at store (Some places)) store ds taken ≡ counts_of (known_by base) store ds taken)
+
+-- an archive without the sections of known CIDs has the sections of these pairs
+abbrev pub DifferenceIsOfPairs : Type 0
+DifferenceIsOfPairs =
+    (known : Known) (store : Blocks) (number : ℕ) (job : JobMeaning)
+    → difference_of known store number job ≡ header_of job.roots ++ flat_map (λ p. section_with p.0 (Some p.1)) (difference_pairs known store number job)
+
+-- a job that skips nothing is restored by its difference from any base, followed by the base
+abbrev pub DifferenceThenBaseRestores : Type 0
+DifferenceThenBaseRestores =
+    (store base : Blocks) (number : ℕ) (job : JobMeaning) → AgreesWith base store → IsWithoutSkips store number job
+    → IsRestoredBy store number job (first_copies (difference_pairs (known_by base) store number job ++ base))
+
+-- and by the base followed by the difference, if the first copies in the base are all sound
+abbrev pub BaseThenDifferenceRestores : Type 0
+BaseThenDifferenceRestores =
+    (store base : Blocks) (number : ℕ) (job : JobMeaning) → AreSound (first_copies base) → AgreesWith base store → IsWithoutSkips store number job
+    → IsRestoredBy store number job (first_copies (base ++ difference_pairs (known_by base) store number job))

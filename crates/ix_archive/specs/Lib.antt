@@ -3,9 +3,11 @@ pub mod Kept
 pub mod Verified
 pub mod Archive
 pub mod ArchiveMeaning
+pub mod KnownPlaces
 pub mod Archiving
 pub mod ArchiveNew
 pub mod Report
+pub mod Restoring
 pub mod Faithful
 pub mod Archived
 pub mod EndWords

@@ -1,10 +1,10 @@
 //! Archives (CARv1): a header with the roots of a job, and a section for each sound block at its
 //! first visit.
 
-ghost use Rattle.std.specs.Prelude.{◌≡◌, ◌+◌, true, false, None, Some, [], IfOk, IfErr};
+ghost use Rattle.std.specs.Prelude.{◌≡◌, ◌+◌, true, false, None, Some, [], IfOk, IfErr, option_map};
 ghost use Rattle.ix_check.specs.Verdict.{passes};
-ghost use Rattle.ix_archive.specs.Archive.{is_sound, none_known};
-ghost use Rattle.ix_archive.specs.ArchiveMeaning.{HasArchived, IsBegun};
+ghost use Rattle.ix_archive.specs.Archive.{is_sound, is_known, is_known_place, known_at};
+ghost use Rattle.ix_archive.specs.ArchiveMeaning.{HasArchived, IsBegun, borrowed, known_in};
 ghost use Rattle.ix_archive.specs.Archiving.{is_cut_off, section_due, counts_in, IsAdded, IsDelivered, IsDeliveredDue, KeepsAt};
 ghost use Rattle.ix_archive.specs.Report.{at_most, skips_of};
 ghost use Rattle.ix_archive.specs.ArchiveNew.{IsNoArchive};
@@ -43,6 +43,8 @@ pub struct Counts {
     pub sections: u32,
     /// Bytes that the writer took, with the header.
     pub bytes: u64,
+    /// Sound blocks that have no section since the receiver has them, if that was asked for.
+    pub known: Option<u32>,
 }
 
 /// The sink that writes the CARv1 archive of a job, given its deliveries in preorder.
@@ -54,12 +56,17 @@ pub struct Counts {
 /// together as a varint, the CID, and the block as the archive's own store has it. If the store has
 /// none, nothing is written, and that is no section. An inline block (identity CID) is good and has
 /// no section, also if the store has a block under its CID.
+///
+/// An archive that was made with known blocks leaves their sections out, and counts each once. All else
+/// is as without them.
 #[derive(Drop)]
 pub struct Archive<'a, W: Write> {
     store: &'a Store,
     // The job and what was delivered, for contracts only.
     job: Snapshot<Job>,
     deliveries: History<Delivery>,
+    // The positions in the store of the blocks that the receiver has.
+    known: Option<&'a PlaceSet>,
     failed: Option<Delivery>,
     closed: Option<End>,
     // The depth of the delivery below which the list is cut off.
@@ -76,14 +83,15 @@ pub struct Archive<'a, W: Write> {
 
 impl<'a, W: Write> Model for Archive<'a, W> {
     ghost use Rattle.std.specs.Prelude.{option_to_list};
-    ghost use Rattle.ix_archive.specs.ArchiveMeaning.{ArchiveMeaning};
+    ghost use Rattle.ix_archive.specs.Archive.{known_at};
+    ghost use Rattle.ix_archive.specs.ArchiveMeaning.{ArchiveMeaning, borrowed};
     ghost use Rattle.ix_archive.specs.Archiving.{IsTally};
 
     ghost Value = { ArchiveMeaning W };
 
-    ghost view = { λ a. record { store = a.store.now; roots = a.job.value.roots; deliveries = a.deliveries; failed = option_to_list a.failed; closed = option_to_list a.closed; taken = a.counts.bytes; writer = a.writer } };
+    ghost view = { λ a. record { store = a.store.now; roots = a.job.value.roots; known = borrowed a.known; deliveries = a.deliveries; failed = option_to_list a.failed; closed = option_to_list a.closed; taken = a.counts.bytes; writer = a.writer } };
 
-    ghost invariant = { λ a. IsTally a.store.now a.deliveries (option_to_list a.failed) (option_to_list a.closed) a.pruned_below a.counts a.written a.skips.items };
+    ghost invariant = { λ a. IsTally (known_at a.store.now (borrowed a.known)) a.store.now a.deliveries (option_to_list a.failed) (option_to_list a.closed) a.pruned_below a.counts a.written a.skips.items };
 }
 
 impl<'a, W: Write> Archive<'a, W> {
@@ -94,11 +102,29 @@ impl<'a, W: Write> Archive<'a, W> {
         alloc: Global,
         store: &'a Store,
         job: &Job,
+        writer: W,
+    ) -> Result<Archive<'a, W>, ArchiveNew<W>>
+        ensures begun { IfOk result (λ a. IsBegun a store.now job.now.roots) }
+        ensures guarantee { IfOk result (λ a.
+            HasArchived W.contents a None store.now job.now (W.contents writer)) }
+        ensures refused { IfErr result (λ e. IsNoArchive W.contents writer job.now.roots e) }
+    {
+        Archive::without(alloc, store, None, job, writer)
+    }
+
+    /// Creates the archive of a job over a store, as `new` does, which leaves out the sections of the
+    /// blocks at known positions in the store, if they are given: those that the receiver has.
+    pub fn without(
+        alloc: Global,
+        store: &'a Store,
+        known: Option<&'a PlaceSet>,
+        job: &Job,
         mut writer: W,
     ) -> Result<Archive<'a, W>, ArchiveNew<W>>
         ensures begun { IfOk result (λ a. IsBegun a store.now job.now.roots) }
         ensures guarantee { IfOk result (λ a.
-            HasArchived W.contents a none_known store.now job.now (W.contents writer)) }
+            HasArchived W.contents a (known_at store.now (borrowed known.entry))
+            store.now job.now (W.contents writer)) }
         ensures refused { IfErr result (λ e. IsNoArchive W.contents writer job.now.roots e) }
     {
         let Ok(header) = header_of(alloc, job.roots()) else {
@@ -112,6 +138,7 @@ impl<'a, W: Write> Archive<'a, W> {
             store,
             job: Snapshot::of(job),
             deliveries: History::new(),
+            known,
             failed: None,
             closed: None,
             pruned_below: None,
@@ -120,6 +147,7 @@ impl<'a, W: Write> Archive<'a, W> {
                 kept: 0,
                 sections: 0,
                 bytes: taken as u64,
+                known: none_counted(known),
             },
             written: PlaceSet::new(alloc),
             skips: Vec::new(alloc),
@@ -165,6 +193,7 @@ impl<'a, W: Write> Archive<'a, W> {
             return self.add_skip(delivery);
         }
         match self.unwritten_block(&delivery) {
+            Some(place) if self.is_known(place) => self.add_known(delivery, place),
             Some(place) => self.add_section(delivery, place),
             None => {
                 self.add_without_section(&delivery);
@@ -197,6 +226,16 @@ impl<'a, W: Write> Archive<'a, W> {
         match self.store.find_near(visit.block, &visit.cid) {
             Some(place) if !self.written.contains(place) => Some(place),
             _ => None,
+        }
+    }
+
+    // Whether the receiver has the block at a position.
+    fn is_known(&self, place: usize) -> bool
+        ensures { result ≡ is_known_place self.now.known (Some place) }
+    {
+        match self.known {
+            Some(known) => known.contains(place),
+            None => false,
         }
     }
 
@@ -244,10 +283,31 @@ impl<'a, W: Write> Archive<'a, W> {
         self.counts.kept = saturating_inc(self.counts.kept);
     }
 
+    // Adds a kept delivery whose block, at this position, the receiver has. It is counted, and no
+    // section of it is written.
+    fn add_known(&mut self, delivery: Delivery, place: usize) -> Result<(), SinkFault>
+        requires kept { (self.old.failed ≡ [])
+            × (is_cut_off self.old.deliveries delivery.visit.depth ≡ false) }
+        requires due { section_due self.old delivery ≡ Some place }
+        requires known { is_known (known_in self.old) delivery.visit.cid ≡ true }
+        ensures { IsDelivered W.contents delivery [] self.old result self.new }
+    {
+        if self.written.insert(place).is_err() {
+            return Err(SinkFault::Memory);
+        }
+        self.deliveries.push(&delivery);
+        self.pruned_below = None;
+        self.counts.visits = saturating_inc(self.counts.visits);
+        self.counts.kept = saturating_inc(self.counts.kept);
+        self.counts.known = counted_more(self.counts.known);
+        Ok(())
+    }
+
     // Adds a kept delivery with its section, whose block is at this position.
     fn add_section(&mut self, delivery: Delivery, place: usize) -> Result<(), SinkFault>
         requires kept { KeepsAt self.old delivery.visit.depth }
         requires due { section_due self.old delivery ≡ Some place }
+        requires new { is_known (known_in self.old) delivery.visit.cid ≡ false }
         ensures { IsDeliveredDue W.contents delivery self.old result self.new }
     {
         let store = self.store;
@@ -276,13 +336,13 @@ impl<'a, W: Write> Archive<'a, W> {
 }
 
 impl<'a, W: Write> Sink for Archive<'a, W> {
-    ghost use Rattle.std.specs.Prelude.{ℕ, Bool, List};
+    ghost use Rattle.ix_archive.specs.Archive.{Known};
     ghost use Rattle.ix_archive.specs.ArchiveMeaning.{calls_of, HasArchived};
 
     ghost calls = { calls_of };
 
     // The CIDs whose sections are left out.
-    ghost About = { List ℕ → Bool };
+    ghost About = { Known };
 
     ghost guarantee = { HasArchived W.contents };
 
@@ -313,8 +373,28 @@ fn saturating_inc(count: u32) -> u32
     count.saturating_add(1)
 }
 
+// Returns the count of no known block, if known blocks are given.
+fn none_counted(known: Option<&PlaceSet>) -> Option<u32>
+    ensures { result ≡ option_map (λ places. 0) known.entry }
+{
+    match known {
+        Some(_) => Some(0),
+        None => None,
+    }
+}
+
+// Returns a count plus one, if there is one; it saturates.
+fn counted_more(count: Option<u32>) -> Option<u32>
+    ensures { result ≡ option_map (λ n. at_most 32 (n + 1)) count }
+{
+    match count {
+        Some(count) => Some(saturating_inc(count)),
+        None => None,
+    }
+}
+
 // Whether a block with this verdict has a section.
-fn is_sound(verdict: Verdict) -> bool
+pub(crate) fn is_sound(verdict: Verdict) -> bool
     ensures { result ≡ is_sound verdict }
 {
     match verdict {

@@ -5,7 +5,8 @@ ghost use Rattle.ix_archive.specs.Kept.{kept};
 ghost use Rattle.ix_archive.specs.Laws.{KeptIsVerified, KeptBeginsVerified, FirstIsKept};
 ghost use Rattle.ix_archive.specs.Laws.{GoodIsSound, OnceIsUncut, OnceIsWithin, OnceArchivesTheSame};
 ghost use Rattle.ix_archive.specs.Laws.{OnceArchivesTheEnded, OnceBeginsTheEnded, OnceArchivesTheReached};
-ghost use Rattle.ix_archive.specs.Laws.{FaithfulIsArchived, HasWholeArchive, HasBegunArchive};
+ghost use Rattle.ix_archive.specs.Laws.{FaithfulIsArchived, HasWholeArchive, HasBegunArchive, DifferenceIsTheRest, PlacesAreOfTheBase};
+ghost use Rattle.ix_archive.specs.Laws.{DifferenceIsOfPairs, DifferenceThenBaseRestores, BaseThenDifferenceRestores};
 
 use ix_selector::law;
 use std::io::Write;
@@ -50,10 +51,39 @@ pub fn faithful_is_archived()
     ensures { FaithfulIsArchived }
 {}
 
-/// States what an archive's writer has in the end, if it had no bytes at first: an archive that
-/// leaves out no section, whose guarantee held for a store and a job, and whose calls are faithful to
-/// the job, has written the archive of the job if it was done, and a beginning of it whatever the end.
+/// States what an archive's writer has in the end, if it had no bytes at first: an archive whose
+/// guarantee held for a store and a job, and whose calls are faithful to the job, has written the
+/// archive of the job, without the sections of known CIDs, if it was done, and a beginning of it
+/// whatever the end.
 pub fn archive_is_of_its_job<W: Write>()
     ensures whole { HasWholeArchive W.contents }
     ensures beginning { HasBegunArchive W.contents }
+{}
+
+/// States what leaving out known CIDs leaves: the sections of the whole archive whose CID isn't known,
+/// in their order.
+pub fn difference_is_the_rest()
+    ensures { DifferenceIsTheRest }
+{}
+
+/// States what known positions in a store stand for, if they are those of the blocks under whose CIDs a
+/// base has a sound one: the archive leaves out, and counts, the CIDs that the base knows.
+pub fn known_places_are_of_the_base()
+    ensures { PlacesAreOfTheBase }
+{}
+
+/// States what a base and a difference restore. The difference of a job is its archive without the
+/// sections of the CIDs under which the first copy in the base is sound. The base's other first copies
+/// may be anything.
+///
+/// If the job is within its limit over a store and skips nothing, it is so too over the first copies
+/// in the difference followed by the base, and its archive is the same, byte for byte. The base
+/// followed by the difference does the same if the first copies in the base are all sound.
+///
+/// A premise is that the base and the store have the same first copy under each CID for which both
+/// have a sound one: no proof can exclude two blocks with one digest.
+pub fn base_and_difference_restore()
+    ensures pairs { DifferenceIsOfPairs }
+    ensures difference_first { DifferenceThenBaseRestores }
+    ensures base_first { BaseThenDifferenceRestores }
 {}

@@ -19,9 +19,11 @@
 
 mod archive;
 mod fault;
+mod known;
 pub mod law;
 mod sink;
 
 pub use archive::{Archive, Counts, Skip};
 pub use fault::{ArchiveNew, SinkFault};
+pub use known::{known_places, known_places_alone, knows};
 pub use sink::{Delivery, End, Sink};

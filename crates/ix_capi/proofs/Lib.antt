@@ -1,3 +1,4 @@
 pub mod Made
 pub mod Pointing
+pub mod ReadFile
 pub mod Values

@@ -1,17 +1,48 @@
 -- A call that fills a handle returns what was meant.
-use Rattle.std.proofs.Common.{◌≡◌, sym, subst, ◌∙◌}
-use Rattle.std.specs.Prelude.{Option, Some, None}
+use Rattle.std.proofs.Common.{◌≡◌, ℕ, List, [], ◌∷◌, sym, ap, subst, ◌∙◌}
+use Rattle.std.specs.Prelude.{Option, Some, None, Result, Ok}
+use Rattle.std.specs.Global.{Global}
+use Rattle.std.specs.Arc.{arc_value}
+use Rattle.std.specs.declared.sync.Arc.{Arc}
+use Rattle.std.specs.declared.alloc.AllocError.{AllocError}
+use Rattle.ix_store.specs.Store.{Blocks}
+use Rattle.ix_walk.specs.JobMeaning.{JobMeaning}
+use Rattle.ix_jobs.specs.Jobs.{jobs_of}
+use Rattle.ix_api.specs.JobParts.{job_of_parts}
+use Rattle.ix_api.specs.declared.request.Request.{Request}
 use Rattle.ix_api.specs.declared.failure.Failure.{Failure}
 use Rattle.ix_api.specs.declared.failure.Failure.TheVariants as failures
 use Rattle.ix_api.specs.declared.object.Object.{Object}
 use Rattle.ix_api.specs.declared.object.Object.TheVariants as held
 use Rattle.ix_capi.specs.declared.status.Status.{Status}
 use Rattle.ix_capi.specs.declared.status.Status.TheVariants.{Done, Memory, Refused, Handle, Known, NoCid, Range}
-use Rattle.ix_capi.specs.Answers.{IsMade, IsFilled, IsRefused, HoldsFrozen, IsOwnerOf, HasShared, IsExportedOf, IsExported}
+use Rattle.ix_capi.specs.Answers.{IsMade, IsFilled, IsRefused, IsJobOf, IsJobOfParts, HoldsFrozen, IsOwnerOf, HasShared, HasBase, HasLeftOut, IsExportedOf, IsExported}
 
 -- none
 pub shares_none : (store : Option Object) (s : Object) (before after : Option Object) → store ≡ Some s → IsOwnerOf s None → after ≡ before → HasShared store before after Handle
 shares_none store s before after is owns same = (same, λ blocks frozen. owns blocks (subst (HoldsFrozen blocks) is frozen))
+
+-- none
+pub leaves_none : (base : Option Object) (s : Object) (before after : Option Object) → base ≡ Some s → IsOwnerOf s None → after ≡ before → HasLeftOut base before after Handle
+leaves_none base s before after is owns same = (same, λ blocks wanted frozen is_job. owns blocks (subst (HoldsFrozen blocks) is frozen))
+
+-- a base, which a job has after the call if the handle holds a job
+pub leaves_base : (base : Option Object) (s : Object) (found : Result (Arc Blocks Global) AllocError) (owner : Arc Blocks Global) (before after : Option Object) (status : Status) → base ≡ Some s → found ≡ Ok owner → IsOwnerOf s (Some found)
+    → HasBase owner before after status → HasLeftOut base before after status
+leaves_base base s found owner before after Done is one owns made = (owner, subst (HoldsFrozen (arc_value owner)) (sym is) (subst (λ (r : Result (Arc Blocks Global) AllocError). IsOwnerOf s (Some r)) one owns), made)
+leaves_base base s found owner before after Handle is one owns made = (made.0, λ blocks wanted frozen is_job. made.1 wanted is_job)
+leaves_base base s found owner before after Memory is one owns made = absurd made
+leaves_base base s found owner before after Refused is one owns made = absurd made
+leaves_base base s found owner before after Known is one owns made = absurd made
+leaves_base base s found owner before after NoCid is one owns made = absurd made
+leaves_base base s found owner before after Range is one owns made = absurd made
+
+-- a job without a base is what a line or its parts give
+pub is_job_of : (line : List ℕ) (job : JobMeaning) (request : Request) → request ≡ record { job = job; base = None } → jobs_of line ≡ Ok (job ∷ []) → IsJobOf line (held.Job request)
+is_job_of line job request whole read = (ap (λ r. r.base) whole, read ∙ ap (λ (r : Request). Ok (r.job ∷ [])) (sym whole))
+
+pub is_job_of_parts : (roots selector : List ℕ) (limit : ℕ) (job : JobMeaning) (request : Request) → request ≡ record { job = job; base = None } → job_of_parts roots selector limit ≡ Ok job → IsJobOfParts roots selector limit (held.Job request)
+is_job_of_parts roots selector limit job request whole made = (ap (λ r. r.base) whole, made ∙ ap (λ (r : Request). Ok r.job) (sym whole))
 
 -- nothing
 pub exports_none : (store job : Option Object) (s j : Object) (before after : Option Object) → store ≡ Some s → job ≡ Some j → IsExportedOf s j None → after ≡ before → IsExported store job before after Handle

@@ -1,12 +1,11 @@
 -- What the calls of the C library answer, and what is in their handles after.
-use Rattle.std.specs.Prelude.{◌≡◌, ◌≢◌, ℕ, true, List, [], ◌∷◌, ◌++◌, Option, Some, None, Result, Ok, Err}
+use Rattle.std.specs.Prelude.{◌≡◌, ◌≢◌, ◌⊎◌, ℕ, List, [], ◌∷◌, ◌++◌, Option, Some, None, Result, Ok, Err}
 use Rattle.std.specs.Global.{Vec, Global}
-use Rattle.std_alloc.specs.declared.arc.Arc.{Arc}
+use Rattle.std.specs.declared.sync.Arc.{Arc}
 use Rattle.std.specs.Arc.{arc_value}
 use Rattle.std.specs.declared.alloc.AllocError.{AllocError}
 use Rattle.ix_store.specs.Store.{Blocks}
-use Rattle.ix_walk.specs.JobMeaning.{JobMeaning, going_in}
-use Rattle.ix_car.specs.Reading.{blocks_of}
+use Rattle.ix_car.specs.Reading.{blocks_after}
 use Rattle.ix_jobs.specs.Jobs.{jobs_of}
 use Rattle.ix_selector_json.specs.Notation.{IsSelectorHex}
 use Rattle.ix_api.specs.declared.failure.Failure.{Failure}
@@ -16,9 +15,12 @@ use Rattle.ix_api.specs.declared.object.Object.TheVariants as held
 use Rattle.ix_api.specs.declared.input.Added.{Added}
 use Rattle.ix_api.specs.declared.input.Added.TheVariants as added
 use Rattle.ix_api.specs.declared.exported.Exported.{Exported}
-use Rattle.ix_api.specs.Adding.{HasAdded}
+use Rattle.ix_api.specs.declared.request.Request.{Request}
+use Rattle.ix_api.specs.Adding.{HasAdded, HasBegun, IsLeftBy}
 use Rattle.ix_api.specs.Exporting.{HasExported}
+use Rattle.ix_api.specs.Failures.{IsStoreFailure}
 use Rattle.ix_api.specs.JobParts.{job_of_parts}
+use Rattle.ix_api.specs.Requests.{known_to, once_of, with_base}
 use Rattle.ix_capi.specs.declared.status.Status.{Status}
 use Rattle.ix_capi.specs.declared.status.Status.TheVariants.{Done, Memory, Refused, Handle, Known, NoCid, Range}
 
@@ -69,6 +71,10 @@ IsOpen blocks (held.Exported out) = ⊥
 IsOpen blocks (held.Text text) = ⊥
 IsOpen blocks (held.Refusal line) = ⊥
 
+-- the handle holds no open store
+abbrev pub IsNoOpen : Option Object → Type 0
+IsNoOpen content = (store : Blocks) → content ≢ Some (held.Open store)
+
 -- a frozen one
 abbrev pub IsFrozen : Blocks → Object → Type 0
 IsFrozen blocks (held.Frozen store) = arc_value store ≡ blocks
@@ -78,22 +84,63 @@ IsFrozen blocks (held.Exported out) = ⊥
 IsFrozen blocks (held.Text text) = ⊥
 IsFrozen blocks (held.Refusal line) = ⊥
 
--- the blocks of a CARv1 file
-abbrev pub IsStoreOf : List ℕ → Object → Type 0
-IsStoreOf file content = (blocks : Blocks) × (blocks_of file ≡ Ok blocks) × IsOpen blocks content
+-- an open store of these blocks and, after them, those of a CARv1 file's sections, of which the first of each CID counts
+abbrev pub IsStoreAfter : Blocks → List ℕ → Object → Type 0
+IsStoreAfter before file content = (blocks : Blocks) × (blocks_after before file ≡ Ok blocks) × IsOpen blocks content
 
--- the one job of a job file
+-- an open store of the blocks of a CARv1 file
+abbrev pub IsStoreOf : List ℕ → Object → Type 0
+IsStoreOf = IsStoreAfter []
+
+-- the blocks of the open store that a handle holds, or none
+abbrev pub open_blocks : Option Object → Blocks
+open_blocks (Some (held.Open store)) = store
+open_blocks other = []
+
+-- a handle holds an open store, to which some of a file's first sections were added
+abbrev pub HasBegunToAdd : List ℕ → Option Object → Option Object → Type 0
+HasBegunToAdd file before after =
+    (old : Blocks) × (new : Blocks) × (before ≡ Some (held.Open old)) × (after ≡ Some (held.Open new))
+    × HasBegun old file new
+
+-- What a call returns that reads a CARv1 file into a handle. An open store has the file's blocks too, and anything else
+-- is replaced by a store of them. If memory runs out, an open store may have got the blocks of the file's first sections.
+abbrev pub HasRead : List ℕ → Option Object → Option Object → Status → Type 0
+HasRead file before after Done =
+    (content : Object) × (after ≡ Some content) × IsStoreAfter (open_blocks before) file content
+HasRead file before after Memory = (after ≡ before) ⊎ HasBegunToAdd file before after
+HasRead file before after Refused =
+    (line : Vec ℕ) × (after ≡ Some (held.Refusal line)) × IsStoreFailure file (failures.Refused line)
+HasRead file before after Handle = ⊥
+HasRead file before after Known = ⊥
+HasRead file before after NoCid = ⊥
+HasRead file before after Range = ⊥
+
+-- What is answered for a file whose blocks are to be added to what a handle holds: none where it is no open store, and
+-- else whether they were added.
+abbrev pub IsAddedFrom : List ℕ → Object → Object → Option (Result (Unit {0}) Failure) → Type 0
+IsAddedFrom file before after (Some (Ok done)) =
+    (old : Blocks) × (new : Blocks) × (before ≡ held.Open old) × (after ≡ held.Open new)
+    × (blocks_after old file ≡ Ok new)
+IsAddedFrom file before after (Some (Err failure)) =
+    (old : Blocks) × (new : Blocks) × (before ≡ held.Open old) × (after ≡ held.Open new)
+    × IsStoreFailure file failure × IsLeftBy failure old file new
+IsAddedFrom file before after None = (after ≡ before) × IsNoOpen (Some before)
+
+-- the one job of a job file, without a base
 abbrev pub IsJobOf : List ℕ → Object → Type 0
-IsJobOf file (held.Job job) = jobs_of file ≡ Ok (job ∷ [])
+IsJobOf file (held.Job request) =
+    (request.base ≡ None) × (jobs_of file ≡ Ok (request.job ∷ []))
 IsJobOf file (held.Open store) = ⊥
 IsJobOf file (held.Frozen store) = ⊥
 IsJobOf file (held.Exported out) = ⊥
 IsJobOf file (held.Text text) = ⊥
 IsJobOf file (held.Refusal line) = ⊥
 
--- the job of these parts
+-- the job of these parts, without a base
 abbrev pub IsJobOfParts : List ℕ → List ℕ → ℕ → Object → Type 0
-IsJobOfParts roots selector limit (held.Job job) = job_of_parts roots selector limit ≡ Ok job
+IsJobOfParts roots selector limit (held.Job request) =
+    (request.base ≡ None) × (job_of_parts roots selector limit ≡ Ok request.job)
 IsJobOfParts roots selector limit (held.Open store) = ⊥
 IsJobOfParts roots selector limit (held.Frozen store) = ⊥
 IsJobOfParts roots selector limit (held.Exported out) = ⊥
@@ -109,14 +156,17 @@ IsSelectorTextOf json (held.Job job) = ⊥
 IsSelectorTextOf json (held.Exported out) = ⊥
 IsSelectorTextOf json (held.Refusal line) = ⊥
 
--- what an export of this job over these blocks leaves
-abbrev pub IsExportOf : Blocks → JobMeaning → Object → Type 0
-IsExportOf blocks job (held.Exported out) = HasExported blocks job out
-IsExportOf blocks job (held.Open store) = ⊥
-IsExportOf blocks job (held.Frozen store) = ⊥
-IsExportOf blocks job (held.Job other) = ⊥
-IsExportOf blocks job (held.Text text) = ⊥
-IsExportOf blocks job (held.Refusal line) = ⊥
+-- what an export of a job over these blocks leaves, without what its receiver has
+abbrev pub HasExportedOf : Blocks → Request → Exported → Type 0
+HasExportedOf blocks request out = HasExported (known_to request) blocks request.job out
+
+abbrev pub IsExportOf : Blocks → Request → Object → Type 0
+IsExportOf blocks request (held.Exported out) = HasExportedOf blocks request out
+IsExportOf blocks request (held.Open store) = ⊥
+IsExportOf blocks request (held.Frozen store) = ⊥
+IsExportOf blocks request (held.Job other) = ⊥
+IsExportOf blocks request (held.Text text) = ⊥
+IsExportOf blocks request (held.Refusal line) = ⊥
 
 -- no failure
 abbrev pub IsNoFailure : Failure → Type 0
@@ -127,10 +177,6 @@ abbrev pub HasAddedAs : Added → List ℕ → List ℕ → Option Object → Op
 HasAddedAs told cid block before after =
     (old : Blocks) × (new : Blocks) × (before ≡ Some (held.Open old)) × (after ≡ Some (held.Open new))
     × HasAdded old cid block new told
-
--- the handle holds no open store
-abbrev pub IsNoOpen : Option Object → Type 0
-IsNoOpen content = (store : Blocks) → content ≢ Some (held.Open store)
 
 -- what a call returns that adds a block to an open store
 abbrev pub HasAddedTo : List ℕ → List ℕ → Option Object → Option Object → Status → Type 0
@@ -156,12 +202,12 @@ HasFrozen before after Range = ⊥
 
 -- the handle holds no job
 abbrev pub IsNoJob : Option Object → Type 0
-IsNoJob content = (job : JobMeaning) → content ≢ Some (held.Job job)
+IsNoJob content = (request : Request) → content ≢ Some (held.Job request)
 
 -- what a call returns that makes a job expand each CID once
 abbrev pub HasOnce : Option Object → Option Object → Status → Type 0
 HasOnce before after Done =
-    (job : JobMeaning) × (before ≡ Some (held.Job job)) × (after ≡ Some (held.Job (going_in true job)))
+    (request : Request) × (before ≡ Some (held.Job request)) × (after ≡ Some (held.Job (once_of request)))
 HasOnce before after Handle = (after ≡ before) × IsNoJob before
 HasOnce before after Memory = ⊥
 HasOnce before after Refused = ⊥
@@ -169,15 +215,42 @@ HasOnce before after Known = ⊥
 HasOnce before after NoCid = ⊥
 HasOnce before after Range = ⊥
 
+-- what a call returns that gives a job this base
+abbrev pub HasBase : Arc Blocks Global → Option Object → Option Object → Status → Type 0
+HasBase base before after Done =
+    (request : Request) × (before ≡ Some (held.Job request)) × (after ≡ Some (held.Job (with_base base request)))
+HasBase base before after Handle = (after ≡ before) × IsNoJob before
+HasBase base before after Memory = ⊥
+HasBase base before after Refused = ⊥
+HasBase base before after Known = ⊥
+HasBase base before after NoCid = ⊥
+HasBase base before after Range = ⊥
+
 -- a handle holds a frozen store of these blocks
 abbrev pub HoldsFrozen : Blocks → Option Object → Type 0
 HoldsFrozen store None = ⊥
 HoldsFrozen store (Some content) = IsFrozen store content
 
+-- these are no frozen store and a job
+abbrev pub AreNoneToExport : Option Object → Option Object → Type 0
+AreNoneToExport store job =
+    (blocks : Blocks) (wanted : Request) → HoldsFrozen blocks store → job ≢ Some (held.Job wanted)
+
+-- what a call returns that has a job leave out what is sound in the frozen store of a handle, the base
+abbrev pub HasLeftOut : Option Object → Option Object → Option Object → Status → Type 0
+HasLeftOut base before after Done =
+    (blocks : Arc Blocks Global) × HoldsFrozen (arc_value blocks) base × HasBase blocks before after Done
+HasLeftOut base before after Memory = after ≡ before
+HasLeftOut base before after Handle = (after ≡ before) × AreNoneToExport base before
+HasLeftOut base before after Refused = ⊥
+HasLeftOut base before after Known = ⊥
+HasLeftOut base before after NoCid = ⊥
+HasLeftOut base before after Range = ⊥
+
 -- a handle holds what an export of this job over these blocks leaves
-abbrev pub HoldsExport : Blocks → JobMeaning → Option Object → Type 0
-HoldsExport store job None = ⊥
-HoldsExport store job (Some content) = IsExportOf store job content
+abbrev pub HoldsExport : Blocks → Request → Option Object → Type 0
+HoldsExport store request None = ⊥
+HoldsExport store request (Some content) = IsExportOf store request content
 
 -- what a call returns that makes one more handle of a frozen store
 abbrev pub HasShared : Option Object → Option Object → Option Object → Status → Type 0
@@ -189,15 +262,10 @@ HasShared store before after Known = ⊥
 HasShared store before after NoCid = ⊥
 HasShared store before after Range = ⊥
 
--- these are no frozen store and a job
-abbrev pub AreNoneToExport : Option Object → Option Object → Type 0
-AreNoneToExport store job =
-    (blocks : Blocks) (wanted : JobMeaning) → HoldsFrozen blocks store → job ≢ Some (held.Job wanted)
-
 -- what a call returns that exports a job over a frozen store
 abbrev pub IsExported : Option Object → Option Object → Option Object → Option Object → Status → Type 0
 IsExported store job before after Done =
-    (blocks : Blocks) × (wanted : JobMeaning) × HoldsFrozen blocks store × (job ≡ Some (held.Job wanted))
+    (blocks : Blocks) × (wanted : Request) × HoldsFrozen blocks store × (job ≡ Some (held.Job wanted))
     × HoldsExport blocks wanted after
 IsExported store job before after Memory = after ≡ before
 IsExported store job before after Handle = (after ≡ before) × AreNoneToExport store job
@@ -209,10 +277,10 @@ IsExported store job before after Range = ⊥
 -- what is answered for these two, before a handle is filled with it: none where they are no frozen store and a job
 abbrev pub IsExportedOf : Object → Object → Option (Result Exported AllocError) → Type 0
 IsExportedOf store job (Some (Ok out)) =
-    (blocks : Blocks) × (wanted : JobMeaning) × IsFrozen blocks store × (job ≡ held.Job wanted)
-    × HasExported blocks wanted out
+    (blocks : Blocks) × (wanted : Request) × IsFrozen blocks store × (job ≡ held.Job wanted)
+    × HasExportedOf blocks wanted out
 IsExportedOf store job (Some (Err e)) = Unit {0}
-IsExportedOf store job None = (blocks : Blocks) (wanted : JobMeaning) → IsFrozen blocks store → job ≢ held.Job wanted
+IsExportedOf store job None = (blocks : Blocks) (wanted : Request) → IsFrozen blocks store → job ≢ held.Job wanted
 
 -- one more owner of the store that this is, before a handle is filled with it: none where it is no frozen store
 abbrev pub IsOwnerOf : Object → Option (Result (Arc Blocks Global) AllocError) → Type 0

@@ -1,5 +1,8 @@
 -- What each call returns, by the contents of its handles before and after it.
 use Rattle.std.specs.Prelude.{◌≡◌, ℕ, List, [], length, Option, Some, None, Result}
+use Rattle.std.specs.Global.{Global}
+use Rattle.std.specs.declared.sync.Arc.{Arc}
+use Rattle.ix_store.specs.Store.{Blocks}
 use Rattle.ix_api.specs.declared.failure.Failure.{Failure}
 use Rattle.ix_api.specs.declared.object.Object.{Object}
 use Rattle.ix_api.specs.declared.object.Piece.{Piece}
@@ -17,9 +20,12 @@ use Rattle.ix_capi.specs.Answers.{
   IsJobOfParts,
   IsSelectorTextOf,
   IsNoFailure,
+  HasRead,
   HasAddedTo,
   HasFrozen,
   HasOnce,
+  HasBase,
+  HasLeftOut,
   HasShared,
   IsExported,
 }
@@ -27,6 +33,7 @@ use Rattle.ix_capi.specs.Results.{
   part_numbered,
   end_of,
   counts_of,
+  known_of,
   skip_of,
   cid_length,
   export_in,
@@ -55,7 +62,7 @@ Stays before after = content after ≡ content before
 abbrev pub Fills : (Object → Type 0) → (Failure → Type 0) → Handle → Handle → Status → Type 0
 Fills meant fails before after = IsMade meant fails (content before) (content after)
 
--- with a store without blocks, the store of a CARv1 file, the job of a line or of its parts, or the text of a selector
+-- with a store without blocks, a store of a CARv1 file, the job of a line or of its parts, or the text of a selector
 abbrev pub FillsWithNoBlocks : Handle → Handle → Status → Type 0
 FillsWithNoBlocks = Fills (IsOpen []) IsNoFailure
 
@@ -72,6 +79,10 @@ FillsWithJobOfParts roots selector limit =
 abbrev pub FillsWithSelectorOf : List ℕ → Handle → Handle → Status → Type 0
 FillsWithSelectorOf json = Fills (IsSelectorTextOf json) (IsSelectorFailure json)
 
+-- reads a CARv1 file into a handle: adds its blocks to an open store, or fills the handle with a store of them
+abbrev pub Reads : List ℕ → Handle → Handle → Status → Type 0
+Reads car before after = HasRead car (content before) (content after)
+
 -- adds a block under a CID to an open store
 abbrev pub Adds : List ℕ → List ℕ → Handle → Handle → Status → Type 0
 Adds cid block before after = HasAddedTo cid block (content before) (content after)
@@ -83,6 +94,15 @@ Freezes before after = HasFrozen (content before) (content after)
 -- has a job go into each CID once
 abbrev pub MakesOnce : Handle → Handle → Status → Type 0
 MakesOnce before after = HasOnce (content before) (content after)
+
+-- gives a job this base
+abbrev pub GetsBase : Arc Blocks Global → Handle → Handle → Status → Type 0
+GetsBase base before after = HasBase base (content before) (content after)
+
+-- has a job leave out what is sound in a base, a frozen store, whose handle holds what it held
+pub record LeavesOut (job job_after base base_after : Handle) (status : Status) : Type 0 where
+  pub left_out : HasLeftOut (content base) (content job) (content job_after) status
+  pub base_stays : Stays base base_after
 
 -- fills another handle with the frozen store of the first, which holds what it held
 pub record SharesWith (store store_after other other_after : Handle) (status : Status) : Type 0 where
@@ -106,6 +126,10 @@ SetsEnd = Sets (λ content. of_found end_of (export_in content))
 -- what was counted
 abbrev pub SetsCounts : Handle → Handle → Counts → Counts → Status → Type 0
 SetsCounts = Sets (λ content. of_found counts_of (export_in content))
+
+-- how many blocks are known
+abbrev pub SetsKnown : Handle → Handle → ℕ → ℕ → Status → Type 0
+SetsKnown = Sets (λ content. of_found known_of (export_in content))
 
 -- how long a part is: the archive, the report, and the part with a number
 abbrev pub SetsLength : Option Piece → Handle → Handle → ℕ → ℕ → Status → Type 0

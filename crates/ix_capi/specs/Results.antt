@@ -1,6 +1,7 @@
 -- What the calls of the C library return of a handle's contents.
 use Rattle.std.specs.Prelude.{◌≡◌, ◌≢◌, ◌==◌, if◌then◌else◌, ℕ, List, ◌++◌, length, take, drop, slice_get}
 use Rattle.std.specs.Prelude.{Option, Some, None, Result, Ok, Err}
+use Rattle.std.specs.Option.{unwrap_or}
 use Rattle.ix_archive.specs.declared.archive.Skip.{Skip}
 use Rattle.ix_archive.specs.declared.sink.End.{End}
 use Rattle.ix_archive.specs.declared.sink.End.TheVariants as ends
@@ -56,6 +57,10 @@ counts_of out =
       bytes = counts.bytes;
       skips = length out.result.skips.items;
     }
+
+-- how many blocks have no section since the receiver has them: none if the job has no base;
+abbrev pub known_of : Exported → ℕ
+known_of out = unwrap_or out.result.counts.known 0
 
 -- and of a skip, and how long its CID is
 abbrev pub skip_of : Skip → SkipRecord

@@ -6,7 +6,7 @@ ghost use Rattle.ix_capi.specs.Calls.{ExportsTo};
 use crate::filling::fill;
 use crate::handle::Handle;
 use crate::status::Status;
-use ix_api::{Exported, Object, export};
+use ix_api::{Exported, Object, export_request};
 use std::alloc::{AllocError, Global};
 
 /// Fills a handle with the result of an export of a job over a frozen store.
@@ -43,7 +43,7 @@ fn exported(alloc: Global, store: &Object, job: &Object) -> Option<Result<Export
     ensures { IsExportedOf store.now job.now result }
 {
     match (store, job) {
-        (Object::Frozen(store), Object::Job(job)) => Some(export(alloc, store, job)),
+        (Object::Frozen(store), Object::Job(job)) => Some(export_request(alloc, store, job)),
         _ => None,
     }
 }

@@ -1,8 +1,10 @@
 //! The calls that fill handles with stores, jobs and selectors.
 
+ghost use Rattle.ix_capi.specs.Answers.{IsAddedFrom};
 ghost use Rattle.ix_capi.specs.Calls.{
   FillsWithNoBlocks,
   FillsWithStoreOf,
+  Reads,
   FillsWithJobOf,
   FillsWithJobOfParts,
   FillsWithSelectorOf,
@@ -11,7 +13,9 @@ ghost use Rattle.ix_capi.specs.Calls.{
 use crate::filling::{fill_with, refuse};
 use crate::handle::Handle;
 use crate::status::Status;
-use ix_api::{Object, job_of_line, job_of_parts, read_store, selector_of_json};
+use ix_api::{
+    Failure, Object, Request, add_car, job_of_line, job_of_parts, read_store, selector_of_json,
+};
 use ix_store::Store;
 use std::alloc::Global;
 
@@ -22,8 +26,35 @@ pub(crate) fn new_store(alloc: Global, store: &mut Handle) -> Status
     fill_with(alloc, store, Object::Open(Store::new(alloc)))
 }
 
-/// Fills a handle with the store of a CARv1 file.
-pub(crate) fn store_of_car(alloc: Global, store: &mut Handle, car: &[u8]) -> Status
+/// Adds the blocks of a CARv1 file to the open store of a handle, or else fills the handle with a store
+/// of them.
+pub(crate) fn read_car(alloc: Global, store: &mut Handle, car: &[u8]) -> Status
+    ensures { Reads car.now store.old store.new result }
+{
+    let Some(mut held) = store.take(alloc) else {
+        return store_of_car(alloc, store, car);
+    };
+    let added = added_from(alloc, &mut held, car);
+    store.put(alloc, held);
+    match added {
+        Some(Ok(())) => Status::Done,
+        Some(Err(failure)) => refuse(alloc, store, failure),
+        None => store_of_car(alloc, store, car),
+    }
+}
+
+// Adds the blocks of a CARv1 file, if this is an open store.
+fn added_from(alloc: Global, held: &mut Object, car: &[u8]) -> Option<Result<(), Failure>>
+    ensures { IsAddedFrom car.now held.old held.new result }
+{
+    match held {
+        Object::Open(store) => Some(add_car(alloc, store, car)),
+        _ => None,
+    }
+}
+
+// Fills a handle with the store of a CARv1 file.
+fn store_of_car(alloc: Global, store: &mut Handle, car: &[u8]) -> Status
     ensures { FillsWithStoreOf car.now store.old store.new result }
 {
     match read_store(alloc, car) {
@@ -37,7 +68,7 @@ pub(crate) fn job_from_line(alloc: Global, job: &mut Handle, line: &[u8]) -> Sta
     ensures { FillsWithJobOf line.now job.old job.new result }
 {
     match job_of_line(alloc, line) {
-        Ok(read) => fill_with(alloc, job, Object::Job(read)),
+        Ok(read) => fill_with(alloc, job, Object::Job(Request::of(read))),
         Err(failure) => refuse(alloc, job, failure),
     }
 }
@@ -53,7 +84,7 @@ pub(crate) fn job_new(
     ensures { FillsWithJobOfParts roots.now selector.now limit job.old job.new result }
 {
     match job_of_parts(alloc, roots, selector, limit) {
-        Ok(made) => fill_with(alloc, job, Object::Job(made)),
+        Ok(made) => fill_with(alloc, job, Object::Job(Request::of(made))),
         Err(failure) => refuse(alloc, job, failure),
     }
 }

@@ -2,7 +2,8 @@
 //!
 //! Each call returns the number of a `Status`. It works on handles that C owns, each a struct of two
 //! fields. It starts no thread, never waits and never ends the process. A frozen store is shared by as
-//! many handles as there are threads. A call that isn't done leaves what its pointers lead to unchanged.
+//! many handles as there are threads. A call that isn't done leaves what its pointers lead to unchanged; an
+//! open store into which a file is read may have more blocks if memory runs out.
 #![tactic(auto)]
 
 ghost use Rattle.std.specs.Prelude.{◌≡◌};
@@ -11,17 +12,19 @@ ghost use Rattle.ix_capi.specs.Calls.{
   Stays,
   IsEmptied,
   FillsWithNoBlocks,
-  FillsWithStoreOf,
+  Reads,
   FillsWithJobOf,
   FillsWithJobOfParts,
   FillsWithSelectorOf,
   Adds,
   Freezes,
   MakesOnce,
+  LeavesOut,
   SharesWith,
   ExportsTo,
   SetsEnd,
   SetsCounts,
+  SetsKnown,
   SetsArchiveLength,
   SetsReportLength,
   SetsPartLength,
@@ -50,12 +53,12 @@ use crate::results::{Counts, SkipRecord, part_numbered};
 use ix_api::Piece;
 use std::alloc::Global;
 
-/// Returns the version of this interface, which grows with each added call.
+/// Returns the version of this interface, which grows with each added call and each change of one.
 #[unsafe(no_mangle)]
 pub extern "C" fn ix_version() -> u32
-    ensures { result ≡ 2 }
+    ensures { result ≡ 4 }
 {
-    2
+    4
 }
 
 /// Frees the contents of a handle, which is then empty.
@@ -98,12 +101,13 @@ pub extern "C" fn ix_store_new(alloc: Global, store: &mut Handle) -> u32
     inputs::new_store(alloc, store).code()
 }
 
-/// Fills a handle with an open store of the blocks of a CARv1 file, which is copied.
+/// Adds copies of the blocks of a CARv1 file to the open store of a handle, or else fills the handle with
+/// an open store of them. Of blocks with one CID the first counts.
 #[unsafe(no_mangle)]
 pub extern "C" fn ix_store_read_car(alloc: Global, store: &mut Handle, car: &[u8]) -> u32
-    ensures { ByStatus (FillsWithStoreOf car.now store.old store.new) result }
+    ensures { ByStatus (Reads car.now store.old store.new) result }
 {
-    inputs::store_of_car(alloc, store, car).code()
+    inputs::read_car(alloc, store, car).code()
 }
 
 /// Adds a copy of a block to an open store under its CID, unless there is one.
@@ -161,6 +165,15 @@ pub extern "C" fn ix_job_once(alloc: Global, job: &mut Handle) -> u32
     jobs::once(alloc, job).code()
 }
 
+/// Makes a job leave out the blocks that its receiver has: those under whose CID the base, a frozen
+/// store, has a sound block.
+#[unsafe(no_mangle)]
+pub extern "C" fn ix_job_without(alloc: Global, job: &mut Handle, base: &mut Handle) -> u32
+    ensures { ByStatus (LeavesOut job.old job.new base.old base.new) result }
+{
+    jobs::without(alloc, job, base).code()
+}
+
 /// Fills a handle with the hex of the selector of a JSON text, which is the last field of a job's line.
 #[unsafe(no_mangle)]
 pub extern "C" fn ix_selector_from_json(alloc: Global, text: &mut Handle, json: &[u8]) -> u32
@@ -196,6 +209,14 @@ pub extern "C" fn ix_result_counts(alloc: Global, handle: &mut Handle, counts: &
     ensures { ByStatus (SetsCounts handle.old handle.new counts.old counts.new) result }
 {
     results::result_counts(alloc, handle, counts).code()
+}
+
+/// Returns how many sound blocks have no section since the receiver has them: 0 for a job without a base.
+#[unsafe(no_mangle)]
+pub extern "C" fn ix_result_known(alloc: Global, handle: &mut Handle, known: &mut u32) -> u32
+    ensures { ByStatus (SetsKnown handle.old handle.new known.old known.new) result }
+{
+    results::result_known(alloc, handle, known).code()
 }
 
 /// Returns the address and length of a result's archive.

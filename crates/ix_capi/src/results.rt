@@ -6,6 +6,7 @@ ghost use Rattle.ix_capi.specs.Calls.{
   Stays,
   SetsEnd,
   SetsCounts,
+  SetsKnown,
   SetsLength,
   SetsLineLength,
   SetsSkip,
@@ -19,6 +20,7 @@ ghost use Rattle.ix_capi.specs.Results.{
   part_numbered,
   end_of,
   counts_of,
+  known_of,
   skip_of,
   cid_length,
   export_in,
@@ -312,6 +314,23 @@ fn counts_in(out: &Exported) -> Counts
         sections: counts.sections,
         bytes: counts.bytes,
         skips: out.result.skips.len() as u64,
+    }
+}
+
+/// Returns how many sound blocks have no section since the receiver has them.
+pub(crate) fn result_known(alloc: Global, handle: &mut Handle, known: &mut u32) -> Status
+    ensures { SetsKnown handle.old handle.new known.old known.new result }
+{
+    set_result(handle.read(alloc, known_of), known)
+}
+
+// Returns how many blocks are known, if this is the result of an export.
+fn known_of(held: &Object) -> Result<u32, Status>
+    ensures { result ≡ of_found known_of (export_in (Some held.now)) }
+{
+    match held {
+        Object::Exported(out) => Ok(out.result.counts.known.unwrap_or(0)),
+        _ => Err(Status::Handle),
     }
 }
 

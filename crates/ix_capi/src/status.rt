@@ -8,7 +8,7 @@ ghost use Rattle.ix_capi.specs.Answers.{code_of};
 pub enum Status {
     /// Success.
     Done,
-    /// Memory ran out, and nothing is changed.
+    /// Memory ran out, and nothing is changed, but for blocks of a file that was added to a store.
     Memory,
     /// The input is rejected, and the handle to be filled has the line that says why.
     Refused,

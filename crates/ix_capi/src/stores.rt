@@ -85,8 +85,8 @@ pub(crate) fn share(alloc: Global, store: &mut Handle, other: &mut Handle) -> St
     }
 }
 
-// Returns one more owner, if this is a frozen store.
-fn owner_of(held: &Object) -> Option<Result<Arc<Store>, AllocError>>
+/// Returns one more owner, if this is a frozen store.
+pub(crate) fn owner_of(held: &Object) -> Option<Result<Arc<Store>, AllocError>>
     ensures { IsOwnerOf held.now result }
 {
     match held {

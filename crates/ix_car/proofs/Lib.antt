@@ -4,3 +4,4 @@ pub mod Sections
 pub mod SectionCids
 pub mod SectionLists
 pub mod HeaderParts
+pub mod Copies

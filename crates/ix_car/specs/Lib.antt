@@ -4,6 +4,7 @@ pub mod Gives
 pub mod Reads
 pub mod Sections
 pub mod SectionView
+pub mod Copies
 pub mod Writing
 pub mod FaultWords
 pub mod Examples

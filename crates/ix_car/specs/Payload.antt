@@ -48,3 +48,7 @@ bytes_to payload b = take payload.end b
 
 abbrev pub bytes_of : Payload → List ℕ → List ℕ
 bytes_of payload b = drop payload.start (bytes_to payload b)
+
+-- an offset is of one of these bytes, or of their end
+abbrev pub IsOffsetIn : ℕ → List ℕ → Type 0
+IsOffsetIn offset b = offset ≤ length b

@@ -18,7 +18,7 @@ mod writer;
 pub use fault::{CarFault, CarKind};
 pub use payload::{Payload, has_index, is_carv2, payload_of};
 pub use reader::{
-    BlockLoader, CarFile, Section, load_car, load_car_by, load_shared_by, read_car, read_header,
-    read_section, read_sections,
+    BlockLoader, CarFile, Section, SoundLoader, load_car, load_car_by, load_shared_by, read_car,
+    read_header, read_section, read_sections,
 };
 pub use writer::{header_of, set_section_head, write_section, write_text};

@@ -8,6 +8,7 @@ mod header;
 mod indexing;
 mod section;
 mod sections;
+mod sound;
 mod store;
 
 use crate::fault::{CarFault, CarKind};
@@ -16,6 +17,7 @@ use crate::reader::store::load_shared;
 pub use by_threads::{BlockLoader, load_car_by, load_shared_by};
 use ix_store::Store;
 pub use sections::{CarFile, Section, read_header, read_section, read_sections};
+pub use sound::SoundLoader;
 use std::alloc::Global;
 use std::sync::Arc;
 

@@ -165,6 +165,7 @@ fn counts_of(visits: &str, kept: &str, sections: &str, bytes: &str) -> Result<Co
         kept: kept.parse::<u32>()?,
         sections: sections.parse::<u32>()?,
         bytes: bytes.parse::<u64>()?,
+        known: None,
     })
 }
 

@@ -5,7 +5,9 @@ ghost use Rattle.ix_check.specs.Verdict.{verdict_of};
 ghost use Rattle.ix_check.specs.Visits.{IsUnused, IsVisitOf};
 
 use crate::history::History;
-use ix_store::Store;
+use ix_cid::Cid;
+use ix_cid::code::DAG_CBOR;
+use ix_store::{Store, has_fault};
 use ix_verdict::{Needed, Verdict, bytes_needed};
 use ix_walk::Visit;
 use std::alloc::{AllocError, Global};
@@ -113,6 +115,24 @@ impl Check for PlainCheck {
     ) -> Result<Verdict, AllocError> {
         self.receipts.push(&(visit.job, visit.seq));
         Ok(verdict_of(store, visit))
+    }
+}
+
+/// Returns the verdict on a CID in a store, as a check does on a visit of it.
+pub fn verdict_in(store: &Store, cid: &Cid) -> Verdict
+    ensures { result ≡ verdict_of store.now cid.now }
+{
+    let parts = cid.parts();
+    match bytes_needed(&parts) {
+        Needed::Nothing(verdict) => verdict,
+        Needed::Digest => Verdict::of_inline(parts.codec == DAG_CBOR && has_fault(parts.digest)),
+        Needed::Block(_) => match store.find(cid) {
+            None => Verdict::Missing,
+            Some(place) => Verdict::of_block(
+                store.hash_matches(place),
+                parts.codec == DAG_CBOR && store.is_malformed(place),
+            ),
+        },
     }
 }
 

@@ -19,6 +19,6 @@
 mod check;
 mod history;
 
-pub use check::{Check, PlainCheck, ShaCheck};
+pub use check::{Check, PlainCheck, ShaCheck, verdict_in};
 pub use history::History;
 pub use ix_verdict::Verdict;

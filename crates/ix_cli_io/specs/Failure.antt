@@ -10,9 +10,10 @@ use Rattle.clap.specs.declared.error.Error.{Error}
 use Rattle.clap.specs.declared.error.kind.ErrorKind.TheVariants.{OutOfMemory, DisplayHelp, DisplayVersion}
 use Rattle.ix_walk.specs.JobMeaning.{JobMeaning}
 use Rattle.ix_run.specs.FaultLine as run_lines
+use Rattle.ix_have_list.specs.FaultLine as list_lines
 use Rattle.ix_selector_json.specs.FaultWords as selector_lines
 use Rattle.ix_cli_io.specs.declared.fault.Failure.{Failure}
-use Rattle.ix_cli_io.specs.declared.fault.Failure.TheVariants.{Usage, Words, Fault, Explained, InFile, Selector, CannotRead, TooLarge, CannotWrite}
+use Rattle.ix_cli_io.specs.declared.fault.Failure.TheVariants.{Usage, Words, Fault, Explained, InFile, Known, Selector, CannotRead, TooLarge, CannotWrite}
 use Rattle.ix_run.specs.declared.fault.RunFault.TheVariants.{Memory}
 
 -- an error on a file that says that memory ran out
@@ -115,6 +116,7 @@ IsLineOf (Words argument) line = line ≡ codes "error: an argument is not UTF-8
 IsLineOf (Fault fault) line = line ≡ run_lines.line_of fault
 IsLineOf (Explained fault cause) line = line ≡ run_lines.line_of fault
 IsLineOf (InFile fault name cause) line = line ≡ run_lines.line_of fault ++ (codes " in " ++ string_bytes name)
+IsLineOf (Known fault) line = line ≡ list_lines.line_of fault
 IsLineOf (Selector fault) line = line ≡ selector_lines.line_of fault
 IsLineOf (CannotRead name cause) line = line ≡ codes "cannot read " ++ string_bytes name
 IsLineOf (TooLarge name cause) line = line ≡ codes "too large " ++ string_bytes name

@@ -5,6 +5,7 @@ ghost use Rattle.ix_cli_io.specs.declared.fault.Failure.TheVariants.{CannotRead,
 ghost use Rattle.ix_cli_io.specs.Failure.{IsWordsOf, IsTooLarge, NamesFile, WantsMemory, IsLineOf};
 
 use clap::error::ErrorKind as UsageKind;
+use ix_have_list::{ListErrorKind, ListFault};
 use ix_run::{RunFault, fault_line};
 use ix_selector_json::NotationFault;
 use std::alloc::{AllocError, AllocFailed, Global};
@@ -34,6 +35,8 @@ pub enum Failure {
     Explained(RunFault, String),
     /// An error in one of several block files: the error, the file's path, and what is known of the cause.
     InFile(RunFault, String, String),
+    /// A have-list that is rejected.
+    Known(ListFault),
     /// A text that is not a selector.
     Selector(NotationFault),
     /// An input can't be read: its path, `-` for standard input, and the cause.
@@ -139,6 +142,7 @@ impl Failure {
                 let line = fault_line(alloc, fault)?;
                 format!(in alloc; "{line} in {path}")
             }
+            Failure::Known(fault) => ix_have_list::fault_line(alloc, fault),
             Failure::Selector(fault) => ix_selector_json::fault_line(alloc, fault),
             Failure::CannotRead(path, _) => format!(in alloc; "cannot read {path}"),
             Failure::TooLarge(path, _) => format!(in alloc; "too large {path}"),
@@ -157,6 +161,7 @@ impl Failure {
             | Failure::Explained(_, cause)
             | Failure::InFile(_, _, cause) => Ok(Some(cause.clone()?)),
             Failure::Fault(fault) => cause_of_fault(alloc, fault),
+            Failure::Known(fault) => cause_of_list(alloc, fault),
             Failure::Usage(_) | Failure::Words(_) | Failure::Selector(_) => Ok(None),
         }
     }
@@ -185,6 +190,15 @@ fn cause_of_fault(alloc: Global, fault: &RunFault) -> Result<Option<String>, All
         RunFault::Jobs(_) => "ix_export check-jobs reports what is wrong with each line",
         RunFault::Write(_) => "its header could not be written: is the disk full?",
         _ => return Ok(None),
+    };
+    Ok(Some(String::from_str(alloc, cause)?))
+}
+
+// Returns what to do about an error of a have-list, if its line doesn't say it.
+fn cause_of_list(alloc: Global, fault: &ListFault) -> Result<Option<String>, AllocError> {
+    let cause = match fault.kind {
+        ListErrorKind::Memory => return Ok(None),
+        _ => "a line is a CIDv1 in base32, as ix_export inspect --cids prints it",
     };
     Ok(Some(String::from_str(alloc, cause)?))
 }
@@ -232,6 +246,17 @@ impl From<RunFault> for Failure {
 
     fn from(fault: RunFault) -> Failure {
         Failure::Fault(fault)
+    }
+}
+
+impl From<ListFault> for Failure {
+    ghost use Rattle.std.specs.Prelude.{◌≡◌};
+    ghost use Rattle.ix_cli_io.specs.declared.fault.Failure.TheVariants.{Known};
+
+    ghost from_gives = { λ fault failure. failure ≡ Known fault };
+
+    fn from(fault: ListFault) -> Failure {
+        Failure::Known(fault)
     }
 }
 

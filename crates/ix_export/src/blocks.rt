@@ -1,15 +1,19 @@
 //! The block files of a command: which they are, and the store of their blocks.
 
+ghost use Rattle.ix_car.specs.Payload.{IsWithin};
+
 use crate::commands::CommandSpec;
 use crate::inspect;
-use crate::options::BLOCKS;
+use crate::options::{ArgSpec, BLOCKS, PREFER_SOUND, WITHOUT};
+use crate::print::{later_note, print_notes};
 use clap::ArgMatches;
 use clap::error::ErrorKind;
-use ix_car::{BlockLoader, CarFault, CarKind, Payload, payload_of};
+use ix_archive::known_places;
+use ix_car::{BlockLoader, CarFault, CarKind, Payload, SoundLoader, payload_of};
 use ix_cli_io::{Failure, Progress, STANDARD_INPUT, load_input, size_of_all};
 use ix_inspect::{Kind, kind_of};
 use ix_run::RunFault;
-use ix_store::Store;
+use ix_store::{PlaceSet, SoundStore, Store};
 use std::alloc::{AllocError, Global};
 use std::fs::File;
 use std::rt::{Clock, Files};
@@ -24,10 +28,85 @@ pub(crate) struct BlockFiles<'a> {
     most: u64,
     // Whether a CARv2 file is read, and not rejected.
     reads_carv2: bool,
+    // Whether of the copies of a block the first that is sound counts.
+    prefers_sound: bool,
+    // Whether they are what a receiver has, and not the blocks that are exported.
+    is_base: bool,
+}
+
+/// The settled store of a command's blocks.
+#[derive(Drop)]
+pub(crate) struct LoadedBlocks {
+    pub store: Arc<Store>,
+    /// The positions in it of the blocks that the receiver has, if that is given.
+    pub known: Option<PlaceSet>,
+    // How many blocks are a later copy, since the first isn't sound.
+    later_count: usize,
+}
+
+impl LoadedBlocks {
+    /// Prints how many blocks are a later copy, if any are and the run wasn't rejected.
+    pub(crate) fn print_note<R: AllocGlobal + Eprint>(&self, rt: &R, status: &Result<u8, Failure>) {
+        if status.is_ok() && self.later_count > 0 {
+            print_notes(rt, later_note(rt.alloc(), "note", self.later_count));
+        }
+    }
+}
+
+// What reads the files: of the copies of a block the first counts, or the first that is sound.
+#[derive(Drop)]
+enum Loader {
+    First(BlockLoader),
+    Sound(SoundLoader),
+}
+
+impl Loader {
+    // Reads one file more.
+    fn with_file<R: AllocGlobal + Threads + Sync>(
+        self,
+        rt: &R,
+        bytes: Vec<u8>,
+        payload: Payload,
+        threads: usize,
+    ) -> Result<Loader, CarFault>
+        requires { IsWithin payload bytes.items }
+    {
+        let alloc = rt.alloc();
+        match self {
+            Loader::First(loader) => {
+                let loader = loader.with_file_by(rt, alloc, bytes, payload, threads)?;
+                Ok(Loader::First(loader))
+            }
+            Loader::Sound(loader) => {
+                let loader = loader.with_file(alloc, bytes, payload)?;
+                Ok(Loader::Sound(loader))
+            }
+        }
+    }
+
+    // Returns the settled store of all files.
+    fn finish<R: AllocGlobal + Threads + Sync>(
+        self,
+        rt: &R,
+        threads: usize,
+    ) -> Result<LoadedBlocks, AllocError> {
+        let (store, later_count) = match self {
+            Loader::First(loader) => (loader.finish_by(rt, threads)?, 0),
+            Loader::Sound(loader) => {
+                let SoundStore { store, later_count } = loader.finish_by(rt, threads)?;
+                (store, later_count)
+            }
+        };
+        Ok(LoadedBlocks {
+            store: Arc::new(rt.alloc(), store)?,
+            known: None,
+            later_count,
+        })
+    }
 }
 
 impl<'a> BlockFiles<'a> {
-    /// Reads the paths that were given to a command. Standard input can be given once.
+    /// Reads the paths of the blocks that a command exports. Standard input can be given once.
     pub(crate) fn given(
         alloc: Global,
         spec: &'static CommandSpec,
@@ -35,20 +114,56 @@ impl<'a> BlockFiles<'a> {
         most: u64,
         reads_carv2: bool,
     ) -> Result<BlockFiles<'a>, Failure> {
-        let mut paths = Vec::new(alloc);
-        let mut has_input = false;
-        for path in words.get_strs(BLOCKS.name).unwrap_or(&[]) {
-            if *path == STANDARD_INPUT && has_input {
-                return Err(Failure::from(refused_twice(alloc, spec)?));
-            }
-            has_input |= *path == STANDARD_INPUT;
-            paths.push(*path)?;
-        }
         Ok(BlockFiles {
-            paths,
+            paths: paths_of(alloc, spec, words, &BLOCKS)?,
             most,
             reads_carv2,
+            prefers_sound: PREFER_SOUND.is_given(words),
+            is_base: false,
         })
+    }
+
+    /// Reads the paths of what a receiver has, which are read as these. Standard input can be given once.
+    pub(crate) fn base_given(
+        &self,
+        alloc: Global,
+        spec: &'static CommandSpec,
+        words: &ArgMatches<'a>,
+    ) -> Result<BlockFiles<'a>, Failure> {
+        Ok(BlockFiles {
+            paths: paths_of(alloc, spec, words, &WITHOUT)?,
+            most: self.most,
+            reads_carv2: self.reads_carv2,
+            prefers_sound: false,
+            is_base: true,
+        })
+    }
+
+    /// Adds to the blocks of a command which of them a receiver that has these files knows: those under
+    /// whose CID the first copy, over all files in their order, is sound. No file adds nothing.
+    pub(crate) fn add_known<R>(
+        &self,
+        rt: &R,
+        blocks: &mut LoadedBlocks,
+        threads: usize,
+        progress: &Progress<R>,
+    ) -> Result<(), Failure>
+    where
+        R: AllocGlobal + Clock + Eprint + Files<File = File> + Input + Threads + Sync,
+    {
+        if self.paths.is_empty() {
+            return Ok(());
+        }
+        let files = self.read(rt, threads, progress)?;
+        let base = self.store_of(rt, files, threads)?;
+        let known = known_places(rt, rt.alloc(), &blocks.store, &base.store, threads)?;
+        blocks.known = Some(known);
+        Ok(())
+    }
+
+    /// Returns how many bytes each may have.
+    pub(crate) fn most(&self) -> u64 {
+        self.most
     }
 
     /// Returns the paths.
@@ -80,15 +195,15 @@ impl<'a> BlockFiles<'a> {
     }
 
     /// Makes the store of the blocks of the files that were read: those of their sections in order, the
-    /// first of each CID.
+    /// first of each CID, or the first that is sound if that is asked for.
     pub(crate) fn store_of<R: AllocGlobal + Threads + Sync>(
         &self,
         rt: &R,
         files: Vec<Vec<u8>>,
         threads: usize,
-    ) -> Result<Arc<Store>, Failure> {
+    ) -> Result<LoadedBlocks, Failure> {
         let alloc = rt.alloc();
-        let mut loader = BlockLoader::new(alloc);
+        let mut loader = self.new_loader(alloc);
         for (path, bytes) in self.paths.iter().zip(files) {
             let kind = kind_of(bytes.as_slice());
             match self.with_file(rt, loader, bytes, threads) {
@@ -96,18 +211,26 @@ impl<'a> BlockFiles<'a> {
                 Err(fault) => return Err(self.refusal(alloc, path, fault, kind)),
             }
         }
-        let store = loader.finish_by(rt, threads)?;
-        Arc::new(alloc, store).map_err(Failure::from)
+        loader.finish(rt, threads).map_err(Failure::from)
+    }
+
+    // Creates the loader that is asked for.
+    fn new_loader(&self, alloc: Global) -> Loader {
+        if self.prefers_sound {
+            Loader::Sound(SoundLoader::new(alloc))
+        } else {
+            Loader::First(BlockLoader::new(alloc))
+        }
     }
 
     // Reads one file more. Of a CARv2 file it is the payload.
     fn with_file<R: AllocGlobal + Threads + Sync>(
         &self,
         rt: &R,
-        loader: BlockLoader,
+        loader: Loader,
         bytes: Vec<u8>,
         threads: usize,
-    ) -> Result<BlockLoader, CarFault> {
+    ) -> Result<Loader, CarFault> {
         let payload = if self.reads_carv2 {
             payload_of(bytes.as_slice())?
         } else {
@@ -116,15 +239,16 @@ impl<'a> BlockFiles<'a> {
                 end: bytes.len(),
             }
         };
-        loader.with_file_by(rt, rt.alloc(), bytes, payload, threads)
+        loader.with_file(rt, bytes, payload, threads)
     }
 
-    // Returns the failure for a file with an error. It names the file if there are several.
+    // Returns the failure for a file with an error. It names the file if there are several, or if it is what
+    // the receiver has.
     fn refusal(&self, alloc: Global, path: &str, fault: CarFault, kind: Kind) -> Failure {
         let Some(cause) = cause_of(&fault, kind) else {
             return Failure::from(RunFault::from(fault));
         };
-        let file = if self.paths.len() > 1 {
+        let file = if self.is_base || self.paths.len() > 1 {
             Some(path)
         } else {
             None
@@ -164,11 +288,31 @@ fn cause_of(fault: &CarFault, kind: Kind) -> Option<&'static str> {
     }
 }
 
-// Makes the error for standard input that is given twice.
-fn refused_twice(alloc: Global, spec: &'static CommandSpec) -> Result<clap::Error, AllocError> {
-    spec.refusal(
-        alloc,
-        ErrorKind::ArgumentConflict,
-        "standard input is given twice for '--blocks <FILE>'",
-    )
+// Reads the paths of an option. Standard input can be given once.
+fn paths_of<'a>(
+    alloc: Global,
+    spec: &'static CommandSpec,
+    words: &ArgMatches<'a>,
+    option: &ArgSpec,
+) -> Result<Vec<&'a str>, Failure> {
+    let mut paths = Vec::new(alloc);
+    let mut has_input = false;
+    for path in words.get_strs(option.name).unwrap_or(&[]) {
+        if *path == STANDARD_INPUT && has_input {
+            return Err(Failure::from(refused_twice(alloc, spec, option.name)?));
+        }
+        has_input |= *path == STANDARD_INPUT;
+        paths.push(*path)?;
+    }
+    Ok(paths)
+}
+
+// Makes the error for standard input that is given twice for an option.
+fn refused_twice(
+    alloc: Global,
+    spec: &'static CommandSpec,
+    option: &str,
+) -> Result<clap::Error, AllocError> {
+    let message = format!(in alloc; "standard input is given twice for '--{option} <FILE>'")?;
+    spec.refusal(alloc, ErrorKind::ArgumentConflict, message.as_str())
 }

@@ -5,11 +5,15 @@ ghost use Rattle.std.specs.Arc.{arc_value};
 ghost use Rattle.ix_run.specs.Complete.{is_complete};
 
 use crate::Terminals;
-use crate::blocks::BlockFiles;
+use crate::blocks::{BlockFiles, LoadedBlocks};
 use crate::commands::CommandSpec;
 use crate::export::{forget_store, progress_mode};
 use crate::host::Host;
-use crate::options::{ArgKind, ArgSpec, BLOCKS, CARV2, MAX_INPUT, PROGRESS, VERIFIERS, WALKERS};
+use crate::known::KnownInputs;
+use crate::options::{
+    ArgKind, ArgSpec, BLOCKS, CARV2, MAX_INPUT, PREFER_SOUND, PROGRESS, VERIFIERS, WALKERS,
+    WITHOUT, WITHOUT_LIST,
+};
 use crate::print::{print_notes, print_refusal};
 use crate::size::most_input;
 use crate::threads::{RunReport, ThreadCounts};
@@ -23,7 +27,6 @@ use ix_job_errors::{job_fault_words, lacks_an_edge};
 use ix_job_line::{JobWords, SelectorWord, jobs_of_words};
 use ix_jobs::JobResult;
 use ix_run::{RunFault, is_complete};
-use ix_store::Store;
 use ix_walk::Job;
 use std::alloc::{AllocError, Global};
 use std::fs::File;
@@ -46,6 +49,17 @@ reachable from all of them. A block with several links to it is expanded once,\n
 or at every link with --every-arrival, which changes how many links count, and\n\
 not the archive of a job within its limit. Without --limit up to 4294967295\n\
 links are followed, counting the roots, and with --every-arrival up to 1000000.\n\
+\n\
+With --without the archive leaves out each block of which the receiver has a\n\
+sound copy: the first of its CID in these files. With --without-list it leaves\n\
+out each block whose CID the list has: a CIDv1 in base32 on each line, empty\n\
+lines and lines that begin with # aside. A list is trusted, so the receiver runs\n\
+`verify --blocks-only` before `inspect --cids` prints it. The report says how\n\
+many blocks are known.\n\
+\n\
+Of several copies of a block the first counts. With --prefer-sound each copy is\n\
+hashed, and the first that is sound counts, so that damaged replicas make up for\n\
+each other. A line on standard error says how many blocks are a later copy.\n\
 \n\
 The archive is written to FILE.part, which is renamed to FILE if the job is done\n\
 and no root was skipped. It replaces a file with that name. Otherwise it stays\n\
@@ -145,11 +159,14 @@ pub(crate) static SPEC: CommandSpec = CommandSpec {
         SELECTOR_HEX,
         LIMIT,
         EVERY_ARRIVAL,
+        WITHOUT,
+        WITHOUT_LIST,
         OUT,
         WALKERS,
         VERIFIERS,
         MAX_INPUT,
         CARV2,
+        PREFER_SOUND,
         SYNC,
         NO_SYNC,
         PROGRESS,
@@ -173,9 +190,10 @@ pub(crate) fn run<'a, R: Host>(
     };
     let progress = Progress::new(rt, command.progress);
     let status = match command.load(rt, &progress) {
-        Ok(store) => {
-            let status = command.export(rt, &store, &jobs, &progress);
-            forget_store(store);
+        Ok(blocks) => {
+            let status = command.export(rt, &blocks, &jobs, &progress);
+            blocks.print_note(rt, &status);
+            forget_store(blocks.store);
             status
         }
         Err(failure) => Err(failure),
@@ -191,6 +209,8 @@ struct GetCommand<'a> {
     // Whether a block is expanded once, and not at every link to it.
     once: bool,
     blocks: BlockFiles<'a>,
+    // What the receiver has.
+    known: KnownInputs<'a>,
     // The path of the archive, or None for standard output.
     path: Option<&'a str>,
     threads: ThreadCounts,
@@ -216,10 +236,12 @@ impl<'a> GetCommand<'a> {
         };
         let most = most_input(alloc, &SPEC, words, ANY_SIZE)?;
         let blocks = BlockFiles::given(alloc, &SPEC, words, most, true)?;
+        let known = KnownInputs::given(alloc, &SPEC, words, &blocks)?;
         Ok(GetCommand {
             job: job_words(words),
             once: !EVERY_ARRIVAL.is_given(words),
             blocks,
+            known,
             path,
             threads: ThreadCounts::given(words),
             is_synced: !NO_SYNC.is_given(words),
@@ -228,11 +250,20 @@ impl<'a> GetCommand<'a> {
         })
     }
 
-    // Loads the blocks.
-    fn load<R: Host>(&self, rt: &R, progress: &Progress<R>) -> Result<Arc<Store>, Failure> {
+    // Loads the blocks, and finds those that the receiver has.
+    fn load<R: Host>(&self, rt: &R, progress: &Progress<R>) -> Result<LoadedBlocks, Failure> {
         let loaders = self.threads.loaders(rt);
         let files = self.blocks.read(rt, loaders, progress)?;
-        self.blocks.store_of(rt, files, loaders)
+        let mut blocks = self.blocks.store_of(rt, files, loaders)?;
+        self.known.add_to(rt, &mut blocks, loaders, progress)?;
+        Ok(blocks)
+    }
+
+    // Returns the paths of all inputs.
+    fn inputs(&self, alloc: Global) -> Result<Vec<&'a str>, AllocError> {
+        let mut inputs = Vec::from_slice(alloc, self.blocks.paths())?;
+        self.known.push_paths(&mut inputs)?;
+        Ok(inputs)
     }
 
     // Exports the one job: to standard output, or to a file, which is discarded if the run is rejected.
@@ -241,7 +272,7 @@ impl<'a> GetCommand<'a> {
     fn export<R: Host>(
         &self,
         rt: &R,
-        store: &Arc<Store>,
+        blocks: &LoadedBlocks,
         jobs: &Arc<Vec<Job>>,
         progress: &Progress<R>,
     ) -> Result<u8, Failure>
@@ -251,14 +282,19 @@ impl<'a> GetCommand<'a> {
         let errors = WriteErrors::new();
         let Some(path) = self.path else {
             let writer = Noted::new(io::writer(rt), &errors).buffered(rt.alloc());
-            return match self.write(rt, store, jobs, writer, progress) {
+            return match self.write(rt, blocks, jobs, writer, progress) {
                 Ok(ran) => Ok(self.print_outcome(rt, "-", jobs.as_slice(), &ran, &errors)),
                 Err(fault) => Err(refusal(rt, "-", fault, &errors)),
             };
         };
-        let output = Output::create(rt, path, self.blocks.paths(), self.is_synced)?;
+        let output = Output::create(
+            rt,
+            path,
+            self.inputs(rt.alloc())?.as_slice(),
+            self.is_synced,
+        )?;
         let writer = output.writer(rt.alloc(), &errors);
-        match self.write(rt, store, jobs, writer, progress) {
+        match self.write(rt, blocks, jobs, writer, progress) {
             Ok(ran) => self.publish(rt, path, jobs.as_slice(), output, &ran, &errors),
             Err(fault) => {
                 output.discard(rt);
@@ -271,7 +307,7 @@ impl<'a> GetCommand<'a> {
     fn write<R: AllocGlobal + Clock + Eprint + Threads + Wait + Sync, W: Write + Drop>(
         &self,
         rt: &R,
-        store: &Arc<Store>,
+        blocks: &LoadedBlocks,
         jobs: &Arc<Vec<Job>>,
         writer: Result<W, AllocError>,
         progress: &Progress<R>,
@@ -280,7 +316,7 @@ impl<'a> GetCommand<'a> {
     {
         let mut writers = Vec::with_capacity(rt.alloc(), 1)?;
         writers.push(writer?)?;
-        self.threads.run(rt, store, jobs, writers, progress)
+        self.threads.run(rt, blocks, jobs, writers, progress)
     }
 
     // Publishes the file if nothing that was asked for is missing, and then reports, whether it did or

@@ -8,6 +8,7 @@ use clap::ArgMatches;
 use ix_car::{
     CarFault, CarFile, CarKind, Payload, Section, has_index, is_carv2, payload_of, read_sections,
 };
+use ix_cid::HashFunction;
 use ix_cli_io::{ANY_SIZE, Failure, REFUSED, STANDARD_INPUT, read_input};
 use ix_inspect::{Kind, Summary, codec_name, hash_name, kind_of, summary_of};
 use ix_run::RunFault;
@@ -21,6 +22,12 @@ use std::thread::Threads;
 // processors.
 const LOADERS: usize = 8;
 
+// The memory that `get` and `jobs` take at most for the blocks of a file, if their CIDs aren't crafted to
+// share slots of the index: beside the file for each section, and for all else.
+const SECTION_MEMORY: usize = 80;
+
+const PROGRAM_MEMORY: usize = 16 * 1024 * 1024;
+
 /// What is wrong with a CARv2 file whose payload can't be read.
 pub(crate) const CARV2_HEADER: &str =
     "the payload that the header of a CARv2 file names is not whole in it";
@@ -30,12 +37,17 @@ const ABOUT: &str = "Describe a CARv1 file, without hashing";
 const HELP: &str =
     "Prints the roots of the file, its size, the number of its sections and how many\n\
 of them repeat a CID, the number of sections of each codec and each hash\n\
-function (by its name in the multicodec table, or its number), and the smallest,\n\
-median and greatest size of a block.\n\
+function (by its name in the multicodec table, or its number), the smallest,\n\
+median and greatest size of a block, and how many bytes of memory `get` and\n\
+`jobs` take at most for the blocks of the file.\n\
 \n\
 With --list it prints a line for each section instead, PLACE SIZE CID: the\n\
 offset of the section in bytes, the size of its block, and the CID as in a job\n\
 file.\n\
+\n\
+With --cids it prints the CID of each section, one per line: the list that the\n\
+option --without-list of `get` and `jobs` reads. A CIDv0, which has no base32,\n\
+and an identity CID, which contains its block, are left out.\n\
 \n\
 If the file is not a CARv1, a line on standard error says what it is. If it ends\n\
 early, the line says how to keep its whole sections.\n\
@@ -50,8 +62,14 @@ const FILE: ArgSpec = ArgSpec {
 
 const LIST: ArgSpec = ArgSpec {
     name: "list",
-    given: ArgKind::Flag,
+    given: ArgKind::FlagWithout("cids"),
     help: "Print a line for each section: PLACE SIZE CID",
+};
+
+const CIDS: ArgSpec = ArgSpec {
+    name: "cids",
+    given: ArgKind::Flag,
+    help: "Print the CID of each section, one per line",
 };
 
 /// The command.
@@ -59,8 +77,31 @@ pub(crate) static SPEC: CommandSpec = CommandSpec {
     name: "inspect",
     about: ABOUT,
     help: HELP,
-    words: &[FILE, LIST, MAX_INPUT, CARV2],
+    words: &[FILE, LIST, CIDS, MAX_INPUT, CARV2],
 };
+
+// What is printed of a file.
+#[derive(Clone, Copy)]
+enum Form {
+    Summary,
+    // A line for each section.
+    List,
+    // The CID of each section.
+    Cids,
+}
+
+impl Form {
+    // Returns the one that is asked for.
+    fn given<'a>(words: &ArgMatches<'a>) -> Form {
+        if LIST.is_given(words) {
+            Form::List
+        } else if CIDS.is_given(words) {
+            Form::Cids
+        } else {
+            Form::Summary
+        }
+    }
+}
 
 /// Runs the command and returns the status.
 pub(crate) fn run<'a, R: AllocGlobal + Eprint + Files + Input + Print + Threads + Sync>(
@@ -70,7 +111,7 @@ pub(crate) fn run<'a, R: AllocGlobal + Eprint + Files + Input + Print + Threads 
     let path = FILE.text(words);
     let most = most_input(rt.alloc(), &SPEC, words, ANY_SIZE)?;
     let car = read_input(rt, path, most)?;
-    inspect_car(rt, path, car.as_slice(), LIST.is_given(words))
+    inspect_car(rt, path, car.as_slice(), Form::given(words))
 }
 
 // Describes a file, given its bytes.
@@ -78,15 +119,17 @@ fn inspect_car<R: AllocGlobal + Eprint + Print + Threads + Sync>(
     rt: &R,
     path: &str,
     car: &[u8],
-    is_listed: bool,
+    form: Form,
 ) -> Result<u8, Failure> {
     let Payload { start, end } = match payload_of(car) {
         Ok(payload) => payload,
         Err(fault) => return refuse(rt, path, car, 0, fault),
     };
     match read_sections(rt.alloc(), &car[start..end]) {
-        Ok(file) if is_listed => list(rt, file.sections.as_slice(), start),
-        Ok(file) => summarize(rt, file, car),
+        Ok(file) => match form {
+            Form::Summary => summarize(rt, file, car),
+            _ => list(rt, file.sections.as_slice(), form, start),
+        },
         Err(fault) => {
             let place = start.saturating_add(fault.place);
             refuse(rt, path, car, start, CarFault { place, ..fault })
@@ -98,10 +141,11 @@ fn inspect_car<R: AllocGlobal + Eprint + Print + Threads + Sync>(
 fn list<R: AllocGlobal + Print>(
     rt: &R,
     sections: &[Section<'_>],
+    form: Form,
     start: usize,
 ) -> Result<u8, Failure> {
     match BufWriter::new(rt.alloc(), io::writer(rt)) {
-        Ok(mut output) => list_to(rt, &mut output, sections, start),
+        Ok(mut output) => list_to(rt, &mut output, sections, form, start),
         Err(_) => Err(Failure::Fault(RunFault::Memory)),
     }
 }
@@ -110,10 +154,14 @@ fn list_to<R: AllocGlobal, W: Write>(
     rt: &R,
     output: &mut W,
     sections: &[Section<'_>],
+    form: Form,
     start: usize,
 ) -> Result<u8, Failure> {
     for section in sections {
-        let line = line_of(rt.alloc(), section, start)?;
+        let line = match form {
+            Form::Cids => cid_line(rt.alloc(), section)?,
+            _ => line_of(rt.alloc(), section, start)?,
+        };
         if let Err(error) = output.write_all(line.as_bytes()) {
             return answer_of(rt, &error);
         }
@@ -129,6 +177,16 @@ fn line_of(alloc: Global, section: &Section<'_>, start: usize) -> Result<String,
     let size = section.block.len();
     let cid = cid_of(alloc, section)?;
     format!(in alloc; "{place} {size} {cid}\n")
+}
+
+// The line of a section in a have-list: nothing for a CIDv0 or an identity CID.
+fn cid_line(alloc: Global, section: &Section<'_>) -> Result<String, AllocError> {
+    let parts = section.cid.parts();
+    if parts.version == 0 || matches!(parts.hash_function(), Some(HashFunction::Identity)) {
+        return Ok(String::new(alloc));
+    }
+    let cid = cid_of(alloc, section)?;
+    format!(in alloc; "{cid}\n")
 }
 
 // The CID of a section, as in a job file.
@@ -205,7 +263,16 @@ fn push_summary(text: &mut String, summary: &Summary, bytes: usize) -> Result<()
     for (code, count) in summary.hashes.iter() {
         push_count(text, "hash", hash_name(*code), *code, *count)?;
     }
-    push_sizes(text, summary)
+    push_sizes(text, summary)?;
+    writeln!(text, "memory {}", memory_for(bytes, summary.sections))
+}
+
+// Returns how many bytes of memory `get` and `jobs` take at most for the blocks of a file of so many bytes
+// and sections.
+fn memory_for(bytes: usize, sections: usize) -> usize {
+    bytes
+        .saturating_add(sections.saturating_mul(SECTION_MEMORY))
+        .saturating_add(PROGRAM_MEMORY)
 }
 
 fn push_numbers(

@@ -4,12 +4,14 @@ ghost use Rattle.std.specs.Prelude.{IfOk};
 ghost use Rattle.std.specs.Arc.{arc_value};
 ghost use Rattle.ix_walk.specs.JobMeaning.{AreFew};
 
-use crate::blocks::BlockFiles;
+use crate::blocks::{BlockFiles, LoadedBlocks};
 use crate::commands::CommandSpec;
 use crate::export::{forget_store, progress_mode};
 use crate::host::Host;
+use crate::known::{KnownInputs, refused_inputs};
 use crate::options::{
-    ArgKind, ArgSpec, BLOCKS, CARV2, MAX_INPUT_1G, MAX_LIMIT, PROGRESS, VERBOSE, VERIFIERS, WALKERS,
+    ArgKind, ArgSpec, BLOCKS, CARV2, MAX_INPUT_1G, MAX_LIMIT, PREFER_SOUND, PROGRESS, VERBOSE,
+    VERIFIERS, WALKERS, WITHOUT, WITHOUT_LIST,
 };
 use crate::print::{print_all, print_notes};
 use crate::size::most_input;
@@ -23,7 +25,6 @@ use ix_cli_io::{
 };
 use ix_jobs::Part;
 use ix_run::{JobChoice, RunFault, load_jobs};
-use ix_store::Store;
 use ix_walk::Job;
 use std::alloc::{AllocError, Global};
 use std::fs::File;
@@ -72,6 +73,17 @@ selector, and only if the block is sound. Later visits count, with nothing below
 them. So a graph has about as many visits as links. The archive is the same\n\
 unless a run hits its limit.\n\
 \n\
+With --without the archives leave out each block of which the receiver has a\n\
+sound copy: the first of its CID in these files. With --without-list they leave\n\
+out each block whose CID the list has: a CIDv1 in base32 on each line, empty\n\
+lines and lines that begin with # aside. A list is trusted, so the receiver runs\n\
+`verify --blocks-only` before `inspect --cids` prints it. The line of a job in\n\
+the report ends with how many of its blocks are known.\n\
+\n\
+Of several copies of a block the first counts. With --prefer-sound each copy is\n\
+hashed, and the first that is sound counts, so that damaged replicas make up for\n\
+each other. A line on standard error says how many blocks are a later copy.\n\
+\n\
 With --complete only the archives of jobs that are done, with no root skipped,\n\
 are renamed; the others stay as .part, and a line on standard error says why.\n\
 Without it a file may be replaced by an archive that lacks something; a line on\n\
@@ -104,7 +116,7 @@ const OUT: ArgSpec = ArgSpec {
 const PART: ArgSpec = ArgSpec {
     name: "part",
     given: ArgKind::Optional("K/N"),
-    help: "Run the K-th of N parts of the jobs, N up to 1000000",
+    help: "Run the K-th of N parts, with N up to 1000000",
 };
 
 const ONCE: ArgSpec = ArgSpec {
@@ -141,11 +153,14 @@ pub(crate) static SPEC: CommandSpec = CommandSpec {
         JOBS,
         OUT,
         PART,
+        WITHOUT,
+        WITHOUT_LIST,
         MAX_LIMIT,
         WALKERS,
         VERIFIERS,
         MAX_INPUT_1G,
         CARV2,
+        PREFER_SOUND,
         ONCE,
         SYNC,
         COMPLETE,
@@ -165,9 +180,10 @@ pub(crate) fn run<'a, R: Host>(
     let command = JobsCommand::read(rt.alloc(), words, is_terminal)?;
     let progress = Progress::new(rt, command.progress);
     let status = match command.load(rt, &progress) {
-        Ok((store, jobs)) => {
-            let status = command.export(rt, &store, &jobs, &progress);
-            forget_store(store);
+        Ok((blocks, jobs)) => {
+            let status = command.export(rt, &blocks, &jobs, &progress);
+            blocks.print_note(rt, &status);
+            forget_store(blocks.store);
             status
         }
         Err(failure) => Err(failure),
@@ -180,6 +196,8 @@ pub(crate) fn run<'a, R: Host>(
 #[derive(Drop)]
 struct JobsCommand<'a> {
     blocks: BlockFiles<'a>,
+    // What the receiver has.
+    known: KnownInputs<'a>,
     // The path of the job file, and how many bytes it may have.
     job_file: &'a str,
     most: u64,
@@ -202,9 +220,12 @@ impl<'a> JobsCommand<'a> {
         let part = part_of(alloc, words)?;
         let most = most_input(alloc, &SPEC, words, LARGEST_INPUT)?;
         let blocks = BlockFiles::given(alloc, &SPEC, words, most, CARV2.is_given(words))?;
+        let known = KnownInputs::given(alloc, &SPEC, words, &blocks)?;
         let job_file = JOBS.text(words);
-        if job_file == STANDARD_INPUT && blocks.has_standard_input() {
-            return Err(Failure::from(refused_inputs(alloc)?));
+        if job_file == STANDARD_INPUT
+            && let Some(option) = known.standard_input(&blocks)
+        {
+            return Err(Failure::from(refused_inputs(alloc, &SPEC, option, JOBS.name)?));
         }
         let folder = OUT.text(words);
         if folder.is_empty() {
@@ -217,6 +238,7 @@ impl<'a> JobsCommand<'a> {
         };
         Ok(JobsCommand {
             blocks,
+            known,
             job_file,
             most,
             folder,
@@ -238,20 +260,22 @@ impl<'a> JobsCommand<'a> {
         &self,
         rt: &R,
         progress: &Progress<R>,
-    ) -> Result<(Arc<Store>, Arc<Vec<Job>>), Failure>
+    ) -> Result<(LoadedBlocks, Arc<Vec<Job>>), Failure>
         ensures { IfOk result (λ loaded. AreFew (arc_value loaded.1).items) }
     {
         let loaders = self.threads.loaders(rt);
         let files = self.blocks.read(rt, loaders, progress)?;
         let job_file = read_input(rt, self.job_file, self.most)?;
-        let store = self.blocks.store_of(rt, files, loaders)?;
+        let mut blocks = self.blocks.store_of(rt, files, loaders)?;
         let jobs = load_jobs(rt.alloc(), job_file.as_slice(), self.choice)?;
-        Ok((store, Arc::new(rt.alloc(), jobs)?))
+        self.known.add_to(rt, &mut blocks, loaders, progress)?;
+        Ok((blocks, Arc::new(rt.alloc(), jobs)?))
     }
 
     // Returns the paths of all inputs.
     fn inputs(&self, alloc: Global) -> Result<Vec<&'a str>, AllocError> {
         let mut inputs = Vec::from_slice(alloc, self.blocks.paths())?;
+        self.known.push_paths(&mut inputs)?;
         inputs.push(self.job_file)?;
         Ok(inputs)
     }
@@ -262,7 +286,7 @@ impl<'a> JobsCommand<'a> {
     fn export<R: Host>(
         &self,
         rt: &R,
-        store: &Arc<Store>,
+        blocks: &LoadedBlocks,
         jobs: &Arc<Vec<Job>>,
         progress: &Progress<R>,
     ) -> Result<u8, Failure>
@@ -279,7 +303,7 @@ impl<'a> JobsCommand<'a> {
             self.is_synced,
         )?;
         let ran = match writers_to(rt.alloc(), outputs.as_slice(), &errors) {
-            Ok(writers) => self.threads.run(rt, store, jobs, writers, progress),
+            Ok(writers) => self.threads.run(rt, blocks, jobs, writers, progress),
             Err(error) => Err(RunFault::from(error)),
         };
         match ran {
@@ -311,15 +335,6 @@ impl<'a> JobsCommand<'a> {
         );
         Ok(ran.status)
     }
-}
-
-// Makes the error for standard input as both inputs.
-fn refused_inputs(alloc: Global) -> Result<clap::Error, AllocError> {
-    SPEC.refusal(
-        alloc,
-        ErrorKind::ArgumentConflict,
-        "standard input is given for '--blocks <FILE>' and for '--jobs <FILE>'",
-    )
 }
 
 // Returns the part of the job file that is asked for, or None for the whole file.

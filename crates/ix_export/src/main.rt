@@ -13,6 +13,7 @@
 
 mod arguments;
 mod blocks;
+mod car_input;
 mod check_jobs;
 mod commands;
 mod export;
@@ -21,6 +22,7 @@ mod host;
 mod inspect;
 mod job;
 mod jobs;
+mod known;
 mod options;
 mod print;
 mod root;

@@ -27,6 +27,10 @@ pub(crate) enum ArgKind {
     Optional(&'static str),
     /// An option that conflicts with the argument of the second name.
     ConflictsWith(&'static str, &'static str),
+    /// An optional option that may be given several times.
+    OptionalMany(&'static str),
+    /// The same that conflicts with the argument of the second name.
+    ManyWithout(&'static str, &'static str),
     /// An option with a number from 1 to 64. The default is 4.
     Number,
     /// An option with a number from 1 to 4294967295. The default is 1000000.
@@ -47,7 +51,21 @@ pub(crate) enum ArgKind {
 pub(crate) const BLOCKS: ArgSpec = ArgSpec {
     name: "blocks",
     given: ArgKind::RequiredMany("FILE"),
-    help: "CARv1 file of blocks, or - for stdin; several add up",
+    help: "CARv1 file of blocks, - for stdin; several add up",
+};
+
+/// The files of what the receiver of an archive has, at the same commands.
+pub(crate) const WITHOUT: ArgSpec = ArgSpec {
+    name: "without",
+    given: ArgKind::OptionalMany("FILE"),
+    help: "Leave out what this CARv1 has sound; several add up",
+};
+
+/// The have-list of the receiver, at the same commands.
+pub(crate) const WITHOUT_LIST: ArgSpec = ArgSpec {
+    name: "without-list",
+    given: ArgKind::Optional("FILE"),
+    help: "Leave out the CIDs this file lists, one per line",
 };
 
 /// The greatest size of an input, where there is none by default.
@@ -69,6 +87,13 @@ pub(crate) const CARV2: ArgSpec = ArgSpec {
     name: "carv2",
     given: ArgKind::Flag,
     help: "Read CARv2 files too, as the CARv1 in them",
+};
+
+/// Whether the first sound copy of a block counts, and not the first copy.
+pub(crate) const PREFER_SOUND: ArgSpec = ArgSpec {
+    name: "prefer-sound",
+    given: ArgKind::Flag,
+    help: "Use the first sound copy of a block, if any is",
 };
 
 /// The number of walkers.
@@ -181,9 +206,11 @@ fn push_argument<'a>(
 fn argument_of<'a>(alloc: Global, row: &'static ArgSpec) -> Result<Arg<'a>, AllocError> {
     match row.given {
         ArgKind::Required(value) => Ok(option(alloc, row, value).required(true)),
-        ArgKind::RequiredMany(value) => Ok(options(alloc, row, value)),
+        ArgKind::RequiredMany(value) => Ok(options(alloc, row, value).required(true)),
         ArgKind::Optional(value) => Ok(option(alloc, row, value)),
         ArgKind::ConflictsWith(value, other) => option(alloc, row, value).conflicts_with(other),
+        ArgKind::OptionalMany(value) => Ok(options(alloc, row, value)),
+        ArgKind::ManyWithout(value, other) => options(alloc, row, value).conflicts_with(other),
         ArgKind::Number => Ok(number(alloc, row)),
         ArgKind::Limit => Ok(limit(alloc, row)),
         ArgKind::Flag => Ok(flag(alloc, row)),
@@ -212,11 +239,9 @@ fn option<'a>(alloc: Global, row: &'static ArgSpec, value: &'static str) -> Arg<
     named(row, positional(alloc, row, value))
 }
 
-// An option with a text as its value, which is given at least once.
+// An option with a text as its value, which may be given several times.
 fn options<'a>(alloc: Global, row: &'static ArgSpec, value: &'static str) -> Arg<'a> {
-    option(alloc, row, value)
-        .required(true)
-        .action(ArgAction::Append)
+    option(alloc, row, value).action(ArgAction::Append)
 }
 
 // An option with a number.

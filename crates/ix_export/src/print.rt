@@ -1,7 +1,7 @@
 //! Prints what commands answer.
 
 use ix_cli_io::{Failure, REFUSED};
-use std::alloc::AllocError;
+use std::alloc::{AllocError, Global};
 use std::io::{self, Write};
 
 /// Writes a text to standard output.
@@ -36,4 +36,10 @@ pub(crate) fn print_notes<R: Eprint>(rt: &R, notes: Result<String, AllocError>) 
     if let Ok(notes) = notes {
         let _ = rt.eprint(notes.as_str());
     }
+}
+
+/// Makes the note that so many blocks are a later copy, after what it is about.
+pub(crate) fn later_note(alloc: Global, about: &str, count: usize) -> Result<String, AllocError> {
+    let blocks = if count == 1 { "block" } else { "blocks" };
+    format!(in alloc; "{about}: {count} {blocks} from a later copy\n")
 }

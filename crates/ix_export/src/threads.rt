@@ -4,13 +4,13 @@ ghost use Rattle.std.specs.Prelude.{◌≤◌};
 ghost use Rattle.std.specs.Arc.{arc_value};
 ghost use Rattle.ix_run.specs.Run.{CanRun};
 
+use crate::blocks::LoadedBlocks;
 use crate::options::{VERIFIERS, WALKERS};
 use clap::ArgMatches;
 use ix_cli_io::Progress;
 use ix_jobs::JobResult;
 use ix_pipeline::Plan;
-use ix_run::{RunFault, RunInput, run, run_observed};
-use ix_store::Store;
+use ix_run::{RunFault, RunInput, Unobserved, run_observed};
 use ix_walk::Job;
 use std::io::Write;
 use std::rt::Clock;
@@ -57,7 +57,7 @@ impl ThreadCounts {
     pub(crate) fn run<R: AllocGlobal + Clock + Eprint + Threads + Wait + Sync, W: Write + Drop>(
         &self,
         rt: &R,
-        store: &Arc<Store>,
+        blocks: &LoadedBlocks,
         jobs: &Arc<Vec<Job>>,
         writers: Vec<W>,
         progress: &Progress<R>,
@@ -65,23 +65,22 @@ impl ThreadCounts {
         requires { CanRun (arc_value jobs.now).items writers.items }
     {
         let alloc = rt.alloc();
-        let verifiers = self.verifiers;
-        let plan = Plan {
-            walkers: self.walkers,
-            queue: QUEUE,
-            lane: LANE,
+        let input = RunInput {
+            store: &blocks.store,
+            known: blocks.known.as_ref(),
+            jobs,
+            verifiers: self.verifiers,
+            plan: Plan {
+                walkers: self.walkers,
+                queue: QUEUE,
+                lane: LANE,
+            },
         };
         let ran = if progress.is_shown() {
             progress.begin(jobs.len());
-            let input = RunInput {
-                store,
-                jobs,
-                verifiers,
-                plan,
-            };
             run_observed(rt, alloc, input, writers, progress)
         } else {
-            run(rt, alloc, store, jobs, writers, verifiers, plan)
+            run_observed(rt, alloc, input, writers, &Unobserved)
         };
         progress.end();
         let out = ran?;

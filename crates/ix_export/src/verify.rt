@@ -1,13 +1,17 @@
 //! The command `verify`: whether CARv1 files are sound.
 
+use crate::car_input::{CarInput, Rejection};
 use crate::commands::CommandSpec;
 use crate::options::{ArgKind, ArgSpec, CARV2, MAX_INPUT, VERIFIERS};
+use crate::print::{later_note, print_notes};
 use crate::size::most_input;
 use clap::ArgMatches;
-use ix_car::{CarFault, CarKind, Payload, payload_of};
-use ix_cli_io::{ANY_SIZE, Causes, Failure, REFUSED, STANDARD_INPUT, read_input};
+use clap::error::ErrorKind as UsageKind;
+use ix_cli_io::{ANY_SIZE, Failure, REFUSED, STANDARD_INPUT};
 use ix_run::RunFault;
-use ix_verify::{Findings, Scope, Unsound, verify};
+use ix_verify::{
+    Beside, Copies, Findings, OtherFile, Scope, Unsound, verify_beside, verify_sections,
+};
 use std::alloc::{AllocError, Global};
 use std::io::{self, BufWriter, ErrorKind, Write};
 use std::num::NonZeroUsize;
@@ -29,6 +33,15 @@ DAG-CBOR decodes. Then all links are followed from the roots of the header, in\n
 one walk: a root that is named twice counts once, and a block is expanded once.\n\
 With --blocks-only nothing is followed.\n\
 \n\
+A CID that a FILE lacks is looked up in the files of --with, in their order. Of\n\
+these only the blocks that links lead to are checked.\n\
+\n\
+Of several copies of a block, in FILE or after it in the files of --with, the\n\
+first counts. With --prefer-sound each copy is hashed, and the first that is\n\
+sound counts, so a link to it leads to something sound. A damaged section of\n\
+FILE is a finding all the same. A line on standard error says how many blocks\n\
+are a later copy.\n\
+\n\
 One line is printed for each file:\n\
 \n\
 \x20 FILE sound sections=N bytes=B\n\
@@ -46,6 +59,8 @@ A header without roots has nothing to follow.\n\
 \n\
 \x20 ix_export verify out/*.car\n\
 \x20 ix_export verify --all library.car | grep ' link missing '\n\
+\x20 ix_export verify update.car --with library.car\n\
+\x20 ix_export verify a.car --with b.car --prefer-sound\n\
 \n\
 Status: 0 if all is sound, 3 if something isn't, 2 if the arguments or a file\n\
 are rejected.";
@@ -54,6 +69,18 @@ const FILES: ArgSpec = ArgSpec {
     name: "file",
     given: ArgKind::Many("FILE"),
     help: "CARv1 files, or - for standard input",
+};
+
+const WITH: ArgSpec = ArgSpec {
+    name: "with",
+    given: ArgKind::ManyWithout("FILE", "blocks-only"),
+    help: "CARv1 file to follow links into too; several add up",
+};
+
+const PREFER_SOUND: ArgSpec = ArgSpec {
+    name: "prefer-sound",
+    given: ArgKind::FlagWithout("blocks-only"),
+    help: "Use the first sound copy of a block, if any is",
 };
 
 const BLOCKS_ONLY: ArgSpec = ArgSpec {
@@ -73,7 +100,16 @@ pub(crate) static SPEC: CommandSpec = CommandSpec {
     name: "verify",
     about: ABOUT,
     help: HELP,
-    words: &[FILES, BLOCKS_ONLY, ALL, VERIFIERS, MAX_INPUT, CARV2],
+    words: &[
+        FILES,
+        WITH,
+        PREFER_SOUND,
+        BLOCKS_ONLY,
+        ALL,
+        VERIFIERS,
+        MAX_INPUT,
+        CARV2,
+    ],
 };
 
 // What the arguments choose besides the files.
@@ -81,27 +117,79 @@ pub(crate) static SPEC: CommandSpec = CommandSpec {
 struct VerifyCommand {
     threads: NonZeroUsize,
     scope: Scope,
+    // Which copy of a block counts for a link.
+    copies: Copies,
     // Whether all findings are printed, with the line of the file after them.
     prints_all: bool,
     // The greatest size of a file.
     most_input: u64,
 }
 
-/// Runs the command and returns the status. After a file that is rejected it goes on with the next.
+/// Runs the command and returns the status. The files of `--with` are read first; if one is rejected, no other
+/// is verified. After a file that is rejected it goes on with the next.
 pub(crate) fn run<'a, R: AllocGlobal + Eprint + Files + Input + Print + Threads + Sync>(
     rt: &R,
     words: &ArgMatches<'a>,
 ) -> Result<u8, Failure> {
     let command = VerifyCommand::read(rt.alloc(), words)?;
+    let mut others = Vec::new(rt.alloc());
+    let paths = words.get_strs(WITH.name).unwrap_or(&[]);
+    if let Err(rejection) = read_others(rt, paths, command.most_input, &mut others) {
+        return Ok(rejection.report(rt));
+    }
     let mut status = 0;
     for path in words.get_strs(FILES.name).unwrap_or(&[]) {
-        let told = match command.verify_file(rt, path) {
+        let told = match command.verify_file(rt, path, others.as_slice()) {
             Ok(told) => told,
-            Err(failure) => failure.report(rt, Causes::Beside),
+            Err(rejection) => rejection.report(rt),
         };
         status = worse(status, told);
     }
     Ok(status)
+}
+
+// Reads the files beside which others are verified, up to the first that is rejected.
+fn read_others<'a, R: AllocGlobal + Files + Input>(
+    rt: &R,
+    paths: &[&'a str],
+    most: u64,
+    others: &mut Vec<OtherFile>,
+) -> Result<(), Rejection<'a>> {
+    for path in paths {
+        push_other(others, read_other(rt, path, most))?;
+    }
+    Ok(())
+}
+
+// Adds a file, unless it was rejected.
+fn push_other<'a>(
+    others: &mut Vec<OtherFile>,
+    other: Result<OtherFile, Rejection<'a>>,
+) -> Result<(), Rejection<'a>> {
+    match other {
+        Ok(other) => {
+            others.push(other).map_err(AllocError::from)?;
+            Ok(())
+        }
+        Err(rejection) => Err(rejection),
+    }
+}
+
+// Reads a file beside which others are verified.
+fn read_other<'a, R: AllocGlobal + Files + Input>(
+    rt: &R,
+    path: &'a str,
+    most: u64,
+) -> Result<OtherFile, Rejection<'a>> {
+    let CarInput {
+        car,
+        start,
+        size: _,
+    } = CarInput::read(rt, path, most)?;
+    match OtherFile::read(rt.alloc(), car) {
+        Ok(other) => Ok(other),
+        Err(fault) => Err(Rejection::of_car(path, start, fault)),
+    }
 }
 
 // Returns the status of two files from the status of each.
@@ -113,8 +201,10 @@ fn worse(status: u8, other: u8) -> u8 {
 }
 
 impl VerifyCommand {
-    // Reads the arguments.
+    // Reads the arguments. The first that is rejected is reported, in this order: standard input that is given
+    // twice, and the size.
     fn read<'a>(alloc: Global, words: &ArgMatches<'a>) -> Result<VerifyCommand, Failure> {
+        check_standard_input(alloc, words)?;
         let threads = VERIFIERS.threads(words) as usize;
         Ok(VerifyCommand {
             threads: NonZeroUsize::new(threads).unwrap_or(NonZeroUsize::MIN),
@@ -123,58 +213,78 @@ impl VerifyCommand {
             } else {
                 Scope::Graph
             },
+            copies: if PREFER_SOUND.is_given(words) {
+                Copies::Sound
+            } else {
+                Copies::First
+            },
             prints_all: ALL.is_given(words),
             most_input: most_input(alloc, &SPEC, words, ANY_SIZE)?,
         })
     }
 
-    // Verifies a file, prints what was found, and returns its status.
-    fn verify_file<R: AllocGlobal + Eprint + Files + Input + Print + Threads + Sync>(
+    // Verifies a file beside others, prints what was found and how many blocks are a later copy, and returns the
+    // status.
+    fn verify_file<'a, R: AllocGlobal + Eprint + Files + Input + Print + Threads + Sync>(
         &self,
         rt: &R,
-        path: &str,
-    ) -> Result<u8, Failure> {
-        let alloc = rt.alloc();
-        let car = read_input(rt, path, self.most_input)?;
-        let bytes = car.len();
-        let Payload { start, end } = match payload_of(car.as_slice()) {
-            Ok(payload) => payload,
-            Err(fault) => return refuse(rt, path, 0, fault),
-        };
-        // The payload of a CARv2 file is copied.
-        let car = if start == 0 {
-            car
-        } else {
-            Vec::from_slice(alloc, &car[start..end])?
-        };
+        path: &'a str,
+        others: &[OtherFile],
+    ) -> Result<u8, Rejection<'a>> {
+        let CarInput { car, start, size } = CarInput::read(rt, path, self.most_input)?;
         let most = if self.prints_all { usize::MAX } else { FIRST };
-        match verify(rt, alloc, car, self.threads, self.scope, most) {
-            Ok(found) => print_report(
-                rt,
-                &Report {
+        let alloc = rt.alloc();
+        let (copies, threads) = (self.copies, self.threads);
+        let found = match self.scope {
+            Scope::Sections => verify_sections(rt, alloc, &car, threads, most),
+            Scope::Graph => {
+                let beside = Beside { others, copies };
+                verify_beside(rt, alloc, &car, beside, threads, most)
+            }
+        };
+        match found {
+            Ok(found) => {
+                let report = Report {
                     path,
-                    bytes,
+                    bytes: size,
                     start,
                     found: &found,
                     most,
                     prints_all: self.prints_all,
-                },
-            ),
-            Err(fault) => refuse(rt, path, start, fault),
+                };
+                let status = print_report(rt, &report)?;
+                print_later(rt, path, found.later_count);
+                Ok(status)
+            }
+            Err(fault) => Err(Rejection::of_car(path, start, fault)),
         }
     }
 }
 
-// Prints why a file is rejected, whose CARv1 file begins at an offset.
-fn refuse<R: Eprint>(rt: &R, path: &str, start: usize, fault: CarFault) -> Result<u8, Failure> {
-    let CarFault { kind, place } = fault;
-    let place = start.saturating_add(place);
-    if kind == CarKind::Memory {
-        return Err(Failure::Fault(RunFault::Memory));
+// Prints how many blocks of a file are a later copy, if any are.
+fn print_later<R: AllocGlobal + Eprint>(rt: &R, path: &str, count: usize) {
+    if count > 0 {
+        print_notes(rt, later_note(rt.alloc(), path, count));
     }
-    // If standard error can't be written, there is no one to report to.
-    let _ = eprintln!(rt; "{path}: {kind} at {place}");
-    Ok(REFUSED)
+}
+
+// Rejects standard input that is given twice.
+fn check_standard_input<'a>(alloc: Global, words: &ArgMatches<'a>) -> Result<(), Failure> {
+    let files = times_of_input(words.get_strs(FILES.name).unwrap_or(&[]));
+    let others = times_of_input(words.get_strs(WITH.name).unwrap_or(&[]));
+    let message = match (files, others) {
+        (0, 0) | (1, 0) | (0, 1) => return Ok(()),
+        (_, 0) => "standard input is given twice for '<FILE>...'",
+        (0, _) => "standard input is given twice for '--with <FILE>'",
+        _ => "standard input is given for '<FILE>...' and for '--with <FILE>'",
+    };
+    let error = SPEC.refusal(alloc, UsageKind::ArgumentConflict, message)?;
+    Err(Failure::from(error))
+}
+
+// Returns how often standard input is among some files.
+fn times_of_input(paths: &[&str]) -> usize {
+    paths.iter().filter(|path| **path == STANDARD_INPUT).count()
 }
 
 // The report on a file.

@@ -211,6 +211,7 @@ fn has_begun(rt: &impl Abort, left: &Left, sections: u32, bytes: u64, whole: &[u
         kept: sections,
         sections,
         bytes,
+        known: None,
     };
     assert_eq!(rt; left.counts, wanted);
     assert!(rt; whole.starts_with(left.bytes.as_slice()));

@@ -23,6 +23,8 @@ mod exporting;
 #[cfg(test)]
 mod input;
 #[cfg(test)]
+mod layers;
+#[cfg(test)]
 mod refusals;
 #[cfg(test)]
 mod runs;
@@ -32,3 +34,5 @@ mod sinks;
 mod starts;
 #[cfg(test)]
 mod waiting;
+#[cfg(test)]
+mod window;

@@ -3,33 +3,20 @@
 
 ghost use Rattle.ix_archive.specs.Headline.{IsUnusedCheck};
 
-use crate::archives::{Left, archived};
+use crate::archives::archived;
 use crate::exporting::{ExportInput, chain, list, plan_of, started};
-use ix_archive::{Counts, End, Sink, SinkFault};
+use crate::layers::{is_layers, layers};
+use ix_archive::{End, Sink, SinkFault};
 use ix_check::{ShaCheck, Verdict};
-use ix_cid::Cid;
-use ix_fixtures::{
-    ABC, ABC_SECTION, ALL, Awaited, Before, CheckAfter, Log, TURNS, archive_with, bytes_of, job_at,
-    sections_of, store_of,
-};
+use ix_fixtures::{ALL, Awaited, Before, CheckAfter, Log, TURNS, job_at};
 use ix_pipeline::{Gate, Open, export};
-use ix_store::Store;
 use ix_walk::Visit;
-use sha2::{Digest, Sha256};
 use std::alloc::{AllocError, Global};
 use std::sync::Arc;
 use std::test::Fail;
 
 // How many visits of the forty layers are expected.
 const LIMIT: u32 = 1_000;
-
-// The counts of these visits: each layer is written once.
-const LAYER_COUNTS: Counts = Counts {
-    visits: LIMIT,
-    kept: LIMIT,
-    sections: 41,
-    bytes: 4_899,
-};
 
 // Records what it receives, and signals that its first delivery began.
 #[derive(Drop)]
@@ -212,43 +199,6 @@ fn no_walker_has_a_fixed_share(rt: HostRuntime) -> Result<(), Fail> {
     Ok(())
 }
 
-// Forty layers, each a list of two links to the next, above a raw block; the CID of the first; and
-// the archive of all of them.
-fn layers(alloc: Global) -> Result<(Store, Cid, Vec<u8>), Fail> {
-    let mut store = store_of(alloc, &[ABC_SECTION])?;
-    let mut cid = bytes_of(alloc, &[ABC])?;
-    let mut sections = sections_of(alloc, &[ABC_SECTION])?;
-    for _ in 0..40 {
-        let mut block = bytes_of(alloc, &["82"])?;
-        for _ in 0..2 {
-            block.extend_from_slice(b"\xd8\x2a\x58\x25\x00")?;
-            block.extend_from_slice(cid.as_slice())?;
-        }
-        cid = bytes_of(alloc, &["01711220"])?;
-        cid.extend_from_slice(Sha256::digest(block.as_slice()).as_slice())?;
-        let mut with_section = bytes_of(alloc, &["77"])?;
-        with_section.extend_from_slice(cid.as_slice())?;
-        with_section.extend_from_slice(block.as_slice())?;
-        with_section.extend_from_slice(sections.as_slice())?;
-        sections = with_section;
-        let (key, _) = Cid::read(alloc, cid.as_slice())?;
-        store.add(key, block)?;
-    }
-    let (root, _) = Cid::read(alloc, cid.as_slice())?;
-    let archive = archive_with(alloc, cid.as_slice(), sections.as_slice())?;
-    Ok((store, root, archive))
-}
-
-// Whether there is one archive, with these counts and bytes and without skips.
-fn is_archived(all_left: &[Left], counts: Counts, archive: &[u8]) -> bool {
-    match all_left {
-        [left] => {
-            left.counts == counts && left.bytes.as_slice() == archive && left.skips.is_empty()
-        }
-        _ => false,
-    }
-}
-
 // How many visits are in the receipts, if none is there twice.
 fn count_once(seen: &mut [bool], receipts: &[(u32, u32)]) -> Result<u32, Fail> {
     let mut count = 0u32;
@@ -287,6 +237,9 @@ fn slow_verifier(rt: HostRuntime) -> Result<(), Fail> {
         count = count.saturating_add(count_once(&mut seen, paced.check.receipts())?);
     }
     assert_eq!(rt; count, LIMIT);
-    assert!(rt; is_archived(all_left.as_slice(), LAYER_COUNTS, archive.as_slice()));
+    assert_eq!(rt; all_left.len(), 1);
+    for left in &all_left {
+        assert!(rt; is_layers(left, LIMIT, archive.as_slice()));
+    }
     Ok(())
 }

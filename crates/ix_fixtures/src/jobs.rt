@@ -26,7 +26,8 @@ pub fn job_at(alloc: Global, root: Cid, selector: &str, limit: u32) -> Result<Jo
 {
     let selector = selector_of(alloc, selector)?;
     let name = String::from_str(alloc, "a")?;
-    Ok(Job::new(name, vec![in alloc; root]?, selector, limit)?)
+    let roots = vec![in alloc; root]?;
+    Ok(Job::with_limit_up_to(u32::MAX, name, roots, selector, limit)?)
 }
 
 /// The same of a root in hex.

@@ -1,5 +1,5 @@
 -- Examples, computed.
-use Rattle.std.specs.Prelude.{◌≡◌, [], ◌∷◌, ◌++◌, Ok, Err, refl, codes, false}
+use Rattle.std.specs.Prelude.{◌≡◌, [], ◌∷◌, ◌++◌, Ok, Err, None, Some, refl, codes, false}
 use Rattle.hex.specs.Hex.{decode_pairs}
 use Rattle.ix_cbor.specs.Reading.{item_at}
 use Rattle.ix_selector.specs.Pattern.{matcher}
@@ -52,9 +52,14 @@ pub no_jobs : report_of [] [] ≡ codes "total jobs=0 done=0 skips=0" ++ 10 ∷ 
 unfolding digits
 no_jobs = refl
 
-pub done_line : job_line (codes "a") Done (record { visits = 1; kept = 1; sections = 0; bytes = 59 }) ≡ codes "a done visits=1 kept=1 sections=0 bytes=59" ++ 10 ∷ []
+pub done_line : job_line (codes "a") Done (record { visits = 1; kept = 1; sections = 0; bytes = 59; known = None }) ≡ codes "a done visits=1 kept=1 sections=0 bytes=59" ++ 10 ∷ []
 unfolding digits
 done_line = refl
+
+-- the line of a job of whose blocks two are known
+pub known_line : job_line (codes "a") Done (record { visits = 3; kept = 3; sections = 1; bytes = 97; known = Some 2 }) ≡ codes "a done visits=3 kept=3 sections=1 bytes=97 known=2" ++ 10 ∷ []
+unfolding digits
+known_line = refl
 
 -- the CIDv1 of the raw block `abc`
 pub missing_line : skip_line (record { seq = 0; cid = 0x01 ∷ 0x55 ∷ 0x12 ∷ 0x20 ∷ 0xba ∷ 0x78 ∷ 0x16 ∷ 0xbf ∷ 0x8f ∷ 0x01 ∷ 0xcf ∷ 0xea ∷ 0x41 ∷ 0x41 ∷ 0x40 ∷ 0xde ∷ 0x5d ∷ 0xae ∷ 0x22 ∷ 0x23 ∷ 0xb0 ∷ 0x03 ∷ 0x61 ∷ 0xa3 ∷ 0x96 ∷ 0x17 ∷ 0x7a ∷ 0x9c ∷ 0xb4 ∷ 0x10 ∷ 0xff ∷ 0x61 ∷ 0xf2 ∷ 0x00 ∷ 0x15 ∷ 0xad ∷ []; verdict = Missing }) ≡ codes "  0 missing bafkreif2pall7dybz7vecqka3zo24irdwabwdi4wc55jznaq75q7eaavvu" ++ 10 ∷ []

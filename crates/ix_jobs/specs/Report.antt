@@ -1,5 +1,5 @@
 -- The report and the program's status, as functions of names, ends, counts and skips.
-use Rattle.std.specs.Prelude.{ℕ, Bool, true, false, List, [], ◌∷◌, ◌++◌, length, flat_map, count_by, sum_by, codes, decimal, if◌then◌else◌, nat_lt}
+use Rattle.std.specs.Prelude.{ℕ, Bool, true, false, Option, None, Some, List, [], ◌∷◌, ◌++◌, length, flat_map, count_by, sum_by, codes, decimal, if◌then◌else◌, nat_lt}
 use Rattle.std.specs.List.{list_all}
 use Rattle.ix_cid.specs.CidText.{text_of}
 use Rattle.ix_walk.specs.JobMeaning.{JobMeaning}
@@ -25,11 +25,20 @@ skip_line s = codes "  " ++ decimal s.seq ++ codes " " ++ verdict_word s.verdict
 abbrev pub skip_lines : List Skip → List ℕ
 skip_lines skips = flat_map skip_line skips
 
+-- how many blocks were known, where they were counted
+abbrev pub known_words : Option ℕ → List ℕ
+known_words None = []
+known_words (Some known) = codes " known=" ++ decimal known
+
 -- the name, the end and the four counts
-abbrev pub job_line : List ℕ → End → Counts → List ℕ
-job_line name end counts =
+abbrev pub counts_words : List ℕ → End → Counts → List ℕ
+counts_words name end counts =
     name ++ codes " " ++ end_word end ++ codes " visits=" ++ decimal counts.visits ++ codes " kept=" ++ decimal counts.kept ++ codes " sections=" ++ decimal counts.sections ++ codes " bytes="
-    ++ decimal counts.bytes ++ 10 ∷ []
+    ++ decimal counts.bytes
+
+-- the same, and how many blocks were known
+abbrev pub job_line : List ℕ → End → Counts → List ℕ
+job_line name end counts = counts_words name end counts ++ known_words counts.known ++ 10 ∷ []
 
 abbrev pub end_line : JobMeaning → JobResult → List ℕ
 end_line job r = job_line job.name r.end r.counts

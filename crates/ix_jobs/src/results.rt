@@ -1,11 +1,13 @@
 //! The report and the exit status.
 
-ghost use Rattle.std.specs.Prelude.{◌≡◌, ◌++◌, length, string_bytes, IfOk, OnOk};
+ghost use Rattle.std.specs.Prelude.{◌≡◌, ◌++◌, [], ◌∷◌, length, string_bytes, IfOk, OnOk};
 ghost use Rattle.ix_jobs.specs.Report.{
   is_done,
   skip_line,
   skip_lines,
   end_line,
+  known_words,
+  counts_words,
   total_line,
   report_of,
   done_count,
@@ -35,8 +37,8 @@ impl JobResult {
 }
 
 /// Returns the report of jobs and their results, a line each, ended by `0a`, with numbers in decimal:
-/// for each job in order `NAME END visits=V kept=K sections=S bytes=B`, then for each of its skips two
-/// spaces and `SEQ VERDICT CIDTEXT`; at last `total jobs=N done=D skips=T`.
+/// for each job in order `NAME END visits=V kept=K sections=S bytes=B`, with ` known=N` where known blocks
+/// were counted, then for each of its skips two spaces and `SEQ VERDICT CIDTEXT`; at last `total jobs=N done=D skips=T`.
 ///
 /// The ends are `done`, `limit`, `memory`, `write` and `start`; the verdicts of skips `codec`,
 /// `hash`, `missing`, `damaged` and `malformed`. The text of a CIDv1 is `b` and base32, that of a
@@ -73,6 +75,15 @@ pub fn status(results: &[JobResult]) -> u8
 fn push_job_line(text: &mut String, job: &Job, outcome: &JobResult) -> Result<(), AllocError>
     ensures { OnOk result (string_bytes text.new ≡ string_bytes text.old ++ end_line job.now outcome.now) }
 {
+    push_counts(text, job, outcome)?;
+    push_known(text, outcome.counts.known)
+}
+
+// Appends the name, the end and the counts of a job.
+fn push_counts(text: &mut String, job: &Job, outcome: &JobResult) -> Result<(), AllocError>
+    ensures { OnOk result (string_bytes text.new
+        ≡ string_bytes text.old ++ counts_words job.now.name outcome.now.end outcome.now.counts) }
+{
     let name = job.name();
     let end = outcome.end;
     let Counts {
@@ -80,11 +91,22 @@ fn push_job_line(text: &mut String, job: &Job, outcome: &JobResult) -> Result<()
         kept,
         sections,
         bytes,
+        known: _,
     } = outcome.counts;
-    writeln!(
+    write!(
         text,
         "{name} {end} visits={visits} kept={kept} sections={sections} bytes={bytes}"
     )
+}
+
+// Appends how many blocks are known, if they were counted, and a line end.
+fn push_known(text: &mut String, known: Option<u32>) -> Result<(), AllocError>
+    ensures { OnOk result (string_bytes text.new ≡ string_bytes text.old ++ known_words known ++ 10 ∷ []) }
+{
+    match known {
+        Some(known) => writeln!(text, " known={known}"),
+        None => writeln!(text, ""),
+    }
 }
 
 // Appends the lines of skips.

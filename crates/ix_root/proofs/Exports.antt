@@ -1,6 +1,6 @@
 -- The archive of a root, from the result of its job.
 use Rattle.std.proofs.Common.{◌≡◌, ℕ, List, [], ◌∷◌, refl, sym, ◌∙◌, ap, subst, Bool, true, true≢false, length, arith, ◌++◌}
-use Rattle.std.specs.Prelude.{Option, Some, Ok, take}
+use Rattle.std.specs.Prelude.{Option, None, Some, Ok, take}
 use Rattle.std.proofs.lemmas.List.{take_all}
 use Rattle.ix_store.specs.Store.{Blocks}
 use Rattle.ix_walk.specs.JobMeaning.{JobMeaning}
@@ -36,7 +36,7 @@ all_told Start m all over failed whole fits = absurd (true≢false (sym whole))
 
 module _ {W : Type 0} (told : W → Option (List ℕ)) where
   -- the archive of all visits of a job that was walked to its end or its limit
-  one_archive : (store : Blocks) (job : JobMeaning) (before : W) (result : JobResult) (after : W) → is_whole_end result.end ≡ true → told before ≡ Some [] → IsRun told store 0 job before result after
+  one_archive : (store : Blocks) (job : JobMeaning) (before : W) (result : JobResult) (after : W) → is_whole_end result.end ≡ true → told before ≡ Some [] → IsRun told None store 0 job before result after
       → told after ≡ Some (archive_with store job.roots (kept (judged_visits store 0 job)))
   one_archive store job before result after whole fresh run =
       let all = judged_visits store 0 job in
@@ -47,7 +47,7 @@ module _ {W : Type 0} (told : W → Option (List ℕ)) where
 
   -- the archive of the one root
   pub exported_by : (car root : List ℕ) (store : Blocks) (job : JobMeaning) (before : W) (result : JobResult) (after : W) (bytes : List ℕ)
-      → blocks_of car ≡ Ok store → job ≡ root_job root → told before ≡ Some [] → IsRun told store 0 job before result after → is_whole_end result.end ≡ true
+      → blocks_of car ≡ Ok store → job ≡ root_job root → told before ≡ Some [] → IsRun told None store 0 job before result after → is_whole_end result.end ≡ true
       → told after ≡ Some bytes → exported_from car root ≡ Ok bytes
   exported_by car root store job before result after bytes read is_job fresh run whole shows =
       let is_bytes : archive_with store job.roots (kept (judged_visits store 0 job)) ≡ bytes = some_same _ _ (sym (one_archive store job before result after whole fresh run) ∙ shows) in

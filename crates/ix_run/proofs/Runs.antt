@@ -8,8 +8,8 @@ use Rattle.ix_archive.specs.declared.sink.End.{End}
 use Rattle.ix_archive.specs.declared.sink.End.TheVariants as ends
 use Rattle.ix_archive.specs.Events.{delivery, close, deliveries_of}
 use Rattle.ix_archive.specs.Faithful.{IsFaithful}
-use Rattle.ix_archive.specs.Archive.{none_known}
-use Rattle.ix_archive.specs.ArchiveMeaning.{ArchiveMeaning, HasArchived, HasWritten, IsBegun, IsCountOf, events_of, calls_of}
+use Rattle.ix_archive.specs.Archive.{Known}
+use Rattle.ix_archive.specs.ArchiveMeaning.{ArchiveMeaning, HasArchived, HasWrittenWithout, IsBegun, IsCountOf, events_of, calls_of}
 use Rattle.ix_archive.specs.Archived.{IsArchived}
 use Rattle.ix_archive.specs.Report.{counts_of}
 use Rattle.ix_jobs.specs.declared.results.JobResult.{JobResult}
@@ -41,18 +41,18 @@ count_kept old new taken bytes keeps e counts more h =
     let same : bytes ≡ more = same_Some bytes more (sym (keeps_told old new bytes keeps e) ∙ h) in
     counts more (e ∙ ap (λ l. Some l) same)
 
-module _ {W : Type 0} (told : W → Option (List ℕ)) where
+module _ {W : Type 0} (told : W → Option (List ℕ)) (known : Known) where
   pub one_run : (store : Blocks) (n : ℕ) (job : JobMeaning) (before after : W) (first last : ArchiveMeaning W) (end : End) (result : JobResult)
-      → HasArchived told first none_known store job (told before) → IsFaithful store n job end (calls_of last) → IsArchived store n job end (calls_of last)
-      → Keeps (HasArchived told) first last → IsEnded told last end result after → IsRun told store n job before result after
+      → HasArchived told first known store job (told before) → IsFaithful store n job end (calls_of last) → IsArchived store n job end (calls_of last)
+      → Keeps (HasArchived told) first last → IsEnded told last end result after → IsRun told known store n job before result after
   one_run store n job before after first last end result fresh faithful archived kept ended =
       let ds = last.deliveries in
       let same : ds ≡ _ = same_deliveries ds last.closed _ end faithful.told in
       let shown : events_of last ≡ map delivery ds ++ close end ∷ [] = faithful.told ∙ ap (λ l. map delivery l ++ close end ∷ []) (sym same) in
       let of_events : deliveries_of (events_of last) ≡ ds = told-back ds last.closed in
-      let guarantee : HasArchived told last none_known store job (told before) = kept none_known store job (told before) fresh in
-      let wrote : (h : told before ≡ Some []) → HasWritten (told last.writer) store job.roots (deliveries_of (events_of last)) last.failed =
-      λ h. subst (λ l. HasWritten (told last.writer) store job.roots l last.failed) (sym of_events) (guarantee.written h) in
+      let guarantee : HasArchived told last known store job (told before) = kept known store job (told before) fresh in
+      let wrote : (h : told before ≡ Some []) → HasWrittenWithout known (told last.writer) store job.roots (deliveries_of (events_of last)) last.failed =
+      λ h. subst (λ l. HasWrittenWithout known (told last.writer) store job.roots l last.failed) (sym of_events) (guarantee.written h) in
       record {
         end = end;
         delivered = ds;
@@ -61,24 +61,24 @@ module _ {W : Type 0} (told : W → Option (List ℕ)) where
         faithful = subst (λ l. IsFaithful store n job end (record { events = l; failed = last.failed })) shown faithful;
         ended = ended.ended;
         skips = ended.skips;
-        counts = ended.counts ∙ ap (λ s. counts_of s ds last.taken) guarantee.same_store;
+        counts = ended.counts ∙ ap (λ k. counts_of k last.store ds last.taken) guarantee.same_known ∙ ap (λ s. counts_of known s ds last.taken) guarantee.same_store;
         counted = λ h.
-            let some = written-tells (told last.writer) store job.roots ds last.failed (guarantee.written h) in
+            let some = written-tells known (told last.writer) store job.roots ds last.failed (guarantee.written h) in
             count_kept (told last.writer) (told after) last.taken some.0 ended.flushed some.1 (guarantee.counted h);
         written = λ h.
-            let some = written-tells (told last.writer) store job.roots ds last.failed (guarantee.written h) in
+            let some = written-tells known (told last.writer) store job.roots ds last.failed (guarantee.written h) in
             let same_told : told last.writer ≡ told after = some.1 ∙ sym (keeps_told (told last.writer) (told after) some.0 ended.flushed some.1) in
-            subst (λ o. HasWritten o store job.roots ds last.failed) same_told (guarantee.written h);
-        whole = λ h done. keeps_told (told last.writer) (told after) _ ended.flushed (archived.whole (done_is_done end result.end ended.ended done) (told last.writer) (wrote h));
+            subst (λ o. HasWrittenWithout known o store job.roots ds last.failed) same_told (guarantee.written h);
+        whole = λ h done. keeps_told (told last.writer) (told after) _ ended.flushed (archived.whole (done_is_done end result.end ended.ended done) known (told last.writer) (wrote h));
         beginning = λ h bytes shows.
-            let some = written-tells (told last.writer) store job.roots ds last.failed (guarantee.written h) in
+            let some = written-tells known (told last.writer) store job.roots ds last.failed (guarantee.written h) in
             let same_bytes : some.0 ≡ bytes = same_Some some.0 bytes (sym (keeps_told (told last.writer) (told after) some.0 ended.flushed some.1) ∙ shows) in
-            archived.beginning bytes (subst (λ o. HasWritten o store job.roots (deliveries_of (events_of last)) last.failed) (some.1 ∙ ap (λ l. Some l) same_bytes) (wrote h));
+            archived.beginning known bytes (subst (λ o. HasWrittenWithout known o store job.roots (deliveries_of (events_of last)) last.failed) (some.1 ∙ ap (λ l. Some l) same_bytes) (wrote h));
       }
 
   pub runs : (store : Blocks) (n : ℕ) (jobs : List JobMeaning) (before after : List W) (first last : List (ArchiveMeaning W)) (es : List End) (results : List JobResult)
-      → EachBegun told store jobs before first → EachDelivered calls_of store n jobs es last → EachArchived calls_of store n jobs es last
-      → EachKept (HasArchived told) first last → EachEnded told last es results after → EachRun told store n jobs before results after
+      → EachBegun told known store jobs before first → EachDelivered calls_of store n jobs es last → EachArchived calls_of store n jobs es last
+      → EachKept (HasArchived told) first last → EachEnded told last es results after → EachRun told known store n jobs before results after
   runs store n [] [] [] [] [] [] [] begun delivered archived kept ended = tt
   runs store n [] [] [] [] [] [] (r ∷ rs) begun delivered archived kept ended = absurd ended
   runs store n [] [] (w ∷ ws) [] [] [] [] begun delivered archived kept ended = absurd ended
@@ -103,8 +103,8 @@ module _ {W : Type 0} (told : W → Option (List ℕ)) where
 
   -- an archive more
   pub EachBegun-more : (store : Blocks) (jobs : List JobMeaning) (writers : List W) (archives : List (ArchiveMeaning W)) (job : JobMeaning) (writer : W) (archive : ArchiveMeaning W)
-      → EachBegun told store jobs writers archives → IsBegun archive store job.roots → HasArchived told archive none_known store job (told writer)
-      → EachBegun told store (jobs ++ job ∷ []) (writers ++ writer ∷ []) (archives ++ archive ∷ [])
+      → EachBegun told known store jobs writers archives → IsBegun archive store job.roots → HasArchived told archive known store job (told writer)
+      → EachBegun told known store (jobs ++ job ∷ []) (writers ++ writer ∷ []) (archives ++ archive ∷ [])
   EachBegun-more store [] [] [] job writer archive so_far begun guarantee = ((begun, guarantee), tt)
   EachBegun-more store [] [] (a ∷ xs) job writer archive so_far begun guarantee = absurd so_far
   EachBegun-more store [] (w ∷ ws) [] job writer archive so_far begun guarantee = absurd so_far
@@ -137,7 +137,7 @@ module _ {W : Type 0} (told : W → Option (List ℕ)) where
   EachEnded-more (a ∷ xs) (e ∷ es) (r ∷ rs) (w ∷ ws) archive end result writer so_far one = (so_far.0, EachEnded-more xs es rs ws archive end result writer so_far.1 one)
 
   -- as many archives as jobs, none of which received anything
-  pub begun-length : (store : Blocks) (jobs : List JobMeaning) (writers : List W) (archives : List (ArchiveMeaning W)) → EachBegun told store jobs writers archives → length archives ≡ length jobs
+  pub begun-length : (store : Blocks) (jobs : List JobMeaning) (writers : List W) (archives : List (ArchiveMeaning W)) → EachBegun told known store jobs writers archives → length archives ≡ length jobs
   begun-length store [] [] [] h = refl
   begun-length store [] [] (a ∷ xs) h = absurd h
   begun-length store [] (w ∷ ws) [] h = absurd h
@@ -152,7 +152,7 @@ module _ {W : Type 0} (told : W → Option (List ℕ)) where
   no_events store roots a h = ap (λ ds. map delivery ds ++ map close a.closed) h.no_deliveries ∙ ap (λ l. map close l) h.not_closed
 
   -- archives that were just started are fresh sinks
-  pub begun-fresh : (store : Blocks) (jobs : List JobMeaning) (writers : List W) (archives : List (ArchiveMeaning W)) → EachBegun told store jobs writers archives → EachFresh calls_of archives
+  pub begun-fresh : (store : Blocks) (jobs : List JobMeaning) (writers : List W) (archives : List (ArchiveMeaning W)) → EachBegun told known store jobs writers archives → EachFresh calls_of archives
   begun-fresh store [] [] [] h = tt
   begun-fresh store [] [] (a ∷ xs) h = absurd h
   begun-fresh store [] (w ∷ ws) [] h = absurd h
@@ -181,7 +181,7 @@ module _ {W : Type 0} (told : W → Option (List ℕ)) where
   kept-length (a ∷ xs) (l ∷ ls) h = ap suc (kept-length xs ls h.1)
 
   -- as many results as jobs
-  pub run-length : (store : Blocks) (n : ℕ) (jobs : List JobMeaning) (before after : List W) (results : List JobResult) → EachRun told store n jobs before results after → length jobs ≡ length results
+  pub run-length : (store : Blocks) (n : ℕ) (jobs : List JobMeaning) (before after : List W) (results : List JobResult) → EachRun told known store n jobs before results after → length jobs ≡ length results
   run-length store n [] [] [] [] h = refl
   run-length store n [] [] (w ∷ ws) [] h = absurd h
   run-length store n [] [] [] (r ∷ rs) h = absurd h
@@ -204,12 +204,12 @@ pub whole_again : {A : Type 0} (n : ℕ) (new old : List A) → length new ≡ n
 whole_again n new old h = ap (λ m. take m (new ++ drop (length new) old)) (sym h) ∙ take-append_seam new (drop (length new) old)
 
 -- the results of archives that were used as sinks, and then ended
-pub ended_sinks : {W : Type 0} (told : W → Option (List ℕ)) (at store : Blocks) (listed jobs : List JobMeaning) (before after : List W) (archives first sinks : List (ArchiveMeaning W)) (n : ℕ) (es given : List End) (results : List JobResult)
-    → at ≡ store → listed ≡ jobs → EachBegun told at listed before archives → first ≡ archives → length first ≡ n → EachKept (HasArchived told) first sinks
+pub ended_sinks : {W : Type 0} (told : W → Option (List ℕ)) (known : Known) (at store : Blocks) (listed jobs : List JobMeaning) (before after : List W) (archives first sinks : List (ArchiveMeaning W)) (n : ℕ) (es given : List End) (results : List JobResult)
+    → at ≡ store → listed ≡ jobs → EachBegun told known at listed before archives → first ≡ archives → length first ≡ n → EachKept (HasArchived told) first sinks
     → EachDelivered calls_of store 0 jobs es sinks → EachArchived calls_of store 0 jobs es sinks → given ≡ es
-    → EachEnded told (take n (sinks ++ drop (length sinks) archives)) given results after → EachRun told store 0 jobs before results after
-ended_sinks told at store listed jobs before after archives first sinks n es given results same_store same_jobs begun same sized kept delivered archived ends_are ended =
-    let again = whole_again n sinks archives (kept-length told first sinks kept ∙ sized) in
-    let begun_so = subst (λ s. EachBegun told s jobs before archives) same_store (subst (λ l. EachBegun told at l before archives) same_jobs begun) in
-    runs told store 0 jobs before after archives sinks es results begun_so delivered archived (subst (λ xs. EachKept (HasArchived told) xs sinks) same kept)
+    → EachEnded told (take n (sinks ++ drop (length sinks) archives)) given results after → EachRun told known store 0 jobs before results after
+ended_sinks told known at store listed jobs before after archives first sinks n es given results same_store same_jobs begun same sized kept delivered archived ends_are ended =
+    let again = whole_again n sinks archives (kept-length told known first sinks kept ∙ sized) in
+    let begun_so = subst (λ s. EachBegun told known s jobs before archives) same_store (subst (λ l. EachBegun told known at l before archives) same_jobs begun) in
+    runs told known store 0 jobs before after archives sinks es results begun_so delivered archived (subst (λ xs. EachKept (HasArchived told) xs sinks) same kept)
     (subst (λ l. EachEnded told sinks l results after) ends_are (subst (λ xs. EachEnded told xs given results after) again ended))

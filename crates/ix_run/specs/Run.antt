@@ -5,14 +5,15 @@ use Rattle.std.specs.Global.{Global, Vec}
 use Rattle.std.specs.declared.sync.Arc.{Arc}
 use Rattle.std.specs.Io.KnownBytes.{Keeps}
 use Rattle.ix_store.specs.Store.{Blocks}
+use Rattle.ix_store.specs.declared.places.PlaceSet.{PlaceSet}
 use Rattle.ix_walk.specs.JobMeaning.{JobMeaning, AreFew}
 use Rattle.ix_archive.specs.declared.sink.Delivery.{Delivery}
 use Rattle.ix_archive.specs.declared.sink.End.{End}
 use Rattle.ix_archive.specs.declared.sink.End.TheVariants as ends
 use Rattle.ix_archive.specs.Events.{delivery, close}
 use Rattle.ix_archive.specs.Faithful.{IsFaithful}
-use Rattle.ix_archive.specs.Archive.{archive_of, none_known}
-use Rattle.ix_archive.specs.ArchiveMeaning.{ArchiveMeaning, HasArchived, HasWritten, IsBegun, IsCountOf}
+use Rattle.ix_archive.specs.Archive.{Known, known_at, difference_of}
+use Rattle.ix_archive.specs.ArchiveMeaning.{ArchiveMeaning, known_in, HasArchived, HasWrittenWithout, IsBegun, IsCountOf}
 use Rattle.ix_archive.specs.Archived.{IsBeginning}
 use Rattle.ix_archive.specs.Report.{skips_of, counts_of}
 use Rattle.ix_jobs.specs.declared.results.JobResult.{JobResult}
@@ -33,8 +34,9 @@ IsEndOf ends.Memory told = told ≡ ends.Memory
 IsEndOf ends.Write told = told ≡ ends.Write
 IsEndOf ends.Start told = told ≡ ends.Start
 
--- The result of the job with this number and the state of its writer, if the writer had no bytes at first.
-pub record IsRun {W : Type 0} (told : W → Option (List ℕ)) (store : Blocks) (number : ℕ) (job : JobMeaning) (before : W) (result : JobResult) (after : W) : Type 0 where
+-- The result of the job with this number and the state of its writer, if the writer had no bytes at first. Sections of known CIDs
+-- are left out.
+pub record IsRun {W : Type 0} (told : W → Option (List ℕ)) (known : Known) (store : Blocks) (number : ℕ) (job : JobMeaning) (before : W) (result : JobResult) (after : W) : Type 0 where
   -- the end of the close, the visits that were delivered with their verdicts, and the failed ones
   pub end : End
   pub delivered : List Delivery
@@ -43,19 +45,19 @@ pub record IsRun {W : Type 0} (told : W → Option (List ℕ)) (store : Blocks) 
   pub faithful : IsFaithful store number job end (record { events = map delivery delivered ++ close end ∷ []; failed = failed })
   pub ended : IsEndOf end result.end
   pub skips : result.skips.items ≡ skips_of delivered
-  pub counts : result.counts ≡ counts_of store delivered taken
+  pub counts : result.counts ≡ counts_of known store delivered taken
   -- the bytes that were counted are those of the writer
   pub counted : told before ≡ Some [] → IsCountOf taken (told after)
   -- the writer has the archive of what was delivered, or after a failed write a part of it
-  pub written : told before ≡ Some [] → HasWritten (told after) store job.roots delivered failed
-  pub whole : told before ≡ Some [] → result.end ≡ ends.Done → told after ≡ Some (archive_of store number job)
-  pub beginning : told before ≡ Some [] → (bytes : List ℕ) → told after ≡ Some bytes → IsBeginning bytes (archive_of store number job)
+  pub written : told before ≡ Some [] → HasWrittenWithout known (told after) store job.roots delivered failed
+  pub whole : told before ≡ Some [] → result.end ≡ ends.Done → told after ≡ Some (difference_of known store number job)
+  pub beginning : told before ≡ Some [] → (bytes : List ℕ) → told after ≡ Some bytes → IsBeginning bytes (difference_of known store number job)
 
-module _ {W : Type 0} (told : W → Option (List ℕ)) where
+module _ {W : Type 0} (told : W → Option (List ℕ)) (known : Known) where
   -- job by job, from a number on
   abbrev pub EachRun : Blocks → ℕ → List JobMeaning → List W → List JobResult → List W → Type 0
   EachRun store n [] [] [] [] = Unit {0}
-  EachRun store n (j ∷ js) (b ∷ bs) (r ∷ rs) (a ∷ xs) = IsRun told store n j b r a × EachRun store (n + 1) js bs rs xs
+  EachRun store n (j ∷ js) (b ∷ bs) (r ∷ rs) (a ∷ xs) = IsRun told known store n j b r a × EachRun store (n + 1) js bs rs xs
   EachRun store n js bs rs xs = ⊥
 
   -- all jobs were run: their results, and their writers
@@ -65,14 +67,15 @@ module _ {W : Type 0} (told : W → Option (List ℕ)) where
   -- an archive for each job and its writer, which has received nothing so far
   abbrev pub EachBegun : Blocks → List JobMeaning → List W → List (ArchiveMeaning W) → Type 0
   EachBegun store [] [] [] = Unit {0}
-  EachBegun store (j ∷ js) (w ∷ ws) (a ∷ xs) = (IsBegun a store j.roots × HasArchived told a none_known store j (told w)) × EachBegun store js ws xs
+  EachBegun store (j ∷ js) (w ∷ ws) (a ∷ xs) = (IsBegun a store j.roots × HasArchived told a known store j (told w)) × EachBegun store js ws xs
   EachBegun store js ws xs = ⊥
 
+module _ {W : Type 0} (told : W → Option (List ℕ)) where
   -- the result of an archive, and its writer, which was flushed
   pub record IsEnded (a : ArchiveMeaning W) (end : End) (result : JobResult) (after : W) : Type 0 where
     pub ended : IsEndOf end result.end
     pub skips : result.skips.items ≡ skips_of a.deliveries
-    pub counts : result.counts ≡ counts_of a.store a.deliveries a.taken
+    pub counts : result.counts ≡ counts_of (known_in a) a.store a.deliveries a.taken
     pub flushed : Keeps (told a.writer) (told after)
 
   abbrev pub EachEnded : List (ArchiveMeaning W) → List End → List JobResult → List W → Type 0
@@ -88,14 +91,14 @@ pub record IsLeftOf {W : Type 0} (jobs : List JobMeaning) (results : List JobRes
   pub told_of : out.results.items ≡ results
 
 -- each job was run, and the report and the status are those of the results
-pub record HasRun {W : Type 0} (told : W → Option (List ℕ)) (store : Blocks) (jobs : List JobMeaning) (before : List W) (out : RunOut W) : Type 0 where
+pub record HasRun {W : Type 0} (told : W → Option (List ℕ)) (known : Known) (store : Blocks) (jobs : List JobMeaning) (before : List W) (out : RunOut W) : Type 0 where
   pub results : List JobResult
-  pub ran : EachRun told store 0 jobs before results out.writers.items
+  pub ran : EachRun told known store 0 jobs before results out.writers.items
   pub left : IsLeftOf jobs results out
 
--- a run that isn't rejected leaves this
-abbrev pub RunsTo : {W : Type 0} → (W → Option (List ℕ)) → Arc Blocks Global → Arc (Vec JobMeaning) Global → List W → Result (RunOut W) RunFault → Type 0
-RunsTo told store jobs before result = IfOk result (λ out. HasRun told (arc_value store) (arc_value jobs).items before out)
+-- a run that isn't rejected leaves this, without the sections of the blocks at known positions
+abbrev pub RunsTo : {W : Type 0} → (W → Option (List ℕ)) → Option PlaceSet → Arc Blocks Global → Arc (Vec JobMeaning) Global → List W → Result (RunOut W) RunFault → Type 0
+RunsTo told known store jobs before result = IfOk result (λ out. HasRun told (known_at (arc_value store) known) (arc_value store) (arc_value jobs).items before out)
 
 -- the header of one of the jobs can't be written, or memory ran out
 abbrev pub IsRunRefusal : List JobMeaning → RunFault → Type 0

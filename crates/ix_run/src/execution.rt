@@ -1,8 +1,10 @@
 //! Runs: every job's archive, the report and the status.
 
-ghost use Rattle.std.specs.Prelude.{◌≡◌, [], ◌∷◌, length, vec_len, IfOk, IfErr};
+ghost use Rattle.std.specs.Prelude.{◌≡◌, [], ◌∷◌, None, length, vec_len, IfOk, IfErr};
 ghost use Rattle.std.specs.Arc.{arc_value};
 ghost use Rattle.std.specs.Io.KnownBytes.{Keeps};
+ghost use Rattle.ix_archive.specs.Archive.{known_at};
+ghost use Rattle.ix_archive.specs.ArchiveMeaning.{borrowed};
 ghost use Rattle.ix_archive.specs.Headline.{EachUnused, IsUnusedCheck};
 ghost use Rattle.ix_pipeline.specs.Planned.{IsPlan};
 ghost use Rattle.ix_run.specs.Run.{
@@ -23,7 +25,7 @@ use ix_archive::{Archive, ArchiveNew, End};
 use ix_check::{Check, PlainCheck};
 use ix_jobs::{JobResult, report, status};
 use ix_pipeline::{Open, Plan, export, export_plain};
-use ix_store::Store;
+use ix_store::{PlaceSet, Store};
 use ix_walk::Job;
 use std::alloc::{AllocError, Global};
 use std::io::Write;
@@ -48,22 +50,23 @@ pub struct RunOut<W> {
 ///
 /// All headers are written first; the first that can't be written is the error. If the flush of a
 /// writer fails in the end, its job is reported as ended by a failed write.
-pub fn run<R: Threads + Wait + Sync, W: Write + Drop>(
+pub fn run<'a, R: Threads + Wait + Sync, W: Write + Drop>(
     rt: &R,
     alloc: Global,
-    store: &Arc<Store>,
-    jobs: &Arc<Vec<Job>>,
+    store: &'a Arc<Store>,
+    jobs: &'a Arc<Vec<Job>>,
     writers: Vec<W>,
     verifiers: u32,
     plan: Plan,
 ) -> Result<RunOut<W>, RunFault>
     requires run { CanRun (arc_value jobs.now).items writers.items }
     requires plan { IsPlan plan verifiers }
-    ensures ran { RunsTo W.contents store.now jobs.now writers.items result }
+    ensures ran { RunsTo W.contents None store.now jobs.now writers.items result }
     ensures refused { IfErr result (λ fault. IsRunRefusal (arc_value jobs.now).items fault) }
 {
     let input = RunInput {
         store,
+        known: None,
         jobs,
         verifiers,
         plan,
@@ -71,10 +74,13 @@ pub fn run<R: Threads + Wait + Sync, W: Write + Drop>(
     run_observed(rt, alloc, input, writers, &Unobserved)
 }
 
-/// The inputs of a run besides its writers: the blocks, the jobs, and the number of threads.
+/// The inputs of a run besides its writers: the blocks, those of them that the receiver has, the jobs,
+/// and the number of threads.
 #[derive(Drop)]
 pub struct RunInput<'a> {
     pub store: &'a Arc<Store>,
+    /// The positions in the store of the blocks whose sections are left out, if some are.
+    pub known: Option<&'a PlaceSet>,
     pub jobs: &'a Arc<Vec<Job>>,
     /// The number of verifiers.
     pub verifiers: u32,
@@ -92,18 +98,19 @@ pub fn run_observed<R: Threads + Wait + Sync, W: Write + Drop, V: Observer>(
 ) -> Result<RunOut<W>, RunFault>
     requires run { CanRun (arc_value input.jobs.now).items writers.items }
     requires plan { IsPlan input.plan input.verifiers }
-    ensures ran { RunsTo W.contents
+    ensures ran { RunsTo W.contents (borrowed input.entry.known)
         input.entry.store.now input.entry.jobs.now writers.items result }
     ensures refused { IfErr result (λ fault.
         IsRunRefusal (arc_value input.entry.jobs.now).items fault) }
 {
     let RunInput {
         store,
+        known,
         jobs,
         verifiers,
         plan,
     } = input;
-    let mut archives = start_archives(alloc, store, jobs.as_slice(), writers, observer)?;
+    let mut archives = start_archives(alloc, store, known, jobs.as_slice(), writers, observer)?;
     let checks = plain_checks(alloc, verifiers)?;
     let sinks = archives.as_mut_slice();
     let Ok(outcome) = export(rt, alloc, store, jobs, sinks, checks, &Open, plan) else {
@@ -156,12 +163,31 @@ pub fn run_jobs<W: Write + Drop, C: Check>(
 ) -> Result<(Vec<JobResult>, Vec<W>), RunFault>
     requires unused { IsUnusedCheck C.checked check.old }
     requires run { CanRun jobs.now writers.items }
-    ensures ran { IfOk result (λ out. HaveRun W.contents store.now jobs.now writers.items out) }
+    ensures ran { IfOk result (λ out. HaveRun W.contents None store.now jobs.now writers.items out) }
     ensures refused { IfErr result (λ fault. IsRunRefusal jobs.now fault) }
 {
+    run_jobs_without(alloc, store, None, jobs, writers, check)
+}
+
+// Runs the jobs as `run_jobs` does, and leaves out the sections of the blocks at known positions in the
+// store, if they are given.
+fn run_jobs_without<W: Write + Drop, C: Check>(
+    alloc: Global,
+    store: &Store,
+    known: Option<&PlaceSet>,
+    list: &[Job],
+    writers: Vec<W>,
+    check: &mut C,
+) -> Result<(Vec<JobResult>, Vec<W>), RunFault>
+    requires unused { IsUnusedCheck C.checked check.old }
+    requires run { CanRun list.now writers.items }
+    ensures ran { IfOk result (λ out.
+        HaveRun W.contents (known_at store.now (borrowed known.entry)) store.now list.now writers.items out) }
+    ensures refused { IfErr result (λ fault. IsRunRefusal list.now fault) }
+{
     let observer = Unobserved;
-    let mut archives = start_archives(alloc, store, jobs, writers, &observer)?;
-    let ends = export_plain(alloc, store, jobs, archives.as_mut_slice(), check)?;
+    let mut archives = start_archives(alloc, store, known, list, writers, &observer)?;
+    let ends = export_plain(alloc, store, list, archives.as_mut_slice(), check)?;
     Ok(finish_archives(alloc, archives, ends.as_slice())?)
 }
 
@@ -172,15 +198,32 @@ pub fn run_one<W: Write + Drop>(
     job: &Job,
     writer: W,
 ) -> Result<(JobResult, W), RunFault>
-    ensures ran { IfOk result (λ out. IsRun W.contents store.now 0 job.now writer out.0 out.1) }
+    ensures ran { IfOk result (λ out. IsRun W.contents None store.now 0 job.now writer out.0 out.1) }
+    ensures refused { IfErr result (λ fault. IsRunRefusal (job.now ∷ []) fault) }
+{
+    run_one_without(alloc, store, None, job, writer)
+}
+
+/// Runs one job as `run_one` does, and leaves out the sections of the blocks at known positions in the
+/// store, if they are given.
+pub fn run_one_without<W: Write + Drop>(
+    alloc: Global,
+    store: &Store,
+    known: Option<&PlaceSet>,
+    job: &Job,
+    writer: W,
+) -> Result<(JobResult, W), RunFault>
+    ensures ran { IfOk result (λ out.
+        IsRun W.contents (known_at store.now (borrowed known.entry)) store.now 0 job.now writer out.0 out.1) }
     ensures refused { IfErr result (λ fault. IsRunRefusal (job.now ∷ []) fault) }
 {
     let mut given = Vec::with_capacity(alloc, 1)?;
     given.push(writer)?;
     let mut check = PlainCheck::new();
-    let (mut results, mut writers) = run_jobs(
+    let (mut results, mut writers) = run_jobs_without(
         alloc,
         store,
+        known,
         slice::from_ref(job),
         given,
         &mut check,
@@ -191,22 +234,25 @@ pub fn run_one<W: Write + Drop>(
     }
 }
 
-// Makes an archive for each job, writes its header, and notifies the observer.
+// Makes an archive for each job, without the blocks at known positions, writes its header, and
+// notifies the observer.
 fn start_archives<'a, W: Write + Drop, V: Observer>(
     alloc: Global,
     store: &'a Store,
+    known: Option<&'a PlaceSet>,
     jobs: &[Job],
     writers: Vec<W>,
     observer: &'a V,
 ) -> Result<Vec<Observed<'a, W, V>>, RunFault>
     requires { CanRun jobs.now writers.items }
     ensures begun { IfOk result (λ archives.
-        EachBegun W.contents store.now jobs.now writers.items archives.items) }
+        EachBegun W.contents (known_at store.now (borrowed known.entry))
+        store.now jobs.now writers.items archives.items) }
     ensures refused { IfErr result (λ fault. IsRunRefusal jobs.now fault) }
 {
     let mut archives = Vec::with_capacity(alloc, jobs.len())?;
     for (job, writer) in jobs.iter().zip(writers) {
-        match Archive::new(alloc, store, job, writer) {
+        match Archive::without(alloc, store, known, job, writer) {
             Ok(archive) => archives.push(Observed::new(archive, observer))?,
             Err(ArchiveNew::Write(_)) => return Err(RunFault::Write(archives.len() as u32)),
             Err(ArchiveNew::Memory(_)) => return Err(RunFault::Memory),

@@ -1,8 +1,9 @@
 //! Runs over a block file and a job file, and the lines of errors.
 //!
-//! `prepare` reads both files, or returns the first error; `load_jobs` reads the jobs that are chosen. `run` walks each job and writes its archive; `run_one` does so with one job on one
-//! thread. In every schedule: the report and the status are those of the
-//! jobs' results. Each archive, over a writer that had no bytes, is that of its job if it ends with Done,
+//! `prepare` reads both files, or returns the first error; `load_jobs` reads the jobs that are chosen.
+//! `run` walks each job and writes its archive; `run_one` does so with one job on one thread, and
+//! `run_one_without` without the blocks that a receiver has. In every schedule: the report and the
+//! status are those of the jobs' results. Each archive, over a writer that had no bytes, is that of its job if it ends with Done,
 //! and else a prefix of it.
 //!
 //! ```rust
@@ -25,8 +26,8 @@ mod observer;
 mod preparation;
 
 pub use complete::{is_complete, is_root};
-pub use execution::{RunInput, RunOut, run, run_jobs, run_observed, run_one};
+pub use execution::{RunInput, RunOut, run, run_jobs, run_observed, run_one, run_one_without};
 pub use fault::{RunFault, fault_line};
 pub use loading::{JobChoice, load_jobs};
-pub use observer::{Observed, Observer};
+pub use observer::{Observed, Observer, Unobserved};
 pub use preparation::prepare;

@@ -1,6 +1,7 @@
 //! The observer of a run in progress.
 
 ghost use Rattle.std.specs.Prelude.{◌≡◌};
+ghost use Rattle.ix_archive.specs.ArchiveMeaning.{known_in};
 ghost use Rattle.ix_archive.specs.Report.{skips_of, counts_of};
 
 use ix_archive::{Archive, Counts, End, Sink, SinkFault, Skip};
@@ -63,19 +64,20 @@ impl<'a, W: Write, V: Observer> Observed<'a, W, V> {
     pub fn into_parts(self) -> (W, Vec<Skip>, Counts)
         ensures writer { result.0 ≡ self.entry.writer }
         ensures skips { result.1.items ≡ skips_of self.entry.deliveries }
-        ensures counts { result.2 ≡ counts_of self.entry.store self.entry.deliveries self.entry.taken }
+        ensures counts { result.2
+            ≡ counts_of (known_in self.entry) self.entry.store self.entry.deliveries self.entry.taken }
     {
         self.archive.into_parts()
     }
 }
 
 impl<'a, W: Write, V: Observer> Sink for Observed<'a, W, V> {
-    ghost use Rattle.std.specs.Prelude.{ℕ, Bool, List};
+    ghost use Rattle.ix_archive.specs.Archive.{Known};
     ghost use Rattle.ix_archive.specs.ArchiveMeaning.{calls_of, HasArchived};
 
     ghost calls = { calls_of };
 
-    ghost About = { List ℕ → Bool };
+    ghost About = { Known };
 
     ghost guarantee = { HasArchived W.contents };
 

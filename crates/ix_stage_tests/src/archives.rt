@@ -212,6 +212,7 @@ fn counted(visits: u32, kept: u32, sections: u32, bytes: u64) -> Option<Counts> 
         kept,
         sections,
         bytes,
+        known: None,
     })
 }
 

@@ -12,6 +12,7 @@ use ix_stages::{LaneIn, LaneOut, Verdicted, lane};
 use ix_walk::Visit;
 use std::alloc::{AllocError, Global};
 use std::marker::Model;
+use std::ops::Range;
 use std::process::Abort;
 use std::sync::Wait;
 use std::test::Fail;
@@ -27,6 +28,12 @@ enum Sent {
 
 // How many numbers from the next one on a job has room for.
 const WINDOW: u32 = 16_384;
+
+// How many visits a job has that is longer than the window.
+const LONG: u32 = 2 * WINDOW;
+
+// How many items a lane has room for that is filled.
+const LANE: u32 = 4;
 
 // A number that is too far above that of any other visit here.
 const FAR: u32 = 4_000_000_000;
@@ -177,6 +184,33 @@ impl<const N: usize> Gathering<N> {
             self.round(alloc, &mut lanes),
             self.round(alloc, &mut lanes),
         ])
+    }
+
+    // Sends visits one by one into the sender's lane, with a round over all lanes after each, until the
+    // lane is full. The visits are those of so many jobs in turn: `numbers` counts them from the first
+    // visit of the first job. Returns the number of the first visit that wasn't sent, and how many
+    // items the rounds gave.
+    fn receive_until_full(
+        &mut self,
+        alloc: Global,
+        sender: &mut LaneIn,
+        lanes: &mut [LaneOut],
+        jobs: u32,
+        numbers: Range<u32>,
+    ) -> Result<(u32, usize), Fail>
+        requires { 0 < jobs }
+    {
+        let end = numbers.end;
+        let mut received = 0usize;
+        for number in numbers {
+            let item = item_of(alloc, &Sent::Checked(number % jobs, number / jobs))?;
+            if sender.try_send(item).is_err() {
+                return Ok((number, received));
+            }
+            let (items, _) = self.round(alloc, lanes);
+            received = received.saturating_add(items);
+        }
+        Ok((end, received))
     }
 
     // Drains a lane, after every sink was closed.
@@ -378,6 +412,96 @@ fn an_item_too_far_ahead_waits_in_its_lane(rt: HostRuntime) -> Result<(), Fail> 
     assert!(rt; rounds == [(0, 0), (0, 0), (1, 0), (1, 1)]);
     assert_eq!(rt; accepted_and_reported(&gathering), (false, (1, None)));
     Ok(())
+}
+
+// Sends one item into a lane, which has room for it.
+fn send(alloc: Global, sender: &mut LaneIn, sent: &Sent) -> Result<(), Fail> {
+    if sender.try_send(item_of(alloc, sent)?).is_err() {
+        return Err("the lane was full".into());
+    }
+    Ok(())
+}
+
+// While its first visit is held, a job receives as many others as its window has room for. They are
+// delivered once it comes, and so are all after them.
+#[test]
+fn a_held_visit_holds_the_window(rt: HostRuntime) -> Result<(), Fail> {
+    let alloc = rt.alloc();
+    let mut gathering = Gathering::new(alloc, [Log::new(alloc, LONG as usize)?])?;
+    let (mut held, held_out) = lane(alloc, 1)?;
+    let (mut sender, receiver) = lane(alloc, LANE)?;
+    let mut lanes = [held_out, receiver];
+    let first = gathering.receive_until_full(alloc, &mut sender, &mut lanes, 1, 1..LONG)?;
+    assert_eq!(rt; first, (WINDOW + LANE, WINDOW as usize - 1));
+    assert_eq!(rt; gathering.logs[0].deliveries.len(), 0);
+    send(alloc, &mut held, &Sent::Checked(0, 0))?;
+    assert_eq!(rt; gathering.round(alloc, &mut lanes), (2, 0));
+    assert_eq!(rt; gathering.logs[0].deliveries.len(), WINDOW as usize + 1);
+    let rest = WINDOW + LANE..LONG;
+    let (next, _) = gathering.receive_until_full(alloc, &mut sender, &mut lanes, 1, rest)?;
+    assert_eq!(rt; next, LONG);
+    for _ in 0..LANE {
+        gathering.round(alloc, &mut lanes);
+    }
+    gathering.receive(alloc, &Sent::Closed(0, LONG, End::Done))?;
+    has_in_order(&rt, &gathering.logs[0], LONG as usize);
+    has_ended(&rt, alloc, &gathering, &[End::Done])
+}
+
+// Two jobs whose first visits are held share the lane of the third verifier: what is too far ahead of
+// one job holds the other back only until its own first visit has come.
+#[test]
+fn two_held_visits_hold_two_windows(rt: HostRuntime) -> Result<(), Fail> {
+    let alloc = rt.alloc();
+    let logs = [
+        Log::new(alloc, LONG as usize)?,
+        Log::new(alloc, LONG as usize)?,
+    ];
+    let mut gathering = Gathering::new(alloc, logs)?;
+    let (mut first, first_out) = lane(alloc, 1)?;
+    let (mut second, second_out) = lane(alloc, 1)?;
+    let (mut sender, receiver) = lane(alloc, LANE)?;
+    let mut lanes = [first_out, second_out, receiver];
+    let sent = gathering.receive_until_full(alloc, &mut sender, &mut lanes, 2, 2..2 * LONG)?;
+    assert_eq!(rt; sent, (2 * WINDOW + LANE, 2 * WINDOW as usize - 2));
+    send(alloc, &mut second, &Sent::Checked(1, 0))?;
+    assert_eq!(rt; gathering.round(alloc, &mut lanes), (1, 0));
+    has_in_order(&rt, &gathering.logs[1], WINDOW as usize);
+    send(alloc, &mut first, &Sent::Checked(0, 0))?;
+    assert_eq!(rt; gathering.round(alloc, &mut lanes), (2, 0));
+    has_in_order(&rt, &gathering.logs[0], WINDOW as usize + 1);
+    let rest = 2 * WINDOW + LANE..2 * LONG;
+    let (next, _) = gathering.receive_until_full(alloc, &mut sender, &mut lanes, 2, rest)?;
+    assert_eq!(rt; next, 2 * LONG);
+    Ok(())
+}
+
+// After this item, which ends the deliveries to a log with so much room, all other visits of a job leave their
+// lane, though its ring moves no more, and the job ends so.
+fn all_come_after(
+    rt: &impl Abort,
+    alloc: Global,
+    room: usize,
+    first: &Sent,
+    end: End,
+) -> Result<(), Fail> {
+    let mut gathering = Gathering::new(alloc, [Log::new(alloc, room)?])?;
+    gathering.receive(alloc, first)?;
+    let (mut sender, receiver) = lane(alloc, LANE)?;
+    let mut lanes = [receiver];
+    let came = gathering.receive_until_full(alloc, &mut sender, &mut lanes, 1, 1..LONG)?;
+    assert_eq!(rt; came, (LONG, LONG as usize - 1));
+    gathering.receive(alloc, &Sent::Closed(0, LONG, End::Done))?;
+    assert!(rt; !gathering.collector.has_unexpected());
+    assert_eq!(rt; gathering.logs[0].deliveries.len(), 0);
+    has_ended(rt, alloc, &gathering, &[end])
+}
+
+#[test]
+fn a_job_that_stopped_holds_nothing(rt: HostRuntime) -> Result<(), Fail> {
+    let alloc = rt.alloc();
+    all_come_after(&rt, alloc, 0, &Sent::Checked(0, 0), End::Write)?;
+    all_come_after(&rt, alloc, 9, &Sent::Unchecked(0, 0), End::Memory)
 }
 
 // Two lanes are read in rounds until the sink is closed, then one is drained, and then two.

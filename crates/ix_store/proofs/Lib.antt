@@ -8,3 +8,6 @@ pub mod Ends
 pub mod Blocks
 pub mod Marking
 pub mod Bits
+pub mod Judging
+pub mod SoundFirst
+pub mod Later

@@ -73,7 +73,7 @@ position-push n (e ∷ es) k b c new =
     ]
 
 -- the pairs have the CID of each of them
-has_cid-at : (i : ℕ) (es : Blocks) (e : List ℕ × List ℕ) (c : List ℕ) → slice_get es i ≡ Some e → bytes_eq e.0 c ≡ true → has_cid es c ≡ true
+pub has_cid-at : (i : ℕ) (es : Blocks) (e : List ℕ × List ℕ) (c : List ℕ) → slice_get es i ≡ Some e → bytes_eq e.0 c ≡ true → has_cid es c ≡ true
 has_cid-at i [] e c at same = absurd (none-some e at)
 has_cid-at zero (x ∷ es) e c at same = ap (λ y. y || has_cid es c) (ap (λ (p : List ℕ × List ℕ). bytes_eq p.0 c) (get_or_from_slice_get (x ∷ es) 0 e e at) ∙ same)
 has_cid-at (suc i) (x ∷ es) e c at same = ap (λ y. bytes_eq x.0 c || y) (has_cid-at i es e c at same) ∙ or-true (bytes_eq x.0 c)

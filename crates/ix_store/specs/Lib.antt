@@ -9,3 +9,4 @@ pub mod Index
 pub mod Memo
 pub mod PlaceSet
 pub mod Cursor
+pub mod Sound

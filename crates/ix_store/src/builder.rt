@@ -16,7 +16,7 @@ use std::sync::Arc;
 use std::thread::Threads;
 
 // How many blocks must wait for several threads to index them; with fewer it doesn't pay.
-const MANY: usize = 100_000;
+pub(crate) const MANY: usize = 100_000;
 
 /// A builder of a store from the sections of files, seen as the bytes of the files and the pairs that
 /// the store will have: those of the sections that were added, of which the first of each CID counts.

@@ -307,7 +307,7 @@ impl Index {
 }
 
 // Returns the CID with these bytes. Fails if memory runs out, or if they aren't a CID's.
-fn key_of(alloc: Global, cid: &[u8]) -> Result<Cid, AllocError>
+pub(crate) fn key_of(alloc: Global, cid: &[u8]) -> Result<Cid, AllocError>
     ensures { IfOk result (λ key. key ≡ cid.now) }
 {
     match Cid::read(alloc, cid) {

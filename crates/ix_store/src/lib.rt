@@ -3,7 +3,8 @@
 //! A store is a list of blocks under distinct CIDs. Once it is settled it caches two answers for a
 //! block, whether it has its CID's digest and whether it decodes, so that each is computed once for
 //! all threads. A builder takes sections as they come and finds by threads which of them are the
-//! first of their CIDs.
+//! first of their CIDs. Another keeps all of them, and of the copies of a block prefers the first that
+//! is sound.
 //!
 //! ```rust
 //! let mut store = Store::new(alloc);
@@ -20,9 +21,12 @@ mod cursor;
 mod digest;
 mod fill;
 mod index;
+mod judge;
+mod judged;
 mod memo;
 mod memo_rule;
 mod places;
+mod sound;
 mod store;
 mod table;
 mod verify;
@@ -30,5 +34,6 @@ mod verify;
 pub use builder::StoreBuilder;
 pub use cursor::Cursor;
 pub use places::PlaceSet;
+pub use sound::{SoundBuilder, SoundStore};
 pub use store::Store;
 pub use table::has_fault;

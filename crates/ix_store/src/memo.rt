@@ -1,12 +1,16 @@
 //! The cached answers for each block of a list, in words that threads share.
 
-ghost use Rattle.std.specs.Prelude.{◌≡◌, ◌<◌, IfOk, length, slice_get, Some, IfSome, IfNone, ◌==◌, cond};
+ghost use Rattle.std.specs.Prelude.{◌≡◌, ◌<◌, IfOk, length, slice_get, Some, IfSome, IfNone, ◌==◌, cond, map};
 ghost use Rattle.ix_store.specs.Memo.{hash_matches, is_malformed, IsTrueAt};
+ghost use Rattle.ix_store.specs.Sound.{verdict_of, word_by, word_of, judged_word};
 
 use crate::digest::hash_matches;
 use crate::memo_rule::{Look, MemoSeat, Note, Row};
-use crate::table::{BlockTable, has_fault};
+use crate::table::{BlockTable, Entries, has_fault};
 use atomic_table::Table;
+use ix_cid::code::DAG_CBOR;
+use ix_cid::{HashFunction, parts_at};
+use ix_verdict::Verdict;
 use std::alloc::{AllocError, Global};
 use std::marker::Model;
 
@@ -34,6 +38,20 @@ impl Memo {
     {
         let blank = Vec::from_elem(alloc, 0u64, blocks.len())?;
         let (row, _) = Table::of_words(alloc, blank.as_slice(), blocks)?;
+        Ok(Memo { row })
+    }
+
+    /// Creates words for these blocks, with the answers that the verdict on each gives.
+    pub(crate) fn of_verdicts(
+        alloc: Global,
+        blocks: &BlockTable,
+        verdicts: &[Verdict],
+    ) -> Result<Memo, AllocError>
+        requires { verdicts.now ≡ map verdict_of blocks.now.pairs }
+        ensures { IfOk result (λ m. m ≡ blocks.now.pairs) }
+    {
+        let words = words_of(alloc, &blocks.entries(), verdicts)?;
+        let (row, _) = Table::of_words(alloc, words.as_slice(), blocks)?;
         Ok(Memo { row })
     }
 
@@ -65,6 +83,49 @@ impl Memo {
         let answer = has_fault(block);
         note(&self.row, &mut seat, place, word, word + 4 * encode(answer));
         answer
+    }
+}
+
+// Returns the words of blocks with these verdicts.
+fn words_of(
+    alloc: Global,
+    entries: &Entries<'_>,
+    verdicts: &[Verdict],
+) -> Result<Vec<u64>, AllocError>
+    requires { verdicts.now ≡ map verdict_of entries.now }
+    ensures { IfOk result (λ words. words.items ≡ map judged_word entries.now) }
+{
+    let mut words = Vec::with_capacity(alloc, entries.len())?;
+    for place in 0..entries.len() {
+        let (cid, _) = entries.at(place);
+        words.push(word_of(cid, verdicts[place]))?;
+    }
+    Ok(words)
+}
+
+// Returns the word of a block by its CID and its verdict.
+fn word_of(cid: &[u8], verdict: Verdict) -> u64
+    ensures { result ≡ word_of cid.now verdict }
+{
+    let parts = parts_at(cid);
+    match parts.hash_function() {
+        Some(HashFunction::Sha2_256 | HashFunction::Sha2_512) => {
+            word_by(parts.codec == DAG_CBOR, verdict)
+        }
+        Some(HashFunction::Identity) | None => 0,
+    }
+}
+
+// Returns the word of a hashed block by its verdict, and whether its codec is DAG-CBOR.
+fn word_by(is_data: bool, verdict: Verdict) -> u64
+    ensures { result ≡ word_by is_data verdict }
+{
+    match verdict {
+        Verdict::Sound if is_data => encode(true) + 4 * encode(false),
+        Verdict::Sound => encode(true),
+        Verdict::Damaged => encode(false),
+        Verdict::Malformed => encode(true) + 4 * encode(true),
+        Verdict::Codec | Verdict::Hash | Verdict::Missing | Verdict::Inline => 0,
     }
 }
 

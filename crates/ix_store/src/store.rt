@@ -1,6 +1,6 @@
 //! Blocks under their CIDs.
 
-ghost use Rattle.std.specs.Prelude.{◌≡◌, [], false, length, map, slice_get, Some, ◌==◌};
+ghost use Rattle.std.specs.Prelude.{◌≡◌, ◌<◌, [], false, length, map, slice_get, Some, IfOk, ◌==◌};
 ghost use Rattle.std.specs.Prelude.{get_or};
 ghost use Rattle.std.specs.Arc.{arc_value};
 ghost use Rattle.ix_store.specs.Table.{part_of};
@@ -10,7 +10,8 @@ ghost use Rattle.ix_store.specs.Store.{Adds, IsPlaceIn, position_of};
 
 use crate::cursor::Cursor;
 use crate::digest::hash_matches;
-use crate::index::{Index, holds};
+use crate::index::{Index, holds, key_of};
+use crate::judged::JudgedTable;
 use crate::memo::Memo;
 use crate::table::{BlockTable, has_fault, part};
 use ix_cid::Cid;
@@ -80,6 +81,22 @@ impl Store {
             index,
             memo: None,
         }
+    }
+
+    // Creates the settled store of judged blocks, of which this is the index. It has the verdicts cached.
+    pub(crate) fn of_judged(
+        alloc: Global,
+        judged: JudgedTable,
+        index: Index,
+    ) -> Result<Store, AllocError>
+        requires { IsIndexed index judged.pairs }
+        ensures { IfOk result (λ store. store ≡ judged.pairs) }
+    {
+        let (blocks, verdicts) = judged.into_parts();
+        let mut store = Store::of_blocks(alloc, blocks, index);
+        let memo = Memo::of_verdicts(alloc, &store.blocks, verdicts.as_slice())?;
+        store.memo = Some(memo);
+        Ok(store)
     }
 
     /// Adds a copy of a block, unless its CID is there. Returns whether it was added.
@@ -153,6 +170,15 @@ impl Store {
             Some(place) if holds(&self.blocks.entries(), place, cid.as_bytes()) => Some(place),
             _ => self.find(cid),
         }
+    }
+
+    /// Returns the CID of the block at a position.
+    pub fn cid_at(&self, place: usize) -> Result<Cid, AllocError>
+        requires { place < length self.now }
+        ensures { IfOk result (λ cid. slice_get (map (λ e. e.0) self.now) place ≡ Some cid) }
+    {
+        let (cid, _) = self.blocks.entries().at(place);
+        key_of(self.alloc, cid)
     }
 
     /// Returns the block at a position.

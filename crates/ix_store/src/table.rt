@@ -4,9 +4,11 @@ ghost use Rattle.std.specs.Prelude.{◌≡◌, ◌<◌, ◌*◌, ◌+◌, ◌^�
 ghost use Rattle.std.specs.Arc.{arc_value};
 ghost use Rattle.ix_cbor.specs.Reading.{data_at};
 ghost use Rattle.ix_store.specs.Table.{file_bytes, files_of, file_in, cid_size_of, pair_in, block_in, with_file, IsEntryOf, IsRange, IsAppended, section_in, part_of, file_at};
+ghost use Rattle.ix_store.specs.Sound.{picked, is_picked, passing_first};
 
 use crate::cursor::Cursor;
 use ix_cbor::check;
+use ix_verdict::Verdict;
 use std::alloc::{AllocError, Global};
 use std::marker::Model;
 use std::mem;
@@ -34,6 +36,18 @@ impl File {
         match self {
             File::Shared(bytes) => bytes.as_slice(),
             File::Copied(bytes) => bytes.as_slice(),
+        }
+    }
+}
+
+impl File {
+    // Returns a copy. Shared bytes stay shared.
+    fn try_clone(&self, alloc: Global) -> Result<File, AllocError>
+        ensures { IfOk result (λ copy. file_bytes copy ≡ file_bytes self.now) }
+    {
+        match self {
+            File::Shared(bytes) => Ok(File::Shared(Arc::try_clone(bytes)?)),
+            File::Copied(bytes) => Ok(File::Copied(Vec::from_slice(alloc, bytes.as_slice())?)),
         }
     }
 }
@@ -335,6 +349,28 @@ impl BlockTable {
         self.entries.truncate(count);
     }
 
+    /// Returns a copy, which shares the bytes of shared files.
+    pub(crate) fn try_clone(&self) -> Result<BlockTable, AllocError>
+        ensures { IfOk result (λ copy. copy ≡ self.now) }
+    {
+        Ok(BlockTable {
+            alloc: self.alloc,
+            files: clone_files(self.alloc, self.files.as_slice())?,
+            buffer: Vec::from_slice(self.alloc, self.buffer.as_slice())?,
+            entries: Vec::from_slice(self.alloc, self.entries.as_slice())?,
+        })
+    }
+
+    /// Sorts the blocks: those whose verdicts pass come first, and after them the others, each in
+    /// their order.
+    pub(crate) fn sort_passing_first(&mut self, verdicts: &[Verdict]) -> Result<(), AllocError>
+        requires { length verdicts.now ≡ length self.old.pairs }
+        ensures { OnOk result (self.new.pairs ≡ passing_first verdicts.now self.old.pairs) }
+    {
+        self.entries = passing_first(self.alloc, verdicts, self.entries.as_slice())?;
+        Ok(())
+    }
+
     /// Frees the memory that no block takes.
     pub(crate) fn shrink_to_fit(&mut self)
         ensures { self.new ≡ self.old }
@@ -342,6 +378,50 @@ impl BlockTable {
         self.entries.shrink_to_fit();
         self.buffer.shrink_to_fit();
     }
+}
+
+// Returns copies of files. Shared bytes stay shared.
+fn clone_files(alloc: Global, files: &[File]) -> Result<Vec<File>, AllocError>
+    ensures { IfOk result (λ copies. map file_bytes copies.items ≡ map file_bytes files.now) }
+{
+    let mut copies = Vec::with_capacity(alloc, files.len())?;
+    for file in files.iter() {
+        copies.push(file.try_clone(alloc)?)?;
+    }
+    Ok(copies)
+}
+
+/// Returns the elements whose verdicts pass, and after them the others, each in their order.
+pub(crate) fn passing_first<T: Copy + Drop>(
+    alloc: Global,
+    verdicts: &[Verdict],
+    list: &[T],
+) -> Result<Vec<T>, AllocError>
+    requires { length verdicts.now ≡ length list.now }
+    ensures { IfOk result (λ sorted. sorted.items ≡ passing_first verdicts.now list.now) }
+{
+    let mut sorted = Vec::with_capacity(alloc, list.len())?;
+    push_picked(&mut sorted, verdicts, list, true)?;
+    push_picked(&mut sorted, verdicts, list, false)?;
+    Ok(sorted)
+}
+
+// Appends the elements whose verdicts pass, or those whose verdicts don't.
+fn push_picked<T: Copy + Drop>(
+    sorted: &mut Vec<T>,
+    verdicts: &[Verdict],
+    list: &[T],
+    passes: bool,
+) -> Result<(), AllocError>
+    requires { length verdicts.now ≡ length list.now }
+    ensures { OnOk result (sorted.new.items ≡ sorted.old.items ++ picked (is_picked passes) verdicts.now list.now) }
+{
+    for place in 0..list.len() {
+        if verdicts[place].passes() == passes {
+            sorted.push(list[place])?;
+        }
+    }
+    Ok(())
 }
 
 /// Returns the bytes of the range, or those of them that exist.

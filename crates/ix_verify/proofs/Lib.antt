@@ -3,12 +3,15 @@ pub mod Walking
 pub mod SoundSections
 pub mod ToldSections
 pub mod Stored
+pub mod EndToEnd
 pub mod FileFaults
 pub mod Batches
 pub mod FoundOf
 pub mod Distinct
 pub mod TextsAgain
 pub mod HeaderAgain
+pub mod PairsAgain
 pub mod ArchivesAgain
+pub mod Differences
 pub mod WholeAgain
 pub mod WholeFound

@@ -1,13 +1,12 @@
 -- What a store finds of a section whose block it has.
-use Rattle.std.proofs.Common.{◌≡◌, ◌⊎◌, inl, inr, ℕ, Bool, true, false, ◌&&◌, List, get_or, sym, ◌∙◌, ap}
-use Rattle.std.specs.Prelude.{Some, map, slice_get, option_map, bytes_eq, is_none, ◌==◌, if◌then◌else◌}
+use Rattle.std.proofs.Common.{◌≡◌, ◌⊎◌, inl, inr, ℕ, Bool, true, List, get_or, sym, ◌∙◌, ap}
+use Rattle.std.specs.Prelude.{Some, map, slice_get, option_map, bytes_eq, if◌then◌else◌}
 use Rattle.std.proofs.lemmas.Option.{same_Some, get_or_from_slice_get, slice_get-map}
 use Rattle.std.proofs.lemmas.Slice.Eq.{bytes_eq-Decides}
-use Rattle.ix_cid.specs.Cid.{parts_of, codec_of, digest_of, hash_function_of}
+use Rattle.ix_cid.specs.Cid.{parts_of, digest_of, hash_function_of}
 use Rattle.ix_cid.specs.declared.hash_function.HashFunction.{HashFunction}
 use Rattle.ix_cid.specs.declared.hash_function.HashFunction.TheVariants.{Identity}
 use Rattle.ix_verdict.specs.declared.verdict.Verdict.TheVariants.{Codec, Damaged, Malformed, Sound}
-use Rattle.ix_cbor.specs.Reading.{data_at}
 use Rattle.ix_verdict.specs.declared.needed.Needed.{Needed}
 use Rattle.ix_verdict.specs.declared.needed.Needed.TheVariants.{Digest, Block}
 use Rattle.ix_verdict.specs.Verdict.{digest_by, is_no_data, has_codec}
@@ -16,7 +15,6 @@ use Rattle.ix_verdict.proofs.Needs.{known-codec-Digest, known-Digest, known-code
 use Rattle.ix_store.specs.Memo.{hash_matches_by, hash_matches}
 use Rattle.ix_store.specs.Store.{Blocks, position_of}
 use Rattle.ix_store.proofs.Stores.{pair-there}
-use Rattle.ix_walk.proofs.Readings.{dag_cbor_is}
 use Rattle.ix_verify.specs.Judged.{verdict_by_hash, section_verdict}
 
 -- the pair at the place of a CID, whose bytes are a block
@@ -48,10 +46,3 @@ section-stored c block n matches malformed (inl is) needed hashes fails =
 section-stored c block n matches malformed (inr is) needed hashes fails =
     let known = known-Block (parts_of c) is.0 (sym is.1 ∙ needed) in
     section-judged is.0 c block matches malformed (known-codec-Block (parts_of c) is.0 (sym is.1 ∙ needed)) known (hashes ∙ ap (λ g. hash_matches_by g (digest_of c) block) known) fails
-
--- a block that is to spell data, and one that isn't
-pub no-data-yes : (c block : List ℕ) (codec : ℕ) → codec ≡ codec_of c → codec ≡ 0x71 → is_none (data_at block) ≡ is_no_data c block
-no-data-yes c block codec is dag_cbor = ap (λ (t : Bool). t && is_none (data_at block)) (sym (dag_cbor_is c codec is dag_cbor))
-
-pub no-data-no : (c block : List ℕ) (codec : ℕ) → codec ≡ codec_of c → (codec == 0x71) ≡ false → false ≡ is_no_data c block
-no-data-no c block codec is other = ap (λ (t : Bool). t && is_none (data_at block)) (sym (ap (λ (n : ℕ). n == 0x71) (sym is) ∙ other))

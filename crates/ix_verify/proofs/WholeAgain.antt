@@ -41,22 +41,22 @@ use Rattle.ix_verify.specs.Written.{section_where, sections_from, written_sectio
 -- ---- the store of an archive's sections
 
 -- the first of two that is there
-abbrev first_of : Option (List ℕ) → Option (List ℕ) → Option (List ℕ)
+abbrev pub first_of : Option (List ℕ) → Option (List ℕ) → Option (List ℕ)
 first_of (Some x) o = Some x
 first_of None o = o
 
 -- nothing after an option leaves it
-first_of-none : (o : Option (List ℕ)) → first_of o None ≡ o
+pub first_of-none : (o : Option (List ℕ)) → first_of o None ≡ o
 first_of-none (Some x) = refl
 first_of-none None = refl
 
 -- the first of three does not depend on the grouping
-first_of-twice : (a b c : Option (List ℕ)) → first_of (first_of a b) c ≡ first_of a (first_of b c)
+pub first_of-twice : (a b c : Option (List ℕ)) → first_of (first_of a b) c ≡ first_of a (first_of b c)
 first_of-twice (Some x) b c = refl
 first_of-twice None b c = refl
 
 -- a block, where the test holds
-abbrev block_if : Bool → List ℕ → Option (List ℕ)
+abbrev pub block_if : Bool → List ℕ → Option (List ℕ)
 block_if same block = if same then Some block else None
 
 -- a CID is looked up in the first store, and then in the second
@@ -78,7 +78,7 @@ block-there (e ∷ store) c h = on_first (bytes_eq e.0 c) h (block-there store c
   on_first false h more = more h
 
 -- of blocks with one CID the first counts
-block-with : (store : Blocks) (p : List ℕ × List ℕ) (c : List ℕ) → block_of (with_block store p) c ≡ first_of (block_of store c) (block_if (bytes_eq p.0 c) p.1)
+pub block-with : (store : Blocks) (p : List ℕ × List ℕ) (c : List ℕ) → block_of (with_block store p) c ≡ first_of (block_of store c) (block_if (bytes_eq p.0 c) p.1)
 block-with store p c = on_there (has_cid store p.0) refl where
   same_there : (same : Bool) → bytes_eq p.0 c ≡ same → has_cid store p.0 ≡ true → block_of store c ≡ first_of (block_of store c) (block_if same p.1)
   same_there true is there =

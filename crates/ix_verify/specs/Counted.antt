@@ -44,6 +44,6 @@ pub record IsJudgedOf (b : List ℕ) (most : ℕ) (j : Judged) : Type 0 where
   pub unsound : IsNoted most (unsound_of sections) j.unsound
   pub roots : j.roots.items ≡ roots_of b
 
--- what is found of the sections of a file, and what was met from its roots on
-abbrev pub findings_of : Judged → Reached → Findings
-findings_of j r = record { sections = j.sections; unsound = j.unsound; skips = r.skips; is_over_limit = r.is_over_limit }
+-- what is found of the sections of a file, what was met from its roots on, and how many blocks are a later copy
+abbrev pub findings_of : Judged → Reached → ℕ → Findings
+findings_of j r later = record { sections = j.sections; unsound = j.unsound; skips = r.skips; is_over_limit = r.is_over_limit; later_count = later }

@@ -1,8 +1,9 @@
 -- What is found of a file, as a function of its bytes.
-use Rattle.std.specs.Prelude.{◌≡◌, ℕ, Bool, true, not, ◌&&◌, ◌==◌, List, [], length, map, filter, codes, Ok}
+use Rattle.std.specs.Prelude.{◌≡◌, ℕ, Bool, true, not, ◌&&◌, ◌==◌, List, [], ◌∷◌, length, map, filter, flat_map, codes, Ok}
 use Rattle.ix_selector.specs.Pattern.{everything}
 use Rattle.ix_walk.specs.JobMeaning.{JobMeaning}
 use Rattle.ix_store.specs.Store.{Blocks}
+use Rattle.ix_store.specs.Sound.{sound_copies, later_count}
 use Rattle.ix_walk.specs.Visits.{is_over_limit}
 use Rattle.ix_walk.specs.Once.{first_ones}
 use Rattle.ix_check.specs.Verdict.{passes}
@@ -10,6 +11,9 @@ use Rattle.ix_archive.specs.declared.archive.Skip.{Skip}
 use Rattle.ix_archive.specs.declared.sink.Delivery.{Delivery}
 use Rattle.ix_archive.specs.Archive.{is_sound}
 use Rattle.ix_archive.specs.Verified.{judged_visits}
+use Rattle.ix_car.specs.declared.fault.CarFault.{CarFault}
+use Rattle.ix_car.specs.Copies.{copies_of}
+use Rattle.ix_car.specs.Gives.{IsFaultOf}
 use Rattle.ix_car.specs.Sections.{SectionMeaning, section_list, roots_of, with_sections}
 use Rattle.ix_verify.specs.Judged.{section_verdict}
 use Rattle.ix_verify.specs.Roots.{few_roots}
@@ -17,6 +21,8 @@ use Rattle.ix_verify.specs.Noting.{IsNoted}
 use Rattle.ix_verify.specs.declared.noted.Noted.{Noted}
 use Rattle.ix_verify.specs.declared.found.Scope.{Scope}
 use Rattle.ix_verify.specs.declared.found.Scope.TheVariants.{Sections as OfSections, Graph as OfGraph}
+use Rattle.ix_verify.specs.declared.found.Copies.{Copies}
+use Rattle.ix_verify.specs.declared.found.Copies.TheVariants.{First, Sound}
 use Rattle.ix_verify.specs.declared.found.Unsound.{Unsound}
 use Rattle.ix_verify.specs.declared.found.Findings.{Findings}
 
@@ -58,13 +64,42 @@ pub record IsWalkOf (store : Blocks) (job : JobMeaning) (most : ℕ) (skips : No
 abbrev pub IsReached : Blocks → List (List ℕ) → ℕ → Noted Skip → Bool → Type 0
 IsReached store roots most skips over = IsWalkOf store (roots_job roots) most skips over
 
--- what is found of a file: of each section by its own bytes, and below its roots in the store of its first sections
-pub record IsFoundOf (b : List ℕ) (scope : Scope) (most : ℕ) (f : Findings) : Type 0 where
+-- a store with the blocks of the sections of files, put end to end, the first of each CID
+abbrev pub with_files : Blocks → List (List SectionMeaning) → Blocks
+with_files store [] = store
+with_files store (sections ∷ files) = with_files (with_sections store sections) files
+
+-- the copies of blocks in the sections of files, put end to end
+abbrev pub copies_in : List (List SectionMeaning) → Blocks
+copies_in files = copies_of (flat_map (λ sections. sections) files)
+
+-- the store of files, by which copy of a block counts: the first, or the first that is sound, and the first if none is
+abbrev pub store_of : Copies → List (List SectionMeaning) → Blocks
+store_of First files = with_files [] files
+store_of Sound files = sound_copies (copies_in files)
+
+-- how many blocks of that store are a later copy
+abbrev pub later_of : Copies → List (List SectionMeaning) → ℕ
+later_of First files = 0
+later_of Sound files = later_count (copies_in files)
+
+-- what is found of a file beside others, of which these are the sections: of each of its own sections by its own bytes, and
+-- below its roots in the store of its sections and then of theirs
+pub record IsFoundBeside (copies : Copies) (others : List (List SectionMeaning)) (b : List ℕ) (scope : Scope) (most : ℕ) (f : Findings) : Type 0 where
   pub sections : List SectionMeaning
   pub read : section_list b ≡ Ok sections
   pub count : f.sections ≡ length sections
   pub unsound : IsNoted most (unsound_of sections) f.unsound
-  pub reached : IsReached (with_sections [] sections) (roots_to_walk scope (roots_of b)) most f.skips f.is_over_limit
+  pub reached : IsReached (store_of copies (sections ∷ others)) (roots_to_walk scope (roots_of b)) most f.skips f.is_over_limit
+  pub later : f.later_count ≡ later_of copies (sections ∷ others)
+
+-- what is found of a file beside no other, where the first copy of a block counts
+abbrev pub IsFoundOf : List ℕ → Scope → ℕ → Findings → Type 0
+IsFoundOf b scope most f = IsFoundBeside First [] b scope most f
+
+-- an error is that of a file: the first in its header and sections
+abbrev pub IsFileFault : List ℕ → CarFault → Type 0
+IsFileFault b e = IsFaultOf b e (section_list b)
 
 -- no section is unsound, nothing is skipped, and no walk ends at its limit
 abbrev pub is_sound_file : Findings → Bool

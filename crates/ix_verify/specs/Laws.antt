@@ -1,21 +1,31 @@
 -- The laws of what is verified.
-use Rattle.std.specs.Prelude.{◌≡◌, ℕ, ◌≤◌, false, List, [], length, Some, Ok, All}
+use Rattle.std.specs.Prelude.{◌≡◌, ℕ, ◌≤◌, false, List, [], ◌∷◌, ◌++◌, length, flat_map, Option, Some, Ok, All}
 use Rattle.ix_cid.specs.Cid.{parts_of, hash_function_of}
 use Rattle.ix_cid.specs.declared.hash_function.HashFunction.TheVariants.{Identity}
 use Rattle.ix_walk.specs.JobMeaning.{JobMeaning}
 use Rattle.ix_store.specs.Store.{Blocks, block_of}
+use Rattle.ix_store.specs.Sound.{AreSound}
+use Rattle.ix_store.specs.declared.places.PlaceSet.{PlaceSet}
 use Rattle.ix_walk.specs.Visits.{is_over_limit}
 use Rattle.ix_walk.specs.Once.{first_ones}
 use Rattle.ix_check.specs.Verdict.{verdict_with, verdict_of}
 use Rattle.ix_verdict.specs.declared.verdict.Verdict.TheVariants.{Sound}
 use Rattle.ix_archive.specs.declared.sink.Delivery.{Delivery}
-use Rattle.ix_archive.specs.Archive.{sections_of, archive_with, archive_of}
+use Rattle.ix_archive.specs.declared.sink.End.TheVariants.{Done}
+use Rattle.ix_archive.specs.Archive.{Known, known_at, sections_of, archive_with, difference_of, archive_of}
+use Rattle.ix_archive.specs.ArchiveMeaning.{ArchiveMeaning, HasArchived, calls_of}
+use Rattle.ix_archive.specs.Faithful.{IsFaithful}
+use Rattle.ix_archive.specs.KnownPlaces.{known_by, IsKnownIn}
 use Rattle.ix_archive.specs.Report.{skips_of}
+use Rattle.ix_archive.specs.Restoring.{difference_pairs, AgreesWith, IsWithoutSkips}
 use Rattle.ix_archive.specs.Verified.{verified, judged_visits}
-use Rattle.ix_car.specs.Sections.{section_list, roots_of}
+use Rattle.ix_car.specs.Writing.{header_of}
+use Rattle.ix_car.specs.Sections.{SectionMeaning, section_list, roots_of, with_sections}
 use Rattle.ix_verify.specs.Judged.{section_verdict, IsSoundSection}
-use Rattle.ix_verify.specs.Found.{job_below, HasSoundSections, IsSoundFile}
-use Rattle.ix_verify.specs.Written.{written_sections, IsArchivable, IsJudged, IsSoundByItself}
+use Rattle.ix_verify.specs.declared.found.Copies.TheVariants.{First, Sound as FirstSound}
+use Rattle.ix_verify.specs.Found.{with_files, copies_in, store_of, later_of, job_below, HasSoundSections, IsSoundFile}
+use Rattle.ix_verify.specs.Restored.{HasReadableDifference, AreReadAs, IsRestoredByFiles}
+use Rattle.ix_verify.specs.Written.{sections_with, written_sections, IsArchivable, IsJudged, IsSoundByItself}
 
 -- where the verdict on a CID is Sound, that on the CID and the store's block is
 abbrev pub SoundBlocksAreSoundSections : Type 0
@@ -75,3 +85,50 @@ WholeArchivesAreSound =
     → limit ≤ 4294967295 → is_over_limit store (job_below name limit roots) ≡ false
     → skips_of (judged_visits store number (job_below name limit roots)) ≡ []
     → IsSoundFile (archive_of store number (job_below name limit roots))
+
+-- the store of files is that of their sections put end to end
+abbrev pub FilesAreEndToEnd : Type 0
+FilesAreEndToEnd =
+    (store : Blocks) (files : List (List SectionMeaning)) → with_files store files ≡ with_sections store (flat_map (λ sections. sections) files)
+
+-- over files whose sections are all sound, the store is the same whichever copy counts, and no block is a later copy
+abbrev pub SoundCopiesAreTheFirst : Type 0
+SoundCopiesAreTheFirst =
+    (files : List (List SectionMeaning)) → AreSound (copies_in files)
+    → (store_of FirstSound files ≡ store_of First files) × (later_of FirstSound files ≡ 0)
+
+-- the header of a difference names the job's roots, and its sections are those of its pairs, each at its offset
+abbrev pub DifferenceIsReadBack : Type 0
+DifferenceIsReadBack =
+    (known : Known) (store : Blocks) (number : ℕ) (job : JobMeaning) → HasReadableDifference known store number job
+    → (roots_of (difference_of known store number job) ≡ job.roots)
+    × (section_list (difference_of known store number job) ≡ Ok (sections_with (length (header_of job.roots)) (difference_pairs known store number job)))
+
+-- a job that skips nothing is restored by the file of its difference from a base, followed by the base's files
+abbrev pub DifferenceThenFilesRestore : Type 0
+DifferenceThenFilesRestore =
+    (store base : Blocks) (files : List (List ℕ)) (number : ℕ) (job : JobMeaning) → AreReadAs files base
+    → HasReadableDifference (known_by base) store number job → AgreesWith base store → IsWithoutSkips store number job
+    → IsRestoredByFiles store number job (difference_of (known_by base) store number job ∷ files)
+
+-- and by the base's files followed by the difference, if the blocks of the base are all sound
+abbrev pub FilesThenDifferenceRestore : Type 0
+FilesThenDifferenceRestore =
+    (store base : Blocks) (files : List (List ℕ)) (number : ℕ) (job : JobMeaning) → AreReadAs files base → AreSound base
+    → HasReadableDifference (known_by base) store number job → AgreesWith base store → IsWithoutSkips store number job
+    → IsRestoredByFiles store number job (files ++ difference_of (known_by base) store number job ∷ [])
+
+-- what an archive that leaves out the blocks of a base, by their positions, has written at Done is the job's difference from it
+abbrev pub WritesTheDifference : {W : Type 0} → (W → Option (List ℕ)) → Type 0
+WritesTheDifference {W} told =
+    (a : ArchiveMeaning W) (store base : Blocks) (places : PlaceSet) (number : ℕ) (job : JobMeaning) → IsKnownIn store base places
+    → HasArchived told a (known_at store (Some places)) store job (Some []) → IsFaithful store number job Done (calls_of a)
+    → told a.writer ≡ Some (difference_of (known_by base) store number job)
+
+-- so what it has written restores the job, as a file that is followed by the base's files, if the job skips nothing
+abbrev pub WrittenThenFilesRestore : {W : Type 0} → (W → Option (List ℕ)) → Type 0
+WrittenThenFilesRestore {W} told =
+    (a : ArchiveMeaning W) (store base : Blocks) (files : List (List ℕ)) (places : PlaceSet) (number : ℕ) (job : JobMeaning) → IsKnownIn store base places
+    → HasArchived told a (known_at store (Some places)) store job (Some []) → IsFaithful store number job Done (calls_of a)
+    → AreReadAs files base → HasReadableDifference (known_by base) store number job → AgreesWith base store → IsWithoutSkips store number job
+    → (written : List ℕ) × (told a.writer ≡ Some written) × IsRestoredByFiles store number job (written ∷ files)

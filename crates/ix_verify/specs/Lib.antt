@@ -3,7 +3,9 @@ pub mod Judged
 pub mod Noting
 pub mod Roots
 pub mod Found
+pub mod Beside
 pub mod Walked
 pub mod Counted
 pub mod Written
+pub mod Restored
 pub mod Laws

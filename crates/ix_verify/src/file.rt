@@ -1,7 +1,6 @@
 //! Verifies files.
 
 ghost use Rattle.std.specs.Prelude.{◌≡◌, ◌+◌, ◌^◌, ◌<◌, ◌≤◌, map, length, IfOk, IfErr, OnOk};
-ghost use Rattle.std.specs.Arc.{arc_value};
 ghost use Rattle.ix_car.specs.declared.fault.CarKind.TheVariants.{Memory};
 ghost use Rattle.ix_car.specs.Gives.{IsFaultOf};
 ghost use Rattle.ix_car.specs.SectionView.{section_of};
@@ -9,20 +8,21 @@ ghost use Rattle.ix_car.specs.Sections.{section_list};
 ghost use Rattle.ix_archive.specs.Archive.{is_sound};
 ghost use Rattle.ix_verify.specs.declared.found.Scope.TheVariants.{Sections as OfSections, Graph as OfGraph};
 ghost use Rattle.ix_verify.specs.Noting.{NotesMore};
-ghost use Rattle.ix_verify.specs.Found.{unsound_of, IsFoundOf};
+ghost use Rattle.ix_verify.specs.Found.{unsound_of, IsFoundBeside, IsFoundOf, IsFileFault};
 ghost use Rattle.ix_verify.specs.Counted.{told_if, told_among, findings_of, IsJudgedOf, IsBatchAt, IsBatchFault};
 
+use crate::car_bytes::CarBytes;
 use crate::found::{Findings, Scope, Unsound};
 use crate::noted::Noted;
+use crate::other_file::{Beside, load_beside};
 use crate::reach::{Reached, walk_roots};
 use crate::section::verdicts_with_store;
-use ix_car::{CarFault, CarKind, Section, load_shared_by, read_header, read_section};
+use ix_car::{CarFault, CarKind, Section, read_header, read_section};
 use ix_check::Verdict;
 use ix_cid::Cid;
 use ix_store::Store;
 use std::alloc::{AllocError, Global};
 use std::num::NonZeroUsize;
-use std::sync::Arc;
 use std::thread::Threads;
 
 // How many sections are checked at a time: the store is never in memory together with a list of all sections.
@@ -33,8 +33,9 @@ const BATCH: usize = 65_536;
 /// are counted, and at most so many of each are kept, the first ones.
 ///
 /// Every section is checked by its own bytes. If the roots are to be walked, one walk visits everything below
-/// them: it starts at each root once, expands each block once, and ends at 1,000,000 visits. A visit is a root
-/// or a link; if there are more than 64 roots, one visit is spent on the list of them.
+/// them: it starts at each root once, expands each block once, and ends at 4,294,967,295 visits. A visit is a
+/// root or a link; if there are more than 64 roots, one visit is spent on the list of them. Of several sections
+/// with one CID the walk has the block of the first.
 pub fn verify<R: Threads + Sync>(
     rt: &R,
     alloc: Global,
@@ -44,52 +45,58 @@ pub fn verify<R: Threads + Sync>(
     most: usize,
 ) -> Result<Findings, CarFault>
     ensures found { IfOk result (IsFoundOf car.items scope most) }
-    ensures refused { IfErr result (λ fault. IsFaultOf car.items fault (section_list car.items)) }
+    ensures refused { IfErr result (IsFileFault car.items) }
 {
+    let Ok(car) = CarBytes::whole(alloc, car) else {
+        return Err(no_memory(0));
+    };
     match scope {
-        Scope::Sections => verify_blocks(rt, alloc, car.as_slice(), threads, most),
-        Scope::Graph => match Arc::new(alloc, car) {
-            Ok(file) => verify_all(rt, alloc, &file, threads, most),
-            Err(_) => Err(no_memory(0)),
-        },
+        Scope::Sections => verify_sections(rt, alloc, &car, threads, most),
+        Scope::Graph => verify_beside(rt, alloc, &car, Beside::nothing(), threads, most),
     }
 }
 
-// Verifies a file by its sections alone.
-fn verify_blocks<R: Threads + Sync>(
+/// Verifies a CARv1 file by its sections alone, as `verify` does.
+pub fn verify_sections<R: Threads + Sync>(
     rt: &R,
     alloc: Global,
-    car: &[u8],
+    car: &CarBytes,
     threads: NonZeroUsize,
     most: usize,
 ) -> Result<Findings, CarFault>
     ensures found { IfOk result (IsFoundOf car.now OfSections most) }
-    ensures refused { IfErr result (λ fault. IsFaultOf car.now fault (section_list car.now)) }
+    ensures refused { IfErr result (IsFileFault car.now) }
 {
-    let judged = judge_file(rt, alloc, None, car, threads, most)?;
-    Ok(judged.with(Reached::nothing(alloc)))
+    let judged = judge_file(rt, alloc, None, car.as_slice(), threads, most)?;
+    Ok(judged.with(Reached::nothing(alloc), 0))
 }
 
-// Verifies a file by its sections and from its roots. Its blocks are in a store, which caches for the
-// walk what the threads find.
-fn verify_all<R: Threads + Sync>(
+/// Verifies a CARv1 file and everything below its roots as `verify` does, beside others: the walk looks a CID
+/// up in the file first, and then in each of the others, in their order. Of the copies of a block in all these
+/// files the first counts, or the first that is sound. The sections and roots are the file's own: if the first
+/// counts, a block of another file is checked only where the walk visits it. No error is of another file, since
+/// these have been read.
+pub fn verify_beside<R: Threads + Sync>(
     rt: &R,
     alloc: Global,
-    file: &Arc<Vec<u8>>,
+    car: &CarBytes,
+    beside: Beside<'_>,
     threads: NonZeroUsize,
     most: usize,
 ) -> Result<Findings, CarFault>
-    ensures found { IfOk result (IsFoundOf (arc_value file.now).items OfGraph most) }
-    ensures refused { IfErr result (λ fault. IsFaultOf (arc_value file.now).items fault
-        (section_list (arc_value file.now).items)) }
+    ensures found { IfOk result (IsFoundBeside
+        beside.entry.copies beside.entry.others.now car.now OfGraph most) }
+    ensures refused { IfErr result (IsFileFault car.now) }
 {
-    let store = match load_shared_by(rt, alloc, file, threads.get()) {
-        Ok(store) => store,
+    let Beside { others, copies } = beside;
+    // The store caches for the walk what the threads find.
+    let (store, later_count) = match load_beside(rt, alloc, car, others, copies, threads.get()) {
+        Ok(loaded) => loaded,
         Err(fault) => return Err(fault),
     };
-    let judged = judge_file(rt, alloc, Some(&store), file.as_slice(), threads, most)?;
+    let judged = judge_file(rt, alloc, Some(&store), car.as_slice(), threads, most)?;
     match walk_roots(alloc, &store, judged.roots.as_slice(), most) {
-        Ok(reached) => Ok(judged.with(reached)),
+        Ok(reached) => Ok(judged.with(reached, later_count)),
         Err(_) => Err(no_memory(0)),
     }
 }
@@ -103,15 +110,16 @@ struct Judged {
 }
 
 impl Judged {
-    // Returns the findings with those of the walk from the roots.
-    fn with(self, reached: Reached) -> Findings
-        ensures { result ≡ findings_of self reached }
+    // Returns the findings with those of the walk from the roots, and with how many blocks are a later copy.
+    fn with(self, reached: Reached, later_count: usize) -> Findings
+        ensures { result ≡ findings_of self reached later_count }
     {
         Findings {
             sections: self.sections,
             unsound: self.unsound,
             skips: reached.skips,
             is_over_limit: reached.is_over_limit,
+            later_count,
         }
     }
 }

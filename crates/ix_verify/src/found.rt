@@ -17,6 +17,16 @@ pub enum Scope {
     Graph,
 }
 
+/// Which copy of a block counts, where several sections have its CID: those of one file, or of several, which are
+/// put end to end.
+#[derive(Debug, Drop, Clone, Copy, PartialEq, Eq)]
+pub enum Copies {
+    /// The first.
+    First,
+    /// The first that is sound, or the first if none is.
+    Sound,
+}
+
 /// A section that isn't sound.
 #[derive(Drop)]
 pub struct Unsound {
@@ -36,8 +46,10 @@ pub struct Findings {
     /// The links below the roots that lead to nothing sound, in the order of the walk. There are none
     /// if the roots weren't walked.
     pub skips: Noted<Skip>,
-    /// Whether the walk from the roots has more than the 1,000,000 links and roots at which it ends.
+    /// Whether the walk from the roots has more than the 4,294,967,295 links and roots at which it ends.
     pub is_over_limit: bool,
+    /// How many blocks of the store that was walked are a later copy, since the first isn't sound.
+    pub later_count: usize,
 }
 
 impl Findings {

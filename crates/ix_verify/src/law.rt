@@ -3,6 +3,11 @@
 ghost use Rattle.ix_verify.specs.Laws.{SectionVerdictsAreVerdicts, SoundBlocksAreSoundSections, ArchivesHaveSoundSections};
 ghost use Rattle.ix_verify.specs.Laws.{RootsAreReadBack, SectionsAreReadBack, WrittenIsSoundByItself, VerifiedIsJudged};
 ghost use Rattle.ix_verify.specs.Laws.{DeliveriesHaveSoundSections, JobsHaveSoundSections, WholeArchivesAreSound};
+ghost use Rattle.ix_verify.specs.Laws.{FilesAreEndToEnd, SoundCopiesAreTheFirst, DifferenceIsReadBack};
+ghost use Rattle.ix_verify.specs.Laws.{DifferenceThenFilesRestore, FilesThenDifferenceRestore};
+ghost use Rattle.ix_verify.specs.Laws.{WritesTheDifference, WrittenThenFilesRestore};
+
+use std::io::Write;
 
 /// Says that a section is judged as a block is, except under an identity CID, where `verify` looks at the
 /// section's bytes: otherwise its verdict is that on its CID in a store that has its block.
@@ -38,4 +43,47 @@ pub fn archives_are_sound()
     ensures deliveries { DeliveriesHaveSoundSections }
     ensures job { JobsHaveSoundSections }
     ensures whole { WholeArchivesAreSound }
+{}
+
+/// Says that a file and others are one store: that of their sections put end to end, the first of each CID.
+pub fn files_are_end_to_end()
+    ensures { FilesAreEndToEnd }
+{}
+
+/// Says that preferring sound copies changes nothing over files whose sections are all sound: the store is the
+/// same, and none of its blocks is a later copy.
+pub fn sound_copies_are_the_first()
+    ensures { SoundCopiesAreTheFirst }
+{}
+
+/// States that the file of a difference is read back as what was written: its header names the job's
+/// roots, and its sections are those of the difference's pairs, each at its offset, whichever CIDs are
+/// known.
+pub fn differences_are_read_back()
+    ensures { DifferenceIsReadBack }
+{}
+
+/// States what the files of a base and the file of a difference restore. A base is what its files are
+/// read as, one after the other, the first block of each CID. The difference of a job is its archive
+/// without the sections of the CIDs under which that block is sound.
+///
+/// If the job is within its limit over a store and skips nothing, it is so too over the store that is
+/// read from the difference followed by the base's files, and its archive is the same, byte for byte.
+/// The base's files followed by the difference do the same if all blocks of the base are sound.
+///
+/// Premises are that the difference can be read back, and that the base and the store have the same
+/// block under each CID for which both have a sound one: no proof can exclude two blocks with one digest.
+pub fn base_files_and_difference_restore()
+    ensures difference_first { DifferenceThenFilesRestore }
+    ensures base_first { FilesThenDifferenceRestore }
+{}
+
+/// States what an archive's writer has in the end, if it had no bytes at first and the blocks of a base
+/// were left out: an archive whose guarantee held for a store, a job, and the positions of these blocks,
+/// as `known_places` returns them, has written the job's difference from the base, if its calls are
+/// faithful to the job and it was done. If the job skips nothing, a file of what was written restores it,
+/// followed by the base's files.
+pub fn written_difference_restores<W: Write>()
+    ensures written { WritesTheDifference W.contents }
+    ensures restores { WrittenThenFilesRestore W.contents }
 {}

@@ -4,24 +4,36 @@
 //! links from the roots in the header, in one walk. The findings are a function of the bytes, however many
 //! threads hash. All findings are counted, and as many of the first are kept as the caller asks for.
 //!
+//! `verify_beside` follows links into other files too: a CID that the file lacks is looked up in them, in their
+//! order. Of the copies of a block the first counts, or the first that is sound. The bytes of all files are
+//! shared, so one can serve many verifications.
+//!
 //! ```rust
 //! let found = verify(rt, alloc, car, threads, Scope::Graph, 20)?;
 //! for section in &found.unsound.first {
 //!     println!(rt; "{} {}", section.place, section.verdict)?;
 //! }
 //! println!(rt; "{} in all, sound: {}", found.unsound.count, found.is_sound())?;
+//!
+//! let library = OtherFile::read(alloc, CarBytes::new(alloc, bytes, payload)?)?;
+//! let beside = Beside { others: &[library], copies: Copies::First };
+//! let found = verify_beside(rt, alloc, &update, beside, threads, 20)?;
 //! ```
 #![tactic(auto)]
 
+mod car_bytes;
 mod everything;
 mod file;
 mod found;
 pub mod law;
 mod noted;
+mod other_file;
 mod reach;
 mod section;
 
-pub use file::verify;
-pub use found::{Findings, Scope, Unsound};
+pub use car_bytes::CarBytes;
+pub use file::{verify, verify_beside, verify_sections};
+pub use found::{Copies, Findings, Scope, Unsound};
 pub use noted::Noted;
+pub use other_file::{Beside, OtherFile};
 pub use section::{judge, judge_all};

@@ -1,6 +1,6 @@
 //! Reading CARv1 files whose blocks several threads index.
 
-ghost use Rattle.std.specs.Prelude.{◌≡◌, [], IfOk};
+ghost use Rattle.std.specs.Prelude.{◌≡◌, ◌≤◌, [], length, drop, IfOk};
 ghost use Rattle.std.specs.Arc.{arc_value};
 ghost use Rattle.ix_car.specs.Reading.{blocks_after, blocks_of};
 ghost use Rattle.ix_car.specs.Gives.{Gives};
@@ -106,6 +106,29 @@ impl BlockLoader {
         let indexing = ByThreads { rt, threads };
         let builder = with_file(self.builder, &file, payload.start, &indexing)?;
         Ok(BlockLoader { builder })
+    }
+
+    /// Reads one file more, which is the end of shared bytes from an offset on, or returns its first
+    /// error, with which the blocks are lost. The offset of an error is counted from there too. The
+    /// loader keeps a share of the bytes.
+    pub fn with_shared_by<R: Threads + Sync>(
+        self,
+        rt: &R,
+        file: &Arc<Vec<u8>>,
+        start: usize,
+        threads: usize,
+    ) -> Result<BlockLoader, CarFault>
+        requires { start ≤ length (arc_value file.now).items }
+        ensures { Gives (λ loader. loader) (drop start (arc_value file.now).items) result
+            (blocks_after self (drop start (arc_value file.now).items)) }
+    {
+        match with_file(self.builder, file, start, &ByThreads { rt, threads }) {
+            Ok(builder) => Ok(BlockLoader { builder }),
+            Err(CarFault { kind, place }) => Err(CarFault {
+                kind,
+                place: place - start,
+            }),
+        }
     }
 
     /// Returns the settled store of the blocks of all files.

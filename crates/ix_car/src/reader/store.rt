@@ -1,6 +1,6 @@
 //! Reading the blocks of a CARv1 file into a store.
 
-ghost use Rattle.std.specs.Prelude.{◌≡◌, ◌≤◌, ◌-◌, length, drop};
+ghost use Rattle.std.specs.Prelude.{◌≡◌, ◌≤◌, ◌-◌, length, drop, IfErr};
 ghost use Rattle.std.specs.Arc.{arc_value};
 ghost use Rattle.ix_car.specs.Reading.{blocks_after, blocks_of, sections_at};
 ghost use Rattle.ix_car.specs.Gives.{Gives};
@@ -33,7 +33,7 @@ pub(super) fn load_shared<I: Indexing>(
 }
 
 // Adds the blocks of a CARv1 file to those of a builder, which keeps a share of its bytes. It begins at
-// an offset of these.
+// an offset of these, and so does no error before it.
 pub(super) fn with_file<I: Indexing>(
     builder: StoreBuilder,
     file: &Arc<Vec<u8>>,
@@ -41,8 +41,9 @@ pub(super) fn with_file<I: Indexing>(
     indexing: &I,
 ) -> Result<StoreBuilder, CarFault>
     requires { (start ≤ length (arc_value file.now).items) × I.ready indexing.now }
-    ensures { Gives (λ builder. builder.pairs) (arc_value file.now).items result
+    ensures gives { Gives (λ builder. builder.pairs) (arc_value file.now).items result
         (blocks_after builder.pairs (drop start (arc_value file.now).items)) }
+    ensures from { IfErr result (λ fault. start ≤ fault.place) }
 {
     let sections = match header_at(&file.as_slice()[start..]) {
         Ok(sections) => sections,
@@ -55,7 +56,7 @@ pub(super) fn with_file<I: Indexing>(
 }
 
 // Returns an error with its offset counted from the start of the file.
-fn fault_in(file: &[u8], fault: FaultAt) -> CarFault
+pub(super) fn fault_in(file: &[u8], fault: FaultAt) -> CarFault
     requires { fault.left ≤ length file.now }
     ensures { result ≡ record { kind = fault.kind; place = length file.now - fault.left } }
 {

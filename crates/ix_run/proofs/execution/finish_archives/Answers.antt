@@ -5,6 +5,7 @@ use Rattle.std.specs.Vec.Iter.{into_iter_items}
 use Rattle.std.proofs.lemmas.List.{map_push}
 use Rattle.ix_archive.specs.declared.sink.End.{End}
 use Rattle.ix_archive.specs.ArchiveMeaning.{ArchiveMeaning}
+use Rattle.std.specs.Prelude.{None}
 use Rattle.ix_run.specs.Run.{IsEnded, EachEnded}
 use Rattle.ix_run.proofs.Runs.{EachEnded-more}
 use Rattle.ix_run.proofs.Turns.{turn, all_taken}
@@ -25,7 +26,7 @@ loop-archive-preserved g c =
     let flushed : Keeps (told archive.writer) (told c.flush_writer-end.new.writer) = subst (λ w. Keeps (told w) (told c.flush_writer-end.new.writer)) parts.ensures.writer c.flush_writer-end.ensures.bytes in
     let one : IsEnded told archive end (record { end = c.flush_writer-end.result; counts = parts.result.2; skips = parts.result.1 }) c.flush_writer-end.new.writer =
     record { ended = c.flush_writer-end.ensures.end; skips = parts.ensures.skips; counts = parts.ensures.counts; flushed = flushed } in
-    let more = EachEnded-more told (map archive_of ys) (map end_of ys) c.loop-archive.results.items c.loop-archive.writers.items archive end _ c.flush_writer-end.new.writer was.ended one in record {
+    let more = EachEnded-more told None (map archive_of ys) (map end_of ys) c.loop-archive.results.items c.loop-archive.writers.items archive end _ c.flush_writer-end.new.writer was.ended one in record {
       can_next = (tt, tt);
       finite = tt;
       archives = turn archive_of c.args.archives.items ys (into_iter_items c.loop-archive.archive-iterator.a) (into_iter_items c.next.new.self.a) x was.archives steps.0.0;

@@ -4,7 +4,8 @@ use Rattle.ix_cid.specs.Cid.{Parts, codec_of}
 use Rattle.ix_verdict.specs.Needed.{needed_of}
 use Rattle.ix_store.specs.Memo.{hash_matches, is_malformed}
 use Rattle.ix_verify.specs.Judged.{section_pair}
-use Rattle.ix_verify.proofs.Stored.{asked-here, section-stored, no-data-yes, no-data-no}
+use Rattle.ix_check.proofs.Verdicts.{no-data-yes, no-data-no}
+use Rattle.ix_verify.proofs.Stored.{asked-here, section-stored}
 use Rattle.ix_verify.proofs.section.verdict_stored.Goals as goal
 use Rattle.ix_verify.proofs.section.verdict_stored.Goals.{then-parts-eq-DAG_CBOR, else-parts-eq-DAG_CBOR}
 

@@ -8,4 +8,4 @@ use Rattle.ix_car.proofs.reader.store.load_shared.Goals as goal
 pub returns-in-Err : goal.returns-in-Err
 returns-in-Err g c =
     let file = (arc_value c.args.file.now).items in
-    subst (λ (before : Blocks). IsFaultOf file c.in-Err.fault (blocks_after before file)) c.new.ensures c.in-Err.ensures
+    subst (λ (before : Blocks). IsFaultOf file c.in-Err.fault (blocks_after before file)) c.new.ensures c.in-Err.ensures.gives

@@ -1,0 +1,130 @@
+//! What a receiver has: files of its blocks, and a list of CIDs.
+
+use crate::blocks::{BlockFiles, LoadedBlocks};
+use crate::commands::CommandSpec;
+use crate::options::{BLOCKS, WITHOUT, WITHOUT_LIST};
+use clap::ArgMatches;
+use clap::error::ErrorKind;
+use ix_cli_io::{Failure, Progress, STANDARD_INPUT, read_input};
+use ix_have_list::{insert_listed, listed_cids};
+use ix_store::PlaceSet;
+use std::alloc::{AllocError, Global};
+use std::fs::File;
+use std::rt::{Clock, Files};
+use std::thread::Threads;
+
+/// What the receiver of an archive has, as it is given.
+#[derive(Drop)]
+pub(crate) struct KnownInputs<'a> {
+    files: BlockFiles<'a>,
+    // The path of its have-list, and how many bytes that may have.
+    list: Option<&'a str>,
+    most: u64,
+}
+
+impl<'a> KnownInputs<'a> {
+    /// Reads the paths. Standard input can be given once, here or for the blocks of the command.
+    pub(crate) fn given(
+        alloc: Global,
+        spec: &'static CommandSpec,
+        words: &ArgMatches<'a>,
+        blocks: &BlockFiles<'a>,
+    ) -> Result<KnownInputs<'a>, Failure> {
+        let list = WITHOUT_LIST.optional_text(words);
+        let files = blocks.base_given(alloc, spec, words)?;
+        let has_blocks = blocks.has_standard_input();
+        let has_files = files.has_standard_input();
+        let has_list = list == Some(STANDARD_INPUT);
+        let conflict = if has_blocks && has_files {
+            Some((BLOCKS.name, WITHOUT.name))
+        } else if has_blocks && has_list {
+            Some((BLOCKS.name, WITHOUT_LIST.name))
+        } else if has_files && has_list {
+            Some((WITHOUT.name, WITHOUT_LIST.name))
+        } else {
+            None
+        };
+        match conflict {
+            None => Ok(KnownInputs {
+                files,
+                list,
+                most: blocks.most(),
+            }),
+            Some((first, second)) => {
+                Err(Failure::from(refused_inputs(alloc, spec, first, second)?))
+            }
+        }
+    }
+
+    /// Returns the name of the option for which standard input is given, here or for these blocks.
+    pub(crate) fn standard_input(&self, blocks: &BlockFiles<'a>) -> Option<&'static str> {
+        if blocks.has_standard_input() {
+            Some(BLOCKS.name)
+        } else if self.files.has_standard_input() {
+            Some(WITHOUT.name)
+        } else if self.list == Some(STANDARD_INPUT) {
+            Some(WITHOUT_LIST.name)
+        } else {
+            None
+        }
+    }
+
+    /// Appends the paths.
+    pub(crate) fn push_paths(&self, inputs: &mut Vec<&'a str>) -> Result<(), AllocError> {
+        inputs.extend_from_slice(self.files.paths())?;
+        if let Some(path) = self.list {
+            inputs.push(path)?;
+        }
+        Ok(())
+    }
+
+    /// Adds to the blocks of a command which of them the receiver has: those of which its files have a
+    /// sound copy, and those whose CID it lists. If nothing is given, nothing is known of it.
+    pub(crate) fn add_to<R>(
+        &self,
+        rt: &R,
+        blocks: &mut LoadedBlocks,
+        threads: usize,
+        progress: &Progress<R>,
+    ) -> Result<(), Failure>
+    where
+        R: AllocGlobal + Clock + Eprint + Files<File = File> + Input + Threads + Sync,
+    {
+        self.files.add_known(rt, blocks, threads, progress)?;
+        match self.list {
+            Some(path) => self.add_listed(rt, path, blocks),
+            None => Ok(()),
+        }
+    }
+
+    // Adds to the known blocks those whose CID is in the list at this path.
+    fn add_listed<R: AllocGlobal + Files + Input>(
+        &self,
+        rt: &R,
+        path: &str,
+        blocks: &mut LoadedBlocks,
+    ) -> Result<(), Failure> {
+        let list = read_input(rt, path, self.most)?;
+        let cids = listed_cids(rt.alloc(), list.as_slice())?;
+        let mut known = match blocks.known.take() {
+            Some(known) => known,
+            None => PlaceSet::new(rt.alloc()),
+        };
+        insert_listed(&mut known, &blocks.store, cids.as_slice())?;
+        blocks.known = Some(known);
+        Ok(())
+    }
+}
+
+/// Makes the error for standard input that is given for two options.
+pub(crate) fn refused_inputs(
+    alloc: Global,
+    spec: &'static CommandSpec,
+    first: &str,
+    second: &str,
+) -> Result<clap::Error, AllocError> {
+    let message = format!(in alloc;
+        "standard input is given for '--{first} <FILE>' and for '--{second} <FILE>'"
+    )?;
+    spec.refusal(alloc, ErrorKind::ArgumentConflict, message.as_str())
+}

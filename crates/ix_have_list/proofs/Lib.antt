@@ -1,0 +1,2 @@
+mod LinesInTurn
+mod Listed

@@ -1,0 +1,4 @@
+pub mod HaveList
+pub mod Gives
+pub mod FaultLine
+pub mod Places
