@@ -1,15 +1,14 @@
 -- The positions of known blocks, one block after the other.
-use Rattle.std.proofs.Common.{◌≡◌, ℕ, ◌+◌, ◌<◌, ◌≤◌, Bool, true, false, ◌||◌, List, ◌++◌, length, take, map, get_or, refl, sym, ap, ◌∙◌, subst, arith}
+use Rattle.std.proofs.Common.{◌≡◌, ℕ, ◌+◌, ◌<◌, ◌≤◌, Bool, true, false, ◌||◌, List, length, map, get_or, refl, sym, ap, ◌∙◌, subst, arith}
 use Rattle.std.specs.Prelude.{Option, None, Some, ◌==◌, slice_get, option_map}
-use Rattle.std.proofs.Math.Seq.{take-append_seam}
 use Rattle.std.proofs.lemmas.Option.{same_Some, get_or_from_slice_get, slice_get-map}
 use Rattle.std.proofs.lemmas.Bool.{eqb-true, eq-eqb}
-use Rattle.ix_store.specs.Store.{Blocks, position_of}
+use Rattle.ix_store.specs.Store.{Blocks}
 use Rattle.ix_store.specs.declared.places.PlaceSet.{PlaceSet}
 use Rattle.ix_store.specs.PlaceSet.{contains_place, HasOneMoreThan}
 use Rattle.ix_store.proofs.Blocks.{place_within}
 use Rattle.ix_store.proofs.Stores.{asked-there}
-use Rattle.ix_archive.specs.KnownPlaces.{knows, IsKnownIn, IsAnswerOf, AreAnswers, IsPutIf}
+use Rattle.ix_archive.specs.KnownPlaces.{knows, IsKnownIn, IsAnswerOf, IsPutIf}
 
 -- which blocks of a store are known
 abbrev pub answers_of : Blocks → Blocks → List Bool
@@ -70,8 +69,3 @@ answer-there store base place c at =
       named : (o : Option (List ℕ × List ℕ)) → option_map (λ e. e.0) o ≡ Some c → option_map (λ e. knows base e.0) o ≡ Some (knows base c)
       named None h = absurd cc
       named (Some e) h = ap (λ (k : List ℕ). Some (knows base k)) (same_Some e.0 c h)
-
--- answers that were written to the whole of a vector are those in it
-pub whole-answers : (store base : Blocks) (size : ℕ) (written behind : List (Option Bool)) → size ≡ length store → AreAnswers store base written → AreAnswers store base (take size (written ++ behind))
-whole-answers store base size written behind sized h =
-    subst (AreAnswers store base) (sym (ap (λ (n : ℕ). take n (written ++ behind)) (sized ∙ sym h.len) ∙ take-append_seam written behind)) h

@@ -1,15 +1,15 @@
 //! Which blocks of a store a receiver has.
 
-ghost use Rattle.std.specs.Prelude.{◌≡◌, length, IfOk, OnOk};
+ghost use Rattle.std.specs.Prelude.{◌≡◌, IfOk, OnOk};
 ghost use Rattle.ix_store.specs.Store.{IsPlaceIn};
 ghost use Rattle.ix_archive.specs.KnownPlaces.{IsKnownIn, IsPutIf, AreAnswers, IsAnswerOf, knows};
 
 use crate::archive::is_sound;
 use ix_check::verdict_in;
 use ix_cid::Cid;
+use ix_interleave::map_interleaved;
 use ix_store::{PlaceSet, Store};
 use std::alloc::{AllocError, Global};
-use std::thread;
 use std::thread::Threads;
 
 /// Returns the positions in a store of the blocks that a receiver has: those under whose CID a base,
@@ -67,29 +67,13 @@ fn answers_for<R: Threads + Sync>(
 ) -> Result<Vec<Option<bool>>, AllocError>
     ensures { IfOk result (λ answers. AreAnswers store.now base.now answers.items) }
 {
-    let mut answers = vec![in alloc; Some(false); store.len()]?;
-    write_answers(rt, store, base, threads, answers.as_mut_slice());
-    Ok(answers)
-}
-
-// Writes for each block of a store whether a base has a sound one under its CID, or nothing if memory
-// ran out.
-fn write_answers<R: Threads + Sync>(
-    rt: &R,
-    store: &Store,
-    base: &Store,
-    threads: usize,
-    answers: &mut [Option<bool>],
-)
-    requires { length answers.old ≡ length store.now }
-    ensures { AreAnswers store.now base.now answers.new }
-{
-    thread::for_each_mut(
+    map_interleaved(
         rt,
-        answers,
-        threads.max(1),
-        &|place, answer| *answer = answer_at(store, base, place),
-    );
+        alloc,
+        store.len(),
+        threads,
+        &|place| answer_at(store, base, place),
+    )
 }
 
 // Returns whether a base has a sound block under the CID of a store's block, or nothing if memory ran

@@ -1,7 +1,7 @@
 //! The number of CIDs that occurred before.
 //!
 //! The last byte of a CID gives its share, so equal CIDs are in one share. The number of repeats is the sum
-//! over the shares, and each thread counts those of its own.
+//! over the shares, and each thread counts those of its own, a share at a time.
 
 ghost use Rattle.std.specs.Prelude.{◌≡◌, ◌<◌, [], length, vec_len, if◌then◌else◌, IfOk, OnOk};
 ghost use Rattle.std.specs.NonZero.{non_zero_usize_get};
@@ -9,13 +9,18 @@ ghost use Rattle.ix_store.specs.Store.{has_cid, with_block};
 ghost use Rattle.ix_inspect.specs.Counted.{repeats, share_of, in_share, AreCounted};
 
 use ix_cid::CidRef;
+use ix_interleave::map_interleaved;
 use ix_store::Store;
 use std::alloc::{AllocError, Global};
 use std::num::NonZeroUsize;
-use std::thread::{Threads, map_indices};
+use std::thread::Threads;
 
 // The most shares: the last byte has no more values.
 const MOST_SHARES: usize = 256;
+
+// How many shares a thread counts, one after the other. Only the CIDs of a share that is being counted
+// are kept, so the more there are the less memory it takes.
+const SHARES_A_THREAD: usize = 2;
 
 // The number of repeats in a share.
 type Count = Result<usize, AllocError>;
@@ -29,26 +34,29 @@ pub(crate) fn repeats_of<R: Threads + Sync>(
 ) -> Result<usize, AllocError>
     ensures { IfOk result (λ n. n ≡ repeats cids.now) }
 {
-    let shares = NonZeroUsize::new(threads.min(MOST_SHARES)).unwrap_or(NonZeroUsize::MIN);
-    let counts = counts_of(rt, alloc, cids, shares)?;
+    let most = threads.saturating_mul(SHARES_A_THREAD).min(MOST_SHARES);
+    let shares = NonZeroUsize::new(most).unwrap_or(NonZeroUsize::MIN);
+    let counts = counts_of(rt, alloc, cids, shares, threads)?;
     sum_of(cids, counts.as_slice())
 }
 
-// Counts the repeats of each of so many shares.
+// Counts the repeats of each of so many shares, with so many threads.
 fn counts_of<R: Threads + Sync>(
     rt: &R,
     alloc: Global,
     cids: &[CidRef<'_>],
     shares: NonZeroUsize,
+    threads: usize,
 ) -> Result<Vec<Count>, AllocError>
     ensures len { IfOk result (λ counts. vec_len counts ≡ non_zero_usize_get shares) }
     ensures counted { IfOk result (λ counts.
         AreCounted (non_zero_usize_get shares) cids.now counts.items) }
 {
-    map_indices(
+    map_interleaved(
         rt,
         alloc,
         shares.get(),
+        threads,
         &|share| repeats_in(alloc, cids, shares, share),
     )
 }

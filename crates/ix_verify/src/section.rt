@@ -8,11 +8,11 @@ use ix_car::Section;
 use ix_cbor::check;
 use ix_cid::HashFunction;
 use ix_cid::code::DAG_CBOR;
+use ix_interleave::map_interleaved;
 use ix_store::Store;
 use ix_verdict::{Needed, Verdict, bytes_needed, has_digest};
 use std::alloc::{AllocError, Global};
 use std::num::NonZeroUsize;
-use std::thread;
 use std::thread::Threads;
 
 /// Returns the verdict on a section: whether its own block, and no other with its CID, is what the CID
@@ -56,38 +56,29 @@ pub(crate) fn verdicts_with_store<R: Threads + Sync>(
 ) -> Result<Vec<Verdict>, AllocError>
     ensures { IfOk result (λ verdicts. verdicts.items ≡ map verdict_in sections.now) }
 {
-    let mut verdicts = vec![in alloc; Verdict::Sound; sections.len()]?;
-    write_verdicts(
-        rt,
-        alloc,
-        beside,
-        sections,
-        threads,
-        verdicts.as_mut_slice(),
-    );
+    let verdicts = each_verdict(rt, alloc, beside, sections, threads)?;
     Ok(verdicts)
 }
 
-// Writes the verdict on each section to its place.
-fn write_verdicts<R: Threads + Sync>(
+// Returns the verdict on each section, which has its place among them.
+fn each_verdict<R: Threads + Sync>(
     rt: &R,
     alloc: Global,
     beside: (Option<&Store>, usize),
     sections: &[Section<'_>],
     threads: NonZeroUsize,
-    verdicts: &mut [Verdict],
-)
-    requires { length verdicts.old ≡ length sections.now }
-    ensures len { length verdicts.new ≡ length sections.now }
-    ensures each { (i : ℕ) (d : _) → i < length sections.now
-        → slice_get (map verdict_in sections.now) i ≡ Some (slice_index_or verdicts.new i d) }
+) -> Result<Vec<Verdict>, AllocError>
+    ensures len { IfOk result (λ verdicts. length verdicts.items ≡ length sections.now) }
+    ensures each { IfOk result (λ verdicts. (i : ℕ) (d : _) → i < length sections.now
+        → slice_get (map verdict_in sections.now) i ≡ Some (slice_index_or verdicts.items i d)) }
 {
-    thread::for_each_mut(
+    map_interleaved(
         rt,
-        verdicts,
+        alloc,
+        sections.len(),
         threads.get(),
-        &|place, verdict| *verdict = verdict_at(alloc, beside, sections, place),
-    );
+        &|place| verdict_at(alloc, beside, sections, place),
+    )
 }
 
 // Returns the verdict on the section at a place. If there is a store, the section may be as far after

@@ -1,4 +1,4 @@
-use Rattle.std.proofs.Common.{◌≡◌, ap, ◌∙◌, sym}
+use Rattle.std.proofs.Common.{ap, ◌∙◌, sym}
 use Rattle.std.specs.Prelude.{Some}
 use Rattle.ix_archive.proofs.KnownIn.{answer-there}
 use Rattle.ix_archive.proofs.known.answer_at.Goals as goal

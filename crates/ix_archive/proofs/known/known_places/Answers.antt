@@ -1,4 +1,4 @@
-use Rattle.std.proofs.Common.{◌≡◌, ◌<◌, ◌≤◌, length, sym, subst, arith}
+use Rattle.std.proofs.Common.{◌<◌, ◌≤◌, length, sym, subst, arith}
 use Rattle.ix_archive.specs.KnownPlaces.{IsAnswerOf}
 use Rattle.ix_archive.proofs.KnownIn.{first-none, first-step, first-all}
 use Rattle.ix_archive.proofs.known.known_places.Goals as goal
