@@ -1,0 +1,13 @@
+pub use Rattle.ix_cid.specs.Cid
+pub use Rattle.ix_cid.specs.CidText
+pub use Rattle.ix_cbor.specs.Data
+pub use Rattle.ix_cbor.specs.DataCode
+pub use Rattle.ix_cbor.specs.Spelling
+pub use Rattle.ix_cbor.specs.Reading
+pub use Rattle.ix_store.specs.Store
+pub mod Path
+pub mod Gives
+pub mod Node
+pub mod NodeBytes
+pub mod Children
+pub mod Resolution

@@ -1,0 +1,101 @@
+-- The text of a path: a root's CID and segments, with the percent-escapes of URLs (RFC 3986, section 2.1).
+use Rattle.std.specs.Prelude.{ℕ, ◌+◌, ◌-◌, ◌*◌, List, [], ◌∷◌, length, drop, map, nat_lt, nat_eq, ◌==◌, if◌then◌else◌, codes, Option, Some, None, unwrap_or, option_map, option_and_then, Result, Ok, Err}
+use Rattle.std.specs.Global.{Vec}
+use Rattle.std.specs.List.{starts_with, before_first, after_first, onto_first}
+use Rattle.hex.specs.Hex.{hex_digit_value}
+pub use Rattle.ix_cid.specs.Results.{◌>>=◌}
+use Rattle.ix_cid.specs.declared.fault.CidFault.{CidFault}
+use Rattle.ix_cid.specs.CidText.{cid_of_text}
+use Rattle.ix_path.specs.declared.error.PathError.{PathError}
+use Rattle.ix_path.specs.declared.error.PathError.TheVariants.{Cid, Escape, TooManySegments}
+use Rattle.ix_path.specs.declared.path.RootPath.{RootPath}
+
+-- ---- escapes
+
+-- the byte of two hex digits
+abbrev pub byte_of : ℕ → ℕ → Option ℕ
+byte_of high low = option_and_then (λ h. option_map (λ l. h * 16 + l) (hex_digit_value low)) (hex_digit_value high)
+
+-- the byte that a text begins with, and the text after it: `%` and two hex digits are one byte, any other byte is itself
+abbrev pub front_byte : List ℕ → Option (ℕ × List ℕ)
+front_byte [] = None
+front_byte (x ∷ []) = if x == 37 then None else Some (x, [])
+front_byte (x ∷ y ∷ []) = if x == 37 then None else Some (x, y ∷ [])
+front_byte (x ∷ y ∷ z ∷ more) = if x == 37 then option_map (λ b. (b, more)) (byte_of y z) else Some (x, y ∷ z ∷ more)
+
+-- a byte, or a bad escape at this place, before what is read after it
+abbrev pub before : Option ℕ → ℕ → Result (List ℕ) PathError → Result (List ℕ) PathError
+before None place read = Err (Escape place)
+before (Some b) place read = read >>= (λ bytes. Ok (b ∷ bytes))
+
+-- the bytes of a segment whose text is at this place, or its first bad escape
+abbrev pub unescaped : ℕ → List ℕ → Result (List ℕ) PathError
+unescaped place [] = Ok []
+unescaped place (x ∷ []) = if x == 37 then Err (Escape place) else Ok (x ∷ [])
+unescaped place (x ∷ y ∷ []) = if x == 37 then Err (Escape place) else before (Some x) place (unescaped (place + 1) (y ∷ []))
+unescaped place (x ∷ y ∷ z ∷ more) =
+    if x == 37 then before (byte_of y z) place (unescaped (place + 3) more) else before (Some x) place (unescaped (place + 1) (y ∷ z ∷ more))
+
+-- ---- segments
+
+abbrev pub before_slash : List ℕ → List ℕ
+before_slash text = before_first (λ b. b == 47) text
+
+abbrev pub after_slash : List ℕ → List ℕ
+after_slash text = after_first (λ b. b == 47) text
+
+-- the texts of the segments: a slash ends each, and the last one may be without
+abbrev pub pieces_of : List ℕ → List (List ℕ)
+pieces_of [] = []
+pieces_of (x ∷ xs) = if x == 47 then [] ∷ pieces_of xs else onto_first x (pieces_of xs)
+
+-- the segments of these texts, of which the first is at this place and each is followed by a slash
+abbrev pub segments_from : ℕ → List (List ℕ) → Result (List (List ℕ)) PathError
+segments_from place [] = Ok []
+segments_from place (p ∷ ps) = unescaped place p >>= (λ s. segments_from (place + length p + 1) ps >>= (λ more. Ok (s ∷ more)))
+
+-- the segments of a text that ends at this place
+abbrev pub segments_at : ℕ → List ℕ → Result (List (List ℕ)) PathError
+segments_at end text = segments_from (end - length text) (pieces_of text)
+
+-- ---- the whole
+
+-- the text after a prefix, if it begins with it
+abbrev pub rest_after : List ℕ → List ℕ → Option (List ℕ)
+rest_after prefix text = if starts_with nat_eq text prefix then Some (drop (length prefix) text) else None
+
+-- the text after the first of these prefixes that it begins with, or all of it
+abbrev pub after_one_of : List (List ℕ) → List ℕ → List ℕ
+after_one_of [] text = text
+after_one_of (p ∷ ps) text = unwrap_or (rest_after p text) (after_one_of ps text)
+
+-- the text without what may be before its CID
+abbrev pub without_prefix : List ℕ → List ℕ
+without_prefix text = after_one_of (codes "/ipfs/" ∷ codes "/ipld/" ∷ codes "ipfs://" ∷ codes "ipld://" ∷ []) text
+
+-- the same, with its error as that of a path
+abbrev pub as_root : Result (List ℕ) CidFault → Result (List ℕ) PathError
+as_root (Ok c) = Ok c
+as_root (Err fault) = Err (Cid fault)
+
+-- the CIDv1 that a text spells in base32
+abbrev pub root_of : List ℕ → Result (List ℕ) PathError
+root_of text = as_root (cid_of_text text)
+
+-- a root and its segments, if there are at most so many
+abbrev pub with_segments : ℕ → List ℕ → List (List ℕ) → Result (List ℕ × List (List ℕ)) PathError
+with_segments most root segments = if nat_lt most (length segments) then Err (TooManySegments most) else Ok (root, segments)
+
+-- the root and the segments of a path, at most so many, or its first error
+abbrev pub path_of : ℕ → List ℕ → Result (List ℕ × List (List ℕ)) PathError
+path_of most text =
+    root_of (before_slash (without_prefix text)) >>= (λ root.
+    segments_at (length text) (after_slash (without_prefix text)) >>= with_segments most root)
+
+-- ---- in the program
+
+abbrev pub segments_view : Vec (Vec ℕ) → List (List ℕ)
+segments_view segments = map (λ (s : Vec ℕ). s.items) segments.items
+
+abbrev pub view_of : RootPath → List ℕ × List (List ℕ)
+view_of path = (path.root, segments_view path.segments)
