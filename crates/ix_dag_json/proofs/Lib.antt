@@ -1,0 +1,4 @@
+mod Digits
+mod Lacking
+mod Ordering
+mod Showing
