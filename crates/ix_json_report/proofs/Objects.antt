@@ -1,0 +1,83 @@
+-- The tokens that are written are those of the objects, which read back as these.
+use Rattle.std.proofs.Common.{◌≡◌, ℕ, ◌≤◌, List, [], ◌∷◌, ◌++◌, Option, Some, None, option_and_then, refl, sym, ap, subst, ◌∙◌, arith, append-nil, append_assoc}
+use Rattle.std.specs.Prelude.{codes}
+use Rattle.json.specs.Token.{Token, begin_object, end_object, begin_array, end_array}
+use Rattle.json.specs.Lex.{tokens}
+use Rattle.json.specs.Json.{Json, Members, value, if_last, max_depth, document}
+use Rattle.json.specs.Print.{print}
+use Rattle.json.specs.Tree.{json_tokens, items_tokens, members_tokens, depth, items_depth, members_depth}
+use Rattle.json.proofs.Printed.Trees.{value-json_tokens}
+use Rattle.ix_walk.specs.JobMeaning.{JobMeaning}
+use Rattle.ix_archive.specs.declared.archive.Skip.{Skip}
+use Rattle.ix_jobs.specs.declared.results.JobResult.{JobResult}
+use Rattle.ix_json_report.specs.Members.{AppendsLine, IsLine}
+use Rattle.ix_json_report.specs.Objects.{skip_items, skips_member, known_before, place_before, job_object, total_object}
+use Rattle.ix_json_report.specs.Tokens.{end_tokens, counts_tokens, skip_tokens, all_skips_tokens, skips_tokens, known_tokens, place_tokens, job_tokens, total_tokens}
+use Rattle.ix_json_report.specs.declared.place.ArchivePlace.{ArchivePlace}
+use Rattle.ix_json_report.specs.declared.place.ArchivePlace.TheVariants.{File, Part, Unknown}
+
+-- the tokens of skips are those of the items
+items-skips : (skips : List Skip) → items_tokens (skip_items skips) ≡ all_skips_tokens skips ++ end_array ∷ []
+items-skips [] = refl
+items-skips (s ∷ skips) = ap (λ l. skip_tokens s ++ l) (items-skips skips) ∙ sym (append_assoc (skip_tokens s) (all_skips_tokens skips) (end_array ∷ []))
+
+-- a list of skips nests objects alone
+depth-skips : (skips : List Skip) → items_depth (skip_items skips) ≤ 1
+depth-skips [] = omega arith
+depth-skips (s ∷ skips) = omega (arith, depth-skips skips)
+
+-- the last member, and the end of the object
+skips-last : (skips : List Skip) → members_tokens (skips_member skips) ≡ skips_tokens skips ++ end_object ∷ []
+skips-last skips = ap (λ l. Token.key (codes "skips") ∷ begin_array ∷ (l ++ end_object ∷ [])) (items-skips skips)
+
+known-first : (known : Option ℕ) (more : Members) → members_tokens (known_before known more) ≡ known_tokens known ++ members_tokens more
+known-first None more = refl
+known-first (Some n) more = refl
+
+place-first : (place : ArchivePlace) (more : Members) → members_tokens (place_before place more) ≡ place_tokens place ++ members_tokens more
+place-first (File path) more = refl
+place-first (Part path) more = refl
+place-first Unknown more = refl
+
+known-depth : (known : Option ℕ) (more : Members) → members_depth (known_before known more) ≡ members_depth more
+known-depth None more = refl
+known-depth (Some n) more = omega arith
+
+place-depth : (place : ArchivePlace) (more : Members) → members_depth (place_before place more) ≡ members_depth more
+place-depth (File path) more = omega arith
+place-depth (Part path) more = omega arith
+place-depth Unknown more = refl
+
+-- the tokens of a job are those of its object
+job-tokens : (job : JobMeaning) (r : JobResult) (place : ArchivePlace) → json_tokens (job_object job r place) ≡ job_tokens job r place
+job-tokens job r place =
+    let last = skips_member r.skips.items in
+    let known = known_tokens r.counts.known in
+    let at = place_tokens place in
+    let skips = skips_tokens r.skips.items in
+    ap (λ l. begin_object ∷ (end_tokens job r.end ++ counts_tokens r.counts ++ l))
+    (known-first r.counts.known (place_before place last) ∙ ap (λ l. known ++ l) (place-first place last ∙ ap (λ l. at ++ l) (skips-last r.skips.items))
+    ∙ sym (append_assoc known at (skips ++ end_object ∷ [])) ∙ sym (append_assoc (known ++ at) skips (end_object ∷ [])))
+
+job-depth : (job : JobMeaning) (r : JobResult) (place : ArchivePlace) → depth (job_object job r place) ≤ max_depth
+job-depth job r place =
+    let last = skips_member r.skips.items in
+    omega (arith, known-depth r.counts.known (place_before place last), place-depth place last, depth-skips r.skips.items)
+
+-- a value whose tokens a reader finds in their text is read from it
+read_back : (j : Json) → tokens (print (json_tokens j)) ≡ json_tokens j → depth j ≤ max_depth → document (print (json_tokens j)) ≡ Some j
+read_back j found shallow =
+    ap (option_and_then (λ p. if_last p.0 p.1)) (ap (value max_depth) (found ∙ sym (append-nil (json_tokens j))) ∙ value-json_tokens j max_depth [] shallow)
+
+-- the line of a value with these tokens
+line_of : (old new : List ℕ) (j : Json) (ts : List Token) → json_tokens j ≡ ts → depth j ≤ max_depth → IsLine old new ts → AppendsLine old new j
+line_of old new j ts same shallow line = record {
+  text = line.text ∙ ap (λ l. old ++ print l ++ 10 ∷ []) (sym same);
+  reads_back = read_back j (subst (λ l. tokens (print l) ≡ l) (sym same) line.found) shallow;
+}
+
+pub job-line : (old new : List ℕ) (job : JobMeaning) (r : JobResult) (place : ArchivePlace) → IsLine old new (job_tokens job r place) → AppendsLine old new (job_object job r place)
+job-line old new job r place line = line_of old new (job_object job r place) (job_tokens job r place) (job-tokens job r place) (job-depth job r place) line
+
+pub total-line : (old new : List ℕ) (rs : List JobResult) → IsLine old new (total_tokens rs) → AppendsLine old new (total_object rs)
+total-line old new rs line = line_of old new (total_object rs) (total_tokens rs) refl (omega arith) line

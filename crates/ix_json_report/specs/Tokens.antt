@@ -1,0 +1,70 @@
+-- The tokens of the report's objects, part by part as they are written.
+use Rattle.std.specs.Prelude.{ℕ, Option, None, Some, List, [], ◌∷◌, ◌++◌, length, flat_map, codes}
+use Rattle.json.specs.Token.{Token, begin_object, end_object, begin_array, end_array, key}
+use Rattle.ix_cid.specs.CidText.{text_of}
+use Rattle.ix_walk.specs.JobMeaning.{JobMeaning}
+use Rattle.ix_check.specs.VerdictWords.{verdict_word}
+use Rattle.ix_archive.specs.EndWords.{end_word}
+use Rattle.ix_archive.specs.declared.sink.End.{End}
+use Rattle.ix_archive.specs.declared.archive.Skip.{Skip}
+use Rattle.ix_archive.specs.declared.archive.Counts.{Counts}
+use Rattle.ix_jobs.specs.declared.results.JobResult.{JobResult}
+use Rattle.ix_jobs.specs.Report.{done_count, skip_count}
+use Rattle.ix_json_report.specs.Members.{text_member, number_member}
+use Rattle.ix_json_report.specs.declared.place.ArchivePlace.{ArchivePlace}
+use Rattle.ix_json_report.specs.declared.place.ArchivePlace.TheVariants.{File, Part, Unknown}
+
+-- the name of a job and how it ended
+abbrev pub end_tokens : JobMeaning → End → List Token
+end_tokens job end = text_member (codes "job") job.name ++ text_member (codes "end") (end_word end)
+
+-- how many sections and bytes were written
+abbrev pub written_tokens : Counts → List Token
+written_tokens counts = number_member (codes "sections") counts.sections ++ number_member (codes "bytes") counts.bytes
+
+-- the four counts
+abbrev pub counts_tokens : Counts → List Token
+counts_tokens counts = number_member (codes "visits") counts.visits ++ number_member (codes "kept") counts.kept ++ written_tokens counts
+
+-- how many blocks were known, where they were counted
+abbrev pub known_tokens : Option ℕ → List Token
+known_tokens None = []
+known_tokens (Some known) = number_member (codes "known") known
+
+-- the path of the archive, or of its `.part` file
+abbrev pub place_tokens : ArchivePlace → List Token
+place_tokens (File path) = text_member (codes "file") path.now
+place_tokens (Part path) = text_member (codes "part") path.now
+place_tokens Unknown = []
+
+-- the verdict and the text of the CID
+abbrev pub reason_tokens : Skip → List Token
+reason_tokens s = text_member (codes "verdict") (verdict_word s.verdict) ++ text_member (codes "cid") (text_of s.cid)
+
+-- the number of the visit, and why it was skipped
+abbrev pub skip_members : Skip → List Token
+skip_members s = number_member (codes "visit") s.seq ++ reason_tokens s
+
+abbrev pub skip_tokens : Skip → List Token
+skip_tokens s = begin_object ∷ (skip_members s ++ end_object ∷ [])
+
+abbrev pub all_skips_tokens : List Skip → List Token
+all_skips_tokens skips = flat_map skip_tokens skips
+
+-- the skips in order
+abbrev pub skips_tokens : List Skip → List Token
+skips_tokens skips = key (codes "skips") ∷ begin_array ∷ (all_skips_tokens skips ++ end_array ∷ [])
+
+-- the object of a job
+abbrev pub job_tokens : JobMeaning → JobResult → ArchivePlace → List Token
+job_tokens job r place =
+    begin_object
+    ∷ (end_tokens job r.end ++ counts_tokens r.counts ++ known_tokens r.counts.known ++ place_tokens place ++ skips_tokens r.skips.items ++ end_object ∷ [])
+
+-- how many jobs, how many of them are done, how many skips
+abbrev pub totals_tokens : List JobResult → List Token
+totals_tokens rs = number_member (codes "jobs") (length rs) ++ number_member (codes "done") (done_count rs) ++ number_member (codes "skips") (skip_count rs)
+
+-- the object with the totals
+abbrev pub total_tokens : List JobResult → List Token
+total_tokens rs = begin_object ∷ key (codes "total") ∷ begin_object ∷ (totals_tokens rs ++ end_object ∷ end_object ∷ [])
