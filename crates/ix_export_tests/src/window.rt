@@ -18,8 +18,8 @@ use std::thread;
 // How many numbers from the next one on the ring of a job has room for.
 const WINDOW: u32 = 16_384;
 
-// How many visits a job has: twelve times as many, so that a ring without a bound shows.
-const VISITS: u32 = 200_000;
+// How many visits a job has: more than a hundred times as many, so that a ring without a bound shows.
+const VISITS: u32 = 2_000_000;
 
 // How many items the queue has room for, and each lane.
 const QUEUE: u32 = 256;
