@@ -2,8 +2,9 @@
 # Runs the scripts of examples/cluster over Slurm, by hand: four nodes on this host, over loopback alone, are started and
 # stopped here. 2,500 jobs by eight tasks, of which one is started again by Slurm while it runs and one is cancelled and then
 # submitted again, must give the archives and the report of single runs over pieces of a thousand jobs, and so must 3 and 7
-# parts without an engine. A thousand jobs by root, over the files that they need, must give those of a run over all files. It takes one to five minutes. Ends with status 1 at the first that is wrong, and with 0 and a line
-# that says so where Slurm isn't installed.
+# parts without an engine. A thousand jobs by root, a group on each node, must give those of one run over all files, and each
+# node must load the files of its jobs' roots and no other. It takes one to five minutes. Ends with status 1 at the first that
+# is wrong, and with 0 and a line that says so where Slurm isn't installed.
 #
 #   apt-get install --no-install-recommends slurmctld slurmd slurm-client munge
 #   tests/cluster.sh          as root; with PROGRAM=PATH another program than that of ./ix_export
@@ -179,20 +180,50 @@ took=$SECONDS
 [ -e out/report ] || fail "no report: $(cat out/parts/log.*)"
 is_wanted out "$(cat out/status)"
 
-# By root: each task loads only the files that name a root of its jobs.
+# By root: each task loads only the files that name a root of its jobs. To the jobs of the examples, over the root of the
+# library and over the album and the notes, come some over either of these alone, so there are four groups. Those have limits
+# that take an option.
 mkdir files wanted-by-root
 given=()
 for root in $(sed -n 's/^[a-z-]* \([^ ]*\) .*/\1/p' "$top/examples/library.jobs" | tr , '\n' | sort -u); do
   "$program" get --blocks "$blocks" --root "$root" --out "files/$root.car" 2>/dev/null || [ $? -eq 3 ]
   given+=(--blocks "files/$root.car")
 done
-head -n 1000 jobs >some-jobs
-count=$(IX_EXPORT=$program "$cluster/by-root" some-jobs groups files/*.car)
-[ "$count" -gt 1 ] || fail "$count groups"
+{
+  head -n 800 jobs
+  sed -n 's/^parts-\([0-9]*\) \([^,]*\),[^ ]* 1000 /album-alone-\1 \2 2000000 /p; 500q' jobs
+  sed -n 's/^parts-\([0-9]*\) [^,]*,\([^ ]*\) 1000 /notes-alone-\1 \2 2000000 /p; 500q' jobs
+} >some-jobs
+[ "$(grep -c '' some-jobs)" -eq 1000 ] || fail 'there are no thousand jobs by root'
 status=0
-"$program" jobs "${given[@]}" --jobs groups/jobs --out wanted-by-root >wanted-by-root.report || status=$?
+IX_EXPORT=$program "$cluster/by-root" some-jobs groups files/*.car 2>told || status=$?
+[ "$status" -eq 2 ] && grep -Fxq 'jobs: limit at line 801' told || fail "by-root told $(cat told), status $status"
+export IX_OPTIONS='--max-limit 2000000'
+count=$(IX_EXPORT=$program "$cluster/by-root" some-jobs groups files/*.car)
+[ "$count" -eq 4 ] || fail "$count groups"
+status=0
+"$program" jobs "${given[@]}" --jobs groups/jobs --out wanted-by-root --max-limit 2000000 >wanted-by-root.report || status=$?
 [ "$status" -eq 4 ] || fail "a single run over several files ended with $status"
-read -r _ array _ merge <<<"$(IX_EXPORT=$program "$cluster/submit" groups groups/jobs out-by-root "$count")"
+# The program of a task notes which files it is given, and waits until each node has a task.
+mkdir loaded nodes
+cat >noting <<END
+#!/bin/bash
+if [ -n "\${SLURM_ARRAY_TASK_ID-}" ]; then
+  before=
+  for word; do
+    [ "\$before" != --blocks ] || echo "\$word"
+    before=\$word
+  done | sort >"$work/loaded/\$SLURM_ARRAY_TASK_ID"
+  touch "$work/nodes/\$SLURMD_NODENAME"
+  for ((i = 0; i < 300; i++)); do
+    [ "\$(ls "$work/nodes" | wc -l)" -lt 4 ] || break
+    sleep 0.2
+  done
+fi
+exec "$program" "\$@"
+END
+chmod +x noting
+read -r _ array _ merge <<<"$(IX_EXPORT=$work/noting "$cluster/submit" groups groups/jobs out-by-root "$count")"
 ended "$array"
 ended "$merge"
 [ -e out-by-root/report ] || fail "no report: $(cat out-by-root/parts/log.*)"
@@ -201,6 +232,13 @@ cmp wanted-by-root.report out-by-root/report || fail 'by root: another report'
 mkdir out-by-root/archives
 mv out-by-root/*.car out-by-root/archives/
 diff -rq wanted-by-root out-by-root/archives || fail 'by root: other archives'
+[ "$(ls nodes)" = "$(printf 'n%s\n' 1 2 3 4)" ] || fail "by root: on the nodes $(ls nodes)"
+for ((group = 1; group <= count; group++)); do
+  cut -d ' ' -f 2 "groups/$group.jobs" | tr , '\n' | sort -u | sed "s|.*|$(realpath files)/&.car|" >wanted-loaded
+  cmp wanted-loaded "loaded/$group" || fail "by root: group $group loaded $(cat "loaded/$group")"
+  [ "$(grep -c '' wanted-loaded)" -lt 3 ] || fail "by root: group $group needs all files"
+done
+unset IX_OPTIONS
 
 # A faulty job file is rejected before anything is queued.
 { cat jobs && head -n 1 jobs; } >twice
@@ -210,4 +248,4 @@ IX_EXPORT=$program "$cluster/submit" "$blocks" twice out-2 8 2>told || status=$?
 status=0
 IX_EXPORT=$program "$cluster/submit" "$blocks" jobs out-3 2 2>told || status=$?
 [ "$status" -eq 2 ] && grep -Fxq 'submit: a part has at most 1000 jobs, so 2500 want 3 tasks' told || fail "submit told $(cat told)"
-echo "tests/cluster.sh: 2,500 jobs by 3 and 7 parts, and by 8 tasks of Slurm on four nodes in $took s, one requeued and one cancelled, and a thousand by root: as by single runs"
+echo "tests/cluster.sh: 2,500 jobs by 3 and 7 parts, and by 8 tasks of Slurm on four nodes in $took s, one requeued and one cancelled, and a thousand by root, each node with its files alone: as by single runs"
