@@ -10,7 +10,7 @@ _ix_export() {
   fi
   for it in "${COMP_WORDS[@]:1:COMP_CWORD-1}"; do
     case $it in
-      get | jobs | job | check-jobs | selector | root | inspect | verify)
+      get | jobs | job | check-jobs | selector | root | block | show | inspect | verify)
         command=$it
         break
         ;;
@@ -24,7 +24,7 @@ _ix_export() {
       ;;
     --out | -o)
       it=-d
-      [ "$command" != get ] || it=-f
+      [ "$command" = jobs ] || it=-f
       mapfile -t COMPREPLY < <(compgen "$it" -- "$word")
       compopt -o filenames 2>/dev/null
       return
@@ -33,18 +33,24 @@ _ix_export() {
       mapfile -t COMPREPLY < <(compgen -W '1 2 4 8 16 32 64' -- "$word")
       return
       ;;
-    --root | --selector | --selector-hex | --limit | --max-limit | --cid | --hex | --part | --max-input) return ;;
+    --scope)
+      mapfile -t COMPREPLY < <(compgen -W 'all block entity' -- "$word")
+      return
+      ;;
+    --root | --segment | --selector | --selector-hex | --limit | --max-limit | --cid | --hex | --part | --max-input) return ;;
   esac
   case $command in
-    get) it='--blocks --root --selector --selector-hex --limit --every-arrival --without --without-list --out -o --walkers --verifiers --max-input --carv2 --prefer-sound --sync --no-sync --progress --quiet -q --help -h' ;;
-    jobs) it='--blocks --jobs --out -o --part --without --without-list --max-limit --walkers --verifiers --max-input --carv2 --prefer-sound --once --sync --complete --progress --quiet -q --verbose -v --help -h' ;;
-    job) it='--max-limit --help -h' ;;
-    check-jobs) it='--max-limit --max-input --help -h' ;;
+    get) it='--blocks --root --segment --scope --selector --selector-hex --limit --once --every-arrival --without --without-list --out -o --walkers --verifiers --max-input --carv2 --prefer-sound --complete --partial --sync --no-sync --json --progress --quiet -q --verbose -v --help -h' ;;
+    jobs) it='--blocks --jobs --out -o --part --without --without-list --max-limit --walkers --verifiers --max-input --carv2 --prefer-sound --once --every-arrival --complete --partial --sync --no-sync --json --progress --quiet -q --verbose -v --help -h' ;;
+    job) it='--blocks --scope --max-limit --max-input --carv2 --prefer-sound --help -h' ;;
+    check-jobs) it='--max-limit --max-input --json --help -h' ;;
     selector) it='--hex --help -h' ;;
     root) it='--cid --max-input --verbose -v --help -h' ;;
-    inspect) it='--list --cids --max-input --carv2 --help -h' ;;
-    verify) it='--with --prefer-sound --blocks-only --all --verifiers --max-input --carv2 --help -h' ;;
-    *) it='get jobs job check-jobs selector root inspect verify --help -h --version -V' ;;
+    block) it='--blocks --out -o --max-input --carv2 --prefer-sound --sync --no-sync --progress --quiet -q --help -h' ;;
+    show) it='--blocks --pretty --max-input --carv2 --prefer-sound --progress --quiet -q --help -h' ;;
+    inspect) it='--list --cids --max-input --carv2 --json --help -h' ;;
+    verify) it='--with --prefer-sound --blocks-only --all --verifiers --max-input --carv2 --json --help -h' ;;
+    *) it='get jobs job check-jobs selector root block show inspect verify --help -h --version -V' ;;
   esac
   case $command in
     check-jobs | inspect | verify)

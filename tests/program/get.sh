@@ -175,8 +175,6 @@ zb2rhe5P4gXftAwvA4eXQ5HJwsER2owDyS9sKaQRRVQPn93bA base58$other
 f01551220ba7816bf hex$other
 F01551220BA7816BF hex$other
 ${abc_text^^} $upper
-ipfs://$abc_text an ipfs:// address, expected the CID alone
-/ipfs/$abc_text a path of /ipfs/, expected the CID alone
 $abc_text,f01 f01 is hex$other
 END
 get_refused '--limit: 0, expected 1 to 4294967295' "${get_one[@]}" --limit 0
@@ -206,8 +204,6 @@ title='get: an output without a name'
 get_usage "${get_one[@]}" --out ''
 expect_text 'the first line' "error: a value is required for '--out <FILE>' but none was supplied" "$(head -n 1 "$scratch/stderr")"
 expect_folder . blocks.car out
-title='get: on the disk, and not'
-get_usage "${get_one[@]}" --out out/a.car --sync --no-sync
 
 begin 'get: blocks from standard input'
 write_blocks "$one_blocks"

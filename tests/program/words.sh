@@ -28,7 +28,7 @@ words_refused jobs --blocks blocks.car --out out
 words_refused jobs "${inputs[@]}" --out
 words_refused jobs "${inputs[@]}" --out out --loud
 words_refused jobs "${inputs[@]}" --out out more
-words_refused jobs "${inputs[@]}" --out out --sync --sync
+words_refused jobs "${inputs[@]}" --out out --quiet --quiet
 words_refused jobs "${inputs[@]}" --out out --progress --progress
 words_refused selector '{".":{}}' more
 words_refused selector '{".":{}}' --hex a1612ea0
@@ -71,7 +71,7 @@ helps() {
 helps --help -- get root jobs selector CARv1 SHA-256 SHA-512 identity UnixFS --version 'Usage: ix_export <COMMAND>'
 helps -h -- get root jobs selector
 helps root --help -- '--cid <TEXT>' hex 'Standard input' 'Status: 0'
-helps get --help -- --no-sync '--blocks <FILE>' '--root <CID[,CID..]>' '--selector <JSON>' '--selector-hex <HEX>' \
+helps get --help -- --no-sync '--blocks <FILE>' '--root <ROOT[,..]>' '--scope <SCOPE>' '--segment <NAME>' '--selector <JSON>' '--selector-hex <HEX>' \
   '--without <FILE>' '--without-list <FILE>' '1 to 4294967295' 'with --every-arrival up to 1000000' FILE.part 'standard output' 'Status: 0' docs/SELECTORS.md
 helps jobs --help -- 'NAME ROOTS LIMIT SELECTOR' '--blocks <FILE>' '--jobs <FILE>' '--out <DIR>' '--walkers <N>' \
   '--verifiers <N>' '1 to 64' 'default: 4' "$abc_text 9 $matcher" 1000000 DIR/NAME.car damaged 'Status: 0' --max-input 'default: 1G' \
@@ -83,17 +83,22 @@ begin 'the help of a command, whole: its example is indented'
 run job --help
 expect 0 "Print the line of a job for a job file
 
-Usage: ix_export job [OPTIONS] <NAME> <ROOT[,ROOT..]> <LIMIT> <JSON>
+Usage: ix_export job [OPTIONS] <NAME> <ROOT[,ROOT..]> <LIMIT> [JSON]
 
 Arguments:
   <NAME>           1 to 64 characters of [a-z0-9_-]
-  <ROOT[,ROOT..]>  1 to 64 comma-separated CIDv1s in base32
+  <ROOT[,ROOT..]>  1 to 64 comma-separated CIDv1s, or CID/PATH
   <LIMIT>          Link budget, 1 to the N of --max-limit
-  <JSON>           IPLD selector as JSON, or - for standard input
+  [JSON]           IPLD selector as JSON, or - for standard input
 
 Options:
-      --max-limit <N>  Greatest LIMIT, up to 4294967295 [default: 1000000]
-  -h, --help           Print help
+      --blocks <FILE>     CARv1 file in which paths lead; several add up
+      --scope <SCOPE>     all below the end of the path, or its block alone
+      --max-limit <N>     Greatest LIMIT, up to 4294967295 [default: 1000000]
+      --max-input <SIZE>  Greatest size of an input, such as 4G
+      --carv2             Read CARv2 files too, as the CARv1 in them
+      --prefer-sound      Use the first sound copy of a block, if any is
+  -h, --help              Print help
 
 Append the lines of jobs to a job file:
 
@@ -101,8 +106,13 @@ Append the lines of jobs to a job file:
     $abc_text 1000 \\
     '{\"R\":{\"l\":{\"none\":{}},\":>\":{\"a\":{\">\":{\"@\":{}}}}}}' >>photos.jobs
 
-Status: 0 if a line was printed, 2 if an argument is rejected, with a line on
-standard error that says why." ''
+A root may have a path, CID/albums/0, as that of the command \`get\`. It is
+followed in the files of --blocks, and the selector of the line goes along it.
+Then JSON is the selector from its end, everything without JSON, or with --scope
+block the block in which the path ends alone.
+
+Status: 0 if a line was printed, 2 if an argument is rejected or a path leads no
+further, with a line on standard error that says why." ''
 for command in get jobs selector verify; do
   title="the help of $command: its examples are indented"
   run "$command" --help

@@ -103,6 +103,16 @@ impl Output {
         }
     }
 
+    /// Renames a whole output to its path. It isn't renamed if its file is no longer where it was created.
+    pub fn publish_whole<R: AllocGlobal + Files<File = File>>(self, rt: &R) -> Result<(), Failure>
+        ensures refused { RefusesPath (path_of self) result }
+    {
+        match self.rename(rt) {
+            Ok(_) => Ok(()),
+            Err(cause) => Err(Failure::cannot_write(rt.alloc(), self.path.as_str(), &cause)),
+        }
+    }
+
     // Renames the archive if it is to be renamed, and returns what the user should know.
     fn name_or_leave<R: AllocGlobal + Files<File = File>>(
         &self,

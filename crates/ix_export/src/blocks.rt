@@ -9,7 +9,8 @@ use crate::print::{later_note, print_notes};
 use clap::ArgMatches;
 use clap::error::ErrorKind;
 use ix_archive::known_places;
-use ix_car::{BlockLoader, CarFault, CarKind, Payload, SoundLoader, payload_of};
+use ix_car::{BlockLoader, CarFault, CarKind, Payload, SoundLoader, payload_of, read_header};
+use ix_cid::Cid;
 use ix_cli_io::{Failure, Progress, STANDARD_INPUT, load_input, size_of_all};
 use ix_inspect::{Kind, kind_of};
 use ix_run::RunFault;
@@ -194,6 +195,21 @@ impl<'a> BlockFiles<'a> {
         Ok(files)
     }
 
+    /// Returns the roots in the header of the first of the files that were read.
+    pub(crate) fn header_roots(
+        &self,
+        alloc: Global,
+        files: &[Vec<u8>],
+    ) -> Result<Vec<Cid>, Failure> {
+        let (Some(path), Some(bytes)) = (self.paths.first(), files.first()) else {
+            return Ok(Vec::new(alloc));
+        };
+        match roots_in(alloc, bytes.as_slice()) {
+            Ok(roots) => Ok(roots),
+            Err(fault) => Err(self.refusal(alloc, path, fault, kind_of(bytes.as_slice()))),
+        }
+    }
+
     /// Makes the store of the blocks of the files that were read: those of their sections in order, the
     /// first of each CID, or the first that is sound if that is asked for.
     pub(crate) fn store_of<R: AllocGlobal + Threads + Sync>(
@@ -285,6 +301,18 @@ fn cause_of(fault: &CarFault, kind: Kind) -> Option<&'static str> {
         Some(inspect::CARV2_HEADER)
     } else {
         Some("ix_export inspect says how to keep the sections before it")
+    }
+}
+
+// Returns the roots in the header of a CARv1 file, or of the one in a CARv2 file.
+fn roots_in(alloc: Global, bytes: &[u8]) -> Result<Vec<Cid>, CarFault> {
+    let payload = payload_of(bytes)?;
+    match read_header(alloc, &bytes[payload.start..payload.end]) {
+        Ok((roots, _)) => Ok(roots),
+        Err(CarFault { kind, place }) => Err(CarFault {
+            kind,
+            place: payload.start.saturating_add(place),
+        }),
     }
 }
 

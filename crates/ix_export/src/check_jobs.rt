@@ -1,7 +1,8 @@
 //! The command `check-jobs`: what is wrong with each line of a job file.
 
 use crate::commands::CommandSpec;
-use crate::options::{ArgKind, ArgSpec, MAX_INPUT, MAX_LIMIT};
+use crate::json_faults::fault_objects;
+use crate::options::{ArgKind, ArgSpec, JSON, MAX_INPUT, MAX_LIMIT};
 use crate::print::print_all;
 use crate::size::most_input;
 use clap::ArgMatches;
@@ -17,7 +18,8 @@ const ABOUT: &str = "Report what is wrong with each line of a job file";
 const HELP: &str = "Prints nothing if the command `jobs` accepts the file, with the same N of\n\
 --max-limit. Otherwise the first line printed is the error of `jobs`, and each\n\
 other line says which line of the file is faulty, in which field, what is wrong\n\
-there and what would be right.\n\
+there and what would be right. With --json each of these lines alone is an\n\
+object, whose keys docs/JSON.md has.\n\
 \n\
 Status: 0 if the command `jobs` accepts the file, 2 otherwise.";
 
@@ -32,7 +34,7 @@ pub(crate) static SPEC: CommandSpec = CommandSpec {
     name: "check-jobs",
     about: ABOUT,
     help: HELP,
-    words: &[FILE, MAX_LIMIT, MAX_INPUT],
+    words: &[FILE, MAX_LIMIT, MAX_INPUT, JSON],
 };
 
 /// Runs the command and returns the status: prints nothing if the command `jobs` accepts the file.
@@ -45,7 +47,27 @@ pub(crate) fn run<'a, R: AllocGlobal + Files + Input + Print>(
     let file = read_input(rt, FILE.text(words), most)?;
     let greatest = MAX_LIMIT.limit(words);
     let faults = job_faults_up_to(rt.alloc(), file.as_slice(), greatest)?;
-    print_faults(rt, file.as_slice(), faults.as_slice(), greatest)
+    let faults = faults.as_slice();
+    if JSON.is_given(words) {
+        return print_objects(rt, file.as_slice(), faults, greatest);
+    }
+    print_faults(rt, file.as_slice(), faults, greatest)
+}
+
+// Prints an object for each faulty line of a job file that has these faults.
+fn print_objects<R: AllocGlobal + Print>(
+    rt: &R,
+    file: &[u8],
+    faults: &[JobsFault],
+    greatest: u32,
+) -> Result<u8, Failure> {
+    if faults.is_empty() {
+        return Ok(0);
+    }
+    let lines = fault_lines(rt.alloc(), file, faults, greatest)?;
+    let objects = fault_objects(rt.alloc(), lines.as_str())?;
+    print_all(rt, objects.as_slice())?;
+    Ok(REFUSED)
 }
 
 // Prints what is wrong with a job file that has these faults.

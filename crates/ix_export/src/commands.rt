@@ -1,7 +1,7 @@
 //! The commands as a table of their arguments, the command line made of it, and errors in their names.
 
 use crate::options::{ArgSpec, arguments_of};
-use crate::{check_jobs, get, inspect, job, jobs, root, selector, verify};
+use crate::{block, check_jobs, get, inspect, job, jobs, root, selector, show, verify};
 use clap::Command;
 use clap::error::ErrorKind;
 use std::alloc::{AllocError, Global};
@@ -90,6 +90,8 @@ fn push_commands<'a>(alloc: Global, commands: &mut Vec<Command<'a>>) -> Result<(
         &check_jobs::SPEC,
         &selector::SPEC,
         &root::SPEC,
+        &block::SPEC,
+        &show::SPEC,
         &inspect::SPEC,
         &verify::SPEC,
     ];

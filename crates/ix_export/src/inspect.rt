@@ -1,7 +1,8 @@
 //! The command `inspect`: describes a CARv1 file, or says what another file is.
 
 use crate::commands::CommandSpec;
-use crate::options::{ArgKind, ArgSpec, CARV2, MAX_INPUT};
+use crate::json_inspect::{Described, fault_object, section_object, summary_object};
+use crate::options::{ArgKind, ArgSpec, CARV2, JSON, MAX_INPUT};
 use crate::size::most_input;
 use crate::threads::at_most_processors;
 use clap::ArgMatches;
@@ -32,6 +33,9 @@ const PROGRAM_MEMORY: usize = 16 * 1024 * 1024;
 pub(crate) const CARV2_HEADER: &str =
     "the payload that the header of a CARv2 file names is not whole in it";
 
+// What a file is that has an error after the header of its CARv1 file.
+const CARV1: &str = "a CARv1 file";
+
 const ABOUT: &str = "Describe a CARv1 file, without hashing";
 
 const HELP: &str =
@@ -39,7 +43,8 @@ const HELP: &str =
 of them repeat a CID, the number of sections of each codec and each hash\n\
 function (by its name in the multicodec table, or its number), the smallest,\n\
 median and greatest size of a block, and how many bytes of memory `get` and\n\
-`jobs` take at most for the blocks of the file.\n\
+`jobs` take at most for the blocks of the file, unless their CIDs were made to\n\
+collide.\n\
 \n\
 With --list it prints a line for each section instead, PLACE SIZE CID: the\n\
 offset of the section in bytes, the size of its block, and the CID as in a job\n\
@@ -51,6 +56,9 @@ and an identity CID, which contains its block, are left out.\n\
 \n\
 If the file is not a CARv1, a line on standard error says what it is. If it ends\n\
 early, the line says how to keep its whole sections.\n\
+\n\
+With --json the summary is an object, and with --list each section is one. A\n\
+file that is rejected has an object too: docs/JSON.md has the keys.\n\
 \n\
 Status: 0, or 2 if the arguments or the file are rejected.";
 
@@ -68,7 +76,7 @@ const LIST: ArgSpec = ArgSpec {
 
 const CIDS: ArgSpec = ArgSpec {
     name: "cids",
-    given: ArgKind::Flag,
+    given: ArgKind::FlagWithout("json"),
     help: "Print the CID of each section, one per line",
 };
 
@@ -77,7 +85,7 @@ pub(crate) static SPEC: CommandSpec = CommandSpec {
     name: "inspect",
     about: ABOUT,
     help: HELP,
-    words: &[FILE, LIST, CIDS, MAX_INPUT, CARV2],
+    words: &[FILE, LIST, CIDS, MAX_INPUT, CARV2, JSON],
 };
 
 // What is printed of a file.
@@ -88,18 +96,27 @@ enum Form {
     List,
     // The CID of each section.
     Cids,
+    // The summary as an object.
+    JsonSummary,
+    // An object for each section.
+    JsonList,
 }
 
 impl Form {
     // Returns the one that is asked for.
     fn given<'a>(words: &ArgMatches<'a>) -> Form {
-        if LIST.is_given(words) {
-            Form::List
-        } else if CIDS.is_given(words) {
-            Form::Cids
-        } else {
-            Form::Summary
+        match (LIST.is_given(words), JSON.is_given(words)) {
+            (true, false) => Form::List,
+            (true, true) => Form::JsonList,
+            (false, true) => Form::JsonSummary,
+            (false, false) if CIDS.is_given(words) => Form::Cids,
+            (false, false) => Form::Summary,
         }
+    }
+
+    // Returns whether objects are printed.
+    fn is_json(self) -> bool {
+        matches!(self, Form::JsonSummary | Form::JsonList)
     }
 }
 
@@ -123,16 +140,17 @@ fn inspect_car<R: AllocGlobal + Eprint + Print + Threads + Sync>(
 ) -> Result<u8, Failure> {
     let Payload { start, end } = match payload_of(car) {
         Ok(payload) => payload,
-        Err(fault) => return refuse(rt, path, car, 0, fault),
+        Err(fault) => return refuse(rt, path, car, 0, fault, form),
     };
     match read_sections(rt.alloc(), &car[start..end]) {
         Ok(file) => match form {
             Form::Summary => summarize(rt, file, car),
+            Form::JsonSummary => describe(rt, path, file, car),
             _ => list(rt, file.sections.as_slice(), form, start),
         },
         Err(fault) => {
             let place = start.saturating_add(fault.place);
-            refuse(rt, path, car, start, CarFault { place, ..fault })
+            refuse(rt, path, car, start, CarFault { place, ..fault }, form)
         }
     }
 }
@@ -159,10 +177,11 @@ fn list_to<R: AllocGlobal, W: Write>(
 ) -> Result<u8, Failure> {
     for section in sections {
         let line = match form {
-            Form::Cids => cid_line(rt.alloc(), section)?,
-            _ => line_of(rt.alloc(), section, start)?,
+            Form::Cids => cid_line(rt.alloc(), section)?.into_bytes(),
+            Form::JsonList => section_object(rt.alloc(), section, start)?,
+            _ => line_of(rt.alloc(), section, start)?.into_bytes(),
         };
-        if let Err(error) = output.write_all(line.as_bytes()) {
+        if let Err(error) = output.write_all(line.as_slice()) {
             return answer_of(rt, &error);
         }
     }
@@ -210,7 +229,33 @@ fn summarize<R: AllocGlobal + Print + Threads + Sync>(
     car: &[u8],
 ) -> Result<u8, Failure> {
     let text = text_of(rt, file, car)?;
-    match io::writer(rt).write_all(text.as_bytes()) {
+    print_whole(rt, text.as_bytes())
+}
+
+// Prints the object of a file with these bytes.
+fn describe<R: AllocGlobal + Print + Threads + Sync>(
+    rt: &R,
+    path: &str,
+    file: CarFile<'_>,
+    car: &[u8],
+) -> Result<u8, Failure> {
+    let CarFile { roots, sections } = file;
+    let described = Described {
+        path,
+        bytes: car.len(),
+        index: index_of(car),
+        roots,
+    };
+    let threads = at_most_processors(rt, LOADERS);
+    let summary = summary_of(rt, rt.alloc(), sections, threads)?;
+    let memory = memory_for(car.len(), summary.sections);
+    let object = summary_object(rt.alloc(), &described, &summary, memory)?;
+    print_whole(rt, object.as_slice())
+}
+
+// Prints what is all of the output, and returns the status.
+fn print_whole<R: AllocGlobal + Print>(rt: &R, text: &[u8]) -> Result<u8, Failure> {
+    match io::writer(rt).write_all(text) {
         Ok(()) => Ok(0),
         Err(error) => answer_of(rt, &error),
     }
@@ -234,12 +279,19 @@ fn text_of<R: AllocGlobal + Threads + Sync>(
 
 // Returns the lines about the version of a file that was read.
 fn version_of(car: &[u8]) -> &'static str {
-    if !is_carv2(car) {
-        "version 1\n"
-    } else if car.len() >= 51 && has_index(car) {
-        "version 2\nindex yes\n"
+    match index_of(car) {
+        None => "version 1\n",
+        Some(true) => "version 2\nindex yes\n",
+        Some(false) => "version 2\nindex no\n",
+    }
+}
+
+// Returns whether a CARv2 file that was read has an index, or None for a CARv1 file.
+fn index_of(car: &[u8]) -> Option<bool> {
+    if is_carv2(car) {
+        Some(car.len() >= 51 && has_index(car))
     } else {
-        "version 2\nindex no\n"
+        None
     }
 }
 
@@ -317,17 +369,21 @@ fn push_sizes(text: &mut String, summary: &Summary) -> Result<(), AllocError> {
 }
 
 // Prints why a file is rejected, whose CARv1 file begins at an offset, and what it is.
-fn refuse<R: AllocGlobal + Eprint>(
+fn refuse<R: AllocGlobal + Eprint + Print>(
     rt: &R,
     path: &str,
     car: &[u8],
     start: usize,
     fault: CarFault,
+    form: Form,
 ) -> Result<u8, Failure> {
     if fault.kind == CarKind::Memory {
         return Err(Failure::Fault(RunFault::Memory));
     }
     let kind = kind_of(car);
+    if form.is_json() {
+        print_fault(rt, path, kind, start, fault)?;
+    }
     if fault.place == 0 {
         print_kind(rt, path, fault, words_of(kind));
     } else if is_of_carv2(kind, &fault) {
@@ -336,6 +392,25 @@ fn refuse<R: AllocGlobal + Eprint>(
         print_kept(rt, path, start, fault);
     }
     Ok(REFUSED)
+}
+
+// Prints the object of a file that is rejected.
+fn print_fault<R: AllocGlobal + Print>(
+    rt: &R,
+    path: &str,
+    kind: Kind,
+    start: usize,
+    fault: CarFault,
+) -> Result<(), Failure> {
+    let (is, start) = if fault.place == 0 {
+        (words_of(kind), None)
+    } else if is_of_carv2(kind, &fault) {
+        (CARV2_HEADER, None)
+    } else {
+        (CARV1, Some(start))
+    };
+    let object = fault_object(rt.alloc(), path, &fault, is, start)?;
+    print_whole(rt, object.as_slice()).map(|_| ())
 }
 
 // Prints what a file is. If standard error can't be written, there is no one to report to.

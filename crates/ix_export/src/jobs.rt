@@ -8,10 +8,11 @@ use crate::blocks::{BlockFiles, LoadedBlocks};
 use crate::commands::CommandSpec;
 use crate::export::{forget_store, progress_mode};
 use crate::host::Host;
+use crate::json_jobs::folder_report;
 use crate::known::{KnownInputs, refused_inputs};
 use crate::options::{
-    ArgKind, ArgSpec, BLOCKS, CARV2, MAX_INPUT_1G, MAX_LIMIT, PREFER_SOUND, PROGRESS, VERBOSE,
-    VERIFIERS, WALKERS, WITHOUT, WITHOUT_LIST,
+    ArgKind, ArgSpec, BLOCKS, CARV2, JSON, MAX_INPUT_1G, MAX_LIMIT, PREFER_SOUND, PROGRESS,
+    QUIET_PROGRESS, VERBOSE, VERIFIERS, WALKERS, WITHOUT, WITHOUT_LIST,
 };
 use crate::print::{print_all, print_notes};
 use crate::size::most_input;
@@ -63,7 +64,8 @@ file with that name; otherwise DIR/NAME.car stays as it was. DIR must exist. As\
 many files are open at once as there are jobs. The report on standard output has\n\
 a line for each job, how it ended (done, limit, memory, write, start) and its\n\
 counts, then a line for each link that was skipped (codec, hash, missing,\n\
-damaged, malformed), and at last the totals. Links of other codecs than raw and\n\
+damaged, malformed), and at last the totals; with --json it is JSON, whose keys\n\
+docs/JSON.md has. Links of other codecs than raw and\n\
 DAG-CBOR and of other hashes than SHA-256, SHA-512 and identity are skipped;\n\
 UnixFS isn't read. The digest of an identity CID is the block itself: links\n\
 inside it are followed, and it has no block in the archive.\n\
@@ -121,26 +123,38 @@ const PART: ArgSpec = ArgSpec {
 
 const ONCE: ArgSpec = ArgSpec {
     name: "once",
-    given: ArgKind::Flag,
+    given: ArgKind::FlagOver("every-arrival"),
     help: "Expand a block once, not at every link to it",
+};
+
+const EVERY_ARRIVAL: ArgSpec = ArgSpec {
+    name: "every-arrival",
+    given: ArgKind::FlagOver("once"),
+    help: "Expand a block at every link to it [default]",
 };
 
 const SYNC: ArgSpec = ArgSpec {
     name: "sync",
-    given: ArgKind::Flag,
+    given: ArgKind::FlagOver("no-sync"),
     help: "Sync each archive to disk before its job is done",
+};
+
+const NO_SYNC: ArgSpec = ArgSpec {
+    name: "no-sync",
+    given: ArgKind::FlagOver("sync"),
+    help: "Rename without waiting for the disk [default]",
 };
 
 const COMPLETE: ArgSpec = ArgSpec {
     name: "complete",
-    given: ArgKind::Flag,
+    given: ArgKind::FlagOver("partial"),
     help: "Rename only archives of done jobs, no root skipped",
 };
 
-const QUIET: ArgSpec = ArgSpec {
-    name: "quiet",
-    given: ArgKind::Flag,
-    help: "No progress",
+const PARTIAL: ArgSpec = ArgSpec {
+    name: "partial",
+    given: ArgKind::FlagOver("complete"),
+    help: "Rename archives of done and of limit [default]",
 };
 
 /// The command.
@@ -162,10 +176,14 @@ pub(crate) static SPEC: CommandSpec = CommandSpec {
         CARV2,
         PREFER_SOUND,
         ONCE,
-        SYNC,
+        EVERY_ARRIVAL,
         COMPLETE,
+        PARTIAL,
+        SYNC,
+        NO_SYNC,
+        JSON,
         PROGRESS,
-        QUIET,
+        QUIET_PROGRESS,
         VERBOSE,
     ],
 };
@@ -206,6 +224,7 @@ struct JobsCommand<'a> {
     threads: ThreadCounts,
     is_synced: bool,
     naming: Naming,
+    is_json: bool,
     progress: ProgressMode,
 }
 
@@ -250,7 +269,8 @@ impl<'a> JobsCommand<'a> {
             threads: ThreadCounts::given(words),
             is_synced: SYNC.is_given(words),
             naming,
-            progress: progress_mode(words, &QUIET, is_terminal),
+            is_json: JSON.is_given(words),
+            progress: progress_mode(words, &QUIET_PROGRESS, is_terminal),
         })
     }
 
@@ -326,7 +346,7 @@ impl<'a> JobsCommand<'a> {
     ) -> Result<u8, Failure> {
         let results = ran.results.as_slice();
         let published = publish_outputs(rt, outputs, jobs, results, self.naming);
-        print_all(rt, ran.report.as_slice())?;
+        self.print_run(rt, jobs, ran, published.is_ok())?;
         let notes = published?;
         print_notes(rt, Ok(notes));
         print_notes(
@@ -334,6 +354,29 @@ impl<'a> JobsCommand<'a> {
             failed_writes(rt.alloc(), self.folder, jobs, results, errors),
         );
         Ok(ran.status)
+    }
+
+    // Prints the report of a run whose outputs were published, as text or as JSON. If a rename failed, not
+    // all are named that should be.
+    fn print_run<R: AllocGlobal + Print>(
+        &self,
+        rt: &R,
+        jobs: &[Job],
+        ran: &RunReport,
+        are_named: bool,
+    ) -> Result<(), Failure> {
+        if !self.is_json {
+            return print_all(rt, ran.report.as_slice());
+        }
+        let report = folder_report(
+            rt.alloc(),
+            self.folder,
+            jobs,
+            ran.results.as_slice(),
+            self.naming,
+            are_named,
+        )?;
+        print_all(rt, report.as_slice())
     }
 }
 

@@ -12,21 +12,32 @@
 #![tactic(auto)]
 
 mod arguments;
+mod block;
 mod blocks;
 mod car_input;
 mod check_jobs;
 mod commands;
 mod export;
+mod file_output;
 mod get;
 mod host;
 mod inspect;
 mod job;
 mod jobs;
+mod json_faults;
+mod json_inspect;
+mod json_jobs;
+mod json_line;
+mod json_verify;
 mod known;
+mod one_block;
 mod options;
+mod paths;
 mod print;
 mod root;
+mod roots;
 mod selector;
+mod show;
 mod size;
 mod threads;
 mod verify;
@@ -74,6 +85,8 @@ fn run_command<R: Host>(rt: &R, words: &[String], terminals: Terminals) -> u8 {
             Some(("job", words)) => (job::run(rt, words), Causes::Beside),
             Some(("check-jobs", words)) => (check_jobs::run(rt, words), Causes::Beside),
             Some(("selector", words)) => (selector::run(rt, words), Causes::Beside),
+            Some(("block", words)) => (block::run(rt, words, terminals), Causes::Beside),
+            Some(("show", words)) => (show::run(rt, words, terminals), Causes::Beside),
             Some(("inspect", words)) => (inspect::run(rt, words), Causes::Beside),
             Some(("verify", words)) => (verify::run(rt, words), Causes::Beside),
             Some((_, words)) => (root::run(rt, words), causes_of(words)),

@@ -27,6 +27,8 @@ pub(crate) enum ArgKind {
     Optional(&'static str),
     /// An option that conflicts with the argument of the second name.
     ConflictsWith(&'static str, &'static str),
+    /// The same with two other arguments.
+    ConflictsWithBoth(&'static str, &'static str, &'static str),
     /// An optional option that may be given several times.
     OptionalMany(&'static str),
     /// The same that conflicts with the argument of the second name.
@@ -39,6 +41,8 @@ pub(crate) enum ArgKind {
     Flag,
     /// A flag that conflicts with the argument of this name.
     FlagWithout(&'static str),
+    /// A flag that says the opposite of the flag of this name. Of both the last one counts.
+    FlagOver(&'static str),
     /// A required positional argument.
     Positional(&'static str),
     /// An optional positional argument.
@@ -47,7 +51,7 @@ pub(crate) enum ArgKind {
     Many(&'static str),
 }
 
-/// The block files of the commands `jobs` and `get`.
+/// The block files of the commands that look up blocks.
 pub(crate) const BLOCKS: ArgSpec = ArgSpec {
     name: "blocks",
     given: ArgKind::RequiredMany("FILE"),
@@ -124,11 +128,39 @@ pub(crate) const PROGRESS: ArgSpec = ArgSpec {
     help: "Show progress on standard error",
 };
 
+/// Whether nothing but progress is turned off.
+pub(crate) const QUIET_PROGRESS: ArgSpec = ArgSpec {
+    name: "quiet",
+    given: ArgKind::Flag,
+    help: "No progress",
+};
+
+/// Whether a file is on the disk before it is renamed, which is the default at the commands that write one.
+pub(crate) const SYNC: ArgSpec = ArgSpec {
+    name: "sync",
+    given: ArgKind::FlagOver("no-sync"),
+    help: "Sync FILE to disk before it is renamed [default]",
+};
+
+/// Whether it is renamed before.
+pub(crate) const NO_SYNC: ArgSpec = ArgSpec {
+    name: "no-sync",
+    given: ArgKind::FlagOver("sync"),
+    help: "Rename FILE without waiting for the disk",
+};
+
 /// Whether the cause of an error is printed where an error has one line.
 pub(crate) const VERBOSE: ArgSpec = ArgSpec {
     name: "verbose",
     given: ArgKind::Flag,
     help: "Print the cause of an error on a second line",
+};
+
+/// Whether a report is JSON, at the commands that print one.
+pub(crate) const JSON: ArgSpec = ArgSpec {
+    name: "json",
+    given: ArgKind::Flag,
+    help: "Report as JSON, one object per line",
 };
 
 // The short form of an option, which is the same at each command.
@@ -209,12 +241,16 @@ fn argument_of<'a>(alloc: Global, row: &'static ArgSpec) -> Result<Arg<'a>, Allo
         ArgKind::RequiredMany(value) => Ok(options(alloc, row, value).required(true)),
         ArgKind::Optional(value) => Ok(option(alloc, row, value)),
         ArgKind::ConflictsWith(value, other) => option(alloc, row, value).conflicts_with(other),
+        ArgKind::ConflictsWithBoth(value, one, other) => {
+            option(alloc, row, value).conflicts_with_all(&[one, other])
+        }
         ArgKind::OptionalMany(value) => Ok(options(alloc, row, value)),
         ArgKind::ManyWithout(value, other) => options(alloc, row, value).conflicts_with(other),
         ArgKind::Number => Ok(number(alloc, row)),
         ArgKind::Limit => Ok(limit(alloc, row)),
         ArgKind::Flag => Ok(flag(alloc, row)),
         ArgKind::FlagWithout(other) => flag(alloc, row).conflicts_with(other),
+        ArgKind::FlagOver(other) => flag(alloc, row).overrides_with_all(&[other, row.name]),
         ArgKind::Positional(value) => Ok(positional(alloc, row, value).required(true)),
         ArgKind::OptionalPositional(value) => Ok(positional(alloc, row, value)),
         ArgKind::Many(value) => Ok(positionals(alloc, row, value)),

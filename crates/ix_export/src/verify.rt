@@ -2,7 +2,8 @@
 
 use crate::car_input::{CarInput, Rejection};
 use crate::commands::CommandSpec;
-use crate::options::{ArgKind, ArgSpec, CARV2, MAX_INPUT, VERIFIERS};
+use crate::json_verify::report_object;
+use crate::options::{ArgKind, ArgSpec, CARV2, JSON, MAX_INPUT, VERIFIERS};
 use crate::print::{later_note, print_notes};
 use crate::size::most_input;
 use clap::ArgMatches;
@@ -53,7 +54,8 @@ section that isn't sound, PLACE being the byte at which its length begins, and\n
 codec (neither raw nor DAG-CBOR), hash (neither SHA-256, SHA-512 nor identity),\n\
 missing, damaged and malformed. U and S count all of them; the first 20 lines\n\
 are printed, and how many more there are. With --all each is printed, and the\n\
-line of the file after them.\n\
+line of the file after them. With --json a file has one object, with the\n\
+findings in it: docs/JSON.md has its keys.\n\
 \n\
 A header without roots has nothing to follow.\n\
 \n\
@@ -109,6 +111,7 @@ pub(crate) static SPEC: CommandSpec = CommandSpec {
         VERIFIERS,
         MAX_INPUT,
         CARV2,
+        JSON,
     ],
 };
 
@@ -121,6 +124,7 @@ struct VerifyCommand {
     copies: Copies,
     // Whether all findings are printed, with the line of the file after them.
     prints_all: bool,
+    is_json: bool,
     // The greatest size of a file.
     most_input: u64,
 }
@@ -219,6 +223,7 @@ impl VerifyCommand {
                 Copies::First
             },
             prints_all: ALL.is_given(words),
+            is_json: JSON.is_given(words),
             most_input: most_input(alloc, &SPEC, words, ANY_SIZE)?,
         })
     }
@@ -251,6 +256,7 @@ impl VerifyCommand {
                     found: &found,
                     most,
                     prints_all: self.prints_all,
+                    is_json: self.is_json,
                 };
                 let status = print_report(rt, &report)?;
                 print_later(rt, path, found.later_count);
@@ -287,17 +293,45 @@ fn times_of_input(paths: &[&str]) -> usize {
     paths.iter().filter(|path| **path == STANDARD_INPUT).count()
 }
 
-// The report on a file.
+/// The report on a file.
 #[derive(Drop)]
-struct Report<'a> {
-    path: &'a str,
-    bytes: usize,
-    // The offset in the file of the CARv1 file that was verified.
-    start: usize,
-    found: &'a Findings,
+pub(crate) struct Report<'a> {
+    pub path: &'a str,
+    pub bytes: usize,
+    /// The offset in the file of the CARv1 file that was verified.
+    pub start: usize,
+    pub found: &'a Findings,
     // How many findings are printed at most, and whether these are all, with the line of the file after them.
     most: usize,
     prints_all: bool,
+    is_json: bool,
+}
+
+impl<'a> Report<'a> {
+    /// Returns the word for what was found.
+    pub(crate) fn outcome(&self) -> &'static str {
+        if self.found.is_sound() {
+            "sound"
+        } else {
+            "broken"
+        }
+    }
+
+    /// Returns how many links are printed: with the sections no more than may be. The sections that were
+    /// kept are no more than may be printed.
+    pub(crate) fn links(&self) -> usize {
+        let sections = self.found.unsound.first.len();
+        let links = self.found.skips.first.len();
+        links.min(self.most.saturating_sub(sections))
+    }
+
+    /// Returns how many findings aren't printed.
+    pub(crate) fn more(&self) -> usize {
+        let Findings { unsound, skips, .. } = self.found;
+        let printed = unsound.first.len().saturating_add(self.links());
+        let findings = unsound.count.saturating_add(skips.count);
+        findings.saturating_sub(printed)
+    }
 }
 
 // Why a report isn't printed whole.
@@ -336,7 +370,9 @@ fn print_report<R: AllocGlobal + Print>(rt: &R, report: &Report<'_>) -> Result<u
 fn write_report<R: AllocGlobal + Print>(rt: &R, report: &Report<'_>) -> Result<(), Stop> {
     let alloc = rt.alloc();
     let mut output = BufWriter::new(alloc, io::writer(rt))?;
-    if report.prints_all {
+    if report.is_json {
+        output.write_all(report_object(alloc, report)?.as_slice())?;
+    } else if report.prints_all {
         write_findings(alloc, &mut output, report)?;
         write_summary(alloc, &mut output, report)?;
     } else {
@@ -356,12 +392,13 @@ fn write_summary<W: Write>(alloc: Global, output: &mut W, report: &Report<'_>) -
         ..
     } = report;
     let sections = found.sections;
+    let word = report.outcome();
     let line = if found.is_sound() {
-        format!(in alloc; "{path} sound sections={sections} bytes={bytes}\n")?
+        format!(in alloc; "{path} {word} sections={sections} bytes={bytes}\n")?
     } else {
         let (unsound, skips) = (found.unsound.count, found.skips.count);
         format!(in alloc;
-            "{path} broken sections={sections} bytes={bytes} unsound={unsound} skips={skips}\n"
+            "{path} {word} sections={sections} bytes={bytes} unsound={unsound} skips={skips}\n"
         )?
     };
     output.write_all(line.as_bytes())?;
@@ -379,19 +416,11 @@ fn write_findings<W: Write>(
     for section in &found.unsound.first {
         write_section(output, report.start, section, section.cid.text(alloc))?;
     }
-    // The sections that were kept are no more than may be printed.
-    let sections = found.unsound.first.len();
-    let links = found
-        .skips
-        .first
-        .len()
-        .min(report.most.saturating_sub(sections));
-    for skip in found.skips.first.iter().take(links) {
+    for skip in found.skips.first.iter().take(report.links()) {
         let (verdict, cid) = (skip.verdict, skip.cid.text(alloc)?);
         writeln!(output, "  link {verdict} {cid}")?;
     }
-    let findings = found.unsound.count.saturating_add(found.skips.count);
-    let more = findings.saturating_sub(sections.saturating_add(links));
+    let more = report.more();
     if more > 0 {
         let line = format!(in alloc; "  and {more} more (--all prints each)\n")?;
         output.write_all(line.as_bytes())?;

@@ -1,0 +1,62 @@
+//! What the command `verify` prints as JSON.
+
+use crate::json_line::{begin_object, end_object, push_boolean, push_count};
+use crate::verify::Report;
+use ix_archive::Skip;
+use ix_json_report::{push_cid, push_text, push_verdict};
+use ix_verify::Unsound;
+use json::Writer;
+use std::alloc::{AllocError, Global};
+
+/// Returns the object of a file: what was found, the first findings, and how many more there are.
+pub(crate) fn report_object(alloc: Global, report: &Report<'_>) -> Result<Vec<u8>, AllocError> {
+    let found = report.found;
+    let mut out = begin_object(alloc)?;
+    push_text(&mut out, "file", report.path)?;
+    push_text(&mut out, "outcome", report.outcome())?;
+    push_count(&mut out, "sections", found.sections)?;
+    push_count(&mut out, "bytes", report.bytes)?;
+    push_count(&mut out, "unsound", found.unsound.count)?;
+    push_count(&mut out, "skips", found.skips.count)?;
+    push_findings(alloc, &mut out, report)?;
+    push_count(&mut out, "more", report.more())?;
+    if found.is_over_limit {
+        push_boolean(&mut out, "limit", true)?;
+    }
+    end_object(out)
+}
+
+// Appends the findings that are printed.
+fn push_findings(alloc: Global, out: &mut Writer, report: &Report<'_>) -> Result<(), AllocError> {
+    out.key("findings")?;
+    out.begin_array()?;
+    for section in &report.found.unsound.first {
+        push_section(alloc, out, report.start, section)?;
+    }
+    for skip in report.found.skips.first.iter().take(report.links()) {
+        push_link(alloc, out, skip)?;
+    }
+    out.end_array()
+}
+
+// Appends the object of a section, in a CARv1 file that begins at an offset.
+fn push_section(
+    alloc: Global,
+    out: &mut Writer,
+    start: usize,
+    section: &Unsound,
+) -> Result<(), AllocError> {
+    out.begin_object()?;
+    push_count(out, "section", start.saturating_add(section.place))?;
+    push_verdict(alloc, out, "verdict", section.verdict)?;
+    push_cid(alloc, out, &section.cid)?;
+    out.end_object()
+}
+
+// Appends the object of a link.
+fn push_link(alloc: Global, out: &mut Writer, skip: &Skip) -> Result<(), AllocError> {
+    out.begin_object()?;
+    push_verdict(alloc, out, "link", skip.verdict)?;
+    push_cid(alloc, out, &skip.cid)?;
+    out.end_object()
+}
