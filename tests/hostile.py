@@ -663,7 +663,7 @@ def long_line(runner):
 
 
 def small_sections(runner):
-    """A million sections of 8 bytes, none of which is sound: `inspect` and `verify` take at most a quarter more memory than `jobs`
+    """A million sections of 8 bytes, none of which is sound: `inspect` and `verify` take at most a tenth more memory than `jobs`
     does."""
     car = NO_ROOTS + b"".join(b"\x07\x01\x55\0\x03" + number.to_bytes(3, "big") for number in range(1_000_000))
     (runner.room / "small.car").write_bytes(car)
@@ -676,7 +676,7 @@ def small_sections(runner):
         if told["status"] != status:
             raise Wrong(f"{words[0]} ended with status {told['status']}: {told['error'][:200]!r}")
         peaks[words[0]] = told["peak"]
-    if max(peaks.values()) > 1.25 * peaks["jobs"]:
+    if max(peaks.values()) > 1.1 * peaks["jobs"]:
         raise Wrong(f"{len(car)} bytes of small sections took {peaks}")
 
 
