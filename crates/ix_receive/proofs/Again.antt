@@ -1,0 +1,194 @@
+-- The archive of a job, over the store of its own sections.
+use Rattle.std.proofs.Common.{◌≡◌, inl, inr, ℕ, suc, Bool, true, false, ◌&&◌, ◌||◌, List, [], ◌∷◌, ◌++◌, length, map, filter, flat_map, refl, sym, ap, ◌∙◌, subst}
+use Rattle.std.specs.Prelude.{Option, Some, None, is_some, is_none, if◌then◌else◌, nat_lt, bytes_eq, ◌==◌}
+use Rattle.std.specs.List.{AllByRecursion}
+use Rattle.std.proofs.lemmas.List.Folds.{flat_map-map}
+use Rattle.sha2.specs.Sha256.{sha256}
+use Rattle.sha2.specs.Sha512.{sha512}
+use Rattle.ix_cid.specs.Cid.{parts_of, codec_of, digest_of, hash_function_of}
+use Rattle.ix_cid.specs.declared.hash_function.HashFunction.{HashFunction}
+use Rattle.ix_cid.specs.declared.hash_function.HashFunction.TheVariants.{Identity, Sha2_256, Sha2_512}
+use Rattle.ix_cbor.specs.Data.{Data}
+use Rattle.ix_cbor.specs.Reading.{data_at}
+use Rattle.ix_selector.specs.IsEntered.{is_entered}
+use Rattle.ix_selector.specs.Behind.{residual_at, same_residual}
+use Rattle.ix_store.specs.Store.{Blocks, block_of}
+use Rattle.ix_walk.specs.JobMeaning.{JobMeaning}
+use Rattle.ix_walk.specs.Arrivals.{Arrival}
+use Rattle.ix_walk.specs.Visits.{arrivals_of, is_over_limit}
+use Rattle.ix_walk.specs.Once.{roots_from, first_ones, is_sound_by, sound_value, once_arrivals}
+use Rattle.ix_walk.proofs.Firsts.{In, filter-in, in-first_ones}
+use Rattle.ix_walk.proofs.Links.{cid_of}
+use Rattle.ix_verdict.specs.declared.verdict.Verdict.TheVariants.{Codec, Damaged, Malformed, Sound}
+use Rattle.ix_check.specs.Verdict.{verdict_by, has_codec, verdict_with}
+use Rattle.ix_archive.specs.Verified.{all_judged}
+use Rattle.ix_archive.specs.Restoring.{pair_with}
+use Rattle.ix_archive.specs.Archive.{is_sound, first_sound, sections_of}
+use Rattle.ix_archive.specs.KnownPlaces.{knows}
+use Rattle.ix_archive.specs.Laws.{once}
+use Rattle.ix_archive.proofs.SoundValues.{value_by}
+use Rattle.ix_archive.proofs.GoingOnce.{cid_told, map-filter, first_sound-cids, sound-block, visits-cids, visits-judged}
+use Rattle.ix_archive.proofs.Visited.{IsSameInside, once-same}
+use Rattle.ix_receive.specs.Own.{archive_pairs, AreTheirOwn}
+use Rattle.ix_receive.proofs.Lookup.{pair_in, pair-found, pair-left_out}
+
+-- ---- a block that isn't sound is as good as none
+
+-- what is expanded of a CID with this block
+abbrev value_in : Option HashFunction → List ℕ → Option (List ℕ) → Option Data
+value_in f c o = if is_sound_by f (digest_of c) o then value_by c f o else None
+
+-- nothing, if its verdict isn't that it is sound
+no-value : (raw dag agrees : Bool) (o : Option Data) → is_sound (if raw || dag then (if agrees then (if dag && is_none o then Malformed else Sound) else Damaged) else Codec) ≡ false
+    → None ≡ (if agrees then (if dag then o else None) else None)
+no-value raw dag false o h = refl
+no-value raw false true o h = refl
+no-value true true true None h = refl
+no-value false true true None h = refl
+no-value true true true (Some d) h = absurd (cc h)
+no-value false true true (Some d) h = absurd (cc h)
+
+-- so it is the same without the block
+none-value : (f : Option HashFunction) (c : List ℕ) (o : Option (List ℕ)) → is_sound (if has_codec c then verdict_by f c o else Codec) ≡ false → value_in f c None ≡ value_in f c o
+none-value None c o h = refl
+none-value (Some Identity) c o h = refl
+none-value (Some Sha2_256) c None h = refl
+none-value (Some Sha2_512) c None h = refl
+none-value (Some Sha2_256) c (Some b) h = no-value (codec_of c == 0x55) (codec_of c == 0x71) (bytes_eq (sha256 b) (digest_of c)) (data_at b) h
+none-value (Some Sha2_512) c (Some b) h = no-value (codec_of c == 0x55) (codec_of c == 0x71) (bytes_eq (sha512 b) (digest_of c)) (data_at b) h
+
+-- ---- the sections are those of CIDs
+
+-- a store has a block under a CID
+abbrev has_block : Blocks → List ℕ → Bool
+has_block store c = is_some (block_of store c)
+
+-- the sound ones of these CIDs
+abbrev chosen : Blocks → List (List ℕ) → List (List ℕ)
+chosen store cs = filter (has_block store) (filter (knows store) cs)
+
+-- the CIDs that a job visits with link-visit-once, each at its first occurrence
+abbrev first_cids : Blocks → JobMeaning → List (List ℕ)
+first_cids store job = first_ones (map cid_of (once_arrivals store job (residual_at job.selector) same_residual))
+
+-- the sections of the job are those of the sound ones of them
+pub pairs-by : (store : Blocks) (number : ℕ) (job : JobMeaning) → archive_pairs store number (once job) ≡ flat_map (pair_in store) (chosen store (first_cids store job))
+pairs-by store number job =
+    let all = all_judged store number (once job) in
+    sym (flat_map-map (pair_in store) cid_told (sections_of store all))
+    ∙ ap (flat_map (pair_in store))
+    (map-filter (has_block store) (first_sound all)
+    ∙ ap (filter (has_block store))
+    (first_sound-cids store all (visits-judged store number 0 (arrivals_of store (once job)))
+    ∙ ap (λ l. filter (knows store) (first_ones l)) (visits-cids store number 0 (arrivals_of store (once job)))))
+
+-- ---- each section is sound
+
+-- a pair is sound by itself
+abbrev IsSoundPair : List ℕ × List ℕ → Type 0
+IsSoundPair p = is_sound (verdict_with p.0 (Some p.1)) ≡ true
+
+-- so are those of sound CIDs
+pairs-sound : (store : Blocks) (cs : List (List ℕ)) → AllByRecursion IsSoundPair (flat_map (pair_in store) (chosen store cs))
+pairs-sound store [] = tt
+pairs-sound store (c ∷ cs) = by (knows store c) refl (has_block store c) (block_of store c) refl (pairs-sound store cs) where
+  by : (k : Bool) → knows store c ≡ k → (b : Bool) (o : Option (List ℕ)) → block_of store c ≡ o → AllByRecursion IsSoundPair (flat_map (pair_in store) (chosen store cs))
+      → AllByRecursion IsSoundPair (flat_map (pair_in store) (filter (has_block store) (if k then c ∷ filter (knows store) cs else filter (knows store) cs)))
+  by false is b o at rest = rest
+  by true is b None at rest = subst (λ o. AllByRecursion IsSoundPair (flat_map (pair_in store) (if is_some o then c ∷ chosen store cs else chosen store cs))) (sym at) rest
+  by true is b (Some block) at rest =
+      subst (λ o. AllByRecursion IsSoundPair (flat_map (pair_in store) (if is_some o then c ∷ chosen store cs else chosen store cs))) (sym at)
+      (subst (λ o. AllByRecursion IsSoundPair (pair_with c o ++ flat_map (pair_in store) (chosen store cs))) (sym at)
+      (ap (λ o. is_sound (verdict_with c o)) (sym at) ∙ is, rest))
+
+-- ---- over the store of the sections
+
+module _ (store : Blocks) (number : ℕ) (job : JobMeaning) where
+  abbrev cids : List (List ℕ)
+  cids = first_cids store job
+
+  abbrev sections : Blocks
+  sections = archive_pairs store number (once job)
+
+  -- it has the blocks of the sections
+  block-there : (c : List ℕ) → block_of sections c ≡ block_of (flat_map (pair_in store) (chosen store cids)) c
+  block-there c = ap (λ ps. block_of ps c) (pairs-by store number job)
+
+  -- those of the visited sound CIDs
+  block-sound : (c : List ℕ) → In c cids → knows store c ≡ true → block_of sections c ≡ block_of store c
+  block-sound c i sound =
+      let there = sound-block c (block_of store c) sound in
+      block-there c ∙ pair-found store c there (chosen store cids) (filter-in (has_block store) c (filter (knows store) cids) (filter-in (knows store) c cids i sound) there)
+
+  -- and no others
+  block-unsound : (c : List ℕ) → knows store c ≡ false → block_of sections c ≡ None
+  block-unsound c out = block-there c ∙ ap (λ cs. block_of (flat_map (pair_in store) cs) c) (filter-flip cids) ∙ pair-left_out store (knows store) c out (filter (has_block store) cids) where
+    filter-flip : (cs : List (List ℕ)) → chosen store cs ≡ filter (knows store) (filter (has_block store) cs)
+    filter-flip [] = refl
+    filter-flip (d ∷ ds) = by (knows store d) refl (has_block store d) refl (filter-flip ds) where
+      by : (k : Bool) → knows store d ≡ k → (b : Bool) → has_block store d ≡ b → chosen store ds ≡ filter (knows store) (filter (has_block store) ds)
+          → filter (has_block store) (if k then d ∷ filter (knows store) ds else filter (knows store) ds) ≡ filter (knows store) (if b then d ∷ filter (has_block store) ds else filter (has_block store) ds)
+      by true k true b e = (λ i. if b i then d ∷ chosen store ds else chosen store ds) ∙ ap (λ l. d ∷ l) e ∙ sym (λ i. if k i then d ∷ filter (knows store) (filter (has_block store) ds) else filter (knows store) (filter (has_block store) ds))
+      by true k false b e = (λ i. if b i then d ∷ chosen store ds else chosen store ds) ∙ e
+      by false k true b e = e ∙ sym (λ i. if k i then d ∷ filter (knows store) (filter (has_block store) ds) else filter (knows store) (filter (has_block store) ds))
+      by false k false b e = e
+
+  -- a visited CID has the same inside
+  value-same : (c : List ℕ) → In c cids → sound_value sections c ≡ sound_value store c
+  value-same c i = by (knows store c) refl where
+    by : (b : Bool) → knows store c ≡ b → value_in (hash_function_of (parts_of c)) c (block_of sections c) ≡ value_in (hash_function_of (parts_of c)) c (block_of store c)
+    by true sound = ap (value_in (hash_function_of (parts_of c)) c) (block-sound c i sound)
+    by false out = ap (value_in (hash_function_of (parts_of c)) c) (block-unsound c out) ∙ none-value (hash_function_of (parts_of c)) c (block_of store c) out
+
+  -- and is sound in both or in neither
+  knows-same : (c : List ℕ) → In c cids → knows sections c ≡ knows store c
+  knows-same c i = by (knows store c) refl where
+    none : (b : Bool) → is_sound (verdict_with c None) ≡ b → b ≡ false
+    none true is = sym (sound-block c None is)
+    none false is = refl
+
+    by : (b : Bool) → knows store c ≡ b → knows sections c ≡ b
+    by true sound = ap (λ o. is_sound (verdict_with c o)) (block-sound c i sound) ∙ sound
+    by false out = ap (λ o. is_sound (verdict_with c o)) (block-unsound c out) ∙ none (is_sound (verdict_with c None)) refl
+
+  -- what holds of each CID holds of all visits
+  each-inside : (xs : List Arrival) → ((c : List ℕ) → In c (map cid_of xs) → sound_value sections c ≡ sound_value store c) → AllByRecursion (IsSameInside (is_entered job.selector) (sound_value store) (sound_value sections)) xs
+  each-inside [] h = tt
+  each-inside (x ∷ xs) h = (h x.cid (inl refl), each-inside xs (λ c i. h c (inr i)))
+
+  -- so the visits are the same
+  visits-same : once_arrivals sections job (residual_at job.selector) same_residual ≡ once_arrivals store job (residual_at job.selector) same_residual
+  visits-same =
+      let met = once_arrivals store job (residual_at job.selector) same_residual in
+      once-same (is_entered job.selector) (sound_value store) (sound_value sections) (residual_at job.selector) same_residual (suc job.limit) [] (roots_from 0 job.roots)
+      (each-inside met (λ c i. value-same c (in-first_ones c (map cid_of met) i)))
+
+  -- and the sections
+  chosen-same : (cs : List (List ℕ)) → ((c : List ℕ) → In c cs → In c cids) → flat_map (pair_in sections) (chosen sections cs) ≡ flat_map (pair_in store) (chosen store cs)
+  chosen-same [] h = refl
+  chosen-same (c ∷ cs) h =
+      ap (λ k. flat_map (pair_in sections) (filter (has_block sections) (if k then c ∷ filter (knows sections) cs else filter (knows sections) cs))) (knows-same c (h c (inl refl)))
+      ∙ by (knows store c) refl (chosen-same cs (λ e i. h e (inr i))) where
+        on : (o : Option (List ℕ)) → block_of sections c ≡ o → block_of store c ≡ o → flat_map (pair_in sections) (chosen sections cs) ≡ flat_map (pair_in store) (chosen store cs)
+            → flat_map (pair_in sections) (if is_some o then c ∷ chosen sections cs else chosen sections cs) ≡ flat_map (pair_in store) (if is_some o then c ∷ chosen store cs else chosen store cs)
+        on None here at rest = rest
+        on (Some b) here at rest = (λ i. pair_with c (here i) ++ rest i) ∙ sym (λ i. pair_with c (at i) ++ flat_map (pair_in store) (chosen store cs))
+
+        by : (k : Bool) → knows store c ≡ k → flat_map (pair_in sections) (chosen sections cs) ≡ flat_map (pair_in store) (chosen store cs)
+            → flat_map (pair_in sections) (filter (has_block sections) (if k then c ∷ filter (knows sections) cs else filter (knows sections) cs)) ≡ flat_map (pair_in store) (filter (has_block store) (if k then c ∷ filter (knows store) cs else filter (knows store) cs))
+        by false is rest = rest
+        by true is rest =
+            ap (λ o. flat_map (pair_in sections) (if is_some o then c ∷ chosen sections cs else chosen sections cs)) (block-sound c (h c (inl refl)) is)
+            ∙ on (block_of store c) (block-sound c (h c (inl refl)) is) refl rest
+
+  -- the sections are their own
+  pub own-again : is_over_limit store (once job) ≡ false → AreTheirOwn number (once job) sections
+  own-again within = record {
+    sound = subst (AllByRecursion IsSoundPair) (sym (pairs-by store number job)) (pairs-sound store cids);
+    within = ap (λ l. nat_lt job.limit (length l)) visits-same ∙ within;
+    same =
+        pairs-by sections number job
+        ∙ ap (λ l. flat_map (pair_in sections) (chosen sections (first_ones (map cid_of l)))) visits-same
+        ∙ chosen-same cids (λ c i. i)
+        ∙ sym (pairs-by store number job);
+  }
