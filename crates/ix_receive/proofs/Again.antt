@@ -17,7 +17,7 @@ use Rattle.ix_walk.specs.JobMeaning.{JobMeaning}
 use Rattle.ix_walk.specs.Arrivals.{Arrival}
 use Rattle.ix_walk.specs.Visits.{arrivals_of, is_over_limit}
 use Rattle.ix_walk.specs.Once.{roots_from, first_ones, is_sound_by, sound_value, once_arrivals}
-use Rattle.ix_walk.proofs.Firsts.{In, filter-in, in-first_ones}
+use Rattle.ix_walk.proofs.Firsts.{In, filter-in, in-filter, in-first_ones}
 use Rattle.ix_walk.proofs.Links.{cid_of}
 use Rattle.ix_verdict.specs.declared.verdict.Verdict.TheVariants.{Codec, Damaged, Malformed, Sound}
 use Rattle.ix_check.specs.Verdict.{verdict_by, has_codec, verdict_with}
@@ -30,12 +30,12 @@ use Rattle.ix_archive.proofs.SoundValues.{value_by}
 use Rattle.ix_archive.proofs.GoingOnce.{cid_told, map-filter, first_sound-cids, sound-block, visits-cids, visits-judged}
 use Rattle.ix_archive.proofs.Visited.{IsSameInside, once-same}
 use Rattle.ix_receive.specs.Own.{archive_pairs, AreTheirOwn}
-use Rattle.ix_receive.proofs.Lookup.{pair_in, pair-found, pair-left_out}
+use Rattle.ix_receive.proofs.Lookup.{pair_in, pair-found, pair-absent}
 
 -- ---- a block that isn't sound is as good as none
 
 -- what is expanded of a CID with this block
-abbrev value_in : Option HashFunction → List ℕ → Option (List ℕ) → Option Data
+abbrev pub value_in : Option HashFunction → List ℕ → Option (List ℕ) → Option Data
 value_in f c o = if is_sound_by f (digest_of c) o then value_by c f o else None
 
 -- nothing, if its verdict isn't that it is sound
@@ -60,11 +60,11 @@ none-value (Some Sha2_512) c (Some b) h = no-value (codec_of c == 0x55) (codec_o
 -- ---- the sections are those of CIDs
 
 -- a store has a block under a CID
-abbrev has_block : Blocks → List ℕ → Bool
+abbrev pub has_block : Blocks → List ℕ → Bool
 has_block store c = is_some (block_of store c)
 
 -- the sound ones of these CIDs
-abbrev chosen : Blocks → List (List ℕ) → List (List ℕ)
+abbrev pub chosen : Blocks → List (List ℕ) → List (List ℕ)
 chosen store cs = filter (has_block store) (filter (knows store) cs)
 
 -- the CIDs that a job visits with link-visit-once, each at its first occurrence
@@ -101,40 +101,47 @@ pairs-sound store (c ∷ cs) = by (knows store c) refl (has_block store c) (bloc
       (subst (λ o. AllByRecursion IsSoundPair (pair_with c o ++ flat_map (pair_in store) (chosen store cs))) (sym at)
       (ap (λ o. is_sound (verdict_with c o)) (sym at) ∙ is, rest))
 
--- ---- over the store of the sections
+-- ---- two stores with the same sound blocks
 
-module _ (store : Blocks) (number : ℕ) (job : JobMeaning) where
-  abbrev cids : List (List ℕ)
-  cids = first_cids store job
+-- with the same sound CIDs and the same blocks of them, the sections are the same
+pub chosen-same : (store other : Blocks) (cs : List (List ℕ)) → ((c : List ℕ) → In c cs → (knows other c ≡ knows store c) × (knows store c ≡ true → block_of other c ≡ block_of store c))
+    → flat_map (pair_in other) (chosen other cs) ≡ flat_map (pair_in store) (chosen store cs)
+chosen-same store other [] h = refl
+chosen-same store other (c ∷ cs) h =
+    ap (λ k. flat_map (pair_in other) (filter (has_block other) (if k then c ∷ filter (knows other) cs else filter (knows other) cs))) (h c (inl refl)).0
+    ∙ by (knows store c) (h c (inl refl)).1 (chosen-same store other cs (λ e i. h e (inr i))) where
+      on : (o : Option (List ℕ)) → block_of other c ≡ o → block_of store c ≡ o → flat_map (pair_in other) (chosen other cs) ≡ flat_map (pair_in store) (chosen store cs)
+          → flat_map (pair_in other) (if is_some o then c ∷ chosen other cs else chosen other cs) ≡ flat_map (pair_in store) (if is_some o then c ∷ chosen store cs else chosen store cs)
+      on None here at rest = rest
+      on (Some b) here at rest = (λ i. pair_with c (here i) ++ rest i) ∙ sym (λ i. pair_with c (at i) ++ flat_map (pair_in store) (chosen store cs))
 
+      by : (k : Bool) → (k ≡ true → block_of other c ≡ block_of store c) → flat_map (pair_in other) (chosen other cs) ≡ flat_map (pair_in store) (chosen store cs)
+          → flat_map (pair_in other) (filter (has_block other) (if k then c ∷ filter (knows other) cs else filter (knows other) cs)) ≡ flat_map (pair_in store) (filter (has_block store) (if k then c ∷ filter (knows store) cs else filter (knows store) cs))
+      by false same rest = rest
+      by true same rest =
+          ap (λ o. flat_map (pair_in other) (if is_some o then c ∷ chosen other cs else chosen other cs)) (same refl)
+          ∙ on (block_of store c) (same refl) refl rest
+
+-- ---- over the sections of some CIDs as a store
+
+module _ (store : Blocks) (cids : List (List ℕ)) where
   abbrev sections : Blocks
-  sections = archive_pairs store number (once job)
+  sections = flat_map (pair_in store) (chosen store cids)
 
-  -- it has the blocks of the sections
-  block-there : (c : List ℕ) → block_of sections c ≡ block_of (flat_map (pair_in store) (chosen store cids)) c
-  block-there c = ap (λ ps. block_of ps c) (pairs-by store number job)
-
-  -- those of the visited sound CIDs
+  -- it has the blocks of the sound ones
   block-sound : (c : List ℕ) → In c cids → knows store c ≡ true → block_of sections c ≡ block_of store c
   block-sound c i sound =
       let there = sound-block c (block_of store c) sound in
-      block-there c ∙ pair-found store c there (chosen store cids) (filter-in (has_block store) c (filter (knows store) cids) (filter-in (knows store) c cids i sound) there)
+      pair-found store c there (chosen store cids) (filter-in (has_block store) c (filter (knows store) cids) (filter-in (knows store) c cids i sound) there)
 
   -- and no others
   block-unsound : (c : List ℕ) → knows store c ≡ false → block_of sections c ≡ None
-  block-unsound c out = block-there c ∙ ap (λ cs. block_of (flat_map (pair_in store) cs) c) (filter-flip cids) ∙ pair-left_out store (knows store) c out (filter (has_block store) cids) where
-    filter-flip : (cs : List (List ℕ)) → chosen store cs ≡ filter (knows store) (filter (has_block store) cs)
-    filter-flip [] = refl
-    filter-flip (d ∷ ds) = by (knows store d) refl (has_block store d) refl (filter-flip ds) where
-      by : (k : Bool) → knows store d ≡ k → (b : Bool) → has_block store d ≡ b → chosen store ds ≡ filter (knows store) (filter (has_block store) ds)
-          → filter (has_block store) (if k then d ∷ filter (knows store) ds else filter (knows store) ds) ≡ filter (knows store) (if b then d ∷ filter (has_block store) ds else filter (has_block store) ds)
-      by true k true b e = (λ i. if b i then d ∷ chosen store ds else chosen store ds) ∙ ap (λ l. d ∷ l) e ∙ sym (λ i. if k i then d ∷ filter (knows store) (filter (has_block store) ds) else filter (knows store) (filter (has_block store) ds))
-      by true k false b e = (λ i. if b i then d ∷ chosen store ds else chosen store ds) ∙ e
-      by false k true b e = e ∙ sym (λ i. if k i then d ∷ filter (knows store) (filter (has_block store) ds) else filter (knows store) (filter (has_block store) ds))
-      by false k false b e = e
+  block-unsound c out = pair-absent store c (chosen store cids) (λ i. absent (in-filter (knows store) c cids (in-filter (has_block store) c (filter (knows store) cids) i).0).1) where
+    absent : knows store c ≡ true → ⊥
+    absent is = let bad : true ≡ false = sym is ∙ out in cc bad
 
-  -- a visited CID has the same inside
-  value-same : (c : List ℕ) → In c cids → sound_value sections c ≡ sound_value store c
+  -- each CID has the same inside
+  pub value-same : (c : List ℕ) → In c cids → sound_value sections c ≡ sound_value store c
   value-same c i = by (knows store c) refl where
     by : (b : Bool) → knows store c ≡ b → value_in (hash_function_of (parts_of c)) c (block_of sections c) ≡ value_in (hash_function_of (parts_of c)) c (block_of store c)
     by true sound = ap (value_in (hash_function_of (parts_of c)) c) (block-sound c i sound)
@@ -151,44 +158,44 @@ module _ (store : Blocks) (number : ℕ) (job : JobMeaning) where
     by true sound = ap (λ o. is_sound (verdict_with c o)) (block-sound c i sound) ∙ sound
     by false out = ap (λ o. is_sound (verdict_with c o)) (block-unsound c out) ∙ none (is_sound (verdict_with c None)) refl
 
-  -- what holds of each CID holds of all visits
-  each-inside : (xs : List Arrival) → ((c : List ℕ) → In c (map cid_of xs) → sound_value sections c ≡ sound_value store c) → AllByRecursion (IsSameInside (is_entered job.selector) (sound_value store) (sound_value sections)) xs
-  each-inside [] h = tt
-  each-inside (x ∷ xs) h = (h x.cid (inl refl), each-inside xs (λ c i. h c (inr i)))
+  -- so they have the same sections
+  pub sections-same : flat_map (pair_in sections) (chosen sections cids) ≡ sections
+  sections-same = chosen-same store sections cids (λ c i. (knows-same c i, block-sound c i))
 
-  -- so the visits are the same
-  visits-same : once_arrivals sections job (residual_at job.selector) same_residual ≡ once_arrivals store job (residual_at job.selector) same_residual
+  -- each of which is sound
+  pub sections-sound : AllByRecursion IsSoundPair sections
+  sections-sound = pairs-sound store cids
+
+-- what holds of each CID holds of all visits
+pub each-inside : (store other : Blocks) (job : JobMeaning) (xs : List Arrival) → ((c : List ℕ) → In c (map cid_of xs) → sound_value other c ≡ sound_value store c)
+    → AllByRecursion (IsSameInside (is_entered job.selector) (sound_value store) (sound_value other)) xs
+each-inside store other job [] h = tt
+each-inside store other job (x ∷ xs) h = (h x.cid (inl refl), each-inside store other job xs (λ c i. h c (inr i)))
+
+module _ (store : Blocks) (number : ℕ) (job : JobMeaning) where
+  abbrev cids : List (List ℕ)
+  cids = first_cids store job
+
+  abbrev own : Blocks
+  own = archive_pairs store number (once job)
+
+  -- over its sections a job has the same visits
+  visits-same : once_arrivals own job (residual_at job.selector) same_residual ≡ once_arrivals store job (residual_at job.selector) same_residual
   visits-same =
       let met = once_arrivals store job (residual_at job.selector) same_residual in
-      once-same (is_entered job.selector) (sound_value store) (sound_value sections) (residual_at job.selector) same_residual (suc job.limit) [] (roots_from 0 job.roots)
-      (each-inside met (λ c i. value-same c (in-first_ones c (map cid_of met) i)))
+      let same : (c : List ℕ) → In c cids → sound_value own c ≡ sound_value store c = λ c i. ap (λ s. sound_value s c) (pairs-by store number job) ∙ value-same store cids c i in
+      once-same (is_entered job.selector) (sound_value store) (sound_value own) (residual_at job.selector) same_residual (suc job.limit) [] (roots_from 0 job.roots)
+      (each-inside store own job met (λ c i. same c (in-first_ones c (map cid_of met) i)))
 
-  -- and the sections
-  chosen-same : (cs : List (List ℕ)) → ((c : List ℕ) → In c cs → In c cids) → flat_map (pair_in sections) (chosen sections cs) ≡ flat_map (pair_in store) (chosen store cs)
-  chosen-same [] h = refl
-  chosen-same (c ∷ cs) h =
-      ap (λ k. flat_map (pair_in sections) (filter (has_block sections) (if k then c ∷ filter (knows sections) cs else filter (knows sections) cs))) (knows-same c (h c (inl refl)))
-      ∙ by (knows store c) refl (chosen-same cs (λ e i. h e (inr i))) where
-        on : (o : Option (List ℕ)) → block_of sections c ≡ o → block_of store c ≡ o → flat_map (pair_in sections) (chosen sections cs) ≡ flat_map (pair_in store) (chosen store cs)
-            → flat_map (pair_in sections) (if is_some o then c ∷ chosen sections cs else chosen sections cs) ≡ flat_map (pair_in store) (if is_some o then c ∷ chosen store cs else chosen store cs)
-        on None here at rest = rest
-        on (Some b) here at rest = (λ i. pair_with c (here i) ++ rest i) ∙ sym (λ i. pair_with c (at i) ++ flat_map (pair_in store) (chosen store cs))
-
-        by : (k : Bool) → knows store c ≡ k → flat_map (pair_in sections) (chosen sections cs) ≡ flat_map (pair_in store) (chosen store cs)
-            → flat_map (pair_in sections) (filter (has_block sections) (if k then c ∷ filter (knows sections) cs else filter (knows sections) cs)) ≡ flat_map (pair_in store) (filter (has_block store) (if k then c ∷ filter (knows store) cs else filter (knows store) cs))
-        by false is rest = rest
-        by true is rest =
-            ap (λ o. flat_map (pair_in sections) (if is_some o then c ∷ chosen sections cs else chosen sections cs)) (block-sound c (h c (inl refl)) is)
-            ∙ on (block_of store c) (block-sound c (h c (inl refl)) is) refl rest
-
-  -- the sections are their own
-  pub own-again : is_over_limit store (once job) ≡ false → AreTheirOwn number (once job) sections
+  -- so its sections are their own
+  pub own-again : is_over_limit store (once job) ≡ false → AreTheirOwn number (once job) own
   own-again within = record {
-    sound = subst (AllByRecursion IsSoundPair) (sym (pairs-by store number job)) (pairs-sound store cids);
+    sound = subst (AllByRecursion IsSoundPair) (sym (pairs-by store number job)) (sections-sound store cids);
     within = ap (λ l. nat_lt job.limit (length l)) visits-same ∙ within;
     same =
-        pairs-by sections number job
-        ∙ ap (λ l. flat_map (pair_in sections) (chosen sections (first_ones (map cid_of l)))) visits-same
-        ∙ chosen-same cids (λ c i. i)
+        pairs-by own number job
+        ∙ ap (λ l. flat_map (pair_in own) (chosen own (first_ones (map cid_of l)))) visits-same
+        ∙ ap (λ s. flat_map (pair_in s) (chosen s cids)) (pairs-by store number job)
+        ∙ sections-same store cids
         ∙ sym (pairs-by store number job);
   }

@@ -1,2 +1,5 @@
+mod Firsts
 mod Lookup
 mod Again
+mod Visits
+mod Received

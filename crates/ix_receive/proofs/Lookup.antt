@@ -1,5 +1,5 @@
 -- The block of a CID among the pairs of some CIDs.
-use Rattle.std.proofs.Common.{◌≡◌, inl, inr, ℕ, Bool, true, false, List, [], ◌∷◌, ◌++◌, filter, flat_map, sym, refl, ap, ◌∙◌}
+use Rattle.std.proofs.Common.{◌≡◌, inl, inr, ℕ, Bool, true, false, List, [], ◌∷◌, ◌++◌, flat_map, sym, refl, ap, ◌∙◌}
 use Rattle.std.specs.Prelude.{Option, Some, None, is_some, if◌then◌else◌, bytes_eq}
 use Rattle.std.proofs.lemmas.Slice.Eq.{bytes_eq-Decides}
 use Rattle.ix_store.specs.Store.{Blocks, block_of}
@@ -31,14 +31,10 @@ pair-found store c there (d ∷ ds) h = by (pair-found store c there ds) (bytes_
   by later false isnt (inl e) = absurd (let is = (bytes_eq-Decides d c).1 e in let bad : true ≡ false = sym is ∙ isnt in cc bad)
   by later false isnt (inr i) = pair-other c d (block_of store d) (flat_map (pair_in store) ds) isnt ∙ later i
 
--- one that a filter leaves out has none
-pub pair-left_out : (store : Blocks) (test : List ℕ → Bool) (c : List ℕ) → test c ≡ false → (cs : List (List ℕ)) → block_of (flat_map (pair_in store) (filter test cs)) c ≡ None
-pair-left_out store test c out [] = refl
-pair-left_out store test c out (d ∷ ds) = by (pair-left_out store test c out ds) (test d) refl where
-  apart : (v : Bool) → bytes_eq d c ≡ v → test d ≡ true → bytes_eq d c ≡ false
-  apart true same is = absurd (let bad : true ≡ false = sym is ∙ ap test ((bytes_eq-Decides d c).0 same) ∙ out in cc bad)
-  apart false same is = same
-
-  by : block_of (flat_map (pair_in store) (filter test ds)) c ≡ None → (v : Bool) → test d ≡ v → block_of (flat_map (pair_in store) (if v then d ∷ filter test ds else filter test ds)) c ≡ None
-  by later true is = pair-other c d (block_of store d) (flat_map (pair_in store) (filter test ds)) (apart (bytes_eq d c) refl is) ∙ later
-  by later false is = later
+-- one that isn't among them has none
+pub pair-absent : (store : Blocks) (c : List ℕ) (cs : List (List ℕ)) → (In c cs → ⊥) → block_of (flat_map (pair_in store) cs) c ≡ None
+pair-absent store c [] new = refl
+pair-absent store c (d ∷ ds) new = by (bytes_eq d c) refl (pair-absent store c ds (λ i. new (inr i))) where
+  by : (v : Bool) → bytes_eq d c ≡ v → block_of (flat_map (pair_in store) ds) c ≡ None → block_of (flat_map (pair_in store) (d ∷ ds)) c ≡ None
+  by true is later = absurd (new (inl ((bytes_eq-Decides d c).0 is)))
+  by false isnt later = pair-other c d (block_of store d) (flat_map (pair_in store) ds) isnt ∙ later

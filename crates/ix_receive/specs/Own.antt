@@ -28,7 +28,8 @@ pub record AreTheirOwn (number : ℕ) (job : JobMeaning) (sections : Blocks) : T
 
 -- an archive is its own: it has the job's roots, and sections that are their own
 abbrev pub IsItsOwn : ℕ → JobMeaning → List ℕ → Type 0
-IsItsOwn number job archive = (sections : Blocks) × (archive ≡ archive_bytes job.roots sections) × AreTheirOwn number job sections
+IsItsOwn number job archive =
+    (sections : Blocks) × (archive ≡ archive_bytes job.roots sections) × AreTheirOwn number job sections
 
 -- the archive of a job within its limit is its own, traversed with link-visit-once
 abbrev pub ArchiveIsItsOwn : Type 0
