@@ -93,7 +93,7 @@ from_first store number limit expanded links all first =
     ∙ ap (nat_lt limit) (length-map all forget))
 
 -- where the roots wait, all that the job arrives at is left
-arrives_all : (store : Blocks) (number : ℕ) (job : JobMeaning) (b : Bool) → IsFollowed job.selector → job.once ≡ b
+pub arrives_all : (store : Blocks) (number : ℕ) (job : JobMeaning) (b : Bool) → IsFollowed job.selector → job.once ≡ b
     → walk_left store number job.limit 0 (expanded_at_start b) (map (waiting (residual_of job.selector) 0) job.roots) false ≡ whole_walk store number job
 arrives_all store number job true is once =
     let all = once_arrivals store job (residual_at job.selector) same_residual in

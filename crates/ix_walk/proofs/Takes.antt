@@ -22,7 +22,7 @@ lt_suc : (m l : ℕ) → nat_lt m l ≡ nat_lt (suc m) (suc l)
 lt_suc m l = grind (arith, nat_tests)
 
 -- a link waits, and no visit is left
-limit_with : (store : Blocks) (number limit given : ℕ) (had : Option Going) (old : List PendingLink) (f : PendingLink) (rest : List PendingLink) → given ≡ limit → old ≡ f ∷ rest
+pub limit_with : (store : Blocks) (number limit given : ℕ) (had : Option Going) (old : List PendingLink) (f : PendingLink) (rest : List PendingLink) → given ≡ limit → old ≡ f ∷ rest
     → GivesNext (walk_left store number limit given had old false) (Some (Err Limit)) nothing_left
 limit_with store number limit given had old f rest is e =
     let k : limit - given ≡ 0 = omega arith in (
@@ -33,7 +33,7 @@ limit_with store number limit given had old f rest is e =
     )
 
 -- nothing waits
-end_with : (store : Blocks) (number limit given : ℕ) (had : Option Going) (old : List PendingLink) → old ≡ [] → GivesNext (walk_left store number limit given had old false) None nothing_left
+pub end_with : (store : Blocks) (number limit given : ℕ) (had : Option Going) (old : List PendingLink) → old ≡ [] → GivesNext (walk_left store number limit given had old false) None nothing_left
 end_with store number limit given had old e = (
   ap (λ (z : List PendingLink). visits_from store number given (take (limit - given) (first_arrivals store had (suc (limit - given)) z))) e ∙ ap (visits_from store number given) (nothing (limit - given)),
   ap (λ (z : List PendingLink). nat_lt (limit - given) (length (first_arrivals store had (suc (limit - given)) z))) e ∙ le-ltb (limit - given) 0 (omega arith),
@@ -44,7 +44,7 @@ end_with store number limit given had old e = (
   nothing (suc n) = refl
 
 -- a visit within the limit is the first of those that are left
-visit_with : (store : Blocks) (number limit given : ℕ) (had has : Option Going) (old links new : List PendingLink) (f : PendingLink) (v : Visit) → given < limit → v ≡ visit_of store number given (arrival f.depth f.cid) → old ≡ f ∷ links
+pub visit_with : (store : Blocks) (number limit given : ℕ) (had has : Option Going) (old links new : List PendingLink) (f : PendingLink) (v : Visit) → given < limit → v ≡ visit_of store number given (arrival f.depth f.cid) → old ≡ f ∷ links
     → has ≡ expanded_after (data_inside store had f) f had → new ≡ links_inside f.residual (f.depth + 1) (data_inside store had f) ++ links
     → GivesNext (walk_left store number limit given had old false) (Some (Ok v)) (walk_left store number limit (given + 1) has new false)
 visit_with store number limit given had has old links new f v lt is e expanded below =
@@ -72,7 +72,7 @@ visited selector store number seq had has mid new rest f v arrived =
     ap (λ (z : List PendingLink). z ++ others) arrived.links ∙ append_assoc (links_inside f.residual (f.depth + 1) (data_inside store had f)) (all_links mid) others
 
 -- no link below a visit lies deeper than there are visits given then
-deeper : (given : ℕ) (links : List PendingLink) → NoDeeper given links → NoDeeper (given + 1) links
+pub deeper : (given : ℕ) (links : List PendingLink) → NoDeeper given links → NoDeeper (given + 1) links
 deeper given [] n = tt
 deeper given (f ∷ links) n = (let h = n.0 in omega (arith, h), deeper given links n.1)
 

@@ -51,13 +51,13 @@ fn end_of<'a>(at: &'a [u8], front: Front<'_>, behind: &'a [u8]) -> &'a [u8]
 }
 
 // Returns what an item with this front is for the walk, which enters it, if it may contain a link.
-fn entered_by<'a>(
+fn entered_by<'a, 's>(
     at: &Cursor<'a>,
     front: Front<'a>,
     behind: &'a [u8],
-    residual: Residual<'a>,
+    residual: Residual<'s>,
     depth: u32,
-) -> Option<Child<'a>>
+) -> Option<Child<'a, 's>>
     requires cid { HasCid front }
     requires link { LinkBefore at.now front behind.now }
     ensures { result ≡ entered_by residual.entry front.entry depth }
@@ -95,11 +95,11 @@ fn may_hold_links(front: Front<'_>) -> bool
 }
 
 // Returns what the item at this position is, which is entered; the walk is then after its front.
-pub(crate) fn node_at<'a>(
-    residual: Residual<'a>,
+pub(crate) fn node_at<'a, 's>(
+    residual: Residual<'s>,
     at: &mut Cursor<'a>,
     depth: u32,
-) -> Option<Child<'a>>
+) -> Option<Child<'a, 's>>
     requires { IsItem at.old }
     ensures { IsNode residual.entry at.old depth result at.new }
 {
@@ -113,14 +113,14 @@ pub(crate) fn node_at<'a>(
 // if the selector enters it. The walk is then after its front, or after all of it if it isn't
 // entered. It isn't inlined, so that children without links don't pay for its locals.
 #[inline(never)]
-fn step_into<'a>(
+fn step_into<'a, 's>(
     alloc: Global,
-    residual: &mut Steps<'a>,
+    residual: &mut Steps<'s>,
     step: &Step,
     at: &mut Cursor<'a>,
     read: (Front<'a>, &'a [u8]),
     depth: u32,
-) -> Result<Option<Child<'a>>, AllocError>
+) -> Result<Option<Child<'a, 's>>, AllocError>
     requires { HasFront at.old read.0 read.1.now }
     ensures { IfOk result (λ o. IsChild residual.old (step_of step.now) at.old depth o at.new
         × (residual.new ≡ residual.old)) }
@@ -142,13 +142,13 @@ fn step_into<'a>(
 
 // Returns what the child at this position is, if the selector enters it and it may contain a link.
 // The walk is then after its front, or after all of it if it isn't entered.
-fn child_at<'a>(
+fn child_at<'a, 's>(
     alloc: Global,
-    residual: &mut Steps<'a>,
+    residual: &mut Steps<'s>,
     step: &Step,
     at: &mut Cursor<'a>,
     depth: u32,
-) -> Result<Option<Child<'a>>, AllocError>
+) -> Result<Option<Child<'a, 's>>, AllocError>
     requires { IsItem at.old }
     ensures { IfOk result (λ o. IsChild residual.old (step_of step.now) at.old depth o at.new
         × (residual.new ≡ residual.old)) }
@@ -163,14 +163,14 @@ fn child_at<'a>(
 
 // Returns the next element of a list that is entered and may contain a link; how many are then
 // left, and the walk's position.
-fn next_member<'a>(
+fn next_member<'a, 's>(
     alloc: Global,
-    residual: &mut Steps<'a>,
+    residual: &mut Steps<'s>,
     depth: u32,
     count: u64,
     left: &mut u64,
     at: &mut Cursor<'a>,
-) -> Result<Option<Child<'a>>, AllocError>
+) -> Result<Option<Child<'a, 's>>, AllocError>
     requires { IsPart (children.Members count left.old) at.old }
     ensures { IfOk result (λ o. IsNextMember residual.old depth count left.old at.old o left.new at.new
         × (residual.new ≡ residual.old)) }
@@ -200,13 +200,13 @@ fn key_at(at: &[u8]) -> (&[u8], &[u8])
 
 // Returns the next value of a map that is entered and may contain a link; how many are then left,
 // and the walk's position.
-fn next_value<'a>(
+fn next_value<'a, 's>(
     alloc: Global,
-    residual: &mut Steps<'a>,
+    residual: &mut Steps<'s>,
     depth: u32,
     left: &mut u64,
     at: &mut Cursor<'a>,
-) -> Result<Option<Child<'a>>, AllocError>
+) -> Result<Option<Child<'a, 's>>, AllocError>
     requires { IsPart (children.Values left.old) at.old }
     ensures { IfOk result (λ o. IsNextValue residual.old depth left.old at.old o left.new at.new
         × (residual.new ≡ residual.old)) }
@@ -224,11 +224,11 @@ fn next_value<'a>(
 }
 
 // Returns the next child of a list or map that is entered and may contain a link.
-fn next_child<'a>(
+fn next_child<'a, 's>(
     alloc: Global,
-    opened: &mut OpenNode<'a>,
+    opened: &mut OpenNode<'a, 's>,
     at: &mut Cursor<'a>,
-) -> Result<Option<Child<'a>>, AllocError>
+) -> Result<Option<Child<'a, 's>>, AllocError>
     requires { IsPart opened.old.children at.old }
     ensures next { IfOk result (λ o. IsNextChild opened.old at.old o opened.new at.new) }
     ensures same { IfOk result (λ _. opened.new ≡ with_children opened.old opened.new.children) }
@@ -249,7 +249,7 @@ fn next_child<'a>(
 
 // Pops what has no child left, so that a chain of links each of which is last in its block takes no
 // more of the stack the longer it is.
-fn leave_spent(frontier: &mut Frontier<'_>)
+fn leave_spent(frontier: &mut Frontier<'_, '_>)
     requires { frontier.old.next ≡ None }
     ensures next { frontier.new.next ≡ None }
     ensures left { Leaves frontier.old frontier.new }
@@ -263,12 +263,12 @@ fn leave_spent(frontier: &mut Frontier<'_>)
     }
 }
 
-// Returns the next link, in the order of the traversal: the pending one, or the first in the lists
-// and maps that are open.
-pub(crate) fn next_found<'a>(
+/// Returns the next link, in the order of the traversal: the pending one, or the first in the lists
+/// and maps that are open.
+pub fn next_found<'a, 's>(
     alloc: Global,
-    frontier: &mut Frontier<'a>,
-) -> Result<Option<PendingLink<'a>>, AllocError>
+    frontier: &mut Frontier<'a, 's>,
+) -> Result<Option<PendingLink<'a, 's>>, AllocError>
     requires { IsStanding frontier.old }
     ensures next { IfOk result (λ _. frontier.new.next ≡ None) }
     ensures found { IfOk result (λ o. Finds frontier.old o frontier.new) }

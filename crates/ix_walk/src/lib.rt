@@ -15,6 +15,10 @@
 //!     }
 //! }
 //! ```
+//!
+//! The steps of a walk are public too, for traversals that keep something else between visits:
+//! `read_block` and `bytes_to_expand` say what is expanded at a visit, and `enter_block` and
+//! `next_found` go over the links of a block.
 #![tactic(auto)]
 
 mod descent;
@@ -28,7 +32,11 @@ mod visited_set;
 mod visiting;
 mod walk;
 
+pub use descent::next_found;
 pub use fault::{JobFault, WalkStop};
 pub use job::{GREATEST_LIMIT, Job, LONGEST_NAME, MOST_ROOTS, is_name};
+pub use subtree::{Frontier, PendingLink};
 pub use visit::Visit;
+pub use visited_set::VisitedSet;
+pub use visiting::{bytes_to_expand, enter_block, read_block};
 pub use walk::Walk;

@@ -9,7 +9,7 @@ use ix_cid::Cid;
 pub(crate) struct WalkState<'a> {
     // What it has expanded, if it expands a CID once.
     pub expanded: Option<VisitedSet<'a>>,
-    pub frontier: Frontier<'a>,
+    pub frontier: Frontier<'a, 'a>,
     // The roots that the walk has not visited.
     pub roots: &'a [Cid],
 }

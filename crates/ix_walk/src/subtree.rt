@@ -1,4 +1,6 @@
 //! What a walk keeps of the blocks that it is in: positions in their bytes, and no node.
+//!
+//! The first lifetime is that of the bytes, the second that of the selector.
 
 ghost use Rattle.std.specs.Prelude.{◌≡◌, None, []};
 ghost use Rattle.ix_walk.specs.Walking.{is_spent};
@@ -19,8 +21,8 @@ pub(crate) enum Children {
 
 // A list or map that is being traversed.
 #[derive(Drop)]
-pub(crate) struct OpenNode<'a> {
-    pub residual: Steps<'a>,
+pub(crate) struct OpenNode<'a, 's> {
+    pub residual: Steps<'s>,
     pub children: Children,
     pub depth: u32,
     // Where the walk continues after it, if that isn't after its last child: in the block that the
@@ -28,28 +30,30 @@ pub(crate) struct OpenNode<'a> {
     pub resume_at: Option<Cursor<'a>>,
 }
 
-// A link to visit.
+/// A link to visit.
 #[derive(Drop)]
-pub(crate) struct PendingLink<'a> {
-    pub residual: Residual<'a>,
+pub struct PendingLink<'a, 's> {
+    /// The residual of the selector there.
+    pub residual: Residual<'s>,
     pub cid: CidRef<'a>,
+    /// The number of links followed from the root, with this one.
     pub depth: u32,
 }
 
 // What the selector enters and may contain a link.
 #[derive(Drop)]
-pub(crate) enum Child<'a> {
-    Link(PendingLink<'a>),
-    Open(OpenNode<'a>),
+pub(crate) enum Child<'a, 's> {
+    Link(PendingLink<'a, 's>),
+    Open(OpenNode<'a, 's>),
 }
 
-// The position of a walk in the bytes of a block, and what is left to do: to visit a link, and then
-// to continue with the lists and maps that are open, the last one first.
+/// The position of a walk in the bytes of a block, and what is left to do: to visit a link, and
+/// then to continue with the lists and maps that are open, the last one first.
 #[derive(Drop)]
-pub(crate) struct Frontier<'a> {
-    pub at: Cursor<'a>,
-    pub next: Option<PendingLink<'a>>,
-    pub stack: Vec<OpenNode<'a>>,
+pub struct Frontier<'a, 's> {
+    pub(crate) at: Cursor<'a>,
+    pub(crate) next: Option<PendingLink<'a, 's>>,
+    pub(crate) stack: Vec<OpenNode<'a, 's>>,
 }
 
 impl Children {
@@ -63,9 +67,9 @@ impl Children {
     }
 }
 
-impl<'a> Frontier<'a> {
-    // A frontier with nothing left to do.
-    pub(crate) fn new(alloc: Global) -> Frontier<'a>
+impl<'a, 's> Frontier<'a, 's> {
+    /// A frontier with nothing left to do.
+    pub fn new(alloc: Global) -> Frontier<'a, 's>
         ensures next { result.next ≡ None }
         ensures stack { result.stack.items ≡ [] }
     {

@@ -10,9 +10,9 @@ use ix_store::PlaceSet;
 use std::alloc::{AllocError, Global};
 use std::collections::{BTreeMap, BTreeSet};
 
-// The CIDs that a walk has expanded, each with the residual of the selector there.
+/// The CIDs that a walk has expanded, each with the residual of the selector there.
 #[derive(Drop)]
-pub(crate) struct VisitedSet<'a> {
+pub struct VisitedSet<'a> {
     // The residual at a root. A selector of everything has it at every block.
     root_residual: Residual<'a>,
     // The positions of those with a block in the store, expanded with that residual.
@@ -25,8 +25,8 @@ pub(crate) struct VisitedSet<'a> {
 }
 
 impl<'a> VisitedSet<'a> {
-    // Creates an empty set, for a walk by this selector.
-    pub(crate) fn new(alloc: Global, selector: &'a Selector) -> Result<VisitedSet<'a>, AllocError>
+    /// Creates an empty set, for a walk by this selector.
+    pub fn new(alloc: Global, selector: &'a Selector) -> Result<VisitedSet<'a>, AllocError>
         ensures { IfOk result (λ g. HasExpandedNothing g) }
     {
         Ok(VisitedSet {

@@ -48,9 +48,9 @@ fn bytes_of<'a>(
     }
 }
 
-// Returns the bytes that a walk expands, if there are any, and whether they should be DAG-CBOR and
-// are not.
-fn read_block<'a>(
+/// Returns the bytes that a walk expands, if there are any, and whether they should be DAG-CBOR and
+/// are not.
+pub fn read_block<'a>(
     store: &'a Store,
     cid: &CidRef<'a>,
     block: Option<usize>,
@@ -85,15 +85,15 @@ fn is_sound(store: &Store, visit: &Visit) -> bool
     }
 }
 
-// Returns the bytes that a walk expands at a visit, of those that its CID names. A walk that
-// records what it expanded returns them only if they match the CID, and only once for each CID and
-// residual, which it then records; any other returns them always.
-fn bytes_to_expand<'a>(
+/// Returns the bytes that a walk expands at a visit, of those that its CID names. A walk that
+/// records what it expanded returns them only if they match the CID, and only once for each CID and
+/// residual, which it then records; any other returns them always.
+pub fn bytes_to_expand<'a, 's>(
     alloc: Global,
     store: &'a Store,
-    expanded: &mut Option<VisitedSet<'a>>,
+    expanded: &mut Option<VisitedSet<'s>>,
     visit: &Visit,
-    residual: &Residual<'a>,
+    residual: &Residual<'s>,
     bytes: Option<Cursor<'a>>,
 ) -> Result<Option<Cursor<'a>>, AllocError>
     requires block { IsPositionOf store.now visit.now.cid visit.now.block }
@@ -115,11 +115,11 @@ fn bytes_to_expand<'a>(
     if is_first { Ok(Some(bytes)) } else { Ok(None) }
 }
 
-// Enters a block, if there is one: up to its first child, or to the link that it is.
-fn enter_block<'a>(
+/// Enters a block, if there is one: up to its first child, or to the link that it is.
+pub fn enter_block<'a, 's>(
     alloc: Global,
-    frontier: &mut Frontier<'a>,
-    residual: Residual<'a>,
+    frontier: &mut Frontier<'a, 's>,
+    residual: Residual<'s>,
     block: Option<Cursor<'a>>,
     depth: u32,
 ) -> Result<(), AllocError>
@@ -148,7 +148,7 @@ fn visit_link<'a>(
     store: &'a Store,
     number: u32,
     seq: u32,
-    found: PendingLink<'a>,
+    found: PendingLink<'a, 'a>,
     state: &mut WalkState<'a>,
 ) -> Result<Visit, AllocError>
     requires depth { found.depth + 1 < 2 ^ 32 }
@@ -182,9 +182,9 @@ fn visit_link<'a>(
 fn next_link<'a>(
     alloc: Global,
     job: &'a Job,
-    frontier: &mut Frontier<'a>,
+    frontier: &mut Frontier<'a, 'a>,
     roots: &mut &'a [Cid],
-) -> Result<Option<PendingLink<'a>>, AllocError>
+) -> Result<Option<PendingLink<'a, 'a>>, AllocError>
     requires { IsStanding frontier.old }
     ensures next { IfOk result (λ _. frontier.new.next ≡ None) }
     ensures found { IfOk result (λ o.
