@@ -1,0 +1,2 @@
+mod Expanding
+mod Waits

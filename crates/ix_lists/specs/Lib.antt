@@ -1,0 +1,3 @@
+pub mod Expansion
+pub mod Waiting
+pub mod ListWalk
