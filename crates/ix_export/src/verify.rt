@@ -32,9 +32,9 @@ const ABOUT: &str = "Check CARv1 files: each section, and every link from the ro
 const HELP: &str =
     "Each FILE is a CARv1 file; - is standard input. Each section is checked by its\n\
 own bytes: whether the hash of its block is the digest of its CID, whatever its\n\
-codec, and whether DAG-CBOR decodes. Then all links are followed from the roots of the header, in\n\
-one walk: a root that is named twice counts once, and a block is expanded once.\n\
-With --blocks-only nothing is followed.\n\
+codec, and whether DAG-CBOR decodes. Then all links are followed from the roots\n\
+of the header, in one walk: a root that is named twice counts once, and a block\n\
+is expanded once. With --blocks-only nothing is followed.\n\
 \n\
 A CID that a FILE lacks is looked up in the files of --with, in their order. Of\n\
 these only the blocks that links lead to are checked.\n\
