@@ -33,6 +33,10 @@ _ix_export() {
       mapfile -t COMPREPLY < <(compgen -W '1 2 4 8 16 32 64' -- "$word")
       return
       ;;
+    --allow-missing)
+      mapfile -t COMPREPLY < <(compgen -W 'all raw dag-cbor raw,dag-cbor' -- "$word")
+      return
+      ;;
     --scope)
       mapfile -t COMPREPLY < <(compgen -W 'all block entity' -- "$word")
       return
@@ -49,7 +53,7 @@ _ix_export() {
     block) it='--blocks --out -o --max-input --carv2 --prefer-sound --sync --no-sync --progress --quiet -q --help -h' ;;
     show) it='--blocks --pretty --max-input --carv2 --prefer-sound --progress --quiet -q --help -h' ;;
     inspect) it='--list --cids --max-input --carv2 --json --help -h' ;;
-    verify) it='--with --prefer-sound --blocks-only --all --verifiers --max-input --carv2 --json --help -h' ;;
+    verify) it='--with --prefer-sound --allow-missing --blocks-only --all --verifiers --max-input --carv2 --json --progress --quiet -q --help -h' ;;
     *) it='get jobs job check-jobs selector root block show inspect verify --help -h --version -V' ;;
   esac
   case $command in

@@ -61,7 +61,7 @@ complete -c ix_export -n '__fish_seen_subcommand_from jobs' -l complete -d 'Rena
 complete -c ix_export -n '__fish_seen_subcommand_from jobs' -l partial -d 'Rename archives of done and of limit'
 complete -c ix_export -n '__fish_seen_subcommand_from jobs' -l json -d 'Report as JSON, one object per line'
 complete -c ix_export -n '__fish_seen_subcommand_from jobs' -l progress -d 'Show progress on standard error'
-complete -c ix_export -n '__fish_seen_subcommand_from jobs' -s q -l quiet -d 'No progress'
+complete -c ix_export -n '__fish_seen_subcommand_from jobs' -s q -l quiet -d 'No progress, and no report if the status is 0'
 complete -c ix_export -n '__fish_seen_subcommand_from jobs' -s v -l verbose -d 'Print the cause of an error on a second line'
 
 complete -c ix_export -n '__fish_seen_subcommand_from job' -s h -l help -d 'Print the help'
@@ -115,12 +115,15 @@ complete -c ix_export -n '__fish_seen_subcommand_from inspect' -l json -d 'Repor
 complete -c ix_export -n '__fish_seen_subcommand_from inspect' -F
 
 complete -c ix_export -n '__fish_seen_subcommand_from verify' -s h -l help -d 'Print the help'
-complete -c ix_export -n '__fish_seen_subcommand_from verify' -l with -r -F -d 'CARv1 file to follow links into too; several add up'
+complete -c ix_export -n '__fish_seen_subcommand_from verify' -l with -r -F -d 'Follow links into this CARv1 too; several add up'
 complete -c ix_export -n '__fish_seen_subcommand_from verify' -l prefer-sound -d 'Use the first sound copy of a block, if any is'
+complete -c ix_export -n '__fish_seen_subcommand_from verify' -l allow-missing -x -a 'all raw dag-cbor raw,dag-cbor' -d 'Allow missing blocks of these codecs'
 complete -c ix_export -n '__fish_seen_subcommand_from verify' -l blocks-only -d 'Check the sections alone, without links'
 complete -c ix_export -n '__fish_seen_subcommand_from verify' -l all -d 'Print every finding'
 complete -c ix_export -n '__fish_seen_subcommand_from verify' -l verifiers -x -d 'Threads that hash, 1 to 64'
 complete -c ix_export -n '__fish_seen_subcommand_from verify' -l max-input -x -d 'Greatest size of an input, such as 4G'
 complete -c ix_export -n '__fish_seen_subcommand_from verify' -l carv2 -d 'Read CARv2 files too, as the CARv1 in them'
 complete -c ix_export -n '__fish_seen_subcommand_from verify' -l json -d 'Report as JSON, one object per line'
+complete -c ix_export -n '__fish_seen_subcommand_from verify' -l progress -d 'Show progress on standard error'
+complete -c ix_export -n '__fish_seen_subcommand_from verify' -s q -l quiet -d 'No progress, and no line of a file that is sound'
 complete -c ix_export -n '__fish_seen_subcommand_from verify' -F

@@ -712,7 +712,7 @@ def root_named_often(runner):
     block = list_of([link(cid(RAW, b"%d" % number)) for number in range(3_000)])
     root = cid(DAG_CBOR, block)
     car = header([root] * 3_000) + section(root, block)
-    verified(runner, car, 3, f"broken sections=1 bytes={len(car)} unsound=0 skips=3000")
+    verified(runner, car, 3, f"incomplete sections=1 bytes={len(car)} unsound=0 skips=3000")
 
 
 def roots_with_one_graph(runner):

@@ -126,6 +126,12 @@ bytes "$one_archive" >a.car
 bytes "$(header "$one_cid")$(section "$abc_cid" 616264)$one_blocks" >b.car
 bytes 00 >c.car
 same_without verify b.car a.car
+bytes "$(header "$one_cid")$(section "$one_cid" "$one")" >lacks.car
+bytes "$no_roots$(section "01551e20$(digest "$abc")" "$abc")" >hash.car
+same_without verify lacks.car hash.car
+same_without verify lacks.car a.car b.car --allow-missing raw
+expect_text 'absent' '"absent":1 "absent":0 "absent":0' "$(grep -o '"absent":[0-9]*' "$scratch/stdout" | tr '\n' ' ' | sed 's/ $//')"
+same_without verify lacks.car a.car hash.car --quiet
 same_without verify c.car none a.car b.car --blocks-only
 sections=
 for number in $(seq 10 40); do sections+=$(section "$abc_cid" "$number"); done

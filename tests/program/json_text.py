@@ -27,8 +27,10 @@ def of_job(it):
 
 
 def of_file(it):
+    assert it["outcome"] in ("sound", "incomplete", "unsupported", "broken"), it["outcome"]
     line = "{file} {outcome} sections={sections} bytes={bytes}".format(**it)
-    yield line if it["outcome"] == "sound" else line + " unsound={unsound} skips={skips}".format(**it)
+    line += "" if it["outcome"] == "sound" else " unsound={unsound} skips={skips}".format(**it)
+    yield line + (f" absent={it['absent']}" if "absent" in it else "")
     for finding in it["findings"]:
         if "section" in finding:
             yield "  section {section} {verdict} {cid}".format(**finding)

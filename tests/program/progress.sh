@@ -38,18 +38,28 @@ run jobs "${inputs[@]}" --out out --progress
 expect_text 'lines, one a second' few "$([ "$(wc -l <"$scratch/stderr")" -le $((SECONDS + 3)) ] && echo few || echo many)"
 expect_text 'the last line' 'progress: 300 of 300 jobs closed, 600 visits delivered, 53400 bytes written' "$(tail -n 1 "$scratch/stderr")"
 
-begin 'quiet: nothing is told'
+begin 'quiet: nothing is told where the status is 0, and else the report'
 write_blocks "$one_blocks"
 write_jobs "a $one_job"
 run jobs "${inputs[@]}" --out out --progress --quiet
-expect 0 "a $one_line
-total jobs=1 done=1 skips=0" ''
+expect 0 '' ''
+expect_bytes out/a.car "$one_archive"
+write_jobs "a $one_job" "b $one_text 1 $all"
+run jobs "${inputs[@]}" --out out --progress --quiet
+expect 4 "a $one_line
+b limit visits=1 kept=1 sections=1 bytes=138
+total jobs=2 done=1 skips=0" ''
 
-# on_terminal WORD..: what the command `jobs` writes to a terminal that is both its outputs, a state of the line a line.
-on_terminal() {
+# of_terminal WORD..: what a command writes to a terminal that is both its outputs, a state of the line a line.
+of_terminal() {
   status=0
-  script -qec "$(printf '%q ' "$top/ix_export" jobs "${inputs[@]}" --out out "$@")" /dev/null </dev/null >"$scratch/terminal" || status=$?
+  script -qec "$(printf '%q ' "$top/ix_export" "$@")" /dev/null </dev/null >"$scratch/terminal" || status=$?
   tr '\r' '\n' <"$scratch/terminal" | sed $'s/\x1b\\[?7l//; s/\x1b\\[K\x1b\\[?7h$//' | grep -v '^$' >"$scratch/stdout" || true
+}
+
+# on_terminal WORD..: the same of the command `jobs`.
+on_terminal() {
+  of_terminal jobs "${inputs[@]}" --out out "$@"
 }
 
 if command -v script >/dev/null; then
@@ -70,14 +80,22 @@ total jobs=1 done=1 skips=0" "$scratch/stdout"
 total jobs=1 done=1 skips=0" "$scratch/stdout"
   title='progress: nor has one that is to be quiet'
   on_terminal --progress --quiet
-  expect_lines 'the terminal' "a $one_line
-total jobs=1 done=1 skips=0" "$scratch/stdout"
+  expect_lines 'the terminal' '' "$scratch/stdout"
   title='progress: a refused run on a terminal'
   printf x >jobs.txt
   on_terminal --progress
   expect_text 'exit status' 2 "$status"
   expect_lines 'the terminal' 'loading 0 of 0 MiB
 jobs: fields at line 1' "$scratch/stdout"
+  begin 'progress: verify tells a terminal how much is read, and ends the line before its report'
+  bytes "$one_archive" >a.car
+  of_terminal verify a.car --progress
+  expect_lines 'the terminal' 'loading 0 of 0 MiB
+a.car sound sections=2 bytes=178' "$scratch/stdout"
+  for words in '' '--progress --quiet'; do
+    of_terminal verify a.car --all $words
+    expect_lines "the terminal with $words" "$([ -n "$words" ] || echo 'a.car sound sections=2 bytes=178')" "$scratch/stdout"
+  done
 else
   echo 'tests/program.sh: no script here, so what a terminal is told is not tested' >&2
 fi

@@ -8,7 +8,7 @@ beside() {
   bytes "$no_roots$(section "$abc_cid" 616264)" >damaged.car
 }
 a_sound='a.car sound sections=1 bytes=138'
-a_missing="a.car broken sections=1 bytes=138 unsound=0 skips=1
+a_missing="a.car incomplete sections=1 bytes=138 unsound=0 skips=1
   link missing $abc_text"
 a_damaged="a.car broken sections=1 bytes=138 unsound=0 skips=1
   link damaged $abc_text"
@@ -31,7 +31,7 @@ bytes "$(header "$with_zero_cid")$one_blocks" >library.car
 run verify roots.car --with library.car
 expect 0 'roots.car sound sections=0 bytes=59' ''
 run verify library.car
-expect 3 "library.car broken sections=2 bytes=178 unsound=0 skips=1
+expect 3 "library.car incomplete sections=2 bytes=178 unsound=0 skips=1
   link missing $(text "$with_zero_cid")" ''
 
 beside 'a block of another file is checked where a link leads to it'
@@ -62,12 +62,12 @@ bytes "$no_roots$(section "$one_cid" "$one")" >one.car
 run verify fork.car --with zero.car --with one.car --with b.car
 expect 0 "fork.car sound sections=1 bytes=$(wc -c <fork.car)" ''
 run verify fork.car --with zero.car --with b.car
-expect 3 "fork.car broken sections=1 bytes=$(wc -c <fork.car) unsound=0 skips=1
+expect 3 "fork.car incomplete sections=1 bytes=$(wc -c <fork.car) unsound=0 skips=1
   link missing $(text "$one_cid")" ''
 run verify --all a.car fork.car --with b.car --with zero.car
 expect 3 "$a_sound
   link missing $(text "$one_cid")
-fork.car broken sections=1 bytes=$(wc -c <fork.car) unsound=0 skips=1" ''
+fork.car incomplete sections=1 bytes=$(wc -c <fork.car) unsound=0 skips=1" ''
 
 beside 'if one of them is rejected, no file is verified'
 bytes "$no_roots" 2701551220ba7816bf8f >cut.car
@@ -127,7 +127,25 @@ twice_refused "standard input is given twice for '--with <FILE>'" verify a.car -
 twice_refused "standard input is given twice for '<FILE>...'" verify - a.car - --with b.car
 twice_refused "standard input is given for '<FILE>...' and for '--with <FILE>'" verify - --with -
 
+# `abc` is missing from a.car, and what is in another file isn't absent.
+beside 'what may be missing is absent only if no file has it'
+run verify a.car --allow-missing raw
+expect 0 "$a_sound absent=1" ''
+run verify a.car --with b.car --allow-missing raw
+expect 0 "$a_sound absent=0" ''
+run verify a.car --with damaged.car --allow-missing all
+expect 3 "${a_damaged/skips=1/skips=1 absent=0}" ''
+
+beside 'a quiet run tells of the files that are not sound'
+run verify a.car --with b.car --quiet
+expect 0 '' ''
+run verify b.car a.car -q
+expect 3 "$a_missing" ''
+run verify a.car -q --with damaged.car --with b.car --prefer-sound
+expect 0 '' 'a.car: 1 block from a later copy'
+
 beside 'not with --blocks-only'
+twice_refused "the argument '--allow-missing <WHICH>' cannot be used with '--blocks-only'" verify a.car --allow-missing raw --blocks-only
 twice_refused "the argument '--with <FILE>' cannot be used with '--blocks-only'" verify a.car --with b.car --blocks-only
 twice_refused "the argument '--prefer-sound' cannot be used with '--blocks-only'" verify a.car --prefer-sound --blocks-only
 

@@ -1,11 +1,13 @@
 //! The CARv1 file in an input, and why one is rejected.
 
 use ix_car::{CarFault, CarKind, payload_of};
-use ix_cli_io::{Causes, Failure, REFUSED, read_input};
+use ix_cli_io::{Causes, Failure, Progress, REFUSED, load_input, read_input};
 use ix_run::RunFault;
 use ix_verify::CarBytes;
 use std::alloc::AllocError;
-use std::rt::Files;
+use std::fs::File;
+use std::rt::{Clock, Files};
+use std::thread::Threads;
 
 /// A file that was read.
 #[derive(Drop)]
@@ -26,6 +28,30 @@ impl CarInput {
         most: u64,
     ) -> Result<CarInput, Rejection<'a>> {
         let bytes = read_input(rt, path, most)?;
+        CarInput::find(rt, path, bytes)
+    }
+
+    /// Reads a file of at most so many bytes, by at most so many threads, and shows progress.
+    pub(crate) fn load<'a, R>(
+        rt: &R,
+        path: &'a str,
+        most: u64,
+        threads: usize,
+        progress: &Progress<R>,
+    ) -> Result<CarInput, Rejection<'a>>
+    where
+        R: AllocGlobal + Clock + Eprint + Files<File = File> + Input + Threads + Sync,
+    {
+        let bytes = load_input(rt, path, most, threads, progress)?;
+        CarInput::find(rt, path, bytes)
+    }
+
+    // Finds the CARv1 file in the bytes of a file.
+    fn find<'a, R: AllocGlobal>(
+        rt: &R,
+        path: &'a str,
+        bytes: Vec<u8>,
+    ) -> Result<CarInput, Rejection<'a>> {
         let size = bytes.len();
         let payload = match payload_of(bytes.as_slice()) {
             Ok(payload) => payload,

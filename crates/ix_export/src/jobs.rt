@@ -12,7 +12,7 @@ use crate::json_jobs::folder_report;
 use crate::known::{KnownInputs, refused_inputs};
 use crate::options::{
     ArgKind, ArgSpec, BLOCKS, CARV2, JSON, MAX_INPUT_1G, MAX_LIMIT, PREFER_SOUND, PROGRESS,
-    QUIET_PROGRESS, VERBOSE, VERIFIERS, WALKERS, WITHOUT, WITHOUT_LIST,
+    VERBOSE, VERIFIERS, WALKERS, WITHOUT, WITHOUT_LIST,
 };
 use crate::print::{print_all, print_notes};
 use crate::size::most_input;
@@ -115,6 +115,12 @@ const OUT: ArgSpec = ArgSpec {
     help: "Directory for the archives; it must exist",
 };
 
+const QUIET: ArgSpec = ArgSpec {
+    name: "quiet",
+    given: ArgKind::Flag,
+    help: "No progress, and no report if the status is 0",
+};
+
 const PART: ArgSpec = ArgSpec {
     name: "part",
     given: ArgKind::Optional("K/N"),
@@ -183,7 +189,7 @@ pub(crate) static SPEC: CommandSpec = CommandSpec {
         NO_SYNC,
         JSON,
         PROGRESS,
-        QUIET_PROGRESS,
+        QUIET,
         VERBOSE,
     ],
 };
@@ -224,6 +230,7 @@ struct JobsCommand<'a> {
     threads: ThreadCounts,
     is_synced: bool,
     naming: Naming,
+    is_quiet: bool,
     is_json: bool,
     progress: ProgressMode,
 }
@@ -269,8 +276,9 @@ impl<'a> JobsCommand<'a> {
             threads: ThreadCounts::given(words),
             is_synced: SYNC.is_given(words),
             naming,
+            is_quiet: QUIET.is_given(words),
             is_json: JSON.is_given(words),
-            progress: progress_mode(words, &QUIET_PROGRESS, is_terminal),
+            progress: progress_mode(words, &QUIET, is_terminal),
         })
     }
 
@@ -356,8 +364,8 @@ impl<'a> JobsCommand<'a> {
         Ok(ran.status)
     }
 
-    // Prints the report of a run whose outputs were published, as text or as JSON. If a rename failed, not
-    // all are named that should be.
+    // Prints the report of a run whose outputs were published, as text or as JSON, unless it is to be quiet and
+    // the status is 0. If a rename failed, not all are named that should be.
     fn print_run<R: AllocGlobal + Print>(
         &self,
         rt: &R,
@@ -365,6 +373,9 @@ impl<'a> JobsCommand<'a> {
         ran: &RunReport,
         are_named: bool,
     ) -> Result<(), Failure> {
+        if self.is_quiet && ran.status == 0 && are_named {
+            return Ok(());
+        }
         if !self.is_json {
             return print_all(rt, ran.report.as_slice());
         }

@@ -13,11 +13,15 @@ pub(crate) fn report_object(alloc: Global, report: &Report<'_>) -> Result<Vec<u8
     let found = report.found;
     let mut out = begin_object(alloc)?;
     push_text(&mut out, "file", report.path)?;
-    push_text(&mut out, "outcome", report.outcome())?;
+    let outcome = format!(in alloc; "{}", found.outcome())?;
+    push_text(&mut out, "outcome", outcome.as_str())?;
     push_count(&mut out, "sections", found.sections)?;
     push_count(&mut out, "bytes", report.bytes)?;
     push_count(&mut out, "unsound", found.unsound.count)?;
     push_count(&mut out, "skips", found.skips.count)?;
+    if report.shows_absent {
+        push_count(&mut out, "absent", found.absent)?;
+    }
     push_findings(alloc, &mut out, report)?;
     push_count(&mut out, "more", report.more())?;
     if found.is_over_limit {

@@ -88,7 +88,7 @@ fn run_command<R: Host>(rt: &R, words: &[String], terminals: Terminals) -> u8 {
             Some(("block", words)) => (block::run(rt, words, terminals), Causes::Beside),
             Some(("show", words)) => (show::run(rt, words, terminals), Causes::Beside),
             Some(("inspect", words)) => (inspect::run(rt, words), Causes::Beside),
-            Some(("verify", words)) => (verify::run(rt, words), Causes::Beside),
+            Some(("verify", words)) => (verify::run(rt, words, terminals.errors), Causes::Beside),
             Some((_, words)) => (root::run(rt, words), causes_of(words)),
             // The command line requires a command.
             None => (Ok(REFUSED), Causes::Hidden),

@@ -1,5 +1,5 @@
 -- An archive is read back as its roots and its sections, each of which is sound.
-use Rattle.std.proofs.Common.{◌≡◌, ℕ, ◌+◌, ◌<◌, ◌^◌, true, false, ◌&&◌, List, [], ◌∷◌, ◌++◌, length, refl, sym, ◌∙◌, ap, subst}
+use Rattle.std.proofs.Common.{◌≡◌, ℕ, ◌+◌, ◌<◌, ◌^◌, false, ◌&&◌, List, [], ◌∷◌, ◌++◌, length, refl, sym, ◌∙◌, ap, subst}
 use Rattle.std.specs.Prelude.{Option, Some, None, Result, Ok, All, flat_map, not, ◌==◌, if◌then◌else◌}
 use Rattle.std.proofs.lemmas.List.Elements.{All-nil, All-cons, All-head, All-tail}
 use Rattle.ix_store.specs.Store.{Blocks, block_of}
@@ -9,11 +9,13 @@ use Rattle.ix_car.specs.Writing.{header_of}
 use Rattle.ix_archive.specs.Archive.{is_sound, first_sound, section_of, archive_with}
 use Rattle.ix_car.specs.Reading.{Fault}
 use Rattle.ix_car.specs.Sections.{SectionMeaning, placed, section_list, roots_of}
+use Rattle.ix_verify.specs.declared.found.Outcome.{Outcome}
 use Rattle.ix_verify.specs.declared.found.Findings.{Findings}
 use Rattle.ix_verify.specs.declared.found.Unsound.{Unsound}
 use Rattle.ix_verify.specs.Judged.{IsSoundSection}
+use Rattle.ix_verify.specs.Outcome.{worse, outcome_at_limit, section_finding, link_finding}
 use Rattle.ix_verify.specs.Noting.{IsNoted}
-use Rattle.ix_verify.specs.Found.{told_of, unsound_of, is_sound_file, HasSoundSections}
+use Rattle.ix_verify.specs.Found.{told_of, unsound_of, IsCalledSound, HasSoundSections}
 use Rattle.ix_verify.specs.Written.{section_where, sections_from, written_sections, IsArchivable, IsJudged, IsSoundByItself}
 use Rattle.ix_verify.proofs.PairsAgain.{text_of, pairs_of, pairs-cids, pairs-texts, pairs-placed, file-roots, file-sections}
 use Rattle.ix_verify.proofs.SoundSections.{All-first_sound}
@@ -61,12 +63,16 @@ archive-found store roots ds sections written judged read =
     (same, ap unsound_of same ∙ none-unsound (written_sections store roots ds) (written-sound store roots ds judged))
 
 -- what is found of a file is sound where nothing else is found
-pub found-sound : (most : ℕ) (f : Findings) → IsNoted most [] f.unsound → IsNoted most [] f.skips → f.is_over_limit ≡ false → is_sound_file f ≡ true
-found-sound most f unsound skips over =
-    ap (λ (n : ℕ). (n == 0) && ((f.skips.count == 0) && not f.is_over_limit)) unsound.count
-    ∙ ap (λ (n : ℕ). (n == 0) && not f.is_over_limit) skips.count
-    ∙ ap not over
+pub found-sound : (most : ℕ) (f : Findings) → IsNoted section_finding most [] f.unsound → IsNoted link_finding most [] f.skips → f.is_over_limit ≡ false → IsCalledSound f
+found-sound most f unsound skips over = (
+  ap (λ (n : ℕ). (n == 0) && ((f.skips.count == 0) && not f.is_over_limit)) unsound.count
+      ∙ ap (λ (n : ℕ). (n == 0) && not f.is_over_limit) skips.count
+      ∙ ap not over,
+  ap (λ (o : Outcome). worse o (worse f.skips.worst (outcome_at_limit f.is_over_limit))) unsound.worst
+      ∙ ap (λ (o : Outcome). worse o (outcome_at_limit f.is_over_limit)) skips.worst
+      ∙ ap outcome_at_limit over,
+)
 
 pub archive-verifies : (store : Blocks) (roots : List (List ℕ)) (ds : List Delivery) → IsArchivable store roots ds → All (IsJudged store) ds → HasSoundSections (archive_with store roots ds)
 archive-verifies store roots ds written judged most f found =
-    found-sound most f (subst (λ (l : List Unsound). IsNoted most l f.unsound) (archive-found store roots ds found.sections written judged found.read).1 found.unsound) found.reached.skipped found.reached.unfinished
+    found-sound most f (subst (λ (l : List Unsound). IsNoted section_finding most l f.unsound) (archive-found store roots ds found.sections written judged found.read).1 found.unsound) found.reached.skipped found.reached.unfinished

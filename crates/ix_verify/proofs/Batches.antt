@@ -15,6 +15,7 @@ use Rattle.ix_car.proofs.SectionLists.{sections_after-enough, ListGoesOn, ListGo
 use Rattle.ix_archive.specs.Archive.{is_sound}
 use Rattle.ix_verify.specs.declared.noted.Noted.{Noted}
 use Rattle.ix_verify.specs.declared.found.Unsound.{Unsound}
+use Rattle.ix_verify.specs.Outcome.{section_finding}
 use Rattle.ix_verify.specs.Noting.{IsNoted, NotesMore}
 use Rattle.ix_verify.specs.Found.{told_of, unsound_of}
 use Rattle.ix_verify.specs.Counted.{IsBatchAt}
@@ -69,7 +70,7 @@ pub record AreJudgedTo (size most : ℕ) (rest : List ℕ) (count : ℕ) (unsoun
   pub done : List SectionMeaning
   pub goes_on : ListGoesOn size done rest whole
   pub counted : count ≡ length done
-  pub noted : IsNoted most (unsound_of done) unsound
+  pub noted : IsNoted section_finding most (unsound_of done) unsound
   pub room : length done + length rest ≤ size
 
 -- what is read after a header
@@ -78,7 +79,7 @@ after_header b rest read = ap (λ (r : Result (List ℕ) Fault). r >>= (λ after
 
 module _ (b : List ℕ) (most : ℕ) where
   -- before the first
-  pub judged-none : (rest : List ℕ) (none : Noted Unsound) → header_at b ≡ Ok rest → length rest < length b → IsNoted most [] none → AreJudgedTo (length b) most rest 0 none (section_list b)
+  pub judged-none : (rest : List ℕ) (none : Noted Unsound) → header_at b ≡ Ok rest → length rest < length b → IsNoted section_finding most [] none → AreJudgedTo (length b) most rest 0 none (section_list b)
   judged-none rest none read shorter noted = record {
     done = [];
     goes_on = subst (λ (r : Result (List SectionMeaning) Fault). ListGoesOn (length b) [] rest r) (sym (after_header b rest read)) (ListGoesOn-first (length b) rest);
@@ -89,7 +90,7 @@ module _ (b : List ℕ) (most : ℕ) where
 
   -- a batch more
   pub judged-more : (rest : List ℕ) (batch : Vec Section) (after : Bor (List ℕ)) (count : ℕ) (old new : Noted Unsound) → IsBatchAt (length b) rest (batch, after)
-      → NotesMore most (unsound_of (map section_of batch.items)) old new → AreJudgedTo (length b) most rest count old (section_list b)
+      → NotesMore section_finding most (unsound_of (map section_of batch.items)) old new → AreJudgedTo (length b) most rest count old (section_list b)
       → AreJudgedTo (length b) most after.now (count + length batch.items) new (section_list b)
   judged-more rest batch after count old new read more so_far =
       let size = length b in
@@ -99,7 +100,7 @@ module _ (b : List ℕ) (most : ℕ) where
         done = done;
         goes_on = λ n h. sections_after-enough size n (length after.now) done after.now h (omega arith) ∙ sym (read.read so_far.done) ∙ so_far.goes_on (length rest) (omega arith);
         counted = omega (arith, long, so_far.counted);
-        noted = subst (λ (l : List Unsound). IsNoted most l new) (sym (unsound-append so_far.done (views_of batch))) (more.noted (unsound_of so_far.done) so_far.noted);
+        noted = subst (λ (l : List Unsound). IsNoted section_finding most l new) (sym (unsound-append so_far.done (views_of batch))) (more.noted (unsound_of so_far.done) so_far.noted);
         room = omega (arith, long, read.room, so_far.room);
       }
 

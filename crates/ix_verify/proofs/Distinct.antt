@@ -1,12 +1,19 @@
 -- A turn of the loop that keeps each root where it is named first.
 use Rattle.std.proofs.Common.{◌≡◌, ℕ, ◌+◌, ◌<◌, Bool, true, false, not, ◌||◌, ◌&&◌, inl, inr, List, [], ◌∷◌, ◌++◌, length, drop, filter, get_or, refl, sym, ◌∙◌, ap, append_assoc}
-use Rattle.std.specs.Prelude.{bytes_eq, if◌then◌else◌}
+use Rattle.std.specs.List.{list_any}
+use Rattle.std.specs.Prelude.{Option, is_some, bytes_eq, if◌then◌else◌}
+use Rattle.std.proofs.lemmas.List.{map_push}
 use Rattle.std.proofs.lemmas.Slice.Eq.{bytes_eq-Decides}
+use Rattle.std.proofs.lemmas.Bool.{not-true, not-false}
 use Rattle.std.proofs.lemmas.Bool.Decides.{same_from_decides}
 use Rattle.std.proofs.Math.Bool.{or-false}
 use Rattle.ix_cid.proofs.Lists.{drop_read}
-use Rattle.ix_store.specs.Store.{Blocks, has_cid, with_block}
+use Rattle.ix_store.specs.Store.{Blocks, has_cid, with_block, position_of}
+use Rattle.ix_store.proofs.Indexes.{has-by}
 use Rattle.ix_walk.specs.Once.{first_ones}
+use Rattle.ix_verify.specs.declared.found.AllowMissing.{AllowMissing}
+use Rattle.ix_verify.specs.Found.{may_lack_by, may_lack}
+use Rattle.ix_verify.specs.Walked.{roots_as_blocks}
 use Rattle.ix_walk.proofs.Firsts.{filter-both, unseen, unseen-seen, unseen-none}
 
 -- a CID is the one that was added, or it was there
@@ -47,7 +54,7 @@ first-none roots = unseen-none roots
 pub first-new : (roots : List (List ℕ)) (seen later : Blocks) (i : ℕ) (x : List ℕ) (old new : List (List ℕ)) → i < length roots → x ≡ get_or roots i x → true ≡ not (has_cid seen x) → later ≡ with_block seen (x, []) → new ≡ old ++ x ∷ []
     → AreFirst roots seen i old → AreFirst roots later (i + 1) new
 first-new roots seen later i x old new lt is fresh added pushed so_far =
-    let isnt : has_cid seen x ≡ false = not-true (has_cid seen x) fresh in
+    let isnt : has_cid seen x ≡ false = not-true (has_cid seen x) (sym fresh) in
     let now : later ≡ seen ++ (x, []) ∷ [] = added ∙ ap (λ (t : Bool). if t then seen else seen ++ (x, []) ∷ []) isnt in
     let rest = unseen (has_cid (seen ++ (x, []) ∷ [])) (drop (i + 1) roots) in
     ap (λ (s : Blocks). new ++ unseen (has_cid s) (drop (i + 1) roots)) now
@@ -56,22 +63,52 @@ first-new roots seen later i x old new lt is fresh added pushed so_far =
     ∙ ap (λ (l : List (List ℕ)). old ++ l) (sym (unseen-new seen x [] (drop (i + 1) roots) isnt))
     ∙ ap (λ (l : List (List ℕ)). old ++ unseen (has_cid seen) l) (sym (drop_read roots i x lt is))
     ∙ so_far
-  where
-    not-true : (t : Bool) → true ≡ not t → t ≡ false
-    not-true true h = cc
-    not-true false h = refl
 
 -- one that was
 pub first-again : (roots : List (List ℕ)) (seen later : Blocks) (i : ℕ) (x : List ℕ) (distinct : List (List ℕ)) → i < length roots → x ≡ get_or roots i x → false ≡ not (has_cid seen x) → later ≡ with_block seen (x, [])
     → AreFirst roots seen i distinct → AreFirst roots later (i + 1) distinct
 first-again roots seen later i x distinct lt is named added so_far =
-    let there : has_cid seen x ≡ true = not-false (has_cid seen x) named in
+    let there : has_cid seen x ≡ true = not-false (has_cid seen x) (sym named) in
     let now : later ≡ seen = added ∙ ap (λ (t : Bool). if t then seen else seen ++ (x, []) ∷ []) there in
     ap (λ (s : Blocks). distinct ++ unseen (has_cid s) (drop (i + 1) roots)) now
     ∙ ap (λ (l : List (List ℕ)). distinct ++ l) (sym (unseen-seen (has_cid seen) (x ∷ []) (drop (i + 1) roots) (λ c at. elim at [ inl e ↦ ap (has_cid seen) (sym e) ∙ there | inr h ↦ absurd h ])))
     ∙ ap (λ (l : List (List ℕ)). distinct ++ unseen (has_cid seen) l) (sym (drop_read roots i x lt is))
     ∙ so_far
+
+-- ---- the set of roots
+
+-- one that wasn't named before
+pub set-new : (seen later : Blocks) (x : List ℕ) (old new : List (List ℕ)) → true ≡ not (has_cid seen x) → later ≡ with_block seen (x, []) → new ≡ old ++ x ∷ [] → seen ≡ roots_as_blocks old → later ≡ roots_as_blocks new
+set-new seen later x old new fresh added pushed so_far =
+    added
+    ∙ ap (λ (t : Bool). if t then seen else seen ++ (x, []) ∷ []) (not-true (has_cid seen x) (sym fresh))
+    ∙ ap (λ (s : Blocks). s ++ (x, []) ∷ []) so_far
+    ∙ sym (map_push (λ (root : List ℕ). (root, [])) old x)
+    ∙ ap roots_as_blocks (sym pushed)
+
+-- one that was
+pub set-again : (seen later : Blocks) (x : List ℕ) (distinct : List (List ℕ)) → false ≡ not (has_cid seen x) → later ≡ with_block seen (x, []) → seen ≡ roots_as_blocks distinct → later ≡ roots_as_blocks distinct
+set-again seen later x distinct named added so_far =
+    added ∙ ap (λ (t : Bool). if t then seen else seen ++ (x, []) ∷ []) (not-false (has_cid seen x) (sym named)) ∙ so_far
+
+-- what is in the set is a root
+in-set : (roots : List (List ℕ)) (c : List ℕ) → has_cid (roots_as_blocks roots) c ≡ list_any (λ root. bytes_eq root c) roots
+in-set [] c = refl
+in-set (root ∷ roots) c = ap (λ (t : Bool). bytes_eq root c || t) (in-set roots c)
+
+-- so what may be lacking is the same by the set and by the roots
+pub lack-by-set : (allowed : AllowMissing) (set : Blocks) (roots : List (List ℕ)) → set ≡ roots_as_blocks roots → (λ (c : List ℕ). may_lack_by allowed c && not (has_cid set c)) ≡ may_lack allowed roots
+lack-by-set allowed set roots is =
+    let same : (c : List ℕ) → has_cid set c ≡ list_any (λ root. bytes_eq root c) roots = λ c. ap (λ (s : Blocks). has_cid s c) is ∙ in-set roots c in
+    λ i c. may_lack_by allowed c && not (same c i)
+
+-- a CID that isn't found in the set, and whose codec allows for it, may be lacking
+pub may-lack : (allowed : AllowMissing) (set : Blocks) (c : List ℕ) (allows none : Bool) (o : Option ℕ) → allows ≡ may_lack_by allowed c → allows ≡ true → o ≡ position_of set c → is_some o ≡ not none
+    → none ≡ (may_lack_by allowed c && not (has_cid set c))
+may-lack allowed set c allows none o is on found some =
+    let there : has_cid set c ≡ not none = has-by set c o (sym found) ∙ some in
+    sym (not-twice none) ∙ ap not (sym there) ∙ sym (ap (λ (t : Bool). t && not (has_cid set c)) (sym is ∙ on))
   where
-    not-false : (t : Bool) → false ≡ not t → t ≡ true
-    not-false true h = refl
-    not-false false h = cc
+    not-twice : (t : Bool) → not (not t) ≡ t
+    not-twice true = refl
+    not-twice false = refl

@@ -12,6 +12,7 @@ use Rattle.ix_archive.specs.declared.archive.Skip.{Skip}
 use Rattle.ix_car.proofs.Sections.{FailsAs-along}
 use Rattle.ix_car.proofs.SectionLists.{blocks-after_sections}
 use Rattle.ix_verify.specs.declared.noted.Noted.{Noted}
+use Rattle.ix_verify.specs.declared.found.AllowMissing.{AllowMissing}
 use Rattle.ix_verify.specs.declared.found.Copies.{Copies}
 use Rattle.ix_verify.specs.declared.found.Copies.TheVariants.{First, Sound}
 use Rattle.ix_verify.specs.Beside.{sections_read, IsRead, blocks_beside, with_copies_in}
@@ -99,10 +100,11 @@ module _ (others : List (List SectionMeaning)) where
       one_value (store, later) (store_of copies (sections ∷ others), later_of copies (sections ∷ others)) (sym stored ∙ ap (blocks_beside copies others) read)
 
   -- what is met from roots on in that store
-  pub reached-in : (copies : Copies) (b : List ℕ) (store : Blocks) (later : ℕ) (sections : List SectionMeaning) (roots : List (List ℕ)) (most : ℕ) (skips : Noted Skip) (over : Bool) → blocks_beside copies others (section_list b) ≡ Ok (store, later) → section_list b ≡ Ok sections
-      → IsReached store roots most skips over → IsReached (store_of copies (sections ∷ others)) roots most skips over
-  reached-in copies b store later sections roots most skips over stored read reached =
-      subst (λ (s : Blocks). IsReached s roots most skips over) (ap (λ (p : Blocks × ℕ). p.0) (loaded-is copies b store later sections stored read)) reached
+  pub reached-in : (copies : Copies) (allowed : AllowMissing) (b : List ℕ) (store : Blocks) (later : ℕ) (sections : List SectionMeaning) (roots : List (List ℕ)) (most : ℕ) (skips : Noted Skip) (absent : ℕ) (over : Bool)
+      → blocks_beside copies others (section_list b) ≡ Ok (store, later) → section_list b ≡ Ok sections
+      → IsReached allowed store roots most skips absent over → IsReached allowed (store_of copies (sections ∷ others)) roots most skips absent over
+  reached-in copies allowed b store later sections roots most skips absent over stored read reached =
+      subst (λ (s : Blocks). IsReached allowed s roots most skips absent over) (ap (λ (p : Blocks × ℕ). p.0) (loaded-is copies b store later sections stored read)) reached
 
   -- and how many of its blocks are a later copy
   pub later-in : (copies : Copies) (b : List ℕ) (store : Blocks) (later : ℕ) (sections : List SectionMeaning) → blocks_beside copies others (section_list b) ≡ Ok (store, later) → section_list b ≡ Ok sections

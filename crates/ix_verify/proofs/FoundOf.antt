@@ -6,13 +6,14 @@ use Rattle.ix_walk.specs.Once.{first_ones}
 use Rattle.ix_car.specs.Sections.{SectionMeaning, section_list, roots_of}
 use Rattle.ix_verify.specs.declared.file.Judged.{Judged}
 use Rattle.ix_verify.specs.declared.reach.Reached.{Reached}
+use Rattle.ix_verify.specs.declared.found.AllowMissing.{AllowMissing}
 use Rattle.ix_verify.specs.declared.found.Copies.{Copies}
 use Rattle.ix_verify.specs.declared.found.Copies.TheVariants.{First}
 use Rattle.ix_verify.specs.declared.found.Findings.{Findings}
 use Rattle.ix_verify.specs.declared.found.Scope.TheVariants.{Sections as OfSections, Graph as OfGraph}
 use Rattle.ix_verify.specs.Beside.{blocks_beside}
 use Rattle.ix_verify.specs.Counted.{IsJudgedOf, findings_of}
-use Rattle.ix_verify.specs.Found.{store_of, IsReached, IsFoundBeside, IsFoundOf}
+use Rattle.ix_verify.specs.Found.{allow_none, store_of, IsReached, IsFoundBeside, IsFoundOf}
 use Rattle.ix_verify.specs.Walked.{IsReachedFrom, IsReachedFromNone}
 use Rattle.ix_verify.proofs.FileFaults.{reached-in, later-in}
 
@@ -24,21 +25,21 @@ found-blocks b most j f r judged is none =
       read = judged.read;
       count = judged.count;
       unsound = judged.unsound;
-      reached = none (store_of First (judged.sections ∷ [])) most;
+      reached = none allow_none (store_of First (judged.sections ∷ [])) most;
       later = refl;
     })
 
 -- and from the roots on
-module _ (copies : Copies) (others : List (List SectionMeaning)) (b : List ℕ) (most : ℕ) (j : Judged) (f : Findings) (r : Reached) (later : ℕ) (judged : IsJudgedOf b most j) (is : f ≡ findings_of j r later) where
-  pub found-roots : (store : Blocks) → blocks_beside copies others (section_list b) ≡ Ok (store, later) → IsReachedFrom store j.roots.items most r → IsFoundBeside copies others b OfGraph most f
+module _ (copies : Copies) (allowed : AllowMissing) (others : List (List SectionMeaning)) (b : List ℕ) (most : ℕ) (j : Judged) (f : Findings) (r : Reached) (later : ℕ) (judged : IsJudgedOf b most j) (is : f ≡ findings_of j r later) where
+  pub found-roots : (store : Blocks) → blocks_beside copies others (section_list b) ≡ Ok (store, later) → IsReachedFrom allowed store j.roots.items most r → IsFoundBeside copies allowed others b OfGraph most f
   found-roots store stored reached =
-      subst (λ (x : Findings). IsFoundBeside copies others b OfGraph most x) (sym is) (record {
+      subst (λ (x : Findings). IsFoundBeside copies allowed others b OfGraph most x) (sym is) (record {
         sections = judged.sections;
         read = judged.read;
         count = judged.count;
         unsound = judged.unsound;
         reached =
-            reached-in others copies b store later judged.sections (first_ones (roots_of b)) most r.skips r.is_over_limit stored judged.read
-            (subst (λ (roots : List (List ℕ)). IsReached store roots most r.skips r.is_over_limit) (ap first_ones judged.roots) reached);
+            reached-in others copies allowed b store later judged.sections (first_ones (roots_of b)) most r.skips r.absent r.is_over_limit stored judged.read
+            (subst (λ (roots : List (List ℕ)). IsReached allowed store roots most r.skips r.absent r.is_over_limit) (ap first_ones judged.roots) reached);
         later = later-in others copies b store later judged.sections stored judged.read;
       })

@@ -1,3 +1,4 @@
+pub mod Outcomes
 pub mod Notes
 pub mod Walking
 pub mod SoundSections

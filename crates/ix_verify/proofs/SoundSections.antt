@@ -2,7 +2,8 @@
 use Rattle.std.proofs.Common.{◌≡◌, ℕ, Bool, true, false, List, [], ◌∷◌, refl, sym, ◌∙◌, ap}
 use Rattle.std.specs.Prelude.{Option, Some, None, map, filter, not, is_some, All, if◌then◌else◌, bytes_eq}
 use Rattle.std.proofs.lemmas.List.Elements.{All-nil, All-cons, All-head, All-tail, All-filter}
-use Rattle.ix_cid.specs.Cid.{parts_of, hash_function_of}
+use Rattle.std.proofs.lemmas.Slice.Eq.{bytes_eq-Decides}
+use Rattle.ix_cid.specs.Cid.{parts_of, digest_of, hash_function_of}
 use Rattle.ix_cid.specs.declared.hash_function.HashFunction.{HashFunction}
 use Rattle.ix_cid.specs.declared.hash_function.HashFunction.TheVariants.{Identity, Sha2_256, Sha2_512}
 use Rattle.ix_walk.specs.JobMeaning.{JobMeaning}
@@ -10,7 +11,8 @@ use Rattle.ix_store.specs.Store.{Blocks, block_of}
 use Rattle.ix_walk.specs.declared.visit.Visit.{Visit}
 use Rattle.ix_walk.specs.Visits.{believed, arrivals_of, visit_of, visits_from}
 use Rattle.ix_walk.specs.Arrivals.{Arrival}
-use Rattle.ix_check.specs.Verdict.{has_codec, verdict_by, verdict_with, verdict_of}
+use Rattle.ix_verdict.specs.Verdict.{digest_by}
+use Rattle.ix_check.specs.Verdict.{has_codec, is_no_data, verdict_by, verdict_with, verdict_of}
 use Rattle.ix_verdict.specs.declared.verdict.Verdict.{Verdict}
 use Rattle.ix_verdict.specs.declared.verdict.Verdict.TheVariants.{Codec, Hash, Missing, Damaged, Malformed, Sound, Inline}
 use Rattle.ix_archive.specs.declared.sink.Delivery.{Delivery}
@@ -24,19 +26,31 @@ not_inline : (bad : Bool) → (if bad then Malformed else Inline) ≡ Sound → 
 not_inline true h = cc
 not_inline false h = cc
 
--- outside identity CIDs a section is judged as a block is
-pub section_verdict-with : (c block : List ℕ) → ¬ (hash_function_of (parts_of c) ≡ Some Identity) → section_verdict c block ≡ verdict_with c (Some block)
+-- outside identity CIDs a section is judged as a block is, unless the codec isn't read
+pub section_verdict-with : (c block : List ℕ) → ¬ (hash_function_of (parts_of c) ≡ Some Identity) → verdict_with c (Some block) ≡ (if has_codec c then section_verdict c block else Codec)
 section_verdict-with c block other = on (has_codec c) (hash_function_of (parts_of c)) other where
   on : (codec : Bool) (function : Option HashFunction) → ¬ (function ≡ Some Identity)
-      → (if codec then verdict_by_hash function c block else Codec) ≡ (if codec then verdict_by function c (Some block) else Codec)
+      → (if codec then verdict_by function c (Some block) else Codec) ≡ (if codec then verdict_by_hash function c block else Codec)
   on false function other = refl
   on true None other = refl
   on true (Some Identity) other = absurd (other refl)
   on true (Some Sha2_256) other = refl
   on true (Some Sha2_512) other = refl
 
+-- the block of a sound section has its CID's digest
+pub section_verdict-digest : (c block : List ℕ) → section_verdict c block ≡ Sound → (function : HashFunction) × (hash_function_of (parts_of c) ≡ Some function) × (digest_by function block ≡ digest_of c)
+section_verdict-digest c block sound = on (hash_function_of (parts_of c)) refl sound where
+  equal : (f : HashFunction) (same : Bool) → bytes_eq (digest_by f block) (digest_of c) ≡ same → (if same then (if is_no_data c block then Malformed else Sound) else Damaged) ≡ Sound → digest_by f block ≡ digest_of c
+  equal f true is h = (bytes_eq-Decides (digest_by f block) (digest_of c)).0 is
+  equal f false is h = absurd cc
+
+  on : (function : Option HashFunction) → hash_function_of (parts_of c) ≡ function → verdict_by_hash function c block ≡ Sound
+      → (f : HashFunction) × (hash_function_of (parts_of c) ≡ Some f) × (digest_by f block ≡ digest_of c)
+  on None is h = absurd cc
+  on (Some f) is h = (f, is, equal f (bytes_eq (digest_by f block) (digest_of c)) refl h)
+
 -- by the codec and the hash function
-sound_by : (codec : Bool) (function : Option HashFunction) (c block : List ℕ) → (if codec then verdict_by function c (Some block) else Codec) ≡ Sound → (if codec then verdict_by_hash function c block else Codec) ≡ Sound
+sound_by : (codec : Bool) (function : Option HashFunction) (c block : List ℕ) → (if codec then verdict_by function c (Some block) else Codec) ≡ Sound → verdict_by_hash function c block ≡ Sound
 sound_by false function c block h = absurd cc
 sound_by true None c block h = absurd cc
 sound_by true (Some Identity) c block h = absurd (not_inline _ h)

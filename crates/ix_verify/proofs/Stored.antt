@@ -1,17 +1,12 @@
 -- What a store finds of a section whose block it has.
-use Rattle.std.proofs.Common.{◌≡◌, ◌⊎◌, inl, inr, ℕ, Bool, true, List, get_or, sym, ◌∙◌, ap}
-use Rattle.std.specs.Prelude.{Some, map, slice_get, option_map, bytes_eq, if◌then◌else◌}
+use Rattle.std.proofs.Common.{◌≡◌, ℕ, Bool, true, false, not, List, get_or, sym, ◌∙◌, ap}
+use Rattle.std.specs.Prelude.{Option, Some, None, is_some, is_none, map, slice_get, option_map, bytes_eq, if◌then◌else◌}
 use Rattle.std.proofs.lemmas.Option.{same_Some, get_or_from_slice_get, slice_get-map}
 use Rattle.std.proofs.lemmas.Slice.Eq.{bytes_eq-Decides}
 use Rattle.ix_cid.specs.Cid.{parts_of, digest_of, hash_function_of}
 use Rattle.ix_cid.specs.declared.hash_function.HashFunction.{HashFunction}
-use Rattle.ix_cid.specs.declared.hash_function.HashFunction.TheVariants.{Identity}
-use Rattle.ix_verdict.specs.declared.verdict.Verdict.TheVariants.{Codec, Damaged, Malformed, Sound}
-use Rattle.ix_verdict.specs.declared.needed.Needed.{Needed}
-use Rattle.ix_verdict.specs.declared.needed.Needed.TheVariants.{Digest, Block}
-use Rattle.ix_verdict.specs.Verdict.{digest_by, is_no_data, has_codec}
-use Rattle.ix_verdict.specs.Needed.{needed_of}
-use Rattle.ix_verdict.proofs.Needs.{known-codec-Digest, known-Digest, known-codec-Block, known-Block}
+use Rattle.ix_verdict.specs.declared.verdict.Verdict.TheVariants.{Hash, Damaged, Malformed, Sound}
+use Rattle.ix_verdict.specs.Verdict.{digest_by, is_no_data}
 use Rattle.ix_store.specs.Memo.{hash_matches_by, hash_matches}
 use Rattle.ix_store.specs.Store.{Blocks, position_of}
 use Rattle.ix_store.proofs.Stores.{pair-there}
@@ -28,21 +23,33 @@ pair-here store place k c b block there named at same =
 pub asked-here : {X : Type 0} (f : List ℕ × List ℕ → X) (store : Blocks) (place : ℕ) (p : List ℕ × List ℕ) (r d : X) → slice_get store place ≡ Some p → r ≡ get_or (map f store) place d → r ≡ f p
 asked-here f store place p r d at asked = asked ∙ get_or_from_slice_get (map f store) place (f p) d (slice_get-map f store place ∙ ap (λ o. option_map f o) at)
 
--- under a known codec and hash function, the verdict on a section is by the digest and the data
-section-judged : (f : HashFunction) (c block : List ℕ) (matches malformed : Bool) → has_codec c ≡ true → hash_function_of (parts_of c) ≡ Some f
+-- whether there is a function, as std says it
+pub none-by : (function : Option HashFunction) (none t : Bool) → is_some function ≡ not none → none ≡ t → is_none function ≡ t
+none-by None none t some is = on none some is where
+  on : (none : Bool) → false ≡ not none → none ≡ t → true ≡ t
+  on true some is = is
+  on false some is = absurd cc
+none-by (Some f) none t some is = on none some is where
+  on : (none : Bool) → true ≡ not none → none ≡ t → false ≡ t
+  on true some is = absurd cc
+  on false some is = is
+
+-- under a known hash function, the verdict on a section is by the digest and the data
+section-judged : (f : HashFunction) (c block : List ℕ) (matches malformed : Bool) → hash_function_of (parts_of c) ≡ Some f
     → matches ≡ bytes_eq (digest_by f block) (digest_of c) → malformed ≡ is_no_data c block → (if matches then (if malformed then Malformed else Sound) else Damaged) ≡ section_verdict c block
-section-judged f c block matches malformed codec known hashes fails =
+section-judged f c block matches malformed known hashes fails =
     ap (λ (t : Bool). if t then (if malformed then Malformed else Sound) else Damaged) hashes
     ∙ ap (λ (t : Bool). if bytes_eq (digest_by f block) (digest_of c) then (if t then Malformed else Sound) else Damaged) fails
     ∙ ap (λ g. verdict_by_hash g c block) (sym known)
-    ∙ ap (λ (t : Bool). if t then verdict_by_hash (hash_function_of (parts_of c)) c block else Codec) (sym codec)
 
--- so it is where bytes are needed
-pub section-stored : (c block : List ℕ) (n : Needed) (matches malformed : Bool) → (n ≡ Digest) ⊎ ((f : HashFunction) × (n ≡ Block f)) → n ≡ needed_of (parts_of c)
+-- so it is where a CID names one
+pub section-stored : (c block : List ℕ) (function : Option HashFunction) (matches malformed : Bool) → is_none function ≡ false → function ≡ hash_function_of (parts_of c)
     → matches ≡ hash_matches (c, block) → malformed ≡ is_no_data c block → (if matches then (if malformed then Malformed else Sound) else Damaged) ≡ section_verdict c block
-section-stored c block n matches malformed (inl is) needed hashes fails =
-    let known = known-Digest (parts_of c) (sym is ∙ needed) in
-    section-judged Identity c block matches malformed (known-codec-Digest (parts_of c) (sym is ∙ needed)) known (hashes ∙ ap (λ g. hash_matches_by g (digest_of c) block) known) fails
-section-stored c block n matches malformed (inr is) needed hashes fails =
-    let known = known-Block (parts_of c) is.0 (sym is.1 ∙ needed) in
-    section-judged is.0 c block matches malformed (known-codec-Block (parts_of c) is.0 (sym is.1 ∙ needed)) known (hashes ∙ ap (λ g. hash_matches_by g (digest_of c) block) known) fails
+section-stored c block None matches malformed some is hashes fails = absurd cc
+section-stored c block (Some f) matches malformed some is hashes fails =
+    section-judged f c block matches malformed (sym is) (hashes ∙ ap (λ g. hash_matches_by g (digest_of c) block) (sym is)) fails
+
+-- and where it names none
+pub section-unknown : (c block : List ℕ) (function : Option HashFunction) → is_none function ≡ true → function ≡ hash_function_of (parts_of c) → Hash ≡ section_verdict c block
+section-unknown c block None none is = ap (λ g. verdict_by_hash g c block) is
+section-unknown c block (Some f) none is = absurd cc

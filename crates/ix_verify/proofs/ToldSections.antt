@@ -10,6 +10,7 @@ use Rattle.ix_verify.specs.Found.{told_of, unsound_of}
 use Rattle.ix_verify.specs.Counted.{told_if, told_among}
 use Rattle.ix_verify.specs.declared.found.Unsound.{Unsound}
 use Rattle.ix_verify.specs.declared.noted.Noted.{Noted}
+use Rattle.ix_verify.specs.Outcome.{section_finding}
 use Rattle.ix_verify.specs.Noting.{NotesMore}
 use Rattle.ix_verify.proofs.Notes.{AreNoted, noted-more, noted-all, noted-few}
 
@@ -51,21 +52,21 @@ none-told (s ∷ ss) vs (inr e) = ap (λ (b : List Verdict). told_among (s ∷ s
 module _ (most : ℕ) (ss : List Section) (vs : List Verdict) where
   -- what is noted of sections with verdicts, where these are left
   abbrev pub AreToldTo : List Section → List Verdict → Noted Unsound → Noted Unsound → Type 0
-  AreToldTo later_ss later_vs old new = AreNoted most (told_among ss vs) (told_among later_ss later_vs) old new
+  AreToldTo later_ss later_vs old new = AreNoted section_finding most (told_among ss vs) (told_among later_ss later_vs) old new
 
   -- a turn of the loop over sections and verdicts
   pub told-more : (s : Section) (v : Verdict) (now_ss later_ss : List Section) (now_vs later_vs : List Verdict) (old mid new : Noted Unsound) → now_ss ≡ s ∷ later_ss → now_vs ≡ v ∷ later_vs
-      → NotesMore most (told_if s v) mid new → AreToldTo now_ss now_vs old mid → AreToldTo later_ss later_vs old new
+      → NotesMore section_finding most (told_if s v) mid new → AreToldTo now_ss now_vs old mid → AreToldTo later_ss later_vs old new
   told-more s v now_ss later_ss now_vs later_vs old mid new first second more so_far =
       let left : told_among now_ss now_vs ≡ told_if s v ++ told_among later_ss later_vs =
       ap (λ (a : List Section). told_among a now_vs) first ∙ ap (λ (b : List Verdict). told_among (s ∷ later_ss) b) second in
-      noted-more most (told_among ss vs) (told_if s v) (told_among later_ss later_vs) old mid new
-      (subst (λ (l : List Unsound). AreNoted most (told_among ss vs) l old mid) left so_far) more
+      noted-more section_finding most (told_among ss vs) (told_if s v) (told_among later_ss later_vs) old mid new
+      (subst (λ (l : List Unsound). AreNoted section_finding most (told_among ss vs) l old mid) left so_far) more
 
   -- where no pair is left, all are reported
-  pub all-told : (now_ss : List Section) (now_vs : List Verdict) (old new : Noted Unsound) → (now_ss ≡ []) ⊎ (now_vs ≡ []) → AreToldTo now_ss now_vs old new → NotesMore most (told_among ss vs) old new
-  all-told now_ss now_vs old new none so_far = noted-all most (told_among ss vs) (told_among now_ss now_vs) old new (none-told now_ss now_vs none) so_far
+  pub all-told : (now_ss : List Section) (now_vs : List Verdict) (old new : Noted Unsound) → (now_ss ≡ []) ⊎ (now_vs ≡ []) → AreToldTo now_ss now_vs old new → NotesMore section_finding most (told_among ss vs) old new
+  all-told now_ss now_vs old new none so_far = noted-all section_finding most (told_among ss vs) (told_among now_ss now_vs) old new (none-told now_ss now_vs none) so_far
 
   -- one more can be counted
-  pub told-fit : (left : List Unsound) (old new : Noted Unsound) → old.count + length ss < 2 ^ 63 → AreNoted most (told_among ss vs) left old new → new.count + 1 < 2 ^ 64
-  told-fit left old new room so_far = omega (arith, room, few-among ss vs, noted-few most (told_among ss vs) left old new so_far)
+  pub told-fit : (left : List Unsound) (old new : Noted Unsound) → old.count + length ss < 2 ^ 63 → AreNoted section_finding most (told_among ss vs) left old new → new.count + 1 < 2 ^ 64
+  told-fit left old new room so_far = omega (arith, room, few-among ss vs, noted-few section_finding most (told_among ss vs) left old new so_far)

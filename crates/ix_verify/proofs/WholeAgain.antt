@@ -35,7 +35,7 @@ use Rattle.ix_car.specs.Sections.{SectionMeaning, with_sections}
 use Rattle.ix_archive.specs.Verified.{judged, verified, judged_visits}
 use Rattle.ix_archive.proofs.Numbers.{kept-verified}
 use Rattle.ix_verify.specs.Roots.{holder_of}
-use Rattle.ix_verify.specs.Found.{job_below, roots_job, skip_of, skips_below}
+use Rattle.ix_verify.specs.Found.{job_below, roots_job, skip_of, is_absent, skips_below}
 use Rattle.ix_verify.specs.Written.{section_where, sections_from, written_sections}
 
 -- ---- the store of an archive's sections
@@ -258,11 +258,16 @@ all-pass store number n (x ∷ xs) h = on_pass (passes (verdict_of store x.cid))
   on_pass true is h more = (is, more h)
   on_pass false is h more = absurd cc
 
-none-skipped : (store : Blocks) (number n : ℕ) (xs : List Arrival) → AllByRecursion (λ a. passes (verdict_of store a.cid) ≡ true) xs → skips_among store number n xs ≡ []
-none-skipped store number n [] h = refl
-none-skipped store number n (x ∷ xs) h =
-    let others = filter (λ d. not (passes d.verdict)) (map (judged store) (visits_from store number (n + 1) xs)) in
-    ap (λ (b : Bool). map skip_of (if not b then judged store (visit_of store number n x) ∷ others else others)) h.0 ∙ none-skipped store number (n + 1) xs h.1
+-- what is reported of visits, except for what may be lacking
+abbrev told_among : (List ℕ → Bool) → Blocks → ℕ → ℕ → List Arrival → List Skip
+told_among lack store number n xs = map skip_of (filter (λ d. not (passes d.verdict || is_absent lack d)) (map (judged store) (visits_from store number n xs)))
+
+none-skipped : (lack : List ℕ → Bool) (store : Blocks) (number n : ℕ) (xs : List Arrival) → AllByRecursion (λ a. passes (verdict_of store a.cid) ≡ true) xs → told_among lack store number n xs ≡ []
+none-skipped lack store number n [] h = refl
+none-skipped lack store number n (x ∷ xs) h =
+    let here = judged store (visit_of store number n x) in
+    let others = filter (λ d. not (passes d.verdict || is_absent lack d)) (map (judged store) (visits_from store number (n + 1) xs)) in
+    ap (λ (b : Bool). map skip_of (if not (b || is_absent lack here) then here ∷ others else others)) h.0 ∙ none-skipped lack store number (n + 1) xs h.1
 
 -- ---- the archive of everything below roots
 
@@ -318,11 +323,11 @@ module _ (store : Blocks) (number : ℕ) (name : List ℕ) (limit : ℕ) (roots 
       ap (is_over_limit kept_store) as-they-are
       ∙ subst (λ (xs : List Arrival). ltb 4294967295 (length xs) ≡ false) (sym met-again) (le-ltb 4294967295 (length met) (le_trans met-few few))
 
-  pub nothing-skipped : skips_below kept_store (roots_job roots) ≡ []
-  nothing-skipped =
-      ap (skips_below kept_store) as-they-are
-      ∙ ap (λ (xs : List Arrival). skips_among kept_store 0 0 (take 4294967295 xs)) met-again
-      ∙ ap (λ (xs : List Arrival). skips_among kept_store 0 0 xs) (take_all 4294967295 met (le_trans met-few few))
-      ∙ none-skipped kept_store 0 0 met
+  pub nothing-skipped : (lack : List ℕ → Bool) → skips_below lack kept_store (roots_job roots) ≡ []
+  nothing-skipped lack =
+      ap (skips_below lack kept_store) as-they-are
+      ∙ ap (λ (xs : List Arrival). told_among lack kept_store 0 0 (take 4294967295 xs)) met-again
+      ∙ ap (λ (xs : List Arrival). told_among lack kept_store 0 0 xs) (take_all 4294967295 met (le_trans met-few few))
+      ∙ none-skipped lack kept_store 0 0 met
       (all-weaker (λ a. ((verdict_of kept_store a.cid ≡ verdict_of store a.cid) × (sound_value kept_store a.cid ≡ sound_value store a.cid)) × (passes (verdict_of store a.cid) ≡ true)) (λ a. passes (verdict_of kept_store a.cid) ≡ true)
       (λ a h. ap passes h.0.0 ∙ h.1) met (all-both (λ a. (verdict_of kept_store a.cid ≡ verdict_of store a.cid) × (sound_value kept_store a.cid ≡ sound_value store a.cid)) (λ a. passes (verdict_of store a.cid) ≡ true) met each-same pass-each))

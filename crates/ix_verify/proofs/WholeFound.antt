@@ -10,7 +10,8 @@ use Rattle.ix_car.specs.Sections.{SectionMeaning, with_sections, roots_of}
 use Rattle.ix_archive.specs.Verified.{verified, judged_visits}
 use Rattle.ix_verify.specs.declared.found.Unsound.{Unsound}
 use Rattle.ix_verify.specs.Noting.{IsNoted}
-use Rattle.ix_verify.specs.Found.{job_below, IsReached, IsSoundFile}
+use Rattle.ix_verify.specs.Outcome.{section_finding, link_finding}
+use Rattle.ix_verify.specs.Found.{job_below, allow_none, may_lack, IsReached, IsSoundFile}
 use Rattle.ix_verify.specs.Written.{written_sections, IsArchivable}
 use Rattle.ix_verify.proofs.SoundSections.{All-verified}
 use Rattle.ix_verify.proofs.ArchivesAgain.{archive-roots, archive-found, found-sound}
@@ -25,8 +26,8 @@ archive-whole store number name limit roots written distinct short few within no
     let kept = with_sections [] (written_sections store roots told) in
     let of = archive-found store roots told found.sections written (All-verified store number job) found.read in
     let named : first_ones (roots_of (archive_of store number job)) ≡ roots = ap first_ones (archive-roots store roots told written) ∙ distinct in
-    let reached : IsReached kept roots most f.skips f.is_over_limit =
-    subst (λ (ss : List SectionMeaning). IsReached (with_sections [] ss) roots most f.skips f.is_over_limit) of.0
-    (subst (λ (rs : List (List ℕ)). IsReached (with_sections [] found.sections) rs most f.skips f.is_over_limit) named found.reached) in
-    let skips : IsNoted most [] f.skips = subst (λ (l : List Skip). IsNoted most l f.skips) (nothing-skipped store number name limit roots short few within none) reached.skipped in
-    found-sound most f (subst (λ (l : List Unsound). IsNoted most l f.unsound) of.1 found.unsound) skips (reached.unfinished ∙ finished store number name limit roots short few within none)
+    let reached : IsReached allow_none kept roots most f.skips f.absent f.is_over_limit =
+    subst (λ (ss : List SectionMeaning). IsReached allow_none (with_sections [] ss) roots most f.skips f.absent f.is_over_limit) of.0
+    (subst (λ (rs : List (List ℕ)). IsReached allow_none (with_sections [] found.sections) rs most f.skips f.absent f.is_over_limit) named found.reached) in
+    let skips : IsNoted link_finding most [] f.skips = subst (λ (l : List Skip). IsNoted link_finding most l f.skips) (nothing-skipped store number name limit roots short few within none (may_lack allow_none roots)) reached.skipped in
+    found-sound most f (subst (λ (l : List Unsound). IsNoted section_finding most l f.unsound) of.1 found.unsound) skips (reached.unfinished ∙ finished store number name limit roots short few within none)

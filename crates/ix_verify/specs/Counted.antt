@@ -9,6 +9,7 @@ use Rattle.ix_car.specs.declared.fault.CarFault.{CarFault}
 use Rattle.ix_car.specs.Gives.{FailsAs}
 use Rattle.ix_car.specs.Sections.{SectionMeaning, sections_after, section_list, roots_of}
 use Rattle.ix_car.specs.SectionView.{views_of}
+use Rattle.ix_verify.specs.Outcome.{section_finding}
 use Rattle.ix_verify.specs.Noting.{IsNoted}
 use Rattle.ix_verify.specs.Found.{unsound_of}
 use Rattle.ix_verify.specs.declared.reach.Reached.{Reached}
@@ -41,9 +42,9 @@ pub record IsJudgedOf (b : List ℕ) (most : ℕ) (j : Judged) : Type 0 where
   pub sections : List SectionMeaning
   pub read : section_list b ≡ Ok sections
   pub count : j.sections ≡ length sections
-  pub unsound : IsNoted most (unsound_of sections) j.unsound
+  pub unsound : IsNoted section_finding most (unsound_of sections) j.unsound
   pub roots : j.roots.items ≡ roots_of b
 
 -- what is found of the sections of a file, what was met from its roots on, and how many blocks are a later copy
 abbrev pub findings_of : Judged → Reached → ℕ → Findings
-findings_of j r later = record { sections = j.sections; unsound = j.unsound; skips = r.skips; is_over_limit = r.is_over_limit; later_count = later }
+findings_of j r later = record { sections = j.sections; unsound = j.unsound; skips = r.skips; absent = r.absent; is_over_limit = r.is_over_limit; later_count = later }

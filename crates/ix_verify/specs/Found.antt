@@ -1,5 +1,7 @@
 -- What is found of a file, as a function of its bytes.
-use Rattle.std.specs.Prelude.{◌≡◌, ℕ, Bool, true, not, ◌&&◌, ◌==◌, List, [], ◌∷◌, length, map, filter, flat_map, codes, Ok}
+use Rattle.std.specs.Prelude.{◌≡◌, ℕ, Bool, true, false, not, ◌&&◌, ◌||◌, ◌==◌, List, [], ◌∷◌, length, map, filter, flat_map, codes, bytes_eq, Ok}
+use Rattle.std.specs.List.{list_any}
+use Rattle.ix_cid.specs.Cid.{codec_of}
 use Rattle.ix_selector.specs.Pattern.{everything}
 use Rattle.ix_walk.specs.JobMeaning.{JobMeaning}
 use Rattle.ix_store.specs.Store.{Blocks}
@@ -7,6 +9,8 @@ use Rattle.ix_store.specs.Sound.{sound_copies, later_count}
 use Rattle.ix_walk.specs.Visits.{is_over_limit}
 use Rattle.ix_walk.specs.Once.{first_ones}
 use Rattle.ix_check.specs.Verdict.{passes}
+use Rattle.ix_verdict.specs.declared.verdict.Verdict.{Verdict}
+use Rattle.ix_verdict.specs.declared.verdict.Verdict.TheVariants.{Codec, Hash, Missing, Damaged, Malformed, Sound as SoundBlock, Inline}
 use Rattle.ix_archive.specs.declared.archive.Skip.{Skip}
 use Rattle.ix_archive.specs.declared.sink.Delivery.{Delivery}
 use Rattle.ix_archive.specs.Archive.{is_sound}
@@ -17,12 +21,16 @@ use Rattle.ix_car.specs.Gives.{IsFaultOf}
 use Rattle.ix_car.specs.Sections.{SectionMeaning, section_list, roots_of, with_sections}
 use Rattle.ix_verify.specs.Judged.{section_verdict}
 use Rattle.ix_verify.specs.Roots.{few_roots}
+use Rattle.ix_verify.specs.Outcome.{worse, outcome_at_limit, section_finding, link_finding}
 use Rattle.ix_verify.specs.Noting.{IsNoted}
 use Rattle.ix_verify.specs.declared.noted.Noted.{Noted}
 use Rattle.ix_verify.specs.declared.found.Scope.{Scope}
 use Rattle.ix_verify.specs.declared.found.Scope.TheVariants.{Sections as OfSections, Graph as OfGraph}
 use Rattle.ix_verify.specs.declared.found.Copies.{Copies}
 use Rattle.ix_verify.specs.declared.found.Copies.TheVariants.{First, Sound}
+use Rattle.ix_verify.specs.declared.found.Outcome.{Outcome}
+use Rattle.ix_verify.specs.declared.found.Outcome.TheVariants.{Sound as SoundFile}
+use Rattle.ix_verify.specs.declared.found.AllowMissing.{AllowMissing}
 use Rattle.ix_verify.specs.declared.found.Unsound.{Unsound}
 use Rattle.ix_verify.specs.declared.found.Findings.{Findings}
 
@@ -46,23 +54,49 @@ roots_job roots = job_below (codes "verify") 4294967295 (few_roots roots)
 abbrev pub skip_of : Delivery → Skip
 skip_of d = record { seq = d.visit.seq; cid = d.visit.cid; verdict = d.verdict }
 
--- the reports on the visits of a job
-abbrev pub skips_below : Blocks → JobMeaning → List Skip
-skips_below store job = map skip_of (filter (λ d. not (passes d.verdict)) (judged_visits store 0 job))
+-- whether links of these codecs may lead to blocks that aren't there, by the codec of a CID
+abbrev pub may_lack_by : AllowMissing → List ℕ → Bool
+may_lack_by allowed c = (allowed.raw && (codec_of c == 0x55)) || (allowed.dag_cbor && (codec_of c == 0x71))
+
+-- the block of a CID may be lacking: its codec allows for that, and it is none of these roots
+abbrev pub may_lack : AllowMissing → List (List ℕ) → List ℕ → Bool
+may_lack allowed roots c = may_lack_by allowed c && not (list_any (λ root. bytes_eq root c) roots)
+
+abbrev pub is_missing : Verdict → Bool
+is_missing Codec = false
+is_missing Hash = false
+is_missing Missing = true
+is_missing Damaged = false
+is_missing Malformed = false
+is_missing SoundBlock = false
+is_missing Inline = false
+
+-- a visit leads to a block that isn't there, and that may be lacking by this test of CIDs
+abbrev pub is_absent : (List ℕ → Bool) → Delivery → Bool
+is_absent lack d = is_missing d.verdict && lack d.visit.cid
+
+-- the reports on the visits of a job whose verdict isn't good, except for what may be lacking
+abbrev pub skips_below : (List ℕ → Bool) → Blocks → JobMeaning → List Skip
+skips_below lack store job = map skip_of (filter (λ d. not (passes d.verdict || is_absent lack d)) (judged_visits store 0 job))
+
+-- how many visits lead to blocks that aren't there and may be lacking
+abbrev pub absent_below : (List ℕ → Bool) → Blocks → JobMeaning → ℕ
+absent_below lack store job = length (filter (is_absent lack) (judged_visits store 0 job))
 
 -- the roots from which a walk goes: each of a file's, where it is named first
 abbrev pub roots_to_walk : Scope → List (List ℕ) → List (List ℕ)
 roots_to_walk OfSections roots = []
 roots_to_walk OfGraph roots = first_ones roots
 
--- what a walk of a job comes to: what is skipped, and whether it ends at its limit
-pub record IsWalkOf (store : Blocks) (job : JobMeaning) (most : ℕ) (skips : Noted Skip) (over : Bool) : Type 0 where
-  pub skipped : IsNoted most (skips_below store job) skips
+-- what a walk of a job comes to: what is skipped, how much is absent, and whether it ends at its limit
+pub record IsWalkOf (lack : List ℕ → Bool) (store : Blocks) (job : JobMeaning) (most : ℕ) (skips : Noted Skip) (absent : ℕ) (over : Bool) : Type 0 where
+  pub skipped : IsNoted link_finding most (skips_below lack store job) skips
+  pub lacking : absent ≡ absent_below lack store job
   pub unfinished : over ≡ is_over_limit store job
 
 -- what the one walk from these roots comes to
-abbrev pub IsReached : Blocks → List (List ℕ) → ℕ → Noted Skip → Bool → Type 0
-IsReached store roots most skips over = IsWalkOf store (roots_job roots) most skips over
+abbrev pub IsReached : AllowMissing → Blocks → List (List ℕ) → ℕ → Noted Skip → ℕ → Bool → Type 0
+IsReached allowed store roots most skips absent over = IsWalkOf (may_lack allowed roots) store (roots_job roots) most skips absent over
 
 -- a store with the blocks of the sections of files, put end to end, the first of each CID
 abbrev pub with_files : Blocks → List (List SectionMeaning) → Blocks
@@ -85,17 +119,21 @@ later_of Sound files = later_count (copies_in files)
 
 -- what is found of a file beside others, of which these are the sections: of each of its own sections by its own bytes, and
 -- below its roots in the store of its sections and then of theirs
-pub record IsFoundBeside (copies : Copies) (others : List (List SectionMeaning)) (b : List ℕ) (scope : Scope) (most : ℕ) (f : Findings) : Type 0 where
+pub record IsFoundBeside (copies : Copies) (allowed : AllowMissing) (others : List (List SectionMeaning)) (b : List ℕ) (scope : Scope) (most : ℕ) (f : Findings) : Type 0 where
   pub sections : List SectionMeaning
   pub read : section_list b ≡ Ok sections
   pub count : f.sections ≡ length sections
-  pub unsound : IsNoted most (unsound_of sections) f.unsound
-  pub reached : IsReached (store_of copies (sections ∷ others)) (roots_to_walk scope (roots_of b)) most f.skips f.is_over_limit
+  pub unsound : IsNoted section_finding most (unsound_of sections) f.unsound
+  pub reached : IsReached allowed (store_of copies (sections ∷ others)) (roots_to_walk scope (roots_of b)) most f.skips f.absent f.is_over_limit
   pub later : f.later_count ≡ later_of copies (sections ∷ others)
 
--- what is found of a file beside no other, where the first copy of a block counts
+-- no link may lead to a block that isn't there
+abbrev pub allow_none : AllowMissing
+allow_none = record { raw = false; dag_cbor = false }
+
+-- what is found of a file beside no other, where the first copy of a block counts, and each link to a missing block
 abbrev pub IsFoundOf : List ℕ → Scope → ℕ → Findings → Type 0
-IsFoundOf b scope most f = IsFoundBeside First [] b scope most f
+IsFoundOf b scope most f = IsFoundBeside First allow_none [] b scope most f
 
 -- an error is that of a file: the first in its header and sections
 abbrev pub IsFileFault : List ℕ → CarFault → Type 0
@@ -105,10 +143,18 @@ IsFileFault b e = IsFaultOf b e (section_list b)
 abbrev pub is_sound_file : Findings → Bool
 is_sound_file f = (f.unsound.count == 0) && ((f.skips.count == 0) && not f.is_over_limit)
 
+-- the outcome of a file: the worst that its findings make of it
+abbrev pub outcome_of : Findings → Outcome
+outcome_of f = worse f.unsound.worst (worse f.skips.worst (outcome_at_limit f.is_over_limit))
+
+-- a file is sound: nothing is found of it, and so its outcome is the best
+abbrev pub IsCalledSound : Findings → Type 0
+IsCalledSound f = (is_sound_file f ≡ true) × (outcome_of f ≡ SoundFile)
+
 -- whatever is found of a file of which the sections alone are verified, it is sound
 abbrev pub HasSoundSections : List ℕ → Type 0
-HasSoundSections file = (most : ℕ) (found : Findings) → IsFoundOf file OfSections most found → is_sound_file found ≡ true
+HasSoundSections file = (most : ℕ) (found : Findings) → IsFoundOf file OfSections most found → IsCalledSound found
 
 -- whatever is found of a file, with what its roots call for, it is sound
 abbrev pub IsSoundFile : List ℕ → Type 0
-IsSoundFile file = (most : ℕ) (found : Findings) → IsFoundOf file OfGraph most found → is_sound_file found ≡ true
+IsSoundFile file = (most : ℕ) (found : Findings) → IsFoundOf file OfGraph most found → IsCalledSound found

@@ -1,6 +1,7 @@
 -- The laws of what is verified.
-use Rattle.std.specs.Prelude.{◌≡◌, ℕ, ◌≤◌, false, List, [], ◌∷◌, ◌++◌, length, flat_map, Option, Some, Ok, All}
-use Rattle.ix_cid.specs.Cid.{parts_of, hash_function_of}
+use Rattle.std.specs.Prelude.{◌≡◌, ℕ, ◌≤◌, false, List, [], ◌∷◌, ◌++◌, length, flat_map, if◌then◌else◌, Option, Some, Ok, All}
+use Rattle.ix_cid.specs.Cid.{parts_of, digest_of, hash_function_of}
+use Rattle.ix_cid.specs.declared.hash_function.HashFunction.{HashFunction}
 use Rattle.ix_cid.specs.declared.hash_function.HashFunction.TheVariants.{Identity}
 use Rattle.ix_walk.specs.JobMeaning.{JobMeaning}
 use Rattle.ix_store.specs.Store.{Blocks, block_of}
@@ -9,7 +10,8 @@ use Rattle.ix_store.specs.declared.places.PlaceSet.{PlaceSet}
 use Rattle.ix_walk.specs.Visits.{is_over_limit}
 use Rattle.ix_walk.specs.Once.{first_ones}
 use Rattle.ix_check.specs.Verdict.{verdict_with, verdict_of}
-use Rattle.ix_verdict.specs.declared.verdict.Verdict.TheVariants.{Sound}
+use Rattle.ix_verdict.specs.declared.verdict.Verdict.TheVariants.{Codec, Sound}
+use Rattle.ix_verdict.specs.Verdict.{digest_by, has_codec}
 use Rattle.ix_archive.specs.declared.sink.Delivery.{Delivery}
 use Rattle.ix_archive.specs.declared.sink.End.TheVariants.{Done}
 use Rattle.ix_archive.specs.Archive.{Known, known_at, sections_of, archive_with, difference_of, archive_of}
@@ -32,10 +34,17 @@ abbrev pub SoundBlocksAreSoundSections : Type 0
 SoundBlocksAreSoundSections =
     (store : Blocks) (c block : List ℕ) → verdict_of store c ≡ Sound → block_of store c ≡ Some block → section_verdict c block ≡ Sound
 
--- outside identity CIDs, the verdict on a section is that on its CID with its block
+-- outside identity CIDs, the verdict on a CID with a block is that on the section of both, or Codec
 abbrev pub SectionVerdictsAreVerdicts : Type 0
 SectionVerdictsAreVerdicts =
-    (c block : List ℕ) → ¬ (hash_function_of (parts_of c) ≡ Some Identity) → section_verdict c block ≡ verdict_with c (Some block)
+    (c block : List ℕ) → ¬ (hash_function_of (parts_of c) ≡ Some Identity)
+    → verdict_with c (Some block) ≡ (if has_codec c then section_verdict c block else Codec)
+
+-- whatever the codec, the block of a section that is sound has the digest of its CID, by the hash function that this names
+abbrev pub SoundSectionsHaveTheirDigest : Type 0
+SoundSectionsHaveTheirDigest =
+    (c block : List ℕ) → section_verdict c block ≡ Sound
+    → (function : HashFunction) × (hash_function_of (parts_of c) ≡ Some function) × (digest_by function block ≡ digest_of c)
 
 -- every section of which the archive of a job is made is sound
 abbrev pub ArchivesHaveSoundSections : Type 0

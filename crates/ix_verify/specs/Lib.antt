@@ -1,4 +1,5 @@
 pub use Rattle.ix_car.specs.Sections
+pub mod Outcome
 pub mod Judged
 pub mod Noting
 pub mod Roots

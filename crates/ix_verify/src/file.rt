@@ -7,6 +7,7 @@ ghost use Rattle.ix_car.specs.SectionView.{section_of};
 ghost use Rattle.ix_car.specs.Sections.{section_list};
 ghost use Rattle.ix_archive.specs.Archive.{is_sound};
 ghost use Rattle.ix_verify.specs.declared.found.Scope.TheVariants.{Sections as OfSections, Graph as OfGraph};
+ghost use Rattle.ix_verify.specs.Outcome.{section_finding};
 ghost use Rattle.ix_verify.specs.Noting.{NotesMore};
 ghost use Rattle.ix_verify.specs.Found.{unsound_of, IsFoundBeside, IsFoundOf, IsFileFault};
 ghost use Rattle.ix_verify.specs.Counted.{told_if, told_among, findings_of, IsJudgedOf, IsBatchAt, IsBatchFault};
@@ -30,7 +31,8 @@ const BATCH: usize = 65_536;
 
 /// Verifies a CARv1 file, whose sections are hashed by at most so many threads. An error is the file's first
 /// one, which is that of `read_car`. All sections that aren't sound and all links that lead to nothing sound
-/// are counted, and at most so many of each are kept, the first ones.
+/// are counted, and at most so many of each are kept, the first ones. What the worst makes of the file is its
+/// outcome.
 ///
 /// Every section is checked by its own bytes. If the roots are to be walked, one walk visits everything below
 /// them: it starts at each root once, expands each block once, and ends at 4,294,967,295 visits. A visit is a
@@ -74,8 +76,8 @@ pub fn verify_sections<R: Threads + Sync>(
 /// Verifies a CARv1 file and everything below its roots as `verify` does, beside others: the walk looks a CID
 /// up in the file first, and then in each of the others, in their order. Of the copies of a block in all these
 /// files the first counts, or the first that is sound. The sections and roots are the file's own: if the first
-/// counts, a block of another file is checked only where the walk visits it. No error is of another file, since
-/// these have been read.
+/// counts, a block of another file is checked only where the walk visits it. A link that may lead to a block that
+/// isn't there is counted as absent where it does. No error is of another file, since these have been read.
 pub fn verify_beside<R: Threads + Sync>(
     rt: &R,
     alloc: Global,
@@ -85,17 +87,21 @@ pub fn verify_beside<R: Threads + Sync>(
     most: usize,
 ) -> Result<Findings, CarFault>
     ensures found { IfOk result (IsFoundBeside
-        beside.entry.copies beside.entry.others.now car.now OfGraph most) }
+        beside.entry.copies beside.entry.allowed beside.entry.others.now car.now OfGraph most) }
     ensures refused { IfErr result (IsFileFault car.now) }
 {
-    let Beside { others, copies } = beside;
+    let Beside {
+        others,
+        copies,
+        allowed,
+    } = beside;
     // The store caches for the walk what the threads find.
     let (store, later_count) = match load_beside(rt, alloc, car, others, copies, threads.get()) {
         Ok(loaded) => loaded,
         Err(fault) => return Err(fault),
     };
     let judged = judge_file(rt, alloc, Some(&store), car.as_slice(), threads, most)?;
-    match walk_roots(alloc, &store, judged.roots.as_slice(), most) {
+    match walk_roots(alloc, &store, allowed, judged.roots.as_slice(), most) {
         Ok(reached) => Ok(judged.with(reached, later_count)),
         Err(_) => Err(no_memory(0)),
     }
@@ -118,6 +124,7 @@ impl Judged {
             sections: self.sections,
             unsound: self.unsound,
             skips: reached.skips,
+            absent: reached.absent,
             is_over_limit: reached.is_over_limit,
             later_count,
         }
@@ -200,7 +207,8 @@ fn judge_sections<R: Threads + Sync>(
     unsound: &mut Noted<Unsound>,
 ) -> Result<(), AllocError>
     requires { unsound.old.count + length sections.now < 2 ^ 63 }
-    ensures { OnOk result (NotesMore most (unsound_of (map section_of sections.now)) unsound.old unsound.new) }
+    ensures { OnOk result (NotesMore section_finding most
+        (unsound_of (map section_of sections.now)) unsound.old unsound.new) }
 {
     let (store, first, threads) = beside;
     let verdicts = verdicts_with_store(rt, alloc, (store, first), sections, threads)?;
@@ -215,7 +223,8 @@ fn note_sections(
     unsound: &mut Noted<Unsound>,
 ) -> Result<(), AllocError>
     requires { unsound.old.count + length sections.now < 2 ^ 63 }
-    ensures { OnOk result (NotesMore most (told_among sections.now verdicts.now) unsound.old unsound.new) }
+    ensures { OnOk result (NotesMore section_finding most
+        (told_among sections.now verdicts.now) unsound.old unsound.new) }
 {
     for (section, verdict) in sections.iter().zip(verdicts) {
         note_section(alloc, section, *verdict, most, unsound)?;
@@ -232,13 +241,13 @@ fn note_section(
     unsound: &mut Noted<Unsound>,
 ) -> Result<(), AllocError>
     requires { unsound.old.count + 1 < 2 ^ 64 }
-    ensures { OnOk result (NotesMore most (told_if section.now verdict) unsound.old unsound.new) }
+    ensures { OnOk result (NotesMore section_finding most (told_if section.now verdict) unsound.old unsound.new) }
 {
     if is_sound(verdict) {
         return Ok(());
     }
     if !unsound.has_room(most) {
-        unsound.count(most);
+        unsound.count(most, verdict);
         return Ok(());
     }
     let told = Unsound {
@@ -246,7 +255,7 @@ fn note_section(
         cid: section.cid.to_cid(alloc)?,
         verdict,
     };
-    unsound.note(most, told)
+    unsound.note(most, verdict, told)
 }
 
 fn is_sound(verdict: Verdict) -> bool

@@ -1,6 +1,7 @@
 //! The laws of what is verified.
 
-ghost use Rattle.ix_verify.specs.Laws.{SectionVerdictsAreVerdicts, SoundBlocksAreSoundSections, ArchivesHaveSoundSections};
+ghost use Rattle.ix_verify.specs.Laws.{SectionVerdictsAreVerdicts, SoundSectionsHaveTheirDigest};
+ghost use Rattle.ix_verify.specs.Laws.{SoundBlocksAreSoundSections, ArchivesHaveSoundSections};
 ghost use Rattle.ix_verify.specs.Laws.{RootsAreReadBack, SectionsAreReadBack, WrittenIsSoundByItself, VerifiedIsJudged};
 ghost use Rattle.ix_verify.specs.Laws.{DeliveriesHaveSoundSections, JobsHaveSoundSections, WholeArchivesAreSound};
 ghost use Rattle.ix_verify.specs.Laws.{FilesAreEndToEnd, SoundCopiesAreTheFirst, DifferenceIsReadBack};
@@ -10,9 +11,11 @@ ghost use Rattle.ix_verify.specs.Laws.{WritesTheDifference, WrittenThenFilesRest
 use std::io::Write;
 
 /// Says that a section is judged as a block is, except under an identity CID, where `verify` looks at the
-/// section's bytes: otherwise its verdict is that on its CID in a store that has its block.
+/// section's bytes: otherwise the verdict on its CID in a store that has its block is the section's, or `Codec`
+/// if the codec isn't read. Whatever the codec, the block of a sound section has the digest of its CID.
 pub fn section_verdicts_are_verdicts()
-    ensures { SectionVerdictsAreVerdicts }
+    ensures verdicts { SectionVerdictsAreVerdicts }
+    ensures digests { SoundSectionsHaveTheirDigest }
 {}
 
 /// Says that a block that is sound in a store is sound as a section: if the verdict on a CID is
@@ -36,7 +39,7 @@ pub fn archives_are_read_back()
     ensures verified { VerifiedIsJudged }
 {}
 
-/// Says that exports are found to be sound: the sections of each archive of deliveries with the store's
+/// Says that exports are found to be sound, and that this is their outcome: the sections of each archive of deliveries with the store's
 /// verdicts, and so of each job. If a job took everything below one root, expanding each CID once,
 /// within its limit and without a skip, its whole archive is sound, with all that its root requires.
 pub fn archives_are_sound()

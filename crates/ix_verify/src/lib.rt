@@ -13,10 +13,11 @@
 //! for section in &found.unsound.first {
 //!     println!(rt; "{} {}", section.place, section.verdict)?;
 //! }
-//! println!(rt; "{} in all, sound: {}", found.unsound.count, found.is_sound())?;
+//! println!(rt; "{} in all: the file is {}", found.unsound.count, found.outcome())?;
 //!
 //! let library = OtherFile::read(alloc, CarBytes::new(alloc, bytes, payload)?)?;
-//! let beside = Beside { others: &[library], copies: Copies::First };
+//! let allowed = AllowMissing::none();
+//! let beside = Beside { others: &[library], copies: Copies::First, allowed };
 //! let found = verify_beside(rt, alloc, &update, beside, threads, 20)?;
 //! ```
 #![tactic(auto)]
@@ -33,7 +34,7 @@ mod section;
 
 pub use car_bytes::CarBytes;
 pub use file::{verify, verify_beside, verify_sections};
-pub use found::{Copies, Findings, Scope, Unsound};
+pub use found::{AllowMissing, Copies, Findings, Outcome, Scope, Unsound};
 pub use noted::Noted;
 pub use other_file::{Beside, OtherFile};
 pub use section::{judge, judge_all};

@@ -7,32 +7,36 @@ ghost use Rattle.ix_car.specs.Gives.{Gives};
 ghost use Rattle.ix_car.specs.Sections.{section_list, with_sections};
 ghost use Rattle.ix_verify.specs.declared.found.Copies.TheVariants.{First, Sound};
 ghost use Rattle.ix_verify.specs.Beside.{sections_read, blocks_beside, with_copies_in};
-ghost use Rattle.ix_verify.specs.Found.{with_files};
+ghost use Rattle.ix_verify.specs.Found.{allow_none, with_files};
 
 use crate::car_bytes::CarBytes;
-use crate::found::Copies;
+use crate::found::{AllowMissing, Copies};
 use ix_car::{BlockLoader, CarFault, CarKind, SoundLoader, read_sections};
 use ix_store::{SoundStore, Store};
 use std::alloc::{AllocError, Global};
 use std::marker::Model;
 use std::thread::Threads;
 
-/// The files beside which one is verified, and which copy of a block counts.
+/// The files beside which one is verified, which copy of a block counts, and which links may lead to blocks
+/// that aren't there.
 #[derive(Drop, Clone, Copy)]
 pub struct Beside<'a> {
     pub others: &'a [OtherFile],
     pub copies: Copies,
+    pub allowed: AllowMissing,
 }
 
 impl<'a> Beside<'a> {
-    // No files, so that the first copy in the one that is verified counts.
+    // No files, so that the first copy in the one that is verified counts, and each link to a missing block.
     pub(crate) fn nothing() -> Beside<'a>
         ensures copies { result.copies ≡ First }
+        ensures allowed { result.allowed ≡ allow_none }
         ensures others { result.others.now ≡ [] }
     {
         Beside {
             others: &[],
             copies: Copies::First,
+            allowed: AllowMissing::none(),
         }
     }
 }

@@ -1,13 +1,16 @@
 //! Walks everything below the roots of a file.
 
-ghost use Rattle.std.specs.Prelude.{◌≡◌, ◌≤◌, IfOk, OnOk};
+ghost use Rattle.std.specs.Prelude.{◌≡◌, ◌+◌, ◌≤◌, ◌&&◌, IfOk, OnOk};
 ghost use Rattle.ix_walk.specs.Once.{first_ones};
 ghost use Rattle.ix_check.specs.Visits.{IsVisitOf};
 ghost use Rattle.ix_check.specs.Verdict.{verdict_of};
+ghost use Rattle.ix_verify.specs.Outcome.{link_finding};
+ghost use Rattle.ix_verify.specs.Found.{is_missing};
 ghost use Rattle.ix_verify.specs.Noting.{NotesMore};
-ghost use Rattle.ix_verify.specs.Walked.{skip_at, IsReachedBy, IsReachedFrom, IsReachedFromNone};
+ghost use Rattle.ix_verify.specs.Walked.{skip_at, absent_at, lack_of, roots_as_blocks, IsReachedBy, IsReachedFrom, IsReachedFromNone};
 
 use crate::everything::roots_job;
+use crate::found::AllowMissing;
 use crate::noted::Noted;
 use ix_archive::Skip;
 use ix_check::{Check, PlainCheck, Verdict};
@@ -20,6 +23,7 @@ use std::alloc::{AllocError, Global};
 #[derive(Drop)]
 pub(crate) struct Reached {
     pub(crate) skips: Noted<Skip>,
+    pub(crate) absent: usize,
     pub(crate) is_over_limit: bool,
 }
 
@@ -30,7 +34,42 @@ impl Reached {
     {
         Reached {
             skips: Noted::new(alloc),
+            absent: 0,
             is_over_limit: false,
+        }
+    }
+}
+
+// What a walk looks at: a store, the roots as a set, the links that may lead to blocks that aren't there, and
+// how many that lead to nothing sound are kept at most.
+#[derive(Drop, Clone, Copy)]
+struct Watch<'a> {
+    store: &'a Store,
+    roots: &'a Store,
+    allowed: AllowMissing,
+    most: usize,
+}
+
+impl Watch<'_> {
+    // Returns whether the block of a CID may be lacking: a root's may not.
+    fn may_lack(&self, cid: &Cid) -> bool
+        ensures { result ≡ lack_of self.now cid.now }
+    {
+        self.allowed.allows(cid) && self.roots.find(cid).is_none()
+    }
+
+    // Returns whether a visit of a CID with this verdict leads to a block that isn't there and may be lacking.
+    fn lacks(&self, cid: &Cid, verdict: Verdict) -> bool
+        ensures { result ≡ (is_missing verdict && lack_of self.now cid.now) }
+    {
+        match verdict {
+            Verdict::Missing => self.may_lack(cid),
+            Verdict::Codec
+            | Verdict::Hash
+            | Verdict::Damaged
+            | Verdict::Malformed
+            | Verdict::Sound
+            | Verdict::Inline => false,
         }
     }
 }
@@ -39,22 +78,30 @@ impl Reached {
 pub(crate) fn walk_roots(
     alloc: Global,
     store: &Store,
+    allowed: AllowMissing,
     roots: &[Cid],
     most: usize,
 ) -> Result<Reached, AllocError>
-    ensures { IfOk result (IsReachedFrom store.now roots.now most) }
+    ensures { IfOk result (IsReachedFrom allowed store.now roots.now most) }
 {
-    let distinct = distinct_roots(alloc, roots)?;
+    let (distinct, set) = distinct_roots(alloc, roots)?;
     if distinct.is_empty() {
         return Ok(Reached::nothing(alloc));
     }
     let job = roots_job(alloc, distinct)?;
-    walk_job(alloc, store, &job, most)
+    let watch = Watch {
+        store,
+        roots: &set,
+        allowed,
+        most,
+    };
+    walk_job(alloc, watch, &job)
 }
 
-// Returns each root once, in the order of first occurrences.
-fn distinct_roots(alloc: Global, roots: &[Cid]) -> Result<Vec<Cid>, AllocError>
-    ensures { IfOk result (λ distinct. distinct.items ≡ first_ones roots.now) }
+// Returns each root once, in the order of first occurrences, and a set of them.
+fn distinct_roots(alloc: Global, roots: &[Cid]) -> Result<(Vec<Cid>, Store), AllocError>
+    ensures once { IfOk result (λ r. r.0.items ≡ first_ones roots.now) }
+    ensures set { IfOk result (λ r. r.1 ≡ roots_as_blocks r.0.items) }
 {
     let mut seen = Store::new(alloc);
     let mut distinct = Vec::new(alloc);
@@ -64,20 +111,22 @@ fn distinct_roots(alloc: Global, roots: &[Cid]) -> Result<Vec<Cid>, AllocError>
             distinct.push(root.try_clone(alloc)?)?;
         }
     }
-    Ok(distinct)
+    Ok((distinct, seen))
 }
 
 // Walks a job and returns its findings.
-fn walk_job(alloc: Global, store: &Store, job: &Job, most: usize) -> Result<Reached, AllocError>
-    ensures { IfOk result (IsReachedBy store.now job.now most) }
+fn walk_job(alloc: Global, watch: Watch<'_>, job: &Job) -> Result<Reached, AllocError>
+    ensures { IfOk result (IsReachedBy (lack_of watch.entry) watch.entry.store.now job.now watch.entry.most) }
 {
     let mut skips = Noted::new(alloc);
-    for item in Walk::new(alloc, store, job, 0)? {
+    let mut absent = 0;
+    for item in Walk::new(alloc, watch.store, job, 0)? {
         match item {
-            Ok(visit) => note_visit(alloc, store, visit, most, &mut skips)?,
+            Ok(visit) => note_visit(alloc, watch, visit, &mut skips, &mut absent)?,
             Err(WalkStop::Limit) => {
                 return Ok(Reached {
                     skips,
+                    absent,
                     is_over_limit: true,
                 });
             }
@@ -86,24 +135,33 @@ fn walk_job(alloc: Global, store: &Store, job: &Job, most: usize) -> Result<Reac
     }
     Ok(Reached {
         skips,
+        absent,
         is_over_limit: false,
     })
 }
 
-// Records a visit whose verdict isn't good.
+// Records a visit whose verdict isn't good, or counts it if its block isn't there and may be lacking.
 fn note_visit(
     alloc: Global,
-    store: &Store,
+    watch: Watch<'_>,
     visit: Visit,
-    most: usize,
     skips: &mut Noted<Skip>,
+    absent: &mut usize,
 ) -> Result<(), AllocError>
-    requires visit { IsVisitOf store.now visit }
+    requires visit { IsVisitOf watch.store.now visit }
     requires count { skips.old.count ≤ visit.seq }
-    ensures { OnOk result (NotesMore most (skip_at store.now visit) skips.old skips.new) }
+    requires lacking { absent.old ≤ visit.seq }
+    ensures noted { OnOk result (NotesMore link_finding watch.entry.most
+        (skip_at (lack_of watch.entry) watch.entry.store.now visit) skips.old skips.new) }
+    ensures counted { OnOk result (
+        absent.new ≡ absent.old + absent_at (lack_of watch.entry) watch.entry.store.now visit) }
 {
-    let verdict = verdict_of(alloc, store, &visit)?;
+    let verdict = verdict_of(alloc, watch.store, &visit)?;
     if verdict.passes() {
+        return Ok(());
+    }
+    if watch.lacks(&visit.cid, verdict) {
+        *absent += 1;
         return Ok(());
     }
     let skip = Skip {
@@ -111,7 +169,8 @@ fn note_visit(
         cid: visit.cid,
         verdict,
     };
-    skips.note(most, skip)
+    skips.note(watch.most, verdict, skip)?;
+    Ok(())
 }
 
 // Returns the verdict on a visit.

@@ -6,25 +6,23 @@ ghost use Rattle.ix_verify.specs.Judged.{verdict_in, section_pair};
 
 use ix_car::Section;
 use ix_cbor::check;
-use ix_cid::HashFunction;
 use ix_cid::code::DAG_CBOR;
 use ix_interleave::map_interleaved;
 use ix_store::Store;
-use ix_verdict::{Needed, Verdict, bytes_needed, has_digest};
+use ix_verdict::{Verdict, has_digest};
 use std::alloc::{AllocError, Global};
 use std::num::NonZeroUsize;
 use std::thread::Threads;
 
 /// Returns the verdict on a section: whether its own block, and no other with its CID, is what the CID
-/// names. For an identity CID that is the CID's digest. The verdict is neither `Missing` nor `Inline`.
+/// names, whatever its codec. For an identity CID that is the CID's digest. The verdict is `Hash`,
+/// `Damaged`, `Malformed` or `Sound`.
 pub fn judge(section: &Section<'_>) -> Verdict
     ensures { result ≡ verdict_in section.now }
 {
     let parts = section.cid.parts();
-    let function = match bytes_needed(&parts) {
-        Needed::Nothing(verdict) => return verdict,
-        Needed::Digest => HashFunction::Identity,
-        Needed::Block(function) => function,
+    let Some(function) = parts.hash_function() else {
+        return Verdict::Hash;
     };
     Verdict::of_block(
         has_digest(function, parts.digest, section.block),
@@ -122,13 +120,13 @@ fn verdict_stored(store: &Store, place: usize, section: &Section<'_>) -> Verdict
     ensures { result ≡ verdict_in section.now }
 {
     let parts = section.cid.parts();
-    match bytes_needed(&parts) {
-        Needed::Nothing(verdict) => verdict,
-        Needed::Digest | Needed::Block(_) => Verdict::of_block(
-            store.hash_matches(place),
-            parts.codec == DAG_CBOR && store.is_malformed(place),
-        ),
+    if parts.hash_function().is_none() {
+        return Verdict::Hash;
     }
+    Verdict::of_block(
+        store.hash_matches(place),
+        parts.codec == DAG_CBOR && store.is_malformed(place),
+    )
 }
 
 // Returns whether a block doesn't decode.

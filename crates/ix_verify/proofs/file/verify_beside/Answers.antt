@@ -15,5 +15,5 @@ returns-in-Ok-walk_roots-clause-found g c =
     let met = c.in-Ok-walk_roots.reached in
     let same : c.as_slice.result.now ≡ b = search rules in
     let judged = subst (λ (x : List ℕ). IsJudgedOf x most c.in_ok-judged.judged) same c.in_ok-judged.ensures.judged in
-    let reached = subst (λ (roots : List (List ℕ)). IsReachedFrom c.in-Ok.loaded.0 roots most met) c.as_slice-2.ensures.value c.in-Ok-walk_roots.ensures in
-    found-roots c.args.beside.copies c.args.beside.others.now b most c.in_ok-judged.judged c.with.result met c.in-Ok.loaded.1 judged c.with.ensures c.in-Ok.loaded.0 c.in-Ok.ensures reached
+    let reached = subst (λ (roots : List (List ℕ)). IsReachedFrom c.args.beside.allowed c.in-Ok.loaded.0 roots most met) c.as_slice-2.ensures.value c.in-Ok-walk_roots.ensures in
+    found-roots c.args.beside.copies c.args.beside.allowed c.args.beside.others.now b most c.in_ok-judged.judged c.with.result met c.in-Ok.loaded.1 judged c.with.ensures c.in-Ok.loaded.0 c.in-Ok.ensures reached

@@ -1,5 +1,5 @@
-use Rattle.ix_verify.proofs.SoundSections.{section_verdict-with}
+use Rattle.ix_verify.proofs.SoundSections.{section_verdict-with, section_verdict-digest}
 use Rattle.ix_verify.proofs.law.section_verdicts_are_verdicts.Goals as goal
 
 pub returns : goal.returns
-returns c = section_verdict-with
+returns c = record { verdicts = section_verdict-with; digests = section_verdict-digest }
