@@ -10,3 +10,5 @@ mod ReportLaws
 mod PartLists
 mod JobLines
 mod PartJobs
+mod AbsentSkips
+mod AbsentLines

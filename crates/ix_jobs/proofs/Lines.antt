@@ -10,7 +10,7 @@ use Rattle.ix_jobs.specs.Report.{is_done, skip_lines, job_line, all_lines, done_
 use Rattle.ix_jobs.specs.declared.results.JobResult.{JobResult}
 
 -- lines in two groups are the same lines
-regrouped : (old line more rest : List ℕ) → old ++ line ++ more ++ rest ≡ old ++ (line ++ more ++ rest)
+pub regrouped : (old line more rest : List ℕ) → old ++ line ++ more ++ rest ≡ old ++ (line ++ more ++ rest)
 regrouped old line more rest = simp append_assoc
 
 -- a turn of the loop over jobs: what is written, and the lines of the jobs that are left

@@ -4,6 +4,7 @@ pub mod Named
 pub mod Gives
 pub mod FaultWords
 pub mod Report
+pub mod Missing
 pub mod Parts
 pub mod PartList
 pub mod Joined

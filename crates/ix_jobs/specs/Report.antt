@@ -65,6 +65,24 @@ total_line jobs done skips = codes "total jobs=" ++ decimal jobs ++ codes " done
 abbrev pub report_of : List JobMeaning → List JobResult → List ℕ
 report_of jobs rs = all_lines jobs rs ++ total_line (length jobs) (done_count rs) (skip_count rs)
 
+-- the line of a job whose absent skips were counted, and those of its other skips
+abbrev pub absent_line : JobMeaning → JobResult → ℕ → List ℕ
+absent_line job r absent = counts_words job.name r.end r.counts ++ known_words r.counts.known ++ codes " absent=" ++ decimal absent ++ 10 ∷ []
+
+abbrev pub absent_lines : JobMeaning → JobResult → ℕ → List ℕ
+absent_lines job r absent = absent_line job r absent ++ skip_lines r.skips.items
+
+-- the lines of each such job, in order
+abbrev pub all_absent_lines : List JobMeaning → List JobResult → List ℕ → List ℕ
+all_absent_lines [] rs counts = []
+all_absent_lines (job ∷ jobs) [] counts = []
+all_absent_lines (job ∷ jobs) (r ∷ rs) [] = []
+all_absent_lines (job ∷ jobs) (r ∷ rs) (n ∷ counts) = absent_lines job r n ++ all_absent_lines jobs rs counts
+
+-- the report of jobs whose absent skips were counted
+abbrev pub report_with_absent : List JobMeaning → List JobResult → List ℕ → List ℕ
+report_with_absent jobs rs counts = all_absent_lines jobs rs counts ++ total_line (length jobs) (done_count rs) (skip_count rs)
+
 -- 4 with an end other than done, else 3 with some skip, else 0
 abbrev pub status_of : List JobResult → ℕ
 status_of rs = if list_all (λ r. is_done r.end) rs then (if nat_lt 0 (skip_count rs) then 3 else 0) else 4

@@ -1,6 +1,6 @@
 //! The report and the exit status.
 
-ghost use Rattle.std.specs.Prelude.{◌≡◌, ◌++◌, [], ◌∷◌, length, string_bytes, IfOk, OnOk};
+ghost use Rattle.std.specs.Prelude.{◌≡◌, ◌++◌, [], ◌∷◌, codes, decimal, length, string_bytes, IfOk, OnOk};
 ghost use Rattle.ix_jobs.specs.Report.{
   is_done,
   skip_line,
@@ -13,6 +13,8 @@ ghost use Rattle.ix_jobs.specs.Report.{
   done_count,
   skip_count,
   status_of,
+  absent_line,
+  report_with_absent,
 };
 
 use ix_archive::{Counts, End, Skip};
@@ -52,9 +54,26 @@ pub fn report(alloc: Global, jobs: &[Job], results: &[JobResult]) -> Result<Vec<
         push_job_line(&mut text, job, outcome)?;
         push_skip_lines(alloc, &mut text, outcome.skips.as_slice())?;
     }
-    let done = done_count(results);
-    let skips = skip_count(results);
-    push_total_line(&mut text, jobs.len(), done, skips)?;
+    push_totals(&mut text, jobs.len(), results)?;
+    Ok(text.into_bytes())
+}
+
+/// Returns the report of jobs whose absent skips were taken out of their results and counted: as `report`
+/// does, with ` absent=N` at the end of the line of each job.
+pub fn report_with_absent(
+    alloc: Global,
+    jobs: &[Job],
+    results: &[JobResult],
+    absent: &[usize],
+) -> Result<Vec<u8>, AllocError>
+    ensures { IfOk result (λ text. text.items ≡ report_with_absent jobs.now results.now absent.now) }
+{
+    let mut text = String::new(alloc);
+    for ((job, outcome), count) in jobs.iter().zip(results).zip(absent) {
+        push_absent_line(&mut text, job, outcome, *count)?;
+        push_skip_lines(alloc, &mut text, outcome.skips.as_slice())?;
+    }
+    push_totals(&mut text, jobs.len(), results)?;
     Ok(text.into_bytes())
 }
 
@@ -77,6 +96,31 @@ fn push_job_line(text: &mut String, job: &Job, outcome: &JobResult) -> Result<()
 {
     push_counts(text, job, outcome)?;
     push_known(text, outcome.counts.known)
+}
+
+// Appends the line of a job of which so many skips are absent.
+fn push_absent_line(
+    text: &mut String,
+    job: &Job,
+    outcome: &JobResult,
+    absent: usize,
+) -> Result<(), AllocError>
+    ensures { OnOk result (string_bytes text.new
+        ≡ string_bytes text.old ++ absent_line job.now outcome.now absent) }
+{
+    push_counts(text, job, outcome)?;
+    push_absent(text, outcome.counts.known, absent)
+}
+
+// Appends how many blocks are known, if they were counted, how many skips are absent, and a line end.
+fn push_absent(text: &mut String, known: Option<u32>, absent: usize) -> Result<(), AllocError>
+    ensures { OnOk result (string_bytes text.new
+        ≡ string_bytes text.old ++ known_words known ++ codes " absent=" ++ decimal absent ++ 10 ∷ []) }
+{
+    match known {
+        Some(known) => writeln!(text, " known={known} absent={absent}"),
+        None => writeln!(text, " absent={absent}"),
+    }
 }
 
 // Appends the name, the end and the counts of a job.
@@ -127,6 +171,16 @@ fn push_skip_line(alloc: Global, text: &mut String, skip: &Skip) -> Result<(), A
     let verdict = skip.verdict;
     let cid = skip.cid.text(alloc)?;
     writeln!(text, "  {seq} {verdict} {cid}")
+}
+
+// Appends the last line, with the numbers of results that are done and of their skips.
+fn push_totals(text: &mut String, jobs: usize, results: &[JobResult]) -> Result<(), AllocError>
+    ensures { OnOk result (string_bytes text.new
+        ≡ string_bytes text.old ++ total_line jobs (done_count results.now) (skip_count results.now)) }
+{
+    let done = done_count(results);
+    let skips = skip_count(results);
+    push_total_line(text, jobs, done, skips)
 }
 
 // Appends the last line.

@@ -1,7 +1,7 @@
 use Rattle.std.proofs.Common.{rules, ap, ◌∙◌, ◌≡◌, ◌++◌, length, string_bytes, ℕ, List}
 use Rattle.std.proofs.lemmas.Slice.Zip.{Zip-more, either_empty_from_Zip}
-use Rattle.ix_jobs.specs.Report.{total_line}
-use Rattle.ix_jobs.proofs.Lines.{a_job_more, all_written, total_line-same}
+use Rattle.ix_jobs.specs.Report.{done_count, skip_count, total_line}
+use Rattle.ix_jobs.proofs.Lines.{a_job_more, all_written}
 use Rattle.ix_jobs.proofs.results.report.Goals as goal
 
 pub loop-job-preserved : goal.loop-job-preserved
@@ -11,8 +11,7 @@ loop-job-preserved c =
 
 pub returns : goal.returns
 returns c =
-    let bytes : c.into_bytes.result.items ≡ string_bytes c.push_total_line.new.text = search rules in
+    let bytes : c.into_bytes.result.items ≡ string_bytes c.push_totals.new.text = search rules in
     let none = either_empty_from_Zip c.loop-job.job-iterator c.next.new.self c.next.result c.in-None.is c.next.ensures.steps in
     let written = all_written _ _ _ _ none c.loop-job.invariant in
-    bytes ∙ c.in_ok-push_total_line.ensures ∙ ap (λ (t : List ℕ). t ++ total_line (length c.args.jobs.now) c.done_count-done.result c.skip_count-skips.result) written
-    ∙ total_line-same _ _ c.args.results.now _ _ c.done_count-done.ensures c.skip_count-skips.ensures
+    bytes ∙ c.in_ok-push_totals.ensures ∙ ap (λ (t : List ℕ). t ++ total_line (length c.args.jobs.now) (done_count c.args.results.now) (skip_count c.args.results.now)) written
