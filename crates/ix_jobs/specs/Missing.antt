@@ -1,9 +1,8 @@
 -- Which blocks may be elsewhere: the words for their codecs, and the skips that are absent.
-use Rattle.std.specs.Prelude.{◌≡◌, ℕ, Bool, true, false, not, ◌&&◌, ◌||◌, ◌==◌, List, [], ◌∷◌, length, codes, bytes_eq, Option, Some, None, Result, Ok, Err}
+use Rattle.std.specs.Prelude.{◌≡◌, ℕ, Bool, not, ◌&&◌, ◌||◌, ◌==◌, List, [], ◌∷◌, length, codes, bytes_eq, Option, Some, None, Result, Ok, Err}
 use Rattle.std.specs.List.{list_any, filter, find}
 use Rattle.ix_cid.specs.Cid.{codec_of}
-use Rattle.ix_verdict.specs.declared.verdict.Verdict.{Verdict}
-use Rattle.ix_verdict.specs.declared.verdict.Verdict.TheVariants.{Codec, Hash, Missing, Damaged, Malformed, Sound, Inline}
+use Rattle.ix_verdict.specs.Verdict.{is_missing}
 use Rattle.ix_walk.specs.JobMeaning.{JobMeaning}
 use Rattle.ix_archive.specs.declared.archive.Skip.{Skip}
 use Rattle.ix_jobs.specs.declared.missing.AllowMissing.{AllowMissing}
@@ -31,15 +30,6 @@ allows which codec = (which.raw && codec == 0x55) || (which.dag_cbor && codec ==
 -- whether a CID is that of a root
 abbrev pub is_root : JobMeaning → List ℕ → Bool
 is_root job cid = list_any (λ root. bytes_eq root cid) job.roots
-
-abbrev pub is_missing : Verdict → Bool
-is_missing Codec = false
-is_missing Hash = false
-is_missing Missing = true
-is_missing Damaged = false
-is_missing Malformed = false
-is_missing Sound = false
-is_missing Inline = false
 
 -- a link to a block that isn't there and may be elsewhere; a root may not
 abbrev pub is_absent : AllowMissing → JobMeaning → Skip → Bool

@@ -1,7 +1,8 @@
 //! Skips of blocks that may be missing.
 
 ghost use Rattle.std.specs.Prelude.{◌≡◌, IfOk};
-ghost use Rattle.ix_jobs.specs.Missing.{is_root, is_missing, is_absent, absent_count, IsReported, EachReported};
+ghost use Rattle.ix_verdict.specs.Verdict.{is_missing};
+ghost use Rattle.ix_jobs.specs.Missing.{is_root, is_absent, absent_count, IsReported, EachReported};
 
 use crate::missing::AllowMissing;
 use crate::results::JobResult;

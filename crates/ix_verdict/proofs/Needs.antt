@@ -5,27 +5,12 @@ use Rattle.ix_cid.specs.Cid.{Parts, parts_of, digest_of, hash_function_of}
 use Rattle.ix_cid.specs.declared.hash_function.HashFunction.{HashFunction}
 use Rattle.ix_cid.specs.declared.hash_function.HashFunction.TheVariants.{Identity, Sha2_256, Sha2_512}
 use Rattle.ix_verdict.specs.declared.verdict.Verdict.TheVariants.{Codec, Missing, Damaged, Malformed, Sound}
-use Rattle.ix_verdict.specs.declared.needed.Needed.TheVariants.{Nothing, Digest, Block}
+use Rattle.ix_verdict.specs.declared.needed.Needed.TheVariants.{Nothing, Block}
 use Rattle.ix_verdict.specs.Verdict.{digest_by, is_no_data, verdict_by, is_codec, has_codec, verdict_with}
 use Rattle.ix_verdict.specs.Needed.{needed_by, needed_of}
 
 -- what is known of the codec and the hash function, by what is needed
 module _ (p : Parts) where
-  pub known-codec-Digest : Digest ≡ needed_of p → is_codec p.codec ≡ true
-  known-codec-Digest e = on (is_codec p.codec) e where
-    on : (codec : Bool) → Digest ≡ (if codec then needed_by (hash_function_of p) else Nothing Codec) → codec ≡ true
-    on true e = refl
-    on false e = absurd cc
-
-  pub known-Digest : Digest ≡ needed_of p → hash_function_of p ≡ Some Identity
-  known-Digest e = on (is_codec p.codec) (hash_function_of p) e where
-    on : (codec : Bool) (f : Option HashFunction) → Digest ≡ (if codec then needed_by f else Nothing Codec) → f ≡ Some Identity
-    on false f e = absurd cc
-    on true None e = absurd cc
-    on true (Some Identity) e = refl
-    on true (Some Sha2_256) e = absurd cc
-    on true (Some Sha2_512) e = absurd cc
-
   pub known-codec-Block : (function : HashFunction) → Block function ≡ needed_of p → is_codec p.codec ≡ true
   known-codec-Block function e = on (is_codec p.codec) e where
     on : (codec : Bool) → Block function ≡ (if codec then needed_by (hash_function_of p) else Nothing Codec) → codec ≡ true

@@ -56,3 +56,13 @@ passes Damaged = false
 passes Malformed = false
 passes Sound = true
 passes Inline = true
+
+-- whether the block isn't there
+abbrev pub is_missing : Verdict → Bool
+is_missing Codec = false
+is_missing Hash = false
+is_missing Missing = true
+is_missing Damaged = false
+is_missing Malformed = false
+is_missing Sound = false
+is_missing Inline = false

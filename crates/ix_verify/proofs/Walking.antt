@@ -20,7 +20,8 @@ use Rattle.ix_archive.specs.declared.sink.Delivery.{Delivery}
 use Rattle.ix_verify.specs.declared.noted.Noted.{Noted}
 use Rattle.ix_verify.specs.Outcome.{link_finding}
 use Rattle.ix_verify.specs.Noting.{IsNoted, NotesMore}
-use Rattle.ix_verify.specs.Found.{skip_of, is_missing, is_absent, skips_below, absent_below, IsWalkOf}
+use Rattle.ix_verdict.specs.Verdict.{is_missing}
+use Rattle.ix_verify.specs.Found.{skip_of, is_absent, skips_below, absent_below, IsWalkOf}
 use Rattle.ix_verify.specs.Walked.{skip_at, absent_at}
 use Rattle.ix_verify.proofs.Notes.{AreNoted, noted-none, noted-more, noted-all}
 

@@ -9,8 +9,7 @@ use Rattle.ix_store.specs.Sound.{sound_copies, later_count}
 use Rattle.ix_walk.specs.Visits.{is_over_limit}
 use Rattle.ix_walk.specs.Once.{first_ones}
 use Rattle.ix_check.specs.Verdict.{passes}
-use Rattle.ix_verdict.specs.declared.verdict.Verdict.{Verdict}
-use Rattle.ix_verdict.specs.declared.verdict.Verdict.TheVariants.{Codec, Hash, Missing, Damaged, Malformed, Sound as SoundBlock, Inline}
+use Rattle.ix_verdict.specs.Verdict.{is_missing}
 use Rattle.ix_archive.specs.declared.archive.Skip.{Skip}
 use Rattle.ix_archive.specs.declared.sink.Delivery.{Delivery}
 use Rattle.ix_archive.specs.Archive.{is_sound}
@@ -61,15 +60,6 @@ may_lack_by allowed c = (allowed.raw && (codec_of c == 0x55)) || (allowed.dag_cb
 -- the block of a CID may be lacking: its codec allows for that, and it is none of these roots
 abbrev pub may_lack : AllowMissing → List (List ℕ) → List ℕ → Bool
 may_lack allowed roots c = may_lack_by allowed c && not (list_any (λ root. bytes_eq root c) roots)
-
-abbrev pub is_missing : Verdict → Bool
-is_missing Codec = false
-is_missing Hash = false
-is_missing Missing = true
-is_missing Damaged = false
-is_missing Malformed = false
-is_missing SoundBlock = false
-is_missing Inline = false
 
 -- a visit leads to a block that isn't there, and that may be lacking by this test of CIDs
 abbrev pub is_absent : (List ℕ → Bool) → Delivery → Bool

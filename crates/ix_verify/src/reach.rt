@@ -5,7 +5,7 @@ ghost use Rattle.ix_walk.specs.Once.{first_ones};
 ghost use Rattle.ix_check.specs.Visits.{IsVisitOf};
 ghost use Rattle.ix_check.specs.Verdict.{verdict_of};
 ghost use Rattle.ix_verify.specs.Outcome.{link_finding};
-ghost use Rattle.ix_verify.specs.Found.{is_missing};
+ghost use Rattle.ix_verdict.specs.Verdict.{is_missing};
 ghost use Rattle.ix_verify.specs.Noting.{NotesMore};
 ghost use Rattle.ix_verify.specs.Walked.{skip_at, absent_at, lack_of, roots_as_blocks, IsReachedBy, IsReachedFrom, IsReachedFromNone};
 
