@@ -78,8 +78,7 @@ write_jobs "a $one_text 9 $all"
 run "${get_one[@]}" --sync --no-sync --sync --verbose
 got 0 "$get_report" "$one_archive"
 run jobs --blocks blocks.car --jobs jobs.txt --out out --no-sync --sync --no-sync --quiet --verbose
-expect 0 "a $one_line
-total jobs=1 done=1 skips=0" ''
+expect 0 '' ''
 
 begin 'get: the roots in the header of the first file'
 bytes "$(header "$one_cid")" "$one_blocks" >one.car
