@@ -34,7 +34,7 @@ _ix_export() {
       return
       ;;
     --allow-missing)
-      mapfile -t COMPREPLY < <(compgen -W 'all raw dag-cbor raw,dag-cbor' -- "$word")
+      mapfile -t COMPREPLY < <(compgen -W 'raw dag-cbor all' -- "$word")
       return
       ;;
     --scope)
@@ -44,15 +44,15 @@ _ix_export() {
     --root | --segment | --selector | --selector-hex | --limit | --max-limit | --cid | --hex | --part | --max-input) return ;;
   esac
   case $command in
-    get) it='--blocks --root --segment --scope --selector --selector-hex --limit --once --every-arrival --without --without-list --out -o --walkers --verifiers --max-input --carv2 --prefer-sound --complete --partial --sync --no-sync --json --progress --quiet -q --verbose -v --help -h' ;;
-    jobs) it='--blocks --jobs --out -o --part --without --without-list --max-limit --walkers --verifiers --max-input --carv2 --prefer-sound --once --every-arrival --complete --partial --sync --no-sync --json --progress --quiet -q --verbose -v --help -h' ;;
-    job) it='--blocks --scope --max-limit --max-input --carv2 --prefer-sound --help -h' ;;
-    check-jobs) it='--max-limit --max-input --json --help -h' ;;
-    selector) it='--hex --help -h' ;;
-    root) it='--cid --max-input --verbose -v --help -h' ;;
+    get) it='--blocks --root --segment --scope --selector --selector-hex --limit --once --every-arrival --without --without-list --allow-missing --out -o --walkers --verifiers --max-input --carv2 --prefer-sound --complete --partial --sync --no-sync --json --progress --quiet -q --verbose -v --help -h' ;;
+    jobs) it='--blocks --jobs --out -o --part --without --without-list --allow-missing --max-limit --walkers --verifiers --max-input --carv2 --prefer-sound --once --every-arrival --complete --partial --sync --no-sync --json --progress --quiet -q --verbose -v --help -h' ;;
+    job) it='--blocks --scope --max-limit --max-input --carv2 --prefer-sound --quiet -q --help -h' ;;
+    check-jobs) it='--max-limit --max-input --json --quiet -q --help -h' ;;
+    selector) it='--hex --quiet -q --help -h' ;;
+    root) it='--cid --max-input --quiet -q --verbose -v --help -h' ;;
     block) it='--blocks --out -o --max-input --carv2 --prefer-sound --sync --no-sync --progress --quiet -q --help -h' ;;
     show) it='--blocks --pretty --max-input --carv2 --prefer-sound --progress --quiet -q --help -h' ;;
-    inspect) it='--list --cids --max-input --carv2 --json --help -h' ;;
+    inspect) it='--list --cids --max-input --carv2 --json --quiet -q --help -h' ;;
     verify) it='--with --prefer-sound --allow-missing --blocks-only --all --verifiers --max-input --carv2 --json --progress --quiet -q --help -h' ;;
     *) it='get jobs job check-jobs selector root block show inspect verify --help -h --version -V' ;;
   esac

@@ -25,6 +25,7 @@ complete -c ix_export -n '__fish_seen_subcommand_from get' -l once -d 'Expand a 
 complete -c ix_export -n '__fish_seen_subcommand_from get' -l every-arrival -d 'Expand a block at every link to it, not once'
 complete -c ix_export -n '__fish_seen_subcommand_from get' -l without -r -F -d 'Leave out what this CARv1 has sound; several add up'
 complete -c ix_export -n '__fish_seen_subcommand_from get' -l without-list -r -F -d 'Leave out the CIDs this file lists, one per line'
+complete -c ix_export -n '__fish_seen_subcommand_from get' -l allow-missing -x -a 'raw dag-cbor all' -d 'Blocks that may be missing: raw, dag-cbor or all'
 complete -c ix_export -n '__fish_seen_subcommand_from get' -s o -l out -r -F -d 'Archive to write'
 complete -c ix_export -n '__fish_seen_subcommand_from get' -l walkers -x -d 'Threads that traverse, 1 to 64'
 complete -c ix_export -n '__fish_seen_subcommand_from get' -l verifiers -x -d 'Threads that hash, 1 to 64'
@@ -47,6 +48,7 @@ complete -c ix_export -n '__fish_seen_subcommand_from jobs' -s o -l out -x -a '(
 complete -c ix_export -n '__fish_seen_subcommand_from jobs' -l part -x -d 'Run the K-th of N parts of the jobs, as K/N'
 complete -c ix_export -n '__fish_seen_subcommand_from jobs' -l without -r -F -d 'Leave out what this CARv1 has sound; several add up'
 complete -c ix_export -n '__fish_seen_subcommand_from jobs' -l without-list -r -F -d 'Leave out the CIDs this file lists, one per line'
+complete -c ix_export -n '__fish_seen_subcommand_from jobs' -l allow-missing -x -a 'raw dag-cbor all' -d 'Blocks that may be missing: raw, dag-cbor or all'
 complete -c ix_export -n '__fish_seen_subcommand_from jobs' -l max-limit -x -d 'Greatest LIMIT, up to 4294967295'
 complete -c ix_export -n '__fish_seen_subcommand_from jobs' -l walkers -x -d 'Threads that traverse, 1 to 64'
 complete -c ix_export -n '__fish_seen_subcommand_from jobs' -l verifiers -x -d 'Threads that hash, 1 to 64'
@@ -71,19 +73,23 @@ complete -c ix_export -n '__fish_seen_subcommand_from job' -l max-limit -x -d 'G
 complete -c ix_export -n '__fish_seen_subcommand_from job' -l max-input -x -d 'Greatest size of an input, such as 4G'
 complete -c ix_export -n '__fish_seen_subcommand_from job' -l carv2 -d 'Read CARv2 files too, as the CARv1 in them'
 complete -c ix_export -n '__fish_seen_subcommand_from job' -l prefer-sound -d 'Use the first sound copy of a block, if any is'
+complete -c ix_export -n '__fish_seen_subcommand_from job' -s q -l quiet -d 'Accepted: there is no progress and no report'
 
 complete -c ix_export -n '__fish_seen_subcommand_from check-jobs' -s h -l help -d 'Print the help'
 complete -c ix_export -n '__fish_seen_subcommand_from check-jobs' -l max-limit -x -d 'Greatest LIMIT, up to 4294967295'
 complete -c ix_export -n '__fish_seen_subcommand_from check-jobs' -l max-input -x -d 'Greatest size of an input, such as 4G'
 complete -c ix_export -n '__fish_seen_subcommand_from check-jobs' -l json -d 'Report as JSON, one object per line'
+complete -c ix_export -n '__fish_seen_subcommand_from check-jobs' -s q -l quiet -d 'No progress, and no report if the status is 0'
 complete -c ix_export -n '__fish_seen_subcommand_from check-jobs' -F
 
 complete -c ix_export -n '__fish_seen_subcommand_from selector' -s h -l help -d 'Print the help'
 complete -c ix_export -n '__fish_seen_subcommand_from selector' -l hex -x -d 'IPLD selector in hex, to be printed as JSON'
+complete -c ix_export -n '__fish_seen_subcommand_from selector' -s q -l quiet -d 'Accepted: there is no progress and no report'
 
 complete -c ix_export -n '__fish_seen_subcommand_from root' -s h -l help -d 'Print the help'
 complete -c ix_export -n '__fish_seen_subcommand_from root' -l cid -x -d 'CIDv1 of the root, in base32'
 complete -c ix_export -n '__fish_seen_subcommand_from root' -l max-input -x -d 'Greatest size of an input, such as 4G'
+complete -c ix_export -n '__fish_seen_subcommand_from root' -s q -l quiet -d 'Accepted: there is no progress and no report'
 complete -c ix_export -n '__fish_seen_subcommand_from root' -s v -l verbose -d 'Print the cause of an error on a second line'
 
 complete -c ix_export -n '__fish_seen_subcommand_from block' -s h -l help -d 'Print the help'
@@ -112,6 +118,7 @@ complete -c ix_export -n '__fish_seen_subcommand_from inspect' -l cids -d 'Print
 complete -c ix_export -n '__fish_seen_subcommand_from inspect' -l max-input -x -d 'Greatest size of an input, such as 4G'
 complete -c ix_export -n '__fish_seen_subcommand_from inspect' -l carv2 -d 'Read CARv2 files too, as the CARv1 in them'
 complete -c ix_export -n '__fish_seen_subcommand_from inspect' -l json -d 'Report as JSON, one object per line'
+complete -c ix_export -n '__fish_seen_subcommand_from inspect' -s q -l quiet -d 'No progress, and no report if the status is 0'
 complete -c ix_export -n '__fish_seen_subcommand_from inspect' -F
 
 complete -c ix_export -n '__fish_seen_subcommand_from verify' -s h -l help -d 'Print the help'

@@ -26,6 +26,33 @@ commands_in() {
   sed -n "/^## $1\$/,/^## /p" "$top/README.md" | grep -E '^    (root=|everything=|\./ix_export get |cmp )'
 }
 
+# answer COMMAND LINE..: the command prints these lines, or any if there are none.
+answer() {
+  (eval "$1") >"$scratch/stdout" 2>&1 || true
+  [ $# = 1 ] || expect_lines "the answer of $1" "$(printf '%s\n' "${@:2}")" "$scratch/stdout"
+}
+
+# The lines of code of the first run in README: those below a command of the program are what it prints.
+first_run() {
+  local line root said=()
+  while IFS= read -r line; do
+    case $line in
+      git*) ;;
+      root=*) root=${line#root=} ;;
+      ./ix_export*)
+        [ ${#said[@]} = 0 ] || answer "${said[@]}"
+        said=("$line")
+        ;;
+      *) said+=("$line") ;;
+    esac
+  done < <(sed -n '/^## A first run$/,/^## Install$/p' "$top/README.md" | sed '/^```/,/^```/d' | sed -n 's/^    //p')
+  answer "${said[@]}"
+}
+
+begin 'the first run in README: what each command prints'
+ln -s "$top/ix_export" "$top/examples" .
+first_run
+
 begin 'the snapshots in README: what is restored is the whole'
 ln -s "$top/ix_export" "$top/examples" .
 { commands_in 'A first run'; commands_in Snapshots; } >commands.sh

@@ -40,7 +40,7 @@ expect_bytes out/a.car "$(header "$abc_cid" "$one_cid")" "$(section "$abc_cid" "
 
 begin 'get: the example, where what is shared is gone into once, and at every arrival'
 run get --blocks "$top/examples/library.car" --root $library_root --out out/once.car
-expect 3 '' "$(sed -n '/^    get done/,/^    total/s/^    //p; /^    total/q' "$top/README.md")"
+expect 3 '' "$(sed -n '/^    get done/,/^    total/{s/^    //p; /^total/q}' "$top/README.md")"
 expect_same 'out/once.car' "$top/examples/expected/whole.car" out/once.car
 run get --blocks "$top/examples/library.car" --root $library_root --out out/each.car --every-arrival
 expect_text 'exit status' 3 "$status"

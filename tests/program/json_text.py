@@ -20,7 +20,8 @@ def no_float(text):
 
 def of_job(it):
     known = f" known={it.pop('known')}" if "known" in it else ""
-    yield "{job} {end} visits={visits} kept={kept} sections={sections} bytes={bytes}".format(**it) + known
+    absent = f" absent={it.pop('absent')}" if "absent" in it else ""
+    yield "{job} {end} visits={visits} kept={kept} sections={sections} bytes={bytes}".format(**it) + known + absent
     yield from (f"  {key} {it[key]}" for key in ("file", "part") if key in it)
     for skip in it["skips"]:
         yield "  {visit} {verdict} {cid}".format(**skip)

@@ -36,12 +36,11 @@ run root --cid "$abc_text" -v <input
 refused 'input: hex
 odd number of digits, or a character that is not a hex digit'
 
-# No other command has them, but verify has -q, and none has a short form of another option.
+# No other command has -o or -v, and none has a short form of another option.
 for command in job check-jobs selector inspect verify; do
-  for option in -o -q -v; do
-    [ "$command $option" = 'verify -q' ] || words_refused "$command" "$option"
+  for option in -o -v; do
+    words_refused "$command" "$option"
   done
 done
-words_refused root --cid "$abc_text" -q
 words_refused jobs "${inputs[@]}" --out out -b
 words_refused jobs "${inputs[@]}" --out out -q --quiet

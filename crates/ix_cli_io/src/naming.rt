@@ -6,8 +6,8 @@ ghost use Rattle.ix_cli_io.specs.Naming.{met_roots_alone};
 use crate::outputs::job_path;
 use crate::write_errors::WriteErrors;
 use ix_archive::End;
-use ix_jobs::JobResult;
-use ix_run::{is_complete, is_root};
+use ix_jobs::{JobResult, is_root};
+use ix_run::is_complete;
 use ix_walk::Job;
 use std::alloc::{AllocError, Global};
 

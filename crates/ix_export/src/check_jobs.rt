@@ -2,7 +2,7 @@
 
 use crate::commands::CommandSpec;
 use crate::json_faults::fault_objects;
-use crate::options::{ArgKind, ArgSpec, JSON, MAX_INPUT, MAX_LIMIT};
+use crate::options::{ArgKind, ArgSpec, JSON, MAX_INPUT, MAX_LIMIT, QUIET};
 use crate::print::print_all;
 use crate::size::most_input;
 use clap::ArgMatches;
@@ -34,7 +34,7 @@ pub(crate) static SPEC: CommandSpec = CommandSpec {
     name: "check-jobs",
     about: ABOUT,
     help: HELP,
-    words: &[FILE, MAX_LIMIT, MAX_INPUT, JSON],
+    words: &[FILE, MAX_LIMIT, MAX_INPUT, JSON, QUIET],
 };
 
 /// Runs the command and returns the status: prints nothing if the command `jobs` accepts the file.

@@ -7,14 +7,14 @@ ghost use Rattle.ix_run.specs.Complete.{is_complete};
 use crate::Terminals;
 use crate::blocks::{BlockFiles, LoadedBlocks};
 use crate::commands::CommandSpec;
-use crate::export::{forget_store, progress_mode};
+use crate::export::{allowed_missing, forget_store, progress_mode};
 use crate::file_output::output_path;
 use crate::host::Host;
 use crate::json_jobs::{file_report, is_to_be_named};
 use crate::known::KnownInputs;
 use crate::options::{
-    ArgKind, ArgSpec, BLOCKS, CARV2, JSON, MAX_INPUT, NO_SYNC, PREFER_SOUND, PROGRESS, SYNC,
-    VERIFIERS, WALKERS, WITHOUT, WITHOUT_LIST,
+    ALLOW_MISSING, ArgKind, ArgSpec, BLOCKS, CARV2, JSON, MAX_INPUT, NO_SYNC, PREFER_SOUND,
+    PROGRESS, QUIET, SYNC, VERIFIERS, WALKERS, WITHOUT, WITHOUT_LIST,
 };
 use crate::paths::RootPaths;
 use crate::print::{print_notes, print_refusal};
@@ -32,7 +32,7 @@ use ix_cli_io::{
 };
 use ix_job_errors::{job_fault_words, lacks_an_edge};
 use ix_job_line::{JobWords, SelectorWord, jobs_of_words, selector_hex};
-use ix_jobs::JobResult;
+use ix_jobs::{AllowMissing, JobResult};
 use ix_run::{RunFault, is_complete};
 use ix_store::Store;
 use ix_walk::Job;
@@ -72,6 +72,11 @@ out each block whose CID the list has: a CIDv1 in base32 on each line, empty\n\
 lines and lines that begin with # aside. A list is trusted, so the receiver runs\n\
 `verify --blocks-only` before `inspect --cids` prints it. The report says how\n\
 many blocks are known.\n\
+\n\
+With --allow-missing links to blocks of these codecs that are in no file are no\n\
+skips: the report counts them as absent, and the status doesn't. A root may not\n\
+be missing, and a damaged block is a skip. The archive is the same. WHICH is\n\
+raw, dag-cbor, both with a comma between, or all.\n\
 \n\
 Of several copies of a block the first counts. With --prefer-sound each copy is\n\
 hashed, and the first that is sound counts, so that damaged replicas make up for\n\
@@ -118,7 +123,7 @@ const TOO_DEEP: &str = "--root and --selector: the path and the selector at its 
 const ROOT: ArgSpec = ArgSpec {
     name: "root",
     given: ArgKind::Optional("ROOT[,..]"),
-    help: "1 to 64 of CID or CID/PATH [default: the header's]",
+    help: "1 to 64 of CID[/PATH] [default: the header's]",
 };
 
 const SELECTOR: ArgSpec = ArgSpec {
@@ -166,19 +171,13 @@ const OUT: ArgSpec = ArgSpec {
 const COMPLETE: ArgSpec = ArgSpec {
     name: "complete",
     given: ArgKind::FlagOver("partial"),
-    help: "Rename FILE only if done, no root skipped [default]",
+    help: "Rename only if done, no root skipped [default]",
 };
 
 const PARTIAL: ArgSpec = ArgSpec {
     name: "partial",
     given: ArgKind::FlagOver("complete"),
     help: "Rename FILE also at the limit or without a root",
-};
-
-const QUIET: ArgSpec = ArgSpec {
-    name: "quiet",
-    given: ArgKind::Flag,
-    help: "No progress, and no report if the status is 0",
 };
 
 const VERBOSE: ArgSpec = ArgSpec {
@@ -204,6 +203,7 @@ pub(crate) static SPEC: CommandSpec = CommandSpec {
         EVERY_ARRIVAL,
         WITHOUT,
         WITHOUT_LIST,
+        ALLOW_MISSING,
         OUT,
         WALKERS,
         VERIFIERS,
@@ -268,6 +268,8 @@ struct GetCommand<'a> {
     blocks: BlockFiles<'a>,
     // What the receiver has.
     known: KnownInputs<'a>,
+    // Which blocks may be missing.
+    allowed: Option<AllowMissing>,
     // The path of the archive, or None for standard output.
     path: Option<&'a str>,
     threads: ThreadCounts,
@@ -289,6 +291,7 @@ impl<'a> GetCommand<'a> {
         let most = most_input(alloc, &SPEC, words, ANY_SIZE)?;
         let blocks = BlockFiles::given(alloc, &SPEC, words, most, true)?;
         let known = KnownInputs::given(alloc, &SPEC, words, &blocks)?;
+        let allowed = allowed_missing(alloc, &SPEC, words)?;
         let scope = Scope::given(alloc, &SPEC, SCOPE.optional_text(words))?;
         let names = words.get_strs(SEGMENT.name).unwrap_or(&[]);
         Ok(GetCommand {
@@ -306,6 +309,7 @@ impl<'a> GetCommand<'a> {
             once: !EVERY_ARRIVAL.is_given(words),
             blocks,
             known,
+            allowed,
             path,
             threads: ThreadCounts::given(words),
             naming: if PARTIAL.is_given(words) {
@@ -518,7 +522,8 @@ impl<'a> GetCommand<'a> {
     {
         let mut writers = Vec::with_capacity(rt.alloc(), 1)?;
         writers.push(writer?)?;
-        self.threads.run(rt, blocks, jobs, writers, progress)
+        let ran = self.threads.run(rt, blocks, jobs, writers, progress)?;
+        Ok(ran.allowing(rt.alloc(), self.allowed, jobs.as_slice())?)
     }
 
     // Whether a job that finds nothing below its roots is what was asked for.
@@ -597,8 +602,7 @@ impl<'a> GetCommand<'a> {
             return;
         }
         let Archive { path, is_named } = archive;
-        let results = ran.results.as_slice();
-        if let Ok(report) = file_report(rt.alloc(), path, is_named, job, results) {
+        if let Ok(report) = file_report(rt.alloc(), path, is_named, job, ran) {
             print_report(rt, report.as_slice());
         }
     }

@@ -2,7 +2,7 @@
 
 use crate::commands::CommandSpec;
 use crate::json_inspect::{Described, fault_object, section_object, summary_object};
-use crate::options::{ArgKind, ArgSpec, CARV2, JSON, MAX_INPUT};
+use crate::options::{ArgKind, ArgSpec, CARV2, JSON, MAX_INPUT, QUIET};
 use crate::size::most_input;
 use crate::threads::at_most_processors;
 use clap::ArgMatches;
@@ -58,7 +58,8 @@ If the file is not a CARv1, a line on standard error says what it is. If it ends
 early, the line says how to keep its whole sections.\n\
 \n\
 With --json the summary is an object, and with --list each section is one. A\n\
-file that is rejected has an object too: docs/JSON.md has the keys.\n\
+file that is rejected has an object too: docs/JSON.md has the keys. With --quiet\n\
+nothing is printed of a file that isn't rejected.\n\
 \n\
 Status: 0, or 2 if the arguments or the file are rejected.";
 
@@ -85,7 +86,7 @@ pub(crate) static SPEC: CommandSpec = CommandSpec {
     name: "inspect",
     about: ABOUT,
     help: HELP,
-    words: &[FILE, LIST, CIDS, MAX_INPUT, CARV2, JSON],
+    words: &[FILE, LIST, CIDS, MAX_INPUT, CARV2, JSON, QUIET],
 };
 
 // What is printed of a file.
@@ -128,21 +129,24 @@ pub(crate) fn run<'a, R: AllocGlobal + Eprint + Files + Input + Print + Threads 
     let path = FILE.text(words);
     let most = most_input(rt.alloc(), &SPEC, words, ANY_SIZE)?;
     let car = read_input(rt, path, most)?;
-    inspect_car(rt, path, car.as_slice(), Form::given(words))
+    let (form, is_quiet) = (Form::given(words), QUIET.is_given(words));
+    inspect_car(rt, path, car.as_slice(), form, is_quiet)
 }
 
-// Describes a file, given its bytes.
+// Describes a file, given its bytes, or only says what is wrong with it if that is to be quiet.
 fn inspect_car<R: AllocGlobal + Eprint + Print + Threads + Sync>(
     rt: &R,
     path: &str,
     car: &[u8],
     form: Form,
+    is_quiet: bool,
 ) -> Result<u8, Failure> {
     let Payload { start, end } = match payload_of(car) {
         Ok(payload) => payload,
         Err(fault) => return refuse(rt, path, car, 0, fault, form),
     };
     match read_sections(rt.alloc(), &car[start..end]) {
+        Ok(_) if is_quiet => Ok(0),
         Ok(file) => match form {
             Form::Summary => summarize(rt, file, car),
             Form::JsonSummary => describe(rt, path, file, car),

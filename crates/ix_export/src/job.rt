@@ -4,7 +4,7 @@ use crate::blocks::{BlockFiles, LoadedBlocks};
 use crate::commands::CommandSpec;
 use crate::export::forget_store;
 use crate::host::Host;
-use crate::options::{ArgKind, ArgSpec, CARV2, MAX_INPUT, MAX_LIMIT, PREFER_SOUND};
+use crate::options::{ArgKind, ArgSpec, CARV2, MAX_INPUT, MAX_LIMIT, PREFER_SOUND, QUIET_ACCEPTED};
 use crate::paths::{RootPaths, Unresolved};
 use crate::print::{print_answer, print_refusal};
 use crate::roots::{Roots, SCOPE, Scope};
@@ -84,6 +84,7 @@ pub(crate) static SPEC: CommandSpec = CommandSpec {
         MAX_INPUT,
         CARV2,
         PREFER_SOUND,
+        QUIET_ACCEPTED,
     ],
 };
 

@@ -3,16 +3,17 @@
 ghost use Rattle.std.specs.Prelude.{IfOk};
 ghost use Rattle.std.specs.Arc.{arc_value};
 ghost use Rattle.ix_walk.specs.JobMeaning.{AreFew};
+ghost use Rattle.ix_run.specs.Run.{CanRun};
 
 use crate::blocks::{BlockFiles, LoadedBlocks};
 use crate::commands::CommandSpec;
-use crate::export::{forget_store, progress_mode};
+use crate::export::{allowed_missing, forget_store, progress_mode};
 use crate::host::Host;
 use crate::json_jobs::folder_report;
 use crate::known::{KnownInputs, refused_inputs};
 use crate::options::{
-    ArgKind, ArgSpec, BLOCKS, CARV2, JSON, MAX_INPUT_1G, MAX_LIMIT, PREFER_SOUND, PROGRESS,
-    VERBOSE, VERIFIERS, WALKERS, WITHOUT, WITHOUT_LIST,
+    ALLOW_MISSING, ArgKind, ArgSpec, BLOCKS, CARV2, JSON, MAX_INPUT_1G, MAX_LIMIT, PREFER_SOUND,
+    PROGRESS, QUIET, VERBOSE, VERIFIERS, WALKERS, WITHOUT, WITHOUT_LIST,
 };
 use crate::print::{print_all, print_notes};
 use crate::size::most_input;
@@ -24,13 +25,14 @@ use ix_cli_io::{
     discard_outputs, failed_writes, make_outputs, occupy_std_fds, publish_outputs, read_input,
     writers_to,
 };
-use ix_jobs::Part;
+use ix_jobs::{AllowMissing, Part};
 use ix_run::{JobChoice, RunFault, load_jobs};
 use ix_walk::Job;
 use std::alloc::{AllocError, Global};
 use std::fs::File;
+use std::io::Write;
 use std::rt::{Clock, Files};
-use std::sync::Arc;
+use std::sync::{Arc, Wait};
 use std::thread::Threads;
 
 const ABOUT: &str = "Export an archive for each job of a job file, and print a report";
@@ -82,6 +84,12 @@ lines and lines that begin with # aside. A list is trusted, so the receiver runs
 `verify --blocks-only` before `inspect --cids` prints it. The line of a job in\n\
 the report ends with how many of its blocks are known.\n\
 \n\
+With --allow-missing links to blocks of these codecs that are in no file are no\n\
+skips: the line of a job ends with how many are absent, and the status doesn't\n\
+count them. A root may not be missing, and a damaged block is a skip. The\n\
+archives are the same. WHICH is raw, dag-cbor, both with a comma between, or\n\
+all.\n\
+\n\
 Of several copies of a block the first counts. With --prefer-sound each copy is\n\
 hashed, and the first that is sound counts, so that damaged replicas make up for\n\
 each other. A line on standard error says how many blocks are a later copy.\n\
@@ -113,12 +121,6 @@ const OUT: ArgSpec = ArgSpec {
     name: "out",
     given: ArgKind::Required("DIR"),
     help: "Directory for the archives; it must exist",
-};
-
-const QUIET: ArgSpec = ArgSpec {
-    name: "quiet",
-    given: ArgKind::Flag,
-    help: "No progress, and no report if the status is 0",
 };
 
 const PART: ArgSpec = ArgSpec {
@@ -154,7 +156,7 @@ const NO_SYNC: ArgSpec = ArgSpec {
 const COMPLETE: ArgSpec = ArgSpec {
     name: "complete",
     given: ArgKind::FlagOver("partial"),
-    help: "Rename only archives of done jobs, no root skipped",
+    help: "Rename only if done, no root skipped",
 };
 
 const PARTIAL: ArgSpec = ArgSpec {
@@ -175,6 +177,7 @@ pub(crate) static SPEC: CommandSpec = CommandSpec {
         PART,
         WITHOUT,
         WITHOUT_LIST,
+        ALLOW_MISSING,
         MAX_LIMIT,
         WALKERS,
         VERIFIERS,
@@ -222,6 +225,8 @@ struct JobsCommand<'a> {
     blocks: BlockFiles<'a>,
     // What the receiver has.
     known: KnownInputs<'a>,
+    // Which blocks may be missing.
+    allowed: Option<AllowMissing>,
     // The path of the job file, and how many bytes it may have.
     job_file: &'a str,
     most: u64,
@@ -230,8 +235,8 @@ struct JobsCommand<'a> {
     threads: ThreadCounts,
     is_synced: bool,
     naming: Naming,
-    is_quiet: bool,
     is_json: bool,
+    is_quiet: bool,
     progress: ProgressMode,
 }
 
@@ -247,6 +252,7 @@ impl<'a> JobsCommand<'a> {
         let most = most_input(alloc, &SPEC, words, LARGEST_INPUT)?;
         let blocks = BlockFiles::given(alloc, &SPEC, words, most, CARV2.is_given(words))?;
         let known = KnownInputs::given(alloc, &SPEC, words, &blocks)?;
+        let allowed = allowed_missing(alloc, &SPEC, words)?;
         let job_file = JOBS.text(words);
         if job_file == STANDARD_INPUT
             && let Some(option) = known.standard_input(&blocks)
@@ -265,6 +271,7 @@ impl<'a> JobsCommand<'a> {
         Ok(JobsCommand {
             blocks,
             known,
+            allowed,
             job_file,
             most,
             folder,
@@ -331,7 +338,7 @@ impl<'a> JobsCommand<'a> {
             self.is_synced,
         )?;
         let ran = match writers_to(rt.alloc(), outputs.as_slice(), &errors) {
-            Ok(writers) => self.threads.run(rt, blocks, jobs, writers, progress),
+            Ok(writers) => self.write(rt, blocks, jobs, writers, progress),
             Err(error) => Err(RunFault::from(error)),
         };
         match ran {
@@ -341,6 +348,21 @@ impl<'a> JobsCommand<'a> {
                 Err(Failure::from(fault))
             }
         }
+    }
+
+    // Runs the jobs, which are written to these writers.
+    fn write<R: AllocGlobal + Clock + Eprint + Threads + Wait + Sync, W: Write + Drop>(
+        &self,
+        rt: &R,
+        blocks: &LoadedBlocks,
+        jobs: &Arc<Vec<Job>>,
+        writers: Vec<W>,
+        progress: &Progress<R>,
+    ) -> Result<RunReport, RunFault>
+        requires { CanRun (arc_value jobs.now).items writers.items }
+    {
+        let ran = self.threads.run(rt, blocks, jobs, writers, progress)?;
+        Ok(ran.allowing(rt.alloc(), self.allowed, jobs.as_slice())?)
     }
 
     // Publishes the outputs of a run, prints its report, and then the notes.
@@ -364,8 +386,8 @@ impl<'a> JobsCommand<'a> {
         Ok(ran.status)
     }
 
-    // Prints the report of a run whose outputs were published, as text or as JSON, unless it is to be quiet and
-    // the status is 0. If a rename failed, not all are named that should be.
+    // Prints the report of a run whose outputs were published, as text or as JSON, unless it is to be quiet
+    // and the status is 0. If a rename failed, not all are named that should be.
     fn print_run<R: AllocGlobal + Print>(
         &self,
         rt: &R,
@@ -373,20 +395,13 @@ impl<'a> JobsCommand<'a> {
         ran: &RunReport,
         are_named: bool,
     ) -> Result<(), Failure> {
-        if self.is_quiet && ran.status == 0 && are_named {
+        if self.is_quiet && are_named && ran.status == 0 {
             return Ok(());
         }
         if !self.is_json {
             return print_all(rt, ran.report.as_slice());
         }
-        let report = folder_report(
-            rt.alloc(),
-            self.folder,
-            jobs,
-            ran.results.as_slice(),
-            self.naming,
-            are_named,
-        )?;
+        let report = folder_report(rt.alloc(), self.folder, jobs, ran, self.naming, are_named)?;
         print_all(rt, report.as_slice())
     }
 }

@@ -1,5 +1,6 @@
 //! The report of `get` and `jobs` as JSON.
 
+use crate::threads::RunReport;
 use ix_archive::End;
 use ix_cli_io::Naming;
 use ix_jobs::JobResult;
@@ -22,19 +23,19 @@ pub(crate) fn file_report(
     path: &str,
     is_named: bool,
     job: &Job,
-    results: &[JobResult],
+    ran: &RunReport,
 ) -> Result<Vec<u8>, AllocError> {
     let mut text = Vec::new(alloc);
-    if let Some(outcome) = results.first() {
+    if let Some(outcome) = ran.results.first() {
         let part = part_of(alloc, path)?;
         let place = if is_named {
             ArchivePlace::File(path)
         } else {
             ArchivePlace::Part(part.as_str())
         };
-        text = push_job(alloc, text, job, outcome, place)?;
+        text = push_job(alloc, text, job, outcome, ran.absent_of(0), place)?;
     }
-    push_total(text, results)
+    push_total(text, ran.results.as_slice())
 }
 
 /// Returns the report of jobs whose archives are in a folder and were named so, but for one that couldn't
@@ -43,12 +44,12 @@ pub(crate) fn folder_report(
     alloc: Global,
     folder: &str,
     jobs: &[Job],
-    results: &[JobResult],
+    ran: &RunReport,
     naming: Naming,
     are_named: bool,
 ) -> Result<Vec<u8>, AllocError> {
     let mut text = Vec::new(alloc);
-    for (job, outcome) in jobs.iter().zip(results) {
+    for (number, (job, outcome)) in jobs.iter().zip(&ran.results).enumerate() {
         let path = path_in(alloc, folder, job)?;
         let part = part_of(alloc, path.as_str())?;
         let place = if !is_to_be_named(naming, job, outcome) {
@@ -58,9 +59,9 @@ pub(crate) fn folder_report(
         } else {
             ArchivePlace::Unknown
         };
-        text = push_job(alloc, text, job, outcome, place)?;
+        text = push_job(alloc, text, job, outcome, ran.absent_of(number), place)?;
     }
-    push_total(text, results)
+    push_total(text, ran.results.as_slice())
 }
 
 // Returns the path of a job's archive.

@@ -62,7 +62,7 @@ pub(crate) const BLOCKS: ArgSpec = ArgSpec {
 pub(crate) const WITHOUT: ArgSpec = ArgSpec {
     name: "without",
     given: ArgKind::OptionalMany("FILE"),
-    help: "Leave out what this CARv1 has sound; several add up",
+    help: "Omit what this CARv1 has sound; several add up",
 };
 
 /// The have-list of the receiver, at the same commands.
@@ -118,7 +118,7 @@ pub(crate) const VERIFIERS: ArgSpec = ArgSpec {
 pub(crate) const MAX_LIMIT: ArgSpec = ArgSpec {
     name: "max-limit",
     given: ArgKind::Limit,
-    help: "Greatest LIMIT, up to 4294967295",
+    help: "Greatest LIMIT, to 4294967295",
 };
 
 /// Whether progress is shown.
@@ -126,6 +126,27 @@ pub(crate) const PROGRESS: ArgSpec = ArgSpec {
     name: "progress",
     given: ArgKind::Flag,
     help: "Show progress on standard error",
+};
+
+/// Which blocks may be missing, at the commands that follow links.
+pub(crate) const ALLOW_MISSING: ArgSpec = ArgSpec {
+    name: "allow-missing",
+    given: ArgKind::Optional("WHICH"),
+    help: "Blocks that may be missing: raw, dag-cbor or all",
+};
+
+/// Whether progress is turned off, and the report where the status is 0.
+pub(crate) const QUIET: ArgSpec = ArgSpec {
+    name: "quiet",
+    given: ArgKind::Flag,
+    help: "No progress, and no report if the status is 0",
+};
+
+/// The same at the commands that have neither.
+pub(crate) const QUIET_ACCEPTED: ArgSpec = ArgSpec {
+    name: "quiet",
+    given: ArgKind::Flag,
+    help: "Accepted: there is no progress and no report",
 };
 
 /// Whether nothing but progress is turned off.

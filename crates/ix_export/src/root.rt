@@ -1,7 +1,7 @@
 //! The command `root`: the archive of one block, from hex to hex.
 
 use crate::commands::CommandSpec;
-use crate::options::{ArgKind, ArgSpec, MAX_INPUT_1G, VERBOSE};
+use crate::options::{ArgKind, ArgSpec, MAX_INPUT_1G, QUIET_ACCEPTED, VERBOSE};
 use crate::print::print_answer;
 use crate::size::most_input;
 use clap::ArgMatches;
@@ -28,7 +28,7 @@ pub(crate) static SPEC: CommandSpec = CommandSpec {
     name: "root",
     about: ABOUT,
     help: HELP,
-    words: &[CID, MAX_INPUT_1G, VERBOSE],
+    words: &[CID, MAX_INPUT_1G, QUIET_ACCEPTED, VERBOSE],
 };
 
 /// Runs the command and returns the status. Its first error is reported, checked in this order: CID,

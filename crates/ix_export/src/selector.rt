@@ -1,7 +1,7 @@
 //! The command `selector`: converts a selector from JSON to hex, or back.
 
 use crate::commands::CommandSpec;
-use crate::options::{ArgKind, ArgSpec};
+use crate::options::{ArgKind, ArgSpec, QUIET_ACCEPTED};
 use crate::print::{print_answer, print_refusal};
 use clap::ArgMatches;
 use ix_cli_io::{Failure, LARGEST_INPUT, STANDARD_INPUT, read_all};
@@ -35,7 +35,7 @@ pub(crate) static SPEC: CommandSpec = CommandSpec {
     name: "selector",
     about: ABOUT,
     help: HELP,
-    words: &[JSON, HEX],
+    words: &[JSON, HEX, QUIET_ACCEPTED],
 };
 
 /// Runs the command and returns the status.

@@ -8,10 +8,11 @@ use crate::blocks::LoadedBlocks;
 use crate::options::{VERIFIERS, WALKERS};
 use clap::ArgMatches;
 use ix_cli_io::Progress;
-use ix_jobs::JobResult;
+use ix_jobs::{AllowMissing, JobResult, report_with_absent, separate_absent, status};
 use ix_pipeline::Plan;
 use ix_run::{RunFault, RunInput, Unobserved, run_observed};
 use ix_walk::Job;
+use std::alloc::{AllocError, Global};
 use std::io::Write;
 use std::rt::Clock;
 use std::sync::{Arc, Wait};
@@ -38,6 +39,36 @@ pub(crate) struct RunReport {
     pub report: Vec<u8>,
     pub status: u8,
     pub results: Vec<JobResult>,
+    // How many skips of each job were absent, if some may be.
+    absent: Option<Vec<usize>>,
+}
+
+impl RunReport {
+    /// Takes the absent skips out of the results, if some blocks may be missing. The report and the status
+    /// are those of what is left.
+    pub(crate) fn allowing(
+        self,
+        alloc: Global,
+        allowed: Option<AllowMissing>,
+        jobs: &[Job],
+    ) -> Result<RunReport, AllocError> {
+        let Some(which) = allowed else {
+            return Ok(self);
+        };
+        let told = separate_absent(alloc, which, jobs, self.results)?;
+        let (results, absent) = (told.results, told.absent);
+        Ok(RunReport {
+            report: report_with_absent(alloc, jobs, results.as_slice(), absent.as_slice())?,
+            status: status(results.as_slice()),
+            results,
+            absent: Some(absent),
+        })
+    }
+
+    /// Returns how many skips of the job of this number were absent, if some may be.
+    pub(crate) fn absent_of(&self, number: usize) -> Option<usize> {
+        self.absent.as_ref()?.get(number).copied()
+    }
 }
 
 impl ThreadCounts {
@@ -88,6 +119,7 @@ impl ThreadCounts {
             report: out.report,
             status: out.status,
             results: out.results,
+            absent: None,
         })
     }
 }

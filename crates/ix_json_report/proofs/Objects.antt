@@ -11,8 +11,8 @@ use Rattle.ix_walk.specs.JobMeaning.{JobMeaning}
 use Rattle.ix_archive.specs.declared.archive.Skip.{Skip}
 use Rattle.ix_jobs.specs.declared.results.JobResult.{JobResult}
 use Rattle.ix_json_report.specs.Members.{AppendsLine, IsLine}
-use Rattle.ix_json_report.specs.Objects.{skip_items, skips_member, known_before, place_before, job_object, total_object}
-use Rattle.ix_json_report.specs.Tokens.{end_tokens, counts_tokens, skip_tokens, all_skips_tokens, skips_tokens, known_tokens, place_tokens, job_tokens, total_tokens}
+use Rattle.ix_json_report.specs.Objects.{skip_items, skips_member, known_before, absent_before, place_before, job_object, total_object}
+use Rattle.ix_json_report.specs.Tokens.{end_tokens, counts_tokens, skip_tokens, all_skips_tokens, skips_tokens, known_tokens, absent_tokens, place_tokens, job_tokens, total_tokens}
 use Rattle.ix_json_report.specs.declared.place.ArchivePlace.{ArchivePlace}
 use Rattle.ix_json_report.specs.declared.place.ArchivePlace.TheVariants.{File, Part, Unknown}
 
@@ -34,6 +34,10 @@ known-first : (known : Option ℕ) (more : Members) → members_tokens (known_be
 known-first None more = refl
 known-first (Some n) more = refl
 
+absent-first : (absent : Option ℕ) (more : Members) → members_tokens (absent_before absent more) ≡ absent_tokens absent ++ members_tokens more
+absent-first None more = refl
+absent-first (Some n) more = refl
+
 place-first : (place : ArchivePlace) (more : Members) → members_tokens (place_before place more) ≡ place_tokens place ++ members_tokens more
 place-first (File path) more = refl
 place-first (Part path) more = refl
@@ -43,26 +47,33 @@ known-depth : (known : Option ℕ) (more : Members) → members_depth (known_bef
 known-depth None more = refl
 known-depth (Some n) more = omega arith
 
+absent-depth : (absent : Option ℕ) (more : Members) → members_depth (absent_before absent more) ≡ members_depth more
+absent-depth None more = refl
+absent-depth (Some n) more = omega arith
+
 place-depth : (place : ArchivePlace) (more : Members) → members_depth (place_before place more) ≡ members_depth more
 place-depth (File path) more = omega arith
 place-depth (Part path) more = omega arith
 place-depth Unknown more = refl
 
 -- the tokens of a job are those of its object
-job-tokens : (job : JobMeaning) (r : JobResult) (place : ArchivePlace) → json_tokens (job_object job r place) ≡ job_tokens job r place
-job-tokens job r place =
+job-tokens : (job : JobMeaning) (r : JobResult) (absent : Option ℕ) (place : ArchivePlace) → json_tokens (job_object job r absent place) ≡ job_tokens job r absent place
+job-tokens job r absent place =
     let last = skips_member r.skips.items in
     let known = known_tokens r.counts.known in
+    let gone = absent_tokens absent in
     let at = place_tokens place in
     let skips = skips_tokens r.skips.items in
     ap (λ l. begin_object ∷ (end_tokens job r.end ++ counts_tokens r.counts ++ l))
-    (known-first r.counts.known (place_before place last) ∙ ap (λ l. known ++ l) (place-first place last ∙ ap (λ l. at ++ l) (skips-last r.skips.items))
-    ∙ sym (append_assoc known at (skips ++ end_object ∷ [])) ∙ sym (append_assoc (known ++ at) skips (end_object ∷ [])))
+    (known-first r.counts.known (absent_before absent (place_before place last))
+    ∙ ap (λ l. known ++ l) (absent-first absent (place_before place last) ∙ ap (λ l. gone ++ l) (place-first place last ∙ ap (λ l. at ++ l) (skips-last r.skips.items)))
+    ∙ sym (append_assoc known gone (at ++ (skips ++ end_object ∷ [])))
+    ∙ sym (append_assoc (known ++ gone) at (skips ++ end_object ∷ [])) ∙ sym (append_assoc (known ++ gone ++ at) skips (end_object ∷ [])))
 
-job-depth : (job : JobMeaning) (r : JobResult) (place : ArchivePlace) → depth (job_object job r place) ≤ max_depth
-job-depth job r place =
+job-depth : (job : JobMeaning) (r : JobResult) (absent : Option ℕ) (place : ArchivePlace) → depth (job_object job r absent place) ≤ max_depth
+job-depth job r absent place =
     let last = skips_member r.skips.items in
-    omega (arith, known-depth r.counts.known (place_before place last), place-depth place last, depth-skips r.skips.items)
+    omega (arith, known-depth r.counts.known (absent_before absent (place_before place last)), absent-depth absent (place_before place last), place-depth place last, depth-skips r.skips.items)
 
 -- a value whose tokens a reader finds in their text is read from it
 read_back : (j : Json) → tokens (print (json_tokens j)) ≡ json_tokens j → depth j ≤ max_depth → document (print (json_tokens j)) ≡ Some j
@@ -76,8 +87,8 @@ line_of old new j ts same shallow line = record {
   reads_back = read_back j (subst (λ l. tokens (print l) ≡ l) (sym same) line.found) shallow;
 }
 
-pub job-line : (old new : List ℕ) (job : JobMeaning) (r : JobResult) (place : ArchivePlace) → IsLine old new (job_tokens job r place) → AppendsLine old new (job_object job r place)
-job-line old new job r place line = line_of old new (job_object job r place) (job_tokens job r place) (job-tokens job r place) (job-depth job r place) line
+pub job-line : (old new : List ℕ) (job : JobMeaning) (r : JobResult) (absent : Option ℕ) (place : ArchivePlace) → IsLine old new (job_tokens job r absent place) → AppendsLine old new (job_object job r absent place)
+job-line old new job r absent place line = line_of old new (job_object job r absent place) (job_tokens job r absent place) (job-tokens job r absent place) (job-depth job r absent place) line
 
 pub total-line : (old new : List ℕ) (rs : List JobResult) → IsLine old new (total_tokens rs) → AppendsLine old new (total_object rs)
 total-line old new rs line = line_of old new (total_object rs) (total_tokens rs) refl (omega arith) line

@@ -29,18 +29,23 @@ abbrev pub known_before : Option ℕ → Members → Members
 known_before None more = more
 known_before (Some known) more = number_before (codes "known") known more
 
+-- how many skips were absent, where they were counted
+abbrev pub absent_before : Option ℕ → Members → Members
+absent_before None more = more
+absent_before (Some absent) more = number_before (codes "absent") absent more
+
 -- the path of the archive, or of its `.part` file
 abbrev pub place_before : ArchivePlace → Members → Members
 place_before (File path) more = text_before (codes "file") path.now more
 place_before (Part path) more = text_before (codes "part") path.now more
 place_before Unknown more = more
 
--- the name of a job, how it ended, its counts, where its archive is, and its skips
-abbrev pub job_object : JobMeaning → JobResult → ArchivePlace → Json
-job_object job r place =
+-- the name of a job, how it ended, its counts, how many skips were absent, where its archive is, and its other skips
+abbrev pub job_object : JobMeaning → JobResult → Option ℕ → ArchivePlace → Json
+job_object job r absent place =
     object (text_before (codes "job") job.name (text_before (codes "end") (end_word r.end)
     (number_before (codes "visits") r.counts.visits (number_before (codes "kept") r.counts.kept (number_before (codes "sections") r.counts.sections
-    (number_before (codes "bytes") r.counts.bytes (known_before r.counts.known (place_before place (skips_member r.skips.items)))))))))
+    (number_before (codes "bytes") r.counts.bytes (known_before r.counts.known (absent_before absent (place_before place (skips_member r.skips.items))))))))))
 
 -- how many jobs, how many of them are done, how many skips
 abbrev pub total_object : List JobResult → Json

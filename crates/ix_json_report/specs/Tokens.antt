@@ -31,6 +31,11 @@ abbrev pub known_tokens : Option ℕ → List Token
 known_tokens None = []
 known_tokens (Some known) = number_member (codes "known") known
 
+-- how many skips were absent, where they were counted
+abbrev pub absent_tokens : Option ℕ → List Token
+absent_tokens None = []
+absent_tokens (Some absent) = number_member (codes "absent") absent
+
 -- the path of the archive, or of its `.part` file
 abbrev pub place_tokens : ArchivePlace → List Token
 place_tokens (File path) = text_member (codes "file") path.now
@@ -56,10 +61,10 @@ abbrev pub skips_tokens : List Skip → List Token
 skips_tokens skips = key (codes "skips") ∷ begin_array ∷ (all_skips_tokens skips ++ end_array ∷ [])
 
 -- the object of a job
-abbrev pub job_tokens : JobMeaning → JobResult → ArchivePlace → List Token
-job_tokens job r place =
+abbrev pub job_tokens : JobMeaning → JobResult → Option ℕ → ArchivePlace → List Token
+job_tokens job r absent place =
     begin_object
-    ∷ (end_tokens job r.end ++ counts_tokens r.counts ++ known_tokens r.counts.known ++ place_tokens place ++ skips_tokens r.skips.items ++ end_object ∷ [])
+    ∷ (end_tokens job r.end ++ counts_tokens r.counts ++ known_tokens r.counts.known ++ absent_tokens absent ++ place_tokens place ++ skips_tokens r.skips.items ++ end_object ∷ [])
 
 -- how many jobs, how many of them are done, how many skips
 abbrev pub totals_tokens : List JobResult → List Token

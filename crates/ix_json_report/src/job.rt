@@ -3,7 +3,7 @@
 ghost use Rattle.std.specs.Prelude.{IfOk};
 ghost use Rattle.ix_json_report.specs.Members.{Appends, AppendsLine};
 ghost use Rattle.ix_json_report.specs.Objects.{job_object};
-ghost use Rattle.ix_json_report.specs.Tokens.{end_tokens, counts_tokens, written_tokens, known_tokens, job_tokens};
+ghost use Rattle.ix_json_report.specs.Tokens.{end_tokens, counts_tokens, written_tokens, known_tokens, absent_tokens, job_tokens};
 
 use crate::line::end_line;
 use crate::members::{push_number, push_text};
@@ -16,18 +16,19 @@ use json::Writer;
 use std::alloc::{AllocError, Global};
 
 /// Appends the line of a job: an object with its name, its end and its counts as in the text report,
-/// where its archive is, and its skips in their order.
+/// how many skips were absent, if they were counted, where its archive is, and its skips in their order.
 pub fn push_job(
     alloc: Global,
     text: Vec<u8>,
     job: &Job,
     outcome: &JobResult,
+    absent: Option<usize>,
     place: ArchivePlace<'_>,
 ) -> Result<Vec<u8>, AllocError>
-    ensures { IfOk result (λ r. AppendsLine text.items r.items (job_object job.now outcome.now place.entry)) }
+    ensures { IfOk result (λ r. AppendsLine text.items r.items (job_object job.now outcome.now absent place.entry)) }
 {
     let mut out = Writer::new(text);
-    push_object(alloc, &mut out, job, outcome, place)?;
+    push_object(alloc, &mut out, job, outcome, absent, place)?;
     end_line(out)
 }
 
@@ -37,14 +38,16 @@ fn push_object(
     out: &mut Writer,
     job: &Job,
     outcome: &JobResult,
+    absent: Option<usize>,
     place: ArchivePlace<'_>,
 ) -> Result<(), AllocError>
-    ensures { Appends out.old out.new (job_tokens job.now outcome.now place.entry) result }
+    ensures { Appends out.old out.new (job_tokens job.now outcome.now absent place.entry) result }
 {
     out.begin_object()?;
     push_end(alloc, out, job, outcome.end)?;
     push_counts(out, &outcome.counts)?;
     push_known(out, outcome.counts.known)?;
+    push_absent(out, absent)?;
     push_place(out, place)?;
     push_skips(alloc, out, outcome.skips.as_slice())?;
     out.end_object()
@@ -82,6 +85,16 @@ fn push_known(out: &mut Writer, known: Option<u32>) -> Result<(), AllocError>
 {
     match known {
         Some(known) => push_number(out, "known", known.into()),
+        None => Ok(()),
+    }
+}
+
+// Appends how many skips were absent, if they were counted.
+fn push_absent(out: &mut Writer, absent: Option<usize>) -> Result<(), AllocError>
+    ensures { Appends out.old out.new (absent_tokens absent) result }
+{
+    match absent {
+        Some(absent) => push_number(out, "absent", absent as u64),
         None => Ok(()),
     }
 }

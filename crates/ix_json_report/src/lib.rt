@@ -6,7 +6,7 @@
 //!
 //! ```rust
 //! let place = ArchivePlace::File("out/whole.car");
-//! let text = push_job(alloc, Vec::new(alloc), job, result, place)?;
+//! let text = push_job(alloc, Vec::new(alloc), job, result, None, place)?;
 //! let text = push_total(text, results)?;
 //! ```
 #![tactic(auto)]

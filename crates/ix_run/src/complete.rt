@@ -3,11 +3,11 @@
 ghost use Rattle.std.specs.Prelude.{◌≡◌};
 ghost use Rattle.std.specs.List.{list_any};
 ghost use Rattle.ix_jobs.specs.Report.{is_done};
-ghost use Rattle.ix_run.specs.Complete.{is_root, is_complete};
+ghost use Rattle.ix_jobs.specs.Missing.{is_root};
+ghost use Rattle.ix_run.specs.Complete.{is_complete};
 
 use ix_archive::{End, Skip};
-use ix_cid::Cid;
-use ix_jobs::JobResult;
+use ix_jobs::{JobResult, is_root};
 use ix_walk::Job;
 
 /// Returns whether the job is done and no root of it was skipped, so each root has its section in the
@@ -30,11 +30,4 @@ fn has_root(job: &Job, skips: &[Skip]) -> bool
     ensures { result ≡ list_any (λ skip. is_root job.now skip.cid) skips.now }
 {
     skips.iter().any(|skip| is_root(job, &skip.cid))
-}
-
-/// Returns whether a CID is that of a root of the job.
-pub fn is_root(job: &Job, cid: &Cid) -> bool
-    ensures { result ≡ is_root job.now cid.now }
-{
-    job.roots().iter().any(|root| root == cid)
 }

@@ -25,7 +25,7 @@ mod loading;
 mod observer;
 mod preparation;
 
-pub use complete::{is_complete, is_root};
+pub use complete::is_complete;
 pub use execution::{RunInput, RunOut, run, run_jobs, run_observed, run_one, run_one_without};
 pub use fault::{RunFault, fault_line};
 pub use loading::{JobChoice, load_jobs};
