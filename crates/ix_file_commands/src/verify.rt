@@ -1,14 +1,14 @@
 //! The command `verify`: whether CARv1 files are sound.
 
 use crate::car_input::{CarInput, Rejection};
-use crate::commands::CommandSpec;
 use crate::json_verify::report_object;
-use crate::options::{ArgKind, ArgSpec, CARV2, JSON, MAX_INPUT, VERIFIERS};
-use crate::print::{later_note, print_notes};
-use crate::size::most_input;
 use clap::ArgMatches;
 use clap::error::ErrorKind as UsageKind;
 use ix_cli_io::{ANY_SIZE, Failure, REFUSED, STANDARD_INPUT};
+use ix_options::{
+    ArgKind, ArgSpec, CARV2, CommandSpec, JSON, MAX_INPUT, VERIFIERS, later_note, most_input,
+    print_notes,
+};
 use ix_run::RunFault;
 use ix_verify::{
     Beside, Copies, Findings, OtherFile, Scope, Unsound, verify_beside, verify_sections,
@@ -98,7 +98,7 @@ const ALL: ArgSpec = ArgSpec {
 };
 
 /// The command.
-pub(crate) static SPEC: CommandSpec = CommandSpec {
+pub static SPEC: CommandSpec = CommandSpec {
     name: "verify",
     about: ABOUT,
     help: HELP,
@@ -131,7 +131,7 @@ struct VerifyCommand {
 
 /// Runs the command and returns the status. The files of `--with` are read first; if one is rejected, no other
 /// is verified. After a file that is rejected it goes on with the next.
-pub(crate) fn run<'a, R: AllocGlobal + Eprint + Files + Input + Print + Threads + Sync>(
+pub fn run<'a, R: AllocGlobal + Eprint + Files + Input + Print + Threads + Sync>(
     rt: &R,
     words: &ArgMatches<'a>,
 ) -> Result<u8, Failure> {

@@ -1,6 +1,6 @@
 //! The one output of a command: a file, or standard output.
 
-use crate::commands::CommandSpec;
+use crate::command::CommandSpec;
 use crate::options::ArgSpec;
 use clap::ArgMatches;
 use clap::error::ErrorKind;
@@ -9,7 +9,7 @@ use std::alloc::{AllocError, Global};
 
 /// Returns the path that the option names, or None for standard output, which must not be a terminal. The
 /// errors say what would be written.
-pub(crate) fn output_path<'a>(
+pub fn output_path<'a>(
     alloc: Global,
     spec: &'static CommandSpec,
     option: &ArgSpec,

@@ -4,19 +4,7 @@ ghost use Rattle.std.specs.Prelude.{IfOk};
 ghost use Rattle.std.specs.Arc.{arc_value};
 ghost use Rattle.ix_walk.specs.JobMeaning.{AreFew};
 
-use crate::blocks::{BlockFiles, LoadedBlocks};
-use crate::commands::CommandSpec;
-use crate::export::{forget_store, progress_mode};
-use crate::host::Host;
 use crate::json_jobs::folder_report;
-use crate::known::{KnownInputs, refused_inputs};
-use crate::options::{
-    ArgKind, ArgSpec, BLOCKS, CARV2, JSON, MAX_INPUT_1G, MAX_LIMIT, PREFER_SOUND, PROGRESS,
-    QUIET_PROGRESS, VERBOSE, VERIFIERS, WALKERS, WITHOUT, WITHOUT_LIST,
-};
-use crate::print::{print_all, print_notes};
-use crate::size::most_input;
-use crate::threads::{RunReport, ThreadCounts};
 use clap::ArgMatches;
 use clap::error::ErrorKind;
 use ix_cli_io::{
@@ -25,6 +13,15 @@ use ix_cli_io::{
     writers_to,
 };
 use ix_jobs::Part;
+use ix_load::{
+    BlockFiles, KnownInputs, LoadedBlocks, RunReport, ThreadCounts, forget_store, progress_mode,
+    refused_inputs,
+};
+use ix_options::{
+    ArgKind, ArgSpec, BLOCKS, CARV2, CommandSpec, Host, JSON, MAX_INPUT_1G, MAX_LIMIT,
+    PREFER_SOUND, PROGRESS, QUIET_PROGRESS, VERBOSE, VERIFIERS, WALKERS, WITHOUT, WITHOUT_LIST,
+    most_input, print_all, print_notes,
+};
 use ix_run::{JobChoice, RunFault, load_jobs};
 use ix_walk::Job;
 use std::alloc::{AllocError, Global};
@@ -158,7 +155,7 @@ const PARTIAL: ArgSpec = ArgSpec {
 };
 
 /// The command.
-pub(crate) static SPEC: CommandSpec = CommandSpec {
+pub static SPEC: CommandSpec = CommandSpec {
     name: "jobs",
     about: ABOUT,
     help: HELP,
@@ -190,11 +187,7 @@ pub(crate) static SPEC: CommandSpec = CommandSpec {
 
 /// Runs the command and returns the status. Its first error is reported, checked in this order:
 /// arguments, blocks, job file, their contents, outputs. A run that is rejected leaves no output.
-pub(crate) fn run<'a, R: Host>(
-    rt: &R,
-    words: &ArgMatches<'a>,
-    is_terminal: bool,
-) -> Result<u8, Failure> {
+pub fn run<'a, R: Host>(rt: &R, words: &ArgMatches<'a>, is_terminal: bool) -> Result<u8, Failure> {
     let command = JobsCommand::read(rt.alloc(), words, is_terminal)?;
     let progress = Progress::new(rt, command.progress);
     let status = match command.load(rt, &progress) {
@@ -294,8 +287,7 @@ impl<'a> JobsCommand<'a> {
 
     // Returns the paths of all inputs.
     fn inputs(&self, alloc: Global) -> Result<Vec<&'a str>, AllocError> {
-        let mut inputs = Vec::from_slice(alloc, self.blocks.paths())?;
-        self.known.push_paths(&mut inputs)?;
+        let mut inputs = self.known.inputs(alloc, &self.blocks)?;
         inputs.push(self.job_file)?;
         Ok(inputs)
     }

@@ -1,18 +1,13 @@
 //! The command `block`: the bytes of one block.
 
-use crate::Terminals;
-use crate::commands::CommandSpec;
-use crate::export::forget_store;
-use crate::file_output::output_path;
-use crate::host::Host;
 use crate::one_block::{CID, OneBlock};
-use crate::options::{
-    ArgKind, ArgSpec, BLOCKS, CARV2, MAX_INPUT, NO_SYNC, PREFER_SOUND, PROGRESS, QUIET_PROGRESS,
-    SYNC,
-};
-use crate::print::print_all;
 use clap::ArgMatches;
 use ix_cli_io::{Failure, Output, occupy_std_fds};
+use ix_load::forget_store;
+use ix_options::{
+    ArgKind, ArgSpec, BLOCKS, CARV2, CommandSpec, Host, MAX_INPUT, NO_SYNC, PREFER_SOUND, PROGRESS,
+    QUIET_PROGRESS, SYNC, Terminals, output_path, print_all,
+};
 use std::alloc::Global;
 use std::fs::File;
 use std::io::Write;
@@ -52,7 +47,7 @@ const OUT: ArgSpec = ArgSpec {
 };
 
 /// The command.
-pub(crate) static SPEC: CommandSpec = CommandSpec {
+pub static SPEC: CommandSpec = CommandSpec {
     name: "block",
     about: ABOUT,
     help: HELP,
@@ -72,7 +67,7 @@ pub(crate) static SPEC: CommandSpec = CommandSpec {
 
 /// Runs the command and returns the status. Its first error is reported, checked in this order:
 /// arguments, blocks, output.
-pub(crate) fn run<'a, R: Host>(
+pub fn run<'a, R: Host>(
     rt: &R,
     words: &ArgMatches<'a>,
     terminals: Terminals,

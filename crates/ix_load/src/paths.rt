@@ -1,10 +1,10 @@
 //! Paths after the CIDs of roots: how they are given, where they lead, and the selector to there.
 
-use crate::commands::CommandSpec;
 use clap::error::ErrorKind;
 use ix_cbor::{Front, read_front, read_key, skip_item};
 use ix_cid::Cid;
 use ix_cli_io::Failure;
+use ix_options::CommandSpec;
 use ix_path::{NodeBytes, Obstacle, PathError, PathNode, PathStep, Resolution, RootPath, resolve};
 use ix_store::Store;
 use std::alloc::{AllocError, Global};
@@ -16,13 +16,13 @@ const MOST_KEYS: usize = 20;
 
 /// Roots with a path, which is the same for all.
 #[derive(Drop)]
-pub(crate) struct RootPaths {
+pub struct RootPaths {
     paths: Vec<RootPath>,
 }
 
 /// Why there is no selector to where paths lead.
 #[derive(Drop)]
-pub(crate) enum Unresolved {
+pub enum Unresolved {
     /// This line says what there is instead, or that the paths lead along different steps.
     Line(String),
     /// Memory ran out.
@@ -38,7 +38,7 @@ impl From<AllocError> for Unresolved {
 impl RootPaths {
     /// Parses roots with commas between them, of which each may have a path of at most so many segments,
     /// and appends the segments that have an option of their own. Returns None if no root has a path.
-    pub(crate) fn given(
+    pub fn given(
         alloc: Global,
         spec: &'static CommandSpec,
         option: &str,
@@ -72,12 +72,12 @@ impl RootPaths {
     }
 
     /// Whether there are segments, so that the path leads on from the block of a root.
-    pub(crate) fn leads_on(&self) -> bool {
+    pub fn leads_on(&self) -> bool {
         self.paths.iter().any(|path| !path.segments.is_empty())
     }
 
     /// Returns the CIDs of the roots, with commas between them.
-    pub(crate) fn roots_text(&self, alloc: Global) -> Result<String, AllocError> {
+    pub fn roots_text(&self, alloc: Global) -> Result<String, AllocError> {
         let mut text = String::new(alloc);
         for path in &self.paths {
             if !text.is_empty() {
@@ -91,7 +91,7 @@ impl RootPaths {
     /// Returns the selector, in hex, that goes from each root to where its path leads in the store, and
     /// there is the selector with this hex. Without segments it is that one, whether the roots are there or
     /// not.
-    pub(crate) fn selector_hex(
+    pub fn selector_hex(
         &self,
         alloc: Global,
         store: &Store,
@@ -120,7 +120,7 @@ impl RootPaths {
 }
 
 /// Parses a root with a path of at most so many segments, and appends segments to it.
-pub(crate) fn path_of(
+pub fn path_of(
     alloc: Global,
     spec: &'static CommandSpec,
     option: &str,
@@ -160,7 +160,7 @@ fn refused_root(
 
 /// Returns what there is where a path leads no further: which segment isn't there, in which block, and what
 /// is there instead.
-pub(crate) fn obstacle_line(
+pub fn obstacle_line(
     alloc: Global,
     path: &RootPath,
     found: &Resolution<'_>,

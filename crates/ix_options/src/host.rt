@@ -6,7 +6,7 @@ use std::sync::Wait;
 use std::thread::Threads;
 
 /// A runtime with all that a command may use. Functions that need less have smaller bounds.
-pub(crate) trait Host: AllocGlobal
+pub trait Host: AllocGlobal
     + Clock
     + Env
     + Eprint
@@ -30,3 +30,10 @@ where
         + Wait
         + Sync,
 {}
+
+/// Whether standard output and standard error are terminals.
+#[derive(Clone, Copy)]
+pub struct Terminals {
+    pub output: bool,
+    pub errors: bool,
+}

@@ -1,19 +1,15 @@
 //! The one block that a command is about: its CID, or a path to it, and the files with it.
 
-use crate::blocks::{BlockFiles, LoadedBlocks};
-use crate::commands::CommandSpec;
-use crate::export::progress_mode;
-use crate::host::Host;
-use crate::options::{ArgKind, ArgSpec, QUIET_PROGRESS};
-use crate::paths::{obstacle_line, path_of};
-use crate::print::print_refusal;
-use crate::size::most_input;
-use crate::threads::at_most_processors;
 use clap::ArgMatches;
 use ix_check::verdict_in;
 use ix_cid::Cid;
 use ix_cid::code::RAW;
 use ix_cli_io::{ANY_SIZE, Failure, Progress, ProgressMode};
+use ix_load::{BlockFiles, LoadedBlocks, obstacle_line, path_of, progress_mode};
+use ix_options::{
+    ArgKind, ArgSpec, CommandSpec, Host, QUIET_PROGRESS, at_most_processors, most_input,
+    print_refusal,
+};
 use ix_path::{GREATEST_SEGMENTS, NodeBytes, Obstacle, RootPath, resolve};
 use ix_store::Store;
 use ix_verdict::Verdict;

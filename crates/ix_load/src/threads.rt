@@ -5,17 +5,17 @@ ghost use Rattle.std.specs.Arc.{arc_value};
 ghost use Rattle.ix_run.specs.Run.{CanRun};
 
 use crate::blocks::LoadedBlocks;
-use crate::options::{VERIFIERS, WALKERS};
 use clap::ArgMatches;
 use ix_cli_io::Progress;
 use ix_jobs::JobResult;
+use ix_options::{VERIFIERS, WALKERS, at_most_processors};
 use ix_pipeline::Plan;
 use ix_run::{RunFault, RunInput, Unobserved, run_observed};
 use ix_walk::Job;
 use std::io::Write;
 use std::rt::Clock;
 use std::sync::{Arc, Wait};
-use std::thread::{self, Threads};
+use std::thread::Threads;
 
 // The capacity of the queue, in visits, and of each verifier's lane, in verdicts: about as many as come
 // while a waiting thread sleeps a few times.
@@ -25,7 +25,7 @@ const LANE: u32 = 256;
 
 /// How many threads walk and hash in a run: 1 to 64 of each.
 #[derive(Clone, Copy)]
-pub(crate) struct ThreadCounts {
+pub struct ThreadCounts {
     walkers: u32,
     verifiers: u32,
     ghost few_walkers: { (1 ≤ walkers) × (walkers ≤ 64) },
@@ -34,7 +34,7 @@ pub(crate) struct ThreadCounts {
 
 /// What a run leaves besides its archives: the report, the status, and the result of each job.
 #[derive(Drop)]
-pub(crate) struct RunReport {
+pub struct RunReport {
     pub report: Vec<u8>,
     pub status: u8,
     pub results: Vec<JobResult>,
@@ -42,19 +42,19 @@ pub(crate) struct RunReport {
 
 impl ThreadCounts {
     /// Returns the numbers that were given.
-    pub(crate) fn given<'a>(words: &ArgMatches<'a>) -> ThreadCounts {
+    pub fn given<'a>(words: &ArgMatches<'a>) -> ThreadCounts {
         let walkers = WALKERS.threads(words);
         let verifiers = VERIFIERS.threads(words);
         ThreadCounts { walkers, verifiers }
     }
 
     /// Returns how many threads index the blocks: as many as walk and hash, but no more than processors.
-    pub(crate) fn loaders<R: Threads>(&self, rt: &R) -> usize {
+    pub fn loaders<R: Threads>(&self, rt: &R) -> usize {
         at_most_processors(rt, self.walkers as usize + self.verifiers as usize)
     }
 
     /// Runs the jobs with so many threads, and shows progress if it is asked for.
-    pub(crate) fn run<R: AllocGlobal + Clock + Eprint + Threads + Wait + Sync, W: Write + Drop>(
+    pub fn run<R: AllocGlobal + Clock + Eprint + Threads + Wait + Sync, W: Write + Drop>(
         &self,
         rt: &R,
         blocks: &LoadedBlocks,
@@ -89,13 +89,5 @@ impl ThreadCounts {
             status: out.status,
             results: out.results,
         })
-    }
-}
-
-/// Returns this number of threads, or the number of processors if that is less.
-pub(crate) fn at_most_processors<R: Threads>(rt: &R, asked: usize) -> usize {
-    match thread::available_parallelism(rt) {
-        Ok(processors) => asked.min(processors.get()),
-        Err(_) => asked,
     }
 }

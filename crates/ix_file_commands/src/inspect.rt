@@ -1,10 +1,6 @@
 //! The command `inspect`: describes a CARv1 file, or says what another file is.
 
-use crate::commands::CommandSpec;
 use crate::json_inspect::{Described, fault_object, section_object, summary_object};
-use crate::options::{ArgKind, ArgSpec, CARV2, JSON, MAX_INPUT};
-use crate::size::most_input;
-use crate::threads::at_most_processors;
 use clap::ArgMatches;
 use ix_car::{
     CarFault, CarFile, CarKind, Payload, Section, has_index, is_carv2, payload_of, read_sections,
@@ -12,6 +8,10 @@ use ix_car::{
 use ix_cid::HashFunction;
 use ix_cli_io::{ANY_SIZE, Failure, REFUSED, STANDARD_INPUT, read_input};
 use ix_inspect::{Kind, Summary, codec_name, hash_name, kind_of, summary_of};
+use ix_options::{
+    ArgKind, ArgSpec, CARV2, CARV2_HEADER, CommandSpec, JSON, MAX_INPUT, at_most_processors,
+    is_of_carv2, most_input, words_of,
+};
 use ix_run::RunFault;
 use std::alloc::{AllocError, Global};
 use std::fmt::Write as FmtWrite;
@@ -28,10 +28,6 @@ const LOADERS: usize = 8;
 const SECTION_MEMORY: usize = 80;
 
 const PROGRAM_MEMORY: usize = 16 * 1024 * 1024;
-
-/// What is wrong with a CARv2 file whose payload can't be read.
-pub(crate) const CARV2_HEADER: &str =
-    "the payload that the header of a CARv2 file names is not whole in it";
 
 // What a file is that has an error after the header of its CARv1 file.
 const CARV1: &str = "a CARv1 file";
@@ -81,7 +77,7 @@ const CIDS: ArgSpec = ArgSpec {
 };
 
 /// The command.
-pub(crate) static SPEC: CommandSpec = CommandSpec {
+pub static SPEC: CommandSpec = CommandSpec {
     name: "inspect",
     about: ABOUT,
     help: HELP,
@@ -121,7 +117,7 @@ impl Form {
 }
 
 /// Runs the command and returns the status.
-pub(crate) fn run<'a, R: AllocGlobal + Eprint + Files + Input + Print + Threads + Sync>(
+pub fn run<'a, R: AllocGlobal + Eprint + Files + Input + Print + Threads + Sync>(
     rt: &R,
     words: &ArgMatches<'a>,
 ) -> Result<u8, Failure> {
@@ -437,24 +433,4 @@ fn print_kept<R: Eprint>(rt: &R, path: &str, start: usize, fault: CarFault) {
             "{path}: {kind} at {place}: {words} its bytes {start} to {place} (tail -c +{from} | head -c {size})"
         )
     };
-}
-
-// Whether an error is that of the header of a CARv2 file.
-pub(crate) fn is_of_carv2(kind: Kind, fault: &CarFault) -> bool {
-    kind == Kind::Car2 && fault.place == 11
-}
-
-// Returns what a file that is not a CARv1 is.
-pub(crate) fn words_of(kind: Kind) -> &'static str {
-    match kind {
-        Kind::Car2 => "a CARv2 file; --carv2 reads the CARv1 in it",
-        Kind::Gzip => "compressed by gzip",
-        Kind::Zstd => "compressed by zstd",
-        Kind::Bzip2 => "compressed by bzip2",
-        Kind::Tar => "a tar archive",
-        Kind::Json => "JSON",
-        Kind::Text => "plain text",
-        Kind::Empty => "an empty file",
-        Kind::Other => "not a CARv1 file",
-    }
 }

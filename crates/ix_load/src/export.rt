@@ -1,8 +1,8 @@
 //! What the commands that export have in common.
 
-use crate::options::{ArgSpec, PROGRESS};
 use clap::ArgMatches;
 use ix_cli_io::ProgressMode;
+use ix_options::{ArgSpec, PROGRESS};
 use ix_store::Store;
 use std::mem::ManuallyDrop;
 use std::sync::Arc;
@@ -11,7 +11,7 @@ use std::sync::Arc;
 const SHORT_RUN: u64 = 2_000;
 
 /// Returns how progress is shown. The flag `quiet` turns it off.
-pub(crate) fn progress_mode<'a>(
+pub fn progress_mode<'a>(
     words: &ArgMatches<'a>,
     quiet: &ArgSpec,
     is_terminal: bool,
@@ -30,6 +30,6 @@ pub(crate) fn progress_mode<'a>(
 
 /// Leaks the blocks, since only the status is left to return. At the end of the process the system takes
 /// all memory back, in less time than a million blocks take to be freed.
-pub(crate) fn forget_store(store: Arc<Store>) {
+pub fn forget_store(store: Arc<Store>) {
     let _left = ManuallyDrop::new(store);
 }

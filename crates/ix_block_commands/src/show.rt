@@ -1,17 +1,14 @@
 //! The command `show`: one block as DAG-JSON.
 
-use crate::Terminals;
-use crate::commands::CommandSpec;
-use crate::export::forget_store;
-use crate::host::Host;
 use crate::one_block::{CID, NO_BLOCK, OneBlock, Target, verdict_line};
-use crate::options::{
-    ArgKind, ArgSpec, BLOCKS, CARV2, MAX_INPUT, PREFER_SOUND, PROGRESS, QUIET_PROGRESS,
-};
-use crate::print::{print_all, print_notes, print_refusal};
 use clap::ArgMatches;
 use ix_cli_io::Failure;
 use ix_dag_json::{DagJsonFault, Layout, Part, escape_hidden, text_of_block, text_of_bytes};
+use ix_load::forget_store;
+use ix_options::{
+    ArgKind, ArgSpec, BLOCKS, CARV2, CommandSpec, Host, MAX_INPUT, PREFER_SOUND, PROGRESS,
+    QUIET_PROGRESS, Terminals, print_all, print_notes, print_refusal,
+};
 use ix_path::NodeBytes;
 use ix_verdict::Verdict;
 use std::alloc::{AllocError, Global};
@@ -58,7 +55,7 @@ const PRETTY: ArgSpec = ArgSpec {
 };
 
 /// The command.
-pub(crate) static SPEC: CommandSpec = CommandSpec {
+pub static SPEC: CommandSpec = CommandSpec {
     name: "show",
     about: ABOUT,
     help: HELP,
@@ -76,7 +73,7 @@ pub(crate) static SPEC: CommandSpec = CommandSpec {
 
 /// Runs the command and returns the status. Its first error is reported, checked in this order:
 /// arguments, blocks.
-pub(crate) fn run<'a, R: Host>(
+pub fn run<'a, R: Host>(
     rt: &R,
     words: &ArgMatches<'a>,
     terminals: Terminals,

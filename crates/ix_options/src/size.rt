@@ -1,6 +1,6 @@
 //! Sizes in arguments: bytes, or multiples of 1024 by a unit.
 
-use crate::commands::CommandSpec;
+use crate::command::CommandSpec;
 use crate::options::MAX_INPUT;
 use clap::ArgMatches;
 use clap::error::ErrorKind;
@@ -8,7 +8,7 @@ use ix_cli_io::Failure;
 use std::alloc::{AllocError, Global};
 
 /// Returns the greatest size of an input that was given to a command, or this one.
-pub(crate) fn most_input(
+pub fn most_input(
     alloc: Global,
     spec: &'static CommandSpec,
     words: &ArgMatches<'_>,

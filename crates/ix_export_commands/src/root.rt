@@ -1,11 +1,8 @@
 //! The command `root`: the archive of one block, from hex to hex.
 
-use crate::commands::CommandSpec;
-use crate::options::{ArgKind, ArgSpec, MAX_INPUT_1G, VERBOSE};
-use crate::print::print_answer;
-use crate::size::most_input;
 use clap::ArgMatches;
 use ix_cli_io::{Failure, LARGEST_INPUT, STANDARD_INPUT, read_all};
+use ix_options::{ArgKind, ArgSpec, CommandSpec, MAX_INPUT_1G, VERBOSE, most_input, print_answer};
 use ix_root::{printed_root, root_of_text};
 
 const ABOUT: &str = "Export the archive of one block, from hex to hex";
@@ -24,7 +21,7 @@ const CID: ArgSpec = ArgSpec {
 };
 
 /// The command.
-pub(crate) static SPEC: CommandSpec = CommandSpec {
+pub static SPEC: CommandSpec = CommandSpec {
     name: "root",
     about: ABOUT,
     help: HELP,
@@ -33,7 +30,7 @@ pub(crate) static SPEC: CommandSpec = CommandSpec {
 
 /// Runs the command and returns the status. Its first error is reported, checked in this order: CID,
 /// standard input, hex, CAR file.
-pub(crate) fn run<'a, R: AllocGlobal + Input + Print>(
+pub fn run<'a, R: AllocGlobal + Input + Print>(
     rt: &R,
     words: &ArgMatches<'a>,
 ) -> Result<u8, Failure> {

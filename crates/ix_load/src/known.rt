@@ -1,12 +1,11 @@
 //! What a receiver has: files of its blocks, and a list of CIDs.
 
 use crate::blocks::{BlockFiles, LoadedBlocks};
-use crate::commands::CommandSpec;
-use crate::options::{BLOCKS, WITHOUT, WITHOUT_LIST};
 use clap::ArgMatches;
 use clap::error::ErrorKind;
 use ix_cli_io::{Failure, Progress, STANDARD_INPUT, read_input};
 use ix_have_list::{insert_listed, listed_cids};
+use ix_options::{BLOCKS, CommandSpec, WITHOUT, WITHOUT_LIST};
 use ix_store::PlaceSet;
 use std::alloc::{AllocError, Global};
 use std::fs::File;
@@ -15,7 +14,7 @@ use std::thread::Threads;
 
 /// What the receiver of an archive has, as it is given.
 #[derive(Drop)]
-pub(crate) struct KnownInputs<'a> {
+pub struct KnownInputs<'a> {
     files: BlockFiles<'a>,
     // The path of its have-list, and how many bytes that may have.
     list: Option<&'a str>,
@@ -24,7 +23,7 @@ pub(crate) struct KnownInputs<'a> {
 
 impl<'a> KnownInputs<'a> {
     /// Reads the paths. Standard input can be given once, here or for the blocks of the command.
-    pub(crate) fn given(
+    pub fn given(
         alloc: Global,
         spec: &'static CommandSpec,
         words: &ArgMatches<'a>,
@@ -57,7 +56,7 @@ impl<'a> KnownInputs<'a> {
     }
 
     /// Returns the name of the option for which standard input is given, here or for these blocks.
-    pub(crate) fn standard_input(&self, blocks: &BlockFiles<'a>) -> Option<&'static str> {
+    pub fn standard_input(&self, blocks: &BlockFiles<'a>) -> Option<&'static str> {
         if blocks.has_standard_input() {
             Some(BLOCKS.name)
         } else if self.files.has_standard_input() {
@@ -69,18 +68,23 @@ impl<'a> KnownInputs<'a> {
         }
     }
 
-    /// Appends the paths.
-    pub(crate) fn push_paths(&self, inputs: &mut Vec<&'a str>) -> Result<(), AllocError> {
+    /// Returns the paths of these blocks, and those that are given here.
+    pub fn inputs(
+        &self,
+        alloc: Global,
+        blocks: &BlockFiles<'a>,
+    ) -> Result<Vec<&'a str>, AllocError> {
+        let mut inputs = Vec::from_slice(alloc, blocks.paths())?;
         inputs.extend_from_slice(self.files.paths())?;
         if let Some(path) = self.list {
             inputs.push(path)?;
         }
-        Ok(())
+        Ok(inputs)
     }
 
     /// Adds to the blocks of a command which of them the receiver has: those of which its files have a
     /// sound copy, and those whose CID it lists. If nothing is given, nothing is known of it.
-    pub(crate) fn add_to<R>(
+    pub fn add_to<R>(
         &self,
         rt: &R,
         blocks: &mut LoadedBlocks,
@@ -117,7 +121,7 @@ impl<'a> KnownInputs<'a> {
 }
 
 /// Makes the error for standard input that is given for two options.
-pub(crate) fn refused_inputs(
+pub fn refused_inputs(
     alloc: Global,
     spec: &'static CommandSpec,
     first: &str,

@@ -1,14 +1,13 @@
 //! The command `check-jobs`: what is wrong with each line of a job file.
 
-use crate::commands::CommandSpec;
 use crate::json_faults::fault_objects;
-use crate::options::{ArgKind, ArgSpec, JSON, MAX_INPUT, MAX_LIMIT};
-use crate::print::print_all;
-use crate::size::most_input;
 use clap::ArgMatches;
 use ix_cli_io::{ANY_SIZE, Failure, REFUSED, read_input};
 use ix_job_errors::{fault_lines, job_faults_up_to};
 use ix_jobs::JobsFault;
+use ix_options::{
+    ArgKind, ArgSpec, CommandSpec, JSON, MAX_INPUT, MAX_LIMIT, most_input, print_all,
+};
 use ix_run::{RunFault, fault_line};
 use std::alloc::AllocError;
 use std::rt::Files;
@@ -30,7 +29,7 @@ const FILE: ArgSpec = ArgSpec {
 };
 
 /// The command.
-pub(crate) static SPEC: CommandSpec = CommandSpec {
+pub static SPEC: CommandSpec = CommandSpec {
     name: "check-jobs",
     about: ABOUT,
     help: HELP,
@@ -39,7 +38,7 @@ pub(crate) static SPEC: CommandSpec = CommandSpec {
 
 /// Runs the command and returns the status: prints nothing if the command `jobs` accepts the file.
 /// Otherwise it prints the error of `jobs`, and then what is wrong with each faulty line.
-pub(crate) fn run<'a, R: AllocGlobal + Files + Input + Print>(
+pub fn run<'a, R: AllocGlobal + Files + Input + Print>(
     rt: &R,
     words: &ArgMatches<'a>,
 ) -> Result<u8, Failure> {

@@ -1,12 +1,11 @@
 //! The roots of the command `get`: CIDs, CIDs with a path, or those in the header of the first file.
 
-use crate::commands::CommandSpec;
-use crate::options::{ArgKind, ArgSpec};
 use crate::paths::{RootPaths, Unresolved};
 use clap::error::ErrorKind;
 use ix_cid::Cid;
 use ix_cli_io::Failure;
 use ix_job_line::SelectorWord;
+use ix_options::{ArgKind, ArgSpec, CommandSpec};
 use ix_path::{GREATEST_SEGMENTS, MOST_SEGMENTS};
 use std::alloc::{AllocError, Global};
 
@@ -17,7 +16,7 @@ const SOME_ROOT: &str = "bafkqaaa";
 const MATCHER: &str = "a1612ea0";
 
 /// What is selected where a path ends.
-pub(crate) const SCOPE: ArgSpec = ArgSpec {
+pub const SCOPE: ArgSpec = ArgSpec {
     name: "scope",
     given: ArgKind::Optional("SCOPE"),
     help: "all below the end of the path, or its block alone",
@@ -25,7 +24,7 @@ pub(crate) const SCOPE: ArgSpec = ArgSpec {
 
 /// What is selected where a path ends, without a selector.
 #[derive(Clone, Copy, PartialEq, Eq)]
-pub(crate) enum Scope {
+pub enum Scope {
     /// Everything below.
     All,
     /// The block alone.
@@ -34,7 +33,7 @@ pub(crate) enum Scope {
 
 impl Scope {
     /// Reads the value of `--scope`. A UnixFS entity is all that isn't read here, so it is the block.
-    pub(crate) fn given(
+    pub fn given(
         alloc: Global,
         spec: &'static CommandSpec,
         word: Option<&str>,
@@ -53,7 +52,7 @@ impl Scope {
     }
 
     /// Returns the selector where a path ends: the one in JSON, or the one of the scope.
-    pub(crate) fn selector<'b>(self, json: Option<&'b [u8]>) -> SelectorWord<'b> {
+    pub fn selector<'b>(self, json: Option<&'b [u8]>) -> SelectorWord<'b> {
         match (json, self) {
             (Some(text), _) => SelectorWord::Json(text),
             (None, Scope::All) => SelectorWord::Everything,
@@ -72,7 +71,7 @@ impl Scope {
 
 /// How the roots are given.
 #[derive(Drop)]
-pub(crate) enum Roots<'a> {
+pub enum Roots<'a> {
     /// They aren't, so they are those in the header of the first file.
     Header,
     /// As CIDs with commas between them.
@@ -83,14 +82,14 @@ pub(crate) enum Roots<'a> {
 
 /// The roots of a job, and its selector in hex if it isn't that of the arguments.
 #[derive(Drop)]
-pub(crate) struct RootWords {
+pub struct RootWords {
     pub roots: String,
     pub hex: Option<String>,
 }
 
 /// Why there are no jobs over the roots in a store.
 #[derive(Drop)]
-pub(crate) enum NoJobs {
+pub enum NoJobs {
     Failure(Failure),
     /// This line says where a path leads no further.
     Line(String),
@@ -110,7 +109,7 @@ impl From<Failure> for NoJobs {
 
 impl<'a> Roots<'a> {
     /// Reads the roots, if there are any, and the segments after the path of the one root.
-    pub(crate) fn given(
+    pub fn given(
         alloc: Global,
         spec: &'static CommandSpec,
         option: &str,
@@ -145,7 +144,7 @@ impl<'a> Roots<'a> {
     }
 
     /// Returns the CIDs of the roots, with commas between them, or one that stands for those in a header.
-    pub(crate) fn text(&self, alloc: Global) -> Result<String, AllocError> {
+    pub fn text(&self, alloc: Global) -> Result<String, AllocError> {
         match self {
             Roots::Header => String::from_str(alloc, SOME_ROOT),
             Roots::Cids(text) => String::from_str(alloc, text),
@@ -155,7 +154,7 @@ impl<'a> Roots<'a> {
 }
 
 /// Makes the failure of a path that leads no further.
-pub(crate) fn no_jobs(alloc: Global, unresolved: Unresolved) -> Result<NoJobs, AllocError> {
+pub fn no_jobs(alloc: Global, unresolved: Unresolved) -> Result<NoJobs, AllocError> {
     match unresolved {
         Unresolved::Line(line) => Ok(NoJobs::Line(format!(in alloc; "--root: {line}")?)),
         Unresolved::Memory => Err(AllocError),
@@ -163,7 +162,7 @@ pub(crate) fn no_jobs(alloc: Global, unresolved: Unresolved) -> Result<NoJobs, A
 }
 
 /// Returns the CIDs of roots, with commas between them.
-pub(crate) fn roots_text(alloc: Global, roots: &[Cid]) -> Result<String, AllocError> {
+pub fn roots_text(alloc: Global, roots: &[Cid]) -> Result<String, AllocError> {
     let mut text = String::new(alloc);
     for root in roots {
         if !text.is_empty() {
@@ -175,12 +174,12 @@ pub(crate) fn roots_text(alloc: Global, roots: &[Cid]) -> Result<String, AllocEr
 }
 
 /// Makes the note that the roots are those in the header of a file.
-pub(crate) fn roots_note(alloc: Global, path: &str, roots: &str) -> Result<String, AllocError> {
+pub fn roots_note(alloc: Global, path: &str, roots: &str) -> Result<String, AllocError> {
     format!(in alloc; "note: the roots are those in the header of {path}: {roots}\n")
 }
 
 /// Makes the error for a header without roots, where none are given.
-pub(crate) fn no_roots(
+pub fn no_roots(
     alloc: Global,
     spec: &'static CommandSpec,
     path: &str,
@@ -190,7 +189,7 @@ pub(crate) fn no_roots(
 }
 
 /// Makes the error for the roots in a header that are those of no job.
-pub(crate) fn refused_roots(
+pub fn refused_roots(
     alloc: Global,
     spec: &'static CommandSpec,
     path: &str,

@@ -4,26 +4,7 @@ ghost use Rattle.std.specs.Prelude.{◌≡◌, length, if◌then◌else◌, IfOk
 ghost use Rattle.std.specs.Arc.{arc_value};
 ghost use Rattle.ix_run.specs.Complete.{is_complete};
 
-use crate::Terminals;
-use crate::blocks::{BlockFiles, LoadedBlocks};
-use crate::commands::CommandSpec;
-use crate::export::{forget_store, progress_mode};
-use crate::file_output::output_path;
-use crate::host::Host;
 use crate::json_jobs::{file_report, is_to_be_named};
-use crate::known::KnownInputs;
-use crate::options::{
-    ArgKind, ArgSpec, BLOCKS, CARV2, JSON, MAX_INPUT, NO_SYNC, PREFER_SOUND, PROGRESS, SYNC,
-    VERIFIERS, WALKERS, WITHOUT, WITHOUT_LIST,
-};
-use crate::paths::RootPaths;
-use crate::print::{print_notes, print_refusal};
-use crate::roots::{
-    NoJobs, RootWords, Roots, SCOPE, Scope, no_jobs, no_roots, refused_roots, roots_note,
-    roots_text,
-};
-use crate::size::most_input;
-use crate::threads::{RunReport, ThreadCounts};
 use clap::ArgMatches;
 use ix_cid::Cid;
 use ix_cli_io::{
@@ -33,6 +14,16 @@ use ix_cli_io::{
 use ix_job_errors::{job_fault_words, lacks_an_edge};
 use ix_job_line::{JobWords, SelectorWord, jobs_of_words, selector_hex};
 use ix_jobs::JobResult;
+use ix_load::{
+    BlockFiles, KnownInputs, LoadedBlocks, NoJobs, RootPaths, RootWords, Roots, RunReport, SCOPE,
+    Scope, ThreadCounts, forget_store, no_jobs, no_roots, progress_mode, refused_roots, roots_note,
+    roots_text,
+};
+use ix_options::{
+    ArgKind, ArgSpec, BLOCKS, CARV2, CommandSpec, Host, JSON, MAX_INPUT, NO_SYNC, PREFER_SOUND,
+    PROGRESS, SYNC, Terminals, VERIFIERS, WALKERS, WITHOUT, WITHOUT_LIST, most_input, output_path,
+    print_notes, print_refusal,
+};
 use ix_run::{RunFault, is_complete};
 use ix_store::Store;
 use ix_walk::Job;
@@ -188,7 +179,7 @@ const VERBOSE: ArgSpec = ArgSpec {
 };
 
 /// The command: the job, how it is exported, and where to.
-pub(crate) static SPEC: CommandSpec = CommandSpec {
+pub static SPEC: CommandSpec = CommandSpec {
     name: "get",
     about: ABOUT,
     help: HELP,
@@ -223,7 +214,7 @@ pub(crate) static SPEC: CommandSpec = CommandSpec {
 
 /// Runs the command and returns the status. Its first error is reported, checked in this order:
 /// arguments, blocks, output.
-pub(crate) fn run<'a, R: Host>(
+pub fn run<'a, R: Host>(
     rt: &R,
     words: &ArgMatches<'a>,
     terminals: Terminals,
@@ -455,13 +446,6 @@ impl<'a> GetCommand<'a> {
         Ok((blocks, roots))
     }
 
-    // Returns the paths of all inputs.
-    fn inputs(&self, alloc: Global) -> Result<Vec<&'a str>, AllocError> {
-        let mut inputs = Vec::from_slice(alloc, self.blocks.paths())?;
-        self.known.push_paths(&mut inputs)?;
-        Ok(inputs)
-    }
-
     // Exports the one job: to standard output, or to a file, which is discarded if the run is rejected.
     // Closed streams are occupied only after the input was read, so a closed standard input is an error
     // and not an empty input.
@@ -489,12 +473,8 @@ impl<'a> GetCommand<'a> {
                 Err(fault) => Err(refusal(rt, "-", fault, &errors)),
             };
         };
-        let output = Output::create(
-            rt,
-            path,
-            self.inputs(rt.alloc())?.as_slice(),
-            self.is_synced,
-        )?;
+        let inputs = self.known.inputs(rt.alloc(), &self.blocks)?;
+        let output = Output::create(rt, path, inputs.as_slice(), self.is_synced)?;
         let writer = output.writer(rt.alloc(), &errors);
         match self.write(rt, blocks, jobs, writer, progress) {
             Ok(ran) => self.publish(rt, path, jobs.as_slice(), output, &ran, &errors),

@@ -2,10 +2,6 @@
 
 ghost use Rattle.ix_car.specs.Payload.{IsWithin};
 
-use crate::commands::CommandSpec;
-use crate::inspect;
-use crate::options::{ArgSpec, BLOCKS, PREFER_SOUND, WITHOUT};
-use crate::print::{later_note, print_notes};
 use clap::ArgMatches;
 use clap::error::ErrorKind;
 use ix_archive::known_places;
@@ -13,6 +9,10 @@ use ix_car::{BlockLoader, CarFault, CarKind, Payload, SoundLoader, payload_of, r
 use ix_cid::Cid;
 use ix_cli_io::{Failure, Progress, STANDARD_INPUT, load_input, size_of_all};
 use ix_inspect::{Kind, kind_of};
+use ix_options::{
+    ArgSpec, BLOCKS, CARV2_HEADER, CommandSpec, PREFER_SOUND, WITHOUT, is_of_carv2, later_note,
+    print_notes, words_of,
+};
 use ix_run::RunFault;
 use ix_store::{PlaceSet, SoundStore, Store};
 use std::alloc::{AllocError, Global};
@@ -23,7 +23,7 @@ use std::thread::Threads;
 
 /// The block files of a command, in their order.
 #[derive(Drop)]
-pub(crate) struct BlockFiles<'a> {
+pub struct BlockFiles<'a> {
     paths: Vec<&'a str>,
     // How many bytes each may have.
     most: u64,
@@ -37,7 +37,7 @@ pub(crate) struct BlockFiles<'a> {
 
 /// The settled store of a command's blocks.
 #[derive(Drop)]
-pub(crate) struct LoadedBlocks {
+pub struct LoadedBlocks {
     pub store: Arc<Store>,
     /// The positions in it of the blocks that the receiver has, if that is given.
     pub known: Option<PlaceSet>,
@@ -47,7 +47,7 @@ pub(crate) struct LoadedBlocks {
 
 impl LoadedBlocks {
     /// Prints how many blocks are a later copy, if any are and the run wasn't rejected.
-    pub(crate) fn print_note<R: AllocGlobal + Eprint>(&self, rt: &R, status: &Result<u8, Failure>) {
+    pub fn print_note<R: AllocGlobal + Eprint>(&self, rt: &R, status: &Result<u8, Failure>) {
         if status.is_ok() && self.later_count > 0 {
             print_notes(rt, later_note(rt.alloc(), "note", self.later_count));
         }
@@ -108,7 +108,7 @@ impl Loader {
 
 impl<'a> BlockFiles<'a> {
     /// Reads the paths of the blocks that a command exports. Standard input can be given once.
-    pub(crate) fn given(
+    pub fn given(
         alloc: Global,
         spec: &'static CommandSpec,
         words: &ArgMatches<'a>,
@@ -168,7 +168,7 @@ impl<'a> BlockFiles<'a> {
     }
 
     /// Returns the paths.
-    pub(crate) fn paths(&self) -> &[&'a str] {
+    pub fn paths(&self) -> &[&'a str] {
         self.paths.as_slice()
     }
 
@@ -178,7 +178,7 @@ impl<'a> BlockFiles<'a> {
     }
 
     /// Reads the files, one after the other. A large one is read by so many threads.
-    pub(crate) fn read<R>(
+    pub fn read<R>(
         &self,
         rt: &R,
         threads: usize,
@@ -196,11 +196,7 @@ impl<'a> BlockFiles<'a> {
     }
 
     /// Returns the roots in the header of the first of the files that were read.
-    pub(crate) fn header_roots(
-        &self,
-        alloc: Global,
-        files: &[Vec<u8>],
-    ) -> Result<Vec<Cid>, Failure> {
+    pub fn header_roots(&self, alloc: Global, files: &[Vec<u8>]) -> Result<Vec<Cid>, Failure> {
         let (Some(path), Some(bytes)) = (self.paths.first(), files.first()) else {
             return Ok(Vec::new(alloc));
         };
@@ -212,7 +208,7 @@ impl<'a> BlockFiles<'a> {
 
     /// Makes the store of the blocks of the files that were read: those of their sections in order, the
     /// first of each CID, or the first that is sound if that is asked for.
-    pub(crate) fn store_of<R: AllocGlobal + Threads + Sync>(
+    pub fn store_of<R: AllocGlobal + Threads + Sync>(
         &self,
         rt: &R,
         files: Vec<Vec<u8>>,
@@ -296,9 +292,9 @@ fn cause_of(fault: &CarFault, kind: Kind) -> Option<&'static str> {
     if fault.kind == CarKind::Memory {
         None
     } else if fault.place == 0 {
-        Some(inspect::words_of(kind))
-    } else if inspect::is_of_carv2(kind, fault) {
-        Some(inspect::CARV2_HEADER)
+        Some(words_of(kind))
+    } else if is_of_carv2(kind, fault) {
+        Some(CARV2_HEADER)
     } else {
         Some("ix_export inspect says how to keep the sections before it")
     }

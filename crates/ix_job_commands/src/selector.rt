@@ -1,10 +1,8 @@
 //! The command `selector`: converts a selector from JSON to hex, or back.
 
-use crate::commands::CommandSpec;
-use crate::options::{ArgKind, ArgSpec};
-use crate::print::{print_answer, print_refusal};
 use clap::ArgMatches;
 use ix_cli_io::{Failure, LARGEST_INPUT, STANDARD_INPUT, read_all};
+use ix_options::{ArgKind, ArgSpec, CommandSpec, print_answer, print_refusal};
 use ix_selector_json::{hex_fault_line, hex_of_json, json_fault_line, json_of_hex};
 
 const ABOUT: &str = "Convert a selector from JSON to hex, or back";
@@ -31,7 +29,7 @@ const HEX: ArgSpec = ArgSpec {
 };
 
 /// The command.
-pub(crate) static SPEC: CommandSpec = CommandSpec {
+pub static SPEC: CommandSpec = CommandSpec {
     name: "selector",
     about: ABOUT,
     help: HELP,
@@ -39,7 +37,7 @@ pub(crate) static SPEC: CommandSpec = CommandSpec {
 };
 
 /// Runs the command and returns the status.
-pub(crate) fn run<'a, R: AllocGlobal + Eprint + Input + Print>(
+pub fn run<'a, R: AllocGlobal + Eprint + Input + Print>(
     rt: &R,
     words: &ArgMatches<'a>,
 ) -> Result<u8, Failure> {

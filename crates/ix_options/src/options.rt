@@ -10,7 +10,7 @@ use std::alloc::{AllocError, Global};
 
 /// An argument of a command: its name, how it is given, and its line in the help.
 #[derive(Clone, Copy)]
-pub(crate) struct ArgSpec {
+pub struct ArgSpec {
     pub name: &'static str,
     pub given: ArgKind,
     pub help: &'static str,
@@ -18,7 +18,7 @@ pub(crate) struct ArgSpec {
 
 /// How an argument is given. The first text is the name of its value in the help.
 #[derive(Clone, Copy)]
-pub(crate) enum ArgKind {
+pub enum ArgKind {
     /// A required option.
     Required(&'static str),
     /// A required option that may be given several times.
@@ -52,112 +52,112 @@ pub(crate) enum ArgKind {
 }
 
 /// The block files of the commands that look up blocks.
-pub(crate) const BLOCKS: ArgSpec = ArgSpec {
+pub const BLOCKS: ArgSpec = ArgSpec {
     name: "blocks",
     given: ArgKind::RequiredMany("FILE"),
     help: "CARv1 file of blocks, - for stdin; several add up",
 };
 
 /// The files of what the receiver of an archive has, at the same commands.
-pub(crate) const WITHOUT: ArgSpec = ArgSpec {
+pub const WITHOUT: ArgSpec = ArgSpec {
     name: "without",
     given: ArgKind::OptionalMany("FILE"),
     help: "Leave out what this CARv1 has sound; several add up",
 };
 
 /// The have-list of the receiver, at the same commands.
-pub(crate) const WITHOUT_LIST: ArgSpec = ArgSpec {
+pub const WITHOUT_LIST: ArgSpec = ArgSpec {
     name: "without-list",
     given: ArgKind::Optional("FILE"),
     help: "Leave out the CIDs this file lists, one per line",
 };
 
 /// The greatest size of an input, where there is none by default.
-pub(crate) const MAX_INPUT: ArgSpec = ArgSpec {
+pub const MAX_INPUT: ArgSpec = ArgSpec {
     name: "max-input",
     given: ArgKind::Optional("SIZE"),
     help: "Greatest size of an input, such as 4G",
 };
 
 /// The same where there is one by default.
-pub(crate) const MAX_INPUT_1G: ArgSpec = ArgSpec {
+pub const MAX_INPUT_1G: ArgSpec = ArgSpec {
     name: "max-input",
     given: ArgKind::Optional("SIZE"),
     help: "Greatest size of an input [default: 1G]",
 };
 
 /// Whether CARv2 files are read. All commands but `jobs` read them without it too.
-pub(crate) const CARV2: ArgSpec = ArgSpec {
+pub const CARV2: ArgSpec = ArgSpec {
     name: "carv2",
     given: ArgKind::Flag,
     help: "Read CARv2 files too, as the CARv1 in them",
 };
 
 /// Whether the first sound copy of a block counts, and not the first copy.
-pub(crate) const PREFER_SOUND: ArgSpec = ArgSpec {
+pub const PREFER_SOUND: ArgSpec = ArgSpec {
     name: "prefer-sound",
     given: ArgKind::Flag,
     help: "Use the first sound copy of a block, if any is",
 };
 
 /// The number of walkers.
-pub(crate) const WALKERS: ArgSpec = ArgSpec {
+pub const WALKERS: ArgSpec = ArgSpec {
     name: "walkers",
     given: ArgKind::Number,
     help: "Threads that traverse, 1 to 64",
 };
 
 /// The number of verifiers.
-pub(crate) const VERIFIERS: ArgSpec = ArgSpec {
+pub const VERIFIERS: ArgSpec = ArgSpec {
     name: "verifiers",
     given: ArgKind::Number,
     help: "Threads that hash, 1 to 64",
 };
 
 /// The greatest limit of a job, at the commands that read or write lines of a job file.
-pub(crate) const MAX_LIMIT: ArgSpec = ArgSpec {
+pub const MAX_LIMIT: ArgSpec = ArgSpec {
     name: "max-limit",
     given: ArgKind::Limit,
     help: "Greatest LIMIT, up to 4294967295",
 };
 
 /// Whether progress is shown.
-pub(crate) const PROGRESS: ArgSpec = ArgSpec {
+pub const PROGRESS: ArgSpec = ArgSpec {
     name: "progress",
     given: ArgKind::Flag,
     help: "Show progress on standard error",
 };
 
 /// Whether nothing but progress is turned off.
-pub(crate) const QUIET_PROGRESS: ArgSpec = ArgSpec {
+pub const QUIET_PROGRESS: ArgSpec = ArgSpec {
     name: "quiet",
     given: ArgKind::Flag,
     help: "No progress",
 };
 
 /// Whether a file is on the disk before it is renamed, which is the default at the commands that write one.
-pub(crate) const SYNC: ArgSpec = ArgSpec {
+pub const SYNC: ArgSpec = ArgSpec {
     name: "sync",
     given: ArgKind::FlagOver("no-sync"),
     help: "Sync FILE to disk before it is renamed [default]",
 };
 
 /// Whether it is renamed before.
-pub(crate) const NO_SYNC: ArgSpec = ArgSpec {
+pub const NO_SYNC: ArgSpec = ArgSpec {
     name: "no-sync",
     given: ArgKind::FlagOver("sync"),
     help: "Rename FILE without waiting for the disk",
 };
 
 /// Whether the cause of an error is printed where an error has one line.
-pub(crate) const VERBOSE: ArgSpec = ArgSpec {
+pub const VERBOSE: ArgSpec = ArgSpec {
     name: "verbose",
     given: ArgKind::Flag,
     help: "Print the cause of an error on a second line",
 };
 
 /// Whether a report is JSON, at the commands that print one.
-pub(crate) const JSON: ArgSpec = ArgSpec {
+pub const JSON: ArgSpec = ArgSpec {
     name: "json",
     given: ArgKind::Flag,
     help: "Report as JSON, one object per line",
@@ -175,29 +175,29 @@ fn short_of(name: &str) -> Option<char> {
 
 impl ArgSpec {
     /// Returns the text that was given for it, or its default, or an empty text.
-    pub(crate) fn text<'a>(&self, words: &ArgMatches<'a>) -> &'a str {
+    pub fn text<'a>(&self, words: &ArgMatches<'a>) -> &'a str {
         self.optional_text(words).unwrap_or("")
     }
 
     /// Returns the text that was given for it, or its default, if there is one.
-    pub(crate) fn optional_text<'a>(&self, words: &ArgMatches<'a>) -> Option<&'a str> {
+    pub fn optional_text<'a>(&self, words: &ArgMatches<'a>) -> Option<&'a str> {
         words.get_str(self.name)
     }
 
     /// Returns whether the flag was given.
-    pub(crate) fn is_given<'a>(&self, words: &ArgMatches<'a>) -> bool {
+    pub fn is_given<'a>(&self, words: &ArgMatches<'a>) -> bool {
         words.get_flag(self.name)
     }
 
     /// Returns the number of threads that was given. The command line accepts only 1 to 64.
-    pub(crate) fn threads<'a>(&self, words: &ArgMatches<'a>) -> u32
+    pub fn threads<'a>(&self, words: &ArgMatches<'a>) -> u32
         ensures { (1 ≤ result) × (result ≤ 64) }
     {
         words.get_one(self.name).unwrap_or(4).clamp(1, 64)
     }
 
     /// Returns the greatest limit that was given, or its default.
-    pub(crate) fn limit<'a>(&self, words: &ArgMatches<'a>) -> u32 {
+    pub fn limit<'a>(&self, words: &ArgMatches<'a>) -> u32 {
         words.get_one(self.name).unwrap_or(GREATEST_LIMIT)
     }
 }

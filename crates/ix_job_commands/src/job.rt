@@ -1,15 +1,5 @@
 //! The command `job`: the line of a job for a job file.
 
-use crate::blocks::{BlockFiles, LoadedBlocks};
-use crate::commands::CommandSpec;
-use crate::export::forget_store;
-use crate::host::Host;
-use crate::options::{ArgKind, ArgSpec, CARV2, MAX_INPUT, MAX_LIMIT, PREFER_SOUND};
-use crate::paths::{RootPaths, Unresolved};
-use crate::print::{print_answer, print_refusal};
-use crate::roots::{Roots, SCOPE, Scope};
-use crate::size::most_input;
-use crate::threads::at_most_processors;
 use clap::ArgMatches;
 use clap::error::ErrorKind;
 use ix_cli_io::{
@@ -17,6 +7,11 @@ use ix_cli_io::{
 };
 use ix_job_errors::line_fault_words;
 use ix_job_line::{JobWords, SelectorWord, job_line_up_to, jobs_of_words, selector_hex};
+use ix_load::{BlockFiles, LoadedBlocks, RootPaths, Roots, SCOPE, Scope, Unresolved, forget_store};
+use ix_options::{
+    ArgKind, ArgSpec, CARV2, CommandSpec, Host, MAX_INPUT, MAX_LIMIT, PREFER_SOUND,
+    at_most_processors, most_input, print_answer, print_refusal,
+};
 use std::alloc::{AllocError, Global};
 
 const ABOUT: &str = "Print the line of a job for a job file";
@@ -69,7 +64,7 @@ const BLOCKS: ArgSpec = ArgSpec {
 const LOADERS: usize = 8;
 
 /// The command.
-pub(crate) static SPEC: CommandSpec = CommandSpec {
+pub static SPEC: CommandSpec = CommandSpec {
     name: "job",
     about: ABOUT,
     help: HELP,
@@ -88,7 +83,7 @@ pub(crate) static SPEC: CommandSpec = CommandSpec {
 };
 
 /// Runs the command and returns the status: prints the line of the job, or why there is none.
-pub(crate) fn run<'a, R: Host>(rt: &R, words: &ArgMatches<'a>) -> Result<u8, Failure> {
+pub fn run<'a, R: Host>(rt: &R, words: &ArgMatches<'a>) -> Result<u8, Failure> {
     let alloc = rt.alloc();
     let scope = Scope::given(alloc, &SPEC, SCOPE.optional_text(words))?;
     let roots = Roots::given(alloc, &SPEC, "<ROOT>", Some(ROOTS.text(words)), &[], scope)?;
