@@ -441,8 +441,15 @@ impl<'a> GetCommand<'a> {
             Roots::Header => self.blocks.header_roots(rt.alloc(), files.as_slice())?,
             _ => Vec::new(rt.alloc()),
         };
-        let mut blocks = self.blocks.store_of(rt, files, loaders)?;
-        self.known.add_to(rt, &mut blocks, loaders, progress)?;
+        let base_files = self.known.read(rt, &self.blocks, loaders, progress);
+        let (base, blocks) = self.known.store_beside(
+            rt,
+            base_files,
+            loaders,
+            || self.blocks.store_of(rt, files, loaders),
+        );
+        let mut blocks = blocks?;
+        self.known.add_to(rt, &mut blocks, base?, loaders)?;
         Ok((blocks, roots))
     }
 

@@ -279,9 +279,16 @@ impl<'a> JobsCommand<'a> {
         let loaders = self.threads.loaders(rt);
         let files = self.blocks.read(rt, loaders, progress)?;
         let job_file = read_input(rt, self.job_file, self.most)?;
-        let mut blocks = self.blocks.store_of(rt, files, loaders)?;
+        let base_files = self.known.read(rt, &self.blocks, loaders, progress);
+        let (base, blocks) = self.known.store_beside(
+            rt,
+            base_files,
+            loaders,
+            || self.blocks.store_of(rt, files, loaders),
+        );
+        let mut blocks = blocks?;
         let jobs = load_jobs(rt.alloc(), job_file.as_slice(), self.choice)?;
-        self.known.add_to(rt, &mut blocks, loaders, progress)?;
+        self.known.add_to(rt, &mut blocks, base?, loaders)?;
         Ok((blocks, Arc::new(rt.alloc(), jobs)?))
     }
 

@@ -4,7 +4,6 @@ ghost use Rattle.ix_car.specs.Payload.{IsWithin};
 
 use clap::ArgMatches;
 use clap::error::ErrorKind;
-use ix_archive::known_places;
 use ix_car::{BlockLoader, CarFault, CarKind, Payload, SoundLoader, payload_of, read_header};
 use ix_cid::Cid;
 use ix_cli_io::{Failure, Progress, STANDARD_INPUT, load_input, size_of_all};
@@ -140,28 +139,6 @@ impl<'a> BlockFiles<'a> {
         })
     }
 
-    /// Adds to the blocks of a command which of them a receiver that has these files knows: those under
-    /// whose CID the first copy, over all files in their order, is sound. No file adds nothing.
-    pub(crate) fn add_known<R>(
-        &self,
-        rt: &R,
-        blocks: &mut LoadedBlocks,
-        threads: usize,
-        progress: &Progress<R>,
-    ) -> Result<(), Failure>
-    where
-        R: AllocGlobal + Clock + Eprint + Files<File = File> + Input + Threads + Sync,
-    {
-        if self.paths.is_empty() {
-            return Ok(());
-        }
-        let files = self.read(rt, threads, progress)?;
-        let base = self.store_of(rt, files, threads)?;
-        let known = known_places(rt, rt.alloc(), &blocks.store, &base.store, threads)?;
-        blocks.known = Some(known);
-        Ok(())
-    }
-
     /// Returns how many bytes each may have.
     pub(crate) fn most(&self) -> u64 {
         self.most
@@ -188,6 +165,19 @@ impl<'a> BlockFiles<'a> {
         R: AllocGlobal + Clock + Eprint + Files<File = File> + Input + Threads + Sync,
     {
         progress.expect(size_of_all(rt, self.paths()));
+        self.read_more(rt, threads, progress)
+    }
+
+    /// Reads the files in the same way, with progress that expects them already.
+    pub(crate) fn read_more<R>(
+        &self,
+        rt: &R,
+        threads: usize,
+        progress: &Progress<R>,
+    ) -> Result<Vec<Vec<u8>>, Failure>
+    where
+        R: AllocGlobal + Clock + Eprint + Files<File = File> + Input + Threads + Sync,
+    {
         let mut files = Vec::with_capacity(rt.alloc(), self.paths.len())?;
         for path in self.paths() {
             files.push(load_input(rt, path, self.most, threads, progress)?)?;

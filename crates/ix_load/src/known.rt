@@ -3,14 +3,15 @@
 use crate::blocks::{BlockFiles, LoadedBlocks};
 use clap::ArgMatches;
 use clap::error::ErrorKind;
-use ix_cli_io::{Failure, Progress, STANDARD_INPUT, read_input};
+use ix_archive::known_places;
+use ix_cli_io::{Failure, Progress, STANDARD_INPUT, read_input, size_of_all};
 use ix_have_list::{insert_listed, listed_cids};
 use ix_options::{BLOCKS, CommandSpec, WITHOUT, WITHOUT_LIST};
 use ix_store::PlaceSet;
 use std::alloc::{AllocError, Global};
 use std::fs::File;
 use std::rt::{Clock, Files};
-use std::thread::Threads;
+use std::thread::{self, Threads};
 
 /// What the receiver of an archive has, as it is given.
 #[derive(Drop)]
@@ -82,19 +83,66 @@ impl<'a> KnownInputs<'a> {
         Ok(inputs)
     }
 
-    /// Adds to the blocks of a command which of them the receiver has: those of which its files have a
-    /// sound copy, and those whose CID it lists. If nothing is given, nothing is known of it.
+    /// Reads the files of a receiver, after these blocks. Progress goes on, up to the sum of both sizes.
+    pub fn read<R>(
+        &self,
+        rt: &R,
+        blocks: &BlockFiles<'a>,
+        threads: usize,
+        progress: &Progress<R>,
+    ) -> Result<Vec<Vec<u8>>, Failure>
+    where
+        R: AllocGlobal + Clock + Eprint + Files<File = File> + Input + Threads + Sync,
+    {
+        let size = size_of_all(rt, blocks.paths());
+        let own_size = size_of_all(rt, self.files.paths());
+        if size > 0 && own_size > 0 {
+            progress.expect(size.saturating_add(own_size));
+        } else {
+            progress.expect(0);
+        }
+        self.files.read_more(rt, threads, progress)
+    }
+
+    /// Makes the store of a command's blocks by this closure, and beside it that of the receiver's files, if
+    /// there are some and they were read.
+    pub fn store_beside<R: AllocGlobal + Threads + Sync, F: FnOnce() -> T, T>(
+        &self,
+        rt: &R,
+        files: Result<Vec<Vec<u8>>, Failure>,
+        threads: usize,
+        make_store: F,
+    ) -> (Result<Option<LoadedBlocks>, Failure>, T)
+        requires { F.pre make_store }
+        ensures { F.post make_store result.1 }
+    {
+        match files {
+            Ok(files) if files.is_empty() => (Ok(None), make_store()),
+            Ok(files) => thread::join(
+                rt,
+                move || self.files.store_of(rt, files, threads).map(Some),
+                make_store,
+            ),
+            Err(failure) => (Err(failure), make_store()),
+        }
+    }
+
+    /// Adds to the blocks of a command which of them the receiver has: those of which this store of its files
+    /// has a sound copy, and those whose CID it lists. If nothing is given, nothing is known of it.
     pub fn add_to<R>(
         &self,
         rt: &R,
         blocks: &mut LoadedBlocks,
+        base: Option<LoadedBlocks>,
         threads: usize,
-        progress: &Progress<R>,
     ) -> Result<(), Failure>
     where
-        R: AllocGlobal + Clock + Eprint + Files<File = File> + Input + Threads + Sync,
+        R: AllocGlobal + Files + Input + Threads + Sync,
     {
-        self.files.add_known(rt, blocks, threads, progress)?;
+        if let Some(base) = base {
+            let known = known_places(rt, rt.alloc(), &blocks.store, &base.store, threads)?;
+            blocks.known = Some(known);
+        }
         match self.list {
             Some(path) => self.add_listed(rt, path, blocks),
             None => Ok(()),
