@@ -12,52 +12,20 @@
 #![tactic(auto)]
 
 mod arguments;
-mod block;
-mod blocks;
-mod car_input;
-mod check_jobs;
 mod commands;
-mod export;
-mod file_output;
-mod get;
-mod host;
-mod inspect;
-mod job;
-mod jobs;
-mod json_faults;
-mod json_inspect;
-mod json_jobs;
-mod json_line;
-mod json_verify;
-mod known;
-mod one_block;
-mod options;
-mod paths;
-mod print;
-mod root;
-mod roots;
-mod selector;
-mod show;
-mod size;
-mod threads;
-mod verify;
 
 use crate::arguments::read_arguments;
 use crate::commands::command_line;
-use crate::host::Host;
-use crate::options::VERBOSE;
 use clap::ArgMatches;
+use ix_block_commands::{block, show};
 use ix_cli_io::{Causes, Failure, Help, REFUSED};
+use ix_export_commands::{get, jobs, root};
+use ix_file_commands::{inspect, verify};
+use ix_job_commands::{check_jobs, job, selector};
+use ix_options::{Host, Terminals, VERBOSE};
 use ix_run::RunFault;
 use std::io::IsTerminal;
 use std::process::ExitCode;
-
-// Whether standard output and standard error are terminals.
-#[derive(Clone, Copy)]
-struct Terminals {
-    output: bool,
-    errors: bool,
-}
 
 fn main(rt: HostRuntime) -> ExitCode {
     let terminals = Terminals {

@@ -1,0 +1,431 @@
+//! The command `jobs`: an archive for each job of a job file, and a report.
+
+ghost use Rattle.std.specs.Prelude.{IfOk};
+ghost use Rattle.std.specs.Arc.{arc_value};
+ghost use Rattle.ix_walk.specs.JobMeaning.{AreFew};
+ghost use Rattle.ix_run.specs.Run.{CanRun};
+
+use crate::json_jobs::folder_report;
+use clap::ArgMatches;
+use clap::error::ErrorKind;
+use ix_cli_io::{
+    Failure, LARGEST_INPUT, Naming, Output, Progress, ProgressMode, STANDARD_INPUT, WriteErrors,
+    discard_outputs, failed_writes, make_outputs, occupy_std_fds, publish_outputs, read_input,
+    writers_to,
+};
+use ix_jobs::{AllowMissing, Part};
+use ix_load::{
+    BlockFiles, KnownInputs, LoadedBlocks, RunReport, ThreadCounts, allowed_missing, forget_store,
+    refused_inputs,
+};
+use ix_options::{
+    ALLOW_MISSING, ArgKind, ArgSpec, BLOCKS, CARV2, CommandSpec, Host, JSON, MAX_INPUT_1G,
+    MAX_LIMIT, PREFER_SOUND, PROGRESS, QUIET, VERBOSE, VERIFIERS, WALKERS, WITHOUT, WITHOUT_LIST,
+    most_input, print_all, print_notes, progress_mode,
+};
+use ix_run::{JobChoice, RunFault, load_jobs};
+use ix_walk::Job;
+use std::alloc::{AllocError, Global};
+use std::fs::File;
+use std::io::Write;
+use std::rt::{Clock, Files};
+use std::sync::{Arc, Wait};
+use std::thread::Threads;
+
+const ABOUT: &str = "Export an archive for each job of a job file, and print a report";
+
+const HELP: &str = "Each line of the job file is a job, NAME ROOTS LIMIT SELECTOR with one space\n\
+between:\n\
+\n\
+\x20 photos bafkreif2pall7dybz7vecqka3zo24irdwabwdi4wc55jznaq75q7eaavvu 9 a1612ea0\n\
+\n\
+NAME      1 to 64 characters of [a-z0-9_-], unique in the file\n\
+ROOTS     1 to 64 comma-separated CIDv1s in base32\n\
+LIMIT     the link budget from all roots together, 1 to 1000000, or 1 to N with\n\
+\x20         --max-limit N\n\
+SELECTOR  an IPLD selector as DAG-CBOR in hex: see the command `selector`\n\
+\n\
+A block with two links to it is visited twice: it counts twice, and is hashed\n\
+once. Empty lines and lines that begin with # are ignored. There are at most\n\
+1000 jobs.\n\
+\n\
+With --part K/N the K-th of N parts of the jobs is run: of J jobs, numbered from\n\
+0, those from (K-1)*J/N up to, and not including, K*J/N, both rounded down. So\n\
+the parts 1 to N are all jobs. The whole file is read and checked, whatever the\n\
+part; it may have 1000000 jobs, and a part 1000.\n\
+\n\
+A job has one archive, whose header names its roots in their order, and which\n\
+has each block once.\n\
+\n\
+The archive of a job is written to DIR/NAME.car.part. When the run has ended it\n\
+is renamed to DIR/NAME.car if its job ended with done or limit, and replaces a\n\
+file with that name; otherwise DIR/NAME.car stays as it was. DIR must exist. As\n\
+many files are open at once as there are jobs. The report on standard output has\n\
+a line for each job, how it ended (done, limit, memory, write, start) and its\n\
+counts, then a line for each link that was skipped (codec, hash, missing,\n\
+damaged, malformed), and at last the totals; with --json it is JSON, whose keys\n\
+docs/JSON.md has. Links of other codecs than raw and\n\
+DAG-CBOR and of other hashes than SHA-256, SHA-512 and identity are skipped;\n\
+UnixFS isn't read. The digest of an identity CID is the block itself: links\n\
+inside it are followed, and it has no block in the archive.\n\
+\n\
+With --once a job expands a block at its first visit with the same residual\n\
+selector, and only if the block is sound. Later visits count, with nothing below\n\
+them. So a graph has about as many visits as links. The archive is the same\n\
+unless a run hits its limit.\n\
+\n\
+With --without the archives leave out each block of which the receiver has a\n\
+sound copy: the first of its CID in these files. With --without-list they leave\n\
+out each block whose CID the list has: a CIDv1 in base32 on each line, empty\n\
+lines and lines that begin with # aside. A list is trusted, so the receiver runs\n\
+`verify --blocks-only` before `inspect --cids` prints it. The line of a job in\n\
+the report ends with how many of its blocks are known.\n\
+\n\
+With --allow-missing links to blocks of these codecs that are in no file are no\n\
+skips: the line of a job ends with how many are absent, and the status doesn't\n\
+count them. A root may not be missing, and a damaged block is a skip. The\n\
+archives are the same. WHICH is raw, dag-cbor, both with a comma between, or\n\
+all.\n\
+\n\
+Of several copies of a block the first counts. With --prefer-sound each copy is\n\
+hashed, and the first that is sound counts, so that damaged replicas make up for\n\
+each other. A line on standard error says how many blocks are a later copy.\n\
+\n\
+With --complete only the archives of jobs that are done, with no root skipped,\n\
+are renamed; the others stay as .part, and a line on standard error says why.\n\
+Without it a file may be replaced by an archive that lacks something; a line on\n\
+standard error warns of that.\n\
+\n\
+With --sync each archive is on the disk before its job counts as done: a disk\n\
+that is full or fails only then ends the job with write.\n\
+\n\
+With --progress standard error gets the number of jobs that are closed, of\n\
+visits and of bytes written. On a terminal it rewrites one line (the default for\n\
+runs over two seconds); otherwise it prints at most one line per second.\n\
+\n\
+Status: 0 if every job is done and nothing was skipped, 3 if every job is done\n\
+and something was skipped, 4 if a job ended otherwise, 2 if the arguments or a\n\
+file are rejected, with a line on standard error, and with --verbose the cause\n\
+on another.";
+
+const JOBS: ArgSpec = ArgSpec {
+    name: "jobs",
+    given: ArgKind::Required("FILE"),
+    help: "Job file, or - for standard input",
+};
+
+const OUT: ArgSpec = ArgSpec {
+    name: "out",
+    given: ArgKind::Required("DIR"),
+    help: "Directory for the archives; it must exist",
+};
+
+const PART: ArgSpec = ArgSpec {
+    name: "part",
+    given: ArgKind::Optional("K/N"),
+    help: "Run the K-th of N parts, with N up to 1000000",
+};
+
+const ONCE: ArgSpec = ArgSpec {
+    name: "once",
+    given: ArgKind::FlagOver("every-arrival"),
+    help: "Expand a block once, not at every link to it",
+};
+
+const EVERY_ARRIVAL: ArgSpec = ArgSpec {
+    name: "every-arrival",
+    given: ArgKind::FlagOver("once"),
+    help: "Expand a block at every link to it [default]",
+};
+
+const SYNC: ArgSpec = ArgSpec {
+    name: "sync",
+    given: ArgKind::FlagOver("no-sync"),
+    help: "Sync each archive to disk before its job is done",
+};
+
+const NO_SYNC: ArgSpec = ArgSpec {
+    name: "no-sync",
+    given: ArgKind::FlagOver("sync"),
+    help: "Rename without waiting for the disk [default]",
+};
+
+const COMPLETE: ArgSpec = ArgSpec {
+    name: "complete",
+    given: ArgKind::FlagOver("partial"),
+    help: "Rename only if done, no root skipped",
+};
+
+const PARTIAL: ArgSpec = ArgSpec {
+    name: "partial",
+    given: ArgKind::FlagOver("complete"),
+    help: "Rename archives of done and of limit [default]",
+};
+
+/// The command.
+pub static SPEC: CommandSpec = CommandSpec {
+    name: "jobs",
+    about: ABOUT,
+    help: HELP,
+    words: &[
+        BLOCKS,
+        JOBS,
+        OUT,
+        PART,
+        WITHOUT,
+        WITHOUT_LIST,
+        ALLOW_MISSING,
+        MAX_LIMIT,
+        WALKERS,
+        VERIFIERS,
+        MAX_INPUT_1G,
+        CARV2,
+        PREFER_SOUND,
+        ONCE,
+        EVERY_ARRIVAL,
+        COMPLETE,
+        PARTIAL,
+        SYNC,
+        NO_SYNC,
+        JSON,
+        PROGRESS,
+        QUIET,
+        VERBOSE,
+    ],
+};
+
+/// Runs the command and returns the status. Its first error is reported, checked in this order:
+/// arguments, blocks, job file, their contents, outputs. A run that is rejected leaves no output.
+pub fn run<'a, R: Host>(rt: &R, words: &ArgMatches<'a>, is_terminal: bool) -> Result<u8, Failure> {
+    let command = JobsCommand::read(rt.alloc(), words, is_terminal)?;
+    let progress = Progress::new(rt, command.progress);
+    let status = match command.load(rt, &progress) {
+        Ok((blocks, jobs)) => {
+            let status = command.export(rt, &blocks, &jobs, &progress);
+            blocks.print_note(rt, &status);
+            forget_store(blocks.store);
+            status
+        }
+        Err(failure) => Err(failure),
+    };
+    progress.end();
+    status
+}
+
+// What the arguments choose.
+#[derive(Drop)]
+struct JobsCommand<'a> {
+    blocks: BlockFiles<'a>,
+    // What the receiver has.
+    known: KnownInputs<'a>,
+    // Which blocks may be missing.
+    allowed: Option<AllowMissing>,
+    // The path of the job file, and how many bytes it may have.
+    job_file: &'a str,
+    most: u64,
+    folder: &'a str,
+    choice: JobChoice,
+    threads: ThreadCounts,
+    is_synced: bool,
+    naming: Naming,
+    is_json: bool,
+    is_quiet: bool,
+    progress: ProgressMode,
+}
+
+impl<'a> JobsCommand<'a> {
+    // Reads the arguments. The first that is rejected is reported, in this order: the part, standard
+    // input for both files, and an empty directory, which would be the root directory.
+    fn read(
+        alloc: Global,
+        words: &ArgMatches<'a>,
+        is_terminal: bool,
+    ) -> Result<JobsCommand<'a>, Failure> {
+        let part = part_of(alloc, words)?;
+        let most = most_input(alloc, &SPEC, words, LARGEST_INPUT)?;
+        let blocks = BlockFiles::given(alloc, &SPEC, words, most, CARV2.is_given(words))?;
+        let known = KnownInputs::given(alloc, &SPEC, words, &blocks)?;
+        let allowed = allowed_missing(alloc, &SPEC, words)?;
+        let job_file = JOBS.text(words);
+        if job_file == STANDARD_INPUT
+            && let Some(option) = known.standard_input(&blocks)
+        {
+            return Err(Failure::from(refused_inputs(alloc, &SPEC, option, JOBS.name)?));
+        }
+        let folder = OUT.text(words);
+        if folder.is_empty() {
+            return Err(Failure::from(SPEC.refused_value(alloc, "--out <DIR>")?));
+        }
+        let naming = if COMPLETE.is_given(words) {
+            Naming::Complete
+        } else {
+            Naming::Ended
+        };
+        Ok(JobsCommand {
+            blocks,
+            known,
+            allowed,
+            job_file,
+            most,
+            folder,
+            choice: JobChoice {
+                part,
+                greatest_limit: MAX_LIMIT.limit(words),
+                once: ONCE.is_given(words),
+            },
+            threads: ThreadCounts::given(words),
+            is_synced: SYNC.is_given(words),
+            naming,
+            is_quiet: QUIET.is_given(words),
+            is_json: JSON.is_given(words),
+            progress: progress_mode(words, &QUIET, is_terminal),
+        })
+    }
+
+    // Loads the block files and the chosen jobs of the job file. All files are read before the first is
+    // looked at.
+    fn load<R: Host>(
+        &self,
+        rt: &R,
+        progress: &Progress<R>,
+    ) -> Result<(LoadedBlocks, Arc<Vec<Job>>), Failure>
+        ensures { IfOk result (λ loaded. AreFew (arc_value loaded.1).items) }
+    {
+        let loaders = self.threads.loaders(rt);
+        let files = self.blocks.read(rt, loaders, progress)?;
+        let job_file = read_input(rt, self.job_file, self.most)?;
+        let base_files = self.known.read(rt, &self.blocks, loaders, progress);
+        let (base, blocks) = self.known.store_beside(
+            rt,
+            base_files,
+            loaders,
+            || self.blocks.store_of(rt, files, loaders),
+        );
+        let mut blocks = blocks?;
+        let jobs = load_jobs(rt.alloc(), job_file.as_slice(), self.choice)?;
+        self.known.add_to(rt, &mut blocks, base?, loaders)?;
+        Ok((blocks, Arc::new(rt.alloc(), jobs)?))
+    }
+
+    // Returns the paths of all inputs.
+    fn inputs(&self, alloc: Global) -> Result<Vec<&'a str>, AllocError> {
+        let mut inputs = self.known.inputs(alloc, &self.blocks)?;
+        inputs.push(self.job_file)?;
+        Ok(inputs)
+    }
+
+    // Exports the jobs and prints their report. Closed streams are occupied only after the inputs were
+    // read, so a closed standard input is an error and not an empty input. If the run is rejected, the
+    // outputs are discarded.
+    fn export<R: Host>(
+        &self,
+        rt: &R,
+        blocks: &LoadedBlocks,
+        jobs: &Arc<Vec<Job>>,
+        progress: &Progress<R>,
+    ) -> Result<u8, Failure>
+        requires { AreFew (arc_value jobs.now).items }
+    {
+        let _streams = occupy_std_fds(rt)?;
+        let errors = WriteErrors::new();
+        let inputs = self.inputs(rt.alloc())?;
+        let outputs = make_outputs(
+            rt,
+            self.folder,
+            jobs.as_slice(),
+            inputs.as_slice(),
+            self.is_synced,
+        )?;
+        let ran = match writers_to(rt.alloc(), outputs.as_slice(), &errors) {
+            Ok(writers) => self.write(rt, blocks, jobs, writers, progress),
+            Err(error) => Err(RunFault::from(error)),
+        };
+        match ran {
+            Ok(ran) => self.publish(rt, jobs.as_slice(), outputs, &ran, &errors),
+            Err(fault) => {
+                discard_outputs(rt, outputs);
+                Err(Failure::from(fault))
+            }
+        }
+    }
+
+    // Runs the jobs, which are written to these writers.
+    fn write<R: AllocGlobal + Clock + Eprint + Threads + Wait + Sync, W: Write + Drop>(
+        &self,
+        rt: &R,
+        blocks: &LoadedBlocks,
+        jobs: &Arc<Vec<Job>>,
+        writers: Vec<W>,
+        progress: &Progress<R>,
+    ) -> Result<RunReport, RunFault>
+        requires { CanRun (arc_value jobs.now).items writers.items }
+    {
+        let ran = self.threads.run(rt, blocks, jobs, writers, progress)?;
+        Ok(ran.allowing(rt.alloc(), self.allowed, jobs.as_slice())?)
+    }
+
+    // Publishes the outputs of a run, prints its report, and then the notes.
+    fn publish<R: AllocGlobal + Eprint + Files<File = File> + Print>(
+        &self,
+        rt: &R,
+        jobs: &[Job],
+        outputs: Vec<Output>,
+        ran: &RunReport,
+        errors: &WriteErrors,
+    ) -> Result<u8, Failure> {
+        let results = ran.results.as_slice();
+        let published = publish_outputs(rt, outputs, jobs, results, self.naming);
+        self.print_run(rt, jobs, ran, published.is_ok())?;
+        let notes = published?;
+        print_notes(rt, Ok(notes));
+        print_notes(
+            rt,
+            failed_writes(rt.alloc(), self.folder, jobs, results, errors),
+        );
+        Ok(ran.status)
+    }
+
+    // Prints the report of a run whose outputs were published, as text or as JSON, unless it is to be quiet
+    // and the status is 0. If a rename failed, not all are named that should be.
+    fn print_run<R: AllocGlobal + Print>(
+        &self,
+        rt: &R,
+        jobs: &[Job],
+        ran: &RunReport,
+        are_named: bool,
+    ) -> Result<(), Failure> {
+        if self.is_quiet && are_named && ran.status == 0 {
+            return Ok(());
+        }
+        if !self.is_json {
+            return print_all(rt, ran.report.as_slice());
+        }
+        let report = folder_report(rt.alloc(), self.folder, jobs, ran, self.naming, are_named)?;
+        print_all(rt, report.as_slice())
+    }
+}
+
+// Returns the part of the job file that is asked for, or None for the whole file.
+fn part_of<'a>(alloc: Global, words: &ArgMatches<'a>) -> Result<Option<Part>, clap::Error> {
+    let Some(text) = PART.optional_text(words) else {
+        return Ok(None);
+    };
+    match part_in(text) {
+        Some(part) => Ok(Some(part)),
+        None => Err(refused_part(alloc, text)?),
+    }
+}
+
+// Parses a part, K/N.
+fn part_in(text: &str) -> Option<Part> {
+    let (number, of) = text.split_once('/')?;
+    Part::new(number.parse().ok()?, of.parse().ok()?)
+}
+
+// Makes the error for a text that isn't a part.
+fn refused_part(alloc: Global, text: &str) -> Result<clap::Error, AllocError> {
+    let message = format!(in alloc;
+        "invalid value '{text}' for '--part <K/N>': K is from 1 to N, and N from 1 to 1000000"
+    )?;
+    SPEC.refusal(alloc, ErrorKind::ValueValidation, message.as_str())
+}

@@ -1,0 +1,440 @@
+//! The command `inspect`: describes a CARv1 file, or says what another file is.
+
+use crate::json_inspect::{Described, fault_object, section_object, summary_object};
+use clap::ArgMatches;
+use ix_car::{
+    CarFault, CarFile, CarKind, Payload, Section, has_index, is_carv2, payload_of, read_sections,
+};
+use ix_cid::HashFunction;
+use ix_cli_io::{ANY_SIZE, Failure, REFUSED, STANDARD_INPUT, read_input};
+use ix_inspect::{Kind, Summary, codec_name, hash_name, kind_of, summary_of};
+use ix_options::{
+    ArgKind, ArgSpec, CARV2, CARV2_HEADER, CommandSpec, JSON, MAX_INPUT, at_most_processors,
+    is_of_carv2, most_input, words_of,
+};
+use ix_run::RunFault;
+use std::alloc::{AllocError, Global};
+use std::fmt::Write as FmtWrite;
+use std::io::{self, BufWriter, ErrorKind, Write};
+use std::rt::Files;
+use std::thread::Threads;
+
+// The most threads that look up CIDs: as many as load blocks by default. There are no more than
+// processors.
+const LOADERS: usize = 8;
+
+// The memory that `get` and `jobs` take at most for the blocks of a file, if their CIDs aren't crafted to
+// share slots of the index: beside the file for each section, and for all else.
+const SECTION_MEMORY: usize = 80;
+
+const PROGRAM_MEMORY: usize = 16 * 1024 * 1024;
+
+// What a file is that has an error after the header of its CARv1 file.
+const CARV1: &str = "a CARv1 file";
+
+const ABOUT: &str = "Describe a CARv1 file, without hashing";
+
+const HELP: &str =
+    "Prints the roots of the file, its size, the number of its sections and how many\n\
+of them repeat a CID, the number of sections of each codec and each hash\n\
+function (by its name in the multicodec table, or its number), the smallest,\n\
+median and greatest size of a block, and how many bytes of memory `get` and\n\
+`jobs` take at most for the blocks of the file, unless their CIDs were made to\n\
+collide.\n\
+\n\
+With --list it prints a line for each section instead, PLACE SIZE CID: the\n\
+offset of the section in bytes, the size of its block, and the CID as in a job\n\
+file.\n\
+\n\
+With --cids it prints the CID of each section, one per line: the list that the\n\
+option --without-list of `get` and `jobs` reads. A CIDv0, which has no base32,\n\
+and an identity CID, which contains its block, are left out.\n\
+\n\
+If the file is not a CARv1, a line on standard error says what it is. If it ends\n\
+early, the line says how to keep its whole sections.\n\
+\n\
+With --json the summary is an object, and with --list each section is one. A\n\
+file that is rejected has an object too: docs/JSON.md has the keys. With --quiet\n\
+nothing is printed of a file that isn't rejected.\n\
+\n\
+Status: 0, or 2 if the arguments or the file are rejected.";
+
+const FILE: ArgSpec = ArgSpec {
+    name: "file",
+    given: ArgKind::Positional("FILE"),
+    help: "CARv1 file, or - for standard input",
+};
+
+const LIST: ArgSpec = ArgSpec {
+    name: "list",
+    given: ArgKind::FlagWithout("cids"),
+    help: "Print a line for each section: PLACE SIZE CID",
+};
+
+const CIDS: ArgSpec = ArgSpec {
+    name: "cids",
+    given: ArgKind::FlagWithout("json"),
+    help: "Print the CID of each section, one per line",
+};
+
+/// The command.
+pub static SPEC: CommandSpec = CommandSpec {
+    name: "inspect",
+    about: ABOUT,
+    help: HELP,
+    words: &[FILE, LIST, CIDS, MAX_INPUT, CARV2, JSON, QUIET],
+};
+
+// What is printed of a file.
+#[derive(Clone, Copy)]
+enum Form {
+    Summary,
+    // A line for each section.
+    List,
+    // The CID of each section.
+    Cids,
+    // The summary as an object.
+    JsonSummary,
+    // An object for each section.
+    JsonList,
+}
+
+impl Form {
+    // Returns the one that is asked for.
+    fn given<'a>(words: &ArgMatches<'a>) -> Form {
+        match (LIST.is_given(words), JSON.is_given(words)) {
+            (true, false) => Form::List,
+            (true, true) => Form::JsonList,
+            (false, true) => Form::JsonSummary,
+            (false, false) if CIDS.is_given(words) => Form::Cids,
+            (false, false) => Form::Summary,
+        }
+    }
+
+    // Returns whether objects are printed.
+    fn is_json(self) -> bool {
+        matches!(self, Form::JsonSummary | Form::JsonList)
+    }
+}
+
+/// Runs the command and returns the status.
+pub fn run<'a, R: AllocGlobal + Eprint + Files + Input + Print + Threads + Sync>(
+    rt: &R,
+    words: &ArgMatches<'a>,
+) -> Result<u8, Failure> {
+    let path = FILE.text(words);
+    let most = most_input(rt.alloc(), &SPEC, words, ANY_SIZE)?;
+    let car = read_input(rt, path, most)?;
+    let (form, is_quiet) = (Form::given(words), QUIET.is_given(words));
+    inspect_car(rt, path, car.as_slice(), form, is_quiet)
+}
+
+// Describes a file, given its bytes, or only says what is wrong with it if that is to be quiet.
+fn inspect_car<R: AllocGlobal + Eprint + Print + Threads + Sync>(
+    rt: &R,
+    path: &str,
+    car: &[u8],
+    form: Form,
+    is_quiet: bool,
+) -> Result<u8, Failure> {
+    let Payload { start, end } = match payload_of(car) {
+        Ok(payload) => payload,
+        Err(fault) => return refuse(rt, path, car, 0, fault, form),
+    };
+    match read_sections(rt.alloc(), &car[start..end]) {
+        Ok(_) if is_quiet => Ok(0),
+        Ok(file) => match form {
+            Form::Summary => summarize(rt, file, car),
+            Form::JsonSummary => describe(rt, path, file, car),
+            _ => list(rt, file.sections.as_slice(), form, start),
+        },
+        Err(fault) => {
+            let place = start.saturating_add(fault.place);
+            refuse(rt, path, car, start, CarFault { place, ..fault }, form)
+        }
+    }
+}
+
+// A line for each section of a CARv1 file that begins at an offset of its file.
+fn list<R: AllocGlobal + Print>(
+    rt: &R,
+    sections: &[Section<'_>],
+    form: Form,
+    start: usize,
+) -> Result<u8, Failure> {
+    match BufWriter::new(rt.alloc(), io::writer(rt)) {
+        Ok(mut output) => list_to(rt, &mut output, sections, form, start),
+        Err(_) => Err(Failure::Fault(RunFault::Memory)),
+    }
+}
+
+fn list_to<R: AllocGlobal, W: Write>(
+    rt: &R,
+    output: &mut W,
+    sections: &[Section<'_>],
+    form: Form,
+    start: usize,
+) -> Result<u8, Failure> {
+    for section in sections {
+        let line = match form {
+            Form::Cids => cid_line(rt.alloc(), section)?.into_bytes(),
+            Form::JsonList => section_object(rt.alloc(), section, start)?,
+            _ => line_of(rt.alloc(), section, start)?.into_bytes(),
+        };
+        if let Err(error) = output.write_all(line.as_slice()) {
+            return answer_of(rt, &error);
+        }
+    }
+    match output.flush() {
+        Ok(()) => Ok(0),
+        Err(error) => answer_of(rt, &error),
+    }
+}
+
+fn line_of(alloc: Global, section: &Section<'_>, start: usize) -> Result<String, AllocError> {
+    let place = start.saturating_add(section.place);
+    let size = section.block.len();
+    let cid = cid_of(alloc, section)?;
+    format!(in alloc; "{place} {size} {cid}\n")
+}
+
+// The line of a section in a have-list: nothing for a CIDv0 or an identity CID.
+fn cid_line(alloc: Global, section: &Section<'_>) -> Result<String, AllocError> {
+    let parts = section.cid.parts();
+    if parts.version == 0 || matches!(parts.hash_function(), Some(HashFunction::Identity)) {
+        return Ok(String::new(alloc));
+    }
+    let cid = cid_of(alloc, section)?;
+    format!(in alloc; "{cid}\n")
+}
+
+// The CID of a section, as in a job file.
+fn cid_of(alloc: Global, section: &Section<'_>) -> Result<String, AllocError> {
+    let cid = section.cid.to_cid(alloc)?;
+    cid.text(alloc)
+}
+
+// Returns status 0 if the reader closed the pipe, since the rest isn't wanted, and else the error.
+fn answer_of<R: AllocGlobal>(rt: &R, error: &io::Error) -> Result<u8, Failure> {
+    if error.kind() == ErrorKind::BrokenPipe {
+        return Ok(0);
+    }
+    Err(Failure::cannot_write(rt.alloc(), STANDARD_INPUT, error))
+}
+
+// Prints the summary of a file with these bytes.
+fn summarize<R: AllocGlobal + Print + Threads + Sync>(
+    rt: &R,
+    file: CarFile<'_>,
+    car: &[u8],
+) -> Result<u8, Failure> {
+    let text = text_of(rt, file, car)?;
+    print_whole(rt, text.as_bytes())
+}
+
+// Prints the object of a file with these bytes.
+fn describe<R: AllocGlobal + Print + Threads + Sync>(
+    rt: &R,
+    path: &str,
+    file: CarFile<'_>,
+    car: &[u8],
+) -> Result<u8, Failure> {
+    let CarFile { roots, sections } = file;
+    let described = Described {
+        path,
+        bytes: car.len(),
+        index: index_of(car),
+        roots,
+    };
+    let threads = at_most_processors(rt, LOADERS);
+    let summary = summary_of(rt, rt.alloc(), sections, threads)?;
+    let memory = memory_for(car.len(), summary.sections);
+    let object = summary_object(rt.alloc(), &described, &summary, memory)?;
+    print_whole(rt, object.as_slice())
+}
+
+// Prints what is all of the output, and returns the status.
+fn print_whole<R: AllocGlobal + Print>(rt: &R, text: &[u8]) -> Result<u8, Failure> {
+    match io::writer(rt).write_all(text) {
+        Ok(()) => Ok(0),
+        Err(error) => answer_of(rt, &error),
+    }
+}
+
+// Returns the summary as text.
+fn text_of<R: AllocGlobal + Threads + Sync>(
+    rt: &R,
+    file: CarFile<'_>,
+    car: &[u8],
+) -> Result<String, AllocError> {
+    let alloc = rt.alloc();
+    let mut text = String::from_str(alloc, version_of(car))?;
+    push_roots(alloc, &mut text, &file)?;
+    let CarFile { roots: _, sections } = file;
+    let threads = at_most_processors(rt, LOADERS);
+    let summary = summary_of(rt, alloc, sections, threads)?;
+    push_summary(&mut text, &summary, car.len())?;
+    Ok(text)
+}
+
+// Returns the lines about the version of a file that was read.
+fn version_of(car: &[u8]) -> &'static str {
+    match index_of(car) {
+        None => "version 1\n",
+        Some(true) => "version 2\nindex yes\n",
+        Some(false) => "version 2\nindex no\n",
+    }
+}
+
+// Returns whether a CARv2 file that was read has an index, or None for a CARv1 file.
+fn index_of(car: &[u8]) -> Option<bool> {
+    if is_carv2(car) {
+        Some(car.len() >= 51 && has_index(car))
+    } else {
+        None
+    }
+}
+
+fn push_roots(alloc: Global, text: &mut String, file: &CarFile<'_>) -> Result<(), AllocError> {
+    writeln!(text, "roots {}", file.roots.len())?;
+    for root in &file.roots {
+        push_root(text, root.text(alloc))?;
+    }
+    Ok(())
+}
+
+fn push_root(text: &mut String, root: Result<String, AllocError>) -> Result<(), AllocError> {
+    writeln!(text, "root {}", root?)
+}
+
+fn push_summary(text: &mut String, summary: &Summary, bytes: usize) -> Result<(), AllocError> {
+    push_numbers(text, bytes, summary.sections, summary.repeated)?;
+    for (code, count) in summary.codecs.iter() {
+        push_count(text, "codec", codec_name(*code), *code, *count)?;
+    }
+    for (code, count) in summary.hashes.iter() {
+        push_count(text, "hash", hash_name(*code), *code, *count)?;
+    }
+    push_sizes(text, summary)?;
+    writeln!(text, "memory {}", memory_for(bytes, summary.sections))
+}
+
+// Returns how many bytes of memory `get` and `jobs` take at most for the blocks of a file of so many bytes
+// and sections.
+fn memory_for(bytes: usize, sections: usize) -> usize {
+    bytes
+        .saturating_add(sections.saturating_mul(SECTION_MEMORY))
+        .saturating_add(PROGRAM_MEMORY)
+}
+
+fn push_numbers(
+    text: &mut String,
+    bytes: usize,
+    sections: usize,
+    repeated: usize,
+) -> Result<(), AllocError> {
+    writeln!(
+        text,
+        "bytes {bytes}\nsections {sections}\nrepeated {repeated}"
+    )
+}
+
+// Adds a line for a code, by its name if it has one.
+fn push_count(
+    text: &mut String,
+    word: &str,
+    name: Option<&'static str>,
+    code: u64,
+    count: usize,
+) -> Result<(), AllocError> {
+    match name {
+        Some(name) => writeln!(text, "{word} {name} {count}"),
+        None => writeln!(text, "{word} {code:#x} {count}"),
+    }
+}
+
+// Adds the smallest, median and greatest size, if there are sections.
+fn push_sizes(text: &mut String, summary: &Summary) -> Result<(), AllocError> {
+    if let (Some(smallest), Some(median), Some(greatest)) = (
+        summary.smallest(),
+        summary.median(),
+        summary.greatest(),
+    ) {
+        writeln!(
+            text,
+            "smallest {smallest}\nmedian {median}\ngreatest {greatest}"
+        )?;
+    }
+    Ok(())
+}
+
+// Prints why a file is rejected, whose CARv1 file begins at an offset, and what it is.
+fn refuse<R: AllocGlobal + Eprint + Print>(
+    rt: &R,
+    path: &str,
+    car: &[u8],
+    start: usize,
+    fault: CarFault,
+    form: Form,
+) -> Result<u8, Failure> {
+    if fault.kind == CarKind::Memory {
+        return Err(Failure::Fault(RunFault::Memory));
+    }
+    let kind = kind_of(car);
+    if form.is_json() {
+        print_fault(rt, path, kind, start, fault)?;
+    }
+    if fault.place == 0 {
+        print_kind(rt, path, fault, words_of(kind));
+    } else if is_of_carv2(kind, &fault) {
+        print_kind(rt, path, fault, CARV2_HEADER);
+    } else {
+        print_kept(rt, path, start, fault);
+    }
+    Ok(REFUSED)
+}
+
+// Prints the object of a file that is rejected.
+fn print_fault<R: AllocGlobal + Print>(
+    rt: &R,
+    path: &str,
+    kind: Kind,
+    start: usize,
+    fault: CarFault,
+) -> Result<(), Failure> {
+    let (is, start) = if fault.place == 0 {
+        (words_of(kind), None)
+    } else if is_of_carv2(kind, &fault) {
+        (CARV2_HEADER, None)
+    } else {
+        (CARV1, Some(start))
+    };
+    let object = fault_object(rt.alloc(), path, &fault, is, start)?;
+    print_whole(rt, object.as_slice()).map(|_| ())
+}
+
+// Prints what a file is. If standard error can't be written, there is no one to report to.
+fn print_kind<R: Eprint>(rt: &R, path: &str, fault: CarFault, words: &str) {
+    let CarFault { kind, place } = fault;
+    let _ = eprintln!(rt; "{path}: {kind} at {place}: {words}");
+}
+
+// Prints how to keep the bytes before an error in a CARv1 file that begins at an offset.
+fn print_kept<R: Eprint>(rt: &R, path: &str, start: usize, fault: CarFault) {
+    let CarFault { kind, place } = fault;
+    let words = if kind == CarKind::Truncated {
+        "its whole sections are"
+    } else {
+        "the sections before are"
+    };
+    let _ = if start == 0 {
+        eprintln!(rt;
+            "{path}: {kind} at {place}: {words} its first {place} bytes (head -c {place})"
+        )
+    } else {
+        let (from, size) = (start.saturating_add(1), place.saturating_sub(start));
+        eprintln!(rt;
+            "{path}: {kind} at {place}: {words} its bytes {start} to {place} (tail -c +{from} | head -c {size})"
+        )
+    };
+}

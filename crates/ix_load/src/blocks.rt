@@ -1,0 +1,332 @@
+//! The block files of a command: which they are, and the store of their blocks.
+
+ghost use Rattle.ix_car.specs.Payload.{IsWithin};
+
+use clap::ArgMatches;
+use clap::error::ErrorKind;
+use ix_car::{BlockLoader, CarFault, CarKind, Payload, SoundLoader, payload_of, read_header};
+use ix_cid::Cid;
+use ix_cli_io::{Failure, Progress, STANDARD_INPUT, load_input, size_of_all};
+use ix_inspect::{Kind, kind_of};
+use ix_options::{
+    ArgSpec, BLOCKS, CARV2_HEADER, CommandSpec, PREFER_SOUND, WITHOUT, is_of_carv2, later_note,
+    print_notes, words_of,
+};
+use ix_run::RunFault;
+use ix_store::{PlaceSet, SoundStore, Store};
+use std::alloc::{AllocError, Global};
+use std::fs::File;
+use std::rt::{Clock, Files};
+use std::sync::Arc;
+use std::thread::Threads;
+
+/// The block files of a command, in their order.
+#[derive(Drop)]
+pub struct BlockFiles<'a> {
+    paths: Vec<&'a str>,
+    // How many bytes each may have.
+    most: u64,
+    // Whether a CARv2 file is read, and not rejected.
+    reads_carv2: bool,
+    // Whether of the copies of a block the first that is sound counts.
+    prefers_sound: bool,
+    // Whether they are what a receiver has, and not the blocks that are exported.
+    is_base: bool,
+}
+
+/// The settled store of a command's blocks.
+#[derive(Drop)]
+pub struct LoadedBlocks {
+    pub store: Arc<Store>,
+    /// The positions in it of the blocks that the receiver has, if that is given.
+    pub known: Option<PlaceSet>,
+    // How many blocks are a later copy, since the first isn't sound.
+    later_count: usize,
+}
+
+impl LoadedBlocks {
+    /// Prints how many blocks are a later copy, if any are and the run wasn't rejected.
+    pub fn print_note<R: AllocGlobal + Eprint>(&self, rt: &R, status: &Result<u8, Failure>) {
+        if status.is_ok() && self.later_count > 0 {
+            print_notes(rt, later_note(rt.alloc(), "note", self.later_count));
+        }
+    }
+}
+
+// What reads the files: of the copies of a block the first counts, or the first that is sound.
+#[derive(Drop)]
+enum Loader {
+    First(BlockLoader),
+    Sound(SoundLoader),
+}
+
+impl Loader {
+    // Reads one file more.
+    fn with_file<R: AllocGlobal + Threads + Sync>(
+        self,
+        rt: &R,
+        bytes: Vec<u8>,
+        payload: Payload,
+        threads: usize,
+    ) -> Result<Loader, CarFault>
+        requires { IsWithin payload bytes.items }
+    {
+        let alloc = rt.alloc();
+        match self {
+            Loader::First(loader) => {
+                let loader = loader.with_file_by(rt, alloc, bytes, payload, threads)?;
+                Ok(Loader::First(loader))
+            }
+            Loader::Sound(loader) => {
+                let loader = loader.with_file(alloc, bytes, payload)?;
+                Ok(Loader::Sound(loader))
+            }
+        }
+    }
+
+    // Returns the settled store of all files.
+    fn finish<R: AllocGlobal + Threads + Sync>(
+        self,
+        rt: &R,
+        threads: usize,
+    ) -> Result<LoadedBlocks, AllocError> {
+        let (store, later_count) = match self {
+            Loader::First(loader) => (loader.finish_by(rt, threads)?, 0),
+            Loader::Sound(loader) => {
+                let SoundStore { store, later_count } = loader.finish_by(rt, threads)?;
+                (store, later_count)
+            }
+        };
+        Ok(LoadedBlocks {
+            store: Arc::new(rt.alloc(), store)?,
+            known: None,
+            later_count,
+        })
+    }
+}
+
+impl<'a> BlockFiles<'a> {
+    /// Reads the paths of the blocks that a command exports. Standard input can be given once.
+    pub fn given(
+        alloc: Global,
+        spec: &'static CommandSpec,
+        words: &ArgMatches<'a>,
+        most: u64,
+        reads_carv2: bool,
+    ) -> Result<BlockFiles<'a>, Failure> {
+        Ok(BlockFiles {
+            paths: paths_of(alloc, spec, words, &BLOCKS)?,
+            most,
+            reads_carv2,
+            prefers_sound: PREFER_SOUND.is_given(words),
+            is_base: false,
+        })
+    }
+
+    /// Reads the paths of what a receiver has, which are read as these. Standard input can be given once.
+    pub(crate) fn base_given(
+        &self,
+        alloc: Global,
+        spec: &'static CommandSpec,
+        words: &ArgMatches<'a>,
+    ) -> Result<BlockFiles<'a>, Failure> {
+        Ok(BlockFiles {
+            paths: paths_of(alloc, spec, words, &WITHOUT)?,
+            most: self.most,
+            reads_carv2: self.reads_carv2,
+            prefers_sound: false,
+            is_base: true,
+        })
+    }
+
+    /// Returns how many bytes each may have.
+    pub(crate) fn most(&self) -> u64 {
+        self.most
+    }
+
+    /// Returns the paths.
+    pub fn paths(&self) -> &[&'a str] {
+        self.paths.as_slice()
+    }
+
+    /// Returns whether standard input is one of them.
+    pub(crate) fn has_standard_input(&self) -> bool {
+        self.paths.iter().any(|path| *path == STANDARD_INPUT)
+    }
+
+    /// Reads the files, one after the other. A large one is read by so many threads.
+    pub fn read<R>(
+        &self,
+        rt: &R,
+        threads: usize,
+        progress: &Progress<R>,
+    ) -> Result<Vec<Vec<u8>>, Failure>
+    where
+        R: AllocGlobal + Clock + Eprint + Files<File = File> + Input + Threads + Sync,
+    {
+        progress.expect(size_of_all(rt, self.paths()));
+        self.read_more(rt, threads, progress)
+    }
+
+    /// Reads the files in the same way, with progress that expects them already.
+    pub(crate) fn read_more<R>(
+        &self,
+        rt: &R,
+        threads: usize,
+        progress: &Progress<R>,
+    ) -> Result<Vec<Vec<u8>>, Failure>
+    where
+        R: AllocGlobal + Clock + Eprint + Files<File = File> + Input + Threads + Sync,
+    {
+        let mut files = Vec::with_capacity(rt.alloc(), self.paths.len())?;
+        for path in self.paths() {
+            files.push(load_input(rt, path, self.most, threads, progress)?)?;
+        }
+        Ok(files)
+    }
+
+    /// Returns the roots in the header of the first of the files that were read.
+    pub fn header_roots(&self, alloc: Global, files: &[Vec<u8>]) -> Result<Vec<Cid>, Failure> {
+        let (Some(path), Some(bytes)) = (self.paths.first(), files.first()) else {
+            return Ok(Vec::new(alloc));
+        };
+        match roots_in(alloc, bytes.as_slice()) {
+            Ok(roots) => Ok(roots),
+            Err(fault) => Err(self.refusal(alloc, path, fault, kind_of(bytes.as_slice()))),
+        }
+    }
+
+    /// Makes the store of the blocks of the files that were read: those of their sections in order, the
+    /// first of each CID, or the first that is sound if that is asked for.
+    pub fn store_of<R: AllocGlobal + Threads + Sync>(
+        &self,
+        rt: &R,
+        files: Vec<Vec<u8>>,
+        threads: usize,
+    ) -> Result<LoadedBlocks, Failure> {
+        let alloc = rt.alloc();
+        let mut loader = self.new_loader(alloc);
+        for (path, bytes) in self.paths.iter().zip(files) {
+            let kind = kind_of(bytes.as_slice());
+            match self.with_file(rt, loader, bytes, threads) {
+                Ok(more) => loader = more,
+                Err(fault) => return Err(self.refusal(alloc, path, fault, kind)),
+            }
+        }
+        loader.finish(rt, threads).map_err(Failure::from)
+    }
+
+    // Creates the loader that is asked for.
+    fn new_loader(&self, alloc: Global) -> Loader {
+        if self.prefers_sound {
+            Loader::Sound(SoundLoader::new(alloc))
+        } else {
+            Loader::First(BlockLoader::new(alloc))
+        }
+    }
+
+    // Reads one file more. Of a CARv2 file it is the payload.
+    fn with_file<R: AllocGlobal + Threads + Sync>(
+        &self,
+        rt: &R,
+        loader: Loader,
+        bytes: Vec<u8>,
+        threads: usize,
+    ) -> Result<Loader, CarFault> {
+        let payload = if self.reads_carv2 {
+            payload_of(bytes.as_slice())?
+        } else {
+            Payload {
+                start: 0,
+                end: bytes.len(),
+            }
+        };
+        loader.with_file(rt, bytes, payload, threads)
+    }
+
+    // Returns the failure for a file with an error. It names the file if there are several, or if it is what
+    // the receiver has.
+    fn refusal(&self, alloc: Global, path: &str, fault: CarFault, kind: Kind) -> Failure {
+        let Some(cause) = cause_of(&fault, kind) else {
+            return Failure::from(RunFault::from(fault));
+        };
+        let file = if self.is_base || self.paths.len() > 1 {
+            Some(path)
+        } else {
+            None
+        };
+        match explained(alloc, fault, cause, file) {
+            Ok(failure) => failure,
+            Err(_) => Failure::Fault(RunFault::Memory),
+        }
+    }
+}
+
+// Adds the cause to an error, and the file in which it is.
+fn explained(
+    alloc: Global,
+    fault: CarFault,
+    cause: &str,
+    file: Option<&str>,
+) -> Result<Failure, AllocError> {
+    let cause = String::from_str(alloc, cause)?;
+    let fault = RunFault::from(fault);
+    match file {
+        Some(path) => Ok(Failure::InFile(fault, String::from_str(alloc, path)?, cause)),
+        None => Ok(Failure::Explained(fault, cause)),
+    }
+}
+
+// Returns what is known of the cause of an error in a file of this kind; nothing if memory ran out.
+fn cause_of(fault: &CarFault, kind: Kind) -> Option<&'static str> {
+    if fault.kind == CarKind::Memory {
+        None
+    } else if fault.place == 0 {
+        Some(words_of(kind))
+    } else if is_of_carv2(kind, fault) {
+        Some(CARV2_HEADER)
+    } else {
+        Some("ix_export inspect says how to keep the sections before it")
+    }
+}
+
+// Returns the roots in the header of a CARv1 file, or of the one in a CARv2 file.
+fn roots_in(alloc: Global, bytes: &[u8]) -> Result<Vec<Cid>, CarFault> {
+    let payload = payload_of(bytes)?;
+    match read_header(alloc, &bytes[payload.start..payload.end]) {
+        Ok((roots, _)) => Ok(roots),
+        Err(CarFault { kind, place }) => Err(CarFault {
+            kind,
+            place: payload.start.saturating_add(place),
+        }),
+    }
+}
+
+// Reads the paths of an option. Standard input can be given once.
+fn paths_of<'a>(
+    alloc: Global,
+    spec: &'static CommandSpec,
+    words: &ArgMatches<'a>,
+    option: &ArgSpec,
+) -> Result<Vec<&'a str>, Failure> {
+    let mut paths = Vec::new(alloc);
+    let mut has_input = false;
+    for path in words.get_strs(option.name).unwrap_or(&[]) {
+        if *path == STANDARD_INPUT && has_input {
+            return Err(Failure::from(refused_twice(alloc, spec, option.name)?));
+        }
+        has_input |= *path == STANDARD_INPUT;
+        paths.push(*path)?;
+    }
+    Ok(paths)
+}
+
+// Makes the error for standard input that is given twice for an option.
+fn refused_twice(
+    alloc: Global,
+    spec: &'static CommandSpec,
+    option: &str,
+) -> Result<clap::Error, AllocError> {
+    let message = format!(in alloc; "standard input is given twice for '--{option} <FILE>'")?;
+    spec.refusal(alloc, ErrorKind::ArgumentConflict, message.as_str())
+}
