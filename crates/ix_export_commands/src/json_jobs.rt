@@ -1,10 +1,10 @@
 //! The report of `get` and `jobs` as JSON.
 
-use crate::threads::RunReport;
 use ix_archive::End;
 use ix_cli_io::Naming;
 use ix_jobs::JobResult;
 use ix_json_report::{ArchivePlace, push_job, push_total};
+use ix_load::RunReport;
 use ix_run::is_complete;
 use ix_walk::Job;
 use std::alloc::{AllocError, Global};

@@ -9,7 +9,7 @@ use ix_cid::HashFunction;
 use ix_cli_io::{ANY_SIZE, Failure, REFUSED, STANDARD_INPUT, read_input};
 use ix_inspect::{Kind, Summary, codec_name, hash_name, kind_of, summary_of};
 use ix_options::{
-    ArgKind, ArgSpec, CARV2, CARV2_HEADER, CommandSpec, JSON, MAX_INPUT, at_most_processors,
+    ArgKind, ArgSpec, CARV2, CARV2_HEADER, CommandSpec, JSON, MAX_INPUT, QUIET, at_most_processors,
     is_of_carv2, most_input, words_of,
 };
 use ix_run::RunFault;
