@@ -1,0 +1,5 @@
+pub mod Entered
+pub mod Nesting
+pub mod Along
+pub mod Nodes
+pub mod Ends

@@ -1,0 +1,11 @@
+use Rattle.ix_path_selector.proofs.Entered.{enters_along, enters_the_path, enters_all_below}
+use Rattle.ix_path_selector.proofs.law.along_a_path.Goals as goal
+
+pub returns-clause-along : goal.returns-clause-along
+returns-clause-along c = enters_along
+
+pub returns-clause-alone : goal.returns-clause-alone
+returns-clause-alone c = enters_the_path
+
+pub returns-clause-below : goal.returns-clause-below
+returns-clause-below c = enters_all_below
