@@ -140,6 +140,8 @@ run job photos "$tree_text/li/1" 9 --blocks blocks.car --scope block
 expect 0 "photos $tree_text 9 a16166a162663ea1626c69a16169a2613ea1612ea0616901" ''
 run job photos "$tree_text/li/0" 9 '{"f":{"f>":{"c":{".":{}}}}}' --blocks - <blocks.car
 expect 0 "photos $tree_text 9 a16166a162663ea1626c69a16169a2613ea16166a162663ea16163a1612ea0616900" ''
+run job photos "$tree_text/li/0" 9 '{"selector":{"f":{"f>":{"c":{".":{}}}}}}' --blocks blocks.car
+expect 0 "photos $tree_text 9 a16166a162663ea1626c69a16169a2613ea16166a162663ea16163a1612ea0616900" ''
 run job photos "$tree_text/in/e" 9 --blocks blocks.car
 expect 2 '' "no key \`e\` in $inner_text: it has \`c\`, \`d\`"
 run job photos "$tree_text/in" 0 --blocks blocks.car

@@ -112,9 +112,6 @@ const ONCE_LIMIT: &str = "4294967295";
 
 const EVERY_LIMIT: &str = "1000000";
 
-const TOO_DEEP: &str = "--root and --selector: the path and the selector at its end nest more than \
-128 deep together";
-
 const ROOT: ArgSpec = ArgSpec {
     name: "root",
     given: ArgKind::Optional("ROOT[,..]"),
@@ -399,7 +396,7 @@ impl<'a> GetCommand<'a> {
         let Ok(inner) = selector_hex(alloc, &self.selector) else {
             return Err(NoJobs::from(AllocError));
         };
-        match paths.selector_hex(alloc, store, inner.trim_end()) {
+        match paths.selector_hex(alloc, store, &self.selector, inner.trim_end()) {
             Ok(hex) => Ok(RootWords {
                 roots: paths.roots_text(alloc)?,
                 hex: Some(hex),
@@ -423,15 +420,14 @@ impl<'a> GetCommand<'a> {
         }
     }
 
-    // Makes the failure for roots in a header that are those of no job, or for a path after which the
-    // selector nests too deep.
+    // Makes the failure for roots in a header that are those of no job, or for arguments that are.
     fn refused(
         &self,
         alloc: Global,
         line: Result<String, AllocError>,
     ) -> Result<NoJobs, AllocError> {
         if !matches!(&self.roots, Roots::Header) {
-            return Ok(NoJobs::Line(String::from_str(alloc, TOO_DEEP)?));
+            return Ok(NoJobs::Line(line?));
         }
         let error = refused_roots(alloc, &SPEC, self.first_path(), line?.as_str())?;
         Ok(NoJobs::Failure(Failure::from(error)))

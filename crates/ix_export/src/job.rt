@@ -65,6 +65,9 @@ const BLOCKS: ArgSpec = ArgSpec {
     help: "CARv1 file in which paths lead; several add up",
 };
 
+const TOO_DEEP: &str = "ROOT and JSON: the path and the selector at its end nest more than 128 \
+deep together";
+
 // The most threads that load blocks. There are no more than processors.
 const LOADERS: usize = 8;
 
@@ -162,6 +165,7 @@ fn print_line_along<'a, R: Host>(
     match line {
         Ok(line) => print_answer(rt, Ok(line)),
         Err(Unresolved::Line(line)) => print_refusal(rt, Ok(line)),
+        Err(Unresolved::TooDeep) => { print_refusal(rt, String::from_str(rt.alloc(), TOO_DEEP)) }
         Err(Unresolved::Memory) => Err(Failure::from(AllocError)),
     }
 }
@@ -197,7 +201,7 @@ fn line_along<'a>(
     let roots = paths.roots_text(alloc)?;
     let greatest_limit = MAX_LIMIT.limit(words);
     let hex = match selector_hex(alloc, &selector) {
-        Ok(inner) => paths.selector_hex(alloc, &blocks.store, inner.trim_end())?,
+        Ok(inner) => paths.selector_hex(alloc, &blocks.store, &selector, inner.trim_end())?,
         Err(fault) => {
             let line = line_fault_words(alloc, &fault, name, roots.as_str(), limit, greatest_limit);
             return Err(Unresolved::Line(line?));

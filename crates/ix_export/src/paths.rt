@@ -1,11 +1,16 @@
 //! Paths after the CIDs of roots: how they are given, where they lead, and the selector to there.
 
 use crate::commands::CommandSpec;
+use crate::roots::MATCHER;
 use clap::error::ErrorKind;
-use ix_cbor::{Front, read_front, read_key, skip_item};
+use hex::FromHexError;
+use ix_cbor::{CborKind, Front, Tree, decode, read_front, read_key, skip_item};
 use ix_cid::Cid;
 use ix_cli_io::Failure;
+use ix_job_line::SelectorWord;
 use ix_path::{NodeBytes, Obstacle, PathError, PathNode, PathStep, Resolution, RootPath, resolve};
+use ix_path_selector::{PathEnd, PathSelectorFault, selector_along, steps_along};
+use ix_selector_json::{NotationFault, fault_line};
 use ix_store::Store;
 use std::alloc::{AllocError, Global};
 use std::fmt::Write;
@@ -25,6 +30,8 @@ pub(crate) struct RootPaths {
 pub(crate) enum Unresolved {
     /// This line says what there is instead, or that the paths lead along different steps.
     Line(String),
+    /// The path and the selector at its end nest more than 128 deep together.
+    TooDeep,
     /// Memory ran out.
     Memory,
 }
@@ -89,33 +96,50 @@ impl RootPaths {
     }
 
     /// Returns the selector, in hex, that goes from each root to where its path leads in the store, and
-    /// there is the selector with this hex. Without segments it is that one, whether the roots are there or
-    /// not.
+    /// there is that of a word, which has this hex. Without segments it is that one, whether the roots are
+    /// there or not.
     pub(crate) fn selector_hex(
         &self,
         alloc: Global,
         store: &Store,
+        word: &SelectorWord<'_>,
         inner: &str,
     ) -> Result<String, Unresolved> {
         if !self.leads_on() {
             return Ok(String::from_str(alloc, inner)?);
         }
-        let mut hex = String::new(alloc);
+        let Some(path) = self.paths.first() else {
+            return Ok(String::from_str(alloc, inner)?);
+        };
+        let resolved = self.steps(alloc, store)?;
+        let steps = steps_along(alloc, resolved.as_slice(), path.segments.as_slice())?;
+        match selector_along(alloc, steps.as_slice(), path_end(alloc, word, inner)?) {
+            Ok(block) => Ok(hex::encode(alloc, block.as_slice())?),
+            Err(PathSelectorFault::TooDeep) => Err(Unresolved::TooDeep),
+            Err(PathSelectorFault::Memory) => Err(Unresolved::Memory),
+            Err(PathSelectorFault::End(fault)) => {
+                Err(refused_selector(alloc, &NotationFault::Selector(fault))?)
+            }
+        }
+    }
+
+    // Returns the steps from each root to where its path leads in the store, which are the same for all.
+    fn steps(&self, alloc: Global, store: &Store) -> Result<Vec<PathStep>, Unresolved> {
+        let mut steps = Vec::new(alloc);
         for path in &self.paths {
             let found = resolve(alloc, store, &path.root, path.segments.as_slice())?;
             if let Err(obstacle) = &found.end {
                 return Err(Unresolved::Line(obstacle_line(alloc, path, &found, obstacle)?));
             }
-            let own = through(alloc, path, found.steps.as_slice(), inner)?;
-            if !hex.is_empty() && own != hex {
+            if !steps.is_empty() && steps != found.steps {
                 return Err(Unresolved::Line(String::from_str(
                     alloc,
                     "the path is by keys from one root and by indexes from another: give one `get` per root",
                 )?));
             }
-            hex = own;
+            steps = found.steps;
         }
-        Ok(hex)
+        Ok(steps)
     }
 }
 
@@ -239,60 +263,34 @@ fn segment_text(alloc: Global, segment: &[u8]) -> Result<String, AllocError> {
     Ok(text)
 }
 
-// Returns the selector, in hex, that goes along the steps of a path, and at their end is the selector with
-// this hex: for each step a field `f` or an index `i` (IPLD Selectors), as DAG-CBOR.
-fn through(
-    alloc: Global,
-    path: &RootPath,
-    steps: &[PathStep],
-    inner: &str,
-) -> Result<String, AllocError> {
-    let mut hex = String::new(alloc);
-    for (segment, step) in path.segments.iter().zip(steps) {
-        push_front(&mut hex, segment.as_slice(), *step)?;
-    }
-    hex.push_str(inner)?;
-    for number in 0..steps.len() {
-        push_back(&mut hex, steps[steps.len() - 1 - number])?;
-    }
-    Ok(hex)
-}
-
-// Appends what is before the next selector: {"f":{"f>":{KEY: or {"i":{">":
-fn push_front(hex: &mut String, key: &[u8], step: PathStep) -> Result<(), AllocError> {
-    match step {
-        PathStep::Key => {
-            hex.push_str("a16166a162663ea1")?;
-            push_head(hex, 3, key.len() as u64)?;
-            for byte in key {
-                write!(hex, "{byte:02x}")?;
-            }
-        }
-        PathStep::Index(_) => hex.push_str("a16169a2613e")?,
-    }
-    Ok(())
-}
-
-// Appends what is after the next selector: nothing, or "i":INDEX}}
-fn push_back(hex: &mut String, step: PathStep) -> Result<(), AllocError> {
-    match step {
-        PathStep::Key => Ok(()),
-        PathStep::Index(index) => {
-            hex.push_str("6169")?;
-            push_head(hex, 0, index)
-        }
+// Returns what is selected where a path ends: what a word selects, whose selector has this hex.
+fn path_end(alloc: Global, word: &SelectorWord<'_>, hex: &str) -> Result<PathEnd, Unresolved> {
+    match word {
+        SelectorWord::Everything => Ok(PathEnd::Everything),
+        SelectorWord::Hex(text) if *text == MATCHER => Ok(PathEnd::Node),
+        _ => match selector_tree(alloc, hex) {
+            Ok(tree) => Ok(PathEnd::Selector(tree)),
+            Err(NotationFault::Memory) => Err(Unresolved::Memory),
+            Err(fault) => Err(refused_selector(alloc, &fault)?),
+        },
     }
 }
 
-// Appends the head of an item of a major type (RFC 8949, section 3).
-fn push_head(hex: &mut String, major: u8, value: u64) -> Result<(), AllocError> {
-    let first = major << 5;
-    match value {
-        0..=23 => write!(hex, "{:02x}", u64::from(first) + value)?,
-        24..=0xff => write!(hex, "{:02x}{value:02x}", first | 24)?,
-        0x100..=0xffff => write!(hex, "{:02x}{value:04x}", first | 25)?,
-        0x10000..=0xffff_ffff => write!(hex, "{:02x}{value:08x}", first | 26)?,
-        _ => write!(hex, "{:02x}{value:016x}", first | 27)?,
+// Returns the tree that hex spells in DAG-CBOR.
+fn selector_tree(alloc: Global, text: &str) -> Result<Tree, NotationFault> {
+    let bytes = match hex::decode(alloc, text.as_bytes()) {
+        Ok(bytes) => bytes,
+        Err(FromHexError::OutOfMemory) => return Err(NotationFault::Memory),
+        Err(_) => return Err(NotationFault::Hex),
+    };
+    match decode(alloc, bytes.as_slice()) {
+        Ok(tree) => Ok(tree),
+        Err(fault) if fault.kind == CborKind::Memory => Err(NotationFault::Memory),
+        Err(fault) => Err(NotationFault::Block(fault)),
     }
-    Ok(())
+}
+
+// Makes the error for what is no selector.
+fn refused_selector(alloc: Global, fault: &NotationFault) -> Result<Unresolved, AllocError> {
+    Ok(Unresolved::Line(fault_line(alloc, fault)?))
 }

@@ -13,8 +13,11 @@ use std::alloc::{AllocError, Global};
 // Without roots the other arguments are checked with this one: an identity CID without bytes.
 const SOME_ROOT: &str = "bafkqaaa";
 
-// The selector of the node alone where it is, {".":{}}, as DAG-CBOR in hex.
-const MATCHER: &str = "a1612ea0";
+/// The selector of the node alone where it is, {".":{}}, as DAG-CBOR in hex.
+pub(crate) const MATCHER: &str = "a1612ea0";
+
+const TOO_DEEP: &str = "--root and --selector: the path and the selector at its end nest more than \
+128 deep together";
 
 /// What is selected where a path ends.
 pub(crate) const SCOPE: ArgSpec = ArgSpec {
@@ -158,6 +161,7 @@ impl<'a> Roots<'a> {
 pub(crate) fn no_jobs(alloc: Global, unresolved: Unresolved) -> Result<NoJobs, AllocError> {
     match unresolved {
         Unresolved::Line(line) => Ok(NoJobs::Line(format!(in alloc; "--root: {line}")?)),
+        Unresolved::TooDeep => Ok(NoJobs::Line(String::from_str(alloc, TOO_DEEP)?)),
         Unresolved::Memory => Err(AllocError),
     }
 }
