@@ -98,6 +98,7 @@ Options:
       --max-input <SIZE>  Greatest size of an input, such as 4G
       --carv2             Read CARv2 files too, as the CARv1 in them
       --prefer-sound      Use the first sound copy of a block, if any is
+  -q, --quiet             Accepted: there is no progress and no report
   -h, --help              Print help
 
 Append the lines of jobs to a job file:
