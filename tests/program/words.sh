@@ -94,7 +94,7 @@ Arguments:
 Options:
       --blocks <FILE>     CARv1 file in which paths lead; several add up
       --scope <SCOPE>     all below the end of the path, or its block alone
-      --max-limit <N>     Greatest LIMIT, up to 4294967295 [default: 1000000]
+      --max-limit <N>     Greatest LIMIT, to 4294967295 [default: 1000000]
       --max-input <SIZE>  Greatest size of an input, such as 4G
       --carv2             Read CARv2 files too, as the CARv1 in them
       --prefer-sound      Use the first sound copy of a block, if any is
