@@ -232,7 +232,10 @@ def judge(repository, room):
         same(" ".join(which) or "without the option", without_numbers(told), report(walk, skips, absent))
         same("the archive", pathlib.Path(out).read_bytes(), walk.archive)
     same("--quiet", run([*get, "--allow-missing", "raw", "--quiet"], 0), "")
-    same("verify", run(["verify", "--blocks-only", out], 0).split()[1], "sound")
+    same("verify --blocks-only", run(["verify", "--blocks-only", out], 0).split()[1], "sound")
+    same("verify", run(["verify", out], 3).split()[1], "incomplete")
+    sound = f"{out} sound sections={len(walk.sections)} bytes={len(walk.archive)} absent={len(missing)}\n"
+    same("verify --allow-missing", run(["verify", "--allow-missing", "raw", out], 0), sound)
     judge_jobs(repository, room, file, walk)
 
 
