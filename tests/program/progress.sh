@@ -44,7 +44,7 @@ write_jobs "a $one_job"
 run jobs "${inputs[@]}" --out out --progress --quiet
 expect 0 '' ''
 expect_bytes out/a.car "$one_archive"
-write_jobs "a $one_job" "b $one_text 1 $all"
+write_jobs "a $one_job" "b $(text "$one_cid") 1 $all"
 run jobs "${inputs[@]}" --out out --progress --quiet
 expect 4 "a $one_line
 b limit visits=1 kept=1 sections=1 bytes=138
