@@ -12,6 +12,7 @@ compiler; without one this says so and ends well. Ends with status 1 at the firs
 import argparse
 import base64
 import hashlib
+import json
 import os
 import pathlib
 import shutil
@@ -43,13 +44,14 @@ class Runner:
 
     def words(self, command):
         blocks = ["--blocks", str(TOP / "examples/library.car")]
-        if command == "get":
-            return ["get", *blocks, "--root", ROOT, "--out", str(self.out / "whole.car")]
+        name, *options = command.split()
+        if name == "get":
+            return ["get", *blocks, "--root", ROOT, "--out", str(self.out / "whole.car"), *options]
         jobs = ["--jobs", str(TOP / "examples/library.jobs"), "--out", str(self.out)]
-        return ["jobs", *blocks, *jobs, *(["--sync"] if command == "jobs --sync" else [])]
+        return ["jobs", *blocks, *jobs, *options]
 
     def names(self, command):
-        return ("whole",) if command == "get" else NAMES
+        return ("whole",) if command.startswith("get") else NAMES
 
     def clear(self, command, stale):
         """An output folder with the archives of before, and with parts that a killed run left where that is wanted."""
@@ -214,6 +216,21 @@ def syncs(runner):
             raise Wrong(f"{command}: {runner.counts(command)['fsync']} calls of fsync")
 
 
+def failed_names(runner):
+    """Where an archive can't get its name, JSON objects of `jobs` say no place of those that should have theirs, and that of
+    `get` names the part, which is left and whole."""
+    part = str(runner.out / "whole.car.part")
+    for command, stream, wanted_places in (("jobs --json", 1, [None] * len(NAMES)), ("get --json", 2, [part])):
+        runner.clear(command, False)
+        answers = runner.run(command, FAIL=f"rename:1:{IO}")
+        objects = [json.loads(line) for line in answers[stream].splitlines() if line.startswith("{")]
+        places = [found.get("file", found.get("part")) for found in objects if "job" in found]
+        if answers[0] != 2 or places != wanted_places or "total" not in objects[-1]:
+            raise Wrong(f"{command}, a rename fails: status {answers[0]}, places {places}: {answers[2]}")
+    if pathlib.Path(part).read_bytes() != wanted("whole"):
+        raise Wrong("get --json, a rename fails: its part is not whole")
+
+
 def locks(runner):
     """Runs go on where there are no locks, and stop where a lock fails."""
     for command in ("get", "jobs"):
@@ -257,7 +274,7 @@ def main():
             print("tests/files.py: no compiler makes the library that fails: no run")
             return 0
         runner = Runner(room, library, program, words.rounds)
-        for part in (syncs, locks, large_files, failing_calls, killed, ten_at_once):
+        for part in (syncs, failed_names, locks, large_files, failing_calls, killed, ten_at_once):
             if words.part not in (None, part.__name__):
                 continue
             try:

@@ -87,11 +87,13 @@ total jobs=1 done=1 skips=0" "$scratch/stdout"
   expect_text 'exit status' 2 "$status"
   expect_lines 'the terminal' 'loading 0 of 0 MiB
 jobs: fields at line 1' "$scratch/stdout"
-  begin 'progress: verify tells a terminal how much is read, and ends the line before its report'
+  begin 'progress: verify tells a terminal how much is read and checked, and ends the line before its report'
   bytes "$one_archive" >a.car
   of_terminal verify a.car --progress
   expect_lines 'the terminal' 'loading 0 of 0 MiB
+2 sections checked, 2 links followed
 a.car sound sections=2 bytes=178' "$scratch/stdout"
+  expect_text 'line ends' 2 "$(tr -cd '\n' <"$scratch/terminal" | wc -c)"
   for words in '' '--progress --quiet'; do
     of_terminal verify a.car --all $words
     expect_lines "the terminal with $words" "$([ -n "$words" ] || echo 'a.car sound sections=2 bytes=178')" "$scratch/stdout"
@@ -99,6 +101,17 @@ a.car sound sections=2 bytes=178' "$scratch/stdout"
 else
   echo 'tests/program.sh: no script here, so what a terminal is told is not tested' >&2
 fi
+
+begin 'progress: verify tells of all its files so far, once for each'
+bytes "$one_archive" >a.car
+run verify a.car a.car --progress
+expect 0 'a.car sound sections=2 bytes=178
+a.car sound sections=2 bytes=178' 'progress: 2 sections checked, 2 links followed
+progress: 4 sections checked, 4 links followed'
+run verify a.car --progress --blocks-only
+expect 0 'a.car sound sections=2 bytes=178' 'progress: 2 sections checked, 0 links followed'
+run verify a.car --progress --quiet
+expect 0 '' ''
 
 begin 'progress: the examples by many threads'
 run jobs --blocks "$top/examples/library.car" --jobs "$top/examples/library.jobs" --out out --progress

@@ -34,9 +34,9 @@ pub enum ProgressMode {
     Line(u64),
 }
 
-/// Shows progress on standard error: how many bytes of blocks were read; then how many jobs are closed,
-/// how many visits were delivered, and how many bytes of archives were written. Only one thread reports
-/// it.
+/// Shows progress on standard error: how many bytes of blocks were read; then, of a run, how many jobs are
+/// closed, how many visits were delivered, and how many bytes of archives were written; of files that are
+/// verified, how many sections were checked and how many links followed. Only one thread reports it.
 #[derive(Drop)]
 pub struct Progress<'a, R> {
     rt: &'a R,
@@ -48,6 +48,8 @@ pub struct Progress<'a, R> {
     closed: Cell<usize>,
     visits: Cell<u64>,
     bytes: Cell<u64>,
+    // How many sections were checked.
+    sections: Cell<u64>,
     // How many bytes of blocks were read, and how many there are, if that is known.
     loaded: Cell<u64>,
     size: Cell<u64>,
@@ -73,6 +75,7 @@ impl<'a, R: AllocGlobal + Clock + Eprint> Progress<'a, R> {
             closed: Cell::new(0),
             visits: Cell::new(0),
             bytes: Cell::new(0),
+            sections: Cell::new(0),
             loaded: Cell::new(0),
             size: Cell::new(0),
             told: Cell::new(None),
@@ -104,6 +107,55 @@ impl<'a, R: AllocGlobal + Clock + Eprint> Progress<'a, R> {
                 eprint!(self.rt; "\r\u{1b}[?7lloading {loaded} of {size} MiB\u{1b}[K\u{1b}[?7h")
             };
         }
+    }
+
+    /// Counts so many more sections that were checked.
+    pub fn add_checked(&self, sections: usize) {
+        let sections = self.sections.get().saturating_add(sections as u64);
+        self.sections.set(sections);
+        self.show_checked(false);
+    }
+
+    /// Counts one more root or link that was followed.
+    pub fn add_followed(&self) {
+        let visits = self.visits.get().saturating_add(1);
+        self.visits.set(visits);
+        match self.mode {
+            ProgressMode::Lines if visits % LINE_EVERY == 0 => self.show_checked(false),
+            ProgressMode::Line(_) if visits % CLOCK_EVERY == 0 => self.show_checked(false),
+            _ => {}
+        }
+    }
+
+    /// Shows how much was checked and followed when a file is verified, and ends the line that is rewritten.
+    pub fn end_checked(&self) {
+        self.show_checked(true);
+        self.end();
+    }
+
+    // Shows how much was checked and followed, if it is due.
+    fn show_checked(&self, is_last: bool) {
+        let is_due = match self.mode {
+            ProgressMode::Off => false,
+            ProgressMode::Lines => {
+                if self.told.get().is_none() {
+                    self.told.set(Some(self.start));
+                }
+                self.is_line_due(is_last)
+            }
+            ProgressMode::Line(_) => self.is_due(is_last),
+        };
+        if !is_due {
+            return;
+        }
+        let (sections, links) = (self.sections.get(), self.visits.get());
+        let _ = if self.mode == ProgressMode::Lines {
+            eprintln!(self.rt; "progress: {sections} sections checked, {links} links followed")
+        } else {
+            eprint!(self.rt;
+                "\r\u{1b}[?7l{sections} sections checked, {links} links followed\u{1b}[K\u{1b}[?7h"
+            )
+        };
     }
 
     /// Starts the run of so many jobs.
@@ -152,13 +204,21 @@ impl<'a, R: AllocGlobal + Clock + Eprint> Progress<'a, R> {
         );
     }
 
-    // Prints a line, unless one was printed a moment ago. The last one is always printed.
-    fn print(&self, is_last: bool) {
+    // Returns whether a line is due, and records it: none was printed a moment ago, or it is the last.
+    fn is_line_due(&self, is_last: bool) -> bool {
         let now = now(self.rt);
         if !is_last && !is_past(self.told.get(), now, BETWEEN_LINES) {
-            return;
+            return false;
         }
         self.told.set(Some(now));
+        true
+    }
+
+    // Prints a line if it is due.
+    fn print(&self, is_last: bool) {
+        if !self.is_line_due(is_last) {
+            return;
+        }
         let (jobs, closed) = (self.jobs.get(), self.closed.get());
         let (visits, bytes) = (self.visits.get(), self.bytes.get());
         let _ = eprintln!(self.rt;

@@ -4,6 +4,7 @@ use crate::car_input::{CarInput, Rejection};
 use crate::json_verify::report_object;
 use clap::ArgMatches;
 use clap::error::ErrorKind as UsageKind;
+use ix_car::CarFault;
 use ix_cli_io::{ANY_SIZE, Failure, Progress, ProgressMode, REFUSED, STANDARD_INPUT, size_of_all};
 use ix_options::{
     ArgKind, ArgSpec, CARV2, CommandSpec, Host, JSON, MAX_INPUT, PROGRESS, VERIFIERS, later_note,
@@ -11,13 +12,13 @@ use ix_options::{
 };
 use ix_run::RunFault;
 use ix_verify::{
-    AllowMissing, Beside, Copies, Findings, OtherFile, Outcome, Scope, Unsound, verify_beside,
-    verify_sections,
+    AllowMissing, Beside, CarBytes, Copies, Findings, Observer, OtherFile, Outcome, Scope, Unsound,
+    verify_beside, verify_sections,
 };
 use std::alloc::{AllocError, Global};
 use std::io::{self, BufWriter, ErrorKind, Write};
 use std::num::NonZeroUsize;
-use std::rt::Files;
+use std::rt::{Clock, Files};
 
 // The status of a file that isn't sound, or not whole.
 const NOT_SOUND: u8 = 3;
@@ -302,23 +303,10 @@ impl VerifyCommand {
         progress: &Progress<R>,
     ) -> Result<u8, Rejection<'a>> {
         let CarInput { car, start, size } = self.load(rt, path, progress)?;
-        progress.end();
         let most = if self.prints_all { usize::MAX } else { FIRST };
-        let alloc = rt.alloc();
-        let (copies, threads) = (self.copies, self.threads);
-        let found = match self.scope {
-            Scope::Sections => verify_sections(rt, alloc, &car, threads, most),
-            Scope::Graph => {
-                let beside = Beside {
-                    others,
-                    copies,
-                    allowed: self.allowed.unwrap_or(AllowMissing::none()),
-                };
-                verify_beside(rt, alloc, &car, beside, threads, most)
-            }
-        };
-        match found {
+        match self.findings(rt, &car, others, most, progress) {
             Ok(found) => {
+                progress.end_checked();
                 let report = Report {
                     path,
                     bytes: size,
@@ -339,6 +327,46 @@ impl VerifyCommand {
             }
             Err(fault) => Err(Rejection::of_car(path, start, fault)),
         }
+    }
+
+    // Verifies a file beside others, and shows how far it is.
+    fn findings<R: Host>(
+        &self,
+        rt: &R,
+        car: &CarBytes,
+        others: &[OtherFile],
+        most: usize,
+        progress: &Progress<R>,
+    ) -> Result<Findings, CarFault> {
+        let (alloc, threads) = (rt.alloc(), self.threads);
+        let observer = Observing { progress };
+        match self.scope {
+            Scope::Sections => verify_sections(rt, alloc, car, threads, most, &observer),
+            Scope::Graph => {
+                let beside = Beside {
+                    others,
+                    copies: self.copies,
+                    allowed: self.allowed.unwrap_or(AllowMissing::none()),
+                };
+                verify_beside(rt, alloc, car, beside, threads, most, &observer)
+            }
+        }
+    }
+}
+
+// Shows how far the verification of files is.
+#[derive(Drop)]
+struct Observing<'a, 'p, R> {
+    progress: &'a Progress<'p, R>,
+}
+
+impl<'a, 'p, R: AllocGlobal + Clock + Eprint> Observer for Observing<'a, 'p, R> {
+    fn on_sections(&self, count: usize) {
+        self.progress.add_checked(count);
+    }
+
+    fn on_visit(&self) {
+        self.progress.add_followed();
     }
 }
 

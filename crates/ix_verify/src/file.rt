@@ -15,6 +15,7 @@ ghost use Rattle.ix_verify.specs.Counted.{told_if, told_among, findings_of, IsJu
 use crate::car_bytes::CarBytes;
 use crate::found::{Findings, Scope, Unsound};
 use crate::noted::Noted;
+use crate::observer::{Observer, Unobserved};
 use crate::other_file::{Beside, load_beside};
 use crate::reach::{Reached, walk_roots};
 use crate::section::verdicts_with_store;
@@ -26,8 +27,11 @@ use std::alloc::{AllocError, Global};
 use std::num::NonZeroUsize;
 use std::thread::Threads;
 
-// How many sections are checked at a time: the store is never in memory together with a list of all sections.
+// How many sections are checked at a time: the store is never in memory together with a list of all sections. The
+// last one begins before so many bytes of the batch.
 const BATCH: usize = 65_536;
+
+const BATCH_BYTES: usize = 64 * 1024 * 1024;
 
 /// Verifies a CARv1 file, whose sections are hashed by at most so many threads. An error is the file's first
 /// one, which is that of `read_car`. All sections that aren't sound and all links that lead to nothing sound
@@ -53,23 +57,32 @@ pub fn verify<R: Threads + Sync>(
         return Err(no_memory(0));
     };
     match scope {
-        Scope::Sections => verify_sections(rt, alloc, &car, threads, most),
-        Scope::Graph => verify_beside(rt, alloc, &car, Beside::nothing(), threads, most),
+        Scope::Sections => verify_sections(rt, alloc, &car, threads, most, &Unobserved),
+        Scope::Graph => verify_beside(
+            rt,
+            alloc,
+            &car,
+            Beside::nothing(),
+            threads,
+            most,
+            &Unobserved,
+        ),
     }
 }
 
-/// Verifies a CARv1 file by its sections alone, as `verify` does.
-pub fn verify_sections<R: Threads + Sync>(
+/// Verifies a CARv1 file by its sections alone, as `verify` does. The observer is notified of how far it is.
+pub fn verify_sections<R: Threads + Sync, V: Observer>(
     rt: &R,
     alloc: Global,
     car: &CarBytes,
     threads: NonZeroUsize,
     most: usize,
+    observer: &V,
 ) -> Result<Findings, CarFault>
     ensures found { IfOk result (IsFoundOf car.now OfSections most) }
     ensures refused { IfErr result (IsFileFault car.now) }
 {
-    let judged = judge_file(rt, alloc, None, car.as_slice(), threads, most)?;
+    let judged = judge_file(rt, alloc, None, car.as_slice(), threads, most, observer)?;
     Ok(judged.with(Reached::nothing(alloc), 0))
 }
 
@@ -77,14 +90,16 @@ pub fn verify_sections<R: Threads + Sync>(
 /// up in the file first, and then in each of the others, in their order. Of the copies of a block in all these
 /// files the first counts, or the first that is sound. The sections and roots are the file's own: if the first
 /// counts, a block of another file is checked only where the walk visits it. A link that may lead to a block that
-/// isn't there is counted as absent where it does. No error is of another file, since these have been read.
-pub fn verify_beside<R: Threads + Sync>(
+/// isn't there is counted as absent where it does. No error is of another file, since these have been read. The
+/// observer is notified of how far it is.
+pub fn verify_beside<R: Threads + Sync, V: Observer>(
     rt: &R,
     alloc: Global,
     car: &CarBytes,
     beside: Beside<'_>,
     threads: NonZeroUsize,
     most: usize,
+    observer: &V,
 ) -> Result<Findings, CarFault>
     ensures found { IfOk result (IsFoundBeside
         beside.entry.copies beside.entry.allowed beside.entry.others.now car.now OfGraph most) }
@@ -100,8 +115,23 @@ pub fn verify_beside<R: Threads + Sync>(
         Ok(loaded) => loaded,
         Err(fault) => return Err(fault),
     };
-    let judged = judge_file(rt, alloc, Some(&store), car.as_slice(), threads, most)?;
-    match walk_roots(alloc, &store, allowed, judged.roots.as_slice(), most) {
+    let judged = judge_file(
+        rt,
+        alloc,
+        Some(&store),
+        car.as_slice(),
+        threads,
+        most,
+        observer,
+    )?;
+    match walk_roots(
+        alloc,
+        &store,
+        allowed,
+        judged.roots.as_slice(),
+        most,
+        observer,
+    ) {
         Ok(reached) => Ok(judged.with(reached, later_count)),
         Err(_) => Err(no_memory(0)),
     }
@@ -132,13 +162,14 @@ impl Judged {
 }
 
 // Checks the sections of a file, with the store of its blocks if there is one.
-fn judge_file<R: Threads + Sync>(
+fn judge_file<R: Threads + Sync, V: Observer>(
     rt: &R,
     alloc: Global,
     store: Option<&Store>,
     car: &[u8],
     threads: NonZeroUsize,
     most: usize,
+    observer: &V,
 ) -> Result<Judged, CarFault>
     ensures judged { IfOk result (IsJudgedOf car.now most) }
     ensures refused { IfErr result (λ fault. IsFaultOf car.now fault (section_list car.now)) }
@@ -153,6 +184,7 @@ fn judge_file<R: Threads + Sync>(
         if judge_sections(rt, alloc, beside, batch.as_slice(), most, &mut unsound).is_err() {
             return Err(no_memory(0));
         }
+        observer.on_sections(batch.len());
         count += batch.len();
         rest = after;
     }
@@ -177,7 +209,7 @@ fn read_batch(
 {
     let mut rest = bytes;
     let mut batch = Vec::new(alloc);
-    while !rest.is_empty() && batch.len() < BATCH {
+    while !rest.is_empty() && batch.len() < BATCH && bytes.len() - rest.len() < BATCH_BYTES {
         let (section, after) = read_section(size, rest)?;
         let Ok(()) = batch.push(section) else {
             return Err(no_memory(size - rest.len()));

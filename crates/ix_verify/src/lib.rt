@@ -6,7 +6,7 @@
 //!
 //! `verify_beside` follows links into other files too: a CID that the file lacks is looked up in them, in their
 //! order. Of the copies of a block the first counts, or the first that is sound. The bytes of all files are
-//! shared, so one can serve many verifications.
+//! shared, so one can serve many verifications. An observer is notified of how far a verification is.
 //!
 //! ```rust
 //! let found = verify(rt, alloc, car, threads, Scope::Graph, 20)?;
@@ -18,7 +18,7 @@
 //! let library = OtherFile::read(alloc, CarBytes::new(alloc, bytes, payload)?)?;
 //! let allowed = AllowMissing::none();
 //! let beside = Beside { others: &[library], copies: Copies::First, allowed };
-//! let found = verify_beside(rt, alloc, &update, beside, threads, 20)?;
+//! let found = verify_beside(rt, alloc, &update, beside, threads, 20, &Unobserved)?;
 //! ```
 #![tactic(auto)]
 
@@ -28,6 +28,7 @@ mod file;
 mod found;
 pub mod law;
 mod noted;
+mod observer;
 mod other_file;
 mod reach;
 mod section;
@@ -36,5 +37,6 @@ pub use car_bytes::CarBytes;
 pub use file::{verify, verify_beside, verify_sections};
 pub use found::{AllowMissing, Copies, Findings, Outcome, Scope, Unsound};
 pub use noted::Noted;
+pub use observer::{Observer, Unobserved};
 pub use other_file::{Beside, OtherFile};
 pub use section::{judge, judge_all};

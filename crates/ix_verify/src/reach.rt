@@ -12,6 +12,7 @@ ghost use Rattle.ix_verify.specs.Walked.{skip_at, absent_at, lack_of, roots_as_b
 use crate::everything::roots_job;
 use crate::found::AllowMissing;
 use crate::noted::Noted;
+use crate::observer::Observer;
 use ix_archive::Skip;
 use ix_check::{Check, PlainCheck, Verdict};
 use ix_cid::Cid;
@@ -75,12 +76,13 @@ impl Watch<'_> {
 }
 
 // Walks everything below these roots once, and keeps at most so many links that lead to nothing sound.
-pub(crate) fn walk_roots(
+pub(crate) fn walk_roots<V: Observer>(
     alloc: Global,
     store: &Store,
     allowed: AllowMissing,
     roots: &[Cid],
     most: usize,
+    observer: &V,
 ) -> Result<Reached, AllocError>
     ensures { IfOk result (IsReachedFrom allowed store.now roots.now most) }
 {
@@ -95,7 +97,7 @@ pub(crate) fn walk_roots(
         allowed,
         most,
     };
-    walk_job(alloc, watch, &job)
+    walk_job(alloc, watch, &job, observer)
 }
 
 // Returns each root once, in the order of first occurrences, and a set of them.
@@ -115,14 +117,22 @@ fn distinct_roots(alloc: Global, roots: &[Cid]) -> Result<(Vec<Cid>, Store), All
 }
 
 // Walks a job and returns its findings.
-fn walk_job(alloc: Global, watch: Watch<'_>, job: &Job) -> Result<Reached, AllocError>
+fn walk_job<V: Observer>(
+    alloc: Global,
+    watch: Watch<'_>,
+    job: &Job,
+    observer: &V,
+) -> Result<Reached, AllocError>
     ensures { IfOk result (IsReachedBy (lack_of watch.entry) watch.entry.store.now job.now watch.entry.most) }
 {
     let mut skips = Noted::new(alloc);
     let mut absent = 0;
     for item in Walk::new(alloc, watch.store, job, 0)? {
         match item {
-            Ok(visit) => note_visit(alloc, watch, visit, &mut skips, &mut absent)?,
+            Ok(visit) => {
+                observer.on_visit();
+                note_visit(alloc, watch, visit, &mut skips, &mut absent)?;
+            }
             Err(WalkStop::Limit) => {
                 return Ok(Reached {
                     skips,

@@ -10,7 +10,7 @@ use Rattle.ix_verify.proofs.Distinct.{lack-by-set}
 use Rattle.ix_verify.proofs.reach.walk_roots.Goals as goal
 
 pub returns-then-is_empty : goal.returns-then-is_empty
-returns-then-is_empty c =
+returns-then-is_empty g c =
     let distinct = c.in_ok-distinct.distinct.items in
     let zero : length distinct ≡ 0 = search rules in
     let none : distinct ≡ [] = nil_from_length distinct zero in
@@ -18,7 +18,7 @@ returns-then-is_empty c =
     (sym none ∙ c.in_ok-distinct.ensures.once) (c.nothing.ensures c.args.allowed c.args.store.now c.args.most)
 
 pub returns : goal.returns
-returns c =
+returns g c =
     let roots = first_ones c.args.roots.now in
     let lack = lack-by-set c.args.allowed c.in_ok-distinct.set roots (c.in_ok-distinct.ensures.set ∙ ap roots_as_blocks c.in_ok-distinct.ensures.once) in
     subst (λ (lacks : List ℕ → Bool). IfOk c.walk_job.result (IsReachedBy lacks c.args.store.now (roots_job roots) c.args.most)) lack
