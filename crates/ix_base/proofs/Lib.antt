@@ -1,0 +1,4 @@
+mod Pairs
+mod Decided
+mod Copies
+mod Sections

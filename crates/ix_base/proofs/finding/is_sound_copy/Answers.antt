@@ -1,0 +1,11 @@
+use Rattle.std.proofs.Common.{sym, ◌∙◌}
+use Rattle.ix_store.proofs.Blocks.{place_within}
+use Rattle.ix_base.proofs.Copies.{known-copy}
+use Rattle.ix_base.proofs.finding.is_sound_copy.Goals as goal
+
+pub bytes-requires : goal.bytes-requires
+bytes-requires c = place_within _ _ _ (sym c.requires)
+
+pub returns-then-eq : goal.returns-then-eq
+returns-then-eq c =
+    c.knows.ensures ∙ known-copy c.args.store.now c.args.place c.args.cid.now c.bytes.result.now c.args.block.now c.requires c.bytes.ensures (sym c.eq.ensures ∙ c.if-eq.true)

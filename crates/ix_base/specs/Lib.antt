@@ -1,0 +1,4 @@
+pub mod Places
+pub mod Base
+pub mod Findings
+pub mod Batches

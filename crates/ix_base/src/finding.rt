@@ -1,0 +1,124 @@
+//! What the sections of a base say of the blocks of a store.
+
+ghost use Rattle.std.specs.Prelude.{◌≡◌, ◌<◌, ◌==◌, ◌&&◌, ℕ, Some, length, map, slice_index_or, is_none, IfOk};
+ghost use Rattle.ix_cbor.specs.Reading.{data_at};
+ghost use Rattle.ix_store.specs.Store.{position_of};
+ghost use Rattle.ix_store.specs.Sound.{verdict_of};
+ghost use Rattle.ix_archive.specs.Archive.{is_sound};
+ghost use Rattle.ix_base.specs.Findings.{pair_of, IsFinding, IsFindingAt};
+
+use ix_archive::knows;
+use ix_car::Section;
+use ix_cid::code::DAG_CBOR;
+use ix_cid::{Cid, Parts};
+use ix_interleave::map_interleaved;
+use ix_store::{PlaceSet, Store, has_fault};
+use ix_verdict::{Needed, Verdict, bytes_needed, has_digest};
+use std::alloc::{AllocError, Global};
+use std::thread::Threads;
+
+/// What a section of a base says of the blocks of a store.
+#[derive(Clone, Copy)]
+pub(crate) enum Finding {
+    /// Nothing: the store has no block under its CID, or an earlier section decided of that block.
+    Nothing,
+    /// Its block is a copy of the one at this position, and is what its CID names, or isn't.
+    CopyOf { place: usize, is_sound: bool },
+    /// Memory ran out.
+    NoMemory,
+}
+
+/// Returns what sections say, in order, with at most so many threads. What is decided isn't looked at again.
+pub(crate) fn findings_of<R: Threads + Sync>(
+    rt: &R,
+    alloc: Global,
+    store: &Store,
+    decided: &PlaceSet,
+    sections: &[Section<'_>],
+    threads: usize,
+) -> Result<Vec<Finding>, AllocError>
+    ensures len { IfOk result (λ findings. length findings.items ≡ length sections.now) }
+    ensures each { IfOk result (λ findings. (i : ℕ) (d : _) → i < length sections.now
+        → IsFindingAt store.now decided.now (map pair_of sections.now) i (slice_index_or findings.items i d)) }
+{
+    map_interleaved(
+        rt,
+        alloc,
+        sections.len(),
+        threads,
+        &|number| finding_at(alloc, store, decided, sections, number),
+    )
+}
+
+// Returns what the section with this number says.
+fn finding_at(
+    alloc: Global,
+    store: &Store,
+    decided: &PlaceSet,
+    sections: &[Section<'_>],
+    number: usize,
+) -> Finding
+    requires { number < length sections.now }
+    ensures { IsFindingAt store.now decided.now (map pair_of sections.now) number result }
+{
+    finding_of(alloc, store, decided, &sections[number])
+}
+
+// Returns what a section says. Its block is hashed only if it decides.
+fn finding_of(alloc: Global, store: &Store, decided: &PlaceSet, section: &Section<'_>) -> Finding
+    ensures { IsFinding store.now decided.now (pair_of section.now) result }
+{
+    let Ok(cid) = section.cid.to_cid(alloc) else {
+        return Finding::NoMemory;
+    };
+    let Some(place) = store.find(&cid) else {
+        return Finding::Nothing;
+    };
+    if decided.contains(place) {
+        return Finding::Nothing;
+    }
+    Finding::CopyOf {
+        place,
+        is_sound: is_sound_copy(store, place, &cid, section.block),
+    }
+}
+
+// Whether a copy of the block of a CID, which is at this position of a store, is what the CID names. If it
+// is the very block of the store, the store hashes it, once for all, and caches what it finds.
+fn is_sound_copy(store: &Store, place: usize, cid: &Cid, block: &[u8]) -> bool
+    requires { position_of store.now cid.now ≡ Some place }
+    ensures { result ≡ is_sound (verdict_of (cid.now, block.now)) }
+{
+    if store.bytes(place) == block {
+        return knows(store, cid);
+    }
+    is_sound(verdict_on(cid, block))
+}
+
+fn is_sound(verdict: Verdict) -> bool
+    ensures { result ≡ is_sound verdict }
+{
+    verdict == Verdict::Sound
+}
+
+// Returns the verdict on a CID and the block under it.
+fn verdict_on(cid: &Cid, block: &[u8]) -> Verdict
+    ensures { result ≡ verdict_of (cid.now, block.now) }
+{
+    let parts = cid.parts();
+    match bytes_needed(&parts) {
+        Needed::Nothing(verdict) => verdict,
+        Needed::Digest => Verdict::of_inline(is_malformed_in(&parts, parts.digest)),
+        Needed::Block(function) => {
+            let matches = has_digest(function, parts.digest, block);
+            Verdict::of_block(matches, matches && is_malformed_in(&parts, block))
+        }
+    }
+}
+
+// Whether the codec in the parts of a CID is DAG-CBOR and bytes aren't valid DAG-CBOR.
+fn is_malformed_in(parts: &Parts<'_>, bytes: &[u8]) -> bool
+    ensures { result ≡ ((parts.now.codec == 0x71) && is_none (data_at bytes.now)) }
+{
+    parts.codec == DAG_CBOR && has_fault(bytes)
+}

@@ -1,0 +1,22 @@
+//! Which blocks of a store a receiver has, by the files of its blocks, its base.
+//!
+//! The files are read one after the other, a batch of sections at a time, and no index of them is made: each
+//! section is looked up in the store by its CID. A section is hashed only if the store has a block under its
+//! CID, and no section before it decided whether the receiver has that block. The first copy decides: a block
+//! is known if the first section with its CID, over all files in their order, is sound.
+//!
+//! ```rust
+//! let base = Base::new(alloc, &store);
+//! let base = base.with_file(rt, alloc, first.as_slice(), payload, threads)?;
+//! let known = base.into_known();
+//! ```
+#![tactic(auto)]
+
+mod base;
+mod batch;
+mod finding;
+mod places;
+#[cfg(test)]
+mod tests;
+
+pub use base::Base;

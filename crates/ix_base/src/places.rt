@@ -1,0 +1,111 @@
+//! The positions in a store that the sections of a base decide.
+
+ghost use Rattle.std.specs.Prelude.{◌≤◌, [], length, map, Some, IfErr, OnOk};
+ghost use Rattle.ix_archive.specs.KnownPlaces.{IsPutIf};
+ghost use Rattle.ix_base.specs.Places.{ArePlacesOf, AddsBlocks, IsDecided};
+ghost use Rattle.ix_base.specs.Findings.{pair_of, TakesIn, HasAllOf};
+ghost use Rattle.ix_base.specs.Batches.{AddsSections, IsFaultIn};
+
+use crate::batch::{no_memory, read_batch};
+use crate::finding::{Finding, findings_of};
+use ix_car::{CarFault, Section};
+use ix_store::{PlaceSet, Store};
+use std::alloc::{AllocError, Global};
+use std::thread::Threads;
+
+/// The positions in a store of the blocks of which a base has a copy.
+#[derive(Drop)]
+pub(crate) struct Places {
+    // Those whose first copy is sound.
+    pub(crate) known: PlaceSet,
+    // All of them.
+    pub(crate) decided: PlaceSet,
+}
+
+impl Places {
+    /// Those of a base without blocks.
+    pub(crate) fn new(alloc: Global) -> Places
+        ensures { (store : _) → ArePlacesOf store [] result }
+    {
+        Places {
+            known: PlaceSet::new(alloc),
+            decided: PlaceSet::new(alloc),
+        }
+    }
+
+    /// Adds what the sections say that end a file of `size` bytes, a batch at a time, by so many threads.
+    pub(crate) fn add_sections<R: Threads + Sync>(
+        &mut self,
+        rt: &R,
+        alloc: Global,
+        store: &Store,
+        size: usize,
+        sections: &[u8],
+        threads: usize,
+    ) -> Result<(), CarFault>
+        requires { length sections.now ≤ size }
+        ensures added { OnOk result (AddsSections store.now self.old self.new sections.now) }
+        ensures refused { IfErr result (IsFaultIn size sections.now) }
+    {
+        let mut spare = Vec::new(alloc);
+        let mut rest = sections;
+        while !rest.is_empty() {
+            let (batch, after) = read_batch(spare, size, rest)?;
+            let added = self.add_batch(rt, alloc, store, batch.as_slice(), threads);
+            if added.is_err() {
+                return Err(no_memory(size - rest.len()));
+            }
+            spare = batch;
+            rest = after;
+        }
+        Ok(())
+    }
+
+    // Adds what some sections say.
+    fn add_batch<R: Threads + Sync>(
+        &mut self,
+        rt: &R,
+        alloc: Global,
+        store: &Store,
+        sections: &[Section<'_>],
+        threads: usize,
+    ) -> Result<(), AllocError>
+        ensures { OnOk result (AddsBlocks store.now self.old self.new (map pair_of sections.now)) }
+    {
+        let findings = findings_of(rt, alloc, store, &self.decided, sections, threads)?;
+        for finding in &findings {
+            self.take_in(*finding)?;
+        }
+        Ok(())
+    }
+
+    // Takes in what was found of one section more.
+    fn take_in(&mut self, finding: Finding) -> Result<(), AllocError>
+        ensures taken { OnOk result (TakesIn self.old self.new finding) }
+        ensures kept { OnOk result (HasAllOf self.new.decided self.old.decided) }
+    {
+        match finding {
+            Finding::Nothing => Ok(()),
+            Finding::CopyOf { place, is_sound } => self.decide(place, is_sound),
+            Finding::NoMemory => Err(AllocError),
+        }
+    }
+
+    // Takes in a copy of the block at a position. The first one decides.
+    fn decide(&mut self, place: usize, is_sound: bool) -> Result<(), AllocError>
+        ensures { OnOk result (IsDecided self.old self.new place is_sound) }
+    {
+        if self.decided.contains(place) {
+            return Ok(());
+        }
+        put_if(&mut self.known, place, is_sound)?;
+        self.decided.insert(place)
+    }
+}
+
+// Inserts a position if it is to be in a set.
+fn put_if(set: &mut PlaceSet, place: usize, is_in: bool) -> Result<(), AllocError>
+    ensures { OnOk result (IsPutIf (Some is_in) set.old set.new place) }
+{
+    if is_in { set.insert(place) } else { Ok(()) }
+}
