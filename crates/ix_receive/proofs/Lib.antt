@@ -3,3 +3,9 @@ mod Lookup
 mod Again
 mod Visits
 mod Received
+mod Expansions
+mod NextLinks
+mod Traversing
+mod Passings
+mod Receptions
+mod Refusals

@@ -46,7 +46,7 @@ module _ (job : JobMeaning) (sections : Blocks) where
   visits n = first_visits n job sections
 
   -- fewer visits are the first of more
-  visits-first : (n m : ℕ) → n ≤ m → visits n ≡ take n (visits m)
+  pub visits-first : (n m : ℕ) → n ≤ m → visits n ≡ take n (visits m)
   visits-first n m h = fewer-visits (is_entered job.selector) (residual_at job.selector) same_residual (sound_value sections) n m h [] (roots_from 0 job.roots)
 
   module _ (n : ℕ) (is : AreReceived n job sections) where
@@ -131,7 +131,7 @@ module _ (job : JobMeaning) (sections : Blocks) (p : List ℕ × List ℕ) (n : 
       (elim (bytes_eq e.0 p.0) as (λ b. (if b then Some e.1 else block_of es p.0) ≡ None → (if b then Some e.1 else block_of (es ++ p ∷ []) p.0) ≡ Some p.1)
       [ true ↦ λ g. absurd (cc g) | false ↦ λ g. block-last es g ]) h
 
-  section-block : block_of more p.0 ≡ Some p.1
+  pub section-block : block_of more p.0 ≡ Some p.1
   section-block = block-last sections (by (block_of sections p.0) refl) where
     by : (o : Option (List ℕ)) → block_of sections p.0 ≡ o → o ≡ None
     by None at = refl

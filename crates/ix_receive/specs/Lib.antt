@@ -1,2 +1,6 @@
 pub mod Own
 pub mod Receiving
+pub mod Missing
+pub mod Traversal
+pub mod Passing
+pub mod Reception

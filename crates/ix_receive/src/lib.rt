@@ -5,8 +5,32 @@
 //! alone shows whether it is complete for the job, with nothing else in it and in traversal order,
 //! but for blocks that the sender lacked.
 //!
-//! The crate has the definitions and the laws: `law::archive_is_its_own` is about what is exported,
-//! and `law::received_one_by_one` about how an archive is checked section by section, as it comes.
+//! A `Receiver` is given the sections of an archive one after another, and finds at each whether an
+//! archive that is its own can go on with it.
+//!
+//! ```rust
+//! let mut receiver = Receiver::new(alloc, &job, AllowMissing::none());
+//! for section in sections {
+//!     receiver.offer(section.cid, section.block)?;
+//! }
+//! let counts = receiver.finish()?;
+//! ```
+//!
+//! `law::archive_is_its_own` is about what is exported, and `law::received_one_by_one` about how an
+//! archive is checked section by section, as it comes.
 #![tactic(auto)]
 
+mod allow_missing;
+mod counts;
+mod fault;
 pub mod law;
+mod passing;
+mod receiver;
+mod request;
+mod section;
+mod traversal;
+
+pub use allow_missing::AllowMissing;
+pub use counts::Counts;
+pub use fault::ReceiveFault;
+pub use receiver::Receiver;

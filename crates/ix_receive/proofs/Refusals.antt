@@ -1,0 +1,89 @@
+-- Refused sections begin no archive that is its own.
+use Rattle.std.proofs.Common.{◌≡◌, ◌⊎◌, ℕ, suc, ◌≤◌, Bool, true, false, List, [], ◌∷◌, ◌++◌, refl, sym, ◌∙◌, ap, subst, arith}
+use Rattle.std.specs.Prelude.{Option, Some, None, is_some, ◌||◌, if◌then◌else◌, bytes_eq}
+use Rattle.std.specs.List.{Contains}
+use Rattle.std.proofs.lemmas.List.{map-append}
+use Rattle.std.proofs.lemmas.List.Elements.{Contains-push}
+use Rattle.ix_verdict.specs.declared.verdict.Verdict.{Verdict}
+use Rattle.ix_verdict.specs.Verdict.{verdict_with}
+use Rattle.ix_store.specs.Store.{Blocks, block_of, has_cid}
+use Rattle.ix_walk.specs.JobMeaning.{JobMeaning}
+use Rattle.ix_walk.specs.Once.{cids_of}
+use Rattle.ix_walk.proofs.Links.{cid_of}
+use Rattle.ix_walk.proofs.Reaches.{contains-in}
+use Rattle.ix_archive.specs.Archive.{is_sound}
+use Rattle.ix_receive.specs.declared.allow_missing.AllowMissing.{AllowMissing}
+use Rattle.ix_receive.specs.declared.fault.ReceiveFault.{ReceiveFault}
+use Rattle.ix_receive.specs.declared.fault.ReceiveFault.TheVariants.{Unsound, Repeated, OutOfOrder, NotAskedFor, Missing, Limit, Ended, Memory}
+use Rattle.ix_receive.specs.Receiving.{first_visits, AreReceived, IsNextSection}
+use Rattle.ix_receive.specs.Traversal.{visited}
+use Rattle.ix_receive.specs.Passing.{IsNotFound, IsNotAtEnd}
+use Rattle.ix_receive.specs.Reception.{reception_of, BeginsNoOwn, IsRefused, IsRightlyRefused, IsUnfinished}
+use Rattle.ix_receive.proofs.Received.{stored-visited, own-received}
+use Rattle.ix_receive.proofs.Receptions.{visited-more}
+
+-- a CID that is there has a block
+has-block : (store : Blocks) (c : List ℕ) → is_some (block_of store c) ≡ has_cid store c
+has-block [] c = refl
+has-block (e ∷ es) c = by (bytes_eq e.0 c) (has-block es c) where
+  by : (b : Bool) → is_some (block_of es c) ≡ has_cid es c → is_some (if b then Some e.1 else block_of es c) ≡ (b || has_cid es c)
+  by true h = refl
+  by false h = h
+
+-- the next section's CID is that of a visit
+next-in : (n : ℕ) (job : JobMeaning) (sections : Blocks) (p : List ℕ × List ℕ) → IsNextSection n job sections p → Contains (visited (suc n) job sections) p.0
+next-in n job sections p next =
+    let all : visited (suc n) job sections ≡ visited n job sections ++ p.0 ∷ [] = ap cids_of next.next ∙ map-append cid_of (first_visits n job sections) (next.visit ∷ []) ∙ ap (λ c. visited n job sections ++ c ∷ []) next.named in
+    subst (λ l. Contains l p.0) (sym all) (Contains-push (visited n job sections) p.0)
+
+module _ (job : JobMeaning) (allowed : AllowMissing) (sections : Blocks) (visits : ℕ) (p : List ℕ × List ℕ) (least : (m : ℕ) → AreReceived m job sections → visits ≤ m) where
+  -- where a section is next nowhere, no own archive goes on with it
+  no-own : ((n : ℕ) → suc n ≤ job.limit → AreReceived n job sections → IsNextSection n job sections p → ⊥) → (ended : Bool) → BeginsNoOwn (reception_of job allowed sections visits ended) p
+  no-own nowhere ended number after own = let r = own-received number job sections after p own in nowhere r.0 r.1 r.2 r.3
+
+  pub rightly : (ended : Bool) (fault : ReceiveFault) → IsRefused (reception_of job allowed sections visits ended) p fault → IsRightlyRefused (reception_of job allowed sections visits ended) p fault
+  rightly ended (Unsound v) h = no-own (λ n low received next. let bad : false ≡ true = sym h.1 ∙ ap is_sound h.0 ∙ next.sound in cc bad) ended
+  rightly ended Repeated h =
+      no-own (λ n low received next. next.first (contains-in p.0 (visited n job sections) (stored-visited job sections n received p.0 (has-block sections p.0 ∙ h)))) ended
+  rightly ended OutOfOrder h = no-own (λ n low received next. next.first (visited-more job sections visits n p.0 (least n received) h.1)) ended
+  rightly ended NotAskedFor h =
+      no-own (λ n low received next. h.1 (visited-more job sections (suc n) (suc job.limit) p.0 (omega (arith, low)) (next-in n job sections p next))) ended
+  rightly ended (Missing c) h = tt
+  rightly ended Limit h = no-own (λ n low received next. h.1 (visited-more job sections (suc n) job.limit p.0 low (next-in n job sections p next))) ended
+  rightly ended Ended h = tt
+  rightly ended Memory h = tt
+
+  -- the same where the first visit of its CID isn't found
+  pub rightly-not-found : (fault : ReceiveFault) → IsNotFound job allowed sections p.0 fault → IsRightlyRefused (reception_of job allowed sections visits false) p fault
+  rightly-not-found (Unsound v) h = absurd h
+  rightly-not-found Repeated h = absurd h
+  rightly-not-found OutOfOrder h = absurd h
+  rightly-not-found NotAskedFor h = rightly false NotAskedFor h
+  rightly-not-found (Missing c) h = tt
+  rightly-not-found Limit h = rightly false Limit h
+  rightly-not-found Ended h = absurd h
+  rightly-not-found Memory h = tt
+
+-- ---- a receiver
+
+-- it is refused, whether or not the receiver has ended
+pub refused : (job : JobMeaning) (allowed : AllowMissing) (sections : Blocks) (visits : ℕ) (ended : Bool) (p : List ℕ × List ℕ) (fault : ReceiveFault) → IsRefused (reception_of job allowed sections visits false) p fault → IsRefused (reception_of job allowed sections visits ended) p fault
+refused job allowed sections visits ended p (Unsound v) h = h
+refused job allowed sections visits ended p Repeated h = h
+refused job allowed sections visits ended p OutOfOrder h = h
+refused job allowed sections visits ended p NotAskedFor h = h
+refused job allowed sections visits ended p (Missing c) h = h
+refused job allowed sections visits ended p Limit h = h
+refused job allowed sections visits ended p Ended h = absurd (cc h)
+refused job allowed sections visits ended p Memory h = h
+
+-- the end is refused
+pub unfinished : (job : JobMeaning) (allowed : AllowMissing) (sections : Blocks) (visits : ℕ) (ended : Bool) (fault : ReceiveFault) → IsNotAtEnd job allowed sections fault → IsUnfinished (reception_of job allowed sections visits ended) fault
+unfinished job allowed sections visits ended (Unsound v) h = h
+unfinished job allowed sections visits ended Repeated h = h
+unfinished job allowed sections visits ended OutOfOrder h = h
+unfinished job allowed sections visits ended NotAskedFor h = h
+unfinished job allowed sections visits ended (Missing c) h = h
+unfinished job allowed sections visits ended Limit h = h
+unfinished job allowed sections visits ended Ended h = absurd h
+unfinished job allowed sections visits ended Memory h = h

@@ -1,0 +1,85 @@
+use Rattle.std.proofs.Common.{◌≡◌, ◌≤◌, ◌<◌, ◌+◌, ◌^◌, suc, List, ℕ, Bool, false, map, sym, ap, ◌∙◌, subst, refl, arith}
+use Rattle.std.specs.Prelude.{Option, Some, None, MatchOption, option_map}
+use Rattle.ix_lists.specs.Waiting.{IsNextLink}
+use Rattle.ix_receive.specs.declared.traversal.WaitingLink.{WaitingLink}
+use Rattle.ix_receive.specs.declared.traversal.Traversal.{Traversal}
+use Rattle.ix_receive.specs.Traversal.{as_pending, expanded_by, IsTraversed}
+use Rattle.ix_receive.specs.Passing.{IsPassed, IsStopped}
+use Rattle.ix_receive.proofs.Receptions.{before, too-many, no-link, no-more}
+use Rattle.ix_receive.proofs.passing.pass_all.Goals as goal
+
+pub returns-then-t-limit-clause-refused : goal.returns-then-t-limit-clause-refused
+returns-then-t-limit-clause-refused c =
+    let job = c.args.asked.now.job.now in
+    let allowed = c.args.asked.now.allowed in
+    let s = c.args.store.now in
+    let t : Traversal = c.loop-link.t in
+    let u : Traversal = record { expanded = t.expanded; links = c.next_link.new.links; roots = c.next_link.new.roots; visits = t.visits; missing = t.missing; absent = t.absent } in
+    let next = subst (λ (o : Option WaitingLink). IsNextLink job.selector (map as_pending t.links.items) t.roots.now (option_map as_pending o) (map as_pending u.links.items) u.roots.now) c.in-Some.is c.in_ok-link.ensures in
+    too-many job allowed s t u c.loop-link.invariant.1 (as_pending c.in-Some.link) next (c.if-t-limit.true ∙ c.limit.ensures)
+
+pub pass_link-requires-clause-few : goal.pass_link-requires-clause-few
+pass_link-requires-clause-few c =
+    let job = c.args.asked.now.job.now in
+    let allowed = c.args.asked.now.allowed in
+    let s = c.args.store.now in
+    let t : Traversal = c.loop-link.t in
+    let u : Traversal = record { expanded = t.expanded; links = c.next_link.new.links; roots = c.next_link.new.roots; visits = t.visits; missing = t.missing; absent = t.absent } in
+    let next = subst (λ (o : Option WaitingLink). IsNextLink job.selector (map as_pending t.links.items) t.roots.now (option_map as_pending o) (map as_pending u.links.items) u.roots.now) c.in-Some.is c.in_ok-link.ensures in
+    let link = before job allowed s t u c.loop-link.invariant.1 (as_pending c.in-Some.link) next refl refl refl refl (λ e. c.if-t-limit.false (e ∙ sym c.limit.ensures)) in
+    let within = link.within in
+    let limit = c.limit.ensures in
+    omega (arith, within, limit)
+
+pub pass_link-requires-clause-before : goal.pass_link-requires-clause-before
+pass_link-requires-clause-before c =
+    let job = c.args.asked.now.job.now in
+    let allowed = c.args.asked.now.allowed in
+    let s = c.args.store.now in
+    let t : Traversal = c.loop-link.t in
+    let u : Traversal = record { expanded = t.expanded; links = c.next_link.new.links; roots = c.next_link.new.roots; visits = t.visits; missing = t.missing; absent = t.absent } in
+    let next = subst (λ (o : Option WaitingLink). IsNextLink job.selector (map as_pending t.links.items) t.roots.now (option_map as_pending o) (map as_pending u.links.items) u.roots.now) c.in-Some.is c.in_ok-link.ensures in
+    before job allowed s t u c.loop-link.invariant.1 (as_pending c.in-Some.link) next refl refl refl refl (λ e. c.if-t-limit.false (e ∙ sym c.limit.ensures))
+
+pub returns-in-Some-2-clause-refused : goal.returns-in-Some-2-clause-refused
+returns-in-Some-2-clause-refused c =
+    let job = c.args.asked.now.job.now in
+    let allowed = c.args.asked.now.allowed in
+    let s = c.args.store.now in
+    let t : Traversal = c.loop-link.t in
+    let f = as_pending c.in-Some.link in
+    let u : Traversal = record { expanded = t.expanded; links = c.next_link.new.links; roots = c.next_link.new.roots; visits = t.visits; missing = t.missing; absent = t.absent } in
+    let told = subst (λ (o : Option (List ℕ)). MatchOption o (IsPassed job allowed s f u c.pass_link.new.t) (IsStopped job allowed s f u)) c.in-Some-2.is c.in_ok-missing.ensures in
+    (t.visits, told.needed)
+
+pub loop-link-preserved : goal.loop-link-preserved
+loop-link-preserved c =
+    let job = c.args.asked.now.job.now in
+    let allowed = c.args.asked.now.allowed in
+    let s = c.args.store.now in
+    let t : Traversal = c.loop-link.t in
+    let f = as_pending c.in-Some.link in
+    let u : Traversal = record { expanded = t.expanded; links = c.next_link.new.links; roots = c.next_link.new.roots; visits = t.visits; missing = t.missing; absent = t.absent } in
+    let told = subst (λ (o : Option (List ℕ)). MatchOption o (IsPassed job allowed s f u c.pass_link.new.t) (IsStopped job allowed s f u)) c.in_default-2.is c.in_ok-missing.ensures in
+    let one = told.one in
+    let later = c.loop-link.invariant.0 in
+    (omega (arith, one, later), told.passing)
+
+pub returns-clause-whole : goal.returns-clause-whole
+returns-clause-whole c =
+    let job = c.args.asked.now.job.now in
+    let allowed = c.args.asked.now.allowed in
+    let s = c.args.store.now in
+    let t : Traversal = c.loop-link.t in
+    let u : Traversal = record { expanded = t.expanded; links = c.next_link.new.links; roots = c.next_link.new.roots; visits = t.visits; missing = t.missing; absent = t.absent } in
+    let next = subst (λ (o : Option WaitingLink). IsNextLink job.selector (map as_pending t.links.items) t.roots.now (option_map as_pending o) (map as_pending u.links.items) u.roots.now) c.in_default.is c.in_ok-link.ensures in
+    let none = no-link job allowed s t u c.loop-link.invariant.1 next in
+    record {
+      later = c.loop-link.invariant.0;
+      passing = record {
+        sound = c.loop-link.invariant.1.sound;
+        traversed = subst (IsTraversed t.visits job s (expanded_by t.expanded)) (none ∙ sym (no-more job s t u next)) c.loop-link.invariant.1.traversed;
+        missing = c.loop-link.invariant.1.missing;
+      };
+      ends = no-more job s t u next;
+    }

@@ -1,0 +1,115 @@
+-- Going on with a traversal: past links whose blocks are here, or may be missing.
+use Rattle.std.specs.Prelude.{◌≡◌, ℕ, suc, ◌+◌, ◌^◌, ◌<◌, ◌≤◌, Bool, true, false, List, [], ◌∷◌, ◌++◌, ◌||◌, bytes_eq}
+use Rattle.std.specs.Bool.{MatchBool}
+use Rattle.std.specs.List.{Contains, count_by}
+use Rattle.std.specs.Ordering.{nat_cmp}
+use Rattle.std.specs.Cmp.Lexicographic.{slice_cmp}
+use Rattle.std.specs.BTreeSet.{BTreeSet, contains}
+use Rattle.ix_store.specs.Store.{Blocks}
+use Rattle.ix_walk.specs.declared.subtree.PendingLink.{PendingLink}
+use Rattle.ix_walk.specs.JobMeaning.{JobMeaning}
+use Rattle.ix_walk.specs.Once.{cids_of}
+use Rattle.ix_walk.specs.Visits.{arrivals_of, is_over_limit}
+use Rattle.ix_archive.specs.Laws.{once}
+use Rattle.ix_receive.specs.declared.allow_missing.AllowMissing.{AllowMissing}
+use Rattle.ix_receive.specs.declared.fault.ReceiveFault.{ReceiveFault}
+use Rattle.ix_receive.specs.declared.fault.ReceiveFault.TheVariants.{Unsound, Repeated, OutOfOrder, NotAskedFor, Missing, Limit, Ended, Memory}
+use Rattle.ix_receive.specs.declared.traversal.Traversal.{Traversal}
+use Rattle.ix_receive.specs.Missing.{may_lack, lacks_block}
+use Rattle.ix_receive.specs.Traversal.{AreSound, visited, expanded_by, IsTraversed, links_of}
+
+-- a set has a CID
+abbrev pub has : BTreeSet (List ℕ) → List ℕ → Bool
+has set c = contains (slice_cmp nat_cmp) set c
+
+-- these CIDs that were visited may lack their blocks
+abbrev pub MayLack : JobMeaning → AllowMissing → Blocks → List (List ℕ) → Type 0
+MayLack job allowed sections cids = (c : List ℕ) → Contains cids c → lacks_block sections c ≡ true → may_lack allowed job.roots c ≡ true
+
+-- what is known after so many visits: the CIDs visited whose blocks are missing, which may be, and how many visits were of these
+pub record KnowsMissing (n : ℕ) (job : JobMeaning) (allowed : AllowMissing) (sections : Blocks) (missing : BTreeSet (List ℕ)) (absent : ℕ) : Type 0 where
+  pub recorded : (c : List ℕ) → Contains (visited n job sections) c → lacks_block sections c ≡ true → has missing c ≡ true
+  pub met : (c : List ℕ) → has missing c ≡ true → Contains (visited n job sections) c
+  pub may : MayLack job allowed sections (visited n job sections)
+  pub count : absent ≡ count_by (lacks_block sections) (visited n job sections)
+
+-- a set has one CID more than another
+abbrev pub HasAlso : BTreeSet (List ℕ) → List ℕ → BTreeSet (List ℕ) → Type 0
+HasAlso new c old = (d : List ℕ) → has new d ≡ (bytes_eq c d || has old d)
+
+-- the visit of a CID was noted if its block is missing, and this may be; or it is missing and may not be
+abbrev pub IsNoted : AllowMissing → List (List ℕ) → Blocks → List ℕ → BTreeSet (List ℕ) → ℕ → BTreeSet (List ℕ) → ℕ → Bool → Type 0
+IsNoted allowed roots sections c old before new after true =
+    MatchBool (lacks_block sections c) ((may_lack allowed roots c ≡ true) × HasAlso new c old × (after ≡ before + 1)) ((new ≡ old) × (after ≡ before))
+IsNoted allowed roots sections c old before new after false = (lacks_block sections c ≡ true) × (may_lack allowed roots c ≡ false)
+
+-- a traversal has made its visits
+pub record IsPassing (job : JobMeaning) (allowed : AllowMissing) (sections : Blocks) (t : Traversal) : Type 0 where
+  pub sound : AreSound sections
+  pub traversed : IsTraversed t.visits job sections (expanded_by t.expanded) (links_of job.selector t)
+  pub missing : KnowsMissing t.visits job allowed sections t.missing t.absent
+
+-- it is before the visit of a link, which is within the limit
+pub record IsBefore (job : JobMeaning) (allowed : AllowMissing) (sections : Blocks) (f : PendingLink) (t : Traversal) : Type 0 where
+  pub sound : AreSound sections
+  pub within : t.visits < job.limit
+  pub traversed : IsTraversed t.visits job sections (expanded_by t.expanded) (f ∷ links_of job.selector t)
+  pub missing : KnowsMissing t.visits job allowed sections t.missing t.absent
+
+-- after so many visits the next is of a CID whose block is missing and may not be, the first of such
+pub record IsNeeded (n : ℕ) (job : JobMeaning) (allowed : AllowMissing) (sections : Blocks) (c : List ℕ) : Type 0 where
+  pub within : n < job.limit
+  pub next : visited (suc n) job sections ≡ visited n job sections ++ c ∷ []
+  pub lacks : lacks_block sections c ≡ true
+  pub needed : may_lack allowed job.roots c ≡ false
+  pub first : MayLack job allowed sections (visited n job sections)
+
+-- a link isn't passed, since its block is missing and may not be
+pub record IsStopped (job : JobMeaning) (allowed : AllowMissing) (sections : Blocks) (f : PendingLink) (old : Traversal) (c : List ℕ) : Type 0 where
+  pub named : c ≡ f.cid
+  pub needed : IsNeeded old.visits job allowed sections c
+
+-- one more visit was made, of this link
+pub record IsPassed (job : JobMeaning) (allowed : AllowMissing) (sections : Blocks) (f : PendingLink) (old new : Traversal) : Type 0 where
+  pub one : new.visits ≡ old.visits + 1
+  pub passing : IsPassing job allowed sections new
+  pub last : visited new.visits job sections ≡ visited old.visits job sections ++ f.cid ∷ []
+
+-- a traversal went on to the first visit of a CID, which is that of this link
+pub record IsFound (job : JobMeaning) (allowed : AllowMissing) (sections : Blocks) (c : List ℕ) (f : PendingLink) (old new : Traversal) : Type 0 where
+  pub later : old.visits ≤ new.visits
+  pub few : new.visits + 1 < 2 ^ 32
+  pub before : IsBefore job allowed sections f new
+  pub named : f.cid ≡ c
+  pub first : Contains (visited new.visits job sections) c → ⊥
+
+-- it didn't come to a visit of the CID, for this reason
+abbrev pub IsNotFound : JobMeaning → AllowMissing → Blocks → List ℕ → ReceiveFault → Type 0
+IsNotFound job allowed sections c (Unsound v) = ⊥
+IsNotFound job allowed sections c Repeated = ⊥
+IsNotFound job allowed sections c OutOfOrder = ⊥
+IsNotFound job allowed sections c NotAskedFor =
+    (is_over_limit sections (once job) ≡ false) × (Contains (cids_of (arrivals_of sections (once job))) c → ⊥)
+IsNotFound job allowed sections c (Missing d) =
+    (n : ℕ) × IsNeeded n job allowed sections d × (Contains (visited (suc n) job sections) c → ⊥)
+IsNotFound job allowed sections c Limit =
+    (is_over_limit sections (once job) ≡ true) × (Contains (visited job.limit job sections) c → ⊥)
+IsNotFound job allowed sections c Ended = ⊥
+IsNotFound job allowed sections c Memory = Unit {0}
+
+-- a traversal has made all visits
+pub record IsAtEnd (job : JobMeaning) (allowed : AllowMissing) (sections : Blocks) (old new : Traversal) : Type 0 where
+  pub later : old.visits ≤ new.visits
+  pub passing : IsPassing job allowed sections new
+  pub ends : links_of job.selector new ≡ []
+
+-- it didn't come to its end, for this reason
+abbrev pub IsNotAtEnd : JobMeaning → AllowMissing → Blocks → ReceiveFault → Type 0
+IsNotAtEnd job allowed sections (Unsound v) = ⊥
+IsNotAtEnd job allowed sections Repeated = ⊥
+IsNotAtEnd job allowed sections OutOfOrder = ⊥
+IsNotAtEnd job allowed sections NotAskedFor = ⊥
+IsNotAtEnd job allowed sections (Missing d) = (n : ℕ) × IsNeeded n job allowed sections d
+IsNotAtEnd job allowed sections Limit = is_over_limit sections (once job) ≡ true
+IsNotAtEnd job allowed sections Ended = ⊥
+IsNotAtEnd job allowed sections Memory = Unit {0}

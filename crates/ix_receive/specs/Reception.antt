@@ -1,0 +1,122 @@
+-- A receiver as contracts see it, and what it says of a section and of the end of an archive.
+use Rattle.std.specs.Prelude.{◌≡◌, ℕ, suc, ◌<◌, ◌≤◌, Bool, true, false, List, [], ◌∷◌, ◌++◌, length, Some, refl}
+use Rattle.std.specs.List.{Contains, count_by}
+use Rattle.std.specs.Coded.{Coded, code_by, coded×, coded_ℕ, coded_bool, coded_list}
+use Rattle.ix_verdict.specs.Verdict.{verdict_with}
+use Rattle.ix_store.specs.Store.{Blocks, has_cid}
+use Rattle.ix_walk.specs.JobMeaning.{JobMeaning, coded_job}
+use Rattle.ix_walk.specs.Once.{cids_of}
+use Rattle.ix_walk.specs.Visits.{arrivals_of, is_over_limit}
+use Rattle.ix_archive.specs.Archive.{is_sound}
+use Rattle.ix_archive.specs.Laws.{once}
+use Rattle.ix_receive.specs.declared.allow_missing.AllowMissing.{AllowMissing}
+use Rattle.ix_receive.specs.declared.fault.ReceiveFault.{ReceiveFault}
+use Rattle.ix_receive.specs.declared.fault.ReceiveFault.TheVariants.{Unsound, Repeated, OutOfOrder, NotAskedFor, Missing, Limit, Ended, Memory}
+use Rattle.ix_receive.specs.declared.counts.Counts.{Counts}
+use Rattle.ix_receive.specs.Own.{AreTheirOwn}
+use Rattle.ix_receive.specs.Receiving.{AreReceived, IsNextSection}
+use Rattle.ix_receive.specs.Missing.{lacks_block}
+use Rattle.ix_receive.specs.Traversal.{visited}
+use Rattle.ix_receive.specs.Passing.{MayLack, IsPassing, IsNeeded}
+use Rattle.ix_receive.specs.declared.traversal.Traversal.{Traversal}
+
+-- a receiver: the job, which blocks may be missing, the sections received, after how many visits, and whether it has ended
+pub record Reception : Type 0 where
+  pub job : JobMeaning
+  pub allowed : AllowMissing
+  pub sections : Blocks
+  pub visits : ℕ
+  pub ended : Bool
+
+abbrev pub coded_reception : Coded Reception
+coded_reception =
+    code_by (JobMeaning × ((Bool × Bool) × (Blocks × (ℕ × Bool)))) (coded× coded_job (coded× (coded× coded_bool coded_bool) (coded× (coded_list (coded× (coded_list coded_ℕ) (coded_list coded_ℕ))) (coded× coded_ℕ coded_bool))))
+    (λ r. (r.job, ((r.allowed.raw, r.allowed.dag_cbor), (r.sections, (r.visits, r.ended)))))
+    (λ p. record { job = p.0; allowed = record { raw = p.1.0.0; dag_cbor = p.1.0.1 }; sections = p.1.1.0; visits = p.1.1.1.0; ended = p.1.1.1.1 }) (λ _. refl)
+
+-- a receiver of an archive of this job, with these sections
+abbrev pub reception_of : JobMeaning → AllowMissing → Blocks → ℕ → Bool → Reception
+reception_of job allowed sections visits ended =
+    record { job = job; allowed = allowed; sections = sections; visits = visits; ended = ended }
+
+-- nothing was received
+abbrev pub nothing_received : JobMeaning → AllowMissing → Reception
+nothing_received job allowed = reception_of job allowed [] 0 false
+
+-- what a receiver keeps: its sections were received after the visits of its traversal, and after no fewer
+pub record IsReceiving (job : JobMeaning) (allowed : AllowMissing) (sections : Blocks) (t : Traversal) : Type 0 where
+  pub received : AreReceived t.visits job sections
+  pub least : (m : ℕ) → AreReceived m job sections → t.visits ≤ m
+  pub passing : IsPassing job allowed sections t
+
+-- After so many visits a section may be next: they are within the limit, no fewer than before, and lead only to blocks that are here
+-- or may be missing.
+pub record MayBeNext (job : JobMeaning) (allowed : AllowMissing) (sections : Blocks) (visits : ℕ) (p : List ℕ × List ℕ) (n : ℕ) : Type 0 where
+  pub later : visits ≤ n
+  pub within : n < job.limit
+  pub next : IsNextSection n job sections p
+  pub may : MayLack job allowed sections (visited n job sections)
+
+-- it was received, by what a receiver keeps before and after
+pub record IsReceived (job : JobMeaning) (allowed : AllowMissing) (sections : Blocks) (visits : ℕ) (p : List ℕ × List ℕ) (more : Blocks) (t : Traversal) : Type 0 where
+  pub place : ℕ
+  pub next : MayBeNext job allowed sections visits p place
+  pub added : more ≡ sections ++ p ∷ []
+  pub visits_now : t.visits ≡ suc place
+  pub receiving : IsReceiving job allowed more t
+
+-- a section was received: it is next after some visits, and the last one that is received after its own
+pub record Receives (old : Reception) (p : List ℕ × List ℕ) (new : Reception) : Type 0 where
+  pub place : ℕ
+  pub next : MayBeNext old.job old.allowed old.sections old.visits p place
+  pub received : AreReceived (suc place) old.job (old.sections ++ p ∷ [])
+  pub after : new ≡ reception_of old.job old.allowed (old.sections ++ p ∷ []) (suc place) false
+
+-- why a section is refused
+abbrev pub IsRefused : Reception → List ℕ × List ℕ → ReceiveFault → Type 0
+IsRefused r p (Unsound v) = (v ≡ verdict_with p.0 (Some p.1)) × (is_sound v ≡ false)
+IsRefused r p Repeated = has_cid r.sections p.0 ≡ true
+IsRefused r p OutOfOrder = (has_cid r.sections p.0 ≡ false) × Contains (visited r.visits r.job r.sections) p.0
+IsRefused r p NotAskedFor =
+    (is_over_limit r.sections (once r.job) ≡ false) × (Contains (cids_of (arrivals_of r.sections (once r.job))) p.0 → ⊥)
+IsRefused r p (Missing c) =
+    (n : ℕ) × IsNeeded n r.job r.allowed r.sections c × (Contains (visited (suc n) r.job r.sections) p.0 → ⊥)
+IsRefused r p Limit =
+    (is_over_limit r.sections (once r.job) ≡ true) × (Contains (visited r.job.limit r.job r.sections) p.0 → ⊥)
+IsRefused r p Ended = r.ended ≡ true
+IsRefused r p Memory = Unit {0}
+
+-- no sections that are their own begin with those received and this one
+abbrev pub BeginsNoOwn : Reception → List ℕ × List ℕ → Type 0
+BeginsNoOwn r p = (number : ℕ) (after : Blocks) → AreTheirOwn number (once r.job) (r.sections ++ p ∷ after) → ⊥
+
+-- A section is refused only where no archive that is its own begins so, except for a block that is missing and may not be, by a
+-- receiver that has ended, or out of memory.
+abbrev pub IsRightlyRefused : Reception → List ℕ × List ℕ → ReceiveFault → Type 0
+IsRightlyRefused r p (Unsound v) = BeginsNoOwn r p
+IsRightlyRefused r p Repeated = BeginsNoOwn r p
+IsRightlyRefused r p OutOfOrder = BeginsNoOwn r p
+IsRightlyRefused r p NotAskedFor = BeginsNoOwn r p
+IsRightlyRefused r p (Missing c) = Unit {0}
+IsRightlyRefused r p Limit = BeginsNoOwn r p
+IsRightlyRefused r p Ended = Unit {0}
+IsRightlyRefused r p Memory = Unit {0}
+
+-- The sections are their own archive, and no visit leads to a block that is missing and may not be. The counts are those of the
+-- visits over them.
+pub record IsWhole (r : Reception) (counts : Counts) : Type 0 where
+  pub own : (number : ℕ) → AreTheirOwn number (once r.job) r.sections
+  pub may : MayLack r.job r.allowed r.sections (cids_of (arrivals_of r.sections (once r.job)))
+  pub visits : counts.visits ≡ length (arrivals_of r.sections (once r.job))
+  pub missing : counts.missing ≡ count_by (lacks_block r.sections) (cids_of (arrivals_of r.sections (once r.job)))
+
+-- why the end of an archive is refused
+abbrev pub IsUnfinished : Reception → ReceiveFault → Type 0
+IsUnfinished r (Unsound v) = ⊥
+IsUnfinished r Repeated = ⊥
+IsUnfinished r OutOfOrder = ⊥
+IsUnfinished r NotAskedFor = ⊥
+IsUnfinished r (Missing c) = (n : ℕ) × IsNeeded n r.job r.allowed r.sections c
+IsUnfinished r Limit = is_over_limit r.sections (once r.job) ≡ true
+IsUnfinished r Ended = r.ended ≡ true
+IsUnfinished r Memory = Unit {0}

@@ -1,0 +1,188 @@
+//! The receiver.
+
+ghost use Rattle.std.specs.Prelude.{◌≡◌, true, false, IfOk, IfErr, OnOk, OnErr};
+ghost use Rattle.ix_archive.specs.Archive.{is_sound};
+ghost use Rattle.ix_receive.specs.Reception.{nothing_received, IsReceiving, IsReceived, Receives, reception_of, IsRefused, IsRightlyRefused, IsWhole, IsUnfinished};
+
+use crate::allow_missing::AllowMissing;
+use crate::counts::Counts;
+use crate::fault::ReceiveFault;
+use crate::passing::{advance_to, pass_all};
+use crate::request::Request;
+use crate::section::verdict_on;
+use crate::traversal::{Traversal, expand_link};
+use ix_cid::Cid;
+use ix_selector::law;
+use ix_store::Store;
+use ix_verdict::Verdict;
+use ix_walk::Job;
+use std::alloc::Global;
+use std::collections::BTreeSet;
+use std::marker::Model;
+
+/// What has come of an archive: it is given the sections one after another, and says of each whether
+/// the archive of a job can go on with it.
+///
+/// It advances the job's traversal, with link-visit-once, only as far as what has come.
+pub struct Receiver<'s> {
+    asked: Request<'s>,
+    store: Store,
+    traversal: Traversal<'s>,
+    ended: bool,
+}
+
+// Written by hand: a derived drop is inlined in each function that drops one, at each of its exits.
+impl<'s> Drop for Receiver<'s> {
+    fn drop(self) {
+        let Receiver {
+            asked,
+            store,
+            traversal,
+            ended: _,
+        } = self;
+        drop(asked);
+        drop(store);
+        drop(traversal);
+    }
+}
+
+impl<'s> Model for Receiver<'s> {
+    ghost use Rattle.ix_receive.specs.Reception.{Reception, coded_reception};
+
+    ghost Value = { Reception };
+
+    ghost coded = { coded_reception };
+
+    ghost use Rattle.std.specs.Prelude.{◌≡◌, false};
+    ghost use Rattle.ix_receive.specs.Reception.{reception_of, IsReceiving};
+
+    ghost view = { λ r. reception_of r.asked.job.now r.asked.allowed r.store r.traversal.visits r.ended };
+
+    ghost invariant = { λ r. r.ended ≡ false → IsReceiving r.asked.job.now r.asked.allowed r.store r.traversal };
+}
+
+// Whether a section with this verdict is sound.
+fn is_sound(verdict: Verdict) -> bool
+    ensures { result ≡ is_sound verdict }
+{
+    match verdict {
+        Verdict::Sound => true,
+        Verdict::Codec
+        | Verdict::Hash
+        | Verdict::Missing
+        | Verdict::Damaged
+        | Verdict::Malformed
+        | Verdict::Inline => false,
+    }
+}
+
+// Receives the next section, if it is sound, and the first visit of its CID is still to come.
+fn receive<'s>(
+    asked: &Request<'s>,
+    store: &mut Store,
+    t: &mut Traversal<'s>,
+    cid: Cid,
+    block: &[u8],
+) -> Result<(), ReceiveFault>
+    requires { IsReceiving asked.now.job.now asked.now.allowed store.old t.old }
+    ensures received { OnOk result (IsReceived asked.now.job.now asked.now.allowed store.old t.old.visits
+        (cid, block.now) store.new t.new) }
+    ensures refused { IfErr result (IsRefused
+        (reception_of asked.now.job.now asked.now.allowed store.old t.old.visits false) (cid, block.now)) }
+    ensures rightly { IfErr result (IsRightlyRefused
+        (reception_of asked.now.job.now asked.now.allowed store.old t.old.visits false) (cid, block.now)) }
+{
+    let verdict = verdict_on(&cid, block);
+    if !is_sound(verdict) {
+        return Err(ReceiveFault::Unsound(verdict));
+    }
+    if store.find(&cid).is_some() {
+        return Err(ReceiveFault::Repeated);
+    }
+    if t.missing.contains(&cid) {
+        return Err(ReceiveFault::OutOfOrder);
+    }
+    let link = advance_to(asked, store, &cid, t)?;
+    store.add_copy(cid, block)?;
+    expand_link(asked.alloc, store, link, &mut t.expanded, &mut t.links)?;
+    t.visits += 1;
+    Ok(())
+}
+
+impl<'s> Receiver<'s> {
+    /// Creates a receiver of an archive of a job, which has received nothing. It takes the job's
+    /// traversal with link-visit-once, whichever way the job asks for. Blocks may be missing as
+    /// `allowed` says.
+    pub fn new(alloc: Global, job: &'s Job, allowed: AllowMissing) -> Receiver<'s>
+        ensures { result ≡ nothing_received job.now allowed }
+    {
+        law::residual_is_the_rest();
+        law::selector_is_one(job.selector());
+        Receiver {
+            asked: Request {
+                alloc,
+                job,
+                allowed,
+            },
+            store: Store::new(alloc),
+            traversal: Traversal {
+                expanded: BTreeSet::new(alloc),
+                links: Vec::new(alloc),
+                roots: job.roots(),
+                visits: 0,
+                missing: BTreeSet::new(alloc),
+                absent: 0,
+            },
+            ended: false,
+        }
+    }
+
+    /// Receives the next section of the archive: a CID and its block. After an error nothing more is
+    /// received.
+    pub fn offer(&mut self, cid: Cid, block: &[u8]) -> Result<(), ReceiveFault>
+        ensures received { OnOk result (Receives self.old (cid, block.now) self.new) }
+        ensures refused { IfErr result (IsRefused self.old (cid, block.now)) }
+        ensures rightly { IfErr result (IsRightlyRefused self.old (cid, block.now)) }
+        ensures ended { OnErr result (self.new.ended ≡ true) }
+    {
+        if self.ended {
+            return Err(ReceiveFault::Ended);
+        }
+        self.ended = true;
+        receive(
+            &self.asked,
+            &mut self.store,
+            &mut self.traversal,
+            cid,
+            block,
+        )?;
+        self.ended = false;
+        Ok(())
+    }
+
+    /// Ends the archive. The sections are then its own archive, and no block is missing that may
+    /// not be.
+    pub fn finish(self) -> Result<Counts, ReceiveFault>
+        ensures whole { IfOk result (IsWhole self.entry) }
+        ensures refused { IfErr result (IsUnfinished self.entry) }
+    {
+        let mut receiver = self;
+        receiver.close()
+    }
+
+    // Makes the visits that are left, after which nothing more is received.
+    fn close(&mut self) -> Result<Counts, ReceiveFault>
+        ensures whole { IfOk result (IsWhole self.old) }
+        ensures refused { IfErr result (IsUnfinished self.old) }
+    {
+        if self.ended {
+            return Err(ReceiveFault::Ended);
+        }
+        self.ended = true;
+        pass_all(&self.asked, &self.store, &mut self.traversal)?;
+        Ok(Counts {
+            visits: self.traversal.visits,
+            missing: self.traversal.absent,
+        })
+    }
+}
