@@ -1,12 +1,11 @@
 -- Passing links whose blocks are here, or may be missing.
-use Rattle.std.proofs.Common.{◌≡◌, ◌⊎◌, inl, inr, ℕ, suc, ◌+◌, ◌<◌, ◌≤◌, Bool, true, false, cond, List, [], ◌∷◌, ◌++◌, length, map, reverse, refl, sym, ◌∙◌, ap, subst, append_assoc, arith}
-use Rattle.std.specs.Prelude.{Option, Some, None, ◌||◌, ◌&&◌, if◌then◌else◌, bytes_eq, is_none, is_some, not}
+use Rattle.std.proofs.Common.{◌≡◌, ◌⊎◌, inl, inr, ℕ, suc, ◌+◌, ◌≤◌, Bool, true, false, cond, List, [], ◌∷◌, ◌++◌, map, reverse, refl, sym, ◌∙◌, ap, subst, append_assoc, arith}
+use Rattle.std.specs.Prelude.{Option, Some, None, ◌||◌, if◌then◌else◌, bytes_eq, is_none, is_some, not}
 use Rattle.std.specs.Bool.{MatchBool}
-use Rattle.std.specs.List.{Contains, count_by, sum_by}
+use Rattle.std.specs.List.{Contains, count_by}
 use Rattle.std.specs.Ordering.{nat_cmp, is_eq}
 use Rattle.std.specs.Cmp.Lexicographic.{slice_cmp}
-use Rattle.std.specs.BTreeMap.{is_at}
-use Rattle.std.specs.BTreeSet.{BTreeSet, contains, Updates}
+use Rattle.std.specs.BTreeSet.{BTreeSet, Updates}
 use Rattle.std.proofs.lemmas.Map.Text.{is_eq-slice_cmp}
 use Rattle.std.proofs.lemmas.List.Elements.{Contains-append_left, Contains-push, Contains-push_cases}
 use Rattle.std.proofs.lemmas.List.Sums.{sum_by-append, count_by-le-length}
@@ -25,13 +24,13 @@ use Rattle.ix_verdict.specs.Needed.{needed_by, needed_of}
 use Rattle.ix_store.specs.Store.{Blocks, block_of, position_after, position_of}
 use Rattle.ix_walk.specs.declared.subtree.PendingLink.{PendingLink}
 use Rattle.ix_walk.specs.JobMeaning.{JobMeaning}
-use Rattle.ix_walk.specs.Walking.{Going, data_inside, expanded_after, links_inside, root_link, found_links}
-use Rattle.ix_lists.specs.Waiting.{all_waiting, IsNextLink}
+use Rattle.ix_walk.specs.Walking.{Going, data_inside, links_inside, root_link}
+use Rattle.ix_lists.specs.Waiting.{all_waiting}
 use Rattle.ix_receive.specs.declared.allow_missing.AllowMissing.{AllowMissing}
 use Rattle.ix_receive.specs.declared.traversal.Traversal.{Traversal}
 use Rattle.ix_receive.specs.Missing.{may_lack, lacks_block}
 use Rattle.ix_receive.specs.Traversal.{visited, expanded_by, links_of, IsTraversed, Expands, as_pending}
-use Rattle.ix_receive.specs.Passing.{has, MayLack, KnowsMissing, HasAlso, IsNoted, IsPassing, IsBefore, IsStopped, IsPassed}
+use Rattle.ix_receive.specs.Passing.{has, KnowsMissing, HasAlso, IsNoted, IsBefore, IsStopped, IsPassed}
 use Rattle.ix_receive.proofs.Expansions.{cond-or}
 use Rattle.ix_receive.proofs.Traversing.{visits-one, steps}
 

@@ -1,7 +1,7 @@
 -- A section is received, or refused.
-use Rattle.std.proofs.Common.{◌≡◌, ◌⊎◌, inl, inr, ℕ, suc, ◌+◌, ◌<◌, ◌≤◌, Bool, true, false, cond, List, [], ◌∷◌, ◌++◌, length, map, take, drop, take-append-drop, reverse, refl, sym, ◌∙◌, ap, subst, arith, ltb-true, ltb-false}
+use Rattle.std.proofs.Common.{◌≡◌, ◌⊎◌, inl, inr, ℕ, suc, ◌+◌, ◌<◌, ◌≤◌, Bool, true, false, cond, List, [], ◌∷◌, ◌++◌, map, drop, take-append-drop, refl, sym, ◌∙◌, ap, subst, arith, ltb-true, ltb-false}
 use Rattle.std.specs.Prelude.{Option, Some, None, is_some, nat_lt, ◌||◌, if◌then◌else◌, bytes_eq}
-use Rattle.std.specs.List.{AllByRecursion, Contains, count_by, list_any}
+use Rattle.std.specs.List.{Contains, count_by, list_any}
 use Rattle.std.specs.Ordering.{nat_cmp}
 use Rattle.std.specs.Cmp.Lexicographic.{slice_cmp}
 use Rattle.std.specs.BTreeMap.{is_at}
@@ -16,16 +16,16 @@ use Rattle.ix_cid.specs.declared.hash_function.HashFunction.TheVariants.{Identit
 use Rattle.ix_verdict.specs.declared.verdict.Verdict.{Verdict}
 use Rattle.ix_verdict.specs.declared.verdict.Verdict.TheVariants.{Codec, Hash, Missing, Damaged, Malformed, Sound, Inline}
 use Rattle.ix_verdict.specs.Verdict.{has_codec, verdict_by, verdict_with, is_missing, is_no_data}
-use Rattle.ix_store.specs.Store.{Blocks, block_of, has_cid, with_block, position_after, position_of}
+use Rattle.ix_store.specs.Store.{Blocks, block_of, has_cid, with_block, position_of}
 use Rattle.ix_store.proofs.Stores.{is_some-position}
 use Rattle.ix_walk.specs.declared.subtree.PendingLink.{PendingLink}
 use Rattle.ix_walk.specs.JobMeaning.{JobMeaning}
 use Rattle.ix_walk.specs.Arrivals.{Arrival}
 use Rattle.ix_walk.specs.Once.{cids_of}
 use Rattle.ix_walk.specs.Visits.{arrivals_of, is_over_limit}
-use Rattle.ix_walk.specs.Walking.{Going, nothing_expanded, data_inside, links_inside, root_link}
+use Rattle.ix_walk.specs.Walking.{data_inside, links_inside, root_link}
 use Rattle.ix_walk.proofs.Firsts.{In}
-use Rattle.ix_walk.proofs.Links.{cid_of, all-append}
+use Rattle.ix_walk.proofs.Links.{cid_of}
 use Rattle.ix_walk.proofs.Reaches.{contains-in, in-contains}
 use Rattle.ix_walk.proofs.Starts.{IsFollowed}
 use Rattle.ix_lists.specs.Waiting.{all_waiting, IsNextLink}
@@ -36,10 +36,10 @@ use Rattle.ix_receive.specs.declared.counts.Counts.{Counts}
 use Rattle.ix_receive.specs.declared.traversal.Traversal.{Traversal}
 use Rattle.ix_receive.specs.Receiving.{first_visits, AreReceived, IsNextSection}
 use Rattle.ix_receive.specs.Missing.{lacks_block}
-use Rattle.ix_receive.specs.Traversal.{visited, expanded_by, links_of, AreSound, HasSameAt, IsTraversed, Expands, as_pending}
-use Rattle.ix_receive.specs.Passing.{has, MayLack, KnowsMissing, IsPassing, IsBefore, IsNeeded, IsStopped, IsFound, IsAtEnd, IsPassed}
-use Rattle.ix_receive.specs.Reception.{IsReceiving, MayBeNext, IsReceived, IsWhole, reception_of}
-use Rattle.ix_receive.proofs.Received.{visits-first, stored-visited, received-stay, received-own, next-received, next-visits, section-block}
+use Rattle.ix_receive.specs.Traversal.{visited, expanded_by, links_of, IsTraversed, Expands, as_pending}
+use Rattle.ix_receive.specs.Passing.{has, KnowsMissing, IsPassing, IsBefore, IsNeeded, IsStopped, IsFound, IsAtEnd, IsPassed}
+use Rattle.ix_receive.specs.Reception.{IsReceiving, IsReceived, IsWhole, reception_of}
+use Rattle.ix_receive.proofs.Received.{visits-first, stored-visited, received-stay, received-own, next-received, section-block}
 use Rattle.ix_receive.proofs.Expansions.{expanded-none}
 use Rattle.ix_receive.proofs.Traversing.{begins, visits-one, next-visit, steps, kept-block, grown-visits, grows, ends-visits, ends-count, ends-within, over}
 use Rattle.ix_receive.proofs.Passings.{knows-there, put-links}

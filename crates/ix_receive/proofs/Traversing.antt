@@ -1,5 +1,5 @@
 -- A traversal by lists, from visit to visit, over sections that grow.
-use Rattle.std.proofs.Common.{◌≡◌, ◌⊎◌, inl, inr, ℕ, zero, suc, ◌+◌, ◌-◌, ◌≤◌, ◌<◌, Bool, true, false, List, [], ◌∷◌, ◌++◌, length, map, reverse, take, drop, take-append-drop, refl, sym, ◌∙◌, ap, subst, append_assoc, append-nil, arith}
+use Rattle.std.proofs.Common.{◌≡◌, ℕ, zero, suc, ◌+◌, ◌-◌, ◌≤◌, ◌<◌, Bool, true, false, List, [], ◌∷◌, ◌++◌, length, map, take, drop, take-append-drop, refl, sym, ◌∙◌, ap, subst, append_assoc, append-nil, arith}
 use Rattle.std.specs.Prelude.{Option, Some, None, nat_lt, if◌then◌else◌, bytes_eq}
 use Rattle.std.specs.List.{Contains}
 use Rattle.std.proofs.lemmas.Bool.Decides.{nat_tests}
@@ -7,10 +7,9 @@ use Rattle.std.proofs.lemmas.List.{append_cancel_left, map-append, length-append
 use Rattle.std.proofs.lemmas.List.Elements.{Contains-append_left, Contains-push}
 use Rattle.std.proofs.lemmas.Slice.Eq.{bytes_eq-Decides}
 use Rattle.ix_cid.specs.Cid.{parts_of, hash_function_of}
-use Rattle.ix_cbor.specs.Data.{Data}
 use Rattle.ix_selector.specs.IsEntered.{is_entered}
 use Rattle.ix_selector.specs.Pattern.{Pattern}
-use Rattle.ix_selector.specs.Behind.{residual_of, residual_at, same_residual}
+use Rattle.ix_selector.specs.Behind.{residual_at, same_residual}
 use Rattle.ix_store.specs.Store.{Blocks, block_of}
 use Rattle.ix_walk.specs.declared.subtree.PendingLink.{PendingLink}
 use Rattle.ix_walk.specs.JobMeaning.{JobMeaning}
@@ -21,8 +20,6 @@ use Rattle.ix_walk.specs.Walking.{waiting, Going, nothing_expanded, data_inside,
 use Rattle.ix_walk.proofs.Links.{cid_of}
 use Rattle.ix_walk.proofs.Reached.{forget, once_first, all_append, all_inside}
 use Rattle.ix_walk.proofs.Starts.{IsFollowed}
-use Rattle.ix_walk.proofs.Takes.{deeper}
-use Rattle.ix_lists.specs.Waiting.{IsPutBefore}
 use Rattle.ix_archive.specs.Laws.{once}
 use Rattle.ix_receive.specs.Receiving.{first_visits}
 use Rattle.ix_receive.specs.Traversal.{visited, HasSameAt, GoesOnWith, IsTraversed}

@@ -28,6 +28,8 @@ mod passing;
 mod receiver;
 mod request;
 mod section;
+#[cfg(test)]
+mod tests;
 mod traversal;
 
 pub use allow_missing::AllowMissing;

@@ -1,6 +1,6 @@
-use Rattle.std.proofs.Common.{◌+◌, sym, ◌∙◌, subst, refl, arith}
+use Rattle.std.proofs.Common.{◌+◌, subst, refl, arith}
 use Rattle.ix_receive.specs.declared.traversal.Traversal.{Traversal}
-use Rattle.ix_receive.specs.Traversal.{as_pending, expanded_by, links_of}
+use Rattle.ix_receive.specs.Traversal.{as_pending, expanded_by}
 use Rattle.ix_receive.specs.Passing.{IsNoted}
 use Rattle.ix_receive.proofs.Passings.{few-absent, passes, stops}
 use Rattle.ix_receive.proofs.passing.pass_link.Goals as goal
