@@ -442,14 +442,8 @@ impl<'a> GetCommand<'a> {
             _ => Vec::new(rt.alloc()),
         };
         let base_files = self.known.read(rt, &self.blocks, loaders, progress);
-        let (base, blocks) = self.known.store_beside(
-            rt,
-            base_files,
-            loaders,
-            || self.blocks.store_of(rt, files, loaders),
-        );
-        let mut blocks = blocks?;
-        self.known.add_to(rt, &mut blocks, base?, loaders)?;
+        let mut blocks = self.blocks.store_of(rt, files, loaders)?;
+        self.known.add_to(rt, &mut blocks, base_files?, loaders)?;
         Ok((blocks, roots))
     }
 

@@ -295,15 +295,9 @@ impl<'a> JobsCommand<'a> {
         let files = self.blocks.read(rt, loaders, progress)?;
         let job_file = read_input(rt, self.job_file, self.most)?;
         let base_files = self.known.read(rt, &self.blocks, loaders, progress);
-        let (base, blocks) = self.known.store_beside(
-            rt,
-            base_files,
-            loaders,
-            || self.blocks.store_of(rt, files, loaders),
-        );
-        let mut blocks = blocks?;
+        let mut blocks = self.blocks.store_of(rt, files, loaders)?;
         let jobs = load_jobs(rt.alloc(), job_file.as_slice(), self.choice)?;
-        self.known.add_to(rt, &mut blocks, base?, loaders)?;
+        self.known.add_to(rt, &mut blocks, base_files?, loaders)?;
         Ok((blocks, Arc::new(rt.alloc(), jobs)?))
     }
 

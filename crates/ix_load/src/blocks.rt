@@ -1,9 +1,11 @@
 //! The block files of a command: which they are, and the store of their blocks.
 
+ghost use Rattle.std.specs.Prelude.{IfOk};
 ghost use Rattle.ix_car.specs.Payload.{IsWithin};
 
 use clap::ArgMatches;
 use clap::error::ErrorKind;
+use ix_base::Base;
 use ix_car::{BlockLoader, CarFault, CarKind, Payload, SoundLoader, payload_of, read_header};
 use ix_cid::Cid;
 use ix_cli_io::{Failure, Progress, STANDARD_INPUT, load_input, size_of_all};
@@ -233,15 +235,56 @@ impl<'a> BlockFiles<'a> {
         bytes: Vec<u8>,
         threads: usize,
     ) -> Result<Loader, CarFault> {
-        let payload = if self.reads_carv2 {
-            payload_of(bytes.as_slice())?
+        let payload = self.payload_in(bytes.as_slice())?;
+        loader.with_file(rt, bytes, payload, threads)
+    }
+
+    /// Returns the positions in a store of the blocks whose first copy, over the files that were read, is sound.
+    /// The memory of a file is freed once its sections were looked up.
+    pub(crate) fn known_in<R: AllocGlobal + Threads + Sync>(
+        &self,
+        rt: &R,
+        store: &Store,
+        files: Vec<Vec<u8>>,
+        threads: usize,
+    ) -> Result<PlaceSet, Failure> {
+        let alloc = rt.alloc();
+        let mut base = Base::new(alloc, store);
+        for (path, bytes) in self.paths.iter().zip(files) {
+            match self.with_base_file(rt, base, bytes.as_slice(), threads) {
+                Ok(more) => base = more,
+                Err(fault) => {
+                    return Err(self.refusal(alloc, path, fault, kind_of(bytes.as_slice())));
+                }
+            }
+        }
+        Ok(base.into_known())
+    }
+
+    // Reads one file more of a base. Of a CARv2 file it is the payload.
+    fn with_base_file<'b, R: AllocGlobal + Threads + Sync>(
+        &self,
+        rt: &R,
+        base: Base<'b>,
+        bytes: &[u8],
+        threads: usize,
+    ) -> Result<Base<'b>, CarFault> {
+        let payload = self.payload_in(bytes)?;
+        base.with_file(rt, rt.alloc(), bytes, payload, threads)
+    }
+
+    // Returns where the CARv1 file in a file begins and ends: the whole, if CARv2 isn't read.
+    fn payload_in(&self, bytes: &[u8]) -> Result<Payload, CarFault>
+        ensures { IfOk result (λ payload. IsWithin payload bytes.now) }
+    {
+        if self.reads_carv2 {
+            payload_of(bytes)
         } else {
-            Payload {
+            Ok(Payload {
                 start: 0,
                 end: bytes.len(),
-            }
-        };
-        loader.with_file(rt, bytes, payload, threads)
+            })
+        }
     }
 
     // Returns the failure for a file with an error. It names the file if there are several, or if it is what

@@ -3,7 +3,6 @@
 use crate::blocks::{BlockFiles, LoadedBlocks};
 use clap::ArgMatches;
 use clap::error::ErrorKind;
-use ix_archive::known_places;
 use ix_cli_io::{Failure, Progress, STANDARD_INPUT, read_input, size_of_all};
 use ix_have_list::{insert_listed, listed_cids};
 use ix_options::{BLOCKS, CommandSpec, WITHOUT, WITHOUT_LIST};
@@ -11,7 +10,7 @@ use ix_store::PlaceSet;
 use std::alloc::{AllocError, Global};
 use std::fs::File;
 use std::rt::{Clock, Files};
-use std::thread::{self, Threads};
+use std::thread::Threads;
 
 /// What the receiver of an archive has, as it is given.
 #[derive(Drop)]
@@ -104,43 +103,20 @@ impl<'a> KnownInputs<'a> {
         self.files.read_more(rt, threads, progress)
     }
 
-    /// Makes the store of a command's blocks by this closure, and beside it that of the receiver's files, if
-    /// there are some and they were read.
-    pub fn store_beside<R: AllocGlobal + Threads + Sync, F: FnOnce() -> T, T>(
-        &self,
-        rt: &R,
-        files: Result<Vec<Vec<u8>>, Failure>,
-        threads: usize,
-        make_store: F,
-    ) -> (Result<Option<LoadedBlocks>, Failure>, T)
-        requires { F.pre make_store }
-        ensures { F.post make_store result.1 }
-    {
-        match files {
-            Ok(files) if files.is_empty() => (Ok(None), make_store()),
-            Ok(files) => thread::join(
-                rt,
-                move || self.files.store_of(rt, files, threads).map(Some),
-                make_store,
-            ),
-            Err(failure) => (Err(failure), make_store()),
-        }
-    }
-
-    /// Adds to the blocks of a command which of them the receiver has: those of which this store of its files
-    /// has a sound copy, and those whose CID it lists. If nothing is given, nothing is known of it.
+    /// Adds to the blocks of a command which of them the receiver has: those whose first copy, over the files
+    /// that were read, is sound, and those whose CID it lists. If nothing is given, nothing is known of it.
     pub fn add_to<R>(
         &self,
         rt: &R,
         blocks: &mut LoadedBlocks,
-        base: Option<LoadedBlocks>,
+        files: Vec<Vec<u8>>,
         threads: usize,
     ) -> Result<(), Failure>
     where
         R: AllocGlobal + Files + Input + Threads + Sync,
     {
-        if let Some(base) = base {
-            let known = known_places(rt, rt.alloc(), &blocks.store, &base.store, threads)?;
+        if !files.is_empty() {
+            let known = self.files.known_in(rt, &blocks.store, files, threads)?;
             blocks.known = Some(known);
         }
         match self.list {
