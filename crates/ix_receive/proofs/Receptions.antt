@@ -157,7 +157,7 @@ new-cid job allowed sections t p is sound out not i =
 -- ---- numbers
 
 -- one number is no greater than another, or is
-le_or : (m n : ℕ) → (m ≤ n) ⊎ (suc n ≤ m)
+pub le_or : (m n : ℕ) → (m ≤ n) ⊎ (suc n ≤ m)
 le_or m n = by (nat_lt n m) refl where
   by : (b : Bool) → nat_lt n m ≡ b → (m ≤ n) ⊎ (suc n ≤ m)
   by true is = inr (let h = ltb-true n m is in omega (arith, h))

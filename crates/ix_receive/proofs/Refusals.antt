@@ -1,5 +1,5 @@
 -- Refused sections begin no archive that is its own.
-use Rattle.std.proofs.Common.{◌≡◌, ℕ, suc, ◌≤◌, Bool, true, false, List, [], ◌∷◌, ◌++◌, refl, sym, ◌∙◌, ap, subst, arith}
+use Rattle.std.proofs.Common.{◌≡◌, ◌⊎◌, inl, inr, ℕ, suc, ◌≤◌, Bool, true, false, List, [], ◌∷◌, ◌++◌, refl, sym, ◌∙◌, ap, subst, arith}
 use Rattle.std.specs.Prelude.{Some, is_some, ◌||◌, if◌then◌else◌, bytes_eq}
 use Rattle.std.specs.List.{Contains}
 use Rattle.std.proofs.lemmas.List.{map-append}
@@ -15,10 +15,10 @@ use Rattle.ix_receive.specs.declared.fault.ReceiveFault.{ReceiveFault}
 use Rattle.ix_receive.specs.declared.fault.ReceiveFault.TheVariants.{Unsound, Repeated, OutOfOrder, NotAskedFor, Missing, Limit, Ended, Memory}
 use Rattle.ix_receive.specs.Receiving.{first_visits, AreReceived, IsNextSection}
 use Rattle.ix_receive.specs.Traversal.{visited}
-use Rattle.ix_receive.specs.Passing.{IsNotFound, IsNotAtEnd}
-use Rattle.ix_receive.specs.Reception.{reception_of, BeginsNoOwn, IsRefused, IsRightlyRefused, IsUnfinished}
-use Rattle.ix_receive.proofs.Received.{stored-visited, own-received}
-use Rattle.ix_receive.proofs.Receptions.{visited-more}
+use Rattle.ix_receive.specs.Passing.{IsNeeded, IsNotFound, IsNotAtEnd}
+use Rattle.ix_receive.specs.Reception.{reception_of, IsNowhereNext, CantGoOn, IsRefused, IsRightlyRefused, IsUnfinished}
+use Rattle.ix_receive.proofs.Received.{stored-visited, received-stay, own-received}
+use Rattle.ix_receive.proofs.Receptions.{le_or, visited-more}
 
 -- a CID that is there has a block
 has-block : (store : Blocks) (c : List ℕ) → is_some (block_of store c) ≡ has_cid store c
@@ -34,20 +34,31 @@ next-in n job sections p next =
     let all : visited (suc n) job sections ≡ visited n job sections ++ p.0 ∷ [] = ap cids_of next.next ∙ map-append cid_of (first_visits n job sections) (next.visit ∷ []) ∙ ap (λ c. visited n job sections ++ c ∷ []) next.named in
     subst (λ l. Contains l p.0) (sym all) (Contains-push (visited n job sections) p.0)
 
-module _ (job : JobMeaning) (allowed : AllowMissing) (sections : Blocks) (visits : ℕ) (p : List ℕ × List ℕ) (least : (m : ℕ) → AreReceived m job sections → visits ≤ m) where
-  -- where a section is next nowhere, no own archive goes on with it
-  no-own : ((n : ℕ) → suc n ≤ job.limit → AreReceived n job sections → IsNextSection n job sections p → ⊥) → (ended : Bool) → BeginsNoOwn (reception_of job allowed sections visits ended) p
-  no-own nowhere ended number after own = let r = own-received number job sections after p own in nowhere r.0 r.1 r.2 r.3
+module _ (job : JobMeaning) (allowed : AllowMissing) (sections : Blocks) (visits : ℕ) (p : List ℕ × List ℕ) (received : AreReceived visits job sections) (least : (m : ℕ) → AreReceived m job sections → visits ≤ m) where
+  -- where a section is next nowhere, the archive can't go on with it
+  cant : ((n : ℕ) → suc n ≤ job.limit → AreReceived n job sections → IsNextSection n job sections p → ⊥) → (ended : Bool) → CantGoOn (reception_of job allowed sections visits ended) p
+  cant none ended = record {
+    next = λ n may. (let low = may.within in none n (omega arith) (received-stay job sections visits received n may.later) may.next);
+    own = λ number after own. (let r = own-received number job sections after p own in none r.0 r.1 r.2 r.3);
+  }
+
+  -- a block before it is missing, and may not be
+  nowhere : (n : ℕ) (c : List ℕ) → IsNeeded n job allowed sections c → (Contains (visited (suc n) job sections) p.0 → ⊥) → (ended : Bool) → IsNowhereNext (reception_of job allowed sections visits ended) p
+  nowhere n c is new ended m may = by (le_or m n) where
+    by : (m ≤ n) ⊎ (suc n ≤ m) → ⊥
+    by (inl low) = new (visited-more job sections (suc m) (suc n) p.0 (omega (arith, low)) (next-in m job sections p may.next))
+    by (inr high) =
+        let here : Contains (visited (suc n) job sections) c = subst (λ l. Contains l c) (sym is.next) (Contains-push (visited n job sections) c) in
+        let bad : false ≡ true = sym is.needed ∙ may.may c (visited-more job sections (suc n) m c high here) is.lacks in cc bad
 
   pub rightly : (ended : Bool) (fault : ReceiveFault) → IsRefused (reception_of job allowed sections visits ended) p fault → IsRightlyRefused (reception_of job allowed sections visits ended) p fault
-  rightly ended (Unsound v) h = no-own (λ n low received next. let bad : false ≡ true = sym h.1 ∙ ap is_sound h.0 ∙ next.sound in cc bad) ended
+  rightly ended (Unsound v) h = cant (λ n low is next. let bad : false ≡ true = sym h.1 ∙ ap is_sound h.0 ∙ next.sound in cc bad) ended
   rightly ended Repeated h =
-      no-own (λ n low received next. next.first (contains-in p.0 (visited n job sections) (stored-visited job sections n received p.0 (has-block sections p.0 ∙ h)))) ended
-  rightly ended OutOfOrder h = no-own (λ n low received next. next.first (visited-more job sections visits n p.0 (least n received) h.1)) ended
-  rightly ended NotAskedFor h =
-      no-own (λ n low received next. h.1 (visited-more job sections (suc n) (suc job.limit) p.0 (omega (arith, low)) (next-in n job sections p next))) ended
-  rightly ended (Missing c) h = tt
-  rightly ended Limit h = no-own (λ n low received next. h.1 (visited-more job sections (suc n) job.limit p.0 low (next-in n job sections p next))) ended
+      cant (λ n low is next. next.first (contains-in p.0 (visited n job sections) (stored-visited job sections n is p.0 (has-block sections p.0 ∙ h)))) ended
+  rightly ended OutOfOrder h = cant (λ n low is next. next.first (visited-more job sections visits n p.0 (least n is) h.1)) ended
+  rightly ended NotAskedFor h = cant (λ n low is next. h.1 (visited-more job sections (suc n) (suc job.limit) p.0 (omega (arith, low)) (next-in n job sections p next))) ended
+  rightly ended (Missing c) h = nowhere h.0 c h.1 h.2 ended
+  rightly ended Limit h = cant (λ n low is next. h.1 (visited-more job sections (suc n) job.limit p.0 low (next-in n job sections p next))) ended
   rightly ended Ended h = tt
   rightly ended Memory h = tt
 
@@ -57,7 +68,7 @@ module _ (job : JobMeaning) (allowed : AllowMissing) (sections : Blocks) (visits
   rightly-not-found Repeated h = absurd h
   rightly-not-found OutOfOrder h = absurd h
   rightly-not-found NotAskedFor h = rightly false NotAskedFor h
-  rightly-not-found (Missing c) h = tt
+  rightly-not-found (Missing c) h = rightly false (Missing c) h
   rightly-not-found Limit h = rightly false Limit h
   rightly-not-found Ended h = absurd h
   rightly-not-found Memory h = tt

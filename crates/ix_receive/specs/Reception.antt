@@ -90,15 +90,24 @@ IsRefused r p Memory = Unit {0}
 abbrev pub BeginsNoOwn : Reception → List ℕ × List ℕ → Type 0
 BeginsNoOwn r p = (number : ℕ) (after : Blocks) → AreTheirOwn number (once r.job) (r.sections ++ p ∷ after) → ⊥
 
--- A section is refused only where no archive that is its own begins so, except for a block that is missing and may not be, by a
--- receiver that has ended, or out of memory.
+-- a section may be next nowhere
+abbrev pub IsNowhereNext : Reception → List ℕ × List ℕ → Type 0
+IsNowhereNext r p = (n : ℕ) → MayBeNext r.job r.allowed r.sections r.visits p n → ⊥
+
+-- the archive can't go on with a section: it may be next nowhere, and no archive that is its own begins so
+pub record CantGoOn (r : Reception) (p : List ℕ × List ℕ) : Type 0 where
+  pub next : IsNowhereNext r p
+  pub own : BeginsNoOwn r p
+
+-- A section is refused only where the archive can't go on with it, or only if a block were missing that may not be, by a receiver
+-- that has ended, or out of memory.
 abbrev pub IsRightlyRefused : Reception → List ℕ × List ℕ → ReceiveFault → Type 0
-IsRightlyRefused r p (Unsound v) = BeginsNoOwn r p
-IsRightlyRefused r p Repeated = BeginsNoOwn r p
-IsRightlyRefused r p OutOfOrder = BeginsNoOwn r p
-IsRightlyRefused r p NotAskedFor = BeginsNoOwn r p
-IsRightlyRefused r p (Missing c) = Unit {0}
-IsRightlyRefused r p Limit = BeginsNoOwn r p
+IsRightlyRefused r p (Unsound v) = CantGoOn r p
+IsRightlyRefused r p Repeated = CantGoOn r p
+IsRightlyRefused r p OutOfOrder = CantGoOn r p
+IsRightlyRefused r p NotAskedFor = CantGoOn r p
+IsRightlyRefused r p (Missing c) = IsNowhereNext r p
+IsRightlyRefused r p Limit = CantGoOn r p
 IsRightlyRefused r p Ended = Unit {0}
 IsRightlyRefused r p Memory = Unit {0}
 

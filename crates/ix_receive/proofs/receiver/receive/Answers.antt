@@ -12,7 +12,7 @@ use Rattle.ix_receive.proofs.receiver.receive.Goals as goal
 
 pub returns-then-not-is_sound-clause-rightly : goal.returns-then-not-is_sound-clause-rightly
 returns-then-not-is_sound-clause-rightly c =
-    rightly c.args.asked.now.job.now c.args.asked.now.allowed c.args.store.now c.args.t.now.visits (c.args.cid, c.args.block.now) c.requires.least false (Unsound c.verdict_on-verdict.result)
+    rightly c.args.asked.now.job.now c.args.asked.now.allowed c.args.store.now c.args.t.now.visits (c.args.cid, c.args.block.now) c.requires.received c.requires.least false (Unsound c.verdict_on-verdict.result)
     (c.verdict_on-verdict.ensures, sym c.is_sound.ensures ∙ c.if-not-is_sound.true)
 
 pub returns-then-is_some-clause-refused : goal.returns-then-is_some-clause-refused
@@ -20,7 +20,7 @@ returns-then-is_some-clause-refused c = sym (is-there c.args.store.now c.args.ci
 
 pub returns-then-is_some-clause-rightly : goal.returns-then-is_some-clause-rightly
 returns-then-is_some-clause-rightly c =
-    rightly c.args.asked.now.job.now c.args.asked.now.allowed c.args.store.now c.args.t.now.visits (c.args.cid, c.args.block.now) c.requires.least false Repeated
+    rightly c.args.asked.now.job.now c.args.asked.now.allowed c.args.store.now c.args.t.now.visits (c.args.cid, c.args.block.now) c.requires.received c.requires.least false Repeated
     (sym (is-there c.args.store.now c.args.cid c.is_some.result (c.is_some.ensures ∙ ap is_some c.find.ensures)) ∙ c.if-is_some.true)
 
 pub returns-then-contains-clause-refused : goal.returns-then-contains-clause-refused
@@ -31,7 +31,7 @@ returns-then-contains-clause-refused c = (
 
 pub returns-then-contains-clause-rightly : goal.returns-then-contains-clause-rightly
 returns-then-contains-clause-rightly c =
-    rightly c.args.asked.now.job.now c.args.asked.now.allowed c.args.store.now c.args.t.now.visits (c.args.cid, c.args.block.now) c.requires.least false OutOfOrder (
+    rightly c.args.asked.now.job.now c.args.asked.now.allowed c.args.store.now c.args.t.now.visits (c.args.cid, c.args.block.now) c.requires.received c.requires.least false OutOfOrder (
       sym (is-there c.args.store.now c.args.cid c.is_some.result (c.is_some.ensures ∙ ap is_some c.find.ensures)) ∙ c.if-is_some.false,
       c.requires.passing.missing.met c.args.cid (sym c.contains.ensures ∙ c.if-contains.true),
     )
@@ -46,7 +46,7 @@ pub returns-in_err-link-clause-rightly : goal.returns-in_err-link-clause-rightly
 returns-in_err-link-clause-rightly c =
     let p = err_from_is_err_and c.from_residual.result c.from_residual.ensures.1 in
     rw (p.1, p.2)
-    (rightly-not-found c.args.asked.now.job.now c.args.asked.now.allowed c.args.store.now c.args.t.now.visits (c.args.cid, c.args.block.now) c.requires.least c.in_err-link.field-0.0 c.in_err-link.ensures.refused)
+    (rightly-not-found c.args.asked.now.job.now c.args.asked.now.allowed c.args.store.now c.args.t.now.visits (c.args.cid, c.args.block.now) c.requires.received c.requires.least c.in_err-link.field-0.0 c.in_err-link.ensures.refused)
 
 pub expand_link-requires-clause-depth : goal.expand_link-requires-clause-depth
 expand_link-requires-clause-depth c =
