@@ -42,6 +42,18 @@ const GRAPH: &str = "017100ac01a3\
 616382d82a58250001551220ba7816bf8f01cfea414140de5dae2223b00361a396177a9cb410ff61f20015ad\
 d82a58250001551220ffa63583dfa6706b87d284b86b0d693a161e4840aad2c5cf6b5d27c3b9621f7d";
 
+// The empty block, raw under SHA-256.
+const EMPTY: Pair = (
+    "01551220e3b0c44298fc1c149afbf4c8996fb92427ae41e4649b934ca495991b7852b855",
+    "",
+);
+
+// [the leaf, the empty block, the leaf], in an identity CID.
+const LEAF_TWICE: &str = "0171007c83\
+d82a58250001551220ba7816bf8f01cfea414140de5dae2223b00361a396177a9cb410ff61f20015ad\
+d82a58250001551220e3b0c44298fc1c149afbf4c8996fb92427ae41e4649b934ca495991b7852b855\
+d82a58250001551220ba7816bf8f01cfea414140de5dae2223b00361a396177a9cb410ff61f20015ad";
+
 // The selector of everything below.
 const ALL: &str = "a16152a2616ca1646e6f6e65a0623a3ea16161a1613ea16140a0";
 
@@ -175,6 +187,20 @@ fn a_graph(rt: HostRuntime) -> Result<(), Fail> {
     assert_eq!(rt; swapped.as_str(), "1: out of order");
     let more = graph(alloc, &[NODE, LEAF, OUTER])?;
     assert_eq!(rt; more.as_str(), "2: not asked for");
+    Ok(())
+}
+
+// A leaf that was missing at its first link stays so at the second.
+#[test]
+fn a_leaf_linked_twice(rt: HostRuntime) -> Result<(), Fail> {
+    let alloc = rt.alloc();
+    let allowed = AllowMissing::all();
+    let whole = found(alloc, LEAF_TWICE, 10, allowed, &[LEAF, EMPTY])?;
+    assert_eq!(rt; whole.as_str(), "4 visits, 0 missing");
+    let late = found(alloc, LEAF_TWICE, 10, allowed, &[EMPTY, LEAF])?;
+    assert_eq!(rt; late.as_str(), "1: out of order");
+    let without = found(alloc, LEAF_TWICE, 10, allowed, &[EMPTY])?;
+    assert_eq!(rt; without.as_str(), "4 visits, 2 missing");
     Ok(())
 }
 
