@@ -347,8 +347,9 @@ impl VerifyCommand {
                     others,
                     copies: self.copies,
                     allowed: self.allowed.unwrap_or(AllowMissing::none()),
+                    observer: &observer,
                 };
-                verify_beside(rt, alloc, car, beside, threads, most, &observer)
+                verify_beside(rt, alloc, car, beside, threads, most)
             }
         }
     }

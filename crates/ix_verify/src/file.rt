@@ -58,15 +58,7 @@ pub fn verify<R: Threads + Sync>(
     };
     match scope {
         Scope::Sections => verify_sections(rt, alloc, &car, threads, most, &Unobserved),
-        Scope::Graph => verify_beside(
-            rt,
-            alloc,
-            &car,
-            Beside::nothing(),
-            threads,
-            most,
-            &Unobserved,
-        ),
+        Scope::Graph => verify_beside(rt, alloc, &car, Beside::nothing(&Unobserved), threads, most),
     }
 }
 
@@ -82,7 +74,7 @@ pub fn verify_sections<R: Threads + Sync, V: Observer>(
     ensures found { IfOk result (IsFoundOf car.now OfSections most) }
     ensures refused { IfErr result (IsFileFault car.now) }
 {
-    let judged = judge_file(rt, alloc, None, car.as_slice(), threads, most, observer)?;
+    let judged = judge_file(rt, alloc, (None, threads), car.as_slice(), most, observer)?;
     Ok(judged.with(Reached::nothing(alloc), 0))
 }
 
@@ -96,10 +88,9 @@ pub fn verify_beside<R: Threads + Sync, V: Observer>(
     rt: &R,
     alloc: Global,
     car: &CarBytes,
-    beside: Beside<'_>,
+    beside: Beside<'_, V>,
     threads: NonZeroUsize,
     most: usize,
-    observer: &V,
 ) -> Result<Findings, CarFault>
     ensures found { IfOk result (IsFoundBeside
         beside.entry.copies beside.entry.allowed beside.entry.others.now car.now OfGraph most) }
@@ -109,6 +100,7 @@ pub fn verify_beside<R: Threads + Sync, V: Observer>(
         others,
         copies,
         allowed,
+        observer,
     } = beside;
     // The store caches for the walk what the threads find.
     let (store, later_count) = match load_beside(rt, alloc, car, others, copies, threads.get()) {
@@ -118,9 +110,8 @@ pub fn verify_beside<R: Threads + Sync, V: Observer>(
     let judged = judge_file(
         rt,
         alloc,
-        Some(&store),
+        (Some(&store), threads),
         car.as_slice(),
-        threads,
         most,
         observer,
     )?;
@@ -161,13 +152,12 @@ impl Judged {
     }
 }
 
-// Checks the sections of a file, with the store of its blocks if there is one.
+// Checks the sections of a file, with the store of its blocks if there is one, by at most so many threads.
 fn judge_file<R: Threads + Sync, V: Observer>(
     rt: &R,
     alloc: Global,
-    store: Option<&Store>,
+    beside: (Option<&Store>, NonZeroUsize),
     car: &[u8],
-    threads: NonZeroUsize,
     most: usize,
     observer: &V,
 ) -> Result<Judged, CarFault>
@@ -180,8 +170,8 @@ fn judge_file<R: Threads + Sync, V: Observer>(
     let mut unsound = Noted::new(alloc);
     while !rest.is_empty() {
         let (batch, after) = read_batch(alloc, car.len(), rest)?;
-        let beside = (store, count, threads);
-        if judge_sections(rt, alloc, beside, batch.as_slice(), most, &mut unsound).is_err() {
+        let from = (beside.0, count, beside.1);
+        if judge_sections(rt, alloc, from, batch.as_slice(), most, &mut unsound).is_err() {
             return Err(no_memory(0));
         }
         observer.on_sections(batch.len());

@@ -17,8 +17,8 @@
 //!
 //! let library = OtherFile::read(alloc, CarBytes::new(alloc, bytes, payload)?)?;
 //! let allowed = AllowMissing::none();
-//! let beside = Beside { others: &[library], copies: Copies::First, allowed };
-//! let found = verify_beside(rt, alloc, &update, beside, threads, 20, &Unobserved)?;
+//! let beside = Beside { others: &[library], copies: Copies::First, allowed, observer: &Unobserved };
+//! let found = verify_beside(rt, alloc, &update, beside, threads, 20)?;
 //! ```
 #![tactic(auto)]
 

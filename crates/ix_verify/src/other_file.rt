@@ -17,18 +17,19 @@ use std::alloc::{AllocError, Global};
 use std::marker::Model;
 use std::thread::Threads;
 
-/// The files beside which one is verified, which copy of a block counts, and which links may lead to blocks
-/// that aren't there.
-#[derive(Drop, Clone, Copy)]
-pub struct Beside<'a> {
+/// The files beside which one is verified, which copy of a block counts, which links may lead to blocks that
+/// aren't there, and the observer.
+#[derive(Drop)]
+pub struct Beside<'a, V> {
     pub others: &'a [OtherFile],
     pub copies: Copies,
     pub allowed: AllowMissing,
+    pub observer: &'a V,
 }
 
-impl<'a> Beside<'a> {
+impl<'a, V> Beside<'a, V> {
     // No files, so that the first copy in the one that is verified counts, and each link to a missing block.
-    pub(crate) fn nothing() -> Beside<'a>
+    pub(crate) fn nothing(observer: &'a V) -> Beside<'a, V>
         ensures copies { result.copies ≡ First }
         ensures allowed { result.allowed ≡ allow_none }
         ensures others { result.others.now ≡ [] }
@@ -37,6 +38,7 @@ impl<'a> Beside<'a> {
             others: &[],
             copies: Copies::First,
             allowed: AllowMissing::none(),
+            observer,
         }
     }
 }
