@@ -1,0 +1,7 @@
+mod Written
+mod Headers
+mod Receiving
+mod LinksRead
+mod Visited
+mod Unique
+mod Rightly

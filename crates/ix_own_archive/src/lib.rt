@@ -1,0 +1,22 @@
+//! Whether the bytes of an archive are a job's own archive.
+//!
+//! They are if they begin with the header that is written for the job's roots, each section is as it is
+//! written, and a receiver of the job takes the sections one after another, to their end. No sender's
+//! blocks are needed. What `ix_export` writes for a job is its own archive.
+//!
+//! ```rust
+//! match check_archive(alloc, bytes, &job, AllowMissing::none()) {
+//!     Ok(counts) => println!(rt; "{} visits", counts.visits)?,
+//!     Err(fault) => println!(rt; "{fault}")?,
+//! }
+//! ```
+#![tactic(auto)]
+
+mod check;
+mod fault;
+#[cfg(test)]
+mod tests;
+
+pub use check::check_archive;
+pub use fault::{ArchiveFault, ArchiveReason};
+pub use ix_receive::{AllowMissing, Counts, ReceiveFault};
