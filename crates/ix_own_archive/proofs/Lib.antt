@@ -5,3 +5,4 @@ mod LinksRead
 mod Visited
 mod Unique
 mod Rightly
+mod Exported

@@ -14,6 +14,7 @@
 
 mod check;
 mod fault;
+pub mod law;
 #[cfg(test)]
 mod tests;
 
