@@ -12,7 +12,11 @@ use std::test::Fail;
 const LEAF: &str =
     "2701551220ba7816bf8f01cfea414140de5dae2223b00361a396177a9cb410ff61f20015ad616263";
 
-// A list of a link to it.
+// The same, whose last byte is changed.
+const DAMAGED: &str =
+    "2701551220ba7816bf8f01cfea414140de5dae2223b00361a396177a9cb410ff61f20015ad616264";
+
+// A list of a link to the leaf.
 const NODE: &str = "4e0171122021e288dd95d20c03227dc4c449b3a8885fcb420f614135142435f3b33b428832\
 81d82a58250001551220ba7816bf8f01cfea414140de5dae2223b00361a396177a9cb410ff61f20015ad";
 
@@ -50,7 +54,18 @@ const LARGER_HEADER: &str = "3da361610165726f6f747381d82a582500\
 01711220ef6f019fd31212249247bbeb4c0bb0a49a4784b5d4652d1c10ea8922615146b2\
 6776657273696f6e01";
 
-// The whole list's.
+// [the leaf, the empty block, the leaf], in an identity CID, and its header.
+const LEAF_TWICE: &str = "0171007c83\
+d82a58250001551220ba7816bf8f01cfea414140de5dae2223b00361a396177a9cb410ff61f20015ad\
+d82a58250001551220e3b0c44298fc1c149afbf4c8996fb92427ae41e4649b934ca495991b7852b855\
+d82a58250001551220ba7816bf8f01cfea414140de5dae2223b00361a396177a9cb410ff61f20015ad";
+
+const LEAF_TWICE_HEAD: &str = "9601a265726f6f747381d82a588100";
+
+// What every header of one root ends with.
+const VERSION: &str = "6776657273696f6e01";
+
+// The sections of the archive of the outer list.
 const CHAIN: [&str; 4] = [OUTER, INNER, NODE, LEAF];
 
 // The selector of everything below.
@@ -61,14 +76,19 @@ fn cid_of(alloc: Global, text: &str) -> Result<Cid, Fail> {
     Ok(cid)
 }
 
-// The job of everything below a root.
-fn job_of(alloc: Global, root: &str) -> Result<Job, Fail> {
+// The job of everything below a root, with this limit.
+fn job_with(alloc: Global, root: &str, limit: u32) -> Result<Job, Fail> {
     let mut roots = Vec::new(alloc);
     roots.push(cid_of(alloc, root)?)?;
     let tree = decode(alloc, hex::decode(alloc, ALL)?.as_slice())?;
     let selector = Selector::read(alloc, &tree)?;
     let name = String::from_str(alloc, "a")?;
-    Ok(Job::new(name, roots, selector, 10)?)
+    Ok(Job::new(name, roots, selector, limit)?)
+}
+
+// The same, with a limit that is enough.
+fn job_of(alloc: Global, root: &str) -> Result<Job, Fail> {
+    job_with(alloc, root, 10)
 }
 
 // The bytes of hex texts, one after another.
@@ -216,6 +236,42 @@ fn another_header(rt: HostRuntime) -> Result<(), Fail> {
         let other = found(alloc, &job, AllowMissing::none(), bytes.as_slice())?;
         assert_eq!(rt; other.as_str(), "0: another header");
     }
+    Ok(())
+}
+
+// A leaf that was missing at its first link stays so at the second.
+#[test]
+fn a_leaf_out_of_order(rt: HostRuntime) -> Result<(), Fail> {
+    let alloc = rt.alloc();
+    let job = job_of(alloc, LEAF_TWICE)?;
+    let mut bytes = bytes_of(alloc, &[LEAF_TWICE_HEAD, LEAF_TWICE, VERSION, LEAF, EMPTY])?;
+    let whole = found(alloc, &job, AllowMissing::all(), bytes.as_slice())?;
+    assert_eq!(rt; whole.as_str(), "4 visits, 0 missing");
+    bytes = bytes_of(alloc, &[LEAF_TWICE_HEAD, LEAF_TWICE, VERSION, EMPTY, LEAF])?;
+    let late = found(alloc, &job, AllowMissing::all(), bytes.as_slice())?;
+    assert_eq!(rt; late.as_str(), "189: refused: out of order");
+    Ok(())
+}
+
+// The chain has four visits.
+#[test]
+fn a_limit(rt: HostRuntime) -> Result<(), Fail> {
+    let alloc = rt.alloc();
+    let bytes = bytes_of(alloc, &[OUTER_HEADER, OUTER, INNER, NODE, LEAF])?;
+    let short = job_with(alloc, OUTER_CID, 3)?;
+    let over = found(alloc, &short, AllowMissing::none(), bytes.as_slice())?;
+    assert_eq!(rt; over.as_str(), "296: refused: limit");
+    let enough = job_with(alloc, OUTER_CID, 4)?;
+    let whole = found(alloc, &enough, AllowMissing::none(), bytes.as_slice())?;
+    assert_eq!(rt; whole.as_str(), "4 visits, 0 missing");
+    Ok(())
+}
+
+// The last byte of the leaf, changed.
+#[test]
+fn a_damaged_section(rt: HostRuntime) -> Result<(), Fail> {
+    let damaged = chain(rt.alloc(), &[OUTER, INNER, NODE, DAMAGED])?;
+    assert_eq!(rt; damaged.as_str(), "296: refused: damaged");
     Ok(())
 }
 
