@@ -219,6 +219,14 @@ fn a_foreign_section(rt: HostRuntime) -> Result<(), Fail> {
     Ok(())
 }
 
+// The length of a section without a CID.
+#[test]
+fn a_byte_after_the_sections(rt: HostRuntime) -> Result<(), Fail> {
+    let longer = chain(rt.alloc(), &[OUTER, INNER, NODE, LEAF, "00"])?;
+    assert_eq!(rt; longer.as_str(), "336: section: cid");
+    Ok(())
+}
+
 #[test]
 fn a_longer_varint(rt: HostRuntime) -> Result<(), Fail> {
     let alloc = rt.alloc();
