@@ -18,7 +18,9 @@ use std::alloc::Global;
 /// archive's sections.
 ///
 /// The first thing that is wrong is the error. The header must be the one that is written for the job's
-/// roots, byte for byte. A section has one spelling, so one that can be read is as it is written.
+/// roots, byte for byte. A section has one spelling, so one that can be read is as it is written. Bytes
+/// that are refused are the own archive of the job under no number, unless a block is missing that may
+/// not be, or memory ran out.
 pub fn check_archive(
     alloc: Global,
     archive: &[u8],
