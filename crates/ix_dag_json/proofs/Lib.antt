@@ -1,4 +1,6 @@
 mod Digits
+mod Items
 mod Lacking
 mod Ordering
+mod Reasoning
 mod Showing

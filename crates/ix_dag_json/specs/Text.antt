@@ -1,9 +1,11 @@
 -- The DAG-JSON of data and of blocks.
-use Rattle.std.specs.Prelude.{◌≡◌, ◌≢◌, ℕ, List, ◌++◌}
+use Rattle.std.specs.Prelude.{◌≡◌, ◌≢◌, ℕ, ◌-◌, ◌≤◌, List, ◌++◌, length}
 use Rattle.json.specs.Token.{Token}
 use Rattle.ix_cbor.specs.declared.fault.CborKind.TheVariants as kinds
 use Rattle.ix_cbor.specs.Data.{Data}
 use Rattle.ix_cbor.specs.Spelling.{Spells}
+use Rattle.ix_cbor.specs.declared.fault.CborFault.{CborFault}
+use Rattle.ix_cbor.specs.FirstFault.{FaultAt}
 use Rattle.ix_cbor.specs.Gives.{IsFirstOf}
 use Rattle.ix_dag_json.specs.declared.output.Layout.{Layout}
 use Rattle.ix_dag_json.specs.declared.fault.DagJsonFault.{DagJsonFault}
@@ -40,3 +42,14 @@ abbrev pub IsBlockRefused : List ℕ → DagJsonFault → Type 0
 IsBlockRefused b (Block fault) = IsFirstOf b fault × (fault.kind ≢ kinds.Memory)
 IsBlockRefused b (Part lacking) = (d : Data) × Spells b d × IsRefused d (Part lacking)
 IsBlockRefused b Memory = Unit {0}
+
+-- the error is the first one of the item at the front, its place counted from there
+abbrev pub IsFirstOfItem : List ℕ → CborFault → Type 0
+IsFirstOfItem b fault = (fault.place ≤ length b) × FaultAt 512 b (record { kind = fault.kind; left = length b - fault.place })
+
+-- the bytes begin with no item, and this is its first error; or they begin with a block of which DAG-JSON can't express a part; or
+-- memory ran out
+abbrev pub IsItemRefused : List ℕ → DagJsonFault → Type 0
+IsItemRefused b (Block fault) = IsFirstOfItem b fault
+IsItemRefused b (Part lacking) = (front : List ℕ) × (rest : List ℕ) × (b ≡ front ++ rest) × IsBlockRefused front (Part lacking)
+IsItemRefused b Memory = Unit {0}

@@ -1,5 +1,8 @@
 //! Why there is no DAG-JSON of a block.
 
+ghost use Rattle.std.specs.Prelude.{◌≡◌, ◌++◌, OnOk, string_bytes};
+ghost use Rattle.ix_dag_json.specs.Reasons.{encoded_key, is_plain};
+
 use ix_cbor::{CborFault, CborKind};
 use std::alloc::{AllocError, AllocFailed, Global};
 use std::fmt::Write;
@@ -96,9 +99,14 @@ impl<T: Drop> From<AllocFailed<T>> for DagJsonFault {
 }
 
 impl Part {
+    ghost use Rattle.std.specs.Prelude.{◌≡◌, IfOk, string_bytes};
+    ghost use Rattle.ix_dag_json.specs.Reasons.{path_of, reason_of};
+
     /// Returns the path as text, a `/` before each step. In keys all bytes but printed ASCII are
     /// percent-encoded, and `%` and `/` are too.
-    pub fn path_text(&self, alloc: Global) -> Result<String, AllocError> {
+    pub fn path_text(&self, alloc: Global) -> Result<String, AllocError>
+        ensures { IfOk result (λ text. string_bytes text ≡ path_of self.now.path.items) }
+    {
         let mut text = String::new(alloc);
         for step in &self.path {
             match step {
@@ -113,7 +121,9 @@ impl Part {
     }
 
     /// Returns why DAG-JSON can't express it.
-    pub fn reason(&self, alloc: Global) -> Result<String, AllocError> {
+    pub fn reason(&self, alloc: Global) -> Result<String, AllocError>
+        ensures { IfOk result (λ text. string_bytes text ≡ reason_of self.now.wrong) }
+    {
         match &self.wrong {
             Wrong::Text => String::from_str(alloc, "text that is not UTF-8"),
             Wrong::Key(key) => {
@@ -133,13 +143,22 @@ impl Part {
 }
 
 // Appends a key as it is in a path.
-fn push_escaped(text: &mut String, key: &[u8]) -> Result<(), AllocError> {
+fn push_escaped(text: &mut String, key: &[u8]) -> Result<(), AllocError>
+    ensures { OnOk result (string_bytes text.new ≡ string_bytes text.old ++ encoded_key key.now) }
+{
     for byte in key {
-        match byte {
-            b'%' | b'/' => write!(text, "%{byte:02X}")?,
-            b'!'..=b'~' => text.push(char::from(*byte))?,
-            _ => write!(text, "%{byte:02X}")?,
+        if is_plain(*byte) {
+            text.push(char::from(*byte))?;
+        } else {
+            write!(text, "%{byte:02X}")?;
         }
     }
     Ok(())
+}
+
+// Whether a byte of a key is itself in a path.
+fn is_plain(byte: u8) -> bool
+    ensures { result ≡ is_plain byte }
+{
+    byte.is_ascii_graphic() && byte != b'%' && byte != b'/'
 }

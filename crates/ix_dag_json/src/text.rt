@@ -2,7 +2,7 @@
 
 ghost use Rattle.std.specs.Prelude.{◌≡◌, IfOk, IfErr, string_bytes};
 ghost use Rattle.ix_cbor.specs.Data.{data_of, bytes as bytes_data};
-ghost use Rattle.ix_dag_json.specs.Text.{IsShownAs, IsTextOf, IsBlockText, IsItemText, IsBlockRefused, IsRefused};
+ghost use Rattle.ix_dag_json.specs.Text.{IsShownAs, IsTextOf, IsBlockText, IsItemText, IsBlockRefused, IsItemRefused, IsRefused};
 ghost use Rattle.ix_dag_json.specs.Lack.{IsLack};
 ghost use Rattle.ix_dag_json.specs.Written.{text_in};
 
@@ -28,10 +28,11 @@ pub fn text_of_block(alloc: Global, block: &[u8], layout: Layout) -> Result<Stri
     }
 }
 
-/// Returns the same for the item at the front of these bytes. What follows it isn't looked at. The path
-/// of an error begins at the item.
+/// Returns the same for the item at the front of these bytes. What follows it isn't looked at. The place
+/// of an error is counted from the start of the item, and its path begins there.
 pub fn text_of_item(alloc: Global, bytes: &[u8], layout: Layout) -> Result<String, DagJsonFault>
     ensures text { IfOk result (λ text. IsItemText layout bytes.now (string_bytes text)) }
+    ensures refused { IfErr result (IsItemRefused bytes.now) }
 {
     match skip_item(bytes) {
         Ok(rest) => {
