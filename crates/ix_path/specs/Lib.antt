@@ -11,3 +11,4 @@ pub mod Node
 pub mod NodeBytes
 pub mod Children
 pub mod Resolution
+pub mod Words

@@ -41,6 +41,11 @@ impl<T: Drop> From<AllocFailed<T>> for PathError {
 }
 
 impl fmt::Display for PathError {
+    ghost use Rattle.std.specs.Prelude.{Some};
+    ghost use Rattle.ix_path.specs.Words.{error_words};
+
+    ghost output = { λ error. Some (error_words error) };
+
     fn fmt<W: fmt::Write>(&self, f: &mut fmt::Formatter<W>) -> fmt::Result {
         match self {
             PathError::Cid(fault) => write!(f, "not a CID: {fault}"),

@@ -31,6 +31,11 @@ pub enum Kind {
 }
 
 impl fmt::Display for Kind {
+    ghost use Rattle.std.specs.Prelude.{Some};
+    ghost use Rattle.ix_path.specs.Words.{kind_word};
+
+    ghost output = { λ kind. Some (kind_word kind) };
+
     fn fmt<W: fmt::Write>(&self, f: &mut fmt::Formatter<W>) -> fmt::Result {
         match self {
             Kind::Null => f.write_str("null"),
