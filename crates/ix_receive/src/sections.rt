@@ -31,7 +31,7 @@ impl Model for PastSection {
 }
 
 impl PastSection {
-    // Keeps nothing of a section. There is no loop in the built program, since it does nothing.
+    // Records a section for contracts. The loop does nothing, and the optimizer removes it.
     fn of(cid: &Cid, block: &[u8]) -> PastSection
         ensures { result ≡ (cid.now, block.now) }
     {
