@@ -9,3 +9,4 @@ mod Traversing
 mod Passings
 mod Receptions
 mod Refusals
+mod Keeping

@@ -1,6 +1,6 @@
 -- Passing links whose blocks are here, or may be missing.
 use Rattle.std.proofs.Common.{◌≡◌, ◌⊎◌, inl, inr, ℕ, suc, ◌+◌, ◌≤◌, Bool, true, false, cond, List, [], ◌∷◌, ◌++◌, map, reverse, refl, sym, ◌∙◌, ap, subst, append_assoc, arith}
-use Rattle.std.specs.Prelude.{Option, Some, None, ◌||◌, if◌then◌else◌, bytes_eq, is_none, is_some, not}
+use Rattle.std.specs.Prelude.{Option, Some, None, ◌||◌, if◌then◌else◌, bytes_eq, is_none, not}
 use Rattle.std.specs.Bool.{MatchBool}
 use Rattle.std.specs.List.{Contains, count_by}
 use Rattle.std.specs.Ordering.{nat_cmp, is_eq}
@@ -21,7 +21,7 @@ use Rattle.ix_verdict.specs.Verdict.{has_codec, verdict_by, verdict_with, is_mis
 use Rattle.ix_selector.specs.Pattern.{Pattern}
 use Rattle.ix_verdict.specs.declared.needed.Needed.TheVariants.{Nothing, Digest, Block}
 use Rattle.ix_verdict.specs.Needed.{needed_by, needed_of}
-use Rattle.ix_store.specs.Store.{Blocks, block_of, position_after, position_of}
+use Rattle.ix_store.specs.Store.{Blocks, has_cid, block_of}
 use Rattle.ix_walk.specs.declared.subtree.PendingLink.{PendingLink}
 use Rattle.ix_walk.specs.JobMeaning.{JobMeaning}
 use Rattle.ix_walk.specs.Walking.{Going, data_inside, links_inside, root_link}
@@ -83,23 +83,16 @@ needs-one c h o is = by (has_codec c) (hash_function_of (parts_of c)) o is where
   by true (Some Sha2_512) None e = refl
   by true (Some Sha2_512) (Some b) e = there (bytes_eq (sha512 b) (digest_of c)) (is_no_data c b)
 
--- a CID without a position has no block
-no-position : (n : ℕ) (store : Blocks) (c : List ℕ) → is_none (position_after n store c) ≡ is_none (block_of store c)
-no-position n [] c = refl
-no-position n (e ∷ es) c = by (bytes_eq e.0 c) (no-position (n + 1) es c) where
-  by : (b : Bool) → is_none (position_after (n + 1) es c) ≡ is_none (block_of es c) → is_none (if b then Some n else position_after (n + 1) es c) ≡ is_none (if b then Some e.1 else block_of es c)
+-- a CID without a section has no block
+no-section : (sections : Blocks) (c : List ℕ) → not (has_cid sections c) ≡ is_none (block_of sections c)
+no-section [] c = refl
+no-section (e ∷ es) c = by (bytes_eq e.0 c) (no-section es c) where
+  by : (b : Bool) → not (has_cid es c) ≡ is_none (block_of es c) → not (b || has_cid es c) ≡ is_none (if b then Some e.1 else block_of es c)
   by true h = refl
   by false h = h
 
--- there is none where there is not one
-none-is : (o : Option ℕ) (r : Bool) → is_some o ≡ not r → r ≡ is_none o
-none-is None true e = refl
-none-is None false e = absurd (cc e)
-none-is (Some n) true e = absurd (cc e)
-none-is (Some n) false e = refl
-
-pub needs-block : (store : Blocks) (c : List ℕ) (h : HashFunction) (r : Bool) → Block h ≡ needed_of (parts_of c) → is_some (position_of store c) ≡ not r → r ≡ lacks_block store c
-needs-block store c h r is none = none-is (position_of store c) r none ∙ no-position 0 store c ∙ needs-one c h (block_of store c) is
+pub needs-block : (sections : Blocks) (c : List ℕ) (h : HashFunction) (r : Bool) → Block h ≡ needed_of (parts_of c) → r ≡ has_cid sections c → not r ≡ lacks_block sections c
+needs-block sections c h r is there = ap not there ∙ no-section sections c ∙ needs-one c h (block_of sections c) is
 
 -- its visit is noted
 pub noted : (allowed : AllowMissing) (roots : List (List ℕ)) (sections : Blocks) (c : List ℕ) (old : BTreeSet (List ℕ)) (before : ℕ) (new : BTreeSet (List ℕ)) → lacks_block sections c ≡ true → may_lack allowed roots c ≡ true → HasAlso new c old

@@ -16,8 +16,7 @@ use Rattle.ix_cid.specs.declared.hash_function.HashFunction.TheVariants.{Identit
 use Rattle.ix_verdict.specs.declared.verdict.Verdict.{Verdict}
 use Rattle.ix_verdict.specs.declared.verdict.Verdict.TheVariants.{Codec, Hash, Missing, Damaged, Malformed, Sound, Inline}
 use Rattle.ix_verdict.specs.Verdict.{has_codec, verdict_by, verdict_with, is_missing, is_no_data}
-use Rattle.ix_store.specs.Store.{Blocks, block_of, has_cid, with_block, position_of}
-use Rattle.ix_store.proofs.Stores.{is_some-position}
+use Rattle.ix_store.specs.Store.{Blocks, block_of, has_cid}
 use Rattle.ix_walk.specs.declared.subtree.PendingLink.{PendingLink}
 use Rattle.ix_walk.specs.JobMeaning.{JobMeaning}
 use Rattle.ix_walk.specs.Arrivals.{Arrival}
@@ -107,13 +106,9 @@ new-before job allowed sections f t c d stopped isnt first = (t.visits, stopped.
   by (inl h) = first h
   by (inr same) = let bad : false ≡ true = sym isnt ∙ (bytes_eq-Decides f.cid c).1 (sym stopped.named ∙ same) in cc bad
 
--- ---- the store
+-- ---- the sections
 
--- a CID has a position exactly if it is there
-pub is-there : (store : Blocks) (c : List ℕ) (b : Bool) → b ≡ is_some (position_of store c) → b ≡ has_cid store c
-is-there store c b is = is ∙ is_some-position 0 store c
-
--- one that isn't has no block
+-- a CID that isn't there has no block
 no-block : (store : Blocks) (c : List ℕ) → has_cid store c ≡ false → block_of store c ≡ None
 no-block [] c h = refl
 no-block (e ∷ es) c h = by (bytes_eq e.0 c) h (no-block es c) where
@@ -282,10 +277,6 @@ module _ (job : JobMeaning) (allowed : AllowMissing) (sections : Blocks) (p : Li
             passing = now-passing;
           });
     }
-
--- the store has one more, if the CID is new
-pub added-one : (old new : Blocks) (p : List ℕ × List ℕ) → has_cid old p.0 ≡ false → new ≡ with_block old p → new ≡ old ++ p ∷ []
-added-one old new p out is = is ∙ ap (λ b. if b then old else old ++ p ∷ []) out
 
 -- ---- the beginning and the end
 

@@ -1,6 +1,7 @@
 pub mod Own
 pub mod Receiving
 pub mod Missing
+pub mod Keeping
 pub mod Traversal
 pub mod Passing
 pub mod Reception

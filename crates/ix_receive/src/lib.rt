@@ -6,7 +6,8 @@
 //! but for blocks that the sender lacked.
 //!
 //! A `Receiver` is given the sections of an archive one after another, and finds at each whether an
-//! archive that is its own can go on with it.
+//! archive that is its own can go on with it. It keeps the blocks that are DAG-CBOR, and of a leaf (a
+//! raw block, which has no links) only the CID.
 //!
 //! ```rust
 //! let mut receiver = Receiver::new(alloc, &job, AllowMissing::none());
@@ -28,6 +29,7 @@ mod passing;
 mod receiver;
 mod request;
 mod section;
+mod sections;
 #[cfg(test)]
 mod tests;
 mod traversal;

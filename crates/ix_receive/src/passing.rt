@@ -8,21 +8,21 @@ ghost use Rattle.ix_receive.specs.Passing.{IsNoted, IsPassing, IsBefore, IsStopp
 
 use crate::fault::ReceiveFault;
 use crate::request::Request;
+use crate::sections::Sections;
 use crate::traversal::{Traversal, WaitingLink, expand_link, next_link};
 use ix_cid::Cid;
-use ix_store::Store;
 use ix_verdict::{Needed, bytes_needed};
 use std::alloc::AllocError;
 use std::collections::BTreeSet;
 
-// Whether a CID could have a block, and has none in the store.
-fn lacks_block(store: &Store, cid: &Cid) -> bool
-    ensures { result ≡ lacks_block store.now cid.now }
+// Whether a CID could have a block, and none has come.
+fn lacks_block(sections: &Sections, cid: &Cid) -> bool
+    ensures { result ≡ lacks_block sections.now cid.now }
 {
     match bytes_needed(&cid.parts()) {
         Needed::Nothing(_) => false,
         Needed::Digest => false,
-        Needed::Block(_) => store.find(cid).is_none(),
+        Needed::Block(_) => !sections.has(cid),
     }
 }
 
@@ -36,16 +36,16 @@ fn may_lack(asked: &Request<'_>, cid: &Cid) -> bool
 // Notes the visit of a CID, if its block is missing. Returns whether that may be.
 fn note_visit(
     asked: &Request<'_>,
-    store: &Store,
+    sections: &Sections,
     cid: &Cid,
     missing: &mut BTreeSet<Cid>,
     absent: &mut u32,
 ) -> Result<bool, AllocError>
     requires { absent.old + 1 < 2 ^ 32 }
-    ensures { IfOk result (IsNoted asked.now.allowed asked.now.job.now.roots store.now cid.now
+    ensures { IfOk result (IsNoted asked.now.allowed asked.now.job.now.roots sections.now cid.now
         missing.old absent.old missing.new absent.new) }
 {
-    if !lacks_block(store, cid) {
+    if !lacks_block(sections, cid) {
         return Ok(true);
     }
     if !may_lack(asked, cid) {
@@ -59,17 +59,17 @@ fn note_visit(
 // Visits a link, unless its block is missing and may not be: returns its CID then.
 fn pass_link<'s>(
     asked: &Request<'s>,
-    store: &Store,
+    sections: &Sections,
     link: WaitingLink<'s>,
     t: &mut Traversal<'s>,
 ) -> Result<Option<Cid>, AllocError>
     requires few { t.old.visits + 1 < 2 ^ 32 }
-    requires before { IsBefore asked.now.job.now asked.now.allowed store.now (as_pending link) t.old }
+    requires before { IsBefore asked.now.job.now asked.now.allowed sections.now (as_pending link) t.old }
     ensures { IfOk result (λ o. MatchOption o
-        (IsPassed asked.now.job.now asked.now.allowed store.now (as_pending link.entry) t.old t.new)
-        (IsStopped asked.now.job.now asked.now.allowed store.now (as_pending link.entry) t.old)) }
+        (IsPassed asked.now.job.now asked.now.allowed sections.now (as_pending link.entry) t.old t.new)
+        (IsStopped asked.now.job.now asked.now.allowed sections.now (as_pending link.entry) t.old)) }
 {
-    let passes = note_visit(asked, store, &link.cid, &mut t.missing, &mut t.absent)?;
+    let passes = note_visit(asked, sections, &link.cid, &mut t.missing, &mut t.absent)?;
     if !passes {
         let WaitingLink {
             residual: _,
@@ -78,7 +78,7 @@ fn pass_link<'s>(
         } = link;
         return Ok(Some(cid));
     }
-    expand_link(asked.alloc, store, link, &mut t.expanded, &mut t.links)?;
+    expand_link(asked.alloc, sections, link, &mut t.expanded, &mut t.links)?;
     t.visits += 1;
     Ok(None)
 }
@@ -86,15 +86,15 @@ fn pass_link<'s>(
 // Goes on to the first visit of a CID, and returns its link.
 pub(crate) fn advance_to<'s>(
     asked: &Request<'s>,
-    store: &Store,
+    sections: &Sections,
     cid: &Cid,
     t: &mut Traversal<'s>,
 ) -> Result<WaitingLink<'s>, ReceiveFault>
-    requires passing { IsPassing asked.now.job.now asked.now.allowed store.now t.old }
-    requires first { Contains (visited t.old.visits asked.now.job.now store.now) cid.now → ⊥ }
-    ensures found { IfOk result (λ link. IsFound asked.now.job.now asked.now.allowed store.now cid.now
+    requires passing { IsPassing asked.now.job.now asked.now.allowed sections.now t.old }
+    requires first { Contains (visited t.old.visits asked.now.job.now sections.now) cid.now → ⊥ }
+    ensures found { IfOk result (λ link. IsFound asked.now.job.now asked.now.allowed sections.now cid.now
         (as_pending link) t.old t.new) }
-    ensures refused { IfErr result (IsNotFound asked.now.job.now asked.now.allowed store.now cid.now) }
+    ensures refused { IfErr result (IsNotFound asked.now.job.now asked.now.allowed sections.now cid.now) }
 {
     while let Some(link) = next_link(asked, &mut t.links, &mut t.roots)? {
         if t.visits == asked.job.limit() {
@@ -103,7 +103,7 @@ pub(crate) fn advance_to<'s>(
         if link.cid == *cid {
             return Ok(link);
         }
-        if let Some(missing) = pass_link(asked, store, link, t)? {
+        if let Some(missing) = pass_link(asked, sections, link, t)? {
             return Err(ReceiveFault::Missing(missing));
         }
     }
@@ -113,18 +113,18 @@ pub(crate) fn advance_to<'s>(
 // Goes on to the end.
 pub(crate) fn pass_all<'s>(
     asked: &Request<'s>,
-    store: &Store,
+    sections: &Sections,
     t: &mut Traversal<'s>,
 ) -> Result<(), ReceiveFault>
-    requires { IsPassing asked.now.job.now asked.now.allowed store.now t.old }
-    ensures whole { OnOk result (IsAtEnd asked.now.job.now asked.now.allowed store.now t.old t.new) }
-    ensures refused { IfErr result (IsNotAtEnd asked.now.job.now asked.now.allowed store.now) }
+    requires { IsPassing asked.now.job.now asked.now.allowed sections.now t.old }
+    ensures whole { OnOk result (IsAtEnd asked.now.job.now asked.now.allowed sections.now t.old t.new) }
+    ensures refused { IfErr result (IsNotAtEnd asked.now.job.now asked.now.allowed sections.now) }
 {
     while let Some(link) = next_link(asked, &mut t.links, &mut t.roots)? {
         if t.visits == asked.job.limit() {
             return Err(ReceiveFault::Limit);
         }
-        if let Some(missing) = pass_link(asked, store, link, t)? {
+        if let Some(missing) = pass_link(asked, sections, link, t)? {
             return Err(ReceiveFault::Missing(missing));
         }
     }

@@ -10,10 +10,10 @@ use crate::fault::ReceiveFault;
 use crate::passing::{advance_to, pass_all};
 use crate::request::Request;
 use crate::section::verdict_on;
+use crate::sections::Sections;
 use crate::traversal::{Traversal, expand_link};
 use ix_cid::Cid;
 use ix_selector::law;
-use ix_store::Store;
 use ix_verdict::Verdict;
 use ix_walk::Job;
 use std::alloc::Global;
@@ -23,10 +23,12 @@ use std::marker::Model;
 /// What has come of an archive: it is given the sections one after another, and says of each whether
 /// the archive of a job can go on with it.
 ///
-/// It advances the job's traversal, with link-visit-once, only as far as what has come.
+/// It advances the job's traversal, with link-visit-once, only as far as what has come. It keeps the
+/// blocks that are DAG-CBOR. The bytes of a raw block, which has no links, aren't kept, but only its
+/// CID.
 pub struct Receiver<'s> {
     asked: Request<'s>,
-    store: Store,
+    sections: Sections,
     traversal: Traversal<'s>,
     ended: bool,
 }
@@ -36,12 +38,12 @@ impl<'s> Drop for Receiver<'s> {
     fn drop(self) {
         let Receiver {
             asked,
-            store,
+            sections,
             traversal,
             ended: _,
         } = self;
         drop(asked);
-        drop(store);
+        drop(sections);
         drop(traversal);
     }
 }
@@ -56,9 +58,9 @@ impl<'s> Model for Receiver<'s> {
     ghost use Rattle.std.specs.Prelude.{◌≡◌, false};
     ghost use Rattle.ix_receive.specs.Reception.{reception_of, IsReceiving};
 
-    ghost view = { λ r. reception_of r.asked.job.now r.asked.allowed r.store r.traversal.visits r.ended };
+    ghost view = { λ r. reception_of r.asked.job.now r.asked.allowed r.sections r.traversal.visits r.ended };
 
-    ghost invariant = { λ r. r.ended ≡ false → IsReceiving r.asked.job.now r.asked.allowed r.store r.traversal };
+    ghost invariant = { λ r. r.ended ≡ false → IsReceiving r.asked.job.now r.asked.allowed r.sections r.traversal };
 }
 
 // Whether a section with this verdict is sound.
@@ -79,32 +81,32 @@ fn is_sound(verdict: Verdict) -> bool
 // Receives the next section, if it is sound, and the first visit of its CID is still to come.
 fn receive<'s>(
     asked: &Request<'s>,
-    store: &mut Store,
+    sections: &mut Sections,
     t: &mut Traversal<'s>,
     cid: Cid,
     block: &[u8],
 ) -> Result<(), ReceiveFault>
-    requires { IsReceiving asked.now.job.now asked.now.allowed store.old t.old }
-    ensures received { OnOk result (IsReceived asked.now.job.now asked.now.allowed store.old t.old.visits
-        (cid, block.now) store.new t.new) }
+    requires { IsReceiving asked.now.job.now asked.now.allowed sections.old t.old }
+    ensures received { OnOk result (IsReceived asked.now.job.now asked.now.allowed sections.old t.old.visits
+        (cid, block.now) sections.new t.new) }
     ensures refused { IfErr result (IsRefused
-        (reception_of asked.now.job.now asked.now.allowed store.old t.old.visits false) (cid, block.now)) }
+        (reception_of asked.now.job.now asked.now.allowed sections.old t.old.visits false) (cid, block.now)) }
     ensures rightly { IfErr result (IsRightlyRefused
-        (reception_of asked.now.job.now asked.now.allowed store.old t.old.visits false) (cid, block.now)) }
+        (reception_of asked.now.job.now asked.now.allowed sections.old t.old.visits false) (cid, block.now)) }
 {
     let verdict = verdict_on(&cid, block);
     if !is_sound(verdict) {
         return Err(ReceiveFault::Unsound(verdict));
     }
-    if store.find(&cid).is_some() {
+    if sections.has(&cid) {
         return Err(ReceiveFault::Repeated);
     }
     if t.missing.contains(&cid) {
         return Err(ReceiveFault::OutOfOrder);
     }
-    let link = advance_to(asked, store, &cid, t)?;
-    store.add_copy(cid, block)?;
-    expand_link(asked.alloc, store, link, &mut t.expanded, &mut t.links)?;
+    let link = advance_to(asked, sections, &cid, t)?;
+    sections.add(cid, block)?;
+    expand_link(asked.alloc, sections, link, &mut t.expanded, &mut t.links)?;
     t.visits += 1;
     Ok(())
 }
@@ -124,7 +126,7 @@ impl<'s> Receiver<'s> {
                 job,
                 allowed,
             },
-            store: Store::new(alloc),
+            sections: Sections::new(alloc),
             traversal: Traversal {
                 expanded: BTreeSet::new(alloc),
                 links: Vec::new(alloc),
@@ -151,7 +153,7 @@ impl<'s> Receiver<'s> {
         self.ended = true;
         receive(
             &self.asked,
-            &mut self.store,
+            &mut self.sections,
             &mut self.traversal,
             cid,
             block,
@@ -179,7 +181,7 @@ impl<'s> Receiver<'s> {
             return Err(ReceiveFault::Ended);
         }
         self.ended = true;
-        pass_all(&self.asked, &self.store, &mut self.traversal)?;
+        pass_all(&self.asked, &self.sections, &mut self.traversal)?;
         Ok(Counts {
             visits: self.traversal.visits,
             missing: self.traversal.absent,

@@ -1,15 +1,15 @@
-//! A traversal by lists over a store that grows, whose state borrows the job alone.
+//! A traversal by lists over sections that grow, whose state borrows the job alone.
 
 ghost use Rattle.std.specs.Prelude.{◌≡◌, ◌+◌, ◌<◌, ◌^◌, map, option_map, IfOk, IfSome, OnOk};
 ghost use Rattle.ix_lists.specs.Waiting.{IsPutBefore, IsNextLink};
 ghost use Rattle.ix_receive.specs.Traversal.{as_pending, AreSound, Expands};
 
 use crate::request::Request;
+use crate::sections::Sections;
 use ix_cid::Cid;
 use ix_lists::expand;
 use ix_selector::Residual;
-use ix_store::Store;
-use ix_walk::{PendingLink, read_block};
+use ix_walk::PendingLink;
 use std::alloc::{AllocError, Global};
 use std::collections::BTreeSet;
 
@@ -95,14 +95,14 @@ pub(crate) fn next_link<'s>(
 // expanded with this residual.
 pub(crate) fn expand_link<'s>(
     alloc: Global,
-    store: &Store,
+    sections: &Sections,
     link: WaitingLink<'s>,
     expanded: &mut BTreeSet<(Cid, Residual<'s>)>,
     waiting: &mut Vec<WaitingLink<'s>>,
 ) -> Result<(), AllocError>
     requires depth { link.depth + 1 < 2 ^ 32 }
-    requires sound { AreSound store.now }
-    ensures { OnOk result (Expands store.now (as_pending link.entry) expanded.old
+    requires sound { AreSound sections.now }
+    ensures { OnOk result (Expands sections.now (as_pending link.entry) expanded.old
         (map as_pending waiting.old.items) expanded.new (map as_pending waiting.new.items)) }
 {
     let WaitingLink {
@@ -110,9 +110,7 @@ pub(crate) fn expand_link<'s>(
         cid,
         depth,
     } = link;
-    let block = store.find(&cid);
-    let (bytes, _) = read_block(store, &cid.by_ref(), block);
-    let Some(bytes) = bytes else {
+    let Some(bytes) = sections.read(&cid) else {
         return Ok(());
     };
     let pair = (cid.try_clone(alloc)?, residual.try_clone(alloc)?);

@@ -14,7 +14,7 @@ pub returns-then-t-limit-clause-refused : goal.returns-then-t-limit-clause-refus
 returns-then-t-limit-clause-refused c =
     let job = c.args.asked.now.job.now in
     let allowed = c.args.asked.now.allowed in
-    let s = c.args.store.now in
+    let s = c.args.sections.now in
     let t : Traversal = c.loop-link.t in
     let u : Traversal = record { expanded = t.expanded; links = c.next_link.new.links; roots = c.next_link.new.roots; visits = t.visits; missing = t.missing; absent = t.absent } in
     let next = subst (λ (o : Option WaitingLink). IsNextLink job.selector (map as_pending t.links.items) t.roots.now (option_map as_pending o) (map as_pending u.links.items) u.roots.now) c.in-Some.is c.in_ok-link.ensures in
@@ -25,7 +25,7 @@ pub returns-then-eq-clause-found : goal.returns-then-eq-clause-found
 returns-then-eq-clause-found c =
     let job = c.args.asked.now.job.now in
     let allowed = c.args.asked.now.allowed in
-    let s = c.args.store.now in
+    let s = c.args.sections.now in
     let t : Traversal = c.loop-link.t in
     let u : Traversal = record { expanded = t.expanded; links = c.next_link.new.links; roots = c.next_link.new.roots; visits = t.visits; missing = t.missing; absent = t.absent } in
     let next = subst (λ (o : Option WaitingLink). IsNextLink job.selector (map as_pending t.links.items) t.roots.now (option_map as_pending o) (map as_pending u.links.items) u.roots.now) c.in-Some.is c.in_ok-link.ensures in
@@ -44,7 +44,7 @@ pub pass_link-requires-clause-few : goal.pass_link-requires-clause-few
 pass_link-requires-clause-few c =
     let job = c.args.asked.now.job.now in
     let allowed = c.args.asked.now.allowed in
-    let s = c.args.store.now in
+    let s = c.args.sections.now in
     let t : Traversal = c.loop-link.t in
     let u : Traversal = record { expanded = t.expanded; links = c.next_link.new.links; roots = c.next_link.new.roots; visits = t.visits; missing = t.missing; absent = t.absent } in
     let next = subst (λ (o : Option WaitingLink). IsNextLink job.selector (map as_pending t.links.items) t.roots.now (option_map as_pending o) (map as_pending u.links.items) u.roots.now) c.in-Some.is c.in_ok-link.ensures in
@@ -57,7 +57,7 @@ pub pass_link-requires-clause-before : goal.pass_link-requires-clause-before
 pass_link-requires-clause-before c =
     let job = c.args.asked.now.job.now in
     let allowed = c.args.asked.now.allowed in
-    let s = c.args.store.now in
+    let s = c.args.sections.now in
     let t : Traversal = c.loop-link.t in
     let u : Traversal = record { expanded = t.expanded; links = c.next_link.new.links; roots = c.next_link.new.roots; visits = t.visits; missing = t.missing; absent = t.absent } in
     let next = subst (λ (o : Option WaitingLink). IsNextLink job.selector (map as_pending t.links.items) t.roots.now (option_map as_pending o) (map as_pending u.links.items) u.roots.now) c.in-Some.is c.in_ok-link.ensures in
@@ -67,7 +67,7 @@ pub returns-in-Some-2-clause-refused : goal.returns-in-Some-2-clause-refused
 returns-in-Some-2-clause-refused c =
     let job = c.args.asked.now.job.now in
     let allowed = c.args.asked.now.allowed in
-    let s = c.args.store.now in
+    let s = c.args.sections.now in
     let t : Traversal = c.loop-link.t in
     let f = as_pending c.in-Some.link in
     let u : Traversal = record { expanded = t.expanded; links = c.next_link.new.links; roots = c.next_link.new.roots; visits = t.visits; missing = t.missing; absent = t.absent } in
@@ -78,7 +78,7 @@ pub loop-link-preserved : goal.loop-link-preserved
 loop-link-preserved c =
     let job = c.args.asked.now.job.now in
     let allowed = c.args.asked.now.allowed in
-    let s = c.args.store.now in
+    let s = c.args.sections.now in
     let t : Traversal = c.loop-link.t in
     let f = as_pending c.in-Some.link in
     let u : Traversal = record { expanded = t.expanded; links = c.next_link.new.links; roots = c.next_link.new.roots; visits = t.visits; missing = t.missing; absent = t.absent } in
@@ -91,7 +91,7 @@ pub returns-clause-refused : goal.returns-clause-refused
 returns-clause-refused c =
     let job = c.args.asked.now.job.now in
     let allowed = c.args.asked.now.allowed in
-    let s = c.args.store.now in
+    let s = c.args.sections.now in
     let t : Traversal = c.loop-link.t in
     let u : Traversal = record { expanded = t.expanded; links = c.next_link.new.links; roots = c.next_link.new.roots; visits = t.visits; missing = t.missing; absent = t.absent } in
     let next = subst (λ (o : Option WaitingLink). IsNextLink job.selector (map as_pending t.links.items) t.roots.now (option_map as_pending o) (map as_pending u.links.items) u.roots.now) c.in_default.is c.in_ok-link.ensures in

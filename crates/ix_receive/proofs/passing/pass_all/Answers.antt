@@ -12,7 +12,7 @@ pub returns-then-t-limit-clause-refused : goal.returns-then-t-limit-clause-refus
 returns-then-t-limit-clause-refused c =
     let job = c.args.asked.now.job.now in
     let allowed = c.args.asked.now.allowed in
-    let s = c.args.store.now in
+    let s = c.args.sections.now in
     let t : Traversal = c.loop-link.t in
     let u : Traversal = record { expanded = t.expanded; links = c.next_link.new.links; roots = c.next_link.new.roots; visits = t.visits; missing = t.missing; absent = t.absent } in
     let next = subst (λ (o : Option WaitingLink). IsNextLink job.selector (map as_pending t.links.items) t.roots.now (option_map as_pending o) (map as_pending u.links.items) u.roots.now) c.in-Some.is c.in_ok-link.ensures in
@@ -22,7 +22,7 @@ pub pass_link-requires-clause-few : goal.pass_link-requires-clause-few
 pass_link-requires-clause-few c =
     let job = c.args.asked.now.job.now in
     let allowed = c.args.asked.now.allowed in
-    let s = c.args.store.now in
+    let s = c.args.sections.now in
     let t : Traversal = c.loop-link.t in
     let u : Traversal = record { expanded = t.expanded; links = c.next_link.new.links; roots = c.next_link.new.roots; visits = t.visits; missing = t.missing; absent = t.absent } in
     let next = subst (λ (o : Option WaitingLink). IsNextLink job.selector (map as_pending t.links.items) t.roots.now (option_map as_pending o) (map as_pending u.links.items) u.roots.now) c.in-Some.is c.in_ok-link.ensures in
@@ -35,7 +35,7 @@ pub pass_link-requires-clause-before : goal.pass_link-requires-clause-before
 pass_link-requires-clause-before c =
     let job = c.args.asked.now.job.now in
     let allowed = c.args.asked.now.allowed in
-    let s = c.args.store.now in
+    let s = c.args.sections.now in
     let t : Traversal = c.loop-link.t in
     let u : Traversal = record { expanded = t.expanded; links = c.next_link.new.links; roots = c.next_link.new.roots; visits = t.visits; missing = t.missing; absent = t.absent } in
     let next = subst (λ (o : Option WaitingLink). IsNextLink job.selector (map as_pending t.links.items) t.roots.now (option_map as_pending o) (map as_pending u.links.items) u.roots.now) c.in-Some.is c.in_ok-link.ensures in
@@ -45,7 +45,7 @@ pub returns-in-Some-2-clause-refused : goal.returns-in-Some-2-clause-refused
 returns-in-Some-2-clause-refused c =
     let job = c.args.asked.now.job.now in
     let allowed = c.args.asked.now.allowed in
-    let s = c.args.store.now in
+    let s = c.args.sections.now in
     let t : Traversal = c.loop-link.t in
     let f = as_pending c.in-Some.link in
     let u : Traversal = record { expanded = t.expanded; links = c.next_link.new.links; roots = c.next_link.new.roots; visits = t.visits; missing = t.missing; absent = t.absent } in
@@ -56,7 +56,7 @@ pub loop-link-preserved : goal.loop-link-preserved
 loop-link-preserved c =
     let job = c.args.asked.now.job.now in
     let allowed = c.args.asked.now.allowed in
-    let s = c.args.store.now in
+    let s = c.args.sections.now in
     let t : Traversal = c.loop-link.t in
     let f = as_pending c.in-Some.link in
     let u : Traversal = record { expanded = t.expanded; links = c.next_link.new.links; roots = c.next_link.new.roots; visits = t.visits; missing = t.missing; absent = t.absent } in
@@ -69,7 +69,7 @@ pub returns-clause-whole : goal.returns-clause-whole
 returns-clause-whole c =
     let job = c.args.asked.now.job.now in
     let allowed = c.args.asked.now.allowed in
-    let s = c.args.store.now in
+    let s = c.args.sections.now in
     let t : Traversal = c.loop-link.t in
     let u : Traversal = record { expanded = t.expanded; links = c.next_link.new.links; roots = c.next_link.new.roots; visits = t.visits; missing = t.missing; absent = t.absent } in
     let next = subst (λ (o : Option WaitingLink). IsNextLink job.selector (map as_pending t.links.items) t.roots.now (option_map as_pending o) (map as_pending u.links.items) u.roots.now) c.in_default.is c.in_ok-link.ensures in
